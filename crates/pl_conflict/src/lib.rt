@@ -1,0 +1,12 @@
+//! Conflicts of a plan and their ordered set.
+#![tactic(auto)]
+
+mod conflict;
+mod laws;
+mod set;
+#[cfg(test)]
+mod tests;
+
+pub use conflict::{Code, Conflict};
+pub use laws::order_laws;
+pub use set::ConflictSet;
