@@ -1,1 +1,3 @@
+pub mod FirstLine
 pub mod Grown
+pub mod Shown

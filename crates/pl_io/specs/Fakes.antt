@@ -1,5 +1,5 @@
 -- What the sources and sinks over memory are seen as, and what their calls do.
-use Rattle.std.specs.Prelude.{ℕ, ◌+◌, ◌-◌, ◌^◌, Bool, ◌==◌, ◌||◌, List, [], ◌++◌, length, take, drop, min, Result, Ok, Err, if◌then◌else◌}
+use Rattle.std.specs.Prelude.{ℕ, ◌+◌, ◌-◌, ◌^◌, Bool, ◌==◌, ◌||◌, List, ◌++◌, length, take, drop, min, Result, Ok, Err, if◌then◌else◌}
 use Rattle.std.specs.List.{list_any}
 use Rattle.pl_io.specs.declared.errors.Failed.{Failed}
 

@@ -1,4 +1,7 @@
 //! The errors of sources, sinks and line readers.
+ghost use Rattle.std.specs.Prelude.{◌≡◌};
+ghost use Rattle.pl_io.specs.declared.errors.LineFault.TheVariants.{Read, Memory};
+
 use std::alloc::AllocError;
 use thiserror::Error;
 
@@ -22,4 +25,20 @@ pub enum LineFault {
     /// Memory ran out.
     #[error("out of memory")]
     Memory,
+}
+
+impl From<Failed> for LineFault {
+    ghost from_gives = { λ _ fault. fault ≡ Read };
+
+    fn from(_failed: Failed) -> LineFault {
+        LineFault::Read
+    }
+}
+
+impl From<AllocError> for LineFault {
+    ghost from_gives = { λ _ fault. fault ≡ Memory };
+
+    fn from(_error: AllocError) -> LineFault {
+        LineFault::Memory
+    }
 }
