@@ -1,3 +1,4 @@
 pub mod FirstLine
 pub mod Grown
+pub mod LineLaws
 pub mod Shown

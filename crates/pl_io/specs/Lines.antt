@@ -1,5 +1,5 @@
 -- The lines of bytes, and what a reader with limits finds next.
-use Rattle.std.specs.Prelude.{ℕ, ◌==◌, Bool, ◌&&◌, not, nat_lt, List, [], ◌∷◌, length, take, Option, if◌then◌else◌}
+use Rattle.std.specs.Prelude.{ℕ, ◌==◌, Bool, ◌&&◌, not, nat_lt, List, [], ◌∷◌, ◌++◌, length, take, Option, if◌then◌else◌}
 use Rattle.std.specs.List.{list_any, onto_first}
 use Rattle.std.specs.Io.KnownBytes.{prepend_known}
 
@@ -46,3 +46,13 @@ next_of limit room (byte ∷ bytes) = judged limit room (byte ∷ bytes) (take r
 -- the bytes that a reader holds in front of those that its source has left, where the source tells them
 abbrev pub ahead : List ℕ → Option (List ℕ) → Option (List ℕ)
 ahead held left = prepend_known held left
+
+-- a line with its newline
+abbrev pub with_newline : List ℕ → List ℕ
+with_newline line = line ++ 10 ∷ []
+
+-- the newline that is missing at the end of the bytes, where they are some and don't end with one
+abbrev pub missing_newline : List ℕ → List ℕ
+missing_newline [] = []
+missing_newline (byte ∷ []) = if byte == 10 then [] else 10 ∷ []
+missing_newline (byte ∷ next ∷ bytes) = missing_newline (next ∷ bytes)

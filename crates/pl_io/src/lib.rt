@@ -3,6 +3,7 @@
 
 mod errors;
 mod judging;
+mod laws;
 mod line_reader;
 mod memory_sink;
 mod memory_source;
@@ -17,6 +18,7 @@ mod unread;
 mod writing;
 
 pub use errors::{Failed, LineFault};
+pub use laws::line_laws;
 pub use line_reader::LineReader;
 pub use memory_sink::MemSink;
 pub use memory_source::MemSource;
