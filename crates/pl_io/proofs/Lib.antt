@@ -1,0 +1,4 @@
+pub mod FirstLine
+pub mod Grown
+pub mod LineLaws
+pub mod Shown

@@ -1,0 +1,6 @@
+pub mod Faults
+pub mod Fakes
+pub mod Lines
+pub mod Reader
+pub mod Reading
+pub mod Writes
