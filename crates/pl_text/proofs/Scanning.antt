@@ -1,0 +1,39 @@
+-- Skipping what was read.
+use Rattle.std.proofs.Common.{◌≡◌, ℕ, zero, suc, ◌+◌, ◌-◌, ◌≤◌, Bool, List, [], ◌∷◌, ◌++◌, length, drop, Result, Ok, Err, refl, sym, ap, ◌∙◌, append_assoc, arith}
+use Rattle.std.specs.List.{prefix_len}
+use Rattle.std.proofs.lemmas.List.Sums.{prefix_len-le-length}
+use Rattle.std.proofs.lemmas.List.{append-nil}
+use Rattle.pl_text.specs.declared.token.Token.{Token}
+use Rattle.pl_text.specs.declared.lexeme.Lexeme.{Lexeme}
+use Rattle.pl_text.specs.declared.fault.TextFault.{TextFault}
+use Rattle.pl_text.specs.Tokens.{lexeme_of, kept, before, go_on, tokens_at}
+
+pub tokens_skip : (skip at : ℕ) (bs : List ℕ) → tokens_at skip at bs ≡ tokens_at 0 (at + skip) (drop skip bs)
+unfolding tokens_at
+tokens_skip zero at [] = refl
+tokens_skip (suc skip) at [] = refl
+tokens_skip zero at (b ∷ bs) = let e : at + 0 ≡ at = omega arith in rw e refl
+tokens_skip (suc skip) at (b ∷ bs) = let e : at + suc skip ≡ at + 1 + skip = omega arith in rw e (tokens_skip skip (at + 1) bs)
+
+before_before : (xs ys : List Token) (r : Result (List Token) TextFault) → before xs (before ys r) ≡ before (xs ++ ys) r
+before_before xs ys (Ok zs) = ap Ok (sym (append_assoc xs ys zs))
+before_before xs ys (Err e) = refl
+
+module _ (found : List Token) (at b : ℕ) (bs : List ℕ) where
+  pub fails : (e : TextFault) → lexeme_of at b bs ≡ Err e → before found (tokens_at 0 at (b ∷ bs)) ≡ Err e
+  unfolding tokens_at
+  fails e is = rw is refl
+
+  pub takes : (l : Lexeme) → lexeme_of at b bs ≡ Ok l → 1 ≤ l.len → before found (tokens_at 0 at (b ∷ bs)) ≡ before (found ++ kept at l) (tokens_at 0 (at + l.len) (drop (l.len - 1) bs))
+  unfolding tokens_at
+  takes l is some =
+      let e : at + 1 + (l.len - 1) ≡ at + l.len = omega (arith, some) in
+      rw (is, tokens_skip (l.len - 1) (at + 1) bs, e) (before_before found (kept at l) (tokens_at 0 (at + l.len) (drop (l.len - 1) bs)))
+
+pub prefix_within : (p : ℕ → Bool) (xs : List ℕ) → prefix_len p xs ≤ length xs
+prefix_within p xs = prefix_len-le-length p xs
+
+pub ends : (found : List Token) (at : ℕ) (rest : List ℕ) → length rest ≡ 0 → before found (tokens_at 0 at rest) ≡ Ok found
+unfolding tokens_at
+ends found at [] e = ap Ok (append-nil found)
+ends found at (b ∷ bs) e = absurd (omega (arith, e))

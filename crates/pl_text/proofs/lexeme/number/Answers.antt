@@ -1,0 +1,7 @@
+use Rattle.std.proofs.Common.{◌≡◌}
+use Rattle.pl_text.specs.Bytes.{is_number_byte}
+use Rattle.pl_text.proofs.Digits.{digits_pass}
+use Rattle.pl_text.proofs.lexeme.number.Goals as goal
+
+pub number_value-value-requires-clause-digits : goal.number_value-value-requires-clause-digits
+number_value-value-requires-clause-digits c = rw c.digits_len-behind.ensures.value (digits_pass c.args.rest.now)

@@ -1,0 +1,1 @@
+-- A text as what it is made of.

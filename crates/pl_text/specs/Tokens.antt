@@ -1,0 +1,89 @@
+-- The tokens of a text, or its first fault.
+use Rattle.std.specs.Prelude.{◌≡◌, ℕ, zero, suc, ◌+◌, ◌-◌, ◌*◌, nat_lt, if◌then◌else◌, List, [], ◌∷◌, ◌++◌, length, ◌<◌, take, Option, Some, None, Result, Ok, Err}
+use Rattle.std.specs.List.{prefix_len}
+use Rattle.std.specs.declared.vec.Vec.{Vec}
+use Rattle.std.specs.declared.alloc.Global.{Global}
+use Rattle.pl_text.specs.declared.class.Class.{Class}
+use Rattle.pl_text.specs.declared.class.Class.TheVariants as class
+use Rattle.pl_text.specs.declared.token.TokenKind.{TokenKind}
+use Rattle.pl_text.specs.declared.token.TokenKind.TheVariants as kind
+use Rattle.pl_text.specs.declared.token.Token.{Token}
+use Rattle.pl_text.specs.declared.lexeme.Lexeme.{Lexeme}
+use Rattle.pl_text.specs.declared.fault.TextFault.{TextFault}
+use Rattle.pl_text.specs.declared.fault.TextFault.TheVariants as fault
+use Rattle.pl_text.specs.Bytes.{class_of, is_name_byte, is_number_byte, in_line}
+
+-- the value of digits behind a number
+abbrev pub read_on : ℕ → List ℕ → ℕ
+read_on n [] = n
+read_on n (d ∷ ds) = read_on (n * 10 + (d - 48)) ds
+
+-- by the first digit and the others
+abbrev pub number_value : ℕ → List ℕ → ℕ
+number_value d ds = read_on (d - 48) ds
+
+abbrev pub gap : ℕ → Lexeme
+gap n = record { kind = None; len = n }
+
+abbrev pub lexed : TokenKind → ℕ → Lexeme
+lexed k n = record { kind = Some k; len = n }
+
+abbrev pub named : ℕ → ℕ → Result Lexeme TextFault
+named at n = if nat_lt 32 n then Err (fault.BadName at) else Ok (lexed kind.Name n)
+
+abbrev pub numbered : ℕ → ℕ → ℕ → List ℕ → Result Lexeme TextFault
+numbered at n d ds = if nat_lt 18 n then Err (fault.BadNumber at) else Ok (lexed (kind.Number (number_value d (take (n - 1) ds))) n)
+
+-- what begins at the place `at` with the byte b, before the bytes bs
+abbrev pub lexeme_at : Class → ℕ → ℕ → List ℕ → Result Lexeme TextFault
+lexeme_at class.Blank at b bs = Ok (gap 1)
+lexeme_at class.Comment at b bs = Ok (gap (prefix_len in_line bs + 1))
+lexeme_at class.Letter at b bs = named at (prefix_len is_name_byte bs + 1)
+lexeme_at class.Digit at b bs = numbered at (prefix_len is_number_byte bs + 1) b bs
+lexeme_at class.Symbol at b bs = Ok (lexed (kind.Symbol b) 1)
+lexeme_at class.Bad at b bs = Err (fault.BadByte at)
+
+unfoldable pub lexeme_of : ℕ → ℕ → List ℕ → Result Lexeme TextFault
+lexeme_of at b bs = lexeme_at (class_of b) at b bs
+
+-- the token that a lexeme at a place is
+abbrev pub kept_kind : Option TokenKind → ℕ → ℕ → List Token
+kept_kind None at n = []
+kept_kind (Some k) at n = record { kind = k; from = at; to = at + n } ∷ []
+
+abbrev pub kept : ℕ → Lexeme → List Token
+kept at l = kept_kind l.kind at l.len
+
+abbrev pub before : List Token → Result (List Token) TextFault → Result (List Token) TextFault
+before found (Ok more) = Ok (found ++ more)
+before found (Err e) = Err e
+
+abbrev pub go_on : ℕ → Result Lexeme TextFault → (ℕ → Result (List Token) TextFault) → Result (List Token) TextFault
+go_on at (Err e) more = Err e
+go_on at (Ok l) more = before (kept at l) (more (l.len - 1))
+
+-- From the place `at` on. The first `skip` bytes belong to what was read already.
+unfoldable pub tokens_at : ℕ → ℕ → List ℕ → Result (List Token) TextFault
+tokens_at skip at [] = Ok []
+tokens_at zero at (b ∷ bs) = go_on at (lexeme_of at b bs) (λ skip. tokens_at skip (at + 1) bs)
+tokens_at (suc skip) at (b ∷ bs) = tokens_at skip (at + 1) bs
+
+abbrev pub tokens_of : List ℕ → Result (List Token) TextFault
+tokens_of text = tokens_at 0 0 text
+
+-- what the code answers, unless memory runs out
+abbrev pub Gives : {T : Type 0} → Result T TextFault → Result T TextFault → Type 0
+Gives (Ok x) wanted = wanted ≡ Ok x
+Gives (Err fault.Memory) wanted = Unit {0}
+Gives (Err e) wanted = wanted ≡ Err e
+
+abbrev pub GivesTokens : Result (Vec Token Global) TextFault → Result (List Token) TextFault → Type 0
+GivesTokens (Ok v) wanted = wanted ≡ Ok v.items
+GivesTokens (Err fault.Memory) wanted = Unit {0}
+GivesTokens (Err e) wanted = wanted ≡ Err e
+
+-- What a step of the scanner leaves gives what was there before: or the fault is the one that was to come.
+abbrev pub Steps : Result (Unit {0}) TextFault → List Token → ℕ → List ℕ → List Token → ℕ → List ℕ → Type 0
+Steps (Ok u) found at text more place rest = (before found (tokens_at 0 at text) ≡ before more (tokens_at 0 place rest)) × (length rest < length text) × (place + length rest ≡ at + length text)
+Steps (Err fault.Memory) found at text more place rest = Unit {0}
+Steps (Err e) found at text more place rest = before found (tokens_at 0 at text) ≡ Err e

@@ -1,0 +1,34 @@
+ghost use Rattle.std.specs.Prelude.{◌≡◌};
+ghost use Rattle.pl_text.specs.Bytes.{class_of, is_name_byte};
+
+/// What a byte begins, outside of a comment.
+#[derive(Clone, Copy, Debug, PartialEq, Eq)]
+pub enum Class {
+    Blank,
+    Comment,
+    Letter,
+    Digit,
+    Symbol,
+    Bad,
+}
+
+#[tactic(auto, unfolding(crate::specs::Bytes::class_of))]
+pub fn class_of(byte: u8) -> Class
+    ensures { result ≡ class_of byte }
+{
+    match byte {
+        b' ' | b'\t' | b'\r' | b'\n' => Class::Blank,
+        b'#' => Class::Comment,
+        b'a'..=b'z' | b'A'..=b'Z' => Class::Letter,
+        b'0'..=b'9' => Class::Digit,
+        b'{' | b'}' | b'(' | b')' | b',' | b'=' | b'+' | b'-' | b'*' => Class::Symbol,
+        _ => Class::Bad,
+    }
+}
+
+/// Whether a name may go on with the byte.
+pub fn is_name_byte(byte: u8) -> bool
+    ensures { result ≡ is_name_byte byte }
+{
+    byte == b'_' || matches!(class_of(byte), Class::Letter | Class::Digit)
+}

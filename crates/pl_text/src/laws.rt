@@ -1,0 +1,2 @@
+pub fn tokens_are_sound() {}
+pub fn tokens_are_complete() {}

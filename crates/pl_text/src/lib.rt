@@ -1,0 +1,20 @@
+//! Tokens of the project's texts: names, numbers and symbols, with blanks and comments between them.
+#![tactic(auto)]
+
+mod class;
+mod fault;
+mod laws;
+mod lexeme;
+mod number;
+mod reading;
+#[cfg(test)]
+mod tests;
+mod token;
+mod word;
+
+pub use fault::TextFault;
+pub use laws::{tokens_are_complete, tokens_are_sound};
+pub use number::push_number;
+pub use reading::tokens;
+pub use token::{Token, TokenKind};
+pub use word::{Word, is_name, word_of};
