@@ -38,8 +38,8 @@ after_line-drop [] = grind (arith, common_steps)
 after_line-drop (byte ∷ bytes) =
     let shorter = after_line-drop bytes in
     elim (byte == 10) as (λ b. drop (length (cond b [] (byte ∷ first_line bytes)) + 1) (byte ∷ bytes) ≡ cond b bytes (after_line bytes)) [
-      true ↦ grind (arith, common_steps)
-    | false ↦ rw add-one (rw add-one at shorter)
+      | true ↦ grind (arith, common_steps)
+      | false ↦ rw add-one (rw add-one at shorter)
     ]
 
 pub first_line-no_newline : (bytes : List ℕ) → has_newline (first_line bytes) ≡ false

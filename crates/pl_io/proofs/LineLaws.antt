@@ -1,9 +1,9 @@
 -- The laws of lines.
-use Rattle.std.proofs.Common.{◌≡◌, ◌≢◌, ℕ, zero, suc, ◌+◌, ◌<◌, ◌≤◌, Bool, true, false, cond, not, ◌&&◌, nat_lt, ◌==◌, List, [], ◌∷◌, ◌++◌, length, take, flat_map, All, refl, sym, ap, ◌∙◌, subst, append_assoc, append-nil, eqb-true, arith}
+use Rattle.std.proofs.Common.{◌≡◌, ◌≢◌, ℕ, zero, suc, false, ◌==◌, List, [], ◌∷◌, ◌++◌, flat_map, All, refl, sym, ap, ◌∙◌, subst, eqb-true, arith}
 use Rattle.std.specs.List.{onto_first}
 use Rattle.std.proofs.lemmas.Bool.{cond_both}
 use Rattle.std.proofs.lemmas.Grind.{common_steps}
-use Rattle.pl_io.specs.Lines.{has_newline, first_line, after_line, lines_of, with_newline, missing_newline, next_of, Next, given, ended, line_too_long, input_too_long}
+use Rattle.pl_io.specs.Lines.{has_newline, first_line, after_line, lines_of, with_newline, missing_newline, next_of, given, ended}
 
 pub lines_of-front : (bytes : List ℕ) → bytes ≢ [] → lines_of bytes ≡ first_line bytes ∷ lines_of (after_line bytes)
 lines_of-front [] some = absurd (some refl)
@@ -11,7 +11,7 @@ lines_of-front (byte ∷ []) some = grind (arith, common_steps)
 lines_of-front (byte ∷ next ∷ bytes) some =
     let rest : lines_of (next ∷ bytes) ≡ first_line (next ∷ bytes) ∷ lines_of (after_line (next ∷ bytes)) = lines_of-front (next ∷ bytes) (λ e. cc) in
     cond_both (byte == 10) _ _ (λ xs. xs ≡ first_line (byte ∷ next ∷ bytes) ∷ lines_of (after_line (byte ∷ next ∷ bytes)))
-      (λ is. grind (arith, common_steps)) (λ isnt. grind (arith, common_steps, rest))
+    (λ is. grind (arith, common_steps)) (λ isnt. grind (arith, common_steps, rest))
 
 abbrev HasNone : List ℕ → Type 0
 HasNone line = has_newline line ≡ false
@@ -41,13 +41,13 @@ lines_of-whole (byte ∷ next ∷ bytes) =
     let Joins : List (List ℕ) → Type 0 = λ lines. flat_map with_newline lines ≡ byte ∷ (next ∷ bytes) ++ missing_newline (next ∷ bytes) in
     let Onto : List (List ℕ) → Type 0 = λ lines. flat_map with_newline (onto_first byte lines) ≡ byte ∷ flat_map with_newline lines in
     cond_both (byte == 10) _ _ Joins
-      (λ is. ap (λ xs. 10 ∷ xs) rest ∙ ap (λ b. b ∷ (next ∷ bytes) ++ missing_newline (next ∷ bytes)) (sym (eqb-true byte 10 is)))
-      (λ isnt. subst Onto (sym front) refl ∙ ap (λ xs. byte ∷ xs) rest)
+    (λ is. ap (λ xs. 10 ∷ xs) rest ∙ ap (λ b. b ∷ (next ∷ bytes) ++ missing_newline (next ∷ bytes)) (sym (eqb-true byte 10 is)))
+    (λ isnt. subst Onto (sym front) refl ∙ ap (λ xs. byte ∷ xs) rest)
 
-pub lines_of-next : (limit room : ℕ) (bytes line rest : List ℕ) → next_of limit room bytes ≡ given line rest → lines_of bytes ≡ line ∷ lines_of rest
+pub lines_of_next : (limit room : ℕ) (bytes line rest : List ℕ) → next_of limit room bytes ≡ given line rest → lines_of bytes ≡ line ∷ lines_of rest
 unfolding next_of
-lines_of-next limit room [] line rest is = cc
-lines_of-next limit room (byte ∷ bytes) line rest is =
+lines_of_next limit room [] line rest is = cc
+lines_of_next limit room (byte ∷ bytes) line rest is =
     let front = lines_of-front (byte ∷ bytes) (λ e. cc) in
     grind (arith, front)
 

@@ -8,18 +8,21 @@ use Rattle.std.specs.Io.KnownBytes.{IsAtEnd}
 use Rattle.pl_io.specs.Lines.{has_newline, first_line, after_line, next_of, given, line_too_long, input_too_long, ahead}
 use Rattle.pl_io.specs.Reader.{Reader}
 use Rattle.pl_io.specs.Reading.{ShowsLine, IsOpen, Reaches, last_of}
+use Rattle.pl_io.proofs.LineLaws.{lines_of_next}
 use Rattle.pl_io.proofs.FirstLine.{first_line-append, after_line-append, has_newline-append, first_line-grows, first_line-whole, after_line-whole, first_line-take, after_line-drop, first_line-no_newline, newline-from_length, no_newline-from_length, first_line-le, take-more, next_of-judged, judged-line_too_long, judged-input_too_long, judged-given, judged-last}
 
 pub shows_too_long : (limit room : ℕ) (held : List ℕ) → limit < length (first_line (take room held))
     → (0 < room) × ((more : List ℕ) → next_of limit room (held ++ more) ≡ line_too_long)
 shows_too_long limit room held long =
     let short = first_line-le (take room held) in
-    let some : 0 < min room (length held) = omega (arith, short, length-take room held) in
-    (omega arith, λ more.
-      let seen = take-more room held more in
-      let grown : limit < length (first_line (take room (held ++ more))) =
-      rw seen.1 (omega (arith, first_line-grows (take room held) seen.0)) in
-      next_of-judged limit room (held ++ more) (rw length-append (omega arith)) ∙ judged-line_too_long limit room (held ++ more) (take room (held ++ more)) grown)
+    let some : 0 < min room (length held) = omega (arith, short, length-take room held) in (
+      omega arith,
+      λ more.
+          let seen = take-more room held more in
+          let grown : limit < length (first_line (take room (held ++ more))) =
+          rw seen.1 (omega (arith, first_line-grows (take room held) seen.0)) in
+          next_of-judged limit room (held ++ more) (rw length-append (omega arith)) ∙ judged-line_too_long limit room (held ++ more) (take room (held ++ more)) grown,
+    )
 
 pub shows_past_total : (limit room : ℕ) (held : List ℕ) → length (first_line (take room held)) ≤ limit → length (take room held) ≤ length (first_line (take room held))
     → room < length held → (more : List ℕ) → next_of limit room (held ++ more) ≡ input_too_long
@@ -38,16 +41,20 @@ shows_line limit room held fits less =
     let held_first : first_line held ≡ first_line seen = ap first_line whole ∙ first_line-append seen (drop room held) found in
     let held_found : has_newline held ≡ true = rw whole (has_newline-append seen (drop room held) found) in
     let front : take (length (first_line seen)) held ≡ first_line held = ap (λ xs. take (length xs) held) (sym held_first) ∙ first_line-take held in
+    let next : (more : List ℕ) → next_of limit room (held ++ more) ≡ given (take (length (first_line seen)) held) (after_line (held ++ more)) =
+    λ more.
+    let seen_more = take-more room held more in
+    next_of-judged limit room (held ++ more) (rw length-append (omega (arith, length-take room held)))
+    ∙ judged-given limit room (held ++ more) (take room (held ++ more)) (rw (seen_more.1, first_line-append seen seen_more.0 found) fits)
+    (rw seen_more.1 (has_newline-append seen seen_more.0 found))
+    ∙ ap (λ line. given line (after_line (held ++ more))) (first_line-append held more held_found ∙ sym front) in
     record {
       newline = omega (arith, length-take room held);
       within = omega (arith, length-take room held);
       fits = fits;
       no_newline = rw front (first_line-no_newline held);
-      next = λ more.
-        let seen_more = take-more room held more in
-        next_of-judged limit room (held ++ more) (rw length-append (omega (arith, length-take room held)))
-        ∙ judged-given limit room (held ++ more) (take room (held ++ more)) (rw (seen_more.1, first_line-append seen seen_more.0 found) fits) (rw seen_more.1 (has_newline-append seen seen_more.0 found))
-        ∙ ap (λ line. given line (after_line (held ++ more))) (first_line-append held more held_found ∙ sym front);
+      next = next;
+      lines = λ more. lines_of_next limit room (held ++ more) (take (length (first_line seen)) held) (after_line (held ++ more)) (next more);
       after = λ more. after_line-append held more held_found ∙ ap (λ xs. xs ++ more) (sym (after_line-drop held) ∙ ap (λ line. drop (length line + 1) held) held_first);
     }
 
@@ -85,9 +92,13 @@ last_reached old new (byte ∷ bytes) left is shown all =
     let held : List ℕ = byte ∷ bytes in
     let none : after_line held ≡ [] = after_line-whole held shown.no_newline in
     let some : 0 < length held = grind (arith, common_steps) in
-    (next_of-open old.limit old.room held shown some ∙ (rw (is, take-length held, none) refl),
+    let next : next_of old.limit old.room held ≡ given (take (length held) new.held) (after_line held) =
+    next_of-open old.limit old.room held shown some ∙ (rw (is, take-length held, none) refl) in (
+      next,
+      lines_of_next old.limit old.room held (take (length held) new.held) (after_line held) next,
       all,
-      λ more split. none ∙ nothing_behind held new.held more (length held + 1) is split (omega arith))
+      λ more split. none ∙ nothing_behind held new.held more (length held + 1) is split (omega arith),
+    )
 
 -- The input ended where no line was shown, so what is held is the last line, or nothing.
 pub reaches_end : (old new : Reader) (bytes : List ℕ) (left : Option (List ℕ)) → new ≡ record old { held = new.held } → IsOpen new.limit new.room new.held

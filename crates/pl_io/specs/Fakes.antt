@@ -61,5 +61,5 @@ after_write output piece =
     else record output {
       calls = one_more output.calls;
       held = output.held ++ take output.room piece;
-      room = output.room - length piece
+      room = output.room - length piece;
     }

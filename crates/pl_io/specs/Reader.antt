@@ -1,8 +1,8 @@
 -- What a line reader is seen as, and what its call does.
-use Rattle.std.specs.Prelude.{◌≡◌, ℕ, ◌+◌, ◌<◌, ◌≤◌, false, List, [], length, ⊤, Option, None, Some, Result, Ok, Err}
+use Rattle.std.specs.Prelude.{◌≡◌, ℕ, ◌+◌, ◌<◌, ◌≤◌, false, List, [], ◌∷◌, length, ⊤, Option, None, Some, Result, Ok, Err}
 use Rattle.pl_io.specs.declared.errors.LineFault.{LineFault}
 use Rattle.pl_io.specs.declared.errors.LineFault.TheVariants.{Read, Long, Total, Memory}
-use Rattle.pl_io.specs.Lines.{has_newline, after_line, next_of, given, ended, line_too_long, input_too_long}
+use Rattle.pl_io.specs.Lines.{has_newline, after_line, lines_of, next_of, given, ended, line_too_long, input_too_long}
 
 -- The bytes that were read and not given, the most bytes of a line, how many more bytes the total limit lets in,
 -- the lines given so far, and the fault that stopped the reader.
@@ -46,6 +46,7 @@ Moves old new (Err fault) = Stopped old new fault
 -- The line is the first of these bytes, and what stands behind it is ahead now.
 pub record IsNextLine (old new : Reader) (bytes : List ℕ) (after : Option (List ℕ)) (line : NumberedLine) : Type 0 where
   pub next : next_of old.limit old.room bytes ≡ given line.bytes (after_line bytes)
+  pub lines : lines_of bytes ≡ line.bytes ∷ lines_of (after_line bytes)
   pub rest : after ≡ Some (after_line bytes)
   pub room : new.room + length bytes ≡ old.room + length (after_line bytes)
 

@@ -5,7 +5,7 @@ use Rattle.pl_io.specs.declared.errors.LineFault.TheVariants.{Read, Long, Total,
 use Rattle.pl_io.specs.declared.judging.Look.{Look}
 use Rattle.pl_io.specs.declared.judging.Look.TheVariants.{Whole, TooLong, PastTotal, Open}
 use Rattle.pl_io.specs.Faults.{Rose}
-use Rattle.pl_io.specs.Lines.{has_newline, after_line, next_of, given, ended, line_too_long, input_too_long}
+use Rattle.pl_io.specs.Lines.{has_newline, after_line, lines_of, next_of, given, ended, line_too_long, input_too_long}
 use Rattle.pl_io.specs.Reader.{Reader, NumberedLine, GaveLine}
 
 -- a whole line of this many bytes stands at the front, whatever follows
@@ -15,6 +15,7 @@ pub record ShowsLine (limit room : ℕ) (held : List ℕ) (len : ℕ) : Type 0 w
   pub fits : len ≤ limit
   pub no_newline : has_newline (take len held) ≡ false
   pub next : (more : List ℕ) → next_of limit room (held ++ more) ≡ given (take len held) (after_line (held ++ more))
+  pub lines : (more : List ℕ) → lines_of (held ++ more) ≡ take len held ∷ lines_of (after_line (held ++ more))
   pub after : (more : List ℕ) → after_line (held ++ more) ≡ drop (len + 1) held ++ more
 
 -- no line ends in these bytes and no limit is passed
@@ -55,6 +56,7 @@ Settles old new (Err fault) = ⊤
 abbrev pub Reaches : (old new : Reader) (bytes : List ℕ) (after : Option (List ℕ)) → Result (Option ℕ) LineFault → Type 0
 Reaches old new bytes after (Ok (Some len)) =
     (next_of old.limit old.room bytes ≡ given (take len new.held) (after_line bytes))
+    × (lines_of bytes ≡ take len new.held ∷ lines_of (after_line bytes))
     × (after ≡ Some bytes)
     × ((more : List ℕ) → bytes ≡ new.held ++ more → after_line bytes ≡ drop (len + 1) new.held ++ more)
 Reaches old new bytes after (Ok None) = (next_of old.limit old.room bytes ≡ ended) × (after ≡ Some [])

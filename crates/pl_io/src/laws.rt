@@ -10,5 +10,4 @@ pub fn line_laws()
     ensures whole { (bytes : List ℕ) → flat_map with_newline (lines_of bytes) ≡ bytes ++ missing_newline bytes }
     ensures next { (limit room : ℕ) (bytes line rest : List ℕ) → next_of limit room bytes ≡ given line rest → lines_of bytes ≡ line ∷ lines_of rest }
     ensures end { (limit room : ℕ) (bytes : List ℕ) → next_of limit room bytes ≡ ended → lines_of bytes ≡ [] }
-{
-}
+{}

@@ -24,11 +24,11 @@ impl Model for LineReader {
     ghost Value = { Reader };
 
     ghost view = { λ reader. record {
-        held = reader.held;
-        limit = reader.limit;
-        room = reader.room;
-        number = reader.number;
-        failed = reader.failed
+      held = reader.held;
+      limit = reader.limit;
+      room = reader.room;
+      number = reader.number;
+      failed = reader.failed;
     } };
 
     // Each line takes at least one byte of the room, so the number can't pass its type's end.
@@ -38,13 +38,13 @@ impl Model for LineReader {
 impl LineReader {
     /// A line has at most `line_limit` bytes without its newline, and the input is read up to
     /// `total_limit` bytes.
-    pub fn new(
-        alloc: Global,
-        line_limit: u32,
-        total_limit: u64,
-    ) -> Result<LineReader, AllocError>
+    pub fn new(alloc: Global, line_limit: u32, total_limit: u64) -> Result<LineReader, AllocError>
         ensures { IfOk result (λ reader. reader ≡ record {
-            held = []; limit = line_limit; room = total_limit; number = 0; failed = None
+          held = [];
+          limit = line_limit;
+          room = total_limit;
+          number = 0;
+          failed = None;
         }) }
     {
         Ok(LineReader {

@@ -24,11 +24,11 @@ impl Model for MemSink {
     ghost Value = { MemoryOutput };
 
     ghost view = { λ sink. record {
-        held = sink.bytes.items;
-        room = sink.room;
-        failing = sink.failing.items;
-        calls = sink.calls;
-        faults = sink.faults
+      held = sink.bytes.items;
+      room = sink.room;
+      failing = sink.failing.items;
+      calls = sink.calls;
+      faults = sink.faults;
     } };
 
     ghost invariant = { λ sink. vec_len sink.bytes + sink.room ≤ vec_capacity sink.bytes };
@@ -38,7 +38,11 @@ impl MemSink {
     /// `failing` has the numbers, from 1, of the writes that fail.
     pub fn new(alloc: Global, room: usize, failing: &[u64]) -> Result<MemSink, AllocError>
         ensures { IfOk result (λ sink. sink ≡ record {
-            held = []; room = room; failing = failing.now; calls = 0; faults = 0
+          held = [];
+          room = room;
+          failing = failing.now;
+          calls = 0;
+          faults = 0;
         }) }
     {
         Ok(MemSink {

@@ -22,10 +22,10 @@ impl Model for MemSource {
     ghost Value = { MemoryInput };
 
     ghost view = { λ source. record {
-        left = source.bytes;
-        failing = source.failing.items;
-        calls = source.calls;
-        faults = source.faults
+      left = source.bytes;
+      failing = source.failing.items;
+      calls = source.calls;
+      faults = source.faults;
     } };
 }
 
@@ -33,7 +33,10 @@ impl MemSource {
     /// `failing` has the numbers, from 1, of the reads that fail.
     pub fn new(alloc: Global, bytes: &[u8], failing: &[u64]) -> Result<MemSource, AllocError>
         ensures { IfOk result (λ source. source ≡ record {
-            left = bytes.now; failing = failing.now; calls = 0; faults = 0
+          left = bytes.now;
+          failing = failing.now;
+          calls = 0;
+          faults = 0;
         }) }
     {
         Ok(MemSource {

@@ -36,9 +36,9 @@ impl LineReader {
         requires { HoldsLine self.old len }
         ensures line { IfOk result (λ line. line ≡ record { number = self.old.number + 1; bytes = take len self.old.held }) }
         ensures taken { IfOk result (λ _. self.new ≡ record self.old {
-            held = drop (len + 1) self.old.held;
-            room = self.old.room - min (len + 1) (length self.old.held);
-            number = self.old.number + 1
+          held = drop (len + 1) self.old.held;
+          room = self.old.room - min (len + 1) (length self.old.held);
+          number = self.old.number + 1;
         }) }
         ensures err { OnErr result (self.new ≡ self.old) }
     {
@@ -63,7 +63,11 @@ impl LineReader {
         ensures failed { IsErrOf result LineFault.Read → Rose (S.faults src.old) (S.faults src.new) }
     {
         'turns: loop {
-            match judge(self.held.as_slice(), self.limit as usize, self.room as usize) {
+            match judge(
+                self.held.as_slice(),
+                self.limit as usize,
+                self.room as usize,
+            ) {
                 Look::Whole(len) => return Ok(Some(len)),
                 Look::TooLong => return Err(LineFault::Long(self.number + 1)),
                 Look::PastTotal => return Err(LineFault::Total),

@@ -6,6 +6,9 @@ use Rattle.pl_io.proofs.writing.put.Goals as goal
 pub loop-written-preserved : goal.loop-written-preserved
 loop-written-preserved g c =
     let kept = c.loop-written.invariant in
-    let later : g.O.Sink.faults c.args.out.now ≤ g.O.Sink.faults c.write.new.self = omega (arith, c.in_ok-written.ensures.cause.later) in
-    (grind (arith, common_steps), front_grows _ _ _ c.args.bytes.now c.loop-written.written _ kept.1 c.in_ok-written.ensures.bytes,
-      λ none. c.in_ok-written.ensures.untold (kept.2 none), later)
+    let later : g.O.Sink.faults c.args.out.now ≤ g.O.Sink.faults c.write.new.self = omega (arith, c.in_ok-written.ensures.cause.later) in (
+      grind (arith, common_steps),
+      front_grows _ _ _ c.args.bytes.now c.loop-written.written _ kept.1 c.in_ok-written.ensures.bytes,
+      λ none. c.in_ok-written.ensures.untold (kept.2 none),
+      later,
+    )

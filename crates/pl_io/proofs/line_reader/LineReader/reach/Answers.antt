@@ -9,4 +9,4 @@ returns-then-branch-eq0-clause-exact g c =
     let shown : IsOpen c.turns.self.limit c.turns.self.room c.turns.self.held =
     rw (← c.self.view_is, ← c.as_slice.ensures) c.in-Open.ensures in
     reach_ended c.args.self.now c.turns.self c.fill.new.self _ _ (g.S.Source.left c.fill.new.src) _ kept.0 c.in_ok-fill.ensures.kept filled.0 shown filled.1 kept.3
-      c.in_ok-fill.ensures.ahead c.last_line.ensures
+    c.in_ok-fill.ensures.ahead c.last_line.ensures
