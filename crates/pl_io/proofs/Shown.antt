@@ -1,6 +1,6 @@
 -- What the bytes at the front of an input show of its next line, whatever follows them.
 use Rattle.std.specs.Prelude.{Option}
-use Rattle.std.proofs.Common.{◌≡◌, ℕ, ◌+◌, ◌<◌, ◌≤◌, true, false, min, List, [], ◌∷◌, ◌++◌, length, take, drop, Some, None, IfSome, Ok, refl, sym, ap, ◌∙◌, subst, length-append, take-append-drop, arith}
+use Rattle.std.proofs.Common.{append-nil, ◌≡◌, ℕ, ◌+◌, ◌<◌, ◌≤◌, true, false, min, List, [], ◌∷◌, ◌++◌, length, take, drop, Some, None, IfSome, Ok, refl, sym, ap, ◌∙◌, subst, length-append, take-append-drop, arith}
 use Rattle.std.proofs.Math.Seq.{take-length}
 use Rattle.std.proofs.lemmas.Grind.{common_steps}
 use Rattle.std.proofs.lemmas.List.{length-take, take-append-le}
@@ -11,9 +11,9 @@ use Rattle.pl_io.specs.Reading.{ShowsLine, IsOpen, Reaches, last_of}
 use Rattle.pl_io.proofs.LineLaws.{lines_of_next}
 use Rattle.pl_io.proofs.FirstLine.{first_line-append, after_line-append, has_newline-append, first_line-grows, first_line-whole, after_line-whole, first_line-take, after_line-drop, first_line-no_newline, newline-from_length, no_newline-from_length, first_line-le, take-more, next_of-judged, judged-line_too_long, judged-input_too_long, judged-given, judged-last}
 
-pub shows_too_long : (limit room : ℕ) (held : List ℕ) → limit < length (first_line (take room held))
+too_long : (limit room : ℕ) (held : List ℕ) → limit < length (first_line (take room held))
     → (0 < room) × ((more : List ℕ) → next_of limit room (held ++ more) ≡ line_too_long)
-shows_too_long limit room held long =
+too_long limit room held long =
     let short = first_line-le (take room held) in
     let some : 0 < min room (length held) = omega (arith, short, length-take room held) in (
       omega arith,
@@ -24,13 +24,27 @@ shows_too_long limit room held long =
           next_of-judged limit room (held ++ more) (rw length-append (omega arith)) ∙ judged-line_too_long limit room (held ++ more) (take room (held ++ more)) grown,
     )
 
-pub shows_past_total : (limit room : ℕ) (held : List ℕ) → length (first_line (take room held)) ≤ limit → length (take room held) ≤ length (first_line (take room held))
+past_total : (limit room : ℕ) (held : List ℕ) → length (first_line (take room held)) ≤ limit → length (take room held) ≤ length (first_line (take room held))
     → room < length held → (more : List ℕ) → next_of limit room (held ++ more) ≡ input_too_long
-shows_past_total limit room held fits open_line past more =
+past_total limit room held fits open_line past more =
     let le : room ≤ length held = omega arith in
     let same : take room (held ++ more) ≡ take room held = take-append-le room held more le in
     next_of-judged limit room (held ++ more) (rw length-append (omega arith))
     ∙ judged-input_too_long limit room (held ++ more) (take room (held ++ more)) (rw same fits) (rw length-append (omega arith)) (rw same (no_newline-from_length (take room held) open_line))
+
+pub shows_too_long : (limit room : ℕ) (held : List ℕ) → limit < length (first_line (take room held))
+    → (0 < room) × (next_of limit room held ≡ line_too_long) × ((more : List ℕ) → next_of limit room (held ++ more) ≡ line_too_long)
+shows_too_long limit room held long =
+    let shown = too_long limit room held long in
+    let here = shown.1 [] in
+    (shown.0, rw append-nil at here, shown.1)
+
+pub shows_past_total : (limit room : ℕ) (held : List ℕ) → length (first_line (take room held)) ≤ limit → length (take room held) ≤ length (first_line (take room held))
+    → room < length held → (next_of limit room held ≡ input_too_long) × ((more : List ℕ) → next_of limit room (held ++ more) ≡ input_too_long)
+shows_past_total limit room held fits open_line past =
+    let shown = past_total limit room held fits open_line past in
+    let here = shown [] in
+    (rw append-nil at here, shown)
 
 pub shows_line : (limit room : ℕ) (held : List ℕ) → length (first_line (take room held)) ≤ limit → length (first_line (take room held)) < length (take room held)
     → ShowsLine limit room held (length (first_line (take room held)))

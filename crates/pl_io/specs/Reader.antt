@@ -30,12 +30,20 @@ pub record GaveLine (old new : Reader) (line : NumberedLine) : Type 0 where
   pub less : new.room < old.room
   pub room : new.room + length line.bytes ≤ old.room
 
--- The reader stopped with this fault.
+-- A limit was passed by the bytes that were read and not given, also where the source tells nothing.
+abbrev pub FaultShown : (old new : Reader) → LineFault → Type 0
+FaultShown old new (Long n) = (next_of old.limit old.room new.held ≡ line_too_long) × (n ≡ old.number + 1)
+FaultShown old new Total = next_of old.limit old.room new.held ≡ input_too_long
+FaultShown old new Read = ⊤
+FaultShown old new Memory = ⊤
+
+-- The reader stopped with this fault, now or before.
 pub record Stopped (old new : Reader) (fault : LineFault) : Type 0 where
   pub failed : new.failed ≡ Some fault
   pub limit : new.limit ≡ old.limit
   pub room : new.room ≡ old.room
   pub number : new.number ≡ old.number
+  pub shown : old.failed ≡ None → FaultShown old new fault
 
 -- what a call does to the reader, whatever the source tells
 abbrev pub Moves : (old new : Reader) → Result (Option NumberedLine) LineFault → Type 0

@@ -6,7 +6,7 @@ use Rattle.pl_io.specs.declared.judging.Look.{Look}
 use Rattle.pl_io.specs.declared.judging.Look.TheVariants.{Whole, TooLong, PastTotal, Open}
 use Rattle.pl_io.specs.Faults.{Rose}
 use Rattle.pl_io.specs.Lines.{has_newline, after_line, lines_of, next_of, given, ended, line_too_long, input_too_long}
-use Rattle.pl_io.specs.Reader.{Reader, NumberedLine, GaveLine}
+use Rattle.pl_io.specs.Reader.{Reader, NumberedLine, GaveLine, FaultShown}
 
 -- a whole line of this many bytes stands at the front, whatever follows
 pub record ShowsLine (limit room : ℕ) (held : List ℕ) (len : ℕ) : Type 0 where
@@ -27,8 +27,10 @@ pub record IsOpen (limit room : ℕ) (held : List ℕ) : Type 0 where
 -- what the held bytes show, whatever follows them
 abbrev pub Shows : (limit room : ℕ) (held : List ℕ) → Look → Type 0
 Shows limit room held (Whole len) = ShowsLine limit room held len
-Shows limit room held TooLong = (0 < room) × ((more : List ℕ) → next_of limit room (held ++ more) ≡ line_too_long)
-Shows limit room held PastTotal = (more : List ℕ) → next_of limit room (held ++ more) ≡ input_too_long
+Shows limit room held TooLong =
+    (0 < room) × (next_of limit room held ≡ line_too_long) × ((more : List ℕ) → next_of limit room (held ++ more) ≡ line_too_long)
+Shows limit room held PastTotal =
+    (next_of limit room held ≡ input_too_long) × ((more : List ℕ) → next_of limit room (held ++ more) ≡ input_too_long)
 Shows limit room held Open = IsOpen limit room held
 
 -- a read or memory failed, and a read only where the count rose
@@ -50,7 +52,7 @@ pub record HoldsLine (reader : Reader) (len : ℕ) : Type 0 where
 abbrev pub Settles : (old new : Reader) → Result (Option ℕ) LineFault → Type 0
 Settles old new (Ok (Some len)) = HoldsLine new len
 Settles old new (Ok None) = (new.held ≡ []) × (old.held ≡ [])
-Settles old new (Err fault) = ⊤
+Settles old new (Err fault) = FaultShown old new fault
 
 -- the same of the bytes that were ahead
 abbrev pub Reaches : (old new : Reader) (bytes : List ℕ) (after : Option (List ℕ)) → Result (Option ℕ) LineFault → Type 0
@@ -74,4 +76,4 @@ last_of (byte ∷ bytes) = Some (length (byte ∷ bytes))
 abbrev pub Advances : (old new : Reader) → Result (Option NumberedLine) LineFault → Type 0
 Advances old new (Ok (Some line)) = GaveLine old new line
 Advances old new (Ok None) = (new ≡ old) × (old.held ≡ [])
-Advances old new (Err fault) = new ≡ record old { held = new.held }
+Advances old new (Err fault) = (new ≡ record old { held = new.held }) × FaultShown old new fault

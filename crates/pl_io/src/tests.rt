@@ -136,6 +136,18 @@ fn writes(rt: HostRuntime) -> Result<(), Trouble> {
     Ok(())
 }
 
+fn can_move<T: Send>(_value: &T) {}
+
+#[test]
+fn readers_and_fakes_move_to_threads(rt: HostRuntime) -> Result<(), Trouble> {
+    can_move(&LineReader::new(rt.alloc(), 4, 9)?);
+    can_move(&MemSource::new(rt.alloc(), b"", &[])?);
+    can_move(&MemSink::new(rt.alloc(), 0, &[])?);
+    can_move(&SureSource::new(rt.alloc(), b"")?);
+    can_move(&SureSink::new(rt.alloc())?);
+    Ok(())
+}
+
 #[test]
 fn std_over_memory(rt: HostRuntime) -> Result<(), Trouble> {
     let bytes: &[u8] = b"ab\ncd\n";
