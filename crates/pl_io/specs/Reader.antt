@@ -52,23 +52,27 @@ Moves old new (Ok None) = (new ≡ old) × (old.failed ≡ None) × (old.held �
 Moves old new (Err fault) = Stopped old new fault
 
 -- The line is the first of these bytes, and what stands behind it is ahead now.
-pub record IsNextLine (old new : Reader) (bytes : List ℕ) (after : Option (List ℕ)) (line : NumberedLine) : Type 0 where
+pub record IsNextLine (old new : Reader) (bytes : List ℕ) (after : Option (List ℕ))
+    (line : NumberedLine) : Type 0 where
   pub next : next_of old.limit old.room bytes ≡ given line.bytes (after_line bytes)
   pub lines : lines_of bytes ≡ line.bytes ∷ lines_of (after_line bytes)
   pub rest : after ≡ Some (after_line bytes)
   pub room : new.room + length bytes ≡ old.room + length (after_line bytes)
 
 -- what the answer says of the bytes that were ahead, `after` being those that are ahead now
-abbrev pub Answers : (old new : Reader) (bytes : List ℕ) (after : Option (List ℕ)) → Result (Option NumberedLine) LineFault → Type 0
+abbrev pub Answers : (old new : Reader) (bytes : List ℕ) (after : Option (List ℕ))
+    → Result (Option NumberedLine) LineFault → Type 0
 Answers old new bytes after (Ok (Some line)) = IsNextLine old new bytes after line
 Answers old new bytes after (Ok None) = (next_of old.limit old.room bytes ≡ ended) × (after ≡ Some [])
-Answers old new bytes after (Err (Long n)) = (next_of old.limit old.room bytes ≡ line_too_long) × (n ≡ old.number + 1)
+Answers old new bytes after (Err (Long n)) =
+    (next_of old.limit old.room bytes ≡ line_too_long) × (n ≡ old.number + 1)
 Answers old new bytes after (Err Total) = next_of old.limit old.room bytes ≡ input_too_long
 Answers old new bytes after (Err Read) = ⊤
 Answers old new bytes after (Err Memory) = ⊤
 
 -- the reader has failed before, and the answer is the same fault
-pub record Repeats {S : Type 0} (old new : Reader) (source_before source_now : S) (result : Result (Option NumberedLine) LineFault) (fault : LineFault) : Type 0 where
+pub record Repeats {S : Type 0} (old new : Reader) (source_before source_now : S)
+    (result : Result (Option NumberedLine) LineFault) (fault : LineFault) : Type 0 where
   pub answer : result ≡ Err fault
   pub reader : new ≡ old
   pub source : source_now ≡ source_before

@@ -14,8 +14,10 @@ pub record ShowsLine (limit room : ℕ) (held : List ℕ) (len : ℕ) : Type 0 w
   pub within : len < room
   pub fits : len ≤ limit
   pub no_newline : has_newline (take len held) ≡ false
-  pub next : (more : List ℕ) → next_of limit room (held ++ more) ≡ given (take len held) (after_line (held ++ more))
-  pub lines : (more : List ℕ) → lines_of (held ++ more) ≡ take len held ∷ lines_of (after_line (held ++ more))
+  pub next : (more : List ℕ)
+      → next_of limit room (held ++ more) ≡ given (take len held) (after_line (held ++ more))
+  pub lines : (more : List ℕ)
+      → lines_of (held ++ more) ≡ take len held ∷ lines_of (after_line (held ++ more))
   pub after : (more : List ℕ) → after_line (held ++ more) ≡ drop (len + 1) held ++ more
 
 -- no line ends in these bytes and no limit is passed
@@ -28,9 +30,11 @@ pub record IsOpen (limit room : ℕ) (held : List ℕ) : Type 0 where
 abbrev pub Shows : (limit room : ℕ) (held : List ℕ) → Look → Type 0
 Shows limit room held (Whole len) = ShowsLine limit room held len
 Shows limit room held TooLong =
-    (0 < room) × (next_of limit room held ≡ line_too_long) × ((more : List ℕ) → next_of limit room (held ++ more) ≡ line_too_long)
+    (0 < room) × (next_of limit room held ≡ line_too_long)
+    × ((more : List ℕ) → next_of limit room (held ++ more) ≡ line_too_long)
 Shows limit room held PastTotal =
-    (next_of limit room held ≡ input_too_long) × ((more : List ℕ) → next_of limit room (held ++ more) ≡ input_too_long)
+    (next_of limit room held ≡ input_too_long)
+    × ((more : List ℕ) → next_of limit room (held ++ more) ≡ input_too_long)
 Shows limit room held Open = IsOpen limit room held
 
 -- a read or memory failed, and a read only where the count rose
@@ -55,14 +59,17 @@ Settles old new (Ok None) = (new.held ≡ []) × (old.held ≡ [])
 Settles old new (Err fault) = FaultShown old new fault
 
 -- the same of the bytes that were ahead
-abbrev pub Reaches : (old new : Reader) (bytes : List ℕ) (after : Option (List ℕ)) → Result (Option ℕ) LineFault → Type 0
+abbrev pub Reaches : (old new : Reader) (bytes : List ℕ) (after : Option (List ℕ))
+    → Result (Option ℕ) LineFault → Type 0
 Reaches old new bytes after (Ok (Some len)) =
     (next_of old.limit old.room bytes ≡ given (take len new.held) (after_line bytes))
     × (lines_of bytes ≡ take len new.held ∷ lines_of (after_line bytes))
     × (after ≡ Some bytes)
-    × ((more : List ℕ) → bytes ≡ new.held ++ more → after_line bytes ≡ drop (len + 1) new.held ++ more)
+    × ((more : List ℕ) → bytes ≡ new.held ++ more
+    → after_line bytes ≡ drop (len + 1) new.held ++ more)
 Reaches old new bytes after (Ok None) = (next_of old.limit old.room bytes ≡ ended) × (after ≡ Some [])
-Reaches old new bytes after (Err (Long n)) = (next_of old.limit old.room bytes ≡ line_too_long) × (n ≡ old.number + 1)
+Reaches old new bytes after (Err (Long n)) =
+    (next_of old.limit old.room bytes ≡ line_too_long) × (n ≡ old.number + 1)
 Reaches old new bytes after (Err Total) = next_of old.limit old.room bytes ≡ input_too_long
 Reaches old new bytes after (Err Read) = ⊤
 Reaches old new bytes after (Err Memory) = ⊤

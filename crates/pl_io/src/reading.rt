@@ -20,8 +20,10 @@ impl LineReader {
     fn fill<S: Source>(&mut self, src: &mut S) -> Result<usize, LineFault>
         ensures kept { self.new ≡ record self.old { held = self.new.held } }
         ensures grows { IfOk result (λ count. length self.new.held ≡ length self.old.held + count) }
-        ensures same { IfOk result (λ count. count ≡ 0 → (self.new.held ≡ self.old.held) × IsAtEnd (S.left src.new)) }
-        ensures ahead { IfOk result (λ _. IfSome (ahead self.old.held (S.left src.old)) (λ bytes. ahead self.new.held (S.left src.new) ≡ Some bytes)) }
+        ensures same { IfOk result (λ count.
+            count ≡ 0 → (self.new.held ≡ self.old.held) × IsAtEnd (S.left src.new)) }
+        ensures ahead { IfOk result (λ _. IfSome (ahead self.old.held (S.left src.old)) (λ bytes.
+            ahead self.new.held (S.left src.new) ≡ Some bytes)) }
         ensures later { S.faults src.old ≤ S.faults src.new }
         ensures cause { IfErr result (λ fault. FailsOutside (S.faults src.old) (S.faults src.new) fault) }
     {
@@ -34,7 +36,10 @@ impl LineReader {
     // Takes a line that was found from the front.
     fn take_line(&mut self, len: usize) -> Result<Line, AllocError>
         requires { HoldsLine self.old len }
-        ensures line { IfOk result (λ line. line ≡ record { number = self.old.number + 1; bytes = take len self.old.held }) }
+        ensures line { IfOk result (λ line. line ≡ record {
+          number = self.old.number + 1;
+          bytes = take len self.old.held;
+        }) }
         ensures taken { IfOk result (λ _. self.new ≡ record self.old {
           held = drop (len + 1) self.old.held;
           room = self.old.room - min (len + 1) (length self.old.held);
@@ -58,7 +63,8 @@ impl LineReader {
     fn reach<S: Source>(&mut self, src: &mut S) -> Result<Option<usize>, LineFault>
         ensures kept { self.new ≡ record self.old { held = self.new.held } }
         ensures settles { Settles self.old self.new result }
-        ensures exact { IfSome (ahead self.old.held (S.left src.old)) (λ bytes. Reaches self.old self.new bytes (ahead self.new.held (S.left src.new)) result) }
+        ensures exact { IfSome (ahead self.old.held (S.left src.old)) (λ bytes.
+            Reaches self.old self.new bytes (ahead self.new.held (S.left src.new)) result) }
         ensures later { S.faults src.old ≤ S.faults src.new }
         ensures failed { IsErrOf result LineFault.Read → Rose (S.faults src.old) (S.faults src.new) }
     {
@@ -95,7 +101,8 @@ impl LineReader {
     fn advance<S: Source>(&mut self, src: &mut S) -> Result<Option<Line>, LineFault>
         requires { self.old.failed ≡ None }
         ensures moves { Advances self.old self.new result }
-        ensures exact { IfSome (ahead self.old.held (S.left src.old)) (λ bytes. Answers self.old self.new bytes (ahead self.new.held (S.left src.new)) result) }
+        ensures exact { IfSome (ahead self.old.held (S.left src.old)) (λ bytes.
+            Answers self.old self.new bytes (ahead self.new.held (S.left src.new)) result) }
         ensures later { S.faults src.old ≤ S.faults src.new }
         ensures failed { IsErrOf result LineFault.Read → Rose (S.faults src.old) (S.faults src.new) }
     {
@@ -108,9 +115,11 @@ impl LineReader {
     /// The next line, or `None` at the end of the input. It reads only where the bytes that it holds
     /// have no whole line. After a fault it answers the same fault from then on.
     pub fn next<S: Source>(&mut self, src: &mut S) -> Result<Option<Line>, LineFault>
-        ensures exact { self.old.failed ≡ None → IfSome (ahead self.old.held (S.left src.old)) (λ bytes. Answers self.old self.new bytes (ahead self.new.held (S.left src.new)) result) }
+        ensures exact { self.old.failed ≡ None → IfSome (ahead self.old.held (S.left src.old)) (λ bytes.
+            Answers self.old self.new bytes (ahead self.new.held (S.left src.new)) result) }
         ensures moves { Moves self.old self.new result }
-        ensures failed { IsErrOf result LineFault.Read → self.old.failed ≡ None → Rose (S.faults src.old) (S.faults src.new) }
+        ensures failed { IsErrOf result LineFault.Read → self.old.failed ≡ None
+            → Rose (S.faults src.old) (S.faults src.new) }
         ensures repeats { IfSome self.old.failed (Repeats self.old self.new src.old src.new result) }
         ensures later { S.faults src.old ≤ S.faults src.new }
     {

@@ -31,7 +31,8 @@ impl<W: Write> Sink for StdSink<W> {
 
     fn write(&mut self, piece: &[u8]) -> Result<usize, Failed>
         requires { 0 < length piece.now }
-        ensures written { WriteAppends (W.contents self.old.writer) (W.contents self.new.writer) result piece.now }
+        ensures written { WriteAppends
+            (W.contents self.old.writer) (W.contents self.new.writer) result piece.now }
         ensures bound { IfOk result (λ n. (0 < n) × (n ≤ length piece.now)) }
         ensures bytes { WriteAppends None None result piece.now }
         ensures cause { HasCause self.old.faults self.new.faults result }
