@@ -1,14 +1,12 @@
 -- Digits are from 48 to 57, and the value of so many of them is below a power of ten.
-use Rattle.std.proofs.Common.{◌≡◌, ℕ, suc, ◌+◌, ◌*◌, ◌^◌, ◌-◌, ◌≤◌, ◌<◌, Bool, true, false, ◌&&◌, leb, List, [], ◌∷◌, length, take, drop, get_or, refl, sym, ap, ◌∙◌, subst, arith}
+use Rattle.std.proofs.Common.{◌≡◌, ℕ, suc, ◌+◌, ◌*◌, ◌^◌, ◌≤◌, ◌<◌, Bool, true, false, ◌&&◌, leb, List, take, refl, arith}
 use Rattle.std.specs.List.{prefix_len, AllPass}
 use Rattle.std.proofs.lemmas.Bool.{leb-true}
 use Rattle.std.proofs.lemmas.List.{get_or-take}
 use Rattle.std.proofs.lemmas.List.Folds.{length-prefix_len}
 use Rattle.std.proofs.lemmas.List.Sums.{prefix_len_passes}
 use Rattle.std.proofs.Math.Nat.{pow-suc, pow-le-pow_right}
-use Rattle.pl_text.specs.declared.class.Class.{Class}
-use Rattle.pl_text.specs.declared.class.Class.TheVariants as class
-use Rattle.pl_text.specs.Bytes.{is_digit, class_by, class_of, is_digit_class, is_number_byte}
+use Rattle.pl_text.specs.Bytes.{class_by, class_of, is_digit_class, is_number_byte}
 
 digit_by : (blank hash letter digit symbol : Bool) → is_digit_class (class_by blank hash letter digit symbol) ≡ true → digit ≡ true
 digit_by true hash letter digit symbol e = absurd cc

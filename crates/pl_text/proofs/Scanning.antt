@@ -1,12 +1,12 @@
 -- Skipping what was read.
-use Rattle.std.proofs.Common.{◌≡◌, ℕ, zero, suc, ◌+◌, ◌-◌, ◌≤◌, Bool, List, [], ◌∷◌, ◌++◌, length, drop, Result, Ok, Err, refl, sym, ap, ◌∙◌, append_assoc, arith}
+use Rattle.std.proofs.Common.{◌≡◌, ℕ, zero, suc, ◌+◌, ◌-◌, ◌≤◌, Bool, List, [], ◌∷◌, ◌++◌, length, drop, Result, Ok, Err, refl, sym, ap, append_assoc, arith}
 use Rattle.std.specs.List.{prefix_len}
 use Rattle.std.proofs.lemmas.List.Sums.{prefix_len-le-length}
 use Rattle.std.proofs.lemmas.List.{append-nil}
 use Rattle.pl_text.specs.declared.token.Token.{Token}
 use Rattle.pl_text.specs.declared.lexeme.Lexeme.{Lexeme}
 use Rattle.pl_text.specs.declared.fault.TextFault.{TextFault}
-use Rattle.pl_text.specs.Tokens.{lexeme_of, kept, before, go_on, tokens_at}
+use Rattle.pl_text.specs.Tokens.{lexeme_of, kept, before, tokens_at}
 
 pub tokens_skip : (skip at : ℕ) (bs : List ℕ) → tokens_at skip at bs ≡ tokens_at 0 (at + skip) (drop skip bs)
 unfolding tokens_at
@@ -15,7 +15,7 @@ tokens_skip (suc skip) at [] = refl
 tokens_skip zero at (b ∷ bs) = let e : at + 0 ≡ at = omega arith in rw e refl
 tokens_skip (suc skip) at (b ∷ bs) = let e : at + suc skip ≡ at + 1 + skip = omega arith in rw e (tokens_skip skip (at + 1) bs)
 
-before_before : (xs ys : List Token) (r : Result (List Token) TextFault) → before xs (before ys r) ≡ before (xs ++ ys) r
+pub before_before : (xs ys : List Token) (r : Result (List Token) TextFault) → before xs (before ys r) ≡ before (xs ++ ys) r
 before_before xs ys (Ok zs) = ap Ok (sym (append_assoc xs ys zs))
 before_before xs ys (Err e) = refl
 

@@ -44,9 +44,7 @@ impl<'a> Scanner<'a> {
     /// Takes what the bytes `first` and `rest` begin with.
     fn take(&mut self, first: u8, rest: &'a [u8]) -> Result<(), TextFault>
         requires { self.old.at + (length rest.now + 1) < 2 ^ 32 }
-        ensures {
-            Steps result self.old.found.items self.old.at (first ∷ rest.now) self.new.found.items self.new.at self.new.rest.now
-        }
+        ensures { Steps result self.old.found.items self.old.at (first ∷ rest.now) self.new.found.items self.new.at self.new.rest.now }
     {
         let lexeme = next_lexeme(first, rest, self.at)?;
         self.keep(lexeme)?;
@@ -58,9 +56,7 @@ impl<'a> Scanner<'a> {
     fn step(&mut self) -> Result<(), TextFault>
         requires some { 0 < length self.old.rest.now }
         requires short { self.old.at + length self.old.rest.now < 2 ^ 32 }
-        ensures {
-            Steps result self.old.found.items self.old.at self.old.rest.now self.new.found.items self.new.at self.new.rest.now
-        }
+        ensures { Steps result self.old.found.items self.old.at self.old.rest.now self.new.found.items self.new.at self.new.rest.now }
     {
         match self.rest {
             [first, rest @ ..] => self.take(*first, rest),

@@ -1,4 +1,6 @@
 ghost use Rattle.std.specs.Prelude.{◌≡◌};
+ghost use Rattle.std.specs.List.{list_all};
+ghost use Rattle.pl_text.specs.Bytes.{is_name_byte};
 ghost use Rattle.pl_text.specs.Words.{word_text, is_written, word_of, is_word, is_name};
 
 use crate::class::{Class, class_of, is_name_byte};
@@ -113,10 +115,13 @@ fn is_written(word: Word, text: &[u8]) -> bool
 pub fn word_of(text: &[u8]) -> Option<Word>
     ensures { result ≡ word_of text.now }
 {
-    WORDS
-        .iter()
-        .copied()
-        .find(|word| is_written(*word, text))
+    WORDS.iter().copied().find(|word| is_written(*word, text))
+}
+
+fn is_name_rest(bytes: &[u8]) -> bool
+    ensures { result ≡ list_all is_name_byte bytes.now }
+{
+    bytes.iter().all(|byte| is_name_byte(*byte))
 }
 
 /// Whether the bytes have the form of a name, as a reserved word has too.
@@ -125,9 +130,7 @@ fn is_word(text: &[u8]) -> bool
 {
     match text {
         [first, rest @ ..] => {
-            class_of(*first) == Class::Letter
-                && rest.len() < 32
-                && rest.iter().all(|byte| is_name_byte(*byte))
+            matches!(class_of(*first), Class::Letter) && rest.len() < 32 && is_name_rest(rest)
         }
         [] => false,
     }

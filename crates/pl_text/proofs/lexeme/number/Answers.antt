@@ -1,5 +1,3 @@
-use Rattle.std.proofs.Common.{◌≡◌}
-use Rattle.pl_text.specs.Bytes.{is_number_byte}
 use Rattle.pl_text.proofs.Digits.{digits_pass}
 use Rattle.pl_text.proofs.lexeme.number.Goals as goal
 

@@ -1,4 +1,4 @@
-use Rattle.std.proofs.Common.{◌≡◌, ◌+◌, ◌*◌, ◌^◌, ◌-◌, ◌<◌, ◌≤◌, get_or, refl, arith, drop, length, drop-cons, add-one}
+use Rattle.std.proofs.Common.{◌+◌, ◌<◌, refl, arith, length, drop-cons, add-one}
 use Rattle.pl_text.proofs.Digits.{digit_range, power_step, power_below}
 use Rattle.pl_text.proofs.lexeme.number_value.Goals as goal
 
@@ -19,8 +19,8 @@ overflow_add-value c = omega (arith, c.loop-digit.invariant.1, c.loop-digit-test
 
 pub loop-digit-preserved : goal.loop-digit-preserved
 loop-digit-preserved c = (
-    let below : c.loop-digit.digit-index < length c.args.digits.now = c.loop-digit-test.true in
-    let step = rw (drop-cons c.args.digits.now c.loop-digit.digit-index 0) at c.loop-digit.invariant.0 in
-    rw (add-one, c.from.ensures) step,
-    omega (arith, c.loop-digit.invariant.1, c.from.ensures, digit_range _ (c.requires.digits c.loop-digit.digit-index 0 c.loop-digit-test.true), power_step (c.loop-digit.digit-index + 1)),
+  let below : c.loop-digit.digit-index < length c.args.digits.now = c.loop-digit-test.true in
+      let step = rw (drop-cons c.args.digits.now c.loop-digit.digit-index 0) at c.loop-digit.invariant.0 in
+      rw (add-one, c.from.ensures) step,
+  omega (arith, c.loop-digit.invariant.1, c.from.ensures, digit_range _ (c.requires.digits c.loop-digit.digit-index 0 c.loop-digit-test.true), power_step (c.loop-digit.digit-index + 1)),
 )
