@@ -5,3 +5,4 @@ pub mod Commits
 pub mod Sends
 pub mod Fixes
 pub mod Inputs
+pub mod Picks

@@ -1,8 +1,8 @@
 -- What was sent, among what is due.
-use Rattle.std.proofs.Common.{◌≡◌, ℕ, zero, suc, ◌+◌, ◌<◌, ◌≤◌, List, [], ◌∷◌, ◌++◌, length, take, map, Bool, true, false, nat_eq, ◌&&◌, Option, Some, None, slice_get, refl, sym, ◌∙◌, ap, subst, arith, length-append}
+use Rattle.std.proofs.Common.{◌≡◌, ℕ, zero, suc, ◌+◌, ◌<◌, ◌≤◌, List, [], ◌∷◌, ◌++◌, length, take, map, Bool, true, false, nat_eq, nat_le, ◌&&◌, Option, Some, None, slice_get, refl, sym, ◌∙◌, ap, subst, arith, length-append}
 use Rattle.std.specs.Option.{option_map}
 use Rattle.std.proofs.lemmas.Grind.{common_steps}
-use Rattle.std.proofs.lemmas.List.{length-map}
+use Rattle.std.proofs.lemmas.List.{length-map, length-take}
 use lib.Pointwise.{pointwise}
 use Rattle.pl_conflict.specs.declared.conflict.Conflict.{Conflict}
 use Rattle.pl_machine.specs.declared.command.Command.{Command}
@@ -33,11 +33,19 @@ front_is_all (x ∷ xs) (y ∷ ys) front =
     let tail : xs ≡ take (length xs) ys = cc in
     one_more (length xs) (length ys) ∙ front_is_all xs ys tail ∙ sym (ap (λ b. b && pointwise nat_eq xs ys) (ap (λ n. nat_eq n y) head ∙ same_itself y))
 
+front_within : (xs ys : List ℕ) → xs ≡ take (length xs) ys → length xs ≤ length ys
+front_within xs ys front = omega (arith, ap length front, length-take (length xs) ys)
+
+le_is_eq : (m n : ℕ) → m ≤ n → nat_le n m ≡ nat_eq m n
+le_is_eq m n le = grind (arith, common_steps)
+
 pub sent_all : {spoiled : Bool} {log : List Entry} {w : World} {kept : List Conflict} (s : State) → record { spoiled = spoiled; log = log; world = w } ≡ s → IsSound spoiled log w kept → s.spoiled ≡ false
-    → (sent due : ℕ) → sent ≡ length w.dispatched → due ≡ length (due_of w.scene) → nat_eq sent due ≡ all_sent s.world
+    → (sent due : ℕ) → sent ≡ length w.dispatched → due ≡ length (due_of w.scene) → nat_le due sent ≡ all_sent s.world
 sent_all {spoiled} {log} {w} s is sound unspoiled sent due sent_is due_is =
     let standing = sound.stands (ap (λ (t : State). t.spoiled) is ∙ unspoiled) in
-    ap (λ n. nat_eq n due) sent_is ∙ ap (λ n. nat_eq (length w.dispatched) n) due_is ∙ sym (ap (λ n. nat_eq (length w.dispatched) n) (length-map (due_of w.scene) (λ (c : Command). c.id))) ∙ front_is_all w.dispatched (ids_of (due_of w.scene)) standing.sent ∙ ap (λ (t : State). all_sent t.world) is
+    let ids : length (ids_of (due_of w.scene)) ≡ length (due_of w.scene) = length-map (due_of w.scene) (λ (c : Command). c.id) in
+    let within : length w.dispatched ≤ length (ids_of (due_of w.scene)) = front_within w.dispatched (ids_of (due_of w.scene)) standing.sent in
+    le_is_eq sent due (omega arith) ∙ ap (λ n. nat_eq n due) sent_is ∙ ap (λ n. nat_eq (length w.dispatched) n) (due_is ∙ sym ids) ∙ front_is_all w.dispatched (ids_of (due_of w.scene)) standing.sent ∙ ap (λ (t : State). all_sent t.world) is
 
 front_more : (xs : List ℕ) (cs : List Command) (c : Command) → xs ≡ take (length xs) (ids_of cs) → slice_get cs (length xs) ≡ Some c → xs ++ c.id ∷ [] ≡ take (length (xs ++ c.id ∷ [])) (ids_of cs)
 front_more [] [] c front next = absurd (cc)

@@ -98,6 +98,7 @@ impl Plan {
     }
 
     pub fn add_goal(&mut self, goal: Goal) -> Result<(), AllocError>
+        requires { goal.kind < length self.old.model.kinds }
         ensures ok { OnOk result (self.new ≡ record self.old { goals = self.old.goals ++ goal ∷ [] }) }
         ensures err { OnErr result (self.new ≡ self.old) }
     {

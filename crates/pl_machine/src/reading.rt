@@ -2,6 +2,8 @@ ghost use Rattle.std.specs.Prelude.{◌≡◌, ◌<◌, ◌≤◌, ◌^◌, leng
 ghost use Rattle.std.specs.List.{position};
 ghost use Rattle.std.specs.Str.{bytes_eq};
 ghost use Rattle.pl_machine.specs.Plain.{IsPlain};
+ghost use Rattle.pl_model.specs.declared.whole.Model.{Model};
+ghost use Rattle.pl_machine.specs.Reading.{IsOfModel};
 ghost use Rattle.pl_machine.specs.Messages.{number_by, kind_named, is_in_range, goal_by, tick_by, said_by, message_of};
 
 use crate::goal::Goal;
@@ -22,7 +24,8 @@ fn number_of(token: &Token) -> Option<u64>
 }
 
 fn kind_named(model: &Model, name: &[u8]) -> Option<usize>
-    ensures { result ≡ kind_named model.now name.now }
+    ensures value { result ≡ kind_named model.now name.now }
+    ensures within { IfSome result (λ k. k < length model.now.kinds) }
 {
     model
         .kinds
@@ -49,8 +52,9 @@ fn goal(
     latest: Option<u64>,
 ) -> Option<Message>
     requires plain { IsPlain model.now }
-    requires kind { IfSome kind (λ k. k < 2 ^ 32) }
-    ensures { result ≡ goal_by model.now number kind earliest latest }
+    requires kind { IfSome kind (λ k. k < length model.now.kinds) }
+    ensures value { result ≡ goal_by model.now number kind earliest latest }
+    ensures kind { IfSome result (IsOfModel model.now) }
 {
     match (number, kind, earliest, latest) {
         (Some(number), Some(kind), Some(earliest), Some(latest))
@@ -70,7 +74,8 @@ fn goal(
 }
 
 fn tick(moment: Option<u64>) -> Option<Message>
-    ensures { result ≡ tick_by moment }
+    ensures value { result ≡ tick_by moment }
+    ensures kind { (m : Model) → IfSome result (IsOfModel m) }
 {
     match moment {
         Some(moment) => Some(Message::Tick(moment)),
@@ -80,7 +85,8 @@ fn tick(moment: Option<u64>) -> Option<Message>
 
 fn said(alloc: Global, model: &Model, line: &[u8], tokens: &[Token]) -> Option<Message>
     requires { IsPlain model.now }
-    ensures { result ≡ said_by model.now line.now tokens.now }
+    ensures value { result ≡ said_by model.now line.now tokens.now }
+    ensures kind { IfSome result (IsOfModel model.now) }
 {
     match tokens {
         [first] if says(line, first, b"end") => Some(Message::End),
@@ -109,7 +115,8 @@ pub fn read_message(
 ) -> Result<Option<Message>, AllocError>
     requires plain { IsPlain model.now }
     requires short { length line.now < 2 ^ 32 }
-    ensures { IfOk result (λ message. message ≡ message_of model.now line.now) }
+    ensures value { IfOk result (λ message. message ≡ message_of model.now line.now) }
+    ensures kind { IfOk result (λ message. IfSome message (IsOfModel model.now)) }
 {
     match line_tokens(alloc, line)? {
         Some(tokens) => Ok(said(alloc, model, line, tokens.as_slice())),

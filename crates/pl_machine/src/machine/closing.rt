@@ -1,4 +1,4 @@
-ghost use Rattle.std.specs.Prelude.{◌≡◌, false, Some, None, length, slice_get};
+ghost use Rattle.std.specs.Prelude.{◌≡◌, false, not, nat_lt, Some, None, length, slice_get};
 ghost use Rattle.pl_machine.specs.Horizon.{due_of};
 ghost use Rattle.pl_machine.specs.Step.{all_sent};
 ghost use Rattle.pl_machine.specs.Taking.{IsOpen, Answers};
@@ -10,11 +10,12 @@ use crate::stop::Stop;
 use pl_lists::Items;
 
 impl Machine {
-    fn all_sent(&self) -> bool
+    pub(crate) fn all_sent(&self) -> bool
         requires { self.now.spoiled ≡ false }
-        ensures { result ≡ all_sent self.now.world }
+        ensures sent { result ≡ all_sent self.now.world }
+        ensures due { result ≡ not (nat_lt (length self.now.world.dispatched) (length (due_of self.now.world.scene))) }
     {
-        self.dispatched.len() == self.plan.due_count()
+        self.plan.due_count() <= self.dispatched.len()
     }
 
     fn send(&mut self, command: Command) -> Result<Reply, Stop>

@@ -1,5 +1,6 @@
-ghost use Rattle.std.specs.Prelude.{◌≡◌, false, IfOk, Some, None};
+ghost use Rattle.std.specs.Prelude.{◌≡◌, ◌<◌, false, IfOk, IfSome, IfNone, Some, None, length};
 ghost use Rattle.pl_machine.specs.Candidates.{least_pick};
+ghost use Rattle.pl_machine.specs.Legal.{IsMoveOf};
 ghost use Rattle.pl_machine.specs.World.{reason_of};
 ghost use Rattle.pl_machine.specs.Taking.{IsOpen, Spoils, Answers};
 
@@ -15,7 +16,8 @@ impl Machine {
     #[tactic(auto, unfolding(crate::specs::Candidates::least_pick))]
     pub fn first_pick(&self, alloc: Global) -> Result<Option<(Conflict, RepairMove)>, AllocError>
         requires { self.now.spoiled ≡ false }
-        ensures { IfOk result (λ pick. pick ≡ least_pick self.now.world.scene) }
+        ensures pick { IfOk result (λ pick. pick ≡ least_pick self.now.world.scene) }
+        ensures kind { IfOk result (λ pick. IfSome pick (λ p. IsMoveOf (length self.now.world.scene.model.kinds) p.1)) }
     {
         let conflicts = self.conflicts.list(alloc)?;
         self.plan.first_pick(alloc, conflicts.as_slice())
@@ -24,7 +26,8 @@ impl Machine {
     /// Why repair is to rest, if it is to.
     pub fn reason(&self, alloc: Global) -> Result<Option<Reason>, AllocError>
         requires { self.now.spoiled ≡ false }
-        ensures { IfOk result (λ reason. reason ≡ reason_of self.now.world) }
+        ensures reason { IfOk result (λ reason. reason ≡ reason_of self.now.world) }
+        ensures turns { IfOk result (λ reason. IfNone reason (self.now.world.turn < self.now.world.options.turns)) }
     {
         if self.conflicts.is_empty() {
             return Ok(Some(Reason::Clear));

@@ -67,6 +67,7 @@ impl Machine {
         requires open { IsOpen self.old (Event.Input (Some line.now)) }
         requires fits { IsMessageLine line.now }
         requires goal { message_of self.old.world.scene.model line.now ≡ Some (Message.Goal goal) }
+        requires kind { goal.kind < length self.old.world.scene.model.kinds }
         requires done { input_reply self.old.world (Some line.now) ≡ Reply.Done }
         ensures { Answers self.old (Event.Input (Some line.now)) result self.new }
     {

@@ -1,9 +1,10 @@
-ghost use Rattle.std.specs.Prelude.{◌≡◌, ◌≤◌, ◌<◌, ◌^◌, IfOk, OnOk, Some, None};
+ghost use Rattle.std.specs.Prelude.{◌≡◌, ◌≤◌, ◌<◌, ◌^◌, IfOk, IfSome, OnOk, Some, None, length};
 ghost use Rattle.std.specs.List.{find, list_any};
 ghost use Rattle.std.specs.Option.{option_copied, option_map};
 ghost use Rattle.pl_machine.specs.Candidates.{step_between, spread, goal_numbered, additions_for, candidates_of, same_move, first_legal, pick_among, least_pick};
 ghost use Rattle.pl_machine.specs.Conflicts.{conflicts_of};
 ghost use Rattle.pl_machine.specs.Moves.{is_legal};
+ghost use Rattle.pl_machine.specs.Legal.{IsMoveOf};
 
 use crate::goal::Goal;
 use crate::plan::Plan;
@@ -119,8 +120,7 @@ impl Plan {
         Ok(repair.map(|repair| (*conflict, repair)))
     }
 
-    /// The first of these conflicts that has a legal candidate, with its first one.
-    pub fn first_pick(
+    fn pick_among(
         &self,
         alloc: Global,
         conflicts: &[Conflict],
@@ -134,5 +134,19 @@ impl Plan {
             }
         }
         Ok(None)
+    }
+
+    /// The first of these conflicts that has a legal candidate, with its first one.
+    pub fn first_pick(
+        &self,
+        alloc: Global,
+        conflicts: &[Conflict],
+    ) -> Result<Option<(Conflict, RepairMove)>, AllocError>
+        ensures pick { IfOk result (λ pick. pick ≡ pick_among self.now conflicts.now) }
+        ensures kind { IfOk result (λ pick. IfSome pick (λ p. IsMoveOf (length self.now.model.kinds) p.1)) }
+    {
+        let _order = &self.order;
+        let pick = self.pick_among(alloc, conflicts)?;
+        Ok(pick)
     }
 }
