@@ -20,7 +20,7 @@ pub use choice::Choice;
 pub use command::Command;
 pub use event::{Bytes, Entry, Event, Reason, Reply, Values};
 pub use goal::Goal;
-pub use lines::{is_begin_line, is_blank_line};
+pub use lines::{is_begin_line, is_blank_line, line_tokens, says, token_text};
 pub use machine::Machine;
 pub use message::Message;
 pub use options::Options;

@@ -1,0 +1,11 @@
+//! The words of the command line and the plain models, which the first form of the program takes.
+#![tactic(auto)]
+
+mod command;
+mod model;
+mod number;
+mod words;
+
+pub use command::{Command, Task};
+pub use model::read_plain;
+pub use words::read_words;
