@@ -4,6 +4,7 @@ use pl_lists::Items;
 use pl_machine::{Entry, Event, Options, Reason, RepairMove, Reply};
 use pl_model::{Expr, Kind, Model, Origin, Param};
 use std::alloc::{AllocError, Global};
+use std::process::Abort;
 
 fn bytes(alloc: Global, text: &[u8]) -> Result<Items<u8>, AllocError> {
     let mut all = Vec::new(alloc);
@@ -85,10 +86,10 @@ fn sent(
 }
 
 /// Whether the entries have these lines, each behind its number.
-fn prints(rt: &HostRuntime, rows: &[(u32, Entry, &str)]) -> Result<(), AllocError> {
-    let model = model(rt.alloc())?;
+fn prints(rt: &impl Abort, alloc: Global, rows: &[(u32, Entry, &str)]) -> Result<(), AllocError> {
+    let model = model(alloc)?;
     for (number, entry, wanted) in rows {
-        let line = render(rt.alloc(), &model, *number, entry)?;
+        let line = render(alloc, &model, *number, entry)?;
         assert_eq!(rt; line.as_slice(), wanted.as_bytes(), "{wanted}");
     }
     Ok(())
@@ -150,7 +151,7 @@ fn prints_each_event(rt: HostRuntime) -> Result<(), AllocError> {
             "22 dispatch 4 shot 7 gain=3 level_2=-2\n",
         ),
     ];
-    prints(&rt, &rows)
+    prints(&rt, alloc, &rows)
 }
 
 #[test]
@@ -200,6 +201,7 @@ fn prints_each_move(rt: HostRuntime) -> Result<(), AllocError> {
     for (repair, wanted) in table {
         prints(
             &rt,
+            rt.alloc(),
             &[(7, entry(Event::Fix(late, repair), Reply::Done), wanted)],
         )?;
     }
@@ -271,7 +273,7 @@ fn prints_each_refusal(rt: HostRuntime) -> Result<(), AllocError> {
             "5 commit 463 : beyond\n",
         ),
     ];
-    prints(&rt, &rows)
+    prints(&rt, alloc, &rows)
 }
 
 #[test]
@@ -305,7 +307,7 @@ fn prints_each_refused_move(rt: HostRuntime) -> Result<(), AllocError> {
     let open_goal = conflict(92, Code::OpenGoal, 2, 92, 92);
     for (reply, wanted) in table {
         let fix = Event::Fix(open_goal, RepairMove::Drop { goal: 2 });
-        prints(&rt, &[(4, entry(fix, reply), wanted)])?;
+        prints(&rt, rt.alloc(), &[(4, entry(fix, reply), wanted)])?;
     }
     Ok(())
 }
@@ -339,7 +341,11 @@ fn prints_each_code(rt: HostRuntime) -> Result<(), AllocError> {
     ];
     for (code, wanted) in table {
         let held = Reply::Held(conflict(20, code, 1, 10, 20));
-        prints(&rt, &[(3, entry(Event::Commit(21), held), wanted)])?;
+        prints(
+            &rt,
+            rt.alloc(),
+            &[(3, entry(Event::Commit(21), held), wanted)],
+        )?;
     }
     Ok(())
 }
