@@ -1,0 +1,4 @@
+pub mod Reading
+pub mod Beginning
+pub mod Skipping
+pub mod Telling

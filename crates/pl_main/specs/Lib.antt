@@ -1,0 +1,4 @@
+pub mod Reads
+pub mod Heads
+pub mod Waits
+pub mod Tells

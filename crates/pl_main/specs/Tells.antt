@@ -1,0 +1,79 @@
+-- A message and its round.
+use Rattle.std.specs.Prelude.{◌≡◌, ℕ, ◌≤◌, List, [], ◌∷◌, ◌++◌, length, Bool, true, false, Option, Some, None, Result, Ok, Err, ⊤}
+use Rattle.pl_machine.specs.declared.event.Event.{Event}
+use Rattle.pl_machine.specs.declared.event.Event.TheVariants as event
+use Rattle.pl_machine.specs.declared.event.Entry.{Entry}
+use Rattle.pl_machine.specs.declared.stop.Stop.{Stop}
+use Rattle.pl_machine.specs.declared.stop.Stop.TheVariants as stop
+use Rattle.pl_machine.specs.Lines.{is_line_of, end_word}
+use Rattle.pl_machine.specs.Step.{after}
+use Rattle.pl_machine.specs.Legal.{world_from}
+use Rattle.pl_machine.specs.Solo.{solo_from}
+use Rattle.pl_machine.specs.Finished.{inputs_of}
+use Rattle.pl_machine.specs.Sound.{State}
+use Rattle.pl_driver.specs.Rounds.{SameRun}
+
+-- whether an input ends the run
+abbrev pub is_last : Option (List ℕ) → Bool
+is_last None = true
+is_last (Some line) = is_line_of end_word line
+
+-- a machine that waits for a message
+pub record IsReady (s : State) : Type 0 where
+  pub unspoiled : s.spoiled ≡ false
+  pub closed : s.world.closed ≡ true
+  pub going : s.world.done ≡ false
+
+-- The input was logged. Its round is open, unless it ends the run.
+pub record Hears (old : State) (input : Option (List ℕ)) (new : State) : Type 0 where
+  pub entry : Entry
+  pub is_input : entry.event ≡ event.Input input
+  pub log : new.log ≡ old.log ++ entry ∷ []
+  pub world : new.world ≡ after old.world (event.Input input)
+  pub unspoiled : new.spoiled ≡ false
+  pub done : new.world.done ≡ is_last input
+  pub closed : new.world.closed ≡ is_last input
+  pub same : SameRun old new
+
+abbrev pub Hearing : State → Option (List ℕ) → Result (Unit {0}) Stop → State → Type 0
+Hearing old input (Ok u) new = Hears old input new
+Hearing old input (Err stop.NotNow) new = ⊥
+Hearing old input (Err stop.LogFull) new = (old.world.options.entries ≤ length old.log) × (new ≡ old)
+Hearing old input (Err stop.Spoiled) new = ⊥
+Hearing old input (Err stop.Memory) new = ⊤
+
+-- The entries of a message and its round.
+pub record Told (old : State) (input : Option (List ℕ)) (new : State) : Type 0 where
+  pub entries : List Entry
+  pub log : new.log ≡ old.log ++ entries
+  pub inputs : inputs_of entries ≡ input ∷ []
+  pub solo : solo_from old.world entries
+  pub world : new.world ≡ world_from old.world entries
+  pub unspoiled : new.spoiled ≡ false
+  pub closed : new.world.closed ≡ true
+  pub done : new.world.done ≡ is_last input
+  pub same : SameRun old new
+
+-- The log got full within the round of the message.
+pub record ToldInPart (old : State) (input : Option (List ℕ)) (new : State) : Type 0 where
+  pub entries : List Entry
+  pub log : new.log ≡ old.log ++ entries
+  pub inputs : inputs_of entries ≡ input ∷ []
+  pub solo : solo_from old.world entries
+  pub world : new.world ≡ world_from old.world entries
+  pub unspoiled : new.spoiled ≡ false
+  pub open_round : new.world.closed ≡ false
+  pub full : old.world.options.entries ≤ length new.log
+  pub same : SameRun old new
+
+-- The log was full when the message came, or it got full within its round.
+pub data FillsUp (old : State) (input : Option (List ℕ)) (new : State) : Type 0 where
+  at_once : old.world.options.entries ≤ length old.log → new ≡ old → FillsUp old input new
+  within : ToldInPart old input new → FillsUp old input new
+
+abbrev pub Telling : State → Option (List ℕ) → Result (Unit {0}) Stop → State → Type 0
+Telling old input (Ok u) new = Told old input new
+Telling old input (Err stop.NotNow) new = ⊥
+Telling old input (Err stop.LogFull) new = FillsUp old input new
+Telling old input (Err stop.Spoiled) new = ⊥
+Telling old input (Err stop.Memory) new = ⊤
