@@ -159,6 +159,7 @@ told_in_part old mid new input hears going ran open_round full =
       world = ran.world ∙ ap (λ (w : World). world_from w ran.entries) led;
       unspoiled = ran.unspoiled;
       open_round = open_round;
+      going = ran.done ∙ going;
       full = subst (λ (o : Options). o.entries ≤ length new.log) hears.same.options full;
       same = record { model = ran.same.model ∙ hears.same.model; options = ran.same.options ∙ hears.same.options };
     })

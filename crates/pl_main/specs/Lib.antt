@@ -2,3 +2,8 @@ pub mod Reads
 pub mod Heads
 pub mod Waits
 pub mod Tells
+pub mod Written
+pub mod Plays
+pub mod Top
+pub mod Runs
+pub mod Statuses

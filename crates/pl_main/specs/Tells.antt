@@ -63,6 +63,7 @@ pub record ToldInPart (old : State) (input : Option (List ℕ)) (new : State) : 
   pub world : new.world ≡ world_from old.world entries
   pub unspoiled : new.spoiled ≡ false
   pub open_round : new.world.closed ≡ false
+  pub going : new.world.done ≡ false
   pub full : old.world.options.entries ≤ length new.log
   pub same : SameRun old new
 

@@ -1,13 +1,16 @@
-//! The top call.
+//! The top call: the words, the model's text, the messages, and the journal.
 #![tactic(auto)]
 
 mod answers;
 mod found;
+mod halt;
 mod head;
 mod messages;
+mod outcome;
+mod play;
 mod reads;
+mod whole;
+mod top;
+mod writes;
 
-pub use answers::tell;
-pub use found::{Found, Head};
-pub use head::read_head;
-pub use messages::next_message;
+pub use top::{run, run_solo};

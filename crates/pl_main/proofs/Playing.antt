@@ -1,0 +1,284 @@
+-- Message after message.
+use Rattle.std.proofs.Common.{◌≡◌, ℕ, ◌+◌, ◌<◌, ◌≤◌, List, [], ◌∷◌, ◌++◌, length, drop, Bool, true, false, if◌then◌else◌, Option, Some, None, IfSome, ◌⊎◌, inl, inr, Result, Ok, Err, refl, sym, ◌∙◌, ap, subst, append_assoc, arith, length-append}
+use Rattle.std.proofs.lemmas.List.{append-nil}
+use Rattle.std.proofs.lemmas.List.Elements.{filter_map-append}
+use Rattle.pl_io.specs.declared.errors.LineFault.{LineFault}
+use Rattle.pl_io.specs.declared.errors.LineFault.TheVariants as fault
+use Rattle.pl_io.specs.Lines.{lines_of, next_of, line_too_long, input_too_long}
+use Rattle.pl_io.specs.Reader.{Reader, NumberedLine}
+use Rattle.pl_model.specs.declared.whole.Model.{Model}
+use Rattle.pl_machine.specs.declared.options.Options.{Options}
+use Rattle.pl_machine.specs.declared.event.Entry.{Entry}
+use Rattle.pl_machine.specs.Lines.{is_blank_line, is_line_of, end_word, messages_from, messages_of}
+use Rattle.pl_machine.specs.World.{World}
+use Rattle.pl_machine.specs.Step.{after}
+use Rattle.pl_machine.specs.Legal.{InputFits, world_from}
+use Rattle.pl_machine.specs.Solo.{solo_from}
+use Rattle.pl_machine.specs.Finished.{inputs_of, input_in}
+use Rattle.pl_machine.specs.Sound.{State}
+use Rattle.pl_driver.specs.Rounds.{SameRun}
+use Rattle.pl_journal.specs.Lines.{text_from}
+use Rattle.pl_journal.proofs.Texts.{text_joined}
+use Rattle.pl_main.specs.declared.halt.Halt.{Halt}
+use Rattle.pl_main.specs.declared.halt.Halt.TheVariants as halt
+use Rattle.pl_main.specs.Reads.{Gave, GaveKnown, Took, Why, WhyKnown, Halts, IsUsedUp, AreBlank}
+use Rattle.pl_main.specs.Waits.{GetsMessage, GetsEnd, GetsFault, MessageGives}
+use Rattle.pl_main.specs.Tells.{IsReady, is_last, Told, ToldInPart, FillsUp}
+use Rattle.pl_main.specs.Written.{Adds}
+use Rattle.pl_main.specs.Plays.{IsLimit, Place, Plays, EndsAll, PlaysOut, TooLong, PlayHalts, Answered, Filled, line_in, StepsOn, StepFills, StepHalts, PlayFills, Steps, Playing}
+use Rattle.pl_main.proofs.Reading.{gave_none, known_append}
+use Rattle.pl_main.proofs.Beginning.{took_more}
+use Rattle.pl_main.proofs.Writing.{some_held, adds_then}
+
+pub input_fits : (start place : Place) (message : Option NumberedLine) → MessageGives start.reader start.ahead (Ok message) place.reader place.ahead → InputFits (line_in message)
+input_fits start place None gets = tt
+input_fits start place (Some line) gets = record { short = gets.fits; one_line = gets.no_newline }
+
+pub step_on : (old new : State) (start place : Place) (held now : Option (List ℕ)) (message : Option NumberedLine) → MessageGives start.reader start.ahead (Ok message) place.reader place.ahead
+    → Answered old (line_in message) held new now → StepsOn old start held new place now
+step_on old new start place held now message gets answered = record { message = message; gets = gets; told = answered.told; written = answered.written }
+
+pub step_fills : (old new : State) (start place : Place) (held now : Option (List ℕ)) (message : Option NumberedLine) → MessageGives start.reader start.ahead (Ok message) place.reader place.ahead
+    → Filled old (line_in message) held new now → StepFills old start held new place now
+step_fills old new start place held now message gets filled = record { message = message; gets = gets; fills = filled.fills; written = filled.written }
+
+pub step_halts : (old : State) (start : Place) (held : Option (List ℕ)) (f : LineFault) → GetsFault start.reader start.ahead f → IsLimit f → StepHalts old start held old held
+step_halts old start held f gets limit = record { reason = f; fault = gets; limit = limit; same = refl; written = refl }
+
+-- ---- messages of lines
+
+blank_first : (line : List ℕ) (lines : List (List ℕ)) → is_blank_line line ≡ true → messages_of (line ∷ lines) ≡ messages_of lines
+unfolding messages_of
+blank_first line lines blank = rw blank refl
+
+blanks_first : (blanks lines : List (List ℕ)) → AreBlank blanks → messages_of (blanks ++ lines) ≡ messages_of lines
+blanks_first [] lines all = refl
+blanks_first (x ∷ xs) lines all = blank_first x (xs ++ lines) all.0 ∙ blanks_first xs lines all.1
+
+message_first : (line : List ℕ) (lines : List (List ℕ)) → is_blank_line line ≡ false → is_line_of end_word line ≡ false → messages_of (line ∷ lines) ≡ Some line ∷ messages_of lines
+unfolding messages_of
+message_first line lines message other = rw (message, other) refl
+
+end_first : (line : List ℕ) (lines : List (List ℕ)) → is_blank_line line ≡ false → is_line_of end_word line ≡ true → messages_of (line ∷ lines) ≡ Some line ∷ []
+unfolding messages_of
+end_first line lines message ends = rw (message, ends) refl
+
+none_left : messages_of [] ≡ None ∷ []
+unfolding messages_of
+none_left = refl
+
+not_single : {A : Type 0} (x y : A) (xs : List A) → x ∷ [] ≡ xs ++ y ∷ [] → (xs ≡ []) × (x ≡ y)
+not_single x y [] e = (refl, let h : x ∷ [] ≡ y ∷ [] = e in (cc))
+not_single x y (z ∷ []) e = absurd (cc)
+not_single x y (z ∷ w ∷ xs) e = absurd (cc)
+
+-- one line before others, where the messages of the others are known to go on
+before_others : (blank ends : Bool) (line : List ℕ) (rest whole behind : List (Option (List ℕ))) (ms : List (Option (List ℕ)))
+    → messages_from blank ends line rest ≡ ms ++ None ∷ [] → ((ns : List (Option (List ℕ))) → rest ≡ ns ++ None ∷ [] → whole ≡ ns ++ behind) → messages_from blank ends line whole ≡ ms ++ behind
+before_others true ends line rest whole behind ms e next = next ms e
+before_others false true line rest whole behind ms e next = absurd (let s = not_single (Some line) None ms e in let h : Some line ≡ None = s.1 in (cc))
+before_others false false line rest whole behind [] e next = absurd (let h : Some line ∷ rest ≡ None ∷ [] = e in (cc))
+before_others false false line rest whole behind (m ∷ ms) e next =
+    let both : (Some line ≡ m) × (rest ≡ ms ++ None ∷ []) = (let h : Some line ∷ rest ≡ m ∷ (ms ++ None ∷ []) = e in (cc), let h : Some line ∷ rest ≡ m ∷ (ms ++ None ∷ []) = e in (cc)) in
+    ap (λ (ns : List (Option (List ℕ))). Some line ∷ ns) (next ms both.1) ∙ ap (λ (n : Option (List ℕ)). n ∷ (ms ++ behind)) both.0
+
+-- lines without an end, and what follows them
+messages_append : (lines more : List (List ℕ)) (ms : List (Option (List ℕ))) → messages_of lines ≡ ms ++ None ∷ [] → messages_of (lines ++ more) ≡ ms ++ messages_of more
+unfolding messages_of
+messages_append [] more [] e = refl
+messages_append [] more (m ∷ ms) e = absurd (let s = not_single None None (m ∷ ms) e in let h : m ∷ ms ≡ [] = s.0 in (cc))
+messages_append (line ∷ lines) more ms e =
+    before_others (is_blank_line line) (is_line_of end_word line) line (messages_of lines) (messages_of (lines ++ more)) (messages_of more) ms e (λ ns h. messages_append lines more ns h)
+
+-- ---- entries that go on
+
+solo_append : (w : World) (xs ys : List Entry) → solo_from w xs → solo_from (world_from w xs) ys → solo_from w (xs ++ ys)
+solo_append w [] ys first second = second
+solo_append w (x ∷ xs) ys first second = (first.0, solo_append (after w x.event) xs ys first.1 second)
+
+world_append : (w : World) (xs ys : List Entry) → world_from w (xs ++ ys) ≡ world_from (world_from w xs) ys
+world_append w [] ys = refl
+world_append w (x ∷ xs) ys = world_append (after w x.event) xs ys
+
+text_append : (m : Model) (n : ℕ) (xs ys : List Entry) → text_from m n (xs ++ ys) ≡ text_from m n xs ++ text_from m (n + length xs) ys
+text_append m n xs ys = text_joined m n xs ys
+
+drop_front : (xs ys : List Entry) → drop (length xs) (xs ++ ys) ≡ ys
+drop_front [] ys = refl
+drop_front (x ∷ xs) ys = drop_front xs ys
+
+inputs_append : (xs ys : List Entry) → inputs_of (xs ++ ys) ≡ inputs_of xs ++ inputs_of ys
+inputs_append xs ys = filter_map-append (λ (e : Entry). input_in e.event) xs ys
+
+-- ---- the whole of a play
+
+pub plays_none : (old : State) (start : Place) (held : Option (List ℕ)) → IsReady old → start.reader.limit ≡ 4096 → start.reader.failed ≡ None → Plays old start held old start held
+plays_none old start held ready limit working = record {
+  lines = [];
+  entries = [];
+  took = record { limit = limit; working = working; gave = gave_none start.reader.room start.ahead };
+  log = sym (append-nil old.log);
+  solo = tt;
+  world = refl;
+  messages = none_left;
+  ready = ready;
+  same = record { model = refl; options = refl };
+  written = some_held held;
+}
+
+-- the entries of a message behind those before it
+record Joined (old mid new : State) (held written now : Option (List ℕ)) (before added : List Entry) : Type 0 where
+  log : new.log ≡ old.log ++ (before ++ added)
+  solo : solo_from old.world (before ++ added)
+  world : new.world ≡ world_from old.world (before ++ added)
+  same : SameRun old new
+  text : Adds held now (text_from old.world.scene.model (length old.log) (before ++ added))
+
+joined : (old mid new : State) (held written now : Option (List ℕ)) (before added : List Entry)
+    → mid.log ≡ old.log ++ before → solo_from old.world before → mid.world ≡ world_from old.world before → SameRun old mid → Adds held written (text_from old.world.scene.model (length old.log) before)
+    → new.log ≡ mid.log ++ added → solo_from mid.world added → new.world ≡ world_from mid.world added → SameRun mid new → Adds written now (text_from mid.world.scene.model (length mid.log) (drop (length mid.log) new.log))
+    → Joined old mid new held written now before added
+joined old mid new held written now before added log solo world same text log2 solo2 world2 same2 text2 =
+    let whole : new.log ≡ old.log ++ (before ++ added) = log2 ∙ ap (λ (l : List Entry). l ++ added) log ∙ append_assoc old.log before added in
+    let fresh : drop (length mid.log) new.log ≡ added = ap (λ (l : List Entry). drop (length mid.log) l) log2 ∙ drop_front mid.log added in
+    let place : length mid.log ≡ length old.log + length before = ap (λ (l : List Entry). length l) log ∙ length-append old.log before in
+    let added_text : text_from mid.world.scene.model (length mid.log) (drop (length mid.log) new.log) ≡ text_from old.world.scene.model (length old.log + length before) added =
+    ap (λ (l : List Entry). text_from mid.world.scene.model (length mid.log) l) fresh ∙ ap (λ (n : ℕ). text_from mid.world.scene.model n added) place ∙ ap (λ (m : Model). text_from m (length old.log + length before) added) same.model in
+    record {
+      log = whole;
+      solo = solo_append old.world before added solo (subst (λ (w : World). solo_from w added) world solo2);
+      world = world2 ∙ ap (λ (w : World). world_from w added) world ∙ sym (world_append old.world before added);
+      same = record { model = same2.model ∙ same.model; options = same2.options ∙ same.options };
+      text = subst (λ (t : List ℕ). Adds held now t) (sym (text_append old.world.scene.model (length old.log) before added)) (adds_then held written now (text_from old.world.scene.model (length old.log) before) (text_from old.world.scene.model (length old.log + length before) added) text (subst (λ (t : List ℕ). Adds written now t) added_text text2));
+    }
+
+-- the messages of a line that doesn't end the run
+message_goes : (lines blanks : List (List ℕ)) (line : List ℕ) (ms : List (Option (List ℕ))) → messages_of lines ≡ ms ++ None ∷ [] → AreBlank blanks → is_blank_line line ≡ false → is_line_of end_word line ≡ false
+    → messages_of (lines ++ (blanks ++ line ∷ [])) ≡ (ms ++ Some line ∷ []) ++ None ∷ []
+message_goes lines blanks line ms so_far blank message other =
+    messages_append lines (blanks ++ line ∷ []) ms so_far ∙ ap (λ (ns : List (Option (List ℕ))). ms ++ ns) (blanks_first blanks (line ∷ []) blank ∙ message_first line [] message other ∙ ap (λ (ns : List (Option (List ℕ))). Some line ∷ ns) none_left)
+    ∙ sym (append_assoc ms (Some line ∷ []) (None ∷ []))
+
+-- the messages where a line ends the run
+message_ends : (lines blanks more : List (List ℕ)) (line : List ℕ) (ms : List (Option (List ℕ))) → messages_of lines ≡ ms ++ None ∷ [] → AreBlank blanks → is_blank_line line ≡ false → is_line_of end_word line ≡ true
+    → messages_of ((lines ++ (blanks ++ line ∷ [])) ++ more) ≡ ms ++ Some line ∷ []
+message_ends lines blanks more line ms so_far blank message ends =
+    ap messages_of (append_assoc lines (blanks ++ line ∷ []) more ∙ ap (λ (ls : List (List ℕ)). lines ++ ls) (append_assoc blanks (line ∷ []) more))
+    ∙ messages_append lines (blanks ++ line ∷ more) ms so_far ∙ ap (λ (ns : List (Option (List ℕ))). ms ++ ns) (blanks_first blanks (line ∷ more) blank ∙ end_first line more message ends)
+
+-- the messages where the input ends
+input_ends : (lines blanks : List (List ℕ)) (ms : List (Option (List ℕ))) → messages_of lines ≡ ms ++ None ∷ [] → AreBlank blanks → messages_of ((lines ++ blanks) ++ []) ≡ ms ++ None ∷ []
+input_ends lines blanks ms so_far blank =
+    ap messages_of (append-nil (lines ++ blanks)) ∙ messages_append lines blanks ms so_far
+    ∙ ap (λ (ns : List (Option (List ℕ))). ms ++ ns) (ap messages_of (sym (append-nil blanks)) ∙ blanks_first blanks [] blank ∙ none_left)
+
+pub plays_on : (old mid new : State) (start middle place : Place) (held written now : Option (List ℕ)) → Plays old start held mid middle written → StepsOn mid middle written new place now → new.world.done ≡ false → Plays old start held new place now
+plays_on old mid new start middle place held written now plays step going = by_message step.message step.gets step.told
+  where
+    by_message : (message : Option NumberedLine) → MessageGives middle.reader middle.ahead (Ok message) place.reader place.ahead → Told mid (line_in message) new → Plays old start held new place now
+    by_message None gets told = absurd (let h : true ≡ false = sym told.done ∙ going in (cc))
+    by_message (Some line) gets told =
+        let j = joined old mid new held written now plays.entries told.entries plays.log plays.solo plays.world plays.same plays.written told.log told.solo told.world told.same step.written in
+        record {
+          lines = plays.lines ++ (gets.lines ++ line.bytes ∷ []);
+          entries = plays.entries ++ told.entries;
+          took = took_more start.reader middle.reader place.reader start.ahead middle.ahead place.ahead plays.lines (gets.lines ++ line.bytes ∷ []) plays.took gets.took;
+          log = j.log;
+          solo = j.solo;
+          world = j.world;
+          messages = message_goes plays.lines gets.lines line.bytes (inputs_of plays.entries) plays.messages gets.blank gets.message (sym told.done ∙ going)
+              ∙ ap (λ (ns : List (Option (List ℕ))). ns ++ None ∷ []) (sym (inputs_append plays.entries told.entries ∙ ap (λ (ns : List (Option (List ℕ))). inputs_of plays.entries ++ ns) told.inputs));
+          ready = record { unspoiled = told.unspoiled; closed = told.closed; going = going };
+          same = j.same;
+          written = j.text;
+        }
+
+ends_known : (before after : Option (List ℕ)) (lines : List (List ℕ)) (inputs : List (Option (List ℕ))) → ((more : List (List ℕ)) → messages_of (lines ++ more) ≡ inputs) → EndsAll before after lines inputs
+ends_known None after lines inputs all = tt
+ends_known (Some bytes) None lines inputs all = tt
+ends_known (Some bytes) (Some rest) lines inputs all = all (lines_of rest)
+
+ends_used : (room : ℕ) (before middle : Option (List ℕ)) (xs : List (List ℕ)) (mid : ℕ) (after : Option (List ℕ)) (lines : List (List ℕ)) (inputs : List (Option (List ℕ))) → GaveKnown room before xs mid middle → IsUsedUp middle after
+    → messages_of (lines ++ []) ≡ inputs → EndsAll before after lines inputs
+ends_used room None middle xs mid after lines inputs gave used all = tt
+ends_used room (Some bytes) None xs mid after lines inputs gave used all = absurd gave
+ends_used room (Some bytes) (Some m) xs mid None lines inputs gave used all = tt
+ends_used room (Some bytes) (Some m) xs mid (Some rest) lines inputs gave used all =
+    let none : rest ≡ [] = (let h : Some rest ≡ Some [] = used in (cc)) in
+    ap (λ (r : List ℕ). messages_of (lines ++ lines_of r)) none ∙ all
+
+pub plays_out : (old mid new : State) (start middle place : Place) (held written now : Option (List ℕ)) → Plays old start held mid middle written → StepsOn mid middle written new place now → new.world.done ≡ true → PlaysOut old start held new place now
+plays_out old mid new start middle place held written now plays step done = by_message step.message step.gets step.told
+  where
+    by_message : (message : Option NumberedLine) → MessageGives middle.reader middle.ahead (Ok message) place.reader place.ahead → Told mid (line_in message) new → PlaysOut old start held new place now
+    by_message None gets told =
+        let j = joined old mid new held written now plays.entries told.entries plays.log plays.solo plays.world plays.same plays.written told.log told.solo told.world told.same step.written in
+        let inputs : inputs_of plays.entries ++ None ∷ [] ≡ inputs_of (plays.entries ++ told.entries) = sym (inputs_append plays.entries told.entries ∙ ap (λ (ns : List (Option (List ℕ))). inputs_of plays.entries ++ ns) told.inputs) in
+        record {
+          lines = plays.lines ++ gets.lines;
+          entries = plays.entries ++ told.entries;
+          gave = known_append start.reader.room start.ahead plays.lines gets.lines middle.reader.room middle.ahead place.reader.room place.ahead plays.took.gave gets.took.gave;
+          log = j.log;
+          solo = j.solo;
+          world = j.world;
+          messages = ends_used start.reader.room start.ahead middle.ahead plays.lines middle.reader.room place.ahead (plays.lines ++ gets.lines) (inputs_of (plays.entries ++ told.entries)) plays.took.gave gets.used_up
+              (input_ends plays.lines gets.lines (inputs_of plays.entries) plays.messages gets.blank ∙ inputs);
+          done = done;
+          unspoiled = told.unspoiled;
+          same = j.same;
+          written = j.text;
+        }
+    by_message (Some line) gets told =
+        let j = joined old mid new held written now plays.entries told.entries plays.log plays.solo plays.world plays.same plays.written told.log told.solo told.world told.same step.written in
+        let inputs : inputs_of plays.entries ++ Some line.bytes ∷ [] ≡ inputs_of (plays.entries ++ told.entries) = sym (inputs_append plays.entries told.entries ∙ ap (λ (ns : List (Option (List ℕ))). inputs_of plays.entries ++ ns) told.inputs) in
+        record {
+          lines = plays.lines ++ (gets.lines ++ line.bytes ∷ []);
+          entries = plays.entries ++ told.entries;
+          gave = known_append start.reader.room start.ahead plays.lines (gets.lines ++ line.bytes ∷ []) middle.reader.room middle.ahead place.reader.room place.ahead plays.took.gave gets.took.gave;
+          log = j.log;
+          solo = j.solo;
+          world = j.world;
+          messages = ends_known start.ahead place.ahead (plays.lines ++ (gets.lines ++ line.bytes ∷ [])) (inputs_of (plays.entries ++ told.entries))
+              (λ more. message_ends plays.lines gets.lines more line.bytes (inputs_of plays.entries) plays.messages gets.blank gets.message (sym told.done ∙ done) ∙ inputs);
+          done = done;
+          unspoiled = told.unspoiled;
+          same = j.same;
+          written = j.text;
+        }
+
+too_long : (left : ℕ) (rest : Option (List ℕ)) (f : LineFault) → IsLimit f → WhyKnown left rest f → TooLong left rest
+too_long left None f limit why = tt
+too_long left (Some rest) fault.Read limit why = absurd limit
+too_long left (Some rest) (fault.Long n) limit why = inl why
+too_long left (Some rest) fault.Total limit why = inr why
+too_long left (Some rest) fault.Memory limit why = absurd limit
+
+pub plays_halt : (old mid new : State) (start middle : Place) (held written now : Option (List ℕ)) → Plays old start held mid middle written → StepHalts mid middle written new now → PlayHalts old start held new now
+plays_halt old mid new start middle held written now plays step =
+    let halts = step.fault.halts in
+    record {
+      lines = plays.lines ++ step.fault.lines;
+      entries = plays.entries;
+      left = halts.left;
+      rest = halts.rest;
+      gave = known_append start.reader.room start.ahead plays.lines step.fault.lines middle.reader.room middle.ahead halts.left halts.rest plays.took.gave halts.gave;
+      why = too_long halts.left halts.rest step.reason step.limit halts.why;
+      log = ap (λ (t : State). t.log) step.same ∙ plays.log;
+      solo = plays.solo;
+      world = ap (λ (t : State). t.world) step.same ∙ plays.world;
+      messages = messages_append plays.lines step.fault.lines (inputs_of plays.entries) plays.messages
+          ∙ ap (λ (ns : List (Option (List ℕ))). inputs_of plays.entries ++ ns) (ap messages_of (sym (append-nil step.fault.lines)) ∙ blanks_first step.fault.lines [] step.fault.blank ∙ none_left);
+      ready = subst (λ (t : State). IsReady t) (sym step.same) plays.ready;
+      same = subst (λ (t : State). SameRun old t) (sym step.same) plays.same;
+      written = subst (λ (h : Option (List ℕ)). Adds held h (text_from old.world.scene.model (length old.log) plays.entries)) (sym step.written) plays.written;
+    }
+
+pub plays_fill : (old mid new : State) (start middle place : Place) (held written now : Option (List ℕ)) → Plays old start held mid middle written → StepFills mid middle written new place now → PlayFills old start held new now
+plays_fill old mid new start middle place held written now plays step = record { waiting = mid; place = middle; written = written; plays = plays; behind = place; step = step }
+
+pub plays_stop : (old mid new : State) (start middle place : Place) (held written now : Option (List ℕ)) (e : Halt) → Plays old start held mid middle written → Steps mid middle written (Err e) new place now → Playing old start held (Err e) new place now
+plays_stop old mid new start middle place held written now halt.Read plays step = tt
+plays_stop old mid new start middle place held written now halt.Write plays step = tt
+plays_stop old mid new start middle place held written now halt.Limit plays step = plays_halt old mid new start middle held written now plays step
+plays_stop old mid new start middle place held written now halt.Full plays step = plays_fill old mid new start middle place held written now plays step
+plays_stop old mid new start middle place held written now halt.Memory plays step = tt

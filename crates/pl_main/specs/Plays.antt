@@ -1,0 +1,164 @@
+-- The messages of a run and what is written for them.
+use Rattle.std.specs.Prelude.{◌≡◌, ℕ, ◌+◌, ◌<◌, ◌≤◌, List, [], ◌∷◌, ◌++◌, length, drop, Bool, true, false, Option, Some, None, IfSome, ◌⊎◌, Result, Ok, Err, ⊤}
+use Rattle.pl_io.specs.Lines.{ahead, lines_of, next_of, line_too_long, input_too_long}
+use Rattle.pl_io.specs.Reader.{Reader, NumberedLine}
+use Rattle.pl_io.specs.declared.errors.LineFault.{LineFault}
+use Rattle.pl_io.specs.declared.errors.LineFault.TheVariants as fault
+use Rattle.pl_machine.specs.declared.event.Entry.{Entry}
+use Rattle.pl_machine.specs.Lines.{messages_of}
+use Rattle.pl_machine.specs.Legal.{world_from}
+use Rattle.pl_machine.specs.Solo.{solo_from}
+use Rattle.pl_machine.specs.Finished.{inputs_of}
+use Rattle.pl_machine.specs.Sound.{State}
+use Rattle.pl_driver.specs.Rounds.{SameRun}
+use Rattle.pl_journal.specs.Lines.{text_from}
+use Rattle.pl_main.specs.declared.halt.Halt.{Halt}
+use Rattle.pl_main.specs.declared.halt.Halt.TheVariants as halt
+use Rattle.pl_main.specs.Reads.{GaveKnown, Took, Why, WhyKnown, Halts}
+use Rattle.pl_main.specs.Tells.{IsReady, is_last, Told, FillsUp}
+use Rattle.pl_main.specs.Waits.{MessageGives, GetsFault}
+use Rattle.pl_main.specs.Written.{Adds}
+
+-- a line or the input is too long
+abbrev pub IsLimit : LineFault → Type 0
+IsLimit fault.Read = ⊥
+IsLimit (fault.Long n) = ⊤
+IsLimit fault.Total = ⊤
+IsLimit fault.Memory = ⊥
+
+-- a reader with the bytes that are ahead of it
+pub record Place : Type 0 where
+  pub reader : Reader
+  pub ahead : Option (List ℕ)
+
+abbrev pub place_of : Reader → Option (List ℕ) → Place
+place_of r left = record { reader = r; ahead = ahead r.held left }
+
+-- how a run stops by a fault of its reader
+abbrev pub HaltFor : LineFault → Halt → Type 0
+HaltFor fault.Read h = h ≡ halt.Read
+HaltFor (fault.Long n) h = h ≡ halt.Limit
+HaltFor fault.Total h = h ≡ halt.Limit
+HaltFor fault.Memory h = h ≡ halt.Memory
+
+-- Lines were taken, their messages are the inputs of these entries, and the entries' lines were written.
+pub record Plays (old : State) (start : Place) (held : Option (List ℕ)) (new : State) (place : Place) (now : Option (List ℕ)) : Type 0 where
+  pub lines : List (List ℕ)
+  pub entries : List Entry
+  pub took : Took start.reader start.ahead lines place.reader place.ahead
+  pub log : new.log ≡ old.log ++ entries
+  pub solo : solo_from old.world entries
+  pub world : new.world ≡ world_from old.world entries
+  pub messages : messages_of lines ≡ inputs_of entries ++ None ∷ []
+  pub ready : IsReady new
+  pub same : SameRun old new
+  pub written : Adds held now (text_from old.world.scene.model (length old.log) entries)
+
+-- where the bytes at the start are known, the inputs are all messages up to their end
+abbrev pub EndsAll : Option (List ℕ) → Option (List ℕ) → List (List ℕ) → List (Option (List ℕ)) → Type 0
+EndsAll None after lines inputs = ⊤
+EndsAll (Some bytes) after lines inputs = IfSome after (λ rest. messages_of (lines ++ lines_of rest) ≡ inputs)
+
+-- All messages were taken.
+pub record PlaysOut (old : State) (start : Place) (held : Option (List ℕ)) (new : State) (place : Place) (now : Option (List ℕ)) : Type 0 where
+  pub lines : List (List ℕ)
+  pub entries : List Entry
+  pub gave : GaveKnown start.reader.room start.ahead lines place.reader.room place.ahead
+  pub log : new.log ≡ old.log ++ entries
+  pub solo : solo_from old.world entries
+  pub world : new.world ≡ world_from old.world entries
+  pub messages : EndsAll start.ahead place.ahead lines (inputs_of entries)
+  pub done : new.world.done ≡ true
+  pub unspoiled : new.spoiled ≡ false
+  pub same : SameRun old new
+  pub written : Adds held now (text_from old.world.scene.model (length old.log) entries)
+
+-- a line or the input is too long
+abbrev pub TooLong : ℕ → Option (List ℕ) → Type 0
+TooLong left None = ⊤
+TooLong left (Some rest) = (next_of 4096 left rest ≡ line_too_long) ⊎ (next_of 4096 left rest ≡ input_too_long)
+
+-- The next line is too long, or the input is, while the machine waits for a message.
+pub record PlayHalts (old : State) (start : Place) (held : Option (List ℕ)) (new : State) (now : Option (List ℕ)) : Type 0 where
+  pub lines : List (List ℕ)
+  pub entries : List Entry
+  pub left : ℕ
+  pub rest : Option (List ℕ)
+  pub gave : GaveKnown start.reader.room start.ahead lines left rest
+  pub why : TooLong left rest
+  pub log : new.log ≡ old.log ++ entries
+  pub solo : solo_from old.world entries
+  pub world : new.world ≡ world_from old.world entries
+  pub messages : messages_of lines ≡ inputs_of entries ++ None ∷ []
+  pub ready : IsReady new
+  pub same : SameRun old new
+  pub written : Adds held now (text_from old.world.scene.model (length old.log) entries)
+
+-- The message was answered.
+pub record Answered (old : State) (input : Option (List ℕ)) (held : Option (List ℕ)) (new : State) (now : Option (List ℕ)) : Type 0 where
+  pub told : Told old input new
+  pub written : Adds held now (text_from old.world.scene.model (length old.log) (drop (length old.log) new.log))
+
+-- The log is full.
+pub record Filled (old : State) (input : Option (List ℕ)) (held : Option (List ℕ)) (new : State) (now : Option (List ℕ)) : Type 0 where
+  pub fills : FillsUp old input new
+  pub written : Adds held now (text_from old.world.scene.model (length old.log) (drop (length old.log) new.log))
+
+abbrev pub Answering : State → Option (List ℕ) → Option (List ℕ) → Result Bool Halt → State → Option (List ℕ) → Type 0
+Answering old input held (Ok done) new now = Answered old input held new now × (done ≡ new.world.done)
+Answering old input held (Err halt.Full) new now = Filled old input held new now
+Answering old input held (Err halt.Limit) new now = ⊥
+Answering old input held (Err halt.Read) new now = ⊥
+Answering old input held (Err halt.Write) new now = ⊤
+Answering old input held (Err halt.Memory) new now = ⊤
+
+abbrev pub line_in : Option NumberedLine → Option (List ℕ)
+line_in None = None
+line_in (Some line) = Some line.bytes
+
+-- A message was answered, and its entries' lines were written.
+pub record StepsOn (old : State) (start : Place) (held : Option (List ℕ)) (new : State) (place : Place) (now : Option (List ℕ)) : Type 0 where
+  pub message : Option NumberedLine
+  pub gets : MessageGives start.reader start.ahead (Ok message) place.reader place.ahead
+  pub told : Told old (line_in message) new
+  pub written : Adds held now (text_from old.world.scene.model (length old.log) (drop (length old.log) new.log))
+
+-- The log is full while an entry is due.
+pub record StepFills (old : State) (start : Place) (held : Option (List ℕ)) (new : State) (place : Place) (now : Option (List ℕ)) : Type 0 where
+  pub message : Option NumberedLine
+  pub gets : MessageGives start.reader start.ahead (Ok message) place.reader place.ahead
+  pub fills : FillsUp old (line_in message) new
+  pub written : Adds held now (text_from old.world.scene.model (length old.log) (drop (length old.log) new.log))
+
+-- The next line is not given, by a limit.
+pub record StepHalts (old : State) (start : Place) (held : Option (List ℕ)) (new : State) (now : Option (List ℕ)) : Type 0 where
+  pub reason : LineFault
+  pub fault : GetsFault start.reader start.ahead reason
+  pub limit : IsLimit reason
+  pub same : new ≡ old
+  pub written : now ≡ held
+
+abbrev pub Steps : State → Place → Option (List ℕ) → Result Bool Halt → State → Place → Option (List ℕ) → Type 0
+Steps old start held (Ok done) new place now = StepsOn old start held new place now × (done ≡ new.world.done)
+Steps old start held (Err halt.Limit) new place now = StepHalts old start held new now
+Steps old start held (Err halt.Full) new place now = StepFills old start held new place now
+Steps old start held (Err halt.Read) new place now = ⊤
+Steps old start held (Err halt.Write) new place now = ⊤
+Steps old start held (Err halt.Memory) new place now = ⊤
+
+-- The log got full.
+pub record PlayFills (old : State) (start : Place) (held : Option (List ℕ)) (new : State) (now : Option (List ℕ)) : Type 0 where
+  pub waiting : State
+  pub place : Place
+  pub written : Option (List ℕ)
+  pub plays : Plays old start held waiting place written
+  pub behind : Place
+  pub step : StepFills waiting place written new behind now
+
+abbrev pub Playing : State → Place → Option (List ℕ) → Result (Unit {0}) Halt → State → Place → Option (List ℕ) → Type 0
+Playing old start held (Ok u) new place now = PlaysOut old start held new place now
+Playing old start held (Err halt.Limit) new place now = PlayHalts old start held new now
+Playing old start held (Err halt.Full) new place now = PlayFills old start held new now
+Playing old start held (Err halt.Read) new place now = ⊤
+Playing old start held (Err halt.Write) new place now = ⊤
+Playing old start held (Err halt.Memory) new place now = ⊤

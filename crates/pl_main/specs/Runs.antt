@@ -1,0 +1,56 @@
+-- A run over a plain model, and over the text of one.
+use Rattle.std.specs.Prelude.{◌≡◌, ℕ, List, [], ◌∷◌, ◌++◌, false, Option, Some, None, Result, Ok, Err, ⊤}
+use Rattle.std.specs.declared.vec.Vec.{Vec}
+use Rattle.std.specs.declared.alloc.Global.{Global}
+use Rattle.pl_model.specs.declared.whole.Model.{Model}
+use Rattle.pl_machine.specs.Legal.{Legal, opening}
+use Rattle.pl_machine.specs.World.{fresh_world}
+use Rattle.pl_machine.specs.Sound.{State}
+use Rattle.pl_journal.specs.Lines.{text_from}
+use Rattle.pl_plain.specs.Models.{plain_model}
+use Rattle.pl_main.specs.declared.halt.Halt.{Halt}
+use Rattle.pl_main.specs.declared.halt.Halt.TheVariants as halt
+use Rattle.pl_main.specs.declared.outcome.Outcome.{Outcome}
+use Rattle.pl_main.specs.declared.outcome.Outcome.TheVariants as outcome
+use Rattle.pl_main.specs.Heads.{Keeps}
+use Rattle.pl_main.specs.Written.{Adds}
+use Rattle.pl_main.specs.Plays.{Place, Playing}
+use Rattle.pl_main.specs.Top.{program_options, not_built_line}
+
+abbrev pub fresh_state : ℕ → Model → State
+fresh_state turns m = record { spoiled = false; log = opening (program_options turns) ∷ []; world = fresh_world m (program_options turns) }
+
+-- The open entry's line was written, and then the messages were played.
+pub record ModelRun (turns : ℕ) (model : Model) (start : Place) (held now : Option (List ℕ)) (r : Result (Unit {0}) Halt) : Type 0 where
+  pub opened : Option (List ℕ)
+  pub new : State
+  pub place : Place
+  pub first : Adds held opened (text_from model 0 (opening (program_options turns) ∷ []))
+  pub playing : Playing (fresh_state turns model) start opened r new place now
+  pub legal : Legal new.world.scene.model new.log
+
+abbrev pub ModelRuns : ℕ → Model → Place → Option (List ℕ) → Result (Unit {0}) Halt → Option (List ℕ) → Type 0
+ModelRuns turns model start held (Ok u) now = ModelRun turns model start held now (Ok u)
+ModelRuns turns model start held (Err halt.Limit) now = ModelRun turns model start held now (Err halt.Limit)
+ModelRuns turns model start held (Err halt.Full) now = ModelRun turns model start held now (Err halt.Full)
+ModelRuns turns model start held (Err halt.Read) now = ⊤
+ModelRuns turns model start held (Err halt.Write) now = ⊤
+ModelRuns turns model start held (Err halt.Memory) now = ⊤
+
+-- what a kept text is the text of
+abbrev pub IsTextOf : Option (Vec ℕ Global) → Option Model → Type 0
+IsTextOf kept model = (words : List ℕ) → Keeps kept words → plain_model words ≡ model
+
+pub record TextRun (turns : ℕ) (kept : Option (Vec ℕ Global)) (start : Place) (held now : Option (List ℕ)) (r : Result (Unit {0}) Halt) : Type 0 where
+  pub model : Model
+  pub text : IsTextOf kept (Some model)
+  pub run : ModelRun turns model start held now r
+
+abbrev pub TextRuns : ℕ → Option (Vec ℕ Global) → Place → Option (List ℕ) → Result Outcome Halt → Option (List ℕ) → Type 0
+TextRuns turns kept start held (Ok outcome.Refused) now = IsTextOf kept None × Adds held now not_built_line
+TextRuns turns kept start held (Ok outcome.Done) now = TextRun turns kept start held now (Ok tt)
+TextRuns turns kept start held (Err halt.Limit) now = TextRun turns kept start held now (Err halt.Limit)
+TextRuns turns kept start held (Err halt.Full) now = TextRun turns kept start held now (Err halt.Full)
+TextRuns turns kept start held (Err halt.Read) now = ⊤
+TextRuns turns kept start held (Err halt.Write) now = ⊤
+TextRuns turns kept start held (Err halt.Memory) now = ⊤

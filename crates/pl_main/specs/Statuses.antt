@@ -1,0 +1,52 @@
+-- The statuses of the program.
+use Rattle.std.specs.Prelude.{◌≡◌, ℕ, ◌≤◌, ◌⊎◌, List, Option, Some, None, Result, Ok, Err, ⊤, codes, ◌++◌, ◌∷◌, []}
+use Rattle.pl_plain.specs.declared.command.Task.{Task}
+use Rattle.pl_plain.specs.declared.command.Task.TheVariants as task
+use Rattle.pl_plain.specs.declared.command.Command.{Command}
+use Rattle.pl_plain.specs.declared.command.Command.TheVariants as command
+use Rattle.pl_main.specs.declared.halt.Halt.{Halt}
+use Rattle.pl_main.specs.declared.halt.Halt.TheVariants as halt
+use Rattle.pl_main.specs.declared.outcome.Outcome.{Outcome}
+use Rattle.pl_main.specs.declared.outcome.Outcome.TheVariants as outcome
+use Rattle.pl_main.specs.Top.{IsDone, IsRefused, IsPastLimit, IsFull}
+
+-- 0 done, 3 the model is refused, 4 a read failed, 5 a write failed, 6 a line or the input is too long, 7 the log is full, 9 memory
+abbrev pub status_of : Result Outcome Halt → ℕ
+status_of (Ok outcome.Done) = 0
+status_of (Ok outcome.Refused) = 3
+status_of (Err halt.Read) = 4
+status_of (Err halt.Write) = 5
+status_of (Err halt.Limit) = 6
+status_of (Err halt.Full) = 7
+status_of (Err halt.Memory) = 9
+
+abbrev pub IsTask : Task → Type 0
+IsTask (task.Solo turns) = (1 ≤ turns) × (turns ≤ 1000)
+
+abbrev pub turns_of : Task → ℕ
+turns_of (task.Solo turns) = turns
+
+-- what a status says where the input's bytes and the sink's are known
+pub record Says (turns : ℕ) (input old : List ℕ) (new : Option (List ℕ)) (status : ℕ) : Type 0 where
+  pub done : status ≡ 0 → IsDone turns input old new
+  pub refused : status ≡ 3 → IsRefused input old new
+  pub limit : status ≡ 6 → IsPastLimit turns input old new
+  pub full : status ≡ 7 → IsFull turns input old new
+
+abbrev pub SaysKnown : ℕ → Option (List ℕ) → Option (List ℕ) → Option (List ℕ) → ℕ → Type 0
+SaysKnown turns None old new status = ⊤
+SaysKnown turns (Some input) None new status = ⊤
+SaysKnown turns (Some input) (Some before) new status = Says turns input before new status
+
+-- a run by one thread has one of these statuses, and no other
+pub data IsSoloStatus (status : ℕ) : Type 0 where
+  is_done : status ≡ 0 → IsSoloStatus status
+  is_refused : status ≡ 3 → IsSoloStatus status
+  is_read : status ≡ 4 → IsSoloStatus status
+  is_write : status ≡ 5 → IsSoloStatus status
+  is_limit : status ≡ 6 → IsSoloStatus status
+  is_full : status ≡ 7 → IsSoloStatus status
+  is_memory : status ≡ 9 → IsSoloStatus status
+
+abbrev pub usage_line : List ℕ
+usage_line = codes "usage: run solo N | run pair N SEED | check | replay | report | demo N" ++ 10 ∷ []

@@ -1,0 +1,100 @@
+-- What the top call promises of `run solo N`.
+use Rattle.std.specs.Prelude.{◌≡◌, ℕ, ◌+◌, ◌≤◌, ◌⊎◌, List, [], ◌∷◌, ◌++◌, length, Bool, true, false, Option, Some, None, Result, Ok, Err, codes, ⊤}
+use Rattle.pl_io.specs.Lines.{next_of, line_too_long, input_too_long}
+use Rattle.pl_model.specs.declared.whole.Model.{Model}
+use Rattle.pl_machine.specs.declared.options.Options.{Options}
+use Rattle.pl_machine.specs.declared.event.Entry.{Entry}
+use Rattle.pl_machine.specs.Lines.{model_text_of, lines_behind, messages_of, Split, split_of}
+use Rattle.pl_machine.specs.Legal.{Legal, options_of, world_of}
+use Rattle.pl_machine.specs.Solo.{Solo}
+use Rattle.pl_machine.specs.Finished.{inputs_of, Finished}
+use Rattle.pl_journal.specs.Lines.{text_of_log}
+use Rattle.pl_plain.specs.Models.{plain_model}
+use Rattle.pl_main.specs.declared.halt.Halt.{Halt}
+use Rattle.pl_main.specs.declared.halt.Halt.TheVariants as halt
+use Rattle.pl_main.specs.declared.outcome.Outcome.{Outcome}
+use Rattle.pl_main.specs.declared.outcome.Outcome.TheVariants as outcome
+use Rattle.pl_main.specs.Reads.{Gave}
+
+-- the limits of the program, with the turns of the words
+abbrev pub program_options : ℕ → Options
+program_options turns = record { turns = turns; live = 10000; goals = 20000; entries = 250000 }
+
+abbrev pub total_limit : ℕ
+total_limit = 1073741824
+
+-- The run is done: what was written is the journal of a finished solo log of the input.
+pub record IsDone (turns : ℕ) (input old : List ℕ) (new : Option (List ℕ)) : Type 0 where
+  pub model : Model
+  pub log : List Entry
+  pub words : List ℕ
+  pub text : (split_of input).text ≡ Some words
+  pub accepted : plain_model words ≡ Some model
+  pub finished : Finished model log input
+  pub solo : Solo model log
+  pub options : options_of log ≡ program_options turns
+  pub written : new ≡ Some (old ++ text_of_log model log)
+
+abbrev pub no_begin_line : List ℕ
+no_begin_line = codes "model: no begin" ++ 10 ∷ []
+
+abbrev pub not_built_line : List ℕ
+not_built_line = codes "model: not built" ++ 10 ∷ []
+
+-- The model's text is refused: there is no `begin` line, or the text is not that of a plain model.
+pub data IsRefused (input old : List ℕ) (new : Option (List ℕ)) : Type 0 where
+  no_begin : (split_of input).text ≡ None → new ≡ Some (old ++ no_begin_line) → IsRefused input old new
+  not_built : (words : List ℕ) → (split_of input).text ≡ Some words → plain_model words ≡ None → new ≡ Some (old ++ not_built_line) → IsRefused input old new
+
+-- a solo log of the program that answers the messages among these lines and waits for the next
+pub record WaitsBehind (turns : ℕ) (lines : List (List ℕ)) (old : List ℕ) (new : Option (List ℕ)) : Type 0 where
+  pub model : Model
+  pub log : List Entry
+  pub words : List ℕ
+  pub text : model_text_of lines ≡ Some words
+  pub accepted : plain_model words ≡ Some model
+  pub legal : Legal model log
+  pub solo : Solo model log
+  pub options : options_of log ≡ program_options turns
+  pub messages : messages_of (lines_behind lines) ≡ inputs_of log ++ None ∷ []
+  pub closed : (world_of model log).closed ≡ true
+  pub going : (world_of model log).done ≡ false
+  pub written : new ≡ Some (old ++ text_of_log model log)
+
+-- The line asked for is too long, or the input is: behind these lines, while the model's text was read or a message was due.
+pub record IsPastLimit (turns : ℕ) (input old : List ℕ) (new : Option (List ℕ)) : Type 0 where
+  pub lines : List (List ℕ)
+  pub left : ℕ
+  pub rest : List ℕ
+  pub gave : Gave total_limit input lines left rest
+  pub why : (next_of 4096 left rest ≡ line_too_long) ⊎ (next_of 4096 left rest ≡ input_too_long)
+  pub asked : ((model_text_of lines ≡ None) × (new ≡ Some old)) ⊎ WaitsBehind turns lines old new
+
+-- The log has as many entries as it may, and one more is due.
+pub record IsFull (turns : ℕ) (input old : List ℕ) (new : Option (List ℕ)) : Type 0 where
+  pub model : Model
+  pub log : List Entry
+  pub words : List ℕ
+  pub text : (split_of input).text ≡ Some words
+  pub accepted : plain_model words ≡ Some model
+  pub legal : Legal model log
+  pub solo : Solo model log
+  pub options : options_of log ≡ program_options turns
+  pub full : length log ≡ 250000
+  pub going : (world_of model log).done ≡ false
+  pub written : new ≡ Some (old ++ text_of_log model log)
+
+-- How a run ended, where the input's bytes and the sink's are known.
+abbrev pub Ran : ℕ → List ℕ → List ℕ → Option (List ℕ) → Result Outcome Halt → Type 0
+Ran turns input old new (Ok outcome.Done) = IsDone turns input old new
+Ran turns input old new (Ok outcome.Refused) = IsRefused input old new
+Ran turns input old new (Err halt.Limit) = IsPastLimit turns input old new
+Ran turns input old new (Err halt.Full) = IsFull turns input old new
+Ran turns input old new (Err halt.Read) = ⊤
+Ran turns input old new (Err halt.Write) = ⊤
+Ran turns input old new (Err halt.Memory) = ⊤
+
+abbrev pub RanKnown : ℕ → Option (List ℕ) → Option (List ℕ) → Option (List ℕ) → Result Outcome Halt → Type 0
+RanKnown turns None old new r = ⊤
+RanKnown turns (Some input) None new r = ⊤
+RanKnown turns (Some input) (Some before) new r = Ran turns input before new r

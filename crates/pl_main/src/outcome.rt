@@ -1,0 +1,6 @@
+/// How a run ended: its input is answered, or its model's text is refused.
+#[derive(Clone, Copy, Debug, PartialEq, Eq)]
+pub enum Outcome {
+    Done,
+    Refused,
+}

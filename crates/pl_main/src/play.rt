@@ -1,0 +1,109 @@
+ghost use Rattle.std.specs.Prelude.{◌≡◌, ◌≤◌, None, IsErrOf, IfErr, length};
+ghost use Rattle.std.specs.Option.{option_copied};
+ghost use Rattle.pl_io.specs.Faults.{Rose};
+ghost use Rattle.pl_machine.specs.Legal.{InputFits};
+ghost use Rattle.pl_main.specs.Tells.{IsReady};
+ghost use Rattle.pl_main.specs.Plays.{place_of, line_in, HaltFor, Answering, Steps, Playing};
+
+use crate::answers::tell;
+use crate::halt::Halt;
+use crate::messages::next_message;
+use crate::writes::write_log;
+use pl_io::{Line, LineFault, LineReader, Sink, Source};
+use pl_machine::{Machine, Stop};
+use std::alloc::Global;
+
+fn line_in(message: &Option<Line>) -> Option<&[u8]>
+    ensures { option_copied result ≡ line_in message.now }
+{
+    match message {
+        None => None,
+        Some(line) => Some(line.bytes()),
+    }
+}
+
+/// Answers a message and writes the lines of its entries. Answers whether the run is done.
+fn answer<O: Sink>(
+    alloc: Global,
+    machine: &mut Machine,
+    line: Option<&[u8]>,
+    out: &mut O,
+) -> Result<bool, Halt>
+    requires ready { IsReady machine.old }
+    requires fits { InputFits (option_copied line) }
+    ensures answer { Answering machine.old (option_copied line.entry) (O.held out.old) result machine.new (O.held out.new) }
+    ensures cause { IsErrOf result Halt.Write → Rose (O.faults out.old) (O.faults out.new) }
+    ensures later { O.faults out.old ≤ O.faults out.new }
+{
+    let from = machine.log().len();
+    match tell(alloc, machine, line) {
+        Ok(()) => {
+            write_log(alloc, machine, from, out)?;
+            Ok(machine.done())
+        }
+        Err(Stop::LogFull) => {
+            write_log(alloc, machine, from, out)?;
+            Err(Halt::Full)
+        }
+        Err(_) => Err(Halt::Memory),
+    }
+}
+
+pub fn halt_of(fault: LineFault) -> Halt
+    ensures { HaltFor fault result }
+{
+    match fault {
+        LineFault::Read => Halt::Read,
+        LineFault::Long(_) | LineFault::Total => Halt::Limit,
+        LineFault::Memory => Halt::Memory,
+    }
+}
+
+/// Reads the next message and answers it. Answers whether the run is done.
+#[tactic(auto, using(crate::proofs::Playing::input_fits, crate::proofs::Playing::step_on, crate::proofs::Playing::step_fills, crate::proofs::Playing::step_halts))]
+fn step<S: Source, O: Sink>(
+    alloc: Global,
+    machine: &mut Machine,
+    lines: &mut LineReader,
+    src: &mut S,
+    out: &mut O,
+) -> Result<bool, Halt>
+    requires ready { IsReady machine.old }
+    requires limit { lines.old.limit ≡ 4096 }
+    requires working { lines.old.failed ≡ None }
+    ensures step { Steps machine.old (place_of lines.old (S.left src.old)) (O.held out.old) result machine.new (place_of lines.new (S.left src.new)) (O.held out.new) }
+    ensures read { IsErrOf result Halt.Read → Rose (S.faults src.old) (S.faults src.new) }
+    ensures write { IsErrOf result Halt.Write → Rose (O.faults out.old) (O.faults out.new) }
+    ensures later { (S.faults src.old ≤ S.faults src.new) × (O.faults out.old ≤ O.faults out.new) }
+{
+    match next_message(lines, src) {
+        Err(fault) => Err(halt_of(fault)),
+        Ok(message) => answer(alloc, machine, line_in(&message), out),
+    }
+}
+
+/// Answers all messages up to the end, and writes each round's lines once the round has closed.
+#[tactic(auto, using(crate::proofs::Playing::plays_none, crate::proofs::Playing::plays_on, crate::proofs::Playing::plays_out, crate::proofs::Playing::plays_stop))]
+pub fn play<S: Source, O: Sink>(
+    alloc: Global,
+    machine: &mut Machine,
+    lines: &mut LineReader,
+    src: &mut S,
+    out: &mut O,
+) -> Result<(), Halt>
+    requires ready { IsReady machine.old }
+    requires limit { lines.old.limit ≡ 4096 }
+    requires working { lines.old.failed ≡ None }
+    ensures play { Playing machine.old (place_of lines.old (S.left src.old)) (O.held out.old) result machine.new (place_of lines.new (S.left src.new)) (O.held out.new) }
+    ensures read { IsErrOf result Halt.Read → Rose (S.faults src.old) (S.faults src.new) }
+    ensures write { IsErrOf result Halt.Write → Rose (O.faults out.old) (O.faults out.new) }
+    ensures later { (S.faults src.old ≤ S.faults src.new) × (O.faults out.old ≤ O.faults out.new) }
+{
+    'messages: loop {
+        match step(alloc, machine, lines, src, out) {
+            Ok(false) => {}
+            Ok(true) => return Ok(()),
+            Err(halt) => return Err(halt),
+        }
+    }
+}

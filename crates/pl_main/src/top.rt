@@ -1,0 +1,71 @@
+ghost use Rattle.std.specs.Prelude.{◌≡◌, ◌⊎◌, ℕ, None, Some};
+ghost use Rattle.pl_io.specs.Faults.{Rose};
+ghost use Rattle.pl_plain.specs.Words.{command_of};
+ghost use Rattle.pl_main.specs.Statuses.{IsTask, IsSoloStatus, status_of, turns_of, usage_line, SaysKnown};
+ghost use Rattle.pl_main.specs.Written.{Adds};
+
+use crate::halt::Halt;
+use crate::outcome::Outcome;
+use crate::whole::solo;
+use pl_io::{Sink, Source, put};
+use pl_plain::{Command, Task, read_words};
+use std::alloc::Global;
+
+fn status_of(ended: Result<Outcome, Halt>) -> u8
+    ensures { result ≡ status_of ended }
+{
+    match ended {
+        Ok(Outcome::Done) => 0,
+        Ok(Outcome::Refused) => 3,
+        Err(Halt::Read) => 4,
+        Err(Halt::Write) => 5,
+        Err(Halt::Limit) => 6,
+        Err(Halt::Full) => 7,
+        Err(Halt::Memory) => 9,
+    }
+}
+
+/// Does a task of one thread. It waits for nobody.
+#[tactic(auto, using(crate::proofs::Topping::says_of, crate::proofs::Topping::status_is))]
+pub fn run_solo<I: Source, O: Sink>(alloc: Global, task: &Task, input: &mut I, out: &mut O) -> u8
+    requires { IsTask task.now }
+    ensures status { IsSoloStatus result }
+    ensures read { result ≡ 4 → Rose (I.faults input.old) (I.faults input.new) }
+    ensures write { result ≡ 5 → Rose (O.faults out.old) (O.faults out.new) }
+    ensures says { SaysKnown (turns_of task.now) (I.left input.old) (O.held out.old) (O.held out.new) result }
+{
+    match task {
+        Task::Solo { turns } => status_of(solo(alloc, *turns, input, out)),
+    }
+}
+
+/// The usage line, and its status.
+fn usage<O: Sink>(out: &mut O) -> u8
+    ensures status { (result ≡ 2) ⊎ (result ≡ 5) }
+    ensures write { result ≡ 5 → Rose (O.faults out.old) (O.faults out.new) }
+    ensures text { result ≡ 2 → Adds (O.held out.old) (O.held out.new) usage_line }
+{
+    match put(
+        out,
+        b"usage: run solo N | run pair N SEED | check | replay | report | demo N\n",
+    ) {
+        Ok(()) => 2,
+        Err(_) => 5,
+    }
+}
+
+/// Does what the words behind the program's name ask for, and answers the program's status.
+pub fn run<I: Source, O: Sink>(alloc: Global, words: &[String], input: &mut I, out: &mut O) -> u8
+    ensures usage { result ≡ 2 → command_of words.now ≡ None }
+    ensures words { command_of words.now ≡ None → (result ≡ 2) ⊎ (result ≡ 5) }
+    ensures usage_text { result ≡ 2 → Adds (O.held out.old) (O.held out.new) usage_line }
+    ensures status { (result ≡ 2) ⊎ IsSoloStatus result }
+    ensures read { result ≡ 4 → Rose (I.faults input.old) (I.faults input.new) }
+    ensures write { result ≡ 5 → Rose (O.faults out.old) (O.faults out.new) }
+    ensures says { (turns : ℕ) → command_of words.now ≡ Some (Command.Alone (Task.Solo turns)) → SaysKnown turns (I.left input.old) (O.held out.old) (O.held out.new) result }
+{
+    match read_words(words) {
+        None => usage(out),
+        Some(Command::Alone(task)) => run_solo(alloc, &task, input, out),
+    }
+}

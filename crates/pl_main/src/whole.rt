@@ -1,0 +1,132 @@
+ghost use Rattle.std.specs.Prelude.{◌≡◌, ◌≤◌, None, OnOk, IfOk, IfSome, IfErr, IsErrOf};
+ghost use Rattle.pl_io.specs.Faults.{Rose};
+ghost use Rattle.pl_machine.specs.Plain.{IsPlain};
+ghost use Rattle.pl_main.specs.Plays.{place_of};
+ghost use Rattle.pl_main.specs.Runs.{ModelRuns, IsTextOf, TextRuns};
+ghost use Rattle.pl_main.specs.Top.{program_options, RanKnown};
+ghost use Rattle.pl_main.specs.Written.{Adds, WriteStops};
+
+use crate::found::Head;
+use crate::halt::Halt;
+use crate::head::read_head;
+use crate::outcome::Outcome;
+use crate::play::{halt_of, play};
+use crate::writes::write_log;
+use pl_io::{LineReader, Sink, Source, put};
+use pl_machine::{Machine, Options};
+use pl_model::Model;
+use pl_plain::read_plain;
+use std::alloc::{AllocError, Global};
+use std::sync::Arc;
+
+const LINE_LIMIT: u32 = 4096;
+
+const TOTAL_LIMIT: u64 = 1_073_741_824;
+
+fn program_options(turns: u32) -> Options
+    ensures { result ≡ program_options turns }
+{
+    Options {
+        turns,
+        live: 10_000,
+        goals: 20_000,
+        entries: 250_000,
+    }
+}
+
+fn refuse<O: Sink>(out: &mut O, line: &[u8]) -> Result<Outcome, Halt>
+    ensures text { OnOk result (Adds (O.held out.old) (O.held out.new) line.now) }
+    ensures refused { IfOk result (λ outcome. outcome ≡ Outcome.Refused) }
+    ensures cause { IfErr result (WriteStops (O.faults out.old) (O.faults out.new)) }
+    ensures later { O.faults out.old ≤ O.faults out.new }
+{
+    put(out, line)?;
+    Ok(Outcome::Refused)
+}
+
+/// The plain model of a text that was kept.
+#[tactic(auto, unfolding(pl_plain::specs::Models::plain_model))]
+fn model_of(alloc: Global, kept: &Option<Vec<u8>>) -> Result<Option<Model>, AllocError>
+    ensures text { IfOk result (IsTextOf kept.now) }
+    ensures plain { IfOk result (λ model. IfSome model IsPlain) }
+{
+    match kept {
+        None => Ok(None),
+        Some(text) => {
+            let model = read_plain(alloc, text.as_slice())?;
+            Ok(model)
+        }
+    }
+}
+
+/// Opens a journal over a model and answers the messages.
+fn run_model<S: Source, O: Sink>(
+    alloc: Global,
+    turns: u32,
+    model: Model,
+    lines: &mut LineReader,
+    src: &mut S,
+    out: &mut O,
+) -> Result<(), Halt>
+    requires plain { IsPlain model }
+    requires turns { (1 ≤ turns) × (turns ≤ 1000) }
+    requires limit { lines.old.limit ≡ 4096 }
+    requires working { lines.old.failed ≡ None }
+    ensures run { ModelRuns turns model (place_of lines.old (S.left src.old)) (O.held out.old) result (O.held out.new) }
+    ensures read { IsErrOf result Halt.Read → Rose (S.faults src.old) (S.faults src.new) }
+    ensures write { IsErrOf result Halt.Write → Rose (O.faults out.old) (O.faults out.new) }
+{
+    let model = Arc::new(alloc, model)?;
+    let mut machine = Machine::fresh(alloc, model, program_options(turns))?;
+    write_log(alloc, &machine, 0, out)?;
+    let played = play(alloc, &mut machine, lines, src, out);
+    let _log = machine.log();
+    match played {
+        Ok(()) => Ok(()),
+        Err(halt) => Err(halt),
+    }
+}
+
+fn run_text<S: Source, O: Sink>(
+    alloc: Global,
+    turns: u32,
+    kept: Option<Vec<u8>>,
+    lines: &mut LineReader,
+    src: &mut S,
+    out: &mut O,
+) -> Result<Outcome, Halt>
+    requires turns { (1 ≤ turns) × (turns ≤ 1000) }
+    requires limit { lines.old.limit ≡ 4096 }
+    requires working { lines.old.failed ≡ None }
+    ensures run { TextRuns turns kept (place_of lines.old (S.left src.old)) (O.held out.old) result (O.held out.new) }
+    ensures read { IsErrOf result Halt.Read → Rose (S.faults src.old) (S.faults src.new) }
+    ensures write { IsErrOf result Halt.Write → Rose (O.faults out.old) (O.faults out.new) }
+{
+    match model_of(alloc, &kept)? {
+        None => refuse(out, b"model: not built\n"),
+        Some(model) => match run_model(alloc, turns, model, lines, src, out) {
+            Ok(()) => Ok(Outcome::Done),
+            Err(halt) => Err(halt),
+        },
+    }
+}
+
+/// Reads a model and its messages, and writes the journal.
+pub fn solo<S: Source, O: Sink>(
+    alloc: Global,
+    turns: u32,
+    src: &mut S,
+    out: &mut O,
+) -> Result<Outcome, Halt>
+    requires turns { (1 ≤ turns) × (turns ≤ 1000) }
+    ensures ran { RanKnown turns (S.left src.old) (O.held out.old) (O.held out.new) result }
+    ensures read { IsErrOf result Halt.Read → Rose (S.faults src.old) (S.faults src.new) }
+    ensures write { IsErrOf result Halt.Write → Rose (O.faults out.old) (O.faults out.new) }
+{
+    let mut lines = LineReader::new(alloc, LINE_LIMIT, TOTAL_LIMIT)?;
+    match read_head(alloc, &mut lines, src) {
+        Err(fault) => Err(halt_of(fault)),
+        Ok(Head::NoBegin) => refuse(out, b"model: no begin\n"),
+        Ok(Head::Text(kept)) => run_text(alloc, turns, kept, &mut lines, src, out),
+    }
+}

@@ -1,0 +1,64 @@
+ghost use Rattle.std.specs.Prelude.{◌≡◌, ◌≤◌, ◌+◌, ◌<◌, OnOk, IfErr, length, drop};
+ghost use Rattle.pl_journal.specs.Lines.{line_of, text_from};
+ghost use Rattle.pl_main.specs.Written.{Adds, WriteStops};
+
+use crate::halt::Halt;
+use pl_io::{Sink, put};
+use pl_journal::render;
+use pl_machine::{Entry, Machine};
+use pl_model::Model;
+use std::alloc::Global;
+
+fn write_entry<O: Sink>(
+    alloc: Global,
+    model: &Model,
+    number: u32,
+    entry: &Entry,
+    out: &mut O,
+) -> Result<(), Halt>
+    ensures text { OnOk result (Adds (O.held out.old) (O.held out.new) (line_of model.now number entry.now)) }
+    ensures cause { IfErr result (WriteStops (O.faults out.old) (O.faults out.new)) }
+    ensures later { O.faults out.old ≤ O.faults out.new }
+{
+    let line = render(alloc, model, number, entry)?;
+    put(out, line.as_slice())?;
+    Ok(())
+}
+
+#[tactic(auto, using(crate::proofs::Writing::adds_none, crate::proofs::Writing::adds_more))]
+fn write_entries<O: Sink>(
+    alloc: Global,
+    model: &Model,
+    from: u32,
+    entries: &[Entry],
+    out: &mut O,
+) -> Result<(), Halt>
+    requires { from + length entries.now ≤ 250000 }
+    ensures text { OnOk result (Adds (O.held out.old) (O.held out.new) (text_from model.now from entries.now)) }
+    ensures cause { IfErr result (WriteStops (O.faults out.old) (O.faults out.new)) }
+    ensures later { O.faults out.old ≤ O.faults out.new }
+{
+    let mut number = from;
+    for entry in entries {
+        write_entry(alloc, model, number, entry, out)?;
+        number += 1;
+    }
+    Ok(())
+}
+
+/// Writes the lines of a log from an entry on.
+#[tactic(auto, using(crate::proofs::Writing::log_is_short))]
+pub fn write_log<O: Sink>(
+    alloc: Global,
+    machine: &Machine,
+    from: usize,
+    out: &mut O,
+) -> Result<(), Halt>
+    requires { from ≤ length machine.now.log }
+    ensures text { OnOk result (Adds (O.held out.old) (O.held out.new) (text_from machine.now.world.scene.model from (drop from machine.now.log))) }
+    ensures cause { IfErr result (WriteStops (O.faults out.old) (O.faults out.new)) }
+    ensures later { O.faults out.old ≤ O.faults out.new }
+{
+    let log = machine.log();
+    write_entries(alloc, machine.model(), from as u32, &log[from..], out)
+}
