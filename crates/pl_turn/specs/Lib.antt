@@ -1,0 +1,6 @@
+pub mod History
+pub mod Rule
+pub mod Steps
+pub mod Passes
+pub use Rattle.atomic_table.specs.Table
+pub use Rattle.atomic_table.specs.Seated

@@ -1,0 +1,17 @@
+//! One value under a ticket lock, and the history that it stands for. How long the history is can be read without the lock.
+#![tactic(auto)]
+
+mod gate;
+mod known;
+mod lock;
+mod logged;
+mod owner;
+mod pass;
+mod steps;
+mod turns;
+
+pub use gate::{Gate, NoGate};
+pub use known::{Crew, Known};
+pub use lock::TurnLock;
+pub use logged::Logged;
+pub use pass::Pass;
