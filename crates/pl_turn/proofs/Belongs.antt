@@ -1,15 +1,15 @@
 -- When a pass belongs to a lock.
 use Rattle.std.proofs.Common.{◌≡◌, ℕ, true, false, Bool, cond, List, [], ◌∷◌, ◌++◌, length, Option, Some, None, refl, sym, ap, ◌∙◌, subst, arith}
 use Rattle.std.specs.List.{All}
-use Rattle.std.proofs.lemmas.List.Elements.{All-weaker, All-cons, All-head, All-tail}
+use Rattle.std.proofs.lemmas.List.Elements.{All-weaker, All-cons, All-head, All-tail, All-push}
 use mathlib.Core.List.{IsPrefix}
 use Rattle.atomic_table.specs.Table.{Me}
 use Rattle.pl_turn.specs.declared.known.Known.{Known}
 use Rattle.pl_turn.specs.declared.lock.TurnLock.{TurnLock}
 use Rattle.pl_turn.specs.declared.pass.Pass.{Pass}
-use Rattle.pl_turn.specs.History.{StandsIn}
+use Rattle.pl_turn.specs.History.{StandsIn, longer}
 use Rattle.pl_turn.specs.Rule.{own_lists}
-use Rattle.pl_turn.specs.Steps.{drawing, receiving, adding, ending}
+use Rattle.pl_turn.specs.Steps.{drawing, receiving, adding, ending, taking, learning}
 use Rattle.pl_turn.specs.Passes.{IsPassOf, hand_of}
 use Rattle.pl_turn.proofs.Histories.{stands_on, stands_push}
 
@@ -65,4 +65,24 @@ module _ {V I : Type 0} where
       (all_on v.seen seen' v.crew.joined (e ∷ [], refl) (All-tail (StandsIn v.seen) v.mine v.crew.joined own.stands)))
       (λ h. refl)
       own.compared
+      own.unspent
+
+  -- a pass that took in another
+  pub joined : (lock : TurnLock V I) (pass pass' other : Pass V I) (w : Known I) (taken : Me (Option V) (Known I)) → w ≡ other.seat.me.0 → taken ≡ (taking pass.seat.me.0 w, pass.seat.me.1) → pass'.seat.me ≡ (learning taken.0, taken.1)
+      → IsPrefix taken.0.seen (longer taken.0.seen taken.0.heard) × IsPrefix taken.0.heard (longer taken.0.seen taken.0.heard)
+      → pass'.seat.table_id ≡ pass.seat.table_id → IsPassOf lock pass → IsPassOf lock other → IsPassOf lock pass'
+  joined lock pass pass' other w taken is takes now on same own own' =
+      let M : Type 0 = Me (Option V) (Known I) in
+      let v : Known I = pass.seat.me.0 in
+      let w' : Known I = other.seat.me.0 in
+      let k : Known I = learning (taking v w') in
+      let P : Known I → Type 0 = λ u. IsPrefix u.seen (longer u.seen u.heard) × IsPrefix u.heard (longer u.seen u.heard) in
+      let both : P (taking v w') = subst P (ap (λ (m : M). m.0) takes ∙ ap (λ (u : Known I). taking v u) is) on in
+      let here : All (StandsIn k.seen) (own_lists v) = all_on v.seen k.seen (own_lists v) both.0 own.stands in
+      let there : StandsIn k.seen w'.mine = stands_on w'.seen k.seen 0 w'.mine both.1 (All-head (StandsIn w'.seen) w'.mine w'.crew.joined own'.stands) in
+      belongs lock pass' k (same ∙ own.of_lock)
+      (now ∙ (ap (λ (m : M). let n : M = (learning m.0, m.1) in n) takes ∙ (λ i. (learning (taking v (is i)), own.hand i))))
+      (All-push (StandsIn k.seen) (own_lists v) w'.mine here there)
+      own.outside
+      refl
       own.unspent

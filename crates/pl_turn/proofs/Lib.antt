@@ -5,3 +5,5 @@ pub mod Views
 pub mod Turning
 pub mod Belongs
 pub mod Owning
+pub mod Crewing
+pub mod Looking

@@ -14,13 +14,13 @@ use Rattle.atomic_table.proofs.Lists.{set_again, set_here}
 use Rattle.pl_turn.specs.declared.known.Known.{Known}
 use Rattle.pl_turn.specs.History.{IsEachOnce, times_at, times_in}
 use Rattle.pl_turn.specs.Rule.{Kept, Fits, tickets, tickets_at, is_ticket, is_this_ticket, owns, own_lists, spends, gone, IsViewOf, NobodyIsServed, IsHome}
-use Rattle.pl_turn.specs.Steps.{drawing, receiving, adding, ending, Draws, Serves, Measures, Adds, Ends}
+use Rattle.pl_turn.specs.Steps.{drawing, receiving, adding, ending, Draws, Serves, Adds, Ends}
 use Rattle.pl_turn.proofs.Sums.{there_below, sum_set, sum_same, sum_there}
 use Rattle.pl_turn.proofs.Once.{once_same, once_more, once_less}
 use Rattle.pl_turn.proofs.Histories.{prefix_self, prefix_of_same, prefix_trans, prefix_length, last_get}
 use Rattle.pl_turn.proofs.Views.{views_set, nobody_before, somebody, this_ticket, other_ticket, few_wait, ticket_waits, ticket_called, served_alone, nobody_served}
 
-never_spent : {A : Type 0} (b : Bool) → b ≡ false → b ≡ true → A
+pub never_spent : {A : Type 0} (b : Bool) → b ≡ false → b ≡ true → A
 never_spent b no' yes' = absurd (cc (sym no' ∙ yes'))
 
 same_ticket : (t u : ℕ) → Some t ≡ Some u → t ≡ u
@@ -267,14 +267,3 @@ module _ {V I : Type 0} (entries : V → List I) (slots id : ℕ) (me : Me (Opti
 -- what is in a hand of one slot
 pub hand_front : {V : Type 0} (x : V) (hand : List (ℕ × Option V)) → hand ≡ holding x → hand ≡ (0, Some x) ∷ rest hand
 hand_front x hand e = e ∙ ap (λ (h : List (ℕ × Option _)). (0, Some x) ∷ rest h) (sym e)
-
-module _ {V I : Type 0} (entries : V → List I) (slots id : ℕ) (me : Me (Option V) (Known I)) (about : Step (Option V)) where
-  -- a load of the history word that leaves the view
-  pub measures : Allows (Kept entries) slots id me 0 (λ n. n) (Measures about me)
-  measures s kept len at small =
-      let P : List ℕ → Type 0 = λ ws. set ws 0 (slice_index ws 0) ≡ ws in
-      let words : set s.words 0 (slice_index s.words 0) ≡ s.words = subst P (sym kept.words) refl in
-      let views : set s.views id me.0 ≡ s.views = set_again s.views id me.0 at in
-      let Q : List ℕ × List (Known I) → Type 0 = λ x. Kept entries record { words = x.0; homes = s.homes; views = x.1 } in
-      let found : slice_index s.words 0 ≡ length kept.log = ap (λ (ws : List ℕ). slice_index ws 0) kept.words in
-      (me.0, keeps, tt, subst Q (λ i. (sym words i, sym views i)) kept, (refl, λ served. found ∙ sym (ap length ((kept.each_view id me.0 at).served served).1)))

@@ -1,6 +1,7 @@
 //! One value under a ticket lock, and the history that it stands for. How long the history is can be read without the lock.
 #![tactic(auto)]
 
+mod crew;
 mod gate;
 mod known;
 mod lock;

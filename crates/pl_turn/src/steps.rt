@@ -1,7 +1,7 @@
 //! The table that the passes step on: its rule, and what each step tells.
 use crate::known::Known;
 use crate::logged::Logged;
-use atomic_table::{Play, TableRule};
+use atomic_table::{Join, Play, Split, TableRule};
 use std::marker::PhantomData;
 use std::snapshot::Snapshot;
 
@@ -65,4 +65,45 @@ impl<V, I> Play<Option<V>, Known<I>> for End {
     ghost use Rattle.pl_turn.specs.Steps.{Ends};
 
     ghost then = { Ends };
+}
+
+/// How a pass is split off.
+pub struct Cut;
+
+impl<I> Split<Known<I>> for Cut {
+    ghost use Rattle.pl_turn.specs.Steps.{splitting, newcomer};
+
+    ghost left = { splitting };
+
+    ghost right = { newcomer };
+}
+
+/// How a pass is joined.
+pub struct Take;
+
+impl<I> Join<Known<I>> for Take {
+    ghost use Rattle.pl_turn.specs.Rule.{gone};
+    ghost use Rattle.pl_turn.specs.Steps.{taking};
+
+    ghost both = { taking };
+
+    ghost spent = { gone };
+}
+
+/// The load of the history word by a pass that joined another.
+pub struct Learn;
+
+impl<V, I> Play<Option<V>, Known<I>> for Learn {
+    ghost use Rattle.pl_turn.specs.Steps.{Learns};
+
+    ghost then = { Learns };
+}
+
+/// The load of the history word.
+pub struct Count;
+
+impl<V, I> Play<Option<V>, Known<I>> for Count {
+    ghost use Rattle.pl_turn.specs.Steps.{Counts};
+
+    ghost then = { Counts };
 }

@@ -1,7 +1,7 @@
 use Rattle.std.proofs.Common.{arith, ◌∙◌}
 use Rattle.atomic_table.specs.Table.{step}
 use mathlib.Core.Option.{none}
-use Rattle.pl_turn.proofs.Turning.{measures}
+use Rattle.pl_turn.proofs.Looking.{measures}
 use Rattle.pl_turn.proofs.Belongs.{ended_longer}
 use Rattle.pl_turn.proofs.lock.TurnLock.leave.Goals as goal
 
