@@ -9,6 +9,9 @@ mod logged;
 mod owner;
 mod pass;
 mod steps;
+#[cfg(test)]
+mod tests;
+mod threads;
 mod turns;
 
 pub use gate::{Gate, NoGate};
@@ -16,3 +19,4 @@ pub use known::{Crew, Known};
 pub use lock::TurnLock;
 pub use logged::Logged;
 pub use pass::Pass;
+pub use threads::crosses;

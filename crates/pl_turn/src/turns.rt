@@ -10,6 +10,7 @@ use crate::logged::Logged;
 use crate::pass::Pass;
 use crate::steps::{Add, Draw, End, Measure, Serve};
 use std::sync::Wait;
+use std::thread;
 
 impl<V: Logged> TurnLock<V> {
     /// Waits for its turn, and hands the value out.
@@ -32,6 +33,7 @@ impl<V: Logged> TurnLock<V> {
             if called == ticket {
                 return self.take_out(pass);
             }
+            thread::yield_now();
         }
         unreachable!()
     }
