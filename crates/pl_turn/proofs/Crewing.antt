@@ -1,22 +1,16 @@
 -- The splits and joins of passes keep the rule.
-use Rattle.std.proofs.Common.{◌≡◌, ◌≢◌, ℕ, zero, suc, ◌+◌, ◌%◌, ◌^◌, ◌≤◌, ◌<◌, true, false, Bool, cond, max, List, [], ◌∷◌, ◌++◌, length, set, Option, Some, None, nat_lt, refl, sym, ap, ◌∙◌, subst, ⊎_elim, arith, lt-ltb, le-ltb, length-set, length-append}
-use Rattle.std.specs.Prelude.{slice_index}
+use Rattle.std.proofs.Common.{◌≡◌, ◌≢◌, ℕ, ◌+◌, ◌<◌, true, false, Bool, cond, List, [], ◌∷◌, ◌++◌, length, set, None, refl, sym, ap, ◌∙◌, subst, ⊎_elim, arith, length-set, length-append}
 use Rattle.std.specs.List.{sum_by}
 use Rattle.std.proofs.lemmas.List.Sums.{sum_by-cons, sum_by_push}
-use mathlib.Core.Option.{some, some-injective, some-ne-none}
-use mathlib.Core.List.{IsPrefix}
-use mathlib.Core.Logic.{dite}
-use native.Mathlib.Decide.{ℕ_discrete, dec_le}
-use lib.ListN.{get_elem?}
-use Rattle.atomic_table.specs.Table.{State, Me, Step, keeps, Allows, Splits, Joins}
+use Rattle.atomic_table.specs.Table.{Splits, Joins}
 use Rattle.atomic_table.proofs.Lists.{at_snoc, at_longer, set_else}
 use Rattle.pl_turn.specs.declared.known.Known.{Known}
-use Rattle.pl_turn.specs.History.{IsEachOnce, longer, times_at, times_in}
-use Rattle.pl_turn.specs.Rule.{Kept, Fits, tickets, tickets_at, is_ticket, is_this_ticket, owns, own_lists, spends, gone, IsViewOf, NobodyIsServed}
-use Rattle.pl_turn.specs.Steps.{splitting, newcomer, taking, learning, Learns}
+use Rattle.pl_turn.specs.History.{times_at}
+use Rattle.pl_turn.specs.Rule.{Kept, Fits, tickets, tickets_at, is_ticket, is_this_ticket, owns, own_lists, spends, gone, IsViewOf}
+use Rattle.pl_turn.specs.Steps.{splitting, newcomer, taking}
 use Rattle.pl_turn.proofs.Sums.{sum_set, sum_same}
 use Rattle.pl_turn.proofs.Once.{once_same}
-use Rattle.pl_turn.proofs.Histories.{prefix_self, prefix_none, prefix_shorter}
+use Rattle.pl_turn.proofs.Histories.{prefix_none}
 use Rattle.pl_turn.proofs.Views.{views_set, nobody_before}
 use Rattle.pl_turn.proofs.Turning.{never_spent}
 

@@ -1,5 +1,5 @@
 -- Each load of the history word keeps the rule.
-use Rattle.std.proofs.Common.{◌≡◌, ◌≢◌, ℕ, ◌+◌, ◌≤◌, ◌<◌, true, false, Bool, cond, List, [], ◌∷◌, length, set, Option, Some, None, nat_lt, refl, sym, ap, ◌∙◌, subst, arith, lt-ltb, le-ltb, length-set}
+use Rattle.std.proofs.Common.{◌≡◌, ℕ, ◌≤◌, ◌<◌, false, Bool, cond, List, ◌∷◌, length, set, Option, refl, sym, ap, ◌∙◌, subst, arith, lt-ltb, le-ltb, length-set}
 use Rattle.std.specs.Prelude.{slice_index}
 use Rattle.std.specs.List.{sum_by}
 use mathlib.Core.Option.{some}

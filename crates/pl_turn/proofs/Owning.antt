@@ -1,8 +1,7 @@
 -- The rule as the lock is made, and what it says as the lock is taken apart.
-use Rattle.std.proofs.Common.{◌≡◌, ◌≢◌, ℕ, zero, suc, ◌+◌, ◌%◌, ◌^◌, ◌≤◌, ◌<◌, true, false, Bool, cond, List, [], ◌∷◌, length, Option, Some, None, refl, sym, ap, ◌∙◌, subst, arith}
+use Rattle.std.proofs.Common.{◌≡◌, ◌≢◌, ℕ, zero, suc, ◌+◌, ◌≤◌, true, false, Bool, cond, List, [], ◌∷◌, length, Option, Some, None, refl, sym, ap, ◌∙◌, subst, arith}
 use Rattle.std.specs.List.{sum_by}
 use mathlib.Core.Option.{some, some-injective, some-ne-none}
-use mathlib.Core.Option as maybe
 use mathlib.Core.List.{IsPrefix}
 use mathlib.Core.Logic.{dite}
 use native.Mathlib.Decide.{ℕ_discrete}
@@ -10,7 +9,7 @@ use lib.ListN.{get_elem?}
 use Rattle.atomic_table.specs.Table.{State, opening, Final, Seen}
 use Rattle.pl_turn.specs.declared.known.Known.{Known}
 use Rattle.pl_turn.specs.History.{IsEachOnce}
-use Rattle.pl_turn.specs.Rule.{Kept, Fits, tickets, tickets_at, owns, spends, gone, starting, IsViewOf, NobodyIsServed, IsHome}
+use Rattle.pl_turn.specs.Rule.{Kept, Fits, owns, spends, gone, starting, IsViewOf, NobodyIsServed}
 use Rattle.pl_turn.proofs.Sums.{sum_only, sum_full}
 use Rattle.pl_turn.proofs.Once.{once_same}
 use Rattle.pl_turn.proofs.Histories.{prefix_self, prefix_none}

@@ -1,5 +1,5 @@
 -- Each step of a turn keeps the rule.
-use Rattle.std.proofs.Common.{◌≡◌, ◌≢◌, ℕ, zero, suc, ◌+◌, ◌%◌, ◌^◌, ◌≤◌, ◌<◌, true, false, Bool, cond, List, [], ◌∷◌, ◌++◌, length, set, Option, Some, None, nat_eq, refl, sym, ap, ◌∙◌, subst, arith, eq-eqb, ne_eqb, length-set, length-append}
+use Rattle.std.proofs.Common.{◌≡◌, ◌≢◌, ℕ, ◌+◌, ◌%◌, ◌^◌, ◌<◌, true, false, Bool, cond, List, [], ◌∷◌, ◌++◌, length, set, Option, Some, None, nat_eq, refl, sym, ap, ◌∙◌, subst, arith, eq-eqb, ne_eqb, length-set, length-append}
 use Rattle.std.specs.Prelude.{slice_index}
 use Rattle.std.specs.List.{sum_by}
 use Rattle.std.proofs.Math.Nat.{mod-add-mod}
@@ -12,13 +12,13 @@ use lib.ListN.{get_elem?}
 use Rattle.atomic_table.specs.Table.{State, Me, Step, keeps, takes, gives, put_back, rest, Allows}
 use Rattle.atomic_table.proofs.Lists.{set_again, set_here}
 use Rattle.pl_turn.specs.declared.known.Known.{Known}
-use Rattle.pl_turn.specs.History.{IsEachOnce, times_at, times_in}
-use Rattle.pl_turn.specs.Rule.{Kept, Fits, tickets, tickets_at, is_ticket, is_this_ticket, owns, own_lists, spends, gone, IsViewOf, NobodyIsServed, IsHome}
+use Rattle.pl_turn.specs.History.{times_at}
+use Rattle.pl_turn.specs.Rule.{Kept, Fits, tickets, tickets_at, is_ticket, is_this_ticket, owns, spends}
 use Rattle.pl_turn.specs.Steps.{drawing, receiving, adding, ending, Draws, Serves, Adds, Ends}
-use Rattle.pl_turn.proofs.Sums.{there_below, sum_set, sum_same, sum_there}
+use Rattle.pl_turn.proofs.Sums.{sum_set, sum_same}
 use Rattle.pl_turn.proofs.Once.{once_same, once_more, once_less}
-use Rattle.pl_turn.proofs.Histories.{prefix_self, prefix_of_same, prefix_trans, prefix_length, last_get}
-use Rattle.pl_turn.proofs.Views.{views_set, nobody_before, somebody, this_ticket, other_ticket, few_wait, ticket_waits, ticket_called, served_alone, nobody_served}
+use Rattle.pl_turn.proofs.Histories.{prefix_of_same, prefix_trans}
+use Rattle.pl_turn.proofs.Views.{views_set, nobody_before, somebody, this_ticket, other_ticket, ticket_waits, ticket_called, served_alone, nobody_served}
 
 pub never_spent : {A : Type 0} (b : Bool) → b ≡ false → b ≡ true → A
 never_spent b no' yes' = absurd (cc (sym no' ∙ yes'))

@@ -1,16 +1,13 @@
 -- What the rule says of the views, where one of them changes.
-use Rattle.std.proofs.Common.{◌≡◌, ◌≢◌, ℕ, zero, suc, ◌+◌, ◌%◌, ◌^◌, ◌≤◌, ◌<◌, true, false, Bool, cond, List, [], ◌∷◌, ◌++◌, length, set, Option, Some, None, eqb, refl, sym, ap, ◌∙◌, subst, ⊎_elim, arith, eq-eqb, ne_eqb, length-set}
-use Rattle.std.specs.List.{sum_by}
-use mathlib.Core.Option.{some, some-injective, some-ne-none}
+use Rattle.std.proofs.Common.{◌≡◌, ◌≢◌, ℕ, ◌+◌, ◌%◌, ◌^◌, ◌≤◌, ◌<◌, true, false, Bool, cond, List, set, Option, Some, None, refl, sym, ap, ◌∙◌, subst, ⊎_elim, arith, eq-eqb, ne_eqb}
+use mathlib.Core.Option.{some-injective}
 use mathlib.Core.Logic.{dite}
 use native.Mathlib.Decide.{ℕ_discrete, dec_le}
-use lib.ListN.{get_elem?}
 use Rattle.atomic_table.specs.Table.{State}
 use Rattle.atomic_table.proofs.Lists.{at_set, set_here, set_else, one_turn}
 use Rattle.pl_turn.specs.declared.known.Known.{Known}
-use Rattle.pl_turn.specs.History.{IsEachOnce}
-use Rattle.pl_turn.specs.Rule.{Kept, Fits, tickets, tickets_at, is_ticket, is_this_ticket, owns, spends, IsViewOf, NobodyIsServed, IsHome}
-use Rattle.pl_turn.proofs.Sums.{there_below, sum_set, sum_same, sum_there, sum_two, sum_most}
+use Rattle.pl_turn.specs.Rule.{Kept, tickets, tickets_at, is_ticket, is_this_ticket, IsViewOf, NobodyIsServed}
+use Rattle.pl_turn.proofs.Sums.{there_below, sum_there, sum_two, sum_most}
 
 -- a ticket is this one
 pub this_ticket : (t u : ℕ) → t ≡ u → is_this_ticket t (Some u) ≡ 1

@@ -1,12 +1,11 @@
 -- What contracts say of a lock and a pass.
-use Rattle.std.specs.Prelude.{◌≡◌, ℕ, true, false, Bool, cond, List, [], ◌∷◌, length, Option, Some, None}
+use Rattle.std.specs.Prelude.{◌≡◌, ℕ, false, Bool, cond, List, [], ◌∷◌, Option, None}
 use Rattle.std.specs.List.{All}
-use Rattle.atomic_table.specs.Table.{Me}
 use Rattle.pl_turn.specs.declared.known.Known.{Known}
 use Rattle.pl_turn.specs.declared.known.Crew.{Crew}
 use Rattle.pl_turn.specs.declared.pass.Pass.{Pass}
 use Rattle.pl_turn.specs.declared.lock.TurnLock.{TurnLock}
-use Rattle.pl_turn.specs.History.{StandsIn, times_in}
+use Rattle.pl_turn.specs.History.{StandsIn}
 use Rattle.pl_turn.specs.Rule.{own_lists}
 
 -- the slots that a pass holds: the one slot, empty, while it is in its turn

@@ -1,6 +1,6 @@
 -- The rule of the turn lock: what holds between any two steps of any passes.
 -- Word 0 is the length of the history, word 1 the tickets drawn and word 2 the tickets called, both modulo 2 ^ 64. The one slot has the value.
-use Rattle.std.specs.Prelude.{◌≡◌, ℕ, ◌+◌, ◌%◌, ◌^◌, ◌≤◌, ◌==◌, Bool, true, false, cond, List, [], ◌∷◌, length, Option, Some, None}
+use Rattle.std.specs.Prelude.{◌≡◌, ℕ, ◌+◌, ◌%◌, ◌^◌, ◌≤◌, ◌==◌, true, false, cond, List, [], ◌∷◌, length, Option, Some, None}
 use Rattle.std.specs.List.{sum_by}
 use mathlib.Core.Option.{some}
 use mathlib.Core.List.{IsPrefix}

@@ -1,4 +1,4 @@
-use Rattle.std.proofs.Common.{◌≡◌, ℕ, ◌%◌, ◌^◌, [], Some}
+use Rattle.std.proofs.Common.{◌≡◌, ℕ, ◌%◌, ◌^◌, []}
 use Rattle.pl_turn.specs.Steps.{drawing}
 use Rattle.pl_turn.proofs.lock.TurnLock.enter.Given as goal
 
