@@ -24,7 +24,7 @@ module _ {V I : Type 0} where
   abbrev pub mine_of : Pass V I → List (ℕ × I)
   mine_of pass = (known pass).mine
 
-  -- the greatest length of the history that the pass read
+  -- a length of the history that was read, by the pass or by one that it took in
   abbrev pub counted_of : Pass V I → ℕ
   counted_of pass = (known pass).counted
 

@@ -85,18 +85,20 @@ module _ {V I : Type 0} (entries : V → List I) where
   IsHome s log = (v : V) × (get_elem? s.homes 0 ≡ some (some (Some v))) × (entries v ≡ log)
 
   pub record Kept (s : State (Option V) (Known I)) : Type 0 where
+    -- the one history, and how long it was as the lock was made
     pub log : List I
     pub opening : ℕ
+    pub opened : opening ≤ length log
+    -- the tickets drawn and called, and the passes made and joined, so far
     pub drawn : ℕ
     pub called : ℕ
     pub made : ℕ
     pub joined : ℕ
-    pub opened : opening ≤ length log
     pub words : s.words ≡ length log ∷ drawn % 2 ^ 64 ∷ called % 2 ^ 64 ∷ []
     -- as many views wait as tickets were drawn and not called yet, and each of these tickets has one view
     pub waiting : drawn ≡ called + sum_by tickets s.views
     pub each_ticket : IsEachOnce called drawn (λ t. sum_by (tickets_at t) s.views)
-    -- where no view is served the value is at home
+    -- the value is out with a view that is served, and else at home
     pub home : NobodyIsServed s.views → IsHome s log
     -- each place past the opening stands in one own list
     pub each_place : IsEachOnce opening (length log) (λ p. sum_by (owns p) s.views)
