@@ -7,3 +7,4 @@ pub mod Belongs
 pub mod Owning
 pub mod Crewing
 pub mod Looking
+pub mod Sifting

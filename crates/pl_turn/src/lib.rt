@@ -4,6 +4,7 @@
 mod crew;
 mod gate;
 mod known;
+mod laws;
 mod lock;
 mod logged;
 mod owner;
@@ -16,6 +17,7 @@ mod turns;
 
 pub use gate::{Gate, NoGate};
 pub use known::{Crew, Known};
+pub use laws::own_entries_are_picked;
 pub use lock::TurnLock;
 pub use logged::Logged;
 pub use pass::Pass;
