@@ -1,6 +1,6 @@
 -- The entries of one pass, picked out of the history by a test.
 use Rattle.std.proofs.Common.{◌≡◌, ◌≢◌, ℕ, zero, suc, ◌+◌, ◌-◌, ◌≤◌, ◌<◌, true, false, Bool, cond, List, [], ◌∷◌, ◌++◌, length, map, drop, Some, None, nat_eq, slice_get, refl, sym, ap, ◌∙◌, subst, arith, eq-eqb, ne_eqb}
-use Rattle.std.specs.List.{sum_by, All, filter}
+use Rattle.std.specs.List.{All, filter}
 use Rattle.std.proofs.lemmas.List.Sums.{sum_by-cons, sum_by-append}
 use Rattle.std.proofs.lemmas.List.Elements.{All-nil, All-cons, All-head, All-tail}
 use Rattle.std.proofs.lemmas.Option.{slice_get_within}
@@ -46,8 +46,8 @@ module _ {I : Type 0} where
   times_failing test h low p e (x ∷ xs) s fails at passes =
       let here : x.0 ≢ p = λ same.
       (let got : Some x.1 ≡ Some e = sym s.1 ∙ (ap (λ (k : ℕ). slice_get h k) same ∙ at) in
-       let is : x.1 ≡ e = unwrap x.1 e got in
-       let both : true ≡ false = sym passes ∙ (ap test (sym is) ∙ All-head (λ y. test y.1 ≡ false) x xs fails) in absurd (cc both)) in
+      let is : x.1 ≡ e = unwrap x.1 e got in
+      let both : true ≡ false = sym passes ∙ (ap test (sym is) ∙ All-head (λ y. test y.1 ≡ false) x xs fails) in absurd (cc both)) in
       let none = at_other p x here in
       let rest = times_failing test h (suc x.0) p e xs s.2 (All-tail (λ y. test y.1 ≡ false) x xs fails) at passes in omega (arith, sum_by-cons (one_at p) x xs)
 
@@ -72,26 +72,26 @@ module _ {I : Type 0} where
       let fails : test e ≡ false = not_true (test e) (λ t. let one = covers n e (omega arith) here t in omega arith) in
       let P : Bool → Type 0 = λ b. [] ≡ cond b (e ∷ filter test rest) (filter test rest) in
       subst P (sym fails) (sifts test h rest (suc n) [] (λ i. same (suc i) ∙ ap (λ (k : ℕ). slice_get h k) (let z : n + suc i ≡ suc n + i = omega arith in z)) tt passes
-          (λ p e' le at t. covers p e' (omega arith) at t))
+      (λ p e' le at t. covers p e' (omega arith) at t))
   sifts test h (e ∷ rest) n (x ∷ xs) same s passes covers =
       let here : slice_get h n ≡ Some e = ap (λ (k : ℕ). slice_get h k) (let z : n ≡ n + 0 = omega arith in z) ∙ sym (same 0) in
       let on : (i : ℕ) → slice_get rest i ≡ slice_get h (suc n + i) = λ i. same (suc i) ∙ ap (λ (k : ℕ). slice_get h k) (let z : n + suc i ≡ suc n + i = omega arith in z) in
       let f : List I = filter test rest in
       dite (ℕ_discrete x.0 n)
       (λ (at : x.0 ≡ n).
-          let is : x.1 ≡ e = unwrap x.1 e (sym s.1 ∙ (ap (λ (k : ℕ). slice_get h k) at ∙ here)) in
-          let yes' : test e ≡ true = ap test (sym is) ∙ All-head (λ y. test y.1 ≡ true) x xs passes in
-          let from : StandsFrom h (suc n) xs = subst (λ (k : ℕ). StandsFrom h (suc k) xs) at s.2 in
-          let more : map (λ y. y.1) xs ≡ f = sifts test h rest (suc n) xs on from (All-tail (λ y. test y.1 ≡ true) x xs passes)
-              (λ p e' le found t. let one = covers p e' (omega arith) found t in let none = at_other p x (λ k. omega arith) in omega (arith, sum_by-cons (one_at p) x xs)) in
-          let P : Bool → Type 0 = λ b. x.1 ∷ map (λ y. y.1) xs ≡ cond b (e ∷ f) f in
-          subst P (sym yes') (λ i. is i ∷ more i))
+      let is : x.1 ≡ e = unwrap x.1 e (sym s.1 ∙ (ap (λ (k : ℕ). slice_get h k) at ∙ here)) in
+      let yes' : test e ≡ true = ap test (sym is) ∙ All-head (λ y. test y.1 ≡ true) x xs passes in
+      let from : StandsFrom h (suc n) xs = subst (λ (k : ℕ). StandsFrom h (suc k) xs) at s.2 in
+      let more : map (λ y. y.1) xs ≡ f = sifts test h rest (suc n) xs on from (All-tail (λ y. test y.1 ≡ true) x xs passes)
+      (λ p e' le found t. let one = covers p e' (omega arith) found t in let none = at_other p x (λ k. omega arith) in omega (arith, sum_by-cons (one_at p) x xs)) in
+      let P : Bool → Type 0 = λ b. x.1 ∷ map (λ y. y.1) xs ≡ cond b (e ∷ f) f in
+      subst P (sym yes') (λ i. is i ∷ more i))
       (λ (ne : x.0 ≢ n).
-          let le = s.0 in
-          let past : StandsFrom h (suc n) (x ∷ xs) = (omega arith, s.1, s.2) in
-          let fails : test e ≡ false = not_true (test e) (λ t. let one = covers n e (omega arith) here t in let none = times_before h (suc n) n (x ∷ xs) past (omega arith) in omega arith) in
-          let P : Bool → Type 0 = λ b. x.1 ∷ map (λ y. y.1) xs ≡ cond b (e ∷ f) f in
-          subst P (sym fails) (sifts test h rest (suc n) (x ∷ xs) on past passes (λ p e' le' found t. covers p e' (omega arith) found t)))
+      let le = s.0 in
+      let past : StandsFrom h (suc n) (x ∷ xs) = (omega arith, s.1, s.2) in
+      let fails : test e ≡ false = not_true (test e) (λ t. let one = covers n e (omega arith) here t in let none = times_before h (suc n) n (x ∷ xs) past (omega arith) in omega arith) in
+      let P : Bool → Type 0 = λ b. x.1 ∷ map (λ y. y.1) xs ≡ cond b (e ∷ f) f in
+      subst P (sym fails) (sifts test h rest (suc n) (x ∷ xs) on past passes (λ p e' le' found t. covers p e' (omega arith) found t)))
 
   -- a list with nothing below `low` stands from there on
   stands_past : (h : List I) (low : ℕ) (own : List (ℕ × I)) → StandsIn h own → ((p : ℕ) → p < low → times_at p own ≡ 0) → StandsFrom h low own
@@ -116,8 +116,8 @@ module _ {I : Type 0} where
       let rest : All (StandsIn h) after = All-tail (StandsIn h) own after back in
       sifts test h (drop opening h) opening own (get_past h opening) (stands_past h opening own mine (λ p lt. let z = once.below p lt in let e = parts p in omega arith)) passes
       (λ p e le at t.
-          let within = slice_get_within h p e at in
-          let one = once.inside p le within in
-          let a = all_failing test h p e before front fails at t in
-          let b = all_failing test h p e after rest fails' at t in
-          let c = parts p in omega arith)
+      let within = slice_get_within h p e at in
+      let one = once.inside p le within in
+      let a = all_failing test h p e before front fails at t in
+      let b = all_failing test h p e after rest fails' at t in
+      let c = parts p in omega arith)
