@@ -1,0 +1,10 @@
+pub mod Sums
+pub mod Once
+pub mod Histories
+pub mod Views
+pub mod Turning
+pub mod Belongs
+pub mod Owning
+pub mod Crewing
+pub mod Looking
+pub mod Sifting

@@ -1,0 +1,7 @@
+pub mod History
+pub mod Rule
+pub mod Steps
+pub mod Passes
+pub mod Owners
+pub use Rattle.atomic_table.specs.Table
+pub use Rattle.atomic_table.specs.Seated
