@@ -4,6 +4,8 @@
 mod command;
 mod model;
 mod number;
+#[cfg(test)]
+mod tests;
 mod words;
 
 pub use command::{Command, Task};
