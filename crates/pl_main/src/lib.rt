@@ -9,8 +9,8 @@ mod messages;
 mod outcome;
 mod play;
 mod reads;
-mod whole;
 mod top;
+mod whole;
 mod writes;
 
 pub use top::{run, run_solo};
