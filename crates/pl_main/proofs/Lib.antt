@@ -4,4 +4,5 @@ pub mod Skipping
 pub mod Telling
 pub mod Writing
 pub mod Playing
+pub mod Ending
 pub mod Topping

@@ -127,14 +127,14 @@ plays_none old start held ready limit working = record {
 }
 
 -- the entries of a message behind those before it
-record Joined (old mid new : State) (held written now : Option (List ℕ)) (before added : List Entry) : Type 0 where
-  log : new.log ≡ old.log ++ (before ++ added)
-  solo : solo_from old.world (before ++ added)
-  world : new.world ≡ world_from old.world (before ++ added)
-  same : SameRun old new
-  text : Adds held now (text_from old.world.scene.model (length old.log) (before ++ added))
+pub record Joined (old mid new : State) (held written now : Option (List ℕ)) (before added : List Entry) : Type 0 where
+  pub log : new.log ≡ old.log ++ (before ++ added)
+  pub solo : solo_from old.world (before ++ added)
+  pub world : new.world ≡ world_from old.world (before ++ added)
+  pub same : SameRun old new
+  pub text : Adds held now (text_from old.world.scene.model (length old.log) (before ++ added))
 
-joined : (old mid new : State) (held written now : Option (List ℕ)) (before added : List Entry)
+pub joined : (old mid new : State) (held written now : Option (List ℕ)) (before added : List Entry)
     → mid.log ≡ old.log ++ before → solo_from old.world before → mid.world ≡ world_from old.world before → SameRun old mid → Adds held written (text_from old.world.scene.model (length old.log) before)
     → new.log ≡ mid.log ++ added → solo_from mid.world added → new.world ≡ world_from mid.world added → SameRun mid new → Adds written now (text_from mid.world.scene.model (length mid.log) (drop (length mid.log) new.log))
     → Joined old mid new held written now before added
@@ -246,7 +246,7 @@ plays_out old mid new start middle place held written now plays step done = by_m
           written = j.text;
         }
 
-too_long : (left : ℕ) (rest : Option (List ℕ)) (f : LineFault) → IsLimit f → WhyKnown left rest f → TooLong left rest
+pub too_long : (left : ℕ) (rest : Option (List ℕ)) (f : LineFault) → IsLimit f → WhyKnown left rest f → TooLong left rest
 too_long left None f limit why = tt
 too_long left (Some rest) fault.Read limit why = absurd limit
 too_long left (Some rest) (fault.Long n) limit why = inl why

@@ -1,59 +1,22 @@
 -- What a whole run says, from its parts.
-use Rattle.std.proofs.Common.{◌≡◌, ℕ, ◌+◌, ◌≤◌, List, [], ◌∷◌, ◌++◌, length, Bool, true, false, Option, Some, None, IfSome, ◌⊎◌, inl, inr, Result, Ok, Err, refl, sym, ◌∙◌, ap, subst, append_assoc, arith}
-use Rattle.std.proofs.lemmas.List.{append-nil}
-use Rattle.std.specs.declared.vec.Vec.{Vec}
+use Rattle.std.proofs.Common.{◌≡◌, ℕ, ◌≤◌, List, [], ◌∷◌, Bool, true, false, ◌&&◌, nat_le, if◌then◌else◌, Option, Some, None, Result, Ok, Err, refl, subst, codes, map, arith}
+use Rattle.std.proofs.lemmas.Bool.{leb-true}
+use Rattle.std.specs.Str.{bytes_eq}
+use Rattle.std.specs.String.{string_bytes}
+use Rattle.std.specs.declared.string.String.{String}
 use Rattle.std.specs.declared.alloc.Global.{Global}
-use Rattle.pl_io.specs.declared.errors.LineFault.{LineFault}
-use Rattle.pl_io.specs.declared.errors.LineFault.TheVariants as fault
-use Rattle.pl_io.specs.Lines.{lines_of, next_of, line_too_long, input_too_long}
-use Rattle.pl_io.specs.Reader.{Reader}
-use Rattle.pl_model.specs.declared.whole.Model.{Model}
-use Rattle.pl_machine.specs.declared.options.Options.{Options}
-use Rattle.pl_machine.specs.declared.event.Entry.{Entry}
-use Rattle.pl_machine.specs.Lines.{model_text_of, lines_behind, messages_of, Split, split_of}
-use Rattle.pl_machine.specs.World.{World, fresh_world}
-use Rattle.pl_machine.specs.Legal.{Legal, opening, options_of, entries_behind, world_from, world_of}
-use Rattle.pl_machine.specs.Solo.{solo_from, Solo}
-use Rattle.pl_machine.specs.Finished.{inputs_of, Finished}
-use Rattle.pl_machine.specs.Sound.{State}
-use Rattle.pl_journal.specs.Lines.{text_from, text_of_log}
-use Rattle.pl_plain.specs.Models.{plain_model}
+use Rattle.pl_plain.specs.declared.command.Command.{Command}
+use Rattle.pl_plain.specs.declared.command.Command.TheVariants as command
+use Rattle.pl_plain.specs.declared.command.Task.{Task}
+use Rattle.pl_plain.specs.declared.command.Task.TheVariants as task
+use Rattle.pl_plain.specs.Numbers.{number_in}
+use Rattle.pl_plain.specs.Words.{turns_by, command_in, command_of}
 use Rattle.pl_main.specs.declared.halt.Halt.{Halt}
 use Rattle.pl_main.specs.declared.halt.Halt.TheVariants as halt
 use Rattle.pl_main.specs.declared.outcome.Outcome.{Outcome}
 use Rattle.pl_main.specs.declared.outcome.Outcome.TheVariants as outcome
-use Rattle.pl_main.specs.Reads.{Gave, GaveKnown, Took, Halts, Why, WhyKnown, IsUsedUp}
-use Rattle.pl_main.specs.Heads.{Keeps, IsHead, IsBegun, HasNoBegin, HeadHalts}
-use Rattle.pl_main.specs.Tells.{Told, ToldInPart, FillsUp, at_once, within}
-use Rattle.pl_main.specs.Written.{Adds}
-use Rattle.pl_main.specs.Plays.{Place, Plays, EndsAll, PlaysOut, TooLong, PlayHalts, StepFills, PlayFills, HaltFor}
-use Rattle.pl_main.specs.Runs.{fresh_state, ModelRun, IsTextOf, TextRun}
-use Rattle.pl_main.specs.Statuses.{status_of, SaysKnown, Says, IsSoloStatus, is_done, is_refused, is_read, is_write, is_limit, is_full, is_memory}
-use Rattle.pl_main.specs.Top.{RanKnown, program_options, total_limit, IsDone, no_begin_line, not_built_line, IsRefused, no_begin, not_built, WaitsBehind, IsPastLimit, IsFull, Ran}
-use Rattle.pl_main.proofs.Reading.{known_append, gave_lines}
-use Rattle.pl_main.proofs.Beginning.{head_then}
-use Rattle.pl_main.proofs.Writing.{adds_then}
-
--- the lines of an input whose reader gave some of them
-lines_known : (room : ℕ) (input : List ℕ) (lines : List (List ℕ)) (left : ℕ) (rest : List ℕ) → GaveKnown room (Some input) lines left (Some rest) → lines_of input ≡ lines ++ lines_of rest
-lines_known room input lines left rest gave = gave_lines room input lines left rest gave
-
--- a log that was opened by the program
-module _ (turns : ℕ) (m : Model) where
-  o : Options
-  o = program_options turns
-
-  log_solo : (entries : List Entry) → solo_from (fresh_world m (program_options turns)) entries → Solo m (opening (program_options turns) ∷ entries)
-  unfolding Solo
-  log_solo entries solo = solo
-
-  log_world : (entries : List Entry) → world_of m (opening (program_options turns) ∷ entries) ≡ world_from (fresh_world m (program_options turns)) entries
-  unfolding world_of
-  log_world entries = refl
-
--- where the sink tells its bytes, it holds these now
-holds : (old text : List ℕ) (now : Option (List ℕ)) → Adds (Some old) now text → now ≡ Some (old ++ text)
-holds old text now adds = adds
+use Rattle.pl_main.specs.Statuses.{IsTask, status_of, SaysKnown, IsSoloStatus, is_done, is_refused, is_read, is_write, is_limit, is_full, is_memory}
+use Rattle.pl_main.specs.Top.{RanKnown}
 
 pub says_of : (turns : ℕ) (input old new : Option (List ℕ)) (r : Result Outcome Halt) → RanKnown turns input old new r → SaysKnown turns input old new (status_of r)
 says_of turns None old new r ran = tt
@@ -74,3 +37,32 @@ status_is (Err halt.Write) = is_write refl
 status_is (Err halt.Limit) = is_limit refl
 status_is (Err halt.Full) = is_full refl
 status_is (Err halt.Memory) = is_memory refl
+
+-- ---- the words
+
+by_bounds : (n : ℕ) (a b : Bool) → nat_le 1 n ≡ a → nat_le n 1000 ≡ b → (t : Task) → (if a && b then Some (command.Alone (task.Solo n)) else None) ≡ Some (command.Alone t) → IsTask t
+by_bounds n true true low high t e =
+    let is : task.Solo n ≡ t = (let h : Some (command.Alone (task.Solo n)) ≡ Some (command.Alone t) = e in (cc)) in
+    let fits : (1 ≤ n) × (n ≤ 1000) = (leb-true 1 n low, leb-true n 1000 high) in
+    subst (λ (x : Task). IsTask x) is fits
+by_bounds n true false low high t e = absurd (let h : None ≡ Some (command.Alone t) = e in (cc))
+by_bounds n false b low high t e = absurd (let h : None ≡ Some (command.Alone t) = e in (cc))
+
+by_turns : (n : Option ℕ) (t : Task) → turns_by n ≡ Some (command.Alone t) → IsTask t
+by_turns None t e = absurd (let h : None ≡ Some (command.Alone t) = e in (cc))
+by_turns (Some n) t e = by_bounds n (nat_le 1 n) (nat_le n 1000) refl refl t e
+
+by_form : (b : Bool) (n : Option ℕ) (t : Task) → (if b then turns_by n else None) ≡ Some (command.Alone t) → IsTask t
+by_form true n t e = by_turns n t e
+by_form false n t e = absurd (let h : None ≡ Some (command.Alone t) = e in (cc))
+
+by_words : (ws : List (List ℕ)) (t : Task) → command_in ws ≡ Some (command.Alone t) → IsTask t
+by_words [] t e = absurd (let h : None ≡ Some (command.Alone t) = e in (cc))
+by_words (a ∷ []) t e = absurd (let h : None ≡ Some (command.Alone t) = e in (cc))
+by_words (a ∷ b ∷ []) t e = absurd (let h : None ≡ Some (command.Alone t) = e in (cc))
+by_words (a ∷ b ∷ n ∷ []) t e = by_form (bytes_eq a (codes "run") && bytes_eq b (codes "solo")) (number_in n) t e
+by_words (a ∷ b ∷ n ∷ d ∷ ds) t e = absurd (let h : None ≡ Some (command.Alone t) = e in (cc))
+
+pub task_fits : (words : List (String Global)) (t : Task) → command_of words ≡ Some (command.Alone t) → IsTask t
+unfolding command_of
+task_fits words t e = by_words (map string_bytes words) t e

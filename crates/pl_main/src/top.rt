@@ -55,6 +55,7 @@ fn usage<O: Sink>(out: &mut O) -> u8
 }
 
 /// Does what the words behind the program's name ask for, and answers the program's status.
+#[tactic(auto, using(crate::proofs::Topping::task_fits))]
 pub fn run<I: Source, O: Sink>(alloc: Global, words: &[String], input: &mut I, out: &mut O) -> u8
     ensures usage { result ≡ 2 → command_of words.now ≡ None }
     ensures words { command_of words.now ≡ None → (result ≡ 2) ⊎ (result ≡ 5) }

@@ -60,6 +60,7 @@ fn model_of(alloc: Global, kept: &Option<Vec<u8>>) -> Result<Option<Model>, Allo
 }
 
 /// Opens a journal over a model and answers the messages.
+#[tactic(auto, using(crate::proofs::Ending::run_stops))]
 fn run_model<S: Source, O: Sink>(
     alloc: Global,
     turns: u32,
@@ -112,6 +113,7 @@ fn run_text<S: Source, O: Sink>(
 }
 
 /// Reads a model and its messages, and writes the journal.
+#[tactic(auto, using(crate::proofs::Ending::head_solo))]
 pub fn solo<S: Source, O: Sink>(
     alloc: Global,
     turns: u32,

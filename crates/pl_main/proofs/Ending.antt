@@ -1,0 +1,323 @@
+-- The end of a run over an input: from its head, and from what was played.
+use Rattle.std.proofs.Common.{◌≡◌, ℕ, ◌+◌, ◌≤◌, List, [], ◌∷◌, ◌++◌, length, drop, OnOk, IfOk, IfErr, Bool, true, false, Option, Some, None, IfSome, ◌⊎◌, inl, inr, Result, Ok, Err, refl, sym, ◌∙◌, ap, subst, append_assoc, arith}
+use Rattle.std.proofs.lemmas.List.{append-nil}
+use Rattle.std.specs.declared.vec.Vec.{Vec}
+use Rattle.std.specs.declared.alloc.Global.{Global}
+use Rattle.pl_io.specs.declared.errors.LineFault.{LineFault}
+use Rattle.pl_io.specs.declared.errors.LineFault.TheVariants as fault
+use Rattle.pl_io.specs.Lines.{ahead, lines_of, next_of, line_too_long, input_too_long}
+use Rattle.pl_io.specs.Reader.{Reader, NumberedLine}
+use Rattle.pl_model.specs.declared.whole.Model.{Model}
+use Rattle.pl_machine.specs.declared.event.Entry.{Entry}
+use Rattle.pl_machine.specs.Lines.{model_text_of, lines_behind, messages_of, split_of}
+use Rattle.pl_machine.specs.World.{World, fresh_world}
+use Rattle.pl_machine.specs.Legal.{Legal, opening, world_from, world_of}
+use Rattle.pl_machine.specs.Solo.{solo_from, Solo}
+use Rattle.pl_machine.specs.Finished.{inputs_of}
+use Rattle.pl_machine.specs.Sound.{State}
+use Rattle.pl_driver.specs.Rounds.{SameRun}
+use Rattle.pl_journal.specs.Lines.{line_of, text_from, text_of_log}
+use Rattle.pl_plain.specs.Models.{plain_model}
+use Rattle.pl_main.specs.declared.halt.Halt.{Halt}
+use Rattle.pl_main.specs.declared.halt.Halt.TheVariants as halt
+use Rattle.pl_main.specs.declared.outcome.Outcome.{Outcome}
+use Rattle.pl_main.specs.declared.outcome.Outcome.TheVariants as outcome
+use Rattle.pl_main.specs.Reads.{Gave, GaveKnown, Took, Halts, WhyKnown, IsUsedUp}
+use Rattle.pl_main.specs.Heads.{Keeps, IsHead, IsBegun, HasNoBegin, HeadHalts}
+use Rattle.pl_main.specs.Tells.{Told, ToldInPart, FillsUp, at_once, within}
+use Rattle.pl_main.specs.Written.{Adds, WriteStops}
+use Rattle.pl_main.specs.Plays.{Place, place_of, HaltFor, IsLimit, Plays, EndsAll, PlaysOut, TooLong, PlayHalts, StepFills, PlayFills, Playing, line_in}
+use Rattle.pl_main.specs.Runs.{fresh_state, ModelRun, ModelRuns, IsTextOf, TextRun, TextRuns}
+use Rattle.pl_main.specs.Top.{RanKnown, program_options, total_limit, IsDone, no_begin_line, not_built_line, IsRefused, no_begin, not_built, WaitsBehind, IsPastLimit, IsFull}
+use Rattle.pl_main.proofs.Reading.{gave_append, gave_lines}
+use Rattle.pl_main.proofs.Beginning.{head_then}
+use Rattle.pl_main.proofs.Writing.{adds_then, log_is_short}
+use Rattle.pl_main.proofs.Playing.{Joined, joined, too_long}
+
+-- ---- a run over a model
+
+pub run_stops : (turns : ℕ) (m : Model) (start place : Place) (held opened now : Option (List ℕ)) (e : Halt) (new : State)
+    → Adds held opened (text_from m 0 (opening (program_options turns) ∷ [])) → Playing (fresh_state turns m) start opened (Err e) new place now → Legal new.world.scene.model new.log → ModelRuns turns m start held (Err e) now
+run_stops turns m start place held opened now halt.Limit new first playing legal = record { opened = opened; new = new; place = place; first = first; playing = playing; legal = legal }
+run_stops turns m start place held opened now halt.Full new first playing legal = record { opened = opened; new = new; place = place; first = first; playing = playing; legal = legal }
+run_stops turns m start place held opened now halt.Read new first playing legal = tt
+run_stops turns m start place held opened now halt.Write new first playing legal = tt
+run_stops turns m start place held opened now halt.Memory new first playing legal = tt
+
+-- ---- what was read
+
+record IsKnown (room : ℕ) (bytes : List ℕ) (lines : List (List ℕ)) (left : ℕ) (after : Option (List ℕ)) : Type 0 where
+  rest : List ℕ
+  is : after ≡ Some rest
+  gave : Gave room bytes lines left rest
+
+known : (room : ℕ) (bytes : List ℕ) (lines : List (List ℕ)) (left : ℕ) (after : Option (List ℕ)) → GaveKnown room (Some bytes) lines left after → IsKnown room bytes lines left after
+known room bytes lines left None gave = absurd gave
+known room bytes lines left (Some rest) gave = record { rest = rest; is = refl; gave = gave }
+
+record IsSplit (input words : List ℕ) (more : List (List ℕ)) : Type 0 where
+  text : (split_of input).text ≡ Some words
+  messages : (split_of input).messages ≡ messages_of more
+
+split_is : (input : List ℕ) (heads : List (List ℕ)) (words : List ℕ) (more : List (List ℕ)) → IsHead heads words → lines_of input ≡ heads ++ more → IsSplit input words more
+split_is input heads words more head is =
+    let both = head_then heads words more head in
+    record { text = ap model_text_of is ∙ both.0; messages = ap (λ (ls : List (List ℕ)). messages_of (lines_behind ls)) is ∙ ap messages_of both.1 }
+
+-- ---- what was logged
+
+record IsLogged (turns : ℕ) (m : Model) (new : State) (held now : Option (List ℕ)) (entries : List Entry) : Type 0 where
+  legal : Legal m (opening (program_options turns) ∷ entries)
+  solo : Solo m (opening (program_options turns) ∷ entries)
+  world : new.world ≡ world_of m (opening (program_options turns) ∷ entries)
+  text : Adds held now (text_of_log m (opening (program_options turns) ∷ entries))
+
+logged : (turns : ℕ) (m : Model) (new : State) (held opened now : Option (List ℕ)) (entries : List Entry)
+    → Legal new.world.scene.model new.log → SameRun (fresh_state turns m) new → new.log ≡ opening (program_options turns) ∷ entries
+    → solo_from (fresh_world m (program_options turns)) entries → new.world ≡ world_from (fresh_world m (program_options turns)) entries
+    → Adds held opened (text_from m 0 (opening (program_options turns) ∷ [])) → Adds opened now (text_from m 1 entries) → IsLogged turns m new held now entries
+unfolding Solo world_of
+logged turns m new held opened now entries legal same log solo world first text = record {
+  legal = subst (λ (x : Model). Legal x (opening (program_options turns) ∷ entries)) same.model (subst (λ (l : List Entry). Legal new.world.scene.model l) log legal);
+  solo = solo;
+  world = world;
+  text = subst (λ (t : List ℕ). Adds held now (t ++ text_from m 1 entries)) (append-nil (line_of m 0 (opening (program_options turns)))) (adds_then held opened now (text_from m 0 (opening (program_options turns) ∷ [])) (text_from m 1 entries) first text);
+}
+
+-- ---- how runs end
+
+done_ends : (turns : ℕ) (input words heads_rest : List ℕ) (heads : List (List ℕ)) (m : Model) (start place : Place) (old : List ℕ) (opened now : Option (List ℕ)) (new : State)
+    → IsHead heads words → lines_of input ≡ heads ++ lines_of heads_rest → start.ahead ≡ Some heads_rest → plain_model words ≡ Some m
+    → Adds (Some old) opened (text_from m 0 (opening (program_options turns) ∷ [])) → PlaysOut (fresh_state turns m) start opened new place now → Legal new.world.scene.model new.log → IsDone turns input old now
+done_ends turns input words heads_rest heads m start place old opened now new head is ahead accepted first plays legal =
+    let from = subst (λ (b : Option (List ℕ)). GaveKnown start.reader.room b plays.lines place.reader.room place.ahead) ahead plays.gave in
+    let k = known start.reader.room heads_rest plays.lines place.reader.room place.ahead from in
+    let ends = subst (λ (a : Option (List ℕ)). EndsAll (Some heads_rest) a plays.lines (inputs_of plays.entries)) k.is (subst (λ (b : Option (List ℕ)). EndsAll b place.ahead plays.lines (inputs_of plays.entries)) ahead plays.messages) in
+    let split = split_is input heads words (lines_of heads_rest) head is in
+    let l = logged turns m new (Some old) opened now plays.entries legal plays.same plays.log plays.solo plays.world first plays.written in
+    record {
+      model = m;
+      log = opening (program_options turns) ∷ plays.entries;
+      words = words;
+      text = split.text;
+      accepted = accepted;
+      finished = record {
+        legal = l.legal;
+        done = ap (λ (w : World). w.done) (sym l.world) ∙ plays.done;
+        inputs = sym ends ∙ sym (ap messages_of (gave_lines start.reader.room heads_rest plays.lines place.reader.room k.rest k.gave)) ∙ sym split.messages;
+      };
+      solo = l.solo;
+      options = refl;
+      written = l.text;
+    }
+
+limit_ends : (turns : ℕ) (input words heads_rest : List ℕ) (heads : List (List ℕ)) (m : Model) (start : Place) (old : List ℕ) (opened now : Option (List ℕ)) (new : State)
+    → IsHead heads words → Gave total_limit input heads start.reader.room heads_rest → start.ahead ≡ Some heads_rest → plain_model words ≡ Some m
+    → Adds (Some old) opened (text_from m 0 (opening (program_options turns) ∷ [])) → PlayHalts (fresh_state turns m) start opened new now → Legal new.world.scene.model new.log → IsPastLimit turns input old now
+limit_ends turns input words heads_rest heads m start old opened now new head gave ahead accepted first plays legal =
+    let from = subst (λ (b : Option (List ℕ)). GaveKnown start.reader.room b plays.lines plays.left plays.rest) ahead plays.gave in
+    let k = known start.reader.room heads_rest plays.lines plays.left plays.rest from in
+    let both = head_then heads words plays.lines head in
+    let l = logged turns m new (Some old) opened now plays.entries legal plays.same plays.log plays.solo plays.world first plays.written in
+    record {
+      lines = heads ++ plays.lines;
+      left = plays.left;
+      rest = k.rest;
+      gave = gave_append total_limit input heads plays.lines start.reader.room heads_rest plays.left k.rest gave k.gave;
+      why = subst (λ (r : Option (List ℕ)). TooLong plays.left r) k.is plays.why;
+      asked = inr record {
+        model = m;
+        log = opening (program_options turns) ∷ plays.entries;
+        words = words;
+        text = both.0;
+        accepted = accepted;
+        legal = l.legal;
+        solo = l.solo;
+        options = refl;
+        messages = ap messages_of both.1 ∙ plays.messages;
+        closed = ap (λ (w : World). w.closed) (sym l.world) ∙ plays.ready.closed;
+        going = ap (λ (w : World). w.done) (sym l.world) ∙ plays.ready.going;
+        written = l.text;
+      };
+    }
+
+-- what the log of a filled run holds
+record IsFilled (turns : ℕ) (m : Model) (new : State) (opened now : Option (List ℕ)) : Type 0 where
+  entries : List Entry
+  log : new.log ≡ opening (program_options turns) ∷ entries
+  solo : solo_from (fresh_world m (program_options turns)) entries
+  world : new.world ≡ world_from (fresh_world m (program_options turns)) entries
+  same : SameRun (fresh_state turns m) new
+  going : new.world.done ≡ false
+  full : 250000 ≤ length new.log
+  text : Adds opened now (text_from m 1 entries)
+
+filled : (turns : ℕ) (m : Model) (start place behind : Place) (opened written now : Option (List ℕ)) (mid new : State) (input : Option (List ℕ))
+    → Plays (fresh_state turns m) start opened mid place written → FillsUp mid input new → Adds written now (text_from mid.world.scene.model (length mid.log) (drop (length mid.log) new.log)) → IsFilled turns m new opened now
+filled turns m start place behind opened written now mid new input plays (at_once full is) text =
+    let j = joined (fresh_state turns m) mid new opened written now plays.entries [] plays.log plays.solo plays.world plays.same plays.written
+        (ap (λ (s : State). s.log) is ∙ sym (append-nil mid.log)) tt (ap (λ (s : State). s.world) is)
+        record { model = ap (λ (s : State). s.world.scene.model) is; options = ap (λ (s : State). s.world.options) is } text in
+    record {
+      entries = plays.entries ++ [];
+      log = j.log;
+      solo = j.solo;
+      world = j.world;
+      same = j.same;
+      going = ap (λ (s : State). s.world.done) is ∙ plays.ready.going;
+      full = subst (λ (n : ℕ). 250000 ≤ n) (ap (λ (s : State). length s.log) (sym is)) (subst (λ (n : ℕ). n ≤ length mid.log) (ap (λ o. o.entries) plays.same.options) full);
+      text = j.text;
+    }
+filled turns m start place behind opened written now mid new input plays (within told) text =
+    let j = joined (fresh_state turns m) mid new opened written now plays.entries told.entries plays.log plays.solo plays.world plays.same plays.written told.log told.solo told.world told.same text in
+    record {
+      entries = plays.entries ++ told.entries;
+      log = j.log;
+      solo = j.solo;
+      world = j.world;
+      same = j.same;
+      going = told.going;
+      full = subst (λ (n : ℕ). n ≤ length new.log) (ap (λ o. o.entries) plays.same.options) told.full;
+      text = j.text;
+    }
+
+between : (n : ℕ) → n ≤ 250000 → 250000 ≤ n → n ≡ 250000
+between n low high = omega (arith, low, high)
+
+full_ends : (turns : ℕ) (input words heads_rest : List ℕ) (heads : List (List ℕ)) (m : Model) (start : Place) (old : List ℕ) (opened now : Option (List ℕ)) (new : State)
+    → IsHead heads words → lines_of input ≡ heads ++ lines_of heads_rest → plain_model words ≡ Some m
+    → Adds (Some old) opened (text_from m 0 (opening (program_options turns) ∷ [])) → PlayFills (fresh_state turns m) start opened new now → Legal new.world.scene.model new.log → IsFull turns input old now
+full_ends turns input words heads_rest heads m start old opened now new head is accepted first plays legal =
+    let f = filled turns m start plays.place plays.behind opened plays.written now plays.waiting new (line_in plays.step.message) plays.plays plays.step.fills plays.step.written in
+    let split = split_is input heads words (lines_of heads_rest) head is in
+    let l = logged turns m new (Some old) opened now f.entries legal f.same f.log f.solo f.world first f.text in
+    record {
+      model = m;
+      log = opening (program_options turns) ∷ f.entries;
+      words = words;
+      text = split.text;
+      accepted = accepted;
+      legal = l.legal;
+      solo = l.solo;
+      options = refl;
+      full = ap (λ (es : List Entry). length es) (sym f.log) ∙ between (length new.log) (log_is_short new.world.scene.model new.log legal) f.full;
+      going = ap (λ (w : World). w.done) (sym l.world) ∙ f.going;
+      written = l.text;
+    }
+
+-- ---- the end of a run whose text begins
+
+begun_known : (turns : ℕ) (old : Reader) (kept : Option (Vec ℕ Global)) (start : Place) (input before : List ℕ) (now : Option (List ℕ)) (r : Result Outcome Halt)
+    → old.room ≡ total_limit → IsBegun old (Some input) kept start.reader start.ahead → TextRuns turns kept start (Some before) r now → RanKnown turns (Some input) (Some before) now r
+begun_known turns old kept start input before now (Ok outcome.Done) room begun run =
+    let k = known old.room input begun.lines start.reader.room start.ahead begun.took.gave in
+    done_ends turns input begun.words k.rest begun.lines run.model start run.run.place before run.run.opened now run.run.new begun.head (gave_lines old.room input begun.lines start.reader.room k.rest k.gave) k.is (run.text begun.words begun.keeps) run.run.first run.run.playing run.run.legal
+begun_known turns old kept start input before now (Ok outcome.Refused) room begun run =
+    let k = known old.room input begun.lines start.reader.room start.ahead begun.took.gave in
+    not_built begun.words (split_is input begun.lines begun.words (lines_of k.rest) begun.head (gave_lines old.room input begun.lines start.reader.room k.rest k.gave)).text (run.0 begun.words begun.keeps) run.1
+begun_known turns old kept start input before now (Err halt.Limit) room begun run =
+    let k = known old.room input begun.lines start.reader.room start.ahead begun.took.gave in
+    limit_ends turns input begun.words k.rest begun.lines run.model start before run.run.opened now run.run.new begun.head (subst (λ (n : ℕ). Gave n input begun.lines start.reader.room k.rest) room k.gave) k.is (run.text begun.words begun.keeps) run.run.first run.run.playing run.run.legal
+begun_known turns old kept start input before now (Err halt.Full) room begun run =
+    let k = known old.room input begun.lines start.reader.room start.ahead begun.took.gave in
+    full_ends turns input begun.words k.rest begun.lines run.model start before run.run.opened now run.run.new begun.head (gave_lines old.room input begun.lines start.reader.room k.rest k.gave) (run.text begun.words begun.keeps) run.run.first run.run.playing run.run.legal
+begun_known turns old kept start input before now (Err halt.Read) room begun run = tt
+begun_known turns old kept start input before now (Err halt.Write) room begun run = tt
+begun_known turns old kept start input before now (Err halt.Memory) room begun run = tt
+
+begun_ran : (turns : ℕ) (old : Reader) (kept : Option (Vec ℕ Global)) (start : Place) (input held now : Option (List ℕ)) (r : Result Outcome Halt)
+    → old.room ≡ total_limit → IsBegun old input kept start.reader start.ahead → TextRuns turns kept start held r now → RanKnown turns input held now r
+begun_ran turns old kept start None held now r room begun run = tt
+begun_ran turns old kept start (Some input) None now r room begun run = tt
+begun_ran turns old kept start (Some input) (Some before) now r room begun run = begun_known turns old kept start input before now r room begun run
+
+-- ---- the end of a run whose text has no `begin`
+
+no_begin_ran : (turns : ℕ) (old new : Reader) (input after held now : Option (List ℕ)) → HasNoBegin old input new after → Adds held now no_begin_line → RanKnown turns input held now (Ok outcome.Refused)
+no_begin_ran turns old new None after held now head adds = tt
+no_begin_ran turns old new (Some input) after None now head adds = tt
+no_begin_ran turns old new (Some input) after (Some before) now head adds =
+    let k = known old.room input head.lines new.room after head.took.gave in
+    let none : k.rest ≡ [] = (let h : Some k.rest ≡ Some [] = sym k.is ∙ head.used_up in (cc)) in
+    no_begin (ap model_text_of (gave_lines old.room input head.lines new.room k.rest k.gave ∙ ap (λ (r : List ℕ). head.lines ++ lines_of r) none ∙ append-nil head.lines) ∙ head.none) adds
+
+-- the refusal's line may fail to be written
+refused_ran : (turns : ℕ) (old new : Reader) (input after held now : Option (List ℕ)) (r : Result Outcome Halt) (faults later : ℕ)
+    → HasNoBegin old input new after → OnOk r (Adds held now no_begin_line) → IfOk r (λ o. o ≡ outcome.Refused) → IfErr r (WriteStops faults later) → RanKnown turns input held now r
+refused_ran turns old new input after held now (Ok outcome.Refused) faults later head adds refused cause = no_begin_ran turns old new input after held now head adds
+refused_ran turns old new input after held now (Ok outcome.Done) faults later head adds refused cause = absurd (let h : outcome.Done ≡ outcome.Refused = refused in (cc))
+refused_ran turns old new input after held now (Err halt.Limit) faults later head adds refused cause = absurd cause
+refused_ran turns old new input after held now (Err halt.Full) faults later head adds refused cause = absurd cause
+refused_ran turns old new input after held now (Err halt.Read) faults later head adds refused cause = free_read input held
+  where
+    free_read : (input held : Option (List ℕ)) → RanKnown turns input held now (Err halt.Read)
+    free_read None held = tt
+    free_read (Some input) None = tt
+    free_read (Some input) (Some before) = tt
+refused_ran turns old new input after held now (Err halt.Write) faults later head adds refused cause = free_write input held
+  where
+    free_write : (input held : Option (List ℕ)) → RanKnown turns input held now (Err halt.Write)
+    free_write None held = tt
+    free_write (Some input) None = tt
+    free_write (Some input) (Some before) = tt
+refused_ran turns old new input after held now (Err halt.Memory) faults later head adds refused cause = free_memory input held
+  where
+    free_memory : (input held : Option (List ℕ)) → RanKnown turns input held now (Err halt.Memory)
+    free_memory None held = tt
+    free_memory (Some input) None = tt
+    free_memory (Some input) (Some before) = tt
+
+-- ---- the end of a run that stops before `begin`
+
+limit_only : (f : LineFault) → HaltFor f halt.Limit → IsLimit f
+limit_only fault.Read is = absurd (let h : halt.Limit ≡ halt.Read = is in (cc))
+limit_only (fault.Long n) is = tt
+limit_only fault.Total is = tt
+limit_only fault.Memory is = absurd (let h : halt.Limit ≡ halt.Memory = is in (cc))
+
+never_full : (f : LineFault) → HaltFor f halt.Full → ⊥
+never_full fault.Read is = let h : halt.Full ≡ halt.Read = is in (cc)
+never_full (fault.Long n) is = let h : halt.Full ≡ halt.Limit = is in (cc)
+never_full fault.Total is = let h : halt.Full ≡ halt.Limit = is in (cc)
+never_full fault.Memory is = let h : halt.Full ≡ halt.Memory = is in (cc)
+
+head_ran : (turns : ℕ) (old : Reader) (input held : Option (List ℕ)) (f : LineFault) (e : Halt) → old.room ≡ total_limit → HeadHalts old input f → HaltFor f e → RanKnown turns input held held (Err e)
+head_ran turns old None held f e room head is = tt
+head_ran turns old (Some input) None f e room head is = tt
+head_ran turns old (Some input) (Some before) f halt.Limit room head is =
+    let halts = head.halts in
+    let k = known old.room input head.lines halts.left halts.rest halts.gave in
+    record {
+      lines = head.lines;
+      left = halts.left;
+      rest = k.rest;
+      gave = subst (λ (n : ℕ). Gave n input head.lines halts.left k.rest) room k.gave;
+      why = subst (λ (r : Option (List ℕ)). TooLong halts.left r) k.is (too_long halts.left halts.rest f (limit_only f is) halts.why);
+      asked = inl (head.none, refl);
+    }
+head_ran turns old (Some input) (Some before) f halt.Full room head is = absurd (never_full f is)
+head_ran turns old (Some input) (Some before) f halt.Read room head is = tt
+head_ran turns old (Some input) (Some before) f halt.Write room head is = tt
+head_ran turns old (Some input) (Some before) f halt.Memory room head is = tt
+
+-- ---- from the reader that a run begins with
+
+none_ahead : (left : Option (List ℕ)) → ahead [] left ≡ left
+none_ahead None = refl
+none_ahead (Some bytes) = refl
+
+all_ahead : (old : Reader) (left : Option (List ℕ)) → old.held ≡ [] → ahead old.held left ≡ left
+all_ahead old left e = ap (λ (h : List ℕ). ahead h left) e ∙ none_ahead left
+
+pub refused_solo : (turns : ℕ) (old new : Reader) (left after held now : Option (List ℕ)) (r : Result Outcome Halt) (faults later : ℕ) → old.held ≡ []
+    → HasNoBegin old (ahead old.held left) new after → OnOk r (Adds held now no_begin_line) → IfOk r (λ o. o ≡ outcome.Refused) → IfErr r (WriteStops faults later) → RanKnown turns left held now r
+refused_solo turns old new left after held now r faults later empty head adds refused cause =
+    refused_ran turns old new left after held now r faults later (subst (λ (b : Option (List ℕ)). HasNoBegin old b new after) (all_ahead old left empty) head) adds refused cause
+
+pub begun_solo : (turns : ℕ) (old : Reader) (kept : Option (Vec ℕ Global)) (new : Reader) (left after held now : Option (List ℕ)) (r : Result Outcome Halt) → old.held ≡ [] → old.room ≡ total_limit
+    → IsBegun old (ahead old.held left) kept new (ahead new.held after) → TextRuns turns kept (place_of new after) held r now → RanKnown turns left held now r
+begun_solo turns old kept new left after held now r empty room begun run =
+    begun_ran turns old kept (place_of new after) left held now r room (subst (λ (b : Option (List ℕ)). IsBegun old b kept new (ahead new.held after)) (all_ahead old left empty) begun) run
+
+pub head_solo : (turns : ℕ) (old : Reader) (left held : Option (List ℕ)) (f : LineFault) (e : Halt) → old.held ≡ [] → old.room ≡ total_limit → HeadHalts old (ahead old.held left) f → HaltFor f e → RanKnown turns left held held (Err e)
+head_solo turns old left held f e empty room head is = head_ran turns old left held f e room (subst (λ (b : Option (List ℕ)). HeadHalts old b f) (all_ahead old left empty) head) is
