@@ -2,5 +2,7 @@
 #![tactic(auto)]
 
 mod round;
+#[cfg(test)]
+mod tests;
 
 pub use round::solo_round;
