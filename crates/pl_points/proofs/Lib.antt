@@ -1,0 +1,9 @@
+pub mod Walks
+pub mod Parting
+pub mod PointLists
+pub mod Spanning
+pub mod Staying
+pub mod Cuts
+pub mod Rounds
+pub mod Maximal
+pub mod Totals

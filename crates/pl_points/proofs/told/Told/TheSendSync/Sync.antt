@@ -1,0 +1,8 @@
+-- It owns nothing, so any thread may share it.
+use denote.RattleType.{RattleType}
+use denote.Param.Send.{IsSync, part_keyless}
+use Rattle.pl_points.specs.contracts.told.Told.{the_row}
+use Rattle.pl_points.proofs.told.Told.TheSendSync.Send.{send}
+
+pub sync : (A : RattleType) → IsSync (the_row A)
+sync A = record { shared = λ d b o κ q. part_keyless (the_row A) (send A) q d b o }

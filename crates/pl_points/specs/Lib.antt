@@ -1,0 +1,9 @@
+pub mod Lists
+pub mod Sums
+pub mod Points
+pub mod Limits
+pub mod Spans
+pub mod Mending
+pub mod Changes
+pub mod Laws
+pub mod Standing

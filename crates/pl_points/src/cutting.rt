@@ -1,0 +1,119 @@
+ghost use Rattle.std.specs.Prelude.{◌≡◌, ◌≤◌, length, take, drop, OnOk, IfOk};
+ghost use Rattle.pl_points.specs.Spans.{AreSpans, joined};
+ghost use Rattle.pl_points.specs.Lists.{front, back};
+ghost use Rattle.pl_points.specs.Mending.{ends_before, ends_by, begins_before, reached, beyond, before, behind, cut_last};
+
+use crate::pieces::extend;
+use crate::span::Span;
+use std::alloc::{AllocError, Global};
+
+// How many spans end before the moment.
+fn ended_count(spans: &[Span], at: u32) -> usize
+    requires { AreSpans spans.now }
+    ensures bound { result ≤ length spans.now }
+    ensures before { take result spans.now ≡ front (ends_before at) spans.now }
+    ensures rest { drop result spans.now ≡ back (ends_before at) spans.now }
+{
+    spans.partition_point(|span| span.to < at)
+}
+
+// How many spans end by the moment.
+fn passed_count(spans: &[Span], at: u32) -> usize
+    requires { AreSpans spans.now }
+    ensures bound { result ≤ length spans.now }
+    ensures before { take result spans.now ≡ front (ends_by at) spans.now }
+    ensures rest { drop result spans.now ≡ back (ends_by at) spans.now }
+{
+    spans.partition_point(|span| span.to <= at)
+}
+
+// How many spans begin before the moment.
+pub(crate) fn begun_count(spans: &[Span], at: u32) -> usize
+    requires { AreSpans spans.now }
+    ensures bound { result ≤ length spans.now }
+    ensures before { take result spans.now ≡ front (begins_before at) spans.now }
+    ensures rest { drop result spans.now ≡ back (begins_before at) spans.now }
+{
+    spans.partition_point(|span| span.from < at)
+}
+
+// How many spans there are up to and with the first that reaches past the moment.
+fn reached_count(spans: &[Span], at: u32) -> usize
+    requires { AreSpans spans.now }
+    ensures bound { result ≤ length spans.now }
+    ensures front { take result spans.now ≡ reached at spans.now }
+    ensures rest { drop result spans.now ≡ beyond at spans.now }
+{
+    let passed = passed_count(spans, at);
+    if passed < spans.len() {
+        passed + 1
+    } else {
+        passed
+    }
+}
+
+fn cut_end(spans: &mut Vec<Span>, at: u32)
+    ensures { spans.new.items ≡ cut_last at spans.old.items }
+{
+    let count = spans.len();
+    if count > 0 {
+        let span = spans[count - 1];
+        spans[count - 1] = Span {
+            from: span.from,
+            to: span.to.min(at),
+        };
+    }
+}
+
+// Leaves what lies before the moment.
+pub(crate) fn keep_before(spans: &mut Vec<Span>, at: u32)
+    requires { AreSpans spans.old.items }
+    ensures { spans.new.items ≡ before at spans.old.items }
+{
+    let count = begun_count(spans, at);
+    spans.truncate(count);
+    cut_end(spans, at);
+}
+
+// Puts what lies of the old spans at the moment and after behind the others.
+pub(crate) fn push_behind(spans: &mut Vec<Span>, old: &[Span], at: u32) -> Result<(), AllocError>
+    requires { AreSpans old.now }
+    ensures { OnOk result (spans.new.items ≡ joined spans.old.items (behind at old.now)) }
+{
+    let passed = passed_count(old, at);
+    if passed == old.len() {
+        return Ok(());
+    }
+    let span = old[passed];
+    extend(spans, span.from.max(at), span.to)?;
+    spans.extend_from_slice(&old[passed + 1..])?;
+    Ok(())
+}
+
+// Of a list of spans, those that a window may change, and those behind them.
+#[derive(Drop)]
+pub(crate) struct Taken {
+    pub(crate) touched: Vec<Span>,
+    pub(crate) tail: Vec<Span>,
+}
+
+// Leaves the spans that end before the window.
+pub(crate) fn take_out(
+    alloc: Global,
+    kept: &mut Vec<Span>,
+    window: Span,
+) -> Result<Taken, AllocError>
+    requires { AreSpans kept.old.items }
+    ensures front { OnOk result (kept.new.items ≡ front (ends_before window.from) kept.old.items) }
+    ensures touched { IfOk result (λ t. t.touched.items ≡ reached window.to (back (ends_before window.from) kept.old.items)) }
+    ensures apart { IfOk result (λ t. AreSpans t.touched.items) }
+    ensures tail { IfOk result (λ t. t.tail.items ≡ beyond window.to (back (ends_before window.from) kept.old.items)) }
+{
+    let count = ended_count(kept, window.from);
+    let rest = &kept[count..];
+    let reach = reached_count(rest, window.to);
+    let touched = Vec::from_slice(alloc, &rest[..reach])?;
+    let tail = Vec::from_slice(alloc, &rest[reach..])?;
+    kept.truncate(count);
+    Ok(Taken { touched, tail })
+}

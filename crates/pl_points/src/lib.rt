@@ -1,0 +1,27 @@
+//! Change points and their sums, maximal spans, and counted steps.
+#![tactic(auto)]
+
+mod comparing;
+mod cutting;
+mod laws;
+mod limit;
+mod mending;
+mod noted;
+mod pieces;
+mod plain;
+mod points;
+mod span;
+mod steps;
+#[cfg(test)]
+mod tests;
+mod told;
+
+pub use laws::laws_of_spans;
+pub use limit::Limit;
+pub use mending::{forget, mend};
+pub use noted::Noted;
+pub use plain::PlainPoints;
+pub use points::Points;
+pub use span::{Change, Span};
+pub use steps::{Ledger, Quiet, Steps};
+pub use told::Told;

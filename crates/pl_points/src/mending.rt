@@ -1,0 +1,88 @@
+//! Maximal spans that are kept by mending them near a change.
+ghost use Rattle.std.specs.Prelude.{◌≡◌, ◌≤◌, ◌++◌, ℕ, false, OnOk, IfOk};
+ghost use Rattle.pl_points.specs.Points.{sum_to};
+ghost use Rattle.pl_points.specs.Spans.{AreSpans, covers};
+ghost use Rattle.pl_points.specs.Limits.{is_outside};
+ghost use Rattle.pl_points.specs.Mending.{mended};
+ghost use Rattle.pl_points.specs.Changes.{IsChange};
+
+use crate::comparing::compare;
+use crate::cutting::{Taken, keep_before, push_behind, take_out};
+use crate::limit::Limit;
+use crate::pieces::push_outside;
+use crate::points::Points;
+use crate::span::{Change, Span};
+use crate::steps::{Ledger, Steps};
+use std::alloc::{AllocError, Global};
+
+// The spans with the window as the points say it.
+fn renewed<P: Points, L: Ledger>(
+    alloc: Global,
+    old: &[Span],
+    points: &P,
+    limit: Limit,
+    window: Span,
+    steps: &mut Steps<L>,
+) -> Result<Vec<Span>, AllocError>
+    requires some { window.from ≤ window.to }
+    requires apart { AreSpans old.now }
+    ensures apart { IfOk result (λ v. AreSpans v.items) }
+    ensures covers { IfOk result (λ v. (t : ℕ) → covers v.items t ≡ mended window.from window.to (λ x. is_outside limit (sum_to (P.points points.now) x)) old.now t) }
+{
+    let mut fresh = Vec::from_slice(alloc, old)?;
+    keep_before(&mut fresh, window.from);
+    push_outside(&mut fresh, points, limit, window, steps)?;
+    push_behind(&mut fresh, old, window.to)?;
+    Ok(fresh)
+}
+
+// Puts the fresh spans in the place of those that were touched.
+fn put_back(
+    alloc: Global,
+    kept: &mut Vec<Span>,
+    mut taken: Taken,
+    mut fresh: Vec<Span>,
+) -> Result<Change, AllocError>
+    requires old { AreSpans taken.touched.items }
+    requires new { AreSpans fresh.items }
+    ensures items { OnOk result (kept.new.items ≡ kept.old.items ++ (fresh.items ++ taken.tail.items)) }
+    ensures change { IfOk result (λ c. IsChange taken.touched.items fresh.items c) }
+{
+    let change = compare(alloc, &taken.touched, &fresh)?;
+    kept.append(&mut fresh)?;
+    kept.append(&mut taken.tail)?;
+    Ok(change)
+}
+
+/// Mends the spans in the window, as the points say it, and leaves them elsewhere as they were.
+pub fn mend<P: Points, L: Ledger>(
+    alloc: Global,
+    kept: &mut Vec<Span>,
+    points: &P,
+    limit: Limit,
+    window: Span,
+    steps: &mut Steps<L>,
+) -> Result<Change, AllocError>
+    requires some { window.from ≤ window.to }
+    requires apart { AreSpans kept.old.items }
+    ensures apart { OnOk result (AreSpans kept.new.items) }
+    ensures covers { OnOk result ((t : ℕ) → covers kept.new.items t ≡ mended window.from window.to (λ x. is_outside limit (sum_to (P.points points.now) x)) kept.old.items t) }
+    ensures change { IfOk result (λ c. IsChange kept.old.items kept.new.items c) }
+{
+    let taken = take_out(alloc, kept, window)?;
+    let fresh = renewed(alloc, &taken.touched, points, limit, window, steps)?;
+    put_back(alloc, kept, taken, fresh)
+}
+
+/// Takes out what lies before the moment.
+pub fn forget(alloc: Global, kept: &mut Vec<Span>, at: u32) -> Result<Change, AllocError>
+    requires { AreSpans kept.old.items }
+    ensures apart { OnOk result (AreSpans kept.new.items) }
+    ensures covers { OnOk result ((t : ℕ) → covers kept.new.items t ≡ mended 0 at (λ _. false) kept.old.items t) }
+    ensures change { IfOk result (λ c. IsChange kept.old.items kept.new.items c) }
+{
+    let taken = take_out(alloc, kept, Span { from: 0, to: at })?;
+    let mut fresh = Vec::new(alloc);
+    push_behind(&mut fresh, &taken.touched, at)?;
+    put_back(alloc, kept, taken, fresh)
+}

@@ -1,0 +1,142 @@
+ghost use Rattle.std.specs.Prelude.{◌≡◌, ◌<◌, ◌≤◌, ◌+◌, ◌^◌, suc, ℕ, ℤ, [], ◌++◌, List, length, take, drop, OnOk, OnErr};
+ghost use Rattle.pl_points.specs.Points.{sum_to, first_from, merged, AreSmall, ArePoints, RiseFrom, is_before, put};
+ghost use Rattle.pl_points.specs.Lists.{front, back};
+
+use crate::points::Points;
+use crate::steps::{Ledger, Steps};
+use pl_lists::Copied;
+use std::alloc::{AllocError, Global};
+use std::marker::Model;
+
+/// Points as a sorted vector.
+#[derive(Drop)]
+pub struct PlainPoints {
+    points: Vec<(u32, i64)>,
+    alloc: Global,
+}
+
+impl Model for PlainPoints {
+    ghost Value = { List (ℕ × ℤ) };
+
+    ghost view = { λ p. p.points.items };
+
+    ghost invariant = { λ p. ArePoints p.points.items × (length p.points.items < 2 ^ 32) };
+}
+
+impl PlainPoints {
+    /// No points yet.
+    pub fn new(alloc: Global) -> PlainPoints
+        ensures { result ≡ [] }
+    {
+        PlainPoints {
+            points: Vec::new(alloc),
+            alloc,
+        }
+    }
+}
+
+// How many points lie before the moment.
+fn place_of(points: &[(u32, i64)], at: u32) -> usize
+    requires { RiseFrom 0 points.now }
+    ensures bound { result ≤ length points.now }
+    ensures before { take result points.now ≡ front (is_before at) points.now }
+    ensures rest { drop result points.now ≡ back (is_before at) points.now }
+{
+    points.partition_point(|point| point.0 < at)
+}
+
+// Writes the point over the one at its place, or takes that one out where the delta is 0.
+fn put_over(points: &mut Vec<(u32, i64)>, place: usize, at: u32, delta: i64)
+    requires { place < length points.old.items }
+    ensures { points.new.items ≡ take place points.old.items ++ put at delta (drop (suc place) points.old.items) }
+{
+    if delta == 0 {
+        points.remove(place);
+    } else {
+        points[place] = (at, delta);
+    }
+}
+
+// Puts the point in at its place, unless its delta is 0.
+fn put_in(points: &mut Vec<(u32, i64)>, place: usize, at: u32, delta: i64) -> Result<(), AllocError>
+    requires { place ≤ length points.old.items }
+    ensures ok { OnOk result (points.new.items ≡ take place points.old.items ++ put at delta (drop place points.old.items)) }
+    ensures err { OnErr result (points.new.items ≡ points.old.items) }
+{
+    if delta == 0 {
+        return Ok(());
+    }
+    points.insert(place, (at, delta))?;
+    Ok(())
+}
+
+fn merge_at(points: &mut Vec<(u32, i64)>, at: u32, delta: i64) -> Result<(), AllocError>
+    requires sound { ArePoints points.old.items }
+    requires small { AreSmall (merged at delta points.old.items) }
+    ensures ok { OnOk result (points.new.items ≡ merged at delta points.old.items) }
+    ensures err { OnErr result (points.new.items ≡ points.old.items) }
+{
+    let place = place_of(points, at);
+    if place < points.len() && points[place].0 == at {
+        let sum = points[place].1 + delta;
+        put_over(points, place, at, sum);
+        Ok(())
+    } else {
+        put_in(points, place, at, delta)
+    }
+}
+
+impl Points for PlainPoints {
+    ghost points = { λ p. p };
+
+    ghost most_steps = { λ p. length p + 1 };
+
+    fn add<L: Ledger>(
+        &mut self,
+        at: u32,
+        delta: i64,
+        steps: &mut Steps<L>,
+    ) -> Result<(), AllocError> {
+        steps.tick();
+        if self.points.len() >= u32::MAX as usize {
+            return Err(AllocError);
+        }
+        merge_at(&mut self.points, at, delta)
+    }
+
+    fn first_from<L: Ledger>(&self, at: u32, steps: &mut Steps<L>) -> Option<(u32, i64)> {
+        steps.tick();
+        let place = place_of(&self.points, at);
+        if place < self.points.len() {
+            Some(self.points[place])
+        } else {
+            None
+        }
+    }
+
+    fn sum_to<L: Ledger>(&self, at: u32, steps: &mut Steps<L>) -> i64 {
+        steps.tick();
+        let mut sum: i64 = 0;
+        for point in self.points.as_slice() {
+            if at < point.0 {
+                return sum;
+            }
+            steps.tick();
+            sum += point.1;
+        }
+        sum
+    }
+
+    fn len(&self) -> u32 {
+        self.points.len() as u32
+    }
+}
+
+impl Copied for PlainPoints {
+    fn copy(&self, _alloc: Global) -> Result<PlainPoints, AllocError> {
+        Ok(PlainPoints {
+            points: Vec::from_slice(self.alloc, self.points.as_slice())?,
+            alloc: self.alloc,
+        })
+    }
+}
