@@ -1,0 +1,10 @@
+pub mod TokenTests
+pub mod Judging
+pub mod Steps
+pub mod Loops
+pub mod Rules
+pub mod Grammars
+pub mod Classes
+pub mod Sets
+pub mod Places
+pub mod Turns

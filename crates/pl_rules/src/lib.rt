@@ -1,0 +1,13 @@
+//! Rules of a grammar over tokens, each with the proof that its reader answers exactly: the tree, or the first bad
+//! token. The proofs are in `proofs/`, for the crates that read a grammar.
+#![tactic(auto)]
+
+mod laws;
+mod symbol;
+#[cfg(test)]
+mod tests;
+mod token;
+
+pub use laws::tokens_are_told_apart;
+pub use symbol::Symbol;
+pub use token::Token;
