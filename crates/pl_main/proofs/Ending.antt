@@ -156,8 +156,8 @@ filled : (turns : ℕ) (m : Model) (start place behind : Place) (opened written 
     → Plays (fresh_state turns m) start opened mid place written → FillsUp mid input new → Adds written now (text_from mid.world.scene.model (length mid.log) (drop (length mid.log) new.log)) → IsFilled turns m new opened now
 filled turns m start place behind opened written now mid new input plays (at_once full is) text =
     let j = joined (fresh_state turns m) mid new opened written now plays.entries [] plays.log plays.solo plays.world plays.same plays.written
-        (ap (λ (s : State). s.log) is ∙ sym (append-nil mid.log)) tt (ap (λ (s : State). s.world) is)
-        record { model = ap (λ (s : State). s.world.scene.model) is; options = ap (λ (s : State). s.world.options) is } text in
+    (ap (λ (s : State). s.log) is ∙ sym (append-nil mid.log)) tt (ap (λ (s : State). s.world) is)
+    record { model = ap (λ (s : State). s.world.scene.model) is; options = ap (λ (s : State). s.world.options) is } text in
     record {
       entries = plays.entries ++ [];
       log = j.log;

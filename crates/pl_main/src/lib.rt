@@ -9,6 +9,8 @@ mod messages;
 mod outcome;
 mod play;
 mod reads;
+#[cfg(test)]
+mod tests;
 mod top;
 mod whole;
 mod writes;
