@@ -1,0 +1,5 @@
+//! Tests of the calls of the planning machine.
+#![tactic(auto)]
+
+#[cfg(test)]
+mod tests;
