@@ -9,7 +9,7 @@ use Rattle.pl_io.specs.Lines.{ahead, lines_of, next_of, line_too_long, input_too
 use Rattle.pl_io.specs.Reader.{Reader, NumberedLine}
 use Rattle.pl_model.specs.declared.whole.Model.{Model}
 use Rattle.pl_machine.specs.declared.event.Entry.{Entry}
-use Rattle.pl_machine.specs.Lines.{model_text_of, lines_behind, messages_of, split_of}
+use Rattle.pl_machine.specs.Lines.{is_blank_line, is_line_of, end_word, model_text_of, lines_behind, messages_of, split_of}
 use Rattle.pl_machine.specs.World.{World, fresh_world}
 use Rattle.pl_machine.specs.Legal.{Legal, opening, world_from, world_of}
 use Rattle.pl_machine.specs.Solo.{solo_from, Solo}
@@ -22,17 +22,18 @@ use Rattle.pl_main.specs.declared.halt.Halt.{Halt}
 use Rattle.pl_main.specs.declared.halt.Halt.TheVariants as halt
 use Rattle.pl_main.specs.declared.outcome.Outcome.{Outcome}
 use Rattle.pl_main.specs.declared.outcome.Outcome.TheVariants as outcome
-use Rattle.pl_main.specs.Reads.{Gave, GaveKnown, Took, Halts, WhyKnown, IsUsedUp}
+use Rattle.pl_main.specs.Reads.{Gave, GaveKnown, Took, Halts, WhyKnown, IsUsedUp, AreBlank}
+use Rattle.pl_main.specs.Waits.{MessageGives}
 use Rattle.pl_main.specs.Heads.{Keeps, IsHead, IsBegun, HasNoBegin, HeadHalts}
 use Rattle.pl_main.specs.Tells.{Told, ToldInPart, FillsUp, at_once, within}
 use Rattle.pl_main.specs.Written.{Adds, WriteStops}
 use Rattle.pl_main.specs.Plays.{Place, place_of, HaltFor, IsLimit, Plays, EndsAll, PlaysOut, TooLong, PlayHalts, StepFills, PlayFills, Playing, line_in}
 use Rattle.pl_main.specs.Runs.{fresh_state, ModelRun, ModelRuns, IsTextOf, TextRun, TextRuns}
-use Rattle.pl_main.specs.Top.{RanKnown, program_options, total_limit, IsDone, no_begin_line, not_built_line, IsRefused, no_begin, not_built, WaitsBehind, IsPastLimit, IsFull}
+use Rattle.pl_main.specs.Top.{RanKnown, program_options, total_limit, IsDone, no_begin_line, not_built_line, IsRefused, no_begin, not_built, WaitsBehind, IsPastLimit, HasNext, IsFull}
 use Rattle.pl_main.proofs.Reading.{gave_append, gave_lines}
 use Rattle.pl_main.proofs.Beginning.{head_then}
 use Rattle.pl_main.proofs.Writing.{adds_then, log_is_short}
-use Rattle.pl_main.proofs.Playing.{Joined, joined, too_long}
+use Rattle.pl_main.proofs.Playing.{blanks_first, message_first, end_first, none_left, messages_append, inputs_append, Joined, joined, too_long}
 
 -- ---- a run over a model
 
@@ -141,8 +142,62 @@ limit_ends turns input words heads_rest heads m start old opened now new head ga
       };
     }
 
+-- ---- the message behind those that were answered
+
+-- messages of which this is the first
+record BeginsWith (next : Option (List ℕ)) (all : List (Option (List ℕ))) : Type 0 where
+  more : List (Option (List ℕ))
+  is : all ≡ next ∷ more
+
+first_message : (line : List ℕ) (lines : List (List ℕ)) → is_blank_line line ≡ false → (b : Bool) → is_line_of end_word line ≡ b → BeginsWith (Some line) (messages_of (line ∷ lines))
+first_message line lines message true ends = record { more = []; is = end_first line lines message ends }
+first_message line lines message false ends = record { more = messages_of lines; is = message_first line lines message ends }
+
+behind_blanks : (blanks lines : List (List ℕ)) (next : Option (List ℕ)) → AreBlank blanks → BeginsWith next (messages_of lines) → BeginsWith next (messages_of (blanks ++ lines))
+behind_blanks blanks lines next blank begins = record { more = begins.more; is = blanks_first blanks lines blank ∙ begins.is }
+
+-- the lines in which the next message was found
+record GotNext (next : Option (List ℕ)) (room : ℕ) (bytes : List ℕ) : Type 0 where
+  lines : List (List ℕ)
+  left : ℕ
+  rest : List ℕ
+  gave : Gave room bytes lines left rest
+  read : BeginsWith next (messages_of lines)
+  all : BeginsWith next (messages_of (lines ++ lines_of rest))
+  used_up : next ≡ None → rest ≡ []
+
+got_next : (before behind : Place) (bytes : List ℕ) (message : Option NumberedLine) → before.ahead ≡ Some bytes → MessageGives before.reader before.ahead (Ok message) behind.reader behind.ahead → GotNext (line_in message) before.reader.room bytes
+got_next before behind bytes (Some line) ahead gets =
+    let from = subst (λ (b : Option (List ℕ)). GaveKnown before.reader.room b (gets.lines ++ line.bytes ∷ []) behind.reader.room behind.ahead) ahead gets.took.gave in
+    let k = known before.reader.room bytes (gets.lines ++ line.bytes ∷ []) behind.reader.room behind.ahead from in
+    record {
+      lines = gets.lines ++ line.bytes ∷ [];
+      left = behind.reader.room;
+      rest = k.rest;
+      gave = k.gave;
+      read = behind_blanks gets.lines (line.bytes ∷ []) (Some line.bytes) gets.blank (first_message line.bytes [] gets.message (is_line_of end_word line.bytes) refl);
+      all = subst (λ (ls : List (List ℕ)). BeginsWith (Some line.bytes) (messages_of ls)) (sym (append_assoc gets.lines (line.bytes ∷ []) (lines_of k.rest)))
+          (behind_blanks gets.lines (line.bytes ∷ lines_of k.rest) (Some line.bytes) gets.blank (first_message line.bytes (lines_of k.rest) gets.message (is_line_of end_word line.bytes) refl));
+      used_up = λ e. absurd (let h : Some line.bytes ≡ None = e in (cc));
+    }
+got_next before behind bytes None ahead gets =
+    let from = subst (λ (b : Option (List ℕ)). GaveKnown before.reader.room b gets.lines behind.reader.room behind.ahead) ahead gets.took.gave in
+    let k = known before.reader.room bytes gets.lines behind.reader.room behind.ahead from in
+    let used = subst (λ (b : Option (List ℕ)). IsUsedUp b behind.ahead) ahead gets.used_up in
+    let none : k.rest ≡ [] = (let h : Some k.rest ≡ Some [] = sym k.is ∙ used in (cc)) in
+    let begins : BeginsWith None (messages_of gets.lines) = record { more = []; is = ap messages_of (sym (append-nil gets.lines)) ∙ blanks_first gets.lines [] gets.blank ∙ none_left } in
+    record {
+      lines = gets.lines;
+      left = behind.reader.room;
+      rest = k.rest;
+      gave = k.gave;
+      read = begins;
+      all = subst (λ (ls : List (List ℕ)). BeginsWith None (messages_of ls)) (sym (ap (λ (r : List ℕ). gets.lines ++ lines_of r) none ∙ append-nil gets.lines)) begins;
+      used_up = λ e. none;
+    }
+
 -- what the log of a filled run holds
-record IsFilled (turns : ℕ) (m : Model) (new : State) (opened now : Option (List ℕ)) : Type 0 where
+record IsFilled (turns : ℕ) (m : Model) (new : State) (opened now : Option (List ℕ)) (before : List (Option (List ℕ))) (next : Option (List ℕ)) : Type 0 where
   entries : List Entry
   log : new.log ≡ opening (program_options turns) ∷ entries
   solo : solo_from (fresh_world m (program_options turns)) entries
@@ -151,9 +206,10 @@ record IsFilled (turns : ℕ) (m : Model) (new : State) (opened now : Option (Li
   going : new.world.done ≡ false
   full : 250000 ≤ length new.log
   text : Adds opened now (text_from m 1 entries)
+  due : ((new.world.closed ≡ false) × (inputs_of entries ≡ before ++ next ∷ [])) ⊎ (inputs_of entries ≡ before)
 
 filled : (turns : ℕ) (m : Model) (start place behind : Place) (opened written now : Option (List ℕ)) (mid new : State) (input : Option (List ℕ))
-    → Plays (fresh_state turns m) start opened mid place written → FillsUp mid input new → Adds written now (text_from mid.world.scene.model (length mid.log) (drop (length mid.log) new.log)) → IsFilled turns m new opened now
+    → (plays : Plays (fresh_state turns m) start opened mid place written) → FillsUp mid input new → Adds written now (text_from mid.world.scene.model (length mid.log) (drop (length mid.log) new.log)) → IsFilled turns m new opened now (inputs_of plays.entries) input
 filled turns m start place behind opened written now mid new input plays (at_once full is) text =
     let j = joined (fresh_state turns m) mid new opened written now plays.entries [] plays.log plays.solo plays.world plays.same plays.written
     (ap (λ (s : State). s.log) is ∙ sym (append-nil mid.log)) tt (ap (λ (s : State). s.world) is)
@@ -167,6 +223,7 @@ filled turns m start place behind opened written now mid new input plays (at_onc
       going = ap (λ (s : State). s.world.done) is ∙ plays.ready.going;
       full = subst (λ (n : ℕ). 250000 ≤ n) (ap (λ (s : State). length s.log) (sym is)) (subst (λ (n : ℕ). n ≤ length mid.log) (ap (λ o. o.entries) plays.same.options) full);
       text = j.text;
+      due = inr (ap inputs_of (append-nil plays.entries));
     }
 filled turns m start place behind opened written now mid new input plays (within told) text =
     let j = joined (fresh_state turns m) mid new opened written now plays.entries told.entries plays.log plays.solo plays.world plays.same plays.written told.log told.solo told.world told.same text in
@@ -179,18 +236,61 @@ filled turns m start place behind opened written now mid new input plays (within
       going = told.going;
       full = subst (λ (n : ℕ). n ≤ length new.log) (ap (λ o. o.entries) plays.same.options) told.full;
       text = j.text;
+      due = inl (told.open_round, inputs_append plays.entries told.entries ∙ ap (λ (ns : List (Option (List ℕ))). inputs_of plays.entries ++ ns) told.inputs);
     }
 
 between : (n : ℕ) → n ≤ 250000 → 250000 ≤ n → n ≡ 250000
 between n low high = omega (arith, low, high)
 
+-- what is unanswered behind a log that is full, and why an entry is due
+record LeavesMore (m : Model) (log : List Entry) (input : List ℕ) : Type 0 where
+  unanswered : List (Option (List ℕ))
+  messages : (split_of input).messages ≡ inputs_of log ++ unanswered
+  due : ((world_of m log).closed ≡ false) ⊎ HasNext log input
+
+leaves_more : (m : Model) (log : List Entry) (input : List ℕ) (heads lines : List (List ℕ)) (words : List ℕ) (room mid : ℕ) (heads_rest bytes : List ℕ) (before : List (Option (List ℕ))) (next : Option (List ℕ))
+    → IsHead heads words → Gave total_limit input heads room heads_rest → Gave room heads_rest lines mid bytes → messages_of lines ≡ before ++ None ∷ [] → GotNext next mid bytes
+    → (((world_of m log).closed ≡ false) × (inputs_of log ≡ before ++ next ∷ [])) ⊎ (inputs_of log ≡ before) → LeavesMore m log input
+leaves_more m log input heads lines words room mid heads_rest bytes before next head gave gave2 so_far got due = by_due due
+  where
+    whole : (split_of input).messages ≡ before ++ next ∷ got.all.more
+    whole = (split_is input heads words (lines_of heads_rest) head (gave_lines total_limit input heads room heads_rest gave)).messages
+        ∙ ap messages_of (gave_lines room heads_rest lines mid bytes gave2 ∙ ap (λ (ls : List (List ℕ)). lines ++ ls) (gave_lines mid bytes got.lines got.left got.rest got.gave))
+        ∙ messages_append lines (got.lines ++ lines_of got.rest) before so_far ∙ ap (λ (ns : List (Option (List ℕ))). before ++ ns) got.all.is
+
+    by_due : (((world_of m log).closed ≡ false) × (inputs_of log ≡ before ++ next ∷ [])) ⊎ (inputs_of log ≡ before) → LeavesMore m log input
+    by_due (inl both) = record {
+      unanswered = got.all.more;
+      messages = whole ∙ sym (append_assoc before (next ∷ []) got.all.more) ∙ ap (λ (ns : List (Option (List ℕ))). ns ++ got.all.more) (sym both.1);
+      due = inl both.0;
+    }
+    by_due (inr same) = record {
+      unanswered = next ∷ got.all.more;
+      messages = whole ∙ ap (λ (ns : List (Option (List ℕ))). ns ++ next ∷ got.all.more) (sym same);
+      due = inr record {
+        lines = heads ++ (lines ++ got.lines);
+        left = got.left;
+        rest = got.rest;
+        next = next;
+        more = got.read.more;
+        gave = gave_append total_limit input heads (lines ++ got.lines) room heads_rest got.left got.rest gave (gave_append room heads_rest lines got.lines mid bytes got.left got.rest gave2 got.gave);
+        messages = ap messages_of (head_then heads words (lines ++ got.lines) head).1 ∙ messages_append lines got.lines before so_far ∙ ap (λ (ns : List (Option (List ℕ))). before ++ ns) got.read.is ∙ ap (λ (ns : List (Option (List ℕ))). ns ++ next ∷ got.read.more) (sym same);
+        used_up = got.used_up;
+      };
+    }
+
 full_ends : (turns : ℕ) (input words heads_rest : List ℕ) (heads : List (List ℕ)) (m : Model) (start : Place) (old : List ℕ) (opened now : Option (List ℕ)) (new : State)
-    → IsHead heads words → lines_of input ≡ heads ++ lines_of heads_rest → plain_model words ≡ Some m
+    → IsHead heads words → Gave total_limit input heads start.reader.room heads_rest → start.ahead ≡ Some heads_rest → plain_model words ≡ Some m
     → Adds (Some old) opened (text_from m 0 (opening (program_options turns) ∷ [])) → PlayFills (fresh_state turns m) start opened new now → Legal new.world.scene.model new.log → IsFull turns input old now
-full_ends turns input words heads_rest heads m start old opened now new head is accepted first plays legal =
+full_ends turns input words heads_rest heads m start old opened now new head gave ahead accepted first plays legal =
     let f = filled turns m start plays.place plays.behind opened plays.written now plays.waiting new (line_in plays.step.message) plays.plays plays.step.fills plays.step.written in
-    let split = split_is input heads words (lines_of heads_rest) head is in
+    let split = split_is input heads words (lines_of heads_rest) head (gave_lines total_limit input heads start.reader.room heads_rest gave) in
     let l = logged turns m new (Some old) opened now f.entries legal f.same f.log f.solo f.world first f.text in
+    let from = subst (λ (b : Option (List ℕ)). GaveKnown start.reader.room b plays.plays.lines plays.place.reader.room plays.place.ahead) ahead plays.plays.took.gave in
+    let k = known start.reader.room heads_rest plays.plays.lines plays.place.reader.room plays.place.ahead from in
+    let got = got_next plays.place plays.behind k.rest plays.step.message k.is plays.step.gets in
+    let more = leaves_more m (opening (program_options turns) ∷ f.entries) input heads plays.plays.lines words start.reader.room plays.place.reader.room heads_rest k.rest (inputs_of plays.plays.entries) (line_in plays.step.message) head gave k.gave plays.plays.messages got
+    (subst (λ (w : World). ((w.closed ≡ false) × (inputs_of f.entries ≡ inputs_of plays.plays.entries ++ line_in plays.step.message ∷ [])) ⊎ (inputs_of f.entries ≡ inputs_of plays.plays.entries)) l.world f.due) in
     record {
       model = m;
       log = opening (program_options turns) ∷ f.entries;
@@ -200,8 +300,11 @@ full_ends turns input words heads_rest heads m start old opened now new head is 
       legal = l.legal;
       solo = l.solo;
       options = refl;
+      unanswered = more.unanswered;
+      messages = more.messages;
       full = ap (λ (es : List Entry). length es) (sym f.log) ∙ between (length new.log) (log_is_short new.world.scene.model new.log legal) f.full;
       going = ap (λ (w : World). w.done) (sym l.world) ∙ f.going;
+      due = more.due;
       written = l.text;
     }
 
@@ -220,7 +323,7 @@ begun_known turns old kept start input before now (Err halt.Limit) room begun ru
     limit_ends turns input begun.words k.rest begun.lines run.model start before run.run.opened now run.run.new begun.head (subst (λ (n : ℕ). Gave n input begun.lines start.reader.room k.rest) room k.gave) k.is (run.text begun.words begun.keeps) run.run.first run.run.playing run.run.legal
 begun_known turns old kept start input before now (Err halt.Full) room begun run =
     let k = known old.room input begun.lines start.reader.room start.ahead begun.took.gave in
-    full_ends turns input begun.words k.rest begun.lines run.model start before run.run.opened now run.run.new begun.head (gave_lines old.room input begun.lines start.reader.room k.rest k.gave) (run.text begun.words begun.keeps) run.run.first run.run.playing run.run.legal
+    full_ends turns input begun.words k.rest begun.lines run.model start before run.run.opened now run.run.new begun.head (subst (λ (n : ℕ). Gave n input begun.lines start.reader.room k.rest) room k.gave) k.is (run.text begun.words begun.keeps) run.run.first run.run.playing run.run.legal
 begun_known turns old kept start input before now (Err halt.Read) room begun run = tt
 begun_known turns old kept start input before now (Err halt.Write) room begun run = tt
 begun_known turns old kept start input before now (Err halt.Memory) room begun run = tt

@@ -51,19 +51,19 @@ blank_first : (line : List ℕ) (lines : List (List ℕ)) → is_blank_line line
 unfolding messages_of
 blank_first line lines blank = rw blank refl
 
-blanks_first : (blanks lines : List (List ℕ)) → AreBlank blanks → messages_of (blanks ++ lines) ≡ messages_of lines
+pub blanks_first : (blanks lines : List (List ℕ)) → AreBlank blanks → messages_of (blanks ++ lines) ≡ messages_of lines
 blanks_first [] lines all = refl
 blanks_first (x ∷ xs) lines all = blank_first x (xs ++ lines) all.0 ∙ blanks_first xs lines all.1
 
-message_first : (line : List ℕ) (lines : List (List ℕ)) → is_blank_line line ≡ false → is_line_of end_word line ≡ false → messages_of (line ∷ lines) ≡ Some line ∷ messages_of lines
+pub message_first : (line : List ℕ) (lines : List (List ℕ)) → is_blank_line line ≡ false → is_line_of end_word line ≡ false → messages_of (line ∷ lines) ≡ Some line ∷ messages_of lines
 unfolding messages_of
 message_first line lines message other = rw (message, other) refl
 
-end_first : (line : List ℕ) (lines : List (List ℕ)) → is_blank_line line ≡ false → is_line_of end_word line ≡ true → messages_of (line ∷ lines) ≡ Some line ∷ []
+pub end_first : (line : List ℕ) (lines : List (List ℕ)) → is_blank_line line ≡ false → is_line_of end_word line ≡ true → messages_of (line ∷ lines) ≡ Some line ∷ []
 unfolding messages_of
 end_first line lines message ends = rw (message, ends) refl
 
-none_left : messages_of [] ≡ None ∷ []
+pub none_left : messages_of [] ≡ None ∷ []
 unfolding messages_of
 none_left = refl
 
@@ -83,7 +83,7 @@ before_others false false line rest whole behind (m ∷ ms) e next =
     ap (λ (ns : List (Option (List ℕ))). Some line ∷ ns) (next ms both.1) ∙ ap (λ (n : Option (List ℕ)). n ∷ (ms ++ behind)) both.0
 
 -- lines without an end, and what follows them
-messages_append : (lines more : List (List ℕ)) (ms : List (Option (List ℕ))) → messages_of lines ≡ ms ++ None ∷ [] → messages_of (lines ++ more) ≡ ms ++ messages_of more
+pub messages_append : (lines more : List (List ℕ)) (ms : List (Option (List ℕ))) → messages_of lines ≡ ms ++ None ∷ [] → messages_of (lines ++ more) ≡ ms ++ messages_of more
 unfolding messages_of
 messages_append [] more [] e = refl
 messages_append [] more (m ∷ ms) e = absurd (let s = not_single None None (m ∷ ms) e in let h : m ∷ ms ≡ [] = s.0 in (cc))
@@ -107,7 +107,7 @@ drop_front : (xs ys : List Entry) → drop (length xs) (xs ++ ys) ≡ ys
 drop_front [] ys = refl
 drop_front (x ∷ xs) ys = drop_front xs ys
 
-inputs_append : (xs ys : List Entry) → inputs_of (xs ++ ys) ≡ inputs_of xs ++ inputs_of ys
+pub inputs_append : (xs ys : List Entry) → inputs_of (xs ++ ys) ≡ inputs_of xs ++ inputs_of ys
 inputs_append xs ys = filter_map-append (λ (e : Entry). input_in e.event) xs ys
 
 -- ---- the whole of a play

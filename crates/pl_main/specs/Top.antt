@@ -70,7 +70,18 @@ pub record IsPastLimit (turns : ℕ) (input old : List ℕ) (new : Option (List 
   pub why : (next_of 4096 left rest ≡ line_too_long) ⊎ (next_of 4096 left rest ≡ input_too_long)
   pub asked : ((model_text_of lines ≡ None) × (new ≡ Some old)) ⊎ WaitsBehind turns lines old new
 
--- The log has as many entries as it may, and one more is due.
+-- The lines that were read hold a message behind those that the log answers; or all were read, and the end of the input is that message.
+pub record HasNext (log : List Entry) (input : List ℕ) : Type 0 where
+  pub lines : List (List ℕ)
+  pub left : ℕ
+  pub rest : List ℕ
+  pub next : Option (List ℕ)
+  pub more : List (Option (List ℕ))
+  pub gave : Gave total_limit input lines left rest
+  pub messages : messages_of (lines_behind lines) ≡ inputs_of log ++ next ∷ more
+  pub used_up : next ≡ None → rest ≡ []
+
+-- The log answers the messages up to a place. It has as many entries as it may, and one more is due: within a round, or for the next message.
 pub record IsFull (turns : ℕ) (input old : List ℕ) (new : Option (List ℕ)) : Type 0 where
   pub model : Model
   pub log : List Entry
@@ -80,8 +91,11 @@ pub record IsFull (turns : ℕ) (input old : List ℕ) (new : Option (List ℕ))
   pub legal : Legal model log
   pub solo : Solo model log
   pub options : options_of log ≡ program_options turns
+  pub unanswered : List (Option (List ℕ))
+  pub messages : (split_of input).messages ≡ inputs_of log ++ unanswered
   pub full : length log ≡ 250000
   pub going : (world_of model log).done ≡ false
+  pub due : ((world_of model log).closed ≡ false) ⊎ HasNext log input
   pub written : new ≡ Some (old ++ text_of_log model log)
 
 -- How a run ended, where the input's bytes and the sink's are known.
