@@ -1,5 +1,5 @@
 -- The end of a run over an input: from its head, and from what was played.
-use Rattle.std.proofs.Common.{◌≡◌, ℕ, ◌+◌, ◌≤◌, List, [], ◌∷◌, ◌++◌, length, drop, OnOk, IfOk, IfErr, Bool, true, false, Option, Some, None, IfSome, ◌⊎◌, inl, inr, Result, Ok, Err, refl, sym, ◌∙◌, ap, subst, append_assoc, arith}
+use Rattle.std.proofs.Common.{◌≡◌, ◌≢◌, ℕ, ◌+◌, ◌≤◌, List, [], ◌∷◌, ◌++◌, length, drop, OnOk, IfOk, IfErr, Bool, true, false, Option, Some, None, IfSome, ◌⊎◌, inl, inr, Result, Ok, Err, refl, sym, ◌∙◌, ap, subst, append_assoc, arith}
 use Rattle.std.proofs.lemmas.List.{append-nil}
 use Rattle.std.specs.declared.vec.Vec.{Vec}
 use Rattle.std.specs.declared.alloc.Global.{Global}
@@ -27,13 +27,13 @@ use Rattle.pl_main.specs.Waits.{MessageGives}
 use Rattle.pl_main.specs.Heads.{Keeps, IsHead, IsBegun, HasNoBegin, HeadHalts}
 use Rattle.pl_main.specs.Tells.{Told, ToldInPart, FillsUp, at_once, within}
 use Rattle.pl_main.specs.Written.{Adds, WriteStops}
-use Rattle.pl_main.specs.Plays.{Place, place_of, HaltFor, IsLimit, Plays, EndsAll, PlaysOut, TooLong, PlayHalts, StepFills, PlayFills, Playing, line_in}
+use Rattle.pl_main.specs.Plays.{Place, place_of, HaltFor, IsLimit, Plays, EndsWith, by_end, by_line, EndsAll, PlaysOut, TooLong, PlayHalts, StepFills, PlayFills, Playing, line_in}
 use Rattle.pl_main.specs.Runs.{fresh_state, ModelRun, ModelRuns, IsTextOf, TextRun, TextRuns}
-use Rattle.pl_main.specs.Top.{RanKnown, program_options, total_limit, IsDone, no_begin_line, not_built_line, IsRefused, no_begin, not_built, WaitsBehind, IsPastLimit, HasNext, IsFull}
+use Rattle.pl_main.specs.Top.{RanKnown, program_options, total_limit, IsDone, no_begin_line, not_built_line, IsRefused, no_begin, not_built, WaitsBehind, IsPastLimit, HasRead, IsFull}
 use Rattle.pl_main.proofs.Reading.{gave_append, gave_lines}
 use Rattle.pl_main.proofs.Beginning.{head_then}
 use Rattle.pl_main.proofs.Writing.{adds_then, log_is_short}
-use Rattle.pl_main.proofs.Playing.{blanks_first, message_first, end_first, none_left, messages_append, inputs_append, Joined, joined, too_long}
+use Rattle.pl_main.proofs.Playing.{blanks_first, message_first, end_first, none_left, not_single, messages_append, inputs_append, Joined, joined, too_long}
 
 -- ---- a run over a model
 
@@ -87,14 +87,32 @@ logged turns m new held opened now entries legal same log solo world first text 
 
 -- ---- how runs end
 
+last_is : (xs ys : List (Option (List ℕ))) (x y : Option (List ℕ)) → xs ++ x ∷ [] ≡ ys ++ y ∷ [] → x ≡ y
+last_is [] ys x y e = (not_single x y ys e).1
+last_is (z ∷ xs) [] x y e = absurd (let h : z ∷ xs ≡ [] = (not_single y x (z ∷ xs) (sym e)).0 in (cc))
+last_is (z ∷ xs) (w ∷ ys) x y e = last_is xs ys x y (let h : z ∷ (xs ++ x ∷ []) ≡ w ∷ (ys ++ y ∷ []) = e in (cc))
+
+ends_all : (rest : List ℕ) (lines : List (List ℕ)) (inputs : List (Option (List ℕ))) → EndsWith rest lines inputs → messages_of (lines ++ lines_of rest) ≡ inputs
+ends_all rest lines inputs (by_end none is) = ap (λ (r : List ℕ). messages_of (lines ++ lines_of r)) none ∙ ap messages_of (append-nil lines) ∙ is
+ends_all rest lines inputs (by_line front line last all) = all (lines_of rest)
+
+ends_read : (rest : List ℕ) (lines : List (List ℕ)) (inputs : List (Option (List ℕ))) → EndsWith rest lines inputs → messages_of lines ≡ inputs
+ends_read rest lines inputs (by_end none is) = is
+ends_read rest lines inputs (by_line front line last all) = ap messages_of (sym (append-nil lines)) ∙ all []
+
+ends_used_up : (rest : List ℕ) (lines : List (List ℕ)) (inputs front : List (Option (List ℕ))) → EndsWith rest lines inputs → inputs ≡ front ++ None ∷ [] → rest ≡ []
+ends_used_up rest lines inputs front (by_end none is) e = none
+ends_used_up rest lines inputs front (by_line before line last all) e = absurd (let h : Some line ≡ None = last_is before front (Some line) None (sym last ∙ e) in (cc))
+
 done_ends : (turns : ℕ) (input words heads_rest : List ℕ) (heads : List (List ℕ)) (m : Model) (start place : Place) (old : List ℕ) (opened now : Option (List ℕ)) (new : State)
-    → IsHead heads words → lines_of input ≡ heads ++ lines_of heads_rest → start.ahead ≡ Some heads_rest → plain_model words ≡ Some m
+    → IsHead heads words → Gave total_limit input heads start.reader.room heads_rest → start.ahead ≡ Some heads_rest → plain_model words ≡ Some m
     → Adds (Some old) opened (text_from m 0 (opening (program_options turns) ∷ [])) → PlaysOut (fresh_state turns m) start opened new place now → Legal new.world.scene.model new.log → IsDone turns input old now
-done_ends turns input words heads_rest heads m start place old opened now new head is ahead accepted first plays legal =
+done_ends turns input words heads_rest heads m start place old opened now new head gave ahead accepted first plays legal =
     let from = subst (λ (b : Option (List ℕ)). GaveKnown start.reader.room b plays.lines place.reader.room place.ahead) ahead plays.gave in
     let k = known start.reader.room heads_rest plays.lines place.reader.room place.ahead from in
     let ends = subst (λ (a : Option (List ℕ)). EndsAll (Some heads_rest) a plays.lines (inputs_of plays.entries)) k.is (subst (λ (b : Option (List ℕ)). EndsAll b place.ahead plays.lines (inputs_of plays.entries)) ahead plays.messages) in
-    let split = split_is input heads words (lines_of heads_rest) head is in
+    let split = split_is input heads words (lines_of heads_rest) head (gave_lines total_limit input heads start.reader.room heads_rest gave) in
+    let both = head_then heads words plays.lines head in
     let l = logged turns m new (Some old) opened now plays.entries legal plays.same plays.log plays.solo plays.world first plays.written in
     record {
       model = m;
@@ -105,10 +123,20 @@ done_ends turns input words heads_rest heads m start place old opened now new he
       finished = record {
         legal = l.legal;
         done = ap (λ (w : World). w.done) (sym l.world) ∙ plays.done;
-        inputs = sym ends ∙ sym (ap messages_of (gave_lines start.reader.room heads_rest plays.lines place.reader.room k.rest k.gave)) ∙ sym split.messages;
+        inputs = sym (ends_all k.rest plays.lines (inputs_of plays.entries) ends) ∙ sym (ap messages_of (gave_lines start.reader.room heads_rest plays.lines place.reader.room k.rest k.gave)) ∙ sym split.messages;
       };
       solo = l.solo;
       options = refl;
+      read = record {
+        lines = heads ++ plays.lines;
+        left = place.reader.room;
+        rest = k.rest;
+        more = [];
+        gave = gave_append total_limit input heads plays.lines start.reader.room heads_rest place.reader.room k.rest gave k.gave;
+        text = both.0;
+        behind = ap messages_of both.1 ∙ ends_read k.rest plays.lines (inputs_of plays.entries) ends ∙ sym (append-nil (inputs_of plays.entries));
+        used_up = λ front e. ends_used_up k.rest plays.lines (inputs_of plays.entries) front ends e;
+      };
       written = l.text;
     }
 
@@ -242,15 +270,33 @@ filled turns m start place behind opened written now mid new input plays (within
 between : (n : ℕ) → n ≤ 250000 → 250000 ≤ n → n ≡ 250000
 between n low high = omega (arith, low, high)
 
+-- the lines with a next message behind those that were played
+has_read : (input words : List ℕ) (heads lines : List (List ℕ)) (room mid : ℕ) (heads_rest bytes : List ℕ) (before : List (Option (List ℕ))) (next : Option (List ℕ))
+    → IsHead heads words → Gave total_limit input heads room heads_rest → Gave room heads_rest lines mid bytes → messages_of lines ≡ before ++ None ∷ [] → GotNext next mid bytes → HasRead words (before ++ next ∷ []) input
+has_read input words heads lines room mid heads_rest bytes before next head gave gave2 so_far got =
+    let both = head_then heads words (lines ++ got.lines) head in
+    record {
+      lines = heads ++ (lines ++ got.lines);
+      left = got.left;
+      rest = got.rest;
+      more = got.read.more;
+      gave = gave_append total_limit input heads (lines ++ got.lines) room heads_rest got.left got.rest gave (gave_append room heads_rest lines got.lines mid bytes got.left got.rest gave2 got.gave);
+      text = both.0;
+      behind = ap messages_of both.1 ∙ messages_append lines got.lines before so_far ∙ ap (λ (ns : List (Option (List ℕ))). before ++ ns) got.read.is ∙ sym (append_assoc before (next ∷ []) got.read.more);
+      used_up = λ front e. got.used_up (last_is before front next None e);
+    }
+
 -- what is unanswered behind a log that is full, and why an entry is due
-record LeavesMore (m : Model) (log : List Entry) (input : List ℕ) : Type 0 where
+record LeavesMore (m : Model) (log : List Entry) (words input : List ℕ) : Type 0 where
   unanswered : List (Option (List ℕ))
   messages : (split_of input).messages ≡ inputs_of log ++ unanswered
-  due : ((world_of m log).closed ≡ false) ⊎ HasNext log input
+  pending : List (Option (List ℕ))
+  read : HasRead words (inputs_of log ++ pending) input
+  due : ((world_of m log).closed ≡ false) ⊎ (pending ≢ [])
 
 leaves_more : (m : Model) (log : List Entry) (input : List ℕ) (heads lines : List (List ℕ)) (words : List ℕ) (room mid : ℕ) (heads_rest bytes : List ℕ) (before : List (Option (List ℕ))) (next : Option (List ℕ))
     → IsHead heads words → Gave total_limit input heads room heads_rest → Gave room heads_rest lines mid bytes → messages_of lines ≡ before ++ None ∷ [] → GotNext next mid bytes
-    → (((world_of m log).closed ≡ false) × (inputs_of log ≡ before ++ next ∷ [])) ⊎ (inputs_of log ≡ before) → LeavesMore m log input
+    → (((world_of m log).closed ≡ false) × (inputs_of log ≡ before ++ next ∷ [])) ⊎ (inputs_of log ≡ before) → LeavesMore m log words input
 leaves_more m log input heads lines words room mid heads_rest bytes before next head gave gave2 so_far got due = by_due due
   where
     whole : (split_of input).messages ≡ before ++ next ∷ got.all.more
@@ -258,25 +304,23 @@ leaves_more m log input heads lines words room mid heads_rest bytes before next 
         ∙ ap messages_of (gave_lines room heads_rest lines mid bytes gave2 ∙ ap (λ (ls : List (List ℕ)). lines ++ ls) (gave_lines mid bytes got.lines got.left got.rest got.gave))
         ∙ messages_append lines (got.lines ++ lines_of got.rest) before so_far ∙ ap (λ (ns : List (Option (List ℕ))). before ++ ns) got.all.is
 
-    by_due : (((world_of m log).closed ≡ false) × (inputs_of log ≡ before ++ next ∷ [])) ⊎ (inputs_of log ≡ before) → LeavesMore m log input
+    read : HasRead words (before ++ next ∷ []) input
+    read = has_read input words heads lines room mid heads_rest bytes before next head gave gave2 so_far got
+
+    by_due : (((world_of m log).closed ≡ false) × (inputs_of log ≡ before ++ next ∷ [])) ⊎ (inputs_of log ≡ before) → LeavesMore m log words input
     by_due (inl both) = record {
       unanswered = got.all.more;
       messages = whole ∙ sym (append_assoc before (next ∷ []) got.all.more) ∙ ap (λ (ns : List (Option (List ℕ))). ns ++ got.all.more) (sym both.1);
+      pending = [];
+      read = subst (λ (ns : List (Option (List ℕ))). HasRead words ns input) (sym (append-nil (inputs_of log) ∙ both.1)) read;
       due = inl both.0;
     }
     by_due (inr same) = record {
       unanswered = next ∷ got.all.more;
       messages = whole ∙ ap (λ (ns : List (Option (List ℕ))). ns ++ next ∷ got.all.more) (sym same);
-      due = inr record {
-        lines = heads ++ (lines ++ got.lines);
-        left = got.left;
-        rest = got.rest;
-        next = next;
-        more = got.read.more;
-        gave = gave_append total_limit input heads (lines ++ got.lines) room heads_rest got.left got.rest gave (gave_append room heads_rest lines got.lines mid bytes got.left got.rest gave2 got.gave);
-        messages = ap messages_of (head_then heads words (lines ++ got.lines) head).1 ∙ messages_append lines got.lines before so_far ∙ ap (λ (ns : List (Option (List ℕ))). before ++ ns) got.read.is ∙ ap (λ (ns : List (Option (List ℕ))). ns ++ next ∷ got.read.more) (sym same);
-        used_up = got.used_up;
-      };
+      pending = next ∷ [];
+      read = subst (λ (ns : List (Option (List ℕ))). HasRead words ns input) (ap (λ (ns : List (Option (List ℕ))). ns ++ next ∷ []) (sym same)) read;
+      due = inr (λ e. (let h : next ∷ [] ≡ [] = e in (cc)));
     }
 
 full_ends : (turns : ℕ) (input words heads_rest : List ℕ) (heads : List (List ℕ)) (m : Model) (start : Place) (old : List ℕ) (opened now : Option (List ℕ)) (new : State)
@@ -304,6 +348,8 @@ full_ends turns input words heads_rest heads m start old opened now new head gav
       messages = more.messages;
       full = ap (λ (es : List Entry). length es) (sym f.log) ∙ between (length new.log) (log_is_short new.world.scene.model new.log legal) f.full;
       going = ap (λ (w : World). w.done) (sym l.world) ∙ f.going;
+      pending = more.pending;
+      read = more.read;
       due = more.due;
       written = l.text;
     }
@@ -314,10 +360,10 @@ begun_known : (turns : ℕ) (old : Reader) (kept : Option (Vec ℕ Global)) (sta
     → old.room ≡ total_limit → IsBegun old (Some input) kept start.reader start.ahead → TextRuns turns kept start (Some before) r now → RanKnown turns (Some input) (Some before) now r
 begun_known turns old kept start input before now (Ok outcome.Done) room begun run =
     let k = known old.room input begun.lines start.reader.room start.ahead begun.took.gave in
-    done_ends turns input begun.words k.rest begun.lines run.model start run.run.place before run.run.opened now run.run.new begun.head (gave_lines old.room input begun.lines start.reader.room k.rest k.gave) k.is (run.text begun.words begun.keeps) run.run.first run.run.playing run.run.legal
+    done_ends turns input begun.words k.rest begun.lines run.model start run.run.place before run.run.opened now run.run.new begun.head (subst (λ (n : ℕ). Gave n input begun.lines start.reader.room k.rest) room k.gave) k.is (run.text begun.words begun.keeps) run.run.first run.run.playing run.run.legal
 begun_known turns old kept start input before now (Ok outcome.Refused) room begun run =
     let k = known old.room input begun.lines start.reader.room start.ahead begun.took.gave in
-    not_built begun.words (split_is input begun.lines begun.words (lines_of k.rest) begun.head (gave_lines old.room input begun.lines start.reader.room k.rest k.gave)).text (run.0 begun.words begun.keeps) run.1
+    not_built begun.words begun.lines start.reader.room k.rest (subst (λ (n : ℕ). Gave n input begun.lines start.reader.room k.rest) room k.gave) begun.head.text (split_is input begun.lines begun.words (lines_of k.rest) begun.head (gave_lines old.room input begun.lines start.reader.room k.rest k.gave)).text (run.0 begun.words begun.keeps) run.1
 begun_known turns old kept start input before now (Err halt.Limit) room begun run =
     let k = known old.room input begun.lines start.reader.room start.ahead begun.took.gave in
     limit_ends turns input begun.words k.rest begun.lines run.model start before run.run.opened now run.run.new begun.head (subst (λ (n : ℕ). Gave n input begun.lines start.reader.room k.rest) room k.gave) k.is (run.text begun.words begun.keeps) run.run.first run.run.playing run.run.legal
@@ -336,34 +382,34 @@ begun_ran turns old kept start (Some input) (Some before) now r room begun run =
 
 -- ---- the end of a run whose text has no `begin`
 
-no_begin_ran : (turns : ℕ) (old new : Reader) (input after held now : Option (List ℕ)) → HasNoBegin old input new after → Adds held now no_begin_line → RanKnown turns input held now (Ok outcome.Refused)
-no_begin_ran turns old new None after held now head adds = tt
-no_begin_ran turns old new (Some input) after None now head adds = tt
-no_begin_ran turns old new (Some input) after (Some before) now head adds =
+no_begin_ran : (turns : ℕ) (old new : Reader) (input after held now : Option (List ℕ)) → old.room ≡ total_limit → HasNoBegin old input new after → Adds held now no_begin_line → RanKnown turns input held now (Ok outcome.Refused)
+no_begin_ran turns old new None after held now room head adds = tt
+no_begin_ran turns old new (Some input) after None now room head adds = tt
+no_begin_ran turns old new (Some input) after (Some before) now room head adds =
     let k = known old.room input head.lines new.room after head.took.gave in
     let none : k.rest ≡ [] = (let h : Some k.rest ≡ Some [] = sym k.is ∙ head.used_up in (cc)) in
-    no_begin (ap model_text_of (gave_lines old.room input head.lines new.room k.rest k.gave ∙ ap (λ (r : List ℕ). head.lines ++ lines_of r) none ∙ append-nil head.lines) ∙ head.none) adds
+    no_begin head.lines new.room (subst (λ (r : List ℕ). Gave total_limit input head.lines new.room r) none (subst (λ (n : ℕ). Gave n input head.lines new.room k.rest) room k.gave)) (ap model_text_of (gave_lines old.room input head.lines new.room k.rest k.gave ∙ ap (λ (r : List ℕ). head.lines ++ lines_of r) none ∙ append-nil head.lines) ∙ head.none) adds
 
 -- the refusal's line may fail to be written
-refused_ran : (turns : ℕ) (old new : Reader) (input after held now : Option (List ℕ)) (r : Result Outcome Halt) (faults later : ℕ)
+refused_ran : (turns : ℕ) (old new : Reader) (input after held now : Option (List ℕ)) (r : Result Outcome Halt) (faults later : ℕ) → old.room ≡ total_limit
     → HasNoBegin old input new after → OnOk r (Adds held now no_begin_line) → IfOk r (λ o. o ≡ outcome.Refused) → IfErr r (WriteStops faults later) → RanKnown turns input held now r
-refused_ran turns old new input after held now (Ok outcome.Refused) faults later head adds refused cause = no_begin_ran turns old new input after held now head adds
-refused_ran turns old new input after held now (Ok outcome.Done) faults later head adds refused cause = absurd (let h : outcome.Done ≡ outcome.Refused = refused in (cc))
-refused_ran turns old new input after held now (Err halt.Limit) faults later head adds refused cause = absurd cause
-refused_ran turns old new input after held now (Err halt.Full) faults later head adds refused cause = absurd cause
-refused_ran turns old new input after held now (Err halt.Read) faults later head adds refused cause = free_read input held
+refused_ran turns old new input after held now (Ok outcome.Refused) faults later room head adds refused cause = no_begin_ran turns old new input after held now room head adds
+refused_ran turns old new input after held now (Ok outcome.Done) faults later room head adds refused cause = absurd (let h : outcome.Done ≡ outcome.Refused = refused in (cc))
+refused_ran turns old new input after held now (Err halt.Limit) faults later room head adds refused cause = absurd cause
+refused_ran turns old new input after held now (Err halt.Full) faults later room head adds refused cause = absurd cause
+refused_ran turns old new input after held now (Err halt.Read) faults later room head adds refused cause = free_read input held
   where
     free_read : (input held : Option (List ℕ)) → RanKnown turns input held now (Err halt.Read)
     free_read None held = tt
     free_read (Some input) None = tt
     free_read (Some input) (Some before) = tt
-refused_ran turns old new input after held now (Err halt.Write) faults later head adds refused cause = free_write input held
+refused_ran turns old new input after held now (Err halt.Write) faults later room head adds refused cause = free_write input held
   where
     free_write : (input held : Option (List ℕ)) → RanKnown turns input held now (Err halt.Write)
     free_write None held = tt
     free_write (Some input) None = tt
     free_write (Some input) (Some before) = tt
-refused_ran turns old new input after held now (Err halt.Memory) faults later head adds refused cause = free_memory input held
+refused_ran turns old new input after held now (Err halt.Memory) faults later room head adds refused cause = free_memory input held
   where
     free_memory : (input held : Option (List ℕ)) → RanKnown turns input held now (Err halt.Memory)
     free_memory None held = tt
@@ -412,10 +458,10 @@ none_ahead (Some bytes) = refl
 all_ahead : (old : Reader) (left : Option (List ℕ)) → old.held ≡ [] → ahead old.held left ≡ left
 all_ahead old left e = ap (λ (h : List ℕ). ahead h left) e ∙ none_ahead left
 
-pub refused_solo : (turns : ℕ) (old new : Reader) (left after held now : Option (List ℕ)) (r : Result Outcome Halt) (faults later : ℕ) → old.held ≡ []
+pub refused_solo : (turns : ℕ) (old new : Reader) (left after held now : Option (List ℕ)) (r : Result Outcome Halt) (faults later : ℕ) → old.held ≡ [] → old.room ≡ total_limit
     → HasNoBegin old (ahead old.held left) new after → OnOk r (Adds held now no_begin_line) → IfOk r (λ o. o ≡ outcome.Refused) → IfErr r (WriteStops faults later) → RanKnown turns left held now r
-refused_solo turns old new left after held now r faults later empty head adds refused cause =
-    refused_ran turns old new left after held now r faults later (subst (λ (b : Option (List ℕ)). HasNoBegin old b new after) (all_ahead old left empty) head) adds refused cause
+refused_solo turns old new left after held now r faults later empty room head adds refused cause =
+    refused_ran turns old new left after held now r faults later room (subst (λ (b : Option (List ℕ)). HasNoBegin old b new after) (all_ahead old left empty) head) adds refused cause
 
 pub begun_solo : (turns : ℕ) (old : Reader) (kept : Option (Vec ℕ Global)) (new : Reader) (left after held now : Option (List ℕ)) (r : Result Outcome Halt) → old.held ≡ [] → old.room ≡ total_limit
     → IsBegun old (ahead old.held left) kept new (ahead new.held after) → TextRuns turns kept (place_of new after) held r now → RanKnown turns left held now r

@@ -25,7 +25,7 @@ use Rattle.pl_main.specs.Reads.{Gave, GaveKnown, Took, Why, WhyKnown, Halts, IsU
 use Rattle.pl_main.specs.Waits.{GetsMessage, GetsEnd, GetsFault, MessageGives}
 use Rattle.pl_main.specs.Tells.{IsReady, is_last, Told, ToldInPart, FillsUp}
 use Rattle.pl_main.specs.Written.{Adds}
-use Rattle.pl_main.specs.Plays.{IsLimit, Place, Plays, EndsAll, PlaysOut, TooLong, PlayHalts, Answered, Filled, line_in, StepsOn, StepFills, StepHalts, PlayFills, Steps, Playing}
+use Rattle.pl_main.specs.Plays.{IsLimit, Place, Plays, EndsAll, by_end, by_line, PlaysOut, TooLong, PlayHalts, Answered, Filled, line_in, StepsOn, StepFills, StepHalts, PlayFills, Steps, Playing}
 use Rattle.pl_main.proofs.Reading.{gave_none, known_append}
 use Rattle.pl_main.proofs.Beginning.{took_more}
 use Rattle.pl_main.proofs.Writing.{some_held, adds_then}
@@ -67,7 +67,7 @@ pub none_left : messages_of [] ≡ None ∷ []
 unfolding messages_of
 none_left = refl
 
-not_single : {A : Type 0} (x y : A) (xs : List A) → x ∷ [] ≡ xs ++ y ∷ [] → (xs ≡ []) × (x ≡ y)
+pub not_single : {A : Type 0} (x y : A) (xs : List A) → x ∷ [] ≡ xs ++ y ∷ [] → (xs ≡ []) × (x ≡ y)
 not_single x y [] e = (refl, let h : x ∷ [] ≡ y ∷ [] = e in (cc))
 not_single x y (z ∷ []) e = absurd (cc)
 not_single x y (z ∷ w ∷ xs) e = absurd (cc)
@@ -193,10 +193,11 @@ plays_on old mid new start middle place held written now plays step going = by_m
           written = j.text;
         }
 
-ends_known : (before after : Option (List ℕ)) (lines : List (List ℕ)) (inputs : List (Option (List ℕ))) → ((more : List (List ℕ)) → messages_of (lines ++ more) ≡ inputs) → EndsAll before after lines inputs
-ends_known None after lines inputs all = tt
-ends_known (Some bytes) None lines inputs all = tt
-ends_known (Some bytes) (Some rest) lines inputs all = all (lines_of rest)
+ends_known : (before after : Option (List ℕ)) (lines : List (List ℕ)) (inputs front : List (Option (List ℕ))) (line : List ℕ) → inputs ≡ front ++ Some line ∷ [] → ((more : List (List ℕ)) → messages_of (lines ++ more) ≡ inputs)
+    → EndsAll before after lines inputs
+ends_known None after lines inputs front line last all = tt
+ends_known (Some bytes) None lines inputs front line last all = tt
+ends_known (Some bytes) (Some rest) lines inputs front line last all = by_line front line last all
 
 ends_used : (room : ℕ) (before middle : Option (List ℕ)) (xs : List (List ℕ)) (mid : ℕ) (after : Option (List ℕ)) (lines : List (List ℕ)) (inputs : List (Option (List ℕ))) → GaveKnown room before xs mid middle → IsUsedUp middle after
     → messages_of (lines ++ []) ≡ inputs → EndsAll before after lines inputs
@@ -204,8 +205,7 @@ ends_used room None middle xs mid after lines inputs gave used all = tt
 ends_used room (Some bytes) None xs mid after lines inputs gave used all = absurd gave
 ends_used room (Some bytes) (Some m) xs mid None lines inputs gave used all = tt
 ends_used room (Some bytes) (Some m) xs mid (Some rest) lines inputs gave used all =
-    let none : rest ≡ [] = (let h : Some rest ≡ Some [] = used in (cc)) in
-    ap (λ (r : List ℕ). messages_of (lines ++ lines_of r)) none ∙ all
+    by_end (let h : Some rest ≡ Some [] = used in (cc)) (ap messages_of (sym (append-nil lines)) ∙ all)
 
 pub plays_out : (old mid new : State) (start middle place : Place) (held written now : Option (List ℕ)) → Plays old start held mid middle written → StepsOn mid middle written new place now → new.world.done ≡ true → PlaysOut old start held new place now
 plays_out old mid new start middle place held written now plays step done = by_message step.message step.gets step.told
@@ -238,7 +238,7 @@ plays_out old mid new start middle place held written now plays step done = by_m
           log = j.log;
           solo = j.solo;
           world = j.world;
-          messages = ends_known start.ahead place.ahead (plays.lines ++ (gets.lines ++ line.bytes ∷ [])) (inputs_of (plays.entries ++ told.entries))
+          messages = ends_known start.ahead place.ahead (plays.lines ++ (gets.lines ++ line.bytes ∷ [])) (inputs_of (plays.entries ++ told.entries)) (inputs_of plays.entries) line.bytes (sym inputs)
               (λ more. message_ends plays.lines gets.lines more line.bytes (inputs_of plays.entries) plays.messages gets.blank gets.message (sym told.done ∙ done) ∙ inputs);
           done = done;
           unspoiled = told.unspoiled;

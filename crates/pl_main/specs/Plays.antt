@@ -54,10 +54,15 @@ pub record Plays (old : State) (start : Place) (held : Option (List ℕ)) (new :
   pub same : SameRun old new
   pub written : Adds held now (text_from old.world.scene.model (length old.log) entries)
 
+-- the messages of these lines end with the input, or with a line, whatever stands behind it
+pub data EndsWith (rest : List ℕ) (lines : List (List ℕ)) (inputs : List (Option (List ℕ))) : Type 0 where
+  by_end : rest ≡ [] → messages_of lines ≡ inputs → EndsWith rest lines inputs
+  by_line : (front : List (Option (List ℕ))) (line : List ℕ) → inputs ≡ front ++ Some line ∷ [] → ((more : List (List ℕ)) → messages_of (lines ++ more) ≡ inputs) → EndsWith rest lines inputs
+
 -- where the bytes at the start are known, the inputs are all messages up to their end
 abbrev pub EndsAll : Option (List ℕ) → Option (List ℕ) → List (List ℕ) → List (Option (List ℕ)) → Type 0
 EndsAll None after lines inputs = ⊤
-EndsAll (Some bytes) after lines inputs = IfSome after (λ rest. messages_of (lines ++ lines_of rest) ≡ inputs)
+EndsAll (Some bytes) after lines inputs = IfSome after (λ rest. EndsWith rest lines inputs)
 
 -- All messages were taken.
 pub record PlaysOut (old : State) (start : Place) (held : Option (List ℕ)) (new : State) (place : Place) (now : Option (List ℕ)) : Type 0 where

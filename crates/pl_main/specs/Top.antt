@@ -1,5 +1,5 @@
 -- What the top call promises of `run solo N`.
-use Rattle.std.specs.Prelude.{◌≡◌, ℕ, ◌+◌, ◌≤◌, ◌⊎◌, List, [], ◌∷◌, ◌++◌, length, Bool, true, false, Option, Some, None, Result, Ok, Err, codes, ⊤}
+use Rattle.std.specs.Prelude.{◌≡◌, ◌≢◌, ℕ, ◌+◌, ◌≤◌, ◌⊎◌, List, [], ◌∷◌, ◌++◌, length, Bool, true, false, Option, Some, None, Result, Ok, Err, codes, ⊤}
 use Rattle.pl_io.specs.Lines.{next_of, line_too_long, input_too_long}
 use Rattle.pl_model.specs.declared.whole.Model.{Model}
 use Rattle.pl_machine.specs.declared.options.Options.{Options}
@@ -23,6 +23,17 @@ program_options turns = record { turns = turns; live = 10000; goals = 20000; ent
 abbrev pub total_limit : ℕ
 total_limit = 1073741824
 
+-- The lines that were read, each within the limits: the text of a model up to a `begin` line, and behind it these messages. Where the last of them is the end of the input, all bytes were read.
+pub record HasRead (words : List ℕ) (messages : List (Option (List ℕ))) (input : List ℕ) : Type 0 where
+  pub lines : List (List ℕ)
+  pub left : ℕ
+  pub rest : List ℕ
+  pub more : List (Option (List ℕ))
+  pub gave : Gave total_limit input lines left rest
+  pub text : model_text_of lines ≡ Some words
+  pub behind : messages_of (lines_behind lines) ≡ messages ++ more
+  pub used_up : (front : List (Option (List ℕ))) → messages ≡ front ++ None ∷ [] → rest ≡ []
+
 -- The run is done: what was written is the journal of a finished solo log of the input.
 pub record IsDone (turns : ℕ) (input old : List ℕ) (new : Option (List ℕ)) : Type 0 where
   pub model : Model
@@ -33,6 +44,7 @@ pub record IsDone (turns : ℕ) (input old : List ℕ) (new : Option (List ℕ))
   pub finished : Finished model log input
   pub solo : Solo model log
   pub options : options_of log ≡ program_options turns
+  pub read : HasRead words (inputs_of log) input
   pub written : new ≡ Some (old ++ text_of_log model log)
 
 abbrev pub no_begin_line : List ℕ
@@ -41,10 +53,10 @@ no_begin_line = codes "model: no begin" ++ 10 ∷ []
 abbrev pub not_built_line : List ℕ
 not_built_line = codes "model: not built" ++ 10 ∷ []
 
--- The model's text is refused: there is no `begin` line, or the text is not that of a plain model.
+-- The model's text is refused: there is no `begin` line, or the text is not that of a plain model. All lines, or those up to `begin`, are within the limits.
 pub data IsRefused (input old : List ℕ) (new : Option (List ℕ)) : Type 0 where
-  no_begin : (split_of input).text ≡ None → new ≡ Some (old ++ no_begin_line) → IsRefused input old new
-  not_built : (words : List ℕ) → (split_of input).text ≡ Some words → plain_model words ≡ None → new ≡ Some (old ++ not_built_line) → IsRefused input old new
+  no_begin : (lines : List (List ℕ)) (left : ℕ) → Gave total_limit input lines left [] → (split_of input).text ≡ None → new ≡ Some (old ++ no_begin_line) → IsRefused input old new
+  not_built : (words : List ℕ) (lines : List (List ℕ)) (left : ℕ) (rest : List ℕ) → Gave total_limit input lines left rest → model_text_of lines ≡ Some words → (split_of input).text ≡ Some words → plain_model words ≡ None → new ≡ Some (old ++ not_built_line) → IsRefused input old new
 
 -- a solo log of the program that answers the messages among these lines and waits for the next
 pub record WaitsBehind (turns : ℕ) (lines : List (List ℕ)) (old : List ℕ) (new : Option (List ℕ)) : Type 0 where
@@ -70,18 +82,7 @@ pub record IsPastLimit (turns : ℕ) (input old : List ℕ) (new : Option (List 
   pub why : (next_of 4096 left rest ≡ line_too_long) ⊎ (next_of 4096 left rest ≡ input_too_long)
   pub asked : ((model_text_of lines ≡ None) × (new ≡ Some old)) ⊎ WaitsBehind turns lines old new
 
--- The lines that were read hold a message behind those that the log answers; or all were read, and the end of the input is that message.
-pub record HasNext (log : List Entry) (input : List ℕ) : Type 0 where
-  pub lines : List (List ℕ)
-  pub left : ℕ
-  pub rest : List ℕ
-  pub next : Option (List ℕ)
-  pub more : List (Option (List ℕ))
-  pub gave : Gave total_limit input lines left rest
-  pub messages : messages_of (lines_behind lines) ≡ inputs_of log ++ next ∷ more
-  pub used_up : next ≡ None → rest ≡ []
-
--- The log answers the messages up to a place. It has as many entries as it may, and one more is due: within a round, or for the next message.
+-- The log answers the messages up to a place. It has as many entries as it may, and one more is due: within a round, or for a message that was read.
 pub record IsFull (turns : ℕ) (input old : List ℕ) (new : Option (List ℕ)) : Type 0 where
   pub model : Model
   pub log : List Entry
@@ -95,7 +96,9 @@ pub record IsFull (turns : ℕ) (input old : List ℕ) (new : Option (List ℕ))
   pub messages : (split_of input).messages ≡ inputs_of log ++ unanswered
   pub full : length log ≡ 250000
   pub going : (world_of model log).done ≡ false
-  pub due : ((world_of model log).closed ≡ false) ⊎ HasNext log input
+  pub pending : List (Option (List ℕ))
+  pub read : HasRead words (inputs_of log ++ pending) input
+  pub due : ((world_of model log).closed ≡ false) ⊎ (pending ≢ [])
   pub written : new ≡ Some (old ++ text_of_log model log)
 
 -- How a run ended, where the input's bytes and the sink's are known.
