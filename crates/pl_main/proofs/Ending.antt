@@ -27,13 +27,13 @@ use Rattle.pl_main.specs.Waits.{MessageGives}
 use Rattle.pl_main.specs.Heads.{Keeps, IsHead, IsBegun, HasNoBegin, HeadHalts}
 use Rattle.pl_main.specs.Tells.{Told, ToldInPart, FillsUp, at_once, within}
 use Rattle.pl_main.specs.Written.{Adds, WriteStops}
-use Rattle.pl_main.specs.Plays.{Place, place_of, HaltFor, IsLimit, Plays, EndsWith, by_end, by_line, EndsAll, PlaysOut, TooLong, PlayHalts, StepFills, PlayFills, Playing, line_in}
+use Rattle.pl_main.specs.Plays.{Place, place_of, HaltFor, IsLimit, Plays, EndsWith, by_end, by_line, EndsAll, PlaysOut, TooLong, StopsBy, PlayHalts, StepFills, PlayFills, Playing, line_in}
 use Rattle.pl_main.specs.Runs.{fresh_state, ModelRun, ModelRuns, IsTextOf, TextRun, TextRuns}
-use Rattle.pl_main.specs.Top.{RanKnown, program_options, total_limit, IsDone, no_begin_line, not_built_line, IsRefused, no_begin, not_built, WaitsBehind, IsPastLimit, HasRead, IsFull}
+use Rattle.pl_main.specs.Top.{RanKnown, program_options, total_limit, IsDone, no_begin_line, not_built_line, IsRefused, no_begin, not_built, WaitsBehind, IsReadFault, IsPastLimit, HasRead, IsFull}
 use Rattle.pl_main.proofs.Reading.{gave_append, gave_lines}
 use Rattle.pl_main.proofs.Beginning.{head_then}
 use Rattle.pl_main.proofs.Writing.{adds_then, log_is_short}
-use Rattle.pl_main.proofs.Playing.{blanks_first, message_first, end_first, none_left, not_single, messages_append, inputs_append, Joined, joined, too_long}
+use Rattle.pl_main.proofs.Playing.{blanks_first, message_first, end_first, none_left, not_single, messages_append, inputs_append, Joined, joined, never_full, stops_by}
 
 -- ---- a run over a model
 
@@ -41,7 +41,7 @@ pub run_stops : (turns : ℕ) (m : Model) (start place : Place) (held opened now
     → Adds held opened (text_from m 0 (opening (program_options turns) ∷ [])) → Playing (fresh_state turns m) start opened (Err e) new place now → Legal new.world.scene.model new.log → ModelRuns turns m start held (Err e) now
 run_stops turns m start place held opened now halt.Limit new first playing legal = record { opened = opened; new = new; place = place; first = first; playing = playing; legal = legal }
 run_stops turns m start place held opened now halt.Full new first playing legal = record { opened = opened; new = new; place = place; first = first; playing = playing; legal = legal }
-run_stops turns m start place held opened now halt.Read new first playing legal = tt
+run_stops turns m start place held opened now halt.Read new first playing legal = record { opened = opened; new = new; place = place; first = first; playing = playing; legal = legal }
 run_stops turns m start place held opened now halt.Write new first playing legal = tt
 run_stops turns m start place held opened now halt.Memory new first playing legal = tt
 
@@ -140,10 +140,25 @@ done_ends turns input words heads_rest heads m start place old opened now new he
       written = l.text;
     }
 
-limit_ends : (turns : ℕ) (input words heads_rest : List ℕ) (heads : List (List ℕ)) (m : Model) (start : Place) (old : List ℕ) (opened now : Option (List ℕ)) (new : State)
+-- the lines behind which no line was given
+record IsStopped (e : Halt) (turns : ℕ) (input old : List ℕ) (new : Option (List ℕ)) : Type 0 where
+  lines : List (List ℕ)
+  left : ℕ
+  rest : List ℕ
+  gave : Gave total_limit input lines left rest
+  why : StopsBy e left (Some rest)
+  asked : ((model_text_of lines ≡ None) × (new ≡ Some old)) ⊎ WaitsBehind turns lines old new
+
+past_limit : (turns : ℕ) (input old : List ℕ) (new : Option (List ℕ)) → IsStopped halt.Limit turns input old new → IsPastLimit turns input old new
+past_limit turns input old new s = record { lines = s.lines; left = s.left; rest = s.rest; gave = s.gave; why = s.why; asked = s.asked }
+
+read_fault : (turns : ℕ) (input old : List ℕ) (new : Option (List ℕ)) → IsStopped halt.Read turns input old new → IsReadFault turns input old new
+read_fault turns input old new s = record { lines = s.lines; left = s.left; rest = s.rest; gave = s.gave; asked = s.asked }
+
+stopped_ends : (e : Halt) (turns : ℕ) (input words heads_rest : List ℕ) (heads : List (List ℕ)) (m : Model) (start : Place) (old : List ℕ) (opened now : Option (List ℕ)) (new : State)
     → IsHead heads words → Gave total_limit input heads start.reader.room heads_rest → start.ahead ≡ Some heads_rest → plain_model words ≡ Some m
-    → Adds (Some old) opened (text_from m 0 (opening (program_options turns) ∷ [])) → PlayHalts (fresh_state turns m) start opened new now → Legal new.world.scene.model new.log → IsPastLimit turns input old now
-limit_ends turns input words heads_rest heads m start old opened now new head gave ahead accepted first plays legal =
+    → Adds (Some old) opened (text_from m 0 (opening (program_options turns) ∷ [])) → PlayHalts e (fresh_state turns m) start opened new now → Legal new.world.scene.model new.log → IsStopped e turns input old now
+stopped_ends e turns input words heads_rest heads m start old opened now new head gave ahead accepted first plays legal =
     let from = subst (λ (b : Option (List ℕ)). GaveKnown start.reader.room b plays.lines plays.left plays.rest) ahead plays.gave in
     let k = known start.reader.room heads_rest plays.lines plays.left plays.rest from in
     let both = head_then heads words plays.lines head in
@@ -153,7 +168,7 @@ limit_ends turns input words heads_rest heads m start old opened now new head ga
       left = plays.left;
       rest = k.rest;
       gave = gave_append total_limit input heads plays.lines start.reader.room heads_rest plays.left k.rest gave k.gave;
-      why = subst (λ (r : Option (List ℕ)). TooLong plays.left r) k.is plays.why;
+      why = subst (λ (r : Option (List ℕ)). StopsBy e plays.left r) k.is plays.why;
       asked = inr record {
         model = m;
         log = opening (program_options turns) ∷ plays.entries;
@@ -366,11 +381,13 @@ begun_known turns old kept start input before now (Ok outcome.Refused) room begu
     not_built begun.words begun.lines start.reader.room k.rest (subst (λ (n : ℕ). Gave n input begun.lines start.reader.room k.rest) room k.gave) begun.head.text (split_is input begun.lines begun.words (lines_of k.rest) begun.head (gave_lines old.room input begun.lines start.reader.room k.rest k.gave)).text (run.0 begun.words begun.keeps) run.1
 begun_known turns old kept start input before now (Err halt.Limit) room begun run =
     let k = known old.room input begun.lines start.reader.room start.ahead begun.took.gave in
-    limit_ends turns input begun.words k.rest begun.lines run.model start before run.run.opened now run.run.new begun.head (subst (λ (n : ℕ). Gave n input begun.lines start.reader.room k.rest) room k.gave) k.is (run.text begun.words begun.keeps) run.run.first run.run.playing run.run.legal
+    past_limit turns input before now (stopped_ends halt.Limit turns input begun.words k.rest begun.lines run.model start before run.run.opened now run.run.new begun.head (subst (λ (n : ℕ). Gave n input begun.lines start.reader.room k.rest) room k.gave) k.is (run.text begun.words begun.keeps) run.run.first run.run.playing run.run.legal)
+begun_known turns old kept start input before now (Err halt.Read) room begun run =
+    let k = known old.room input begun.lines start.reader.room start.ahead begun.took.gave in
+    read_fault turns input before now (stopped_ends halt.Read turns input begun.words k.rest begun.lines run.model start before run.run.opened now run.run.new begun.head (subst (λ (n : ℕ). Gave n input begun.lines start.reader.room k.rest) room k.gave) k.is (run.text begun.words begun.keeps) run.run.first run.run.playing run.run.legal)
 begun_known turns old kept start input before now (Err halt.Full) room begun run =
     let k = known old.room input begun.lines start.reader.room start.ahead begun.took.gave in
     full_ends turns input begun.words k.rest begun.lines run.model start before run.run.opened now run.run.new begun.head (subst (λ (n : ℕ). Gave n input begun.lines start.reader.room k.rest) room k.gave) k.is (run.text begun.words begun.keeps) run.run.first run.run.playing run.run.legal
-begun_known turns old kept start input before now (Err halt.Read) room begun run = tt
 begun_known turns old kept start input before now (Err halt.Write) room begun run = tt
 begun_known turns old kept start input before now (Err halt.Memory) room begun run = tt
 
@@ -397,12 +414,7 @@ refused_ran turns old new input after held now (Ok outcome.Refused) faults later
 refused_ran turns old new input after held now (Ok outcome.Done) faults later room head adds refused cause = absurd (let h : outcome.Done ≡ outcome.Refused = refused in (cc))
 refused_ran turns old new input after held now (Err halt.Limit) faults later room head adds refused cause = absurd cause
 refused_ran turns old new input after held now (Err halt.Full) faults later room head adds refused cause = absurd cause
-refused_ran turns old new input after held now (Err halt.Read) faults later room head adds refused cause = free_read input held
-  where
-    free_read : (input held : Option (List ℕ)) → RanKnown turns input held now (Err halt.Read)
-    free_read None held = tt
-    free_read (Some input) None = tt
-    free_read (Some input) (Some before) = tt
+refused_ran turns old new input after held now (Err halt.Read) faults later room head adds refused cause = absurd cause
 refused_ran turns old new input after held now (Err halt.Write) faults later room head adds refused cause = free_write input held
   where
     free_write : (input held : Option (List ℕ)) → RanKnown turns input held now (Err halt.Write)
@@ -418,22 +430,8 @@ refused_ran turns old new input after held now (Err halt.Memory) faults later ro
 
 -- ---- the end of a run that stops before `begin`
 
-limit_only : (f : LineFault) → HaltFor f halt.Limit → IsLimit f
-limit_only fault.Read is = absurd (let h : halt.Limit ≡ halt.Read = is in (cc))
-limit_only (fault.Long n) is = tt
-limit_only fault.Total is = tt
-limit_only fault.Memory is = absurd (let h : halt.Limit ≡ halt.Memory = is in (cc))
-
-never_full : (f : LineFault) → HaltFor f halt.Full → ⊥
-never_full fault.Read is = let h : halt.Full ≡ halt.Read = is in (cc)
-never_full (fault.Long n) is = let h : halt.Full ≡ halt.Limit = is in (cc)
-never_full fault.Total is = let h : halt.Full ≡ halt.Limit = is in (cc)
-never_full fault.Memory is = let h : halt.Full ≡ halt.Memory = is in (cc)
-
-head_ran : (turns : ℕ) (old : Reader) (input held : Option (List ℕ)) (f : LineFault) (e : Halt) → old.room ≡ total_limit → HeadHalts old input f → HaltFor f e → RanKnown turns input held held (Err e)
-head_ran turns old None held f e room head is = tt
-head_ran turns old (Some input) None f e room head is = tt
-head_ran turns old (Some input) (Some before) f halt.Limit room head is =
+head_stopped : (turns : ℕ) (old : Reader) (input before : List ℕ) (f : LineFault) (e : Halt) → old.room ≡ total_limit → HeadHalts old (Some input) f → HaltFor f e → IsStopped e turns input before (Some before)
+head_stopped turns old input before f e room head is =
     let halts = head.halts in
     let k = known old.room input head.lines halts.left halts.rest halts.gave in
     record {
@@ -441,11 +439,16 @@ head_ran turns old (Some input) (Some before) f halt.Limit room head is =
       left = halts.left;
       rest = k.rest;
       gave = subst (λ (n : ℕ). Gave n input head.lines halts.left k.rest) room k.gave;
-      why = subst (λ (r : Option (List ℕ)). TooLong halts.left r) k.is (too_long halts.left halts.rest f (limit_only f is) halts.why);
+      why = subst (λ (r : Option (List ℕ)). StopsBy e halts.left r) k.is (stops_by e halts.left halts.rest f is halts.why);
       asked = inl (head.none, refl);
     }
+
+head_ran : (turns : ℕ) (old : Reader) (input held : Option (List ℕ)) (f : LineFault) (e : Halt) → old.room ≡ total_limit → HeadHalts old input f → HaltFor f e → RanKnown turns input held held (Err e)
+head_ran turns old None held f e room head is = tt
+head_ran turns old (Some input) None f e room head is = tt
+head_ran turns old (Some input) (Some before) f halt.Limit room head is = past_limit turns input before (Some before) (head_stopped turns old input before f halt.Limit room head is)
 head_ran turns old (Some input) (Some before) f halt.Full room head is = absurd (never_full f is)
-head_ran turns old (Some input) (Some before) f halt.Read room head is = tt
+head_ran turns old (Some input) (Some before) f halt.Read room head is = read_fault turns input before (Some before) (head_stopped turns old input before f halt.Read room head is)
 head_ran turns old (Some input) (Some before) f halt.Write room head is = tt
 head_ran turns old (Some input) (Some before) f halt.Memory room head is = tt
 

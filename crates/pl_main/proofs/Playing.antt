@@ -25,7 +25,7 @@ use Rattle.pl_main.specs.Reads.{Gave, GaveKnown, Took, Why, WhyKnown, Halts, IsU
 use Rattle.pl_main.specs.Waits.{GetsMessage, GetsEnd, GetsFault, MessageGives}
 use Rattle.pl_main.specs.Tells.{IsReady, is_last, Told, ToldInPart, FillsUp}
 use Rattle.pl_main.specs.Written.{Adds}
-use Rattle.pl_main.specs.Plays.{IsLimit, Place, Plays, EndsAll, by_end, by_line, PlaysOut, TooLong, PlayHalts, Answered, Filled, line_in, StepsOn, StepFills, StepHalts, PlayFills, Steps, Playing}
+use Rattle.pl_main.specs.Plays.{HaltFor, IsLimit, Place, Plays, EndsAll, by_end, by_line, PlaysOut, TooLong, StopsBy, PlayHalts, Answered, Filled, line_in, StepsOn, StepFills, StepHalts, PlayFills, Steps, Playing}
 use Rattle.pl_main.proofs.Reading.{gave_none, known_append}
 use Rattle.pl_main.proofs.Beginning.{took_more}
 use Rattle.pl_main.proofs.Writing.{some_held, adds_then}
@@ -42,8 +42,24 @@ pub step_fills : (old new : State) (start place : Place) (held now : Option (Lis
     → Filled old (line_in message) held new now → StepFills old start held new place now
 step_fills old new start place held now message gets filled = record { message = message; gets = gets; fills = filled.fills; written = filled.written }
 
-pub step_halts : (old : State) (start : Place) (held : Option (List ℕ)) (f : LineFault) → GetsFault start.reader start.ahead f → IsLimit f → StepHalts old start held old held
-step_halts old start held f gets limit = record { reason = f; fault = gets; limit = limit; same = refl; written = refl }
+limit_only : (f : LineFault) → HaltFor f halt.Limit → IsLimit f
+limit_only fault.Read is = absurd (let h : halt.Limit ≡ halt.Read = is in (cc))
+limit_only (fault.Long n) is = tt
+limit_only fault.Total is = tt
+limit_only fault.Memory is = absurd (let h : halt.Limit ≡ halt.Memory = is in (cc))
+
+pub never_full : (f : LineFault) → HaltFor f halt.Full → ⊥
+never_full fault.Read is = let h : halt.Full ≡ halt.Read = is in (cc)
+never_full (fault.Long n) is = let h : halt.Full ≡ halt.Limit = is in (cc)
+never_full fault.Total is = let h : halt.Full ≡ halt.Limit = is in (cc)
+never_full fault.Memory is = let h : halt.Full ≡ halt.Memory = is in (cc)
+
+pub step_stops : (old : State) (start place : Place) (held : Option (List ℕ)) (f : LineFault) (e : Halt) → GetsFault start.reader start.ahead f → HaltFor f e → Steps old start held (Err e) old place held
+step_stops old start place held f halt.Limit gets is = record { reason = f; fault = gets; halts = is; same = refl; written = refl }
+step_stops old start place held f halt.Read gets is = record { reason = f; fault = gets; halts = is; same = refl; written = refl }
+step_stops old start place held f halt.Full gets is = absurd (never_full f is)
+step_stops old start place held f halt.Write gets is = tt
+step_stops old start place held f halt.Memory gets is = tt
 
 -- ---- messages of lines
 
@@ -253,8 +269,15 @@ too_long left (Some rest) (fault.Long n) limit why = inl why
 too_long left (Some rest) fault.Total limit why = inr why
 too_long left (Some rest) fault.Memory limit why = absurd limit
 
-pub plays_halt : (old mid new : State) (start middle : Place) (held written now : Option (List ℕ)) → Plays old start held mid middle written → StepHalts mid middle written new now → PlayHalts old start held new now
-plays_halt old mid new start middle held written now plays step =
+pub stops_by : (e : Halt) (left : ℕ) (rest : Option (List ℕ)) (f : LineFault) → HaltFor f e → WhyKnown left rest f → StopsBy e left rest
+stops_by halt.Limit left rest f is why = too_long left rest f (limit_only f is) why
+stops_by halt.Read left rest f is why = tt
+stops_by halt.Write left rest f is why = tt
+stops_by halt.Full left rest f is why = tt
+stops_by halt.Memory left rest f is why = tt
+
+pub plays_halt : (e : Halt) (old mid new : State) (start middle : Place) (held written now : Option (List ℕ)) → Plays old start held mid middle written → StepHalts e mid middle written new now → PlayHalts e old start held new now
+plays_halt e old mid new start middle held written now plays step =
     let halts = step.fault.halts in
     record {
       lines = plays.lines ++ step.fault.lines;
@@ -262,7 +285,7 @@ plays_halt old mid new start middle held written now plays step =
       left = halts.left;
       rest = halts.rest;
       gave = known_append start.reader.room start.ahead plays.lines step.fault.lines middle.reader.room middle.ahead halts.left halts.rest plays.took.gave halts.gave;
-      why = too_long halts.left halts.rest step.reason step.limit halts.why;
+      why = stops_by e halts.left halts.rest step.reason step.halts halts.why;
       log = ap (λ (t : State). t.log) step.same ∙ plays.log;
       solo = plays.solo;
       world = ap (λ (t : State). t.world) step.same ∙ plays.world;
@@ -277,8 +300,8 @@ pub plays_fill : (old mid new : State) (start middle place : Place) (held writte
 plays_fill old mid new start middle place held written now plays step = record { waiting = mid; place = middle; written = written; plays = plays; behind = place; step = step }
 
 pub plays_stop : (old mid new : State) (start middle place : Place) (held written now : Option (List ℕ)) (e : Halt) → Plays old start held mid middle written → Steps mid middle written (Err e) new place now → Playing old start held (Err e) new place now
-plays_stop old mid new start middle place held written now halt.Read plays step = tt
+plays_stop old mid new start middle place held written now halt.Read plays step = plays_halt halt.Read old mid new start middle held written now plays step
 plays_stop old mid new start middle place held written now halt.Write plays step = tt
-plays_stop old mid new start middle place held written now halt.Limit plays step = plays_halt old mid new start middle held written now plays step
+plays_stop old mid new start middle place held written now halt.Limit plays step = plays_halt halt.Limit old mid new start middle held written now plays step
 plays_stop old mid new start middle place held written now halt.Full plays step = plays_fill old mid new start middle place held written now plays step
 plays_stop old mid new start middle place held written now halt.Memory plays step = tt

@@ -21,13 +21,13 @@ use Rattle.pl_main.specs.Top.{RanKnown}
 pub says_of : (turns : ℕ) (input old new : Option (List ℕ)) (r : Result Outcome Halt) → RanKnown turns input old new r → SaysKnown turns input old new (status_of r)
 says_of turns None old new r ran = tt
 says_of turns (Some input) None new r ran = tt
-says_of turns (Some input) (Some before) new (Ok outcome.Done) ran = record { done = λ e. ran; refused = λ e. absurd (omega (arith, e)); limit = λ e. absurd (omega (arith, e)); full = λ e. absurd (omega (arith, e)) }
-says_of turns (Some input) (Some before) new (Ok outcome.Refused) ran = record { done = λ e. absurd (omega (arith, e)); refused = λ e. ran; limit = λ e. absurd (omega (arith, e)); full = λ e. absurd (omega (arith, e)) }
-says_of turns (Some input) (Some before) new (Err halt.Limit) ran = record { done = λ e. absurd (omega (arith, e)); refused = λ e. absurd (omega (arith, e)); limit = λ e. ran; full = λ e. absurd (omega (arith, e)) }
-says_of turns (Some input) (Some before) new (Err halt.Full) ran = record { done = λ e. absurd (omega (arith, e)); refused = λ e. absurd (omega (arith, e)); limit = λ e. absurd (omega (arith, e)); full = λ e. ran }
-says_of turns (Some input) (Some before) new (Err halt.Read) ran = record { done = λ e. absurd (omega (arith, e)); refused = λ e. absurd (omega (arith, e)); limit = λ e. absurd (omega (arith, e)); full = λ e. absurd (omega (arith, e)) }
-says_of turns (Some input) (Some before) new (Err halt.Write) ran = record { done = λ e. absurd (omega (arith, e)); refused = λ e. absurd (omega (arith, e)); limit = λ e. absurd (omega (arith, e)); full = λ e. absurd (omega (arith, e)) }
-says_of turns (Some input) (Some before) new (Err halt.Memory) ran = record { done = λ e. absurd (omega (arith, e)); refused = λ e. absurd (omega (arith, e)); limit = λ e. absurd (omega (arith, e)); full = λ e. absurd (omega (arith, e)) }
+says_of turns (Some input) (Some before) new (Ok outcome.Done) ran = record { done = λ e. ran; refused = λ e. absurd (omega (arith, e)); read_fault = λ e. absurd (omega (arith, e)); limit = λ e. absurd (omega (arith, e)); full = λ e. absurd (omega (arith, e)) }
+says_of turns (Some input) (Some before) new (Ok outcome.Refused) ran = record { done = λ e. absurd (omega (arith, e)); refused = λ e. ran; read_fault = λ e. absurd (omega (arith, e)); limit = λ e. absurd (omega (arith, e)); full = λ e. absurd (omega (arith, e)) }
+says_of turns (Some input) (Some before) new (Err halt.Limit) ran = record { done = λ e. absurd (omega (arith, e)); refused = λ e. absurd (omega (arith, e)); read_fault = λ e. absurd (omega (arith, e)); limit = λ e. ran; full = λ e. absurd (omega (arith, e)) }
+says_of turns (Some input) (Some before) new (Err halt.Full) ran = record { done = λ e. absurd (omega (arith, e)); refused = λ e. absurd (omega (arith, e)); read_fault = λ e. absurd (omega (arith, e)); limit = λ e. absurd (omega (arith, e)); full = λ e. ran }
+says_of turns (Some input) (Some before) new (Err halt.Read) ran = record { done = λ e. absurd (omega (arith, e)); refused = λ e. absurd (omega (arith, e)); read_fault = λ e. ran; limit = λ e. absurd (omega (arith, e)); full = λ e. absurd (omega (arith, e)) }
+says_of turns (Some input) (Some before) new (Err halt.Write) ran = record { done = λ e. absurd (omega (arith, e)); refused = λ e. absurd (omega (arith, e)); read_fault = λ e. absurd (omega (arith, e)); limit = λ e. absurd (omega (arith, e)); full = λ e. absurd (omega (arith, e)) }
+says_of turns (Some input) (Some before) new (Err halt.Memory) ran = record { done = λ e. absurd (omega (arith, e)); refused = λ e. absurd (omega (arith, e)); read_fault = λ e. absurd (omega (arith, e)); limit = λ e. absurd (omega (arith, e)); full = λ e. absurd (omega (arith, e)) }
 
 pub status_is : (r : Result Outcome Halt) → IsSoloStatus (status_of r)
 status_is (Ok outcome.Done) = is_done refl

@@ -83,14 +83,22 @@ abbrev pub TooLong : ℕ → Option (List ℕ) → Type 0
 TooLong left None = ⊤
 TooLong left (Some rest) = (next_of 4096 left rest ≡ line_too_long) ⊎ (next_of 4096 left rest ≡ input_too_long)
 
--- The next line is too long, or the input is, while the machine waits for a message.
-pub record PlayHalts (old : State) (start : Place) (held : Option (List ℕ)) (new : State) (now : Option (List ℕ)) : Type 0 where
+-- why no line is given behind those that were
+abbrev pub StopsBy : Halt → ℕ → Option (List ℕ) → Type 0
+StopsBy halt.Limit left rest = TooLong left rest
+StopsBy halt.Read left rest = ⊤
+StopsBy halt.Write left rest = ⊤
+StopsBy halt.Full left rest = ⊤
+StopsBy halt.Memory left rest = ⊤
+
+-- The next line is not given, while the machine waits for a message.
+pub record PlayHalts (e : Halt) (old : State) (start : Place) (held : Option (List ℕ)) (new : State) (now : Option (List ℕ)) : Type 0 where
   pub lines : List (List ℕ)
   pub entries : List Entry
   pub left : ℕ
   pub rest : Option (List ℕ)
   pub gave : GaveKnown start.reader.room start.ahead lines left rest
-  pub why : TooLong left rest
+  pub why : StopsBy e left rest
   pub log : new.log ≡ old.log ++ entries
   pub solo : solo_from old.world entries
   pub world : new.world ≡ world_from old.world entries
@@ -135,19 +143,19 @@ pub record StepFills (old : State) (start : Place) (held : Option (List ℕ)) (n
   pub fills : FillsUp old (line_in message) new
   pub written : Adds held now (text_from old.world.scene.model (length old.log) (drop (length old.log) new.log))
 
--- The next line is not given, by a limit.
-pub record StepHalts (old : State) (start : Place) (held : Option (List ℕ)) (new : State) (now : Option (List ℕ)) : Type 0 where
+-- The next line is not given.
+pub record StepHalts (e : Halt) (old : State) (start : Place) (held : Option (List ℕ)) (new : State) (now : Option (List ℕ)) : Type 0 where
   pub reason : LineFault
   pub fault : GetsFault start.reader start.ahead reason
-  pub limit : IsLimit reason
+  pub halts : HaltFor reason e
   pub same : new ≡ old
   pub written : now ≡ held
 
 abbrev pub Steps : State → Place → Option (List ℕ) → Result Bool Halt → State → Place → Option (List ℕ) → Type 0
 Steps old start held (Ok done) new place now = StepsOn old start held new place now × (done ≡ new.world.done)
-Steps old start held (Err halt.Limit) new place now = StepHalts old start held new now
+Steps old start held (Err halt.Limit) new place now = StepHalts halt.Limit old start held new now
 Steps old start held (Err halt.Full) new place now = StepFills old start held new place now
-Steps old start held (Err halt.Read) new place now = ⊤
+Steps old start held (Err halt.Read) new place now = StepHalts halt.Read old start held new now
 Steps old start held (Err halt.Write) new place now = ⊤
 Steps old start held (Err halt.Memory) new place now = ⊤
 
@@ -162,8 +170,8 @@ pub record PlayFills (old : State) (start : Place) (held : Option (List ℕ)) (n
 
 abbrev pub Playing : State → Place → Option (List ℕ) → Result (Unit {0}) Halt → State → Place → Option (List ℕ) → Type 0
 Playing old start held (Ok u) new place now = PlaysOut old start held new place now
-Playing old start held (Err halt.Limit) new place now = PlayHalts old start held new now
+Playing old start held (Err halt.Limit) new place now = PlayHalts halt.Limit old start held new now
 Playing old start held (Err halt.Full) new place now = PlayFills old start held new now
-Playing old start held (Err halt.Read) new place now = ⊤
+Playing old start held (Err halt.Read) new place now = PlayHalts halt.Read old start held new now
 Playing old start held (Err halt.Write) new place now = ⊤
 Playing old start held (Err halt.Memory) new place now = ⊤

@@ -33,7 +33,7 @@ abbrev pub ModelRuns : ℕ → Model → Place → Option (List ℕ) → Result 
 ModelRuns turns model start held (Ok u) now = ModelRun turns model start held now (Ok u)
 ModelRuns turns model start held (Err halt.Limit) now = ModelRun turns model start held now (Err halt.Limit)
 ModelRuns turns model start held (Err halt.Full) now = ModelRun turns model start held now (Err halt.Full)
-ModelRuns turns model start held (Err halt.Read) now = ⊤
+ModelRuns turns model start held (Err halt.Read) now = ModelRun turns model start held now (Err halt.Read)
 ModelRuns turns model start held (Err halt.Write) now = ⊤
 ModelRuns turns model start held (Err halt.Memory) now = ⊤
 
@@ -51,6 +51,6 @@ TextRuns turns kept start held (Ok outcome.Refused) now = IsTextOf kept None × 
 TextRuns turns kept start held (Ok outcome.Done) now = TextRun turns kept start held now (Ok tt)
 TextRuns turns kept start held (Err halt.Limit) now = TextRun turns kept start held now (Err halt.Limit)
 TextRuns turns kept start held (Err halt.Full) now = TextRun turns kept start held now (Err halt.Full)
-TextRuns turns kept start held (Err halt.Read) now = ⊤
+TextRuns turns kept start held (Err halt.Read) now = TextRun turns kept start held now (Err halt.Read)
 TextRuns turns kept start held (Err halt.Write) now = ⊤
 TextRuns turns kept start held (Err halt.Memory) now = ⊤

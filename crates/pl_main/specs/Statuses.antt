@@ -8,7 +8,7 @@ use Rattle.pl_main.specs.declared.halt.Halt.{Halt}
 use Rattle.pl_main.specs.declared.halt.Halt.TheVariants as halt
 use Rattle.pl_main.specs.declared.outcome.Outcome.{Outcome}
 use Rattle.pl_main.specs.declared.outcome.Outcome.TheVariants as outcome
-use Rattle.pl_main.specs.Top.{IsDone, IsRefused, IsPastLimit, IsFull}
+use Rattle.pl_main.specs.Top.{IsDone, IsRefused, IsReadFault, IsPastLimit, IsFull}
 
 -- 0 done, 3 the model is refused, 4 a read failed, 5 a write failed, 6 a line or the input is too long, 7 the log is full, 9 memory
 abbrev pub status_of : Result Outcome Halt → ℕ
@@ -30,6 +30,7 @@ turns_of (task.Solo turns) = turns
 pub record Says (turns : ℕ) (input old : List ℕ) (new : Option (List ℕ)) (status : ℕ) : Type 0 where
   pub done : status ≡ 0 → IsDone turns input old new
   pub refused : status ≡ 3 → IsRefused input old new
+  pub read_fault : status ≡ 4 → IsReadFault turns input old new
   pub limit : status ≡ 6 → IsPastLimit turns input old new
   pub full : status ≡ 7 → IsFull turns input old new
 

@@ -82,6 +82,14 @@ pub record IsPastLimit (turns : ℕ) (input old : List ℕ) (new : Option (List 
   pub why : (next_of 4096 left rest ≡ line_too_long) ⊎ (next_of 4096 left rest ≡ input_too_long)
   pub asked : ((model_text_of lines ≡ None) × (new ≡ Some old)) ⊎ WaitsBehind turns lines old new
 
+-- A read failed: behind these lines, while the model's text was read or a message was due.
+pub record IsReadFault (turns : ℕ) (input old : List ℕ) (new : Option (List ℕ)) : Type 0 where
+  pub lines : List (List ℕ)
+  pub left : ℕ
+  pub rest : List ℕ
+  pub gave : Gave total_limit input lines left rest
+  pub asked : ((model_text_of lines ≡ None) × (new ≡ Some old)) ⊎ WaitsBehind turns lines old new
+
 -- The log answers the messages up to a place. It has as many entries as it may, and one more is due: within a round, or for a message that was read.
 pub record IsFull (turns : ℕ) (input old : List ℕ) (new : Option (List ℕ)) : Type 0 where
   pub model : Model
@@ -107,7 +115,7 @@ Ran turns input old new (Ok outcome.Done) = IsDone turns input old new
 Ran turns input old new (Ok outcome.Refused) = IsRefused input old new
 Ran turns input old new (Err halt.Limit) = IsPastLimit turns input old new
 Ran turns input old new (Err halt.Full) = IsFull turns input old new
-Ran turns input old new (Err halt.Read) = ⊤
+Ran turns input old new (Err halt.Read) = IsReadFault turns input old new
 Ran turns input old new (Err halt.Write) = ⊤
 Ran turns input old new (Err halt.Memory) = ⊤
 

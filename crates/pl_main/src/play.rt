@@ -60,7 +60,7 @@ pub fn halt_of(fault: LineFault) -> Halt
 }
 
 /// Reads the next message and answers it. Answers whether the run is done.
-#[tactic(auto, using(crate::proofs::Playing::input_fits, crate::proofs::Playing::step_on, crate::proofs::Playing::step_fills, crate::proofs::Playing::step_halts))]
+#[tactic(auto, using(crate::proofs::Playing::input_fits, crate::proofs::Playing::step_on, crate::proofs::Playing::step_fills, crate::proofs::Playing::step_stops))]
 fn step<S: Source, O: Sink>(
     alloc: Global,
     machine: &mut Machine,
