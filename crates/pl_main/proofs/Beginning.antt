@@ -1,14 +1,13 @@
 -- The model's text, line by line.
-use Rattle.std.proofs.Common.{◌≡◌, ℕ, ◌+◌, ◌<◌, ◌≤◌, List, [], ◌∷◌, ◌++◌, length, Bool, true, false, if◌then◌else◌, Option, Some, None, Result, Ok, Err, refl, sym, ◌∙◌, ap, subst, append_assoc}
+use Rattle.std.proofs.Common.{◌≡◌, ℕ, List, [], ◌∷◌, ◌++◌, Bool, true, false, if◌then◌else◌, Option, Some, None, refl, ◌∙◌, ap}
 use Rattle.std.proofs.lemmas.List.{append-nil}
 use Rattle.std.proofs.lemmas.Grind.{flat_map-append}
-use Rattle.std.specs.List.{flat_map}
 use Rattle.std.specs.declared.vec.Vec.{Vec}
 use Rattle.std.specs.declared.alloc.Global.{Global}
 use Rattle.pl_io.specs.declared.errors.LineFault.{LineFault}
 use Rattle.pl_io.specs.Reader.{Reader}
 use Rattle.pl_machine.specs.Lines.{is_line_of, begin_word, text_before, model_text_of, lines_behind, with_newline}
-use Rattle.pl_main.specs.Reads.{GaveKnown, Took, Halts, IsUsedUp}
+use Rattle.pl_main.specs.Reads.{Took, Halts, IsUsedUp}
 use Rattle.pl_main.specs.Heads.{Keeps, IsHead, text_of_lines, IsBefore, IsBegun, HasNoBegin, HeadHalts, LooksOn, SeesBegin}
 use Rattle.pl_main.proofs.Reading.{gave_none, known_append, used_later}
 

@@ -1,11 +1,10 @@
 -- The end of a run over an input: from its head, and from what was played.
-use Rattle.std.proofs.Common.{◌≡◌, ◌≢◌, ℕ, ◌+◌, ◌≤◌, List, [], ◌∷◌, ◌++◌, length, drop, OnOk, IfOk, IfErr, Bool, true, false, Option, Some, None, IfSome, ◌⊎◌, inl, inr, Result, Ok, Err, refl, sym, ◌∙◌, ap, subst, append_assoc, arith}
+use Rattle.std.proofs.Common.{◌≡◌, ◌≢◌, ℕ, ◌≤◌, List, [], ◌∷◌, ◌++◌, length, drop, OnOk, IfOk, IfErr, Bool, true, false, Option, Some, None, ◌⊎◌, inl, inr, Result, Ok, Err, refl, sym, ◌∙◌, ap, subst, append_assoc, arith}
 use Rattle.std.proofs.lemmas.List.{append-nil}
 use Rattle.std.specs.declared.vec.Vec.{Vec}
 use Rattle.std.specs.declared.alloc.Global.{Global}
 use Rattle.pl_io.specs.declared.errors.LineFault.{LineFault}
-use Rattle.pl_io.specs.declared.errors.LineFault.TheVariants as fault
-use Rattle.pl_io.specs.Lines.{ahead, lines_of, next_of, line_too_long, input_too_long}
+use Rattle.pl_io.specs.Lines.{ahead, lines_of}
 use Rattle.pl_io.specs.Reader.{Reader, NumberedLine}
 use Rattle.pl_model.specs.declared.whole.Model.{Model}
 use Rattle.pl_machine.specs.declared.event.Entry.{Entry}
@@ -22,18 +21,18 @@ use Rattle.pl_main.specs.declared.halt.Halt.{Halt}
 use Rattle.pl_main.specs.declared.halt.Halt.TheVariants as halt
 use Rattle.pl_main.specs.declared.outcome.Outcome.{Outcome}
 use Rattle.pl_main.specs.declared.outcome.Outcome.TheVariants as outcome
-use Rattle.pl_main.specs.Reads.{Gave, GaveKnown, Took, Halts, WhyKnown, IsUsedUp, AreBlank}
+use Rattle.pl_main.specs.Reads.{Gave, GaveKnown, IsUsedUp, AreBlank}
 use Rattle.pl_main.specs.Waits.{MessageGives}
-use Rattle.pl_main.specs.Heads.{Keeps, IsHead, IsBegun, HasNoBegin, HeadHalts}
-use Rattle.pl_main.specs.Tells.{Told, ToldInPart, FillsUp, at_once, within}
+use Rattle.pl_main.specs.Heads.{IsHead, IsBegun, HasNoBegin, HeadHalts}
+use Rattle.pl_main.specs.Tells.{FillsUp, at_once, within}
 use Rattle.pl_main.specs.Written.{Adds, WriteStops}
-use Rattle.pl_main.specs.Plays.{Place, place_of, HaltFor, IsLimit, Plays, EndsWith, by_end, by_line, EndsAll, PlaysOut, TooLong, StopsBy, PlayHalts, StepFills, PlayFills, Playing, line_in}
-use Rattle.pl_main.specs.Runs.{fresh_state, ModelRun, ModelRuns, IsTextOf, TextRun, TextRuns}
-use Rattle.pl_main.specs.Top.{RanKnown, program_options, total_limit, IsDone, no_begin_line, not_built_line, IsRefused, no_begin, not_built, WaitsBehind, IsReadFault, IsPastLimit, HasRead, IsFull}
+use Rattle.pl_main.specs.Plays.{Place, place_of, HaltFor, Plays, EndsWith, by_end, by_line, EndsAll, PlaysOut, StopsBy, PlayHalts, PlayFills, Playing, line_in}
+use Rattle.pl_main.specs.Runs.{fresh_state, ModelRuns, TextRuns}
+use Rattle.pl_main.specs.Top.{RanKnown, program_options, total_limit, IsDone, no_begin_line, no_begin, not_built, WaitsBehind, IsReadFault, IsPastLimit, HasRead, IsFull}
 use Rattle.pl_main.proofs.Reading.{gave_append, gave_lines}
 use Rattle.pl_main.proofs.Beginning.{head_then}
 use Rattle.pl_main.proofs.Writing.{adds_then, log_is_short}
-use Rattle.pl_main.proofs.Playing.{blanks_first, message_first, end_first, none_left, not_single, messages_append, inputs_append, Joined, joined, never_full, stops_by}
+use Rattle.pl_main.proofs.Playing.{blanks_first, message_first, end_first, none_left, not_single, messages_append, inputs_append, joined, never_full, stops_by}
 
 -- ---- a run over a model
 

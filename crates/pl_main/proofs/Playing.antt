@@ -1,13 +1,11 @@
 -- Message after message.
-use Rattle.std.proofs.Common.{◌≡◌, ℕ, ◌+◌, ◌<◌, ◌≤◌, List, [], ◌∷◌, ◌++◌, length, drop, Bool, true, false, if◌then◌else◌, Option, Some, None, IfSome, ◌⊎◌, inl, inr, Result, Ok, Err, refl, sym, ◌∙◌, ap, subst, append_assoc, arith, length-append}
+use Rattle.std.proofs.Common.{◌≡◌, ℕ, ◌+◌, List, [], ◌∷◌, ◌++◌, length, drop, Bool, true, false, Option, Some, None, inl, inr, Ok, Err, refl, sym, ◌∙◌, ap, subst, append_assoc, length-append}
 use Rattle.std.proofs.lemmas.List.{append-nil}
 use Rattle.std.proofs.lemmas.List.Elements.{filter_map-append}
 use Rattle.pl_io.specs.declared.errors.LineFault.{LineFault}
 use Rattle.pl_io.specs.declared.errors.LineFault.TheVariants as fault
-use Rattle.pl_io.specs.Lines.{lines_of, next_of, line_too_long, input_too_long}
-use Rattle.pl_io.specs.Reader.{Reader, NumberedLine}
+use Rattle.pl_io.specs.Reader.{NumberedLine}
 use Rattle.pl_model.specs.declared.whole.Model.{Model}
-use Rattle.pl_machine.specs.declared.options.Options.{Options}
 use Rattle.pl_machine.specs.declared.event.Entry.{Entry}
 use Rattle.pl_machine.specs.Lines.{is_blank_line, is_line_of, end_word, messages_from, messages_of}
 use Rattle.pl_machine.specs.World.{World}
@@ -21,9 +19,9 @@ use Rattle.pl_journal.specs.Lines.{text_from}
 use Rattle.pl_journal.proofs.Texts.{text_joined}
 use Rattle.pl_main.specs.declared.halt.Halt.{Halt}
 use Rattle.pl_main.specs.declared.halt.Halt.TheVariants as halt
-use Rattle.pl_main.specs.Reads.{Gave, GaveKnown, Took, Why, WhyKnown, Halts, IsUsedUp, AreBlank}
-use Rattle.pl_main.specs.Waits.{GetsMessage, GetsEnd, GetsFault, MessageGives}
-use Rattle.pl_main.specs.Tells.{IsReady, is_last, Told, ToldInPart, FillsUp}
+use Rattle.pl_main.specs.Reads.{GaveKnown, WhyKnown, IsUsedUp, AreBlank}
+use Rattle.pl_main.specs.Waits.{GetsFault, MessageGives}
+use Rattle.pl_main.specs.Tells.{IsReady, Told}
 use Rattle.pl_main.specs.Written.{Adds}
 use Rattle.pl_main.specs.Plays.{HaltFor, IsLimit, Place, Plays, EndsAll, by_end, by_line, PlaysOut, TooLong, StopsBy, PlayHalts, Answered, Filled, line_in, StepsOn, StepFills, StepHalts, PlayFills, Steps, Playing}
 use Rattle.pl_main.proofs.Reading.{gave_none, known_append}

@@ -1,11 +1,11 @@
 -- Lines that a reader gave, one after another.
-use Rattle.std.proofs.Common.{◌≡◌, ℕ, ◌+◌, ◌<◌, ◌≤◌, List, [], ◌∷◌, ◌++◌, length, take, Bool, true, false, not, ◌&&◌, nat_lt, if◌then◌else◌, Option, Some, None, IfSome, Result, Ok, Err, refl, sym, ◌∙◌, ap, subst, append_assoc}
+use Rattle.std.proofs.Common.{◌≡◌, ℕ, ◌≤◌, List, [], ◌∷◌, ◌++◌, length, take, Bool, true, false, not, ◌&&◌, nat_lt, if◌then◌else◌, Option, Some, None, IfSome, Result, Ok, Err, refl, sym, ◌∙◌, ap, subst}
 use Rattle.pl_io.specs.declared.errors.LineFault.{LineFault}
 use Rattle.pl_io.specs.declared.errors.LineFault.TheVariants as fault
-use Rattle.pl_io.specs.Lines.{first_line, has_newline, lines_of, after_line, Next, judged, next_of, given, ended, line_too_long, input_too_long}
-use Rattle.pl_io.specs.Reader.{Reader, NumberedLine, GaveLine, Stopped, Moves, Answers, IsNextLine}
+use Rattle.pl_io.specs.Lines.{first_line, has_newline, lines_of, after_line, next_of, given, ended, line_too_long, input_too_long}
+use Rattle.pl_io.specs.Reader.{Reader, NumberedLine, Moves, Answers, IsNextLine}
 use Rattle.pl_io.proofs.LineLaws.{lines_of_next}
-use Rattle.pl_main.specs.Reads.{GaveOne, Gave, GaveKnown, Took, Why, WhyKnown, Halts, IsUsedUp, GotLine, OneLine}
+use Rattle.pl_main.specs.Reads.{Gave, GaveKnown, WhyKnown, Halts, IsUsedUp, OneLine}
 
 by_tests : (a b : Bool) (line rest : List ℕ) → (if a then line_too_long else (if b then input_too_long else given line rest)) ≡ ended → ⊥
 by_tests true b line rest e = cc

@@ -1,5 +1,5 @@
 -- Blank lines are passed over.
-use Rattle.std.proofs.Common.{◌≡◌, ℕ, ◌<◌, ◌≤◌, List, [], ◌∷◌, ◌++◌, length, Bool, true, false, Option, Some, None, refl, arith}
+use Rattle.std.proofs.Common.{◌≡◌, ℕ, List, [], ◌∷◌, ◌++◌, true, false, Option, None, arith}
 use Rattle.std.proofs.lemmas.List.{append-nil}
 use Rattle.pl_io.specs.declared.errors.LineFault.{LineFault}
 use Rattle.pl_io.specs.Reader.{Reader, NumberedLine}

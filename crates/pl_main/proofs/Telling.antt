@@ -1,10 +1,9 @@
 -- What an input does to the flags of a round.
-use Rattle.std.proofs.Common.{◌≡◌, ℕ, ◌≤◌, List, [], ◌∷◌, ◌++◌, length, Bool, true, false, not, ◌&&◌, nat_lt, nat_le, if◌then◌else◌, Option, Some, None, Result, Ok, Err, refl, sym, ◌∙◌, ap, subst, append_assoc}
+use Rattle.std.proofs.Common.{◌≡◌, ℕ, ◌≤◌, List, [], ◌∷◌, ◌++◌, length, Bool, true, false, ◌&&◌, nat_lt, nat_le, if◌then◌else◌, Option, Some, None, Result, Ok, Err, refl, sym, ◌∙◌, ap, subst, append_assoc}
 use Rattle.pl_text.specs.declared.token.Token.{Token}
 use Rattle.pl_text.specs.declared.fault.TextFault.{TextFault}
 use Rattle.pl_text.specs.Tokens.{tokens_of}
 use Rattle.pl_model.specs.declared.whole.Model.{Model}
-use Rattle.pl_machine.specs.declared.goal.Goal.{Goal}
 use Rattle.pl_machine.specs.declared.message.Message.{Message}
 use Rattle.pl_machine.specs.declared.message.Message.TheVariants as message
 use Rattle.pl_machine.specs.declared.event.Event.{Event}
@@ -13,18 +12,17 @@ use Rattle.pl_machine.specs.declared.event.Entry.{Entry}
 use Rattle.pl_machine.specs.declared.event.Reply.{Reply}
 use Rattle.pl_machine.specs.declared.event.Reply.TheVariants as reply
 use Rattle.pl_machine.specs.Lines.{says, is_only, is_line_of, end_word}
-use Rattle.pl_machine.specs.Scene.{Scene}
-use Rattle.pl_machine.specs.Messages.{is_in_range, is_accepted, number_by, kind_named, goal_by, tick_by, said_by, said_in, message_of, told_reply, told_scene}
+use Rattle.pl_machine.specs.Messages.{is_in_range, is_accepted, number_by, goal_by, tick_by, said_in, message_of, told_reply}
 use Rattle.pl_machine.specs.World.{World}
-use Rattle.pl_machine.specs.Step.{after, after_input, input_reply, round_begun}
-use Rattle.pl_machine.specs.Finished.{inputs_of, input_in}
+use Rattle.pl_machine.specs.Step.{after, after_input}
+use Rattle.pl_machine.specs.Finished.{inputs_of}
 use Rattle.pl_machine.specs.Sound.{State}
 use Rattle.pl_machine.specs.Taking.{Takes}
-use Rattle.pl_driver.specs.Rounds.{SameRun, RanTo}
+use Rattle.pl_driver.specs.Rounds.{RanTo}
 use Rattle.pl_machine.specs.declared.options.Options.{Options}
 use Rattle.pl_machine.specs.Legal.{world_from}
 use Rattle.pl_machine.specs.Solo.{IsSoloEvent, solo_from}
-use Rattle.pl_main.specs.Tells.{is_last, Hears, Told, ToldInPart, FillsUp, at_once, within}
+use Rattle.pl_main.specs.Tells.{is_last, Hears, Told, FillsUp, at_once, within}
 
 abbrev is_end : Option Message → Bool
 is_end None = false

@@ -5,7 +5,6 @@ use Rattle.std.specs.Str.{bytes_eq}
 use Rattle.std.specs.String.{string_bytes}
 use Rattle.std.specs.declared.string.String.{String}
 use Rattle.std.specs.declared.alloc.Global.{Global}
-use Rattle.pl_plain.specs.declared.command.Command.{Command}
 use Rattle.pl_plain.specs.declared.command.Command.TheVariants as command
 use Rattle.pl_plain.specs.declared.command.Task.{Task}
 use Rattle.pl_plain.specs.declared.command.Task.TheVariants as task

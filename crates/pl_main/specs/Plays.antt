@@ -1,6 +1,6 @@
 -- The messages of a run and what is written for them.
-use Rattle.std.specs.Prelude.{◌≡◌, ℕ, ◌+◌, ◌<◌, ◌≤◌, List, [], ◌∷◌, ◌++◌, length, drop, Bool, true, false, Option, Some, None, IfSome, ◌⊎◌, Result, Ok, Err, ⊤}
-use Rattle.pl_io.specs.Lines.{ahead, lines_of, next_of, line_too_long, input_too_long}
+use Rattle.std.specs.Prelude.{◌≡◌, ℕ, List, [], ◌∷◌, ◌++◌, length, drop, Bool, true, false, Option, Some, None, IfSome, ◌⊎◌, Result, Ok, Err, ⊤}
+use Rattle.pl_io.specs.Lines.{ahead, next_of, line_too_long, input_too_long}
 use Rattle.pl_io.specs.Reader.{Reader, NumberedLine}
 use Rattle.pl_io.specs.declared.errors.LineFault.{LineFault}
 use Rattle.pl_io.specs.declared.errors.LineFault.TheVariants as fault
@@ -14,8 +14,8 @@ use Rattle.pl_driver.specs.Rounds.{SameRun}
 use Rattle.pl_journal.specs.Lines.{text_from}
 use Rattle.pl_main.specs.declared.halt.Halt.{Halt}
 use Rattle.pl_main.specs.declared.halt.Halt.TheVariants as halt
-use Rattle.pl_main.specs.Reads.{GaveKnown, Took, Why, WhyKnown, Halts}
-use Rattle.pl_main.specs.Tells.{IsReady, is_last, Told, FillsUp}
+use Rattle.pl_main.specs.Reads.{GaveKnown, Took}
+use Rattle.pl_main.specs.Tells.{IsReady, Told, FillsUp}
 use Rattle.pl_main.specs.Waits.{MessageGives, GetsFault}
 use Rattle.pl_main.specs.Written.{Adds}
 

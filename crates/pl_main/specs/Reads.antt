@@ -1,8 +1,8 @@
 -- What a line reader gave of some bytes.
-use Rattle.std.specs.Prelude.{◌≡◌, ℕ, ◌+◌, ◌<◌, ◌≤◌, List, [], ◌∷◌, ◌++◌, length, Bool, true, false, Option, Some, None, IfSome, Result, Ok, Err, ⊤}
+use Rattle.std.specs.Prelude.{◌≡◌, ℕ, ◌+◌, ◌<◌, ◌≤◌, List, [], ◌∷◌, length, true, false, Option, Some, None, Result, Ok, Err, ⊤}
 use Rattle.pl_io.specs.declared.errors.LineFault.{LineFault}
 use Rattle.pl_io.specs.declared.errors.LineFault.TheVariants as fault
-use Rattle.pl_io.specs.Lines.{has_newline, after_line, next_of, given, ended, line_too_long, input_too_long}
+use Rattle.pl_io.specs.Lines.{has_newline, after_line, next_of, given, line_too_long, input_too_long}
 use Rattle.pl_io.specs.Reader.{Reader, NumberedLine}
 use Rattle.pl_machine.specs.Lines.{is_blank_line}
 

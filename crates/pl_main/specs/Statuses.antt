@@ -1,9 +1,7 @@
 -- The statuses of the program.
-use Rattle.std.specs.Prelude.{◌≡◌, ℕ, ◌≤◌, ◌⊎◌, List, Option, Some, None, Result, Ok, Err, ⊤, codes, ◌++◌, ◌∷◌, []}
+use Rattle.std.specs.Prelude.{◌≡◌, ℕ, ◌≤◌, List, Option, Some, None, Result, Ok, Err, ⊤, codes, ◌++◌, ◌∷◌, []}
 use Rattle.pl_plain.specs.declared.command.Task.{Task}
 use Rattle.pl_plain.specs.declared.command.Task.TheVariants as task
-use Rattle.pl_plain.specs.declared.command.Command.{Command}
-use Rattle.pl_plain.specs.declared.command.Command.TheVariants as command
 use Rattle.pl_main.specs.declared.halt.Halt.{Halt}
 use Rattle.pl_main.specs.declared.halt.Halt.TheVariants as halt
 use Rattle.pl_main.specs.declared.outcome.Outcome.{Outcome}

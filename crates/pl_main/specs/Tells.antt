@@ -1,6 +1,5 @@
 -- A message and its round.
 use Rattle.std.specs.Prelude.{◌≡◌, ℕ, ◌≤◌, List, [], ◌∷◌, ◌++◌, length, Bool, true, false, Option, Some, None, Result, Ok, Err, ⊤}
-use Rattle.pl_machine.specs.declared.event.Event.{Event}
 use Rattle.pl_machine.specs.declared.event.Event.TheVariants as event
 use Rattle.pl_machine.specs.declared.event.Entry.{Entry}
 use Rattle.pl_machine.specs.declared.stop.Stop.{Stop}

@@ -1,10 +1,10 @@
 -- What the top call promises of `run solo N`.
-use Rattle.std.specs.Prelude.{◌≡◌, ◌≢◌, ℕ, ◌+◌, ◌≤◌, ◌⊎◌, List, [], ◌∷◌, ◌++◌, length, Bool, true, false, Option, Some, None, Result, Ok, Err, codes, ⊤}
+use Rattle.std.specs.Prelude.{◌≡◌, ◌≢◌, ℕ, ◌⊎◌, List, [], ◌∷◌, ◌++◌, length, true, false, Option, Some, None, Result, Ok, Err, codes, ⊤}
 use Rattle.pl_io.specs.Lines.{next_of, line_too_long, input_too_long}
 use Rattle.pl_model.specs.declared.whole.Model.{Model}
 use Rattle.pl_machine.specs.declared.options.Options.{Options}
 use Rattle.pl_machine.specs.declared.event.Entry.{Entry}
-use Rattle.pl_machine.specs.Lines.{model_text_of, lines_behind, messages_of, Split, split_of}
+use Rattle.pl_machine.specs.Lines.{model_text_of, lines_behind, messages_of, split_of}
 use Rattle.pl_machine.specs.Legal.{Legal, options_of, world_of}
 use Rattle.pl_machine.specs.Solo.{Solo}
 use Rattle.pl_machine.specs.Finished.{inputs_of, Finished}

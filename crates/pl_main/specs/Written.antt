@@ -1,9 +1,6 @@
 -- What was written.
-use Rattle.std.specs.Prelude.{◌≡◌, ℕ, ◌≤◌, List, [], ◌++◌, Bool, Option, Some, None, IfSome, Result, Ok, Err, ⊤, length, drop}
+use Rattle.std.specs.Prelude.{◌≡◌, ℕ, List, ◌++◌, Option, Some, IfSome, ⊤}
 use Rattle.pl_io.specs.Faults.{Rose}
-use Rattle.pl_model.specs.declared.whole.Model.{Model}
-use Rattle.pl_machine.specs.declared.event.Entry.{Entry}
-use Rattle.pl_journal.specs.Lines.{text_from}
 use Rattle.pl_main.specs.declared.halt.Halt.{Halt}
 use Rattle.pl_main.specs.declared.halt.Halt.TheVariants as halt
 

@@ -1,4 +1,4 @@
-use Rattle.std.proofs.Common.{◌≡◌, true, sym, ◌∙◌, ap}
+use Rattle.std.proofs.Common.{sym}
 use Rattle.pl_main.proofs.Playing.{plays_out, plays_stop}
 use Rattle.pl_main.proofs.play.play.Goals as goal
 

@@ -1,4 +1,4 @@
-use Rattle.std.proofs.Common.{◌≡◌, ◌≤◌, None}
+use Rattle.std.proofs.Common.{◌≤◌}
 use Rattle.pl_main.specs.Plays.{place_of, Plays}
 use Rattle.pl_main.proofs.play.play.Given as goal
 

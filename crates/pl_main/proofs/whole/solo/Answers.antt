@@ -1,4 +1,4 @@
-use Rattle.std.proofs.Common.{◌≡◌, refl, ap}
+use Rattle.std.proofs.Common.{ap}
 use Rattle.pl_io.specs.Reader.{Reader}
 use Rattle.pl_main.proofs.Ending.{begun_solo, refused_solo}
 use Rattle.pl_main.proofs.whole.solo.Goals as goal

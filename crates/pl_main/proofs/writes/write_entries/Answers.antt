@@ -1,4 +1,4 @@
-use Rattle.std.proofs.Common.{◌≡◌, arith}
+use Rattle.std.proofs.Common.{arith}
 use Rattle.pl_main.proofs.Writing.{adds_entry}
 use Rattle.pl_main.proofs.writes.write_entries.Goals as goal
 
