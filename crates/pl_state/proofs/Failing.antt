@@ -1,11 +1,10 @@
 -- Spans of a property, one piece more.
-use Rattle.std.proofs.Common.{◌≡◌, ℕ, suc, ◌+◌, ◌-◌, ◌<◌, ◌≤◌, Bool, true, false, ◌&&◌, ◌||◌, cond, List, [], ◌∷◌, refl, ap, sym, ◌∙◌, subst, arith, ltb, leb, min, max, Result, Ok, Err, IfOk}
-use Rattle.std.proofs.lemmas.Bool.{cond_both, leb-true, leb-false}
+use Rattle.std.proofs.Common.{◌≡◌, ℕ, ◌-◌, ◌<◌, ◌≤◌, Bool, true, false, ◌&&◌, ◌||◌, cond, List, [], ◌∷◌, refl, ap, sym, ◌∙◌, subst, arith, leb, min, max, Result, Ok, Err, IfOk}
+use Rattle.std.proofs.lemmas.Bool.{leb-true, leb-false}
 use Rattle.pl_points.specs.declared.span.Span.{Span}
-use Rattle.pl_points.specs.Spans.{within, covers, AreApart, AreMaximal, span, joined, spans_of}
+use Rattle.pl_points.specs.Spans.{within, AreApart, AreMaximal, span, joined}
 use Rattle.pl_points.proofs.Spanning.{or_nil, and_true, apart_wider, apart-joined, covers-joined, piece_more}
 use Rattle.pl_points.proofs.Cuts.{within_high, within_low}
-use Rattle.pl_points.proofs.Maximal.{is_spans_of, later_maximal}
 
 no_and : (b : Bool) → (b && false) ≡ false
 no_and true = refl

@@ -2,7 +2,8 @@ pub mod Orders
 pub mod Failing
 pub mod Renewed
 pub mod Lists
-pub mod Groups
+pub mod Grouping
 pub mod Staying
 pub mod Steps
 pub mod Windows
+pub mod Changing

@@ -31,15 +31,17 @@ in_append same (z ∷ zs) ys x = ap (λ b. same z x || b) (in_append same zs ys 
 
 pub held_wide : {T : Type 0} (same : T → T → Bool) (p all q xs : List T) → Held same all xs → Held same (p ++ (all ++ q)) xs
 held_wide same p all q [] held = tt
-held_wide same p all q (x ∷ xs) held =
-    (in_append same p (all ++ q) x ∙ (ap (λ b. is_in same p x || b) (in_append same all q x ∙ ap (λ b. b || is_in same q x) held.0) ∙ or_yes (is_in same p x)),
-    held_wide same p all q xs held.1)
+held_wide same p all q (x ∷ xs) held = (
+  in_append same p (all ++ q) x ∙ (ap (λ b. is_in same p x || b) (in_append same all q x ∙ ap (λ b. b || is_in same q x) held.0) ∙ or_yes (is_in same p x)),
+  held_wide same p all q xs held.1,
+)
 
 pub held_self : {T : Type 0} (same : T → T → Bool) → ((x : T) → same x x ≡ true) → (p xs : List T) → Held same (p ++ xs) xs
 held_self same itself p [] = tt
-held_self same itself p (x ∷ xs) =
-    (in_append same p (x ∷ xs) x ∙ (ap (λ b. is_in same p x || (b || is_in same xs x)) (itself x) ∙ or_yes (is_in same p x)),
-    subst (λ l. Held same l xs) (append_assoc p (x ∷ []) xs) (held_self same itself (p ++ x ∷ []) xs))
+held_self same itself p (x ∷ xs) = (
+  in_append same p (x ∷ xs) x ∙ (ap (λ b. is_in same p x || (b || is_in same xs x)) (itself x) ∙ or_yes (is_in same p x)),
+  subst (λ l. Held same l xs) (append_assoc p (x ∷ []) xs) (held_self same itself (p ++ x ∷ []) xs),
+)
 
 pub held_parts : {T : Type 0} (same : T → T → Bool) (all xs ys : List T) → Held same all (xs ++ ys) → Held same all xs × Held same all ys
 held_parts same all [] ys held = (tt, held)

@@ -1,13 +1,13 @@
 -- Sets in order, and the state that they leave.
-use Rattle.std.proofs.Common.{◌≡◌, ℕ, zero, suc, ◌+◌, ◌-◌, ◌<◌, ◌≤◌, Bool, true, false, ◌&&◌, ◌||◌, cond, List, [], ◌∷◌, ◌++◌, length, get_or, take, drop, refl, ap, sym, ◌∙◌, subst, arith, eqb, ltb, leb, min, inl, inr}
-use Rattle.std.proofs.lemmas.Bool.{cond_both, or_cases, and_parts, or_parts, eqb-true, true≢false, false≢true, ltb-true, ltb-false, leb-true, leb-false, lt-ltb, le-ltb, le-leb, lt-leb}
-use Rattle.std.proofs.lemmas.Bool.Decides.{nat_tests}
+use Rattle.std.proofs.Common.{◌≡◌, ℕ, zero, suc, ◌<◌, ◌≤◌, Bool, true, false, ◌&&◌, cond, List, [], ◌∷◌, ◌++◌, length, get_or, take, drop, refl, ap, sym, ◌∙◌, arith, eqb, ltb, leb, inl, inr}
+use Rattle.std.proofs.lemmas.Bool.{cond_both, or_cases, and_parts, or_parts, eqb-true, ltb-true, ltb-false, leb-true, leb-false, le-ltb, le-leb, lt-leb}
 use Rattle.std.proofs.lemmas.List.{drop_all}
 use Rattle.pl_points.specs.Lists.{front, back}
 use Rattle.pl_points.specs.Standing.{without}
 use Rattle.pl_points.proofs.Parting.{NonePass, IsParted, drop_next, back_fails}
 use Rattle.pl_state.specs.declared.reservation.Setting.{Setting}
 use Rattle.pl_state.specs.Sets.{set_before, same_setting, with_set, AreInOrder, is_passed, state_from}
+use Rattle.pl_state.specs.Near.{rest_after, next_moment}
 
 none_passed : (at c : ℕ) (xs : List Setting) → at < c → AreInOrder c xs → NonePass (is_passed at) xs
 none_passed at c [] lt ordered = tt
@@ -119,6 +119,13 @@ without_at same u xs i p rest lt is yes_same =
     let f : without same u (p ∷ drop (suc i) xs) ≡ drop (suc i) xs = rw yes_same refl in
     ap (λ l. take i xs ++ l) (sym f ∙ sym (ap (without same u) e)) ∙ rest
 
+-- and what follows it
+pub rest_at : {X : Type 0} (same : X → X → Bool) (u : X) (xs : List X) (i : ℕ) (p : X) → rest_after same u (drop i xs) ≡ rest_after same u xs → i < length xs → p ≡ get_or xs i p → same p u ≡ true → drop (suc i) xs ≡ rest_after same u xs
+rest_at same u xs i p rest lt is yes_same =
+    let e : drop i xs ≡ p ∷ drop (suc i) xs = drop_next xs i p lt ∙ ap (λ q. q ∷ drop (suc i) xs) (sym is) in
+    let f : rest_after same u (p ∷ drop (suc i) xs) ≡ drop (suc i) xs = rw yes_same refl in
+    sym f ∙ (sym (ap (rest_after same u) e) ∙ rest)
+
 pub next_late : (at i : ℕ) (xs : List Setting) (p : Setting) → drop i xs ≡ back (is_passed at) xs → i < length xs → p ≡ get_or xs i p → (at < p.at) × (back (is_passed at) xs ≡ p ∷ drop (suc i) xs)
 next_late at i xs p rest lt is =
     let e : back (is_passed at) xs ≡ p ∷ drop (suc i) xs = sym rest ∙ (drop_next xs i p lt ∙ ap (λ q. q ∷ drop (suc i) xs) (sym is)) in
@@ -132,6 +139,15 @@ same_head at xs p q l k e f = heads (sym e ∙ f)
 
 pub none_left : (at i : ℕ) (xs : List Setting) (q : Setting) (k : List Setting) → drop i xs ≡ back (is_passed at) xs → length xs ≤ i → back (is_passed at) xs ≡ q ∷ k → ⊥
 none_left at i xs q k rest le e = let h : [] ≡ q ∷ k = sym (drop_all i xs le) ∙ (rest ∙ e) in cc
+
+-- the next set after a moment is not before it
+pub later_moment : (h m : ℕ) (xs : List Setting) → m ≤ h → m ≤ next_moment h (back (is_passed m) xs)
+later_moment h m [] le = le
+later_moment h m (x ∷ xs) le = cases (leb x.at m) refl (later_moment h m xs le)
+  where
+    cases : (b : Bool) → leb x.at m ≡ b → m ≤ next_moment h (back (is_passed m) xs) → m ≤ next_moment h (cond b (back (is_passed m) xs) (x ∷ xs))
+    cases true e more = more
+    cases false e more = omega (arith, le, leb-false x.at m e)
 
 tails_of : {X : Type 0} (x : X) (l k : List X) → x ∷ l ≡ x ∷ k → l ≡ k
 tails_of x l k h = cc

@@ -1,16 +1,14 @@
 -- Which of the steps that are not allowed a change leaves as they were.
-use Rattle.std.proofs.Common.{◌≡◌, ℕ, zero, suc, ◌+◌, drop, ◌<◌, ◌≤◌, ◌&&◌, not, Bool, true, false, cond, List, [], ◌∷◌, ◌++◌, refl, ap, sym, ◌∙◌, subst, arith, ltb, leb, min}
+use Rattle.std.proofs.Common.{◌≡◌, ℕ, zero, suc, drop, ◌<◌, ◌≤◌, ◌&&◌, not, Bool, true, false, cond, List, [], ◌∷◌, ◌++◌, refl, ap, sym, ◌∙◌, arith, ltb, leb}
 use Rattle.std.proofs.lemmas.Bool.{and_parts, ltb-true, ltb-false, leb-true, leb-false, lt-ltb, le-ltb, le-leb, lt-leb}
 use Rattle.std.proofs.lemmas.List.{append_assoc}
 use Rattle.pl_points.specs.Lists.{front, back}
-use Rattle.pl_points.specs.Standing.{without}
 use Rattle.pl_points.proofs.Parting.{NonePass, IsParted}
 use Rattle.pl_state.specs.declared.reservation.Setting.{Setting}
 use Rattle.pl_state.specs.declared.answer.BadSet.{BadSet}
-use Rattle.pl_state.specs.Sets.{set_before, same_setting, with_set, AreInOrder, is_passed, is_counted, state_from, bad_set, bad_from}
-use Rattle.pl_state.specs.Near.{next_moment, rest_after, comes_before, bad_before, bad_by, AreBadInOrder, state_before}
-use Rattle.pl_state.proofs.Orders.{not_before, before_earlier}
-use Rattle.pl_state.proofs.Staying.{no_and, same_at}
+use Rattle.pl_state.specs.Sets.{AreInOrder, is_passed, is_counted, state_from, bad_set, bad_from}
+use Rattle.pl_state.specs.Near.{comes_before, bad_before, bad_by, AreBadInOrder, state_before}
+use Rattle.pl_state.proofs.Staying.{no_and}
 
 -- whether a set is told
 abbrev pub told : (ℕ → ℕ → Bool) → ℕ → ℕ → ℕ → ℕ → Setting → Bool

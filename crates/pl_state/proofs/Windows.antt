@@ -1,14 +1,13 @@
 -- What is told outside the window of a change.
-use Rattle.std.proofs.Common.{◌≡◌, ℕ, ◌<◌, ◌≤◌, ◌&&◌, not, Bool, true, false, cond, List, [], ◌∷◌, ◌++◌, refl, ap, sym, ◌∙◌, subst, arith, ltb, leb, min}
-use Rattle.std.proofs.lemmas.Bool.{and_parts, ltb-true, ltb-false, leb-true, leb-false, lt-ltb, le-ltb, le-leb, lt-leb}
+use Rattle.std.proofs.Common.{◌≡◌, ℕ, ◌<◌, ◌≤◌, ◌&&◌, not, Bool, true, false, cond, List, [], ◌∷◌, ◌++◌, refl, ap, sym, ◌∙◌, arith, ltb, leb, min}
+use Rattle.std.proofs.lemmas.Bool.{and_parts, ltb-true, ltb-false, leb-true, leb-false, lt-ltb, le-leb}
 use Rattle.pl_points.specs.Lists.{front, back}
 use Rattle.pl_points.specs.Standing.{without}
 use Rattle.pl_state.specs.declared.reservation.Setting.{Setting}
-use Rattle.pl_state.specs.declared.answer.BadSet.{BadSet}
 use Rattle.pl_state.specs.Sets.{set_before, same_setting, with_set, AreInOrder, is_passed, is_counted, bad_set, bad_from}
 use Rattle.pl_state.specs.Near.{next_moment, rest_after, bad_before, bad_by}
 use Rattle.pl_state.proofs.Orders.{not_before, before_earlier}
-use Rattle.pl_state.proofs.Staying.{no_and, same_at}
+use Rattle.pl_state.proofs.Staying.{same_at}
 use Rattle.pl_state.proofs.Steps.{told, told_below, back_over, front_same, front_none, none_late}
 
 pub put_front : (al : ℕ → ℕ → Bool) (base h mo s a c : ℕ) (u : Setting) (xs : List Setting) → AreInOrder c xs → a ≤ u.at → front (bad_before a) (bad_from al base h mo s xs) ≡ front (bad_before a) (bad_from al base h mo s (with_set u xs))

@@ -1,5 +1,5 @@
 -- Musts of a state, in order, and where they are broken.
-use Rattle.std.specs.Prelude.{◌≡◌, ℕ, ◌-◌, ◌&&◌, ◌||◌, ◌==◌, not, nat_lt, max, min, Bool, List, [], ◌∷◌, ◌++◌}
+use Rattle.std.specs.Prelude.{ℕ, ◌-◌, ◌&&◌, ◌||◌, ◌==◌, not, nat_lt, max, min, Bool, List, [], ◌∷◌, ◌++◌}
 use Rattle.pl_points.specs.declared.span.Span.{Span}
 use Rattle.pl_points.specs.Lists.{front, back}
 use Rattle.pl_points.specs.Spans.{spans_of}

@@ -2,9 +2,11 @@
 #![tactic(auto)]
 
 mod answer;
+mod groups;
 mod line;
 mod listed;
 mod musts;
+mod near;
 mod reservation;
 mod sets;
 #[cfg(test)]

@@ -1,15 +1,17 @@
 ghost use Rattle.std.specs.Prelude.{◌≡◌, ◌<◌, ◌≤◌, true, false, [], OnOk, OnErr, IfOk, IsErr};
 ghost use Rattle.pl_points.specs.Standing.{without};
-ghost use Rattle.pl_state.specs.Sets.{AreInOrder, setting_of, same_setting, with_set, state_from, is_allowed, bad_from};
-ghost use Rattle.pl_state.specs.Musts.{must_of, same_must, with_must, broken_all};
+ghost use Rattle.pl_state.specs.Sets.{setting_of, same_setting, with_set};
+ghost use Rattle.pl_state.specs.Musts.{must_of, same_must, with_must};
 ghost use Rattle.pl_state.specs.Lines.{AreChanges, state_at, broken_now, bad_now};
 
 use crate::answer::{BadSet, BrokenMust, StateChange};
-use crate::listed::compare;
-use crate::musts::{broken_of, insert_must, remove_must};
+use crate::groups::{need_must, remove_group};
+use crate::listed::{Difference, answer};
+use crate::musts::remove_must;
+use crate::near::mend;
 use crate::reservation::{Must, Setting};
-use crate::sets::{bad_of, insert_set, remove_set, state_of};
-use pl_lists::Copied;
+use crate::sets::{end_of_base, insert_set, remove_set, state_of};
+use pl_lists::{Copied, Items};
 use pl_points::Span;
 use std::alloc::{AllocError, Global};
 use std::marker::Model;
@@ -27,7 +29,9 @@ pub struct StateLine {
     spoiled: bool,
     sets: Vec<Setting>,
     musts: Vec<Must>,
+    // The broken spans of each must after those of the one before, and how many each must has.
     broken: Vec<BrokenMust>,
+    counts: Vec<usize>,
     bad: Vec<BadSet>,
 }
 
@@ -39,37 +43,18 @@ impl Model for StateLine {
 
     ghost view = { λ c. make c.spoiled c.horizon c.any c.steps.items c.moment c.base c.value c.sets.items c.musts.items };
 
-    ghost invariant = { λ c. c.spoiled ≡ false → IsSound (make c.spoiled c.horizon c.any c.steps.items c.moment c.base c.value c.sets.items c.musts.items) c.broken.items c.bad.items };
+    ghost invariant = { λ c. c.spoiled ≡ false → IsSound (make c.spoiled c.horizon c.any c.steps.items c.moment c.base c.value c.sets.items c.musts.items) c.broken.items c.counts.items c.bad.items };
 }
 
-// Works both lists out anew, and says what changed.
-fn renew(
-    alloc: Global,
-    any: bool,
-    steps: &[(u32, u32)],
-    base: u32,
-    value: u32,
-    present: Span,
-    sets: &[Setting],
-    musts: &[Must],
-    broken: &mut Vec<BrokenMust>,
-    bad: &mut Vec<BadSet>,
-) -> Result<StateChange, AllocError>
-    requires { AreInOrder 0 sets.now }
-    ensures broken { OnOk result (broken.new.items ≡ broken_all (λ t. state_from base t value sets.now) present.from present.to musts.now) }
-    ensures bad { OnOk result (bad.new.items ≡ bad_from (is_allowed any steps.now) base present.to present.from value sets.now) }
-    ensures change { IfOk result (λ c. AreChanges broken.old.items broken.new.items bad.old.items bad.new.items c) }
+// Steps that stay as they are.
+fn no_steps(alloc: Global) -> Difference<BadSet>
+    ensures went { result.went ≡ [] }
+    ensures came { result.came ≡ [] }
 {
-    let broken_after = broken_of(alloc, sets, base, value, present, musts)?;
-    let counted = Span {
-        from: base,
-        to: present.to,
-    };
-    let bad_after = bad_of(alloc, any, steps, counted, present.from, value, sets)?;
-    let change = compare(alloc, broken, &broken_after, bad, &bad_after)?;
-    *broken = broken_after;
-    *bad = bad_after;
-    Ok(change)
+    Difference {
+        went: Items::new(alloc),
+        came: Items::new(alloc),
+    }
 }
 
 impl StateLine {
@@ -97,6 +82,7 @@ impl StateLine {
             sets: Vec::new(alloc),
             musts: Vec::new(alloc),
             broken: Vec::new(alloc),
+            counts: Vec::new(alloc),
             bad: Vec::new(alloc),
         })
     }
@@ -120,28 +106,28 @@ impl StateLine {
             return Err(AllocError);
         }
         self.spoiled = true;
-        insert_set(
-            &mut self.sets,
-            Setting {
-                at,
-                id,
-                index,
-                state,
-            },
-        )?;
+        let set = Setting {
+            at,
+            id,
+            index,
+            state,
+        };
+        let near = insert_set(&mut self.sets, set, self.horizon)?;
         let present = Span {
             from: self.moment,
             to: self.horizon,
         };
-        let change = renew(
+        let change = mend(
             self.alloc,
             self.any,
             &self.steps,
             self.base,
             self.value,
             present,
+            near,
             &self.sets,
             &self.musts,
+            &mut self.counts,
             &mut self.broken,
             &mut self.bad,
         )?;
@@ -167,28 +153,28 @@ impl StateLine {
             return Err(AllocError);
         }
         self.spoiled = true;
-        remove_set(
-            &mut self.sets,
-            Setting {
-                at,
-                id,
-                index,
-                state,
-            },
-        );
+        let set = Setting {
+            at,
+            id,
+            index,
+            state,
+        };
+        let near = remove_set(&mut self.sets, set, self.horizon);
         let present = Span {
             from: self.moment,
             to: self.horizon,
         };
-        let change = renew(
+        let change = mend(
             self.alloc,
             self.any,
             &self.steps,
             self.base,
             self.value,
             present,
+            near,
             &self.sets,
             &self.musts,
+            &mut self.counts,
             &mut self.broken,
             &mut self.bad,
         )?;
@@ -215,34 +201,30 @@ impl StateLine {
             return Err(AllocError);
         }
         self.spoiled = true;
-        insert_must(
-            &mut self.musts,
-            Must {
-                from,
-                to,
-                id,
-                index,
-                state,
-            },
-        )?;
         let present = Span {
             from: self.moment,
             to: self.horizon,
         };
-        let change = renew(
+        let must = Must {
+            from,
+            to,
+            id,
+            index,
+            state,
+        };
+        let difference = need_must(
             self.alloc,
-            self.any,
-            &self.steps,
+            &self.sets,
             self.base,
             self.value,
             present,
-            &self.sets,
-            &self.musts,
+            must,
+            &mut self.musts,
+            &mut self.counts,
             &mut self.broken,
-            &mut self.bad,
         )?;
         self.spoiled = false;
-        Ok(change)
+        Ok(answer(difference, no_steps(self.alloc)))
     }
 
     /// Takes out a must that stands. On want of memory the timeline is spoiled.
@@ -264,34 +246,17 @@ impl StateLine {
             return Err(AllocError);
         }
         self.spoiled = true;
-        remove_must(
-            &mut self.musts,
-            Must {
-                from,
-                to,
-                id,
-                index,
-                state,
-            },
-        );
-        let present = Span {
-            from: self.moment,
-            to: self.horizon,
+        let must = Must {
+            from,
+            to,
+            id,
+            index,
+            state,
         };
-        let change = renew(
-            self.alloc,
-            self.any,
-            &self.steps,
-            self.base,
-            self.value,
-            present,
-            &self.sets,
-            &self.musts,
-            &mut self.broken,
-            &mut self.bad,
-        )?;
+        let place = remove_must(&mut self.musts, must);
+        let difference = remove_group(self.alloc, place, &mut self.counts, &mut self.broken)?;
         self.spoiled = false;
-        Ok(change)
+        Ok(answer(difference, no_steps(self.alloc)))
     }
 
     /// Sets the base at the present moment: sets up to it count no more. On want of memory the timeline is spoiled.
@@ -310,15 +275,21 @@ impl StateLine {
             from: self.moment,
             to: self.horizon,
         };
-        let change = renew(
+        let near = Span {
+            from: self.moment,
+            to: end_of_base(&self.sets, self.moment, self.horizon),
+        };
+        let change = mend(
             self.alloc,
             self.any,
             &self.steps,
             self.moment,
             state,
             present,
+            near,
             &self.sets,
             &self.musts,
+            &mut self.counts,
             &mut self.broken,
             &mut self.bad,
         )?;
@@ -346,15 +317,21 @@ impl StateLine {
             from: now,
             to: self.horizon,
         };
-        let change = renew(
+        let near = Span {
+            from: self.moment,
+            to: now,
+        };
+        let change = mend(
             self.alloc,
             self.any,
             &self.steps,
             self.base,
             self.value,
             present,
+            near,
             &self.sets,
             &self.musts,
+            &mut self.counts,
             &mut self.broken,
             &mut self.bad,
         )?;
@@ -402,6 +379,7 @@ impl Copied for StateLine {
         let sets = Vec::from_slice(self.alloc, self.sets.as_slice())?;
         let musts = Vec::from_slice(self.alloc, self.musts.as_slice())?;
         let broken = Vec::from_slice(self.alloc, self.broken.as_slice())?;
+        let counts = Vec::from_slice(self.alloc, self.counts.as_slice())?;
         let bad = Vec::from_slice(self.alloc, self.bad.as_slice())?;
         Ok(StateLine {
             alloc: self.alloc,
@@ -415,6 +393,7 @@ impl Copied for StateLine {
             sets,
             musts,
             broken,
+            counts,
             bad,
         })
     }

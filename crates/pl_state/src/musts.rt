@@ -3,7 +3,7 @@ ghost use Rattle.pl_points.specs.Lists.{front, back};
 ghost use Rattle.pl_points.specs.Spans.{span, joined, spans_of};
 ghost use Rattle.pl_points.specs.Standing.{without};
 ghost use Rattle.pl_state.specs.Sets.{AreInOrder, state_from};
-ghost use Rattle.pl_state.specs.Musts.{must_before, same_must, with_must, broken_spans, broken_all};
+ghost use Rattle.pl_state.specs.Musts.{must_before, same_must, broken_spans, broken_one};
 
 use crate::answer::BrokenMust;
 use crate::reservation::{Must, Setting};
@@ -26,7 +26,7 @@ fn is_same(one: Must, other: Must) -> bool
 }
 
 // How many musts come before the must.
-fn place_of(musts: &[Must], must: Must) -> usize
+pub(crate) fn place_of(musts: &[Must], must: Must) -> usize
     ensures bound { result ≤ length musts.now }
     ensures front { take result musts.now ≡ front (must_before must) musts.now }
 {
@@ -40,29 +40,10 @@ fn place_of(musts: &[Must], must: Must) -> usize
     count
 }
 
-// Puts the must in its place.
-pub(crate) fn insert_must(musts: &mut Vec<Must>, must: Must) -> Result<(), AllocError>
-    ensures { OnOk result (musts.new.items ≡ with_must must musts.old.items) }
-{
-    let place = place_of(musts, must);
-    musts.insert(place, must)?;
-    Ok(())
-}
-
-// Takes the first such must out.
-pub(crate) fn remove_must(musts: &mut Vec<Must>, must: Must)
-    ensures { musts.new.items ≡ without same_must must musts.old.items }
-{
-    let place = first_place(musts, must);
-    if place >= musts.len() {
-        return;
-    }
-    musts.remove(place);
-}
-
 // How many musts come before the first such must.
 fn first_place(musts: &[Must], must: Must) -> usize
-    ensures { take result musts.now ++ drop (suc result) musts.now ≡ without same_must must musts.now }
+    ensures bound { result ≤ length musts.now }
+    ensures gone { take result musts.now ++ drop (suc result) musts.now ≡ without same_must must musts.now }
 {
     let mut count = 0;
     for other in musts {
@@ -72,6 +53,20 @@ fn first_place(musts: &[Must], must: Must) -> usize
         count += 1;
     }
     count
+}
+
+// Takes the first such must out, and says where it stood.
+pub(crate) fn remove_must(musts: &mut Vec<Must>, must: Must) -> usize
+    ensures bound { result ≤ length musts.old.items }
+    ensures gone { take result musts.old.items ++ drop (suc result) musts.old.items ≡ without same_must must musts.old.items }
+    ensures musts { musts.new.items ≡ without same_must must musts.old.items }
+{
+    let place = first_place(musts, must);
+    if place >= musts.len() {
+        return place;
+    }
+    musts.remove(place);
+    place
 }
 
 // Puts a span after the others, joined to the last where they touch.
@@ -166,22 +161,20 @@ fn push_broken(broken: &mut Vec<BrokenMust>, must: Must, spans: &[Span]) -> Resu
     Ok(())
 }
 
-// Where the musts are broken.
-pub(crate) fn broken_of(
+// Where the must is broken.
+pub(crate) fn group_of(
     alloc: Global,
     sets: &[Setting],
     base: u32,
     value: u32,
     present: Span,
-    musts: &[Must],
+    must: Must,
 ) -> Result<Vec<BrokenMust>, AllocError>
     requires { AreInOrder 0 sets.now }
-    ensures { IfOk result (λ v. v.items ≡ broken_all (λ t. state_from base t value sets.now) present.from present.to musts.now) }
+    ensures { IfOk result (λ v. v.items ≡ broken_one (λ t. state_from base t value sets.now) present.from present.to must) }
 {
-    let mut broken = Vec::new(alloc);
-    for must in musts {
-        let spans = spans_of_must(alloc, sets, base, value, present, *must)?;
-        push_broken(&mut broken, *must, &spans)?;
-    }
-    Ok(broken)
+    let spans = spans_of_must(alloc, sets, base, value, present, must)?;
+    let mut group = Vec::new(alloc);
+    push_broken(&mut group, must, &spans)?;
+    Ok(group)
 }

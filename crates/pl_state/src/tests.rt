@@ -1,82 +1,115 @@
-use crate::{BadSet, BrokenMust, Must, Setting, StateLine};
+ghost use Rattle.std.specs.Prelude.{◌≡◌, ◌<◌, ◌≤◌, OnOk, IfOk};
+
+use crate::{BadSet, BrokenMust, Must, Setting, StateChange, StateLine};
 use pl_lists::Copied;
+use std::alloc::{AllocError, Global};
 use std::test::Fail;
 
 const STEPS: [(u32, u32); 3] = [(0, 1), (1, 2), (2, 0)];
 
+// States off, warm and on, with the horizon 100; off at first.
+fn camera(alloc: Global) -> Result<StateLine, AllocError>
+    ensures horizon { IfOk result (λ l. l.horizon ≡ 100) }
+    ensures moment { IfOk result (λ l. l.moment ≡ 0) }
+{
+    let line = StateLine::new(alloc, 100, 3, 0, false, STEPS.as_slice())?;
+    Ok(line)
+}
+
+fn put(line: &mut StateLine, at: u32, id: u32, state: u32) -> Result<StateChange, AllocError>
+    requires { 1 ≤ at }
+    ensures horizon { OnOk result (line.new.horizon ≡ line.old.horizon) }
+    ensures moment { OnOk result (line.new.moment ≡ line.old.moment) }
+{
+    let change = line.put(at, id, 0, state)?;
+    Ok(change)
+}
+
+fn at(line: &StateLine, t: u32) -> u32
+    requires now { line.now.moment ≤ t }
+    requires before_horizon { t < line.now.horizon }
+{
+    line.at(t)
+}
+
+fn bad(at: u32, id: u32) -> BadSet {
+    BadSet { at, id, index: 0 }
+}
+
+fn broken(from: u32, to: u32) -> BrokenMust {
+    BrokenMust {
+        id: 5,
+        index: 1,
+        from,
+        to,
+    }
+}
+
+fn has(line: &StateLine, musts: &[BrokenMust], steps: &[BadSet]) -> bool {
+    !line.spoiled() && line.broken_musts() == musts && line.bad_steps() == steps
+}
+
 #[test]
 fn two_sets_at_one_moment(rt: HostRuntime) -> Result<(), Fail> {
-    let mut right = StateLine::new(rt.alloc(), 100, 3, 0, false, STEPS.as_slice())?;
-    right.put(10, 7, 0, 2)?;
-    right.put(10, 3, 0, 1)?;
-    assert!(rt; right.at(9) == 0 && right.at(10) == 2);
-    assert!(rt; right.bad_steps().is_empty());
-
-    let mut wrong = StateLine::new(rt.alloc(), 100, 3, 0, false, STEPS.as_slice())?;
-    wrong.put(10, 3, 0, 2)?;
-    let change = wrong.put(10, 7, 0, 1)?;
-    assert!(rt; wrong.at(10) == 1);
-    let bad = [
-        BadSet {
-            at: 10,
-            id: 3,
-            index: 0,
-        },
-        BadSet {
-            at: 10,
-            id: 7,
-            index: 0,
-        },
-    ];
-    assert!(rt; wrong.bad_steps() == bad.as_slice());
-    assert!(rt;
-        change.steps_came.as_slice()
-            == [BadSet {
-                at: 10,
-                id: 7,
-                index: 0
-            }]
-            .as_slice()
-    );
-    let copy = change.copy(rt.alloc())?;
-    assert!(rt; copy.steps_went.is_empty() && copy.musts_went.is_empty());
-    let gone = wrong.take(10, 3, 0, 2)?;
-    assert!(rt; wrong.bad_steps().is_empty() && gone.steps_went.len() == 2);
+    let mut right = camera(rt.alloc())?;
+    put(&mut right, 10, 7, 2)?;
+    put(&mut right, 10, 3, 1)?;
+    assert!(rt; at(&right, 9) == 0 && at(&right, 10) == 2);
+    assert!(rt; has(&right, &[], &[]));
     Ok(())
 }
 
 #[test]
-fn musts_and_the_base(rt: HostRuntime) -> Result<(), Fail> {
-    let mut line = StateLine::new(rt.alloc(), 100, 3, 0, false, STEPS.as_slice())?;
-    let needed = line.need(20, 40, 5, 1, 1)?;
-    let broken = BrokenMust {
-        id: 5,
-        index: 1,
-        from: 20,
-        to: 40,
-    };
-    assert!(rt; needed.musts_came.as_slice() == [broken].as_slice());
-    line.put(25, 2, 0, 1)?;
-    let rest = BrokenMust {
-        id: 5,
-        index: 1,
-        from: 20,
-        to: 25,
-    };
-    assert!(rt; line.broken_musts() == [rest].as_slice());
-    line.advance(22)?;
-    let later = BrokenMust {
-        id: 5,
-        index: 1,
-        from: 22,
-        to: 25,
-    };
-    assert!(rt; line.broken_musts() == [later].as_slice());
-    line.rebase(1)?;
-    assert!(rt; line.broken_musts().is_empty() && line.at(22) == 1);
+fn two_sets_the_other_way(rt: HostRuntime) -> Result<(), Fail> {
+    let mut wrong = camera(rt.alloc())?;
+    put(&mut wrong, 10, 3, 2)?;
+    let change = put(&mut wrong, 10, 7, 1)?;
+    assert!(rt; at(&wrong, 10) == 1);
+    assert!(rt; has(&wrong, &[], &[bad(10, 3), bad(10, 7)]));
+    assert!(rt; change.steps_came.as_slice() == [bad(10, 7)].as_slice());
+    let copy = change.copy(rt.alloc())?;
+    assert!(rt; copy.steps_went.is_empty() && copy.musts_went.is_empty());
+    let gone = wrong.take(10, 3, 0, 2)?;
+    assert!(rt; has(&wrong, &[], &[]) && gone.steps_went.len() == 2);
+    Ok(())
+}
+
+// A must from 20 up to 40 whose state comes at 25.
+fn late(alloc: Global) -> Result<StateLine, AllocError>
+    ensures horizon { IfOk result (λ l. l.horizon ≡ 100) }
+    ensures moment { IfOk result (λ l. l.moment ≡ 0) }
+{
+    let mut line = camera(alloc)?;
+    line.need(20, 40, 5, 1, 1)?;
+    put(&mut line, 25, 2, 1)?;
+    Ok(line)
+}
+
+#[test]
+fn a_must(rt: HostRuntime) -> Result<(), Fail> {
+    let mut line = late(rt.alloc())?;
+    assert!(rt; has(&line, &[broken(20, 25)], &[]));
+    let gone = line.take(25, 2, 0, 1)?;
+    assert!(rt; gone.musts_went.as_slice() == [broken(20, 25)].as_slice());
+    assert!(rt; gone.musts_came.as_slice() == [broken(20, 40)].as_slice());
     let copy = line.copy(rt.alloc())?;
     line.free(20, 40, 5, 1, 1)?;
-    assert!(rt; !line.spoiled() && !copy.spoiled());
+    assert!(rt; has(&line, &[], &[]) && has(&copy, &[broken(20, 40)], &[]));
+    Ok(())
+}
+
+#[test]
+fn a_must_and_the_base(rt: HostRuntime) -> Result<(), Fail> {
+    let mut line = late(rt.alloc())?;
+    line.advance(22)?;
+    assert!(rt; has(&line, &[broken(22, 25)], &[]));
+    line.rebase(1)?;
+    assert!(rt; has(&line, &[], &[]) && at(&line, 22) == 1);
+    Ok(())
+}
+
+#[test]
+fn copies(rt: HostRuntime) -> Result<(), Fail> {
     let set = Setting {
         at: 1,
         id: 2,
@@ -93,12 +126,6 @@ fn musts_and_the_base(rt: HostRuntime) -> Result<(), Fail> {
     }
     .copy(rt.alloc())?;
     assert!(rt; set.at == 1 && must.to == 2);
-    let bad = BadSet {
-        at: 1,
-        id: 2,
-        index: 3,
-    }
-    .copy(rt.alloc())?;
-    assert!(rt; bad.id == 2 && broken.copy(rt.alloc())?.to == 40);
+    assert!(rt; bad(1, 2).copy(rt.alloc())?.id == 2 && broken(3, 40).copy(rt.alloc())?.to == 40);
     Ok(())
 }

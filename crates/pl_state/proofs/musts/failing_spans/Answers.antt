@@ -1,9 +1,9 @@
-use Rattle.std.proofs.Common.{rules, ◌≡◌, ◌<◌, ◌≤◌, ◌-◌, ◌==◌, ℕ, Bool, List, arith, ap, sym, ◌∙◌, refl, subst}
+use Rattle.std.proofs.Common.{◌≡◌, ◌==◌, ℕ, Bool, arith, ap, sym, ◌∙◌, subst}
 use Rattle.std.specs.Prelude.{not}
-use Rattle.pl_points.specs.Spans.{AreMaximal, spans_of}
+use Rattle.pl_points.specs.Spans.{AreMaximal}
 use Rattle.pl_points.proofs.Maximal.{is_spans_of}
 use Rattle.pl_state.specs.Sets.{state_from}
-use Rattle.pl_state.proofs.Failing.{more_maximal, none_maximal}
+use Rattle.pl_state.proofs.Failing.{more_maximal}
 use Rattle.pl_state.proofs.musts.failing_spans.Goals as goal
 
 pub pieces-preserved : goal.pieces-preserved

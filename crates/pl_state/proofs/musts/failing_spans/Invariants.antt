@@ -1,5 +1,5 @@
 -- the spans up to the moment that the loop has come to
-use Rattle.std.proofs.Common.{◌≡◌, ◌≤◌, ◌-◌, ◌==◌, ℕ, not}
+use Rattle.std.proofs.Common.{◌≤◌, ◌-◌, ◌==◌, not}
 use Rattle.pl_points.specs.Spans.{AreMaximal}
 use Rattle.pl_state.specs.Sets.{state_from}
 use Rattle.pl_state.proofs.musts.failing_spans.Given as goal

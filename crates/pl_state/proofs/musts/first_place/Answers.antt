@@ -1,13 +1,12 @@
-use Rattle.std.proofs.Common.{rules, ◌≡◌, ◌<◌, ◌≤◌, ◌+◌, ◌-◌, suc, ℕ, [], ◌∷◌, ◌++◌, List, length, take, drop, arith, ap, sym, ◌∙◌, refl, get_or, subst, true, false, cond, ltb}
-use Rattle.std.proofs.lemmas.List.{get_or_default, drop_all}
-use Rattle.pl_points.specs.Lists.{front, back}
+use Rattle.std.proofs.Common.{◌≡◌, sym, ◌∙◌, get_or, true}
+use Rattle.std.proofs.lemmas.List.{get_or_default}
 use Rattle.pl_state.specs.declared.reservation.Must.{Must}
 use Rattle.pl_state.specs.Musts.{same_must}
-use Rattle.pl_state.proofs.Orders.{parted_passed, state_stays, state_none, state_last, without_at, next_late, same_head, none_left}
+use Rattle.pl_state.proofs.Orders.{without_at}
 use Rattle.pl_state.proofs.musts.first_place.Goals as goal
 
-pub returns-then-is_same : goal.returns-then-is_same
-returns-then-is_same c =
+pub returns-then-is_same-clause-gone : goal.returns-then-is_same-clause-gone
+returns-then-is_same-clause-gone c =
     let xs = c.args.musts.now in
     let i = c.loop-other.other-index in
     let p : Must = get_or xs i (record { from = 0; to = 0; id = 0; index = 0; state = 0 }) in

@@ -1,4 +1,4 @@
-use Rattle.std.proofs.Common.{rules, ◌≡◌, ◌-◌, ◌==◌, ℕ, Bool, List, arith, ap, sym, ◌∙◌, min, max, subst, Vec, Global}
+use Rattle.std.proofs.Common.{◌≡◌, ◌-◌, ◌==◌, ℕ, Bool, ap, ◌∙◌, min, max, Vec, Global}
 use Rattle.std.specs.Prelude.{not}
 use Rattle.pl_points.specs.declared.span.Span.{Span}
 use Rattle.pl_points.specs.Spans.{spans_of}

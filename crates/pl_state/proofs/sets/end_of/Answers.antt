@@ -1,9 +1,7 @@
-use Rattle.std.proofs.Common.{rules, ◌≡◌, ◌<◌, ◌≤◌, ◌+◌, ◌-◌, suc, ℕ, [], ◌∷◌, ◌++◌, List, length, take, drop, arith, ap, sym, ◌∙◌, refl, get_or, subst, true, false, cond, ltb}
-use Rattle.std.proofs.lemmas.List.{get_or_default, drop_all}
-use Rattle.pl_points.specs.Lists.{front, back}
+use Rattle.std.proofs.Common.{suc, drop, arith, get_or}
+use Rattle.std.proofs.lemmas.List.{get_or_default}
 use Rattle.pl_state.specs.declared.reservation.Setting.{Setting}
-use Rattle.pl_state.specs.Sets.{same_setting, is_passed, state_from, AreInOrder}
-use Rattle.pl_state.proofs.Orders.{parted_passed, state_stays, state_none, state_last, without_at, next_late, same_head, none_left}
+use Rattle.pl_state.proofs.Orders.{state_stays, next_late, same_head, none_left}
 use Rattle.pl_state.proofs.sets.end_of.Goals as goal
 
 pub returns-then-count-sets-clause-later : goal.returns-then-count-sets-clause-later

@@ -1,10 +1,10 @@
-use Rattle.std.proofs.Common.{rules, ◌≡◌, ◌<◌, ◌≤◌, ◌+◌, ◌-◌, suc, ℕ, [], ◌∷◌, ◌++◌, List, length, take, drop, arith, ap, sym, ◌∙◌, refl, get_or, subst, true, false, cond, ltb}
-use Rattle.std.proofs.lemmas.List.{get_or_default, drop_all}
+use Rattle.std.proofs.Common.{◌≡◌, ◌<◌, ◌-◌, suc, [], length, take, arith, ap, sym, ◌∙◌, get_or, true, false, cond, ltb}
+use Rattle.std.proofs.lemmas.List.{get_or_default}
 use Rattle.std.proofs.lemmas.Bool.{lt-ltb, le-ltb}
-use Rattle.pl_points.specs.Lists.{front, back}
+use Rattle.pl_points.specs.Lists.{front}
 use Rattle.pl_state.specs.declared.reservation.Setting.{Setting}
-use Rattle.pl_state.specs.Sets.{same_setting, is_passed, state_from, AreInOrder}
-use Rattle.pl_state.proofs.Orders.{parted_passed, state_stays, state_none, state_last, without_at, next_late, same_head, none_left}
+use Rattle.pl_state.specs.Sets.{is_passed}
+use Rattle.pl_state.proofs.Orders.{state_none, state_last}
 use Rattle.pl_state.proofs.sets.state_of.Goals as goal
 
 pub returns-then-count-eq0 : goal.returns-then-count-eq0

@@ -1,12 +1,5 @@
-use Rattle.std.proofs.Common.{rules, ◌≡◌, ◌≤◌, ℕ, Bool, true, false, List, arith, ap, sym, ◌∙◌, refl, subst}
-use Rattle.pl_points.specs.Standing.{without}
-use Rattle.pl_state.specs.declared.reservation.Setting.{Setting}
-use Rattle.pl_state.specs.declared.reservation.Must.{Must}
-use Rattle.pl_state.specs.Sets.{AreInOrder, setting_of, same_setting, with_set}
-use Rattle.pl_state.specs.Musts.{must_of, same_must, with_must}
-use Rattle.pl_state.specs.Lines.{Standing, IsSound, AreChanges, make, broken_now, bad_now}
-use Rattle.pl_state.proofs.Orders.{order_with, order_without}
-use Rattle.pl_state.proofs.Renewed.{sound_renewed, renewed_changes}
+use Rattle.std.proofs.Common.{◌≡◌, false, ◌∙◌, subst}
+use Rattle.pl_state.specs.Lines.{Standing, make, bad_now}
 use Rattle.pl_state.proofs.line.StateLine.bad_steps.Goals as goal
 
 pub returns : goal.returns

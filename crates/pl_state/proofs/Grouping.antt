@@ -1,7 +1,9 @@
 -- Broken spans in groups, one for each must.
-use Rattle.std.proofs.Common.{◌≡◌, ℕ, zero, suc, ◌+◌, ◌<◌, ◌≤◌, ◌==◌, ◌&&◌, Bool, true, false, cond, List, [], ◌∷◌, ◌++◌, length, get_or, take, drop, refl, ap, sym, ◌∙◌, subst, arith, eqb, sum, inl, inr}
-use Rattle.std.proofs.lemmas.List.{append_assoc, length-append, take-append-drop, drop_all, get_or_default}
-use Rattle.std.proofs.Math.Seq.{take-append_seam, drop-append_seam, drop-append-add}
+use Rattle.std.proofs.Common.{◌≡◌, ℕ, zero, suc, ◌+◌, ◌-◌, ◌<◌, ◌≤◌, Bool, true, false, cond, List, [], ◌∷◌, ◌++◌, length, get_or, take, drop, refl, ap, sym, ◌∙◌, subst, arith, eqb, sum}
+use Rattle.std.proofs.lemmas.List.{append_assoc, length-append, length-drop, take-append-drop}
+use Rattle.std.proofs.Math.Seq.{take-append_seam, drop-append_seam, drop-nil}
+use Rattle.std.proofs.lemmas.Bool.{eqb-false}
+use Rattle.std.specs.List.{fold}
 use Rattle.pl_points.proofs.Parting.{drop_next}
 use Rattle.pl_state.specs.declared.reservation.Must.{Must}
 use Rattle.pl_state.specs.declared.answer.BrokenMust.{BrokenMust}
@@ -12,8 +14,11 @@ use Rattle.pl_state.specs.Near.{all_of, counts_of, AreGroups, gone_of, fresh_of}
 use Rattle.pl_state.proofs.Lists.{Held, left_append, held_none, held_parts}
 
 eqb_itself : (n : ℕ) → eqb n n ≡ true
-eqb_itself zero = refl
-eqb_itself (suc n) = eqb_itself n
+eqb_itself n = cases (eqb n n) refl
+  where
+    cases : (b : Bool) → eqb n n ≡ b → eqb n n ≡ true
+    cases true e = e
+    cases false e = absurd (eqb-false n n e refl)
 
 pub broken_itself : (x : BrokenMust) → same_broken x x ≡ true
 broken_itself x = rw (eqb_itself x.id) (rw (eqb_itself x.index) (rw (eqb_itself x.from) (eqb_itself x.to)))
@@ -28,10 +33,11 @@ all_is state moment horizon (m ∷ ms) = ap (λ l. broken_one state moment horiz
 -- groups that are right for one property, and for another where nothing is touched
 pub groups_near : (touched : Must → Bool) (F G : Must → List BrokenMust) (ms : List Must) → ((m : Must) → touched m ≡ false → G m ≡ F m) → AreGroups touched F ms (counts_of G ms) (all_of G ms)
 groups_near touched F G [] same = refl
-groups_near touched F G (m ∷ ms) same =
-    (let e = length-append (G m) (all_of G ms) in omega (arith, e),
-    (λ f. take-append_seam (G m) (all_of G ms) ∙ same m f),
-    subst (λ l. AreGroups touched F ms (counts_of G ms) l) (sym (drop-append_seam (G m) (all_of G ms))) (groups_near touched F G ms same))
+groups_near touched F G (m ∷ ms) same = (
+  let e = length-append (G m) (all_of G ms) in omega (arith, e),
+  (λ f. take-append_seam (G m) (all_of G ms) ∙ same m f),
+  subst (λ l. AreGroups touched F ms (counts_of G ms) l) (sym (drop-append_seam (G m) (all_of G ms))) (groups_near touched F G ms same),
+)
 
 -- only what is touched can have gone
 pub gone_all : (all : List BrokenMust) (touched : Must → Bool) (F : Must → List BrokenMust) (ms : List Must) (ns : List ℕ) (b : List BrokenMust) → Held same_broken all (all_of F ms) → AreGroups touched F ms ns b → left_out same_broken all b ≡ left_out same_broken all (gone_of touched ms ns b)
@@ -71,46 +77,46 @@ fresh_all all touched F (m ∷ ms) (n ∷ ns) b held parts =
 -- the group at a place, and the rest
 pub record GroupAt (touched : Must → Bool) (F : Must → List BrokenMust) (ms : List Must) (ns : List ℕ) (b : List BrokenMust) (i k n : ℕ) (m : Must) : Type 0 where
   pub fits : k + n ≤ length b
-  pub kept : touched m ≡ false → take n (drop k b) ≡ F m
-  pub more : AreGroups touched F (drop (suc i) ms) (drop (suc i) ns) (drop (k + n) b)
-  pub gone : gone_of touched (drop i ms) (drop i ns) (drop k b) ≡ cond (touched m) (take n (drop k b)) [] ++ gone_of touched (drop (suc i) ms) (drop (suc i) ns) (drop (k + n) b)
+  pub kept : touched m ≡ false → take ((k + n) - k) (drop k b) ≡ F m
+  pub more : AreGroups touched F (drop (i + 1) ms) (drop (i + 1) ns) (drop (k + n) b)
+  pub gone : gone_of touched (drop i ms) (drop i ns) (drop k b) ≡ cond (touched m) (take ((k + n) - k) (drop k b)) [] ++ gone_of touched (drop (i + 1) ms) (drop (i + 1) ns) (drop (k + n) b)
+  pub next : drop i ms ≡ m ∷ drop (i + 1) ms
 
-drop_drop : {T : Type 0} (k n : ℕ) (b : List T) → drop n (drop k b) ≡ drop (k + n) b
-drop_drop zero n b = refl
-drop_drop (suc k) n [] = drop_none n
-  where
-    drop_none : (n : ℕ) → drop n [] ≡ []
-    drop_none zero = refl
-    drop_none (suc n) = refl
-drop_drop (suc k) n (x ∷ b) = drop_drop k n b
-
-length_drop : {T : Type 0} (k : ℕ) (b : List T) → k ≤ length b → k + length (drop k b) ≡ length b
-length_drop zero b le = refl
-length_drop (suc k) [] le = absurd (omega (arith, le))
-length_drop (suc k) (x ∷ b) le = let e = length_drop k b (omega (arith, le)) in omega (arith, e)
+pub drop_drop : {T : Type 0} (k n : ℕ) (b : List T) → drop n (drop k b) ≡ drop (k + n) b
+drop_drop zero n b = let e : n ≡ 0 + n = omega arith in ap (λ m. drop m b) e
+drop_drop (suc k) n [] = drop-nil n ∙ sym (drop-nil (suc k + n))
+drop_drop (suc k) n (x ∷ b) = let e : suc (k + n) ≡ suc k + n = omega arith in drop_drop k n b ∙ ap (λ m. drop m (x ∷ b)) e
 
 pub counted : (touched : Must → Bool) (F : Must → List BrokenMust) (ms : List Must) (ns : List ℕ) (b : List BrokenMust) (i : ℕ) → i < length ms → AreGroups touched F (drop i ms) (drop i ns) b → i < length ns
 counted touched F [] ns b i lt parts = absurd (omega (arith, lt))
 counted touched F (m ∷ ms) [] b zero lt parts = absurd parts
 counted touched F (m ∷ ms) (n ∷ ns) b zero lt parts = omega arith
-counted touched F (m ∷ ms) [] b (suc i) lt parts = let h = counted touched F ms [] b i (omega (arith, lt)) parts in absurd (omega (arith, h))
+counted touched F (m ∷ ms) [] b (suc i) lt parts = let h = counted touched F ms [] b i (omega (arith, lt)) (subst (λ l. AreGroups touched F (drop i ms) l b) (sym (drop-nil i)) parts) in absurd (omega (arith, h))
 counted touched F (m ∷ ms) (n ∷ ns) b (suc i) lt parts = let h = counted touched F ms ns b i (omega (arith, lt)) parts in omega (arith, h)
 
 pub group_at : (touched : Must → Bool) (F : Must → List BrokenMust) (ms : List Must) (ns : List ℕ) (b : List BrokenMust) (i k n : ℕ) (m : Must) → k ≤ length b → i < length ms → m ≡ get_or ms i m → n ≡ get_or ns i n → AreGroups touched F (drop i ms) (drop i ns) (drop k b) → GroupAt touched F ms ns b i k n m
-group_at touched F ms ns b i k n m le lt is_m is_n parts =
+group_at touched F ms ns b i k n m low lt is_m is_n parts =
     let lt2 : i < length ns = counted touched F ms ns (drop k b) i lt parts in
-    let em : drop i ms ≡ m ∷ drop (suc i) ms = drop_next ms i m lt ∙ ap (λ q. q ∷ drop (suc i) ms) (sym is_m) in
-    let en : drop i ns ≡ n ∷ drop (suc i) ns = drop_next ns i n lt2 ∙ ap (λ q. q ∷ drop (suc i) ns) (sym is_n) in
-    let parts2 : AreGroups touched F (m ∷ drop (suc i) ms) (n ∷ drop (suc i) ns) (drop k b) =
-    subst (λ l. AreGroups touched F l (n ∷ drop (suc i) ns) (drop k b)) em (subst (λ l. AreGroups touched F (drop i ms) l (drop k b)) en parts) in
-    let e = length_drop k b le in
+    let one : suc i ≡ i + 1 = omega arith in
+    let size : n ≡ (k + n) - k = omega arith in
+    let em : drop i ms ≡ m ∷ drop (i + 1) ms = drop_next ms i m lt ∙ (ap (λ q. q ∷ drop (suc i) ms) (sym is_m) ∙ ap (λ j. m ∷ drop j ms) one) in
+    let en : drop i ns ≡ n ∷ drop (i + 1) ns = drop_next ns i n lt2 ∙ (ap (λ q. q ∷ drop (suc i) ns) (sym is_n) ∙ ap (λ j. n ∷ drop j ns) one) in
+    let parts2 : AreGroups touched F (m ∷ drop (i + 1) ms) (n ∷ drop (i + 1) ns) (drop k b) =
+    subst (λ l. AreGroups touched F l (n ∷ drop (i + 1) ns) (drop k b)) em (subst (λ l. AreGroups touched F (drop i ms) l (drop k b)) en parts) in
+    let rest : length (drop k b) ≡ length b - k = length-drop k b in
     record {
-      fits = omega (arith, e, parts2.0);
-      kept = parts2.1;
-      more = subst (λ l. AreGroups touched F (drop (suc i) ms) (drop (suc i) ns) l) (drop_drop k n b) parts2.2;
-      gone = ap (λ l. gone_of touched l (drop i ns) (drop k b)) em ∙ (ap (λ l. gone_of touched (m ∷ drop (suc i) ms) l (drop k b)) en
-          ∙ ap (λ l. cond (touched m) (take n (drop k b)) [] ++ gone_of touched (drop (suc i) ms) (drop (suc i) ns) l) (drop_drop k n b));
+      fits = omega (arith, low, rest, parts2.0);
+      kept = λ f. sym (ap (λ j. take j (drop k b)) size) ∙ parts2.1 f;
+      more = subst (λ l. AreGroups touched F (drop (i + 1) ms) (drop (i + 1) ns) l) (drop_drop k n b) parts2.2;
+      gone = ap (λ l. gone_of touched l (drop i ns) (drop k b)) em ∙ (ap (λ l. gone_of touched (m ∷ drop (i + 1) ms) l (drop k b)) en
+          ∙ (ap (λ j. cond (touched m) (take j (drop k b)) [] ++ gone_of touched (drop (i + 1) ms) (drop (i + 1) ns) (drop n (drop k b))) size
+          ∙ ap (λ l. cond (touched m) (take ((k + n) - k) (drop k b)) [] ++ gone_of touched (drop (i + 1) ms) (drop (i + 1) ns) l) (drop_drop k n b)));
+      next = em;
     }
+
+-- what a loop has done, and one more item
+pub one_more : {T : Type 0} (done done' one rest all : List T) → done' ≡ done ++ one → done ++ (one ++ rest) ≡ all → done' ++ rest ≡ all
+one_more done done' one rest all is whole = ap (λ l. l ++ rest) is ∙ (append_assoc done one rest ∙ whole)
 
 -- the broken spans of two lists of musts
 pub all_append : (F : Must → List BrokenMust) (xs ys : List Must) → all_of F (xs ++ ys) ≡ all_of F xs ++ all_of F ys
@@ -131,9 +137,40 @@ counts_drop F zero ms = refl
 counts_drop F (suc i) [] = refl
 counts_drop F (suc i) (m ∷ ms) = counts_drop F i ms
 
+fold_add : (a : ℕ) (ns : List ℕ) → fold ◌+◌ a ns ≡ a + fold ◌+◌ 0 ns
+fold_add a [] = omega arith
+fold_add a (n ∷ ns) =
+    let e : fold ◌+◌ (a + n) ns ≡ (a + n) + fold ◌+◌ 0 ns = fold_add (a + n) ns in
+    let f : fold ◌+◌ (0 + n) ns ≡ (0 + n) + fold ◌+◌ 0 ns = fold_add (0 + n) ns in
+    let g : (a + n) + fold ◌+◌ 0 ns ≡ a + fold ◌+◌ (0 + n) ns = omega (arith, f) in
+    e ∙ g
+
+sum_cons : (n : ℕ) (ns : List ℕ) → sum (n ∷ ns) ≡ n + sum ns
+sum_cons n ns = let e : fold ◌+◌ (0 + n) ns ≡ (0 + n) + fold ◌+◌ 0 ns = fold_add (0 + n) ns in let f : (0 + n) + fold ◌+◌ 0 ns ≡ n + fold ◌+◌ 0 ns = omega arith in e ∙ f
+
+-- one more of the counts
+pub sum_next : (i n : ℕ) (ns : List ℕ) → i < length ns → n ≡ get_or ns i n → sum (take (suc i) ns) ≡ sum (take i ns) + n
+sum_next i n [] lt is = absurd (omega (arith, lt))
+sum_next zero n (x ∷ ns) lt is = let e : 0 + x ≡ 0 + n = omega (arith, is) in e
+sum_next (suc i) n (x ∷ ns) lt is =
+    let more = sum_next i n ns (omega (arith, lt)) is in
+    let one : sum (x ∷ take (suc i) ns) ≡ x + sum (take (suc i) ns) = sum_cons x (take (suc i) ns) in
+    let other : sum (x ∷ take i ns) ≡ x + sum (take i ns) = sum_cons x (take i ns) in
+    let g : x + sum (take (suc i) ns) ≡ (x + sum (take i ns)) + n = omega (arith, more) in
+    one ∙ (g ∙ ap (λ m. m + n) (sym other))
+
+pub sum_take : (i : ℕ) (ns : List ℕ) → sum (take i ns) ≤ sum ns
+sum_take zero ns = omega arith
+sum_take (suc i) [] = omega arith
+sum_take (suc i) (x ∷ ns) =
+    let more = sum_take i ns in
+    let one : sum (x ∷ take i ns) ≡ x + sum (take i ns) = sum_cons x (take i ns) in
+    let other : sum (x ∷ ns) ≡ x + sum ns = sum_cons x ns in
+    omega (arith, more, one, other)
+
 pub counts_sum : (F : Must → List BrokenMust) (ms : List Must) → sum (counts_of F ms) ≡ length (all_of F ms)
 counts_sum F [] = refl
-counts_sum F (m ∷ ms) = ap (λ n. length (F m) + n) (counts_sum F ms) ∙ sym (length-append (F m) (all_of F ms))
+counts_sum F (m ∷ ms) = sum_cons (length (F m)) (counts_of F ms) ∙ (ap (λ n. length (F m) + n) (counts_sum F ms) ∙ sym (length-append (F m) (all_of F ms)))
 
 pub counts_length : (F : Must → List BrokenMust) (ms : List Must) → length (counts_of F ms) ≡ length ms
 counts_length F [] = refl
