@@ -1,0 +1,3 @@
+pub mod Nets
+pub mod Causes
+pub mod Verdicts

@@ -1,0 +1,18 @@
+//! Simple temporal networks: the least times that meet every edge, or a negative cycle, which no times can meet.
+#![tactic(auto)]
+
+mod building;
+mod laws;
+mod net;
+mod rising;
+mod solving;
+mod starting;
+#[cfg(test)]
+mod tests;
+mod verdict;
+mod walking;
+
+pub use laws::cycles_exclude_solutions;
+pub use net::{Edge, Net};
+pub use solving::solve;
+pub use verdict::Verdict;
