@@ -1,5 +1,5 @@
 -- Simple temporal networks, their solutions, and the negative cycles that show that there is none.
-use Rattle.std.specs.Prelude.{ℕ, zero, suc, ℤ, pos, negsuc, ◌+ℤ◌, ◌-ℤ◌, ◌≤ℤ◌, ◌<ℤ◌, ◌≡◌, ◌≢◌, ◌≤◌, ◌<◌, List, [], ◌∷◌, ◌++◌, length, slice_index_or, All, AllPairs, Contains}
+use Rattle.std.specs.Prelude.{ℕ, zero, suc, ℤ, pos, negsuc, ◌+ℤ◌, ◌-ℤ◌, ◌≤ℤ◌, ◌<ℤ◌, ◌≡◌, ◌≢◌, ◌≤◌, ◌<◌, ◌*◌, List, [], ◌∷◌, ◌++◌, length, slice_index_or, All, AllPairs, Contains}
 use Rattle.pl_stn.specs.declared.net.Edge.{Edge}
 use Rattle.pl_stn.specs.declared.net.Net.{Net}
 
@@ -34,6 +34,10 @@ pub record IsSolution (net : Net) (times : List ℤ) : Type 0 where
 -- at no point later than any solution
 abbrev pub IsLeast : Net → List ℤ → Type 0
 IsLeast net times = (others : List ℤ) → IsSolution net others → (p : ℕ) → p < net.points → time_of times p ≤ℤ time_of others p
+
+-- no time lies before the origin, or farther from it than 10^8 for each point
+abbrev pub AreBounded : Net → List ℤ → Type 0
+AreBounded net times = (p : ℕ) → (pos 0 ≤ℤ time_of times p) × (time_of times p ≤ℤ pos (net.points * 100000000))
 
 abbrev pub HasNoSolution : Net → Type 0
 HasNoSolution net = (times : List ℤ) → IsSolution net times → ⊥

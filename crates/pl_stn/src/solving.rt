@@ -1,5 +1,5 @@
 ghost use Rattle.std.specs.Prelude.{◌≡◌, IfOk, All, length};
-ghost use Rattle.pl_stn.specs.Nets.{IsWellFormed, IsSolution, IsLeast, IsNegativeCycle, HasNoSolution, Meets};
+ghost use Rattle.pl_stn.specs.Nets.{IsWellFormed, IsSolution, IsLeast, AreBounded, IsNegativeCycle, HasNoSolution, Meets};
 ghost use Rattle.pl_stn.specs.Causes.{AreRising, Tightens};
 ghost use Rattle.pl_stn.specs.Verdicts.{IfTimes, IfCycle};
 
@@ -42,6 +42,7 @@ pub fn solve(alloc: Global, net: &Net) -> Result<Verdict, AllocError>
     requires { IsWellFormed net.now }
     ensures solution { IfOk result (λ v. IfTimes v (IsSolution net.now)) }
     ensures least { IfOk result (λ v. IfTimes v (IsLeast net.now)) }
+    ensures bounded { IfOk result (λ v. IfTimes v (AreBounded net.now)) }
     ensures cycle { IfOk result (λ v. IfCycle v (IsNegativeCycle net.now)) }
     ensures none { IfOk result (λ v. IfCycle v (λ _. HasNoSolution net.now)) }
 {
