@@ -3,16 +3,22 @@
 #![tactic(auto)]
 
 mod alternatives;
+mod evaluation;
 mod expressions;
+mod interval;
 mod kinds;
 mod links;
 mod parameters;
 mod reservations;
+#[cfg(test)]
+mod tests;
 mod timelines;
 mod whole;
 
 pub use alternatives::{Alternative, Order, Slot};
+pub use evaluation::eval;
 pub use expressions::{Expr, Op};
+pub use interval::bounds;
 pub use kinds::Kind;
 pub use links::Link;
 pub use parameters::{Origin, Param};
