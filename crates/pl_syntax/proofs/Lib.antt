@@ -1,0 +1,13 @@
+pub mod ExprLanguages
+pub mod ExprLevels
+pub mod ExprExact
+pub mod ExprRule
+pub mod ExprTurns
+pub mod ModelRules
+pub mod ReadExact
+pub mod Answered
+pub mod TextMarks
+pub mod Again
+pub mod AgainParts
+pub mod LaidOut
+pub mod ReadAgain
