@@ -1,0 +1,6 @@
+//! The checks of a model: the tree of a model text becomes a model, its names numbered, or its first fault is told.
+#![tactic(auto)]
+
+mod fault;
+
+pub use fault::{ModelFault, What};
