@@ -1,0 +1,10 @@
+pub mod Judgements
+pub mod Names
+pub mod Counts
+pub mod Finding
+pub mod Numbering
+pub mod Ranges
+pub mod Cycles
+pub mod Dependencies
+pub mod Networks
+pub mod Checked
