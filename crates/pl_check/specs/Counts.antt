@@ -1,5 +1,5 @@
 -- The row of counts that pass their limit.
-use Rattle.std.specs.Prelude.{◌≡◌, ℕ, zero, suc, ◌+◌, nat_le, Bool, List, [], ◌∷◌, Result, Ok, Err, if◌then◌else◌}
+use Rattle.std.specs.Prelude.{◌≡◌, ℕ, ◌+◌, ◌-◌, nat_le, Bool, Option, Some, None, List, [], ◌∷◌, Result, Ok, Err, if◌then◌else◌}
 use Rattle.pl_syntax.specs.declared.whole.Ast.{Ast}
 use Rattle.pl_syntax.specs.declared.whole.Item.{Item}
 use Rattle.pl_syntax.specs.declared.whole.Item.TheVariants as item
@@ -30,6 +30,10 @@ nodes_at (AstExpr-F.Apply op a b) = 1 + (a + b)
 -- how many numbers, names and operations an expression has
 abbrev pub nodes_of : AstExpr → ℕ
 nodes_of e = fold-AstExpr ℕ nodes_at e
+
+-- the room that so many nodes leave
+abbrev pub room_after : ℕ → ℕ → Option ℕ
+room_after room nodes = if nat_le nodes room then Some (room - nodes) else None
 
 abbrev pub few_nodes : AstExpr → Judgement
 few_nodes e = unless (nat_le (nodes_of e) 64) (fault.TooMany what.Nodes)
@@ -80,14 +84,14 @@ counts_in_line (line.Capacity name most) = pass
 counts_in_line (line.Level name least most start) = pass
 counts_in_line (line.States name states start any steps) = at_most 32 what.States counts_in_state states
 
--- with room for so many more timelines and kinds
+-- so many timelines and kinds stand before the items
 abbrev pub counts_in_items : ℕ → ℕ → List Item → Judgement
 counts_in_items lines kinds [] = pass
-counts_in_items zero kinds (item.Timeline l ∷ items) = Err (fault.TooMany what.Timelines)
-counts_in_items (suc lines) kinds (item.Timeline l ∷ items) = counts_in_line l >> counts_in_items lines kinds items
-counts_in_items lines zero (item.Kind k ∷ items) = Err (fault.TooMany what.Kinds)
-counts_in_items lines (suc kinds) (item.Kind k ∷ items) = counts_in_kind k >> counts_in_items lines kinds items
+counts_in_items lines kinds (item.Timeline l ∷ items) =
+    if nat_le 256 lines then Err (fault.TooMany what.Timelines) else counts_in_line l >> counts_in_items (lines + 1) kinds items
+counts_in_items lines kinds (item.Kind k ∷ items) =
+    if nat_le 256 kinds then Err (fault.TooMany what.Kinds) else counts_in_kind k >> counts_in_items lines (kinds + 1) items
 
 -- the first count that passes its limit, in the order of the text
 abbrev pub counts_in : Ast → Judgement
-counts_in ast = counts_in_items 256 256 ast.items
+counts_in ast = counts_in_items 0 0 ast.items

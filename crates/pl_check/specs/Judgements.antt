@@ -1,5 +1,5 @@
 -- A judgement passes or is a fault. Judgements in the order of the text: the first fault wins.
-use Rattle.std.specs.Prelude.{◌≡◌, ℕ, zero, suc, List, [], ◌∷◌, Bool, Result, Ok, Err, if◌then◌else◌}
+use Rattle.std.specs.Prelude.{◌≡◌, ℕ, ◌+◌, nat_le, List, [], ◌∷◌, Bool, Result, Ok, Err, if◌then◌else◌}
 use Rattle.pl_check.specs.declared.fault.ModelFault.{ModelFault}
 use Rattle.pl_check.specs.declared.fault.ModelFault.TheVariants as fault
 use Rattle.pl_check.specs.declared.fault.What.{What}
@@ -33,11 +33,14 @@ abbrev pub each : {X : Type 0} → (X → Judgement) → List X → Judgement
 each judge [] = pass
 each judge (x ∷ xs) = judge x >> each judge xs
 
--- each item is judged, and the first one for which there is no room is one too many
+-- each item from this place on is judged, and the one at the limit's place is one too many
+abbrev pub at_most_from : {X : Type 0} → ℕ → ℕ → What → (X → Judgement) → List X → Judgement
+at_most_from place limit what judge [] = pass
+at_most_from place limit what judge (x ∷ xs) =
+    if nat_le limit place then Err (fault.TooMany what) else judge x >> at_most_from (place + 1) limit what judge xs
+
 abbrev pub at_most : {X : Type 0} → ℕ → What → (X → Judgement) → List X → Judgement
-at_most room what judge [] = pass
-at_most zero what judge (x ∷ xs) = Err (fault.TooMany what)
-at_most (suc room) what judge (x ∷ xs) = judge x >> at_most room what judge xs
+at_most limit what judge xs = at_most_from 0 limit what judge xs
 
 -- what is made of each item, or the first fault
 abbrev pub each_made : {X Y : Type 0} → (X → Judged Y) → List X → Judged (List Y)

@@ -1,6 +1,7 @@
 //! The checks of a model: the tree of a model text becomes a model, its names numbered, or its first fault is told.
 #![tactic(auto)]
 
+mod counts;
 mod drafts;
 mod fault;
 mod names;
