@@ -1,5 +1,6 @@
 -- What a name of the text names. Timelines and kinds are numbered from 0 in the order of the text, each sort by itself.
-use Rattle.std.specs.Prelude.{◌≡◌, ℕ, ◌+◌, Bool, true, false, ◌&&◌, List, [], ◌∷◌, Option, Some, None, map, take, count_by, position, bytes_eq, slice_get, option_and_then, option_map, Result, Ok, Err}
+use Rattle.std.specs.Prelude.{◌≡◌, ℕ, ◌+◌, Bool, true, false, ◌&&◌, List, [], ◌∷◌, Option, Some, None, map, take, count_by, bytes_eq, slice_get, option_and_then, option_map, Result, Ok, Err}
+use Rattle.std.specs.List.{position_from}
 use Rattle.pl_syntax.specs.declared.whole.Item.{Item}
 use Rattle.pl_syntax.specs.declared.whole.Item.TheVariants as item
 use Rattle.pl_syntax.specs.declared.timelines.AstTimeline.{AstTimeline}
@@ -78,7 +79,7 @@ abbrev pub is_param_named : Name → AstParam → Bool
 is_param_named name p = bytes_eq p.name name
 
 abbrev pub param_named : List AstParam → Name → Option ℕ
-param_named params name = position (is_param_named name) params
+param_named params name = position_from (is_param_named name) 0 params
 
 abbrev pub is_unequalled : AstOrigin → Bool
 is_unequalled origin.Plain = true
@@ -90,10 +91,10 @@ is_bindable_named name p = bytes_eq p.name name && is_unequalled p.origin
 
 -- the parameter of this name that is declared without `=`
 abbrev pub bindable_named : List AstParam → Name → Option ℕ
-bindable_named params name = position (is_bindable_named name) params
+bindable_named params name = position_from (is_bindable_named name) 0 params
 
 abbrev pub is_slot_named : Name → AstSlot → Bool
 is_slot_named name s = bytes_eq s.name name
 
 abbrev pub slot_named : List AstSlot → Name → Option ℕ
-slot_named slots name = position (is_slot_named name) slots
+slot_named slots name = position_from (is_slot_named name) 0 slots

@@ -1,6 +1,7 @@
 pub mod Judgements
 pub mod Names
 pub mod Counts
+pub mod Sizes
 pub mod Finding
 pub mod Numbering
 pub mod Ranges

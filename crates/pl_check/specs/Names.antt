@@ -1,6 +1,6 @@
 -- Names and their numbers, and the row of names that stand twice. The names of timelines and kinds share one space.
-use Rattle.std.specs.Prelude.{◌≡◌, ℕ, Bool, List, [], ◌∷◌, ◌++◌, Option, map, position, bytes_eq, Result, Ok, Err, if◌then◌else◌}
-use Rattle.std.specs.List.{list_any}
+use Rattle.std.specs.Prelude.{◌≡◌, ℕ, Bool, List, [], ◌∷◌, ◌++◌, Option, map, bytes_eq, Result, Ok, Err, if◌then◌else◌}
+use Rattle.std.specs.List.{list_any, position_from}
 use Rattle.pl_syntax.specs.declared.whole.Ast.{Ast}
 use Rattle.pl_syntax.specs.declared.whole.Item.{Item}
 use Rattle.pl_syntax.specs.declared.whole.Item.TheVariants as item
@@ -19,7 +19,7 @@ Name = List ℕ
 
 -- the number of a name: its place among the names
 abbrev pub place_of : List Name → Name → Option ℕ
-place_of names name = position (bytes_eq name) names
+place_of names name = position_from (bytes_eq name) 0 names
 
 abbrev pub is_among : List Name → Name → Bool
 is_among names name = list_any (bytes_eq name) names

@@ -4,6 +4,7 @@
 mod counts;
 mod drafts;
 mod fault;
+mod finding;
 mod names;
 mod repeats;
 

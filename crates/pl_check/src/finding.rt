@@ -1,0 +1,117 @@
+//! What a name of the text names.
+ghost use Rattle.std.specs.Prelude.{◌≡◌, ◌≤◌, length, option_map, count_by, take, IfSome, List};
+ghost use Rattle.pl_check.specs.Names.{place_of};
+ghost use Rattle.pl_check.specs.Sizes.{IsScope, IsSmallKind, IsSmallLine};
+ghost use Rattle.pl_check.specs.Finding.{is_kind, is_line, kind_at, line_at, kind_named, line_named, param_named, bindable_named, slot_named, is_unequalled};
+
+use crate::names::Names;
+use pl_model::Name;
+use pl_syntax::{AstKind, AstOrigin, AstParam, AstSlot, AstTimeline, Item};
+
+fn kinds_before(items: &[Item], place: usize) -> u32
+    requires place { place ≤ length items.now }
+    requires few { length items.now ≤ 512 }
+    ensures { result ≡ count_by is_kind (take place items.now) }
+{
+    let mut count = 0;
+    for item in &items[..place] {
+        if let Item::Kind(_) = item {
+            count += 1;
+        }
+    }
+    count
+}
+
+fn lines_before(items: &[Item], place: usize) -> u32
+    requires place { place ≤ length items.now }
+    requires few { length items.now ≤ 512 }
+    ensures { result ≡ count_by is_line (take place items.now) }
+{
+    let mut count = 0;
+    for item in &items[..place] {
+        if let Item::Timeline(_) = item {
+            count += 1;
+        }
+    }
+    count
+}
+
+fn kind_at(items: &[Item], place: usize) -> Option<(u32, &AstKind)>
+    requires { length items.now ≤ 512 }
+    ensures { option_map (λ p. (p.0, p.1.now)) result ≡ kind_at items.now place }
+{
+    match items.get(place)? {
+        Item::Timeline(_) => None,
+        Item::Kind(kind) => Some((kinds_before(items, place), kind)),
+    }
+}
+
+fn line_at(items: &[Item], place: usize) -> Option<(u32, &AstTimeline)>
+    requires { length items.now ≤ 512 }
+    ensures { option_map (λ p. (p.0, p.1.now)) result ≡ line_at items.now place }
+{
+    match items.get(place)? {
+        Item::Timeline(line) => Some((lines_before(items, place), line)),
+        Item::Kind(_) => None,
+    }
+}
+
+pub fn param_named(params: &[AstParam], name: &[u8]) -> Option<u8>
+    requires { length params.now ≤ 16 }
+    ensures { result ≡ param_named params.now name.now }
+{
+    for (place, param) in params.iter().enumerate() {
+        if param.name.as_slice() == name {
+            return Some(place as u8);
+        }
+    }
+    None
+}
+
+pub fn slot_named(slots: &[AstSlot], name: &[u8]) -> Option<u32>
+    requires { length slots.now ≤ 16 }
+    ensures { result ≡ slot_named slots.now name.now }
+{
+    for (place, slot) in slots.iter().enumerate() {
+        if slot.name.as_slice() == name {
+            return Some(place as u32);
+        }
+    }
+    None
+}
+
+fn is_unequalled(origin: &AstOrigin) -> bool
+    ensures { result ≡ is_unequalled origin.now }
+{
+    match origin {
+        AstOrigin::Plain => true,
+        AstOrigin::Default(_) => true,
+        AstOrigin::Equals(_) => false,
+    }
+}
+
+/// The parameter of this name, if it is declared without `=`.
+pub fn bindable_named(params: &[AstParam], name: &[u8]) -> Option<u8>
+    requires { length params.now ≤ 16 }
+    ensures { result ≡ bindable_named params.now name.now }
+{
+    for (place, param) in params.iter().enumerate() {
+        if param.name.as_slice() == name && is_unequalled(&param.origin) {
+            return Some(place as u8);
+        }
+    }
+    None
+}
+
+/// The number of a state among those of its timeline.
+pub fn state_number(states: &[Name], name: &[u8]) -> Option<u32>
+    requires { length states.now ≤ 32 }
+    ensures { result ≡ place_of states.now name.now }
+{
+    for (place, state) in states.iter().enumerate() {
+        if name == state.as_slice() {
+            return Some(place as u32);
+        }
+    }
+    None
+}
