@@ -1,8 +1,8 @@
 //! What a name of the text names.
-ghost use Rattle.std.specs.Prelude.{◌≡◌, ◌≤◌, length, option_map, count_by, take, IfSome, List};
+ghost use Rattle.std.specs.Prelude.{◌≡◌, ◌≤◌, length, option_map, count_by, take, IfSome, All};
 ghost use Rattle.pl_check.specs.Names.{place_of};
-ghost use Rattle.pl_check.specs.Sizes.{IsScope, IsSmallKind, IsSmallLine};
-ghost use Rattle.pl_check.specs.Finding.{is_kind, is_line, kind_at, line_at, kind_named, line_named, param_named, bindable_named, slot_named, is_unequalled};
+ghost use Rattle.pl_check.specs.Sizes.{IsScope, IsSmallItem, IsSmallKind, IsSmallLine};
+ghost use Rattle.pl_check.specs.Finding.{is_kind, is_line, kind_at, line_at, kind_named, line_named, capacity_named, level_named, states_named, param_named, bindable_named, slot_named, is_unequalled};
 
 use crate::names::Names;
 use pl_model::Name;
@@ -37,8 +37,10 @@ fn lines_before(items: &[Item], place: usize) -> u32
 }
 
 fn kind_at(items: &[Item], place: usize) -> Option<(u32, &AstKind)>
-    requires { length items.now ≤ 512 }
-    ensures { option_map (λ p. (p.0, p.1.now)) result ≡ kind_at items.now place }
+    requires few { length items.now ≤ 512 }
+    requires small { All IsSmallItem items.now }
+    ensures found { option_map (λ p. (p.0, p.1.now)) result ≡ kind_at items.now place }
+    ensures small { IfSome result (λ p. IsSmallKind p.1.now) }
 {
     match items.get(place)? {
         Item::Timeline(_) => None,
@@ -47,12 +49,81 @@ fn kind_at(items: &[Item], place: usize) -> Option<(u32, &AstKind)>
 }
 
 fn line_at(items: &[Item], place: usize) -> Option<(u32, &AstTimeline)>
-    requires { length items.now ≤ 512 }
-    ensures { option_map (λ p. (p.0, p.1.now)) result ≡ line_at items.now place }
+    requires few { length items.now ≤ 512 }
+    requires small { All IsSmallItem items.now }
+    ensures found { option_map (λ p. (p.0, p.1.now)) result ≡ line_at items.now place }
+    ensures small { IfSome result (λ p. IsSmallLine p.1.now) }
 {
     match items.get(place)? {
         Item::Timeline(line) => Some((lines_before(items, place), line)),
         Item::Kind(_) => None,
+    }
+}
+
+/// The kind of this name, and its number.
+pub fn kind_named<'a>(
+    names: &Names,
+    items: &'a [Item],
+    name: &[u8],
+) -> Option<(u32, &'a AstKind)>
+    requires { IsScope names.now items.now }
+    ensures found { option_map (λ p. (p.0, p.1.now)) result ≡ kind_named items.now name.now }
+    ensures small { IfSome result (λ p. IsSmallKind p.1.now) }
+{
+    let place = names.place(name)?;
+    kind_at(items, place)
+}
+
+/// The timeline of this name, and its number.
+fn line_named<'a>(
+    names: &Names,
+    items: &'a [Item],
+    name: &[u8],
+) -> Option<(u32, &'a AstTimeline)>
+    requires { IsScope names.now items.now }
+    ensures found { option_map (λ p. (p.0, p.1.now)) result ≡ line_named items.now name.now }
+    ensures small { IfSome result (λ p. IsSmallLine p.1.now) }
+{
+    let place = names.place(name)?;
+    line_at(items, place)
+}
+
+pub fn capacity_named(names: &Names, items: &[Item], name: &[u8]) -> Option<u32>
+    requires { IsScope names.now items.now }
+    ensures { result ≡ capacity_named items.now name.now }
+{
+    match line_named(names, items, name)? {
+        (number, AstTimeline::Capacity { .. }) => Some(number),
+        (_, AstTimeline::Level { .. }) => None,
+        (_, AstTimeline::States { .. }) => None,
+    }
+}
+
+pub fn level_named(names: &Names, items: &[Item], name: &[u8]) -> Option<u32>
+    requires { IsScope names.now items.now }
+    ensures { result ≡ level_named items.now name.now }
+{
+    match line_named(names, items, name)? {
+        (_, AstTimeline::Capacity { .. }) => None,
+        (number, AstTimeline::Level { .. }) => Some(number),
+        (_, AstTimeline::States { .. }) => None,
+    }
+}
+
+/// The state timeline of this name, with its states.
+pub fn states_named<'a>(
+    names: &Names,
+    items: &'a [Item],
+    name: &[u8],
+) -> Option<(u32, &'a [Name])>
+    requires { IsScope names.now items.now }
+    ensures found { option_map (λ p. (p.0, p.1.now)) result ≡ states_named items.now name.now }
+    ensures small { IfSome result (λ p. length p.1.now ≤ 32) }
+{
+    match line_named(names, items, name)? {
+        (_, AstTimeline::Capacity { .. }) => None,
+        (_, AstTimeline::Level { .. }) => None,
+        (number, AstTimeline::States { states, .. }) => Some((number, states.as_slice())),
     }
 }
 
