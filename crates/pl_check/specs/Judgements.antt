@@ -1,5 +1,5 @@
 -- A judgement passes or is a fault. Judgements in the order of the text: the first fault wins.
-use Rattle.std.specs.Prelude.{◌≡◌, ℕ, ◌+◌, nat_le, List, [], ◌∷◌, Bool, Result, Ok, Err, if◌then◌else◌}
+use Rattle.std.specs.Prelude.{◌≡◌, ℕ, ◌+◌, nat_le, List, [], ◌∷◌, ◌++◌, Bool, Result, Ok, Err, if◌then◌else◌}
 use Rattle.pl_check.specs.declared.fault.ModelFault.{ModelFault}
 use Rattle.pl_check.specs.declared.fault.ModelFault.TheVariants as fault
 use Rattle.pl_check.specs.declared.fault.What.{What}
@@ -42,10 +42,13 @@ at_most_from place limit what judge (x ∷ xs) =
 abbrev pub at_most : {X : Type 0} → ℕ → What → (X → Judgement) → List X → Judgement
 at_most limit what judge xs = at_most_from 0 limit what judge xs
 
--- what is made of each item, or the first fault
+-- what is made of each item, behind what is made already, or the first fault
+abbrev pub each_made_from : {X Y : Type 0} → (X → Judged Y) → List Y → List X → Judged (List Y)
+each_made_from make made [] = Ok made
+each_made_from make made (x ∷ xs) = make x >>= λ y. each_made_from make (made ++ y ∷ []) xs
+
 abbrev pub each_made : {X Y : Type 0} → (X → Judged Y) → List X → Judged (List Y)
-each_made make [] = Ok []
-each_made make (x ∷ xs) = make x >>= λ y. each_made make xs >>= λ ys. Ok (y ∷ ys)
+each_made make xs = each_made_from make [] xs
 
 -- A call gave what is meant, or ran out of memory.
 abbrev pub Fails : {X : Type 0} → ModelFault → Judged X → Type 0

@@ -175,7 +175,7 @@ pub fn bindable_named(params: &[AstParam], name: &[u8]) -> Option<u8>
 }
 
 /// The number of a state among those of its timeline.
-pub fn state_number(states: &[Name], name: &[u8]) -> Option<u32>
+pub fn state_named(states: &[Name], name: &[u8]) -> Option<u32>
     requires { length states.now ≤ 32 }
     ensures { result ≡ place_of states.now name.now }
 {

@@ -6,6 +6,7 @@ mod drafts;
 mod fault;
 mod finding;
 mod names;
+mod numbering;
 mod repeats;
 
 pub use fault::{ModelFault, What};

@@ -1,6 +1,6 @@
 use Rattle.std.proofs.Common.{◌≡◌, drop, bytes_eq}
 use Rattle.std.specs.List.{position_from}
-use Rattle.pl_check.proofs.finding.state_number.Given as goal
+use Rattle.pl_check.proofs.finding.state_named.Given as goal
 
 -- the rest gives the whole
 abbrev pub invariant-loop-place : goal.invariant-loop-place
