@@ -2,6 +2,7 @@
 #![tactic(auto)]
 
 mod counts;
+mod drafting;
 mod drafts;
 mod fault;
 mod finding;

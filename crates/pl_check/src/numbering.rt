@@ -1,6 +1,7 @@
 //! The row of unknown names: the names of the tree become numbers.
 ghost use Rattle.std.specs.Prelude.{◌≡◌, ◌≤◌, length};
 ghost use Rattle.pl_check.specs.Judgements.{Gives, each_made};
+ghost use Rattle.pl_check.specs.Sizes.{IsSmallLine};
 ghost use Rattle.pl_check.specs.Finding.{known};
 ghost use Rattle.pl_check.specs.Numbering.{numbered, state_number, numbered_step, numbered_line, numbered_origin, numbered_param};
 
@@ -12,7 +13,7 @@ use pl_syntax::{AstExpr, AstOrigin, AstParam, AstTimeline};
 use std::alloc::Global;
 
 /// What was found for the name, or else the name is unknown.
-fn known<T: Drop>(alloc: Global, name: &Name, found: Option<T>) -> Result<T, ModelFault>
+pub fn known<T: Drop>(alloc: Global, name: &Name, found: Option<T>) -> Result<T, ModelFault>
     ensures { Gives result (known name.now found) }
 {
     match found {
@@ -21,7 +22,7 @@ fn known<T: Drop>(alloc: Global, name: &Name, found: Option<T>) -> Result<T, Mod
     }
 }
 
-fn number_expr(alloc: Global, params: &[AstParam], expr: &AstExpr) -> Result<Expr, ModelFault>
+pub fn number_expr(alloc: Global, params: &[AstParam], expr: &AstExpr) -> Result<Expr, ModelFault>
     requires { length params.now ≤ 16 }
     ensures { Gives result (numbered params.now expr.now) }
 {
@@ -43,7 +44,7 @@ fn number_expr(alloc: Global, params: &[AstParam], expr: &AstExpr) -> Result<Exp
     }
 }
 
-fn number_state(alloc: Global, states: &[Name], name: &Name) -> Result<u32, ModelFault>
+pub fn number_state(alloc: Global, states: &[Name], name: &Name) -> Result<u32, ModelFault>
     requires { length states.now ≤ 32 }
     ensures { Gives result (state_number states.now name.now) }
 {
@@ -74,6 +75,85 @@ fn number_steps(
     let mut all = Items::new(alloc);
     for step in steps {
         all.push(number_step(alloc, states, step)?)?;
+    }
+    Ok(all)
+}
+
+pub fn number_line(alloc: Global, line: &AstTimeline) -> Result<Timeline, ModelFault>
+    requires { IsSmallLine line.now }
+    ensures { Gives result (numbered_line line.now) }
+{
+    match line {
+        AstTimeline::Capacity { name, most } => Ok(Timeline::Capacity {
+            name: name.copy(alloc)?,
+            most: *most,
+        }),
+        AstTimeline::Level {
+            name,
+            least,
+            most,
+            start,
+        } => Ok(Timeline::Level {
+            name: name.copy(alloc)?,
+            least: *least,
+            most: *most,
+            start: *start,
+        }),
+        AstTimeline::States {
+            name,
+            states,
+            start,
+            any,
+            steps,
+        } => {
+            let first = number_state(alloc, states.as_slice(), start)?;
+            let moves = number_steps(alloc, states.as_slice(), steps.as_slice())?;
+            Ok(Timeline::States {
+                name: name.copy(alloc)?,
+                states: states.copy(alloc)?,
+                start: first,
+                any: *any,
+                steps: moves,
+            })
+        }
+    }
+}
+
+fn number_origin(
+    alloc: Global,
+    params: &[AstParam],
+    origin: &AstOrigin,
+) -> Result<Origin, ModelFault>
+    requires { length params.now ≤ 16 }
+    ensures { Gives result (numbered_origin params.now origin.now) }
+{
+    match origin {
+        AstOrigin::Plain => Ok(Origin::Free(None)),
+        AstOrigin::Default(value) => Ok(Origin::Free(Some(*value))),
+        AstOrigin::Equals(value) => Ok(Origin::Dependent(number_expr(alloc, params, value)?)),
+    }
+}
+
+fn number_param(alloc: Global, params: &[AstParam], param: &AstParam) -> Result<Param, ModelFault>
+    requires { length params.now ≤ 16 }
+    ensures { Gives result (numbered_param params.now param.now) }
+{
+    let origin = number_origin(alloc, params, &param.origin)?;
+    Ok(Param {
+        name: param.name.copy(alloc)?,
+        low: param.low,
+        high: param.high,
+        origin,
+    })
+}
+
+pub fn number_params(alloc: Global, params: &[AstParam]) -> Result<Items<Param>, ModelFault>
+    requires { length params.now ≤ 16 }
+    ensures { Gives result (each_made (numbered_param params.now) params.now) }
+{
+    let mut all = Items::new(alloc);
+    for param in params {
+        all.push(number_param(alloc, params, param)?)?;
     }
     Ok(all)
 }
