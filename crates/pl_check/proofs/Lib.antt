@@ -1,1 +1,10 @@
 pub mod NameLemmas
+pub mod SizeLemmas
+pub mod CycleLemmas
+pub mod KindLemmas
+pub mod DependencyLemmas
+pub mod RangeLemmas
+pub mod NetworkLemmas
+pub mod ScheduleLemmas
+pub mod AnswerLemmas
+pub mod JudgementLemmas

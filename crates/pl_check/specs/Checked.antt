@@ -1,8 +1,7 @@
 -- What the check of a tree answers: the model, where every row passes, or the first fault. The rows come in their order, and
 -- within one row the first fault in the order of the text.
-use Rattle.std.specs.Prelude.{◌≡◌, ℕ, ℤ, pos, List, [], ◌∷◌, map, Result, Ok, Err}
+use Rattle.std.specs.Prelude.{◌≡◌, ℕ, ℤ, pos, List, [], ◌∷◌, Option, Some, None, map, Result, Ok, Err}
 use Rattle.std.specs.List.{filter_map}
-use Rattle.std.specs.Prelude.{Option, Some, None, slice_get}
 use Rattle.pl_syntax.specs.declared.whole.Ast.{Ast}
 use Rattle.pl_model.specs.declared.whole.Model.{Model}
 use Rattle.pl_model.specs.declared.timelines.Timeline.{Timeline}
@@ -14,80 +13,61 @@ use Rattle.pl_check.specs.declared.drafts.Draft.TheVariants as draft
 use Rattle.pl_check.specs.Judgements.{Judged, ◌>>=◌, ◌>>◌}
 use Rattle.pl_check.specs.Names.{twice_in}
 use Rattle.pl_check.specs.Counts.{counts_in}
+use Rattle.pl_check.specs.Drafting.{lines_in, kinds_in}
 use Rattle.pl_check.specs.Numbering.{numbered_items}
 use Rattle.pl_check.specs.Ranges.{range_in}
-use Rattle.pl_check.specs.Cycles.{IsAcyclic}
-use Rattle.pl_check.specs.Dependencies.{IsWellFounded, IsFirstCircular, IsFirstRecursive, kind_graph}
-use Rattle.pl_check.specs.Networks.{Pairwise, FinishesKind, IsFirstUnscheduled, span_of}
+use Rattle.pl_check.specs.Dependencies.{AreWellFounded, AreUncontained, IsFirstCircular, IsFirstRecursive}
+use Rattle.pl_check.specs.Networks.{Pairwise, FinishesKind, span_of}
+use Rattle.pl_check.specs.Schedules.{IsFirstUnscheduled}
 
--- the rows up to the ranges: the drafts, or the first fault
-abbrev pub drafted : Ast → Judged (List Draft)
-drafted ast =
-    twice_in ast >> (counts_in ast >> (numbered_items ast.items >>= λ drafts. range_in ast.horizon ast.lead drafts >> Ok drafts))
+-- the drafts, where their ranges pass
+abbrev pub ranged : Ast → List Draft → Judged (List Draft)
+ranged ast drafts = range_in ast.horizon ast.lead drafts >> Ok drafts
 
-abbrev pub as_line : Draft → Option Timeline
-as_line (draft.Timeline l) = Some l
-as_line (draft.Kind k) = None
+-- the rows of names, counts and ranges: the tree with its names numbered, or the first fault
+unfoldable pub drafted : Ast → Judged (List Draft)
+drafted ast = twice_in ast >> (counts_in ast >> (numbered_items ast.items >>= ranged ast))
 
-abbrev pub as_kind : Draft → Option DraftKind
-as_kind (draft.Timeline l) = None
-as_kind (draft.Kind k) = Some k
+-- the least and the greatest duration of each kind
+abbrev pub spans_in : ℤ → List Draft → List (ℤ × ℤ)
+spans_in horizon drafts = map (span_of horizon) (kinds_in drafts)
 
-abbrev pub lines_in : List Draft → List Timeline
-lines_in drafts = filter_map as_line drafts
-
-abbrev pub kinds_in : List Draft → List DraftKind
-kinds_in drafts = filter_map as_kind drafts
-
--- no parameter depends on itself
-abbrev pub AreWellFounded : List DraftKind → Type 0
-AreWellFounded kinds = (i : ℕ) (k : DraftKind) → slice_get kinds i ≡ Some k → IsWellFounded k
-
--- no kind contains itself
-abbrev pub AreUncontained : List DraftKind → Type 0
-AreUncontained kinds = IsAcyclic (kind_graph kinds)
-
--- Every row passes, and this is the model.
-pub record IsModelOf (ast : Ast) (model : Model) : Type 0 where
-  pub drafts : List Draft
-  pub rows : drafted ast ≡ Ok drafts
+-- the model, where the rows of names, counts and ranges gave these drafts and every other row passes
+pub record IsModelOf (ast : Ast) (drafts : List Draft) (model : Model) : Type 0 where
   pub params : AreWellFounded (kinds_in drafts)
-  pub kinds_apart : AreUncontained (kinds_in drafts)
+  pub contained : AreUncontained (kinds_in drafts)
   pub horizon : pos model.horizon ≡ ast.horizon
   pub lead : pos model.lead ≡ ast.lead
   pub timelines : model.timelines ≡ lines_in drafts
-  pub kinds : Pairwise (FinishesKind ast.horizon (map (span_of ast.horizon) (kinds_in drafts))) (kinds_in drafts) model.kinds
+  pub kinds : Pairwise (FinishesKind ast.horizon (spans_in ast.horizon drafts)) (kinds_in drafts) model.kinds
 
--- the rows up to the ranges pass, and this is the first parameter that depends on itself
-pub record IsCircular (ast : Ast) (name param : List ℕ) : Type 0 where
-  pub drafts : List Draft
-  pub rows : drafted ast ≡ Ok drafts
-  pub first : IsFirstCircular (kinds_in drafts) name param
+-- the rows of parameters that depend on themselves, kinds that contain themselves, and alternatives without a schedule
+abbrev pub AnswersDrafts : Ast → List Draft → Judged Model → Type 0
+AnswersDrafts ast drafts (Ok model) = IsModelOf ast drafts model
+AnswersDrafts ast drafts (Err (fault.Circular name param)) = IsFirstCircular (kinds_in drafts) name param
+AnswersDrafts ast drafts (Err (fault.Recursive name)) = AreWellFounded (kinds_in drafts) × IsFirstRecursive (kinds_in drafts) name
+AnswersDrafts ast drafts (Err (fault.NoSchedule name number cycle)) =
+    AreWellFounded (kinds_in drafts) × AreUncontained (kinds_in drafts) × IsFirstUnscheduled ast.horizon (spans_in ast.horizon drafts) (kinds_in drafts) name number cycle
+AnswersDrafts ast drafts (Err fault.Memory) = Unit {0}
+AnswersDrafts ast drafts (Err _) = ⊥
 
--- no parameter depends on itself either, and this is the first kind that contains itself
-pub record IsRecursive (ast : Ast) (name : List ℕ) : Type 0 where
-  pub drafts : List Draft
-  pub rows : drafted ast ≡ Ok drafts
-  pub params : AreWellFounded (kinds_in drafts)
-  pub first : IsFirstRecursive (kinds_in drafts) name
+-- this fault, unless memory runs out
+abbrev pub IsFault : {X : Type 0} → ModelFault → Judged X → Type 0
+IsFault e (Ok x) = ⊥
+IsFault e (Err fault.Memory) = Unit {0}
+IsFault e (Err f) = f ≡ e
 
--- no kind contains itself either, and this is the first alternative without a schedule
-pub record IsUnscheduled (ast : Ast) (name : List ℕ) (number : ℕ) (cycle : List ℕ) : Type 0 where
-  pub drafts : List Draft
-  pub rows : drafted ast ≡ Ok drafts
-  pub params : AreWellFounded (kinds_in drafts)
-  pub kinds_apart : AreUncontained (kinds_in drafts)
-  pub first : IsFirstUnscheduled ast.horizon (kinds_in drafts) name number cycle
+abbrev pub AnswersJudged : Ast → Judged (List Draft) → Judged Model → Type 0
+AnswersJudged ast (Ok drafts) result = AnswersDrafts ast drafts result
+AnswersJudged ast (Err e) result = IsFault e result
 
+-- Of a tree the check answers this, or want of memory.
 abbrev pub Answers : Ast → Judged Model → Type 0
-Answers ast (Ok model) = IsModelOf ast model
-Answers ast (Err (fault.Circular name param)) = IsCircular ast name param
-Answers ast (Err (fault.Recursive name)) = IsRecursive ast name
-Answers ast (Err (fault.NoSchedule name number cycle)) = IsUnscheduled ast name number cycle
-Answers ast (Err fault.Memory) = Unit {0}
-Answers ast (Err e) = drafted ast ≡ Err e
+Answers ast result = AnswersJudged ast (drafted ast) result
 
 -- a model that the check answers for some tree
 pub record IsChecked (model : Model) : Type 0 where
   pub ast : Ast
-  pub passes : IsModelOf ast model
+  pub drafts : List Draft
+  pub rows : drafted ast ≡ Ok drafts
+  pub passes : IsModelOf ast drafts model

@@ -1,5 +1,5 @@
 -- The rows of parameters that depend on themselves, and of kinds that contain themselves.
-use Rattle.std.specs.Prelude.{◌≡◌, ℕ, ◌<◌, List, [], ◌∷◌, ◌++◌, Option, Some, map, slice_get, All}
+use Rattle.std.specs.Prelude.{◌≡◌, ℕ, ◌<◌, List, [], ◌∷◌, ◌++◌, Option, Some, map, take, slice_get, All}
 use Rattle.std.specs.List.{flat_map, filter_map}
 use Rattle.pl_model.specs.declared.expressions.Expr.{Expr, fold-Expr}
 use Rattle.pl_model.specs.declared.expressions.Expr.TheOpen.{Expr-F}
@@ -7,6 +7,8 @@ use Rattle.pl_model.specs.declared.parameters.Param.{Param}
 use Rattle.pl_model.specs.declared.parameters.Origin.{Origin}
 use Rattle.pl_model.specs.declared.parameters.Origin.TheVariants.{Free, Dependent}
 use Rattle.pl_model.specs.declared.alternatives.Slot.{Slot}
+use Rattle.pl_check.specs.declared.fault.ModelFault.{ModelFault}
+use Rattle.pl_check.specs.declared.fault.ModelFault.TheVariants as fault
 use Rattle.pl_check.specs.declared.drafts.DraftAlternative.{DraftAlternative}
 use Rattle.pl_check.specs.declared.drafts.DraftKind.{DraftKind}
 use Rattle.pl_check.specs.Names.{Name}
@@ -46,21 +48,25 @@ abbrev pub kind_graph : List DraftKind → Graph
 kind_graph kinds = map contained_kinds kinds
 
 -- no parameter of the kind depends on itself
-abbrev pub IsWellFounded : DraftKind → Type 0
-IsWellFounded k = IsAcyclic (param_graph k)
+pub record IsWellFounded (k : DraftKind) : Type 0 where
+  pub acyclic : IsAcyclic (param_graph k)
 
--- the first kind with a parameter that depends on itself, and the first such parameter
+-- of a kind the first parameter that depends on itself
+pub record IsFirstCircularIn (kind : DraftKind) (name param : Name) : Type 0 where
+  pub number : ℕ
+  pub first : IsFirstCyclic (param_graph kind) number
+  pub stands : Param
+  pub found : slice_get kind.params number ≡ Some stands
+  pub named : name ≡ kind.name
+  pub param_named : param ≡ stands.name
+
+-- the first kind with such a parameter
 pub record IsFirstCircular (kinds : List DraftKind) (name param : Name) : Type 0 where
   pub place : ℕ
   pub kind : DraftKind
   pub found : slice_get kinds place ≡ Some kind
-  pub earlier : (i : ℕ) (k : DraftKind) → i < place → slice_get kinds i ≡ Some k → IsWellFounded k
-  pub number : ℕ
-  pub first : IsFirstCyclic (param_graph kind) number
-  pub stands : Param
-  pub param_found : slice_get kind.params number ≡ Some stands
-  pub named : name ≡ kind.name
-  pub param_named : param ≡ stands.name
+  pub earlier : All IsWellFounded (take place kinds)
+  pub first : IsFirstCircularIn kind name param
 
 -- the first kind that contains itself
 pub record IsFirstRecursive (kinds : List DraftKind) (name : Name) : Type 0 where
@@ -69,3 +75,28 @@ pub record IsFirstRecursive (kinds : List DraftKind) (name : Name) : Type 0 wher
   pub found : slice_get kinds place ≡ Some kind
   pub first : IsFirstCyclic (kind_graph kinds) place
   pub named : name ≡ kind.name
+
+-- no parameter depends on itself
+abbrev pub AreWellFounded : List DraftKind → Type 0
+AreWellFounded kinds = All IsWellFounded kinds
+
+-- no kind contains itself
+abbrev pub AreUncontained : List DraftKind → Type 0
+AreUncontained kinds = IsAcyclic (kind_graph kinds)
+
+-- ---- what each row refuses, beside want of memory
+
+abbrev pub IsCircularIn : DraftKind → ModelFault → Type 0
+IsCircularIn kind (fault.Circular name param) = IsFirstCircularIn kind name param
+IsCircularIn kind fault.Memory = Unit {0}
+IsCircularIn kind _ = ⊥
+
+abbrev pub IsCircularFault : List DraftKind → ModelFault → Type 0
+IsCircularFault kinds (fault.Circular name param) = IsFirstCircular kinds name param
+IsCircularFault kinds fault.Memory = Unit {0}
+IsCircularFault kinds _ = ⊥
+
+abbrev pub IsRecursiveFault : List DraftKind → ModelFault → Type 0
+IsRecursiveFault kinds (fault.Recursive name) = IsFirstRecursive kinds name
+IsRecursiveFault kinds fault.Memory = Unit {0}
+IsRecursiveFault kinds _ = ⊥

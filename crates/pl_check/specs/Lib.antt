@@ -3,9 +3,12 @@ pub mod Names
 pub mod Counts
 pub mod Sizes
 pub mod Finding
+pub mod Drafting
 pub mod Numbering
+pub mod Sound
 pub mod Ranges
 pub mod Cycles
 pub mod Dependencies
 pub mod Networks
+pub mod Schedules
 pub mod Checked

@@ -1,5 +1,5 @@
--- The row of alternatives without a schedule, and what is computed of a model: least durations and offsets.
-use Rattle.std.specs.Prelude.{◌≡◌, ℕ, zero, suc, ◌+◌, ◌*◌, ◌-◌, ◌<◌, ℤ, pos, neg_ℤ, List, [], ◌∷◌, ◌++◌, Option, Some, None, map, length, slice_get, slice_index_or, slice_index}
+-- The network of an alternative, and what the model has beside the drafts: least durations and offsets.
+use Rattle.std.specs.Prelude.{◌≡◌, ℕ, zero, suc, ◌+◌, ◌*◌, ◌-◌, ◌<◌, ℤ, pos, negsuc, neg_ℤ, ◌≤ℤ◌, List, [], ◌∷◌, ◌++◌, Option, Some, None, All, length, slice_index_or, slice_index}
 use Rattle.std.specs.Int.{int_min, int_max}
 use Rattle.pl_model.specs.declared.reservations.Point.{Point}
 use Rattle.pl_model.specs.declared.reservations.Point.TheVariants as point
@@ -23,6 +23,25 @@ cut_to horizon n = int_min (int_max n (pos 1)) horizon
 abbrev pub span_of : ℤ → DraftKind → ℤ × ℤ
 span_of horizon k = (cut_to horizon (duration_bounds k).0, cut_to horizon (duration_bounds k).1)
 
+-- durations within the largest horizon
+abbrev pub IsSpan : ℤ × ℤ → Type 0
+IsSpan span = (pos 1 ≤ℤ span.0) × (span.0 ≤ℤ pos 10000000) × (pos 1 ≤ℤ span.1) × (span.1 ≤ℤ pos 10000000)
+
+abbrev pub IsNear : ℤ → Type 0
+IsNear n = (negsuc 9999999 ≤ℤ n) × (n ≤ℤ pos 10000000)
+
+abbrev pub IsNearOrder : Order → Type 0
+IsNearOrder o = IsNear o.low × IsNear o.high
+
+abbrev pub IsNearAlternative : DraftAlternative → Type 0
+IsNearAlternative a = All IsNearOrder a.orders
+
+abbrev pub IsNearKind : DraftKind → Type 0
+IsNearKind k = All IsNearAlternative k.alternatives
+
+abbrev pub IsHorizon : ℤ → Type 0
+IsHorizon horizon = (pos 2 ≤ℤ horizon) × (horizon ≤ℤ pos 10000000)
+
 -- of the kind of this number
 abbrev pub span_at : List (ℤ × ℤ) → ℕ → ℤ × ℤ
 span_at spans kind = slice_index_or spans kind (pos 1, pos 1)
@@ -41,30 +60,31 @@ point_of None point.End = 1
 point_of (Some slot) point.Start = 2 * slot + 2
 point_of (Some slot) point.End = 2 * slot + 3
 
--- the end lies in the span after the start, which is an even point
-abbrev pub span_edges : ℕ → ℤ × ℤ → List Edge
-span_edges start span = apart start (start + 1) span.1 ∷ apart (start + 1) start (neg_ℤ span.0) ∷ []
+-- the second point lies so far after the first, at least and at most
+abbrev pub distance_edges : ℕ → ℕ → ℤ → ℤ → List Edge
+distance_edges from to low high = apart from to high ∷ apart to from (neg_ℤ low) ∷ []
 
--- of the parent and then of each slot, the first of them at this point
-abbrev pub spans_edges : ℕ → List (ℤ × ℤ) → List Edge
-spans_edges start [] = []
-spans_edges start (span ∷ spans) = span_edges start span ++ spans_edges (start + 2) spans
+-- of each slot, the first of them at this point: its end, the next point, lies in its span after its start
+abbrev pub slots_edges : List (ℤ × ℤ) → ℕ → List Slot → List Edge
+slots_edges spans start [] = []
+slots_edges spans start (s ∷ ss) = distance_edges start (start + 1) (slot_span spans s).0 (slot_span spans s).1 ++ slots_edges spans (start + 2) ss
 
 abbrev pub order_edges : Order → List Edge
-order_edges o =
-    apart (point_of o.first o.first_end) (point_of o.second o.second_end) o.high
-    ∷ apart (point_of o.second o.second_end) (point_of o.first o.first_end) (neg_ℤ o.low) ∷ []
+order_edges o = distance_edges (point_of o.first o.first_end) (point_of o.second o.second_end) o.low o.high
 
 abbrev pub orders_edges : List Order → List Edge
 orders_edges [] = []
 orders_edges (o ∷ os) = order_edges o ++ orders_edges os
 
--- The network of an alternative: the points 0 and 1 are the parent's ends, and two more are those of each slot. No point lies
--- before the parent's start.
+-- no point lies before the parent's start, and the parent's end lies in its span
+abbrev pub parent_edges : ℕ → ℤ × ℤ → List Edge
+parent_edges slots own = edges_to_origin (2 * slots + 2 - 1) ++ distance_edges 0 1 own.0 own.1
+
+-- The network of an alternative: the points 0 and 1 are the parent's ends, and two more are those of each slot.
 abbrev pub net_of : List (ℤ × ℤ) → ℤ × ℤ → DraftAlternative → Net
 net_of spans own a = record {
   points = 2 * length a.slots + 2;
-  edges = edges_to_origin (2 * length a.slots + 1) ++ spans_edges 0 (own ∷ map (slot_span spans) a.slots) ++ orders_edges a.orders;
+  edges = parent_edges (length a.slots) own ++ slots_edges spans 2 a.slots ++ orders_edges a.orders;
 }
 
 -- the alternative's offsets are its slots' starts in the least solution
@@ -97,23 +117,3 @@ pub record FinishesKind (horizon : ℤ) (spans : List (ℤ × ℤ)) (d : DraftKi
   pub reservations : k.reservations ≡ d.reservations
   pub links : k.links ≡ d.links
   pub alternatives : Pairwise (FinishesAlternative spans (span_of horizon d)) d.alternatives k.alternatives
-
--- the alternative has a schedule
-abbrev pub HasSchedule : List (ℤ × ℤ) → ℤ × ℤ → DraftAlternative → Type 0
-HasSchedule spans own a = (times : List ℤ) × IsSolution (net_of spans own a) times
-
-abbrev pub EachHasSchedule : List (ℤ × ℤ) → ℤ × ℤ → List DraftAlternative → Type 0
-EachHasSchedule spans own alternatives = (j : ℕ) (a : DraftAlternative) → slice_get alternatives j ≡ Some a → HasSchedule spans own a
-
--- the first kind with an alternative without a schedule, the first such alternative, and a negative cycle of its network
-pub record IsFirstUnscheduled (horizon : ℤ) (kinds : List DraftKind) (name : Name) (number : ℕ) (cycle : List ℕ) : Type 0 where
-  pub place : ℕ
-  pub kind : DraftKind
-  pub found : slice_get kinds place ≡ Some kind
-  pub earlier_kinds : (i : ℕ) (k : DraftKind) → i < place → slice_get kinds i ≡ Some k → EachHasSchedule (map (span_of horizon) kinds) (span_of horizon k) k.alternatives
-  pub alternative : DraftAlternative
-  pub alternative_found : slice_get kind.alternatives number ≡ Some alternative
-  pub earlier : (j : ℕ) (a : DraftAlternative) → j < number → slice_get kind.alternatives j ≡ Some a → HasSchedule (map (span_of horizon) kinds) (span_of horizon kind) a
-  pub negative : IsNegativeCycle (net_of (map (span_of horizon) kinds) (span_of horizon kind) alternative) cycle
-  pub none : HasNoSolution (net_of (map (span_of horizon) kinds) (span_of horizon kind) alternative)
-  pub named : name ≡ kind.name

@@ -65,6 +65,9 @@ numbered_origin params (origin.Equals e) = numbered params e >>= λ x. Ok (Depen
 abbrev pub numbered_param : List AstParam → AstParam → Judged Param
 numbered_param params p = numbered_origin params p.origin >>= λ o. Ok (record { name = p.name; low = p.low; high = p.high; origin = o })
 
+unfoldable pub numbered_params : List AstParam → Judged (List Param)
+numbered_params params = each_made (numbered_param params) params
+
 -- of a state timeline and its state: the two numbers
 abbrev pub state_named : List Item → Name → Name → Judged (ℕ × ℕ)
 state_named items name state =
@@ -82,9 +85,15 @@ numbered_reservation items params (reservation.Put name state point) =
 numbered_reservation items params (reservation.Must name state) =
     state_named items name state >>= λ found. Ok (Must found.0 found.1)
 
+unfoldable pub numbered_reservations : List Item → List AstParam → List AstReservation → Judged (List Reservation)
+numbered_reservations items params reservations = each_made (numbered_reservation items params) reservations
+
 abbrev pub numbered_link : List Item → AstLink → Judged Link
 numbered_link items l =
     known l.kind (kind_named items l.kind) >>= λ found. Ok (record { mine = l.mine; kind = found.0; theirs = l.theirs; low = l.low; high = l.high })
+
+unfoldable pub numbered_links : List Item → List AstLink → Judged (List Link)
+numbered_links items links = each_made (numbered_link items) links
 
 -- on the left a parameter of the slot's kind, on the right the parent's
 abbrev pub numbered_binding : List AstParam → List AstParam → Name × AstExpr → Judged (ℕ × Expr)
@@ -110,14 +119,31 @@ numbered_alternative items params a =
     each_made (numbered_slot items params) a.slots >>= λ slots.
     each_made (numbered_order a.slots) a.orders >>= λ orders. Ok (record { slots = slots; orders = orders })
 
+unfoldable pub numbered_alternatives : List Item → List AstParam → List AstAlternative → Judged (List DraftAlternative)
+numbered_alternatives items params alternatives = each_made (numbered_alternative items params) alternatives
+
+unfoldable pub numbered_duration : AstKind → Judged Expr
+numbered_duration k = numbered k.params k.duration
+
+-- the parameters and the duration of a kind
+abbrev pub numbered_head : AstKind → Judged (List Param × Expr)
+numbered_head k = numbered_params k.params >>= λ params. numbered_duration k >>= λ duration. Ok (params, duration)
+
+-- its reservations and its links
+abbrev pub numbered_asks : List Item → AstKind → Judged (List Reservation × List Link)
+numbered_asks items k =
+    numbered_reservations items k.params k.reservations >>= λ reservations.
+    numbered_links items k.links >>= λ links. Ok (reservations, links)
+
+abbrev pub kind_of_parts : List ℕ → List Param × Expr → List Reservation × List Link → List DraftAlternative → DraftKind
+kind_of_parts name head asks alternatives =
+    record { name = name; params = head.0; duration = head.1; reservations = asks.0; links = asks.1; alternatives = alternatives }
+
 abbrev pub numbered_kind : List Item → AstKind → Judged DraftKind
 numbered_kind items k =
-    each_made (numbered_param k.params) k.params >>= λ params.
-    numbered k.params k.duration >>= λ duration.
-    each_made (numbered_reservation items k.params) k.reservations >>= λ reservations.
-    each_made (numbered_link items) k.links >>= λ links.
-    each_made (numbered_alternative items k.params) k.alternatives >>= λ alternatives.
-    Ok (record { name = k.name; params = params; duration = duration; reservations = reservations; links = links; alternatives = alternatives })
+    numbered_head k >>= λ head.
+    numbered_asks items k >>= λ asks.
+    numbered_alternatives items k.params k.alternatives >>= λ alternatives. Ok (kind_of_parts k.name head asks alternatives)
 
 abbrev pub numbered_item : List Item → Item → Judged Draft
 numbered_item items (item.Timeline l) = numbered_line l >>= λ x. Ok (draft.Timeline x)

@@ -1,5 +1,5 @@
 -- The row of numbers out of range, in the order of the text. The bounds of a duration stand at the end of its expression.
-use Rattle.std.specs.Prelude.{◌≡◌, ℕ, ℤ, pos, neg_ℤ, int_le, Bool, true, false, ◌&&◌, List, [], ◌∷◌, Option, Some, None, map, Result, Ok, Err}
+use Rattle.std.specs.Prelude.{◌≡◌, ℕ, ℤ, pos, neg_ℤ, int_le, Bool, true, false, ◌&&◌, List, [], ◌∷◌, Option, Some, None, map, length, Result, Ok, Err}
 use Rattle.pl_model.specs.declared.expressions.Expr.{Expr, fold-Expr}
 use Rattle.pl_model.specs.declared.expressions.Expr.TheOpen.{Expr-F}
 use Rattle.pl_model.specs.declared.parameters.Param.{Param}
@@ -13,6 +13,7 @@ use Rattle.pl_model.specs.declared.alternatives.Order.{Order}
 use Rattle.pl_model.specs.declared.timelines.Timeline.{Timeline}
 use Rattle.pl_model.specs.declared.timelines.Timeline.TheVariants.{Capacity, Level, States}
 use Rattle.pl_model.specs.Bounds.{bounds_of}
+use Rattle.pl_model.specs.Values.{NamesBelow}
 use Rattle.pl_check.specs.declared.fault.ModelFault.TheVariants as fault
 use Rattle.pl_check.specs.declared.fault.What.TheVariants as what
 use Rattle.pl_check.specs.declared.drafts.DraftAlternative.{DraftAlternative}
@@ -21,7 +22,7 @@ use Rattle.pl_check.specs.declared.drafts.Draft.{Draft}
 use Rattle.pl_check.specs.declared.drafts.Draft.TheVariants as draft
 use Rattle.pl_check.specs.Judgements.{Judgement, pass, ◌>>◌, unless, each}
 
-abbrev pub is_between : ℤ → ℤ → ℤ → Bool
+unfoldable pub is_between : ℤ → ℤ → ℤ → Bool
 is_between low high n = int_le low n && int_le n high
 
 -- of parameters, amounts, capacities and literals
@@ -37,8 +38,11 @@ literals_at (Expr-F.Num n) = is_amount n
 literals_at (Expr-F.Param p) = true
 literals_at (Expr-F.Apply op a b) = a && b
 
+abbrev pub literals_fit : Expr → Bool
+literals_fit e = fold-Expr Bool literals_at e
+
 abbrev pub range_in_expr : Expr → Judgement
-range_in_expr e = unless (fold-Expr Bool literals_at e) (fault.Range what.Literal)
+range_in_expr e = unless (literals_fit e) (fault.Range what.Literal)
 
 abbrev pub range_in_line : Timeline → Judgement
 range_in_line (Capacity name most) = unless (is_amount most) (fault.Range what.Capacity)
@@ -66,6 +70,14 @@ param_range p = (p.low, p.high)
 abbrev pub duration_bounds : DraftKind → ℤ × ℤ
 duration_bounds k = bounds_of k.duration (map param_range k.params)
 
+-- the expression of the duration names parameters of the kind
+abbrev pub NamesOwn : DraftKind → Type 0
+NamesOwn k = NamesBelow (length k.params) k.duration
+
+abbrev pub NamesOwnIn : Draft → Type 0
+NamesOwnIn (draft.Timeline l) = Unit {0}
+NamesOwnIn (draft.Kind k) = NamesOwn k
+
 -- some duration from 1 to the horizon lies in the bounds
 abbrev pub is_possible : ℤ → ℤ × ℤ → Bool
 is_possible horizon bounds = int_le (pos 1) bounds.1 && int_le bounds.0 horizon
@@ -81,7 +93,7 @@ range_in_reservation (Must line state) = pass
 abbrev pub is_distance : ℤ → ℤ → ℤ → Bool
 is_distance horizon low high = is_between (neg_ℤ horizon) horizon low && is_between (neg_ℤ horizon) horizon high && int_le low high
 
-abbrev pub range_in_link : ℤ → Link → Judgement
+unfoldable pub range_in_link : ℤ → Link → Judgement
 range_in_link horizon l = unless (is_distance horizon l.low l.high) (fault.Range what.Link)
 
 abbrev pub range_in_binding : ℕ × Expr → Judgement
@@ -90,7 +102,7 @@ range_in_binding b = range_in_expr b.1
 abbrev pub range_in_slot : Slot → Judgement
 range_in_slot s = each range_in_binding s.bindings
 
-abbrev pub range_in_order : ℤ → Order → Judgement
+unfoldable pub range_in_order : ℤ → Order → Judgement
 range_in_order horizon o = unless (is_distance horizon o.low o.high) (fault.Range what.Order)
 
 abbrev pub range_in_alternative : ℤ → DraftAlternative → Judgement
@@ -107,7 +119,7 @@ range_in_kind horizon k =
     >> (each (range_in_link horizon) k.links
     >> each (range_in_alternative horizon) k.alternatives)))
 
-abbrev pub range_in_draft : ℤ → Draft → Judgement
+unfoldable pub range_in_draft : ℤ → Draft → Judgement
 range_in_draft horizon (draft.Timeline l) = range_in_line l
 range_in_draft horizon (draft.Kind k) = range_in_kind horizon k
 

@@ -1,8 +1,12 @@
 //! Kinds and timelines with their names numbered.
-ghost use Rattle.std.specs.Prelude.{◌≡◌, ◌≤◌, length, map};
+ghost use Rattle.std.specs.Prelude.{◌≡◌, ◌≤◌, length, All, IfOk, count_by, [], ◌∷◌, if◌then◌else◌};
 ghost use Rattle.pl_check.specs.Judgements.{Gives, each_made};
-ghost use Rattle.pl_check.specs.Sizes.{IsScope, IsSmallKind, IsSmallAlternative};
-ghost use Rattle.pl_check.specs.Numbering.{state_named, numbered_reservation, numbered_link, numbered_binding, numbered_slot, numbered_place, numbered_order, numbered_alternative, numbered_kind, numbered_item, numbered_items};
+ghost use Rattle.pl_check.specs.Sizes.{IsScope, IsSmallKind, IsSmallAlternative, IsSmallItem};
+ghost use Rattle.pl_model.specs.Values.{NamesBelow};
+ghost use Rattle.pl_check.specs.Finding.{is_kind};
+ghost use Rattle.pl_check.specs.Drafting.{kinds_in};
+ghost use Rattle.pl_check.specs.Sound.{IsSlotOf, IsPlaceBelow, IsOrderOf, IsSoundAlternative, IsSoundKind, IsSoundDraft};
+ghost use Rattle.pl_check.specs.Numbering.{state_named, numbered_reservations, numbered_reservation, numbered_link, numbered_links, numbered_binding, numbered_slot, numbered_place, numbered_order, numbered_alternative, numbered_alternatives, numbered_duration, numbered_head, numbered_asks, numbered_kind, numbered_item, numbered_items};
 
 use crate::drafts::{Draft, DraftAlternative, DraftKind};
 use crate::fault::ModelFault;
@@ -12,7 +16,7 @@ use crate::finding::{
 use crate::names::Names;
 use crate::numbering::{known, number_expr, number_line, number_params, number_state};
 use pl_lists::{Copied, Items};
-use pl_model::{Expr, Link, Name, Order, Reservation, Slot};
+use pl_model::{Expr, Link, Name, Order, Param, Reservation, Slot};
 use pl_syntax::{
     AstAlternative, AstExpr, AstKind, AstLink, AstOrder, AstParam, AstReservation, AstSlot, Item,
 };
@@ -73,6 +77,7 @@ fn number_reservation(
     }
 }
 
+#[tactic(auto, unfolding(crate::specs::Numbering::numbered_reservations))]
 fn number_reservations(
     alloc: Global,
     names: &Names,
@@ -82,7 +87,7 @@ fn number_reservations(
 ) -> Result<Items<Reservation>, ModelFault>
     requires scope { IsScope names.now items.now }
     requires params { length params.now ≤ 16 }
-    ensures { Gives result (each_made (numbered_reservation items.now params.now) reservations.now) }
+    ensures { Gives result (numbered_reservations items.now params.now reservations.now) }
 {
     let mut all = Items::new(alloc);
     for reservation in reservations {
@@ -112,6 +117,7 @@ fn number_link(
     }
 }
 
+#[tactic(auto, unfolding(crate::specs::Numbering::numbered_links))]
 fn number_links(
     alloc: Global,
     names: &Names,
@@ -119,7 +125,7 @@ fn number_links(
     links: &[AstLink],
 ) -> Result<Items<Link>, ModelFault>
     requires { IsScope names.now items.now }
-    ensures { Gives result (each_made (numbered_link items.now) links.now) }
+    ensures { Gives result (numbered_links items.now links.now) }
 {
     let mut all = Items::new(alloc);
     for link in links {
@@ -174,7 +180,8 @@ fn number_slot(
 ) -> Result<Slot, ModelFault>
     requires scope { IsScope names.now items.now }
     requires params { length params.now ≤ 16 }
-    ensures { Gives result (numbered_slot items.now params.now slot.now) }
+    ensures gives { Gives result (numbered_slot items.now params.now slot.now) }
+    ensures kind { IfOk result (IsSlotOf (count_by is_kind items.now)) }
 {
     match kind_named(names, items, slot.kind.as_slice()) {
         None => Err(ModelFault::Unknown(slot.kind.copy(alloc)?)),
@@ -203,7 +210,9 @@ fn number_slots(
 ) -> Result<Items<Slot>, ModelFault>
     requires scope { IsScope names.now items.now }
     requires params { length params.now ≤ 16 }
-    ensures { Gives result (each_made (numbered_slot items.now params.now) slots.now) }
+    ensures gives { Gives result (each_made (numbered_slot items.now params.now) slots.now) }
+    ensures each_slot { IfOk result (λ made. length made ≡ length slots.now) }
+    ensures kinds { IfOk result (All (IsSlotOf (count_by is_kind items.now))) }
 {
     let mut all = Items::new(alloc);
     for slot in slots {
@@ -219,7 +228,8 @@ fn number_place(
     place: &Option<Name>,
 ) -> Result<Option<u32>, ModelFault>
     requires { length slots.now ≤ 16 }
-    ensures { Gives result (numbered_place slots.now place.now) }
+    ensures gives { Gives result (numbered_place slots.now place.now) }
+    ensures below { IfOk result (IsPlaceBelow (length slots.now)) }
 {
     match place {
         None => Ok(None),
@@ -232,7 +242,8 @@ fn number_place(
 
 fn number_order(alloc: Global, slots: &[AstSlot], order: &AstOrder) -> Result<Order, ModelFault>
     requires { length slots.now ≤ 16 }
-    ensures { Gives result (numbered_order slots.now order.now) }
+    ensures gives { Gives result (numbered_order slots.now order.now) }
+    ensures slots { IfOk result (IsOrderOf (length slots.now)) }
 {
     let first = number_place(alloc, slots, &order.first)?;
     let second = number_place(alloc, slots, &order.second)?;
@@ -252,11 +263,164 @@ fn number_orders(
     orders: &[AstOrder],
 ) -> Result<Items<Order>, ModelFault>
     requires { length slots.now ≤ 16 }
-    ensures { Gives result (each_made (numbered_order slots.now) orders.now) }
+    ensures gives { Gives result (each_made (numbered_order slots.now) orders.now) }
+    ensures each_order { IfOk result (λ made. length made ≡ length orders.now) }
+    ensures slots { IfOk result (All (IsOrderOf (length slots.now))) }
 {
     let mut all = Items::new(alloc);
     for order in orders {
         all.push(number_order(alloc, slots, order)?)?;
+    }
+    Ok(all)
+}
+
+fn number_alternative(
+    alloc: Global,
+    names: &Names,
+    items: &[Item],
+    params: &[AstParam],
+    alternative: &AstAlternative,
+) -> Result<DraftAlternative, ModelFault>
+    requires scope { IsScope names.now items.now }
+    requires params { length params.now ≤ 16 }
+    requires small { IsSmallAlternative alternative.now }
+    ensures gives { Gives result (numbered_alternative items.now params.now alternative.now) }
+    ensures sound { IfOk result (IsSoundAlternative (count_by is_kind items.now)) }
+{
+    let slots = number_slots(alloc, names, items, params, alternative.slots.as_slice())?;
+    let orders = number_orders(
+        alloc,
+        alternative.slots.as_slice(),
+        alternative.orders.as_slice(),
+    )?;
+    Ok(DraftAlternative { slots, orders })
+}
+
+#[tactic(auto, unfolding(crate::specs::Numbering::numbered_alternatives))]
+fn number_alternatives(
+    alloc: Global,
+    names: &Names,
+    items: &[Item],
+    params: &[AstParam],
+    alternatives: &[AstAlternative],
+) -> Result<Items<DraftAlternative>, ModelFault>
+    requires scope { IsScope names.now items.now }
+    requires params { length params.now ≤ 16 }
+    requires small { All IsSmallAlternative alternatives.now }
+    ensures gives { Gives result (numbered_alternatives items.now params.now alternatives.now) }
+    ensures each_alternative { IfOk result (λ made. length made ≡ length alternatives.now) }
+    ensures sound { IfOk result (All (IsSoundAlternative (count_by is_kind items.now))) }
+{
+    let mut all = Items::new(alloc);
+    for alternative in alternatives {
+        all.push(number_alternative(alloc, names, items, params, alternative)?)?;
+    }
+    Ok(all)
+}
+
+#[tactic(auto, unfolding(crate::specs::Numbering::numbered_duration))]
+fn number_duration(alloc: Global, kind: &AstKind) -> Result<Expr, ModelFault>
+    requires { IsSmallKind kind.now }
+    ensures gives { Gives result (numbered_duration kind.now) }
+    ensures below { IfOk result (NamesBelow (length kind.now.params)) }
+{
+    number_expr(alloc, kind.params.as_slice(), &kind.duration)
+}
+
+fn number_head(alloc: Global, kind: &AstKind) -> Result<(Items<Param>, Expr), ModelFault>
+    requires { IsSmallKind kind.now }
+    ensures gives { Gives result (numbered_head kind.now) }
+    ensures below { IfOk result (λ head. NamesBelow (length head.0) head.1) }
+{
+    let params = number_params(alloc, kind.params.as_slice())?;
+    let duration = number_duration(alloc, kind)?;
+    Ok((params, duration))
+}
+
+fn number_asks(
+    alloc: Global,
+    names: &Names,
+    items: &[Item],
+    kind: &AstKind,
+) -> Result<(Items<Reservation>, Items<Link>), ModelFault>
+    requires scope { IsScope names.now items.now }
+    requires small { IsSmallKind kind.now }
+    ensures { Gives result (numbered_asks items.now kind.now) }
+{
+    let reservations = number_reservations(
+        alloc,
+        names,
+        items,
+        kind.params.as_slice(),
+        kind.reservations.as_slice(),
+    )?;
+    let links = number_links(alloc, names, items, kind.links.as_slice())?;
+    Ok((reservations, links))
+}
+
+fn number_kind(
+    alloc: Global,
+    names: &Names,
+    items: &[Item],
+    kind: &AstKind,
+) -> Result<DraftKind, ModelFault>
+    requires scope { IsScope names.now items.now }
+    requires small { IsSmallKind kind.now }
+    ensures gives { Gives result (numbered_kind items.now kind.now) }
+    ensures sound { IfOk result (IsSoundKind (count_by is_kind items.now)) }
+{
+    let (params, duration) = number_head(alloc, kind)?;
+    let (reservations, links) = number_asks(alloc, names, items, kind)?;
+    let alternatives = number_alternatives(
+        alloc,
+        names,
+        items,
+        kind.params.as_slice(),
+        kind.alternatives.as_slice(),
+    )?;
+    Ok(DraftKind {
+        name: kind.name.copy(alloc)?,
+        params,
+        duration,
+        reservations,
+        links,
+        alternatives,
+    })
+}
+
+fn number_item(
+    alloc: Global,
+    names: &Names,
+    items: &[Item],
+    item: &Item,
+) -> Result<Draft, ModelFault>
+    requires scope { IsScope names.now items.now }
+    requires small { IsSmallItem item.now }
+    ensures gives { Gives result (numbered_item items.now item.now) }
+    ensures sound { IfOk result (IsSoundDraft (count_by is_kind items.now)) }
+    ensures sort { IfOk result (λ d. length (kinds_in (d ∷ [])) ≡ (if is_kind item.now then 1 else 0)) }
+{
+    match item {
+        Item::Timeline(line) => Ok(Draft::Timeline(number_line(alloc, line)?)),
+        Item::Kind(kind) => Ok(Draft::Kind(number_kind(alloc, names, items, kind)?)),
+    }
+}
+
+#[tactic(auto, using(crate::proofs::KindLemmas::kinds_step))]
+/// The timelines and kinds of the text with their names numbered.
+pub fn number_items(
+    alloc: Global,
+    names: &Names,
+    items: &[Item],
+) -> Result<Items<Draft>, ModelFault>
+    requires { IsScope names.now items.now }
+    ensures gives { Gives result (numbered_items items.now) }
+    ensures sound { IfOk result (All (IsSoundDraft (count_by is_kind items.now))) }
+    ensures kinds { IfOk result (λ drafts. length (kinds_in drafts) ≡ count_by is_kind items.now) }
+{
+    let mut all = Items::new(alloc);
+    for item in items {
+        all.push(number_item(alloc, names, items, item)?)?;
     }
     Ok(all)
 }

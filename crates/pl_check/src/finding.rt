@@ -1,5 +1,5 @@
 //! What a name of the text names.
-ghost use Rattle.std.specs.Prelude.{◌≡◌, ◌≤◌, length, option_map, count_by, take, IfSome, All};
+ghost use Rattle.std.specs.Prelude.{◌≡◌, ◌<◌, ◌≤◌, length, option_map, count_by, take, IfSome, All};
 ghost use Rattle.pl_check.specs.Names.{place_of};
 ghost use Rattle.pl_check.specs.Sizes.{IsScope, IsSmallItem, IsSmallKind, IsSmallLine};
 ghost use Rattle.pl_check.specs.Finding.{is_kind, is_line, kind_at, line_at, kind_named, line_named, capacity_named, level_named, states_named, param_named, bindable_named, slot_named, is_unequalled};
@@ -40,6 +40,7 @@ fn kind_at(items: &[Item], place: usize) -> Option<(u32, &AstKind)>
     requires few { length items.now ≤ 512 }
     requires small { All IsSmallItem items.now }
     ensures found { option_map (λ p. (p.0, p.1.now)) result ≡ kind_at items.now place }
+    ensures below { IfSome result (λ p. p.0 < count_by is_kind items.now) }
     ensures small { IfSome result (λ p. IsSmallKind p.1.now) }
 {
     match items.get(place)? {
@@ -68,6 +69,7 @@ pub fn kind_named<'a>(
 ) -> Option<(u32, &'a AstKind)>
     requires { IsScope names.now items.now }
     ensures found { option_map (λ p. (p.0, p.1.now)) result ≡ kind_named items.now name.now }
+    ensures below { IfSome result (λ p. p.0 < count_by is_kind items.now) }
     ensures small { IfSome result (λ p. IsSmallKind p.1.now) }
 {
     let place = names.place(name)?;
@@ -129,7 +131,8 @@ pub fn states_named<'a>(
 
 pub fn param_named(params: &[AstParam], name: &[u8]) -> Option<u8>
     requires { length params.now ≤ 16 }
-    ensures { result ≡ param_named params.now name.now }
+    ensures value { result ≡ param_named params.now name.now }
+    ensures below { IfSome result (λ p. p < length params.now) }
 {
     for (place, param) in params.iter().enumerate() {
         if param.name.as_slice() == name {
@@ -141,7 +144,8 @@ pub fn param_named(params: &[AstParam], name: &[u8]) -> Option<u8>
 
 pub fn slot_named(slots: &[AstSlot], name: &[u8]) -> Option<u32>
     requires { length slots.now ≤ 16 }
-    ensures { result ≡ slot_named slots.now name.now }
+    ensures value { result ≡ slot_named slots.now name.now }
+    ensures below { IfSome result (λ s. s < length slots.now) }
 {
     for (place, slot) in slots.iter().enumerate() {
         if slot.name.as_slice() == name {

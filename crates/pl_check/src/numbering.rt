@@ -1,9 +1,10 @@
 //! The row of unknown names: the names of the tree become numbers.
-ghost use Rattle.std.specs.Prelude.{◌≡◌, ◌≤◌, length};
+ghost use Rattle.std.specs.Prelude.{◌≡◌, ◌≤◌, length, IfOk};
+ghost use Rattle.pl_model.specs.Values.{NamesBelow};
 ghost use Rattle.pl_check.specs.Judgements.{Gives, each_made};
 ghost use Rattle.pl_check.specs.Sizes.{IsSmallLine};
 ghost use Rattle.pl_check.specs.Finding.{known};
-ghost use Rattle.pl_check.specs.Numbering.{numbered, state_number, numbered_step, numbered_line, numbered_origin, numbered_param};
+ghost use Rattle.pl_check.specs.Numbering.{numbered, state_number, numbered_step, numbered_line, numbered_origin, numbered_param, numbered_params};
 
 use crate::fault::ModelFault;
 use crate::finding::{param_named, state_named};
@@ -24,7 +25,8 @@ pub fn known<T: Drop>(alloc: Global, name: &Name, found: Option<T>) -> Result<T,
 
 pub fn number_expr(alloc: Global, params: &[AstParam], expr: &AstExpr) -> Result<Expr, ModelFault>
     requires { length params.now ≤ 16 }
-    ensures { Gives result (numbered params.now expr.now) }
+    ensures gives { Gives result (numbered params.now expr.now) }
+    ensures below { IfOk result (NamesBelow (length params.now)) }
 {
     match expr {
         AstExpr::Num(number) => Ok(Expr::Num(*number)),
@@ -147,9 +149,11 @@ fn number_param(alloc: Global, params: &[AstParam], param: &AstParam) -> Result<
     })
 }
 
+#[tactic(auto, unfolding(crate::specs::Numbering::numbered_params))]
 pub fn number_params(alloc: Global, params: &[AstParam]) -> Result<Items<Param>, ModelFault>
     requires { length params.now ≤ 16 }
-    ensures { Gives result (each_made (numbered_param params.now) params.now) }
+    ensures gives { Gives result (numbered_params params.now) }
+    ensures each_param { IfOk result (λ made. length made ≡ length params.now) }
 {
     let mut all = Items::new(alloc);
     for param in params {

@@ -1,0 +1,6 @@
+use Rattle.std.proofs.Common.{take}
+use Rattle.pl_check.specs.Networks.{Pairwise, FinishesKind}
+use Rattle.pl_check.proofs.schedules.finish_kinds.Given as goal
+
+abbrev pub invariant-loop-kind : goal.invariant-loop-kind
+invariant-loop-kind l = Pairwise (FinishesKind l.horizon l.spans) (take l.kind-index l.kinds) l.finished
