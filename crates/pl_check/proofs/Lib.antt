@@ -8,3 +8,4 @@ pub mod NetworkLemmas
 pub mod ScheduleLemmas
 pub mod AnswerLemmas
 pub mod JudgementLemmas
+pub mod AcceptanceLemmas

@@ -1,6 +1,6 @@
 -- What the check of a tree answers: the model, where every row passes, or the first fault. The rows come in their order, and
 -- within one row the first fault in the order of the text.
-use Rattle.std.specs.Prelude.{◌≡◌, ℕ, ℤ, pos, List, [], ◌∷◌, Option, Some, None, map, Result, Ok, Err}
+use Rattle.std.specs.Prelude.{◌≡◌, ℕ, ℤ, pos, List, [], ◌∷◌, Option, Some, None, All, map, Result, Ok, Err}
 use Rattle.std.specs.List.{filter_map}
 use Rattle.pl_syntax.specs.declared.whole.Ast.{Ast}
 use Rattle.pl_model.specs.declared.whole.Model.{Model}
@@ -18,7 +18,7 @@ use Rattle.pl_check.specs.Numbering.{numbered_items}
 use Rattle.pl_check.specs.Ranges.{range_in}
 use Rattle.pl_check.specs.Dependencies.{AreWellFounded, AreUncontained, IsFirstCircular, IsFirstRecursive}
 use Rattle.pl_check.specs.Networks.{Pairwise, FinishesKind, span_of}
-use Rattle.pl_check.specs.Schedules.{IsFirstUnscheduled}
+use Rattle.pl_check.specs.Schedules.{IsScheduled, IsFirstUnscheduled}
 
 -- the drafts, where their ranges pass
 abbrev pub ranged : Ast → List Draft → Judged (List Draft)
@@ -64,6 +64,19 @@ AnswersJudged ast (Err e) result = IsFault e result
 -- Of a tree the check answers this, or want of memory.
 abbrev pub Answers : Ast → Judged Model → Type 0
 Answers ast result = AnswersJudged ast (drafted ast) result
+
+-- every row passes
+pub record PassesEachRow (ast : Ast) : Type 0 where
+  pub drafts : List Draft
+  pub rows : drafted ast ≡ Ok drafts
+  pub params : AreWellFounded (kinds_in drafts)
+  pub contained : AreUncontained (kinds_in drafts)
+  pub schedules : All (IsScheduled ast.horizon (spans_in ast.horizon drafts)) (kinds_in drafts)
+
+abbrev pub IsModelOrMemory : Judged Model → Type 0
+IsModelOrMemory (Ok model) = Unit {0}
+IsModelOrMemory (Err fault.Memory) = Unit {0}
+IsModelOrMemory (Err _) = ⊥
 
 -- a model that the check answers for some tree
 pub record IsChecked (model : Model) : Type 0 where

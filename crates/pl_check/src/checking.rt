@@ -8,7 +8,7 @@ ghost use Rattle.pl_check.specs.Numbering.{numbered_items};
 ghost use Rattle.pl_check.specs.Sound.{IsSoundDraft};
 ghost use Rattle.pl_check.specs.Ranges.{range_in, NamesOwnIn};
 ghost use Rattle.pl_check.specs.Drafting.{lines_in, kinds_in};
-ghost use Rattle.pl_check.specs.Checked.{drafted, AnswersDrafts, Answers, IsChecked};
+ghost use Rattle.pl_check.specs.Checked.{drafted, AnswersDrafts, Answers, PassesEachRow, IsModelOrMemory, IsChecked};
 
 use crate::counts::count_all;
 use crate::dependencies::{judge_kinds, judge_params};
@@ -114,10 +114,20 @@ fn complete(alloc: Global, ast: &Ast, drafts: &[Draft]) -> Result<Model, ModelFa
 
 /// The model of a tree, or its first fault.
 #[tactic(auto, using(crate::proofs::AnswerLemmas::judged_answers, crate::proofs::AnswerLemmas::drafts_answer))]
-pub fn check(alloc: Global, ast: &Ast) -> Result<Model, ModelFault>
+fn check_tree(alloc: Global, ast: &Ast) -> Result<Model, ModelFault>
     ensures answers { Answers ast.now result }
     ensures checked { IfOk result IsChecked }
 {
     let drafts = draft(alloc, ast)?;
     complete(alloc, ast, drafts.as_slice())
+}
+
+/// The model of a tree where every check passes, else the first fault.
+#[tactic(auto, using(crate::proofs::AcceptanceLemmas::accepted))]
+pub fn check(alloc: Global, ast: &Ast) -> Result<Model, ModelFault>
+    ensures answers { Answers ast.now result }
+    ensures accepted { PassesEachRow ast.now → IsModelOrMemory result }
+    ensures checked { IfOk result IsChecked }
+{
+    check_tree(alloc, ast)
 }

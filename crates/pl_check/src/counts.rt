@@ -11,14 +11,23 @@ use pl_syntax::{
 };
 
 const MOST_NODES: usize = 64;
+
 const MOST_STATES: usize = 32;
+
 const MOST_PARAMS: usize = 16;
+
 const MOST_RESERVATIONS: usize = 32;
+
 const MOST_LINKS: usize = 16;
+
 const MOST_ALTERNATIVES: usize = 8;
+
 const MOST_SLOTS: usize = 16;
+
 const MOST_ORDERS: usize = 64;
+
 const MOST_TIMELINES: usize = 256;
+
 const MOST_KINDS: usize = 256;
 
 /// What may hold too many parts.

@@ -62,11 +62,7 @@ fn line_at(items: &[Item], place: usize) -> Option<(u32, &AstTimeline)>
 }
 
 /// The kind of this name, and its number.
-pub fn kind_named<'a>(
-    names: &Names,
-    items: &'a [Item],
-    name: &[u8],
-) -> Option<(u32, &'a AstKind)>
+pub fn kind_named<'a>(names: &Names, items: &'a [Item], name: &[u8]) -> Option<(u32, &'a AstKind)>
     requires { IsScope names.now items.now }
     ensures found { option_map (λ p. (p.0, p.1.now)) result ≡ kind_named items.now name.now }
     ensures below { IfSome result (λ p. p.0 < count_by is_kind items.now) }
@@ -77,11 +73,7 @@ pub fn kind_named<'a>(
 }
 
 /// The timeline of this name, and its number.
-fn line_named<'a>(
-    names: &Names,
-    items: &'a [Item],
-    name: &[u8],
-) -> Option<(u32, &'a AstTimeline)>
+fn line_named<'a>(names: &Names, items: &'a [Item], name: &[u8]) -> Option<(u32, &'a AstTimeline)>
     requires { IsScope names.now items.now }
     ensures found { option_map (λ p. (p.0, p.1.now)) result ≡ line_named items.now name.now }
     ensures small { IfSome result (λ p. IsSmallLine p.1.now) }
@@ -113,11 +105,7 @@ pub fn level_named(names: &Names, items: &[Item], name: &[u8]) -> Option<u32>
 }
 
 /// The state timeline of this name, with its states.
-pub fn states_named<'a>(
-    names: &Names,
-    items: &'a [Item],
-    name: &[u8],
-) -> Option<(u32, &'a [Name])>
+pub fn states_named<'a>(names: &Names, items: &'a [Item], name: &[u8]) -> Option<(u32, &'a [Name])>
     requires { IsScope names.now items.now }
     ensures found { option_map (λ p. (p.0, p.1.now)) result ≡ states_named items.now name.now }
     ensures small { IfSome result (λ p. length p.1.now ≤ 32) }

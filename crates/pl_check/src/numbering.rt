@@ -37,11 +37,7 @@ pub fn number_expr(alloc: Global, params: &[AstParam], expr: &AstExpr) -> Result
         AstExpr::Apply(op, left, right) => {
             let left = number_expr(alloc, params, left.get())?;
             let right = number_expr(alloc, params, right.get())?;
-            Ok(Expr::Apply(
-                *op,
-                Boxed::new(alloc, left)?,
-                Boxed::new(alloc, right)?,
-            ))
+            Ok(Expr::Apply(*op, Boxed::new(alloc, left)?, Boxed::new(alloc, right)?))
         }
     }
 }

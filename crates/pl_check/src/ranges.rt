@@ -10,8 +10,11 @@ use pl_model::{Expr, Link, Order, Origin, Param, Reservation, Slot, Timeline, bo
 use std::alloc::{AllocError, Global};
 
 const MOST_AMOUNT: i64 = 1_000_000_000;
+
 const MOST_LEVEL: i64 = 1_000_000_000_000;
+
 const LEAST_HORIZON: i64 = 2;
+
 const MOST_HORIZON: i64 = 10_000_000;
 
 /// What may hold numbers out of range, whatever the horizon.
@@ -84,7 +87,10 @@ fn judge_line(line: &Timeline) -> Result<(), ModelFault>
     match line {
         Timeline::Capacity { most, .. } => unless(is_amount(*most), What::Capacity),
         Timeline::Level {
-            least, most, start, ..
+            least,
+            most,
+            start,
+            ..
         } => unless(
             is_level(*least) && is_level(*most) && is_level(*start) && *least <= *most,
             What::Level,

@@ -13,6 +13,7 @@ use std::alloc::Global;
 /// What has a name, which is to differ from those beside it, and may hold more names.
 trait Named {
     ghost name: { Self → List ℕ };
+
     ghost inside: { Self → Judgement };
 
     fn name(&self) -> &[u8]
@@ -50,6 +51,7 @@ fn distinct<T: Named>(alloc: Global, items: &[T]) -> Result<Names, ModelFault>
 
 impl Named for Name {
     ghost name = { own_name };
+
     ghost inside = { nothing_inside };
 
     fn name(&self) -> &[u8] {
@@ -63,6 +65,7 @@ impl Named for Name {
 
 impl Named for AstParam {
     ghost name = { param_name };
+
     ghost inside = { nothing_inside };
 
     fn name(&self) -> &[u8] {
@@ -76,6 +79,7 @@ impl Named for AstParam {
 
 impl Named for (Name, AstExpr) {
     ghost name = { binding_name };
+
     ghost inside = { nothing_inside };
 
     fn name(&self) -> &[u8] {
@@ -89,6 +93,7 @@ impl Named for (Name, AstExpr) {
 
 impl Named for AstSlot {
     ghost name = { slot_name };
+
     ghost inside = { twice_in_slot };
 
     fn name(&self) -> &[u8] {
@@ -150,6 +155,7 @@ fn judge_line(alloc: Global, line: &AstTimeline) -> Result<(), ModelFault>
 
 impl Named for Item {
     ghost name = { item_name };
+
     ghost inside = { twice_in_item };
 
     fn name(&self) -> &[u8] {

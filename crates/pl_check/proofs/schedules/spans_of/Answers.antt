@@ -12,7 +12,7 @@ loop-kind-preserved c =
     let kept : c.loop-kind.spans ≡ map (span_of c.args.horizon) (take c.loop-kind.kind-index c.args.kinds.now) = simp (to_z-of_z, c.ranges.horizon) at c.loop-kind.invariant in
     let made : c.in_ok-span_of.field-0 ≡ span_of c.args.horizon c.kind-item.result = search (arith, ints, to_z-of_z, c.in_ok-span_of.ensures.span) in
     let next : c.push.new.self ≡ map (span_of c.args.horizon) (take (c.loop-kind.kind-index + 1) c.args.kinds.now) =
-      c.in_ok-push.ensures.ok ∙ map_step (span_of c.args.horizon) c.args.kinds.now c.loop-kind.kind-index c.kind-item.result c.loop-kind.spans c.in_ok-span_of.field-0 lt c.kind-item.is made kept in
+    c.in_ok-push.ensures.ok ∙ map_step (span_of c.args.horizon) c.args.kinds.now c.loop-kind.kind-index c.kind-item.result c.loop-kind.spans c.in_ok-span_of.field-0 lt c.kind-item.is made kept in
     simp (to_z-of_z, c.ranges.horizon) next
 
 pub returns-clause-near : goal.returns-clause-near
