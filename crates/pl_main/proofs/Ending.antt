@@ -16,7 +16,10 @@ use Rattle.pl_machine.specs.Finished.{inputs_of}
 use Rattle.pl_machine.specs.Sound.{State}
 use Rattle.pl_driver.specs.Rounds.{SameRun}
 use Rattle.pl_journal.specs.Lines.{line_of, text_from, text_of_log}
-use Rattle.pl_plain.specs.Models.{plain_model}
+use Rattle.pl_accept.specs.declared.accepting.Accepted.{Accepted}
+use Rattle.pl_accept.specs.declared.accepting.Accepted.TheVariants as accepted
+use Rattle.pl_accept.specs.Accepting.{IsModelText}
+use Rattle.pl_plain.specs.Models.{IsRunnable, Tells}
 use Rattle.pl_main.specs.declared.halt.Halt.{Halt}
 use Rattle.pl_main.specs.declared.halt.Halt.TheVariants as halt
 use Rattle.pl_main.specs.declared.outcome.Outcome.{Outcome}
@@ -27,8 +30,8 @@ use Rattle.pl_main.specs.Heads.{IsHead, IsBegun, HasNoBegin, HeadHalts}
 use Rattle.pl_main.specs.Tells.{FillsUp, at_once, within}
 use Rattle.pl_main.specs.Written.{Adds, WriteStops}
 use Rattle.pl_main.specs.Plays.{Place, place_of, HaltFor, Plays, EndsWith, by_end, by_line, EndsAll, PlaysOut, StopsBy, PlayHalts, PlayFills, Playing, line_in}
-use Rattle.pl_main.specs.Runs.{fresh_state, ModelRuns, TextRuns}
-use Rattle.pl_main.specs.Top.{RanKnown, program_options, total_limit, IsDone, no_begin_line, no_begin, not_built, WaitsBehind, IsReadFault, IsPastLimit, HasRead, IsFull}
+use Rattle.pl_main.specs.Runs.{fresh_state, ModelRuns, AcceptsKept, TextFails, TextWaits, TextRun, TextRuns}
+use Rattle.pl_main.specs.Top.{RanKnown, program_options, total_limit, IsDone, HasHead, no_begin_line, not_built_line, IsNoModel, no_begin, faulty, no_model, not_built, WaitsBehind, IsReadFault, IsPastLimit, HasRead, IsFull}
 use Rattle.pl_main.proofs.Reading.{gave_append, gave_lines}
 use Rattle.pl_main.proofs.Beginning.{head_then}
 use Rattle.pl_main.proofs.Writing.{adds_then, log_is_short}
@@ -44,14 +47,48 @@ run_stops turns m start place held opened now halt.Read new first playing legal 
 run_stops turns m start place held opened now halt.Write new first playing legal = tt
 run_stops turns m start place held opened now halt.Memory new first playing legal = tt
 
+-- ---- a run over a text
+
+pub text_refused : (turns : ℕ) (kept : Option (Vec ℕ Global)) (start : Place) (held now : Option (List ℕ)) (line : List ℕ) (r : Result Outcome Halt) (faults later : ℕ)
+    → AcceptsKept kept (accepted.Refused line) → OnOk r (Adds held now line) → IfOk r (λ o. o ≡ outcome.Refused) → IfErr r (WriteStops faults later) → TextRuns turns kept start held r now
+text_refused turns kept start held now line (Ok outcome.Refused) faults later text adds refused cause = inl record { line = line; refused = text; written = adds }
+text_refused turns kept start held now line (Ok outcome.Done) faults later text adds refused cause = absurd (let h : outcome.Done ≡ outcome.Refused = refused in (cc))
+text_refused turns kept start held now line (Err halt.Limit) faults later text adds refused cause = absurd cause
+text_refused turns kept start held now line (Err halt.Full) faults later text adds refused cause = absurd cause
+text_refused turns kept start held now line (Err halt.Read) faults later text adds refused cause = absurd cause
+text_refused turns kept start held now line (Err halt.Write) faults later text adds refused cause = tt
+text_refused turns kept start held now line (Err halt.Memory) faults later text adds refused cause = tt
+
+pub text_waits : (turns : ℕ) (kept : Option (Vec ℕ Global)) (start : Place) (held now : Option (List ℕ)) (m : Model) (r : Result Outcome Halt) (faults later : ℕ)
+    → AcceptsKept kept (accepted.Model m) → (IsRunnable m → ⊥) → OnOk r (Adds held now not_built_line) → IfOk r (λ o. o ≡ outcome.Refused) → IfErr r (WriteStops faults later) → TextRuns turns kept start held r now
+text_waits turns kept start held now m (Ok outcome.Refused) faults later text other adds refused cause = inr record { model = m; text = text; other = other; written = adds }
+text_waits turns kept start held now m (Ok outcome.Done) faults later text other adds refused cause = absurd (let h : outcome.Done ≡ outcome.Refused = refused in (cc))
+text_waits turns kept start held now m (Err halt.Limit) faults later text other adds refused cause = absurd cause
+text_waits turns kept start held now m (Err halt.Full) faults later text other adds refused cause = absurd cause
+text_waits turns kept start held now m (Err halt.Read) faults later text other adds refused cause = absurd cause
+text_waits turns kept start held now m (Err halt.Write) faults later text other adds refused cause = tt
+text_waits turns kept start held now m (Err halt.Memory) faults later text other adds refused cause = tt
+
+pub text_ran : (turns : ℕ) (kept : Option (Vec ℕ Global)) (start : Place) (held now : Option (List ℕ)) (m : Model)
+    → AcceptsKept kept (accepted.Model m) → IsRunnable m → ModelRuns turns m start held (Ok tt) now → TextRuns turns kept start held (Ok outcome.Done) now
+text_ran turns kept start held now m text runnable run = record { model = m; text = text; runnable = runnable; run = run }
+
+pub text_stops : (turns : ℕ) (kept : Option (Vec ℕ Global)) (start : Place) (held now : Option (List ℕ)) (m : Model) (e : Halt)
+    → AcceptsKept kept (accepted.Model m) → IsRunnable m → ModelRuns turns m start held (Err e) now → TextRuns turns kept start held (Err e) now
+text_stops turns kept start held now m halt.Limit text runnable run = record { model = m; text = text; runnable = runnable; run = run }
+text_stops turns kept start held now m halt.Full text runnable run = record { model = m; text = text; runnable = runnable; run = run }
+text_stops turns kept start held now m halt.Read text runnable run = record { model = m; text = text; runnable = runnable; run = run }
+text_stops turns kept start held now m halt.Write text runnable run = tt
+text_stops turns kept start held now m halt.Memory text runnable run = tt
+
 -- ---- what was read
 
-record IsKnown (room : ℕ) (bytes : List ℕ) (lines : List (List ℕ)) (left : ℕ) (after : Option (List ℕ)) : Type 0 where
-  rest : List ℕ
-  is : after ≡ Some rest
-  gave : Gave room bytes lines left rest
+pub record IsKnown (room : ℕ) (bytes : List ℕ) (lines : List (List ℕ)) (left : ℕ) (after : Option (List ℕ)) : Type 0 where
+  pub rest : List ℕ
+  pub is : after ≡ Some rest
+  pub gave : Gave room bytes lines left rest
 
-known : (room : ℕ) (bytes : List ℕ) (lines : List (List ℕ)) (left : ℕ) (after : Option (List ℕ)) → GaveKnown room (Some bytes) lines left after → IsKnown room bytes lines left after
+pub known : (room : ℕ) (bytes : List ℕ) (lines : List (List ℕ)) (left : ℕ) (after : Option (List ℕ)) → GaveKnown room (Some bytes) lines left after → IsKnown room bytes lines left after
 known room bytes lines left None gave = absurd gave
 known room bytes lines left (Some rest) gave = record { rest = rest; is = refl; gave = gave }
 
@@ -104,9 +141,9 @@ ends_used_up rest lines inputs front (by_end none is) e = none
 ends_used_up rest lines inputs front (by_line before line last all) e = absurd (let h : Some line ≡ None = last_is before front (Some line) None (sym last ∙ e) in (cc))
 
 done_ends : (turns : ℕ) (input words heads_rest : List ℕ) (heads : List (List ℕ)) (m : Model) (start place : Place) (old : List ℕ) (opened now : Option (List ℕ)) (new : State)
-    → IsHead heads words → Gave total_limit input heads start.reader.room heads_rest → start.ahead ≡ Some heads_rest → plain_model words ≡ Some m
+    → IsHead heads words → Gave total_limit input heads start.reader.room heads_rest → start.ahead ≡ Some heads_rest → IsModelText words m → IsRunnable m
     → Adds (Some old) opened (text_from m 0 (opening (program_options turns) ∷ [])) → PlaysOut (fresh_state turns m) start opened new place now → Legal new.world.scene.model new.log → IsDone turns input old now
-done_ends turns input words heads_rest heads m start place old opened now new head gave ahead accepted first plays legal =
+done_ends turns input words heads_rest heads m start place old opened now new head gave ahead accepted runnable first plays legal =
     let from = subst (λ (b : Option (List ℕ)). GaveKnown start.reader.room b plays.lines place.reader.room place.ahead) ahead plays.gave in
     let k = known start.reader.room heads_rest plays.lines place.reader.room place.ahead from in
     let ends = subst (λ (a : Option (List ℕ)). EndsAll (Some heads_rest) a plays.lines (inputs_of plays.entries)) k.is (subst (λ (b : Option (List ℕ)). EndsAll b place.ahead plays.lines (inputs_of plays.entries)) ahead plays.messages) in
@@ -119,6 +156,7 @@ done_ends turns input words heads_rest heads m start place old opened now new he
       words = words;
       text = split.text;
       accepted = accepted;
+      runnable = runnable;
       finished = record {
         legal = l.legal;
         done = ap (λ (w : World). w.done) (sym l.world) ∙ plays.done;
@@ -155,9 +193,9 @@ read_fault : (turns : ℕ) (input old : List ℕ) (new : Option (List ℕ)) → 
 read_fault turns input old new s = record { lines = s.lines; left = s.left; rest = s.rest; gave = s.gave; asked = s.asked }
 
 stopped_ends : (e : Halt) (turns : ℕ) (input words heads_rest : List ℕ) (heads : List (List ℕ)) (m : Model) (start : Place) (old : List ℕ) (opened now : Option (List ℕ)) (new : State)
-    → IsHead heads words → Gave total_limit input heads start.reader.room heads_rest → start.ahead ≡ Some heads_rest → plain_model words ≡ Some m
+    → IsHead heads words → Gave total_limit input heads start.reader.room heads_rest → start.ahead ≡ Some heads_rest → IsModelText words m → IsRunnable m
     → Adds (Some old) opened (text_from m 0 (opening (program_options turns) ∷ [])) → PlayHalts e (fresh_state turns m) start opened new now → Legal new.world.scene.model new.log → IsStopped e turns input old now
-stopped_ends e turns input words heads_rest heads m start old opened now new head gave ahead accepted first plays legal =
+stopped_ends e turns input words heads_rest heads m start old opened now new head gave ahead accepted runnable first plays legal =
     let from = subst (λ (b : Option (List ℕ)). GaveKnown start.reader.room b plays.lines plays.left plays.rest) ahead plays.gave in
     let k = known start.reader.room heads_rest plays.lines plays.left plays.rest from in
     let both = head_then heads words plays.lines head in
@@ -174,6 +212,7 @@ stopped_ends e turns input words heads_rest heads m start old opened now new hea
         words = words;
         text = both.0;
         accepted = accepted;
+        runnable = runnable;
         legal = l.legal;
         solo = l.solo;
         options = refl;
@@ -338,9 +377,9 @@ leaves_more m log input heads lines words room mid heads_rest bytes before next 
     }
 
 full_ends : (turns : ℕ) (input words heads_rest : List ℕ) (heads : List (List ℕ)) (m : Model) (start : Place) (old : List ℕ) (opened now : Option (List ℕ)) (new : State)
-    → IsHead heads words → Gave total_limit input heads start.reader.room heads_rest → start.ahead ≡ Some heads_rest → plain_model words ≡ Some m
+    → IsHead heads words → Gave total_limit input heads start.reader.room heads_rest → start.ahead ≡ Some heads_rest → IsModelText words m → IsRunnable m
     → Adds (Some old) opened (text_from m 0 (opening (program_options turns) ∷ [])) → PlayFills (fresh_state turns m) start opened new now → Legal new.world.scene.model new.log → IsFull turns input old now
-full_ends turns input words heads_rest heads m start old opened now new head gave ahead accepted first plays legal =
+full_ends turns input words heads_rest heads m start old opened now new head gave ahead accepted runnable first plays legal =
     let f = filled turns m start plays.place plays.behind opened plays.written now plays.waiting new (line_in plays.step.message) plays.plays plays.step.fills plays.step.written in
     let split = split_is input heads words (lines_of heads_rest) head (gave_lines total_limit input heads start.reader.room heads_rest gave) in
     let l = logged turns m new (Some old) opened now f.entries legal f.same f.log f.solo f.world first f.text in
@@ -355,6 +394,7 @@ full_ends turns input words heads_rest heads m start old opened now new head gav
       words = words;
       text = split.text;
       accepted = accepted;
+      runnable = runnable;
       legal = l.legal;
       solo = l.solo;
       options = refl;
@@ -370,23 +410,38 @@ full_ends turns input words heads_rest heads m start old opened now new head gav
 
 -- ---- the end of a run whose text begins
 
+pub begins_at : (old : Reader) (kept : Option (Vec ℕ Global)) (new : Reader) (input : List ℕ) (after : Option (List ℕ)) → old.room ≡ total_limit → (begun : IsBegun old (Some input) kept new after) → HasHead input begun.words
+begins_at old kept new input after room begun =
+    let k = known old.room input begun.lines new.room after begun.took.gave in
+    record {
+      lines = begun.lines;
+      left = new.room;
+      rest = k.rest;
+      gave = subst (λ (n : ℕ). Gave n input begun.lines new.room k.rest) room k.gave;
+      head = begun.head.text;
+      text = (split_is input begun.lines begun.words (lines_of k.rest) begun.head (gave_lines old.room input begun.lines new.room k.rest k.gave)).text;
+    }
+
 begun_known : (turns : ℕ) (old : Reader) (kept : Option (Vec ℕ Global)) (start : Place) (input before : List ℕ) (now : Option (List ℕ)) (r : Result Outcome Halt)
     → old.room ≡ total_limit → IsBegun old (Some input) kept start.reader start.ahead → TextRuns turns kept start (Some before) r now → RanKnown turns (Some input) (Some before) now r
 begun_known turns old kept start input before now (Ok outcome.Done) room begun run =
     let k = known old.room input begun.lines start.reader.room start.ahead begun.took.gave in
-    done_ends turns input begun.words k.rest begun.lines run.model start run.run.place before run.run.opened now run.run.new begun.head (subst (λ (n : ℕ). Gave n input begun.lines start.reader.room k.rest) room k.gave) k.is (run.text begun.words begun.keeps) run.run.first run.run.playing run.run.legal
+    done_ends turns input begun.words k.rest begun.lines run.model start run.run.place before run.run.opened now run.run.new begun.head (subst (λ (n : ℕ). Gave n input begun.lines start.reader.room k.rest) room k.gave) k.is (run.text begun.words begun.keeps) run.runnable run.run.first run.run.playing run.run.legal
 begun_known turns old kept start input before now (Ok outcome.Refused) room begun run =
-    let k = known old.room input begun.lines start.reader.room start.ahead begun.took.gave in
-    not_built begun.words begun.lines start.reader.room k.rest (subst (λ (n : ℕ). Gave n input begun.lines start.reader.room k.rest) room k.gave) begun.head.text (split_is input begun.lines begun.words (lines_of k.rest) begun.head (gave_lines old.room input begun.lines start.reader.room k.rest k.gave)).text (run.0 begun.words begun.keeps) run.1
+    let begins = begins_at old kept start.reader input start.ahead room begun in
+    elim run [
+    | inl fails ↦ no_model (faulty begun.words fails.line begins (fails.refused begun.words begun.keeps) fails.written)
+    | inr waits ↦ not_built begun.words waits.model begins (waits.text begun.words begun.keeps) waits.other waits.written
+    ]
 begun_known turns old kept start input before now (Err halt.Limit) room begun run =
     let k = known old.room input begun.lines start.reader.room start.ahead begun.took.gave in
-    past_limit turns input before now (stopped_ends halt.Limit turns input begun.words k.rest begun.lines run.model start before run.run.opened now run.run.new begun.head (subst (λ (n : ℕ). Gave n input begun.lines start.reader.room k.rest) room k.gave) k.is (run.text begun.words begun.keeps) run.run.first run.run.playing run.run.legal)
+    past_limit turns input before now (stopped_ends halt.Limit turns input begun.words k.rest begun.lines run.model start before run.run.opened now run.run.new begun.head (subst (λ (n : ℕ). Gave n input begun.lines start.reader.room k.rest) room k.gave) k.is (run.text begun.words begun.keeps) run.runnable run.run.first run.run.playing run.run.legal)
 begun_known turns old kept start input before now (Err halt.Read) room begun run =
     let k = known old.room input begun.lines start.reader.room start.ahead begun.took.gave in
-    read_fault turns input before now (stopped_ends halt.Read turns input begun.words k.rest begun.lines run.model start before run.run.opened now run.run.new begun.head (subst (λ (n : ℕ). Gave n input begun.lines start.reader.room k.rest) room k.gave) k.is (run.text begun.words begun.keeps) run.run.first run.run.playing run.run.legal)
+    read_fault turns input before now (stopped_ends halt.Read turns input begun.words k.rest begun.lines run.model start before run.run.opened now run.run.new begun.head (subst (λ (n : ℕ). Gave n input begun.lines start.reader.room k.rest) room k.gave) k.is (run.text begun.words begun.keeps) run.runnable run.run.first run.run.playing run.run.legal)
 begun_known turns old kept start input before now (Err halt.Full) room begun run =
     let k = known old.room input begun.lines start.reader.room start.ahead begun.took.gave in
-    full_ends turns input begun.words k.rest begun.lines run.model start before run.run.opened now run.run.new begun.head (subst (λ (n : ℕ). Gave n input begun.lines start.reader.room k.rest) room k.gave) k.is (run.text begun.words begun.keeps) run.run.first run.run.playing run.run.legal
+    full_ends turns input begun.words k.rest begun.lines run.model start before run.run.opened now run.run.new begun.head (subst (λ (n : ℕ). Gave n input begun.lines start.reader.room k.rest) room k.gave) k.is (run.text begun.words begun.keeps) run.runnable run.run.first run.run.playing run.run.legal
 begun_known turns old kept start input before now (Err halt.Write) room begun run = tt
 begun_known turns old kept start input before now (Err halt.Memory) room begun run = tt
 
@@ -398,13 +453,16 @@ begun_ran turns old kept start (Some input) (Some before) now r room begun run =
 
 -- ---- the end of a run whose text has no `begin`
 
-no_begin_ran : (turns : ℕ) (old new : Reader) (input after held now : Option (List ℕ)) → old.room ≡ total_limit → HasNoBegin old input new after → Adds held now no_begin_line → RanKnown turns input held now (Ok outcome.Refused)
-no_begin_ran turns old new None after held now room head adds = tt
-no_begin_ran turns old new (Some input) after None now room head adds = tt
-no_begin_ran turns old new (Some input) after (Some before) now room head adds =
+pub begins_nowhere : (old new : Reader) (input before : List ℕ) (after now : Option (List ℕ)) → old.room ≡ total_limit → HasNoBegin old (Some input) new after → Adds (Some before) now no_begin_line → IsNoModel input before now
+begins_nowhere old new input before after now room head adds =
     let k = known old.room input head.lines new.room after head.took.gave in
     let none : k.rest ≡ [] = (let h : Some k.rest ≡ Some [] = sym k.is ∙ head.used_up in (cc)) in
     no_begin head.lines new.room (subst (λ (r : List ℕ). Gave total_limit input head.lines new.room r) none (subst (λ (n : ℕ). Gave n input head.lines new.room k.rest) room k.gave)) (ap model_text_of (gave_lines old.room input head.lines new.room k.rest k.gave ∙ ap (λ (r : List ℕ). head.lines ++ lines_of r) none ∙ append-nil head.lines) ∙ head.none) adds
+
+no_begin_ran : (turns : ℕ) (old new : Reader) (input after held now : Option (List ℕ)) → old.room ≡ total_limit → HasNoBegin old input new after → Adds held now no_begin_line → RanKnown turns input held now (Ok outcome.Refused)
+no_begin_ran turns old new None after held now room head adds = tt
+no_begin_ran turns old new (Some input) after None now room head adds = tt
+no_begin_ran turns old new (Some input) after (Some before) now room head adds = no_model (begins_nowhere old new input before after now room head adds)
 
 -- the refusal's line may fail to be written
 refused_ran : (turns : ℕ) (old new : Reader) (input after held now : Option (List ℕ)) (r : Result Outcome Halt) (faults later : ℕ) → old.room ≡ total_limit
@@ -457,7 +515,7 @@ none_ahead : (left : Option (List ℕ)) → ahead [] left ≡ left
 none_ahead None = refl
 none_ahead (Some bytes) = refl
 
-all_ahead : (old : Reader) (left : Option (List ℕ)) → old.held ≡ [] → ahead old.held left ≡ left
+pub all_ahead : (old : Reader) (left : Option (List ℕ)) → old.held ≡ [] → ahead old.held left ≡ left
 all_ahead old left e = ap (λ (h : List ℕ). ahead h left) e ∙ none_ahead left
 
 pub refused_solo : (turns : ℕ) (old new : Reader) (left after held now : Option (List ℕ)) (r : Result Outcome Halt) (faults later : ℕ) → old.held ≡ [] → old.room ≡ total_limit

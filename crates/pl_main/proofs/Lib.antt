@@ -5,4 +5,5 @@ pub mod Telling
 pub mod Writing
 pub mod Playing
 pub mod Ending
+pub mod Checking
 pub mod Topping

@@ -15,9 +15,9 @@ use Rattle.pl_main.specs.declared.halt.Halt.TheVariants as halt
 use Rattle.pl_main.specs.declared.outcome.Outcome.{Outcome}
 use Rattle.pl_main.specs.declared.outcome.Outcome.TheVariants as outcome
 use Rattle.pl_main.specs.Statuses.{IsTask, status_of, SaysKnown, IsSoloStatus, is_done, is_refused, is_read, is_write, is_limit, is_full, is_memory}
-use Rattle.pl_main.specs.Top.{RanKnown}
+use Rattle.pl_main.specs.Top.{RanKnown, ChecksKnown}
 
-pub says_of : (turns : ℕ) (input old new : Option (List ℕ)) (r : Result Outcome Halt) → RanKnown turns input old new r → SaysKnown turns input old new (status_of r)
+pub says_of : (turns : ℕ) (input old new : Option (List ℕ)) (r : Result Outcome Halt) → RanKnown turns input old new r → SaysKnown (task.Solo turns) input old new (status_of r)
 says_of turns None old new r ran = tt
 says_of turns (Some input) None new r ran = tt
 says_of turns (Some input) (Some before) new (Ok outcome.Done) ran = record { done = λ e. ran; refused = λ e. absurd (omega (arith, e)); read_fault = λ e. absurd (omega (arith, e)); limit = λ e. absurd (omega (arith, e)); full = λ e. absurd (omega (arith, e)) }
@@ -27,6 +27,17 @@ says_of turns (Some input) (Some before) new (Err halt.Full) ran = record { done
 says_of turns (Some input) (Some before) new (Err halt.Read) ran = record { done = λ e. absurd (omega (arith, e)); refused = λ e. absurd (omega (arith, e)); read_fault = λ e. ran; limit = λ e. absurd (omega (arith, e)); full = λ e. absurd (omega (arith, e)) }
 says_of turns (Some input) (Some before) new (Err halt.Write) ran = record { done = λ e. absurd (omega (arith, e)); refused = λ e. absurd (omega (arith, e)); read_fault = λ e. absurd (omega (arith, e)); limit = λ e. absurd (omega (arith, e)); full = λ e. absurd (omega (arith, e)) }
 says_of turns (Some input) (Some before) new (Err halt.Memory) ran = record { done = λ e. absurd (omega (arith, e)); refused = λ e. absurd (omega (arith, e)); read_fault = λ e. absurd (omega (arith, e)); limit = λ e. absurd (omega (arith, e)); full = λ e. absurd (omega (arith, e)) }
+
+pub says_checked : (input old new : Option (List ℕ)) (r : Result Outcome Halt) → ChecksKnown input old new r → SaysKnown task.Check input old new (status_of r)
+says_checked None old new r ran = tt
+says_checked (Some input) None new r ran = tt
+says_checked (Some input) (Some before) new (Ok outcome.Done) ran = record { done = λ e. ran; refused = λ e. absurd (omega (arith, e)); read_fault = λ e. absurd (omega (arith, e)); limit = λ e. absurd (omega (arith, e)); never_full = λ e. absurd (omega (arith, e)) }
+says_checked (Some input) (Some before) new (Ok outcome.Refused) ran = record { done = λ e. absurd (omega (arith, e)); refused = λ e. ran; read_fault = λ e. absurd (omega (arith, e)); limit = λ e. absurd (omega (arith, e)); never_full = λ e. absurd (omega (arith, e)) }
+says_checked (Some input) (Some before) new (Err halt.Limit) ran = record { done = λ e. absurd (omega (arith, e)); refused = λ e. absurd (omega (arith, e)); read_fault = λ e. absurd (omega (arith, e)); limit = λ e. ran; never_full = λ e. absurd (omega (arith, e)) }
+says_checked (Some input) (Some before) new (Err halt.Read) ran = record { done = λ e. absurd (omega (arith, e)); refused = λ e. absurd (omega (arith, e)); read_fault = λ e. ran; limit = λ e. absurd (omega (arith, e)); never_full = λ e. absurd (omega (arith, e)) }
+says_checked (Some input) (Some before) new (Err halt.Write) ran = record { done = λ e. absurd (omega (arith, e)); refused = λ e. absurd (omega (arith, e)); read_fault = λ e. absurd (omega (arith, e)); limit = λ e. absurd (omega (arith, e)); never_full = λ e. absurd (omega (arith, e)) }
+says_checked (Some input) (Some before) new (Err halt.Memory) ran = record { done = λ e. absurd (omega (arith, e)); refused = λ e. absurd (omega (arith, e)); read_fault = λ e. absurd (omega (arith, e)); limit = λ e. absurd (omega (arith, e)); never_full = λ e. absurd (omega (arith, e)) }
+says_checked (Some input) (Some before) new (Err halt.Full) ran = absurd ran
 
 pub status_is : (r : Result Outcome Halt) → IsSoloStatus (status_of r)
 status_is (Ok outcome.Done) = is_done refl
@@ -55,9 +66,15 @@ by_form : (b : Bool) (n : Option ℕ) (t : Task) → (if b then turns_by n else 
 by_form true n t e = by_turns n t e
 by_form false n t e = absurd (let h : None ≡ Some (command.Alone t) = e in (cc))
 
+by_check : (b : Bool) (t : Task) → (if b then Some (command.Alone task.Check) else None) ≡ Some (command.Alone t) → IsTask t
+by_check true t e =
+    let is : task.Check ≡ t = (let h : Some (command.Alone task.Check) ≡ Some (command.Alone t) = e in (cc)) in
+    subst (λ (x : Task). IsTask x) is tt
+by_check false t e = absurd (let h : None ≡ Some (command.Alone t) = e in (cc))
+
 by_words : (ws : List (List ℕ)) (t : Task) → command_in ws ≡ Some (command.Alone t) → IsTask t
 by_words [] t e = absurd (let h : None ≡ Some (command.Alone t) = e in (cc))
-by_words (a ∷ []) t e = absurd (let h : None ≡ Some (command.Alone t) = e in (cc))
+by_words (a ∷ []) t e = by_check (bytes_eq a (codes "check")) t e
 by_words (a ∷ b ∷ []) t e = absurd (let h : None ≡ Some (command.Alone t) = e in (cc))
 by_words (a ∷ b ∷ n ∷ []) t e = by_form (bytes_eq a (codes "run") && bytes_eq b (codes "solo")) (number_in n) t e
 by_words (a ∷ b ∷ n ∷ d ∷ ds) t e = absurd (let h : None ≡ Some (command.Alone t) = e in (cc))

@@ -1,5 +1,5 @@
--- A run over a plain model, and over the text of one.
-use Rattle.std.specs.Prelude.{◌≡◌, ℕ, List, [], ◌∷◌, false, Option, Some, None, Result, Ok, Err, ⊤}
+-- A run over a model, and over the text of one.
+use Rattle.std.specs.Prelude.{◌≡◌, ℕ, List, [], ◌∷◌, false, Option, Some, None, ◌⊎◌, Result, Ok, Err, ⊤}
 use Rattle.std.specs.declared.vec.Vec.{Vec}
 use Rattle.std.specs.declared.alloc.Global.{Global}
 use Rattle.pl_model.specs.declared.whole.Model.{Model}
@@ -7,7 +7,9 @@ use Rattle.pl_machine.specs.Legal.{Legal, opening}
 use Rattle.pl_machine.specs.World.{fresh_world}
 use Rattle.pl_machine.specs.Sound.{State}
 use Rattle.pl_journal.specs.Lines.{text_from}
-use Rattle.pl_plain.specs.Models.{plain_model}
+use Rattle.pl_accept.specs.declared.accepting.Accepted.{Accepted}
+use Rattle.pl_accept.specs.Accepting.{IsModelText, IsRefusedAs, Accepts}
+use Rattle.pl_plain.specs.Models.{IsRunnable}
 use Rattle.pl_main.specs.declared.halt.Halt.{Halt}
 use Rattle.pl_main.specs.declared.halt.Halt.TheVariants as halt
 use Rattle.pl_main.specs.declared.outcome.Outcome.{Outcome}
@@ -15,7 +17,7 @@ use Rattle.pl_main.specs.declared.outcome.Outcome.TheVariants as outcome
 use Rattle.pl_main.specs.Heads.{Keeps}
 use Rattle.pl_main.specs.Written.{Adds}
 use Rattle.pl_main.specs.Plays.{Place, Playing}
-use Rattle.pl_main.specs.Top.{program_options, not_built_line}
+use Rattle.pl_main.specs.Top.{program_options, not_built_line, model_ok_line}
 
 abbrev pub fresh_state : ℕ → Model → State
 fresh_state turns m = record { spoiled = false; log = opening (program_options turns) ∷ []; world = fresh_world m (program_options turns) }
@@ -37,20 +39,51 @@ ModelRuns turns model start held (Err halt.Read) now = ModelRun turns model star
 ModelRuns turns model start held (Err halt.Write) now = ⊤
 ModelRuns turns model start held (Err halt.Memory) now = ⊤
 
--- what a kept text is the text of
-abbrev pub IsTextOf : Option (Vec ℕ Global) → Option Model → Type 0
-IsTextOf kept model = (words : List ℕ) → Keeps kept words → plain_model words ≡ model
+-- what the text that is kept is
+abbrev pub AcceptsKept : Option (Vec ℕ Global) → Accepted → Type 0
+AcceptsKept kept accepted = (words : List ℕ) → Keeps kept words → Accepts words accepted
+
+abbrev pub IsKeptModel : Option (Vec ℕ Global) → Model → Type 0
+IsKeptModel kept model = (words : List ℕ) → Keeps kept words → IsModelText words model
 
 pub record TextRun (turns : ℕ) (kept : Option (Vec ℕ Global)) (start : Place) (held now : Option (List ℕ)) (r : Result (Unit {0}) Halt) : Type 0 where
   pub model : Model
-  pub text : IsTextOf kept (Some model)
+  pub text : IsKeptModel kept model
+  pub runnable : IsRunnable model
   pub run : ModelRun turns model start held now r
 
+-- The text is no model's, and its fault was written.
+pub record TextFails (kept : Option (Vec ℕ Global)) (held now : Option (List ℕ)) : Type 0 where
+  pub line : List ℕ
+  pub refused : (words : List ℕ) → Keeps kept words → IsRefusedAs words line
+  pub written : Adds held now line
+
+pub record TextWaits (kept : Option (Vec ℕ Global)) (held now : Option (List ℕ)) : Type 0 where
+  pub model : Model
+  pub text : IsKeptModel kept model
+  pub other : IsRunnable model → ⊥
+  pub written : Adds held now not_built_line
+
 abbrev pub TextRuns : ℕ → Option (Vec ℕ Global) → Place → Option (List ℕ) → Result Outcome Halt → Option (List ℕ) → Type 0
-TextRuns turns kept start held (Ok outcome.Refused) now = IsTextOf kept None × Adds held now not_built_line
+TextRuns turns kept start held (Ok outcome.Refused) now = TextFails kept held now ⊎ TextWaits kept held now
 TextRuns turns kept start held (Ok outcome.Done) now = TextRun turns kept start held now (Ok tt)
 TextRuns turns kept start held (Err halt.Limit) now = TextRun turns kept start held now (Err halt.Limit)
 TextRuns turns kept start held (Err halt.Full) now = TextRun turns kept start held now (Err halt.Full)
 TextRuns turns kept start held (Err halt.Read) now = TextRun turns kept start held now (Err halt.Read)
 TextRuns turns kept start held (Err halt.Write) now = ⊤
 TextRuns turns kept start held (Err halt.Memory) now = ⊤
+
+-- The text is a model's, and this was written.
+pub record TextPasses (kept : Option (Vec ℕ Global)) (held now : Option (List ℕ)) : Type 0 where
+  pub model : Model
+  pub text : IsKeptModel kept model
+  pub written : Adds held now (model_ok_line model)
+
+abbrev pub TextChecks : Option (Vec ℕ Global) → Option (List ℕ) → Result Outcome Halt → Option (List ℕ) → Type 0
+TextChecks kept held (Ok outcome.Done) now = TextPasses kept held now
+TextChecks kept held (Ok outcome.Refused) now = TextFails kept held now
+TextChecks kept held (Err halt.Limit) now = ⊥
+TextChecks kept held (Err halt.Full) now = ⊥
+TextChecks kept held (Err halt.Read) now = ⊥
+TextChecks kept held (Err halt.Write) now = ⊤
+TextChecks kept held (Err halt.Memory) now = ⊤

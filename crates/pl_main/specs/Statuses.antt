@@ -6,7 +6,7 @@ use Rattle.pl_main.specs.declared.halt.Halt.{Halt}
 use Rattle.pl_main.specs.declared.halt.Halt.TheVariants as halt
 use Rattle.pl_main.specs.declared.outcome.Outcome.{Outcome}
 use Rattle.pl_main.specs.declared.outcome.Outcome.TheVariants as outcome
-use Rattle.pl_main.specs.Top.{IsDone, IsRefused, IsReadFault, IsPastLimit, IsFull}
+use Rattle.pl_main.specs.Top.{IsDone, IsRefused, IsReadFault, IsPastLimit, IsFull, IsFound, IsNoModel, IsHeadFault, IsPastHead}
 
 -- 0 done, 3 the model is refused, 4 a read failed, 5 a write failed, 6 a line or the input is too long, 7 the log is full, 9 memory
 abbrev pub status_of : Result Outcome Halt → ℕ
@@ -20,24 +20,34 @@ status_of (Err halt.Memory) = 9
 
 abbrev pub IsTask : Task → Type 0
 IsTask (task.Solo turns) = (1 ≤ turns) × (turns ≤ 1000)
+IsTask task.Check = ⊤
 
-abbrev pub turns_of : Task → ℕ
-turns_of (task.Solo turns) = turns
-
--- what a status says where the input's bytes and the sink's are known
-pub record Says (turns : ℕ) (input old : List ℕ) (new : Option (List ℕ)) (status : ℕ) : Type 0 where
+-- what the status of a run says where the input's bytes and the sink's are known
+pub record SaysRan (turns : ℕ) (input old : List ℕ) (new : Option (List ℕ)) (status : ℕ) : Type 0 where
   pub done : status ≡ 0 → IsDone turns input old new
   pub refused : status ≡ 3 → IsRefused input old new
   pub read_fault : status ≡ 4 → IsReadFault turns input old new
   pub limit : status ≡ 6 → IsPastLimit turns input old new
   pub full : status ≡ 7 → IsFull turns input old new
 
-abbrev pub SaysKnown : ℕ → Option (List ℕ) → Option (List ℕ) → Option (List ℕ) → ℕ → Type 0
-SaysKnown turns None old new status = ⊤
-SaysKnown turns (Some input) None new status = ⊤
-SaysKnown turns (Some input) (Some before) new status = Says turns input before new status
+-- what the status of a check says
+pub record SaysChecked (input old : List ℕ) (new : Option (List ℕ)) (status : ℕ) : Type 0 where
+  pub done : status ≡ 0 → IsFound input old new
+  pub refused : status ≡ 3 → IsNoModel input old new
+  pub read_fault : status ≡ 4 → IsHeadFault input old new
+  pub limit : status ≡ 6 → IsPastHead input old new
+  pub never_full : status ≡ 7 → ⊥
 
--- a run by one thread has one of these statuses, and no other
+abbrev pub Says : Task → List ℕ → List ℕ → Option (List ℕ) → ℕ → Type 0
+Says (task.Solo turns) input old new status = SaysRan turns input old new status
+Says task.Check input old new status = SaysChecked input old new status
+
+abbrev pub SaysKnown : Task → Option (List ℕ) → Option (List ℕ) → Option (List ℕ) → ℕ → Type 0
+SaysKnown t None old new status = ⊤
+SaysKnown t (Some input) None new status = ⊤
+SaysKnown t (Some input) (Some before) new status = Says t input before new status
+
+-- a task of one thread has one of these statuses, and no other
 pub data IsSoloStatus (status : ℕ) : Type 0 where
   is_done : status ≡ 0 → IsSoloStatus status
   is_refused : status ≡ 3 → IsSoloStatus status

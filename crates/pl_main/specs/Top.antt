@@ -1,5 +1,5 @@
--- What the top call promises of `run solo N`.
-use Rattle.std.specs.Prelude.{◌≡◌, ◌≢◌, ℕ, ◌⊎◌, List, [], ◌∷◌, ◌++◌, length, true, false, Option, Some, None, Result, Ok, Err, codes, ⊤}
+-- What the top call promises of `run solo N` and of `check`.
+use Rattle.std.specs.Prelude.{◌≡◌, ◌≢◌, ℕ, ◌⊎◌, List, [], ◌∷◌, ◌++◌, length, true, false, Option, Some, None, Result, Ok, Err, codes, decimal, ⊤}
 use Rattle.pl_io.specs.Lines.{next_of, line_too_long, input_too_long}
 use Rattle.pl_model.specs.declared.whole.Model.{Model}
 use Rattle.pl_machine.specs.declared.options.Options.{Options}
@@ -9,7 +9,8 @@ use Rattle.pl_machine.specs.Legal.{Legal, options_of, world_of}
 use Rattle.pl_machine.specs.Solo.{Solo}
 use Rattle.pl_machine.specs.Finished.{inputs_of, Finished}
 use Rattle.pl_journal.specs.Lines.{text_of_log}
-use Rattle.pl_plain.specs.Models.{plain_model}
+use Rattle.pl_accept.specs.Accepting.{IsModelText, IsRefusedAs}
+use Rattle.pl_plain.specs.Models.{IsRunnable}
 use Rattle.pl_main.specs.declared.halt.Halt.{Halt}
 use Rattle.pl_main.specs.declared.halt.Halt.TheVariants as halt
 use Rattle.pl_main.specs.declared.outcome.Outcome.{Outcome}
@@ -40,12 +41,22 @@ pub record IsDone (turns : ℕ) (input old : List ℕ) (new : Option (List ℕ))
   pub log : List Entry
   pub words : List ℕ
   pub text : (split_of input).text ≡ Some words
-  pub accepted : plain_model words ≡ Some model
+  pub accepted : IsModelText words model
+  pub runnable : IsRunnable model
   pub finished : Finished model log input
   pub solo : Solo model log
   pub options : options_of log ≡ program_options turns
   pub read : HasRead words (inputs_of log) input
   pub written : new ≡ Some (old ++ text_of_log model log)
+
+-- The input begins with this text and a `begin` line, and the lines up to it are within the limits.
+pub record HasHead (input words : List ℕ) : Type 0 where
+  pub lines : List (List ℕ)
+  pub left : ℕ
+  pub rest : List ℕ
+  pub gave : Gave total_limit input lines left rest
+  pub head : model_text_of lines ≡ Some words
+  pub text : (split_of input).text ≡ Some words
 
 abbrev pub no_begin_line : List ℕ
 no_begin_line = codes "model: no begin" ++ 10 ∷ []
@@ -53,10 +64,15 @@ no_begin_line = codes "model: no begin" ++ 10 ∷ []
 abbrev pub not_built_line : List ℕ
 not_built_line = codes "model: not built" ++ 10 ∷ []
 
--- The model's text is refused: there is no `begin` line, or the text is not that of a plain model. All lines, or those up to `begin`, are within the limits.
+-- The input begins with no model: there is no `begin` line, or the text before it has a fault, which was written. All lines, or those up to `begin`, are within the limits.
+pub data IsNoModel (input old : List ℕ) (new : Option (List ℕ)) : Type 0 where
+  no_begin : (lines : List (List ℕ)) (left : ℕ) → Gave total_limit input lines left [] → (split_of input).text ≡ None → new ≡ Some (old ++ no_begin_line) → IsNoModel input old new
+  faulty : (words line : List ℕ) → HasHead input words → IsRefusedAs words line → new ≡ Some (old ++ line) → IsNoModel input old new
+
+-- The model is refused: there is none, or it is one that the program cannot run so far.
 pub data IsRefused (input old : List ℕ) (new : Option (List ℕ)) : Type 0 where
-  no_begin : (lines : List (List ℕ)) (left : ℕ) → Gave total_limit input lines left [] → (split_of input).text ≡ None → new ≡ Some (old ++ no_begin_line) → IsRefused input old new
-  not_built : (words : List ℕ) (lines : List (List ℕ)) (left : ℕ) (rest : List ℕ) → Gave total_limit input lines left rest → model_text_of lines ≡ Some words → (split_of input).text ≡ Some words → plain_model words ≡ None → new ≡ Some (old ++ not_built_line) → IsRefused input old new
+  no_model : IsNoModel input old new → IsRefused input old new
+  not_built : (words : List ℕ) → (model : Model) → HasHead input words → IsModelText words model → (IsRunnable model → ⊥) → new ≡ Some (old ++ not_built_line) → IsRefused input old new
 
 -- a solo log of the program that answers the messages among these lines and waits for the next
 pub record WaitsBehind (turns : ℕ) (lines : List (List ℕ)) (old : List ℕ) (new : Option (List ℕ)) : Type 0 where
@@ -64,7 +80,8 @@ pub record WaitsBehind (turns : ℕ) (lines : List (List ℕ)) (old : List ℕ) 
   pub log : List Entry
   pub words : List ℕ
   pub text : model_text_of lines ≡ Some words
-  pub accepted : plain_model words ≡ Some model
+  pub accepted : IsModelText words model
+  pub runnable : IsRunnable model
   pub legal : Legal model log
   pub solo : Solo model log
   pub options : options_of log ≡ program_options turns
@@ -96,7 +113,8 @@ pub record IsFull (turns : ℕ) (input old : List ℕ) (new : Option (List ℕ))
   pub log : List Entry
   pub words : List ℕ
   pub text : (split_of input).text ≡ Some words
-  pub accepted : plain_model words ≡ Some model
+  pub accepted : IsModelText words model
+  pub runnable : IsRunnable model
   pub legal : Legal model log
   pub solo : Solo model log
   pub options : options_of log ≡ program_options turns
@@ -123,3 +141,50 @@ abbrev pub RanKnown : ℕ → Option (List ℕ) → Option (List ℕ) → Option
 RanKnown turns None old new r = ⊤
 RanKnown turns (Some input) None new r = ⊤
 RanKnown turns (Some input) (Some before) new r = Ran turns input before new r
+
+-- ---- `check`
+
+abbrev pub model_ok_line : Model → List ℕ
+model_ok_line m = codes "model ok: timelines " ++ (decimal (length m.timelines) ++ (codes " kinds " ++ (decimal (length m.kinds) ++ 10 ∷ [])))
+
+-- The input begins with a model.
+pub record IsFound (input old : List ℕ) (new : Option (List ℕ)) : Type 0 where
+  pub model : Model
+  pub words : List ℕ
+  pub begins : HasHead input words
+  pub accepted : IsModelText words model
+  pub written : new ≡ Some (old ++ model_ok_line model)
+
+-- The line asked for is too long, or the input is, while the model's text was read.
+pub record IsPastHead (input old : List ℕ) (new : Option (List ℕ)) : Type 0 where
+  pub lines : List (List ℕ)
+  pub left : ℕ
+  pub rest : List ℕ
+  pub gave : Gave total_limit input lines left rest
+  pub why : (next_of 4096 left rest ≡ line_too_long) ⊎ (next_of 4096 left rest ≡ input_too_long)
+  pub none : model_text_of lines ≡ None
+  pub silent : new ≡ Some old
+
+-- A read failed while the model's text was read.
+pub record IsHeadFault (input old : List ℕ) (new : Option (List ℕ)) : Type 0 where
+  pub lines : List (List ℕ)
+  pub left : ℕ
+  pub rest : List ℕ
+  pub gave : Gave total_limit input lines left rest
+  pub none : model_text_of lines ≡ None
+  pub silent : new ≡ Some old
+
+-- How a check ended, where the input's bytes and the sink's are known.
+abbrev pub Checks : List ℕ → List ℕ → Option (List ℕ) → Result Outcome Halt → Type 0
+Checks input old new (Ok outcome.Done) = IsFound input old new
+Checks input old new (Ok outcome.Refused) = IsNoModel input old new
+Checks input old new (Err halt.Limit) = IsPastHead input old new
+Checks input old new (Err halt.Full) = ⊥
+Checks input old new (Err halt.Read) = IsHeadFault input old new
+Checks input old new (Err halt.Write) = ⊤
+Checks input old new (Err halt.Memory) = ⊤
+
+abbrev pub ChecksKnown : Option (List ℕ) → Option (List ℕ) → Option (List ℕ) → Result Outcome Halt → Type 0
+ChecksKnown None old new r = ⊤
+ChecksKnown (Some input) None new r = ⊤
+ChecksKnown (Some input) (Some before) new r = Checks input before new r

@@ -2,9 +2,11 @@
 #![tactic(auto)]
 
 mod answers;
+mod check;
 mod found;
 mod halt;
 mod head;
+mod judging;
 mod messages;
 mod outcome;
 mod play;

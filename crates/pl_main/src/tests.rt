@@ -28,14 +28,54 @@ fn ends(
     status: u8,
     text: &[u8],
 ) -> Result<bool, AllocError> {
-    let mut words = Vec::new(alloc);
-    for word in ["run", "solo", "8"] {
-        words.push(String::from_str(alloc, word)?)?;
+    does(alloc, &["run", "solo", "8"], failing, input, status, text)
+}
+
+/// The same of any words.
+fn does(
+    alloc: Global,
+    words: &[&str],
+    failing: Failing<'_>,
+    input: &[u8],
+    status: u8,
+    text: &[u8],
+) -> Result<bool, AllocError> {
+    let mut owned = Vec::new(alloc);
+    for word in words {
+        owned.push(String::from_str(alloc, word)?)?;
     }
     let mut source = MemSource::new(alloc, input, failing.0)?;
     let mut sink = MemSink::new(alloc, 10_000, failing.1)?;
-    let found = run(alloc, words.as_slice(), &mut source, &mut sink);
+    let found = run(alloc, owned.as_slice(), &mut source, &mut sink);
     Ok(found == status && sink.bytes() == text)
+}
+
+#[test]
+fn checks_models(rt: HostRuntime) -> Result<(), AllocError> {
+    let alloc = rt.alloc();
+    let table = [
+        (MODEL, 0, "model ok: timelines 0 kinds 1\n"),
+        (
+            "horizon 9 lead 3 capacity c 5 level l 0 9 5 kind a { duration 5 use c 2 }\nbegin\n",
+            0,
+            "model ok: timelines 2 kinds 1\n",
+        ),
+        (TEXT, 3, "model: no begin\n"),
+        (
+            "horizon 9 lead 3 kind a { duration b }\nbegin\n",
+            3,
+            "model: unknown name: b\n",
+        ),
+    ];
+    for (input, status, text) in table {
+        let as_wanted = does(alloc, &["check"], NONE, input.as_bytes(), status, text.as_bytes())?;
+        assert!(rt; as_wanted, "{input}");
+    }
+    assert!(rt; does(alloc, &["check"], (&[1], &[]), MODEL.as_bytes(), 4, b"")?);
+    assert!(rt; does(alloc, &["check"], (&[], &[1]), MODEL.as_bytes(), 5, b"")?);
+    let long = [b'x'; 4097];
+    assert!(rt; does(alloc, &["check"], NONE, long.as_slice(), 6, b"")?);
+    Ok(())
 }
 
 /// The same of messages behind a model, and of the lines behind the open entry's.
@@ -56,17 +96,21 @@ fn refuses_texts(rt: HostRuntime) -> Result<(), AllocError> {
     let table = [
         ("", "model: no begin\n"),
         ("horizon 100\nlead 30\nend\n", "model: no begin\n"),
-        ("begin\nend\n", "model: not built\n"),
+        ("begin\nend\n", "model: unexpected at 0\n"),
         (
             "horizon 9\nlead 3\nkind a { duration 5 }\nkind a { duration 5 }\nbegin\n",
-            "model: not built\n",
+            "model: name twice: a\n",
         ),
         (
             "horizon 9\nlead 3\nkind a { duration 0 }\nbegin\n",
+            "model: out of range: duration\n",
+        ),
+        (
+            "horizon 9\nlead 3\ncapacity c 5\nkind a { duration 5 }\nbegin\n",
             "model: not built\n",
         ),
         (
-            "horizon 9\nlead 3\nkind a { duration 10 }\nbegin\n",
+            "horizon 9\nlead 3\nkind a { duration 2 + 3 }\nbegin\n",
             "model: not built\n",
         ),
     ];
@@ -99,7 +143,7 @@ fn takes_texts_up_to_the_limit(rt: HostRuntime) -> Result<(), AllocError> {
         (
             b"\nbegin\nend\n".as_slice(),
             3,
-            b"model: not built\n".as_slice(),
+            b"model: too long\n".as_slice(),
         ),
         (b"\n".as_slice(), 3, b"model: no begin\n".as_slice()),
     ];

@@ -1,9 +1,10 @@
 ghost use Rattle.std.specs.Prelude.{◌≡◌, ◌⊎◌, ℕ, None, Some};
 ghost use Rattle.pl_io.specs.Faults.{Rose};
 ghost use Rattle.pl_plain.specs.Words.{command_of};
-ghost use Rattle.pl_main.specs.Statuses.{IsTask, IsSoloStatus, status_of, turns_of, usage_line, SaysKnown};
+ghost use Rattle.pl_main.specs.Statuses.{IsTask, IsSoloStatus, status_of, usage_line, SaysKnown};
 ghost use Rattle.pl_main.specs.Written.{Adds};
 
+use crate::check::check;
 use crate::halt::Halt;
 use crate::outcome::Outcome;
 use crate::whole::solo;
@@ -26,16 +27,17 @@ fn status_of(ended: Result<Outcome, Halt>) -> u8
 }
 
 /// Does a task of one thread. It waits for nobody.
-#[tactic(auto, using(crate::proofs::Topping::says_of, crate::proofs::Topping::status_is))]
+#[tactic(auto, using(crate::proofs::Topping::says_of, crate::proofs::Topping::says_checked, crate::proofs::Topping::status_is))]
 pub fn run_solo<I: Source, O: Sink>(alloc: Global, task: &Task, input: &mut I, out: &mut O) -> u8
     requires { IsTask task.now }
     ensures status { IsSoloStatus result }
     ensures read { result ≡ 4 → Rose (I.faults input.old) (I.faults input.new) }
     ensures write { result ≡ 5 → Rose (O.faults out.old) (O.faults out.new) }
-    ensures says { SaysKnown (turns_of task.now) (I.left input.old) (O.held out.old) (O.held out.new) result }
+    ensures says { SaysKnown task.now (I.left input.old) (O.held out.old) (O.held out.new) result }
 {
     match task {
         Task::Solo { turns } => status_of(solo(alloc, *turns, input, out)),
+        Task::Check => status_of(check(alloc, input, out)),
     }
 }
 
@@ -63,7 +65,7 @@ pub fn run<I: Source, O: Sink>(alloc: Global, words: &[String], input: &mut I, o
     ensures status { (result ≡ 2) ⊎ IsSoloStatus result }
     ensures read { result ≡ 4 → Rose (I.faults input.old) (I.faults input.new) }
     ensures write { result ≡ 5 → Rose (O.faults out.old) (O.faults out.new) }
-    ensures says { (turns : ℕ) → command_of words.now ≡ Some (Command.Alone (Task.Solo turns)) → SaysKnown turns (I.left input.old) (O.held out.old) (O.held out.new) result }
+    ensures says { (task : Task) → command_of words.now ≡ Some (Command.Alone task) → SaysKnown task (I.left input.old) (O.held out.old) (O.held out.new) result }
 {
     match read_words(words) {
         None => usage(out),

@@ -1,27 +1,28 @@
-ghost use Rattle.std.specs.Prelude.{◌≡◌, ◌≤◌, None, OnOk, IfOk, IfSome, IfErr, IsErrOf};
+ghost use Rattle.std.specs.Prelude.{◌≡◌, ◌≤◌, None, IsErrOf};
 ghost use Rattle.pl_io.specs.Faults.{Rose};
 ghost use Rattle.pl_machine.specs.Plain.{IsPlain};
 ghost use Rattle.pl_main.specs.Plays.{place_of};
-ghost use Rattle.pl_main.specs.Runs.{ModelRuns, IsTextOf, TextRuns};
+ghost use Rattle.pl_main.specs.Runs.{ModelRuns, TextRuns};
 ghost use Rattle.pl_main.specs.Top.{program_options, RanKnown};
-ghost use Rattle.pl_main.specs.Written.{Adds, WriteStops};
 
 use crate::found::Head;
 use crate::halt::Halt;
 use crate::head::read_head;
+use crate::judging::{model_of, refuse};
 use crate::outcome::Outcome;
 use crate::play::{halt_of, play};
 use crate::writes::write_log;
-use pl_io::{LineReader, Sink, Source, put};
+use pl_accept::Accepted;
+use pl_io::{LineReader, Sink, Source};
 use pl_machine::{Machine, Options};
 use pl_model::Model;
-use pl_plain::read_plain;
-use std::alloc::{AllocError, Global};
+use pl_plain::is_runnable;
+use std::alloc::Global;
 use std::sync::Arc;
 
-const LINE_LIMIT: u32 = 4096;
+pub const LINE_LIMIT: u32 = 4096;
 
-const TOTAL_LIMIT: u64 = 1_073_741_824;
+pub const TOTAL_LIMIT: u64 = 1_073_741_824;
 
 fn program_options(turns: u32) -> Options
     ensures { result ≡ program_options turns }
@@ -31,31 +32,6 @@ fn program_options(turns: u32) -> Options
         live: 10_000,
         goals: 20_000,
         entries: 250_000,
-    }
-}
-
-fn refuse<O: Sink>(out: &mut O, line: &[u8]) -> Result<Outcome, Halt>
-    ensures text { OnOk result (Adds (O.held out.old) (O.held out.new) line.now) }
-    ensures refused { IfOk result (λ outcome. outcome ≡ Outcome.Refused) }
-    ensures cause { IfErr result (WriteStops (O.faults out.old) (O.faults out.new)) }
-    ensures later { O.faults out.old ≤ O.faults out.new }
-{
-    put(out, line)?;
-    Ok(Outcome::Refused)
-}
-
-/// The plain model of a text that was kept.
-#[tactic(auto, unfolding(pl_plain::specs::Models::plain_model))]
-fn model_of(alloc: Global, kept: &Option<Vec<u8>>) -> Result<Option<Model>, AllocError>
-    ensures text { IfOk result (IsTextOf kept.now) }
-    ensures plain { IfOk result (λ model. IfSome model IsPlain) }
-{
-    match kept {
-        None => Ok(None),
-        Some(text) => {
-            let model = read_plain(alloc, text.as_slice())?;
-            Ok(model)
-        }
     }
 }
 
@@ -88,6 +64,7 @@ fn run_model<S: Source, O: Sink>(
     }
 }
 
+#[tactic(auto, using(crate::proofs::Ending::text_refused, crate::proofs::Ending::text_waits, crate::proofs::Ending::text_ran, crate::proofs::Ending::text_stops))]
 fn run_text<S: Source, O: Sink>(
     alloc: Global,
     turns: u32,
@@ -104,11 +81,16 @@ fn run_text<S: Source, O: Sink>(
     ensures write { IsErrOf result Halt.Write → Rose (O.faults out.old) (O.faults out.new) }
 {
     match model_of(alloc, &kept)? {
-        None => refuse(out, b"model: not built\n"),
-        Some(model) => match run_model(alloc, turns, model, lines, src, out) {
-            Ok(()) => Ok(Outcome::Done),
-            Err(halt) => Err(halt),
-        },
+        Accepted::Refused(line) => refuse(out, line.as_slice()),
+        Accepted::Model(model) => {
+            if !is_runnable(&model) {
+                return refuse(out, b"model: not built\n");
+            }
+            match run_model(alloc, turns, model, lines, src, out) {
+                Ok(()) => Ok(Outcome::Done),
+                Err(halt) => Err(halt),
+            }
+        }
     }
 }
 

@@ -1,4 +1,4 @@
--- The forms of the command line. So far `run solo N` alone.
+-- The forms of the command line. So far `run solo N` and `check`.
 use Rattle.std.specs.Prelude.{ℕ, List, [], ◌∷◌, Bool, ◌&&◌, nat_le, if◌then◌else◌, Option, Some, None, codes, map}
 use Rattle.std.specs.Str.{bytes_eq}
 use Rattle.std.specs.String.{string_bytes}
@@ -15,6 +15,7 @@ turns_by None = None
 turns_by (Some n) = if nat_le 1 n && nat_le n 1000 then Some (command.Alone (task.Solo n)) else None
 
 abbrev pub command_in : List (List ℕ) → Option Command
+command_in (check ∷ []) = if bytes_eq check (codes "check") then Some (command.Alone task.Check) else None
 command_in (run ∷ solo ∷ turns ∷ []) = if bytes_eq run (codes "run") && bytes_eq solo (codes "solo") then turns_by (number_in turns) else None
 command_in _ = None
 

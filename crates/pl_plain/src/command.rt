@@ -4,8 +4,11 @@ pub enum Command {
     Alone(Task),
 }
 
-/// A job of one thread: the repair turns of a round are from 1 to 1,000.
+/// A job of one thread. The repair turns of a round are from 1 to 1,000.
 #[derive(Clone, Copy, Debug, PartialEq, Eq)]
 pub enum Task {
+    /// Plans a mission.
     Solo { turns: u32 },
+    /// Says whether a model is one, or its first fault.
+    Check,
 }

@@ -1,13 +1,13 @@
-//! The words of the command line and the plain models, which the first form of the program takes.
+//! The words of the command line, and which models the program can run today.
 #![tactic(auto)]
 
 mod command;
-mod model;
 mod number;
+mod plain;
 #[cfg(test)]
 mod tests;
 mod words;
 
 pub use command::{Command, Task};
-pub use model::read_plain;
+pub use plain::is_runnable;
 pub use words::read_words;

@@ -16,12 +16,19 @@ fn solo(turns: Option<u64>) -> Option<Command>
     }
 }
 
-/// What the words behind the program's name ask for: `run solo N`, N from 1 to 1,000.
+/// What the words behind the program's name ask for: `run solo N`, N from 1 to 1,000, or `check`.
 #[tactic(auto, unfolding(crate::specs::Words::command_of))]
 pub fn read_words(words: &[String]) -> Option<Command>
     ensures { result ≡ command_of words.now }
 {
     match words {
+        [check] => {
+            if check.as_bytes() == b"check".as_slice() {
+                Some(Command::Alone(Task::Check))
+            } else {
+                None
+            }
+        }
         [run, solo_word, turns] => {
             if run.as_bytes() == b"run".as_slice() && solo_word.as_bytes() == b"solo".as_slice() {
                 solo(read_number(turns.as_bytes()))

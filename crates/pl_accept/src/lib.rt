@@ -1,0 +1,9 @@
+//! The model of a text, or the line that says why there is none.
+#![tactic(auto)]
+
+mod accepting;
+mod refusals;
+#[cfg(test)]
+mod tests;
+
+pub use accepting::{Accepted, accept, too_long};

@@ -1,0 +1,30 @@
+ghost use Rattle.std.specs.Prelude.{◌≡◌, ◌≤◌, OnOk, IfOk, IfErr};
+ghost use Rattle.pl_main.specs.Runs.{AcceptsKept};
+ghost use Rattle.pl_main.specs.Written.{Adds, WriteStops};
+
+use crate::halt::Halt;
+use crate::outcome::Outcome;
+use pl_accept::{Accepted, accept, too_long};
+use pl_io::{Sink, put};
+use std::alloc::{AllocError, Global};
+
+/// Writes the line that refuses a model.
+pub fn refuse<O: Sink>(out: &mut O, line: &[u8]) -> Result<Outcome, Halt>
+    ensures text { OnOk result (Adds (O.held out.old) (O.held out.new) line.now) }
+    ensures refused { IfOk result (λ outcome. outcome ≡ Outcome.Refused) }
+    ensures cause { IfErr result (WriteStops (O.faults out.old) (O.faults out.new)) }
+    ensures later { O.faults out.old ≤ O.faults out.new }
+{
+    put(out, line)?;
+    Ok(Outcome::Refused)
+}
+
+/// What the text that was kept is.
+pub fn model_of(alloc: Global, kept: &Option<Vec<u8>>) -> Result<Accepted, AllocError>
+    ensures { IfOk result (AcceptsKept kept.now) }
+{
+    match kept {
+        None => too_long(alloc),
+        Some(text) => accept(alloc, text.as_slice()),
+    }
+}
