@@ -1,9 +1,10 @@
 -- The texts that are models, and why the others are none.
-use Rattle.std.specs.Prelude.{◌≡◌, ℕ, ◌≤◌, List, length, Result, Ok, Err}
+use Rattle.std.specs.Prelude.{◌≡◌, ◌≢◌, ℕ, ◌≤◌, List, length, Result, Ok, Err}
 use Rattle.pl_model.specs.declared.whole.Model.{Model}
 use Rattle.pl_syntax.specs.declared.whole.Ast.{Ast}
 use Rattle.pl_syntax.specs.declared.fault.SyntaxFault.{SyntaxFault}
-use Rattle.pl_syntax.specs.Answers.{ReadsText, longest, Answers as Read, IsMemory as IsWantInSyntax}
+use Rattle.pl_syntax.specs.declared.fault.SyntaxFault.TheVariants as syntax
+use Rattle.pl_syntax.specs.Answers.{ReadsText, longest, Answers as Read}
 use Rattle.pl_check.specs.declared.fault.ModelFault.{ModelFault}
 use Rattle.pl_check.specs.declared.fault.ModelFault.TheVariants as fault
 use Rattle.pl_check.specs.Checked.{Answers as Checked}
@@ -18,14 +19,10 @@ pub record IsModelText (text : List ℕ) (model : Model) : Type 0 where
   pub reads : ReadsText text ast
   pub passes : Checked ast (Ok model)
 
-abbrev pub IsWant : ModelFault → Type 0
-IsWant fault.Memory = Unit {0}
-IsWant _ = ⊥
-
 -- The text is no model's, and this line says why: the first fault of the grammar, else the first fault of the checks.
 pub data IsRefusedAs (text line : List ℕ) : Type 0 where
-  by_syntax : (e : SyntaxFault) → (IsWantInSyntax e → ⊥) → Read text (Err e) → line ≡ refusal_line (syntax_text e) → IsRefusedAs text line
-  by_check : (ast : Ast) → (e : ModelFault) → length text ≤ longest → ReadsText text ast → (IsWant e → ⊥) → Checked ast (Err e) → line ≡ refusal_line (fault_text e) → IsRefusedAs text line
+  by_syntax : (e : SyntaxFault) → e ≢ syntax.Memory → Read text (Err e) → line ≡ refusal_line (syntax_text e) → IsRefusedAs text line
+  by_check : (ast : Ast) → (e : ModelFault) → length text ≤ longest → ReadsText text ast → e ≢ fault.Memory → Checked ast (Err e) → line ≡ refusal_line (fault_text e) → IsRefusedAs text line
 
 abbrev pub Accepts : List ℕ → Accepted → Type 0
 Accepts text (accepted.Model model) = IsModelText text model

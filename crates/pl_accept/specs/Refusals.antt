@@ -1,5 +1,5 @@
 -- The lines that say why a text is no model.
-use Rattle.std.specs.Prelude.{ℕ, List, [], ◌∷◌, ◌++◌, codes, decimal}
+use Rattle.std.specs.Prelude.{ℕ, Bool, true, false, List, [], ◌∷◌, ◌++◌, codes, decimal}
 use Rattle.pl_syntax.specs.declared.fault.SyntaxFault.{SyntaxFault}
 use Rattle.pl_syntax.specs.declared.fault.SyntaxFault.TheVariants as syntax
 use Rattle.pl_check.specs.declared.fault.ModelFault.{ModelFault}
@@ -54,3 +54,13 @@ fault_text fault.Memory = memory_text
 -- the whole line
 abbrev pub refusal_line : List ℕ → List ℕ
 refusal_line text = codes "model: " ++ (text ++ 10 ∷ [])
+
+-- ---- want of memory, which is no fault of a text
+
+abbrev pub is_want_in_syntax : SyntaxFault → Bool
+is_want_in_syntax syntax.Memory = true
+is_want_in_syntax _ = false
+
+abbrev pub is_want : ModelFault → Bool
+is_want fault.Memory = true
+is_want _ = false

@@ -1,12 +1,13 @@
-ghost use Rattle.std.specs.Prelude.{ℕ, ◌<◌, List, length, IfOk};
-ghost use Rattle.pl_syntax.specs.Answers.{longest};
+ghost use Rattle.std.specs.Prelude.{ℕ, ◌<◌, List, length, IfOk, Ok, Err};
+ghost use Rattle.pl_syntax.specs.Answers.{longest, Answers as Read};
+ghost use Rattle.pl_check.specs.Checked.{Answers as Checked};
 ghost use Rattle.pl_accept.specs.Accepting.{Accepts};
 
-use crate::refusals::{fault_line, syntax_line};
+use crate::refusals::{fault_line, is_want, is_want_in_syntax, syntax_line};
 use pl_check::{ModelFault, check};
 use pl_lists::Items;
 use pl_model::Model;
-use pl_syntax::{SyntaxFault, read_model};
+use pl_syntax::{Ast, SyntaxFault, read_model};
 use std::alloc::{AllocError, Global};
 
 /// What a text is: a model's, or refused with a line that ends in a newline.
@@ -17,10 +18,53 @@ pub enum Accepted {
 }
 
 /// What a text is that has more bytes than a model's text may have.
+#[tactic(auto, using(crate::proofs::Refusing::longer_is_refused))]
 pub fn too_long(alloc: Global) -> Result<Accepted, AllocError>
     ensures { IfOk result (λ accepted. (text : List ℕ) → longest < length text → Accepts text accepted) }
 {
-    Ok(Accepted::Refused(syntax_line(alloc, SyntaxFault::TooLong)?))
+    let line = syntax_line(alloc, SyntaxFault::TooLong)?;
+    Ok(Accepted::Refused(line))
+}
+
+#[tactic(auto, using(crate::proofs::Refusing::syntax_refuses))]
+fn refuse_text(alloc: Global, _text: &[u8], fault: SyntaxFault) -> Result<Accepted, AllocError>
+    requires { Read _text.now (Err fault) }
+    ensures { IfOk result (Accepts _text.now) }
+{
+    if is_want_in_syntax(fault) {
+        return Err(AllocError);
+    }
+    let line = syntax_line(alloc, fault)?;
+    Ok(Accepted::Refused(line))
+}
+
+#[tactic(auto, using(crate::proofs::Refusing::check_refuses))]
+fn refuse_tree(
+    alloc: Global,
+    _text: &[u8],
+    _ast: &Ast,
+    fault: &ModelFault,
+) -> Result<Accepted, AllocError>
+    requires read { Read _text.now (Ok _ast.now) }
+    requires checked { Checked _ast.now (Err fault.now) }
+    ensures { IfOk result (Accepts _text.now) }
+{
+    if is_want(fault) {
+        return Err(AllocError);
+    }
+    let line = fault_line(alloc, fault)?;
+    Ok(Accepted::Refused(line))
+}
+
+#[tactic(auto, using(crate::proofs::Refusing::text_is_model))]
+fn accept_tree(alloc: Global, text: &[u8], ast: &Ast) -> Result<Accepted, AllocError>
+    requires { Read text.now (Ok ast.now) }
+    ensures { IfOk result (Accepts text.now) }
+{
+    match check(alloc, ast) {
+        Ok(model) => Ok(Accepted::Model(model)),
+        Err(fault) => refuse_tree(alloc, text, ast, &fault),
+    }
 }
 
 /// Reads a model's text and checks the model.
@@ -28,12 +72,7 @@ pub fn accept(alloc: Global, text: &[u8]) -> Result<Accepted, AllocError>
     ensures { IfOk result (Accepts text.now) }
 {
     match read_model(alloc, text) {
-        Err(SyntaxFault::Memory) => Err(AllocError),
-        Err(fault) => Ok(Accepted::Refused(syntax_line(alloc, fault)?)),
-        Ok(ast) => match check(alloc, &ast) {
-            Err(ModelFault::Memory) => Err(AllocError),
-            Err(fault) => Ok(Accepted::Refused(fault_line(alloc, &fault)?)),
-            Ok(model) => Ok(Accepted::Model(model)),
-        },
+        Ok(ast) => accept_tree(alloc, text, &ast),
+        Err(fault) => refuse_text(alloc, text, fault),
     }
 }

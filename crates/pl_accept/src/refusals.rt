@@ -1,5 +1,5 @@
 ghost use Rattle.std.specs.Prelude.{◌≡◌, ◌++◌, ◌∷◌, [], OnOk, IfOk, decimal};
-ghost use Rattle.pl_accept.specs.Refusals.{syntax_text, what_word, fault_text, refusal_line};
+ghost use Rattle.pl_accept.specs.Refusals.{syntax_text, what_word, fault_text, refusal_line, is_want_in_syntax, is_want};
 
 use pl_check::{ModelFault, What};
 use pl_lists::Items;
@@ -72,6 +72,24 @@ fn what_word(what: What) -> &'static str
     }
 }
 
+/// Appends words and a name, twice.
+#[tactic(auto, using(crate::proofs::Texts::texts_joined))]
+fn push_both(
+    out: &mut Vec<u8>,
+    words: &[u8],
+    name: &[u8],
+    more: &[u8],
+    other: &[u8],
+) -> Result<(), AllocError>
+    ensures { OnOk result (out.new.items ≡ out.old.items ++ (words.now ++ (name.now ++ (more.now ++ other.now)))) }
+{
+    push_words(out, words)?;
+    push_words(out, name)?;
+    push_words(out, more)?;
+    push_words(out, other)?;
+    Ok(())
+}
+
 #[tactic(auto, using(crate::proofs::Texts::texts_joined))]
 fn push_fault(out: &mut Vec<u8>, fault: &ModelFault) -> Result<(), AllocError>
     ensures { OnOk result (out.new.items ≡ out.old.items ++ fault_text fault.now) }
@@ -81,10 +99,13 @@ fn push_fault(out: &mut Vec<u8>, fault: &ModelFault) -> Result<(), AllocError>
         ModelFault::TooMany(what) => push_named(out, b"too many: ", what_word(*what).as_bytes()),
         ModelFault::Unknown(name) => push_named(out, b"unknown name: ", name.as_slice()),
         ModelFault::Range(what) => push_named(out, b"out of range: ", what_word(*what).as_bytes()),
-        ModelFault::Circular(kind, param) => {
-            push_named(out, b"circular: kind ", kind.as_slice())?;
-            push_named(out, b", parameter ", param.as_slice())
-        }
+        ModelFault::Circular(kind, param) => push_both(
+            out,
+            b"circular: kind ",
+            kind.as_slice(),
+            b", parameter ",
+            param.as_slice(),
+        ),
         ModelFault::Recursive(kind) => push_named(out, b"recursive: kind ", kind.as_slice()),
         ModelFault::NoSchedule(kind, alternative, _) => {
             push_named(out, b"no schedule: kind ", kind.as_slice())?;
@@ -116,4 +137,35 @@ pub fn fault_line(alloc: Global, fault: &ModelFault) -> Result<Items<u8>, AllocE
     push_fault(&mut line, fault)?;
     line.push(b'\n')?;
     Ok(Items::from_vec(line))
+}
+
+/// Whether memory was wanting, which is no fault of the text.
+pub fn is_want_in_syntax(fault: SyntaxFault) -> bool
+    ensures { result ≡ is_want_in_syntax fault }
+{
+    match fault {
+        SyntaxFault::Memory => true,
+        SyntaxFault::TooLong
+        | SyntaxFault::BadByte(_)
+        | SyntaxFault::BadNumber(_)
+        | SyntaxFault::BadName(_)
+        | SyntaxFault::TooDeep(_)
+        | SyntaxFault::Unexpected(_) => false,
+    }
+}
+
+/// The same of a fault of the checks.
+pub fn is_want(fault: &ModelFault) -> bool
+    ensures { result ≡ is_want fault.now }
+{
+    match fault {
+        ModelFault::Memory => true,
+        ModelFault::Twice(_)
+        | ModelFault::TooMany(_)
+        | ModelFault::Unknown(_)
+        | ModelFault::Range(_)
+        | ModelFault::Circular(_, _)
+        | ModelFault::Recursive(_)
+        | ModelFault::NoSchedule(_, _, _) => false,
+    }
 }

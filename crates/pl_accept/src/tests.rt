@@ -38,7 +38,10 @@ fn names_the_first_fault(rt: HostRuntime) -> Result<(), AllocError> {
     let table = [
         ("horizon 100 lead 30 kind obs { duration 5 }", ""),
         ("horizon 100 kind", "model: unexpected at 12\n"),
-        ("horizon 1000000000000000000 lead 1", "model: bad number at 8\n"),
+        (
+            "horizon 1000000000000000000 lead 1",
+            "model: bad number at 8\n",
+        ),
         ("$", "model: bad byte at 0\n"),
         (
             "horizon 100 lead 30 kind aaaaaaaaaaaaaaaaaaaaaaaaaaaaaaaaa",
@@ -95,9 +98,15 @@ fn keeps_the_limits(rt: HostRuntime) -> Result<(), AllocError> {
     let sums = ("1+", "1", "");
     let table = [
         (nested(alloc, front, brackets, 32, " }")?, ""),
-        (nested(alloc, front, brackets, 33, " }")?, "model: too deep at 70\n"),
+        (
+            nested(alloc, front, brackets, 33, " }")?,
+            "model: too deep at 70\n",
+        ),
         (nested(alloc, front, sums, 31, " }")?, ""),
-        (nested(alloc, front, sums, 32, " }")?, "model: too deep at 101\n"),
+        (
+            nested(alloc, front, sums, 32, " }")?,
+            "model: too deep at 101\n",
+        ),
     ];
     for (text, line) in table {
         assert!(rt; is_judged(alloc, text.as_slice(), line)?, "{line}");

@@ -430,8 +430,8 @@ begun_known turns old kept start input before now (Ok outcome.Done) room begun r
 begun_known turns old kept start input before now (Ok outcome.Refused) room begun run =
     let begins = begins_at old kept start.reader input start.ahead room begun in
     elim run [
-    | inl fails ↦ no_model (faulty begun.words fails.line begins (fails.refused begun.words begun.keeps) fails.written)
-    | inr waits ↦ not_built begun.words waits.model begins (waits.text begun.words begun.keeps) waits.other waits.written
+      | inl fails ↦ no_model (faulty begun.words fails.line begins (fails.refused begun.words begun.keeps) fails.written)
+      | inr waits ↦ not_built begun.words waits.model begins (waits.text begun.words begun.keeps) waits.other waits.written
     ]
 begun_known turns old kept start input before now (Err halt.Limit) room begun run =
     let k = known old.room input begun.lines start.reader.room start.ahead begun.took.gave in

@@ -50,11 +50,7 @@ fn write_ok<O: Sink>(alloc: Global, model: &Model, out: &mut O) -> Result<Outcom
 }
 
 #[tactic(auto, using(crate::proofs::Checking::text_fails, crate::proofs::Checking::text_passes))]
-fn check_text<O: Sink>(
-    alloc: Global,
-    kept: Option<Vec<u8>>,
-    out: &mut O,
-) -> Result<Outcome, Halt>
+fn check_text<O: Sink>(alloc: Global, kept: Option<Vec<u8>>, out: &mut O) -> Result<Outcome, Halt>
     ensures text { TextChecks kept (O.held out.old) result (O.held out.new) }
     ensures cause { IfErr result (WriteStops (O.faults out.old) (O.faults out.new)) }
     ensures later { O.faults out.old ≤ O.faults out.new }
@@ -67,11 +63,7 @@ fn check_text<O: Sink>(
 
 /// Reads a model up to its `begin` line and writes that it is one, or its first fault.
 #[tactic(auto, using(crate::proofs::Checking::head_checks))]
-pub fn check<S: Source, O: Sink>(
-    alloc: Global,
-    src: &mut S,
-    out: &mut O,
-) -> Result<Outcome, Halt>
+pub fn check<S: Source, O: Sink>(alloc: Global, src: &mut S, out: &mut O) -> Result<Outcome, Halt>
     ensures checks { ChecksKnown (S.left src.old) (O.held out.old) (O.held out.new) result }
     ensures read { IsErrOf result Halt.Read → Rose (S.faults src.old) (S.faults src.new) }
     ensures write { IsErrOf result Halt.Write → Rose (O.faults out.old) (O.faults out.new) }

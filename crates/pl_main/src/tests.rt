@@ -68,7 +68,14 @@ fn checks_models(rt: HostRuntime) -> Result<(), AllocError> {
         ),
     ];
     for (input, status, text) in table {
-        let as_wanted = does(alloc, &["check"], NONE, input.as_bytes(), status, text.as_bytes())?;
+        let as_wanted = does(
+            alloc,
+            &["check"],
+            NONE,
+            input.as_bytes(),
+            status,
+            text.as_bytes(),
+        )?;
         assert!(rt; as_wanted, "{input}");
     }
     assert!(rt; does(alloc, &["check"], (&[1], &[]), MODEL.as_bytes(), 4, b"")?);

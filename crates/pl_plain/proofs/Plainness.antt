@@ -1,6 +1,7 @@
 -- A model is runnable exactly where the worked-out test says so.
 use Rattle.std.proofs.Common.{◌≡◌, ℕ, ◌≤◌, List, [], ◌∷◌, length, Bool, true, false, ◌&&◌, ◌==◌, nat_le, refl, sym, ◌∙◌, ap, arith}
-use Rattle.std.proofs.lemmas.Bool.{leb-true, le-leb}
+use Rattle.std.proofs.lemmas.Bool.{leb-true, le-leb, eqb-true}
+use Rattle.std.proofs.lemmas.List.Elements.{All-cons, All-head, All-tail}
 use Rattle.std.specs.List.{list_all, All}
 use Rattle.pl_model.specs.declared.kinds.Kind.{Kind}
 use Rattle.pl_model.specs.declared.whole.Model.{Model}
@@ -26,7 +27,7 @@ both false b x y = x
 
 empty_is : {X : Type 0} → (xs : List X) → (length xs == 0) ≡ true → xs ≡ []
 empty_is [] e = refl
-empty_is (x ∷ xs) e = absurd (let h : false ≡ true = e in (cc))
+empty_is (x ∷ xs) e = absurd (let h : length (x ∷ xs) ≡ 0 = eqb-true (length (x ∷ xs)) 0 e in (omega (arith, h)))
 
 is_empty : {X : Type 0} → (xs : List X) → xs ≡ [] → (length xs == 0) ≡ true
 is_empty [] e = refl
@@ -50,9 +51,9 @@ is_bare_so k p =
     (both (length k.links == 0) (length k.alternatives == 0) (is_empty k.links p.links) (is_empty k.alternatives p.alternatives)))
 
 kinds_are : (ks : List Kind) → list_all is_plain_kind ks ≡ true → All IsPlainKind ks
-kinds_are [] e = tt
+kinds_are [] e = λ i d h. absurd (omega (arith, h))
 kinds_are (k ∷ ks) e =
-    (bare_is k (right (has_literal k) (is_bare k) (left (is_plain_kind k) (list_all is_plain_kind ks) e)), kinds_are ks (right (is_plain_kind k) (list_all is_plain_kind ks) e))
+    All-cons IsPlainKind k ks (bare_is k (right (has_literal k) (is_bare k) (left (is_plain_kind k) (list_all is_plain_kind ks) e))) (kinds_are ks (right (is_plain_kind k) (list_all is_plain_kind ks) e))
 
 literals_are : (ks : List Kind) → list_all is_plain_kind ks ≡ true → list_all has_literal ks ≡ true
 literals_are [] e = refl
@@ -62,14 +63,15 @@ literals_are (k ∷ ks) e =
 are_kinds : (ks : List Kind) → All IsPlainKind ks → list_all has_literal ks ≡ true → list_all is_plain_kind ks ≡ true
 are_kinds [] p e = refl
 are_kinds (k ∷ ks) p e =
-    both (is_plain_kind k) (list_all is_plain_kind ks) (both (has_literal k) (is_bare k) (left (has_literal k) (list_all has_literal ks) e) (is_bare_so k p.0)) (are_kinds ks p.1 (right (has_literal k) (list_all has_literal ks) e))
+    both (is_plain_kind k) (list_all is_plain_kind ks) (both (has_literal k) (is_bare k) (left (has_literal k) (list_all has_literal ks) e) (is_bare_so k (All-head IsPlainKind k ks p))) (are_kinds ks (All-tail IsPlainKind k ks p) (right (has_literal k) (list_all has_literal ks) e))
 
 within_is : (m : Model) → is_within m ≡ true → ((2 ≤ m.horizon) × (m.horizon ≤ 10000000)) × ((1 ≤ m.lead) × (m.lead ≤ m.horizon))
 within_is m e =
     let h = left (nat_le 2 m.horizon && nat_le m.horizon 10000000) (nat_le 1 m.lead && nat_le m.lead m.horizon) e in
-    let l = right (nat_le 2 m.horizon && nat_le m.horizon 10000000) (nat_le 1 m.lead && nat_le m.lead m.horizon) e in
-    ((leb-true 2 m.horizon (left (nat_le 2 m.horizon) (nat_le m.horizon 10000000) h), leb-true m.horizon 10000000 (right (nat_le 2 m.horizon) (nat_le m.horizon 10000000) h)),
-     (leb-true 1 m.lead (left (nat_le 1 m.lead) (nat_le m.lead m.horizon) l), leb-true m.lead m.horizon (right (nat_le 1 m.lead) (nat_le m.lead m.horizon) l)))
+    let l = right (nat_le 2 m.horizon && nat_le m.horizon 10000000) (nat_le 1 m.lead && nat_le m.lead m.horizon) e in (
+      (leb-true 2 m.horizon (left (nat_le 2 m.horizon) (nat_le m.horizon 10000000) h), leb-true m.horizon 10000000 (right (nat_le 2 m.horizon) (nat_le m.horizon 10000000) h)),
+      (leb-true 1 m.lead (left (nat_le 1 m.lead) (nat_le m.lead m.horizon) l), leb-true m.lead m.horizon (right (nat_le 1 m.lead) (nat_le m.lead m.horizon) l)),
+    )
 
 is_within_so : (m : Model) → IsPlain m → is_within m ≡ true
 is_within_so m p =

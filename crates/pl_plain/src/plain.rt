@@ -1,4 +1,5 @@
 ghost use Rattle.std.specs.Prelude.{◌≡◌};
+ghost use Rattle.std.specs.List.{list_all};
 ghost use Rattle.pl_plain.specs.Models.{is_literal, is_bare, is_plain_kind, is_within, is_plain, IsRunnable, Tells};
 
 use pl_model::{Expr, Kind, Model};
@@ -37,13 +38,19 @@ fn is_within(model: &Model) -> bool
         && model.lead <= model.horizon
 }
 
+fn are_plain_kinds(kinds: &[Kind]) -> bool
+    ensures { result ≡ list_all is_plain_kind kinds.now }
+{
+    kinds.iter().all(is_plain_kind)
+}
+
 fn is_plain(model: &Model) -> bool
     ensures { result ≡ is_plain model.now }
 {
     is_within(model)
         && model.timelines.is_empty()
         && model.kinds.len() <= 256
-        && model.kinds.as_slice().iter().all(is_plain_kind)
+        && are_plain_kinds(model.kinds.as_slice())
 }
 
 /// Whether the program can run the model today: no timelines, and kinds of a fixed duration and nothing else.
