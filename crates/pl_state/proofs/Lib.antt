@@ -1,9 +1,0 @@
-pub mod Orders
-pub mod Failing
-pub mod Renewed
-pub mod Lists
-pub mod Grouping
-pub mod Staying
-pub mod Steps
-pub mod Windows
-pub mod Changing
