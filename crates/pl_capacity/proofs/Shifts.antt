@@ -1,0 +1,181 @@
+-- What a shift of the sums leaves of a sound capacity.
+use Rattle.std.proofs.Common.{◌≡◌, ℕ, zero, suc, ◌+◌, ◌-◌, ◌^◌, ◌<◌, ◌≤◌, Bool, true, false, ◌&&◌, cond, List, [], ◌∷◌, ◌++◌, length, refl, ap, sym, ◌∙◌, subst, arith, eqb, ltb, leb, min, max, ℤ, pos, ◌+ℤ◌, ◌-ℤ◌, ◌≤ℤ◌, neg_ℤ}
+use Rattle.std.specs.Ordering.{int_eq}
+use Rattle.std.proofs.lemmas.Bool.{cond_both, eqb-true, true≢false, false≢true, and_parts, ltb-true, ltb-false, leb-true, leb-false, lt-ltb, le-ltb, le-leb, lt-leb}
+use Rattle.std.proofs.lemmas.Bool.Decides.{nat_tests, Decides-int_eq}
+use Rattle.std.proofs.lemmas.Int.{ints, to_z-of_z}
+use mir.Val.{to_z, of_z, SFits}
+use mir.Syntax.{w64}
+use Rattle.std.specs.Prelude.{int_lt}
+use Rattle.pl_points.specs.declared.span.Span.{Span}
+use Rattle.pl_points.specs.declared.span.Change.{Change}
+use Rattle.pl_points.specs.declared.limit.Limit.TheVariants.{Above}
+use Rattle.pl_points.specs.declared.noted.Noted.{Noted}
+use Rattle.pl_points.specs.declared.noted.Noted.TheVariants.{Came, Went}
+use Rattle.pl_points.specs.Sums.{total}
+use Rattle.pl_points.specs.Points.{Point, sum_to, merged, AreSmall}
+use Rattle.pl_points.specs.Limits.{is_outside}
+use Rattle.pl_points.specs.Spans.{within, covers, AreSpans, AreMaximal}
+use Rattle.pl_points.specs.Mending.{mended}
+use Rattle.pl_points.specs.Changes.{IsChange}
+use Rattle.pl_points.specs.Standing.{Each, standing, stands, without}
+use Rattle.pl_points.proofs.PointLists.{sum_to-merged}
+use Rattle.pl_points.proofs.Spanning.{within_true}
+use Rattle.pl_points.proofs.Cuts.{within_yes}
+use Rattle.pl_points.proofs.Maximal.{is_spans_of, remaximal, later_maximal, maximal_apart}
+use Rattle.pl_points.proofs.Totals.{total_bounds, each-all, IsAmount, total-push, total-without, length-without, each-push, each-without, each-stands, standing-push}
+use Rattle.pl_capacity.specs.declared.reservation.Use.{Use}
+use Rattle.pl_capacity.specs.Uses.{Standing, state_of, IsUse, use_of, same_use, taken_at, used, is_over, spans_now}
+use Rattle.pl_capacity.specs.Soundness.{IsSound}
+
+amount_taken : (t : ℕ) (u : Use) → IsUse u → IsAmount (taken_at t u)
+amount_taken t u is = cond_both (within u.from u.to t) u.amount (pos 0) (λ z. IsAmount z) (λ e. (omega (arith, ints, is.1), is.2)) (λ e. (omega (arith, ints), omega (arith, ints)))
+
+used_small : (uses : List Use) (t : ℕ) → length uses ≤ 320000 → Each IsUse uses → (neg_ℤ (pos 320000000000000) ≤ℤ used uses t) × (used uses t ≤ℤ pos 320000000000000)
+used_small uses t few bounded =
+    let h = total_bounds (taken_at t) uses (each-all IsUse (λ u. IsAmount (taken_at t u)) uses (amount_taken t) bounded) in
+    (omega (arith, ints, few, h.0), omega (arith, ints, few, h.1))
+
+pub small_one : (s : Standing) (ps : List Point) (spans : List Span) (from : ℕ) (d : ℤ) → IsSound s ps spans → IsAmount d → AreSmall (merged from d ps)
+small_one s ps spans from d sound amount t =
+    let u = used_small s.uses t sound.few sound.bounded in
+    let e = sound.tied t in
+    cases (leb from t) (sum_to-merged from d ps t) u e
+  where
+    cases : (v : Bool) → sum_to (merged from d ps) t ≡ sum_to ps t +ℤ cond v d (pos 0) → (neg_ℤ (pos 320000000000000) ≤ℤ used s.uses t) × (used s.uses t ≤ℤ pos 320000000000000) → sum_to ps t ≡ used s.uses t
+        → (neg_ℤ (pos (10 ^ 15)) ≤ℤ sum_to (merged from d ps) t) × (sum_to (merged from d ps) t ≤ℤ pos (10 ^ 15))
+    cases true m u e = (omega (arith, ints, m, u.0, u.1, e, amount.0, amount.1), omega (arith, ints, m, u.0, u.1, e, amount.0, amount.1))
+    cases false m u e = (omega (arith, ints, m, u.0, u.1, e), omega (arith, ints, m, u.0, u.1, e))
+
+-- the sums after a shift
+pub shifted_sum : (ps : List Point) (from to : ℕ) (d back : ℤ) (t : ℕ) → from ≤ to → back ≡ neg_ℤ d → sum_to (merged to back (merged from d ps)) t ≡ sum_to ps t +ℤ cond (within from to t) d (pos 0)
+shifted_sum ps from to d back t le is =
+    let e : back +ℤ d ≡ pos 0 = omega (arith, ints, is) in
+    cases (leb from t) (leb to t) refl refl (sum_to-merged to back (merged from d ps) t) (sum_to-merged from d ps t) e
+  where
+    cases : (v w : Bool) → leb from t ≡ v → leb to t ≡ w → sum_to (merged to back (merged from d ps)) t ≡ sum_to (merged from d ps) t +ℤ cond w back (pos 0) → sum_to (merged from d ps) t ≡ sum_to ps t +ℤ cond v d (pos 0) → back +ℤ d ≡ pos 0
+        → sum_to (merged to back (merged from d ps)) t ≡ sum_to ps t +ℤ cond (within from to t) d (pos 0)
+    cases true true f g m n e =
+        let w : within from to t ≡ false = grind (arith, nat_tests) in
+        rw w (omega (arith, ints, m, n, e))
+    cases true false f g m n e =
+        let w : within from to t ≡ true = grind (arith, nat_tests) in
+        rw w (omega (arith, ints, m, n))
+    cases false true f g m n e = absurd (omega (arith, le, leb-false from t f, leb-true to t g))
+    cases false false f g m n e =
+        let w : within from to t ≡ false = grind (arith, nat_tests) in
+        rw w (omega (arith, ints, m, n))
+
+pub small_both : (s : Standing) (ps : List Point) (spans : List Span) (from to : ℕ) (d back : ℤ) → IsSound s ps spans → IsAmount d → from ≤ to → back ≡ neg_ℤ d → AreSmall (merged to back (merged from d ps))
+small_both s ps spans from to d back sound amount le is t =
+    cases (within from to t) (shifted_sum ps from to d back t le is) (used_small s.uses t sound.few sound.bounded) (sound.tied t)
+  where
+    cases : (v : Bool) → sum_to (merged to back (merged from d ps)) t ≡ sum_to ps t +ℤ cond v d (pos 0) → (neg_ℤ (pos 320000000000000) ≤ℤ used s.uses t) × (used s.uses t ≤ℤ pos 320000000000000) → sum_to ps t ≡ used s.uses t
+        → (neg_ℤ (pos (10 ^ 15)) ≤ℤ sum_to (merged to back (merged from d ps)) t) × (sum_to (merged to back (merged from d ps)) t ≤ℤ pos (10 ^ 15))
+    cases true m u e = (omega (arith, ints, m, u.0, u.1, e, amount.0, amount.1), omega (arith, ints, m, u.0, u.1, e, amount.0, amount.1))
+    cases false m u e = (omega (arith, ints, m, u.0, u.1, e), omega (arith, ints, m, u.0, u.1, e))
+
+pub sound_apart : (s : Standing) (ps : List Point) (spans : List Span) → IsSound s ps spans → AreSpans spans
+sound_apart s ps spans sound = maximal_apart (is_over s.most s.uses) s.moment s.horizon spans (omega (arith, sound.fits)) sound.maximal
+
+pub sound_spans : (s : Standing) (ps : List Point) (spans : List Span) → IsSound s ps spans → spans ≡ spans_now s
+sound_spans s ps spans sound = is_spans_of (is_over s.most s.uses) s.moment s.horizon spans sound.in_time sound.maximal
+
+pub sound_change : (s s' : Standing) (ps ps' : List Point) (spans spans' : List Span) (change : Change) → IsSound s ps spans → IsSound s' ps' spans' → IsChange spans spans' change → IsChange (spans_now s) (spans_now s') change
+sound_change s s' ps ps' spans spans' change one other is =
+    subst (λ l. IsChange (spans_now s) l change) (sound_spans s' ps' spans' other) (subst (λ l. IsChange l spans' change) (sound_spans s ps spans one) is)
+
+-- with other uses, which the shift of the sums fits
+pub sound_shifted : (s s' : Standing) (ps ps' : List Point) (spans spans' : List Span) (from to : ℕ) (d back : ℤ) → IsSound s ps spans → from ≤ to → back ≡ neg_ℤ d
+    → s'.horizon ≡ s.horizon → s'.most ≡ s.most → s'.moment ≡ s.moment → length s'.uses ≤ 320000 → Each IsUse s'.uses
+    → ((t : ℕ) → used s'.uses t ≡ used s.uses t +ℤ cond (within from to t) d (pos 0)) → ps' ≡ merged to back (merged from d ps) → AreSpans spans'
+    → ((t : ℕ) → covers spans' t ≡ mended (max s.moment from) (max (max s.moment from) (min to s.horizon)) (λ x. is_outside (Above s.most) (sum_to ps' x)) spans t) → IsSound s' ps' spans'
+sound_shifted s s' ps ps' spans spans' from to d back sound le is same_horizon same_most same_moment few bounded adds points apart says =
+    record {
+      in_time = omega (arith, sound.in_time, same_horizon, same_moment);
+      fits = omega (arith, sound.fits, same_horizon);
+      few = few;
+      bounded = bounded;
+      tied = tied;
+      maximal = subst (λ n. AreMaximal (is_over s'.most s'.uses) n s'.horizon spans') (sym same_moment) (subst (λ n. AreMaximal (is_over s'.most s'.uses) s.moment n spans') (sym same_horizon)
+          (remaximal (is_over s.most s.uses) (is_over s'.most s'.uses) (λ x. is_outside (Above s.most) (sum_to ps' x)) s.moment s.horizon (max s.moment from) (max (max s.moment from) (min to s.horizon)) spans spans'
+          sound.maximal apart says inside outside));
+    }
+  where
+    tied : (t : ℕ) → sum_to ps' t ≡ used s'.uses t
+    tied t = ap (λ l. sum_to l t) points ∙ (shifted_sum ps from to d back t le is ∙ (ap (λ z. z +ℤ cond (within from to t) d (pos 0)) (sound.tied t) ∙ sym (adds t)))
+
+    inside : (t : ℕ) → within (max s.moment from) (max (max s.moment from) (min to s.horizon)) t ≡ true → within s.moment s.horizon t ≡ true × is_outside (Above s.most) (sum_to ps' t) ≡ is_over s'.most s'.uses t
+    inside t e =
+        let h = within_true (max s.moment from) (max (max s.moment from) (min to s.horizon)) t e in
+        (within_yes s.moment s.horizon t (omega (arith, h.0)) (omega (arith, h.0, h.1)), ap (λ m. int_lt m (sum_to ps' t)) (sym same_most) ∙ ap (int_lt s'.most) (tied t))
+
+    outside : (t : ℕ) → within (max s.moment from) (max (max s.moment from) (min to s.horizon)) t ≡ false → within s.moment s.horizon t ≡ true → is_over s.most s.uses t ≡ is_over s'.most s'.uses t
+    outside t apart_there in_time =
+        let w : within from to t ≡ false = cases (within from to t) refl in
+        let same : used s.uses t ≡ used s'.uses t = omega (arith, ints, adds t, ap (λ v. cond v d (pos 0)) w) in
+        ap (int_lt s.most) same ∙ ap (λ m. int_lt m (used s'.uses t)) (sym same_most)
+      where
+        cases : (v : Bool) → within from to t ≡ v → v ≡ false
+        cases false e = refl
+        cases true e =
+            let h = within_true from to t e in
+            let k = within_true s.moment s.horizon t in_time in
+            absurd (true≢false (sym (within_yes (max s.moment from) (max (max s.moment from) (min to s.horizon)) t (omega (arith, h.0, k.0)) (omega (arith, h.1, k.1))) ∙ apart_there))
+
+pub same_exact : (u v : Use) → same_use u v ≡ true → u ≡ v
+same_exact u v e =
+    let h = and_parts (eqb u.from v.from) (eqb u.to v.to && int_eq u.amount v.amount) e in
+    let k = and_parts (eqb u.to v.to) (int_eq u.amount v.amount) h.1 in
+    let from : u.from ≡ v.from = eqb-true u.from v.from h.0 in
+    let to : u.to ≡ v.to = eqb-true u.to v.to k.0 in
+    let amount : u.amount ≡ v.amount = (Decides-int_eq u.amount v.amount).0 k.1 in
+    ap (λ n. use_of n u.to u.amount) from ∙ ap (λ n. use_of v.from n u.amount) to ∙ ap (use_of v.from v.to) amount
+
+-- a use more
+pub used_more : (uses : List Use) (u : Use) (t : ℕ) → used (uses ++ u ∷ []) t ≡ used uses t +ℤ cond (within u.from u.to t) u.amount (pos 0)
+used_more uses u t = total-push (taken_at t) uses u
+
+-- a use less
+pub used_less : (uses : List Use) (u : Use) (back : ℤ) (t : ℕ) → back ≡ neg_ℤ u.amount → stands same_use u uses ≡ true → used (without same_use u uses) t ≡ used uses t +ℤ cond (within u.from u.to t) back (pos 0)
+used_less uses u back t is has = cases (within u.from u.to t) (total-without same_use same_exact (taken_at t) uses u has) refl
+  where
+    cases : (v : Bool) → used (without same_use u uses) t +ℤ taken_at t u ≡ used uses t → within u.from u.to t ≡ v → used (without same_use u uses) t ≡ used uses t +ℤ cond v back (pos 0)
+    cases true m e = let f : taken_at t u ≡ u.amount = rw e refl in omega (arith, ints, m, f, is)
+    cases false m e = let f : taken_at t u ≡ pos 0 = rw e refl in omega (arith, ints, m, f)
+
+-- the present moment moved on
+pub sound_later : (s s' : Standing) (ps : List Point) (spans spans' : List Span) → IsSound s ps spans → s'.horizon ≡ s.horizon → s'.most ≡ s.most → s'.uses ≡ s.uses → s.moment ≤ s'.moment → s'.moment ≤ s.horizon
+    → AreSpans spans' → ((t : ℕ) → covers spans' t ≡ mended 0 s'.moment (λ _. false) spans t) → IsSound s' ps spans'
+sound_later s s' ps spans spans' sound same_horizon same_most same_uses later bound apart says =
+    record {
+      in_time = omega (arith, bound, same_horizon);
+      fits = omega (arith, sound.fits, same_horizon);
+      few = subst (λ l. length l ≤ 320000) (sym same_uses) sound.few;
+      bounded = subst (λ l. Each IsUse l) (sym same_uses) sound.bounded;
+      tied = λ t. sound.tied t ∙ ap (λ l. used l t) (sym same_uses);
+      maximal = subst (λ n. AreMaximal (is_over s'.most s'.uses) s'.moment n spans') (sym same_horizon) (subst (λ l. AreMaximal (is_over s'.most l) s'.moment s.horizon spans') (sym same_uses)
+          (subst (λ m. AreMaximal (is_over m s.uses) s'.moment s.horizon spans') (sym same_most) (later_maximal (is_over s.most s.uses) s.moment s.horizon s'.moment spans spans' later sound.maximal apart says)));
+    }
+
+-- amounts as a program holds them
+pub raw : (a : ℤ) → IsAmount a → to_z w64 (of_z w64 a) ≡ a
+raw a am = let fits : SFits w64 a = omega (arith, ints, am.0, am.1) in to_z-of_z w64 a fits
+
+pub raw_back : (a : ℤ) → IsAmount a → to_z w64 (of_z w64 (pos 0 -ℤ to_z w64 (of_z w64 a))) ≡ neg_ℤ a
+raw_back a am =
+    let fits : SFits w64 (pos 0 -ℤ a) = omega (arith, ints, am.0, am.1) in
+    let e : pos 0 -ℤ a ≡ neg_ℤ a = omega (arith, ints) in
+    rw (raw a am) (to_z-of_z w64 (pos 0 -ℤ a) fits ∙ e)
+
+pub neg_fits : (a : ℤ) → IsAmount a → SFits w64 (pos 0 -ℤ to_z w64 (of_z w64 a))
+neg_fits a am = rw (raw a am) (omega (arith, ints, am.0, am.1))
+
+abbrev pub make : Bool → ℕ → ℤ → ℕ → List Use → Standing
+make spoiled horizon most moment uses = record { spoiled = spoiled; horizon = horizon; most = most; moment = moment; uses = uses }
+
+pub same_state : (b : Bool) (h : ℕ) (m : ℤ) (n : ℕ) (l k : List Use) → b ≡ false → l ≡ k → make false h m n l ≡ make b h m n k
+same_state b h m n l k e f = ap (make false h m n) f ∙ ap (λ v. make v h m n k) (sym e)
+
+pub amount_of : (u : Use) → IsUse u → IsAmount u.amount
+amount_of u is = (omega (arith, ints, is.1), is.2)

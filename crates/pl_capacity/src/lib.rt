@@ -1,0 +1,11 @@
+//! A capacity: what is in use at each moment, and the maximal spans at which that is above the most.
+#![tactic(auto)]
+
+mod capacity;
+mod reservation;
+mod shifting;
+#[cfg(test)]
+mod tests;
+
+pub use capacity::Capacity;
+pub use reservation::Use;

@@ -1,0 +1,279 @@
+ghost use Rattle.std.specs.Prelude.{◌≡◌, ◌<◌, ◌≤◌, true, false, [], ◌∷◌, ◌++◌, length, OnOk, OnErr, IfOk, IsErr};
+ghost use Rattle.pl_points.specs.Changes.{IsChange};
+ghost use Rattle.pl_points.specs.Standing.{without, stands};
+ghost use Rattle.pl_level.specs.Effects.{IsEffect, IsValue, effect_of, same_effect, level, low_now, high_now};
+ghost use Rattle.pl_level.specs.Soundness.{AreChanges};
+
+use crate::kept::Kept;
+use crate::reservation::{Effect, LevelChange};
+use crate::windows::{forget_both, limit_for, mend_both, sum_before, value_for, window_of};
+use pl_lists::Copied;
+use pl_points::{Ledger, Noted, Points, Span, Steps, Told};
+use std::alloc::{AllocError, Global};
+use std::marker::Model;
+
+/// A level over its change points. Contracts see the effects that stand, oldest first.
+#[derive(Drop)]
+pub struct Level<P: Points> {
+    alloc: Global,
+    horizon: u32,
+    least: i64,
+    most: i64,
+    moment: u32,
+    base: u32,
+    value: i64,
+    // The sum of the points up to the base's moment.
+    before: i64,
+    spoiled: bool,
+    points: P,
+    low: Kept,
+    high: Kept,
+    notes: Told<Noted<Effect>>,
+}
+
+impl<P: Points> Model for Level<P> {
+    ghost use Rattle.std.specs.Prelude.{◌≡◌, false};
+    ghost use Rattle.pl_level.specs.Effects.{Standing, state_of};
+    ghost use Rattle.pl_level.specs.Soundness.{IsSound};
+
+    ghost Value = { Standing };
+
+    ghost view = { λ c. state_of c.spoiled c.horizon c.least c.most c.moment c.base c.value c.notes.items };
+
+    ghost invariant = { λ c. c.spoiled ≡ false → IsSound (state_of c.spoiled c.horizon c.least c.most c.moment c.base c.value c.notes.items) c.before (P.points c.points) c.low c.high };
+}
+
+impl<P: Points> Level<P> {
+    /// A level with its start value and no effects, at the moment 0.
+    pub fn new(
+        alloc: Global,
+        horizon: u32,
+        least: i64,
+        most: i64,
+        start: i64,
+        points: P,
+    ) -> Level<P>
+        requires least { IsValue least }
+        requires most { IsValue most }
+        requires start { IsValue start }
+        requires horizon { 0 < horizon }
+        requires points { P.points points ≡ [] }
+        ensures { result ≡ record { spoiled = false; horizon = horizon; least = least; most = most; moment = 0; base = 0; value = start; effects = [] } }
+    {
+        let whole = Span {
+            from: 0,
+            to: horizon,
+        };
+        Level {
+            alloc,
+            horizon,
+            least,
+            most,
+            moment: 0,
+            base: 0,
+            value: start,
+            before: 0,
+            spoiled: false,
+            points,
+            low: Kept::new(alloc, start < least, whole),
+            high: Kept::new(alloc, most < start, whole),
+            notes: Told::new(),
+        }
+    }
+
+    /// Adds the delta from the moment on. On want of memory the timeline is spoiled.
+    pub fn add<L: Ledger>(
+        &mut self,
+        at: u32,
+        delta: i64,
+        steps: &mut Steps<L>,
+    ) -> Result<LevelChange, AllocError>
+        requires is_effect { IsEffect (effect_of at delta) }
+        requires few { self.old.spoiled ≡ false → length self.old.effects ≤ 319999 }
+        ensures ok { OnOk result (self.new ≡ record self.old { effects = self.old.effects ++ effect_of at delta ∷ [] }) }
+        ensures change { IfOk result (λ c. AreChanges (low_now self.old) (low_now self.new) (high_now self.old) (high_now self.new) c) }
+        ensures unspoiled { OnOk result (self.old.spoiled ≡ false) }
+        ensures err { OnErr result (self.new.spoiled ≡ true) }
+        ensures after_spoil { self.old.spoiled ≡ true → IsErr result }
+    {
+        if self.spoiled {
+            return Err(AllocError);
+        }
+        self.spoiled = true;
+        let added = delta;
+        self.points.add(at, added, steps)?;
+        self.before = sum_before(self.before, self.base, at, added);
+        let present = Span {
+            from: self.moment,
+            to: self.horizon,
+        };
+        let change = mend_both(
+            &self.points,
+            &mut self.low,
+            &mut self.high,
+            limit_for(self.least, self.value, self.before),
+            limit_for(self.most, self.value, self.before),
+            window_of(present, self.base, at),
+            steps,
+        )?;
+        self.notes = self.notes.with(&Noted::Came(Effect { at, delta }));
+        self.spoiled = false;
+        Ok(change)
+    }
+
+    /// Takes out an effect that stands. On want of memory the timeline is spoiled.
+    pub fn remove<L: Ledger>(
+        &mut self,
+        at: u32,
+        delta: i64,
+        steps: &mut Steps<L>,
+    ) -> Result<LevelChange, AllocError>
+        requires { self.old.spoiled ≡ false → stands same_effect (effect_of at delta) self.old.effects ≡ true }
+        ensures ok { OnOk result (self.new ≡ record self.old { effects = without same_effect (effect_of at delta) self.old.effects }) }
+        ensures change { IfOk result (λ c. AreChanges (low_now self.old) (low_now self.new) (high_now self.old) (high_now self.new) c) }
+        ensures unspoiled { OnOk result (self.old.spoiled ≡ false) }
+        ensures err { OnErr result (self.new.spoiled ≡ true) }
+        ensures after_spoil { self.old.spoiled ≡ true → IsErr result }
+    {
+        if self.spoiled {
+            return Err(AllocError);
+        }
+        self.spoiled = true;
+        let added = -delta;
+        self.points.add(at, added, steps)?;
+        self.before = sum_before(self.before, self.base, at, added);
+        let present = Span {
+            from: self.moment,
+            to: self.horizon,
+        };
+        let change = mend_both(
+            &self.points,
+            &mut self.low,
+            &mut self.high,
+            limit_for(self.least, self.value, self.before),
+            limit_for(self.most, self.value, self.before),
+            window_of(present, self.base, at),
+            steps,
+        )?;
+        self.notes = self.notes.with(&Noted::Went(Effect { at, delta }));
+        self.spoiled = false;
+        Ok(change)
+    }
+
+    /// Sets the base at the present moment: effects up to it count no more. On want of memory the timeline is spoiled.
+    pub fn rebase<L: Ledger>(
+        &mut self,
+        value: i64,
+        steps: &mut Steps<L>,
+    ) -> Result<LevelChange, AllocError>
+        requires { IsValue value }
+        ensures ok { OnOk result (self.new ≡ record self.old { base = self.old.moment; value = value }) }
+        ensures change { IfOk result (λ c. AreChanges (low_now self.old) (low_now self.new) (high_now self.old) (high_now self.new) c) }
+        ensures unspoiled { OnOk result (self.old.spoiled ≡ false) }
+        ensures err { OnErr result (self.new.spoiled ≡ true) }
+        ensures after_spoil { self.old.spoiled ≡ true → IsErr result }
+    {
+        if self.spoiled {
+            return Err(AllocError);
+        }
+        self.spoiled = true;
+        self.before = self.points.sum_to(self.moment, steps);
+        let present = Span {
+            from: self.moment,
+            to: self.horizon,
+        };
+        let change = mend_both(
+            &self.points,
+            &mut self.low,
+            &mut self.high,
+            limit_for(self.least, value, self.before),
+            limit_for(self.most, value, self.before),
+            present,
+            steps,
+        )?;
+        self.base = self.moment;
+        self.value = value;
+        self.spoiled = false;
+        Ok(change)
+    }
+
+    /// Moves the present moment on. On want of memory the timeline is spoiled.
+    pub fn advance<L: Ledger>(
+        &mut self,
+        now: u32,
+        _steps: &mut Steps<L>,
+    ) -> Result<LevelChange, AllocError>
+        requires later { self.old.spoiled ≡ false → self.old.moment ≤ now }
+        requires bound { self.old.spoiled ≡ false → now ≤ self.old.horizon }
+        ensures ok { OnOk result (self.new ≡ record self.old { moment = now }) }
+        ensures change { IfOk result (λ c. AreChanges (low_now self.old) (low_now self.new) (high_now self.old) (high_now self.new) c) }
+        ensures unspoiled { OnOk result (self.old.spoiled ≡ false) }
+        ensures err { OnErr result (self.new.spoiled ≡ true) }
+        ensures after_spoil { self.old.spoiled ≡ true → IsErr result }
+    {
+        if self.spoiled {
+            return Err(AllocError);
+        }
+        self.spoiled = true;
+        let change = forget_both(&mut self.low, &mut self.high, now)?;
+        self.moment = now;
+        self.spoiled = false;
+        Ok(change)
+    }
+
+    /// The level at a moment.
+    pub fn at<L: Ledger>(&self, t: u32, steps: &mut Steps<L>) -> i64
+        requires now { self.now.spoiled ≡ false → self.now.moment ≤ t }
+        requires before_horizon { self.now.spoiled ≡ false → t < self.now.horizon }
+        ensures { self.now.spoiled ≡ false → result ≡ level self.now t }
+    {
+        if self.spoiled {
+            return 0;
+        }
+        let sum = self.points.sum_to(t, steps);
+        value_for(self.value, sum, self.before)
+    }
+
+    /// The maximal spans at which the level is below its least.
+    pub fn low_spans(&self) -> &[Span]
+        ensures { self.now.spoiled ≡ false → result.now ≡ low_now self.now }
+    {
+        self.low.as_slice()
+    }
+
+    /// The maximal spans at which the level is above its most.
+    pub fn high_spans(&self) -> &[Span]
+        ensures { self.now.spoiled ≡ false → result.now ≡ high_now self.now }
+    {
+        self.high.as_slice()
+    }
+
+    pub fn spoiled(&self) -> bool
+        ensures { result ≡ self.now.spoiled }
+    {
+        self.spoiled
+    }
+}
+
+impl<P: Points + Copied> Copied for Level<P> {
+    fn copy(&self, alloc: Global) -> Result<Level<P>, AllocError> {
+        let points = self.points.copy(alloc)?;
+        let low = self.low.copy(alloc)?;
+        let high = self.high.copy(alloc)?;
+        Ok(Level {
+            alloc: self.alloc,
+            horizon: self.horizon,
+            least: self.least,
+            most: self.most,
+            moment: self.moment,
+            base: self.base,
+            value: self.value,
+            before: self.before,
+            spoiled: self.spoiled,
+            points,
+            low,
+            high,
+            notes: self.notes.again(),
+        })
+    }
+}

@@ -1,0 +1,12 @@
+//! A level: its value at each moment, and the maximal spans at which it is below its least or above its most.
+#![tactic(auto)]
+
+mod kept;
+mod level;
+mod reservation;
+#[cfg(test)]
+mod tests;
+mod windows;
+
+pub use level::Level;
+pub use reservation::{Effect, LevelChange};

@@ -1,0 +1,110 @@
+ghost use Rattle.std.specs.Prelude.{◌≡◌, ◌<◌, ◌≤◌, ◌≤ℤ◌, ◌+ℤ◌, ◌-ℤ◌, ◌^◌, ℕ, ℤ, pos, neg_ℤ, nat_le, false, OnOk, IfOk, max, min, if◌then◌else◌};
+ghost use Rattle.pl_points.specs.Sums.{IsSmall};
+ghost use Rattle.pl_points.specs.Points.{sum_to};
+ghost use Rattle.pl_points.specs.Limits.{is_outside};
+ghost use Rattle.pl_points.specs.declared.limit.Limit.TheVariants.{Below, Above};
+ghost use Rattle.pl_points.specs.Spans.{AreSpans, covers};
+ghost use Rattle.pl_points.specs.Mending.{mended};
+ghost use Rattle.pl_level.specs.Soundness.{AreChanges};
+
+use crate::kept::Kept;
+use crate::reservation::LevelChange;
+use pl_points::{Ledger, Limit, Points, Span, Steps};
+use std::alloc::AllocError;
+
+// The moments at which an effect changes the level.
+pub(crate) fn window_of(present: Span, base: u32, at: u32) -> Span
+    requires { present.from ≤ present.to }
+    ensures from { result.from ≡ (if nat_le at base then present.to else min (max at present.from) present.to) }
+    ensures to { result.to ≡ present.to }
+{
+    if at <= base {
+        Span {
+            from: present.to,
+            to: present.to,
+        }
+    } else {
+        Span {
+            from: at.max(present.from).min(present.to),
+            to: present.to,
+        }
+    }
+}
+
+// The sum up to the base's moment after an effect.
+pub(crate) fn sum_before(before: i64, base: u32, at: u32, delta: i64) -> i64
+    requires before { IsSmall before }
+    requires delta { IsSmall delta }
+    ensures { result ≡ before +ℤ (if nat_le at base then delta else pos 0) }
+{
+    if at <= base { before + delta } else { before }
+}
+
+// The sum of points at which the level is the limit.
+pub(crate) fn limit_for(limit: i64, value: i64, before: i64) -> i64
+    requires limit { IsSmall limit }
+    requires value { IsSmall value }
+    requires before { IsSmall before }
+    ensures { result ≡ (limit -ℤ value) +ℤ before }
+{
+    limit - value + before
+}
+
+// The value of the level where the points add up to the sum.
+pub(crate) fn value_for(value: i64, sum: i64, before: i64) -> i64
+    requires value { IsSmall value }
+    requires sum { IsSmall sum }
+    requires before { IsSmall before }
+    ensures { result ≡ value +ℤ (sum -ℤ before) }
+{
+    value + (sum - before)
+}
+
+// Mends both lists in the window.
+pub(crate) fn mend_both<P: Points, L: Ledger>(
+    points: &P,
+    low: &mut Kept,
+    high: &mut Kept,
+    least: i64,
+    most: i64,
+    window: Span,
+    steps: &mut Steps<L>,
+) -> Result<LevelChange, AllocError>
+    requires window { window.from ≤ window.to }
+    requires low { AreSpans low.old }
+    requires high { AreSpans high.old }
+    ensures low_apart { OnOk result (AreSpans low.new) }
+    ensures high_apart { OnOk result (AreSpans high.new) }
+    ensures low_covers { OnOk result ((t : ℕ) → covers low.new t ≡ mended window.from window.to (λ x. is_outside (Below least) (sum_to (P.points points.now) x)) low.old t) }
+    ensures high_covers { OnOk result ((t : ℕ) → covers high.new t ≡ mended window.from window.to (λ x. is_outside (Above most) (sum_to (P.points points.now) x)) high.old t) }
+    ensures changes { IfOk result (λ c. AreChanges low.old low.new high.old high.new c) }
+{
+    let below = low.mend(points, Limit::Below(least), window, steps)?;
+    let above = high.mend(points, Limit::Above(most), window, steps)?;
+    Ok(LevelChange {
+        low: below,
+        high: above,
+    })
+}
+
+// Takes out of both lists what lies before the moment.
+pub(crate) fn forget_both(
+    low: &mut Kept,
+    high: &mut Kept,
+    at: u32,
+) -> Result<LevelChange, AllocError>
+    requires low { AreSpans low.old }
+    requires high { AreSpans high.old }
+    ensures low_apart { OnOk result (AreSpans low.new) }
+    ensures high_apart { OnOk result (AreSpans high.new) }
+    ensures low_covers { OnOk result ((t : ℕ) → covers low.new t ≡ mended 0 at (λ _. false) low.old t) }
+    ensures high_covers { OnOk result ((t : ℕ) → covers high.new t ≡ mended 0 at (λ _. false) high.old t) }
+    ensures changes { IfOk result (λ c. AreChanges low.old low.new high.old high.new c) }
+{
+    let below = low.forget(at)?;
+    let above = high.forget(at)?;
+    Ok(LevelChange {
+        low: below,
+        high: above,
+    })
+}

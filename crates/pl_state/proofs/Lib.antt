@@ -1,0 +1,9 @@
+pub mod Orders
+pub mod Failing
+pub mod Renewed
+pub mod Lists
+pub mod Grouping
+pub mod Staying
+pub mod Steps
+pub mod Windows
+pub mod Changing

@@ -1,0 +1,9 @@
+use Rattle.std.proofs.Common.{rules}
+use Rattle.pl_state.specs.Near.{bad_by}
+use Rattle.std.proofs.lemmas.List.Sorted.{IsPartitionPoint-from_clause}
+use Rattle.pl_points.proofs.Parting.{parting}
+use Rattle.pl_state.proofs.Steps.{parted_bad_by}
+use Rattle.pl_state.proofs.near.passed_count.Goals as goal
+
+pub returns-clause-rest : goal.returns-clause-rest
+returns-clause-rest c = (parting (bad_by c.args.at) c.args.bad.now c.partition_point.result c.partition_point.ensures.bound (parted_bad_by c.args.at 0 c.args.bad.now c.requires) (λ parted. IsPartitionPoint-from_clause (bad_by c.args.at) _ _ c.partition_point.ensures.partitioned parted (λ a r q k. search rules))).1

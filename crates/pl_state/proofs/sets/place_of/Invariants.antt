@@ -1,0 +1,11 @@
+-- the rest gives the whole
+use Rattle.std.proofs.Common.{◌≡◌, ◌++◌, take, drop}
+use Rattle.pl_points.specs.Lists.{front}
+use Rattle.pl_state.specs.Sets.{set_before}
+use Rattle.pl_state.proofs.sets.place_of.Given as goal
+
+abbrev pub invariant-loop-other : goal.invariant-loop-other
+invariant-loop-other l = record {
+  place : l.count ≡ l.other-index;
+  rest : take l.other-index l.sets ++ front (set_before l.set) (drop l.other-index l.sets) ≡ front (set_before l.set) l.sets;
+}

@@ -1,0 +1,126 @@
+ghost use Rattle.std.specs.Prelude.{◌≡◌, ◌≤◌, ◌-◌, ◌++◌, length, take, drop, Bool, OnOk, IfOk};
+ghost use Rattle.pl_state.specs.Lines.{is_in, left_out, same_broken, same_bad};
+
+use crate::answer::{BadSet, BrokenMust, StateChange};
+use pl_lists::Items;
+use std::alloc::{AllocError, Global};
+
+// An item of a list of answers.
+pub(crate) trait Listed: Copy {
+    ghost same: { Self → Self → Bool };
+
+    fn is_same(&self, other: &Self) -> bool
+        ensures { result ≡ same self.now other.now };
+}
+
+impl Listed for BrokenMust {
+    ghost same = { same_broken };
+
+    fn is_same(&self, other: &BrokenMust) -> bool {
+        self.id == other.id
+            && (self.index == other.index && (self.from == other.from && self.to == other.to))
+    }
+}
+
+impl Listed for BadSet {
+    ghost same = { same_bad };
+
+    fn is_same(&self, other: &BadSet) -> bool {
+        self.at == other.at && (self.id == other.id && self.index == other.index)
+    }
+}
+
+fn contains<T: Listed>(list: &[T], item: &T) -> bool
+    ensures { result ≡ is_in T.same list.now item.now }
+{
+    for other in list {
+        if other.is_same(item) {
+            return true;
+        }
+    }
+    false
+}
+
+// Those that are not among the others.
+pub(crate) fn missing_from<T: Listed>(
+    alloc: Global,
+    others: &[T],
+    list: &[T],
+) -> Result<Items<T>, AllocError>
+    ensures { IfOk result (λ v. v ≡ left_out T.same others.now list.now) }
+{
+    let mut missing = Items::new(alloc);
+    for item in list {
+        if !contains(others, item) {
+            missing.push(*item)?;
+        }
+    }
+    Ok(missing)
+}
+
+// What left and came into a list.
+#[derive(Drop)]
+pub(crate) struct Difference<T> {
+    pub(crate) went: Items<T>,
+    pub(crate) came: Items<T>,
+}
+
+// Puts the fresh items in the place of those from `begin` up to but not at `end`.
+fn replace<T: Listed>(
+    alloc: Global,
+    list: &mut Vec<T>,
+    begin: usize,
+    end: usize,
+    fresh: &[T],
+) -> Result<(), AllocError>
+    requires begin { begin ≤ length list.old.items }
+    requires end { end ≤ length list.old.items }
+    ensures { OnOk result (list.new.items ≡ take begin list.old.items ++ (fresh.now ++ drop end list.old.items)) }
+{
+    let rest = Vec::from_slice(alloc, &list[end..])?;
+    list.truncate(begin);
+    list.extend_from_slice(fresh)?;
+    list.extend_from_slice(&rest)?;
+    Ok(())
+}
+
+// The same, and says which of the items that went stand no more, and which of the fresh ones did not stand.
+pub(crate) fn exchange<T: Listed>(
+    alloc: Global,
+    list: &mut Vec<T>,
+    begin: usize,
+    end: usize,
+    fresh: &[T],
+) -> Result<Difference<T>, AllocError>
+    requires begin { begin ≤ end }
+    requires end { end ≤ length list.old.items }
+    ensures items { OnOk result (list.new.items ≡ take begin list.old.items ++ (fresh.now ++ drop end list.old.items)) }
+    ensures went { IfOk result (λ d. d.went ≡ left_out T.same list.new.items (take (end - begin) (drop begin list.old.items))) }
+    ensures came { IfOk result (λ d. d.came ≡ left_out T.same list.old.items fresh.now) }
+{
+    let gone = Vec::from_slice(alloc, &list[begin..end])?;
+    let came = missing_from(alloc, list, fresh)?;
+    replace(alloc, list, begin, end, fresh)?;
+    let went = missing_from(alloc, list, &gone)?;
+    Ok(Difference { went, came })
+}
+
+// The answer of a change.
+pub(crate) fn answer(musts: Difference<BrokenMust>, steps: Difference<BadSet>) -> StateChange
+    ensures { result ≡ record { musts_went = musts.went; musts_came = musts.came; steps_went = steps.went; steps_came = steps.came } }
+{
+    let Difference {
+        went: musts_went,
+        came: musts_came,
+    } = musts;
+    let Difference {
+        went: steps_went,
+        came: steps_came,
+    } = steps;
+    StateChange {
+        musts_went,
+        musts_came,
+        steps_went,
+        steps_came,
+    }
+}
