@@ -64,8 +64,16 @@ fn names_the_first_failed_check(rt: HostRuntime) -> Result<(), AllocError> {
             "model: out of range: duration\n",
         ),
         (
+            "horizon 100 lead 30 kind a { duration 2000000000 }",
+            "model: out of range: literal\n",
+        ),
+        (
             "horizon 100 lead 30 kind a { duration 5 } kind a { duration 5 }",
             "model: name twice: a\n",
+        ),
+        (
+            "horizon 100 lead 30 kind a { param n 1 9 duration 5 alternative { slot s b ( n = n ) } } kind b { param m 0 9 duration m }",
+            "model: unknown name: n\n",
         ),
         (
             "horizon 100 lead 30 kind a { duration 5 use cam 1 }",

@@ -1,20 +1,18 @@
 -- Where every row passes the check answers a model, or runs out of memory.
-use Rattle.std.proofs.Common.{◌≡◌, ℕ, ◌<◌, ℤ, List, All, Some, slice_get, length, Ok, Err, get_or, sym, subst, ◌∙◌, arith}
+use Rattle.std.proofs.Common.{◌≡◌, ℕ, ℤ, List, All, Some, slice_get, Ok, Err, subst}
 use Rattle.std.proofs.lemmas.List.Elements.{All-get_or}
 use Rattle.std.proofs.lemmas.Option.{slice_get_within, get_or_from_slice_get}
 use Rattle.pl_syntax.specs.declared.whole.Ast.{Ast}
 use Rattle.pl_model.specs.declared.whole.Model.{Model}
-use Rattle.pl_check.specs.declared.fault.ModelFault.{ModelFault}
 use Rattle.pl_check.specs.declared.fault.ModelFault.TheVariants as fault
 use Rattle.pl_check.specs.declared.drafts.DraftKind.{DraftKind}
-use Rattle.pl_check.specs.declared.drafts.DraftAlternative.{DraftAlternative}
 use Rattle.pl_check.specs.declared.drafts.Draft.{Draft}
 use Rattle.pl_check.specs.Judgements.{Judged}
 use Rattle.pl_check.specs.Drafting.{kinds_in}
 use Rattle.pl_check.specs.Dependencies.{AreWellFounded, AreUncontained, IsWellFounded, IsFirstCircular, IsFirstRecursive}
 use Rattle.pl_check.specs.Networks.{span_of}
 use Rattle.pl_check.specs.Schedules.{HasSchedule, IsScheduled, IsFirstUnscheduled}
-use Rattle.pl_check.specs.Checked.{drafted, spans_in, AnswersDrafts, AnswersJudged, Answers, PassesEachRow, IsModelOrMemory}
+use Rattle.pl_check.specs.Checked.{spans_in, AnswersDrafts, AnswersJudged, Answers, PassesEachRow, IsModelOrMemory}
 
 -- what holds of each holds of the one at a place
 at_place : {X : Type 0} (P : X → Type 0) (xs : List X) (i : ℕ) (x : X) → All P xs → slice_get xs i ≡ Some x → P x

@@ -1,10 +1,9 @@
 -- The fault of a row is the answer of the check.
-use Rattle.std.proofs.Common.{◌≡◌, ℤ, List, Ok, Err, refl, sym, subst}
+use Rattle.std.proofs.Common.{◌≡◌, List, Ok, Err, refl, sym, subst}
 use Rattle.pl_syntax.specs.declared.whole.Ast.{Ast}
 use Rattle.pl_model.specs.declared.whole.Model.{Model}
 use Rattle.pl_check.specs.declared.fault.ModelFault.{ModelFault}
 use Rattle.pl_check.specs.declared.fault.ModelFault.TheVariants as fault
-use Rattle.pl_check.specs.declared.drafts.DraftKind.{DraftKind}
 use Rattle.pl_check.specs.declared.drafts.Draft.{Draft}
 use Rattle.pl_check.specs.Judgements.{Judged, Fails}
 use Rattle.pl_check.specs.Drafting.{kinds_in}

@@ -3,7 +3,7 @@ use Rattle.std.proofs.Common.{◌≡◌, ◌≢◌, ℕ, suc, zero, ◌+◌, ◌
 use Rattle.std.proofs.lemmas.Bool.{cases_Bool}
 use Rattle.std.proofs.lemmas.Bool.Decides.{nat_tests}
 use Rattle.std.proofs.lemmas.List.Sums.{sum_by-set}
-use Rattle.std.specs.Prelude.{nat_eq, nat_lt}
+use Rattle.std.specs.Prelude.{nat_eq}
 use Rattle.pl_check.specs.Cycles.{Graph, successors, Walk, Reaches, IsAcyclicBelow, is_marked, is_unmarked, unmarked, first_of, unmarked_in, unmarked_after, unmarked_from, next_of, AreReached, IsComplete}
 
 -- ---- what a search finds

@@ -1,10 +1,10 @@
 -- A fault of one row is that of the rows up to it.
-use Rattle.std.proofs.Common.{◌≡◌, List, Ok, Err, refl, sym, subst, ap, ◌∙◌}
+use Rattle.std.proofs.Common.{◌≡◌, List, Ok, Err, ap, ◌∙◌}
 use Rattle.pl_syntax.specs.declared.whole.Ast.{Ast}
 use Rattle.pl_check.specs.declared.fault.ModelFault.{ModelFault}
 use Rattle.pl_check.specs.declared.fault.ModelFault.TheVariants as fault
 use Rattle.pl_check.specs.declared.drafts.Draft.{Draft}
-use Rattle.pl_check.specs.Judgements.{Judged, Judgement, pass, ◌>>◌, ◌>>=◌, Fails}
+use Rattle.pl_check.specs.Judgements.{Judged, pass, ◌>>◌, ◌>>=◌, Fails}
 use Rattle.pl_check.specs.Names.{twice_in}
 use Rattle.pl_check.specs.Counts.{counts_in}
 use Rattle.pl_check.specs.Numbering.{numbered_items}

@@ -1,5 +1,5 @@
 -- What the drafts' ranges say of their numbers, where they pass.
-use Rattle.std.proofs.Common.{◌≡◌, ℕ, ℤ, pos, neg_ℤ, ◌≤ℤ◌, Bool, true, false, List, [], ◌∷◌, All, length, Ok, Err, refl, cond, arith}
+use Rattle.std.proofs.Common.{◌≡◌, ℕ, ℤ, pos, neg_ℤ, ◌≤ℤ◌, Bool, true, false, List, [], ◌∷◌, All, refl, arith}
 use Rattle.std.specs.Prelude.{int_le, ◌&&◌}
 use Rattle.std.proofs.lemmas.Int.{ints}
 use Rattle.std.proofs.lemmas.List.Elements.{All-nil, All-cons, All-head, All-tail, All-weaker}
@@ -11,7 +11,7 @@ use Rattle.pl_check.specs.declared.drafts.DraftAlternative.{DraftAlternative}
 use Rattle.pl_check.specs.declared.drafts.DraftKind.{DraftKind}
 use Rattle.pl_check.specs.declared.drafts.Draft.{Draft}
 use Rattle.pl_check.specs.declared.drafts.Draft.TheVariants as draft
-use Rattle.pl_check.specs.Judgements.{Judgement, pass, ◌>>◌, unless, each}
+use Rattle.pl_check.specs.Judgements.{Judgement, pass, unless, each}
 use Rattle.pl_check.specs.Ranges.{is_between, is_distance, range_in_param, range_in_duration, range_in_reservation, range_in_link, range_in_slot, range_in_order, range_in_alternative, range_in_kind, range_in_draft, range_in, NamesOwn, NamesOwnIn}
 use Rattle.pl_check.specs.Sound.{IsSoundKind, IsSoundDraft}
 use Rattle.pl_check.specs.Drafting.{kinds_in}

@@ -1,6 +1,5 @@
 -- What a tree's counts say of its parts, where they pass.
 use Rattle.std.proofs.Common.{◌≡◌, ℕ, ◌+◌, ◌≤◌, Bool, true, false, cond, List, [], ◌∷◌, All, length, map, Ok, Err, refl, arith}
-use Rattle.std.proofs.lemmas.Bool.{cond_both}
 use Rattle.std.proofs.lemmas.Bool.Decides.{nat_tests}
 use Rattle.std.proofs.lemmas.List.Elements.{All-nil, All-cons, All-weaker}
 use Rattle.std.specs.Prelude.{nat_le}
@@ -15,7 +14,7 @@ use Rattle.pl_check.specs.declared.fault.What.{What}
 use Rattle.pl_check.specs.declared.fault.What.TheVariants as what
 use Rattle.pl_check.specs.declared.fault.ModelFault.{ModelFault}
 use Rattle.pl_check.specs.declared.fault.ModelFault.TheVariants as fault
-use Rattle.pl_check.specs.Judgements.{Judged, Judgement, pass, ◌>>◌, ◌>>=◌, at_most, at_most_from}
+use Rattle.pl_check.specs.Judgements.{Judged, Judgement, pass, ◌>>◌, at_most, at_most_from}
 use Rattle.pl_check.specs.Counts.{few_nodes, counts_in_param, counts_in_reservation, counts_in_link, counts_in_slot, counts_in_order, counts_in_alternative, counts_in_kind, counts_in_state, counts_in_line, counts_in_items, counts_in}
 use Rattle.pl_check.specs.Names.{Name, item_name}
 use Rattle.pl_check.specs.Sizes.{IsScope, IsSmallAlternative, IsSmallKind, IsSmallLine, IsSmallItem}

@@ -1,15 +1,11 @@
 -- What the check of a tree answers: the model, where every row passes, or the first fault. The rows come in their order, and
 -- within one row the first fault in the order of the text.
-use Rattle.std.specs.Prelude.{◌≡◌, ℕ, ℤ, pos, List, [], ◌∷◌, Option, Some, None, All, map, Result, Ok, Err}
-use Rattle.std.specs.List.{filter_map}
+use Rattle.std.specs.Prelude.{◌≡◌, ℤ, pos, List, All, map, Ok, Err}
 use Rattle.pl_syntax.specs.declared.whole.Ast.{Ast}
 use Rattle.pl_model.specs.declared.whole.Model.{Model}
-use Rattle.pl_model.specs.declared.timelines.Timeline.{Timeline}
 use Rattle.pl_check.specs.declared.fault.ModelFault.{ModelFault}
 use Rattle.pl_check.specs.declared.fault.ModelFault.TheVariants as fault
-use Rattle.pl_check.specs.declared.drafts.DraftKind.{DraftKind}
 use Rattle.pl_check.specs.declared.drafts.Draft.{Draft}
-use Rattle.pl_check.specs.declared.drafts.Draft.TheVariants as draft
 use Rattle.pl_check.specs.Judgements.{Judged, ◌>>=◌, ◌>>◌}
 use Rattle.pl_check.specs.Names.{twice_in}
 use Rattle.pl_check.specs.Counts.{counts_in}

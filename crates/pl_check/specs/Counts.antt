@@ -1,5 +1,5 @@
 -- The row of counts that pass their limit.
-use Rattle.std.specs.Prelude.{◌≡◌, ℕ, ◌+◌, ◌-◌, nat_le, Bool, Option, Some, None, List, [], ◌∷◌, Result, Ok, Err, if◌then◌else◌}
+use Rattle.std.specs.Prelude.{ℕ, ◌+◌, ◌-◌, nat_le, Option, Some, None, List, [], ◌∷◌, Err, if◌then◌else◌}
 use Rattle.pl_syntax.specs.declared.whole.Ast.{Ast}
 use Rattle.pl_syntax.specs.declared.whole.Item.{Item}
 use Rattle.pl_syntax.specs.declared.whole.Item.TheVariants as item

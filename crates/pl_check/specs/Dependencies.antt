@@ -1,6 +1,6 @@
 -- The rows of parameters that depend on themselves, and of kinds that contain themselves.
-use Rattle.std.specs.Prelude.{◌≡◌, ℕ, ◌<◌, List, [], ◌∷◌, ◌++◌, Option, Some, map, take, slice_get, All}
-use Rattle.std.specs.List.{flat_map, filter_map}
+use Rattle.std.specs.Prelude.{◌≡◌, ℕ, List, [], ◌∷◌, ◌++◌, Some, map, take, slice_get, All}
+use Rattle.std.specs.List.{flat_map}
 use Rattle.pl_model.specs.declared.expressions.Expr.{Expr, fold-Expr}
 use Rattle.pl_model.specs.declared.expressions.Expr.TheOpen.{Expr-F}
 use Rattle.pl_model.specs.declared.parameters.Param.{Param}

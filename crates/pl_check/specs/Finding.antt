@@ -1,5 +1,5 @@
 -- What a name of the text names. Timelines and kinds are numbered from 0 in the order of the text, each sort by itself.
-use Rattle.std.specs.Prelude.{◌≡◌, ℕ, ◌+◌, Bool, true, false, ◌&&◌, List, [], ◌∷◌, Option, Some, None, map, take, count_by, bytes_eq, slice_get, option_and_then, option_map, Result, Ok, Err}
+use Rattle.std.specs.Prelude.{ℕ, Bool, true, false, ◌&&◌, List, Option, Some, None, map, take, count_by, bytes_eq, slice_get, option_and_then, Ok, Err}
 use Rattle.std.specs.List.{position_from}
 use Rattle.pl_syntax.specs.declared.whole.Item.{Item}
 use Rattle.pl_syntax.specs.declared.whole.Item.TheVariants as item

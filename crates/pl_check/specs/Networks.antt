@@ -1,5 +1,5 @@
 -- The network of an alternative, and what the model has beside the drafts: least durations and offsets.
-use Rattle.std.specs.Prelude.{◌≡◌, ℕ, zero, suc, ◌+◌, ◌*◌, ◌-◌, ◌<◌, ℤ, pos, negsuc, neg_ℤ, ◌≤ℤ◌, List, [], ◌∷◌, ◌++◌, Option, Some, None, All, length, slice_index_or, slice_index}
+use Rattle.std.specs.Prelude.{◌≡◌, ℕ, ◌+◌, ◌*◌, ◌-◌, ◌<◌, ℤ, pos, negsuc, neg_ℤ, ◌≤ℤ◌, List, [], ◌∷◌, ◌++◌, Option, Some, None, All, length, slice_index_or, slice_index}
 use Rattle.std.specs.Int.{int_min, int_max}
 use Rattle.pl_model.specs.declared.reservations.Point.{Point}
 use Rattle.pl_model.specs.declared.reservations.Point.TheVariants as point
@@ -9,10 +9,9 @@ use Rattle.pl_model.specs.declared.alternatives.Alternative.{Alternative}
 use Rattle.pl_model.specs.declared.kinds.Kind.{Kind}
 use Rattle.pl_stn.specs.declared.net.Edge.{Edge}
 use Rattle.pl_stn.specs.declared.net.Net.{Net}
-use Rattle.pl_stn.specs.Nets.{edges_to_origin, time_of, IsSolution, IsLeast, IsNegativeCycle, HasNoSolution}
+use Rattle.pl_stn.specs.Nets.{edges_to_origin, time_of, IsSolution, IsLeast}
 use Rattle.pl_check.specs.declared.drafts.DraftAlternative.{DraftAlternative}
 use Rattle.pl_check.specs.declared.drafts.DraftKind.{DraftKind}
-use Rattle.pl_check.specs.Names.{Name}
 use Rattle.pl_check.specs.Ranges.{duration_bounds}
 
 -- cut to the numbers from 1 to the horizon

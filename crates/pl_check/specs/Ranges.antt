@@ -1,5 +1,5 @@
 -- The row of numbers out of range, in the order of the text. The bounds of a duration stand at the end of its expression.
-use Rattle.std.specs.Prelude.{◌≡◌, ℕ, ℤ, pos, neg_ℤ, int_le, Bool, true, false, ◌&&◌, List, [], ◌∷◌, Option, Some, None, map, length, Result, Ok, Err}
+use Rattle.std.specs.Prelude.{ℕ, ℤ, pos, neg_ℤ, int_le, Bool, true, ◌&&◌, List, Some, None, map, length}
 use Rattle.pl_model.specs.declared.expressions.Expr.{Expr, fold-Expr}
 use Rattle.pl_model.specs.declared.expressions.Expr.TheOpen.{Expr-F}
 use Rattle.pl_model.specs.declared.parameters.Param.{Param}

@@ -1,5 +1,5 @@
 -- The row of alternatives without a schedule.
-use Rattle.std.specs.Prelude.{◌≡◌, ℕ, ℤ, List, Option, Some, All, take, slice_get}
+use Rattle.std.specs.Prelude.{◌≡◌, ℕ, ℤ, List, Some, All, take, slice_get}
 use Rattle.pl_stn.specs.declared.net.Net.{Net}
 use Rattle.pl_stn.specs.Nets.{IsSolution, IsNegativeCycle, HasNoSolution}
 use Rattle.pl_check.specs.declared.fault.ModelFault.{ModelFault}

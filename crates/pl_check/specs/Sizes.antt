@@ -1,5 +1,5 @@
 -- What holds of a tree whose counts keep their limits, as far as numbers must fit their types.
-use Rattle.std.specs.Prelude.{◌≡◌, ℕ, ◌≤◌, List, length, All, map}
+use Rattle.std.specs.Prelude.{◌≡◌, ◌≤◌, List, length, All, map}
 use Rattle.pl_syntax.specs.declared.whole.Item.{Item}
 use Rattle.pl_syntax.specs.declared.whole.Item.TheVariants as item
 use Rattle.pl_syntax.specs.declared.timelines.AstTimeline.{AstTimeline}

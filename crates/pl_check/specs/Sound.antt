@@ -1,8 +1,5 @@
 -- What the numbers of a draft name: the kind's own parameters, kinds of the model, slots of the alternative.
-use Rattle.std.specs.Prelude.{◌≡◌, ℕ, ◌<◌, ◌≤◌, ◌≤ℤ◌, pos, negsuc, List, Option, Some, None, length, All}
-use Rattle.pl_model.specs.declared.parameters.Param.{Param}
-use Rattle.pl_model.specs.declared.parameters.Origin.{Origin}
-use Rattle.pl_model.specs.declared.parameters.Origin.TheVariants.{Free, Dependent}
+use Rattle.std.specs.Prelude.{ℕ, ◌<◌, ◌≤◌, Option, Some, None, length, All}
 use Rattle.pl_model.specs.declared.alternatives.Slot.{Slot}
 use Rattle.pl_model.specs.declared.alternatives.Order.{Order}
 use Rattle.pl_model.specs.Values.{NamesBelow}

@@ -1,4 +1,4 @@
-use Rattle.std.proofs.Common.{◌≡◌, ◌∙◌, length, All, subst, sym, ap}
+use Rattle.std.proofs.Common.{◌≡◌, ◌∙◌, length, All, subst, sym}
 use Rattle.pl_check.specs.Drafting.{kinds_in}
 use Rattle.pl_check.specs.Sound.{IsSoundKind}
 use Rattle.pl_check.specs.Ranges.{NamesOwn}

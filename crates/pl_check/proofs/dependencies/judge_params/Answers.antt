@@ -1,4 +1,4 @@
-use Rattle.std.proofs.Common.{◌≡◌, ◌<◌, ◌≤◌, All, length, get_or, subst, arith}
+use Rattle.std.proofs.Common.{◌<◌, ◌≤◌, length, get_or, subst, arith}
 use Rattle.std.proofs.lemmas.List.Elements.{All-more}
 use Rattle.pl_check.specs.Dependencies.{IsWellFounded}
 use Rattle.pl_check.proofs.DependencyLemmas.{all_taken}

@@ -1,4 +1,4 @@
-use Rattle.std.proofs.Common.{◌≡◌, not, bytes_eq, ap, ◌∙◌, map}
+use Rattle.std.proofs.Common.{not, bytes_eq, ap, ◌∙◌, map}
 use Rattle.pl_check.specs.Names.{is_among}
 use Rattle.pl_check.proofs.NameLemmas.{any_map}
 use Rattle.pl_check.proofs.names.Names.add.Goals as goal

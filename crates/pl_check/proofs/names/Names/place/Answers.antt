@@ -1,4 +1,4 @@
-use Rattle.std.proofs.Common.{◌≡◌, bytes_eq, ap, ◌∙◌}
+use Rattle.std.proofs.Common.{bytes_eq, ap, ◌∙◌}
 use Rattle.pl_check.specs.Names.{place_of}
 use Rattle.pl_check.proofs.NameLemmas.{position_from_map}
 use Rattle.std.proofs.lemmas.Iterator.Adapters.{position_from-zero}
