@@ -9,7 +9,7 @@ use pl_points::{Change, PlainPoints, Quiet, Span, Steps};
 use rand_pcg::Pcg32;
 use std::alloc::{AllocError, Global};
 
-const MOST: i64 = 5;
+const MOST: i64 = 4;
 
 fn is_same(one: Use, other: Use) -> bool
     ensures { result ≡ same_use one other }
@@ -106,7 +106,7 @@ fn any_use(words: &mut Pcg32) -> Use
     Use {
         from,
         to: from + 1 + longer,
-        amount: i64::from(below(words, 4)),
+        amount: i64::from(below(words, 6)),
     }
 }
 
@@ -128,7 +128,7 @@ fn change(
 {
     match below(words, 5) {
         0 => go_on(line, moment, words),
-        1 | 2 => give_back(line, uses, words),
+        1 => give_back(line, uses, words),
         _ => take_more(line, uses, words),
     }
 }
