@@ -1,6 +1,6 @@
-use Rattle.std.proofs.Common.{◌≡◌, ◌<◌, suc, ◌∷◌, ◌++◌, take, drop, length, arith, ap, sym, ◌∙◌, refl, get_or, true, pos}
+use Rattle.std.proofs.Common.{◌≡◌, suc, ◌∷◌, drop, ap, sym, ◌∙◌, refl, get_or, true, pos}
 use Rattle.std.proofs.lemmas.List.{get_or_default}
-use Rattle.pl_points.specs.Standing.{without, stands}
+use Rattle.pl_points.specs.Standing.{stands}
 use Rattle.pl_points.proofs.Parting.{drop_next}
 use Rattle.pl_state.proofs.Orders.{without_at}
 use Rattle.pl_capacity.specs.declared.reservation.Use.{Use}
