@@ -1,20 +1,19 @@
 ghost use Rattle.std.specs.Prelude.{◌≡◌, ◌≤◌, ◌<◌, length, OnOk, IfOk, vec_len};
 
 use crate::places::place_of;
-use crate::report::{Times, show_found, show_times};
+use crate::report::{Cost, Found, nanos_each, show};
 use crate::spans::{Delta, push_piece};
 use anyhow::Result;
 use pl_capacity::Capacity;
 use pl_points::{PlainPoints, Quiet, Span, Steps};
 use std::alloc::{AllocError, Global};
-use std::rt::Clock;
-use std::time::Instant;
+use std::time::CpuClock;
 
 const SPACING: u32 = 100;
 
 const MOST: u16 = 10;
 
-const ROUNDS: u32 = 20;
+const ROUNDS: u32 = 40;
 
 /// A use as the plain list keeps it.
 #[derive(Clone, Copy)]
@@ -166,37 +165,91 @@ fn recomputed_twice(
     Ok(())
 }
 
+// Times the changes, and the recomputations.
+fn measure(
+    rt: &impl CpuClock,
+    alloc: Global,
+    line: &mut Capacity<PlainPoints>,
+    bookings: &mut Vec<Booking>,
+    count: u32,
+    changes: u32,
+) -> Result<Cost>
+    requires uses { length line.old.uses ≤ 10000 }
+    requires bookings { vec_len bookings.old ≤ 10000 }
+    requires some { 40 ≤ count }
+    requires few { count ≤ 10000 }
+    requires changes { changes ≤ count }
+    ensures { OnOk result (vec_len bookings.new ≡ vec_len bookings.old) }
+{
+    let start = rt.thread_cpu_time()?;
+    changed(line, count, changes)?;
+    let middle = rt.thread_cpu_time()?;
+    recomputed_twice(alloc, bookings, count, ROUNDS)?;
+    let end = rt.thread_cpu_time()?;
+    Ok(Cost {
+        change: nanos_each(start, middle, changes),
+        plain: nanos_each(middle, end, ROUNDS),
+    })
+}
+
+// Holds what the timeline tells against what is recomputed.
+fn compare(
+    alloc: Global,
+    line: &Capacity<PlainPoints>,
+    bookings: &[Booking],
+    horizon: u32,
+) -> Result<Found, AllocError>
+    requires { length bookings.now ≤ 10001 }
+{
+    let spans = recomputed(alloc, bookings, horizon)?;
+    Ok(Found {
+        count: spans.len(),
+        same: !line.spoiled() && line.spans() == spans.as_slice(),
+    })
+}
+
+// Changes, recomputes, and says what was found.
+fn try_out(
+    rt: &(impl Print + CpuClock),
+    alloc: Global,
+    line: &mut Capacity<PlainPoints>,
+    bookings: &mut Vec<Booking>,
+    count: u32,
+    changes: u32,
+    is_timed: bool,
+) -> Result<()>
+    requires uses { length line.old.uses ≤ 10000 }
+    requires bookings { vec_len bookings.old ≤ 10000 }
+    requires some { 40 ≤ count }
+    requires few { count ≤ 10000 }
+    requires changes { changes ≤ count }
+{
+    let cost = measure(rt, alloc, line, bookings, count, changes)?;
+    let found = compare(alloc, line, bookings, count * SPACING)?;
+    show(rt, "capacity", "spans", found, cost, is_timed)
+}
+
 /// Changes a capacity, recomputes beside it, and says what both found.
 pub fn run(
-    rt: &(impl Print + Clock),
+    rt: &(impl Print + CpuClock),
     alloc: Global,
     count: u32,
     changes: u32,
     is_timed: bool,
 ) -> Result<()>
-    requires some { 20 ≤ count }
+    requires some { 40 ≤ count }
     requires few { count ≤ 10000 }
     requires changes { changes ≤ count }
 {
     let mut line = filled(alloc, count)?;
-    let start = Instant::now(rt)?;
-    changed(&mut line, count, changes)?;
-    let changing = start.elapsed(rt)?;
     let mut bookings = listed(alloc, count)?;
-    let start = Instant::now(rt)?;
-    recomputed_twice(alloc, &mut bookings, count, ROUNDS)?;
-    let recomputing = start.elapsed(rt)?;
-    let spans = recomputed(alloc, &bookings, count * SPACING)?;
-    let same = !line.spoiled() && line.spans() == spans.as_slice();
-    show_found(rt, "capacity", "spans", spans.len(), same)?;
-    let times = Times {
+    try_out(
+        rt,
+        alloc,
+        &mut line,
+        &mut bookings,
+        count,
         changes,
-        changing,
-        recomputations: ROUNDS,
-        recomputing,
-    };
-    if is_timed {
-        show_times(rt, "capacity", times)?;
-    }
-    Ok(())
+        is_timed,
+    )
 }

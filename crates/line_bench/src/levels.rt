@@ -1,14 +1,13 @@
 ghost use Rattle.std.specs.Prelude.{◌≡◌, ◌≤◌, ◌<◌, length, OnOk, IfOk, vec_len};
 
 use crate::places::place_of;
-use crate::report::{Times, show_found, show_times};
+use crate::report::{Cost, Found, nanos_each, show};
 use crate::spans::{Delta, push_piece};
 use anyhow::Result;
 use pl_level::Level;
 use pl_points::{PlainPoints, Quiet, Span, Steps};
 use std::alloc::{AllocError, Global};
-use std::rt::Clock;
-use std::time::Instant;
+use std::time::CpuClock;
 
 const SPACING: u32 = 50;
 
@@ -18,7 +17,7 @@ const LEAST: u16 = 3;
 
 const MOST: u16 = 7;
 
-const ROUNDS: u32 = 20;
+const ROUNDS: u32 = 40;
 
 /// An effect as the plain list keeps it.
 #[derive(Clone, Copy)]
@@ -183,45 +182,85 @@ fn recomputed_twice(
     Ok(())
 }
 
+// Times the changes, and the recomputations.
+fn measure(
+    rt: &impl CpuClock,
+    alloc: Global,
+    line: &mut Level<PlainPoints>,
+    jumps: &mut Vec<Jump>,
+    count: u32,
+    changes: u32,
+) -> Result<Cost>
+    requires effects { length line.old.effects ≤ 20000 }
+    requires jumps { vec_len jumps.old ≤ 20000 }
+    requires some { 40 ≤ count }
+    requires few { count ≤ 20000 }
+    requires changes { changes ≤ count }
+    ensures { OnOk result (vec_len jumps.new ≡ vec_len jumps.old) }
+{
+    let start = rt.thread_cpu_time()?;
+    changed(line, count, changes)?;
+    let middle = rt.thread_cpu_time()?;
+    recomputed_twice(alloc, jumps, count, ROUNDS)?;
+    let end = rt.thread_cpu_time()?;
+    Ok(Cost {
+        change: nanos_each(start, middle, changes),
+        plain: nanos_each(middle, end, ROUNDS),
+    })
+}
+
+// Holds what the timeline tells against what is recomputed.
+fn compare(
+    alloc: Global,
+    line: &Level<PlainPoints>,
+    jumps: &[Jump],
+    horizon: u32,
+) -> Result<Found, AllocError>
+    requires { length jumps.now ≤ 20001 }
+{
+    let outside = recomputed(alloc, jumps, horizon)?;
+    let same_low = line.low_spans() == outside.low.as_slice();
+    let same_high = line.high_spans() == outside.high.as_slice();
+    Ok(Found {
+        count: outside.low.len().saturating_add(outside.high.len()),
+        same: !line.spoiled() && same_low && same_high,
+    })
+}
+
+// Changes, recomputes, and says what was found.
+fn try_out(
+    rt: &(impl Print + CpuClock),
+    alloc: Global,
+    line: &mut Level<PlainPoints>,
+    jumps: &mut Vec<Jump>,
+    count: u32,
+    changes: u32,
+    is_timed: bool,
+) -> Result<()>
+    requires effects { length line.old.effects ≤ 20000 }
+    requires jumps { vec_len jumps.old ≤ 20000 }
+    requires some { 40 ≤ count }
+    requires few { count ≤ 20000 }
+    requires changes { changes ≤ count }
+{
+    let cost = measure(rt, alloc, line, jumps, count, changes)?;
+    let found = compare(alloc, line, jumps, count * SPACING)?;
+    show(rt, "level", "spans", found, cost, is_timed)
+}
+
 /// Changes a level, recomputes beside it, and says what both found.
 pub fn run(
-    rt: &(impl Print + Clock),
+    rt: &(impl Print + CpuClock),
     alloc: Global,
     count: u32,
     changes: u32,
     is_timed: bool,
 ) -> Result<()>
-    requires some { 20 ≤ count }
+    requires some { 40 ≤ count }
     requires few { count ≤ 20000 }
     requires changes { changes ≤ count }
 {
     let mut line = filled(alloc, count)?;
-    let start = Instant::now(rt)?;
-    changed(&mut line, count, changes)?;
-    let changing = start.elapsed(rt)?;
     let mut jumps = listed(alloc, count)?;
-    let start = Instant::now(rt)?;
-    recomputed_twice(alloc, &mut jumps, count, ROUNDS)?;
-    let recomputing = start.elapsed(rt)?;
-    let outside = recomputed(alloc, &jumps, count * SPACING)?;
-    let same = !line.spoiled()
-        && line.low_spans() == outside.low.as_slice()
-        && line.high_spans() == outside.high.as_slice();
-    show_found(
-        rt,
-        "level",
-        "spans",
-        outside.low.len() + outside.high.len(),
-        same,
-    )?;
-    let times = Times {
-        changes,
-        changing,
-        recomputations: ROUNDS,
-        recomputing,
-    };
-    if is_timed {
-        show_times(rt, "level", times)?;
-    }
-    Ok(())
+    try_out(rt, alloc, &mut line, &mut jumps, count, changes, is_timed)
 }

@@ -1,40 +1,54 @@
 use anyhow::Result;
 use std::time::Duration;
 
-/// How many changes were made on a timeline and beside it, each an add and a remove, and how long they took.
+/// How many things a timeline tells, and whether the plain recomputation tells the same.
 #[derive(Clone, Copy)]
-pub struct Times {
-    pub changes: u32,
-    pub changing: Duration,
-    pub recomputations: u32,
-    pub recomputing: Duration,
+pub struct Found {
+    pub count: usize,
+    pub same: bool,
 }
 
-fn nanos_each(took: Duration, count: u32) -> u128 {
-    took.as_nanos() / u128::from(count.max(1))
+/// How many nanoseconds of the processor an add and a remove took, and how many it took to recompute for both.
+#[derive(Clone, Copy)]
+pub struct Cost {
+    pub change: u128,
+    pub plain: u128,
 }
 
-/// Says what was found, and whether the plain recomputation found the same.
-pub fn show_found(
-    rt: &impl Print,
-    name: &str,
-    found: &str,
-    count: usize,
-    same: bool,
-) -> Result<()> {
-    let word = if same { "as" } else { "NOT as" };
-    rt.println(format_args!("{name}: {count} {found}, {word} recomputed"))?;
+/// How many nanoseconds each of so many things took from one reading of the clock to the other.
+pub fn nanos_each(from: Duration, to: Duration, count: u32) -> u128 {
+    to.saturating_sub(from).as_nanos() / u128::from(count.max(1))
+}
+
+fn show_found(rt: &impl Print, name: &str, what: &str, found: Found) -> Result<()> {
+    let count = found.count;
+    let word = if found.same { "as" } else { "NOT as" };
+    rt.println(format_args!("{name}: {count} {what}, {word} recomputed"))?;
     Ok(())
 }
 
-/// Says how long an add and a remove took, and how long it took to recompute for each of them.
-pub fn show_times(rt: &impl Print, name: &str, times: Times) -> Result<()> {
-    let change = nanos_each(times.changing, times.changes);
-    let plain = nanos_each(times.recomputing, times.recomputations);
+fn show_cost(rt: &impl Print, name: &str, cost: Cost) -> Result<()> {
+    let Cost { change, plain } = cost;
     let tenths = plain.saturating_mul(10) / change.max(1);
     let (whole, rest) = (tenths / 10, tenths % 10);
     rt.println(format_args!(
         "{name}: {change} ns for an add and a remove, {plain} ns to recompute twice, {whole}.{rest} times as long"
     ))?;
+    Ok(())
+}
+
+/// Says what was found and, if asked, what it cost.
+pub fn show(
+    rt: &impl Print,
+    name: &str,
+    what: &str,
+    found: Found,
+    cost: Cost,
+    is_timed: bool,
+) -> Result<()> {
+    show_found(rt, name, what, found)?;
+    if is_timed {
+        show_cost(rt, name, cost)?;
+    }
     Ok(())
 }

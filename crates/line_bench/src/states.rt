@@ -1,12 +1,11 @@
-ghost use Rattle.std.specs.Prelude.{◌≡◌, ◌≤◌, ◌<◌, length, OnOk, IfOk, vec_len};
+ghost use Rattle.std.specs.Prelude.{◌≡◌, ◌≤◌, ◌<◌, ◌*◌};
 
 use crate::places::place_of;
-use crate::report::{Times, show_found, show_times};
+use crate::report::{Cost, Found, nanos_each, show};
 use anyhow::Result;
 use pl_state::{BadSet, BrokenMust, Must, Setting, StateLine};
 use std::alloc::{AllocError, Global};
-use std::rt::Clock;
-use std::time::Instant;
+use std::time::CpuClock;
 
 const SPACING: u32 = 100;
 
@@ -14,7 +13,7 @@ const START: u32 = 0;
 
 const STEPS: [(u32, u32); 3] = [(0, 1), (1, 2), (2, 0)];
 
-const ROUNDS: u32 = 20;
+const ROUNDS: u32 = 40;
 
 /// Where musts are broken, and the sets whose steps are not allowed.
 #[derive(Drop)]
@@ -49,13 +48,13 @@ fn must_at(place: u32) -> Must
     }
 }
 
-// A set between the one of its place and the next.
+// A set behind the one of a place, or half way to the next.
 fn extra_at(place: u32) -> Setting
-    requires { place < 10000 }
+    requires { place < 20000 }
     ensures { 1 ≤ result.at }
 {
     Setting {
-        at: place * SPACING + 61,
+        at: place * (SPACING / 2) + 11,
         id: place,
         index: 2,
         state: 1,
@@ -109,10 +108,10 @@ fn change(line: &mut StateLine, new: Setting) -> Result<(), AllocError>
 // Changes at so many of the places.
 fn changed(line: &mut StateLine, count: u32, changes: u32) -> Result<(), AllocError>
     requires count { count ≤ 10000 }
-    requires changes { changes ≤ count }
+    requires changes { changes ≤ 2 * count }
 {
     for index in 0..changes {
-        change(line, extra_at(place_of(index, count)))?;
+        change(line, extra_at(place_of(index, 2 * count)))?;
     }
     Ok(())
 }
@@ -233,7 +232,7 @@ fn recomputed_twice(
     requires rounds { rounds ≤ count }
 {
     for index in 0..rounds {
-        sets.push(extra_at(place_of(index, count)))?;
+        sets.push(extra_at(place_of(index, 2 * count)))?;
         recomputed(alloc, sets, musts, count * SPACING)?;
         sets.pop();
         recomputed(alloc, sets, musts, count * SPACING)?;
@@ -241,47 +240,91 @@ fn recomputed_twice(
     Ok(())
 }
 
+// Times the changes, and the recomputations.
+fn measure(
+    rt: &impl CpuClock,
+    alloc: Global,
+    line: &mut StateLine,
+    sets: &mut Vec<Setting>,
+    musts: &[Must],
+    count: u32,
+    changes: u32,
+) -> Result<Cost>
+    requires some { 40 ≤ count }
+    requires few { count ≤ 10000 }
+    requires changes { changes ≤ 2 * count }
+{
+    let start = rt.thread_cpu_time()?;
+    changed(line, count, changes)?;
+    let middle = rt.thread_cpu_time()?;
+    recomputed_twice(alloc, sets, musts, count, ROUNDS)?;
+    let end = rt.thread_cpu_time()?;
+    Ok(Cost {
+        change: nanos_each(start, middle, changes),
+        plain: nanos_each(middle, end, ROUNDS),
+    })
+}
+
+// Holds what the timeline tells against what is recomputed.
+fn compare(
+    alloc: Global,
+    line: &StateLine,
+    sets: &[Setting],
+    musts: &[Must],
+    horizon: u32,
+) -> Result<Found, AllocError> {
+    let broken = recomputed(alloc, sets, musts, horizon)?;
+    let same_musts = line.broken_musts() == broken.musts.as_slice();
+    let same_steps = line.bad_steps() == broken.steps.as_slice();
+    Ok(Found {
+        count: broken.musts.len().saturating_add(broken.steps.len()),
+        same: !line.spoiled() && same_musts && same_steps,
+    })
+}
+
+// Changes, recomputes, and says what was found.
+fn try_out(
+    rt: &(impl Print + CpuClock),
+    alloc: Global,
+    line: &mut StateLine,
+    sets: &mut Vec<Setting>,
+    musts: &[Must],
+    count: u32,
+    changes: u32,
+    is_timed: bool,
+) -> Result<()>
+    requires some { 40 ≤ count }
+    requires few { count ≤ 10000 }
+    requires changes { changes ≤ 2 * count }
+{
+    let cost = measure(rt, alloc, line, sets, musts, count, changes)?;
+    let found = compare(alloc, line, sets, musts, count * SPACING)?;
+    show(
+        rt,
+        "state",
+        "broken musts and steps not allowed",
+        found,
+        cost,
+        is_timed,
+    )
+}
+
 /// Changes a state timeline, recomputes beside it, and says what both found.
 pub fn run(
-    rt: &(impl Print + Clock),
+    rt: &(impl Print + CpuClock),
     alloc: Global,
     count: u32,
     changes: u32,
     is_timed: bool,
 ) -> Result<()>
-    requires some { 20 ≤ count }
+    requires some { 40 ≤ count }
     requires few { count ≤ 10000 }
-    requires changes { changes ≤ count }
+    requires changes { changes ≤ 2 * count }
 {
     let mut line = filled(alloc, count)?;
-    let start = Instant::now(rt)?;
-    changed(&mut line, count, changes)?;
-    let changing = start.elapsed(rt)?;
     let mut sets = listed_sets(alloc, count)?;
     let musts = listed_musts(alloc, count)?;
-    let start = Instant::now(rt)?;
-    recomputed_twice(alloc, &mut sets, &musts, count, ROUNDS)?;
-    let recomputing = start.elapsed(rt)?;
-    let broken = recomputed(alloc, &sets, &musts, count * SPACING)?;
-    let same = !line.spoiled()
-        && line.broken_musts() == broken.musts.as_slice()
-        && line.bad_steps() == broken.steps.as_slice();
-    let found = broken.musts.len() + broken.steps.len();
-    show_found(
-        rt,
-        "state",
-        "broken musts and steps not allowed",
-        found,
-        same,
-    )?;
-    let times = Times {
-        changes,
-        changing,
-        recomputations: ROUNDS,
-        recomputing,
-    };
-    if is_timed {
-        show_times(rt, "state", times)?;
-    }
-    Ok(())
+    try_out(
+        rt, alloc, &mut line, &mut sets, &musts, count, changes, is_timed,
+    )
 }
