@@ -15,12 +15,12 @@ const MOST: u16 = 10;
 
 const ROUNDS: u32 = 40;
 
-/// A use as the plain list keeps it.
+// A use as the plain list keeps it.
 #[derive(Clone, Copy)]
-pub struct Booking {
-    pub from: u32,
-    pub to: u32,
-    pub amount: u16,
+struct Booking {
+    from: u32,
+    to: u32,
+    amount: u16,
 }
 
 // The use of a place. Most of them reach into the next one's.

@@ -19,18 +19,18 @@ const MOST: u16 = 7;
 
 const ROUNDS: u32 = 40;
 
-/// An effect as the plain list keeps it.
+// An effect as the plain list keeps it.
 #[derive(Clone, Copy)]
-pub struct Jump {
-    pub at: u32,
-    pub by: i16,
+struct Jump {
+    at: u32,
+    by: i16,
 }
 
-/// The maximal spans below the least and above the most.
+// The maximal spans below the least and above the most.
 #[derive(Drop)]
-pub struct Outside {
-    pub low: Vec<Span>,
-    pub high: Vec<Span>,
+struct Outside {
+    low: Vec<Span>,
+    high: Vec<Span>,
 }
 
 // The effect at a place: up and back, down and back, in turn.

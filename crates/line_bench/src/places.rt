@@ -1,6 +1,6 @@
 ghost use Rattle.std.specs.Prelude.{◌≤◌, ◌<◌};
 
-/// The places below the count by an order that jumps about: each index has a place of its own, unless 7919 divides the count.
+/// The place of an index, by an order that jumps about. Each index has a place of its own, unless 7919 divides the count.
 pub fn place_of(index: u32, count: u32) -> u32
     requires some { index < count }
     requires few { count ≤ 20000 }

@@ -29,10 +29,10 @@ fn show_found(rt: &impl Print, name: &str, what: &str, found: Found) -> Result<(
 
 fn show_cost(rt: &impl Print, name: &str, cost: Cost) -> Result<()> {
     let Cost { change, plain } = cost;
-    let tenths = plain.saturating_mul(10) / change.max(1);
-    let (whole, rest) = (tenths / 10, tenths % 10);
+    let hundredths = plain.saturating_mul(100) / change.max(1);
+    let (whole, rest) = (hundredths / 100, hundredths % 100);
     rt.println(format_args!(
-        "{name}: {change} ns for an add and a remove, {plain} ns to recompute twice, {whole}.{rest} times as long"
+        "{name}: {change} ns for an add and a remove, {plain} ns to recompute twice, {whole}.{rest:02} times as long"
     ))?;
     Ok(())
 }

@@ -2,7 +2,7 @@ use pl_points::Span;
 use std::alloc::AllocError;
 
 /// A change of a sum from a moment on.
-#[derive(Clone, Copy, Debug, PartialEq, Eq)]
+#[derive(Clone, Copy)]
 pub struct Delta {
     pub at: u32,
     pub by: i32,

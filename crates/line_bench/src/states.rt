@@ -15,11 +15,11 @@ const STEPS: [(u32, u32); 3] = [(0, 1), (1, 2), (2, 0)];
 
 const ROUNDS: u32 = 40;
 
-/// Where musts are broken, and the sets whose steps are not allowed.
+// Where musts are broken, and the sets whose steps are not allowed.
 #[derive(Drop)]
-pub struct Broken {
-    pub musts: Vec<BrokenMust>,
-    pub steps: Vec<BadSet>,
+struct Broken {
+    musts: Vec<BrokenMust>,
+    steps: Vec<BadSet>,
 }
 
 // The set of a place. Each fifth takes a step that is not allowed.
