@@ -1,4 +1,4 @@
-use Rattle.std.proofs.Common.{◌*◌, ◌+◌, pos, neg_ℤ, ◌≤ℤ◌}
+use Rattle.std.proofs.Common.{◌*◌, pos, neg_ℤ, ◌≤ℤ◌}
 use Rattle.line_bench.proofs.capacities.recomputed.Given as goal
 
 abbrev pub invariant-loop-delta : goal.invariant-loop-delta
