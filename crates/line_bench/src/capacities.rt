@@ -106,7 +106,7 @@ fn deltas_of(alloc: Global, bookings: &[Booking]) -> Result<Vec<Delta>, AllocErr
     requires { length bookings.now ≤ 10001 }
     ensures { IfOk result (λ v. vec_len v ≤ 20002) }
 {
-    let mut deltas = Vec::new(alloc);
+    let mut deltas = Vec::with_capacity(alloc, 2 * bookings.len())?;
     for booking in bookings {
         let amount = i32::from(booking.amount);
         deltas.push(Delta {

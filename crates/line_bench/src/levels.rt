@@ -118,7 +118,7 @@ fn changed(line: &mut Level<PlainPoints>, count: u32, changes: u32) -> Result<()
 fn deltas_of(alloc: Global, jumps: &[Jump]) -> Result<Vec<Delta>, AllocError>
     ensures { IfOk result (λ v. vec_len v ≡ length jumps.now) }
 {
-    let mut deltas = Vec::new(alloc);
+    let mut deltas = Vec::with_capacity(alloc, jumps.len())?;
     for jump in jumps {
         deltas.push(Delta {
             at: jump.at,
