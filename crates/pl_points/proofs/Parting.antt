@@ -62,3 +62,16 @@ pub drop_next : {T : Type 0} (xs : List T) (i : ℕ) (d : T) → i < length xs �
 drop_next [] i d lt = absurd (omega (arith, lt))
 drop_next (x ∷ xs) zero d lt = refl
 drop_next (x ∷ xs) (suc i) d lt = drop_next xs i d (omega (arith, lt))
+
+-- Up to one that passes, where the next one fails, stand those that pass.
+pub last_passing : {T : Type 0} (p : T → Bool) (i : ℕ) (d : T) (xs : List T) → IsParted p xs → i < length xs → p (get_or xs i d) ≡ true → (suc i < length xs → p (get_or xs (suc i) d) ≡ false)
+    → (take (suc i) xs ≡ front p xs) × (drop (suc i) xs ≡ back p xs)
+last_passing p i d [] parted lt passes fails = absurd (omega (arith, lt))
+last_passing p zero d (x ∷ []) parted lt passes fails = (rw passes refl, rw passes refl)
+last_passing p zero d (x ∷ y ∷ xs) parted lt passes fails =
+    let next : p y ≡ false = fails (omega arith) in
+    (rw passes (rw next refl), rw passes (rw next refl))
+last_passing p (suc i) d (x ∷ xs) parted lt passes fails =
+    let first : p x ≡ true = parted_by p (x ∷ xs) parted 0 (suc i) d (omega arith) lt passes in
+    let more = last_passing p i d xs parted.1 (omega (arith, lt)) passes (λ h. fails (omega (arith, h))) in
+    (rw first (ap (λ l. x ∷ l) more.0), rw first more.1)

@@ -2,7 +2,7 @@ ghost use Rattle.std.specs.Prelude.{◌≡◌, IfOk};
 ghost use Rattle.pl_points.specs.Spans.{AreSpans};
 ghost use Rattle.pl_points.specs.Changes.{IsChange, left_out, is_among, same_span};
 
-use crate::cutting::begun_count;
+use crate::cutting::begun_near;
 use crate::span::{Change, Span};
 use pl_lists::Items;
 use std::alloc::{AllocError, Global};
@@ -13,11 +13,13 @@ fn is_same(one: Span, other: Span) -> bool
     one.from == other.from && one.to == other.to
 }
 
-fn contains(spans: &[Span], span: Span) -> bool
+// `near` is where the last one that was sought stood; it changes no answer.
+fn contains(spans: &[Span], span: Span, near: &mut usize) -> bool
     requires { AreSpans spans.now }
     ensures { result ≡ is_among spans.now span }
 {
-    let at = begun_count(spans, span.from);
+    let at = begun_near(spans, *near, span.from);
+    *near = at;
     if at == spans.len() {
         return false;
     }
@@ -30,8 +32,9 @@ fn missing_from(alloc: Global, others: &[Span], spans: &[Span]) -> Result<Vec<Sp
     ensures { IfOk result (λ v. v.items ≡ left_out others.now spans.now) }
 {
     let mut missing = Vec::new(alloc);
+    let mut near = 0;
     for span in spans {
-        if !contains(others, *span) {
+        if !contains(others, *span, &mut near) {
             missing.push(*span)?;
         }
     }

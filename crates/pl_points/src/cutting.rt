@@ -1,4 +1,4 @@
-ghost use Rattle.std.specs.Prelude.{◌≡◌, ◌≤◌, length, take, drop, OnOk, IfOk};
+ghost use Rattle.std.specs.Prelude.{◌≡◌, ◌<◌, ◌≤◌, true, suc, length, take, drop, OnOk, IfOk};
 ghost use Rattle.pl_points.specs.Spans.{AreSpans, joined};
 ghost use Rattle.pl_points.specs.Lists.{front, back};
 ghost use Rattle.pl_points.specs.Mending.{ends_before, ends_by, begins_before, reached, beyond, before, behind, cut_last};
@@ -28,13 +28,44 @@ fn passed_count(spans: &[Span], at: u32) -> usize
 }
 
 // How many spans begin before the moment.
-pub(crate) fn begun_count(spans: &[Span], at: u32) -> usize
+fn begun_count(spans: &[Span], at: u32) -> usize
     requires { AreSpans spans.now }
     ensures bound { result ≤ length spans.now }
     ensures before { take result spans.now ≡ front (begins_before at) spans.now }
     ensures rest { drop result spans.now ≡ back (begins_before at) spans.now }
 {
     spans.partition_point(|span| span.from < at)
+}
+
+// Whether the spans up to this place are those that begin before the moment.
+fn is_last_begun(spans: &[Span], place: usize, at: u32) -> bool
+    requires { AreSpans spans.now }
+    ensures bound { result ≡ true → place < length spans.now }
+    ensures rest { result ≡ true → drop (suc place) spans.now ≡ back (begins_before at) spans.now }
+{
+    if place >= spans.len() {
+        return false;
+    }
+    if spans[place].from >= at {
+        return false;
+    }
+    if place + 1 == spans.len() {
+        return true;
+    }
+    at <= spans[place + 1].from
+}
+
+// How many spans begin before the moment, found at once where `near` is the place of the last of them.
+pub(crate) fn begun_near(spans: &[Span], near: usize, at: u32) -> usize
+    requires { AreSpans spans.now }
+    ensures bound { result ≤ length spans.now }
+    ensures rest { drop result spans.now ≡ back (begins_before at) spans.now }
+{
+    if is_last_begun(spans, near, at) {
+        near + 1
+    } else {
+        begun_count(spans, at)
+    }
 }
 
 // How many spans there are up to and with the first that reaches past the moment.

@@ -31,6 +31,19 @@ pub trait Points: Drop {
         ensures ticks { steps.old < steps.new }
         ensures cost { steps.new ≤ steps.old + most_steps self.now };
 
+    /// The same, for a walk: `near` is the place where the last answer stood, and becomes that of this one. It is a
+    /// hint: it may be any number, and changes no answer.
+    fn next_from<L: Ledger>(
+        &self,
+        at: u32,
+        near: &mut usize,
+        steps: &mut Steps<L>,
+    ) -> Option<(u32, i64)>
+        ensures first { result ≡ first_from (points self.now) at }
+        ensures sound { ArePoints (points self.now) }
+        ensures ticks { steps.old < steps.new }
+        ensures cost { steps.new ≤ steps.old + most_steps self.now };
+
     /// The sum of all deltas at or before the moment.
     fn sum_to<L: Ledger>(&self, at: u32, steps: &mut Steps<L>) -> i64
         ensures sum { result ≡ sum_to (points self.now) at }
