@@ -1,0 +1,3 @@
+pub mod Bases
+pub mod Goals
+pub mod Places

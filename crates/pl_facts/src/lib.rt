@@ -1,0 +1,14 @@
+//! The facts that a plan answers to: goals, options, and the bases of level and state timelines.
+#![tactic(auto)]
+
+mod bases;
+mod goal;
+mod goals;
+mod options;
+#[cfg(test)]
+mod tests;
+
+pub use bases::Bases;
+pub use goal::Goal;
+pub use goals::Goals;
+pub use options::Options;
