@@ -42,10 +42,10 @@ first_none None later h = (refl, h)
 
 -- ---- walks
 
-first_edge : (graph : Graph) (start b : ℕ) → Contains (successors graph start) b → Reaches graph start b
+pub first_edge : (graph : Graph) (start b : ℕ) → Contains (successors graph start) b → Reaches graph start b
 first_edge graph start b edge = record { edges = 0; walk = (start, refl, edge) }
 
-one_more : (graph : Graph) (start a b : ℕ) → Reaches graph start a → Contains (successors graph a) b → Reaches graph start b
+pub one_more : (graph : Graph) (start a b : ℕ) → Reaches graph start a → Contains (successors graph a) b → Reaches graph start b
 one_more graph start a b r edge = record { edges = suc r.edges; walk = (a, r.walk, edge) }
 
 -- no vertex follows one that is no vertex

@@ -9,3 +9,11 @@ pub mod ScheduleLemmas
 pub mod AnswerLemmas
 pub mod JudgementLemmas
 pub mod AcceptanceLemmas
+pub mod PairLemmas
+pub mod RankLemmas
+pub mod ExpressionLemmas
+pub mod MadeLemmas
+pub mod NumberLemmas
+pub mod PartLemmas
+pub mod RankedLemmas
+pub mod StructureLemmas

@@ -18,22 +18,22 @@ use Rattle.pl_check.specs.Drafting.{kinds_in}
 use Rattle.pl_check.specs.Networks.{IsHorizon, IsNear, IsNearOrder, IsNearAlternative, IsNearKind}
 use Rattle.pl_check.proofs.SizeLemmas.{then_passes}
 
-test_passes : (b : Bool) (e : ModelFault) → unless b e ≡ pass → b ≡ true
+pub test_passes : (b : Bool) (e : ModelFault) → unless b e ≡ pass → b ≡ true
 test_passes true e h = refl
 test_passes false e h = absurd (cc)
 
-each_passes : {X : Type 0} (judge : X → Judgement) (xs : List X) → each judge xs ≡ pass → All (λ x. judge x ≡ pass) xs
+pub each_passes : {X : Type 0} (judge : X → Judgement) (xs : List X) → each judge xs ≡ pass → All (λ x. judge x ≡ pass) xs
 each_passes judge [] h = All-nil (λ x. judge x ≡ pass)
 each_passes judge (x ∷ xs) h = let both = then_passes (judge x) (each judge xs) tt h in All-cons (λ y. judge y ≡ pass) x xs both.0 (each_passes judge xs both.1)
 
-both_true : (a b : Bool) → (a && b) ≡ true → (a ≡ true) × (b ≡ true)
+pub both_true : (a b : Bool) → (a && b) ≡ true → (a ≡ true) × (b ≡ true)
 both_true true b h = (refl, h)
 both_true false b h = absurd (cc)
 
-le_from_test : (a b : ℤ) → int_le a b ≡ true → a ≤ℤ b
+pub le_from_test : (a b : ℤ) → int_le a b ≡ true → a ≤ℤ b
 le_from_test a b h = grind (arith, ints)
 
-between : (low high n : ℤ) → is_between low high n ≡ true → (low ≤ℤ n) × (n ≤ℤ high)
+pub between : (low high n : ℤ) → is_between low high n ≡ true → (low ≤ℤ n) × (n ≤ℤ high)
 unfolding is_between
 between low high n h = let both = both_true (int_le low n) (int_le n high) h in (le_from_test low n both.0, le_from_test n high both.1)
 
@@ -62,7 +62,7 @@ near_kind horizon h k p =
     All-weaker (λ a. range_in_alternative horizon a ≡ pass) IsNearAlternative (near_alternative horizon h) k.alternatives (each_passes (range_in_alternative horizon) k.alternatives links.1)
 
 -- what holds of each draft holds of the kinds among them
-of_kinds : (P : DraftKind → Type 0) (Q : Draft → Type 0) → ((k : DraftKind) → Q (draft.Kind k) → P k) → (drafts : List Draft) → All Q drafts → All P (kinds_in drafts)
+pub of_kinds : (P : DraftKind → Type 0) (Q : Draft → Type 0) → ((k : DraftKind) → Q (draft.Kind k) → P k) → (drafts : List Draft) → All Q drafts → All P (kinds_in drafts)
 of_kinds P Q f [] h = All-nil P
 of_kinds P Q f (draft.Timeline l ∷ ds) h = of_kinds P Q f ds (All-tail Q (draft.Timeline l) ds h)
 of_kinds P Q f (draft.Kind k ∷ ds) h = All-cons P k (kinds_in ds) (f k (All-head Q (draft.Kind k) ds h)) (of_kinds P Q f ds (All-tail Q (draft.Kind k) ds h))

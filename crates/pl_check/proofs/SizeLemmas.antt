@@ -29,7 +29,7 @@ pub not_too_many : (b : Bool) (e : ModelFault) (later : Judgement) → cond b (E
 not_too_many true e later h = absurd (cc)
 not_too_many false e later h = (refl, h)
 
-below_from_test : (a b : ℕ) → nat_le a b ≡ false → b + 1 ≤ a
+pub below_from_test : (a b : ℕ) → nat_le a b ≡ false → b + 1 ≤ a
 below_from_test a b h = grind (arith, nat_tests)
 
 module _ {X : Type 0} (limit : ℕ) (w : What) (judge : X → Judgement) where
@@ -44,7 +44,7 @@ module _ {X : Type 0} (limit : ℕ) (w : What) (judge : X → Judgement) where
   pub few : (xs : List X) → at_most limit w judge xs ≡ pass → (length xs ≤ limit) × All (λ x. judge x ≡ pass) xs
   few xs h = let found = few_from 0 xs (omega arith) h in (omega (arith, found.0), found.1)
 
-small_alternative : (a : AstAlternative) → counts_in_alternative a ≡ pass → IsSmallAlternative a
+pub small_alternative : (a : AstAlternative) → counts_in_alternative a ≡ pass → IsSmallAlternative a
 small_alternative a h =
     let both = then_passes (at_most 16 what.Slots counts_in_slot a.slots) (at_most 64 what.Orders counts_in_order a.orders) tt h in
     ((few 16 what.Slots counts_in_slot a.slots both.0).0, (few 64 what.Orders counts_in_order a.orders both.1).0)
@@ -62,7 +62,7 @@ small_kind k h =
       few_alternatives = alternatives.0;
     }
 
-small_line : (l : AstTimeline) → counts_in_line l ≡ pass → IsSmallLine l
+pub small_line : (l : AstTimeline) → counts_in_line l ≡ pass → IsSmallLine l
 small_line (line.Capacity name most) h = tt
 small_line (line.Level name least most start) h = tt
 small_line (line.States name states start any steps) h = (few 32 what.States counts_in_state states h).0

@@ -8,6 +8,7 @@ ghost use Rattle.pl_check.specs.Numbering.{numbered_items};
 ghost use Rattle.pl_check.specs.Sound.{IsSoundDraft};
 ghost use Rattle.pl_check.specs.Ranges.{range_in, NamesOwnIn};
 ghost use Rattle.pl_check.specs.Drafting.{lines_in, kinds_in};
+ghost use Rattle.pl_model.specs.Checked as model;
 ghost use Rattle.pl_check.specs.Checked.{drafted, AnswersDrafts, Answers, PassesEachRow, IsModelOrMemory, IsChecked};
 
 use crate::counts::count_all;
@@ -123,11 +124,12 @@ fn check_tree(alloc: Global, ast: &Ast) -> Result<Model, ModelFault>
 }
 
 /// The model of a tree where every check passes, else the first fault.
-#[tactic(auto, using(crate::proofs::AcceptanceLemmas::accepted))]
+#[tactic(auto, using(crate::proofs::AcceptanceLemmas::accepted, crate::proofs::StructureLemmas::answered_checked))]
 pub fn check(alloc: Global, ast: &Ast) -> Result<Model, ModelFault>
     ensures answers { Answers ast.now result }
     ensures accepted { PassesEachRow ast.now → IsModelOrMemory result }
     ensures checked { IfOk result IsChecked }
+    ensures sound { IfOk result model.IsChecked }
 {
     check_tree(alloc, ast)
 }

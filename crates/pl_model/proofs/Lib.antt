@@ -1,2 +1,4 @@
 pub mod Reaches
 pub mod Levels
+pub mod Induction
+pub mod Naming
