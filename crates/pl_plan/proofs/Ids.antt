@@ -1,5 +1,5 @@
 -- Where an id stands among activities of rising ids, and what a search for it finds.
-use Rattle.std.proofs.Common.{◌≡◌, ℕ, zero, suc, ◌+◌, ◌<◌, ◌≤◌, eqb, ltb, Bool, true, false, List, [], ◌∷◌, length, get_or, Option, Some, None, Result, Ok, Err, IfOk, IfErr, refl, sym, ap, ◌∙◌, cond, arith}
+use Rattle.std.proofs.Common.{◌≡◌, ℕ, zero, suc, ◌+◌, ◌<◌, ◌≤◌, eqb, ltb, Bool, true, false, List, [], ◌∷◌, length, get_or, drop, Option, Some, None, Result, Ok, Err, IfOk, IfErr, refl, sym, ap, ◌∙◌, cond, arith}
 use Rattle.std.specs.List.{insert, remove, AllWithin}
 use Rattle.std.specs.List.Sorted.{IsSearchInRange, IsBinarySearchResult, IsNonDecreasingBy}
 use Rattle.std.specs.Ordering.{nat_cmp, ordering_index}
@@ -7,7 +7,7 @@ use Rattle.std.proofs.lemmas.Cmp.{ranked}
 use Rattle.std.proofs.lemmas.Bool.{eq-eqb, ne_eqb, lt-ltb, le-ltb, ltb-true, ltb-false, eqb-false}
 use Rattle.std.proofs.lemmas.Bool.Decides.{nat_tests}
 use Rattle.pl_plan.specs.declared.activity.Activity.{Activity}
-use Rattle.pl_plan.specs.Activities.{RiseFrom, AreRising, activity_of, placed, without}
+use Rattle.pl_plan.specs.Activities.{RiseFrom, AreRising, activity_of, placed, without, behind}
 use Rattle.pl_plan.specs.Places.{IsPlaceOf, IsGapFor}
 
 -- ids do not lie below where they begin to rise
@@ -37,6 +37,14 @@ taken_at (x ∷ xs) c (suc i) id d rising lt is =
     let in_range : i < length xs = omega (arith, lt) in
     let above = rises_above xs (suc x.id) i d rising.1 in_range in
     rw (ne_eqb x.id id (λ e. omega (arith, above, is, e))) (ap (λ l. x ∷ l) (taken_at xs (suc x.id) i id d rising.1 in_range is))
+
+pub behind_at : (xs : List Activity) (c i id : ℕ) (d : Activity) → RiseFrom c xs → i < length xs → (get_or xs i d).id ≡ id → behind id xs ≡ drop (suc i) xs
+behind_at [] c i id d rising lt is = absurd (omega (arith, lt))
+behind_at (x ∷ xs) c zero id d rising lt is = rw (eq-eqb x.id id is) refl
+behind_at (x ∷ xs) c (suc i) id d rising lt is =
+    let in_range : i < length xs = omega (arith, lt) in
+    let above = rises_above xs (suc x.id) i d rising.1 in_range in
+    rw (ne_eqb x.id id (λ e. omega (arith, above, is, e))) (behind_at xs (suc x.id) i id d rising.1 in_range is)
 
 -- smaller ids before the place, and larger ones from it on
 record IsGap (id : ℕ) (xs : List Activity) (at : ℕ) : Type 0 where
@@ -77,6 +85,9 @@ put_in_gap id [] (suc at) gap a is = absurd (omega (arith, gap.in_range))
 put_in_gap id (x ∷ xs) zero gap a is = rw (le-ltb x.id a.id (omega (arith, gap.behind 0 x (omega arith) (omega arith), is))) refl
 put_in_gap id (x ∷ xs) (suc at) gap a is = rw (lt-ltb x.id a.id (omega (arith, gap.before 0 x (omega arith), is))) (ap (λ l. x ∷ l) (put_in_gap id xs at (gap_tail id x xs at gap) a is))
 
+no_activity : Activity
+no_activity = record { id = 0; kind = 0; start = 0; parent = None; goal = None; detail = None; set = [] }
+
 module _ (xs : List Activity) (rising : AreRising xs) (id : ℕ) where
   comparisons_rise : IsNonDecreasingBy (λ a. ordering_index (nat_cmp a.id id)) xs
   comparisons_rise i j d le in_range =
@@ -90,13 +101,12 @@ module _ (xs : List Activity) (rising : AreRising xs) (id : ℕ) where
         found = record {
           in_range = in_range;
           here = λ d. found_at xs 0 at id d rising in_range (is d);
-          taken = taken_from is;
+          is = is;
+          rest = let d = no_activity in behind_at xs 0 at id d rising in_range (is d);
+          taken = let d = no_activity in taken_at xs 0 at id d rising in_range (is d);
         };
         absent = tt;
       }
-    where
-      taken_from : ((d : Activity) → (get_or xs at d).id ≡ id) → without id xs ≡ remove xs at
-      taken_from is = let d : Activity = record { id = 0; kind = 0; start = 0; parent = None; goal = None; detail = None; set = [] } in taken_at xs 0 at id d rising in_range (is d)
   searched (Err at) in_range parted =
       let gap : IsGap id xs at = record {
         in_range = in_range;

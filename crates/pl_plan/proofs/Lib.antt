@@ -1,1 +1,3 @@
 pub mod Ids
+pub mod Climbs
+pub mod Subtrees

@@ -29,3 +29,8 @@ placed a (x ∷ more) = if nat_lt x.id a.id then x ∷ placed a more else a ∷ 
 abbrev pub without : ℕ → List Activity → List Activity
 without id [] = []
 without id (a ∷ more) = if a.id == id then more else a ∷ without id more
+
+-- the activities behind the one of this id
+abbrev pub behind : ℕ → List Activity → List Activity
+behind id [] = []
+behind id (a ∷ more) = if a.id == id then more else behind id more

@@ -4,6 +4,7 @@
 mod activity;
 mod plan;
 mod repair;
+mod trees;
 
 pub use activity::Activity;
 pub use plan::Plan;

@@ -2,7 +2,7 @@ ghost use Rattle.std.specs.Prelude.{◌≡◌, ◌<◌, ◌≤◌, [], ◌++◌,
 ghost use Rattle.std.specs.List.{insert, remove};
 ghost use Rattle.std.specs.Option.{option_copied};
 ghost use Rattle.pl_plan.specs.declared.activity.Activity.{Activity};
-ghost use Rattle.pl_plan.specs.Activities.{AreRising, activity_of, placed, without};
+ghost use Rattle.pl_plan.specs.Activities.{AreRising, IsLive, activity_of, placed, without, behind};
 ghost use Rattle.pl_plan.specs.Places.{IsPlaceOf, IsGapFor};
 
 use crate::activity::Activity;
@@ -86,6 +86,27 @@ impl Plan {
         ensures { option_copied result ≡ slice_get self.now place }
     {
         self.activities.get(place as usize)
+    }
+
+    // Where the activity of this id is.
+    pub(crate) fn place(&self, id: u32) -> usize
+        requires { IsLive id self.now }
+        ensures { IsPlaceOf id self.now result }
+    {
+        match self.search(id) {
+            Ok(at) => at,
+            Err(_) => unreachable!(),
+        }
+    }
+
+    // The activities behind the one of this id.
+    pub(crate) fn behind(&self, id: u32) -> &[Activity]
+        requires { IsLive id self.now }
+        ensures rest { result.now ≡ behind id self.now }
+        ensures rising { AreRising self.now }
+    {
+        let at = self.place(id);
+        &self.activities[at + 1..]
     }
 
     // Where the activity of this id is, or where it would go.
