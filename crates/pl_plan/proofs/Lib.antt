@@ -1,3 +1,5 @@
 pub mod Ids
 pub mod Climbs
 pub mod Subtrees
+pub mod ValueSteps
+pub mod FirmSteps

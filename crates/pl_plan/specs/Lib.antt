@@ -1,3 +1,6 @@
 pub mod Activities
 pub mod Places
 pub mod Trees
+pub mod Fitting
+pub mod Values
+pub mod Firm

@@ -2,9 +2,13 @@
 #![tactic(auto)]
 
 mod activity;
+mod firmness;
 mod plan;
 mod repair;
+mod row;
+mod settling;
 mod trees;
+mod values;
 
 pub use activity::Activity;
 pub use plan::Plan;

@@ -88,6 +88,13 @@ impl Plan {
         self.activities.get(place as usize)
     }
 
+    pub(crate) fn activities(&self) -> &[Activity]
+        ensures value { result.now ≡ self.now }
+        ensures rising { AreRising self.now }
+    {
+        &self.activities
+    }
+
     // Where the activity of this id is.
     pub(crate) fn place(&self, id: u32) -> usize
         requires { IsLive id self.now }
