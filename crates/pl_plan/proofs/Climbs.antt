@@ -1,12 +1,11 @@
 -- Parents, and what a rule comes to along them.
-use Rattle.std.proofs.Common.{◌≡◌, ℕ, zero, suc, ◌<◌, ◌≤◌, eqb, Bool, true, false, List, [], ◌∷◌, length, Option, Some, None, IfSome, IsSome, refl, sym, ap, ◌∙◌, subst, arith}
+use Rattle.std.proofs.Common.{◌≡◌, ℕ, zero, suc, ◌<◌, ◌≤◌, eqb, Bool, true, false, List, [], ◌∷◌, Option, Some, None, IfSome, refl, ap, subst, arith}
 use Rattle.std.specs.Prelude.{All}
-use Rattle.std.specs.Option.{option_map, option_and_then}
 use Rattle.std.proofs.lemmas.List.Elements.{All-head, All-tail}
 use Rattle.std.proofs.lemmas.Bool.{eqb-true}
 use Rattle.pl_plan.specs.declared.activity.Activity.{Activity}
 use Rattle.pl_plan.specs.Activities.{activity_of, IsLive}
-use Rattle.pl_plan.specs.Trees.{IsParented, IsRooted, parent_id, parent_in, parent_of, climbed, climb}
+use Rattle.pl_plan.specs.Trees.{IsParented, IsRooted, parent_id, parent_of, climbed, climb}
 
 -- what holds of all activities holds of the one of an id
 pub all_at : (P : Activity → Type 0) (xs : List Activity) (id : ℕ) (a : Activity) → All P xs → activity_of id xs ≡ Some a → P a × (a.id ≡ id)

@@ -1,9 +1,8 @@
 -- What a checked kind knows of its amounts, and firmness from the kind and the values.
-use Rattle.std.proofs.Common.{◌≡◌, ℕ, ◌<◌, List, length, Option, Some, None, IfSome, refl, sym, ap, ◌∙◌, subst}
-use Rattle.std.specs.Prelude.{All, Bool, slice_get, option_and_then}
+use Rattle.std.proofs.Common.{◌≡◌, ℕ, List, length, Some, IfSome, sym, ap, ◌∙◌, subst}
+use Rattle.std.specs.Prelude.{All, slice_get, option_and_then}
 use Rattle.std.proofs.lemmas.Option.{slice_get_within, get_or_from_slice_get}
 use Rattle.std.proofs.lemmas.List.Elements.{All-weaker}
-use Rattle.pl_model.specs.declared.expressions.Expr.{Expr}
 use Rattle.pl_model.specs.declared.reservations.Reservation.{Reservation}
 use Rattle.pl_model.specs.declared.reservations.Reservation.TheVariants.{Take, Raise, Lower, Put, Must}
 use Rattle.pl_model.specs.declared.timelines.Timeline.{Timeline}

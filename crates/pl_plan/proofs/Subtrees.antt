@@ -1,14 +1,14 @@
 -- Children and subtrees of activities of rising ids.
-use Rattle.std.proofs.Common.{◌≡◌, ◌≢◌, ℕ, zero, suc, ◌<◌, ◌≤◌, eqb, Bool, true, false, cond, List, [], ◌∷◌, ◌++◌, length, get_or, drop, take, map, Option, Some, None, IsSome, IfSome, refl, sym, ap, ◌∙◌, subst, arith, append_assoc, append-nil, ⊎_elim}
+use Rattle.std.proofs.Common.{◌≡◌, ℕ, zero, suc, ◌<◌, ◌≤◌, eqb, Bool, true, false, cond, List, [], ◌∷◌, ◌++◌, map, Option, Some, None, IsSome, IfSome, refl, sym, ap, ◌∙◌, subst, arith, append_assoc, append-nil, ⊎_elim}
 use Rattle.std.proofs.lemmas.List.{map-append}
-use Rattle.std.specs.Prelude.{All, filter, ◌||◌}
+use Rattle.std.specs.Prelude.{All, filter}
 use Rattle.std.specs.List.{list_any}
-use Rattle.std.proofs.lemmas.Bool.{eq-eqb, ne_eqb, eqb-true, eqb-false, cases_lt}
+use Rattle.std.proofs.lemmas.Bool.{eq-eqb, ne_eqb, eqb-true, cases_lt}
 use Rattle.std.proofs.lemmas.List.Elements.{filter-append, All-head, All-tail, All-weaker}
 use Rattle.pl_plan.specs.declared.activity.Activity.{Activity}
 use Rattle.pl_plan.specs.Activities.{RiseFrom, AreRising, activity_of, IsLive, behind}
-use Rattle.pl_plan.specs.Trees.{id_of, IsParented, IsRooted, parent_id, parent_of, climb, names_parent, is_child, children_of, descent_rule, descends, subtree_of, is_among, grown, Descends, itself, child}
-use Rattle.pl_plan.proofs.Climbs.{all_at, parent_smaller, climb_root, climb_child}
+use Rattle.pl_plan.specs.Trees.{id_of, IsParented, IsRooted, parent_id, parent_of, names_parent, is_child, children_of, descent_rule, descends, subtree_of, is_among, grown}
+use Rattle.pl_plan.proofs.Climbs.{parent_smaller, climb_root, climb_child}
 
 -- ---- ids that rise
 

@@ -1,15 +1,14 @@
 -- The values of an activity's parameters, from those of its parent.
-use Rattle.std.proofs.Common.{◌≡◌, ℕ, List, [], Option, Some, None, refl, ap, ◌∙◌}
-use Rattle.std.specs.Prelude.{unwrap_or}
+use Rattle.std.proofs.Common.{◌≡◌, ℕ, List, [], Some, None, refl, ap, ◌∙◌}
 use Rattle.pl_model.specs.declared.expressions.Expr.{Expr}
 use Rattle.pl_model.specs.declared.parameters.Param.{Param}
 use Rattle.pl_model.specs.declared.whole.Model.{Model}
 use Rattle.pl_model.specs.Checked.{params_of}
 use Rattle.pl_plan.specs.declared.activity.Activity.{Activity}
 use Rattle.pl_plan.specs.Activities.{activity_of}
-use Rattle.pl_plan.specs.Trees.{IsRooted, parent_id, parent_of, climb}
+use Rattle.pl_plan.specs.Trees.{IsRooted, parent_id, parent_of}
 use Rattle.pl_plan.specs.Fitting.{kind_of}
-use Rattle.pl_plan.specs.Values.{Row, bindings_at, settled, values_in, values_rule, values_of}
+use Rattle.pl_plan.specs.Values.{Row, bindings_at, settled, values_rule, values_of}
 use Rattle.pl_plan.proofs.Climbs.{climb_root, climb_child}
 
 module _ (model : Model) (xs : List Activity) (rooted : IsRooted xs) (id : ℕ) (a : Activity) (here : activity_of id xs ≡ Some a) where

@@ -4,3 +4,4 @@ pub mod Trees
 pub mod Fitting
 pub mod Values
 pub mod Firm
+pub mod Laws

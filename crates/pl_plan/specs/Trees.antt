@@ -1,9 +1,9 @@
 -- How activities stand in trees: each may have a parent.
-use Rattle.std.specs.Prelude.{◌≡◌, ℕ, zero, suc, ◌<◌, ◌==◌, ◌||◌, Bool, true, false, List, [], ◌∷◌, ◌++◌, map, filter, All, Option, Some, None, IfSome, unwrap_or, option_and_then, if◌then◌else◌}
+use Rattle.std.specs.Prelude.{◌≡◌, ℕ, zero, suc, ◌<◌, ◌==◌, ◌||◌, Bool, false, List, [], ◌∷◌, ◌++◌, map, filter, All, Option, Some, None, IfSome, unwrap_or, option_and_then, if◌then◌else◌}
 use Rattle.std.specs.Option.{option_map}
 use Rattle.std.specs.List.{list_any}
 use Rattle.pl_plan.specs.declared.activity.Activity.{Activity}
-use Rattle.pl_plan.specs.Activities.{activity_of, IsLive, behind}
+use Rattle.pl_plan.specs.Activities.{activity_of, IsLive}
 
 abbrev pub id_of : Activity → ℕ
 id_of a = a.id

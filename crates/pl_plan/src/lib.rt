@@ -3,6 +3,7 @@
 
 mod activity;
 mod firmness;
+mod laws;
 mod plan;
 mod repair;
 mod row;
@@ -11,5 +12,6 @@ mod trees;
 mod values;
 
 pub use activity::Activity;
+pub use laws::{laws_of_trees, laws_of_values};
 pub use plan::Plan;
 pub use repair::RepairMove;

@@ -1,4 +1,4 @@
-use Rattle.std.proofs.Common.{◌≡◌, IfOk, subst, ap, sym, ◌∙◌}
+use Rattle.std.proofs.Common.{◌≡◌, IfOk, subst, ap, ◌∙◌}
 use Rattle.pl_plan.specs.Trees.{children_of}
 use Rattle.pl_plan.proofs.Subtrees.{children_of-behind}
 use Rattle.pl_plan.proofs.plan.Plan.children.Goals as goal

@@ -1,4 +1,4 @@
-use Rattle.std.proofs.Common.{◌≡◌, ◌+◌, ◌<◌, length, ap, Some, None, sym, ◌∙◌, subst, arith, rules}
+use Rattle.std.proofs.Common.{◌≡◌, ◌<◌, length, ap, sym, subst, arith, rules}
 use Rattle.pl_plan.specs.Activities.{AreRising, placed}
 use Rattle.pl_plan.proofs.Ids.{rising-placed, length-placed}
 use Rattle.pl_plan.proofs.plan.Plan.put.Goals as goal

@@ -1,6 +1,6 @@
-use Rattle.std.proofs.Common.{◌≡◌, ◌<◌, sym, ◌∙◌}
-use Rattle.pl_plan.specs.Trees.{root_rule, root_of, parent_of}
-use Rattle.pl_plan.proofs.Climbs.{parent_smaller, climb_root, climb_child}
+use Rattle.std.proofs.Common.{sym, ◌∙◌}
+use Rattle.pl_plan.specs.Trees.{root_rule}
+use Rattle.pl_plan.proofs.Climbs.{parent_smaller, climb_child}
 use Rattle.pl_plan.proofs.plan.Plan.root.Goals as goal
 
 pub loop-parent-smaller : goal.loop-parent-smaller

@@ -1,5 +1,4 @@
 use Rattle.std.proofs.Common.{◌≡◌}
-use Rattle.pl_plan.specs.Activities.{IsLive}
 use Rattle.pl_plan.specs.Trees.{root_of}
 use Rattle.pl_plan.proofs.plan.Plan.root.Given as goal
 

@@ -1,4 +1,4 @@
-use Rattle.std.proofs.Common.{◌≡◌, [], ◌∷◌, subst, ap, sym, ◌∙◌, rules}
+use Rattle.std.proofs.Common.{◌≡◌, [], ◌∷◌, ◌∙◌, rules}
 use Rattle.pl_plan.specs.Activities.{behind}
 use Rattle.pl_plan.specs.Trees.{grown}
 use Rattle.pl_plan.proofs.Subtrees.{subtree_grown}

@@ -1,4 +1,4 @@
-use Rattle.std.proofs.Common.{◌≡◌, ◌<◌, ◌≤◌, length, ap, sym, ◌∙◌, subst, arith, rules}
+use Rattle.std.proofs.Common.{◌≡◌, ◌<◌, length, ap, sym, subst, arith, rules}
 use Rattle.pl_plan.specs.Activities.{AreRising, without}
 use Rattle.pl_plan.proofs.Ids.{rising-without, length-without}
 use Rattle.pl_plan.proofs.plan.Plan.take.Goals as goal
