@@ -1,10 +1,10 @@
 -- Where an id stands among activities of rising ids, and what a search for it finds.
-use Rattle.std.proofs.Common.{◌≡◌, ℕ, zero, suc, ◌+◌, ◌<◌, ◌≤◌, eqb, ltb, Bool, true, false, List, [], ◌∷◌, length, get_or, drop, Some, None, Result, Ok, Err, IfOk, IfErr, refl, sym, ap, arith}
-use Rattle.std.specs.List.{insert, remove}
+use Rattle.std.proofs.Common.{◌≡◌, ◌≢◌, ⊎_elim, ℕ, zero, suc, ◌+◌, ◌<◌, ◌≤◌, eqb, ltb, Bool, true, false, List, [], ◌∷◌, length, get_or, drop, Some, None, Result, Ok, Err, IfOk, IfErr, refl, sym, ap, arith}
+use Rattle.std.specs.List.{All, insert, remove}
 use Rattle.std.specs.List.Sorted.{IsSearchInRange, IsBinarySearchResult, IsNonDecreasingBy}
 use Rattle.std.specs.Ordering.{nat_cmp, ordering_index}
 use Rattle.std.proofs.lemmas.Cmp.{ranked}
-use Rattle.std.proofs.lemmas.Bool.{eq-eqb, ne_eqb, lt-ltb, le-ltb, ltb-true, ltb-false, eqb-false}
+use Rattle.std.proofs.lemmas.Bool.{cases_lt, eq-eqb, ne_eqb, lt-ltb, le-ltb, ltb-true, ltb-false, eqb-false}
 use Rattle.std.proofs.lemmas.Bool.Decides.{nat_tests}
 use Rattle.pl_plan.specs.declared.activity.Activity.{Activity}
 use Rattle.pl_plan.specs.Activities.{RiseFrom, AreRising, activity_of, placed, without, behind}
@@ -79,6 +79,9 @@ without_none id (x ∷ xs) none = cases (eqb x.id id) refl (without_none id xs)
     cases true e more = let found : Some x ≡ None = rw e at none in absurd (cc)
     cases false e more = let rest : activity_of id xs ≡ None = rw e at none in rw e (ap (λ l. x ∷ l) (more rest))
 
+absent_in_gap : (id : ℕ) (xs : List Activity) (at : ℕ) → IsGap id xs at → All (λ a. a.id ≢ id) xs
+absent_in_gap id xs at gap k d lt is = ⊎_elim (λ (before : k < at). let less = gap.before k d before in omega (arith, less, is)) (λ (behind : at ≤ k). let more = gap.behind k d behind lt in omega (arith, more, is)) (cases_lt k at)
+
 put_in_gap : (id : ℕ) (xs : List Activity) (at : ℕ) → IsGap id xs at → (a : Activity) → a.id ≡ id → placed a xs ≡ insert xs at a
 put_in_gap id [] zero gap a is = refl
 put_in_gap id [] (suc at) gap a is = absurd (omega (arith, gap.in_range))
@@ -101,6 +104,7 @@ module _ (xs : List Activity) (rising : AreRising xs) (id : ℕ) where
         found = record {
           in_range = in_range;
           here = λ d. found_at xs 0 at id d rising in_range (is d);
+          present = λ all. let d = no_activity in all at d in_range (is d);
           is = is;
           rest = let d = no_activity in behind_at xs 0 at id d rising in_range (is d);
           taken = let d = no_activity in taken_at xs 0 at id d rising in_range (is d);
@@ -118,6 +122,7 @@ module _ (xs : List Activity) (rising : AreRising xs) (id : ℕ) where
         absent = record {
           in_range = in_range;
           none = none_in_gap id xs at gap;
+          absent = absent_in_gap id xs at gap;
           same = without_none id xs (none_in_gap id xs at gap);
           put = put_in_gap id xs at gap;
         };

@@ -6,3 +6,4 @@ pub mod FirmSteps
 pub mod Rounds
 pub mod TreeLaws
 pub mod ValueLaws
+pub mod SampleLemmas

@@ -5,3 +5,4 @@ pub mod Fitting
 pub mod Values
 pub mod Firm
 pub mod Laws
+pub mod Samples

@@ -1,4 +1,4 @@
-ghost use Rattle.std.specs.Prelude.{◌≡◌, ◌+◌, ◌<◌, ◌≤◌, ◌^◌, length, All, IfSome};
+ghost use Rattle.std.specs.Prelude.{◌≡◌, ◌↔◌, IsNone, false, ◌+◌, ◌<◌, ◌≤◌, ◌^◌, length, All, IfSome};
 ghost use Rattle.std.specs.List.{list_all};
 ghost use Rattle.pl_model.specs.Values.{NamesBelow};
 ghost use Rattle.pl_model.specs.Checked.{IsChecked, IsCheckedKind, IsReservation};
@@ -30,7 +30,8 @@ impl Plan {
         requires checked { IsChecked model.now }
         requires fits { Fits model.now self.now }
         requires live { IsLive id self.now }
-        ensures { result ≡ end_of model.now self.now id }
+        ensures value { result ≡ end_of model.now self.now id }
+        ensures none { IsNone result ↔ (is_firm model.now self.now id ≡ false) }
     {
         let activity = self.fitted(model, id);
         let kind = kind_in(model, activity);
@@ -119,7 +120,8 @@ fn end_from(horizon: u32, kind: &Kind, start: u32, values: &[Option<i64>]) -> Op
     requires kind { NamesBelow (length values.now) kind.now.duration }
     requires amounts { All (λ r. IfSome (amount_of r) (NamesBelow (length values.now))) kind.now.reservations }
     requires values { length values.now ≡ length kind.now.params }
-    ensures { result ≡ end_with horizon kind.now start values.now }
+    ensures value { result ≡ end_with horizon kind.now start values.now }
+    ensures none { IsNone result ↔ (is_firm_with horizon kind.now values.now ≡ false) }
 {
     if !is_firm(horizon, kind, values) {
         return None;

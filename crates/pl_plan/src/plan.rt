@@ -1,4 +1,4 @@
-ghost use Rattle.std.specs.Prelude.{◌≡◌, ◌<◌, ◌≤◌, [], ◌++◌, length, slice_get, slice_index_or, OnOk, OnErr, IfOk, IfErr, Some, None};
+ghost use Rattle.std.specs.Prelude.{◌≡◌, ◌≢◌, ◌↔◌, All, IsNone, ◌<◌, ◌≤◌, [], ◌++◌, length, slice_get, slice_index_or, OnOk, OnErr, IfOk, IfErr, Some, None};
 ghost use Rattle.std.specs.List.{insert, remove};
 ghost use Rattle.std.specs.Option.{option_copied};
 ghost use Rattle.pl_plan.specs.declared.activity.Activity.{Activity};
@@ -56,6 +56,7 @@ impl Plan {
     /// Takes the activity of this id out.
     pub fn take(&mut self, id: u32) -> Option<Activity>
         ensures value { result ≡ activity_of id self.old }
+        ensures none { IsNone result ↔ All (λ a. a.id ≢ id) self.old }
         ensures after { self.new ≡ without id self.old }
     {
         match self.search(id) {
@@ -66,7 +67,8 @@ impl Plan {
 
     /// The activity of this id.
     pub fn get(&self, id: u32) -> Option<&Activity>
-        ensures { option_copied result ≡ activity_of id self.now }
+        ensures value { option_copied result ≡ activity_of id self.now }
+        ensures none { IsNone result ↔ All (λ a. a.id ≢ id) self.now }
     {
         match self.search(id) {
             Ok(at) => Some(&self.activities[at]),
@@ -83,7 +85,8 @@ impl Plan {
 
     /// The activity at this place by rising id, places counted from 0.
     pub fn nth(&self, place: u32) -> Option<&Activity>
-        ensures { option_copied result ≡ slice_get self.now place }
+        ensures value { option_copied result ≡ slice_get self.now place }
+        ensures none { IsNone result ↔ (length self.now ≤ place) }
     {
         self.activities.get(place as usize)
     }
