@@ -7,3 +7,4 @@ pub mod Rounds
 pub mod TreeLaws
 pub mod ValueLaws
 pub mod SampleLemmas
+pub mod Members

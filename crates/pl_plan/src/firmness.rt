@@ -1,14 +1,15 @@
 ghost use Rattle.std.specs.Prelude.{◌≡◌, ◌↔◌, IsNone, false, ◌+◌, ◌<◌, ◌≤◌, ◌^◌, length, All, IfSome};
 ghost use Rattle.std.specs.List.{list_all};
+ghost use Rattle.std.specs.Option.{option_copied};
 ghost use Rattle.pl_model.specs.Values.{NamesBelow};
-ghost use Rattle.pl_model.specs.Checked.{IsChecked, IsCheckedKind, IsReservation};
+ghost use Rattle.pl_model.specs.Checked.{IsChecked};
 ghost use Rattle.pl_plan.specs.Activities.{IsLive};
 ghost use Rattle.pl_plan.specs.Fitting.{Fits};
 ghost use Rattle.pl_plan.specs.Firm.{is_within, are_in_range, amount_of, has_amount, moments_in, duration_in, is_firm_with, end_with, is_firm, end_of};
 
 use crate::plan::Plan;
 use crate::values::kind_in;
-use pl_model::{Kind, Model, Param, Reservation, eval};
+use pl_model::{Expr, Kind, Model, Param, Reservation, eval};
 
 /// The greatest amount.
 const MOST: i64 = 1_000_000_000;
@@ -61,16 +62,25 @@ fn are_in_range(params: &[Param], values: &[Option<i64>]) -> bool
     true
 }
 
+fn amount_of(reservation: &Reservation) -> Option<&Expr>
+    ensures { option_copied result ≡ amount_of reservation.now }
+{
+    match reservation {
+        Reservation::Take(_, amount) => Some(amount),
+        Reservation::Raise(_, amount, _) => Some(amount),
+        Reservation::Lower(_, amount, _) => Some(amount),
+        Reservation::Put(_, _, _) => None,
+        Reservation::Must(_, _) => None,
+    }
+}
+
 fn has_amount(reservation: &Reservation, values: &[Option<i64>]) -> bool
     requires { IfSome (amount_of reservation.now) (NamesBelow (length values.now)) }
     ensures { result ≡ has_amount values.now reservation.now }
 {
-    match reservation {
-        Reservation::Take(_, amount) => is_within(0, MOST, eval(amount, values)),
-        Reservation::Raise(_, amount, _) => is_within(0, MOST, eval(amount, values)),
-        Reservation::Lower(_, amount, _) => is_within(0, MOST, eval(amount, values)),
-        Reservation::Put(_, _, _) => true,
-        Reservation::Must(_, _) => true,
+    match amount_of(reservation) {
+        Some(amount) => is_within(0, MOST, eval(amount, values)),
+        None => true,
     }
 }
 

@@ -1,7 +1,5 @@
-ghost use Rattle.std.specs.Prelude.{◌≡◌, ◌≢◌, ◌↔◌, All, IsNone, ◌<◌, ◌≤◌, [], ◌++◌, length, slice_get, slice_index_or, OnOk, OnErr, IfOk, IfErr, Some, None};
-ghost use Rattle.std.specs.List.{insert, remove};
+ghost use Rattle.std.specs.Prelude.{◌≡◌, ◌≢◌, ◌↔◌, All, IsNone, ◌<◌, ◌≤◌, [], length, slice_get, OnOk, OnErr, IfOk, IfErr, Some, None};
 ghost use Rattle.std.specs.Option.{option_copied};
-ghost use Rattle.pl_plan.specs.declared.activity.Activity.{Activity};
 ghost use Rattle.pl_plan.specs.Activities.{AreRising, IsLive, activity_of, placed, without, behind};
 ghost use Rattle.pl_plan.specs.Places.{IsPlaceOf, IsGapFor};
 

@@ -1,4 +1,4 @@
-ghost use Rattle.std.specs.Prelude.{◌≡◌, ◌<◌, ◌≤◌, length, slice_get, slice_index_or, All, None};
+ghost use Rattle.std.specs.Prelude.{◌≡◌, ◌<◌, ◌≤◌, length, All, None};
 ghost use Rattle.std.specs.Option.{option_map};
 ghost use Rattle.pl_model.specs.Values.{value_of};
 ghost use Rattle.pl_model.specs.Checked.{IsCheckedParam};

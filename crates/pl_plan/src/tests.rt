@@ -167,6 +167,8 @@ fn trees(rt: HostRuntime) -> Result<(), AllocError> {
     Ok(())
 }
 
+fn shares<T: Send + Sync>(_value: &T) {}
+
 #[test]
 fn activities_by_id(rt: HostRuntime) -> Result<(), AllocError> {
     let alloc = rt.alloc();
@@ -180,7 +182,9 @@ fn activities_by_id(rt: HostRuntime) -> Result<(), AllocError> {
     assert!(rt; plan.take(2).is_none() && plan.get(2).is_none() && plan.len() == 2);
     assert!(rt; plan.get(3).map(|a| a.start) == Some(10));
     assert!(rt; copy.get(2).map(|a| a.start) == Some(25));
+    shares(&copy);
     let repair = RepairMove::Shift { id: 2, start: 45 };
+    shares(&repair);
     assert!(rt; repair.copy(alloc)? == repair);
     Ok(())
 }

@@ -1,6 +1,6 @@
-ghost use Rattle.std.specs.Prelude.{◌≡◌, ◌∷◌, IfOk, OnOk};
+ghost use Rattle.std.specs.Prelude.{◌≡◌, IfOk, OnOk};
 ghost use Rattle.pl_plan.specs.Activities.{IsLive};
-ghost use Rattle.pl_plan.specs.Trees.{IsRooted, id_of, is_child, parent_of, children_of, root_of, subtree_of, is_among, grown};
+ghost use Rattle.pl_plan.specs.Trees.{IsRooted, is_child, parent_of, children_of, root_of, subtree_of, is_among, grown};
 
 use crate::activity::Activity;
 use crate::plan::Plan;

@@ -1,4 +1,4 @@
-ghost use Rattle.std.specs.Prelude.{◌≡◌, ◌<◌, ◌≤◌, length, slice_get, slice_index_or, All, Some, None, option_and_then};
+ghost use Rattle.std.specs.Prelude.{◌≡◌, ◌<◌, ◌≤◌, length, slice_get, All, Some, None, option_and_then};
 ghost use Rattle.pl_model.specs.Checked.{IsChecked, IsCheckedParam, params_of};
 ghost use Rattle.pl_plan.specs.Activities.{IsLive, activity_of};
 ghost use Rattle.pl_plan.specs.Trees.{IsParented};
