@@ -6,7 +6,6 @@ use Rattle.pl_syntax.specs.declared.whole.Item.{Item}
 use Rattle.pl_syntax.specs.declared.whole.Item.TheVariants as item
 use Rattle.pl_syntax.specs.declared.timelines.AstTimeline.{AstTimeline}
 use Rattle.pl_syntax.specs.declared.kinds.AstKind.{AstKind}
-use Rattle.pl_model.specs.declared.timelines.Timeline.{Timeline}
 use Rattle.pl_check.specs.declared.drafts.Draft.{Draft}
 use Rattle.pl_check.specs.declared.drafts.Draft.TheVariants as draft
 use Rattle.pl_check.specs.Names.{Name, place_of, item_name}

@@ -17,11 +17,9 @@ use Rattle.pl_model.specs.declared.expressions.Expr.{Expr}
 use Rattle.pl_model.specs.declared.parameters.Param.{Param}
 use Rattle.pl_model.specs.declared.parameters.Origin.{Origin}
 use Rattle.pl_model.specs.declared.reservations.Reservation.{Reservation}
-use Rattle.pl_model.specs.declared.reservations.Reservation.TheVariants.{Take, Raise, Lower, Put, Must}
 use Rattle.pl_model.specs.declared.alternatives.Slot.{Slot}
 use Rattle.pl_model.specs.declared.kinds.Kind.{Kind}
 use Rattle.pl_model.specs.declared.timelines.Timeline.{Timeline}
-use Rattle.pl_model.specs.declared.timelines.Timeline.TheVariants.{Capacity, Level, States}
 use Rattle.pl_model.specs.declared.whole.Model.{Model}
 use Rattle.pl_model.specs.Checked.{IsCapacityLine, IsLevelLine, HasState, IsReservation, IsSetOrigin, IsSetParam, IsBinding, IsCheckedSlot, IsPlace, IsStep, params_of}
 use Rattle.pl_check.specs.Names.{Name, place_of}

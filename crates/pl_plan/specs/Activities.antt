@@ -1,0 +1,36 @@
+-- Activities by rising id.
+use Rattle.std.specs.Prelude.{ℕ, suc, ◌≤◌, ◌==◌, nat_lt, if◌then◌else◌, List, [], ◌∷◌, Option, Some, None, IsSome}
+use Rattle.pl_plan.specs.declared.activity.Activity.{Activity}
+
+-- ids rise, from this one on
+abbrev pub RiseFrom : ℕ → List Activity → Type 0
+RiseFrom from [] = Unit {0}
+RiseFrom from (a ∷ more) = (from ≤ a.id) × RiseFrom (suc a.id) more
+
+-- ids rise, so no id stands twice
+abbrev pub AreRising : List Activity → Type 0
+AreRising activities = RiseFrom 0 activities
+
+-- the activity of this id
+abbrev pub activity_of : ℕ → List Activity → Option Activity
+activity_of id [] = None
+activity_of id (a ∷ more) = if a.id == id then Some a else activity_of id more
+
+-- an activity has this id
+abbrev pub IsLive : ℕ → List Activity → Type 0
+IsLive id activities = IsSome (activity_of id activities)
+
+-- with another activity, before the first one of a larger id
+abbrev pub placed : Activity → List Activity → List Activity
+placed a [] = a ∷ []
+placed a (x ∷ more) = if nat_lt x.id a.id then x ∷ placed a more else a ∷ x ∷ more
+
+-- without the activity of this id
+abbrev pub without : ℕ → List Activity → List Activity
+without id [] = []
+without id (a ∷ more) = if a.id == id then more else a ∷ without id more
+
+-- the activities behind the one of this id
+abbrev pub behind : ℕ → List Activity → List Activity
+behind id [] = []
+behind id (a ∷ more) = if a.id == id then more else behind id more

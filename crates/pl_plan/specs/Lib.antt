@@ -1,0 +1,8 @@
+pub mod Activities
+pub mod Places
+pub mod Trees
+pub mod Fitting
+pub mod Values
+pub mod Firm
+pub mod Laws
+pub mod Samples

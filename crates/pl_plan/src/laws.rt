@@ -1,0 +1,28 @@
+ghost use Rattle.std.specs.Prelude.{◌≡◌, ℕ, ◌↔◌, true, List, Contains};
+ghost use Rattle.std.specs.List.Sorted.{IsStrictlyIncreasing};
+ghost use Rattle.pl_model.specs.declared.whole.Model.{Model};
+ghost use Rattle.pl_model.specs.Checked.{IsChecked};
+ghost use Rattle.pl_plan.specs.declared.activity.Activity.{Activity};
+ghost use Rattle.pl_plan.specs.Activities.{IsLive, AreRising};
+ghost use Rattle.pl_plan.specs.Trees.{IsRooted, Descends, descends, root_of, subtree_of};
+ghost use Rattle.pl_plan.specs.Fitting.{Fits};
+ghost use Rattle.pl_plan.specs.Values.{Row, values_of};
+ghost use Rattle.pl_plan.specs.Laws.{IsRootOf, AreValues};
+
+/// The test of descent is exact, a subtree has exactly the live ids that descend, rising, and each activity has one root.
+pub fn laws_of_trees()
+    ensures sound { (xs : List Activity) → IsRooted xs → (top id : ℕ) → descends xs top id ≡ true → Descends xs top id }
+    ensures complete { (xs : List Activity) → IsRooted xs → (top id : ℕ) → Descends xs top id → descends xs top id ≡ true }
+    ensures joins { (xs : List Activity) → (top middle id : ℕ) → Descends xs top middle → Descends xs middle id → Descends xs top id }
+    ensures members { (xs : List Activity) → IsRooted xs → (top id : ℕ) → Contains (subtree_of top xs) id ↔ (IsLive id xs × Descends xs top id) }
+    ensures rising { (xs : List Activity) → AreRising xs → (top : ℕ) → IsStrictlyIncreasing (subtree_of top xs) }
+    ensures root { (xs : List Activity) → IsRooted xs → (id : ℕ) → IsLive id xs → IsRootOf xs id (root_of id xs) }
+    ensures only_root { (xs : List Activity) → IsRooted xs → (id root : ℕ) → IsRootOf xs id root → root ≡ root_of id xs }
+{}
+
+/// In a checked model and a plan that fits it the values have their meanings, and no others do: so the way in which they
+/// are worked out is no part of what they mean.
+pub fn laws_of_values()
+    ensures solve { (model : Model) (xs : List Activity) → IsChecked model → Fits model xs → AreValues model xs (values_of model xs) }
+    ensures only { (model : Model) (xs : List Activity) → IsChecked model → Fits model xs → (values : ℕ → Row) → AreValues model xs values → (id : ℕ) → IsLive id xs → values id ≡ values_of model xs id }
+{}
