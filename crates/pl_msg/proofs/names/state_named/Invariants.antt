@@ -1,0 +1,7 @@
+use Rattle.std.proofs.Common.{◌≡◌, drop, bytes_eq}
+use Rattle.std.specs.List.{position_from}
+use Rattle.pl_msg.proofs.names.state_named.Given as goal
+
+-- the rest gives the whole
+abbrev pub invariant-loop-place : goal.invariant-loop-place
+invariant-loop-place l = position_from (λ state. bytes_eq state l.name) l.place (drop l.place l.states) ≡ position_from (λ state. bytes_eq state l.name) 0 l.states

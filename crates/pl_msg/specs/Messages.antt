@@ -1,0 +1,33 @@
+-- The message of a line, or its first fault: `goal NUMBER KIND EARLIEST LATEST must` or `may` with presets `NAME = VALUE`,
+-- `tele TIMELINE VALUE`, `tick MOMENT` or `end`. First the form is looked at, then the names, then the ranges.
+use Rattle.std.specs.Prelude.{ℕ, List, [], ◌∷◌, if◌then◌else◌, codes, Ok, Err}
+use Rattle.pl_text.specs.declared.token.Token.{Token}
+use Rattle.pl_model.specs.declared.whole.Model.{Model}
+use Rattle.pl_msg.specs.declared.fault.MsgFault.TheVariants as fault
+use Rattle.pl_msg.specs.declared.message.Message.{Message}
+use Rattle.pl_msg.specs.declared.message.Message.TheVariants as message
+use Rattle.pl_msg.specs.Reads.{Read, ◌>>=◌}
+use Rattle.pl_msg.specs.Words.{says, number_in, tokens_in}
+use Rattle.pl_msg.specs.Goals.{goal_in}
+use Rattle.pl_msg.specs.Telemetry.{telemetry_in}
+
+abbrev pub tick_in : List Token → Read Message
+tick_in (moment ∷ []) = number_in moment.kind >>= λ n. Ok (message.Tick n)
+tick_in _ = Err fault.BadLine
+
+abbrev pub end_in : List Token → Read Message
+end_in [] = Ok message.End
+end_in _ = Err fault.BadLine
+
+-- by the first word
+unfoldable pub said_in : Model → List ℕ → List Token → Read Message
+said_in model line [] = Err fault.BadLine
+said_in model line (word ∷ tokens) =
+    if says line word (codes "goal") then (goal_in model line tokens >>= λ goal. Ok (message.Goal goal))
+    else if says line word (codes "tele") then telemetry_in model line tokens
+    else if says line word (codes "tick") then tick_in tokens
+    else if says line word (codes "end") then end_in tokens
+    else Err fault.BadLine
+
+unfoldable pub message_of : Model → List ℕ → Read Message
+message_of model line = tokens_in line >>= said_in model line

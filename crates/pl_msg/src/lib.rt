@@ -1,0 +1,18 @@
+//! Message lines: goals, telemetry, the moment and the end.
+#![tactic(auto)]
+
+mod fault;
+mod forms;
+mod goals;
+mod message;
+mod names;
+mod presets;
+mod reading;
+mod telemetry;
+#[cfg(test)]
+mod tests;
+mod words;
+
+pub use fault::MsgFault;
+pub use message::Message;
+pub use reading::read_message;

@@ -1,0 +1,26 @@
+use pl_facts::Goal;
+use pl_lists::Copied;
+use std::alloc::{AllocError, Global};
+
+/// What a line says: a new goal, the value of a level or a state timeline by its number, the present moment, or
+/// that no more will come.
+#[derive(Debug, Drop)]
+pub enum Message {
+    Goal(Goal),
+    TeleLevel(u32, i64),
+    TeleState(u32, u32),
+    Tick(u64),
+    End,
+}
+
+impl Copied for Message {
+    fn copy(&self, alloc: Global) -> Result<Message, AllocError> {
+        match self {
+            Message::Goal(goal) => Ok(Message::Goal(goal.copy(alloc)?)),
+            Message::TeleLevel(line, value) => Ok(Message::TeleLevel(*line, *value)),
+            Message::TeleState(line, state) => Ok(Message::TeleState(*line, *state)),
+            Message::Tick(moment) => Ok(Message::Tick(*moment)),
+            Message::End => Ok(Message::End),
+        }
+    }
+}

@@ -1,0 +1,60 @@
+ghost use Rattle.std.specs.Prelude.{◌≡◌, ◌<◌, ◌^◌, length};
+ghost use Rattle.pl_msg.specs.Reads.{Shows};
+ghost use Rattle.pl_msg.specs.Words.{token_text, says, number_in, name_in, tokens_in};
+
+use crate::fault::MsgFault;
+use pl_text::{TextFault, Token, TokenKind, is_name, tokens};
+use std::alloc::Global;
+
+/// The bytes of a token of a line, and none where the token is not within the line.
+pub fn token_text<'a>(line: &'a [u8], token: &Token) -> &'a [u8]
+    ensures { result.now ≡ token_text line.now token.now }
+{
+    let from = token.from as usize;
+    let to = token.to as usize;
+    if from <= to && to <= line.len() {
+        &line[from..to]
+    } else {
+        &[]
+    }
+}
+
+/// Whether a token of a line is written so.
+pub fn says(line: &[u8], token: &Token, text: &[u8]) -> bool
+    ensures { result ≡ says line.now token.now text.now }
+{
+    token_text(line, token) == text
+}
+
+pub fn number_of(token: &Token) -> Result<u64, MsgFault>
+    ensures { result ≡ number_in token.now.kind }
+{
+    match token.kind {
+        TokenKind::Number(number) => Ok(number),
+        TokenKind::Name => Err(MsgFault::BadLine),
+        TokenKind::Symbol(_) => Err(MsgFault::BadLine),
+    }
+}
+
+/// The token, where it is a name.
+#[tactic(auto, unfolding(crate::specs::Words::name_in))]
+pub fn name_of(line: &[u8], token: &Token) -> Result<Token, MsgFault>
+    ensures { result ≡ name_in line.now token.now }
+{
+    if is_name(token_text(line, token)) {
+        Ok(*token)
+    } else {
+        Err(MsgFault::BadLine)
+    }
+}
+
+pub fn tokens_of(alloc: Global, line: &[u8]) -> Result<Vec<Token>, MsgFault>
+    requires { length line.now < 2 ^ 32 }
+    ensures { Shows (λ tokens. tokens.items) result (tokens_in line.now) }
+{
+    match tokens(alloc, line) {
+        Ok(tokens) => Ok(tokens),
+        Err(TextFault::Memory) => Err(MsgFault::Memory),
+        Err(_) => Err(MsgFault::BadLine),
+    }
+}
