@@ -4,9 +4,11 @@
 mod boxed;
 mod copied;
 mod items;
+mod sharing;
 #[cfg(test)]
 mod tests;
 
 pub use boxed::Boxed;
 pub use copied::Copied;
 pub use items::Items;
+pub use sharing::{may_be_shared, shared_types};
