@@ -1,0 +1,4 @@
+pub mod Ids
+pub mod BrokenLaws
+pub mod BrokenOrder
+pub mod Slots
