@@ -9,8 +9,10 @@ mod moments;
 mod orders;
 mod partners;
 mod placed;
+mod sharing;
 
 pub use broken::Broken;
 pub use laws::laws_of_links;
 pub use links::Links;
 pub use placed::Placed;
+pub use sharing::shared_types;
