@@ -3,7 +3,5 @@
 
 mod accepting;
 mod refusals;
-#[cfg(test)]
-mod tests;
 
 pub use accepting::{Accepted, accept, too_long};

@@ -4,8 +4,6 @@
 mod capacity;
 mod reservation;
 mod shifting;
-#[cfg(test)]
-mod tests;
 
 pub use capacity::Capacity;
 pub use reservation::Use;

@@ -16,8 +16,6 @@ mod ranges;
 mod repeats;
 mod schedule;
 mod schedules;
-#[cfg(test)]
-mod tests;
 
 pub use checking::check;
 pub use fault::{ModelFault, What};

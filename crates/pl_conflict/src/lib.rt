@@ -4,8 +4,6 @@
 mod conflict;
 mod laws;
 mod set;
-#[cfg(test)]
-mod tests;
 
 pub use conflict::{Code, Conflict};
 pub use laws::order_laws;

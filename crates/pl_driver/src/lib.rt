@@ -2,7 +2,5 @@
 #![tactic(auto)]
 
 mod round;
-#[cfg(test)]
-mod tests;
 
 pub use round::solo_round;

@@ -5,8 +5,6 @@ mod bases;
 mod goal;
 mod goals;
 mod options;
-#[cfg(test)]
-mod tests;
 
 pub use bases::Bases;
 pub use goal::Goal;

@@ -29,6 +29,3 @@ pub use sure_source::SureSource;
 pub use text_line::Line;
 pub use traits::{Sink, Source};
 pub use writing::put;
-
-#[cfg(test)]
-mod tests;

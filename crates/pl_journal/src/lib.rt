@@ -9,8 +9,6 @@ mod moves;
 mod names;
 mod pushing;
 mod replies;
-#[cfg(test)]
-mod tests;
 
 pub use entries::render;
 pub use laws::text_laws;

@@ -4,8 +4,6 @@
 mod kept;
 mod level;
 mod reservation;
-#[cfg(test)]
-mod tests;
 mod windows;
 
 pub use level::Level;

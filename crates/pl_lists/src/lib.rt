@@ -5,8 +5,6 @@ mod boxed;
 mod copied;
 mod items;
 mod sharing;
-#[cfg(test)]
-mod tests;
 
 pub use boxed::Boxed;
 pub use copied::Copied;

@@ -11,8 +11,6 @@ mod messages;
 mod outcome;
 mod play;
 mod reads;
-#[cfg(test)]
-mod tests;
 mod top;
 mod whole;
 mod writes;

@@ -10,8 +10,6 @@ mod kinds;
 mod links;
 mod parameters;
 mod reservations;
-#[cfg(test)]
-mod tests;
 mod timelines;
 mod whole;
 

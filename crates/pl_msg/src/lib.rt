@@ -9,8 +9,6 @@ mod names;
 mod presets;
 mod reading;
 mod telemetry;
-#[cfg(test)]
-mod tests;
 mod words;
 
 pub use fault::MsgFault;

@@ -4,8 +4,6 @@
 mod command;
 mod number;
 mod plain;
-#[cfg(test)]
-mod tests;
 mod words;
 
 pub use command::{Command, Task};

@@ -6,5 +6,4 @@ pub mod FirmSteps
 pub mod Rounds
 pub mod TreeLaws
 pub mod ValueLaws
-pub mod SampleLemmas
 pub mod Members

@@ -5,4 +5,3 @@ pub mod Fitting
 pub mod Values
 pub mod Firm
 pub mod Laws
-pub mod Samples

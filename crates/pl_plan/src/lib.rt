@@ -8,8 +8,6 @@ mod plan;
 mod repair;
 mod row;
 mod settling;
-#[cfg(test)]
-mod tests;
 mod trees;
 mod values;
 

@@ -12,8 +12,6 @@ mod plain;
 mod points;
 mod span;
 mod steps;
-#[cfg(test)]
-mod tests;
 mod told;
 
 pub use laws::laws_of_spans;

@@ -4,8 +4,6 @@
 
 mod laws;
 mod symbol;
-#[cfg(test)]
-mod tests;
 mod token;
 
 pub use laws::tokens_are_told_apart;

@@ -9,8 +9,6 @@ mod musts;
 mod near;
 mod reservation;
 mod sets;
-#[cfg(test)]
-mod tests;
 
 pub use answer::{BadSet, BrokenMust, StateChange};
 pub use line::StateLine;

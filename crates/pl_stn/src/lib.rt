@@ -7,8 +7,6 @@ mod net;
 mod rising;
 mod solving;
 mod starting;
-#[cfg(test)]
-mod tests;
 mod verdict;
 mod walking;
 

@@ -12,8 +12,6 @@ mod parameters;
 mod reader;
 mod reading;
 mod reservations;
-#[cfg(test)]
-mod tests;
 mod timelines;
 mod whole;
 mod writer;

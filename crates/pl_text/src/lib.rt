@@ -7,8 +7,6 @@ mod laws;
 mod lexeme;
 mod number;
 mod reading;
-#[cfg(test)]
-mod tests;
 mod token;
 mod word;
 

@@ -10,8 +10,6 @@ mod logged;
 mod owner;
 mod pass;
 mod steps;
-#[cfg(test)]
-mod tests;
 mod threads;
 mod turns;
 
