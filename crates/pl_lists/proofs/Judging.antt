@@ -1,7 +1,7 @@
 -- What judgements in a row give.
-use Rattle.std.proofs.Common.{◌≡◌, Bool, true, false, MatchBool, cond, List, [], ◌∷◌, ◌++◌, Result, Ok, Err, refl, sym, ap, ◌∙◌, subst, append_assoc}
+use Rattle.std.proofs.Common.{◌≡◌, Bool, true, false, MatchBool, cond, List, [], ◌∷◌, ◌++◌, Result, Ok, Err, refl, sym, ap, ◌∙◌, append_assoc}
 use Rattle.std.proofs.lemmas.List.{append-nil}
-use Rattle.pl_lists.specs.Judgements.{◌>>=◌, ◌>>◌, unless, each_made, behind, Fails}
+use Rattle.pl_lists.specs.Judgements.{◌>>=◌, ◌>>◌, each_made, behind, Fails}
 
 module _ {F : Type 0} where
   pub bind_ok : {X Y : Type 0} (r : Result X F) (f : X → Result Y F) (y : Y) → (r >>= f) ≡ Ok y → (x : X) × (r ≡ Ok x) × (f x ≡ Ok y)

@@ -6,31 +6,10 @@ use Rattle.pl_text.specs.declared.token.Token.{Token}
 use Rattle.pl_msg.specs.declared.fault.MsgFault.{MsgFault}
 use Rattle.pl_msg.specs.declared.fault.MsgFault.TheVariants as fault
 use Rattle.pl_msg.specs.declared.presets.Preset.{Preset}
-use Rattle.pl_msg.specs.Reads.{Read, ◌>>=◌, Fails, each_read, behind}
+use Rattle.pl_lists.specs.Judgements.{◌>>=◌, behind}
+use Rattle.pl_lists.proofs.Judging.{behind-cons, behind-none, each_goes_on, each_ends, fails_so}
+use Rattle.pl_msg.specs.Reads.{Read, Fails}
 use Rattle.pl_msg.specs.Goals.{preset_in, preset_at, each_preset}
-
--- where a fault is known, it is given
-pub fails_so : {X : Type 0} (e : MsgFault) (meant : Read X) → meant ≡ Err e → Fails e meant
-fails_so fault.BadLine meant same = same
-fails_so fault.UnknownName meant same = same
-fails_so fault.Range meant same = same
-fails_so fault.Memory meant same = tt
-
--- one item more in front of the rest
-pub behind-cons : {X : Type 0} (found : List X) (x : X) (read : Read (List X)) → behind found (read >>= λ xs. Ok (x ∷ xs)) ≡ behind (found ++ x ∷ []) read
-behind-cons found x (Ok xs) = ap Ok (sym (append_assoc found (x ∷ []) xs))
-behind-cons found x (Err e) = refl
-
-pub behind-none : {X : Type 0} (found : List X) (whole : Read (List X)) → behind found (Ok []) ≡ whole → whole ≡ Ok found
-behind-none found whole h = sym h ∙ ap Ok (append-nil found)
-
--- ---- each item of a list
-
-pub each_goes_on : {X Y : Type 0} (read : X → Read Y) (found : List Y) (x : X) (xs : List X) (y : Y) (whole : Read (List Y)) → read x ≡ Ok y → behind found (each_read read (x ∷ xs)) ≡ whole → behind (found ++ y ∷ []) (each_read read xs) ≡ whole
-each_goes_on read found x xs y whole e h = sym (behind-cons found y (each_read read xs)) ∙ ap (λ r. behind found (r >>= λ v. each_read read xs >>= λ vs. Ok (v ∷ vs))) (sym e) ∙ h
-
-pub each_ends : {X Y : Type 0} (read : X → Read Y) (found : List Y) (x : X) (xs : List X) (e : MsgFault) (whole : Read (List Y)) → read x ≡ Err e → behind found (each_read read (x ∷ xs)) ≡ whole → whole ≡ Err e
-each_ends read found x xs e whole bad h = sym h ∙ ap (λ r. behind found (r >>= λ v. each_read read xs >>= λ vs. Ok (v ∷ vs))) bad
 
 -- ---- presets
 

@@ -18,7 +18,10 @@ use Rattle.pl_msg.specs.declared.message.Message.{Message}
 use Rattle.pl_msg.specs.declared.message.Message.TheVariants as message
 use Rattle.pl_msg.specs.declared.telemetry.Value.{Value}
 use Rattle.pl_msg.specs.declared.telemetry.Value.TheVariants as said
-use Rattle.pl_msg.specs.Reads.{Read, ◌>>=◌, each_read}
+use Rattle.pl_lists.specs.Judgements.{◌>>=◌, each_made}
+use Rattle.pl_lists.proofs.Judging.{bind_ok, if_ok}
+use Rattle.pl_lists.proofs.Tests.{both_true}
+use Rattle.pl_msg.specs.Reads.{Read}
 use Rattle.pl_msg.specs.Words.{token_text, says, number_in, name_in}
 use Rattle.pl_msg.specs.Names.{first_from, kind_named, timeline_name, timeline_named, state_named, is_free}
 use Rattle.pl_msg.specs.Goals.{names_free, is_in_range, given, value_of, place_in, places_in, form_in, goal_of_kind, goal_with, goal_in}
@@ -27,18 +30,6 @@ use Rattle.pl_msg.specs.Messages.{tick_in, end_in, said_in}
 use Rattle.pl_msg.specs.Limits.{FitsParam, FitParams, IsGoalFor, IsLevel, HasState, IsWithin}
 use Rattle.pl_model.specs.declared.timelines.Timeline.{Timeline}
 use Rattle.pl_model.specs.declared.timelines.Timeline.TheVariants as timeline
-
-pub bind_ok : {X Y : Type 0} (r : Read X) (f : X → Read Y) (y : Y) → (r >>= f) ≡ Ok y → (x : X) × (r ≡ Ok x) × (f x ≡ Ok y)
-bind_ok (Ok x) f y e = (x, refl, e)
-bind_ok (Err d) f y e = absurd (cc)
-
-pub if_ok : {X : Type 0} (test : Bool) (r : Read X) (d : MsgFault) (x : X) → cond test r (Err d) ≡ Ok x → (test ≡ true) × (r ≡ Ok x)
-if_ok true r d x e = (refl, e)
-if_ok false r d x e = absurd (cc)
-
-pub both_true : (a b : Bool) → (a && b) ≡ true → (a ≡ true) × (b ≡ true)
-both_true true b e = (refl, e)
-both_true false b e = absurd (cc)
 
 -- what is found stands at its place
 abbrev Stands : {X : Type 0} → ℕ → List X → ℕ → X → Type 0
@@ -77,11 +68,11 @@ fits_param line ps param value e = fits_by (is_free param.origin) refl e
     fits_by true is e = fits_value is (value_of line ps param.name) e
     fits_by false is e = let none : None ≡ value = cc in subst (λ (o : Option ℤ). FitsParam param o) none tt
 
-fit_params : (line : List ℕ) (ps : List Preset) (params : List Param) (values : List (Option ℤ)) → each_read (λ param. place_in param (given line ps param)) params ≡ Ok values → FitParams params values
+fit_params : (line : List ℕ) (ps : List Preset) (params : List Param) (values : List (Option ℤ)) → each_made (λ param. place_in param (given line ps param)) params ≡ Ok values → FitParams params values
 fit_params line ps [] values e = let none : [] ≡ values = cc in subst (λ (vs : List (Option ℤ)). FitParams [] vs) none tt
 fit_params line ps (param ∷ params) values e =
-    let one = bind_ok (place_in param (given line ps param)) (λ v. each_read (λ p. place_in p (given line ps p)) params >>= λ vs. Ok (v ∷ vs)) values e in
-    let more = bind_ok (each_read (λ p. place_in p (given line ps p)) params) (λ vs. Ok (one.0 ∷ vs)) values one.2 in
+    let one = bind_ok (place_in param (given line ps param)) (λ v. each_made (λ p. place_in p (given line ps p)) params >>= λ vs. Ok (v ∷ vs)) values e in
+    let more = bind_ok (each_made (λ p. place_in p (given line ps p)) params) (λ vs. Ok (one.0 ∷ vs)) values one.2 in
     let all : one.0 ∷ more.0 ≡ values = cc (more.2) in
     subst (λ (vs : List (Option ℤ)). FitParams (param ∷ params) vs) all (fits_param line ps param one.0 one.1, fit_params line ps params more.0 more.1)
 

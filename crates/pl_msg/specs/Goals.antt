@@ -9,7 +9,8 @@ use Rattle.pl_facts.specs.declared.goal.Goal.{Goal}
 use Rattle.pl_msg.specs.declared.fault.MsgFault.TheVariants as fault
 use Rattle.pl_msg.specs.declared.presets.Preset.{Preset}
 use Rattle.pl_msg.specs.declared.forms.GoalForm.{GoalForm}
-use Rattle.pl_msg.specs.Reads.{Read, ◌>>=◌, each_read}
+use Rattle.pl_lists.specs.Judgements.{◌>>=◌, each_made}
+use Rattle.pl_msg.specs.Reads.{Read}
 use Rattle.pl_msg.specs.Words.{token_text, says, number_in, name_in}
 use Rattle.pl_msg.specs.Names.{kind_named, is_free}
 
@@ -87,7 +88,7 @@ place_in param (Some value) = if int_le param.low (pos value) && int_le (pos val
 
 -- one place for each parameter: the preset of its name, or none
 unfoldable pub places_in : List ℕ → List Preset → List Param → Read (List (Option ℤ))
-places_in line ps params = each_read (λ param. place_in param (given line ps param)) params
+places_in line ps params = each_made (λ param. place_in param (given line ps param)) params
 
 -- ---- the goal
 

@@ -6,7 +6,8 @@ use Rattle.pl_model.specs.declared.whole.Model.{Model}
 use Rattle.pl_msg.specs.declared.fault.MsgFault.TheVariants as fault
 use Rattle.pl_msg.specs.declared.message.Message.{Message}
 use Rattle.pl_msg.specs.declared.message.Message.TheVariants as message
-use Rattle.pl_msg.specs.Reads.{Read, ◌>>=◌}
+use Rattle.pl_lists.specs.Judgements.{◌>>=◌}
+use Rattle.pl_msg.specs.Reads.{Read}
 use Rattle.pl_msg.specs.Words.{says, number_in, tokens_in}
 use Rattle.pl_msg.specs.Goals.{goal_in}
 use Rattle.pl_msg.specs.Telemetry.{telemetry_in}

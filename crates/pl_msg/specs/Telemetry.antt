@@ -11,7 +11,8 @@ use Rattle.pl_msg.specs.declared.message.Message.{Message}
 use Rattle.pl_msg.specs.declared.message.Message.TheVariants as message
 use Rattle.pl_msg.specs.declared.telemetry.Value.{Value}
 use Rattle.pl_msg.specs.declared.telemetry.Value.TheVariants as said
-use Rattle.pl_msg.specs.Reads.{Read, ◌>>=◌}
+use Rattle.pl_lists.specs.Judgements.{◌>>=◌}
+use Rattle.pl_msg.specs.Reads.{Read}
 use Rattle.pl_msg.specs.Words.{token_text, name_in}
 use Rattle.pl_msg.specs.Names.{timeline_named, state_named}
 

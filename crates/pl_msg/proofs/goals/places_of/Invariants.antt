@@ -1,5 +1,5 @@
 use Rattle.std.proofs.Common.{◌≡◌, drop}
-use Rattle.pl_msg.specs.Reads.{behind}
+use Rattle.pl_lists.specs.Judgements.{behind}
 use Rattle.pl_msg.specs.Goals.{places_in}
 use Rattle.pl_msg.proofs.goals.places_of.Given as goal
 

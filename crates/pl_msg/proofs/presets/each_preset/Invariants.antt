@@ -1,5 +1,5 @@
 use Rattle.std.proofs.Common.{◌≡◌, length}
-use Rattle.pl_msg.specs.Reads.{behind}
+use Rattle.pl_lists.specs.Judgements.{behind}
 use Rattle.pl_msg.specs.Goals.{each_preset}
 use Rattle.pl_msg.proofs.presets.each_preset.Given as goal
 
