@@ -13,7 +13,7 @@ mod token;
 mod word;
 
 pub use fault::TextFault;
-pub use laws::{tokens_are_complete, tokens_are_sound};
+pub use laws::{faults_are_complete, tokens_are_complete, tokens_are_sound};
 pub use number::push_number;
 pub use reading::tokens;
 pub use token::{Token, TokenKind};
