@@ -3,11 +3,13 @@
 #![tactic(auto)]
 
 mod laws;
+mod sharing;
 mod symbol;
 #[cfg(test)]
 mod tests;
 mod token;
 
 pub use laws::tokens_are_told_apart;
+pub use sharing::shared_types;
 pub use symbol::Symbol;
 pub use token::Token;

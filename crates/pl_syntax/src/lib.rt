@@ -12,6 +12,7 @@ mod parameters;
 mod reader;
 mod reading;
 mod reservations;
+mod sharing;
 #[cfg(test)]
 mod tests;
 mod timelines;
@@ -27,6 +28,7 @@ pub use links::AstLink;
 pub use parameters::{AstOrigin, AstParam};
 pub use reading::read_model;
 pub use reservations::AstReservation;
+pub use sharing::shared_types;
 pub use timelines::AstTimeline;
 pub use whole::{Ast, Item};
 pub use writing::write_model;

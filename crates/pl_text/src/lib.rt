@@ -7,6 +7,7 @@ mod laws;
 mod lexeme;
 mod number;
 mod reading;
+mod sharing;
 #[cfg(test)]
 mod tests;
 mod token;
@@ -16,5 +17,6 @@ pub use fault::TextFault;
 pub use laws::{faults_are_complete, tokens_are_complete, tokens_are_sound};
 pub use number::push_number;
 pub use reading::tokens;
+pub use sharing::shared_types;
 pub use token::{Token, TokenKind};
 pub use word::{Word, is_name, word_of};
