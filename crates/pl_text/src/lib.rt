@@ -2,6 +2,7 @@
 #![tactic(auto)]
 
 mod class;
+mod extent;
 mod fault;
 mod laws;
 mod lexeme;
@@ -13,6 +14,7 @@ mod tests;
 mod token;
 mod word;
 
+pub use extent::token_text;
 pub use fault::TextFault;
 pub use laws::{faults_are_complete, tokens_are_complete, tokens_are_sound};
 pub use number::push_number;
