@@ -3,9 +3,11 @@
 #![tactic(auto)]
 
 mod laws;
+mod sharing;
 mod symbol;
 mod token;
 
 pub use laws::tokens_are_told_apart;
+pub use sharing::shared_types;
 pub use symbol::Symbol;
 pub use token::Token;

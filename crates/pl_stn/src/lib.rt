@@ -5,6 +5,7 @@ mod building;
 mod laws;
 mod net;
 mod rising;
+mod sharing;
 mod solving;
 mod starting;
 mod verdict;
@@ -12,5 +13,6 @@ mod walking;
 
 pub use laws::cycles_exclude_solutions;
 pub use net::{Edge, Net};
+pub use sharing::shared_types;
 pub use solving::solve;
 pub use verdict::Verdict;

@@ -11,3 +11,4 @@ pub mod Again
 pub mod AgainParts
 pub mod LaidOut
 pub mod ReadAgain
+pub mod Crossing

@@ -1,7 +1,7 @@
 -- A text is made of the pieces that the scanner sees, and it sees those that a text is made of.
 use Rattle.std.proofs.Common.{◌≡◌, ℕ, zero, suc, ◌+◌, ◌-◌, ◌<◌, ◌≤◌, Bool, true, false, ◌&&◌, cond, ltb, List, [], ◌∷◌, ◌++◌, length, take, drop, Result, Ok, Err, refl, sym, ap, subst, ◌∙◌, arith}
 use Rattle.std.specs.List.{prefix_len, list_all}
-use Rattle.std.proofs.lemmas.Bool.{ltb-true, ltb-false, le-ltb, eqb-true}
+use Rattle.std.proofs.lemmas.Bool.{ltb-true, ltb-false, le-ltb, lt-ltb, eqb-true}
 use Rattle.std.proofs.lemmas.List.{append-nil, take-append-drop, length-append}
 use Rattle.std.proofs.lemmas.List.Folds.{length-prefix_len}
 use Rattle.std.proofs.Math.Seq.{take-append_seam, drop-append_seam}
@@ -10,7 +10,7 @@ use Rattle.pl_text.specs.declared.class.Class.TheVariants as class
 use Rattle.pl_text.specs.declared.token.Token.{Token}
 use Rattle.pl_text.specs.declared.fault.TextFault.{TextFault}
 use Rattle.pl_text.specs.declared.fault.TextFault.TheVariants as fault
-use Rattle.pl_text.specs.Bytes.{class_by, class_of, is_name_byte, is_number_byte, in_line}
+use Rattle.pl_text.specs.Bytes.{class_by, class_of, is_digit_class, is_name_byte, is_number_byte, in_line}
 use Rattle.pl_text.specs.Tokens.{lexeme_of, before, tokens_at, tokens_of}
 use Rattle.pl_text.specs.Pieces.{Piece, blank, comment, word, number, symbol, spell_piece, spell, Stops, IsPiece, ArePieces, size, token_of, tokens_in, end_of, IsBad, Lexes, AreInOrder}
 use Rattle.pl_text.proofs.Scanning.{before_before, tokens_skip}
@@ -176,6 +176,52 @@ pub lexes : (n at : ℕ) (text : List ℕ) → length text ≤ n → Lexes at te
 lexes n at [] short = lexes_end at
 lexes zero at (b ∷ bs) short = absurd (omega (arith, short))
 lexes (suc n) at (b ∷ bs) short = lexes_next n at b bs short (λ at' text few. lexes n at' text few) (next_at at b bs (class_of b) refl)
+
+-- ---- a text that is made of pieces up to a place where none begins has the fault of that place
+
+digit_by_class : (c : Class) → is_digit_class c ≡ true → c ≡ class.Digit
+digit_by_class class.Digit e = refl
+digit_by_class class.Blank e = absurd (cc)
+digit_by_class class.Comment e = absurd (cc)
+digit_by_class class.Letter e = absurd (cc)
+digit_by_class class.Symbol e = absurd (cc)
+digit_by_class class.Bad e = absurd (cc)
+
+digit_class : (b : ℕ) → is_number_byte b ≡ true → class_of b ≡ class.Digit
+digit_class b e = digit_by_class (class_of b) e
+
+-- a longer run is seen to be long
+pub run_long : (of : ℕ → Bool) (bs more : List ℕ) → list_all of bs ≡ true → length bs ≤ prefix_len of (bs ++ more)
+run_long of [] more all = omega arith
+run_long of (b ∷ bs) more all =
+    let p = split of b bs all in
+    rw p.0 (omega (arith, run_long of bs more p.1))
+
+bad_lexeme : (e : TextFault) (at b : ℕ) (bs : List ℕ) → IsBad e at (b ∷ bs) → lexeme_of at b bs ≡ Err e
+bad_lexeme (fault.BadByte place) at b bs is = rw is.0 (bad_byte at b bs is.1)
+bad_lexeme (fault.BadNumber place) at b bs is = rw is.0 (long_number at b bs is.1 (lt-ltb 18 (prefix_len is_number_byte bs + 1) (omega (arith, is.2))))
+bad_lexeme (fault.BadName place) at b bs is = rw is.0 (long_name at b bs is.1 (lt-ltb 32 (prefix_len is_name_byte bs + 1) (omega (arith, is.2))))
+bad_lexeme fault.Memory at b bs is = absurd is
+
+bad_rest : (e : TextFault) (at : ℕ) (rest : List ℕ) → IsBad e at rest → tokens_at 0 at rest ≡ Err e
+bad_rest (fault.BadByte place) at [] is = absurd is
+bad_rest (fault.BadNumber place) at [] is = absurd is
+bad_rest (fault.BadName place) at [] is = absurd is
+bad_rest fault.Memory at [] is = absurd is
+bad_rest e at (b ∷ bs) is = stopped at b bs e (bad_lexeme e at b bs is)
+
+pub stops_at : (ps : List Piece) (rest : List ℕ) (e : TextFault) → ArePieces ps rest → IsBad e (end_of 0 ps) rest → tokens_of (spell ps rest) ≡ Err e
+stops_at ps rest e are is = pieces_read 0 ps rest (Err e) are (bad_rest e (end_of 0 ps) rest is)
+
+pub stops_at_number : (ps : List Piece) (ds more : List ℕ) → ArePieces ps (ds ++ more) → list_all is_number_byte ds ≡ true → 18 < length ds → tokens_of (spell ps (ds ++ more)) ≡ Err (fault.BadNumber (end_of 0 ps))
+stops_at_number ps [] more are all long = absurd (omega (arith, long))
+stops_at_number ps (d ∷ ds) more are all long =
+    let p = split is_number_byte d ds all in
+    stops_at ps (d ∷ (ds ++ more)) (fault.BadNumber (end_of 0 ps)) are (refl, digit_class d p.0, omega (arith, long, run_long is_number_byte ds more p.1))
+
+pub stops_at_name : (ps : List Piece) (b : ℕ) (bs more : List ℕ) → ArePieces ps (b ∷ (bs ++ more)) → class_of b ≡ class.Letter → list_all is_name_byte bs ≡ true → 32 < length (b ∷ bs) → tokens_of (spell ps (b ∷ (bs ++ more))) ≡ Err (fault.BadName (end_of 0 ps))
+stops_at_name ps b bs more are e all long =
+    stops_at ps (b ∷ (bs ++ more)) (fault.BadName (end_of 0 ps)) are (refl, e, omega (arith, long, run_long is_name_byte bs more all))
 
 -- ---- the tokens of pieces stand in order
 

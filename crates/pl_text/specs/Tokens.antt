@@ -1,5 +1,5 @@
 -- The tokens of a text, or its first fault.
-use Rattle.std.specs.Prelude.{◌≡◌, ℕ, zero, suc, ◌+◌, ◌-◌, ◌*◌, nat_lt, if◌then◌else◌, List, [], ◌∷◌, ◌++◌, length, ◌<◌, take, Option, Some, None, Result, Ok, Err}
+use Rattle.std.specs.Prelude.{◌≡◌, ℕ, zero, suc, ◌+◌, ◌-◌, ◌*◌, ◌&&◌, nat_lt, nat_le, if◌then◌else◌, List, [], ◌∷◌, ◌++◌, length, ◌<◌, take, drop, Option, Some, None, Result, Ok, Err}
 use Rattle.std.specs.List.{prefix_len}
 use Rattle.std.specs.declared.vec.Vec.{Vec}
 use Rattle.std.specs.declared.alloc.Global.{Global}
@@ -12,6 +12,11 @@ use Rattle.pl_text.specs.declared.lexeme.Lexeme.{Lexeme}
 use Rattle.pl_text.specs.declared.fault.TextFault.{TextFault}
 use Rattle.pl_text.specs.declared.fault.TextFault.TheVariants as fault
 use Rattle.pl_text.specs.Bytes.{class_of, is_name_byte, is_number_byte, in_line}
+
+-- the bytes of a token, and none where it isn't within the text
+abbrev pub token_text : List ℕ → Token → List ℕ
+token_text text t =
+    if nat_le t.from t.to && nat_le t.to (length text) then take (t.to - t.from) (drop t.from text) else []
 
 -- the value of digits behind a number
 abbrev pub read_on : ℕ → List ℕ → ℕ
