@@ -4,9 +4,11 @@
 mod conflict;
 mod laws;
 mod set;
+mod sharing;
 #[cfg(test)]
 mod tests;
 
 pub use conflict::{Code, Conflict};
-pub use laws::order_laws;
+pub use laws::{exchange_laws, order_laws, sorting_laws};
 pub use set::ConflictSet;
+pub use sharing::shared_types;
