@@ -4,7 +4,9 @@
 mod conflict;
 mod laws;
 mod set;
+mod sharing;
 
 pub use conflict::{Code, Conflict};
-pub use laws::order_laws;
+pub use laws::{exchange_laws, order_laws, sorting_laws};
 pub use set::ConflictSet;
+pub use sharing::shared_types;

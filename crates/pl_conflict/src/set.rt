@@ -1,13 +1,17 @@
-ghost use Rattle.std.specs.Prelude.{◌≡◌, [], length, not, if◌then◌else◌, true, false, IfOk, OnOk, OnErr, slice_get, min, ◌==◌};
+ghost use Rattle.std.specs.Prelude.{◌≡◌, [], ◌++◌, length, not, if◌then◌else◌, true, false, ◌&&◌, ◌||◌, IfOk, OnOk, OnErr, slice_get, min, ◌==◌};
 ghost use Rattle.std.specs.BTreeSet.{insert_key};
 ghost use Rattle.std.specs.Set.{remove_key};
 ghost use Rattle.std.specs.List.Sorted.{IsStrictlySortedBy};
 ghost use Rattle.std.specs.BTreeMap.{is_at};
+ghost use Rattle.std.specs.Map.Iter.{ShowsInOrder, deref};
+ghost use Rattle.pl_conflict.specs.declared.conflict.Conflict.{Conflict};
 ghost use Rattle.pl_conflict.specs.Order.{conflict_cmp, has};
+ghost use Rattle.pl_conflict.specs.Sorting.{sorted, left_by, exchanged, IsHalfPut, IsHalfExchanged};
 
 use crate::conflict::Conflict;
 use std::alloc::{AllocError, Global};
 use std::collections::BTreeSet;
+use std::collections::btree_set::Iter;
 
 /// A set of conflicts, which contracts see as its sorted list.
 #[derive(Drop)]
@@ -21,7 +25,12 @@ impl std::marker::Model for ConflictSet {
 
     ghost Value = { List Conflict };
 
+    ghost use Rattle.std.specs.List.Sorted.{IsStrictlySortedBy};
+    ghost use Rattle.pl_conflict.specs.Order.{conflict_cmp};
+
     ghost view = { λ s. s.all.keys };
+
+    ghost invariant = { λ s. IsStrictlySortedBy conflict_cmp s.all.keys };
 }
 
 impl ConflictSet {
@@ -39,6 +48,7 @@ impl ConflictSet {
         ensures ok { OnOk result (self.new ≡ insert_key conflict_cmp self.old k) }
         ensures members { OnOk result ((q : Conflict) → has q self.new ≡ (if is_at (conflict_cmp k) q then true else has q self.old)) }
         ensures err { OnErr result (self.new ≡ self.old) }
+        ensures sorted { IsStrictlySortedBy conflict_cmp self.new }
     {
         Ok(self.all.insert(k)?)
     }
@@ -48,34 +58,63 @@ impl ConflictSet {
         ensures there { result ≡ has k.now self.old }
         ensures after { self.new ≡ remove_key (is_at (conflict_cmp k.now)) self.old }
         ensures members { (q : Conflict) → has q self.new ≡ (if is_at (conflict_cmp k.now) q then false else has q self.old) }
+        ensures sorted { IsStrictlySortedBy conflict_cmp self.new }
     {
         self.all.remove(k)
     }
 
     pub fn has(&self, k: &Conflict) -> bool
-        ensures { result ≡ has k.now self.now }
+        ensures there { result ≡ has k.now self.now }
+        ensures sorted { IsStrictlySortedBy conflict_cmp self.now }
     {
         self.all.contains(k)
     }
 
     /// The least conflict.
     pub fn first(&self) -> Option<Conflict>
-        ensures { result ≡ slice_get self.now 0 }
+        ensures least { result ≡ slice_get self.now 0 }
+        ensures sorted { IsStrictlySortedBy conflict_cmp self.now }
     {
         self.all.first().copied()
     }
 
     /// How many conflicts there are; the count stands still at its type's end.
     pub fn len(&self) -> u32
-        ensures { result ≡ min (length self.now) 4294967295 }
+        ensures count { result ≡ min (length self.now) 4294967295 }
+        ensures sorted { IsStrictlySortedBy conflict_cmp self.now }
     {
         self.all.len().min(u32::MAX as usize) as u32
     }
 
     pub fn is_empty(&self) -> bool
-        ensures { result ≡ (length self.now == 0) }
+        ensures empty { result ≡ (length self.now == 0) }
+        ensures sorted { IsStrictlySortedBy conflict_cmp self.now }
     {
         self.all.is_empty()
+    }
+
+    /// Takes out what went, and then puts in what came. On an `Err` all that went is out, and of
+    /// what came a front is in.
+    pub fn exchange(&mut self, went: &[Conflict], came: &[Conflict]) -> Result<(), AllocError>
+        ensures ok { OnOk result (self.new ≡ exchanged self.old went.now came.now) }
+        ensures err { OnErr result (IsHalfExchanged self.old went.now came.now self.new) }
+        ensures members { OnOk result (
+            (q : Conflict) →
+            has q self.new ≡ ((has q self.old && not (has q went.now)) || has q came.now)
+            ) }
+        ensures sorted { IsStrictlySortedBy conflict_cmp self.new }
+    {
+        self.remove_all(went);
+        self.insert_all(came)
+    }
+
+    /// Goes over the conflicts in their order.
+    pub fn iter(&self) -> Iter<'_, Conflict>
+        ensures rest { result ≡ self.now }
+        ensures runs { ShowsInOrder (deref {X = Conflict}) }
+        ensures sorted { IsStrictlySortedBy conflict_cmp self.now }
+    {
+        self.all.iter()
     }
 
     pub fn list(&self, alloc: Global) -> Result<Vec<Conflict>, AllocError>
@@ -83,5 +122,24 @@ impl ConflictSet {
         ensures sorted { IsStrictlySortedBy conflict_cmp self.now }
     {
         self.all.iter().copied().collect(alloc)
+    }
+
+    fn remove_all(&mut self, went: &[Conflict])
+        ensures { self.new ≡ left_by went.now self.old }
+    {
+        for conflict in went {
+            self.all.remove(conflict);
+        }
+    }
+
+    fn insert_all(&mut self, came: &[Conflict]) -> Result<(), AllocError>
+        ensures ok { OnOk result (self.new ≡ sorted (self.old ++ came.now)) }
+        ensures err { OnErr result (IsHalfPut self.old came.now self.new) }
+        ensures sorted { IsStrictlySortedBy conflict_cmp self.new }
+    {
+        for conflict in came {
+            self.all.insert(*conflict)?;
+        }
+        Ok(())
     }
 }
