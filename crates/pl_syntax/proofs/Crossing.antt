@@ -40,14 +40,31 @@ timeline_send = search (sendable, crosses) depth 40
 pub timeline_sync : IsSync AstTimeline.the_field.row
 timeline_sync = search (sendable, crosses) depth 40
 
+pub ruleset kind_parts = (
+  expression.both_send-AstExpr,
+  expression.both_sync-AstExpr,
+  param_send,
+  param_sync,
+  reservation_send,
+  reservation_sync,
+  link_send,
+  link_sync,
+  alternative_send,
+  alternative_sync,
+)
+
 pub kind_send : IsSend AstKind.the_field.row
-kind_send = search (expression.both_send-AstExpr, param_send, reservation_send, link_send, alternative_send, sendable, crosses) depth 40 fits 6000
+kind_send = search (kind_parts, sendable, crosses) depth 40 fits 6000
 
 pub kind_sync : IsSync AstKind.the_field.row
-kind_sync = search (expression.both_sync-AstExpr, param_sync, reservation_sync, link_sync, alternative_sync, sendable, crosses) depth 40 fits 6000
+kind_sync = search (kind_parts, sendable, crosses) depth 40 fits 6000
+
+pub ruleset item_parts = (timeline_send, timeline_sync, kind_send, kind_sync)
 
 pub item_send : IsSend Item.the_field.row
-item_send = search (timeline_send, kind_send, sendable, crosses) depth 40 fits 6000
+item_send = search (item_parts, sendable, crosses) depth 40
 
 pub item_sync : IsSync Item.the_field.row
-item_sync = search (timeline_sync, kind_sync, sendable, crosses) depth 40 fits 6000
+item_sync = search (item_parts, sendable, crosses) depth 40
+
+pub ruleset tree_parts = (item_send, item_sync)
