@@ -7,6 +7,7 @@ use Rattle.std.proofs.lemmas.List.{length-take, take-append-le}
 use Rattle.std.specs.Io.KnownBytes.{IsAtEnd}
 use Rattle.pl_io.specs.Lines.{has_newline, first_line, after_line, next_of, given, line_too_long, input_too_long, ahead}
 use Rattle.pl_io.specs.Reader.{Reader}
+use Rattle.pl_io.specs.Sparing.{shows_next}
 use Rattle.pl_io.specs.Reading.{ShowsLine, IsOpen, Reaches, last_of}
 use Rattle.pl_io.proofs.LineLaws.{lines_of_next}
 use Rattle.pl_io.proofs.FirstLine.{first_line-append, after_line-append, has_newline-append, first_line-grows, first_line-whole, after_line-whole, first_line-take, after_line-drop, first_line-no_newline, newline-from_length, no_newline-from_length, first_line-le, take-more, next_of-judged, judged-line_too_long, judged-input_too_long, judged-given, judged-last}
@@ -66,18 +67,40 @@ shows_line limit room held fits less =
       newline = omega (arith, length-take room held);
       within = omega (arith, length-take room held);
       fits = fits;
+      first = ap length (sym held_first);
       no_newline = rw front (first_line-no_newline held);
       next = next;
       lines = λ more. lines_of_next limit room (held ++ more) (take (length (first_line seen)) held) (after_line (held ++ more)) (next more);
       after = λ more. after_line-append held more held_found ∙ ap (λ xs. xs ++ more) (sym (after_line-drop held) ∙ ap (λ line. drop (length line + 1) held) held_first);
     }
 
+shows_nothing : (limit room : ℕ) (held : List ℕ) → take room held ≡ held → has_newline held ≡ false
+    → length (first_line held) ≤ limit → length held ≤ room → shows_next limit room held ≡ false
+shows_nothing limit room held all none short within = rw (all, none) (grind arith)
+
+-- what one read brings behind bytes in which no line ends
+pub read_behind : (limit : ℕ) (held filled : List ℕ) (count : ℕ) → take (length held) filled ≡ held
+    → length filled ≡ length held + count → count ≤ 4096 → has_newline held ≡ false → length held ≤ limit
+    → (length filled ≤ length (first_line filled) + 4096) × (length filled ≤ limit + 4096)
+read_behind limit held filled count front grows few none short =
+    let whole : filled ≡ held ++ drop (length held) filled =
+    subst (λ (xs : List ℕ). filled ≡ xs ++ drop (length held) filled) front (sym (take-append-drop (length held) filled)) in
+    let longer : length (first_line held) ≤ length (first_line filled) = rw whole (first_line-grows held (drop (length held) filled)) in
+    let same : length (first_line held) ≡ length held = ap length (first_line-whole held none) in
+    (omega (arith, longer, same, grows, few), omega (arith, grows, few, short))
+
 pub shows_open : (limit room : ℕ) (held : List ℕ) → length (first_line (take room held)) ≤ limit → length (take room held) ≤ length (first_line (take room held))
     → length held ≤ room → IsOpen limit room held
 shows_open limit room held fits open_line within =
     let all : take room held ≡ held = grind (arith, common_steps) in
     let none : has_newline held ≡ false = no_newline-from_length held (rw all at open_line) in
-    record { no_newline = none; fits = rw (all, first_line-whole held none) at fits; within = within }
+    let short : length (first_line held) ≤ limit = rw all at fits in
+    record {
+      no_newline = none;
+      fits = rw (all, first_line-whole held none) at fits;
+      within = within;
+      shows = shows_nothing limit room held all none short within;
+    }
 
 pub next_of-open : (limit room : ℕ) (held : List ℕ) → IsOpen limit room held → 0 < length held → next_of limit room held ≡ given held []
 next_of-open limit room held shown some =

@@ -3,4 +3,5 @@ pub mod Fakes
 pub mod Lines
 pub mod Reader
 pub mod Reading
+pub mod Sparing
 pub mod Writes

@@ -5,14 +5,16 @@ use Rattle.pl_io.specs.declared.errors.LineFault.TheVariants.{Read, Long, Total,
 use Rattle.pl_io.specs.declared.judging.Look.{Look}
 use Rattle.pl_io.specs.declared.judging.Look.TheVariants.{Whole, TooLong, PastTotal, Open}
 use Rattle.pl_io.specs.Faults.{Rose}
-use Rattle.pl_io.specs.Lines.{has_newline, after_line, lines_of, next_of, given, ended, line_too_long, input_too_long}
+use Rattle.pl_io.specs.Lines.{has_newline, first_line, after_line, lines_of, next_of, given, ended, line_too_long, input_too_long}
 use Rattle.pl_io.specs.Reader.{Reader, NumberedLine, GaveLine, FaultShown}
+use Rattle.pl_io.specs.Sparing.{shows_next, read_size}
 
 -- a whole line of this many bytes stands at the front, whatever follows
 pub record ShowsLine (limit room : ℕ) (held : List ℕ) (len : ℕ) : Type 0 where
   pub newline : len < length held
   pub within : len < room
   pub fits : len ≤ limit
+  pub first : len ≡ length (first_line held)
   pub no_newline : has_newline (take len held) ≡ false
   pub next : (more : List ℕ)
       → next_of limit room (held ++ more) ≡ given (take len held) (after_line (held ++ more))
@@ -25,6 +27,7 @@ pub record IsOpen (limit room : ℕ) (held : List ℕ) : Type 0 where
   pub no_newline : has_newline held ≡ false
   pub fits : length held ≤ limit
   pub within : length held ≤ room
+  pub shows : shows_next limit room held ≡ false
 
 -- what the held bytes show, whatever follows them
 abbrev pub Shows : (limit room : ℕ) (held : List ℕ) → Look → Type 0
@@ -84,3 +87,9 @@ abbrev pub Advances : (old new : Reader) → Result (Option NumberedLine) LineFa
 Advances old new (Ok (Some line)) = GaveLine old new line
 Advances old new (Ok None) = (new ≡ old) × (old.held ≡ [])
 Advances old new (Err fault) = (new ≡ record old { held = new.held }) × FaultShown old new fault
+
+-- Once a reader has read far enough, the bytes that it holds behind the line are fewer than one read asks for.
+abbrev pub ReachesSparing : (limit : ℕ) (held : List ℕ) → Result (Option ℕ) LineFault → Type 0
+ReachesSparing limit held (Ok (Some len)) = length held ≤ len + read_size
+ReachesSparing limit held (Ok None) = held ≡ []
+ReachesSparing limit held (Err fault) = length held ≤ limit + read_size

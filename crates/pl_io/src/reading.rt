@@ -1,10 +1,11 @@
 //! The steps of a line reader.
-ghost use Rattle.std.specs.Prelude.{◌≡◌, ℕ, ◌+◌, ◌-◌, ◌≤◌, length, take, drop, min, None, Some, IfSome, IfOk, IfErr, OnErr, IsErrOf};
+ghost use Rattle.std.specs.Prelude.{◌≡◌, ℕ, ◌+◌, ◌-◌, ◌<◌, ◌≤◌, IsTrue, length, take, drop, min, None, Some, IfSome, IfOk, IfErr, OnErr, IsErrOf};
 ghost use Rattle.std.specs.Io.KnownBytes.{IsAtEnd};
 ghost use Rattle.pl_io.specs.Faults.{Rose};
 ghost use Rattle.pl_io.specs.Lines.{ahead};
 ghost use Rattle.pl_io.specs.Reader.{Moves, Answers, Repeats};
-ghost use Rattle.pl_io.specs.Reading.{HoldsLine, FailsOutside, Settles, Reaches, Advances, last_of};
+ghost use Rattle.pl_io.specs.Reading.{HoldsLine, FailsOutside, Settles, Reaches, ReachesSparing, Advances, last_of};
+ghost use Rattle.pl_io.specs.Sparing.{shows_next, read_size, IsSparing};
 
 use crate::errors::LineFault;
 use crate::judging::{Look, judge};
@@ -20,6 +21,9 @@ impl LineReader {
     fn fill<S: Source>(&mut self, src: &mut S) -> Result<usize, LineFault>
         ensures kept { self.new ≡ record self.old { held = self.new.held } }
         ensures grows { IfOk result (λ count. length self.new.held ≡ length self.old.held + count) }
+        ensures front { IfOk result (λ _. take (length self.old.held) self.new.held ≡ self.old.held) }
+        ensures few { IfOk result (λ count. count ≤ read_size) }
+        ensures err { OnErr result (self.new ≡ self.old) }
         ensures same { IfOk result (λ count.
             count ≡ 0 → (self.new.held ≡ self.old.held) × IsAtEnd (S.left src.new)) }
         ensures ahead { IfOk result (λ _. IfSome (ahead self.old.held (S.left src.old)) (λ bytes.
@@ -65,6 +69,8 @@ impl LineReader {
         ensures settles { Settles self.old self.new result }
         ensures exact { IfSome (ahead self.old.held (S.left src.old)) (λ bytes.
             Reaches self.old self.new bytes (ahead self.new.held (S.left src.new)) result) }
+        ensures idle { IsTrue (shows_next self.old.limit self.old.room self.old.held) → src.new ≡ src.old }
+        ensures sparing { length self.old.held < read_size → ReachesSparing self.old.limit self.new.held result }
         ensures later { S.faults src.old ≤ S.faults src.new }
         ensures failed { IsErrOf result LineFault.Read → Rose (S.faults src.old) (S.faults src.new) }
     {
@@ -103,6 +109,8 @@ impl LineReader {
         ensures moves { Advances self.old self.new result }
         ensures exact { IfSome (ahead self.old.held (S.left src.old)) (λ bytes.
             Answers self.old self.new bytes (ahead self.new.held (S.left src.new)) result) }
+        ensures idle { IsTrue (shows_next self.old.limit self.old.room self.old.held) → src.new ≡ src.old }
+        ensures sparing { length self.old.held < read_size → IsSparing self.old.limit self.new.held result }
         ensures later { S.faults src.old ≤ S.faults src.new }
         ensures failed { IsErrOf result LineFault.Read → Rose (S.faults src.old) (S.faults src.new) }
     {
@@ -113,11 +121,15 @@ impl LineReader {
     }
 
     /// The next line, or `None` at the end of the input. It reads only where the bytes that it holds
-    /// have no whole line. After a fault it answers the same fault from then on.
+    /// show nothing of the next line's end. After a fault it answers the same fault from then on.
     pub fn next<S: Source>(&mut self, src: &mut S) -> Result<Option<Line>, LineFault>
         ensures exact { self.old.failed ≡ None → IfSome (ahead self.old.held (S.left src.old)) (λ bytes.
             Answers self.old self.new bytes (ahead self.new.held (S.left src.new)) result) }
         ensures moves { Moves self.old self.new result }
+        ensures idle { IsTrue (shows_next self.old.limit self.old.room self.old.held)
+            → src.new ≡ src.old }
+        ensures sparing { self.old.failed ≡ None → length self.old.held < read_size
+            → IsSparing self.old.limit self.new.held result }
         ensures failed { IsErrOf result LineFault.Read → self.old.failed ≡ None
             → Rose (S.faults src.old) (S.faults src.new) }
         ensures repeats { IfSome self.old.failed (Repeats self.old self.new src.old src.new result) }
