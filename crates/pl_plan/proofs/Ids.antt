@@ -1,13 +1,13 @@
 -- Where an id stands among activities of rising ids, and what a search for it finds.
-use Rattle.std.proofs.Common.{◌≡◌, ◌≢◌, ⊎_elim, ℕ, zero, suc, ◌+◌, ◌<◌, ◌≤◌, eqb, ltb, Bool, true, false, List, [], ◌∷◌, length, get_or, drop, Some, None, Result, Ok, Err, IfOk, IfErr, refl, sym, ap, arith}
+use Rattle.std.proofs.Common.{◌≡◌, ◌≢◌, ⊎_elim, ℕ, zero, suc, ◌+◌, ◌<◌, ◌≤◌, eqb, ltb, Bool, true, false, List, [], ◌∷◌, length, get_or, take, set, Some, None, Result, Ok, Err, IfOk, IfErr, refl, sym, ap, ◌∙◌, subst, arith}
 use Rattle.std.specs.List.{All, insert, remove}
 use Rattle.std.specs.List.Sorted.{IsSearchInRange, IsBinarySearchResult, IsNonDecreasingBy}
 use Rattle.std.specs.Ordering.{nat_cmp, ordering_index}
 use Rattle.std.proofs.lemmas.Cmp.{ranked}
-use Rattle.std.proofs.lemmas.Bool.{cases_lt, eq-eqb, ne_eqb, lt-ltb, le-ltb, ltb-true, ltb-false, eqb-false}
+use Rattle.std.proofs.lemmas.Bool.{cases_lt, eq-eqb, ne_eqb, lt-ltb, le-ltb, ltb-true, ltb-false, eqb-true, eqb-false}
 use Rattle.std.proofs.lemmas.Bool.Decides.{nat_tests}
 use Rattle.pl_plan.specs.declared.activity.Activity.{Activity}
-use Rattle.pl_plan.specs.Activities.{RiseFrom, AreRising, activity_of, placed, without, behind}
+use Rattle.pl_plan.specs.Activities.{RiseFrom, AreRising, activity_of, placed, without, exchanged}
 use Rattle.pl_plan.specs.Places.{IsPlaceOf, IsGapFor}
 
 -- ids do not lie below where they begin to rise
@@ -38,13 +38,19 @@ taken_at (x ∷ xs) c (suc i) id d rising lt is =
     let above = rises_above xs (suc x.id) i d rising.1 in_range in
     rw (ne_eqb x.id id (λ e. omega (arith, above, is, e))) (ap (λ l. x ∷ l) (taken_at xs (suc x.id) i id d rising.1 in_range is))
 
-pub behind_at : (xs : List Activity) (c i id : ℕ) (d : Activity) → RiseFrom c xs → i < length xs → (get_or xs i d).id ≡ id → behind id xs ≡ drop (suc i) xs
-behind_at [] c i id d rising lt is = absurd (omega (arith, lt))
-behind_at (x ∷ xs) c zero id d rising lt is = rw (eq-eqb x.id id is) refl
-behind_at (x ∷ xs) c (suc i) id d rising lt is =
+others_keep : (a : Activity) (xs : List Activity) (c : ℕ) → RiseFrom c xs → a.id < c → exchanged a xs ≡ xs
+others_keep a [] c rising lt = refl
+others_keep a (x ∷ xs) c rising lt =
+    let more = others_keep a xs (suc x.id) rising.1 (omega (arith, lt, rising.0)) in
+    rw (ne_eqb x.id a.id (λ e. omega (arith, lt, rising.0, e))) (ap (λ l. x ∷ l) more)
+
+changed_at : (a : Activity) (xs : List Activity) (c i : ℕ) (d : Activity) → RiseFrom c xs → i < length xs → (get_or xs i d).id ≡ a.id → exchanged a xs ≡ set xs i a
+changed_at a [] c i d rising lt is = absurd (omega (arith, lt))
+changed_at a (x ∷ xs) c zero d rising lt is = rw (eq-eqb x.id a.id is) (ap (λ l. a ∷ l) (others_keep a xs (suc x.id) rising.1 (omega (arith, is))))
+changed_at a (x ∷ xs) c (suc i) d rising lt is =
     let in_range : i < length xs = omega (arith, lt) in
     let above = rises_above xs (suc x.id) i d rising.1 in_range in
-    rw (ne_eqb x.id id (λ e. omega (arith, above, is, e))) (behind_at xs (suc x.id) i id d rising.1 in_range is)
+    rw (ne_eqb x.id a.id (λ e. omega (arith, above, is, e))) (ap (λ l. x ∷ l) (changed_at a xs (suc x.id) i d rising.1 in_range is))
 
 -- smaller ids before the place, and larger ones from it on
 record IsGap (id : ℕ) (xs : List Activity) (at : ℕ) : Type 0 where
@@ -106,8 +112,8 @@ module _ (xs : List Activity) (rising : AreRising xs) (id : ℕ) where
           here = λ d. found_at xs 0 at id d rising in_range (is d);
           present = λ all. let d = no_activity in all at d in_range (is d);
           is = is;
-          rest = let d = no_activity in behind_at xs 0 at id d rising in_range (is d);
           taken = let d = no_activity in taken_at xs 0 at id d rising in_range (is d);
+          changed = λ a same. let d = no_activity in changed_at a xs 0 at d rising in_range (is d ∙ sym same);
         };
         absent = tt;
       }
@@ -167,3 +173,31 @@ length-without id (x ∷ xs) = cases (eqb x.id id) refl (length-without id xs)
     cases : (b : Bool) → eqb x.id id ≡ b → length (without id xs) ≤ length xs → length (without id (x ∷ xs)) ≤ length (x ∷ xs)
     cases true e more = rw e (omega arith)
     cases false e more = rw e (omega (arith, more))
+
+pub rising-exchanged : (a : Activity) (c : ℕ) (xs : List Activity) → RiseFrom c xs → RiseFrom c (exchanged a xs)
+rising-exchanged a c [] rising = tt
+rising-exchanged a c (x ∷ xs) rising = cases (eqb x.id a.id) refl (rising-exchanged a (suc x.id) xs rising.1)
+  where
+    cases : (b : Bool) → eqb x.id a.id ≡ b → RiseFrom (suc x.id) (exchanged a xs) → RiseFrom c (exchanged a (x ∷ xs))
+    cases true e more =
+        let same = eqb-true x.id a.id e in
+        let P : ℕ → Type 0 = λ n. (c ≤ n) × RiseFrom (suc n) (exchanged a xs) in
+        rw e (subst P same (rising.0, more))
+    cases false e more = rw e (rising.0, more)
+
+-- what stands at a place is not before it, and follows what is
+pub next_absent : (xs : List Activity) (c k : ℕ) (d : Activity) → RiseFrom c xs → k < length xs → activity_of (get_or xs k d).id (take k xs) ≡ None
+next_absent [] c k d rising lt = absurd (omega (arith, lt))
+next_absent (x ∷ xs) c zero d rising lt = refl
+next_absent (x ∷ xs) c (suc k) d rising lt =
+    let in_range : k < length xs = omega (arith, lt) in
+    let above = rises_above xs (suc x.id) k d rising.1 in_range in
+    rw (ne_eqb x.id (get_or xs k d).id (λ e. omega (arith, above, e))) (next_absent xs (suc x.id) k d rising.1 in_range)
+
+pub next_placed : (xs : List Activity) (c k : ℕ) (d : Activity) → RiseFrom c xs → k < length xs → placed (get_or xs k d) (take k xs) ≡ take (suc k) xs
+next_placed [] c k d rising lt = absurd (omega (arith, lt))
+next_placed (x ∷ xs) c zero d rising lt = refl
+next_placed (x ∷ xs) c (suc k) d rising lt =
+    let in_range : k < length xs = omega (arith, lt) in
+    let above = rises_above xs (suc x.id) k d rising.1 in_range in
+    rw (lt-ltb x.id (get_or xs k d).id (omega (arith, above))) (ap (λ l. x ∷ l) (next_placed xs (suc x.id) k d rising.1 in_range))

@@ -1,9 +1,15 @@
 pub mod Ids
+pub mod Lookups
+pub mod Indexing
+pub mod RisingIds
+pub mod Pairs
+pub mod Owned
+pub mod Keeping
 pub mod Climbs
-pub mod Subtrees
 pub mod ValueSteps
 pub mod FirmSteps
 pub mod Rounds
 pub mod TreeLaws
 pub mod ValueLaws
 pub mod Members
+pub mod Subtrees

@@ -1,5 +1,5 @@
 -- What a subtree holds, and that its ids rise.
-use Rattle.std.proofs.Common.{◌≡◌, ℕ, zero, suc, ◌<◌, ◌≤◌, eqb, Bool, true, false, List, [], ◌∷◌, length, get_or, map, refl, sym, subst, arith, add-one}
+use Rattle.std.proofs.Common.{◌≡◌, ℕ, zero, suc, ◌<◌, ◌≤◌, eqb, Bool, true, false, List, [], ◌∷◌, length, get_or, map, refl, sym, subst, arith}
 use Rattle.std.specs.Prelude.{All, Contains, filter, ◌↔◌}
 use Rattle.std.specs.List.Sorted.{IsStrictlyIncreasing}
 use Rattle.std.proofs.lemmas.Bool.{eq-eqb, eqb-true}
@@ -7,6 +7,7 @@ use Rattle.std.proofs.lemmas.List.Elements.{All-nil, All-cons, All-weaker, All-c
 use Rattle.pl_plan.specs.declared.activity.Activity.{Activity}
 use Rattle.pl_plan.specs.Activities.{RiseFrom, AreRising, IsLive}
 use Rattle.pl_plan.specs.Trees.{id_of, IsRooted, Descends, descends, subtree_of}
+use Rattle.pl_plan.proofs.RisingIds.{RiseIds, filter_rises, increases}
 use Rattle.pl_plan.proofs.TreeLaws.{descends_sound, descends_complete}
 
 contains_cons : (y : ℕ) (ids : List ℕ) (q : ℕ) → Contains ids q → Contains (y ∷ ids) q
@@ -67,39 +68,9 @@ subtree_members xs rooted top id = (there, back)
 
 -- ---- rising ids
 
-RiseIds : ℕ → List ℕ → Type 0
-RiseIds c [] = Unit {0}
-RiseIds c (n ∷ ids) = (c ≤ n) × RiseIds (suc n) ids
-
-ids_rise : (c : ℕ) (xs : List Activity) → RiseFrom c xs → RiseIds c (map id_of xs)
-unfolding RiseIds
+pub ids_rise : (c : ℕ) (xs : List Activity) → RiseFrom c xs → RiseIds c (map id_of xs)
 ids_rise c [] rising = tt
 ids_rise c (x ∷ xs) rising = (rising.0, ids_rise (suc x.id) xs rising.1)
 
-rise_weaker : (b c : ℕ) (ids : List ℕ) → b ≤ c → RiseIds c ids → RiseIds b ids
-unfolding RiseIds
-rise_weaker b c [] le rise = tt
-rise_weaker b c (n ∷ ids) le rise = (omega (arith, le, rise.0), rise.1)
-
-filter_rises : (p : ℕ → Bool) (c : ℕ) (ids : List ℕ) → RiseIds c ids → RiseIds c (filter p ids)
-unfolding RiseIds
-filter_rises p c [] rise = tt
-filter_rises p c (n ∷ ids) rise = cases (p n) refl (filter_rises p (suc n) ids rise.1)
-  where
-    cases : (b : Bool) → p n ≡ b → RiseIds (suc n) (filter p ids) → RiseIds c (filter p (n ∷ ids))
-    cases true e more = rw e (rise.0, more)
-    cases false e more = rw e (rise_weaker c (suc n) (filter p ids) (omega (arith, rise.0)) more)
-
-first_above : (c : ℕ) (ids : List ℕ) → RiseIds c ids → 0 < length ids → c ≤ get_or ids 0 0
-unfolding RiseIds
-first_above c [] rise lt = absurd (omega (arith, lt))
-first_above c (n ∷ ids) rise lt = rise.0
-
-increases : (c : ℕ) (ids : List ℕ) → RiseIds c ids → (k : ℕ) → suc k < length ids → get_or ids k 0 < get_or ids (suc k) 0
-unfolding RiseIds
-increases c [] rise k lt = absurd (omega (arith, lt))
-increases c (n ∷ ids) rise zero lt = first_above (suc n) ids rise.1 (omega (arith, lt))
-increases c (n ∷ ids) rise (suc k) lt = increases (suc n) ids rise.1 k (omega (arith, lt))
-
 pub subtree_rises : (xs : List Activity) → AreRising xs → (top : ℕ) → IsStrictlyIncreasing (subtree_of top xs)
-subtree_rises xs rising top k lt = rw add-one (increases 0 (subtree_of top xs) (filter_rises (descends xs top) 0 (map id_of xs) (ids_rise 0 xs rising)) k (omega (arith, lt)))
+subtree_rises xs rising top = increases 0 (subtree_of top xs) (filter_rises (descends xs top) 0 (map id_of xs) (ids_rise 0 xs rising))

@@ -1,5 +1,5 @@
 -- Activities by rising id.
-use Rattle.std.specs.Prelude.{ℕ, suc, ◌≤◌, ◌==◌, nat_lt, if◌then◌else◌, List, [], ◌∷◌, Option, Some, None, IsSome}
+use Rattle.std.specs.Prelude.{◌≡◌, ℕ, suc, ◌≤◌, ◌==◌, nat_lt, if◌then◌else◌, List, [], ◌∷◌, map, Option, Some, None, IsSome}
 use Rattle.pl_plan.specs.declared.activity.Activity.{Activity}
 
 -- ids rise, from this one on
@@ -30,7 +30,10 @@ abbrev pub without : ℕ → List Activity → List Activity
 without id [] = []
 without id (a ∷ more) = if a.id == id then more else a ∷ without id more
 
--- the activities behind the one of this id
-abbrev pub behind : ℕ → List Activity → List Activity
-behind id [] = []
-behind id (a ∷ more) = if a.id == id then more else behind id more
+-- with another activity in the place of the one of its id
+abbrev pub exchanged : Activity → List Activity → List Activity
+exchanged a activities = map (λ x. if x.id == a.id then a else x) activities
+
+-- the activity of its id has the same parent and the same goal
+abbrev pub KeepsPlace : Activity → List Activity → Type 0
+KeepsPlace a activities = (b : Activity) → activity_of a.id activities ≡ Some b → (b.parent ≡ a.parent) × (b.goal ≡ a.goal)

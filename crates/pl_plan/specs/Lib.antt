@@ -1,6 +1,10 @@
 pub mod Activities
+pub mod State
 pub mod Places
+pub mod Index
 pub mod Trees
+pub mod Serving
+pub mod Indexed
 pub mod Fitting
 pub mod Values
 pub mod Firm

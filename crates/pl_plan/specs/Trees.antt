@@ -1,9 +1,9 @@
 -- How activities stand in trees: each may have a parent.
-use Rattle.std.specs.Prelude.{◌≡◌, ℕ, zero, suc, ◌<◌, ◌==◌, ◌||◌, Bool, false, List, [], ◌∷◌, ◌++◌, map, filter, All, Option, Some, None, IfSome, unwrap_or, option_and_then, if◌then◌else◌}
+use Rattle.std.specs.Prelude.{◌≡◌, ℕ, zero, suc, ◌<◌, ◌==◌, ◌||◌, Bool, false, List, map, filter, All, Option, Some, None, IfSome, unwrap_or, option_and_then}
 use Rattle.std.specs.Option.{option_map}
-use Rattle.std.specs.List.{list_any}
 use Rattle.pl_plan.specs.declared.activity.Activity.{Activity}
 use Rattle.pl_plan.specs.Activities.{activity_of, IsLive}
+use Rattle.pl_plan.specs.Index.{is_number}
 
 abbrev pub id_of : Activity → ℕ
 id_of a = a.id
@@ -39,12 +39,8 @@ climb rule activities id = climbed rule id activities id
 
 -- ---- children
 
-abbrev pub names_parent : ℕ → Option (ℕ × ℕ) → Bool
-names_parent id None = false
-names_parent id (Some p) = p.0 == id
-
 abbrev pub is_child : ℕ → Activity → Bool
-is_child id a = names_parent id a.parent
+is_child id a = is_number id (parent_in a)
 
 -- the ids of those whose parent this one is, by rising id
 abbrev pub children_of : ℕ → List Activity → List ℕ
@@ -74,14 +70,3 @@ descends activities top id = climb (descent_rule top) activities id
 -- the ids of all that descend from this one, by rising id
 abbrev pub subtree_of : ℕ → List Activity → List ℕ
 subtree_of top activities = filter (descends activities top) (map id_of activities)
-
--- ---- a subtree, child by child
-
-abbrev pub is_among : List ℕ → Option (ℕ × ℕ) → Bool
-is_among ids None = false
-is_among ids (Some p) = list_any (λ q. q == p.0) ids
-
--- these ids, and behind them those of the activities whose parent is among them or among those added before
-abbrev pub grown : List ℕ → List Activity → List ℕ
-grown ids [] = ids
-grown ids (a ∷ more) = grown (if is_among ids a.parent then ids ++ a.id ∷ [] else ids) more

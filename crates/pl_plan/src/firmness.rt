@@ -18,9 +18,9 @@ impl Plan {
     /// Whether the activity has its values, its duration and its amounts, all in range.
     pub fn firm(&self, model: &Model, id: u32) -> bool
         requires checked { IsChecked model.now }
-        requires fits { Fits model.now self.now }
-        requires live { IsLive id self.now }
-        ensures { result ≡ is_firm model.now self.now id }
+        requires fits { Fits model.now self.now.activities }
+        requires live { IsLive id self.now.activities }
+        ensures { result ≡ is_firm model.now self.now.activities id }
     {
         let kind = kind_in(model, self.fitted(model, id));
         is_firm(model.horizon, kind, self.values(model, id).as_slice())
@@ -29,10 +29,10 @@ impl Plan {
     /// The moment at which the activity ends, if it is firm.
     pub fn end(&self, model: &Model, id: u32) -> Option<u32>
         requires checked { IsChecked model.now }
-        requires fits { Fits model.now self.now }
-        requires live { IsLive id self.now }
-        ensures value { result ≡ end_of model.now self.now id }
-        ensures none { IsNone result ↔ (is_firm model.now self.now id ≡ false) }
+        requires fits { Fits model.now self.now.activities }
+        requires live { IsLive id self.now.activities }
+        ensures value { result ≡ end_of model.now self.now.activities id }
+        ensures none { IsNone result ↔ (is_firm model.now self.now.activities id ≡ false) }
     {
         let activity = self.fitted(model, id);
         let kind = kind_in(model, activity);

@@ -2,7 +2,9 @@
 #![tactic(auto)]
 
 mod activity;
+mod families;
 mod firmness;
+mod index;
 mod laws;
 mod plan;
 mod repair;

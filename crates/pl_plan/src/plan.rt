@@ -1,45 +1,50 @@
-ghost use Rattle.std.specs.Prelude.{◌≡◌, ◌≢◌, ◌↔◌, All, IsNone, ◌<◌, ◌≤◌, [], length, slice_get, OnOk, OnErr, IfOk, IfErr, Some, None};
+ghost use Rattle.std.specs.Prelude.{◌≡◌, ◌≢◌, ◌↔◌, All, IsNone, ◌+◌, ◌^◌, ◌<◌, ◌≤◌, [], length, slice_get, OnOk, OnErr, IfOk, IfErr, Some, None};
 ghost use Rattle.std.specs.Option.{option_copied};
-ghost use Rattle.pl_plan.specs.Activities.{AreRising, IsLive, activity_of, placed, without, behind};
+ghost use Rattle.pl_plan.specs.Activities.{AreRising, IsLive, KeepsPlace, activity_of, placed, without, exchanged};
+ghost use Rattle.pl_plan.specs.Indexed.{AreIndexed};
 ghost use Rattle.pl_plan.specs.Places.{IsPlaceOf, IsGapFor};
 
 use crate::activity::Activity;
+use crate::families::Families;
 use pl_lists::Copied;
 use std::alloc::{AllocError, Global};
 use std::marker::Model;
+use std::mem;
 
-/// The live activities, which contracts see by rising id.
+/// A plan: the live activities, which contracts see by rising id.
 #[derive(Debug, Drop)]
 pub struct Plan {
     activities: Vec<Activity>,
+    families: Families,
 }
 
 impl Model for Plan {
-    ghost use Rattle.std.specs.Prelude.{List, ◌<◌, ◌^◌, length};
-    ghost use Rattle.pl_plan.specs.declared.activity.Activity.{Activity};
+    ghost use Rattle.std.specs.Prelude.{◌<◌, ◌^◌, length};
+    ghost use Rattle.pl_plan.specs.State.{PlanState};
 
-    ghost Value = { List Activity };
+    ghost Value = { PlanState };
 
-    ghost use Rattle.pl_plan.specs.Activities.{AreRising};
+    ghost use Rattle.pl_plan.specs.Indexed.{AreIndexed};
 
-    ghost view = { λ p. p.activities.items };
+    ghost view = { λ p. record { activities = p.activities.items } };
 
-    ghost invariant = { λ p. AreRising p.activities.items × (length p.activities.items < 2 ^ 32) };
+    ghost invariant = { λ p. AreIndexed p.activities.items p.families.children p.families.servers × (length p.activities.items < 2 ^ 32) };
 }
 
 impl Plan {
     pub fn new(alloc: Global) -> Plan
-        ensures { result ≡ [] }
+        ensures { result.activities ≡ [] }
     {
         Plan {
             activities: Vec::new(alloc),
+            families: Families::new(alloc),
         }
     }
 
     /// Puts an activity in its place.
     pub fn put(&mut self, a: Activity) -> Result<(), AllocError>
-        requires { activity_of a.id self.old ≡ None }
-        ensures ok { OnOk result (self.new ≡ placed a self.old) }
+        requires { activity_of a.id self.old.activities ≡ None }
+        ensures ok { OnOk result (self.new.activities ≡ placed a self.old.activities) }
         ensures err { OnErr result (self.new ≡ self.old) }
     {
         if self.activities.len() >= u32::MAX as usize {
@@ -47,26 +52,59 @@ impl Plan {
         }
         match self.search(a.id) {
             Ok(_) => unreachable!(),
-            Err(at) => Ok(self.activities.insert(at, a)?),
+            Err(at) => self.put_at(at, a),
         }
     }
 
     /// Takes the activity of this id out.
     pub fn take(&mut self, id: u32) -> Option<Activity>
-        ensures value { result ≡ activity_of id self.old }
-        ensures none { IsNone result ↔ All (λ a. a.id ≢ id) self.old }
-        ensures after { self.new ≡ without id self.old }
+        ensures value { result ≡ activity_of id self.old.activities }
+        ensures none { IsNone result ↔ All (λ a. a.id ≢ id) self.old.activities }
+        ensures after { self.new.activities ≡ without id self.old.activities }
     {
         match self.search(id) {
-            Ok(at) => Some(self.activities.remove(at)),
+            Ok(at) => Some(self.take_at(at, id)),
             Err(_) => None,
         }
     }
 
+    fn put_at(&mut self, at: usize, a: Activity) -> Result<(), AllocError>
+        requires few { length self.old.activities + 1 < 2 ^ 32 }
+        requires gap { IsGapFor a.id self.old.activities at }
+        ensures ok { OnOk result (self.new.activities ≡ placed a self.old.activities) }
+        ensures err { OnErr result (self.new ≡ self.old) }
+    {
+        self.activities.reserve(1)?;
+        self.families.enter(&a)?;
+        self.activities.insert(at, a).unwrap();
+        Ok(())
+    }
+
+    fn take_at(&mut self, at: usize, id: u32) -> Activity
+        requires { IsPlaceOf id self.old.activities at }
+        ensures value { activity_of id self.old.activities ≡ Some result }
+        ensures after { self.new.activities ≡ without id self.old.activities }
+    {
+        let a = self.activities.remove(at);
+        self.families.leave(&a);
+        a
+    }
+
+    /// Puts an activity in the place of the one of its id, and answers that one. It takes no memory.
+    pub fn exchange(&mut self, a: Activity) -> Activity
+        requires live { IsLive a.id self.old.activities }
+        requires place { KeepsPlace a self.old.activities }
+        ensures value { activity_of a.id self.old.activities ≡ Some result }
+        ensures after { self.new.activities ≡ exchanged a self.old.activities }
+    {
+        let at = self.place(a.id);
+        mem::replace(&mut self.activities[at], a)
+    }
+
     /// The activity of this id.
     pub fn get(&self, id: u32) -> Option<&Activity>
-        ensures value { option_copied result ≡ activity_of id self.now }
-        ensures none { IsNone result ↔ All (λ a. a.id ≢ id) self.now }
+        ensures value { option_copied result ≡ activity_of id self.now.activities }
+        ensures none { IsNone result ↔ All (λ a. a.id ≢ id) self.now.activities }
     {
         match self.search(id) {
             Ok(at) => Some(&self.activities[at]),
@@ -75,31 +113,39 @@ impl Plan {
     }
 
     pub fn len(&self) -> u32
-        ensures len { result ≡ length self.now }
-        ensures rising { AreRising self.now }
+        ensures len { result ≡ length self.now.activities }
+        ensures rising { AreRising self.now.activities }
     {
         self.activities.len() as u32
     }
 
     /// The activity at this place by rising id, places counted from 0.
     pub fn nth(&self, place: u32) -> Option<&Activity>
-        ensures value { option_copied result ≡ slice_get self.now place }
-        ensures none { IsNone result ↔ (length self.now ≤ place) }
+        ensures value { option_copied result ≡ slice_get self.now.activities place }
+        ensures none { IsNone result ↔ (length self.now.activities ≤ place) }
     {
         self.activities.get(place as usize)
     }
 
-    pub(crate) fn activities(&self) -> &[Activity]
-        ensures value { result.now ≡ self.now }
-        ensures rising { AreRising self.now }
+    /// All activities.
+    pub fn activities(&self) -> &[Activity]
+        ensures value { result.now ≡ self.now.activities }
+        ensures rising { AreRising self.now.activities }
+        ensures few { length self.now.activities < 2 ^ 32 }
     {
         &self.activities
     }
 
+    pub(crate) fn families(&self) -> &Families
+        ensures { AreIndexed self.now.activities result.now.children result.now.servers }
+    {
+        &self.families
+    }
+
     // Where the activity of this id is.
     pub(crate) fn place(&self, id: u32) -> usize
-        requires { IsLive id self.now }
-        ensures { IsPlaceOf id self.now result }
+        requires { IsLive id self.now.activities }
+        ensures { IsPlaceOf id self.now.activities result }
     {
         match self.search(id) {
             Ok(at) => at,
@@ -107,20 +153,10 @@ impl Plan {
         }
     }
 
-    // The activities behind the one of this id.
-    pub(crate) fn behind(&self, id: u32) -> &[Activity]
-        requires { IsLive id self.now }
-        ensures rest { result.now ≡ behind id self.now }
-        ensures rising { AreRising self.now }
-    {
-        let at = self.place(id);
-        &self.activities[at + 1..]
-    }
-
     // Where the activity of this id is, or where it would go.
     fn search(&self, id: u32) -> Result<usize, usize>
-        ensures found { IfOk result (IsPlaceOf id self.now) }
-        ensures absent { IfErr result (IsGapFor id self.now) }
+        ensures found { IfOk result (IsPlaceOf id self.now.activities) }
+        ensures absent { IfErr result (IsGapFor id self.now.activities) }
     {
         self.activities.binary_search_by_key(&id, |a| a.id)
     }
@@ -128,10 +164,10 @@ impl Plan {
 
 impl Copied for Plan {
     fn copy(&self, alloc: Global) -> Result<Plan, AllocError> {
-        let mut activities = Vec::new(alloc);
+        let mut plan = Plan::new(alloc);
         for activity in &self.activities {
-            activities.push(activity.copy(alloc)?)?;
+            plan.put(activity.copy(alloc)?)?;
         }
-        Ok(Plan { activities })
+        Ok(plan)
     }
 }

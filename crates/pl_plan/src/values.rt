@@ -15,10 +15,10 @@ impl Plan {
     /// The value of a parameter.
     pub fn value(&self, model: &Model, id: u32, param: u8) -> Option<i64>
         requires checked { IsChecked model.now }
-        requires fits { Fits model.now self.now }
-        requires live { IsLive id self.now }
-        requires param { param < length (params_of (option_and_then (kind_of model.now) (activity_of id self.now))) }
-        ensures { result ≡ param_value model.now self.now id param }
+        requires fits { Fits model.now self.now.activities }
+        requires live { IsLive id self.now.activities }
+        requires param { param < length (params_of (option_and_then (kind_of model.now) (activity_of id self.now.activities))) }
+        ensures { result ≡ param_value model.now self.now.activities id param }
     {
         self.values(model, id).as_slice()[param as usize]
     }
@@ -26,10 +26,10 @@ impl Plan {
     // The values of an activity's parameters.
     pub(crate) fn values(&self, model: &Model, id: u32) -> Row
         requires checked { IsChecked model.now }
-        requires fits { Fits model.now self.now }
-        requires live { IsLive id self.now }
-        ensures value { result ≡ values_of model.now self.now id }
-        ensures len { length result ≡ length (params_of (option_and_then (kind_of model.now) (activity_of id self.now))) }
+        requires fits { Fits model.now self.now.activities }
+        requires live { IsLive id self.now.activities }
+        ensures value { result ≡ values_of model.now self.now.activities id }
+        ensures len { length result ≡ length (params_of (option_and_then (kind_of model.now) (activity_of id self.now.activities))) }
     {
         let activity = self.fitted(model, id);
         let params = params_in(model, activity);
@@ -46,12 +46,12 @@ impl Plan {
 
     // The activity of this id, and what it owes.
     pub(crate) fn fitted(&self, model: &Model, id: u32) -> &Activity
-        requires fits { Fits model.now self.now }
-        requires live { IsLive id self.now }
-        ensures here { activity_of id self.now ≡ Some result.now }
+        requires fits { Fits model.now self.now.activities }
+        requires live { IsLive id self.now.activities }
+        ensures here { activity_of id self.now.activities ≡ Some result.now }
         ensures alone { FitsAlone model.now result.now }
-        ensures parented { IsParented self.now result.now }
-        ensures in_slot { IsInSlot model.now self.now result.now }
+        ensures parented { IsParented self.now.activities result.now }
+        ensures in_slot { IsInSlot model.now self.now.activities result.now }
         ensures is { result.now.id ≡ id }
     {
         &self.activities()[self.place(id)]
@@ -60,11 +60,11 @@ impl Plan {
     // What a slot of an activity binds.
     fn bindings<'m>(&self, model: &'m Model, parent: u32, slot: u32) -> &'m [(u8, Expr)]
         requires checked { IsChecked model.now }
-        requires fits { Fits model.now self.now }
-        requires live { IsLive parent self.now }
-        requires slot { slot < length (chosen_slots_of model.now (activity_of parent self.now)) }
-        ensures value { result.now ≡ bindings_at model.now self.now (Some (parent, slot)) }
-        ensures names { All (BindsBelow (length (params_of (option_and_then (kind_of model.now) (activity_of parent self.now))))) result.now }
+        requires fits { Fits model.now self.now.activities }
+        requires live { IsLive parent self.now.activities }
+        requires slot { slot < length (chosen_slots_of model.now (activity_of parent self.now.activities)) }
+        ensures value { result.now ≡ bindings_at model.now self.now.activities (Some (parent, slot)) }
+        ensures names { All (BindsBelow (length (params_of (option_and_then (kind_of model.now) (activity_of parent self.now.activities))))) result.now }
     {
         slot_bindings(model, self.fitted(model, parent), slot)
     }

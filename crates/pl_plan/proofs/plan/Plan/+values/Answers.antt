@@ -7,10 +7,10 @@ returns-in-Some-clause-value t c =
     let named : c.fitted-activity.result.now.parent ≡ Some (c.in-Some.parent, c.in-Some.slot) = search rules in
     c.settle.ensures.value
     ∙ (settled_same _ _ _ _ _ _ _ _ c.params_in-params.ensures.value c.as_slice-set.ensures c.bindings-bindings.ensures.value (c.as_slice.ensures.value ∙ c.values-above.ensures.value)
-    ∙ sym (values_at_child c.args.model.now c.args.self.now c.requires.fits.rooted c.args.id c.fitted-activity.result.now c.fitted-activity.ensures.here (c.in-Some.parent, c.in-Some.slot) named))
+    ∙ sym (values_at_child c.args.model.now c.args.self.now.activities c.requires.fits.rooted c.args.id c.fitted-activity.result.now c.fitted-activity.ensures.here (c.in-Some.parent, c.in-Some.slot) named))
 
 pub returns-in-None-clause-value : goal.returns-in-None-clause-value
 returns-in-None-clause-value t c =
     c.settle-in-None.ensures.value
     ∙ (settled_same _ _ _ _ _ _ _ _ c.params_in-params.ensures.value c.as_slice-set.ensures refl refl
-    ∙ sym (values_at_root c.args.model.now c.args.self.now c.requires.fits.rooted c.args.id c.fitted-activity.result.now c.fitted-activity.ensures.here c.in-None.is))
+    ∙ sym (values_at_root c.args.model.now c.args.self.now.activities c.requires.fits.rooted c.args.id c.fitted-activity.result.now c.fitted-activity.ensures.here c.in-None.is))

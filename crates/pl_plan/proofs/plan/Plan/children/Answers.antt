@@ -1,9 +1,12 @@
-use Rattle.std.proofs.Common.{◌≡◌, IfOk, subst, ap, ◌∙◌}
-use Rattle.pl_plan.specs.Trees.{children_of}
-use Rattle.pl_plan.proofs.Subtrees.{children_of-behind}
+use Rattle.std.proofs.Common.{◌≡◌, IfOk, subst, ℕ, List}
+use Rattle.pl_plan.specs.Trees.{parent_in}
+use Rattle.pl_plan.proofs.Owned.{indexed_list}
 use Rattle.pl_plan.proofs.plan.Plan.children.Goals as goal
 
-pub returns : goal.returns
-returns c =
-    let is = ap (children_of c.args.id) c.behind.ensures.rest ∙ children_of-behind c.args.self.now c.args.id c.requires.rooted c.behind.ensures.rising c.requires.live in
-    subst (λ l. IfOk c.children_among.result (λ ids. ids.items ≡ l)) is c.children_among.ensures
+pub returns-clause-rising : goal.returns-clause-rising
+returns-clause-rising c = c.families.ensures.rising
+
+pub returns-clause-ids : goal.returns-clause-ids
+returns-clause-ids c =
+    let tied = c.families.ensures in
+    subst (λ (l : List ℕ). IfOk c.under.result (λ ids. ids.items ≡ l)) (indexed_list parent_in c.args.id c.args.self.now.activities c.families.result.now.children tied.rising tied.children c.under.ensures.rising) c.under.ensures.ids

@@ -9,9 +9,9 @@ end_from-requires-clause-amounts c =
     amounts_named c.args.model.now kind (checked_kind c.args.model.now c.requires.checked c.fitted-activity.result.now.kind kind c.kind_in-kind.ensures) (length c.as_slice.result.now) len
 
 pub returns-clause-value : goal.returns-clause-value
-returns-clause-value c = c.end_from.ensures.value ∙ end_is c.args.model.now c.args.self.now c.args.id c.fitted-activity.result.now c.kind_in-kind.result.now c.as_slice.result.now c.fitted-activity.ensures.here c.kind_in-kind.ensures (c.as_slice.ensures.value ∙ c.values-values.ensures.value)
+returns-clause-value c = c.end_from.ensures.value ∙ end_is c.args.model.now c.args.self.now.activities c.args.id c.fitted-activity.result.now c.kind_in-kind.result.now c.as_slice.result.now c.fitted-activity.ensures.here c.kind_in-kind.ensures (c.as_slice.ensures.value ∙ c.values-values.ensures.value)
 
 pub returns-clause-none : goal.returns-clause-none
 returns-clause-none c =
-    let same = firm_is c.args.model.now c.args.self.now c.args.id c.fitted-activity.result.now c.kind_in-kind.result.now c.as_slice.result.now c.fitted-activity.ensures.here c.kind_in-kind.ensures (c.as_slice.ensures.value ∙ c.values-values.ensures.value) in
+    let same = firm_is c.args.model.now c.args.self.now.activities c.args.id c.fitted-activity.result.now c.kind_in-kind.result.now c.as_slice.result.now c.fitted-activity.ensures.here c.kind_in-kind.ensures (c.as_slice.ensures.value ∙ c.values-values.ensures.value) in
     subst (λ b. IsNone c.end_from.result ↔ (b ≡ false)) same c.end_from.ensures.none

@@ -1,10 +1,14 @@
-use Rattle.std.proofs.Common.{◌≡◌, [], ◌∷◌, ◌∙◌, rules}
-use Rattle.pl_plan.specs.Activities.{behind}
-use Rattle.pl_plan.specs.Trees.{grown}
-use Rattle.pl_plan.proofs.Subtrees.{subtree_grown}
+use Rattle.std.proofs.Common.{◌≡◌, ℕ, List, IfOk, ◌||◌, eqb, false, ap, sym, ◌∙◌, refl, subst, nat_cmp, rules}
+use Rattle.std.specs.BTreeSet.{contains}
+use Rattle.pl_plan.specs.Trees.{descends, subtree_of}
+use Rattle.pl_plan.proofs.RisingIds.{among}
+use Rattle.pl_plan.proofs.Subtrees.{subtree_is, contains_among, found_all}
 use Rattle.pl_plan.proofs.plan.Plan.subtree.Goals as goal
 
 pub returns : goal.returns
 returns c =
-    let is : c.grow.new.ids.items ≡ grown (c.args.id ∷ []) (behind c.args.id c.args.self.now) = search rules in
-    is ∙ subtree_grown c.args.self.now c.args.id c.requires.rooted c.behind.ensures.rising c.requires.live
+    let xs = c.args.self.now.activities in
+    let keys = c.gather.new.found.keys in
+    let is : IfOk c.collect.result (λ ids. ids.items ≡ keys) = search rules in
+    let all : keys ≡ subtree_of c.args.id xs = subtree_is xs c.requires.rooted c.gather.ensures.rising c.args.id keys c.requires.live c.iter.ensures.ordered (λ q. found_all xs c.args.id c.new-found.result c.gather.new.found q c.new-found.ensures.empty (c.in_ok-gather.ensures.found q)) in
+    subst (λ (l : List ℕ). IfOk c.collect.result (λ ids. ids.items ≡ l)) all is
