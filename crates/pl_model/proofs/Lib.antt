@@ -2,3 +2,4 @@ pub mod Reaches
 pub mod Levels
 pub mod Induction
 pub mod Naming
+pub mod Crossing

@@ -1,3 +1,9 @@
+pub use Rattle.pl_text.specs.Bytes
+pub use Rattle.pl_text.specs.Words
 pub mod Bounds
 pub mod Values
+pub mod Names
+pub mod Expressions
+pub mod Schedules
+pub mod Written
 pub mod Checked

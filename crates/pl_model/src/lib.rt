@@ -10,6 +10,7 @@ mod kinds;
 mod links;
 mod parameters;
 mod reservations;
+mod sharing;
 mod timelines;
 mod whole;
 
@@ -21,6 +22,7 @@ pub use kinds::Kind;
 pub use links::Link;
 pub use parameters::{Origin, Param};
 pub use reservations::{Point, Reservation};
+pub use sharing::shared_types;
 pub use timelines::Timeline;
 pub use whole::Model;
 
