@@ -83,6 +83,14 @@ impl Goals {
         self.goals.is_empty()
     }
 
+    /// All goals.
+    pub fn as_slice(&self) -> &[Goal]
+        ensures goals { result.now ≡ self.now }
+        ensures distinct { AreDistinct self.now }
+    {
+        &self.goals
+    }
+
     /// The goal at the place, counted from 0.
     pub fn nth(&self, place: u32) -> Option<&Goal>
         ensures goal { option_copied result ≡ slice_get self.now place }

@@ -5,8 +5,10 @@ mod bases;
 mod goal;
 mod goals;
 mod options;
+mod sharing;
 
 pub use bases::Bases;
 pub use goal::Goal;
 pub use goals::Goals;
 pub use options::Options;
+pub use sharing::shared_types;

@@ -59,10 +59,12 @@ module _ {R : Type 0} (rule : ℕ → Option R → R) (xs : List Activity) (root
           rw e (ap (λ r. rule id (Some r)) (more p (omega (arith, lt, le)) (omega (arith, lt, ge))))
 
   pub climb_root : (id : ℕ) → parent_of id xs ≡ None → climb rule xs id ≡ rule id None
+  unfolding climb
   climb_root zero none = refl
   climb_root (suc n) none = rw none refl
 
   pub climb_child : (id p : ℕ) → parent_of id xs ≡ Some p → climb rule xs id ≡ rule id (Some (climb rule xs p))
+  unfolding climb
   climb_child zero p is = absurd (omega (arith, (parent_smaller xs rooted zero p is).1))
   climb_child (suc n) p is =
       let lt : p < suc n = (parent_smaller xs rooted (suc n) p is).1 in

@@ -1,5 +1,5 @@
 -- What a checked kind knows of its amounts, and firmness from the kind and the values.
-use Rattle.std.proofs.Common.{◌≡◌, ℕ, List, length, Some, IfSome, sym, ap, ◌∙◌, subst}
+use Rattle.std.proofs.Common.{◌≡◌, ◌↔◌, ℕ, Bool, true, false, List, length, Option, Some, None, is_some, IsNone, IfSome, refl, sym, ap, ◌∙◌, subst}
 use Rattle.std.specs.Prelude.{All, slice_get, option_and_then}
 use Rattle.std.proofs.lemmas.Option.{slice_get_within, get_or_from_slice_get}
 use Rattle.std.proofs.lemmas.List.Elements.{All-weaker}
@@ -34,8 +34,16 @@ amounts_named model k checked n is =
 
 module _ (model : Model) (xs : List Activity) (id : ℕ) (a : Activity) (k : Kind) (row : Row) (here : activity_of id xs ≡ Some a) (kind : kind_of model a ≡ Some k) (values : row ≡ values_of model xs id) where
   pub firm_is : is_firm_with model.horizon k row ≡ is_firm model xs id
+  unfolding is_firm
   firm_is = ap (is_firm_with model.horizon k) values ∙ sym (ap (λ o. is_firm_of model.horizon o (values_of model xs id)) (ap (option_and_then (kind_of model)) here ∙ kind))
 
   pub end_is : end_with model.horizon k a.start row ≡ end_of model xs id
+  unfolding end_of
   end_is = ap (end_with model.horizon k a.start) values
       ∙ sym (ap (λ o. end_in model o (values_of model xs id)) here ∙ ap (option_and_then (λ j. end_with model.horizon j a.start (values_of model xs id))) kind)
+
+-- an answer that is none exactly where a test fails
+pub is_there : (o : Option ℕ) (b : Bool) → IsNone o ↔ (b ≡ false) → is_some o ≡ b
+is_there None b none = sym (none.0 refl)
+is_there (Some n) true none = refl
+is_there (Some n) false none = absurd (let bad : IsNone (Some n) = none.1 refl in cc)

@@ -48,6 +48,7 @@ live_has (x ∷ xs) q live = cases (eqb x.id q) refl (live_has xs q)
     cases false e more = contains_cons x.id (map id_of xs) q (more (rw e at live))
 
 pub subtree_members : (xs : List Activity) → IsRooted xs → (top id : ℕ) → Contains (subtree_of top xs) id ↔ (IsLive id xs × Descends xs top id)
+unfolding subtree_of
 subtree_members xs rooted top id = (there, back)
   where
     passes : ℕ → Bool
@@ -73,4 +74,5 @@ ids_rise c [] rising = tt
 ids_rise c (x ∷ xs) rising = (rising.0, ids_rise (suc x.id) xs rising.1)
 
 pub subtree_rises : (xs : List Activity) → AreRising xs → (top : ℕ) → IsStrictlyIncreasing (subtree_of top xs)
+unfolding subtree_of
 subtree_rises xs rising top = increases 0 (subtree_of top xs) (filter_rises (descends xs top) 0 (map id_of xs) (ids_rise 0 xs rising))

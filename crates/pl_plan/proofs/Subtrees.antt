@@ -153,6 +153,7 @@ module _ (xs : List Activity) (rooted : IsRooted xs) (rising : AreRising xs) whe
   descends_live top q live (child n p is above) = named_live xs q p is
 
   pub subtree_is : (top : ℕ) (ids : List ℕ) → IsLive top xs → IsStrictlySortedBy nat_cmp ids → ((q : ℕ) → among q ids ≡ descends xs top q) → ids ≡ subtree_of top xs
+  unfolding subtree_of
   subtree_is top ids live sorted same =
       same_rising 0 ids (subtree_of top xs) (sorted_rises 0 ids (λ k d lt. omega arith) sorted) (filter_rises (descends xs top) 0 (map id_of xs) (ids_rise 0 xs rising))
       (λ q. same q ∙ sym (among_filter (descends xs top) q (map id_of xs) ∙ (ap (λ b. descends xs top q && b) (among_live q xs) ∙ both q (descends xs top q) refl)))

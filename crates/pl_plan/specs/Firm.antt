@@ -62,7 +62,7 @@ is_firm_of horizon (Some k) values = is_firm_with horizon k values
 
 -- Every parameter has a value from its low to its high, the duration has one from 1 to the horizon, and each amount has one
 -- from 0 to 10^9.
-abbrev pub is_firm : Model → List Activity → ℕ → Bool
+unfoldable pub is_firm : Model → List Activity → ℕ → Bool
 is_firm model activities id = is_firm_of model.horizon (option_and_then (kind_of model) (activity_of id activities)) (values_of model activities id)
 
 abbrev pub end_in : Model → Option Activity → Row → Option ℕ
@@ -70,5 +70,5 @@ end_in model None values = None
 end_in model (Some a) values = option_and_then (λ k. end_with model.horizon k a.start values) (kind_of model a)
 
 -- the start and the duration together, where the activity is firm
-abbrev pub end_of : Model → List Activity → ℕ → Option ℕ
+unfoldable pub end_of : Model → List Activity → ℕ → Option ℕ
 end_of model activities id = end_in model (activity_of id activities) (values_of model activities id)

@@ -8,4 +8,5 @@ pub mod Indexed
 pub mod Fitting
 pub mod Values
 pub mod Firm
+pub mod Known
 pub mod Laws

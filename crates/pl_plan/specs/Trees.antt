@@ -34,7 +34,7 @@ abbrev pub climbed : {R : Type 0} → (ℕ → Option R → R) → ℕ → List 
 climbed rule zero activities id = rule id None
 climbed rule (suc n) activities id = rule id (option_map (λ p. climbed rule n activities p) (parent_of id activities))
 
-abbrev pub climb : {R : Type 0} → (ℕ → Option R → R) → List Activity → ℕ → R
+unfoldable pub climb : {R : Type 0} → (ℕ → Option R → R) → List Activity → ℕ → R
 climb rule activities id = climbed rule id activities id
 
 -- ---- children
@@ -68,5 +68,5 @@ abbrev pub descends : List Activity → ℕ → ℕ → Bool
 descends activities top id = climb (descent_rule top) activities id
 
 -- the ids of all that descend from this one, by rising id
-abbrev pub subtree_of : ℕ → List Activity → List ℕ
+unfoldable pub subtree_of : ℕ → List Activity → List ℕ
 subtree_of top activities = filter (descends activities top) (map id_of activities)

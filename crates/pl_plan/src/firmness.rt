@@ -1,10 +1,11 @@
-ghost use Rattle.std.specs.Prelude.{◌≡◌, ◌↔◌, IsNone, false, ◌+◌, ◌<◌, ◌≤◌, ◌^◌, length, All, IfSome};
+ghost use Rattle.std.specs.Prelude.{◌≡◌, ◌↔◌, IsNone, false, ◌+◌, ◌<◌, ◌≤◌, ◌^◌, length, All, IfSome, option_and_then};
 ghost use Rattle.std.specs.List.{list_all};
 ghost use Rattle.std.specs.Option.{option_copied};
 ghost use Rattle.pl_model.specs.Values.{NamesBelow};
-ghost use Rattle.pl_model.specs.Checked.{IsChecked};
-ghost use Rattle.pl_plan.specs.Activities.{IsLive};
-ghost use Rattle.pl_plan.specs.Fitting.{Fits};
+ghost use Rattle.pl_model.specs.Checked.{IsChecked, params_of};
+ghost use Rattle.pl_plan.specs.Activities.{IsLive, activity_of};
+ghost use Rattle.pl_plan.specs.Fitting.{Fits, kind_of};
+ghost use Rattle.pl_plan.specs.Values.{values_of};
 ghost use Rattle.pl_plan.specs.Firm.{is_within, are_in_range, amount_of, has_amount, moments_in, duration_in, is_firm_with, end_with, is_firm, end_of};
 
 use crate::plan::Plan;
@@ -23,7 +24,7 @@ impl Plan {
         ensures { result ≡ is_firm model.now self.now.activities id }
     {
         let kind = kind_in(model, self.fitted(model, id));
-        is_firm(model.horizon, kind, self.values(model, id).as_slice())
+        is_firm(model.horizon, kind, self.row(model, id).as_slice())
     }
 
     /// The moment at which the activity ends, if it is firm.
@@ -34,10 +35,22 @@ impl Plan {
         ensures value { result ≡ end_of model.now self.now.activities id }
         ensures none { IsNone result ↔ (is_firm model.now self.now.activities id ≡ false) }
     {
+        self.end_over(model, id, self.row(model, id).as_slice())
+    }
+
+    // The end over the activity's values.
+    pub(crate) fn end_over(&self, model: &Model, id: u32, values: &[Option<i64>]) -> Option<u32>
+        requires checked { IsChecked model.now }
+        requires fits { Fits model.now self.now.activities }
+        requires live { IsLive id self.now.activities }
+        requires values { values.now ≡ values_of model.now self.now.activities id }
+        requires len { length values.now ≡ length (params_of (option_and_then (kind_of model.now) (activity_of id self.now.activities))) }
+        ensures value { result ≡ end_of model.now self.now.activities id }
+        ensures none { IsNone result ↔ (is_firm model.now self.now.activities id ≡ false) }
+    {
         let activity = self.fitted(model, id);
         let kind = kind_in(model, activity);
-        let values = self.values(model, id);
-        end_from(model.horizon, kind, activity.start, values.as_slice())
+        end_from(model.horizon, kind, activity.start, values)
     }
 }
 

@@ -20,11 +20,11 @@ impl Plan {
         requires param { param < length (params_of (option_and_then (kind_of model.now) (activity_of id self.now.activities))) }
         ensures { result ≡ param_value model.now self.now.activities id param }
     {
-        self.values(model, id).as_slice()[param as usize]
+        self.row(model, id).as_slice()[param as usize]
     }
 
     // The values of an activity's parameters.
-    pub(crate) fn values(&self, model: &Model, id: u32) -> Row
+    pub(crate) fn row(&self, model: &Model, id: u32) -> Row
         requires checked { IsChecked model.now }
         requires fits { Fits model.now self.now.activities }
         requires live { IsLive id self.now.activities }
@@ -36,7 +36,7 @@ impl Plan {
         let set = activity.set.as_slice();
         match activity.parent {
             Some((parent, slot)) => {
-                let above = self.values(model, parent);
+                let above = self.row(model, parent);
                 let bindings = self.bindings(model, parent, slot);
                 settle(params, set, bindings, above.as_slice())
             }
