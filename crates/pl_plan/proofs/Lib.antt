@@ -11,5 +11,6 @@ pub mod FirmSteps
 pub mod Rounds
 pub mod TreeLaws
 pub mod ValueLaws
+pub mod LocalValues
 pub mod Members
 pub mod Subtrees

@@ -41,3 +41,7 @@ pub record AreValues (model : Model) (activities : List Activity) (values : ℕ 
   pub places : (id : ℕ) (a : Activity) → activity_of id activities ≡ Some a → length (values id) ≡ length (params_of (kind_of model a))
   pub means : (id : ℕ) (a : Activity) (n : ℕ) (d : Param) → activity_of id activities ≡ Some a → n < length (params_of (kind_of model a))
       → MeansValue (binding_of n (bindings_at model activities a.parent)) (slice_index_or (params_of (kind_of model a)) n d).origin (slice_index_or a.set n None) (above_of values a.parent) (values id) (slice_index_or (values id) n None)
+
+-- each ancestor of the activity, itself among them, is the same in both lists
+abbrev pub AreSameAbove : List Activity → List Activity → ℕ → Type 0
+AreSameAbove xs ys id = (q : ℕ) → Descends xs q id → activity_of q xs ≡ activity_of q ys

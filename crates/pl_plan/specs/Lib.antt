@@ -1,3 +1,4 @@
+pub use Rattle.pl_model.specs.Checked
 pub mod Activities
 pub mod State
 pub mod Places

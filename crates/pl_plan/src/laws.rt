@@ -7,7 +7,8 @@ ghost use Rattle.pl_plan.specs.Activities.{IsLive, AreRising};
 ghost use Rattle.pl_plan.specs.Trees.{IsRooted, Descends, descends, root_of, subtree_of};
 ghost use Rattle.pl_plan.specs.Fitting.{Fits};
 ghost use Rattle.pl_plan.specs.Values.{Row, values_of};
-ghost use Rattle.pl_plan.specs.Laws.{IsRootOf, AreValues};
+ghost use Rattle.pl_plan.specs.Firm.{is_firm, end_of};
+ghost use Rattle.pl_plan.specs.Laws.{IsRootOf, AreValues, AreSameAbove};
 
 /// The test of descent is exact, a subtree has exactly the live ids that descend, rising, and each activity has one root.
 pub fn laws_of_trees()
@@ -21,8 +22,11 @@ pub fn laws_of_trees()
 {}
 
 /// In a checked model and a plan that fits it the values have their meanings, and no others do: so the way in which they
-/// are worked out is no part of what they mean.
+/// are worked out is no part of what they mean. Values, firmness and end hang on the ancestors alone.
 pub fn laws_of_values()
     ensures solve { (model : Model) (xs : List Activity) → IsChecked model → Fits model xs → AreValues model xs (values_of model xs) }
     ensures only { (model : Model) (xs : List Activity) → IsChecked model → Fits model xs → (values : ℕ → Row) → AreValues model xs values → (id : ℕ) → IsLive id xs → values id ≡ values_of model xs id }
+    ensures local { (model : Model) (xs ys : List Activity) → IsRooted xs → IsRooted ys → (id : ℕ) → AreSameAbove xs ys id → values_of model xs id ≡ values_of model ys id }
+    ensures local_firm { (model : Model) (xs ys : List Activity) → IsRooted xs → IsRooted ys → (id : ℕ) → AreSameAbove xs ys id → is_firm model xs id ≡ is_firm model ys id }
+    ensures local_end { (model : Model) (xs ys : List Activity) → IsRooted xs → IsRooted ys → (id : ℕ) → AreSameAbove xs ys id → end_of model xs id ≡ end_of model ys id }
 {}

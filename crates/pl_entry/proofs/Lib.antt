@@ -1,0 +1,4 @@
+pub mod Steps
+pub mod DueLaws
+pub mod BestLaws
+pub mod Growth
