@@ -1,5 +1,5 @@
 ghost use Rattle.std.specs.Prelude.{◌≡◌, ◌<◌, ◌≤◌, length, slice_get, All, Some, None, option_and_then};
-ghost use Rattle.pl_model.specs.Checked.{IsChecked, IsCheckedParam, params_of};
+ghost use Rattle.pl_model.specs.Checked.{IsChecked, IsCheckedParam, IsCheckedSlot, params_of};
 ghost use Rattle.pl_plan.specs.Activities.{IsLive, activity_of};
 ghost use Rattle.pl_plan.specs.Trees.{IsParented};
 ghost use Rattle.pl_plan.specs.Fitting.{Fits, FitsAlone, IsInSlot, kind_of, chosen_slots, chosen_slots_of};
@@ -9,7 +9,7 @@ use crate::activity::Activity;
 use crate::plan::Plan;
 use crate::row::Row;
 use crate::settling::settle;
-use pl_model::{Expr, Kind, Model, Param};
+use pl_model::{Expr, Kind, Model, Param, Slot};
 
 impl Plan {
     /// The value of a parameter.
@@ -87,6 +87,20 @@ fn params_in<'m>(model: &'m Model, a: &Activity) -> &'m [Param]
     kind_in(model, a).params.as_slice()
 }
 
+// The slots of the chosen alternative.
+fn slots_in<'m>(model: &'m Model, a: &Activity) -> &'m [Slot]
+    requires checked { IsChecked model.now }
+    requires fits { FitsAlone model.now a.now }
+    ensures value { result.now ≡ chosen_slots model.now a.now }
+    ensures slots { All (IsCheckedSlot model.now (length (params_of (kind_of model.now a.now)))) result.now }
+{
+    let alternatives = kind_in(model, a).alternatives.as_slice();
+    match a.detail {
+        Some(alternative) => alternatives[alternative as usize].slots.as_slice(),
+        None => &[],
+    }
+}
+
 fn slot_bindings<'m>(model: &'m Model, a: &Activity, slot: u32) -> &'m [(u8, Expr)]
     requires checked { IsChecked model.now }
     requires fits { FitsAlone model.now a.now }
@@ -94,12 +108,5 @@ fn slot_bindings<'m>(model: &'m Model, a: &Activity, slot: u32) -> &'m [(u8, Exp
     ensures value { result.now ≡ bindings_in (slice_get (chosen_slots model.now a.now) slot) }
     ensures names { All (BindsBelow (length (params_of (kind_of model.now a.now)))) result.now }
 {
-    let alternatives = kind_in(model, a).alternatives.as_slice();
-    match a.detail {
-        Some(alternative) => {
-            let slots = alternatives[alternative as usize].slots.as_slice();
-            slots[slot as usize].bindings.as_slice()
-        }
-        None => unreachable!(),
-    }
+    slots_in(model, a)[slot as usize].bindings.as_slice()
 }
