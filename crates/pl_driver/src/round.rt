@@ -85,8 +85,7 @@ fn step(alloc: Global, machine: &mut Machine) -> Result<(), Stop>
 #[tactic(auto, using(crate::proofs::Going::ran_on, crate::proofs::Going::ran_none, crate::proofs::Going::ran_waits))]
 /// Goes on until the round is closed, or the log is full, or memory is wanting. It never answers `NotNow`.
 pub fn solo_round(alloc: Global, machine: &mut Machine) -> Result<(), Stop>
-    requires open { machine.old.world.closed ≡ false }
-    requires going { machine.old.world.done ≡ false }
+    requires { machine.old.world.closed ≡ false }
     ensures { Rounds machine.old result machine.new }
 {
     if machine.spoiled() {

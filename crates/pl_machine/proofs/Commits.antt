@@ -1,16 +1,14 @@
 -- A commit that is granted.
-use Rattle.std.proofs.Common.{◌≡◌, ℕ, ◌<◌, ◌≤◌, max, List, take, length, Bool, true, false, if◌then◌else◌, nat_le, nat_lt, Option, Some, None, slice_get, refl, sym, ◌∙◌, ap, subst, arith}
-use Rattle.std.proofs.lemmas.Grind.{common_steps}
+use Rattle.std.proofs.Common.{◌≡◌, ℕ, ◌≤◌, List, Bool, true, false, if◌then◌else◌, nat_le, nat_lt, slice_get, refl, sym, ◌∙◌, ap, subst, arith}
 use Rattle.std.proofs.lemmas.Bool.{leb-false}
 use Rattle.pl_conflict.specs.declared.conflict.Conflict.{Conflict}
-use Rattle.pl_machine.specs.declared.event.Reply.{Reply}
 use Rattle.pl_machine.specs.declared.event.Reply.TheVariants as reply
 use Rattle.pl_machine.specs.declared.event.Entry.{Entry}
 use Rattle.pl_machine.specs.Scene.{Scene}
 use Rattle.pl_machine.specs.Conflicts.{conflicts_of}
 use Rattle.pl_machine.specs.World.{World}
 use Rattle.pl_machine.specs.Step.{behind_of, commit_reply, held_reply}
-use Rattle.pl_machine.specs.Sound.{State, IsStanding, IsSound}
+use Rattle.pl_machine.specs.Sound.{State, IsSound}
 use Rattle.pl_machine.proofs.Runs.{StandsOn}
 use Rattle.pl_machine.proofs.Orders.{sent_later}
 

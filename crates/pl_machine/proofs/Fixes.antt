@@ -1,24 +1,23 @@
 -- A repair.
-use Rattle.std.proofs.Common.{◌≡◌, ℕ, ◌+◌, ◌<◌, ◌≤◌, max, List, take, length, Bool, true, false, not, ◌&&◌, if◌then◌else◌, nat_le, nat_lt, Option, Some, None, refl, sym, ◌∙◌, ap, subst, arith}
+use Rattle.std.proofs.Common.{◌≡◌, ℕ, ◌+◌, ◌<◌, ◌≤◌, List, take, length, Bool, true, false, not, ◌&&◌, if◌then◌else◌, nat_lt, Option, Some, refl, sym, ◌∙◌, ap, subst, arith}
 use Rattle.std.proofs.lemmas.Grind.{common_steps}
 use Rattle.std.proofs.lemmas.Bool.{ltb-true, ltb-false}
 use Rattle.pl_conflict.specs.declared.conflict.Conflict.{Conflict}
 use Rattle.pl_conflict.specs.Order.{has}
 use Rattle.pl_machine.specs.declared.repair.RepairMove.{RepairMove}
 use Rattle.pl_machine.specs.declared.repair.RepairMove.TheVariants as repair
-use Rattle.pl_machine.specs.declared.event.Event.{Event}
 use Rattle.pl_machine.specs.declared.event.Event.TheVariants as event
 use Rattle.pl_machine.specs.declared.event.Reply.{Reply}
 use Rattle.pl_machine.specs.declared.event.Reply.TheVariants as reply
 use Rattle.pl_machine.specs.declared.event.Entry.{Entry}
 use Rattle.pl_machine.specs.Scene.{Scene, floor_of}
 use Rattle.pl_machine.specs.Conflicts.{conflicts_of}
-use Rattle.pl_machine.specs.Horizon.{command_of, is_due, due_of}
+use Rattle.pl_machine.specs.Horizon.{is_due, due_of}
 use Rattle.pl_machine.specs.Moves.{add_refusal, refusal_of, added, applied}
 use Rattle.pl_machine.specs.Candidates.{is_candidate}
 use Rattle.pl_machine.specs.World.{World}
 use Rattle.pl_machine.specs.Step.{is_enabled, done_or, fix_reply, after_fix, after, ids_of}
-use Rattle.pl_machine.specs.Sound.{State, IsStanding, IsSound}
+use Rattle.pl_machine.specs.Sound.{State, IsSound}
 use Rattle.pl_machine.specs.Taking.{IsOpen}
 use Rattle.pl_machine.proofs.Runs.{StandsOn}
 use Rattle.pl_machine.proofs.Orders.{due_added}

@@ -1,23 +1,18 @@
 -- What a message does.
-use Rattle.std.proofs.Common.{◌≡◌, ℕ, ◌+◌, ◌<◌, ◌≤◌, List, take, length, Bool, true, false, not, ◌&&◌, if◌then◌else◌, nat_le, nat_lt, Option, Some, None, refl, sym, ◌∙◌, ap, subst, arith}
-use Rattle.std.proofs.lemmas.Bool.{ltb-true, leb-true}
-use Rattle.pl_model.specs.declared.whole.Model.{Model}
+use Rattle.std.proofs.Common.{◌≡◌, ℕ, ◌<◌, ◌≤◌, List, Bool, true, false, ◌&&◌, if◌then◌else◌, nat_le, nat_lt, Option, Some, refl, sym, ◌∙◌, ap, subst, arith}
+use Rattle.std.proofs.lemmas.Bool.{ltb-true}
 use Rattle.pl_conflict.specs.declared.conflict.Conflict.{Conflict}
 use Rattle.pl_machine.specs.declared.goal.Goal.{Goal}
 use Rattle.pl_machine.specs.declared.message.Message.{Message}
 use Rattle.pl_machine.specs.declared.message.Message.TheVariants as message
-use Rattle.pl_machine.specs.declared.event.Event.{Event}
-use Rattle.pl_machine.specs.declared.event.Event.TheVariants as event
-use Rattle.pl_machine.specs.declared.event.Reply.{Reply}
 use Rattle.pl_machine.specs.declared.event.Reply.TheVariants as reply
 use Rattle.pl_machine.specs.declared.event.Entry.{Entry}
 use Rattle.pl_machine.specs.Scene.{Scene}
 use Rattle.pl_machine.specs.Conflicts.{conflicts_of}
-use Rattle.pl_machine.specs.Horizon.{due_of}
-use Rattle.pl_machine.specs.Messages.{message_of, told_reply, told_scene}
+use Rattle.pl_machine.specs.Messages.{message_of, told_reply}
 use Rattle.pl_machine.specs.World.{World}
-use Rattle.pl_machine.specs.Step.{ids_of, input_reply}
-use Rattle.pl_machine.specs.Sound.{State, IsStanding, IsSound}
+use Rattle.pl_machine.specs.Step.{input_reply}
+use Rattle.pl_machine.specs.Sound.{State, IsSound}
 use Rattle.pl_machine.proofs.Runs.{StandsOn}
 use Rattle.pl_machine.proofs.Orders.{sent_later}
 

@@ -6,3 +6,5 @@ pub mod Sends
 pub mod Fixes
 pub mod Inputs
 pub mod Picks
+pub mod Going
+pub mod Crossing

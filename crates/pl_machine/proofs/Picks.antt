@@ -1,5 +1,5 @@
 -- What is picked is of the model's kinds.
-use Rattle.std.proofs.Common.{◌≡◌, ℕ, ◌<◌, ◌-◌, min, max, List, [], ◌∷◌, length, map, Bool, true, false, cond, ◌&&◌, ◌==◌, nat_lt, Option, Some, None, IfSome, refl, sym, arith}
+use Rattle.std.proofs.Common.{◌≡◌, ℕ, ◌<◌, ◌-◌, min, max, List, [], ◌∷◌, length, map, Bool, true, false, cond, ◌&&◌, ◌==◌, Option, Some, None, IfSome, refl}
 use Rattle.std.specs.List.{find, list_all}
 use Rattle.std.proofs.lemmas.Bool.{ltb-true}
 use Rattle.pl_conflict.specs.declared.conflict.Conflict.{Conflict}

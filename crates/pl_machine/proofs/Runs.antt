@@ -1,18 +1,17 @@
 -- A log that goes on by one entry.
-use Rattle.std.proofs.Common.{◌≡◌, ℕ, suc, ◌+◌, ◌<◌, ◌≤◌, List, [], ◌∷◌, ◌++◌, length, take, Bool, true, false, Option, Some, None, unwrap_or, refl, sym, ◌∙◌, ap, subst, arith, length-append}
+use Rattle.std.proofs.Common.{◌≡◌, ◌+◌, ◌<◌, ◌≤◌, List, [], ◌∷◌, ◌++◌, length, take, Bool, false, Option, Some, None, unwrap_or, refl, sym, ◌∙◌, ap, subst, arith, length-append}
 use Rattle.pl_model.specs.declared.whole.Model.{Model}
 use Rattle.pl_conflict.specs.declared.conflict.Conflict.{Conflict}
 use Rattle.pl_machine.specs.declared.options.Options.{Options}
 use Rattle.pl_machine.specs.declared.event.Event.{Event}
-use Rattle.pl_machine.specs.declared.event.Event.TheVariants as event
 use Rattle.pl_machine.specs.declared.event.Reply.{Reply}
 use Rattle.pl_machine.specs.declared.event.Entry.{Entry}
 use Rattle.pl_machine.specs.Scene.{Scene}
 use Rattle.pl_machine.specs.Conflicts.{conflicts_of}
 use Rattle.pl_machine.specs.Horizon.{due_of}
 use Rattle.pl_machine.specs.World.{World, fresh_world}
-use Rattle.pl_machine.specs.Step.{ids_of, after, is_enabled, reply_of}
-use Rattle.pl_machine.specs.Legal.{AreOptions, EventFits, MayFollow, legal_from, world_from, opening, IsRun, options_in, IsOpenedRun, Legal, no_options, options_of, entries_behind, world_of, IsHistory}
+use Rattle.pl_machine.specs.Step.{ids_of, after, reply_of}
+use Rattle.pl_machine.specs.Legal.{AreOptions, EventFits, MayFollow, legal_from, world_from, opening, options_in, IsOpenedRun, Legal, no_options, options_of, world_of, IsHistory}
 use Rattle.pl_machine.specs.Sound.{State, IsStanding, IsSound}
 use Rattle.pl_machine.specs.Taking.{IsOpen}
 

@@ -1,6 +1,5 @@
 -- What was sent, among what is due.
-use Rattle.std.proofs.Common.{◌≡◌, ℕ, zero, suc, ◌+◌, ◌<◌, ◌≤◌, List, [], ◌∷◌, ◌++◌, length, take, map, Bool, true, false, nat_eq, nat_le, ◌&&◌, Option, Some, None, slice_get, refl, sym, ◌∙◌, ap, subst, arith, length-append}
-use Rattle.std.specs.Option.{option_map}
+use Rattle.std.proofs.Common.{◌≡◌, ℕ, suc, ◌≤◌, List, [], ◌∷◌, ◌++◌, length, take, Bool, true, false, nat_eq, nat_le, ◌&&◌, Some, slice_get, refl, sym, ◌∙◌, ap, subst, arith}
 use Rattle.std.proofs.lemmas.Grind.{common_steps}
 use Rattle.std.proofs.lemmas.List.{length-map, length-take}
 use lib.Pointwise.{pointwise}
@@ -12,7 +11,7 @@ use Rattle.pl_machine.specs.Conflicts.{conflicts_of}
 use Rattle.pl_machine.specs.Horizon.{due_of}
 use Rattle.pl_machine.specs.World.{World}
 use Rattle.pl_machine.specs.Step.{ids_of, all_sent}
-use Rattle.pl_machine.specs.Sound.{State, IsStanding, IsSound}
+use Rattle.pl_machine.specs.Sound.{State, IsSound}
 use Rattle.pl_machine.proofs.Runs.{StandsOn}
 
 same_itself : (n : ℕ) → nat_eq n n ≡ true

@@ -1,5 +1,5 @@
 -- The moves that repair may try for a conflict. So far an open goal has the additions, and a late start none.
-use Rattle.std.specs.Prelude.{ℕ, zero, suc, ◌+◌, ◌-◌, ◌/◌, min, max, List, [], ◌∷◌, Bool, true, false, ◌==◌, ◌&&◌, nat_lt, nat_eq, if◌then◌else◌, Option, Some, None, map, is_none}
+use Rattle.std.specs.Prelude.{ℕ, zero, suc, ◌+◌, ◌-◌, ◌/◌, min, max, List, [], ◌∷◌, Bool, false, ◌==◌, ◌&&◌, nat_lt, nat_eq, if◌then◌else◌, Option, Some, None, map}
 use Rattle.std.specs.List.{find, list_any}
 use Rattle.std.specs.Option.{option_eq}
 use Rattle.pl_conflict.specs.declared.conflict.Conflict.{Conflict}

@@ -1,5 +1,5 @@
 -- The conflicts of a plan, from its activities and goals alone. So far: goals that nothing serves, and late starts.
-use Rattle.std.specs.Prelude.{ℕ, List, [], ◌++◌, Bool, not, ◌&&◌, nat_le, if◌then◌else◌, Option, Some, None}
+use Rattle.std.specs.Prelude.{List, [], ◌++◌, Bool, not, ◌&&◌, nat_le, if◌then◌else◌, Option, Some, None}
 use Rattle.std.specs.List.{fold, filter_map}
 use Rattle.std.specs.BTreeSet.{insert_key}
 use Rattle.pl_conflict.specs.declared.conflict.Conflict.{Conflict}

@@ -1,5 +1,5 @@
 -- What it is that a log has answered a whole input.
-use Rattle.std.specs.Prelude.{◌≡◌, ℕ, List, [], ◌∷◌, Bool, true, Option, Some, None}
+use Rattle.std.specs.Prelude.{◌≡◌, ℕ, List, true, Option, Some, None}
 use Rattle.std.specs.List.{filter_map}
 use Rattle.pl_model.specs.declared.whole.Model.{Model}
 use Rattle.pl_machine.specs.declared.event.Event.{Event}

@@ -1,5 +1,5 @@
 -- Legal logs, and the world after one.
-use Rattle.std.specs.Prelude.{◌≡◌, ℕ, ◌<◌, ◌≤◌, ◌^◌, ◌+◌, pos, ◌≤ℤ◌, List, [], ◌∷◌, ◌++◌, length, Bool, true, false, Option, Some, None, unwrap_or}
+use Rattle.std.specs.Prelude.{◌≡◌, ℕ, ◌<◌, ◌≤◌, ◌^◌, ◌+◌, pos, ◌≤ℤ◌, List, [], ◌∷◌, length, true, false, Option, Some, None, unwrap_or}
 use Rattle.pl_io.specs.Lines.{has_newline}
 use Rattle.pl_model.specs.declared.whole.Model.{Model}
 use Rattle.pl_conflict.specs.declared.conflict.Conflict.{Conflict}

@@ -1,3 +1,4 @@
+pub use Rattle.pl_text.specs.Tokens as TextTokens
 pub mod Plain
 pub mod Scene
 pub mod Conflicts

@@ -1,5 +1,5 @@
 -- What a message says, its reply, and what it changes. So far every refused message is a bad line.
-use Rattle.std.specs.Prelude.{ℕ, ◌+◌, ◌-◌, List, [], ◌∷◌, ◌++◌, length, Bool, true, false, not, ◌||◌, ◌&&◌, ◌==◌, nat_lt, nat_le, if◌then◌else◌, Option, Some, None, Result, Ok, Err, codes}
+use Rattle.std.specs.Prelude.{ℕ, List, [], ◌∷◌, ◌++◌, length, Bool, true, false, not, ◌&&◌, ◌==◌, nat_lt, nat_le, if◌then◌else◌, Option, Some, None, Result, Ok, Err, codes}
 use Rattle.std.specs.List.{list_any, position}
 use Rattle.std.specs.Str.{bytes_eq}
 use Rattle.pl_text.specs.declared.token.Token.{Token}
@@ -7,7 +7,6 @@ use Rattle.pl_text.specs.declared.token.TokenKind.{TokenKind}
 use Rattle.pl_text.specs.declared.token.TokenKind.TheVariants as kind
 use Rattle.pl_text.specs.declared.fault.TextFault.{TextFault}
 use Rattle.pl_text.specs.Tokens.{tokens_of}
-use Rattle.pl_model.specs.declared.kinds.Kind.{Kind}
 use Rattle.pl_model.specs.declared.whole.Model.{Model}
 use Rattle.pl_machine.specs.declared.goal.Goal.{Goal}
 use Rattle.pl_machine.specs.declared.message.Message.{Message}

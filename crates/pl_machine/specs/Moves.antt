@@ -1,7 +1,5 @@
 -- The repair moves: when one is refused, and what it does. So far repair adds activities.
-use Rattle.std.specs.Prelude.{ℕ, ◌+◌, List, [], ◌∷◌, ◌++◌, length, Bool, true, false, ◌==◌, ◌&&◌, nat_lt, nat_le, nat_eq, if◌then◌else◌, Option, Some, None, is_none}
-use Rattle.std.specs.Option.{option_eq}
-use Rattle.pl_machine.specs.declared.activity.Activity.{Activity}
+use Rattle.std.specs.Prelude.{ℕ, ◌+◌, [], ◌∷◌, ◌++◌, length, Bool, nat_lt, nat_le, if◌then◌else◌, Option, Some, None, is_none}
 use Rattle.pl_machine.specs.declared.repair.RepairMove.{RepairMove}
 use Rattle.pl_machine.specs.declared.repair.RepairMove.TheVariants as repair
 use Rattle.pl_machine.specs.declared.event.Reply.{Reply}

@@ -1,5 +1,5 @@
 -- What a plan is: its activities and goals, the present moment and what is committed.
-use Rattle.std.specs.Prelude.{ℕ, ◌+◌, max, List, [], Bool, true, false, ◌&&◌, nat_lt, nat_eq, Option, Some, None, is_none}
+use Rattle.std.specs.Prelude.{ℕ, ◌+◌, max, List, [], Bool, ◌&&◌, nat_lt, nat_eq, Some, is_none}
 use Rattle.std.specs.List.{list_any}
 use Rattle.std.specs.Option.{option_eq}
 use Rattle.pl_model.specs.declared.whole.Model.{Model}

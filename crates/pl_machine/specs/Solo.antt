@@ -1,5 +1,5 @@
 -- What one thread does in an open round: repair until there is reason to rest, then what the executive chooses.
-use Rattle.std.specs.Prelude.{◌≡◌, ℕ, List, [], ◌∷◌, length, Bool, true, false, not, ◌&&◌, ◌||◌, nat_lt, if◌then◌else◌, Option, Some, None}
+use Rattle.std.specs.Prelude.{◌≡◌, List, [], ◌∷◌, length, not, ◌&&◌, ◌||◌, nat_lt, if◌then◌else◌, Option, Some, None}
 use Rattle.std.specs.Option.{option_map}
 use Rattle.pl_model.specs.declared.whole.Model.{Model}
 use Rattle.pl_conflict.specs.declared.conflict.Conflict.{Conflict}

@@ -1,8 +1,7 @@
 -- What stands of a machine at all times.
-use Rattle.std.specs.Prelude.{◌≡◌, ℕ, ◌≤◌, List, length, take, Bool, false}
+use Rattle.std.specs.Prelude.{◌≡◌, ◌≤◌, List, length, take, Bool, false}
 use Rattle.pl_conflict.specs.declared.conflict.Conflict.{Conflict}
 use Rattle.pl_machine.specs.declared.event.Entry.{Entry}
-use Rattle.pl_machine.specs.Scene.{Scene}
 use Rattle.pl_machine.specs.Conflicts.{conflicts_of}
 use Rattle.pl_machine.specs.Horizon.{due_of}
 use Rattle.pl_machine.specs.World.{World}

@@ -1,8 +1,7 @@
 -- What a call of a machine does.
-use Rattle.std.specs.Prelude.{◌≡◌, ℕ, ◌≤◌, ◌<◌, List, [], ◌∷◌, ◌++◌, length, Bool, true, false, Option, Some, None, Result, Ok, Err}
+use Rattle.std.specs.Prelude.{◌≡◌, ◌≤◌, ◌<◌, [], ◌∷◌, ◌++◌, length, Bool, true, false, Result, Ok, Err}
 use Rattle.pl_machine.specs.declared.event.Event.{Event}
 use Rattle.pl_machine.specs.declared.event.Reply.{Reply}
-use Rattle.pl_machine.specs.declared.event.Entry.{Entry}
 use Rattle.pl_machine.specs.declared.stop.Stop.{Stop}
 use Rattle.pl_machine.specs.declared.stop.Stop.TheVariants as stop
 use Rattle.pl_machine.specs.Step.{Step, is_enabled}

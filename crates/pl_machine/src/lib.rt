@@ -13,6 +13,7 @@ mod options;
 mod plan;
 mod reading;
 mod repair;
+mod sharing;
 mod stop;
 
 pub use activity::Activity;
@@ -25,4 +26,5 @@ pub use machine::Machine;
 pub use message::Message;
 pub use options::Options;
 pub use repair::RepairMove;
+pub use sharing::shared_types;
 pub use stop::Stop;

@@ -132,9 +132,11 @@ impl Machine {
         self.rested
     }
 
-    /// Whether the round is closed.
+    /// Whether the round is closed. The input ends only between rounds.
     pub fn closed(&self) -> bool
-        ensures { result ≡ self.now.world.closed }
+        ensures value { result ≡ self.now.world.closed }
+        ensures going { self.now.spoiled ≡ false →
+            self.now.world.closed ≡ false → self.now.world.done ≡ false }
     {
         self.closed
     }

@@ -8,9 +8,11 @@ mod message;
 mod names;
 mod presets;
 mod reading;
+mod sharing;
 mod telemetry;
 mod words;
 
 pub use fault::MsgFault;
 pub use message::Message;
 pub use reading::read_message;
+pub use sharing::shared_types;

@@ -4,8 +4,10 @@
 mod command;
 mod number;
 mod plain;
+mod sharing;
 mod words;
 
 pub use command::{Command, Task};
 pub use plain::is_runnable;
+pub use sharing::shared_types;
 pub use words::read_words;

@@ -1,5 +1,4 @@
-use Rattle.std.proofs.Common.{rules, refl, sym, arith}
-use Rattle.std.proofs.lemmas.Grind.{common_steps}
+use Rattle.std.proofs.Common.{refl, sym}
 use Rattle.pl_machine.proofs.Runs.{sound_step}
 use Rattle.pl_machine.proofs.Fixes.{stands_on_refused, refused_after}
 use Rattle.pl_machine.proofs.machine.Machine.refuse_fix.Goals as goal

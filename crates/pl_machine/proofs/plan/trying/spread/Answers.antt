@@ -1,6 +1,6 @@
-use Rattle.std.proofs.Common.{◌≡◌, ◌≤◌, ℕ, List, [], ◌++◌, arith, append_assoc, sym, ◌∙◌}
-use Rattle.pl_machine.specs.Candidates.{step_between, steps_from, spread}
-use Rattle.pl_machine.proofs.Spreads.{steps_more, steps_past, steps_none, spread_is, spread_none, spread_all}
+use Rattle.std.proofs.Common.{◌≡◌, ◌≤◌, [], arith, append_assoc, sym}
+use Rattle.pl_machine.specs.Candidates.{step_between, steps_from}
+use Rattle.pl_machine.proofs.Spreads.{steps_more, steps_past, steps_none, spread_none, spread_all}
 use Rattle.pl_machine.proofs.plan.trying.spread.Goals as goal
 use Rattle.pl_machine.proofs.plan.trying.spread.Goals.{then-steps-test+else-at-from, else-steps-test}
 

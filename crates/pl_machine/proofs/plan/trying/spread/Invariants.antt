@@ -1,5 +1,5 @@
-use Rattle.std.proofs.Common.{◌≡◌, ◌≤◌, ◌+◌, ◌-◌, ◌*◌, ◌/◌, max, ◌++◌}
-use Rattle.pl_machine.specs.Candidates.{spread, steps_from}
+use Rattle.std.proofs.Common.{◌≡◌, ◌≤◌, ◌+◌, ◌++◌}
+use Rattle.pl_machine.specs.Candidates.{steps_from}
 use Rattle.pl_machine.proofs.plan.trying.spread.Given as goal
 
 -- what is left gives the whole
