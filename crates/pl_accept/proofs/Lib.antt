@@ -1,2 +1,4 @@
 pub mod Texts
 pub mod Refusing
+pub mod Apart
+pub mod OneLine

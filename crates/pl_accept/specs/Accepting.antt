@@ -1,6 +1,7 @@
 -- The texts that are models, and why the others are none.
-use Rattle.std.specs.Prelude.{◌≡◌, ◌≢◌, ℕ, ◌≤◌, List, length, Result, Ok, Err}
+use Rattle.std.specs.Prelude.{◌≡◌, ◌≢◌, ℕ, ◌≤◌, List, length, Ok, Err, ⊤}
 use Rattle.pl_model.specs.declared.whole.Model.{Model}
+use Rattle.pl_model.specs.Checked.{IsChecked}
 use Rattle.pl_syntax.specs.declared.whole.Ast.{Ast}
 use Rattle.pl_syntax.specs.declared.fault.SyntaxFault.{SyntaxFault}
 use Rattle.pl_syntax.specs.declared.fault.SyntaxFault.TheVariants as syntax
@@ -27,3 +28,8 @@ pub data IsRefusedAs (text line : List ℕ) : Type 0 where
 abbrev pub Accepts : List ℕ → Accepted → Type 0
 Accepts text (accepted.Model model) = IsModelText text model
 Accepts text (accepted.Refused line) = IsRefusedAs text line
+
+-- a model that is handed out is a checked one
+abbrev pub HoldsChecked : Accepted → Type 0
+HoldsChecked (accepted.Model model) = IsChecked model
+HoldsChecked (accepted.Refused line) = ⊤

@@ -1,7 +1,7 @@
 ghost use Rattle.std.specs.Prelude.{ℕ, ◌<◌, List, length, IfOk, Ok, Err};
 ghost use Rattle.pl_syntax.specs.Answers.{longest, Answers as Read};
 ghost use Rattle.pl_check.specs.Checked.{Answers as Checked};
-ghost use Rattle.pl_accept.specs.Accepting.{Accepts};
+ghost use Rattle.pl_accept.specs.Accepting.{Accepts, HoldsChecked};
 
 use crate::refusals::{fault_line, is_want, is_want_in_syntax, syntax_line};
 use pl_check::{ModelFault, check};
@@ -20,7 +20,9 @@ pub enum Accepted {
 /// What a text is that has more bytes than a model's text may have.
 #[tactic(auto, using(crate::proofs::Refusing::longer_is_refused))]
 pub fn too_long(alloc: Global) -> Result<Accepted, AllocError>
-    ensures { IfOk result (λ accepted. (text : List ℕ) → longest < length text → Accepts text accepted) }
+    ensures accepts { IfOk result (λ accepted. (text : List ℕ) → longest < length text
+        → Accepts text accepted) }
+    ensures checked { IfOk result HoldsChecked }
 {
     let line = syntax_line(alloc, SyntaxFault::TooLong)?;
     Ok(Accepted::Refused(line))
@@ -29,7 +31,8 @@ pub fn too_long(alloc: Global) -> Result<Accepted, AllocError>
 #[tactic(auto, using(crate::proofs::Refusing::syntax_refuses))]
 fn refuse_text(alloc: Global, _text: &[u8], fault: SyntaxFault) -> Result<Accepted, AllocError>
     requires { Read _text.now (Err fault) }
-    ensures { IfOk result (Accepts _text.now) }
+    ensures accepts { IfOk result (Accepts _text.now) }
+    ensures checked { IfOk result HoldsChecked }
 {
     if is_want_in_syntax(fault) {
         return Err(AllocError);
@@ -47,7 +50,8 @@ fn refuse_tree(
 ) -> Result<Accepted, AllocError>
     requires read { Read _text.now (Ok _ast.now) }
     requires checked { Checked _ast.now (Err fault.now) }
-    ensures { IfOk result (Accepts _text.now) }
+    ensures accepts { IfOk result (Accepts _text.now) }
+    ensures checked { IfOk result HoldsChecked }
 {
     if is_want(fault) {
         return Err(AllocError);
@@ -59,7 +63,8 @@ fn refuse_tree(
 #[tactic(auto, using(crate::proofs::Refusing::text_is_model))]
 fn accept_tree(alloc: Global, text: &[u8], ast: &Ast) -> Result<Accepted, AllocError>
     requires { Read text.now (Ok ast.now) }
-    ensures { IfOk result (Accepts text.now) }
+    ensures accepts { IfOk result (Accepts text.now) }
+    ensures checked { IfOk result HoldsChecked }
 {
     match check(alloc, ast) {
         Ok(model) => Ok(Accepted::Model(model)),
@@ -69,7 +74,8 @@ fn accept_tree(alloc: Global, text: &[u8], ast: &Ast) -> Result<Accepted, AllocE
 
 /// Reads a model's text and checks the model.
 pub fn accept(alloc: Global, text: &[u8]) -> Result<Accepted, AllocError>
-    ensures { IfOk result (Accepts text.now) }
+    ensures accepts { IfOk result (Accepts text.now) }
+    ensures checked { IfOk result HoldsChecked }
 {
     match read_model(alloc, text) {
         Ok(ast) => accept_tree(alloc, text, &ast),

@@ -2,6 +2,8 @@
 #![tactic(auto)]
 
 mod accepting;
+mod laws;
 mod refusals;
 
 pub use accepting::{Accepted, accept, too_long};
+pub use laws::texts_are_told_apart;
