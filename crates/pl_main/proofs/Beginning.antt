@@ -1,5 +1,5 @@
 -- The model's text, line by line.
-use Rattle.std.proofs.Common.{◌≡◌, ℕ, List, [], ◌∷◌, ◌++◌, Bool, true, false, if◌then◌else◌, Option, Some, None, refl, ◌∙◌, ap}
+use Rattle.std.proofs.Common.{◌≡◌, ℕ, ◌<◌, List, [], ◌∷◌, ◌++◌, length, Bool, true, false, if◌then◌else◌, Option, Some, None, refl, ◌∙◌, ap}
 use Rattle.std.proofs.lemmas.List.{append-nil}
 use Rattle.std.proofs.lemmas.Grind.{flat_map-append}
 use Rattle.std.specs.declared.vec.Vec.{Vec}
@@ -60,11 +60,12 @@ pub took_more : (old mid new : Reader) (before middle after : Option (List ℕ))
 took_more old mid new before middle after xs ys first second = record {
   limit = second.limit;
   working = second.working;
+  few = second.few;
   gave = known_append old.room before xs ys mid.room middle new.room after first.gave second.gave;
 }
 
-pub before_none : (old : Reader) (before : Option (List ℕ)) (kept : Option (Vec ℕ Global)) → old.limit ≡ 4096 → old.failed ≡ None → Keeps kept [] → IsBefore old before kept old before
-before_none old before kept limit working keeps = record { lines = []; took = record { limit = limit; working = working; gave = gave_none old.room before }; none = refl; keeps = keeps }
+pub before_none : (old : Reader) (before : Option (List ℕ)) (kept : Option (Vec ℕ Global)) → old.limit ≡ 4096 → old.failed ≡ None → length old.held < 4096 → Keeps kept [] → IsBefore old before kept old before
+before_none old before kept limit working few keeps = record { lines = []; took = record { limit = limit; working = working; few = few; gave = gave_none old.room before }; none = refl; keeps = keeps }
 
 pub before_on : (old mid new : Reader) (before middle after : Option (List ℕ)) (kept more : Option (Vec ℕ Global)) → IsBefore old before kept mid middle → LooksOn mid middle kept more new after → IsBefore old before more new after
 before_on old mid new before middle after kept more so_far on = record {

@@ -48,56 +48,54 @@ text_passes kept held now m (Err halt.Memory) faults later text adds done cause 
 
 -- ---- the whole, where the text begins
 
-begun_known : (old : Reader) (kept : Option (Vec ℕ Global)) (new : Reader) (input before : List ℕ) (after now : Option (List ℕ)) (r : Result Outcome Halt) → old.room ≡ total_limit
-    → IsBegun old (Some input) kept new after → TextChecks kept (Some before) r now → ChecksKnown (Some input) (Some before) now r
-begun_known old kept new input before after now (Ok outcome.Done) room begun text =
-    record { model = text.model; words = begun.words; begins = begins_at old kept new input after room begun; accepted = text.text begun.words begun.keeps; written = text.written }
-begun_known old kept new input before after now (Ok outcome.Refused) room begun text =
-    faulty begun.words text.line (begins_at old kept new input after room begun) (text.refused begun.words begun.keeps) text.written
-begun_known old kept new input before after now (Err halt.Limit) room begun text = absurd text
-begun_known old kept new input before after now (Err halt.Full) room begun text = absurd text
-begun_known old kept new input before after now (Err halt.Read) room begun text = absurd text
-begun_known old kept new input before after now (Err halt.Write) room begun text = tt
-begun_known old kept new input before after now (Err halt.Memory) room begun text = tt
+begun_known : (old : Reader) (kept : Option (Vec ℕ Global)) (new : Reader) (input : List ℕ) (source_left held now : Option (List ℕ)) (r : Result Outcome Halt) → old.room ≡ total_limit
+    → IsBegun old (Some input) kept new (ahead new.held source_left) → TextChecks kept held r now → ChecksKnown (Some input) source_left held now r
+begun_known old kept new input source_left held now (Ok outcome.Done) room begun text =
+    record { model = text.model; words = begun.words; begins = begins_at old kept new input (ahead new.held source_left) source_left room begun refl; accepted = text.text begun.words begun.keeps; written = text.written }
+begun_known old kept new input source_left held now (Ok outcome.Refused) room begun text =
+    faulty begun.words text.line (begins_at old kept new input (ahead new.held source_left) source_left room begun refl) (text.refused begun.words begun.keeps) text.written
+begun_known old kept new input source_left held now (Err halt.Limit) room begun text = absurd text
+begun_known old kept new input source_left held now (Err halt.Full) room begun text = absurd text
+begun_known old kept new input source_left held now (Err halt.Read) room begun text = absurd text
+begun_known old kept new input source_left held now (Err halt.Write) room begun text = tt
+begun_known old kept new input source_left held now (Err halt.Memory) room begun text = tt
 
-begun_ran : (old : Reader) (kept : Option (Vec ℕ Global)) (new : Reader) (input after held now : Option (List ℕ)) (r : Result Outcome Halt) → old.room ≡ total_limit
-    → IsBegun old input kept new after → TextChecks kept held r now → ChecksKnown input held now r
-begun_ran old kept new None after held now r room begun text = tt
-begun_ran old kept new (Some input) after None now r room begun text = tt
-begun_ran old kept new (Some input) after (Some before) now r room begun text = begun_known old kept new input before after now r room begun text
+begun_ran : (old : Reader) (kept : Option (Vec ℕ Global)) (new : Reader) (input source_left held now : Option (List ℕ)) (r : Result Outcome Halt) → old.room ≡ total_limit
+    → IsBegun old input kept new (ahead new.held source_left) → TextChecks kept held r now → ChecksKnown input source_left held now r
+begun_ran old kept new None source_left held now r room begun text = tt
+begun_ran old kept new (Some input) source_left held now r room begun text = begun_known old kept new input source_left held now r room begun text
 
-pub begun_checks : (old : Reader) (kept : Option (Vec ℕ Global)) (new : Reader) (left after held now : Option (List ℕ)) (r : Result Outcome Halt) → old.held ≡ [] → old.room ≡ total_limit
-    → IsBegun old (ahead old.held left) kept new (ahead new.held after) → TextChecks kept held r now → ChecksKnown left held now r
-begun_checks old kept new left after held now r empty room begun text =
-    begun_ran old kept new left (ahead new.held after) held now r room (subst (λ (b : Option (List ℕ)). IsBegun old b kept new (ahead new.held after)) (all_ahead old left empty) begun) text
+pub begun_checks : (old : Reader) (kept : Option (Vec ℕ Global)) (new : Reader) (left source_left held now : Option (List ℕ)) (r : Result Outcome Halt) → old.held ≡ [] → old.room ≡ total_limit
+    → IsBegun old (ahead old.held left) kept new (ahead new.held source_left) → TextChecks kept held r now → ChecksKnown left source_left held now r
+begun_checks old kept new left source_left held now r empty room begun text =
+    begun_ran old kept new left source_left held now r room (subst (λ (b : Option (List ℕ)). IsBegun old b kept new (ahead new.held source_left)) (all_ahead old left empty) begun) text
 
 -- ---- where it does not
 
-no_begin_known : (old new : Reader) (input before : List ℕ) (after now : Option (List ℕ)) (r : Result Outcome Halt) (faults later : ℕ) → old.room ≡ total_limit
-    → HasNoBegin old (Some input) new after → OnOk r (Adds (Some before) now no_begin_line) → IfOk r (λ o. o ≡ outcome.Refused) → IfErr r (WriteStops faults later) → ChecksKnown (Some input) (Some before) now r
-no_begin_known old new input before after now (Ok outcome.Refused) faults later room head adds refused cause = begins_nowhere old new input before after now room head adds
-no_begin_known old new input before after now (Ok outcome.Done) faults later room head adds refused cause = absurd (let h : outcome.Done ≡ outcome.Refused = refused in (cc))
-no_begin_known old new input before after now (Err halt.Limit) faults later room head adds refused cause = absurd cause
-no_begin_known old new input before after now (Err halt.Full) faults later room head adds refused cause = absurd cause
-no_begin_known old new input before after now (Err halt.Read) faults later room head adds refused cause = absurd cause
-no_begin_known old new input before after now (Err halt.Write) faults later room head adds refused cause = tt
-no_begin_known old new input before after now (Err halt.Memory) faults later room head adds refused cause = tt
+no_begin_known : (old new : Reader) (input : List ℕ) (source_left held now : Option (List ℕ)) (r : Result Outcome Halt) (faults later : ℕ) → old.room ≡ total_limit
+    → HasNoBegin old (Some input) new (ahead new.held source_left) → OnOk r (Adds held now no_begin_line) → IfOk r (λ o. o ≡ outcome.Refused) → IfErr r (WriteStops faults later) → ChecksKnown (Some input) source_left held now r
+no_begin_known old new input source_left held now (Ok outcome.Refused) faults later room head adds refused cause = begins_nowhere old new input (ahead new.held source_left) source_left held now room head refl adds
+no_begin_known old new input source_left held now (Ok outcome.Done) faults later room head adds refused cause = absurd (let h : outcome.Done ≡ outcome.Refused = refused in (cc))
+no_begin_known old new input source_left held now (Err halt.Limit) faults later room head adds refused cause = absurd cause
+no_begin_known old new input source_left held now (Err halt.Full) faults later room head adds refused cause = absurd cause
+no_begin_known old new input source_left held now (Err halt.Read) faults later room head adds refused cause = absurd cause
+no_begin_known old new input source_left held now (Err halt.Write) faults later room head adds refused cause = tt
+no_begin_known old new input source_left held now (Err halt.Memory) faults later room head adds refused cause = tt
 
-no_begin_ran : (old new : Reader) (input after held now : Option (List ℕ)) (r : Result Outcome Halt) (faults later : ℕ) → old.room ≡ total_limit
-    → HasNoBegin old input new after → OnOk r (Adds held now no_begin_line) → IfOk r (λ o. o ≡ outcome.Refused) → IfErr r (WriteStops faults later) → ChecksKnown input held now r
-no_begin_ran old new None after held now r faults later room head adds refused cause = tt
-no_begin_ran old new (Some input) after None now r faults later room head adds refused cause = tt
-no_begin_ran old new (Some input) after (Some before) now r faults later room head adds refused cause = no_begin_known old new input before after now r faults later room head adds refused cause
+no_begin_ran : (old new : Reader) (input source_left held now : Option (List ℕ)) (r : Result Outcome Halt) (faults later : ℕ) → old.room ≡ total_limit
+    → HasNoBegin old input new (ahead new.held source_left) → OnOk r (Adds held now no_begin_line) → IfOk r (λ o. o ≡ outcome.Refused) → IfErr r (WriteStops faults later) → ChecksKnown input source_left held now r
+no_begin_ran old new None source_left held now r faults later room head adds refused cause = tt
+no_begin_ran old new (Some input) source_left held now r faults later room head adds refused cause = no_begin_known old new input source_left held now r faults later room head adds refused cause
 
-pub refused_checks : (old new : Reader) (left after held now : Option (List ℕ)) (r : Result Outcome Halt) (faults later : ℕ) → old.held ≡ [] → old.room ≡ total_limit
-    → HasNoBegin old (ahead old.held left) new after → OnOk r (Adds held now no_begin_line) → IfOk r (λ o. o ≡ outcome.Refused) → IfErr r (WriteStops faults later) → ChecksKnown left held now r
-refused_checks old new left after held now r faults later empty room head adds refused cause =
-    no_begin_ran old new left after held now r faults later room (subst (λ (b : Option (List ℕ)). HasNoBegin old b new after) (all_ahead old left empty) head) adds refused cause
+pub refused_checks : (old new : Reader) (left source_left held now : Option (List ℕ)) (r : Result Outcome Halt) (faults later : ℕ) → old.held ≡ [] → old.room ≡ total_limit
+    → HasNoBegin old (ahead old.held left) new (ahead new.held source_left) → OnOk r (Adds held now no_begin_line) → IfOk r (λ o. o ≡ outcome.Refused) → IfErr r (WriteStops faults later) → ChecksKnown left source_left held now r
+refused_checks old new left source_left held now r faults later empty room head adds refused cause =
+    no_begin_ran old new left source_left held now r faults later room (subst (λ (b : Option (List ℕ)). HasNoBegin old b new (ahead new.held source_left)) (all_ahead old left empty) head) adds refused cause
 
 -- ---- where the reader stops
 
-past_head : (old : Reader) (input before : List ℕ) (f : LineFault) → old.room ≡ total_limit → HeadHalts old (Some input) f → HaltFor f halt.Limit → IsPastHead input before (Some before)
-past_head old input before f room head is =
+past_head : (old : Reader) (input : List ℕ) (held : Option (List ℕ)) (f : LineFault) → old.room ≡ total_limit → HeadHalts old (Some input) f → HaltFor f halt.Limit → IsPastHead input held held
+past_head old input held f room head is =
     let halts = head.halts in
     let k = known old.room input head.lines halts.left halts.rest halts.gave in
     record {
@@ -110,8 +108,8 @@ past_head old input before f room head is =
       silent = refl;
     }
 
-head_fault : (old : Reader) (input before : List ℕ) (f : LineFault) → old.room ≡ total_limit → HeadHalts old (Some input) f → IsHeadFault input before (Some before)
-head_fault old input before f room head =
+head_fault : (old : Reader) (input : List ℕ) (held : Option (List ℕ)) (f : LineFault) → old.room ≡ total_limit → HeadHalts old (Some input) f → IsHeadFault input held held
+head_fault old input held f room head =
     let halts = head.halts in
     let k = known old.room input head.lines halts.left halts.rest halts.gave in
     record {
@@ -123,14 +121,13 @@ head_fault old input before f room head =
       silent = refl;
     }
 
-head_ran : (old : Reader) (input held : Option (List ℕ)) (f : LineFault) (e : Halt) → old.room ≡ total_limit → HeadHalts old input f → HaltFor f e → ChecksKnown input held held (Err e)
-head_ran old None held f e room head is = tt
-head_ran old (Some input) None f e room head is = tt
-head_ran old (Some input) (Some before) f halt.Limit room head is = past_head old input before f room head is
-head_ran old (Some input) (Some before) f halt.Full room head is = absurd (never_full f is)
-head_ran old (Some input) (Some before) f halt.Read room head is = head_fault old input before f room head
-head_ran old (Some input) (Some before) f halt.Write room head is = tt
-head_ran old (Some input) (Some before) f halt.Memory room head is = tt
+head_ran : (old : Reader) (input source_left held : Option (List ℕ)) (f : LineFault) (e : Halt) → old.room ≡ total_limit → HeadHalts old input f → HaltFor f e → ChecksKnown input source_left held held (Err e)
+head_ran old None source_left held f e room head is = tt
+head_ran old (Some input) source_left held f halt.Limit room head is = past_head old input held f room head is
+head_ran old (Some input) source_left held f halt.Full room head is = absurd (never_full f is)
+head_ran old (Some input) source_left held f halt.Read room head is = head_fault old input held f room head
+head_ran old (Some input) source_left held f halt.Write room head is = tt
+head_ran old (Some input) source_left held f halt.Memory room head is = tt
 
-pub head_checks : (old : Reader) (left held : Option (List ℕ)) (f : LineFault) (e : Halt) → old.held ≡ [] → old.room ≡ total_limit → HeadHalts old (ahead old.held left) f → HaltFor f e → ChecksKnown left held held (Err e)
-head_checks old left held f e empty room head is = head_ran old left held f e room (subst (λ (b : Option (List ℕ)). HeadHalts old b f) (all_ahead old left empty) head) is
+pub head_checks : (old : Reader) (left source_left held : Option (List ℕ)) (f : LineFault) (e : Halt) → old.held ≡ [] → old.room ≡ total_limit → HeadHalts old (ahead old.held left) f → HaltFor f e → ChecksKnown left source_left held held (Err e)
+head_checks old left source_left held f e empty room head is = head_ran old left source_left held f e room (subst (λ (b : Option (List ℕ)). HeadHalts old b f) (all_ahead old left empty) head) is

@@ -1,11 +1,12 @@
 -- The end of a run over an input: from its head, and from what was played.
-use Rattle.std.proofs.Common.{◌≡◌, ◌≢◌, ℕ, ◌≤◌, List, [], ◌∷◌, ◌++◌, length, drop, OnOk, IfOk, IfErr, Bool, true, false, Option, Some, None, ◌⊎◌, inl, inr, Result, Ok, Err, refl, sym, ◌∙◌, ap, subst, append_assoc, arith}
+use Rattle.std.proofs.Common.{◌≡◌, ◌≢◌, ℕ, ◌<◌, ◌≤◌, List, [], ◌∷◌, ◌++◌, length, drop, OnOk, IfOk, IfErr, Bool, true, false, Option, Some, None, ◌⊎◌, inl, inr, Result, Ok, Err, refl, sym, ◌∙◌, ap, subst, append_assoc, arith}
 use Rattle.std.proofs.lemmas.List.{append-nil}
 use Rattle.std.specs.declared.vec.Vec.{Vec}
 use Rattle.std.specs.declared.alloc.Global.{Global}
 use Rattle.pl_io.specs.declared.errors.LineFault.{LineFault}
 use Rattle.pl_io.specs.Lines.{ahead, lines_of}
 use Rattle.pl_io.specs.Reader.{Reader, NumberedLine}
+use Rattle.pl_io.specs.Sparing.{read_size}
 use Rattle.pl_model.specs.declared.whole.Model.{Model}
 use Rattle.pl_machine.specs.declared.event.Entry.{Entry}
 use Rattle.pl_machine.specs.Lines.{is_blank_line, is_line_of, end_word, model_text_of, lines_behind, messages_of, split_of}
@@ -31,7 +32,7 @@ use Rattle.pl_main.specs.Tells.{FillsUp, at_once, within}
 use Rattle.pl_main.specs.Written.{Adds, WriteStops}
 use Rattle.pl_main.specs.Plays.{Place, place_of, HaltFor, Plays, EndsWith, by_end, by_line, EndsAll, PlaysOut, StopsBy, PlayHalts, PlayFills, Playing, line_in}
 use Rattle.pl_main.specs.Runs.{fresh_state, ModelRuns, AcceptsKept, TextFails, TextWaits, TextRun, TextRuns}
-use Rattle.pl_main.specs.Top.{RanKnown, program_options, total_limit, IsDone, HasHead, no_begin_line, not_built_line, IsNoModel, no_begin, faulty, no_model, not_built, WaitsBehind, IsReadFault, IsPastLimit, HasRead, IsFull}
+use Rattle.pl_main.specs.Top.{RanKnown, IsReadTo, program_options, total_limit, IsDone, HasHead, no_begin_line, not_built_line, IsNoModel, no_begin, faulty, no_model, not_built, WaitsBehind, IsReadFault, IsPastLimit, HasRead, IsFull}
 use Rattle.pl_main.proofs.Reading.{gave_append, gave_lines}
 use Rattle.pl_main.proofs.Beginning.{head_then}
 use Rattle.pl_main.proofs.Writing.{adds_then, log_is_short}
@@ -40,18 +41,18 @@ use Rattle.pl_main.proofs.Playing.{blanks_first, message_first, end_first, none_
 -- ---- a run over a model
 
 pub run_stops : (turns : ℕ) (m : Model) (start place : Place) (held opened now : Option (List ℕ)) (e : Halt) (new : State)
-    → Adds held opened (text_from m 0 (opening (program_options turns) ∷ [])) → Playing (fresh_state turns m) start opened (Err e) new place now → Legal new.world.scene.model new.log → ModelRuns turns m start held (Err e) now
-run_stops turns m start place held opened now halt.Limit new first playing legal = record { opened = opened; new = new; place = place; first = first; playing = playing; legal = legal }
-run_stops turns m start place held opened now halt.Full new first playing legal = record { opened = opened; new = new; place = place; first = first; playing = playing; legal = legal }
-run_stops turns m start place held opened now halt.Read new first playing legal = record { opened = opened; new = new; place = place; first = first; playing = playing; legal = legal }
+    → Adds held opened (text_from m 0 (opening (program_options turns) ∷ [])) → Playing (fresh_state turns m) start opened (Err e) new place now → Legal new.world.scene.model new.log → ModelRuns turns m start held (Err e) place now
+run_stops turns m start place held opened now halt.Limit new first playing legal = record { opened = opened; new = new; first = first; playing = playing; legal = legal }
+run_stops turns m start place held opened now halt.Full new first playing legal = record { opened = opened; new = new; first = first; playing = playing; legal = legal }
+run_stops turns m start place held opened now halt.Read new first playing legal = record { opened = opened; new = new; first = first; playing = playing; legal = legal }
 run_stops turns m start place held opened now halt.Write new first playing legal = tt
 run_stops turns m start place held opened now halt.Memory new first playing legal = tt
 
 -- ---- a run over a text
 
 pub text_refused : (turns : ℕ) (kept : Option (Vec ℕ Global)) (start : Place) (held now : Option (List ℕ)) (line : List ℕ) (r : Result Outcome Halt) (faults later : ℕ)
-    → AcceptsKept kept (accepted.Refused line) → OnOk r (Adds held now line) → IfOk r (λ o. o ≡ outcome.Refused) → IfErr r (WriteStops faults later) → TextRuns turns kept start held r now
-text_refused turns kept start held now line (Ok outcome.Refused) faults later text adds refused cause = inl record { line = line; refused = text; written = adds }
+    → AcceptsKept kept (accepted.Refused line) → OnOk r (Adds held now line) → IfOk r (λ o. o ≡ outcome.Refused) → IfErr r (WriteStops faults later) → TextRuns turns kept start held r start now
+text_refused turns kept start held now line (Ok outcome.Refused) faults later text adds refused cause = (inl record { line = line; refused = text; written = adds }, refl)
 text_refused turns kept start held now line (Ok outcome.Done) faults later text adds refused cause = absurd (let h : outcome.Done ≡ outcome.Refused = refused in (cc))
 text_refused turns kept start held now line (Err halt.Limit) faults later text adds refused cause = absurd cause
 text_refused turns kept start held now line (Err halt.Full) faults later text adds refused cause = absurd cause
@@ -60,8 +61,8 @@ text_refused turns kept start held now line (Err halt.Write) faults later text a
 text_refused turns kept start held now line (Err halt.Memory) faults later text adds refused cause = tt
 
 pub text_waits : (turns : ℕ) (kept : Option (Vec ℕ Global)) (start : Place) (held now : Option (List ℕ)) (m : Model) (r : Result Outcome Halt) (faults later : ℕ)
-    → AcceptsKept kept (accepted.Model m) → (IsRunnable m → ⊥) → OnOk r (Adds held now not_built_line) → IfOk r (λ o. o ≡ outcome.Refused) → IfErr r (WriteStops faults later) → TextRuns turns kept start held r now
-text_waits turns kept start held now m (Ok outcome.Refused) faults later text other adds refused cause = inr record { model = m; text = text; other = other; written = adds }
+    → AcceptsKept kept (accepted.Model m) → (IsRunnable m → ⊥) → OnOk r (Adds held now not_built_line) → IfOk r (λ o. o ≡ outcome.Refused) → IfErr r (WriteStops faults later) → TextRuns turns kept start held r start now
+text_waits turns kept start held now m (Ok outcome.Refused) faults later text other adds refused cause = (inr record { model = m; text = text; other = other; written = adds }, refl)
 text_waits turns kept start held now m (Ok outcome.Done) faults later text other adds refused cause = absurd (let h : outcome.Done ≡ outcome.Refused = refused in (cc))
 text_waits turns kept start held now m (Err halt.Limit) faults later text other adds refused cause = absurd cause
 text_waits turns kept start held now m (Err halt.Full) faults later text other adds refused cause = absurd cause
@@ -69,17 +70,17 @@ text_waits turns kept start held now m (Err halt.Read) faults later text other a
 text_waits turns kept start held now m (Err halt.Write) faults later text other adds refused cause = tt
 text_waits turns kept start held now m (Err halt.Memory) faults later text other adds refused cause = tt
 
-pub text_ran : (turns : ℕ) (kept : Option (Vec ℕ Global)) (start : Place) (held now : Option (List ℕ)) (m : Model)
-    → AcceptsKept kept (accepted.Model m) → IsRunnable m → ModelRuns turns m start held (Ok tt) now → TextRuns turns kept start held (Ok outcome.Done) now
-text_ran turns kept start held now m text runnable run = record { model = m; text = text; runnable = runnable; run = run }
+pub text_ran : (turns : ℕ) (kept : Option (Vec ℕ Global)) (start place : Place) (held now : Option (List ℕ)) (m : Model)
+    → AcceptsKept kept (accepted.Model m) → IsRunnable m → ModelRuns turns m start held (Ok tt) place now → TextRuns turns kept start held (Ok outcome.Done) place now
+text_ran turns kept start place held now m text runnable run = record { model = m; text = text; runnable = runnable; run = run }
 
-pub text_stops : (turns : ℕ) (kept : Option (Vec ℕ Global)) (start : Place) (held now : Option (List ℕ)) (m : Model) (e : Halt)
-    → AcceptsKept kept (accepted.Model m) → IsRunnable m → ModelRuns turns m start held (Err e) now → TextRuns turns kept start held (Err e) now
-text_stops turns kept start held now m halt.Limit text runnable run = record { model = m; text = text; runnable = runnable; run = run }
-text_stops turns kept start held now m halt.Full text runnable run = record { model = m; text = text; runnable = runnable; run = run }
-text_stops turns kept start held now m halt.Read text runnable run = record { model = m; text = text; runnable = runnable; run = run }
-text_stops turns kept start held now m halt.Write text runnable run = tt
-text_stops turns kept start held now m halt.Memory text runnable run = tt
+pub text_stops : (turns : ℕ) (kept : Option (Vec ℕ Global)) (start place : Place) (held now : Option (List ℕ)) (m : Model) (e : Halt)
+    → AcceptsKept kept (accepted.Model m) → IsRunnable m → ModelRuns turns m start held (Err e) place now → TextRuns turns kept start held (Err e) place now
+text_stops turns kept start place held now m halt.Limit text runnable run = record { model = m; text = text; runnable = runnable; run = run }
+text_stops turns kept start place held now m halt.Full text runnable run = record { model = m; text = text; runnable = runnable; run = run }
+text_stops turns kept start place held now m halt.Read text runnable run = record { model = m; text = text; runnable = runnable; run = run }
+text_stops turns kept start place held now m halt.Write text runnable run = tt
+text_stops turns kept start place held now m halt.Memory text runnable run = tt
 
 -- ---- what was read
 
@@ -129,27 +130,43 @@ last_is (z ∷ xs) [] x y e = absurd (let h : z ∷ xs ≡ [] = (not_single y x 
 last_is (z ∷ xs) (w ∷ ys) x y e = last_is xs ys x y (let h : z ∷ (xs ++ x ∷ []) ≡ w ∷ (ys ++ y ∷ []) = e in (cc))
 
 ends_all : (rest : List ℕ) (lines : List (List ℕ)) (inputs : List (Option (List ℕ))) → EndsWith rest lines inputs → messages_of (lines ++ lines_of rest) ≡ inputs
-ends_all rest lines inputs (by_end none is) = ap (λ (r : List ℕ). messages_of (lines ++ lines_of r)) none ∙ ap messages_of (append-nil lines) ∙ is
-ends_all rest lines inputs (by_line front line last all) = all (lines_of rest)
+ends_all rest lines inputs (by_end front last none is) = ap (λ (r : List ℕ). messages_of (lines ++ lines_of r)) none ∙ ap messages_of (append-nil lines) ∙ is
+ends_all rest lines inputs (by_line front line before last is all) = all (lines_of rest)
 
 ends_read : (rest : List ℕ) (lines : List (List ℕ)) (inputs : List (Option (List ℕ))) → EndsWith rest lines inputs → messages_of lines ≡ inputs
-ends_read rest lines inputs (by_end none is) = is
-ends_read rest lines inputs (by_line front line last all) = ap messages_of (sym (append-nil lines)) ∙ all []
+ends_read rest lines inputs (by_end front last none is) = is
+ends_read rest lines inputs (by_line front line before last is all) = ap messages_of (sym (append-nil lines)) ∙ all []
 
 ends_used_up : (rest : List ℕ) (lines : List (List ℕ)) (inputs front : List (Option (List ℕ))) → EndsWith rest lines inputs → inputs ≡ front ++ None ∷ [] → rest ≡ []
-ends_used_up rest lines inputs front (by_end none is) e = none
-ends_used_up rest lines inputs front (by_line before line last all) e = absurd (let h : Some line ≡ None = last_is before front (Some line) None (sym last ∙ e) in (cc))
+ends_used_up rest lines inputs front (by_end ahead_of last none is) e = none
+ends_used_up rest lines inputs front (by_line before line so_far last is all) e = absurd (let h : Some line ≡ None = last_is before front (Some line) None (sym last ∙ e) in (cc))
 
-done_ends : (turns : ℕ) (input words heads_rest : List ℕ) (heads : List (List ℕ)) (m : Model) (start place : Place) (old : List ℕ) (opened now : Option (List ℕ)) (new : State)
+-- the last line that was read is the last message, where that is a line
+ends_last : (rest : List ℕ) (lines : List (List ℕ)) (inputs front : List (Option (List ℕ))) (line : List ℕ) → EndsWith rest lines inputs → inputs ≡ front ++ Some line ∷ []
+    → (before : List (List ℕ)) × (lines ≡ before ++ line ∷ [])
+ends_last rest lines inputs front line (by_end ahead_of last none is) e = absurd (let h : None ≡ Some line = last_is ahead_of front None (Some line) (sym last ∙ e) in (cc))
+ends_last rest lines inputs front line (by_line ahead_of found before last is all) e =
+    let same : found ≡ line = (let h : Some found ≡ Some line = last_is ahead_of front (Some found) (Some line) (sym last ∙ e) in (cc)) in
+    (before, is ∙ ap (λ (l : List ℕ). before ++ l ∷ []) same)
+
+-- lines in front of lines that end with this one
+ends_behind : (xs ys before : List (List ℕ)) (line : List ℕ) → ys ≡ before ++ line ∷ [] → (front : List (List ℕ)) × (xs ++ ys ≡ front ++ line ∷ [])
+ends_behind xs ys before line is = (xs ++ before, ap (λ (ls : List (List ℕ)). xs ++ ls) is ∙ sym (append_assoc xs before (line ∷ [])))
+
+-- what a source has left behind a reader
+read_to : (place : Place) (source_left : Option (List ℕ)) (rest : List ℕ) → length place.reader.held < read_size → ahead place.reader.held source_left ≡ place.ahead → place.ahead ≡ Some rest → IsReadTo rest source_left
+read_to place source_left rest few behind is = record { came = place.reader.held; few = few; behind = behind ∙ is }
+
+done_ends : (turns : ℕ) (input words heads_rest : List ℕ) (heads : List (List ℕ)) (m : Model) (start place : Place) (source_left held opened now : Option (List ℕ)) (new : State)
     → IsHead heads words → Gave total_limit input heads start.reader.room heads_rest → start.ahead ≡ Some heads_rest → IsModelText words m → IsRunnable m
-    → Adds (Some old) opened (text_from m 0 (opening (program_options turns) ∷ [])) → PlaysOut (fresh_state turns m) start opened new place now → Legal new.world.scene.model new.log → IsDone turns input old now
-done_ends turns input words heads_rest heads m start place old opened now new head gave ahead accepted runnable first plays legal =
-    let from = subst (λ (b : Option (List ℕ)). GaveKnown start.reader.room b plays.lines place.reader.room place.ahead) ahead plays.gave in
+    → Adds held opened (text_from m 0 (opening (program_options turns) ∷ [])) → PlaysOut (fresh_state turns m) start opened new place now → Legal new.world.scene.model new.log → ahead place.reader.held source_left ≡ place.ahead → IsDone turns input source_left held now
+done_ends turns input words heads_rest heads m start place source_left held opened now new head gave is_ahead accepted runnable first plays legal behind =
+    let from = subst (λ (b : Option (List ℕ)). GaveKnown start.reader.room b plays.lines place.reader.room place.ahead) is_ahead plays.gave in
     let k = known start.reader.room heads_rest plays.lines place.reader.room place.ahead from in
-    let ends = subst (λ (a : Option (List ℕ)). EndsAll (Some heads_rest) a plays.lines (inputs_of plays.entries)) k.is (subst (λ (b : Option (List ℕ)). EndsAll b place.ahead plays.lines (inputs_of plays.entries)) ahead plays.messages) in
+    let ends = subst (λ (a : Option (List ℕ)). EndsAll (Some heads_rest) a plays.lines (inputs_of plays.entries)) k.is (subst (λ (b : Option (List ℕ)). EndsAll b place.ahead plays.lines (inputs_of plays.entries)) is_ahead plays.messages) in
     let split = split_is input heads words (lines_of heads_rest) head (gave_lines total_limit input heads start.reader.room heads_rest gave) in
     let both = head_then heads words plays.lines head in
-    let l = logged turns m new (Some old) opened now plays.entries legal plays.same plays.log plays.solo plays.world first plays.written in
+    let l = logged turns m new held opened now plays.entries legal plays.same plays.log plays.solo plays.world first plays.written in
     record {
       model = m;
       log = opening (program_options turns) ∷ plays.entries;
@@ -162,6 +179,7 @@ done_ends turns input words heads_rest heads m start place old opened now new he
         done = ap (λ (w : World). w.done) (sym l.world) ∙ plays.done;
         inputs = sym (ends_all k.rest plays.lines (inputs_of plays.entries) ends) ∙ sym (ap messages_of (gave_lines start.reader.room heads_rest plays.lines place.reader.room k.rest k.gave)) ∙ sym split.messages;
       };
+      closed = ap (λ (w : World). w.closed) (sym l.world) ∙ plays.closed;
       solo = l.solo;
       options = refl;
       read = record {
@@ -172,34 +190,36 @@ done_ends turns input words heads_rest heads m start place old opened now new he
         gave = gave_append total_limit input heads plays.lines start.reader.room heads_rest place.reader.room k.rest gave k.gave;
         text = both.0;
         behind = ap messages_of both.1 ∙ ends_read k.rest plays.lines (inputs_of plays.entries) ends ∙ sym (append-nil (inputs_of plays.entries));
+        no_further = λ front line e. (let last = ends_last k.rest plays.lines (inputs_of plays.entries) front line ends e in ends_behind heads plays.lines last.0 line last.1);
         used_up = λ front e. ends_used_up k.rest plays.lines (inputs_of plays.entries) front ends e;
+        source = read_to place source_left k.rest plays.few behind k.is;
       };
       written = l.text;
     }
 
 -- the lines behind which no line was given
-record IsStopped (e : Halt) (turns : ℕ) (input old : List ℕ) (new : Option (List ℕ)) : Type 0 where
+record IsStopped (e : Halt) (turns : ℕ) (input : List ℕ) (held now : Option (List ℕ)) : Type 0 where
   lines : List (List ℕ)
   left : ℕ
   rest : List ℕ
   gave : Gave total_limit input lines left rest
   why : StopsBy e left (Some rest)
-  asked : ((model_text_of lines ≡ None) × (new ≡ Some old)) ⊎ WaitsBehind turns lines old new
+  asked : ((model_text_of lines ≡ None) × (now ≡ held)) ⊎ WaitsBehind turns lines held now
 
-past_limit : (turns : ℕ) (input old : List ℕ) (new : Option (List ℕ)) → IsStopped halt.Limit turns input old new → IsPastLimit turns input old new
-past_limit turns input old new s = record { lines = s.lines; left = s.left; rest = s.rest; gave = s.gave; why = s.why; asked = s.asked }
+past_limit : (turns : ℕ) (input : List ℕ) (held now : Option (List ℕ)) → IsStopped halt.Limit turns input held now → IsPastLimit turns input held now
+past_limit turns input held now s = record { lines = s.lines; left = s.left; rest = s.rest; gave = s.gave; why = s.why; asked = s.asked }
 
-read_fault : (turns : ℕ) (input old : List ℕ) (new : Option (List ℕ)) → IsStopped halt.Read turns input old new → IsReadFault turns input old new
-read_fault turns input old new s = record { lines = s.lines; left = s.left; rest = s.rest; gave = s.gave; asked = s.asked }
+read_fault : (turns : ℕ) (input : List ℕ) (held now : Option (List ℕ)) → IsStopped halt.Read turns input held now → IsReadFault turns input held now
+read_fault turns input held now s = record { lines = s.lines; left = s.left; rest = s.rest; gave = s.gave; asked = s.asked }
 
-stopped_ends : (e : Halt) (turns : ℕ) (input words heads_rest : List ℕ) (heads : List (List ℕ)) (m : Model) (start : Place) (old : List ℕ) (opened now : Option (List ℕ)) (new : State)
+stopped_ends : (e : Halt) (turns : ℕ) (input words heads_rest : List ℕ) (heads : List (List ℕ)) (m : Model) (start : Place) (held opened now : Option (List ℕ)) (new : State)
     → IsHead heads words → Gave total_limit input heads start.reader.room heads_rest → start.ahead ≡ Some heads_rest → IsModelText words m → IsRunnable m
-    → Adds (Some old) opened (text_from m 0 (opening (program_options turns) ∷ [])) → PlayHalts e (fresh_state turns m) start opened new now → Legal new.world.scene.model new.log → IsStopped e turns input old now
-stopped_ends e turns input words heads_rest heads m start old opened now new head gave ahead accepted runnable first plays legal =
-    let from = subst (λ (b : Option (List ℕ)). GaveKnown start.reader.room b plays.lines plays.left plays.rest) ahead plays.gave in
+    → Adds held opened (text_from m 0 (opening (program_options turns) ∷ [])) → PlayHalts e (fresh_state turns m) start opened new now → Legal new.world.scene.model new.log → IsStopped e turns input held now
+stopped_ends e turns input words heads_rest heads m start held opened now new head gave is_ahead accepted runnable first plays legal =
+    let from = subst (λ (b : Option (List ℕ)). GaveKnown start.reader.room b plays.lines plays.left plays.rest) is_ahead plays.gave in
     let k = known start.reader.room heads_rest plays.lines plays.left plays.rest from in
     let both = head_then heads words plays.lines head in
-    let l = logged turns m new (Some old) opened now plays.entries legal plays.same plays.log plays.solo plays.world first plays.written in
+    let l = logged turns m new held opened now plays.entries legal plays.same plays.log plays.solo plays.world first plays.written in
     record {
       lines = heads ++ plays.lines;
       left = plays.left;
@@ -238,7 +258,7 @@ behind_blanks : (blanks lines : List (List ℕ)) (next : Option (List ℕ)) → 
 behind_blanks blanks lines next blank begins = record { more = begins.more; is = blanks_first blanks lines blank ∙ begins.is }
 
 -- the lines in which the next message was found
-record GotNext (next : Option (List ℕ)) (room : ℕ) (bytes : List ℕ) : Type 0 where
+record GotNext (next : Option (List ℕ)) (room : ℕ) (bytes : List ℕ) (behind : Place) : Type 0 where
   lines : List (List ℕ)
   left : ℕ
   rest : List ℕ
@@ -246,8 +266,11 @@ record GotNext (next : Option (List ℕ)) (room : ℕ) (bytes : List ℕ) : Type
   read : BeginsWith next (messages_of lines)
   all : BeginsWith next (messages_of (lines ++ lines_of rest))
   used_up : next ≡ None → rest ≡ []
+  last : (line : List ℕ) → next ≡ Some line → (before : List (List ℕ)) × (lines ≡ before ++ line ∷ [])
+  few : length behind.reader.held < read_size
+  is : behind.ahead ≡ Some rest
 
-got_next : (before behind : Place) (bytes : List ℕ) (message : Option NumberedLine) → before.ahead ≡ Some bytes → MessageGives before.reader before.ahead (Ok message) behind.reader behind.ahead → GotNext (line_in message) before.reader.room bytes
+got_next : (before behind : Place) (bytes : List ℕ) (message : Option NumberedLine) → before.ahead ≡ Some bytes → MessageGives before.reader before.ahead (Ok message) behind.reader behind.ahead → GotNext (line_in message) before.reader.room bytes behind
 got_next before behind bytes (Some line) ahead gets =
     let from = subst (λ (b : Option (List ℕ)). GaveKnown before.reader.room b (gets.lines ++ line.bytes ∷ []) behind.reader.room behind.ahead) ahead gets.took.gave in
     let k = known before.reader.room bytes (gets.lines ++ line.bytes ∷ []) behind.reader.room behind.ahead from in
@@ -260,6 +283,9 @@ got_next before behind bytes (Some line) ahead gets =
       all = subst (λ (ls : List (List ℕ)). BeginsWith (Some line.bytes) (messages_of ls)) (sym (append_assoc gets.lines (line.bytes ∷ []) (lines_of k.rest)))
           (behind_blanks gets.lines (line.bytes ∷ lines_of k.rest) (Some line.bytes) gets.blank (first_message line.bytes (lines_of k.rest) gets.message (is_line_of end_word line.bytes) refl));
       used_up = λ e. absurd (let h : Some line.bytes ≡ None = e in (cc));
+      last = λ found e. (let same : line.bytes ≡ found = (let h : Some line.bytes ≡ Some found = e in (cc)) in (gets.lines, ap (λ (l : List ℕ). gets.lines ++ l ∷ []) same));
+      few = gets.took.few;
+      is = k.is;
     }
 got_next before behind bytes None ahead gets =
     let from = subst (λ (b : Option (List ℕ)). GaveKnown before.reader.room b gets.lines behind.reader.room behind.ahead) ahead gets.took.gave in
@@ -275,6 +301,9 @@ got_next before behind bytes None ahead gets =
       read = begins;
       all = subst (λ (ls : List (List ℕ)). BeginsWith None (messages_of ls)) (sym (ap (λ (r : List ℕ). gets.lines ++ lines_of r) none ∙ append-nil gets.lines)) begins;
       used_up = λ e. none;
+      last = λ found e. absurd (let h : None ≡ Some found = e in (cc));
+      few = gets.took.few;
+      is = k.is;
     }
 
 -- what the log of a filled run holds
@@ -324,9 +353,10 @@ between : (n : ℕ) → n ≤ 250000 → 250000 ≤ n → n ≡ 250000
 between n low high = omega (arith, low, high)
 
 -- the lines with a next message behind those that were played
-has_read : (input words : List ℕ) (heads lines : List (List ℕ)) (room mid : ℕ) (heads_rest bytes : List ℕ) (before : List (Option (List ℕ))) (next : Option (List ℕ))
-    → IsHead heads words → Gave total_limit input heads room heads_rest → Gave room heads_rest lines mid bytes → messages_of lines ≡ before ++ None ∷ [] → GotNext next mid bytes → HasRead words (before ++ next ∷ []) input
-has_read input words heads lines room mid heads_rest bytes before next head gave gave2 so_far got =
+has_read : (input words : List ℕ) (heads lines : List (List ℕ)) (room mid : ℕ) (heads_rest bytes : List ℕ) (before : List (Option (List ℕ))) (next : Option (List ℕ)) (place : Place) (source_left : Option (List ℕ))
+    → IsHead heads words → Gave total_limit input heads room heads_rest → Gave room heads_rest lines mid bytes → messages_of lines ≡ before ++ None ∷ [] → GotNext next mid bytes place
+    → ahead place.reader.held source_left ≡ place.ahead → HasRead words (before ++ next ∷ []) input source_left
+has_read input words heads lines room mid heads_rest bytes before next place source_left head gave gave2 so_far got behind =
     let both = head_then heads words (lines ++ got.lines) head in
     record {
       lines = heads ++ (lines ++ got.lines);
@@ -336,57 +366,62 @@ has_read input words heads lines room mid heads_rest bytes before next head gave
       gave = gave_append total_limit input heads (lines ++ got.lines) room heads_rest got.left got.rest gave (gave_append room heads_rest lines got.lines mid bytes got.left got.rest gave2 got.gave);
       text = both.0;
       behind = ap messages_of both.1 ∙ messages_append lines got.lines before so_far ∙ ap (λ (ns : List (Option (List ℕ))). before ++ ns) got.read.is ∙ sym (append_assoc before (next ∷ []) got.read.more);
+      no_further = λ front line e.
+          (let last = got.last line (last_is before front next (Some line) e) in
+          let behind_lines = ends_behind lines got.lines last.0 line last.1 in
+          ends_behind heads (lines ++ got.lines) behind_lines.0 line behind_lines.1);
       used_up = λ front e. got.used_up (last_is before front next None e);
+      source = read_to place source_left got.rest got.few behind got.is;
     }
 
 -- what is unanswered behind a log that is full, and why an entry is due
-record LeavesMore (m : Model) (log : List Entry) (words input : List ℕ) : Type 0 where
+record LeavesMore (m : Model) (log : List Entry) (words input : List ℕ) (source_left : Option (List ℕ)) : Type 0 where
   unanswered : List (Option (List ℕ))
   messages : (split_of input).messages ≡ inputs_of log ++ unanswered
   pending : List (Option (List ℕ))
-  read : HasRead words (inputs_of log ++ pending) input
+  read : HasRead words (inputs_of log ++ pending) input source_left
   due : ((world_of m log).closed ≡ false) ⊎ (pending ≢ [])
 
-leaves_more : (m : Model) (log : List Entry) (input : List ℕ) (heads lines : List (List ℕ)) (words : List ℕ) (room mid : ℕ) (heads_rest bytes : List ℕ) (before : List (Option (List ℕ))) (next : Option (List ℕ))
-    → IsHead heads words → Gave total_limit input heads room heads_rest → Gave room heads_rest lines mid bytes → messages_of lines ≡ before ++ None ∷ [] → GotNext next mid bytes
-    → (((world_of m log).closed ≡ false) × (inputs_of log ≡ before ++ next ∷ [])) ⊎ (inputs_of log ≡ before) → LeavesMore m log words input
-leaves_more m log input heads lines words room mid heads_rest bytes before next head gave gave2 so_far got due = by_due due
+leaves_more : (m : Model) (log : List Entry) (input : List ℕ) (heads lines : List (List ℕ)) (words : List ℕ) (room mid : ℕ) (heads_rest bytes : List ℕ) (before : List (Option (List ℕ))) (next : Option (List ℕ)) (place : Place) (source_left : Option (List ℕ))
+    → IsHead heads words → Gave total_limit input heads room heads_rest → Gave room heads_rest lines mid bytes → messages_of lines ≡ before ++ None ∷ [] → GotNext next mid bytes place
+    → ahead place.reader.held source_left ≡ place.ahead → (((world_of m log).closed ≡ false) × (inputs_of log ≡ before ++ next ∷ [])) ⊎ (inputs_of log ≡ before) → LeavesMore m log words input source_left
+leaves_more m log input heads lines words room mid heads_rest bytes before next place source_left head gave gave2 so_far got behind due = by_due due
   where
     whole : (split_of input).messages ≡ before ++ next ∷ got.all.more
     whole = (split_is input heads words (lines_of heads_rest) head (gave_lines total_limit input heads room heads_rest gave)).messages
         ∙ ap messages_of (gave_lines room heads_rest lines mid bytes gave2 ∙ ap (λ (ls : List (List ℕ)). lines ++ ls) (gave_lines mid bytes got.lines got.left got.rest got.gave))
         ∙ messages_append lines (got.lines ++ lines_of got.rest) before so_far ∙ ap (λ (ns : List (Option (List ℕ))). before ++ ns) got.all.is
 
-    read : HasRead words (before ++ next ∷ []) input
-    read = has_read input words heads lines room mid heads_rest bytes before next head gave gave2 so_far got
+    read : HasRead words (before ++ next ∷ []) input source_left
+    read = has_read input words heads lines room mid heads_rest bytes before next place source_left head gave gave2 so_far got behind
 
-    by_due : (((world_of m log).closed ≡ false) × (inputs_of log ≡ before ++ next ∷ [])) ⊎ (inputs_of log ≡ before) → LeavesMore m log words input
+    by_due : (((world_of m log).closed ≡ false) × (inputs_of log ≡ before ++ next ∷ [])) ⊎ (inputs_of log ≡ before) → LeavesMore m log words input source_left
     by_due (inl both) = record {
       unanswered = got.all.more;
       messages = whole ∙ sym (append_assoc before (next ∷ []) got.all.more) ∙ ap (λ (ns : List (Option (List ℕ))). ns ++ got.all.more) (sym both.1);
       pending = [];
-      read = subst (λ (ns : List (Option (List ℕ))). HasRead words ns input) (sym (append-nil (inputs_of log) ∙ both.1)) read;
+      read = subst (λ (ns : List (Option (List ℕ))). HasRead words ns input source_left) (sym (append-nil (inputs_of log) ∙ both.1)) read;
       due = inl both.0;
     }
     by_due (inr same) = record {
       unanswered = next ∷ got.all.more;
       messages = whole ∙ ap (λ (ns : List (Option (List ℕ))). ns ++ next ∷ got.all.more) (sym same);
       pending = next ∷ [];
-      read = subst (λ (ns : List (Option (List ℕ))). HasRead words ns input) (ap (λ (ns : List (Option (List ℕ))). ns ++ next ∷ []) (sym same)) read;
+      read = subst (λ (ns : List (Option (List ℕ))). HasRead words ns input source_left) (ap (λ (ns : List (Option (List ℕ))). ns ++ next ∷ []) (sym same)) read;
       due = inr (λ e. (let h : next ∷ [] ≡ [] = e in (cc)));
     }
 
-full_ends : (turns : ℕ) (input words heads_rest : List ℕ) (heads : List (List ℕ)) (m : Model) (start : Place) (old : List ℕ) (opened now : Option (List ℕ)) (new : State)
+full_ends : (turns : ℕ) (input words heads_rest : List ℕ) (heads : List (List ℕ)) (m : Model) (start place : Place) (source_left held opened now : Option (List ℕ)) (new : State)
     → IsHead heads words → Gave total_limit input heads start.reader.room heads_rest → start.ahead ≡ Some heads_rest → IsModelText words m → IsRunnable m
-    → Adds (Some old) opened (text_from m 0 (opening (program_options turns) ∷ [])) → PlayFills (fresh_state turns m) start opened new now → Legal new.world.scene.model new.log → IsFull turns input old now
-full_ends turns input words heads_rest heads m start old opened now new head gave ahead accepted runnable first plays legal =
-    let f = filled turns m start plays.place plays.behind opened plays.written now plays.waiting new (line_in plays.step.message) plays.plays plays.step.fills plays.step.written in
+    → Adds held opened (text_from m 0 (opening (program_options turns) ∷ [])) → PlayFills (fresh_state turns m) start opened new place now → Legal new.world.scene.model new.log → ahead place.reader.held source_left ≡ place.ahead → IsFull turns input source_left held now
+full_ends turns input words heads_rest heads m start place source_left held opened now new head gave is_ahead accepted runnable first plays legal behind =
+    let f = filled turns m start plays.middle place opened plays.written now plays.waiting new (line_in plays.step.message) plays.plays plays.step.fills plays.step.written in
     let split = split_is input heads words (lines_of heads_rest) head (gave_lines total_limit input heads start.reader.room heads_rest gave) in
-    let l = logged turns m new (Some old) opened now f.entries legal f.same f.log f.solo f.world first f.text in
-    let from = subst (λ (b : Option (List ℕ)). GaveKnown start.reader.room b plays.plays.lines plays.place.reader.room plays.place.ahead) ahead plays.plays.took.gave in
-    let k = known start.reader.room heads_rest plays.plays.lines plays.place.reader.room plays.place.ahead from in
-    let got = got_next plays.place plays.behind k.rest plays.step.message k.is plays.step.gets in
-    let more = leaves_more m (opening (program_options turns) ∷ f.entries) input heads plays.plays.lines words start.reader.room plays.place.reader.room heads_rest k.rest (inputs_of plays.plays.entries) (line_in plays.step.message) head gave k.gave plays.plays.messages got
+    let l = logged turns m new held opened now f.entries legal f.same f.log f.solo f.world first f.text in
+    let from = subst (λ (b : Option (List ℕ)). GaveKnown start.reader.room b plays.plays.lines plays.middle.reader.room plays.middle.ahead) is_ahead plays.plays.took.gave in
+    let k = known start.reader.room heads_rest plays.plays.lines plays.middle.reader.room plays.middle.ahead from in
+    let got = got_next plays.middle place k.rest plays.step.message k.is plays.step.gets in
+    let more = leaves_more m (opening (program_options turns) ∷ f.entries) input heads plays.plays.lines words start.reader.room plays.middle.reader.room heads_rest k.rest (inputs_of plays.plays.entries) (line_in plays.step.message) place source_left head gave k.gave plays.plays.messages got behind
     (subst (λ (w : World). ((w.closed ≡ false) × (inputs_of f.entries ≡ inputs_of plays.plays.entries ++ line_in plays.step.message ∷ [])) ⊎ (inputs_of f.entries ≡ inputs_of plays.plays.entries)) l.world f.due) in
     record {
       model = m;
@@ -410,8 +445,9 @@ full_ends turns input words heads_rest heads m start old opened now new head gav
 
 -- ---- the end of a run whose text begins
 
-pub begins_at : (old : Reader) (kept : Option (Vec ℕ Global)) (new : Reader) (input : List ℕ) (after : Option (List ℕ)) → old.room ≡ total_limit → (begun : IsBegun old (Some input) kept new after) → HasHead input begun.words
-begins_at old kept new input after room begun =
+pub begins_at : (old : Reader) (kept : Option (Vec ℕ Global)) (new : Reader) (input : List ℕ) (after source_left : Option (List ℕ)) → old.room ≡ total_limit
+    → (begun : IsBegun old (Some input) kept new after) → ahead new.held source_left ≡ after → HasHead input begun.words source_left
+begins_at old kept new input after source_left room begun behind =
     let k = known old.room input begun.lines new.room after begun.took.gave in
     record {
       lines = begun.lines;
@@ -419,76 +455,80 @@ begins_at old kept new input after room begun =
       rest = k.rest;
       gave = subst (λ (n : ℕ). Gave n input begun.lines new.room k.rest) room k.gave;
       head = begun.head.text;
+      no_further = begun.head.behind;
       text = (split_is input begun.lines begun.words (lines_of k.rest) begun.head (gave_lines old.room input begun.lines new.room k.rest k.gave)).text;
+      source = record { came = new.held; few = begun.took.few; behind = behind ∙ k.is };
     }
 
-begun_known : (turns : ℕ) (old : Reader) (kept : Option (Vec ℕ Global)) (start : Place) (input before : List ℕ) (now : Option (List ℕ)) (r : Result Outcome Halt)
-    → old.room ≡ total_limit → IsBegun old (Some input) kept start.reader start.ahead → TextRuns turns kept start (Some before) r now → RanKnown turns (Some input) (Some before) now r
-begun_known turns old kept start input before now (Ok outcome.Done) room begun run =
+begun_known : (turns : ℕ) (old : Reader) (kept : Option (Vec ℕ Global)) (start place : Place) (input : List ℕ) (source_left held now : Option (List ℕ)) (r : Result Outcome Halt)
+    → old.room ≡ total_limit → IsBegun old (Some input) kept start.reader start.ahead → TextRuns turns kept start held r place now → ahead place.reader.held source_left ≡ place.ahead
+    → RanKnown turns (Some input) source_left held now r
+begun_known turns old kept start place input source_left held now (Ok outcome.Done) room begun run behind =
     let k = known old.room input begun.lines start.reader.room start.ahead begun.took.gave in
-    done_ends turns input begun.words k.rest begun.lines run.model start run.run.place before run.run.opened now run.run.new begun.head (subst (λ (n : ℕ). Gave n input begun.lines start.reader.room k.rest) room k.gave) k.is (run.text begun.words begun.keeps) run.runnable run.run.first run.run.playing run.run.legal
-begun_known turns old kept start input before now (Ok outcome.Refused) room begun run =
-    let begins = begins_at old kept start.reader input start.ahead room begun in
-    elim run [
+    done_ends turns input begun.words k.rest begun.lines run.model start place source_left held run.run.opened now run.run.new begun.head (subst (λ (n : ℕ). Gave n input begun.lines start.reader.room k.rest) room k.gave) k.is (run.text begun.words begun.keeps) run.runnable run.run.first run.run.playing run.run.legal behind
+begun_known turns old kept start place input source_left held now (Ok outcome.Refused) room begun run behind =
+    let same = subst (λ (p : Place). ahead p.reader.held source_left ≡ p.ahead) run.1 behind in
+    let begins = begins_at old kept start.reader input start.ahead source_left room begun same in
+    elim run.0 [
       | inl fails ↦ no_model (faulty begun.words fails.line begins (fails.refused begun.words begun.keeps) fails.written)
       | inr waits ↦ not_built begun.words waits.model begins (waits.text begun.words begun.keeps) waits.other waits.written
     ]
-begun_known turns old kept start input before now (Err halt.Limit) room begun run =
+begun_known turns old kept start place input source_left held now (Err halt.Limit) room begun run behind =
     let k = known old.room input begun.lines start.reader.room start.ahead begun.took.gave in
-    past_limit turns input before now (stopped_ends halt.Limit turns input begun.words k.rest begun.lines run.model start before run.run.opened now run.run.new begun.head (subst (λ (n : ℕ). Gave n input begun.lines start.reader.room k.rest) room k.gave) k.is (run.text begun.words begun.keeps) run.runnable run.run.first run.run.playing run.run.legal)
-begun_known turns old kept start input before now (Err halt.Read) room begun run =
+    past_limit turns input held now (stopped_ends halt.Limit turns input begun.words k.rest begun.lines run.model start held run.run.opened now run.run.new begun.head (subst (λ (n : ℕ). Gave n input begun.lines start.reader.room k.rest) room k.gave) k.is (run.text begun.words begun.keeps) run.runnable run.run.first run.run.playing run.run.legal)
+begun_known turns old kept start place input source_left held now (Err halt.Read) room begun run behind =
     let k = known old.room input begun.lines start.reader.room start.ahead begun.took.gave in
-    read_fault turns input before now (stopped_ends halt.Read turns input begun.words k.rest begun.lines run.model start before run.run.opened now run.run.new begun.head (subst (λ (n : ℕ). Gave n input begun.lines start.reader.room k.rest) room k.gave) k.is (run.text begun.words begun.keeps) run.runnable run.run.first run.run.playing run.run.legal)
-begun_known turns old kept start input before now (Err halt.Full) room begun run =
+    read_fault turns input held now (stopped_ends halt.Read turns input begun.words k.rest begun.lines run.model start held run.run.opened now run.run.new begun.head (subst (λ (n : ℕ). Gave n input begun.lines start.reader.room k.rest) room k.gave) k.is (run.text begun.words begun.keeps) run.runnable run.run.first run.run.playing run.run.legal)
+begun_known turns old kept start place input source_left held now (Err halt.Full) room begun run behind =
     let k = known old.room input begun.lines start.reader.room start.ahead begun.took.gave in
-    full_ends turns input begun.words k.rest begun.lines run.model start before run.run.opened now run.run.new begun.head (subst (λ (n : ℕ). Gave n input begun.lines start.reader.room k.rest) room k.gave) k.is (run.text begun.words begun.keeps) run.runnable run.run.first run.run.playing run.run.legal
-begun_known turns old kept start input before now (Err halt.Write) room begun run = tt
-begun_known turns old kept start input before now (Err halt.Memory) room begun run = tt
+    full_ends turns input begun.words k.rest begun.lines run.model start place source_left held run.run.opened now run.run.new begun.head (subst (λ (n : ℕ). Gave n input begun.lines start.reader.room k.rest) room k.gave) k.is (run.text begun.words begun.keeps) run.runnable run.run.first run.run.playing run.run.legal behind
+begun_known turns old kept start place input source_left held now (Err halt.Write) room begun run behind = tt
+begun_known turns old kept start place input source_left held now (Err halt.Memory) room begun run behind = tt
 
-begun_ran : (turns : ℕ) (old : Reader) (kept : Option (Vec ℕ Global)) (start : Place) (input held now : Option (List ℕ)) (r : Result Outcome Halt)
-    → old.room ≡ total_limit → IsBegun old input kept start.reader start.ahead → TextRuns turns kept start held r now → RanKnown turns input held now r
-begun_ran turns old kept start None held now r room begun run = tt
-begun_ran turns old kept start (Some input) None now r room begun run = tt
-begun_ran turns old kept start (Some input) (Some before) now r room begun run = begun_known turns old kept start input before now r room begun run
+begun_ran : (turns : ℕ) (old : Reader) (kept : Option (Vec ℕ Global)) (start place : Place) (input source_left held now : Option (List ℕ)) (r : Result Outcome Halt)
+    → old.room ≡ total_limit → IsBegun old input kept start.reader start.ahead → TextRuns turns kept start held r place now → ahead place.reader.held source_left ≡ place.ahead
+    → RanKnown turns input source_left held now r
+begun_ran turns old kept start place None source_left held now r room begun run behind = tt
+begun_ran turns old kept start place (Some input) source_left held now r room begun run behind = begun_known turns old kept start place input source_left held now r room begun run behind
 
 -- ---- the end of a run whose text has no `begin`
 
-pub begins_nowhere : (old new : Reader) (input before : List ℕ) (after now : Option (List ℕ)) → old.room ≡ total_limit → HasNoBegin old (Some input) new after → Adds (Some before) now no_begin_line → IsNoModel input before now
-begins_nowhere old new input before after now room head adds =
+pub begins_nowhere : (old new : Reader) (input : List ℕ) (after source_left held now : Option (List ℕ)) → old.room ≡ total_limit → HasNoBegin old (Some input) new after → ahead new.held source_left ≡ after
+    → Adds held now no_begin_line → IsNoModel input source_left held now
+begins_nowhere old new input after source_left held now room head behind adds =
     let k = known old.room input head.lines new.room after head.took.gave in
     let none : k.rest ≡ [] = (let h : Some k.rest ≡ Some [] = sym k.is ∙ head.used_up in (cc)) in
-    no_begin head.lines new.room (subst (λ (r : List ℕ). Gave total_limit input head.lines new.room r) none (subst (λ (n : ℕ). Gave n input head.lines new.room k.rest) room k.gave)) (ap model_text_of (gave_lines old.room input head.lines new.room k.rest k.gave ∙ ap (λ (r : List ℕ). head.lines ++ lines_of r) none ∙ append-nil head.lines) ∙ head.none) adds
+    no_begin head.lines new.room (subst (λ (r : List ℕ). Gave total_limit input head.lines new.room r) none (subst (λ (n : ℕ). Gave n input head.lines new.room k.rest) room k.gave)) (ap model_text_of (gave_lines old.room input head.lines new.room k.rest k.gave ∙ ap (λ (r : List ℕ). head.lines ++ lines_of r) none ∙ append-nil head.lines) ∙ head.none)
+    record { came = new.held; few = head.took.few; behind = behind ∙ head.used_up } adds
 
-no_begin_ran : (turns : ℕ) (old new : Reader) (input after held now : Option (List ℕ)) → old.room ≡ total_limit → HasNoBegin old input new after → Adds held now no_begin_line → RanKnown turns input held now (Ok outcome.Refused)
-no_begin_ran turns old new None after held now room head adds = tt
-no_begin_ran turns old new (Some input) after None now room head adds = tt
-no_begin_ran turns old new (Some input) after (Some before) now room head adds = no_model (begins_nowhere old new input before after now room head adds)
+no_begin_ran : (turns : ℕ) (old new : Reader) (input after source_left held now : Option (List ℕ)) → old.room ≡ total_limit → HasNoBegin old input new after → ahead new.held source_left ≡ after → Adds held now no_begin_line
+    → RanKnown turns input source_left held now (Ok outcome.Refused)
+no_begin_ran turns old new None after source_left held now room head behind adds = tt
+no_begin_ran turns old new (Some input) after source_left held now room head behind adds = no_model (begins_nowhere old new input after source_left held now room head behind adds)
 
 -- the refusal's line may fail to be written
-refused_ran : (turns : ℕ) (old new : Reader) (input after held now : Option (List ℕ)) (r : Result Outcome Halt) (faults later : ℕ) → old.room ≡ total_limit
-    → HasNoBegin old input new after → OnOk r (Adds held now no_begin_line) → IfOk r (λ o. o ≡ outcome.Refused) → IfErr r (WriteStops faults later) → RanKnown turns input held now r
-refused_ran turns old new input after held now (Ok outcome.Refused) faults later room head adds refused cause = no_begin_ran turns old new input after held now room head adds
-refused_ran turns old new input after held now (Ok outcome.Done) faults later room head adds refused cause = absurd (let h : outcome.Done ≡ outcome.Refused = refused in (cc))
-refused_ran turns old new input after held now (Err halt.Limit) faults later room head adds refused cause = absurd cause
-refused_ran turns old new input after held now (Err halt.Full) faults later room head adds refused cause = absurd cause
-refused_ran turns old new input after held now (Err halt.Read) faults later room head adds refused cause = absurd cause
-refused_ran turns old new input after held now (Err halt.Write) faults later room head adds refused cause = free_write input held
+refused_ran : (turns : ℕ) (old new : Reader) (input after source_left held now : Option (List ℕ)) (r : Result Outcome Halt) (faults later : ℕ) → old.room ≡ total_limit
+    → HasNoBegin old input new after → ahead new.held source_left ≡ after → OnOk r (Adds held now no_begin_line) → IfOk r (λ o. o ≡ outcome.Refused) → IfErr r (WriteStops faults later) → RanKnown turns input source_left held now r
+refused_ran turns old new input after source_left held now (Ok outcome.Refused) faults later room head behind adds refused cause = no_begin_ran turns old new input after source_left held now room head behind adds
+refused_ran turns old new input after source_left held now (Ok outcome.Done) faults later room head behind adds refused cause = absurd (let h : outcome.Done ≡ outcome.Refused = refused in (cc))
+refused_ran turns old new input after source_left held now (Err halt.Limit) faults later room head behind adds refused cause = absurd cause
+refused_ran turns old new input after source_left held now (Err halt.Full) faults later room head behind adds refused cause = absurd cause
+refused_ran turns old new input after source_left held now (Err halt.Read) faults later room head behind adds refused cause = absurd cause
+refused_ran turns old new input after source_left held now (Err halt.Write) faults later room head behind adds refused cause = free_write input
   where
-    free_write : (input held : Option (List ℕ)) → RanKnown turns input held now (Err halt.Write)
-    free_write None held = tt
-    free_write (Some input) None = tt
-    free_write (Some input) (Some before) = tt
-refused_ran turns old new input after held now (Err halt.Memory) faults later room head adds refused cause = free_memory input held
+    free_write : (bytes : Option (List ℕ)) → RanKnown turns bytes source_left held now (Err halt.Write)
+    free_write None = tt
+    free_write (Some bytes) = tt
+refused_ran turns old new input after source_left held now (Err halt.Memory) faults later room head behind adds refused cause = free_memory input
   where
-    free_memory : (input held : Option (List ℕ)) → RanKnown turns input held now (Err halt.Memory)
-    free_memory None held = tt
-    free_memory (Some input) None = tt
-    free_memory (Some input) (Some before) = tt
+    free_memory : (bytes : Option (List ℕ)) → RanKnown turns bytes source_left held now (Err halt.Memory)
+    free_memory None = tt
+    free_memory (Some bytes) = tt
 
 -- ---- the end of a run that stops before `begin`
 
-head_stopped : (turns : ℕ) (old : Reader) (input before : List ℕ) (f : LineFault) (e : Halt) → old.room ≡ total_limit → HeadHalts old (Some input) f → HaltFor f e → IsStopped e turns input before (Some before)
-head_stopped turns old input before f e room head is =
+head_stopped : (turns : ℕ) (old : Reader) (input : List ℕ) (held : Option (List ℕ)) (f : LineFault) (e : Halt) → old.room ≡ total_limit → HeadHalts old (Some input) f → HaltFor f e → IsStopped e turns input held held
+head_stopped turns old input held f e room head is =
     let halts = head.halts in
     let k = known old.room input head.lines halts.left halts.rest halts.gave in
     record {
@@ -500,14 +540,13 @@ head_stopped turns old input before f e room head is =
       asked = inl (head.none, refl);
     }
 
-head_ran : (turns : ℕ) (old : Reader) (input held : Option (List ℕ)) (f : LineFault) (e : Halt) → old.room ≡ total_limit → HeadHalts old input f → HaltFor f e → RanKnown turns input held held (Err e)
-head_ran turns old None held f e room head is = tt
-head_ran turns old (Some input) None f e room head is = tt
-head_ran turns old (Some input) (Some before) f halt.Limit room head is = past_limit turns input before (Some before) (head_stopped turns old input before f halt.Limit room head is)
-head_ran turns old (Some input) (Some before) f halt.Full room head is = absurd (never_full f is)
-head_ran turns old (Some input) (Some before) f halt.Read room head is = read_fault turns input before (Some before) (head_stopped turns old input before f halt.Read room head is)
-head_ran turns old (Some input) (Some before) f halt.Write room head is = tt
-head_ran turns old (Some input) (Some before) f halt.Memory room head is = tt
+head_ran : (turns : ℕ) (old : Reader) (input source_left held : Option (List ℕ)) (f : LineFault) (e : Halt) → old.room ≡ total_limit → HeadHalts old input f → HaltFor f e → RanKnown turns input source_left held held (Err e)
+head_ran turns old None source_left held f e room head is = tt
+head_ran turns old (Some input) source_left held f halt.Limit room head is = past_limit turns input held held (head_stopped turns old input held f halt.Limit room head is)
+head_ran turns old (Some input) source_left held f halt.Full room head is = absurd (never_full f is)
+head_ran turns old (Some input) source_left held f halt.Read room head is = read_fault turns input held held (head_stopped turns old input held f halt.Read room head is)
+head_ran turns old (Some input) source_left held f halt.Write room head is = tt
+head_ran turns old (Some input) source_left held f halt.Memory room head is = tt
 
 -- ---- from the reader that a run begins with
 
@@ -518,15 +557,15 @@ none_ahead (Some bytes) = refl
 pub all_ahead : (old : Reader) (left : Option (List ℕ)) → old.held ≡ [] → ahead old.held left ≡ left
 all_ahead old left e = ap (λ (h : List ℕ). ahead h left) e ∙ none_ahead left
 
-pub refused_solo : (turns : ℕ) (old new : Reader) (left after held now : Option (List ℕ)) (r : Result Outcome Halt) (faults later : ℕ) → old.held ≡ [] → old.room ≡ total_limit
-    → HasNoBegin old (ahead old.held left) new after → OnOk r (Adds held now no_begin_line) → IfOk r (λ o. o ≡ outcome.Refused) → IfErr r (WriteStops faults later) → RanKnown turns left held now r
-refused_solo turns old new left after held now r faults later empty room head adds refused cause =
-    refused_ran turns old new left after held now r faults later room (subst (λ (b : Option (List ℕ)). HasNoBegin old b new after) (all_ahead old left empty) head) adds refused cause
+pub refused_solo : (turns : ℕ) (old new : Reader) (left source_left held now : Option (List ℕ)) (r : Result Outcome Halt) (faults later : ℕ) → old.held ≡ [] → old.room ≡ total_limit
+    → HasNoBegin old (ahead old.held left) new (ahead new.held source_left) → OnOk r (Adds held now no_begin_line) → IfOk r (λ o. o ≡ outcome.Refused) → IfErr r (WriteStops faults later) → RanKnown turns left source_left held now r
+refused_solo turns old new left source_left held now r faults later empty room head adds refused cause =
+    refused_ran turns old new left (ahead new.held source_left) source_left held now r faults later room (subst (λ (b : Option (List ℕ)). HasNoBegin old b new (ahead new.held source_left)) (all_ahead old left empty) head) refl adds refused cause
 
-pub begun_solo : (turns : ℕ) (old : Reader) (kept : Option (Vec ℕ Global)) (new : Reader) (left after held now : Option (List ℕ)) (r : Result Outcome Halt) → old.held ≡ [] → old.room ≡ total_limit
-    → IsBegun old (ahead old.held left) kept new (ahead new.held after) → TextRuns turns kept (place_of new after) held r now → RanKnown turns left held now r
-begun_solo turns old kept new left after held now r empty room begun run =
-    begun_ran turns old kept (place_of new after) left held now r room (subst (λ (b : Option (List ℕ)). IsBegun old b kept new (ahead new.held after)) (all_ahead old left empty) begun) run
+pub begun_solo : (turns : ℕ) (old : Reader) (kept : Option (Vec ℕ Global)) (new last : Reader) (left after source_left held now : Option (List ℕ)) (r : Result Outcome Halt) → old.held ≡ [] → old.room ≡ total_limit
+    → IsBegun old (ahead old.held left) kept new (ahead new.held after) → TextRuns turns kept (place_of new after) held r (place_of last source_left) now → RanKnown turns left source_left held now r
+begun_solo turns old kept new last left after source_left held now r empty room begun run =
+    begun_ran turns old kept (place_of new after) (place_of last source_left) left source_left held now r room (subst (λ (b : Option (List ℕ)). IsBegun old b kept new (ahead new.held after)) (all_ahead old left empty) begun) run refl
 
-pub head_solo : (turns : ℕ) (old : Reader) (left held : Option (List ℕ)) (f : LineFault) (e : Halt) → old.held ≡ [] → old.room ≡ total_limit → HeadHalts old (ahead old.held left) f → HaltFor f e → RanKnown turns left held held (Err e)
-head_solo turns old left held f e empty room head is = head_ran turns old left held f e room (subst (λ (b : Option (List ℕ)). HeadHalts old b f) (all_ahead old left empty) head) is
+pub head_solo : (turns : ℕ) (old : Reader) (left source_left held : Option (List ℕ)) (f : LineFault) (e : Halt) → old.held ≡ [] → old.room ≡ total_limit → HeadHalts old (ahead old.held left) f → HaltFor f e → RanKnown turns left source_left held held (Err e)
+head_solo turns old left source_left held f e empty room head is = head_ran turns old left source_left held f e room (subst (λ (b : Option (List ℕ)). HeadHalts old b f) (all_ahead old left empty) head) is

@@ -7,3 +7,6 @@ pub mod Playing
 pub mod Ending
 pub mod Checking
 pub mod Topping
+pub mod OneInput
+pub mod OneLog
+pub mod Causes

@@ -1,5 +1,5 @@
 -- Message after message.
-use Rattle.std.proofs.Common.{◌≡◌, ℕ, ◌+◌, List, [], ◌∷◌, ◌++◌, length, drop, Bool, true, false, Option, Some, None, inl, inr, Ok, Err, refl, sym, ◌∙◌, ap, subst, append_assoc, length-append}
+use Rattle.std.proofs.Common.{◌≡◌, ℕ, ◌+◌, ◌<◌, List, [], ◌∷◌, ◌++◌, length, drop, Bool, true, false, Option, Some, None, inl, inr, Ok, Err, refl, sym, ◌∙◌, ap, subst, append_assoc, length-append}
 use Rattle.std.proofs.lemmas.List.{append-nil}
 use Rattle.std.proofs.lemmas.List.Elements.{filter_map-append}
 use Rattle.pl_io.specs.declared.errors.LineFault.{LineFault}
@@ -126,11 +126,11 @@ inputs_append xs ys = filter_map-append (λ (e : Entry). input_in e.event) xs ys
 
 -- ---- the whole of a play
 
-pub plays_none : (old : State) (start : Place) (held : Option (List ℕ)) → IsReady old → start.reader.limit ≡ 4096 → start.reader.failed ≡ None → Plays old start held old start held
-plays_none old start held ready limit working = record {
+pub plays_none : (old : State) (start : Place) (held : Option (List ℕ)) → IsReady old → start.reader.limit ≡ 4096 → start.reader.failed ≡ None → length start.reader.held < 4096 → Plays old start held old start held
+plays_none old start held ready limit working few = record {
   lines = [];
   entries = [];
-  took = record { limit = limit; working = working; gave = gave_none start.reader.room start.ahead };
+  took = record { limit = limit; working = working; few = few; gave = gave_none start.reader.room start.ahead };
   log = sym (append-nil old.log);
   solo = tt;
   world = refl;
@@ -207,19 +207,19 @@ plays_on old mid new start middle place held written now plays step going = by_m
           written = j.text;
         }
 
-ends_known : (before after : Option (List ℕ)) (lines : List (List ℕ)) (inputs front : List (Option (List ℕ))) (line : List ℕ) → inputs ≡ front ++ Some line ∷ [] → ((more : List (List ℕ)) → messages_of (lines ++ more) ≡ inputs)
+ends_known : (before after : Option (List ℕ)) (lines : List (List ℕ)) (inputs front : List (Option (List ℕ))) (line : List ℕ) (lines_before : List (List ℕ)) → inputs ≡ front ++ Some line ∷ [] → lines ≡ lines_before ++ line ∷ [] → ((more : List (List ℕ)) → messages_of (lines ++ more) ≡ inputs)
     → EndsAll before after lines inputs
-ends_known None after lines inputs front line last all = tt
-ends_known (Some bytes) None lines inputs front line last all = tt
-ends_known (Some bytes) (Some rest) lines inputs front line last all = by_line front line last all
+ends_known None after lines inputs front line so_far last is all = tt
+ends_known (Some bytes) None lines inputs front line so_far last is all = tt
+ends_known (Some bytes) (Some rest) lines inputs front line so_far last is all = by_line front line so_far last is all
 
-ends_used : (room : ℕ) (before middle : Option (List ℕ)) (xs : List (List ℕ)) (mid : ℕ) (after : Option (List ℕ)) (lines : List (List ℕ)) (inputs : List (Option (List ℕ))) → GaveKnown room before xs mid middle → IsUsedUp middle after
+ends_used : (room : ℕ) (before middle : Option (List ℕ)) (xs : List (List ℕ)) (mid : ℕ) (after : Option (List ℕ)) (lines : List (List ℕ)) (inputs front : List (Option (List ℕ))) → inputs ≡ front ++ None ∷ [] → GaveKnown room before xs mid middle → IsUsedUp middle after
     → messages_of (lines ++ []) ≡ inputs → EndsAll before after lines inputs
-ends_used room None middle xs mid after lines inputs gave used all = tt
-ends_used room (Some bytes) None xs mid after lines inputs gave used all = absurd gave
-ends_used room (Some bytes) (Some m) xs mid None lines inputs gave used all = tt
-ends_used room (Some bytes) (Some m) xs mid (Some rest) lines inputs gave used all =
-    by_end (let h : Some rest ≡ Some [] = used in (cc)) (ap messages_of (sym (append-nil lines)) ∙ all)
+ends_used room None middle xs mid after lines inputs front last gave used all = tt
+ends_used room (Some bytes) None xs mid after lines inputs front last gave used all = absurd gave
+ends_used room (Some bytes) (Some m) xs mid None lines inputs front last gave used all = tt
+ends_used room (Some bytes) (Some m) xs mid (Some rest) lines inputs front last gave used all =
+    by_end front last (let h : Some rest ≡ Some [] = used in (cc)) (ap messages_of (sym (append-nil lines)) ∙ all)
 
 pub plays_out : (old mid new : State) (start middle place : Place) (held written now : Option (List ℕ)) → Plays old start held mid middle written → StepsOn mid middle written new place now → new.world.done ≡ true → PlaysOut old start held new place now
 plays_out old mid new start middle place held written now plays step done = by_message step.message step.gets step.told
@@ -235,9 +235,11 @@ plays_out old mid new start middle place held written now plays step done = by_m
           log = j.log;
           solo = j.solo;
           world = j.world;
-          messages = ends_used start.reader.room start.ahead middle.ahead plays.lines middle.reader.room place.ahead (plays.lines ++ gets.lines) (inputs_of (plays.entries ++ told.entries)) plays.took.gave gets.used_up
+          messages = ends_used start.reader.room start.ahead middle.ahead plays.lines middle.reader.room place.ahead (plays.lines ++ gets.lines) (inputs_of (plays.entries ++ told.entries)) (inputs_of plays.entries) (sym inputs) plays.took.gave gets.used_up
               (input_ends plays.lines gets.lines (inputs_of plays.entries) plays.messages gets.blank ∙ inputs);
+          few = gets.took.few;
           done = done;
+          closed = told.closed;
           unspoiled = told.unspoiled;
           same = j.same;
           written = j.text;
@@ -252,9 +254,11 @@ plays_out old mid new start middle place held written now plays step done = by_m
           log = j.log;
           solo = j.solo;
           world = j.world;
-          messages = ends_known start.ahead place.ahead (plays.lines ++ (gets.lines ++ line.bytes ∷ [])) (inputs_of (plays.entries ++ told.entries)) (inputs_of plays.entries) line.bytes (sym inputs)
+          messages = ends_known start.ahead place.ahead (plays.lines ++ (gets.lines ++ line.bytes ∷ [])) (inputs_of (plays.entries ++ told.entries)) (inputs_of plays.entries) line.bytes (plays.lines ++ gets.lines) (sym inputs) (sym (append_assoc plays.lines gets.lines (line.bytes ∷ [])))
               (λ more. message_ends plays.lines gets.lines more line.bytes (inputs_of plays.entries) plays.messages gets.blank gets.message (sym told.done ∙ done) ∙ inputs);
+          few = gets.took.few;
           done = done;
+          closed = told.closed;
           unspoiled = told.unspoiled;
           same = j.same;
           written = j.text;
@@ -294,8 +298,8 @@ plays_halt e old mid new start middle held written now plays step =
       written = subst (λ (h : Option (List ℕ)). Adds held h (text_from old.world.scene.model (length old.log) plays.entries)) (sym step.written) plays.written;
     }
 
-pub plays_fill : (old mid new : State) (start middle place : Place) (held written now : Option (List ℕ)) → Plays old start held mid middle written → StepFills mid middle written new place now → PlayFills old start held new now
-plays_fill old mid new start middle place held written now plays step = record { waiting = mid; place = middle; written = written; plays = plays; behind = place; step = step }
+pub plays_fill : (old mid new : State) (start middle place : Place) (held written now : Option (List ℕ)) → Plays old start held mid middle written → StepFills mid middle written new place now → PlayFills old start held new place now
+plays_fill old mid new start middle place held written now plays step = record { waiting = mid; middle = middle; written = written; plays = plays; step = step }
 
 pub plays_stop : (old mid new : State) (start middle place : Place) (held written now : Option (List ℕ)) (e : Halt) → Plays old start held mid middle written → Steps mid middle written (Err e) new place now → Playing old start held (Err e) new place now
 plays_stop old mid new start middle place held written now halt.Read plays step = plays_halt halt.Read old mid new start middle held written now plays step

@@ -1,9 +1,10 @@
 -- Lines that a reader gave, one after another.
-use Rattle.std.proofs.Common.{◌≡◌, ℕ, ◌≤◌, List, [], ◌∷◌, ◌++◌, length, take, Bool, true, false, not, ◌&&◌, nat_lt, if◌then◌else◌, Option, Some, None, IfSome, Result, Ok, Err, refl, sym, ◌∙◌, ap, subst}
+use Rattle.std.proofs.Common.{◌≡◌, ℕ, ◌<◌, ◌≤◌, List, [], ◌∷◌, ◌++◌, length, take, Bool, true, false, not, ◌&&◌, nat_lt, if◌then◌else◌, Option, Some, None, IfSome, Result, Ok, Err, refl, sym, ◌∙◌, ap, subst}
 use Rattle.pl_io.specs.declared.errors.LineFault.{LineFault}
 use Rattle.pl_io.specs.declared.errors.LineFault.TheVariants as fault
 use Rattle.pl_io.specs.Lines.{first_line, has_newline, lines_of, after_line, next_of, given, ended, line_too_long, input_too_long}
 use Rattle.pl_io.specs.Reader.{Reader, NumberedLine, Moves, Answers, IsNextLine}
+use Rattle.pl_io.specs.Sparing.{IsSparing}
 use Rattle.pl_io.proofs.LineLaws.{lines_of_next}
 use Rattle.pl_main.specs.Reads.{Gave, GaveKnown, WhyKnown, Halts, IsUsedUp, OneLine}
 
@@ -43,23 +44,25 @@ gave_none room None = tt
 gave_none room (Some bytes) = (refl, refl)
 
 pub next_gives : (old new : Reader) (before after : Option (List ℕ)) (r : Result (Option NumberedLine) LineFault) → old.limit ≡ 4096 → old.failed ≡ None
-    → Moves old new r → IfSome before (λ bytes. Answers old new bytes after r) → OneLine old before r new after
-next_gives old new before after (Ok (Some line)) limit working moves answers = record {
-  took = record { limit = moves.limit ∙ limit; working = moves.still_working; gave = one_known old new before after line limit answers };
+    → Moves old new r → IfSome before (λ bytes. Answers old new bytes after r) → IsSparing old.limit new.held r
+    → OneLine old before r new after
+next_gives old new before after (Ok (Some line)) limit working moves answers few = record {
+  took = record { limit = moves.limit ∙ limit; working = moves.still_working; few = few; gave = one_known old new before after line limit answers };
   less = moves.less;
   fits = subst (λ n. length line.bytes ≤ n) limit moves.fits;
   no_newline = moves.no_newline;
 }
-next_gives old new before after (Ok None) limit working moves answers =
+next_gives old new before after (Ok None) limit working moves answers few =
     let known = none_known old before after answers in (
       record {
         limit = ap (λ (r : Reader). r.limit) moves.0 ∙ limit;
         working = ap (λ (r : Reader). r.failed) moves.0 ∙ working;
+        few = few;
         gave = subst (λ (r : Reader). GaveKnown old.room before [] r.room after) (sym moves.0) known.0;
       },
       known.1,
     )
-next_gives old new before after (Err f) limit working moves answers =
+next_gives old new before after (Err f) limit working moves answers few =
     record { left = old.room; rest = before; gave = gave_none old.room before; why = why_known old new before after f limit answers }
 
 -- ---- one piece after another

@@ -1,5 +1,5 @@
 -- Blank lines are passed over.
-use Rattle.std.proofs.Common.{◌≡◌, ℕ, List, [], ◌∷◌, ◌++◌, true, false, Option, None, arith}
+use Rattle.std.proofs.Common.{◌≡◌, ℕ, ◌<◌, List, [], ◌∷◌, ◌++◌, length, true, false, Option, None, arith}
 use Rattle.std.proofs.lemmas.List.{append-nil}
 use Rattle.pl_io.specs.declared.errors.LineFault.{LineFault}
 use Rattle.pl_io.specs.Reader.{Reader, NumberedLine}
@@ -13,8 +13,8 @@ blank_push : (lines : List (List ℕ)) (line : List ℕ) → AreBlank lines → 
 blank_push [] line all here = (here, tt)
 blank_push (x ∷ xs) line all here = (all.0, blank_push xs line all.1 here)
 
-pub skips_none : (old : Reader) (before : Option (List ℕ)) → old.limit ≡ 4096 → old.failed ≡ None → Skips old before old before
-skips_none old before limit working = record { lines = []; took = record { limit = limit; working = working; gave = gave_none old.room before }; blank = tt; room = omega arith }
+pub skips_none : (old : Reader) (before : Option (List ℕ)) → old.limit ≡ 4096 → old.failed ≡ None → length old.held < 4096 → Skips old before old before
+skips_none old before limit working few = record { lines = []; took = record { limit = limit; working = working; few = few; gave = gave_none old.room before }; blank = tt; room = omega arith }
 
 pub skips_on : (old mid new : Reader) (before middle after : Option (List ℕ)) (line : NumberedLine) → Skips old before mid middle → GotLine mid middle line new after → is_blank_line line.bytes ≡ true → Skips old before new after
 skips_on old mid new before middle after line skips got blank = record {

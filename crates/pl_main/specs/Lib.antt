@@ -6,4 +6,5 @@ pub mod Written
 pub mod Plays
 pub mod Top
 pub mod Runs
+pub mod Limits
 pub mod Statuses

@@ -1,7 +1,8 @@
 -- The messages of a run and what is written for them.
-use Rattle.std.specs.Prelude.{◌≡◌, ℕ, List, [], ◌∷◌, ◌++◌, length, drop, Bool, true, false, Option, Some, None, IfSome, ◌⊎◌, Result, Ok, Err, ⊤}
+use Rattle.std.specs.Prelude.{◌≡◌, ℕ, ◌<◌, List, [], ◌∷◌, ◌++◌, length, drop, Bool, true, false, Option, Some, None, IfSome, ◌⊎◌, Result, Ok, Err, ⊤}
 use Rattle.pl_io.specs.Lines.{ahead, next_of, line_too_long, input_too_long}
 use Rattle.pl_io.specs.Reader.{Reader, NumberedLine}
+use Rattle.pl_io.specs.Sparing.{read_size}
 use Rattle.pl_io.specs.declared.errors.LineFault.{LineFault}
 use Rattle.pl_io.specs.declared.errors.LineFault.TheVariants as fault
 use Rattle.pl_machine.specs.declared.event.Entry.{Entry}
@@ -54,10 +55,12 @@ pub record Plays (old : State) (start : Place) (held : Option (List ℕ)) (new :
   pub same : SameRun old new
   pub written : Adds held now (text_from old.world.scene.model (length old.log) entries)
 
--- the messages of these lines end with the input, or with a line, whatever stands behind it
+-- The messages of these lines end with the input, or with the last of the lines, whatever stands behind it.
 pub data EndsWith (rest : List ℕ) (lines : List (List ℕ)) (inputs : List (Option (List ℕ))) : Type 0 where
-  by_end : rest ≡ [] → messages_of lines ≡ inputs → EndsWith rest lines inputs
-  by_line : (front : List (Option (List ℕ))) (line : List ℕ) → inputs ≡ front ++ Some line ∷ [] → ((more : List (List ℕ)) → messages_of (lines ++ more) ≡ inputs) → EndsWith rest lines inputs
+  by_end : (front : List (Option (List ℕ))) → inputs ≡ front ++ None ∷ [] → rest ≡ []
+      → messages_of lines ≡ inputs → EndsWith rest lines inputs
+  by_line : (front : List (Option (List ℕ))) (line : List ℕ) (before : List (List ℕ))
+      → inputs ≡ front ++ Some line ∷ [] → lines ≡ before ++ line ∷ [] → ((more : List (List ℕ)) → messages_of (lines ++ more) ≡ inputs) → EndsWith rest lines inputs
 
 -- where the bytes at the start are known, the inputs are all messages up to their end
 abbrev pub EndsAll : Option (List ℕ) → Option (List ℕ) → List (List ℕ) → List (Option (List ℕ)) → Type 0
@@ -73,7 +76,9 @@ pub record PlaysOut (old : State) (start : Place) (held : Option (List ℕ)) (ne
   pub solo : solo_from old.world entries
   pub world : new.world ≡ world_from old.world entries
   pub messages : EndsAll start.ahead place.ahead lines (inputs_of entries)
+  pub few : length place.reader.held < read_size
   pub done : new.world.done ≡ true
+  pub closed : new.world.closed ≡ true
   pub unspoiled : new.spoiled ≡ false
   pub same : SameRun old new
   pub written : Adds held now (text_from old.world.scene.model (length old.log) entries)
@@ -160,18 +165,18 @@ Steps old start held (Err halt.Write) new place now = ⊤
 Steps old start held (Err halt.Memory) new place now = ⊤
 
 -- The log got full.
-pub record PlayFills (old : State) (start : Place) (held : Option (List ℕ)) (new : State) (now : Option (List ℕ)) : Type 0 where
+pub record PlayFills (old : State) (start : Place) (held : Option (List ℕ)) (new : State) (place : Place)
+    (now : Option (List ℕ)) : Type 0 where
   pub waiting : State
-  pub place : Place
+  pub middle : Place
   pub written : Option (List ℕ)
-  pub plays : Plays old start held waiting place written
-  pub behind : Place
-  pub step : StepFills waiting place written new behind now
+  pub plays : Plays old start held waiting middle written
+  pub step : StepFills waiting middle written new place now
 
 abbrev pub Playing : State → Place → Option (List ℕ) → Result (Unit {0}) Halt → State → Place → Option (List ℕ) → Type 0
 Playing old start held (Ok u) new place now = PlaysOut old start held new place now
 Playing old start held (Err halt.Limit) new place now = PlayHalts halt.Limit old start held new now
-Playing old start held (Err halt.Full) new place now = PlayFills old start held new now
+Playing old start held (Err halt.Full) new place now = PlayFills old start held new place now
 Playing old start held (Err halt.Read) new place now = PlayHalts halt.Read old start held new now
 Playing old start held (Err halt.Write) new place now = ⊤
 Playing old start held (Err halt.Memory) new place now = ⊤

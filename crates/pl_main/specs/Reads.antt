@@ -4,6 +4,7 @@ use Rattle.pl_io.specs.declared.errors.LineFault.{LineFault}
 use Rattle.pl_io.specs.declared.errors.LineFault.TheVariants as fault
 use Rattle.pl_io.specs.Lines.{has_newline, after_line, next_of, given, line_too_long, input_too_long}
 use Rattle.pl_io.specs.Reader.{Reader, NumberedLine}
+use Rattle.pl_io.specs.Sparing.{read_size}
 use Rattle.pl_machine.specs.Lines.{is_blank_line}
 
 -- One line, at the line limit of the program, and the room that it leaves.
@@ -22,10 +23,11 @@ GaveKnown room None lines left after = ⊤
 GaveKnown room (Some bytes) lines left None = ⊥
 GaveKnown room (Some bytes) lines left (Some rest) = Gave room bytes lines left rest
 
--- The reader gave these lines and works on.
+-- The reader gave these lines and works on. It holds fewer bytes than one read asks for.
 pub record Took (old : Reader) (before : Option (List ℕ)) (lines : List (List ℕ)) (new : Reader) (after : Option (List ℕ)) : Type 0 where
   pub limit : new.limit ≡ 4096
   pub working : new.failed ≡ None
+  pub few : length new.held < read_size
   pub gave : GaveKnown old.room before lines new.room after
 
 -- why a line is not given

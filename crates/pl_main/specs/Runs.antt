@@ -23,21 +23,25 @@ abbrev pub fresh_state : ℕ → Model → State
 fresh_state turns m = record { spoiled = false; log = opening (program_options turns) ∷ []; world = fresh_world m (program_options turns) }
 
 -- The open entry's line was written, and then the messages were played.
-pub record ModelRun (turns : ℕ) (model : Model) (start : Place) (held now : Option (List ℕ)) (r : Result (Unit {0}) Halt) : Type 0 where
+pub record ModelRun (turns : ℕ) (model : Model) (start : Place) (held : Option (List ℕ))
+    (r : Result (Unit {0}) Halt) (place : Place) (now : Option (List ℕ)) : Type 0 where
   pub opened : Option (List ℕ)
   pub new : State
-  pub place : Place
   pub first : Adds held opened (text_from model 0 (opening (program_options turns) ∷ []))
   pub playing : Playing (fresh_state turns model) start opened r new place now
   pub legal : Legal new.world.scene.model new.log
 
-abbrev pub ModelRuns : ℕ → Model → Place → Option (List ℕ) → Result (Unit {0}) Halt → Option (List ℕ) → Type 0
-ModelRuns turns model start held (Ok u) now = ModelRun turns model start held now (Ok u)
-ModelRuns turns model start held (Err halt.Limit) now = ModelRun turns model start held now (Err halt.Limit)
-ModelRuns turns model start held (Err halt.Full) now = ModelRun turns model start held now (Err halt.Full)
-ModelRuns turns model start held (Err halt.Read) now = ModelRun turns model start held now (Err halt.Read)
-ModelRuns turns model start held (Err halt.Write) now = ⊤
-ModelRuns turns model start held (Err halt.Memory) now = ⊤
+abbrev pub ModelRuns : ℕ → Model → Place → Option (List ℕ) → Result (Unit {0}) Halt → Place
+    → Option (List ℕ) → Type 0
+ModelRuns turns model start held (Ok u) place now = ModelRun turns model start held (Ok u) place now
+ModelRuns turns model start held (Err halt.Limit) place now =
+    ModelRun turns model start held (Err halt.Limit) place now
+ModelRuns turns model start held (Err halt.Full) place now =
+    ModelRun turns model start held (Err halt.Full) place now
+ModelRuns turns model start held (Err halt.Read) place now =
+    ModelRun turns model start held (Err halt.Read) place now
+ModelRuns turns model start held (Err halt.Write) place now = ⊤
+ModelRuns turns model start held (Err halt.Memory) place now = ⊤
 
 -- what the text that is kept is
 abbrev pub AcceptsKept : Option (Vec ℕ Global) → Accepted → Type 0
@@ -46,11 +50,12 @@ AcceptsKept kept accepted = (words : List ℕ) → Keeps kept words → Accepts 
 abbrev pub IsKeptModel : Option (Vec ℕ Global) → Model → Type 0
 IsKeptModel kept model = (words : List ℕ) → Keeps kept words → IsModelText words model
 
-pub record TextRun (turns : ℕ) (kept : Option (Vec ℕ Global)) (start : Place) (held now : Option (List ℕ)) (r : Result (Unit {0}) Halt) : Type 0 where
+pub record TextRun (turns : ℕ) (kept : Option (Vec ℕ Global)) (start : Place) (held : Option (List ℕ))
+    (r : Result (Unit {0}) Halt) (place : Place) (now : Option (List ℕ)) : Type 0 where
   pub model : Model
   pub text : IsKeptModel kept model
   pub runnable : IsRunnable model
-  pub run : ModelRun turns model start held now r
+  pub run : ModelRun turns model start held r place now
 
 -- The text is no model's, and its fault was written.
 pub record TextFails (kept : Option (Vec ℕ Global)) (held now : Option (List ℕ)) : Type 0 where
@@ -64,14 +69,21 @@ pub record TextWaits (kept : Option (Vec ℕ Global)) (held now : Option (List �
   pub other : IsRunnable model → ⊥
   pub written : Adds held now not_built_line
 
-abbrev pub TextRuns : ℕ → Option (Vec ℕ Global) → Place → Option (List ℕ) → Result Outcome Halt → Option (List ℕ) → Type 0
-TextRuns turns kept start held (Ok outcome.Refused) now = TextFails kept held now ⊎ TextWaits kept held now
-TextRuns turns kept start held (Ok outcome.Done) now = TextRun turns kept start held now (Ok tt)
-TextRuns turns kept start held (Err halt.Limit) now = TextRun turns kept start held now (Err halt.Limit)
-TextRuns turns kept start held (Err halt.Full) now = TextRun turns kept start held now (Err halt.Full)
-TextRuns turns kept start held (Err halt.Read) now = TextRun turns kept start held now (Err halt.Read)
-TextRuns turns kept start held (Err halt.Write) now = ⊤
-TextRuns turns kept start held (Err halt.Memory) now = ⊤
+-- Behind a text that is refused no line is asked for.
+abbrev pub TextRuns : ℕ → Option (Vec ℕ Global) → Place → Option (List ℕ) → Result Outcome Halt → Place
+    → Option (List ℕ) → Type 0
+TextRuns turns kept start held (Ok outcome.Refused) place now =
+    (TextFails kept held now ⊎ TextWaits kept held now) × (place ≡ start)
+TextRuns turns kept start held (Ok outcome.Done) place now =
+    TextRun turns kept start held (Ok tt) place now
+TextRuns turns kept start held (Err halt.Limit) place now =
+    TextRun turns kept start held (Err halt.Limit) place now
+TextRuns turns kept start held (Err halt.Full) place now =
+    TextRun turns kept start held (Err halt.Full) place now
+TextRuns turns kept start held (Err halt.Read) place now =
+    TextRun turns kept start held (Err halt.Read) place now
+TextRuns turns kept start held (Err halt.Write) place now = ⊤
+TextRuns turns kept start held (Err halt.Memory) place now = ⊤
 
 -- The text is a model's, and this was written.
 pub record TextPasses (kept : Option (Vec ℕ Global)) (held now : Option (List ℕ)) : Type 0 where

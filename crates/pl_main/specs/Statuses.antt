@@ -22,30 +22,32 @@ abbrev pub IsTask : Task → Type 0
 IsTask (task.Solo turns) = (1 ≤ turns) × (turns ≤ 1000)
 IsTask task.Check = ⊤
 
--- what the status of a run says where the input's bytes and the sink's are known
-pub record SaysRan (turns : ℕ) (input old : List ℕ) (new : Option (List ℕ)) (status : ℕ) : Type 0 where
-  pub done : status ≡ 0 → IsDone turns input old new
-  pub refused : status ≡ 3 → IsRefused input old new
-  pub read_fault : status ≡ 4 → IsReadFault turns input old new
-  pub limit : status ≡ 6 → IsPastLimit turns input old new
-  pub full : status ≡ 7 → IsFull turns input old new
+-- What the status of a run says where the input's bytes are known. Only what was written needs those of the sink.
+pub record SaysRan (turns : ℕ) (input : List ℕ) (source_left held now : Option (List ℕ)) (status : ℕ)
+    : Type 0 where
+  pub done : status ≡ 0 → IsDone turns input source_left held now
+  pub refused : status ≡ 3 → IsRefused input source_left held now
+  pub read_fault : status ≡ 4 → IsReadFault turns input held now
+  pub limit : status ≡ 6 → IsPastLimit turns input held now
+  pub full : status ≡ 7 → IsFull turns input source_left held now
 
 -- what the status of a check says
-pub record SaysChecked (input old : List ℕ) (new : Option (List ℕ)) (status : ℕ) : Type 0 where
-  pub done : status ≡ 0 → IsFound input old new
-  pub refused : status ≡ 3 → IsNoModel input old new
-  pub read_fault : status ≡ 4 → IsHeadFault input old new
-  pub limit : status ≡ 6 → IsPastHead input old new
+pub record SaysChecked (input : List ℕ) (source_left held now : Option (List ℕ)) (status : ℕ)
+    : Type 0 where
+  pub done : status ≡ 0 → IsFound input source_left held now
+  pub refused : status ≡ 3 → IsNoModel input source_left held now
+  pub read_fault : status ≡ 4 → IsHeadFault input held now
+  pub limit : status ≡ 6 → IsPastHead input held now
   pub never_full : status ≡ 7 → ⊥
 
-abbrev pub Says : Task → List ℕ → List ℕ → Option (List ℕ) → ℕ → Type 0
-Says (task.Solo turns) input old new status = SaysRan turns input old new status
-Says task.Check input old new status = SaysChecked input old new status
+abbrev pub Says : Task → List ℕ → (source_left held now : Option (List ℕ)) → ℕ → Type 0
+Says (task.Solo turns) input source_left held now status =
+    SaysRan turns input source_left held now status
+Says task.Check input source_left held now status = SaysChecked input source_left held now status
 
-abbrev pub SaysKnown : Task → Option (List ℕ) → Option (List ℕ) → Option (List ℕ) → ℕ → Type 0
-SaysKnown t None old new status = ⊤
-SaysKnown t (Some input) None new status = ⊤
-SaysKnown t (Some input) (Some before) new status = Says t input before new status
+abbrev pub SaysKnown : Task → (input source_left held now : Option (List ℕ)) → ℕ → Type 0
+SaysKnown t None source_left held now status = ⊤
+SaysKnown t (Some input) source_left held now status = Says t input source_left held now status
 
 -- a task of one thread has one of these statuses, and no other
 pub data IsSoloStatus (status : ℕ) : Type 0 where

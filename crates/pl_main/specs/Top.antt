@@ -1,6 +1,7 @@
 -- What the top call promises of `run solo N` and of `check`.
-use Rattle.std.specs.Prelude.{◌≡◌, ◌≢◌, ℕ, ◌⊎◌, List, [], ◌∷◌, ◌++◌, length, true, false, Option, Some, None, Result, Ok, Err, codes, decimal, ⊤}
-use Rattle.pl_io.specs.Lines.{next_of, line_too_long, input_too_long}
+use Rattle.std.specs.Prelude.{◌≡◌, ◌≢◌, ℕ, ◌<◌, ◌⊎◌, List, [], ◌∷◌, ◌++◌, length, true, false, Option, Some, None, Result, Ok, Err, codes, decimal, ⊤}
+use Rattle.pl_io.specs.Lines.{ahead, next_of, line_too_long, input_too_long}
+use Rattle.pl_io.specs.Sparing.{read_size}
 use Rattle.pl_model.specs.declared.whole.Model.{Model}
 use Rattle.pl_machine.specs.declared.options.Options.{Options}
 use Rattle.pl_machine.specs.declared.event.Entry.{Entry}
@@ -16,6 +17,7 @@ use Rattle.pl_main.specs.declared.halt.Halt.TheVariants as halt
 use Rattle.pl_main.specs.declared.outcome.Outcome.{Outcome}
 use Rattle.pl_main.specs.declared.outcome.Outcome.TheVariants as outcome
 use Rattle.pl_main.specs.Reads.{Gave}
+use Rattle.pl_main.specs.Written.{Adds}
 
 -- the limits of the program, with the turns of the words
 abbrev pub program_options : ℕ → Options
@@ -24,8 +26,17 @@ program_options turns = record { turns = turns; live = 10000; goals = 20000; ent
 abbrev pub total_limit : ℕ
 total_limit = 1073741824
 
--- The lines that were read, each within the limits: the text of a model up to a `begin` line, and behind it these messages. Where the last of them is the end of the input, all bytes were read.
-pub record HasRead (words : List ℕ) (messages : List (Option (List ℕ))) (input : List ℕ) : Type 0 where
+-- What a source that tells its bytes has left is what stands behind the lines that were asked for, but for fewer bytes
+-- than one read asks for, which came with them.
+pub record IsReadTo (rest : List ℕ) (source_left : Option (List ℕ)) : Type 0 where
+  pub came : List ℕ
+  pub few : length came < read_size
+  pub behind : ahead came source_left ≡ Some rest
+
+-- The lines that were asked for, each within the limits: the text of a model up to a `begin` line, and behind it these
+-- messages. The last line is the last message. Where the last message is the end of the input, all bytes were read.
+pub record HasRead (words : List ℕ) (messages : List (Option (List ℕ))) (input : List ℕ)
+    (source_left : Option (List ℕ)) : Type 0 where
   pub lines : List (List ℕ)
   pub left : ℕ
   pub rest : List ℕ
@@ -33,10 +44,13 @@ pub record HasRead (words : List ℕ) (messages : List (Option (List ℕ))) (inp
   pub gave : Gave total_limit input lines left rest
   pub text : model_text_of lines ≡ Some words
   pub behind : messages_of (lines_behind lines) ≡ messages ++ more
+  pub no_further : (front : List (Option (List ℕ))) (line : List ℕ) → messages ≡ front ++ Some line ∷ []
+      → (before : List (List ℕ)) × (lines ≡ before ++ line ∷ [])
   pub used_up : (front : List (Option (List ℕ))) → messages ≡ front ++ None ∷ [] → rest ≡ []
+  pub source : IsReadTo rest source_left
 
 -- The run is done: what was written is the journal of a finished solo log of the input.
-pub record IsDone (turns : ℕ) (input old : List ℕ) (new : Option (List ℕ)) : Type 0 where
+pub record IsDone (turns : ℕ) (input : List ℕ) (source_left held now : Option (List ℕ)) : Type 0 where
   pub model : Model
   pub log : List Entry
   pub words : List ℕ
@@ -44,19 +58,23 @@ pub record IsDone (turns : ℕ) (input old : List ℕ) (new : Option (List ℕ))
   pub accepted : IsModelText words model
   pub runnable : IsRunnable model
   pub finished : Finished model log input
+  pub closed : (world_of model log).closed ≡ true
   pub solo : Solo model log
   pub options : options_of log ≡ program_options turns
-  pub read : HasRead words (inputs_of log) input
-  pub written : new ≡ Some (old ++ text_of_log model log)
+  pub read : HasRead words (inputs_of log) input source_left
+  pub written : Adds held now (text_of_log model log)
 
--- The input begins with this text and a `begin` line, and the lines up to it are within the limits.
-pub record HasHead (input words : List ℕ) : Type 0 where
+-- The input begins with this text and a `begin` line. The lines up to it are within the limits, and no further line was
+-- asked for.
+pub record HasHead (input words : List ℕ) (source_left : Option (List ℕ)) : Type 0 where
   pub lines : List (List ℕ)
   pub left : ℕ
   pub rest : List ℕ
   pub gave : Gave total_limit input lines left rest
   pub head : model_text_of lines ≡ Some words
+  pub no_further : lines_behind lines ≡ []
   pub text : (split_of input).text ≡ Some words
+  pub source : IsReadTo rest source_left
 
 abbrev pub no_begin_line : List ℕ
 no_begin_line = codes "model: no begin" ++ 10 ∷ []
@@ -65,17 +83,22 @@ abbrev pub not_built_line : List ℕ
 not_built_line = codes "model: not built" ++ 10 ∷ []
 
 -- The input begins with no model: there is no `begin` line, or the text before it has a fault, which was written. All lines, or those up to `begin`, are within the limits.
-pub data IsNoModel (input old : List ℕ) (new : Option (List ℕ)) : Type 0 where
-  no_begin : (lines : List (List ℕ)) (left : ℕ) → Gave total_limit input lines left [] → (split_of input).text ≡ None → new ≡ Some (old ++ no_begin_line) → IsNoModel input old new
-  faulty : (words line : List ℕ) → HasHead input words → IsRefusedAs words line → new ≡ Some (old ++ line) → IsNoModel input old new
+pub data IsNoModel (input : List ℕ) (source_left held now : Option (List ℕ)) : Type 0 where
+  no_begin : (lines : List (List ℕ)) (left : ℕ) → Gave total_limit input lines left []
+      → (split_of input).text ≡ None → IsReadTo [] source_left → Adds held now no_begin_line
+      → IsNoModel input source_left held now
+  faulty : (words line : List ℕ) → HasHead input words source_left → IsRefusedAs words line
+      → Adds held now line → IsNoModel input source_left held now
 
 -- The model is refused: there is none, or it is one that the program cannot run so far.
-pub data IsRefused (input old : List ℕ) (new : Option (List ℕ)) : Type 0 where
-  no_model : IsNoModel input old new → IsRefused input old new
-  not_built : (words : List ℕ) → (model : Model) → HasHead input words → IsModelText words model → (IsRunnable model → ⊥) → new ≡ Some (old ++ not_built_line) → IsRefused input old new
+pub data IsRefused (input : List ℕ) (source_left held now : Option (List ℕ)) : Type 0 where
+  no_model : IsNoModel input source_left held now → IsRefused input source_left held now
+  not_built : (words : List ℕ) → (model : Model) → HasHead input words source_left
+      → IsModelText words model → (IsRunnable model → ⊥) → Adds held now not_built_line
+      → IsRefused input source_left held now
 
 -- a solo log of the program that answers the messages among these lines and waits for the next
-pub record WaitsBehind (turns : ℕ) (lines : List (List ℕ)) (old : List ℕ) (new : Option (List ℕ)) : Type 0 where
+pub record WaitsBehind (turns : ℕ) (lines : List (List ℕ)) (held now : Option (List ℕ)) : Type 0 where
   pub model : Model
   pub log : List Entry
   pub words : List ℕ
@@ -88,27 +111,27 @@ pub record WaitsBehind (turns : ℕ) (lines : List (List ℕ)) (old : List ℕ) 
   pub messages : messages_of (lines_behind lines) ≡ inputs_of log ++ None ∷ []
   pub closed : (world_of model log).closed ≡ true
   pub going : (world_of model log).done ≡ false
-  pub written : new ≡ Some (old ++ text_of_log model log)
+  pub written : Adds held now (text_of_log model log)
 
 -- The line asked for is too long, or the input is: behind these lines, while the model's text was read or a message was due.
-pub record IsPastLimit (turns : ℕ) (input old : List ℕ) (new : Option (List ℕ)) : Type 0 where
+pub record IsPastLimit (turns : ℕ) (input : List ℕ) (held now : Option (List ℕ)) : Type 0 where
   pub lines : List (List ℕ)
   pub left : ℕ
   pub rest : List ℕ
   pub gave : Gave total_limit input lines left rest
   pub why : (next_of 4096 left rest ≡ line_too_long) ⊎ (next_of 4096 left rest ≡ input_too_long)
-  pub asked : ((model_text_of lines ≡ None) × (new ≡ Some old)) ⊎ WaitsBehind turns lines old new
+  pub asked : ((model_text_of lines ≡ None) × (now ≡ held)) ⊎ WaitsBehind turns lines held now
 
 -- A read failed: behind these lines, while the model's text was read or a message was due.
-pub record IsReadFault (turns : ℕ) (input old : List ℕ) (new : Option (List ℕ)) : Type 0 where
+pub record IsReadFault (turns : ℕ) (input : List ℕ) (held now : Option (List ℕ)) : Type 0 where
   pub lines : List (List ℕ)
   pub left : ℕ
   pub rest : List ℕ
   pub gave : Gave total_limit input lines left rest
-  pub asked : ((model_text_of lines ≡ None) × (new ≡ Some old)) ⊎ WaitsBehind turns lines old new
+  pub asked : ((model_text_of lines ≡ None) × (now ≡ held)) ⊎ WaitsBehind turns lines held now
 
 -- The log answers the messages up to a place. It has as many entries as it may, and one more is due: within a round, or for a message that was read.
-pub record IsFull (turns : ℕ) (input old : List ℕ) (new : Option (List ℕ)) : Type 0 where
+pub record IsFull (turns : ℕ) (input : List ℕ) (source_left held now : Option (List ℕ)) : Type 0 where
   pub model : Model
   pub log : List Entry
   pub words : List ℕ
@@ -123,24 +146,23 @@ pub record IsFull (turns : ℕ) (input old : List ℕ) (new : Option (List ℕ))
   pub full : length log ≡ 250000
   pub going : (world_of model log).done ≡ false
   pub pending : List (Option (List ℕ))
-  pub read : HasRead words (inputs_of log ++ pending) input
+  pub read : HasRead words (inputs_of log ++ pending) input source_left
   pub due : ((world_of model log).closed ≡ false) ⊎ (pending ≢ [])
-  pub written : new ≡ Some (old ++ text_of_log model log)
+  pub written : Adds held now (text_of_log model log)
 
--- How a run ended, where the input's bytes and the sink's are known.
-abbrev pub Ran : ℕ → List ℕ → List ℕ → Option (List ℕ) → Result Outcome Halt → Type 0
-Ran turns input old new (Ok outcome.Done) = IsDone turns input old new
-Ran turns input old new (Ok outcome.Refused) = IsRefused input old new
-Ran turns input old new (Err halt.Limit) = IsPastLimit turns input old new
-Ran turns input old new (Err halt.Full) = IsFull turns input old new
-Ran turns input old new (Err halt.Read) = IsReadFault turns input old new
-Ran turns input old new (Err halt.Write) = ⊤
-Ran turns input old new (Err halt.Memory) = ⊤
+-- How a run ended, where the input's bytes are known.
+abbrev pub Ran : ℕ → List ℕ → (source_left held now : Option (List ℕ)) → Result Outcome Halt → Type 0
+Ran turns input source_left held now (Ok outcome.Done) = IsDone turns input source_left held now
+Ran turns input source_left held now (Ok outcome.Refused) = IsRefused input source_left held now
+Ran turns input source_left held now (Err halt.Limit) = IsPastLimit turns input held now
+Ran turns input source_left held now (Err halt.Full) = IsFull turns input source_left held now
+Ran turns input source_left held now (Err halt.Read) = IsReadFault turns input held now
+Ran turns input source_left held now (Err halt.Write) = ⊤
+Ran turns input source_left held now (Err halt.Memory) = ⊤
 
-abbrev pub RanKnown : ℕ → Option (List ℕ) → Option (List ℕ) → Option (List ℕ) → Result Outcome Halt → Type 0
-RanKnown turns None old new r = ⊤
-RanKnown turns (Some input) None new r = ⊤
-RanKnown turns (Some input) (Some before) new r = Ran turns input before new r
+abbrev pub RanKnown : ℕ → (input source_left held now : Option (List ℕ)) → Result Outcome Halt → Type 0
+RanKnown turns None source_left held now r = ⊤
+RanKnown turns (Some input) source_left held now r = Ran turns input source_left held now r
 
 -- ---- `check`
 
@@ -148,43 +170,42 @@ abbrev pub model_ok_line : Model → List ℕ
 model_ok_line m = codes "model ok: timelines " ++ (decimal (length m.timelines) ++ (codes " kinds " ++ (decimal (length m.kinds) ++ 10 ∷ [])))
 
 -- The input begins with a model.
-pub record IsFound (input old : List ℕ) (new : Option (List ℕ)) : Type 0 where
+pub record IsFound (input : List ℕ) (source_left held now : Option (List ℕ)) : Type 0 where
   pub model : Model
   pub words : List ℕ
-  pub begins : HasHead input words
+  pub begins : HasHead input words source_left
   pub accepted : IsModelText words model
-  pub written : new ≡ Some (old ++ model_ok_line model)
+  pub written : Adds held now (model_ok_line model)
 
 -- The line asked for is too long, or the input is, while the model's text was read.
-pub record IsPastHead (input old : List ℕ) (new : Option (List ℕ)) : Type 0 where
+pub record IsPastHead (input : List ℕ) (held now : Option (List ℕ)) : Type 0 where
   pub lines : List (List ℕ)
   pub left : ℕ
   pub rest : List ℕ
   pub gave : Gave total_limit input lines left rest
   pub why : (next_of 4096 left rest ≡ line_too_long) ⊎ (next_of 4096 left rest ≡ input_too_long)
   pub none : model_text_of lines ≡ None
-  pub silent : new ≡ Some old
+  pub silent : now ≡ held
 
 -- A read failed while the model's text was read.
-pub record IsHeadFault (input old : List ℕ) (new : Option (List ℕ)) : Type 0 where
+pub record IsHeadFault (input : List ℕ) (held now : Option (List ℕ)) : Type 0 where
   pub lines : List (List ℕ)
   pub left : ℕ
   pub rest : List ℕ
   pub gave : Gave total_limit input lines left rest
   pub none : model_text_of lines ≡ None
-  pub silent : new ≡ Some old
+  pub silent : now ≡ held
 
--- How a check ended, where the input's bytes and the sink's are known.
-abbrev pub Checks : List ℕ → List ℕ → Option (List ℕ) → Result Outcome Halt → Type 0
-Checks input old new (Ok outcome.Done) = IsFound input old new
-Checks input old new (Ok outcome.Refused) = IsNoModel input old new
-Checks input old new (Err halt.Limit) = IsPastHead input old new
-Checks input old new (Err halt.Full) = ⊥
-Checks input old new (Err halt.Read) = IsHeadFault input old new
-Checks input old new (Err halt.Write) = ⊤
-Checks input old new (Err halt.Memory) = ⊤
+-- How a check ended, where the input's bytes are known.
+abbrev pub Checks : List ℕ → (source_left held now : Option (List ℕ)) → Result Outcome Halt → Type 0
+Checks input source_left held now (Ok outcome.Done) = IsFound input source_left held now
+Checks input source_left held now (Ok outcome.Refused) = IsNoModel input source_left held now
+Checks input source_left held now (Err halt.Limit) = IsPastHead input held now
+Checks input source_left held now (Err halt.Full) = ⊥
+Checks input source_left held now (Err halt.Read) = IsHeadFault input held now
+Checks input source_left held now (Err halt.Write) = ⊤
+Checks input source_left held now (Err halt.Memory) = ⊤
 
-abbrev pub ChecksKnown : Option (List ℕ) → Option (List ℕ) → Option (List ℕ) → Result Outcome Halt → Type 0
-ChecksKnown None old new r = ⊤
-ChecksKnown (Some input) None new r = ⊤
-ChecksKnown (Some input) (Some before) new r = Checks input before new r
+abbrev pub ChecksKnown : (input source_left held now : Option (List ℕ)) → Result Outcome Halt → Type 0
+ChecksKnown None source_left held now r = ⊤
+ChecksKnown (Some input) source_left held now r = Checks input source_left held now r

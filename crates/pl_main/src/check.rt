@@ -64,7 +64,8 @@ fn check_text<O: Sink>(alloc: Global, kept: Option<Vec<u8>>, out: &mut O) -> Res
 /// Reads a model up to its `begin` line and writes that it is one, or its first fault.
 #[tactic(auto, using(crate::proofs::Checking::head_checks))]
 pub fn check<S: Source, O: Sink>(alloc: Global, src: &mut S, out: &mut O) -> Result<Outcome, Halt>
-    ensures checks { ChecksKnown (S.left src.old) (O.held out.old) (O.held out.new) result }
+    ensures checks { ChecksKnown (S.left src.old) (S.left src.new) (O.held out.old) (O.held out.new)
+        result }
     ensures read { IsErrOf result Halt.Read → Rose (S.faults src.old) (S.faults src.new) }
     ensures write { IsErrOf result Halt.Write → Rose (O.faults out.old) (O.faults out.new) }
 {

@@ -1,6 +1,7 @@
 ghost use Rattle.std.specs.Prelude.{◌≡◌, ◌≤◌, ◌<◌, ◌++◌, ◌^◌, None, IfOk, IsErrOf, length, List, ℕ};
 ghost use Rattle.pl_io.specs.Faults.{Rose};
 ghost use Rattle.pl_io.specs.Lines.{ahead};
+ghost use Rattle.pl_io.specs.Sparing.{read_size};
 ghost use Rattle.pl_machine.specs.Lines.{with_newline};
 ghost use Rattle.pl_main.specs.Heads.{Keeps, LooksAt, Looks, HeadGives};
 
@@ -49,6 +50,7 @@ fn look<S: Source>(
 ) -> Result<Found, LineFault>
     requires limit { lines.old.limit ≡ 4096 }
     requires working { lines.old.failed ≡ None }
+    requires few { length lines.old.held < read_size }
     ensures line { Looks lines.old (ahead lines.old.held (S.left src.old)) kept result lines.new (ahead lines.new.held (S.left src.new)) }
     ensures cause { IsErrOf result LineFault.Read → Rose (S.faults src.old) (S.faults src.new) }
     ensures later { S.faults src.old ≤ S.faults src.new }
@@ -71,6 +73,7 @@ pub fn read_head<S: Source>(
 ) -> Result<Head, LineFault>
     requires limit { lines.old.limit ≡ 4096 }
     requires working { lines.old.failed ≡ None }
+    requires few { length lines.old.held < read_size }
     ensures head { HeadGives lines.old (ahead lines.old.held (S.left src.old)) result lines.new (ahead lines.new.held (S.left src.new)) }
     ensures cause { IsErrOf result LineFault.Read → Rose (S.faults src.old) (S.faults src.new) }
     ensures later { S.faults src.old ≤ S.faults src.new }

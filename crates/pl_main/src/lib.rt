@@ -7,6 +7,7 @@ mod found;
 mod halt;
 mod head;
 mod judging;
+mod laws;
 mod messages;
 mod outcome;
 mod play;
@@ -15,4 +16,5 @@ mod top;
 mod whole;
 mod writes;
 
+pub use laws::statuses_are_told_apart;
 pub use top::{run, run_solo};

@@ -1,6 +1,7 @@
-ghost use Rattle.std.specs.Prelude.{◌≡◌, ◌≤◌, None, IsErrOf};
+ghost use Rattle.std.specs.Prelude.{◌≡◌, ◌≤◌, None, IsErrOf, ◌<◌, length};
 ghost use Rattle.pl_io.specs.Faults.{Rose};
 ghost use Rattle.pl_io.specs.Lines.{ahead};
+ghost use Rattle.pl_io.specs.Sparing.{read_size};
 ghost use Rattle.pl_main.specs.Waits.{MessageGives};
 
 use crate::reads::next_line;
@@ -15,6 +16,7 @@ pub fn next_message<S: Source>(
 ) -> Result<Option<Line>, LineFault>
     requires limit { lines.old.limit ≡ 4096 }
     requires working { lines.old.failed ≡ None }
+    requires few { length lines.old.held < read_size }
     ensures message { MessageGives lines.old (ahead lines.old.held (S.left src.old)) result lines.new (ahead lines.new.held (S.left src.new)) }
     ensures cause { IsErrOf result LineFault.Read → Rose (S.faults src.old) (S.faults src.new) }
     ensures later { S.faults src.old ≤ S.faults src.new }

@@ -1,6 +1,7 @@
-ghost use Rattle.std.specs.Prelude.{◌≡◌, ◌≤◌, None, IsErrOf, IfErr, length};
+ghost use Rattle.std.specs.Prelude.{◌≡◌, ◌≤◌, None, IsErrOf, IfErr, length, ◌<◌};
 ghost use Rattle.std.specs.Option.{option_copied};
 ghost use Rattle.pl_io.specs.Faults.{Rose};
+ghost use Rattle.pl_io.specs.Sparing.{read_size};
 ghost use Rattle.pl_machine.specs.Legal.{InputFits};
 ghost use Rattle.pl_main.specs.Tells.{IsReady};
 ghost use Rattle.pl_main.specs.Plays.{place_of, line_in, HaltFor, Answering, Steps, Playing};
@@ -71,6 +72,7 @@ fn step<S: Source, O: Sink>(
     requires ready { IsReady machine.old }
     requires limit { lines.old.limit ≡ 4096 }
     requires working { lines.old.failed ≡ None }
+    requires few { length lines.old.held < read_size }
     ensures step { Steps machine.old (place_of lines.old (S.left src.old)) (O.held out.old) result machine.new (place_of lines.new (S.left src.new)) (O.held out.new) }
     ensures read { IsErrOf result Halt.Read → Rose (S.faults src.old) (S.faults src.new) }
     ensures write { IsErrOf result Halt.Write → Rose (O.faults out.old) (O.faults out.new) }
@@ -94,6 +96,7 @@ pub fn play<S: Source, O: Sink>(
     requires ready { IsReady machine.old }
     requires limit { lines.old.limit ≡ 4096 }
     requires working { lines.old.failed ≡ None }
+    requires few { length lines.old.held < read_size }
     ensures play { Playing machine.old (place_of lines.old (S.left src.old)) (O.held out.old) result machine.new (place_of lines.new (S.left src.new)) (O.held out.new) }
     ensures read { IsErrOf result Halt.Read → Rose (S.faults src.old) (S.faults src.new) }
     ensures write { IsErrOf result Halt.Write → Rose (O.faults out.old) (O.faults out.new) }

@@ -1,6 +1,7 @@
-ghost use Rattle.std.specs.Prelude.{◌≡◌, ◌⊎◌, ℕ, None, Some};
+ghost use Rattle.std.specs.Prelude.{◌≡◌, ◌⊎◌, ℕ, None, Some, IfSome};
 ghost use Rattle.pl_io.specs.Faults.{Rose};
 ghost use Rattle.pl_plain.specs.Words.{command_of};
+ghost use Rattle.pl_main.specs.Limits.{CanDo, IsDoneBy};
 ghost use Rattle.pl_main.specs.Statuses.{IsTask, IsSoloStatus, status_of, usage_line, SaysKnown};
 ghost use Rattle.pl_main.specs.Written.{Adds};
 
@@ -26,19 +27,34 @@ fn status_of(ended: Result<Outcome, Halt>) -> u8
     }
 }
 
-/// Does a task of one thread. It waits for nobody.
 #[tactic(auto, using(crate::proofs::Topping::says_of, crate::proofs::Topping::says_checked, crate::proofs::Topping::status_is))]
-pub fn run_solo<I: Source, O: Sink>(alloc: Global, task: &Task, input: &mut I, out: &mut O) -> u8
+fn task_status<I: Source, O: Sink>(alloc: Global, task: &Task, input: &mut I, out: &mut O) -> u8
     requires { IsTask task.now }
     ensures status { IsSoloStatus result }
     ensures read { result ≡ 4 → Rose (I.faults input.old) (I.faults input.new) }
     ensures write { result ≡ 5 → Rose (O.faults out.old) (O.faults out.new) }
-    ensures says { SaysKnown task.now (I.left input.old) (O.held out.old) (O.held out.new) result }
+    ensures says { SaysKnown task.now (I.left input.old) (I.left input.new) (O.held out.old)
+        (O.held out.new) result }
 {
     match task {
         Task::Solo { turns } => status_of(solo(alloc, *turns, input, out)),
         Task::Check => status_of(check(alloc, input, out)),
     }
+}
+
+/// Does a task of one thread. It waits for nobody.
+pub fn run_solo<I: Source, O: Sink>(alloc: Global, task: &Task, input: &mut I, out: &mut O) -> u8
+    requires { IsTask task.now }
+    ensures status { IsSoloStatus result }
+    ensures read { result ≡ 4 → Rose (I.faults input.old) (I.faults input.new) }
+    ensures write { result ≡ 5 → Rose (O.faults out.old) (O.faults out.new) }
+    ensures says { SaysKnown task.now (I.left input.old) (I.left input.new) (O.held out.old)
+        (O.held out.new) result }
+    ensures complete { (Rose (I.faults input.old) (I.faults input.new) → ⊥)
+        → (Rose (O.faults out.old) (O.faults out.new) → ⊥)
+        → IfSome (I.left input.old) (λ bytes. CanDo task.now bytes → IsDoneBy task.now result) }
+{
+    task_status(alloc, task, input, out)
 }
 
 /// The usage line, and its status.
@@ -61,11 +77,17 @@ fn usage<O: Sink>(out: &mut O) -> u8
 pub fn run<I: Source, O: Sink>(alloc: Global, words: &[String], input: &mut I, out: &mut O) -> u8
     ensures usage { result ≡ 2 → command_of words.now ≡ None }
     ensures words { command_of words.now ≡ None → (result ≡ 2) ⊎ (result ≡ 5) }
+    ensures unread { command_of words.now ≡ None → input.new ≡ input.old }
     ensures usage_text { result ≡ 2 → Adds (O.held out.old) (O.held out.new) usage_line }
     ensures status { (result ≡ 2) ⊎ IsSoloStatus result }
     ensures read { result ≡ 4 → Rose (I.faults input.old) (I.faults input.new) }
     ensures write { result ≡ 5 → Rose (O.faults out.old) (O.faults out.new) }
-    ensures says { (task : Task) → command_of words.now ≡ Some (Command.Alone task) → SaysKnown task (I.left input.old) (O.held out.old) (O.held out.new) result }
+    ensures says { (task : Task) → command_of words.now ≡ Some (Command.Alone task)
+        → SaysKnown task (I.left input.old) (I.left input.new) (O.held out.old) (O.held out.new) result }
+    ensures complete { (task : Task) → command_of words.now ≡ Some (Command.Alone task)
+        → (Rose (I.faults input.old) (I.faults input.new) → ⊥)
+        → (Rose (O.faults out.old) (O.faults out.new) → ⊥)
+        → IfSome (I.left input.old) (λ bytes. CanDo task bytes → IsDoneBy task result) }
 {
     match read_words(words) {
         None => usage(out),

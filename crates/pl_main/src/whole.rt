@@ -1,5 +1,6 @@
-ghost use Rattle.std.specs.Prelude.{◌≡◌, ◌≤◌, None, IsErrOf};
+ghost use Rattle.std.specs.Prelude.{◌≡◌, ◌≤◌, None, IsErrOf, ◌<◌, length};
 ghost use Rattle.pl_io.specs.Faults.{Rose};
+ghost use Rattle.pl_io.specs.Sparing.{read_size};
 ghost use Rattle.pl_machine.specs.Plain.{IsPlain};
 ghost use Rattle.pl_main.specs.Plays.{place_of};
 ghost use Rattle.pl_main.specs.Runs.{ModelRuns, TextRuns};
@@ -49,7 +50,9 @@ fn run_model<S: Source, O: Sink>(
     requires turns { (1 ≤ turns) × (turns ≤ 1000) }
     requires limit { lines.old.limit ≡ 4096 }
     requires working { lines.old.failed ≡ None }
-    ensures run { ModelRuns turns model (place_of lines.old (S.left src.old)) (O.held out.old) result (O.held out.new) }
+    requires few { length lines.old.held < read_size }
+    ensures run { ModelRuns turns model (place_of lines.old (S.left src.old)) (O.held out.old) result
+        (place_of lines.new (S.left src.new)) (O.held out.new) }
     ensures read { IsErrOf result Halt.Read → Rose (S.faults src.old) (S.faults src.new) }
     ensures write { IsErrOf result Halt.Write → Rose (O.faults out.old) (O.faults out.new) }
 {
@@ -76,7 +79,9 @@ fn run_text<S: Source, O: Sink>(
     requires turns { (1 ≤ turns) × (turns ≤ 1000) }
     requires limit { lines.old.limit ≡ 4096 }
     requires working { lines.old.failed ≡ None }
-    ensures run { TextRuns turns kept (place_of lines.old (S.left src.old)) (O.held out.old) result (O.held out.new) }
+    requires few { length lines.old.held < read_size }
+    ensures run { TextRuns turns kept (place_of lines.old (S.left src.old)) (O.held out.old) result
+        (place_of lines.new (S.left src.new)) (O.held out.new) }
     ensures read { IsErrOf result Halt.Read → Rose (S.faults src.old) (S.faults src.new) }
     ensures write { IsErrOf result Halt.Write → Rose (O.faults out.old) (O.faults out.new) }
 {
@@ -103,7 +108,8 @@ pub fn solo<S: Source, O: Sink>(
     out: &mut O,
 ) -> Result<Outcome, Halt>
     requires turns { (1 ≤ turns) × (turns ≤ 1000) }
-    ensures ran { RanKnown turns (S.left src.old) (O.held out.old) (O.held out.new) result }
+    ensures ran { RanKnown turns (S.left src.old) (S.left src.new) (O.held out.old) (O.held out.new)
+        result }
     ensures read { IsErrOf result Halt.Read → Rose (S.faults src.old) (S.faults src.new) }
     ensures write { IsErrOf result Halt.Write → Rose (O.faults out.old) (O.faults out.new) }
 {

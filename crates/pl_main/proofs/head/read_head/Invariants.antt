@@ -1,4 +1,4 @@
-use Rattle.std.proofs.Common.{◌≡◌, ◌≤◌, None}
+use Rattle.std.proofs.Common.{◌≡◌, ◌<◌, ◌≤◌, length, None}
 use Rattle.pl_io.specs.Lines.{ahead}
 use Rattle.pl_main.specs.Heads.{IsBefore}
 use Rattle.pl_main.proofs.head.read_head.Given as goal
@@ -9,6 +9,7 @@ invariant-head g l = record {
   so_far : IsBefore l.initial.lines (ahead l.initial.lines.held (g.S.Source.left l.initial.src)) l.kept l.lines (ahead l.lines.held (g.S.Source.left l.src));
   limit : l.lines.limit ≡ 4096;
   working : l.lines.failed ≡ None;
+  few : length l.lines.held < 4096;
   later : g.S.Source.faults l.initial.src ≤ g.S.Source.faults l.src;
 }
 

@@ -1,0 +1,35 @@
+use Rattle.pl_main.proofs.Causes.{done_not_refused, done_not_past, done_not_full, refused_not_past, refused_not_full, past_not_full, found_not_refused, found_not_past, no_model_not_past, run_within, head_within}
+use Rattle.pl_main.proofs.laws.statuses_are_told_apart.Goals as goal
+
+pub returns-clause-done_not_refused : goal.returns-clause-done_not_refused
+returns-clause-done_not_refused c = done_not_refused
+
+pub returns-clause-done_not_past : goal.returns-clause-done_not_past
+returns-clause-done_not_past c = done_not_past
+
+pub returns-clause-done_not_full : goal.returns-clause-done_not_full
+returns-clause-done_not_full c = done_not_full
+
+pub returns-clause-refused_not_past : goal.returns-clause-refused_not_past
+returns-clause-refused_not_past c = refused_not_past
+
+pub returns-clause-refused_not_full : goal.returns-clause-refused_not_full
+returns-clause-refused_not_full c = refused_not_full
+
+pub returns-clause-past_not_full : goal.returns-clause-past_not_full
+returns-clause-past_not_full c = past_not_full
+
+pub returns-clause-found_not_refused : goal.returns-clause-found_not_refused
+returns-clause-found_not_refused c = found_not_refused
+
+pub returns-clause-found_not_past : goal.returns-clause-found_not_past
+returns-clause-found_not_past c = found_not_past
+
+pub returns-clause-no_model_not_past : goal.returns-clause-no_model_not_past
+returns-clause-no_model_not_past c = no_model_not_past
+
+pub returns-clause-within : goal.returns-clause-within
+returns-clause-within c = run_within
+
+pub returns-clause-head_within : goal.returns-clause-head_within
+returns-clause-head_within c = head_within

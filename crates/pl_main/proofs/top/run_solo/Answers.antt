@@ -1,0 +1,7 @@
+use Rattle.pl_main.proofs.Causes.{completes}
+use Rattle.pl_main.proofs.top.run_solo.Goals as goal
+
+pub returns-clause-complete : goal.returns-clause-complete
+returns-clause-complete g c = λ no_read no_write.
+    completes _ _ _ _ _ _ c.task_status.ensures.says c.task_status.ensures.status
+    (λ e. no_read (c.task_status.ensures.read e)) (λ e. no_write (c.task_status.ensures.write e))
