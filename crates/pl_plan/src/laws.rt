@@ -1,11 +1,13 @@
-ghost use Rattle.std.specs.Prelude.{◌≡◌, ℕ, ◌↔◌, true, List, Contains};
+ghost use Rattle.std.specs.Prelude.{◌≡◌, ℕ, ◌↔◌, true, List, Contains, None, Some, All, map};
 ghost use Rattle.std.specs.List.Sorted.{IsStrictlyIncreasing};
 ghost use Rattle.pl_model.specs.declared.whole.Model.{Model};
 ghost use Rattle.pl_model.specs.Checked.{IsChecked};
 ghost use Rattle.pl_plan.specs.declared.activity.Activity.{Activity};
-ghost use Rattle.pl_plan.specs.Activities.{IsLive, AreRising};
-ghost use Rattle.pl_plan.specs.Trees.{IsRooted, Descends, descends, root_of, subtree_of};
-ghost use Rattle.pl_plan.specs.Fitting.{Fits};
+ghost use Rattle.pl_plan.specs.Activities.{IsLive, AreRising, activity_of, placed, without};
+ghost use Rattle.pl_plan.specs.Trees.{IsRooted, Descends, parent_of, descends, root_of, subtree_of};
+ghost use Rattle.pl_plan.specs.Fitting.{Fits, FitsAlone};
+ghost use Rattle.pl_plan.specs.LookUps.{FitsAt};
+ghost use Rattle.pl_plan.specs.Moves.{KeepsTree, without_subtree, without_below, abstracted};
 ghost use Rattle.pl_plan.specs.Values.{Row, values_of};
 ghost use Rattle.pl_plan.specs.Firm.{is_firm, end_of};
 ghost use Rattle.pl_plan.specs.Laws.{IsRootOf, AreValues, AreSameAbove};
@@ -29,4 +31,17 @@ pub fn laws_of_values()
     ensures local { (model : Model) (xs ys : List Activity) → IsRooted xs → IsRooted ys → (id : ℕ) → AreSameAbove xs ys id → values_of model xs id ≡ values_of model ys id }
     ensures local_firm { (model : Model) (xs ys : List Activity) → IsRooted xs → IsRooted ys → (id : ℕ) → AreSameAbove xs ys id → is_firm model xs id ≡ is_firm model ys id }
     ensures local_end { (model : Model) (xs ys : List Activity) → IsRooted xs → IsRooted ys → (id : ℕ) → AreSameAbove xs ys id → end_of model xs id ≡ end_of model ys id }
+{}
+
+/// What is put back after it was taken leaves the list as it was. Each move of repair leaves
+/// activities that fit the model: a change of starts or of values that are set, a root that goes
+/// with all that descends from it, and an abstraction. For the others: activities fit the model
+/// where each owes nothing by what is found under ids.
+pub fn laws_of_moves()
+    ensures back { (xs : List Activity) → AreRising xs → (a : Activity) → activity_of a.id xs ≡ Some a → placed a (without a.id xs) ≡ xs }
+    ensures rooted { (xs : List Activity) → IsRooted xs → AreRising xs → (top : ℕ) → IsRooted (without_subtree top xs) }
+    ensures look_ups { (model : Model) (xs : List Activity) → AreRising xs → ((id : ℕ) (a : Activity) → activity_of id xs ≡ Some a → FitsAt model (λ q. activity_of q xs) id a) → Fits model xs }
+    ensures changed { (model : Model) (xs : List Activity) → AreRising xs → Fits model xs → (change : Activity → Activity) → KeepsTree change → ((a : Activity) → (change a).detail ≡ a.detail) → All (λ a. FitsAlone model (change a)) xs → Fits model (map change xs) }
+    ensures deleted { (model : Model) (xs : List Activity) → AreRising xs → Fits model xs → (top : ℕ) → parent_of top xs ≡ None → Fits model (without_subtree top xs) }
+    ensures abstracted { (model : Model) (xs : List Activity) → AreRising xs → Fits model xs → (top : ℕ) → Fits model (map (abstracted top) (without_below top xs)) }
 {}
