@@ -1,17 +1,15 @@
 -- Activities that owe nothing by look-ups fit the model.
-use Rattle.std.proofs.Common.{◌≡◌, ℕ, suc, ◌<◌, ◌≤◌, eqb, Bool, true, false, cond, ◌&&◌, List, [], ◌∷◌, length, get_or, Option, Some, None, refl, sym, ap, ◌∙◌, subst, arith}
+use Rattle.std.proofs.Common.{◌≡◌, ℕ, suc, ◌<◌, eqb, Bool, true, false, List, [], ◌∷◌, length, get_or, Option, Some, None, refl, sym, ap, ◌∙◌, arith}
 use Rattle.std.specs.Prelude.{All, filter}
 use Rattle.std.proofs.lemmas.Bool.{eq-eqb, eqb-true}
-use Rattle.std.proofs.lemmas.List.Elements.{All-nil, All-cons, All-head, All-tail}
-use Rattle.pl_model.specs.declared.alternatives.Slot.{Slot}
 use Rattle.pl_model.specs.declared.whole.Model.{Model}
 use Rattle.pl_plan.specs.declared.activity.Activity.{Activity}
 use Rattle.pl_plan.specs.Activities.{RiseFrom, AreRising, activity_of}
-use Rattle.pl_plan.specs.Fitting.{Fits, AreFilled, IsSingle, fills, is_slot, chosen_slots}
+use Rattle.pl_plan.specs.Fitting.{Fits, IsSingle, fills, is_slot}
 use Rattle.pl_plan.specs.LookUps.{HasChild, FitsAt}
 use Rattle.pl_plan.proofs.Kept.{all_kept, each_found}
 
-slot_is : (parent slot : ℕ) (o : Option (ℕ × ℕ)) → is_slot parent slot o ≡ true → o ≡ Some (parent, slot)
+pub slot_is : (parent slot : ℕ) (o : Option (ℕ × ℕ)) → is_slot parent slot o ≡ true → o ≡ Some (parent, slot)
 slot_is parent slot None e = absurd (cc)
 slot_is parent slot (Some p) e = by_both (eqb p.0 parent) refl (eqb p.1 slot) refl
   where
@@ -20,10 +18,10 @@ slot_is parent slot (Some p) e = by_both (eqb p.0 parent) refl (eqb p.1 slot) re
     by_both true f false g = absurd (let bad : false ≡ true = rw (f, g) at e in cc)
     by_both false f d g = absurd (let bad : false ≡ true = rw f at e in cc)
 
-is_this_slot : (parent slot : ℕ) (o : Option (ℕ × ℕ)) → o ≡ Some (parent, slot) → is_slot parent slot o ≡ true
+pub is_this_slot : (parent slot : ℕ) (o : Option (ℕ × ℕ)) → o ≡ Some (parent, slot) → is_slot parent slot o ≡ true
 is_this_slot parent slot o e = rw (e, eq-eqb parent parent refl, eq-eqb slot slot refl) refl
 
-filter_rising : (p : Activity → Bool) (c : ℕ) (xs : List Activity) → RiseFrom c xs → RiseFrom c (filter p xs)
+pub filter_rising : (p : Activity → Bool) (c : ℕ) (xs : List Activity) → RiseFrom c xs → RiseFrom c (filter p xs)
 filter_rising p c [] rising = tt
 filter_rising p c (x ∷ xs) rising = cases (p x) refl (filter_rising p (suc x.id) xs rising.1)
   where
@@ -35,7 +33,7 @@ filter_rising p c (x ∷ xs) rising = cases (p x) refl (filter_rising p (suc x.i
     cases true e more = rw e (rising.0, more)
     cases false e more = rw e (weaker c (filter p xs) more)
 
-some_pass : (p : Activity → Bool) (xs : List Activity) (q : ℕ) (a : Activity) → activity_of q xs ≡ Some a → p a ≡ true → 0 < length (filter p xs)
+pub some_pass : (p : Activity → Bool) (xs : List Activity) (q : ℕ) (a : Activity) → activity_of q xs ≡ Some a → p a ≡ true → 0 < length (filter p xs)
 some_pass p [] q a is passes = absurd (cc)
 some_pass p (x ∷ xs) q a is passes = cases (p x) refl (some_pass p xs q a)
   where

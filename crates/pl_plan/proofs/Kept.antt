@@ -1,14 +1,13 @@
 -- Activities of which some go and others change still fit the model.
-use Rattle.std.proofs.Common.{◌≡◌, ℕ, zero, suc, ◌<◌, ◌≤◌, eqb, Bool, true, false, cond, not, ◌&&◌, ◌||◌, List, [], ◌∷◌, length, get_or, map, Option, Some, None, IsSome, is_some, IfSome, refl, sym, ap, ◌∙◌, subst, arith, ◌⊎◌, inl, inr, ⊎_elim}
-use Rattle.std.specs.Prelude.{All, filter, option_and_then}
+use Rattle.std.proofs.Common.{◌≡◌, ℕ, ◌<◌, eqb, Bool, true, false, cond, List, [], ◌∷◌, length, get_or, map, Option, Some, None, IsSome, is_some, IfSome, refl, sym, ap, ◌∙◌, arith, ◌⊎◌, ⊎_elim}
+use Rattle.std.specs.Prelude.{All, filter}
 use Rattle.std.specs.Option.{option_map}
-use Rattle.std.proofs.lemmas.Bool.{eq-eqb, ne_eqb, eqb-true, eqb-false}
+use Rattle.std.proofs.lemmas.Bool.{eqb-true}
 use Rattle.std.proofs.lemmas.List.Elements.{All-nil, All-cons, All-head, All-tail, All-map}
-use Rattle.pl_model.specs.declared.alternatives.Slot.{Slot}
 use Rattle.pl_model.specs.declared.whole.Model.{Model}
 use Rattle.pl_plan.specs.declared.activity.Activity.{Activity}
-use Rattle.pl_plan.specs.Activities.{RiseFrom, AreRising, activity_of, IsLive}
-use Rattle.pl_plan.specs.Trees.{IsParented, IsRooted, parent_id, parent_in, parent_of}
+use Rattle.pl_plan.specs.Activities.{AreRising, activity_of, IsLive}
+use Rattle.pl_plan.specs.Trees.{IsParented, parent_id, parent_of}
 use Rattle.pl_plan.specs.Fitting.{Fits, FitsAlone, AreFilled, IsInSlot, IsSingle, fills, is_slot, chosen_slots, chosen_slots_of}
 use Rattle.pl_plan.specs.Moves.{KeepsTree, kept}
 use Rattle.pl_plan.proofs.Ids.{found_at}
@@ -139,10 +138,10 @@ module _ (model : Model) (xs : List Activity) (rising : AreRising xs) (fits : Fi
         whole : (chosen_slots model (change x) ≡ chosen_slots model x) × ((q : ℕ) → parent_of q xs ≡ Some x.id → stays q ≡ true) → IsSingle (get_or (chosen_slots model (change x)) slot d).kind (filter (fills (change x).id slot) left)
         whole w =
             let same : filter (fills (change x).id slot) left ≡ map change (filter (fills x.id slot) xs) =
-                ap (λ n. filter (fills n slot) left) (keeps.id x)
-                ∙ (filter_map_same (fills x.id slot) change (λ a. ap (is_slot x.id slot) (keeps.parent a)) (kept stays xs)
-                ∙ ap (map change) (filter_filter (fills x.id slot) (λ a. stays a.id) xs (λ k e in_range fill.
-                w.1 (get_or xs k e).id (rw (each_found xs rising k e in_range) (fills_parent x.id slot (get_or xs k e).parent fill))))) in
+            ap (λ n. filter (fills n slot) left) (keeps.id x)
+            ∙ (filter_map_same (fills x.id slot) change (λ a. ap (is_slot x.id slot) (keeps.parent a)) (kept stays xs)
+            ∙ ap (map change) (filter_filter (fills x.id slot) (λ a. stays a.id) xs (λ k e in_range fill.
+            w.1 (get_or xs k e).id (rw (each_found xs rising k e in_range) (fills_parent x.id slot (get_or xs k e).parent fill))))) in
             let lt' : slot < length (chosen_slots model x) = rw w.0 at lt in
             rw (same, w.0) (single_changed change keeps (get_or (chosen_slots model x) slot d).kind (filter (fills x.id slot) xs) (holds slot d lt'))
 

@@ -15,5 +15,6 @@ pub mod LocalValues
 pub mod Kept
 pub mod MoveLaws
 pub mod ByLookUps
+pub mod LookUpLaws
 pub mod Members
 pub mod Subtrees

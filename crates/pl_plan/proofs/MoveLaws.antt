@@ -1,20 +1,17 @@
 -- Each kind of move leaves activities that fit the model.
-use Rattle.std.proofs.Common.{◌≡◌, ℕ, zero, suc, ◌<◌, ◌≤◌, eqb, ltb, Bool, true, false, cond, not, ◌&&◌, ◌||◌, List, [], ◌∷◌, length, get_or, map, Option, Some, None, IsSome, is_some, IfSome, refl, sym, ap, ◌∙◌, subst, arith, ◌⊎◌, inl, inr, ⊎_elim}
-use Rattle.std.specs.Prelude.{All, filter, option_and_then}
-use Rattle.std.proofs.lemmas.Bool.{eq-eqb, ne_eqb, lt-ltb, le-ltb, eqb-true, eqb-false, ltb-true, ltb-false}
-use Rattle.std.proofs.lemmas.List.Elements.{All-nil, All-cons, All-head, All-tail, All-weaker}
-use Rattle.pl_model.specs.declared.alternatives.Slot.{Slot}
+use Rattle.std.proofs.Common.{◌≡◌, ℕ, suc, ◌<◌, ◌≤◌, eqb, ltb, Bool, true, false, cond, not, ◌||◌, List, [], ◌∷◌, get_or, map, Option, Some, None, is_some, IfSome, refl, sym, ap, ◌∙◌, subst, arith, inl, inr}
+use Rattle.std.specs.Prelude.{All}
+use Rattle.std.proofs.lemmas.Bool.{eq-eqb, ne_eqb, lt-ltb, le-ltb, eqb-true, ltb-true, ltb-false}
 use Rattle.pl_model.specs.declared.whole.Model.{Model}
 use Rattle.pl_plan.specs.declared.activity.Activity.{Activity}
 use Rattle.pl_plan.specs.Activities.{RiseFrom, AreRising, activity_of, IsLive, placed, without}
-use Rattle.pl_plan.specs.Trees.{IsParented, IsRooted, parent_id, parent_in, parent_of, Descends, itself, child, descends}
-use Rattle.pl_plan.specs.Fitting.{Fits, FitsAlone, AreFilled, IsInSlot, IsSingle, fills, is_slot, chosen_slots, chosen_slots_of}
+use Rattle.pl_plan.specs.Trees.{IsParented, IsRooted, parent_id, parent_of, Descends, itself, child, descends}
+use Rattle.pl_plan.specs.Fitting.{Fits, FitsAlone}
 use Rattle.pl_plan.specs.Moves.{KeepsTree, kept, without_subtree, without_below, abstracted}
-use Rattle.pl_plan.proofs.Ids.{found_at}
-use Rattle.pl_plan.proofs.Lookups.{none_below, found-placed}
+use Rattle.pl_plan.proofs.Lookups.{none_below}
 use Rattle.pl_plan.proofs.Climbs.{all_at, parent_smaller}
 use Rattle.pl_plan.proofs.TreeLaws.{descends_sound, descends_complete, at_child}
-use Rattle.pl_plan.proofs.Kept.{all_kept, found-kept, each_found, fits_left, fills_parent, KeepsSlots}
+use Rattle.pl_plan.proofs.Kept.{all_kept, found-kept, each_found, fits_left, KeepsSlots}
 
 -- ---- a put after a take
 
@@ -176,10 +173,13 @@ fits_abstracted model xs rising fits top =
         by_top : (b : Bool) → eqb id top ≡ b → KeepsSlots model xs rising fits (outside_or xs top) (abstracted top) (abstracted_keeps top) id a
         by_top true e =
             let is : id ≡ top = eqb-true id top e in
-            inr (let test : eqb a.id top ≡ true = eq-eqb a.id top (same ∙ is) in rw test refl, λ q named.
-            let lt : id < q = (parent_smaller xs fits.rooted q id named).1 in
-            let holds : descends xs top q ≡ true = descends_complete xs fits.rooted top q (child q id named (subst (λ n. Descends xs top n) (sym is) itself)) in
-            rw (ne_eqb q top (λ f. omega (arith, lt, is, f)), holds) refl)
+            inr (
+              let test : eqb a.id top ≡ true = eq-eqb a.id top (same ∙ is) in rw test refl,
+              λ q named.
+                  let lt : id < q = (parent_smaller xs fits.rooted q id named).1 in
+                  let holds : descends xs top q ≡ true = descends_complete xs fits.rooted top q (child q id named (subst (λ n. Descends xs top n) (sym is) itself)) in
+                  rw (ne_eqb q top (λ f. omega (arith, lt, is, f)), holds) refl,
+            )
         by_top false e =
             inl (let test : eqb a.id top ≡ false = ap (λ n. eqb n top) same ∙ e in rw test refl, λ q named. by_child q named (eqb q top) refl)
           where
