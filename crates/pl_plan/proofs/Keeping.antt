@@ -1,7 +1,7 @@
 -- What a plan keeps through each change: rising ids, the indexes, and room for the count.
-use Rattle.std.proofs.Common.{◌≡◌, ℕ, ◌<◌, ◌+◌, ◌^◌, List, [], ◌∷◌, length, Option, Some, None, refl, sym, ap, ◌∙◌, subst, arith, take, get_or}
+use Rattle.std.proofs.Common.{◌≡◌, ℕ, ◌<◌, ◌+◌, ◌^◌, List, [], ◌∷◌, length, Some, None, refl, sym, ap, ◌∙◌, subst, arith}
 use Rattle.pl_plan.specs.declared.activity.Activity.{Activity}
-use Rattle.pl_plan.specs.Activities.{AreRising, KeepsPlace, activity_of, placed, without, exchanged}
+use Rattle.pl_plan.specs.Activities.{KeepsPlace, activity_of, placed, without, exchanged}
 use Rattle.pl_plan.specs.Index.{Enters, Leaves}
 use Rattle.pl_plan.specs.Indexed.{AreIndexed}
 use Rattle.pl_plan.specs.Trees.{parent_id, parent_in}
@@ -16,21 +16,27 @@ pub kept_placed : (ys xs zs : List Activity) (u s v t : List (ℕ × ℕ)) (a : 
 kept_placed ys xs zs u s v t a same is kept room none enters serves =
     let before : AreIndexed xs u s = subst (λ (l : List Activity). AreIndexed l u s) same kept.0 in
     let counted : length (placed a xs) < 2 ^ 32 = omega (arith, room, length-placed a xs) in
-    subst (λ (l : List Activity). AreKept l v t) (sym is) (record {
-      rising = rising-placed a 0 xs none (omega arith) before.rising;
-      children = index-placed parent_in a xs u v none before.children enters;
-      servers = index-placed served_in a xs s t none before.servers serves;
-    }, counted)
+    subst (λ (l : List Activity). AreKept l v t) (sym is) (
+      record {
+        rising = rising-placed a 0 xs none (omega arith) before.rising;
+        children = index-placed parent_in a xs u v none before.children enters;
+        servers = index-placed served_in a xs s t none before.servers serves;
+      },
+      counted,
+    )
 
 pub kept_without : (ys xs zs : List Activity) (u s v t : List (ℕ × ℕ)) (a : Activity) → ys ≡ xs → zs ≡ without a.id xs → AreKept ys u s → activity_of a.id xs ≡ Some a → Leaves (parent_in a) a.id u v → Leaves (served_in a) a.id s t → AreKept zs v t
 kept_without ys xs zs u s v t a same is kept here leaves unserves =
     let before : AreIndexed xs u s = subst (λ (l : List Activity). AreIndexed l u s) same kept.0 in
     let counted : length (without a.id xs) < 2 ^ 32 = omega (arith, length-without a.id xs, kept.1, ap length same) in
-    subst (λ (l : List Activity). AreKept l v t) (sym is) (record {
-      rising = rising-without a.id 0 xs before.rising;
-      children = index-without parent_in a xs u v before.rising here before.children leaves;
-      servers = index-without served_in a xs s t before.rising here before.servers unserves;
-    }, counted)
+    subst (λ (l : List Activity). AreKept l v t) (sym is) (
+      record {
+        rising = rising-without a.id 0 xs before.rising;
+        children = index-without parent_in a xs u v before.rising here before.children leaves;
+        servers = index-without served_in a xs s t before.rising here before.servers unserves;
+      },
+      counted,
+    )
 
 length-exchanged : (a : Activity) (xs : List Activity) → length (exchanged a xs) ≡ length xs
 length-exchanged a [] = refl
@@ -40,11 +46,14 @@ pub kept_exchanged : (ys xs zs : List Activity) (u s : List (ℕ × ℕ)) (a : A
 kept_exchanged ys xs zs u s a same is kept place =
     let before : AreIndexed xs u s = subst (λ (l : List Activity). AreIndexed l u s) same kept.0 in
     let counted : length (exchanged a xs) < 2 ^ 32 = omega (arith, length-exchanged a xs, kept.1, ap length same) in
-    subst (λ (l : List Activity). AreKept l u s) (sym is) (record {
-      rising = rising-exchanged a 0 xs before.rising;
-      children = index-exchanged parent_in a xs u (λ b f. ap parent_id (place b f).0) before.children;
-      servers = index-exchanged served_in a xs s (λ b f. serves b f) before.servers;
-    }, counted)
+    subst (λ (l : List Activity). AreKept l u s) (sym is) (
+      record {
+        rising = rising-exchanged a 0 xs before.rising;
+        children = index-exchanged parent_in a xs u (λ b f. ap parent_id (place b f).0) before.children;
+        servers = index-exchanged served_in a xs s (λ b f. serves b f) before.servers;
+      },
+      counted,
+    )
   where
     serves : (b : Activity) → activity_of a.id xs ≡ Some b → served_in b ≡ served_in a
     serves b f = ap (λ p. goal_at_root p b.goal) (place b f).0 ∙ ap (goal_at_root a.parent) (place b f).1

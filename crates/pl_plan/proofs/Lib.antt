@@ -12,5 +12,9 @@ pub mod Rounds
 pub mod TreeLaws
 pub mod ValueLaws
 pub mod LocalValues
+pub mod Kept
+pub mod MoveLaws
+pub mod ByLookUps
+pub mod LookUpLaws
 pub mod Members
 pub mod Subtrees

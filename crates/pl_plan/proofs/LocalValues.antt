@@ -1,14 +1,14 @@
 -- What an activity comes to hangs on its ancestors alone.
-use Rattle.std.proofs.Common.{◌≡◌, ℕ, zero, suc, ◌<◌, ◌≤◌, List, [], Option, Some, None, refl, sym, ap, ◌∙◌, arith}
+use Rattle.std.proofs.Common.{◌≡◌, ℕ, zero, suc, ◌<◌, List, [], Option, Some, None, refl, sym, ap, ◌∙◌, arith}
 use Rattle.pl_model.specs.declared.whole.Model.{Model}
 use Rattle.pl_model.specs.Checked.{params_of}
 use Rattle.pl_plan.specs.declared.activity.Activity.{Activity}
 use Rattle.pl_plan.specs.Activities.{activity_of}
-use Rattle.pl_plan.specs.Trees.{IsRooted, parent_id, parent_of, Descends, itself, child}
+use Rattle.pl_plan.specs.Trees.{IsRooted, parent_id, parent_of, itself, child}
 use Rattle.pl_plan.specs.Fitting.{kind_of}
-use Rattle.pl_plan.specs.Values.{Row, bindings_at, settled, values_rule, values_of}
-use Rattle.pl_plan.specs.Firm.{is_firm, is_firm_of, end_of, end_in}
-use Rattle.pl_plan.specs.Laws.{above_of, AreSameAbove}
+use Rattle.pl_plan.specs.Values.{bindings_at, values_rule, values_of}
+use Rattle.pl_plan.specs.Firm.{is_firm, end_of}
+use Rattle.pl_plan.specs.Laws.{AreSameAbove}
 use Rattle.pl_plan.proofs.Climbs.{parent_smaller, climb_root}
 use Rattle.pl_plan.proofs.ValueSteps.{values_at_root, values_at_child, settled_same}
 

@@ -1,12 +1,12 @@
 -- The activities under a number, by an index and by a test of each.
-use Rattle.std.proofs.Common.{◌≡◌, ℕ, suc, ◌<◌, ◌≤◌, eqb, Bool, true, false, ◌||◌, List, [], ◌∷◌, map, Option, Some, None, refl, sym, ◌∙◌, arith, is_some, arith}
+use Rattle.std.proofs.Common.{◌≡◌, ℕ, suc, ◌≤◌, eqb, Bool, true, false, List, [], ◌∷◌, map, Option, None, refl, sym, ◌∙◌, arith, is_some, arith}
 use Rattle.std.specs.Prelude.{All, filter, option_and_then, slice_get}
 use Rattle.std.specs.List.{list_any}
 use Rattle.std.specs.List.Sorted.{IsStrictlyIncreasing}
 use Rattle.std.proofs.lemmas.Bool.{eq-eqb, ne_eqb, eqb-true, eqb-false}
 use Rattle.pl_plan.specs.declared.activity.Activity.{Activity}
 use Rattle.pl_plan.specs.Activities.{RiseFrom, AreRising, activity_of}
-use Rattle.pl_plan.specs.Index.{is_number, has_pair, ids_under, IsIndexOf}
+use Rattle.pl_plan.specs.Index.{is_number, ids_under, IsIndexOf}
 use Rattle.pl_plan.specs.Trees.{id_of}
 use Rattle.pl_plan.proofs.Lookups.{none_below}
 use Rattle.pl_plan.proofs.RisingIds.{RiseIds, among, rise_weaker, same_rising, sorted_rises}

@@ -1,5 +1,5 @@
 -- Pairs of a number and an id in their order, and what stands under a number.
-use Rattle.std.proofs.Common.{◌≡◌, ℕ, zero, suc, ◌<◌, ◌≤◌, ◌^◌, eqb, ltb, leb, Bool, true, false, not, cond, ◌&&◌, ◌||◌, List, [], ◌∷◌, map, Some, refl, sym, ◌∙◌, ap, arith, nat_cmp, is_eq, is_lt, is_le, Ordering, Less, Equal, Greater, ◌⊎◌, ⊎_elim, BTreeSet}
+use Rattle.std.proofs.Common.{◌≡◌, ℕ, zero, suc, ◌<◌, ◌≤◌, ◌^◌, eqb, Bool, true, false, not, cond, ◌&&◌, ◌||◌, List, [], ◌∷◌, map, Some, refl, sym, ◌∙◌, ap, arith, nat_cmp, is_eq, is_lt, is_le, Ordering, Less, Equal, Greater, ◌⊎◌, ⊎_elim, BTreeSet}
 use Rattle.std.specs.Prelude.{All, filter}
 use Rattle.std.specs.List.{list_any}
 use Rattle.std.specs.Ordering.{ordering_then}
@@ -12,7 +12,7 @@ use Rattle.std.proofs.lemmas.Bool.{lt-ltb, le-ltb, eq-eqb, ne_eqb, eqb-true, cas
 use Rattle.std.proofs.lemmas.List.Elements.{All-head, All-tail, All-weaker}
 use Rattle.std.proofs.lemmas.Map.Views.{All-after_first}
 use Rattle.std.proofs.lemmas.Map.Keys.{sorted_tail}
-use Rattle.pl_plan.specs.Index.{has_pair, ids_under, is_number, Enters, Leaves}
+use Rattle.pl_plan.specs.Index.{has_pair, ids_under, Enters, Leaves}
 use Rattle.pl_plan.proofs.RisingIds.{RiseIds, among}
 
 abbrev pub pair_cmp : ℕ × ℕ → ℕ × ℕ → Ordering

@@ -1,19 +1,18 @@
 -- What descends from an activity, from above: itself, and what descends from its children.
-use Rattle.std.proofs.Common.{◌≡◌, ℕ, zero, suc, ◌<◌, ◌≤◌, eqb, Bool, true, false, ◌&&◌, ◌||◌, List, [], ◌∷◌, length, get_or, map, Option, Some, None, IsSome, is_some, IfSome, refl, sym, ap, ◌∙◌, subst, arith, nat_cmp, is_eq, cond, BTreeSet}
-use Rattle.std.specs.Prelude.{All, filter, option_and_then}
+use Rattle.std.proofs.Common.{◌≡◌, ℕ, zero, suc, ◌<◌, eqb, Bool, true, false, ◌&&◌, ◌||◌, List, [], ◌∷◌, length, get_or, map, Option, Some, None, is_some, refl, sym, ap, ◌∙◌, subst, arith, nat_cmp, is_eq, cond, BTreeSet}
+use Rattle.std.specs.Prelude.{filter}
 use Rattle.std.specs.List.{list_any}
 use Rattle.std.specs.List.Sorted.{IsStrictlySortedBy}
 use Rattle.std.specs.BTreeMap.{is_at}
 use Rattle.std.specs.BTreeSet.{contains}
 use Rattle.std.proofs.lemmas.Bool.{eq-eqb, ne_eqb, eqb-true, eqb-false}
 use Rattle.pl_plan.specs.declared.activity.Activity.{Activity}
-use Rattle.pl_plan.specs.Activities.{RiseFrom, AreRising, activity_of, IsLive}
+use Rattle.pl_plan.specs.Activities.{AreRising, activity_of, IsLive}
 use Rattle.pl_plan.specs.Index.{is_number}
 use Rattle.pl_plan.specs.Trees.{id_of, IsRooted, parent_in, parent_of, children_of, Descends, itself, child, descends, subtree_of}
-use Rattle.pl_plan.proofs.Climbs.{parent_smaller}
 use Rattle.pl_plan.proofs.TreeLaws.{descends_join, descends_sound, descends_complete}
-use Rattle.pl_plan.proofs.RisingIds.{RiseIds, among, filter_rises, same_rising, sorted_rises}
-use Rattle.pl_plan.proofs.Owned.{owned_among, chosen_rise}
+use Rattle.pl_plan.proofs.RisingIds.{among, filter_rises, same_rising, sorted_rises}
+use Rattle.pl_plan.proofs.Owned.{owned_among}
 use Rattle.pl_plan.proofs.Pairs.{eq_at, any_agree}
 use Rattle.pl_plan.proofs.Members.{ids_rise}
 

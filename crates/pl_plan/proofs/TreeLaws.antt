@@ -16,7 +16,7 @@ module _ (xs : List Activity) (rooted : IsRooted xs) where
   at_root : (top id : ℕ) → parent_of id xs ≡ None → descends xs top id ≡ descent_rule top id None
   at_root top id none = climb_root (descent_rule top) xs rooted id none
 
-  at_child : (top id p : ℕ) → parent_of id xs ≡ Some p → descends xs top id ≡ descent_rule top id (Some (descends xs top p))
+  pub at_child : (top id p : ℕ) → parent_of id xs ≡ Some p → descends xs top id ≡ descent_rule top id (Some (descends xs top p))
   at_child top id p is = climb_child (descent_rule top) xs rooted id p is
 
   sound_by : (top n id : ℕ) → id ≤ n → descends xs top id ≡ true → Descends xs top id

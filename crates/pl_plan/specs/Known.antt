@@ -1,5 +1,5 @@
 -- Expressions that have no value though all that they name have one, and values that are out of range.
-use Rattle.std.specs.Prelude.{ℕ, ℤ, pos, int_le, Bool, true, false, not, ◌&&◌, ◌||◌, Option, Some, None, List, slice_index_or, is_some, is_none}
+use Rattle.std.specs.Prelude.{ℕ, ℤ, pos, int_le, Bool, true, false, not, ◌&&◌, ◌||◌, Option, Some, None, slice_index_or, is_some, is_none}
 use Rattle.pl_model.specs.declared.expressions.Expr.{Expr, fold-Expr}
 use Rattle.pl_model.specs.declared.expressions.Expr.TheOpen.{Expr-F}
 use Rattle.pl_model.specs.declared.parameters.Param.{Param}

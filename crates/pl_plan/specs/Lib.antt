@@ -11,3 +11,5 @@ pub mod Values
 pub mod Firm
 pub mod Known
 pub mod Laws
+pub mod Moves
+pub mod LookUps

@@ -29,7 +29,12 @@ impl Copied for Evaluated {
 
 impl Plan {
     /// The value of each parameter by its number.
-    pub fn values(&self, alloc: Global, model: &Model, id: u32) -> Result<Items<Option<i64>>, AllocError>
+    pub fn values(
+        &self,
+        alloc: Global,
+        model: &Model,
+        id: u32,
+    ) -> Result<Items<Option<i64>>, AllocError>
         requires checked { IsChecked model.now }
         requires fits { Fits model.now self.now.activities }
         requires live { IsLive id self.now.activities }

@@ -1,11 +1,14 @@
-ghost use Rattle.std.specs.Prelude.{◌≡◌, ℕ, ◌↔◌, true, List, Contains};
+ghost use Rattle.std.specs.Prelude.{◌≡◌, ℕ, Bool, ◌↔◌, true, List, [], Contains, None, Some, All, map, if◌then◌else◌, ◌==◌};
+ghost use Rattle.std.specs.Option.{option_map};
 ghost use Rattle.std.specs.List.Sorted.{IsStrictlyIncreasing};
 ghost use Rattle.pl_model.specs.declared.whole.Model.{Model};
 ghost use Rattle.pl_model.specs.Checked.{IsChecked};
 ghost use Rattle.pl_plan.specs.declared.activity.Activity.{Activity};
-ghost use Rattle.pl_plan.specs.Activities.{IsLive, AreRising};
-ghost use Rattle.pl_plan.specs.Trees.{IsRooted, Descends, descends, root_of, subtree_of};
-ghost use Rattle.pl_plan.specs.Fitting.{Fits};
+ghost use Rattle.pl_plan.specs.Activities.{IsLive, AreRising, activity_of, placed, without, exchanged};
+ghost use Rattle.pl_plan.specs.Trees.{IsRooted, Descends, parent_of, descends, root_of, subtree_of};
+ghost use Rattle.pl_plan.specs.Fitting.{Fits, FitsAlone, chosen_slots};
+ghost use Rattle.pl_plan.specs.LookUps.{FitsAt};
+ghost use Rattle.pl_plan.specs.Moves.{KeepsTree, kept, without_subtree, without_below, abstracted};
 ghost use Rattle.pl_plan.specs.Values.{Row, values_of};
 ghost use Rattle.pl_plan.specs.Firm.{is_firm, end_of};
 ghost use Rattle.pl_plan.specs.Laws.{IsRootOf, AreValues, AreSameAbove};
@@ -29,4 +32,32 @@ pub fn laws_of_values()
     ensures local { (model : Model) (xs ys : List Activity) → IsRooted xs → IsRooted ys → (id : ℕ) → AreSameAbove xs ys id → values_of model xs id ≡ values_of model ys id }
     ensures local_firm { (model : Model) (xs ys : List Activity) → IsRooted xs → IsRooted ys → (id : ℕ) → AreSameAbove xs ys id → is_firm model xs id ≡ is_firm model ys id }
     ensures local_end { (model : Model) (xs ys : List Activity) → IsRooted xs → IsRooted ys → (id : ℕ) → AreSameAbove xs ys id → end_of model xs id ≡ end_of model ys id }
+{}
+
+/// What is put back after it was taken leaves the list as it was. Each move of repair leaves
+/// activities that fit the model: a new root, a change of starts or of values that are set, a root
+/// that goes with all that descends from it, and an abstraction. For every other change: activities
+/// fit the model exactly where each of them owes nothing by what is found under ids.
+pub fn laws_of_moves()
+    ensures back { (xs : List Activity) → AreRising xs → (a : Activity) → activity_of a.id xs ≡ Some a → placed a (without a.id xs) ≡ xs }
+    ensures rooted { (xs : List Activity) → IsRooted xs → AreRising xs → (top : ℕ) → IsRooted (without_subtree top xs) }
+    ensures look_ups { (model : Model) (xs : List Activity) → AreRising xs → ((id : ℕ) (a : Activity) → activity_of id xs ≡ Some a → FitsAt model (λ q. activity_of q xs) id a) → Fits model xs }
+    ensures owes { (model : Model) (xs : List Activity) → AreRising xs → Fits model xs → (id : ℕ) (a : Activity) → activity_of id xs ≡ Some a → FitsAt model (λ q. activity_of q xs) id a }
+    ensures added { (model : Model) (xs : List Activity) → AreRising xs → Fits model xs → (a : Activity) → activity_of a.id xs ≡ None → FitsAlone model a → a.parent ≡ None → chosen_slots model a ≡ [] → Fits model (placed a xs) }
+    ensures changed { (model : Model) (xs : List Activity) → AreRising xs → Fits model xs → (change : Activity → Activity) → KeepsTree change → ((a : Activity) → (change a).detail ≡ a.detail) → All (λ a. FitsAlone model (change a)) xs → Fits model (map change xs) }
+    ensures deleted { (model : Model) (xs : List Activity) → AreRising xs → Fits model xs → (top : ℕ) → parent_of top xs ≡ None → Fits model (without_subtree top xs) }
+    ensures abstracted { (model : Model) (xs : List Activity) → AreRising xs → Fits model xs → (top : ℕ) → Fits model (map (abstracted top) (without_below top xs)) }
+{}
+
+/// What is found under each id settles the activities; what is found after each change of them.
+pub fn laws_of_look_ups()
+    ensures same { (xs ys : List Activity) → AreRising xs → AreRising ys → ((q : ℕ) → activity_of q xs ≡ activity_of q ys) → xs ≡ ys }
+    ensures placed { (a : Activity) (xs : List Activity) (q : ℕ) → activity_of a.id xs ≡ None → activity_of q (placed a xs) ≡ (if a.id == q then Some a else activity_of q xs) }
+    ensures without { (xs : List Activity) → AreRising xs → (id q : ℕ) → activity_of q (without id xs) ≡ (if id == q then None else activity_of q xs) }
+    ensures exchanged { (a : Activity) (xs : List Activity) (q : ℕ) → activity_of q (exchanged a xs) ≡ (if a.id == q then option_map (λ x. a) (activity_of q xs) else activity_of q xs) }
+    ensures kept { (stays : ℕ → Bool) (xs : List Activity) (q : ℕ) → activity_of q (kept stays xs) ≡ (if stays q then activity_of q xs else None) }
+    ensures rising_placed { (a : Activity) (xs : List Activity) → AreRising xs → activity_of a.id xs ≡ None → AreRising (placed a xs) }
+    ensures rising_without { (id : ℕ) (xs : List Activity) → AreRising xs → AreRising (without id xs) }
+    ensures rising_exchanged { (a : Activity) (xs : List Activity) → AreRising xs → AreRising (exchanged a xs) }
+    ensures rising_kept { (stays : ℕ → Bool) (xs : List Activity) → AreRising xs → AreRising (kept stays xs) }
 {}

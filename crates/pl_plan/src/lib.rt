@@ -19,7 +19,7 @@ mod values;
 pub use activity::Activity;
 pub use evaluated::Evaluated;
 pub use known::{is_bad, is_known, lacks_value};
-pub use laws::{laws_of_trees, laws_of_values};
+pub use laws::{laws_of_look_ups, laws_of_moves, laws_of_trees, laws_of_values};
 pub use plan::Plan;
 pub use repair::RepairMove;
 pub use sharing::shared_types;

@@ -1,4 +1,4 @@
-use Rattle.std.proofs.Common.{◌≡◌, ◌∙◌, refl}
+use Rattle.std.proofs.Common.{refl}
 use Rattle.pl_plan.proofs.Pairs.{under_range, under_rises}
 use Rattle.pl_plan.proofs.RisingIds.{increases}
 use Rattle.pl_plan.specs.Index.{ids_under}

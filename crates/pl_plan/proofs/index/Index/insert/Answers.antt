@@ -1,5 +1,4 @@
-use Rattle.std.proofs.Common.{◌<◌, ◌^◌, sym, subst}
-use Rattle.std.specs.Prelude.{All}
+use Rattle.std.proofs.Common.{◌<◌, ◌^◌}
 use Rattle.std.proofs.lemmas.Map.Views.{All-insert_key}
 use Rattle.pl_plan.proofs.Pairs.{pair_cmp, inserted}
 use Rattle.pl_plan.proofs.index.Index.insert.Goals as goal

@@ -1,4 +1,4 @@
-use Rattle.std.proofs.Common.{◌≡◌, List, ℕ, eqb, ap, ◌∙◌, map, IfOk, rules}
+use Rattle.std.proofs.Common.{◌≡◌, eqb, ◌∙◌, map, IfOk, rules}
 use Rattle.std.specs.Prelude.{filter}
 use Rattle.pl_plan.proofs.Pairs.{range_under, under_rises}
 use Rattle.pl_plan.proofs.RisingIds.{increases}

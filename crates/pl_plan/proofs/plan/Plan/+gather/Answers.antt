@@ -1,9 +1,9 @@
-use Rattle.std.proofs.Common.{◌≡◌, ℕ, ◌<◌, ◌||◌, List, length, get_or, take, eqb, true, Some, ap, sym, ◌∙◌, refl, subst, arith, cond, nat_cmp}
+use Rattle.std.proofs.Common.{◌≡◌, ℕ, ◌<◌, ◌||◌, List, get_or, take, eqb, true, ap, ◌∙◌, subst, arith, nat_cmp}
 use Rattle.std.specs.List.{list_any}
 use Rattle.std.proofs.lemmas.List.{take_all}
 use Rattle.std.proofs.lemmas.List.Folds.{list_any_more}
 use Rattle.std.specs.BTreeSet.{contains}
-use Rattle.pl_plan.specs.Trees.{descends, children_of, parent_of}
+use Rattle.pl_plan.specs.Trees.{descends, children_of}
 use Rattle.pl_plan.proofs.Climbs.{parent_smaller}
 use Rattle.pl_plan.proofs.RisingIds.{among}
 use Rattle.pl_plan.proofs.Subtrees.{child_parent, named_live, among_itself, one_more, grouped, descends_below, inserted_one}

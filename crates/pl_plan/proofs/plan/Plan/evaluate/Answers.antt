@@ -1,4 +1,3 @@
-use Rattle.std.proofs.Common.{◌≡◌}
 use Rattle.pl_plan.proofs.FirmSteps.{is_there}
 use Rattle.pl_plan.proofs.plan.Plan.evaluate.Goals as goal
 

@@ -1,4 +1,4 @@
-use Rattle.std.proofs.Common.{◌≡◌, is_some, ap, ◌∙◌}
+use Rattle.std.proofs.Common.{is_some, ap, ◌∙◌}
 use Rattle.pl_plan.specs.Serving.{serves}
 use Rattle.pl_plan.proofs.Owned.{any_chosen}
 use Rattle.pl_plan.proofs.plan.Plan.is_served.Goals as goal

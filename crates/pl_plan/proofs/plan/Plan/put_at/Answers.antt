@@ -1,5 +1,4 @@
-use Rattle.std.proofs.Common.{◌≡◌, ◌<◌, ap, sym, ◌∙◌, refl, rules}
-use Rattle.std.specs.List.{insert}
+use Rattle.std.proofs.Common.{◌≡◌, ap, rules}
 use Rattle.pl_plan.specs.Activities.{placed}
 use Rattle.pl_plan.proofs.Keeping.{kept_placed}
 use Rattle.pl_plan.proofs.plan.Plan.put_at.Goals as goal

@@ -1,5 +1,5 @@
 -- the closure gives an activity's id
-use Rattle.std.proofs.Common.{ap, sym, rules}
+use Rattle.std.proofs.Common.{rules}
 use Rattle.std.proofs.lemmas.List.Sorted.{answers_always}
 use Rattle.pl_plan.proofs.Ids.{searched}
 use Rattle.pl_plan.proofs.plan.Plan.search.Goals as goal

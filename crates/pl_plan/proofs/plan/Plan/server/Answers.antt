@@ -1,4 +1,4 @@
-use Rattle.std.proofs.Common.{◌≡◌, ap, ◌∙◌, ℕ, List}
+use Rattle.std.proofs.Common.{ap, ◌∙◌, ℕ, List}
 use Rattle.std.specs.Prelude.{slice_get}
 use Rattle.pl_plan.specs.Serving.{served_in}
 use Rattle.pl_plan.proofs.Owned.{indexed_list}

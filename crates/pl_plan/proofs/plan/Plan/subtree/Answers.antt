@@ -1,8 +1,6 @@
-use Rattle.std.proofs.Common.{◌≡◌, ℕ, List, IfOk, ◌||◌, eqb, false, ap, sym, ◌∙◌, refl, subst, nat_cmp, rules}
-use Rattle.std.specs.BTreeSet.{contains}
-use Rattle.pl_plan.specs.Trees.{descends, subtree_of}
-use Rattle.pl_plan.proofs.RisingIds.{among}
-use Rattle.pl_plan.proofs.Subtrees.{subtree_is, contains_among, found_all}
+use Rattle.std.proofs.Common.{◌≡◌, ℕ, List, IfOk, subst, rules}
+use Rattle.pl_plan.specs.Trees.{subtree_of}
+use Rattle.pl_plan.proofs.Subtrees.{subtree_is, found_all}
 use Rattle.pl_plan.proofs.plan.Plan.subtree.Goals as goal
 
 pub returns : goal.returns

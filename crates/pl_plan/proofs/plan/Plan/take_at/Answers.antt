@@ -1,4 +1,4 @@
-use Rattle.std.proofs.Common.{◌≡◌, Some, ap, sym, ◌∙◌, subst, refl, get_or}
+use Rattle.std.proofs.Common.{◌≡◌, Some, ap, sym, ◌∙◌, get_or}
 use Rattle.std.specs.List.{remove}
 use Rattle.pl_plan.specs.Activities.{without, activity_of}
 use Rattle.pl_plan.proofs.Keeping.{kept_without}
@@ -18,7 +18,7 @@ invariant_of-self c =
     let named = ap (λ s. (get_or s.activities c.args.at c.remove-a.result).id) c.self.view_is in
     let id : c.remove-a.result.id ≡ c.args.id = ap (λ a. a.id) c.remove-a.ensures.value ∙ (named ∙ c.requires.is c.remove-a.result) in
     kept_without c.self.inside.activities.items c.args.self.now.activities c.remove-a.new.self.items c.self.inside.families.children c.self.inside.families.servers c.leave.new.self.children c.leave.new.self.servers c.remove-a.result same
-        (is c ∙ ap (λ n. without n c.args.self.now.activities) (sym id)) c.self.invariant (ap (λ n. activity_of n c.args.self.now.activities) id ∙ here c) c.leave.ensures.children c.leave.ensures.servers
+    (is c ∙ ap (λ n. without n c.args.self.now.activities) (sym id)) c.self.invariant (ap (λ n. activity_of n c.args.self.now.activities) id ∙ here c) c.leave.ensures.children c.leave.ensures.servers
 
 pub returns-clause-value : goal.returns-clause-value
 returns-clause-value c = here c

@@ -1,8 +1,8 @@
-use Rattle.std.proofs.Common.{◌≡◌, ◌<◌, List, length, get_or, take, None, ap, sym, ◌∙◌, refl, subst, add-one, arith}
+use Rattle.std.proofs.Common.{◌≡◌, List, ap, ◌∙◌, add-one}
 use Rattle.std.proofs.lemmas.List.{take_all}
 use Rattle.pl_plan.specs.declared.activity.Activity.{Activity}
 use Rattle.pl_plan.specs.State.{PlanState}
-use Rattle.pl_plan.specs.Activities.{AreRising, activity_of, placed}
+use Rattle.pl_plan.specs.Activities.{AreRising}
 use Rattle.pl_plan.proofs.Ids.{next_absent, next_placed}
 use Rattle.pl_plan.proofs.plan.PlanCopied.copy.Goals as goal
 
