@@ -27,17 +27,17 @@ module _ (P : AstExpr → Type 0) (num : (n : ℤ) → P (Num n)) (named : (name
   step x (AstExpr-F.Name name) is = subst (λ z. P (roll-AstExpr z)) is (subst P (sym (rolls-Name name)) (named name))
   step x (AstExpr-F.Apply op a b) is = subst (λ z. P (roll-AstExpr z)) is (subst P (sym (rolls-Apply op a.0 b.0)) (apply op a.0 b.0 a.1 b.1))
 
-  written : (e : AstExpr) → P e
+  pub written : (e : AstExpr) → P e
   written = ind-AstExpr P step
 
 module _ (params : List AstParam) where
-  numbered-num : (n : ℤ) → numbered params (Num n) ≡ Ok (model.Num n)
+  pub numbered-num : (n : ℤ) → numbered params (Num n) ≡ Ok (model.Num n)
   numbered-num n = ap (fold-AstExpr (Judged Expr) (numbered_at params)) (sym (rolls-Num n)) ∙ fold-roll-AstExpr (Judged Expr) (numbered_at params) (AstExpr-F.Num n)
 
-  numbered-name : (name : List ℕ) → numbered params (Name name) ≡ (known name (param_named params name) >>= λ p. Ok (model.Param p))
+  pub numbered-name : (name : List ℕ) → numbered params (Name name) ≡ (known name (param_named params name) >>= λ p. Ok (model.Param p))
   numbered-name name = ap (fold-AstExpr (Judged Expr) (numbered_at params)) (sym (rolls-Name name)) ∙ fold-roll-AstExpr (Judged Expr) (numbered_at params) (AstExpr-F.Name name)
 
-  numbered-apply : (op : Op) (a b : AstExpr) → numbered params (Apply op a b) ≡ (numbered params a >>= λ x. numbered params b >>= λ y. Ok (model.Apply op x y))
+  pub numbered-apply : (op : Op) (a b : AstExpr) → numbered params (Apply op a b) ≡ (numbered params a >>= λ x. numbered params b >>= λ y. Ok (model.Apply op x y))
   numbered-apply op a b = ap (fold-AstExpr (Judged Expr) (numbered_at params)) (sym (rolls-Apply op a b)) ∙ fold-roll-AstExpr (Judged Expr) (numbered_at params) (AstExpr-F.Apply op a b)
 
   -- a numbered expression names parameters of its kind

@@ -13,7 +13,15 @@ pub mod PairLemmas
 pub mod RankLemmas
 pub mod ExpressionLemmas
 pub mod MadeLemmas
+pub mod DistinctLemmas
+pub mod DraftLemmas
 pub mod NumberLemmas
+pub mod DifferLemmas
+pub mod ExprListLemmas
+pub mod MeasureLemmas
+pub mod OffsetLemmas
+pub mod TextLemmas
+pub mod WrittenLemmas
 pub mod PartLemmas
 pub mod RankedLemmas
 pub mod StructureLemmas

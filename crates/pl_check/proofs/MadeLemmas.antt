@@ -1,6 +1,7 @@
 -- The kinds and timelines of the text, by number, and what each becomes.
-use Rattle.std.proofs.Common.{◌≡◌, ℕ, zero, suc, ◌+◌, Bool, cond, List, [], ◌∷◌, Option, Some, None, Ok, map, take, count_by, slice_get, sym, ap, subst, ◌∙◌, arith}
+use Rattle.std.proofs.Common.{◌≡◌, ℕ, zero, suc, ◌+◌, Bool, cond, List, [], ◌∷◌, Option, Some, None, Ok, All, map, take, count_by, slice_get, sym, ap, subst, ◌∙◌, arith}
 use Rattle.std.specs.List.{filter_map}
+use Rattle.std.proofs.lemmas.List.Elements.{All-nil, All-cons, All-head, All-tail}
 use Rattle.std.proofs.lemmas.List.Sums.{sum_by-append}
 use Rattle.pl_syntax.specs.declared.whole.Item.{Item}
 use Rattle.pl_syntax.specs.declared.whole.Item.TheVariants as item
@@ -28,6 +29,17 @@ written_kinds items = filter_map written_kind items
 
 abbrev pub written_lines : List Item → List AstTimeline
 written_lines items = filter_map written_line items
+
+-- what holds of each kind, and of each timeline, by what holds of each item
+pub kinds_such : (P : AstKind → Type 0) (Q : Item → Type 0) → ((k : AstKind) → Q (item.Kind k) → P k) → (items : List Item) → All Q items → All P (written_kinds items)
+kinds_such P Q f [] h = All-nil P
+kinds_such P Q f (item.Timeline l ∷ items) h = kinds_such P Q f items (All-tail Q (item.Timeline l) items h)
+kinds_such P Q f (item.Kind k ∷ items) h = All-cons P k (written_kinds items) (f k (All-head Q (item.Kind k) items h)) (kinds_such P Q f items (All-tail Q (item.Kind k) items h))
+
+pub lines_such : (P : AstTimeline → Type 0) (Q : Item → Type 0) → ((l : AstTimeline) → Q (item.Timeline l) → P l) → (items : List Item) → All Q items → All P (written_lines items)
+lines_such P Q f [] h = All-nil P
+lines_such P Q f (item.Kind k ∷ items) h = lines_such P Q f items (All-tail Q (item.Kind k) items h)
+lines_such P Q f (item.Timeline l ∷ items) h = All-cons P l (written_lines items) (f l (All-head Q (item.Timeline l) items h)) (lines_such P Q f items (All-tail Q (item.Timeline l) items h))
 
 -- ---- an item is numbered by those of its sort before it
 

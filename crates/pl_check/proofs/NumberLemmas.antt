@@ -21,7 +21,8 @@ use Rattle.pl_model.specs.declared.alternatives.Slot.{Slot}
 use Rattle.pl_model.specs.declared.kinds.Kind.{Kind}
 use Rattle.pl_model.specs.declared.timelines.Timeline.{Timeline}
 use Rattle.pl_model.specs.declared.whole.Model.{Model}
-use Rattle.pl_model.specs.Checked.{IsCapacityLine, IsLevelLine, HasState, IsReservation, IsSetOrigin, IsSetParam, IsBinding, IsCheckedSlot, IsPlace, IsStep, params_of}
+use Rattle.pl_model.specs.Checked.{IsCapacityLine, IsLevelLine, HasState, IsReservation, IsSetOrigin, IsSetParam, IsBinding, IsCheckedSlot, IsStep, params_of}
+use Rattle.pl_model.specs.Schedules.{IsPlace}
 use Rattle.pl_check.specs.Names.{Name, place_of}
 use Rattle.pl_check.specs.Judgements.{each_made}
 use Rattle.pl_check.specs.Finding.{known, kind_named, line_named, capacity_named, level_named, states_named, as_capacity, as_level, as_states, bindable_named, is_bindable_named, is_unequalled, slot_named, is_slot_named}

@@ -1,5 +1,5 @@
 -- Lists that correspond place by place, and what is made of each item where every step passes.
-use Rattle.std.proofs.Common.{◌≡◌, ℕ, zero, suc, ◌+◌, Bool, true, false, ◌⊎◌, inl, inr, List, [], ◌∷◌, ◌++◌, Option, Some, None, Ok, Err, All, length, slice_get, refl, sym, ap, subst, ◌∙◌, append_assoc, arith}
+use Rattle.std.proofs.Common.{◌≡◌, ℕ, zero, suc, ◌+◌, Bool, true, false, ◌⊎◌, inl, inr, List, [], ◌∷◌, ◌++◌, Option, Some, None, Ok, Err, All, length, map, slice_get, refl, sym, ap, subst, ◌∙◌, append_assoc, arith}
 use Rattle.std.specs.Prelude.{option_and_then}
 use Rattle.std.specs.List.{position_from}
 use Rattle.std.proofs.lemmas.Bool.{cases_Bool}
@@ -83,6 +83,13 @@ module _ {X Y : Type 0} (R : X → Y → Type 0) where
   pair_back [] (b ∷ ys) i y h e = absurd h
   pair_back (a ∷ xs) (b ∷ ys) zero y h e = let same : b ≡ y = cc in (a, refl, subst (λ z. R a z) same h.0)
   pair_back (a ∷ xs) (b ∷ ys) (suc i) y h e = pair_back xs ys i y h.1 e
+
+  -- what is made of each corresponds, too
+  pub pair_map : {U V : Type 0} (S : U → V → Type 0) (f : X → U) (g : Y → V) → ((x : X) (y : Y) → R x y → S (f x) (g y)) → (xs : List X) (ys : List Y) → Pairwise R xs ys → Pairwise S (map f xs) (map g ys)
+  pair_map S f g k [] [] h = tt
+  pair_map S f g k [] (y ∷ ys) h = absurd h
+  pair_map S f g k (x ∷ xs) [] h = absurd h
+  pair_map S f g k (x ∷ xs) (y ∷ ys) h = (k x y h.0, pair_map S f g k xs ys h.1)
 
 -- what holds of each by two accounts
 pub all_both : {X : Type 0} (P Q : X → Type 0) (xs : List X) → All P xs → All Q xs → All (λ x. P x × Q x) xs

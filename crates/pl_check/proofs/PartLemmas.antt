@@ -22,7 +22,8 @@ use Rattle.pl_model.specs.declared.timelines.Timeline.{Timeline}
 use Rattle.pl_model.specs.declared.timelines.Timeline.TheVariants.{Capacity, Level, States}
 use Rattle.pl_model.specs.declared.whole.Model.{Model}
 use Rattle.pl_model.specs.Values.{NamesBelow}
-use Rattle.pl_model.specs.Checked.{IsAmount, IsLevel, IsDistance, IsStep, IsCheckedLine, IsOrigin, IsCheckedParam, IsCheckedLink, IsCheckedSlot, IsPlace, IsCheckedOrder, IsCheckedAlternative}
+use Rattle.pl_model.specs.Checked.{IsAmount, IsLevel, IsDistance, IsStep, IsCheckedLine, IsOrigin, IsCheckedParam, IsCheckedLink, IsCheckedSlot, IsCheckedOrder, IsCheckedAlternative}
+use Rattle.pl_model.specs.Schedules.{IsPlace}
 use Rattle.pl_check.specs.declared.drafts.DraftAlternative.{DraftAlternative}
 use Rattle.pl_check.specs.declared.fault.ModelFault.TheVariants as fault
 use Rattle.pl_check.specs.declared.fault.What.TheVariants as what

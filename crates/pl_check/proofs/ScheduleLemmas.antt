@@ -4,7 +4,7 @@ use Rattle.std.proofs.lemmas.Int.{ints, clamps}
 use Rattle.std.specs.Prelude.{slice_index}
 use Rattle.pl_stn.specs.declared.net.Net.{Net}
 use Rattle.pl_stn.specs.Nets.{AreBounded, IsSolution, IsLeast, time_of}
-use Rattle.std.proofs.lemmas.List.Elements.{All-nil, All-cons, All-map}
+use Rattle.std.proofs.lemmas.List.Elements.{All-nil, All-cons, All-map, All-from_get_or}
 use Rattle.std.proofs.lemmas.List.{take_more}
 use Rattle.pl_check.specs.declared.fault.ModelFault.{ModelFault}
 use Rattle.pl_check.specs.declared.fault.ModelFault.TheVariants as fault
@@ -12,6 +12,7 @@ use Rattle.pl_check.specs.declared.drafts.DraftAlternative.{DraftAlternative}
 use Rattle.pl_check.specs.declared.drafts.DraftKind.{DraftKind}
 use Rattle.pl_model.specs.declared.alternatives.Alternative.{Alternative}
 use Rattle.pl_model.specs.declared.kinds.Kind.{Kind}
+use Rattle.pl_model.specs.Schedules.{IsOffset}
 use Rattle.pl_check.specs.Ranges.{duration_bounds}
 use Rattle.pl_check.specs.Networks.{Pairwise, FinishesAlternative, FinishesKind, IsSpan, IsHorizon, cut_to, span_of, net_of, HasOffsets}
 use Rattle.pl_check.specs.Schedules.{HasSchedule, IsScheduled, IsConflict, IsFirstConflict, IsUnscheduledIn, IsUnscheduledFault}
@@ -93,5 +94,12 @@ times_from net times h p = (h p).0
 pub times_to : (net : Net) (times : List ℤ) → AreBounded net times → net.points ≤ 34 → (p : ℕ) → time_of times p ≤ℤ pos 3400000000
 times_to net times h few p = let le : net.points * 100000000 ≤ 3400000000 = omega (arith, few) in omega (arith, ints, (h p).1, le)
 
-pub offsets_of : (net : Net) (times : List ℤ) (slots : ℕ) (starts : List ℕ) → IsSolution net times → IsLeast net times → length starts ≡ slots → ((i : ℕ) → i < slots → pos (slice_index starts i) ≡ time_of times (2 * i + 2)) → HasOffsets net slots starts
-offsets_of net times slots starts solution least each at = record { times = times; solution = solution; least = least; each_slot = each; starts = at }
+pub offsets_of : (net : Net) (times : List ℤ) (slots : ℕ) (starts : List ℕ) → IsSolution net times → IsLeast net times → ((p : ℕ) → time_of times p ≤ℤ pos 3400000000) → length starts ≡ slots → ((i : ℕ) → i < slots → pos (slice_index starts i) ≡ time_of times (2 * i + 2)) → HasOffsets net slots starts
+offsets_of net times slots starts solution least near each at = record {
+  times = times;
+  solution = solution;
+  least = least;
+  each_slot = each;
+  near = All-from_get_or IsOffset starts 0 (λ i lt. let e = at i (omega (arith, lt, each)) in omega (arith, ints, e, near (2 * i + 2)));
+  starts = at;
+}

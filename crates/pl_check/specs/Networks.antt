@@ -7,6 +7,7 @@ use Rattle.pl_model.specs.declared.alternatives.Slot.{Slot}
 use Rattle.pl_model.specs.declared.alternatives.Order.{Order}
 use Rattle.pl_model.specs.declared.alternatives.Alternative.{Alternative}
 use Rattle.pl_model.specs.declared.kinds.Kind.{Kind}
+use Rattle.pl_model.specs.Schedules.{IsOffset}
 use Rattle.pl_stn.specs.declared.net.Edge.{Edge}
 use Rattle.pl_stn.specs.declared.net.Net.{Net}
 use Rattle.pl_stn.specs.Nets.{edges_to_origin, time_of, IsSolution, IsLeast}
@@ -92,6 +93,7 @@ pub record HasOffsets (net : Net) (slots : ℕ) (offsets : List ℕ) : Type 0 wh
   pub solution : IsSolution net times
   pub least : IsLeast net times
   pub each_slot : length offsets ≡ slots
+  pub near : All IsOffset offsets
   pub starts : (i : ℕ) → i < slots → pos (slice_index offsets i) ≡ time_of times (2 * i + 2)
 
 -- an alternative of the model and its draft

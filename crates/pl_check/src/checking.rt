@@ -1,5 +1,6 @@
 //! The check of a whole tree: row by row, the first fault wins.
-ghost use Rattle.std.specs.Prelude.{◌≡◌, map, length, All, IfOk};
+ghost use Rattle.std.specs.Prelude.{◌≡◌, ℕ, List, map, length, All, IfOk};
+ghost use Rattle.pl_syntax.specs.Answers.{ReadsText};
 ghost use Rattle.pl_check.specs.Judgements.{Gives, pass};
 ghost use Rattle.pl_check.specs.Names.{item_name, twice_in};
 ghost use Rattle.pl_check.specs.Counts.{counts_in};
@@ -123,13 +124,14 @@ fn check_tree(alloc: Global, ast: &Ast) -> Result<Model, ModelFault>
     complete(alloc, ast, drafts.as_slice())
 }
 
-/// The model of a tree where every check passes, else the first fault.
-#[tactic(auto, using(crate::proofs::AcceptanceLemmas::accepted, crate::proofs::StructureLemmas::answered_checked))]
+/// The model of a tree where every check passes, else the first fault. The model of a text's tree is a checked model.
+#[tactic(auto, using(crate::proofs::AcceptanceLemmas::accepted, crate::proofs::StructureLemmas::answered_consistent))]
 pub fn check(alloc: Global, ast: &Ast) -> Result<Model, ModelFault>
     ensures answers { Answers ast.now result }
     ensures accepted { PassesEachRow ast.now → IsModelOrMemory result }
     ensures checked { IfOk result IsChecked }
-    ensures sound { IfOk result model.IsChecked }
+    ensures consistent { IfOk result model.IsConsistent }
+    ensures sound { (text : List ℕ) → ReadsText text ast.now → IfOk result model.IsChecked }
 {
     check_tree(alloc, ast)
 }

@@ -51,6 +51,27 @@ pub enum ModelFault {
     Memory,
 }
 
+impl Copied for ModelFault {
+    fn copy(&self, alloc: Global) -> Result<ModelFault, AllocError> {
+        match self {
+            ModelFault::Twice(name) => Ok(ModelFault::Twice(name.copy(alloc)?)),
+            ModelFault::TooMany(what) => Ok(ModelFault::TooMany(*what)),
+            ModelFault::Unknown(name) => Ok(ModelFault::Unknown(name.copy(alloc)?)),
+            ModelFault::Range(what) => Ok(ModelFault::Range(*what)),
+            ModelFault::Circular(kind, param) => {
+                let param = param.copy(alloc)?;
+                Ok(ModelFault::Circular(kind.copy(alloc)?, param))
+            }
+            ModelFault::Recursive(kind) => Ok(ModelFault::Recursive(kind.copy(alloc)?)),
+            ModelFault::NoSchedule(kind, alternative, cycle) => {
+                let cycle = cycle.copy(alloc)?;
+                Ok(ModelFault::NoSchedule(kind.copy(alloc)?, *alternative, cycle))
+            }
+            ModelFault::Memory => Ok(ModelFault::Memory),
+        }
+    }
+}
+
 impl From<AllocError> for ModelFault {
     ghost use Rattle.std.specs.Prelude.{◌≡◌};
     ghost use Rattle.pl_check.specs.declared.fault.ModelFault.TheVariants.{Memory};

@@ -16,6 +16,8 @@ mod ranges;
 mod repeats;
 mod schedule;
 mod schedules;
+mod sharing;
 
 pub use checking::check;
 pub use fault::{ModelFault, What};
+pub use sharing::shared_types;

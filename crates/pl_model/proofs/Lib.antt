@@ -3,3 +3,4 @@ pub mod Levels
 pub mod Induction
 pub mod Naming
 pub mod Crossing
+pub mod Parts

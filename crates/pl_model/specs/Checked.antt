@@ -1,7 +1,7 @@
 -- What holds of a checked model, said of the model alone. The checks make it consistent: its numbers name what they should, its
 -- counts and numbers keep their limits, names that share a space differ, by their ranks no parameter depends on itself and no
 -- kind contains itself, and durations and offsets are the least. The grammar gives the rest.
-use Rattle.std.specs.Prelude.{◌≡◌, ℕ, ◌<◌, ◌≤◌, ℤ, pos, neg_ℤ, ◌≤ℤ◌, nat_lt, ◌&&◌, Bool, true, IsTrue, List, [], ◌++◌, Option, Some, None, All, length, map, slice_get, slice_index_or}
+use Rattle.std.specs.Prelude.{◌≡◌, ℕ, ◌<◌, ◌≤◌, ℤ, pos, neg_ℤ, ◌≤ℤ◌, nat_lt, ◌&&◌, Bool, true, IsTrue, List, [], Option, Some, None, All, length, slice_get, slice_index_or}
 use Rattle.pl_model.specs.declared.expressions.Expr.{Expr, fold-Expr}
 use Rattle.pl_model.specs.declared.expressions.Expr.TheOpen.{Expr-F}
 use Rattle.pl_model.specs.declared.parameters.Param.{Param}
@@ -17,11 +17,10 @@ use Rattle.pl_model.specs.declared.kinds.Kind.{Kind}
 use Rattle.pl_model.specs.declared.timelines.Timeline.{Timeline}
 use Rattle.pl_model.specs.declared.timelines.Timeline.TheVariants.{Capacity, Level, States}
 use Rattle.pl_model.specs.declared.whole.Model.{Model}
-use Rattle.std.specs.Int.{int_max}
 use Rattle.pl_model.specs.Values.{NamesBelow}
-use Rattle.pl_model.specs.Names.{Differ}
-use Rattle.pl_model.specs.Expressions.{IsCheckedExpr, exprs_of}
-use Rattle.pl_model.specs.Schedules.{duration_bounds, span_of, spans_of, IsPlace, HasLeastOffsets}
+use Rattle.pl_model.specs.Names.{HasDistinctNames}
+use Rattle.pl_model.specs.Expressions.{HasSmallExpressions}
+use Rattle.pl_model.specs.Schedules.{IsPlace, HasLeastTimes}
 use Rattle.pl_model.specs.Written.{IsWritten}
 
 -- ---- numbers
@@ -46,7 +45,7 @@ IsStep states s = (s.0 < states) × (s.1 < states)
 abbrev pub IsCheckedLine : Timeline → Type 0
 IsCheckedLine (Capacity name most) = IsAmount most
 IsCheckedLine (Level name least most start) = IsLevel least × IsLevel most × IsLevel start × (least ≤ℤ most)
-IsCheckedLine (States name states start any steps) = (length states ≤ 32) × (start < length states) × All (IsStep (length states)) steps × Differ states
+IsCheckedLine (States name states start any steps) = (length states ≤ 32) × (start < length states) × All (IsStep (length states)) steps
 
 abbrev pub IsCapacityLine : Option Timeline → Type 0
 IsCapacityLine (Some (Capacity name most)) = Unit {0}
@@ -135,43 +134,23 @@ abbrev pub params_of : Option Kind → List Param
 params_of (Some k) = k.params
 params_of None = []
 
-abbrev pub bound_number : ℕ × Expr → ℕ
-bound_number b = b.0
-
 pub record IsCheckedSlot (model : Model) (params : ℕ) (s : Slot) : Type 0 where
   pub kind : s.kind < length model.kinds
   pub bindings : All (IsBinding params (params_of (slice_get model.kinds s.kind))) s.bindings
-  pub bound_once : Differ (map bound_number s.bindings)
 
 pub record IsCheckedOrder (horizon slots : ℕ) (o : Order) : Type 0 where
   pub first : IsPlace slots o.first
   pub second : IsPlace slots o.second
   pub distance : IsDistance horizon o.low o.high
 
-abbrev pub slot_name : Slot → List ℕ
-slot_name s = s.name
-
--- offsets are small, however long the durations
-abbrev pub IsOffset : ℕ → Type 0
-IsOffset offset = offset ≤ 3400000000
-
 pub record IsCheckedAlternative (model : Model) (params : ℕ) (a : Alternative) : Type 0 where
   pub few_slots : length a.slots ≤ 16
   pub few_orders : length a.orders ≤ 64
   pub each_slot : length a.offsets ≡ length a.slots
-  pub offsets : All IsOffset a.offsets
-  pub names : Differ (map slot_name a.slots)
   pub slots : All (IsCheckedSlot model params) a.slots
   pub orders : All (IsCheckedOrder model.horizon (length a.slots)) a.orders
 
 -- ---- kinds
-
-abbrev pub param_name : Param → List ℕ
-param_name p = p.name
-
--- some duration from 1 to the horizon lies in these bounds
-abbrev pub IsPossible : ℕ → ℤ × ℤ → Type 0
-IsPossible horizon bounds = (pos 1 ≤ℤ bounds.1) × (bounds.0 ≤ℤ pos horizon)
 
 pub record IsCheckedKind (model : Model) (k : Kind) : Type 0 where
   pub few_params : length k.params ≤ 16
@@ -181,15 +160,10 @@ pub record IsCheckedKind (model : Model) (k : Kind) : Type 0 where
   pub params : All (IsCheckedParam (length k.params)) k.params
   pub ranks : AreParamsRanked k.params
   pub duration : NamesBelow (length k.params) k.duration
-  pub possible : IsPossible model.horizon (duration_bounds k)
-  pub least : pos k.least_duration ≡ int_max (duration_bounds k).0 (pos 1)
   pub least_duration : (1 ≤ k.least_duration) × (k.least_duration ≤ model.horizon)
   pub reservations : All (IsReservation model.timelines (length k.params)) k.reservations
   pub links : All (IsCheckedLink model) k.links
   pub alternatives : All (IsCheckedAlternative model (length k.params)) k.alternatives
-  pub names : Differ (map param_name k.params)
-  pub expressions : All IsCheckedExpr (exprs_of k)
-  pub offsets : All (HasLeastOffsets (spans_of model) (span_of model.horizon k)) k.alternatives
 
 abbrev pub IsSlotRanked : (ℕ → ℕ) → ℕ → Slot → Type 0
 IsSlotRanked rank r s = rank s.kind < r
@@ -208,14 +182,6 @@ pub record AreKindsRanked (kinds : List Kind) : Type 0 where
 
 -- ---- the model
 
-abbrev pub line_name : Timeline → List ℕ
-line_name (Capacity name most) = name
-line_name (Level name least most start) = name
-line_name (States name states start any steps) = name
-
-abbrev pub kind_name : Kind → List ℕ
-kind_name k = k.name
-
 -- what the checks give, whatever tree they are given
 pub record IsConsistent (model : Model) : Type 0 where
   pub horizon : (2 ≤ model.horizon) × (model.horizon ≤ 10000000)
@@ -225,7 +191,9 @@ pub record IsConsistent (model : Model) : Type 0 where
   pub timelines : All IsCheckedLine model.timelines
   pub kinds : All (IsCheckedKind model) model.kinds
   pub ranks : AreKindsRanked model.kinds
-  pub names : Differ (map line_name model.timelines ++ map kind_name model.kinds)
+  pub names : HasDistinctNames model
+  pub expressions : HasSmallExpressions model
+  pub times : HasLeastTimes model
 
 -- the model of a text that passes the checks: consistent, and of the grammar's shape
 pub record IsChecked (model : Model) : Type 0 where
@@ -236,5 +204,7 @@ pub record IsChecked (model : Model) : Type 0 where
   pub timelines : All IsCheckedLine model.timelines
   pub kinds : All (IsCheckedKind model) model.kinds
   pub ranks : AreKindsRanked model.kinds
-  pub names : Differ (map line_name model.timelines ++ map kind_name model.kinds)
+  pub names : HasDistinctNames model
+  pub expressions : HasSmallExpressions model
+  pub times : HasLeastTimes model
   pub written : IsWritten model

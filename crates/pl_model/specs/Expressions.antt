@@ -1,5 +1,5 @@
 -- The size of an expression, its literals, and the expressions of a kind.
-use Rattle.std.specs.Prelude.{ℕ, suc, ◌+◌, ◌≤◌, max, pos, int_le, ◌&&◌, Bool, true, IsTrue, List, [], ◌∷◌, ◌++◌, map}
+use Rattle.std.specs.Prelude.{ℕ, suc, ◌+◌, ◌≤◌, max, pos, int_le, ◌&&◌, Bool, true, IsTrue, List, [], ◌∷◌, ◌++◌, All, map}
 use Rattle.std.specs.List.{flat_map}
 use Rattle.pl_model.specs.declared.expressions.Expr.{Expr, fold-Expr}
 use Rattle.pl_model.specs.declared.expressions.Expr.TheOpen.{Expr-F}
@@ -11,6 +11,7 @@ use Rattle.pl_model.specs.declared.reservations.Reservation.TheVariants.{Take, R
 use Rattle.pl_model.specs.declared.alternatives.Slot.{Slot}
 use Rattle.pl_model.specs.declared.alternatives.Alternative.{Alternative}
 use Rattle.pl_model.specs.declared.kinds.Kind.{Kind}
+use Rattle.pl_model.specs.declared.whole.Model.{Model}
 
 -- ---- size
 
@@ -43,8 +44,8 @@ literals_at (Expr-F.Apply op a b) = a && b
 abbrev pub HasSmallLiterals : Expr → Type 0
 HasSmallLiterals e = IsTrue (fold-Expr Bool literals_at e)
 
--- what the checks ask of an expression beside its names
-pub record IsCheckedExpr (e : Expr) : Type 0 where
+-- at most 64 nodes, and small literals
+pub record IsSmallExpr (e : Expr) : Type 0 where
   pub few_nodes : nodes_of e ≤ 64
   pub literals : HasSmallLiterals e
 
@@ -78,3 +79,13 @@ exprs_of k =
     k.duration ∷ (flat_map param_exprs k.params
     ++ (flat_map reservation_exprs k.reservations
     ++ flat_map alternative_exprs k.alternatives))
+
+pub record HasSmallExprs (k : Kind) : Type 0 where
+  pub each : All IsSmallExpr (exprs_of k)
+
+pub record SmallExpressions (model : Model) : Type 0 where
+  pub kinds : All HasSmallExprs model.kinds
+
+-- closed, so that a search does not look into it; proofs/Parts opens it
+unfoldable pub HasSmallExpressions : Model → Type 0
+HasSmallExpressions model = SmallExpressions model

@@ -1,5 +1,5 @@
 -- The durations of kinds, and the schedule that gives an alternative its offsets.
-use Rattle.std.specs.Prelude.{◌≡◌, ℕ, ◌<◌, ℤ, pos, ◌-ℤ◌, ◌≤ℤ◌, List, Option, Some, None, All, length, map, slice_get, slice_index, slice_index_or}
+use Rattle.std.specs.Prelude.{◌≡◌, ℕ, ◌<◌, ◌≤◌, ℤ, pos, ◌-ℤ◌, ◌≤ℤ◌, List, Option, Some, None, All, length, map, slice_get, slice_index, slice_index_or}
 use Rattle.std.specs.Int.{int_min, int_max}
 use Rattle.pl_model.specs.declared.parameters.Param.{Param}
 use Rattle.pl_model.specs.declared.reservations.Point.{Point}
@@ -68,3 +68,29 @@ pub record HasLeastOffsets (spans : List (ℤ × ℤ)) (own : ℤ × ℤ) (a : A
   pub schedule : IsSchedule spans own a moments
   pub least : (others : Moments) → IsSchedule spans own a others → (p : Option ℕ) (end : Point) → IsPlace (length a.slots) p → moments p end ≤ℤ others p end
   pub starts : (i : ℕ) → i < length a.slots → pos (slice_index a.offsets i) ≡ moments (Some i) Start
+
+-- ---- what a kind has of its durations
+
+-- some duration from 1 to the horizon lies in these bounds
+abbrev pub IsPossible : ℕ → ℤ × ℤ → Type 0
+IsPossible horizon bounds = (pos 1 ≤ℤ bounds.1) × (bounds.0 ≤ℤ pos horizon)
+
+-- offsets are small, however long the durations
+abbrev pub IsOffset : ℕ → Type 0
+IsOffset offset = offset ≤ 3400000000
+
+pub record IsTimedAlternative (model : Model) (k : Kind) (a : Alternative) : Type 0 where
+  pub least : HasLeastOffsets (spans_of model) (span_of model.horizon k) a
+  pub near : All IsOffset a.offsets
+
+pub record IsTimedKind (model : Model) (k : Kind) : Type 0 where
+  pub possible : IsPossible model.horizon (duration_bounds k)
+  pub least : pos k.least_duration ≡ int_max (duration_bounds k).0 (pos 1)
+  pub alternatives : All (IsTimedAlternative model k) k.alternatives
+
+pub record LeastTimes (model : Model) : Type 0 where
+  pub kinds : All (IsTimedKind model) model.kinds
+
+-- closed, so that a search does not look into it; proofs/Parts opens it
+unfoldable pub HasLeastTimes : Model → Type 0
+HasLeastTimes model = LeastTimes model

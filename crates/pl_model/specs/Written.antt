@@ -37,6 +37,10 @@ pub record IsWrittenKind (k : Kind) : Type 0 where
   pub expressions : All IsShallow (exprs_of k)
   pub alternatives : All IsWrittenAlternative k.alternatives
 
-pub record IsWritten (model : Model) : Type 0 where
+pub record GrammarShape (model : Model) : Type 0 where
   pub timelines : All IsWrittenLine model.timelines
   pub kinds : All IsWrittenKind model.kinds
+
+-- closed, so that a search does not look into it; proofs/Parts opens it
+unfoldable pub IsWritten : Model → Type 0
+IsWritten model = GrammarShape model
