@@ -16,5 +16,6 @@ pub mod Kept
 pub mod MoveLaws
 pub mod ByLookUps
 pub mod LookUpLaws
+pub mod Detailing
 pub mod Members
 pub mod Subtrees

@@ -7,7 +7,7 @@ ghost use Rattle.pl_plan.specs.declared.activity.Activity.{Activity};
 ghost use Rattle.pl_plan.specs.Activities.{IsLive, AreRising, activity_of, placed, without, exchanged};
 ghost use Rattle.pl_plan.specs.Trees.{IsRooted, Descends, parent_of, descends, root_of, subtree_of};
 ghost use Rattle.pl_plan.specs.Fitting.{Fits, FitsAlone, chosen_slots};
-ghost use Rattle.pl_plan.specs.LookUps.{FitsAt};
+ghost use Rattle.pl_plan.specs.LookUps.{FitsAt, AreNewChildren, detailed_at};
 ghost use Rattle.pl_plan.specs.Moves.{KeepsTree, kept, without_subtree, without_below, abstracted};
 ghost use Rattle.pl_plan.specs.Values.{Row, values_of};
 ghost use Rattle.pl_plan.specs.Firm.{is_firm, end_of};
@@ -45,6 +45,7 @@ pub fn laws_of_moves()
     ensures owes { (model : Model) (xs : List Activity) → AreRising xs → Fits model xs → (id : ℕ) (a : Activity) → activity_of id xs ≡ Some a → FitsAt model (λ q. activity_of q xs) id a }
     ensures added { (model : Model) (xs : List Activity) → AreRising xs → Fits model xs → (a : Activity) → activity_of a.id xs ≡ None → FitsAlone model a → a.parent ≡ None → chosen_slots model a ≡ [] → Fits model (placed a xs) }
     ensures changed { (model : Model) (xs : List Activity) → AreRising xs → Fits model xs → (change : Activity → Activity) → KeepsTree change → ((a : Activity) → (change a).detail ≡ a.detail) → All (λ a. FitsAlone model (change a)) xs → Fits model (map change xs) }
+    ensures detailed { (model : Model) (xs : List Activity) → AreRising xs → Fits model xs → (before parent : Activity) → activity_of parent.id xs ≡ Some before → before.parent ≡ parent.parent → before.kind ≡ parent.kind → chosen_slots model before ≡ [] → FitsAlone model parent → (children ys : List Activity) → AreRising ys → AreNewChildren model xs parent children → ((q : ℕ) → activity_of q ys ≡ detailed_at parent children xs q) → Fits model ys }
     ensures deleted { (model : Model) (xs : List Activity) → AreRising xs → Fits model xs → (top : ℕ) → parent_of top xs ≡ None → Fits model (without_subtree top xs) }
     ensures abstracted { (model : Model) (xs : List Activity) → AreRising xs → Fits model xs → (top : ℕ) → Fits model (map (abstracted top) (without_below top xs)) }
 {}
