@@ -74,7 +74,7 @@ module _ (items : List Placed) (own : Placed) (ls : List Link) (os : List Order)
       (subst (λ k. Contains (broken_at items own ls os k) (broken own.id index slots)) (sym same) (at_contains index slots e)))
       (cases_lt index n)
 
-  within : (index : ℕ) (slots : Bool) → fails_at items own ls os index slots ≡ true → index < max (length ls) (length os)
+  pub within : (index : ℕ) (slots : Bool) → fails_at items own ls os index slots ≡ true → index < max (length ls) (length os)
   within index false e = omega (arith, link_within items own ls index e)
   within index true e = omega (arith, order_within items own os index e)
 

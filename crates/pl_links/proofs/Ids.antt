@@ -86,6 +86,7 @@ module _ (xs : List Placed) (rising : AreRising xs) (id : ℕ) where
           in_range = in_range;
           is = is;
           present = λ none. let d = no_item in let found : Some (get_or xs at d) ≡ None = sym (found_at xs 0 at id d rising in_range (is d)) ∙ none in absurd (cc);
+          found = λ d. found_at xs 0 at id d rising in_range (is d);
           taken = let d = no_item in taken_at xs 0 at id d rising in_range (is d);
         };
         absent = tt;

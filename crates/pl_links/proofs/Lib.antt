@@ -2,3 +2,13 @@ pub mod Ids
 pub mod BrokenLaws
 pub mod BrokenOrder
 pub mod Slots
+pub mod Anys
+pub mod Keyed
+pub mod Filed
+pub mod Left
+pub mod Distances
+pub mod Owners
+pub mod Marks
+pub mod Covers
+pub mod Exchanging
+pub mod Keeping

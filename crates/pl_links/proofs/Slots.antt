@@ -100,13 +100,13 @@ sole f (x ∷ xs) few = All-cons (λ y. f y ≡ true → find f (x ∷ xs) ≡ S
         All-weaker (λ y. f y ≡ true → find f xs ≡ Some y) (λ y. f y ≡ true → find f (x ∷ xs) ≡ Some y)
         (λ y is e. rw t (is e)) xs (more (omega (arith, few, filtered f x xs, no)))
 
-place_is : (parent slot : ℕ) (place : Option (ℕ × ℕ)) → is_slot parent slot place ≡ true → place ≡ Some (parent, slot)
+pub place_is : (parent slot : ℕ) (place : Option (ℕ × ℕ)) → is_slot parent slot place ≡ true → place ≡ Some (parent, slot)
 place_is parent slot None e = absurd (let h : false ≡ true = e in (cc))
 place_is parent slot (Some q) e =
     let both = and_parts (eqb q.0 parent) (eqb q.1 slot) e in
     subst (λ a. Some q ≡ Some (a, slot)) (eqb-true q.0 parent both.0) (subst (λ b. Some q ≡ Some (q.0, b)) (eqb-true q.1 slot both.1) refl)
 
-slot_is : (parent slot : ℕ) (place : Option (ℕ × ℕ)) → place ≡ Some (parent, slot) → is_slot parent slot place ≡ true
+pub slot_is : (parent slot : ℕ) (place : Option (ℕ × ℕ)) → place ≡ Some (parent, slot) → is_slot parent slot place ≡ true
 slot_is parent slot place is = rw is (and_from (eqb parent parent) (eqb slot slot) (eq-eqb parent parent refl) (eq-eqb slot slot refl))
 
 pub only_child : (items : List Placed) → AreApart items → (parent slot : ℕ) (p : Placed) → (child_of parent slot items ≡ Some p) ↔ (Contains items p × (p.parent ≡ Some (parent, slot)))

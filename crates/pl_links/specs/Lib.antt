@@ -2,3 +2,10 @@ pub mod Items
 pub mod Places
 pub mod Broken
 pub mod Laws
+pub mod Keys
+pub mod Windows
+pub mod Filed
+pub mod Standing
+pub mod Sets
+pub mod Near
+pub mod Kept

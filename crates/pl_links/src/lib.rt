@@ -2,14 +2,24 @@
 #![tactic(auto)]
 
 mod broken;
+mod changes;
+mod exchange;
+mod files;
+mod filing;
+mod index;
+mod keys;
 mod laws;
 mod links;
-mod listing;
+mod mending;
 mod moments;
+mod near;
 mod orders;
 mod partners;
 mod placed;
 mod sharing;
+mod standing;
+mod store;
+mod windows;
 
 pub use broken::Broken;
 pub use laws::laws_of_links;

@@ -1,91 +1,107 @@
 ghost use Rattle.std.specs.Prelude.{◌≡◌, [], OnOk, OnErr, IfOk, IfErr};
 ghost use Rattle.pl_links.specs.Items.{AreRising, AreApart, IsPlaced, CanBePlaced, with_item, without};
-ghost use Rattle.pl_links.specs.Places.{IsPlaceOf, IsGapFor};
 ghost use Rattle.pl_links.specs.Broken.{broken_of};
+ghost use Rattle.pl_links.specs.Kept.{IsFor, kept_of};
 
 use crate::broken::Broken;
-use crate::listing::all_broken;
+use crate::mending::mend;
 use crate::placed::Placed;
+use crate::store::Store;
 use pl_lists::Copied;
 use pl_model::Model;
 use std::alloc::{AllocError, Global};
+use std::collections::BTreeSet;
 
-/// The placed activities, which contracts see by rising id.
+/// The placed activities, which contracts see by rising id, and the list of what they break.
 #[derive(Debug, Drop)]
 pub struct Links {
-    items: Vec<Placed>,
+    alloc: Global,
+    store: Store,
+    broken: BTreeSet<Broken>,
 }
 
 impl std::marker::Model for Links {
-    ghost use Rattle.std.specs.Prelude.{List};
-    ghost use Rattle.pl_links.specs.declared.placed.Placed.{Placed};
-    ghost use Rattle.pl_links.specs.Items.{AreRising, AreApart};
+    ghost use Rattle.pl_links.specs.Kept.{Kept, IsSound};
 
-    ghost Value = { List Placed };
+    ghost Value = { Kept };
 
-    ghost view = { λ l. l.items.items };
+    ghost view = { λ l. record { items = l.store; broken = l.broken.keys } };
 
-    ghost invariant = { λ l. AreRising l.items.items × AreApart l.items.items };
+    ghost invariant = { λ l. IsSound (record { items = l.store; broken = l.broken.keys }) };
 }
 
 impl Links {
     pub fn new(alloc: Global) -> Links
-        ensures { result ≡ [] }
+        ensures items { result.items ≡ [] }
+        ensures broken { result.broken ≡ [] }
     {
         Links {
-            items: Vec::new(alloc),
+            alloc,
+            store: Store::new(alloc),
+            broken: BTreeSet::new(alloc),
         }
     }
 
     /// Places an activity. All calls on one store are given the same model.
     pub fn place(&mut self, model: &Model, item: &Placed) -> Result<(), AllocError>
-        requires { CanBePlaced model.now self.old item.now }
-        ensures ok { OnOk result (self.new ≡ with_item item.now self.old) }
+        requires model { IsFor model.now self.old }
+        requires free { CanBePlaced model.now self.old.items item.now }
+        ensures ok { OnOk result (self.new ≡ kept_of model.now (with_item item.now self.old.items)) }
         ensures err { OnErr result (self.new ≡ self.old) }
     {
-        match self.search(item.id) {
-            Ok(_) => unreachable!(),
-            Err(at) => Ok(self.items.insert(at, *item)?),
+        self.store.place(item)?;
+        match mend(self.alloc, model, &self.store, None, item, &mut self.broken) {
+            Ok(()) => Ok(()),
+            Err(e) => {
+                self.store.take(item.id);
+                Err(e)
+            }
         }
     }
 
     /// Takes the activity of this id out.
     pub fn take(&mut self, model: &Model, id: u32) -> Result<(), AllocError>
-        requires { IsPlaced id self.old }
-        ensures ok { OnOk result (self.new ≡ without id self.old) }
+        requires model { IsFor model.now self.old }
+        requires placed { IsPlaced id self.old.items }
+        ensures ok { OnOk result (self.new ≡ kept_of model.now (without id self.old.items)) }
         ensures err { OnErr result (self.new ≡ self.old) }
     {
-        match self.search(id) {
-            Ok(at) => {
-                self.items.remove(at);
+        match self.store.item(id) {
+            Some(item) => {
+                mend(
+                    self.alloc,
+                    model,
+                    &self.store,
+                    Some(id),
+                    &item,
+                    &mut self.broken,
+                )?;
+                self.store.take(id);
                 Ok(())
             }
-            Err(_) => unreachable!(),
+            None => unreachable!(),
         }
     }
 
-    /// Every link without a partner and every order of slots that is not met, by id and index, a link before an order.
+    /// Every link without a partner and every order of slots that is not met, by id and index, a
+    /// link before an order.
     pub fn broken(&self, alloc: Global, model: &Model) -> Result<Vec<Broken>, AllocError>
-        ensures broken { IfOk result (λ all. all.items ≡ broken_of model.now self.now) }
-        ensures rising { AreRising self.now }
-        ensures apart { AreApart self.now }
+        requires { IsFor model.now self.now }
+        ensures broken { IfOk result (λ all. all.items ≡ broken_of model.now self.now.items) }
+        ensures rising { AreRising self.now.items }
+        ensures apart { AreApart self.now.items }
     {
-        all_broken(alloc, model, &self.items)
-    }
-
-    // Where the activity of this id is, or where it would go.
-    fn search(&self, id: u32) -> Result<usize, usize>
-        ensures found { IfOk result (IsPlaceOf id self.now) }
-        ensures absent { IfErr result (IsGapFor id self.now) }
-    {
-        self.items.binary_search_by_key(&id, |item| item.id)
+        let _ = &self.store;
+        self.broken.iter().copied().collect(alloc)
     }
 }
 
 impl Copied for Links {
     fn copy(&self, alloc: Global) -> Result<Links, AllocError> {
         Ok(Links {
-            items: Vec::from_slice(alloc, &self.items)?,
+            alloc,
+            store: self.store.copy(alloc)?,
+            broken: self.broken.clone()?,
         })
     }
 }

@@ -1,50 +1,48 @@
 //! Orders of the slots of a chosen alternative.
 ghost use Rattle.std.specs.Prelude.{◌≡◌, slice_get};
-ghost use Rattle.std.specs.Option.{option_copied};
-ghost use Rattle.pl_links.specs.Items.{child_of, fills};
 ghost use Rattle.pl_links.specs.Broken.{moment_in, is_unmet, is_order_broken};
+ghost use Rattle.pl_links.specs.Filed.{left};
 
 use crate::moments::{are_misplaced, moment};
 use crate::placed::Placed;
+use crate::store::Store;
 use pl_model::{Order, Point};
 
-fn fills(parent: u32, slot: u32, item: &Placed) -> bool
-    ensures { result ≡ fills parent slot item.now }
-{
-    match item.parent {
-        Some(place) => place.0 == parent && place.1 == slot,
-        None => false,
-    }
-}
-
-fn child(items: &[Placed], parent: u32, slot: u32) -> Option<&Placed>
-    ensures { option_copied result ≡ child_of parent slot items.now }
-{
-    items.iter().find(|item| fills(parent, slot, item))
-}
-
-fn moment_in(items: &[Placed], parent: &Placed, slot: Option<u32>, point: Point) -> Option<u32>
-    ensures { result ≡ moment_in items.now parent.now slot point }
+fn moment_in(
+    store: &Store,
+    gone: Option<u32>,
+    parent: &Placed,
+    slot: Option<u32>,
+    point: Point,
+) -> Option<u32>
+    ensures { result ≡ moment_in (left gone store.now) parent.now slot point }
 {
     match slot {
         None => moment(point, parent),
-        Some(slot) => moment(point, child(items, parent.id, slot)?),
+        Some(slot) => moment(point, &store.child_left(gone, parent.id, slot)?),
     }
 }
 
-fn is_unmet(items: &[Placed], parent: &Placed, order: &Order) -> bool
-    ensures { result ≡ is_unmet items.now parent.now order.now }
+fn is_unmet(store: &Store, gone: Option<u32>, parent: &Placed, order: &Order) -> bool
+    ensures { result ≡ is_unmet (left gone store.now) parent.now order.now }
 {
-    let first = moment_in(items, parent, order.first, order.first_end);
-    let second = moment_in(items, parent, order.second, order.second_end);
+    let first = moment_in(store, gone, parent, order.first, order.first_end);
+    let second = moment_in(store, gone, parent, order.second, order.second_end);
     are_misplaced(order.low, order.high, first, second)
 }
 
-pub(crate) fn is_order_broken(items: &[Placed], own: &Placed, orders: &[Order], at: usize) -> bool
-    ensures { result ≡ is_order_broken items.now own.now (slice_get orders.now at) }
+/// Whether the order of this index is not met, where one activity may be gone.
+pub(crate) fn is_order_broken(
+    store: &Store,
+    gone: Option<u32>,
+    own: &Placed,
+    orders: &[Order],
+    at: usize,
+) -> bool
+    ensures { result ≡ is_order_broken (left gone store.now) own.now (slice_get orders.now at) }
 {
     match orders.get(at) {
-        Some(order) => is_unmet(items, own, order),
+        Some(order) => is_unmet(store, gone, own, order),
         None => false,
     }
 }

@@ -1,13 +1,36 @@
-use Rattle.std.proofs.Common.{◌≡◌, sym, subst, rules}
-use Rattle.pl_links.specs.Items.{AreRising, AreApart, without}
-use Rattle.pl_links.proofs.Ids.{rising-without}
-use Rattle.pl_links.proofs.Slots.{apart-without}
+use Rattle.std.proofs.Common.{◌≡◌, ◌∙◌, refl, sym, ap, subst, List, Some, None}
+use Rattle.pl_links.specs.declared.placed.Placed.{Placed}
+use Rattle.pl_links.specs.declared.broken.Broken.{Broken}
+use Rattle.pl_links.specs.Items.{AreRising, AreApart, item_of, without}
+use Rattle.pl_links.specs.Broken.{broken_of}
+use Rattle.pl_links.specs.Kept.{Kept, IsSound}
+use Rattle.pl_links.specs.Standing.{stands}
+use Rattle.pl_links.proofs.Left.{item_is}
+use Rattle.pl_links.proofs.Keeping.{listed, now_stands, same_kept}
 use Rattle.pl_links.proofs.links.Links.take.Goals as goal
 
-pub invariant_of-self : goal.invariant_of-self
-invariant_of-self c =
-    let xs = c.args.self.now in
-    let rising : AreRising xs = subst AreRising c.self.view_is c.self.invariant.0 in
-    let apart : AreApart xs = subst AreApart c.self.view_is c.self.invariant.1 in
-    let is : c.remove.new.self.items ≡ without c.args.id xs = search rules in
-    (subst AreRising (sym is) (rising-without c.args.id 0 xs rising), subst AreApart (sym is) (apart-without c.args.id xs apart))
+pub mend-requires-clause-placed : goal.mend-requires-clause-placed
+mend-requires-clause-placed c =
+    let here : item_of c.args.id c.self.inside.store ≡ Some c.in-Some.item = sym c.in-Some.ensures.item in
+    let is = item_is c.args.id c.self.inside.store c.in-Some.item here in
+    subst (λ i. item_of i c.self.inside.store ≡ Some c.in-Some.item) (sym is.1) here
+
+pub mend-requires-clause-gone : goal.mend-requires-clause-gone
+mend-requires-clause-gone c = sym (item_is c.args.id c.self.inside.store c.in-Some.item (sym c.in-Some.ensures.item)).1
+
+pub mend-requires-clause-listed : goal.mend-requires-clause-listed
+mend-requires-clause-listed c = λ b.
+    let xs = c.self.inside.store in
+    let model = c.args.model.now in
+    let is : c.self.inside.broken.keys ≡ broken_of model xs = ap (λ (k : Kept). k.broken) c.self.view_is ∙ c.requires.model ∙ ap (λ (k : Kept). broken_of model k.items) (sym c.self.view_is) in
+    now_stands model xs c.self.inside.broken.keys b c.self.invariant.rising is
+
+pub returns-clause-ok : goal.returns-clause-ok
+returns-clause-ok c =
+    let model = c.args.model.now in
+    let after = without c.args.id c.args.self.now.items in
+    let is : c.take.new.self ≡ after = c.take.ensures.after ∙ ap (λ (k : Kept). without c.args.id k.items) c.self.view_is in
+    let rising : AreRising after = subst AreRising is c.take.ensures.rising in
+    let left_is : without c.args.id c.self.inside.store ≡ after = ap (λ (k : Kept). without c.args.id k.items) c.self.view_is in
+    same_kept c.take.new.self after c.mend.new.listed.keys (broken_of model after) is
+    (listed model after c.mend.new.listed.keys rising c.in_ok-mend-in-Some.ensures.rising (λ b. c.in_ok-mend-in-Some.ensures.ok b ∙ ap (λ l. stands model l b) left_is))

@@ -1,0 +1,26 @@
+use Rattle.std.proofs.Common.{◌≡◌, ◌∙◌, ap, sym, false, List, filter}
+use Rattle.std.specs.Prelude.{◌&&◌, not}
+use Rattle.pl_links.specs.declared.broken.Broken.{Broken}
+use Rattle.pl_links.specs.Filed.{left}
+use Rattle.pl_links.specs.Kept.{before}
+use Rattle.pl_links.specs.Sets.{has}
+use Rattle.pl_links.specs.Standing.{stands}
+use Rattle.pl_links.proofs.Exchanging.{mended, absent_came}
+use Rattle.pl_links.proofs.Keeping.{either_way}
+use Rattle.pl_links.proofs.mending.mend.Goals as goal
+
+pub insert_all-requires-clause-absent : goal.insert_all-requires-clause-absent
+insert_all-requires-clause-absent c =
+    rw (c.as_slice-2.ensures.value, c.in_ok-changes.ensures.came)
+    (absent_came (stands c.args.model.now (left c.args.gone c.args.store.now)) c.args.listed.now.keys c.as_slice.result.now)
+
+pub returns-clause-ok : goal.returns-clause-ok
+returns-clause-ok c = λ b.
+    let model = c.args.model.now in
+    let items = c.args.store.now in
+    let id = c.args.item.now.id in
+    let kept : has b c.as_slice.result.now ≡ false → stands model (before c.args.gone id items) b ≡ stands model (left c.args.gone items) b = λ off.
+    either_way model c.args.gone id items b c.requires.gone (c.in_ok-near.ensures b (sym (ap (has b) c.as_slice.ensures.value) ∙ off)) in
+    c.remove_all.ensures.members b
+    ∙ rw (c.in_ok-insert_all.ensures.members b, c.as_slice-2.ensures.value, c.in_ok-changes.ensures.came, c.as_slice-3.ensures.value, c.in_ok-changes.ensures.went)
+    (mended (stands model (before c.args.gone id items)) (stands model (left c.args.gone items)) c.args.listed.now.keys c.as_slice.result.now b (c.requires.listed b) kept)

@@ -1,0 +1,36 @@
+-- Where the indexes file an activity, and what is left where one is gone.
+use Rattle.std.specs.Prelude.{◌≡◌, ℕ, List, Option, Some, None}
+use Rattle.std.specs.Option.{option_map}
+use Rattle.pl_model.specs.declared.reservations.Point.{Point}
+use Rattle.pl_model.specs.declared.reservations.Point.TheVariants.{Start, End}
+use Rattle.pl_links.specs.declared.placed.Placed.{Placed}
+use Rattle.pl_links.specs.declared.keys.Key.{Key}
+use Rattle.pl_links.specs.declared.files.Files.{Files}
+use Rattle.pl_links.specs.Items.{AreRising, AreApart, without}
+use Rattle.pl_links.specs.Broken.{moment_of}
+use Rattle.pl_links.specs.Keys.{IsIndexOf}
+
+-- a firm activity is filed under its kind, by the moment of its point
+abbrev pub point_place : Point → Placed → Option (ℕ × ℕ)
+point_place point p = option_map (λ m. (p.kind, m)) (moment_of point p)
+
+-- a child is filed under its parent, by its slot
+abbrev pub parent_place : Placed → Option (ℕ × ℕ)
+parent_place p = p.parent
+
+-- the files are those of the placed activities
+pub record AreFiles (items : List Placed) (files : Files) : Type 0 where
+  pub starts : IsIndexOf (point_place Start) items files.starts
+  pub ends : IsIndexOf (point_place End) items files.ends
+  pub children : IsIndexOf parent_place items files.children
+
+-- what a store keeps of its activities and their files
+pub record IsStored (items : List Placed) (files : Files) : Type 0 where
+  pub rising : AreRising items
+  pub apart : AreApart items
+  pub filed : AreFiles items files
+
+-- the activities but for one that is gone
+abbrev pub left : Option ℕ → List Placed → List Placed
+left None items = items
+left (Some id) items = without id items

@@ -1,0 +1,183 @@
+ghost use Rattle.std.specs.Prelude.{◌≡◌, [], ◌&&◌, ◌==◌, not, Some, OnOk, OnErr, IfOk, IfErr, IfSome, None, false};
+ghost use Rattle.std.specs.List.{list_any};
+ghost use Rattle.pl_links.specs.Items.{AreRising, AreApart, IsPlaced, item_of, with_item, without, child_of};
+ghost use Rattle.pl_links.specs.Places.{IsPlaceOf, IsGapFor};
+ghost use Rattle.pl_links.specs.Broken.{moment_of, are_apart, is_partner};
+ghost use Rattle.pl_links.specs.Filed.{left};
+ghost use Rattle.pl_links.specs.Near.{parent_of};
+ghost use Rattle.pl_links.specs.Sets.{has};
+ghost use Rattle.pl_links.specs.Standing.{stands};
+ghost use Rattle.pl_links.specs.declared.broken.Broken.{Broken};
+
+use crate::broken::Broken;
+use crate::files::Files;
+use crate::moments::moment;
+use crate::near::near;
+use crate::placed::Placed;
+use crate::windows::window_after;
+use pl_lists::Copied;
+use pl_model::{Link, Model, Point};
+use std::alloc::{AllocError, Global};
+
+/// The placed activities with their indexes, which contracts see by rising id.
+#[derive(Debug, Drop)]
+pub(crate) struct Store {
+    items: Vec<Placed>,
+    files: Files,
+}
+
+impl std::marker::Model for Store {
+    ghost use Rattle.std.specs.Prelude.{List};
+    ghost use Rattle.pl_links.specs.declared.placed.Placed.{Placed};
+    ghost use Rattle.pl_links.specs.Filed.{IsStored};
+
+    ghost Value = { List Placed };
+
+    ghost view = { λ s. s.items.items };
+
+    ghost invariant = { λ s. IsStored s.items.items s.files };
+}
+
+impl Store {
+    pub fn new(alloc: Global) -> Store
+        ensures { result ≡ [] }
+    {
+        Store {
+            items: Vec::new(alloc),
+            files: Files::new(alloc),
+        }
+    }
+
+    pub fn place(&mut self, item: &Placed) -> Result<(), AllocError>
+        requires absent { item_of item.now.id self.old ≡ None }
+        requires slot { IfSome item.now.parent (λ q. child_of q.0 q.1 self.old ≡ None) }
+        ensures ok { OnOk result (self.new ≡ with_item item.now self.old) }
+        ensures err { OnErr result (self.new ≡ self.old) }
+        ensures rising { AreRising self.new }
+        ensures apart { AreApart self.new }
+    {
+        match self.search(item.id) {
+            Ok(_) => unreachable!(),
+            Err(at) => {
+                self.items.reserve(1)?;
+                self.files.insert(item)?;
+                self.items.insert(at, *item).unwrap();
+                Ok(())
+            }
+        }
+    }
+
+    pub fn take(&mut self, id: u32)
+        requires { IsPlaced id self.old }
+        ensures after { self.new ≡ without id self.old }
+        ensures rising { AreRising self.new }
+        ensures apart { AreApart self.new }
+    {
+        match self.search(id) {
+            Ok(at) => {
+                let item = self.items.remove(at);
+                self.files.remove(&item);
+            }
+            Err(_) => unreachable!(),
+        }
+    }
+
+    /// The activity of this id.
+    pub fn item(&self, id: u32) -> Option<Placed>
+        ensures item { result ≡ item_of id self.now }
+        ensures rising { AreRising self.now }
+        ensures apart { AreApart self.now }
+    {
+        match self.search(id) {
+            Ok(at) => Some(self.items[at]),
+            Err(_) => None,
+        }
+    }
+
+    /// The same, where one activity may be gone.
+    pub fn item_left(&self, gone: Option<u32>, id: u32) -> Option<Placed>
+        ensures { result ≡ item_of id (left gone self.now) }
+    {
+        match gone {
+            Some(gone) => self.item_but(gone, id),
+            None => self.item(id),
+        }
+    }
+
+    fn item_but(&self, gone: u32, id: u32) -> Option<Placed>
+        ensures { result ≡ item_of id (without gone self.now) }
+    {
+        let _ = &self.items;
+        if id == gone { None } else { self.item(id) }
+    }
+
+    /// The child in this slot of this parent, where one activity may be gone.
+    pub fn child_left(&self, gone: Option<u32>, parent: u32, slot: u32) -> Option<Placed>
+        ensures { result ≡ child_of parent slot (left gone self.now) }
+    {
+        match self.files.children.first(parent, slot) {
+            Some(id) => self.item_left(gone, id),
+            None => None,
+        }
+    }
+
+    /// Whether an activity has a partner for its link, where one activity may be gone.
+    pub fn has_partner(&self, gone: Option<u32>, own: &Placed, link: &Link) -> bool
+        ensures { result ≡ list_any (is_partner link.now own.now) (left gone self.now) }
+    {
+        match moment(link.mine, own) {
+            Some(mine) => self.has_partner_of(gone, own.id, mine, link),
+            None => false,
+        }
+    }
+
+    fn has_partner_of(&self, gone: Option<u32>, own: u32, mine: u32, link: &Link) -> bool
+        ensures { result ≡ list_any (λ other. not (other.id == own) && ((other.kind == link.now.kind) && are_apart link.now.low link.now.high (Some mine) (moment_of link.now.theirs other))) (left gone self.now) }
+    {
+        let window = window_after(mine, link.low, link.high);
+        match link.theirs {
+            Point::Start => self.files.starts.has_other(link.kind, window, own, gone),
+            Point::End => self.files.ends.has_other(link.kind, window, own, gone),
+        }
+    }
+
+    fn parent_of(&self, item: &Placed) -> Option<Placed>
+        ensures { result ≡ parent_of self.now item.now.parent }
+    {
+        match item.parent {
+            Some(place) => self.item(place.0),
+            None => None,
+        }
+    }
+
+    /// What may be broken, or mended, where this placed activity comes or goes.
+    pub fn near(
+        &self,
+        alloc: Global,
+        model: &Model,
+        item: &Placed,
+    ) -> Result<Vec<Broken>, AllocError>
+        requires { item_of item.now.id self.now ≡ Some item.now }
+        ensures { IfOk result (λ all. (b : Broken) → has b all.items ≡ false → stands model.now self.now b ≡ stands model.now (without item.now.id self.now) b) }
+    {
+        let all = near(alloc, model, &self.files, item, self.parent_of(item))?;
+        Ok(all)
+    }
+
+    // Where the activity of this id is, or where it would go.
+    fn search(&self, id: u32) -> Result<usize, usize>
+        ensures found { IfOk result (IsPlaceOf id self.now) }
+        ensures absent { IfErr result (IsGapFor id self.now) }
+    {
+        self.items.binary_search_by_key(&id, |item| item.id)
+    }
+}
+
+impl Copied for Store {
+    fn copy(&self, alloc: Global) -> Result<Store, AllocError> {
+        Ok(Store {
+            items: Vec::from_slice(alloc, &self.items)?,
+            files: self.files.copy(alloc)?,
+        })
+    }
+}
