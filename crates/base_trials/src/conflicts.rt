@@ -1,0 +1,29 @@
+use pl_conflict::{Code, Conflict, ConflictSet};
+use std::alloc::AllocError;
+
+fn conflict(from: u32, code: Code, subject: u32) -> Conflict {
+    Conflict {
+        from,
+        code,
+        subject,
+        detail: 0,
+        a: 0,
+        b: 0,
+    }
+}
+
+#[test]
+fn a_set_is_its_sorted_list(rt: HostRuntime) -> Result<(), AllocError> {
+    let late = conflict(20, Code::Late, 1);
+    let open = conflict(20, Code::OpenGoal, 9);
+    let early = conflict(3, Code::BadStep, 4);
+    let mut set = ConflictSet::new(rt.alloc());
+    assert!(rt; set.first().is_none() && set.is_empty());
+    assert!(rt; set.insert(late)? && set.insert(open)? && set.insert(early)?);
+    assert!(rt; !set.insert(open)?);
+    assert!(rt; set.len() == 3 && set.has(&late) && set.first() == Some(early));
+    assert!(rt; set.list(rt.alloc())?.as_slice() == [early, open, late].as_slice());
+    assert!(rt; set.remove(&early) && !set.remove(&early));
+    assert!(rt; set.first() == Some(open) && set.len() == 2);
+    Ok(())
+}
