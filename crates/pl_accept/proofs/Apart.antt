@@ -40,7 +40,6 @@ use Rattle.pl_check.specs.Checked.{drafted, spans_in, IsModelOf, AnswersJudged, 
 use Rattle.pl_check.proofs.ScheduleLemmas.{kinds_scheduled}
 use Rattle.pl_check.proofs.AcceptanceLemmas.{accepted}
 use Rattle.pl_check.proofs.StructureLemmas.{answered_checked}
-use Rattle.pl_check.specs.Checked.{IsChecked as IsAnswered}
 use Rattle.pl_model.specs.Checked.{IsChecked}
 use Rattle.pl_accept.specs.Accepting.{IsModelText, IsRefusedAs, by_syntax, by_check}
 
@@ -176,9 +175,8 @@ one_model text m n h g =
 
 -- ---- its model is a checked one
 
-answered : (ast : Ast) (j : judge.Judged (List Draft)) (m : Model) → drafted ast ≡ j → AnswersJudged ast j (Ok m) → IsAnswered m
-answered ast (Ok drafts) m e h = record { ast = ast; drafts = drafts; rows = e; passes = h }
-answered ast (Err e) m is h = absurd h
-
 pub checked_model : (text : List ℕ) (m : Model) → IsModelText text m → IsChecked m
-checked_model text m h = answered_checked (Ok m) (answered h.ast (drafted h.ast) m refl h.passes)
+checked_model text m h = answered_checked h.ast (Ok m) h.passes text h.reads
+
+pub read_is_checked : (text : List ℕ) (ast : Ast) (m : Model) → Read text (Ok ast) → Checked ast (Ok m) → IsChecked m
+read_is_checked text ast m read passes = answered_checked ast (Ok m) passes text read.1.0
