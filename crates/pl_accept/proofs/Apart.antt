@@ -177,6 +177,3 @@ one_model text m n h g =
 
 pub checked_model : (text : List ℕ) (m : Model) → IsModelText text m → IsChecked m
 checked_model text m h = answered_checked h.ast (Ok m) h.passes text h.reads
-
-pub read_is_checked : (text : List ℕ) (ast : Ast) (m : Model) → Read text (Ok ast) → Checked ast (Ok m) → IsChecked m
-read_is_checked text ast m read passes = answered_checked ast (Ok m) passes text read.1.0

@@ -60,7 +60,7 @@ fn refuse_tree(
     Ok(Accepted::Refused(line))
 }
 
-#[tactic(auto, using(crate::proofs::Refusing::text_is_model, crate::proofs::Apart::read_is_checked))]
+#[tactic(auto, using(crate::proofs::Refusing::text_is_model))]
 fn accept_tree(alloc: Global, text: &[u8], ast: &Ast) -> Result<Accepted, AllocError>
     requires { Read text.now (Ok ast.now) }
     ensures accepts { IfOk result (Accepts text.now) }
