@@ -56,7 +56,7 @@ has_below id (suc n) index slots lt =
 
 -- ---- one activity less
 
-any_without : (f : Placed → Bool) (p : Placed) (items : List Placed) → item_of p.id items ≡ Some p → f p ≡ false → list_any f (without p.id items) ≡ list_any f items
+pub any_without : (f : Placed → Bool) (p : Placed) (items : List Placed) → item_of p.id items ≡ Some p → f p ≡ false → list_any f (without p.id items) ≡ list_any f items
 any_without f p [] here e = refl
 any_without f p (x ∷ items) here e = cases (eqb x.id p.id) refl (any_without f p items)
   where
@@ -70,7 +70,7 @@ any_without f p (x ∷ items) here e = cases (eqb x.id p.id) refl (any_without f
         let rest : item_of p.id items ≡ Some p = rw t at here in
         rw (t, more rest e) refl
 
-find_without : (f : Placed → Bool) (p : Placed) (items : List Placed) → item_of p.id items ≡ Some p → f p ≡ false → find f (without p.id items) ≡ find f items
+pub find_without : (f : Placed → Bool) (p : Placed) (items : List Placed) → item_of p.id items ≡ Some p → f p ≡ false → find f (without p.id items) ≡ find f items
 find_without f p [] here e = refl
 find_without f p (x ∷ items) here e = cases (eqb x.id p.id) refl (find_without f p items)
   where

@@ -76,22 +76,39 @@ has_filter f b xs = any_filter f (is_at (broken_cmp b)) xs ∙ same_when (list_a
     (λ e. let parts = and_parts (f b) (has b xs) e in
     any_from (λ x. f x && is_at (broken_cmp b) x) xs b (held b xs parts.1) (and_from (f b) (is_at (broken_cmp b) b) parts.0 (itself b)))
 
-exchanged : (o s n : Bool) → (n ≡ false → o ≡ s) → ((o || ((s && not o) && n)) && not (not s && n)) ≡ s
-exchanged true true true kept = refl
-exchanged true true false kept = refl
-exchanged true false true kept = refl
-exchanged true false false kept = kept refl
-exchanged false true true kept = refl
-exchanged false true false kept = kept refl
-exchanged false false true kept = refl
-exchanged false false false kept = refl
-
 -- where only what is near may change, the exchange leaves what stands
-pub mended : (f g : Broken → Bool) (old near : List Broken) (b : Broken) → has b old ≡ f b → (has b near ≡ false → f b ≡ g b)
-    → ((has b old || has b (filter (λ x. g x && not (has x old)) near)) && not (has b (filter (λ x. not (g x)) near))) ≡ g b
-mended f g old near b is kept =
-    rw (has_filter (λ x. g x && not (has x old)) b near, has_filter (λ x. not (g x)) b near)
-    (exchanged (has b old) (g b) (has b near) (λ e. is ∙ kept e))
+module _ (f g : Broken → Bool) (old near : List Broken) (b : Broken) (is : has b old ≡ f b) (kept : has b near ≡ false → f b ≡ g b) where
+  came_is : (o s n : Bool) → (n ≡ false → o ≡ s) → ((s && not o) && n) ≡ (s && not o)
+  came_is o true true same = and_yes (not o)
+    where
+      and_yes : (b : Bool) → (b && true) ≡ b
+      and_yes true = refl
+      and_yes false = refl
+  came_is true true false same = refl
+  came_is false true false same = same refl
+  came_is o false n same = refl
+
+  went_is : (o s n : Bool) → (n ≡ false → o ≡ s) → ((not s && o) && n) ≡ (o && not s)
+  went_is true true n same = refl
+  went_is true false true same = refl
+  went_is true false false same = sym (same refl)
+  went_is false true n same = refl
+  went_is false false n same = refl
+
+  left_is : (o s : Bool) → ((o || (s && not o)) && not (o && not s)) ≡ s
+  left_is true true = refl
+  left_is true false = refl
+  left_is false true = refl
+  left_is false false = refl
+
+  pub came_tells : has b (filter (λ x. g x && not (has x old)) near) ≡ (g b && not (has b old))
+  came_tells = has_filter (λ x. g x && not (has x old)) b near ∙ came_is (has b old) (g b) (has b near) (λ e. is ∙ kept e)
+
+  pub went_tells : has b (filter (λ x. not (g x) && has x old) near) ≡ (has b old && not (g b))
+  went_tells = has_filter (λ x. not (g x) && has x old) b near ∙ went_is (has b old) (g b) (has b near) (λ e. is ∙ kept e)
+
+  pub mended : ((has b old || has b (filter (λ x. g x && not (has x old)) near)) && not (has b (filter (λ x. not (g x) && has x old) near))) ≡ g b
+  mended = rw (came_tells, went_tells) (left_is (has b old) (g b))
 
 pub absent_came : (g : Broken → Bool) (old near : List Broken) → All (λ b. has b old ≡ false) (filter (λ x. g x && not (has x old)) near)
 absent_came g old near =

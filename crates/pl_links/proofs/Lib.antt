@@ -12,3 +12,4 @@ pub mod Marks
 pub mod Covers
 pub mod Exchanging
 pub mod Keeping
+pub mod Elsewhere

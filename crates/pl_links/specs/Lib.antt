@@ -9,3 +9,4 @@ pub mod Standing
 pub mod Sets
 pub mod Near
 pub mod Kept
+pub mod Changes

@@ -11,9 +11,9 @@ use pl_model::Model;
 use std::alloc::{AllocError, Global};
 use std::collections::BTreeSet;
 
-/// What comes, and what is not broken, whether it was listed or not.
+/// What came to the list of what is broken, and what went.
 #[derive(Debug, Drop)]
-pub(crate) struct Changes {
+pub struct Changes {
     pub came: Vec<Broken>,
     pub went: Vec<Broken>,
 }
@@ -21,21 +21,22 @@ pub(crate) struct Changes {
 impl Changes {
     fn add(&mut self, broken: Broken, is_broken: bool, is_listed: bool) -> Result<(), AllocError>
         ensures came { OnOk result (self.new.came.items ≡ self.old.came.items ++ (if is_broken && not is_listed then broken ∷ [] else [])) }
-        ensures went { OnOk result (self.new.went.items ≡ self.old.went.items ++ (if not is_broken then broken ∷ [] else [])) }
+        ensures went { OnOk result (self.new.went.items ≡ self.old.went.items ++ (if not is_broken && is_listed then broken ∷ [] else [])) }
     {
-        if !is_broken {
-            self.went.push(broken)?;
+        if is_broken && !is_listed {
+            self.came.push(broken)?;
             return Ok(());
         }
-        if !is_listed {
-            self.came.push(broken)?;
+        if !is_broken && is_listed {
+            self.went.push(broken)?;
             return Ok(());
         }
         Ok(())
     }
 }
 
-/// What of these is broken and not listed, and what is not broken, where one activity may be gone.
+/// What of these is broken and not listed, and what is listed and not broken, where one activity
+/// may be gone.
 pub(crate) fn changes_near(
     alloc: Global,
     model: &Model,
@@ -45,7 +46,7 @@ pub(crate) fn changes_near(
     listed: &BTreeSet<Broken>,
 ) -> Result<Changes, AllocError>
     ensures came { IfOk result (λ c. c.came.items ≡ filter (λ b. stands model.now (left gone store.now) b && not (has b listed.now.keys)) near.now) }
-    ensures went { IfOk result (λ c. c.went.items ≡ filter (λ b. not (stands model.now (left gone store.now) b)) near.now) }
+    ensures went { IfOk result (λ c. c.went.items ≡ filter (λ b. not (stands model.now (left gone store.now) b) && has b listed.now.keys) near.now) }
 {
     let mut changes = Changes {
         came: Vec::new(alloc),

@@ -22,6 +22,7 @@ mod store;
 mod windows;
 
 pub use broken::Broken;
+pub use changes::Changes;
 pub use laws::laws_of_links;
 pub use links::Links;
 pub use placed::Placed;

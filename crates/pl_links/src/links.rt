@@ -2,8 +2,10 @@ ghost use Rattle.std.specs.Prelude.{◌≡◌, [], OnOk, OnErr, IfOk, IfErr};
 ghost use Rattle.pl_links.specs.Items.{AreRising, AreApart, IsPlaced, CanBePlaced, with_item, without};
 ghost use Rattle.pl_links.specs.Broken.{broken_of};
 ghost use Rattle.pl_links.specs.Kept.{IsFor, kept_of};
+ghost use Rattle.pl_links.specs.Changes.{Tells};
 
 use crate::broken::Broken;
+use crate::changes::Changes;
 use crate::mending::mend;
 use crate::placed::Placed;
 use crate::store::Store;
@@ -49,9 +51,21 @@ impl Links {
         ensures ok { OnOk result (self.new ≡ kept_of model.now (with_item item.now self.old.items)) }
         ensures err { OnErr result (self.new ≡ self.old) }
     {
+        self.place_telling(model, item)?;
+        Ok(())
+    }
+
+    /// Places an activity, and tells what came to the list of what is broken and what went.
+    pub fn place_telling(&mut self, model: &Model, item: &Placed) -> Result<Changes, AllocError>
+        requires model { IsFor model.now self.old }
+        requires free { CanBePlaced model.now self.old.items item.now }
+        ensures ok { OnOk result (self.new ≡ kept_of model.now (with_item item.now self.old.items)) }
+        ensures changes { IfOk result (Tells self.old.broken self.new.broken) }
+        ensures err { OnErr result (self.new ≡ self.old) }
+    {
         self.store.place(item)?;
         match mend(self.alloc, model, &self.store, None, item, &mut self.broken) {
-            Ok(()) => Ok(()),
+            Ok(changes) => Ok(changes),
             Err(e) => {
                 self.store.take(item.id);
                 Err(e)
@@ -66,9 +80,22 @@ impl Links {
         ensures ok { OnOk result (self.new ≡ kept_of model.now (without id self.old.items)) }
         ensures err { OnErr result (self.new ≡ self.old) }
     {
+        self.take_telling(model, id)?;
+        Ok(())
+    }
+
+    /// Takes the activity of this id out, and tells what came to the list of what is broken and
+    /// what went.
+    pub fn take_telling(&mut self, model: &Model, id: u32) -> Result<Changes, AllocError>
+        requires model { IsFor model.now self.old }
+        requires placed { IsPlaced id self.old.items }
+        ensures ok { OnOk result (self.new ≡ kept_of model.now (without id self.old.items)) }
+        ensures changes { IfOk result (Tells self.old.broken self.new.broken) }
+        ensures err { OnErr result (self.new ≡ self.old) }
+    {
         match self.store.item(id) {
             Some(item) => {
-                mend(
+                let changes = mend(
                     self.alloc,
                     model,
                     &self.store,
@@ -77,7 +104,7 @@ impl Links {
                     &mut self.broken,
                 )?;
                 self.store.take(id);
-                Ok(())
+                Ok(changes)
             }
             None => unreachable!(),
         }

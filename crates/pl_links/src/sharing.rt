@@ -1,6 +1,7 @@
 //! Which types may be shared among threads.
 
 use crate::broken::Broken;
+use crate::changes::Changes;
 use crate::links::Links;
 use crate::placed::Placed;
 use pl_lists::may_be_shared;
@@ -9,5 +10,6 @@ use pl_lists::may_be_shared;
 pub fn shared_types() {
     may_be_shared::<Placed>();
     may_be_shared::<Broken>();
+    may_be_shared::<Changes>();
     may_be_shared::<Links>();
 }

@@ -9,4 +9,4 @@ use Rattle.pl_links.proofs.changes.changes_near.Given as goal
 abbrev pub invariant-loop-broken : goal.invariant-loop-broken
 invariant-loop-broken l =
     (l.changes.came.items ++ filter (λ (b : Broken). stands l.model (left l.gone l.store) b && not (has b l.listed.keys)) (drop l.broken-index l.near) ≡ filter (λ (b : Broken). stands l.model (left l.gone l.store) b && not (has b l.listed.keys)) l.near)
-    × (l.changes.went.items ++ filter (λ (b : Broken). not (stands l.model (left l.gone l.store) b)) (drop l.broken-index l.near) ≡ filter (λ (b : Broken). not (stands l.model (left l.gone l.store) b)) l.near)
+    × (l.changes.went.items ++ filter (λ (b : Broken). not (stands l.model (left l.gone l.store) b) && has b l.listed.keys) (drop l.broken-index l.near) ≡ filter (λ (b : Broken). not (stands l.model (left l.gone l.store) b) && has b l.listed.keys) l.near)

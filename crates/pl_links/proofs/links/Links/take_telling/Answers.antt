@@ -7,7 +7,7 @@ use Rattle.pl_links.specs.Kept.{Kept, IsSound}
 use Rattle.pl_links.specs.Standing.{stands}
 use Rattle.pl_links.proofs.Left.{item_is}
 use Rattle.pl_links.proofs.Keeping.{listed, now_stands, same_kept}
-use Rattle.pl_links.proofs.links.Links.take.Goals as goal
+use Rattle.pl_links.proofs.links.Links.take_telling.Goals as goal
 
 pub mend-requires-clause-placed : goal.mend-requires-clause-placed
 mend-requires-clause-placed c =
@@ -33,4 +33,4 @@ returns-clause-ok c =
     let rising : AreRising after = subst AreRising is c.take.ensures.rising in
     let left_is : without c.args.id c.self.inside.store ≡ after = ap (λ (k : Kept). without c.args.id k.items) c.self.view_is in
     same_kept c.take.new.self after c.mend.new.listed.keys (broken_of model after) is
-    (listed model after c.mend.new.listed.keys rising c.in_ok-mend-in-Some.ensures.rising (λ b. c.in_ok-mend-in-Some.ensures.ok b ∙ ap (λ l. stands model l b) left_is))
+    (listed model after c.mend.new.listed.keys rising c.in_ok-changes-in-Some.ensures.rising (λ b. c.in_ok-changes-in-Some.ensures.ok b ∙ ap (λ l. stands model l b) left_is))

@@ -9,7 +9,7 @@ use Rattle.pl_links.specs.Sets.{has}
 use Rattle.pl_links.specs.Standing.{stands}
 use Rattle.pl_links.proofs.Filed.{item-with}
 use Rattle.pl_links.proofs.Keeping.{listed, now_stands, without-with, same_kept}
-use Rattle.pl_links.proofs.links.Links.place.Goals as goal
+use Rattle.pl_links.proofs.links.Links.place_telling.Goals as goal
 
 pub mend-requires-clause-placed : goal.mend-requires-clause-placed
 mend-requires-clause-placed c =
