@@ -2,6 +2,7 @@ pub mod Walks
 pub mod Parting
 pub mod PointLists
 pub mod Spanning
+pub mod Outside
 pub mod Staying
 pub mod Cuts
 pub mod Rounds

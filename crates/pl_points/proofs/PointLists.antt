@@ -9,7 +9,7 @@ use mir.Syntax.{w64}
 use Rattle.std.proofs.lemmas.List.{length-drop, get_or-drop, get_or_default, drop_all}
 use Rattle.pl_points.specs.Lists.{front, back}
 use Rattle.pl_points.specs.Sums.{IsSmall}
-use Rattle.pl_points.specs.Points.{Point, sum_to, first_from, is_before, put, merged, RiseFrom, AreSmall, ArePoints}
+use Rattle.pl_points.specs.Points.{Point, sum_to, first_from, is_before, put, merged, RiseFrom, AreSmall, ArePoints, SmallFrom}
 use Rattle.pl_points.proofs.Parting.{NonePass, IsParted, back_fails, drop_next}
 
 abbrev pub IsSmall2 : ℤ → Type 0
@@ -95,7 +95,7 @@ sum_to-merged at d (p ∷ ps) t =
         let g : cond (leb p.0 t) p.1 (pos 0) ≡ cond (leb at t) p.1 (pos 0) = ap (λ n. cond (leb n t) p.1 (pos 0)) f in
         omega (arith, ints, sum_to-put at (p.1 +ℤ d) ps t, cond_add (leb at t) p.1 d, g)
 
-rising_later : (b c : ℕ) (ps : List Point) → b ≤ c → RiseFrom c ps → RiseFrom b ps
+pub rising_later : (b c : ℕ) (ps : List Point) → b ≤ c → RiseFrom c ps → RiseFrom b ps
 rising_later b c [] le rising = tt
 rising_later b c (p ∷ ps) le rising = (omega (arith, le, rising.0), rising.1, rising.2)
 
@@ -131,11 +131,6 @@ sum_before c [] t rising lt = refl
 sum_before c (p ∷ ps) t rising lt =
     let e : leb p.0 t ≡ false = lt-leb p.0 t (omega (arith, lt, rising.0)) in
     rw e (omega (arith, ints, sum_before (suc p.0) ps t rising.2 (omega (arith, lt, rising.0))))
-
--- the sums along the points, from one so far, are small
-abbrev pub SmallFrom : ℤ → List Point → Type 0
-SmallFrom s [] = IsSmall s
-SmallFrom s (p ∷ ps) = IsSmall s × SmallFrom (s +ℤ p.1) ps
 
 small_from : (c : ℕ) (s : ℤ) (ps : List Point) → IsSmall s → RiseFrom c ps → ((t : ℕ) → IsSmall (s +ℤ sum_to ps t)) → SmallFrom s ps
 small_from c s [] small rising all = small

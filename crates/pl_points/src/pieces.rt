@@ -34,20 +34,14 @@ pub(crate) fn extend(spans: &mut Vec<Span>, from: u32, to: u32) -> Result<(), Al
 }
 
 // Up to where the sum stays as it is at the moment, and what it changes by there.
-fn piece<P: Points, L: Ledger>(
-    points: &P,
-    at: u32,
-    to: u32,
-    near: &mut usize,
-    steps: &mut Steps<L>,
-) -> (u32, i64)
+fn piece<P: Points, L: Ledger>(points: &P, at: u32, to: u32, steps: &mut Steps<L>) -> (u32, i64)
     requires { at < to }
     ensures later { at < result.0 }
     ensures bound { result.0 ≤ to }
     ensures same { (t : ℕ) → at ≤ t → t < result.0 → sum_to (P.points points.now) t ≡ sum_to (P.points points.now) at }
     ensures next { sum_to (P.points points.now) result.0 ≡ sum_to (P.points points.now) at +ℤ result.1 }
 {
-    match points.next_from(at + 1, near, steps) {
+    match points.first_from(at + 1, steps) {
         Some((moment, delta)) => {
             if moment <= to {
                 (moment, delta)
@@ -94,9 +88,8 @@ pub(crate) fn push_outside<P: Points, L: Ledger>(
 {
     let mut at = window.from;
     let mut sum = points.sum_to(at, steps);
-    let mut near = 0;
     'pieces: while at < window.to {
-        let (end, delta) = piece(points, at, window.to, &mut near, steps);
+        let (end, delta) = piece(points, at, window.to, steps);
         push_piece(spans, limit, sum, at, end)?;
         at = end;
         sum += delta;
