@@ -9,11 +9,11 @@ use mir.Syntax.{w64}
 use Rattle.std.proofs.lemmas.List.{length-drop, get_or-drop, get_or_default, drop_all}
 use Rattle.pl_points.specs.Lists.{front, back}
 use Rattle.pl_points.specs.Sums.{IsSmall}
-use Rattle.pl_points.specs.Points.{Point, sum_to, first_from, is_before, put, merged, RiseFrom, AreSmall, ArePoints, SmallFrom}
+use Rattle.pl_points.specs.Points.{Point, sum_to, first_from, is_before, put, merged, RiseFrom, AreSmall, ArePoints, SmallFrom, IsNear, AreNear}
 use Rattle.pl_points.proofs.Parting.{NonePass, IsParted, back_fails, drop_next}
 
 abbrev pub IsSmall2 : ℤ → Type 0
-IsSmall2 z = (neg_ℤ (pos (2 * 10 ^ 15)) ≤ℤ z) × (z ≤ℤ pos (2 * 10 ^ 15))
+IsSmall2 z = IsNear z
 
 none_before : (at c : ℕ) (ps : List Point) → at ≤ c → RiseFrom c ps → NonePass (is_before at) ps
 none_before at c [] le rising = tt
@@ -275,3 +275,53 @@ adds_here s x small other =
     let f : to_z w64 (of_z w64 x) ≡ x = to_z-of_z w64 x (fits2 x other) in
     let fits : SFits w64 (s +ℤ x) = omega (arith, ints, small.0, small.1, other.0, other.1) in
     rw f (to_z-of_z w64 (s +ℤ x) fits)
+
+-- sums along points that follow a small sum are near without it
+pub small_near : (o r : ℤ) (ps : List Point) → IsSmall o → SmallFrom (o +ℤ r) ps → AreNear r ps
+small_near o r [] small all = (omega (arith, ints, small.0, small.1, all.0, all.1), omega (arith, ints, small.0, small.1, all.0, all.1))
+small_near o r (p ∷ ps) small all =
+    let same : (o +ℤ r) +ℤ p.1 ≡ o +ℤ (r +ℤ p.1) = omega (arith, ints) in
+    ((omega (arith, ints, small.0, small.1, all.0.0, all.0.1), omega (arith, ints, small.0, small.1, all.0.0, all.0.1)), small_near o (r +ℤ p.1) ps small (subst (λ z. SmallFrom z ps) same all.1))
+
+pub near_head : (s : ℤ) (ps : List Point) → AreNear s ps → IsNear s
+near_head s [] near = near
+near_head s (p ∷ ps) near = near.0
+
+-- within 4 * 10^15 of 0
+abbrev pub IsSmall4 : ℤ → Type 0
+IsSmall4 z = (neg_ℤ (pos (4 * 10 ^ 15)) ≤ℤ z) × (z ≤ℤ pos (4 * 10 ^ 15))
+
+pub near_delta : (ps : List Point) (s : ℤ) (i : ℕ) (p : Point) → AreNear s ps → i < length ps → p ≡ get_or ps i p → IsSmall4 p.1
+near_delta [] s i p near lt is = absurd (omega (arith, lt))
+near_delta (q ∷ ps) s zero p near lt is =
+    let h : IsNear (s +ℤ q.1) = near_head (s +ℤ q.1) ps near.1 in
+    subst (λ (r : Point). IsSmall4 r.1) (sym is) (omega (arith, ints, h.0, h.1, near.0.0, near.0.1), omega (arith, ints, h.0, h.1, near.0.0, near.0.1))
+near_delta (q ∷ ps) s (suc i) p near lt is = near_delta ps (s +ℤ q.1) i p near.1 (omega (arith, lt)) is
+
+pub near_fits : (x d : ℤ) → IsSmall4 x → IsNear d → SFits w64 (to_z w64 (of_z w64 x) +ℤ to_z w64 (of_z w64 d))
+near_fits x d small other = omega (arith, ints, small.0, small.1, other.0, other.1)
+
+pub near_is : (x d : ℤ) → IsSmall4 x → IsNear d → to_z w64 (of_z w64 (to_z w64 (of_z w64 x) +ℤ to_z w64 (of_z w64 d))) ≡ x +ℤ d
+near_is x d small other =
+    let one : SFits w64 x = omega (arith, ints, small.0, small.1) in
+    let two : SFits w64 d = omega (arith, ints, other.0, other.1) in
+    let e : to_z w64 (of_z w64 x) ≡ x = to_z-of_z w64 x one in
+    let f : to_z w64 (of_z w64 d) ≡ d = to_z-of_z w64 d two in
+    let fits : SFits w64 (x +ℤ d) = omega (arith, ints, small.0, small.1, other.0, other.1) in
+    rw e (rw f (to_z-of_z w64 (x +ℤ d) fits))
+
+-- a running sum that is near, and a point
+pub near_step : (s : ℤ) (ps : List Point) (i j : ℕ) (p : Point) → i < length ps → j ≡ i + 1 → p ≡ get_or ps i p → AreNear s (drop i ps)
+    → SFits w64 (s +ℤ to_z w64 (of_z w64 p.1)) × ((to_z w64 (of_z w64 (s +ℤ to_z w64 (of_z w64 p.1))) ≡ s +ℤ p.1) × ((drop i ps ≡ p ∷ drop j ps) × AreNear (s +ℤ p.1) (drop j ps)))
+near_step s ps i j p lt next is near =
+    let same : suc i ≡ j = omega (arith, next) in
+    let e : drop i ps ≡ p ∷ drop j ps = drop_next ps i p lt ∙ ap (λ q. q ∷ drop (suc i) ps) (sym is) ∙ ap (λ n. p ∷ drop n ps) same in
+    let along : AreNear s (p ∷ drop j ps) = subst (λ l. AreNear s l) e near in
+    let small : IsSmall4 p.1 = near_delta (p ∷ drop j ps) s 0 p along (omega arith) refl in
+    let here : IsNear s = along.0 in
+    let one : SFits w64 p.1 = omega (arith, ints, small.0, small.1) in
+    let f : to_z w64 (of_z w64 p.1) ≡ p.1 = to_z-of_z w64 p.1 one in
+    let fits : SFits w64 (s +ℤ p.1) = omega (arith, ints, small.0, small.1, here.0, here.1) in
+    let fits' : SFits w64 (s +ℤ to_z w64 (of_z w64 p.1)) = omega (arith, ints, small.0, small.1, here.0, here.1, f) in
+    let is' : to_z w64 (of_z w64 (s +ℤ to_z w64 (of_z w64 p.1))) ≡ s +ℤ p.1 = rw f (to_z-of_z w64 (s +ℤ p.1) fits) in
+    (fits', (is', (e, along.1)))

@@ -1,5 +1,5 @@
 -- Change points: pairs of a moment and a delta.
-use Rattle.std.specs.Prelude.{◌≡◌, ℕ, suc, ◌≤◌, Bool, false, ◌&&◌, ◌||◌, List, [], ◌∷◌, length, ℤ, pos, int_lt, ◌+ℤ◌, Option, Some, None, if◌then◌else◌, nat_le, nat_lt, ◌==◌}
+use Rattle.std.specs.Prelude.{◌≡◌, ℕ, suc, ◌≤◌, Bool, false, ◌&&◌, ◌||◌, List, [], ◌∷◌, length, ℤ, pos, int_lt, ◌+ℤ◌, ◌≤ℤ◌, neg_ℤ, ◌*◌, ◌^◌, Option, Some, None, if◌then◌else◌, nat_le, nat_lt, ◌==◌}
 use Rattle.std.specs.Ordering.{int_eq}
 use Rattle.pl_points.specs.Sums.{IsSmall}
 use Rattle.pl_points.specs.Lists.{back}
@@ -73,6 +73,15 @@ AreSmall ps = (t : ℕ) → IsSmall (sum_to ps t)
 abbrev pub SmallFrom : ℤ → List Point → Type 0
 SmallFrom s [] = IsSmall s
 SmallFrom s (p ∷ ps) = IsSmall s × SmallFrom (s +ℤ p.1) ps
+
+-- within 2 * 10^15 of 0, as is the difference of two such sums
+abbrev pub IsNear : ℤ → Type 0
+IsNear z = (neg_ℤ (pos (2 * 10 ^ 15)) ≤ℤ z) × (z ≤ℤ pos (2 * 10 ^ 15))
+
+-- so are the sums along the points, from one so far
+abbrev pub AreNear : ℤ → List Point → Type 0
+AreNear s [] = IsNear s
+AreNear s (p ∷ ps) = IsNear s × AreNear (s +ℤ p.1) ps
 
 pub record ArePoints (ps : List Point) : Type 0 where
   pub rising : RiseFrom 0 ps

@@ -19,7 +19,7 @@ pub use laws::laws_of_spans;
 pub use limit::Limit;
 pub use mending::{forget, mend};
 pub use noted::Noted;
-pub use plain::PlainPoints;
+pub use plain::{PlainPoints, merge};
 pub use points::Points;
 pub use searching::leaving;
 pub use span::{Change, Span};

@@ -1,6 +1,6 @@
-ghost use Rattle.std.specs.Prelude.{◌≡◌, ◌<◌, ◌≤◌, ◌+◌, ◌^◌, suc, ℕ, ℤ, [], ◌++◌, List, length, take, drop, OnOk, OnErr};
+ghost use Rattle.std.specs.Prelude.{◌≡◌, ◌<◌, ◌≤◌, ◌+◌, ◌^◌, suc, ℕ, ℤ, pos, [], ◌++◌, List, length, take, drop, OnOk, OnErr};
 ghost use Rattle.pl_points.specs.Points.{sum_to, first_from, merged, AreSmall, ArePoints, RiseFrom};
-ghost use Rattle.pl_points.specs.Points.{is_before, put, points_from, ahead_of};
+ghost use Rattle.pl_points.specs.Points.{is_before, put, points_from, ahead_of, AreNear, IsNear};
 ghost use Rattle.pl_points.specs.Lists.{front, back};
 
 use crate::points::Points;
@@ -72,9 +72,11 @@ fn put_in(points: &mut Vec<(u32, i64)>, place: usize, at: u32, delta: i64) -> Re
     Ok(())
 }
 
-fn merge_at(points: &mut Vec<(u32, i64)>, at: u32, delta: i64) -> Result<(), AllocError>
-    requires sound { ArePoints points.old.items }
-    requires small { AreSmall (merged at delta points.old.items) }
+/// Merges the delta into the points, which lie by rising moments.
+pub fn merge(points: &mut Vec<(u32, i64)>, at: u32, delta: i64) -> Result<(), AllocError>
+    requires rising { RiseFrom 0 points.old.items }
+    requires near { AreNear (pos 0) points.old.items }
+    requires delta { IsNear delta }
     ensures ok { OnOk result (points.new.items ≡ merged at delta points.old.items) }
     ensures err { OnErr result (points.new.items ≡ points.old.items) }
 {
@@ -111,7 +113,7 @@ impl Points for PlainPoints {
         if self.points.len() >= u32::MAX as usize {
             return Err(AllocError);
         }
-        merge_at(&mut self.points, at, delta)
+        merge(&mut self.points, at, delta)
     }
 
     fn first_from<L: Ledger>(&self, at: u32, steps: &mut Steps<L>) -> Option<(u32, i64)> {

@@ -35,7 +35,7 @@ pub trait Points: Drop {
         ensures ok { OnOk result (points self.new ≡ merged at delta (points self.old)) }
         ensures err { OnErr result (points self.new ≡ points self.old) }
         ensures ticks { steps.old < steps.new }
-        ensures cost { steps.new ≤ steps.old + change_steps };
+        ensures cost { steps.new ≤ steps.old + parts (length (points self.old)) + change_steps };
 
     /// The first point at or after the moment.
     fn first_from<L: Ledger>(&self, at: u32, steps: &mut Steps<L>) -> Option<(u32, i64)>

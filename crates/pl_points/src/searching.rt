@@ -16,6 +16,7 @@ pub fn leaving<L: Ledger>(
     requires small { SmallFrom before points.now }
     ensures first { result ≡ leaving least most before points.now }
     ensures more { steps.old ≤ steps.new }
+    ensures few { steps.new ≤ steps.old + length points.now }
     ensures cost { steps.new + ahead_of (points_from points.now) result ≤ steps.old + length points.now + 1 }
 {
     let mut sum = before;
