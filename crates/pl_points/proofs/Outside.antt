@@ -65,7 +65,7 @@ below_none c at (p ∷ ps) le rising =
     let e : is_before at p ≡ false = le-ltb p.0 at (omega (arith, le, rising.0)) in
     rw e (omega (arith, ints, below_none (suc p.0) at ps (omega (arith, le, rising.0)) rising.2))
 
-back_none : (c at : ℕ) (ps : List Point) → at ≤ c → RiseFrom c ps → back (is_before at) ps ≡ ps
+pub back_none : (c at : ℕ) (ps : List Point) → at ≤ c → RiseFrom c ps → back (is_before at) ps ≡ ps
 back_none c at [] le rising = refl
 back_none c at (p ∷ ps) le rising =
     let e : is_before at p ≡ false = le-ltb p.0 at (omega (arith, le, rising.0)) in
@@ -154,7 +154,7 @@ or_true false = refl
 pub high_out : (least most z : ℤ) → int_lt most z ≡ true → is_out least most z ≡ true
 high_out least most z high = rw high (or_true (int_lt z least))
 
-same_leaving : (L M B l m b : ℤ) (ps : List Point) → L ≡ l → M ≡ m → B ≡ b → leaving L M B ps ≡ leaving l m b ps
+pub same_leaving : (L M B l m b : ℤ) (ps : List Point) → L ≡ l → M ≡ m → B ≡ b → leaving L M B ps ≡ leaving l m b ps
 same_leaving L M B l m b ps low high before = ap (λ x. leaving x M B ps) low ∙ ap (λ x. leaving l x B ps) high ∙ ap (λ x. leaving l m x ps) before
 
 -- a point after which the sum is outside is the answer
