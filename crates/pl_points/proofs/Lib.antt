@@ -5,6 +5,7 @@ pub mod Spanning
 pub mod Outside
 pub mod Staying
 pub mod Cuts
+pub mod Strolls
 pub mod Rounds
 pub mod Maximal
 pub mod Totals
