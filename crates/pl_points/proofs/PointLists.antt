@@ -1,7 +1,7 @@
 -- Sums, merges and places of change points.
 use Rattle.std.proofs.Common.{◌≡◌, ℕ, zero, suc, ◌+◌, ◌*◌, ◌^◌, ◌<◌, ◌≤◌, Bool, true, false, List, [], ◌∷◌, ◌++◌, length, get_or, take, drop, refl, ap, sym, ◌∙◌, subst, arith, cond, ℤ, pos, ◌+ℤ◌, ◌≤ℤ◌, neg_ℤ, eqb, leb, Some, None, Option, Result, Ok, Err, OnOk, OnErr, ◌-◌}
 use Rattle.std.specs.Ordering.{int_eq}
-use Rattle.std.proofs.lemmas.Bool.{cond_both, lt-ltb, le-ltb, ltb-true, ltb-false, eq-eqb, ne_eqb, eqb-true, eqb-false, leb-true, leb-false, le-leb, lt-leb}
+use Rattle.std.proofs.lemmas.Bool.{false≢true, cond_both, lt-ltb, le-ltb, ltb-true, ltb-false, eq-eqb, ne_eqb, eqb-true, eqb-false, leb-true, leb-false, le-leb, lt-leb}
 use Rattle.std.proofs.lemmas.Bool.Decides.{Decides-int_eq}
 use Rattle.std.proofs.lemmas.Int.{ints, to_z-of_z}
 use mir.Val.{to_z, of_z, SFits}
@@ -325,3 +325,41 @@ near_step s ps i j p lt next is near =
     let fits' : SFits w64 (s +ℤ to_z w64 (of_z w64 p.1)) = omega (arith, ints, small.0, small.1, here.0, here.1, f) in
     let is' : to_z w64 (of_z w64 (s +ℤ to_z w64 (of_z w64 p.1))) ≡ s +ℤ p.1 = rw f (to_z-of_z w64 (s +ℤ p.1) fits) in
     (fits', (is', (e, along.1)))
+
+first_sum : (c : ℕ) (p : Point) (ps : List Point) → RiseFrom c (p ∷ ps) → sum_to (p ∷ ps) p.0 ≡ p.1
+first_sum c p ps rising =
+    let e : leb p.0 p.0 ≡ true = le-leb p.0 p.0 (omega arith) in
+    rw e (omega (arith, ints, sum_before (suc p.0) ps p.0 rising.2 (omega arith)))
+
+some_sum : (c : ℕ) (p : Point) (ps : List Point) → RiseFrom c (p ∷ ps) → sum_to (p ∷ ps) p.0 ≡ pos 0 → ⊥
+some_sum c p ps rising none = false≢true (sym rising.1 ∙ (Decides-int_eq p.1 (pos 0)).1 (sym (first_sum c p ps rising) ∙ none))
+
+first_le : (q : Point) (qs : List Point) (p : Point) (ps : List Point) (d c : ℕ) → RiseFrom c (q ∷ qs) → RiseFrom d (p ∷ ps) → ((t : ℕ) → sum_to (q ∷ qs) t ≡ sum_to (p ∷ ps) t) → p.0 ≤ q.0
+first_le q qs p ps d c one two sums = cases (leb p.0 q.0) refl
+  where
+    cases : (v : Bool) → leb p.0 q.0 ≡ v → p.0 ≤ q.0
+    cases true e = leb-true p.0 q.0 e
+    cases false e = absurd (some_sum c q qs one (sums q.0 ∙ sum_before p.0 (p ∷ ps) q.0 (omega arith, two.1, two.2) (leb-false p.0 q.0 e)))
+
+-- rising points are determined by their sums
+pub same_points : (c e : ℕ) (ps qs : List Point) → RiseFrom c ps → RiseFrom e qs → ((t : ℕ) → sum_to ps t ≡ sum_to qs t) → ps ≡ qs
+same_points c e [] [] one two sums = refl
+same_points c e [] (q ∷ qs) one two sums = absurd (some_sum e q qs two (sym (sums q.0)))
+same_points c e (p ∷ ps) [] one two sums = absurd (some_sum c p ps one (sums p.0))
+same_points c e (p ∷ ps) (q ∷ qs) one two sums =
+    let low : p.0 ≤ q.0 = first_le q qs p ps c e two one (λ t. sym (sums t)) in
+    let high : q.0 ≤ p.0 = first_le p ps q qs e c one two sums in
+    let moment : p.0 ≡ q.0 = omega (arith, low, high) in
+    let delta : p.1 ≡ q.1 = omega (arith, ints, sums p.0, first_sum c p ps one, ap (sum_to (q ∷ qs)) moment, first_sum e q qs two) in
+    let rest : ps ≡ qs = same_points (suc p.0) (suc q.0) ps qs one.2 two.2 (λ t. later t moment delta (sums t) (leb p.0 t) refl) in
+    ap (λ n. (n, p.1) ∷ ps) moment ∙ ap (λ z. (q.0, z) ∷ ps) delta ∙ ap (λ l. q ∷ l) rest
+  where
+    later : (t : ℕ) → p.0 ≡ q.0 → p.1 ≡ q.1 → sum_to (p ∷ ps) t ≡ sum_to (q ∷ qs) t → (v : Bool) → leb p.0 t ≡ v → sum_to ps t ≡ sum_to qs t
+    later t moment delta sum true e =
+        let f : leb q.0 t ≡ true = ap (λ n. leb n t) (sym moment) ∙ e in
+        let g : cond (leb p.0 t) p.1 (pos 0) ≡ p.1 = rw e refl in
+        let h : cond (leb q.0 t) q.1 (pos 0) ≡ q.1 = rw f refl in
+        omega (arith, ints, sum, g, h, delta)
+    later t moment delta sum false e =
+        let lt : t < p.0 = leb-false p.0 t e in
+        sum_before (suc p.0) ps t one.2 (omega (arith, lt)) ∙ sym (sum_before (suc q.0) qs t two.2 (omega (arith, lt, moment)))

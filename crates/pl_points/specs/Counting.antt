@@ -1,8 +1,8 @@
 -- How many points lie outside a limit, and how many steps a walk past them takes.
-use Rattle.std.specs.Prelude.{ℕ, ◌+◌, ◌*◌, Bool, ◌&&◌, nat_lt, List, [], ◌∷◌, if◌then◌else◌}
+use Rattle.std.specs.Prelude.{ℕ, ◌+◌, ◌*◌, Bool, ◌&&◌, nat_lt, List, [], ◌∷◌, ℤ, length, if◌then◌else◌}
 use Rattle.pl_points.specs.declared.limit.Limit.{Limit}
 use Rattle.pl_points.specs.Limits.{is_outside}
-use Rattle.pl_points.specs.Points.{Point, sum_to}
+use Rattle.pl_points.specs.Points.{Point, sum_to, merged}
 
 -- at how many points the property holds
 abbrev pub points_with : (ℕ → Bool) → List Point → ℕ
@@ -28,3 +28,8 @@ walk_steps parts look search count outside = parts count + search + (look + sear
 -- what it takes yet from a moment on
 abbrev pub walk_left : (ℕ → ℕ) → ℕ → ℕ → (ℕ → Bool) → List Point → ℕ → ℕ
 walk_left ahead look search out ps at = ahead at + (if out at then look else 0) + search + (look + search) * points_after out at ps
+
+-- what two changes take, and a walk over what they leave
+abbrev pub shift_steps : (ℕ → ℕ) → ℕ → ℕ → ℕ → Limit → ℕ → ℕ → ℤ → ℤ → List Point → ℕ
+shift_steps parts change look search limit from to delta back ps =
+    (parts (length ps) + change) + ((parts (length (merged from delta ps)) + change) + walk_steps parts look search (length (merged to back (merged from delta ps))) (outside_count limit (merged to back (merged from delta ps))))
