@@ -2,3 +2,4 @@ pub use Rattle.pl_points.specs.Points
 pub use Rattle.pl_points.specs.Lists
 pub mod Blocks
 pub mod Mending
+pub mod Laws

@@ -4,6 +4,8 @@
 mod block;
 mod blocks;
 mod finding;
+mod laws;
 mod mending;
 
 pub use blocks::BlockPoints;
+pub use laws::laws_of_steps;

@@ -96,11 +96,22 @@ left_search ahead look search s t at m out ps e f has lt cost falls =
     omega (arith, h, same, other)
 
 -- a walk begins with all of it left
-pub left_first : (ahead parts : ℕ → ℕ) (look search s t at count : ℕ) (out : ℕ → Bool) (ps : List Point) → t + ahead at ≤ s + parts count + search → t + walk_left ahead look search out ps at ≤ s + walk_steps parts look search count (points_with out ps)
+pub left_first : (ahead parts : ℕ → ℕ) (look search s t at count : ℕ) (out : ℕ → Bool) (ps : List Point) → t + ahead at ≤ s + parts count + search → t + walk_left ahead look search out ps at ≤ s + walk_steps parts look search count (points_after out at ps)
 left_first ahead parts look search s t at count out ps cost =
-    let less : (look + search) * points_after out at ps ≤ (look + search) * points_with out ps = mul-le-mul_left (look + search) (after_all out at ps) in
     let one : cond (out at) look 0 ≤ look = cond_both (out at) look 0 (λ n. n ≤ look) (λ e. omega arith) (λ e. omega arith) in
-    omega (arith, cost, less, one)
+    omega (arith, cost, one)
+
+-- a walk that meets fewer points outside takes no more
+pub walk_less : (parts : ℕ → ℕ) (look search count a b : ℕ) → a ≤ b → walk_steps parts look search count a ≤ walk_steps parts look search count b
+walk_less parts look search count a b le = omega (arith, mul-le-mul_left (look + search) le)
+
+pub after_same : (out other : ℕ → Bool) (at : ℕ) (ps : List Point) → ((t : ℕ) → at < t → out t ≡ other t) → points_after out at ps ≡ points_after other at ps
+after_same out other at [] same = refl
+after_same out other at (p ∷ ps) same = omega (arith, one (ltb at p.0) refl, after_same out other at ps same)
+  where
+    one : (v : Bool) → ltb at p.0 ≡ v → ◌≡◌ {A = ℕ} (cond (ltb at p.0 && out p.0) 1 0) (cond (ltb at p.0 && other p.0) 1 0)
+    one true e = rw e (ap (λ o. cond o 1 0) (same p.0 (ltb-true at p.0 e)))
+    one false e = rw e refl
 
 pub none_within : (a t : ℕ) (c o : Bool) → c ≡ (c || (within a a t && o))
 none_within a t c o = let e : within a a t ≡ false = cases (leb a t) refl in rw e (sym (or_nil c))

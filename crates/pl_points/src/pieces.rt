@@ -1,7 +1,7 @@
 ghost use Rattle.std.specs.Prelude.{◌≡◌, ◌<◌, ◌≤◌, ◌+◌, ◌&&◌, ◌||◌, true, false, ℕ, ℤ, [], ◌∷◌, length, OnOk};
 ghost use Rattle.pl_points.specs.Sums.{IsSmall};
 ghost use Rattle.pl_points.specs.Points.{sum_to, is_out, ArePoints};
-ghost use Rattle.pl_points.specs.Counting.{walk_left, walk_steps, goes_outside, outside_count};
+ghost use Rattle.pl_points.specs.Counting.{walk_left, walk_steps, goes_outside, points_after};
 ghost use Rattle.pl_points.specs.Spans.{AreApart, covers, joined, span, within};
 ghost use Rattle.pl_points.specs.Limits.{is_outside};
 
@@ -170,7 +170,7 @@ pub(crate) fn push_outside<P: Points, L: Ledger>(
     requires apart { AreApart 0 window.from spans.old.items }
     ensures apart { OnOk result (AreApart 0 window.to spans.new.items) }
     ensures covers { OnOk result ((t : ℕ) → covers spans.new.items t ≡ (covers spans.old.items t || (within window.from window.to t && is_outside limit (sum_to (P.points points.now) t)))) }
-    ensures cost { steps.new ≤ steps.old + walk_steps P.parts P.look_steps P.search_steps (length (P.points points.now)) (outside_count limit (P.points points.now)) }
+    ensures cost { steps.new ≤ steps.old + walk_steps P.parts P.look_steps P.search_steps (length (P.points points.now)) (points_after (goes_outside limit (P.points points.now)) window.from (P.points points.now)) }
 {
     let mut at = window.from;
     let mut sum = points.sum_to(at, steps);

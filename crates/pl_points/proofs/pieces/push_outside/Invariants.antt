@@ -3,13 +3,13 @@ use Rattle.std.proofs.Common.{◌≡◌, ℕ, ◌≤◌, ◌<◌, ◌-◌, ◌+�
 use Rattle.pl_points.specs.Points.{sum_to, ArePoints}
 use Rattle.pl_points.specs.Spans.{AreApart, covers, within}
 use Rattle.pl_points.specs.Limits.{is_outside}
-use Rattle.pl_points.specs.Counting.{walk_left, walk_steps, goes_outside, outside_count}
+use Rattle.pl_points.specs.Counting.{walk_left, walk_steps, goes_outside, points_after}
 use Rattle.pl_points.proofs.pieces.push_outside.Given as goal
 
 abbrev pub invariant-pieces : goal.invariant-pieces
 invariant-pieces g l =
     let ps = g.P.Points.points l.points in
-    let all = l.fn.steps + walk_steps g.P.Points.parts g.P.Points.look_steps g.P.Points.search_steps (length ps) (outside_count l.limit ps) in
+    let all = l.fn.steps + walk_steps g.P.Points.parts g.P.Points.look_steps g.P.Points.search_steps (length ps) (points_after (goes_outside l.limit ps) l.window.from ps) in
     record {
       low : l.window.from ≤ l.at;
       high : l.at ≤ l.window.to;
