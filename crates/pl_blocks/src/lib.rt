@@ -6,6 +6,8 @@ mod blocks;
 mod finding;
 mod laws;
 mod mending;
+mod sharing;
 
 pub use blocks::BlockPoints;
 pub use laws::laws_of_steps;
+pub use sharing::shared_types;
