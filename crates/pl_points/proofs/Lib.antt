@@ -9,3 +9,4 @@ pub mod Strolls
 pub mod Rounds
 pub mod Maximal
 pub mod Totals
+pub mod Alike

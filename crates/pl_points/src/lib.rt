@@ -16,7 +16,7 @@ mod span;
 mod steps;
 mod told;
 
-pub use laws::laws_of_spans;
+pub use laws::{laws_of_changes, laws_of_spans, laws_of_standing};
 pub use limit::Limit;
 pub use mending::{forget, mend};
 pub use noted::Noted;
