@@ -1,18 +1,16 @@
 -- What a walk finds from point to point, and what it takes.
-use Rattle.std.proofs.Common.{◌≡◌, ℕ, zero, suc, ◌+◌, ◌*◌, ◌<◌, ◌≤◌, ◌⊎◌, Bool, true, false, ◌&&◌, ◌||◌, List, [], ◌∷◌, length, refl, ap, sym, ◌∙◌, subst, inl, inr, arith, cond, ltb, leb, ℤ, pos, ◌+ℤ◌, ◌≤ℤ◌, Some, None, Option}
-use Rattle.std.specs.Prelude.{int_lt}
+use Rattle.std.proofs.Common.{◌≡◌, ℕ, suc, ◌+◌, ◌*◌, ◌<◌, ◌≤◌, ◌⊎◌, Bool, true, false, ◌&&◌, ◌||◌, List, [], ◌∷◌, refl, ap, sym, ◌∙◌, subst, inl, inr, arith, cond, ltb, leb, ℤ, pos, ◌+ℤ◌, Some, None, Option}
 use Rattle.std.proofs.lemmas.Bool.{cond_both, lt-ltb, le-ltb, ltb-true, ltb-false, leb-true, leb-false, le-leb, lt-leb}
 use Rattle.std.proofs.lemmas.Int.{ints}
 use Rattle.std.proofs.Math.Nat.{mul-le-mul_left}
 use Rattle.pl_points.specs.Lists.{back}
-use Rattle.pl_points.specs.Sums.{IsSmall}
 use Rattle.pl_points.specs.Points.{Point, sum_to, sum_below, is_before, is_out, first_from, outside_among, first_outside, leaving, RiseFrom}
 use Rattle.pl_points.specs.Counting.{points_with, points_after, walk_left, walk_steps}
 use Rattle.pl_points.specs.Spans.{within}
 use Rattle.pl_points.proofs.Spanning.{or_nil}
 use Rattle.pl_points.proofs.Cuts.{within_high, within_low}
 use Rattle.pl_points.proofs.PointLists.{sum_before}
-use Rattle.pl_points.proofs.Outside.{rising_back, back_none, first_is_leaving}
+use Rattle.pl_points.proofs.Outside.{rising_back, first_is_leaving}
 
 -- a point at the moment
 abbrev pub HasMoment : ℕ → List Point → Type 0

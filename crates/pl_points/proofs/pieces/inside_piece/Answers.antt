@@ -1,9 +1,8 @@
-use Rattle.std.proofs.Common.{rules, ◌≡◌, ℕ, ◌+◌, ◌≤◌, ◌<◌, true, false, arith, ap, sym, ◌∙◌, subst, Some, None, ◌+ℤ◌}
+use Rattle.std.proofs.Common.{rules, ◌≡◌, ℕ, ◌+◌, true, false, arith, ap, sym, ◌∙◌, subst, Some, None}
 use mir.Val.{to_z, of_z, SFits}
 use mir.Syntax.{w64}
-use Rattle.std.proofs.lemmas.Int.{ints, to_z-of_z}
-use Rattle.pl_points.specs.Sums.{IsSmall}
-use Rattle.pl_points.specs.Points.{sum_to, sum_below, is_out, first_outside}
+use Rattle.std.proofs.lemmas.Int.{to_z-of_z}
+use Rattle.pl_points.specs.Points.{sum_to, is_out}
 use Rattle.pl_points.specs.Limits.{is_outside}
 use Rattle.pl_points.specs.Counting.{goes_outside}
 use Rattle.pl_points.proofs.Strolls.{StaysInside, stays_inside, sum_is_below, outside_has, left_search, same_bounds}

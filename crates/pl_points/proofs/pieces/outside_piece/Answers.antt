@@ -1,4 +1,4 @@
-use Rattle.std.proofs.Common.{rules, ◌≡◌, ◌+◌, ◌≤◌, ◌<◌, true, arith, ap, sym, ◌∙◌, subst, Some, None, ◌+ℤ◌}
+use Rattle.std.proofs.Common.{◌≡◌, ◌+◌, true, arith, ap, sym, ◌∙◌, subst, Some, None, ◌+ℤ◌}
 use mir.Val.{to_z, of_z, SFits}
 use mir.Syntax.{w64}
 use Rattle.std.proofs.lemmas.Int.{ints, to_z-of_z}

@@ -1,5 +1,5 @@
-use Rattle.std.proofs.Common.{rules, ◌≡◌, ◌<◌, arith, ap, sym, ◌∙◌, ◌||◌, ◌&&◌, length}
-use mir.Val.{to_z, of_z, SFits}
+use Rattle.std.proofs.Common.{rules, arith, ap, ◌∙◌, ◌||◌, ◌&&◌, length}
+use mir.Val.{to_z, SFits}
 use mir.Syntax.{w64}
 use Rattle.std.proofs.lemmas.Int.{to_z-of_z}
 use Rattle.pl_points.specs.Points.{sum_to}

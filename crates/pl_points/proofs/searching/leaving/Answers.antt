@@ -1,7 +1,7 @@
-use Rattle.std.proofs.Common.{◌≡◌, ◌+◌, ◌<◌, ◌≤ℤ◌, ◌+ℤ◌, arith, ap, sym, ◌∙◌, refl, length, get_or, pos, true}
+use Rattle.std.proofs.Common.{◌≡◌, ◌+◌, ◌+ℤ◌, arith, refl, get_or, pos, true}
 use mir.Val.{to_z, of_z}
 use mir.Syntax.{w64}
-use Rattle.std.proofs.lemmas.Int.{ints, to_z-of_z}
+use Rattle.std.proofs.lemmas.Int.{to_z-of_z}
 use Rattle.std.proofs.lemmas.List.{get_or_default}
 use Rattle.pl_points.specs.Points.{is_out}
 use Rattle.pl_points.proofs.PointLists.{sum_step, fits_here, adds_here}

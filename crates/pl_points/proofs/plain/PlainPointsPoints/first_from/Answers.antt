@@ -1,4 +1,4 @@
-use Rattle.std.proofs.Common.{rules, ◌≡◌, ◌<◌, ◌≤◌, ◌+◌, length, drop, ap, sym, ◌∙◌, subst, arith}
+use Rattle.std.proofs.Common.{rules, ◌≡◌, ◌<◌, ◌≤◌, length, drop, ap, sym, ◌∙◌, subst, arith}
 use Rattle.pl_points.specs.Points.{first_from, points_from}
 use Rattle.pl_points.proofs.Outside.{look_passes}
 use Rattle.pl_points.proofs.PointLists.{head_some, head_none}

@@ -1,4 +1,4 @@
-use Rattle.std.proofs.Common.{◌≡◌, ◌-◌, ◌+◌, ◌+ℤ◌, List, length, take, drop, ap, sym, ◌∙◌, subst, arith, pos}
+use Rattle.std.proofs.Common.{◌≡◌, ◌-◌, ◌+ℤ◌, List, length, take, drop, ap, sym, ◌∙◌, subst, arith, pos}
 use mir.Val.{to_z, of_z}
 use mir.Syntax.{w64}
 use Rattle.std.proofs.lemmas.Int.{ints, to_z-of_z}
