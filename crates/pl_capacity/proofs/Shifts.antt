@@ -13,19 +13,20 @@ use Rattle.pl_points.specs.declared.limit.Limit.TheVariants.{Above}
 use Rattle.pl_points.specs.declared.noted.Noted.{Noted}
 use Rattle.pl_points.specs.declared.noted.Noted.TheVariants.{Came, Went}
 use Rattle.pl_points.specs.Sums.{total}
-use Rattle.pl_points.specs.Points.{Point, sum_to, merged, AreSmall}
+use Rattle.pl_points.specs.Points.{Point, sum_to, merged, AreSmall, RiseFrom}
 use Rattle.pl_points.specs.Limits.{is_outside}
+use Rattle.pl_points.specs.Counting.{shift_steps}
 use Rattle.pl_points.specs.Spans.{within, covers, AreSpans, AreMaximal}
 use Rattle.pl_points.specs.Mending.{mended}
 use Rattle.pl_points.specs.Changes.{IsChange}
 use Rattle.pl_points.specs.Standing.{Each, standing, stands, without}
-use Rattle.pl_points.proofs.PointLists.{sum_to-merged}
+use Rattle.pl_points.proofs.PointLists.{sum_to-merged, rising-merged, same_points}
 use Rattle.pl_points.proofs.Spanning.{within_true}
 use Rattle.pl_points.proofs.Cuts.{within_yes}
 use Rattle.pl_points.proofs.Maximal.{is_spans_of, remaximal, later_maximal, maximal_apart}
 use Rattle.pl_points.proofs.Totals.{total_bounds, each-all, IsAmount, total-push, total-without, length-without, each-push, each-without, each-stands, standing-push}
 use Rattle.pl_capacity.specs.declared.reservation.Use.{Use}
-use Rattle.pl_capacity.specs.Uses.{Standing, state_of, IsUse, use_of, same_use, taken_at, used, is_over, spans_now}
+use Rattle.pl_capacity.specs.Uses.{Standing, state_of, IsUse, use_of, same_use, taken_at, used, is_over, spans_now, points_of, use_steps}
 use Rattle.pl_capacity.specs.Soundness.{IsSound}
 
 amount_taken : (t : ℕ) (u : Use) → IsUse u → IsAmount (taken_at t u)
@@ -96,6 +97,7 @@ sound_shifted s s' ps ps' spans spans' from to d back sound le is same_horizon s
       fits = omega (arith, sound.fits, same_horizon);
       few = few;
       bounded = bounded;
+      rising = subst (λ l. RiseFrom 0 l) (sym points) (rising-merged 0 to back (merged from d ps) (omega arith) (rising-merged 0 from d ps (omega arith) sound.rising));
       tied = tied;
       maximal = subst (λ n. AreMaximal (is_over s'.most s'.uses) n s'.horizon spans') (sym same_moment) (subst (λ n. AreMaximal (is_over s'.most s'.uses) s.moment n spans') (sym same_horizon)
           (remaximal (is_over s.most s.uses) (is_over s'.most s'.uses) (λ x. is_outside (Above s.most) (sum_to ps' x)) s.moment s.horizon (max s.moment from) (max (max s.moment from) (min to s.horizon)) spans spans'
@@ -153,6 +155,7 @@ sound_later s s' ps spans spans' sound same_horizon same_most same_uses later bo
       fits = omega (arith, sound.fits, same_horizon);
       few = subst (λ l. length l ≤ 320000) (sym same_uses) sound.few;
       bounded = subst (λ l. Each IsUse l) (sym same_uses) sound.bounded;
+      rising = sound.rising;
       tied = λ t. sound.tied t ∙ ap (λ l. used l t) (sym same_uses);
       maximal = subst (λ n. AreMaximal (is_over s'.most s'.uses) s'.moment n spans') (sym same_horizon) (subst (λ l. AreMaximal (is_over s'.most l) s'.moment s.horizon spans') (sym same_uses)
           (subst (λ m. AreMaximal (is_over m s.uses) s'.moment s.horizon spans') (sym same_most) (later_maximal (is_over s.most s.uses) s.moment s.horizon s'.moment spans spans' later sound.maximal apart says)));
@@ -179,3 +182,27 @@ same_state b h m n l k e f = ap (make false h m n) f ∙ ap (λ v. make v h m n 
 
 pub amount_of : (u : Use) → IsUse u → IsAmount u.amount
 amount_of u is = (omega (arith, ints, is.1), is.2)
+
+rising_points : (uses : List Use) → RiseFrom 0 (points_of uses)
+rising_points [] = tt
+rising_points (u ∷ us) = rising-merged 0 u.to (neg_ℤ u.amount) (merged u.from u.amount (points_of us)) (omega arith) (rising-merged 0 u.from u.amount (points_of us) (omega arith) (rising_points us))
+
+sum_points : (uses : List Use) (t : ℕ) → Each IsUse uses → sum_to (points_of uses) t ≡ used uses t
+sum_points [] t all = refl
+sum_points (u ∷ us) t all = omega (arith, ints, shifted_sum (points_of us) u.from u.to u.amount (neg_ℤ u.amount) t (omega (arith, all.0.0)) refl, sum_points us t all.1)
+
+-- the points of a sound capacity are those of its uses
+pub points_are : (s : Standing) (ps : List Point) (spans : List Span) → IsSound s ps spans → ps ≡ points_of s.uses
+points_are s ps spans sound = same_points 0 0 ps (points_of s.uses) sound.rising (rising_points s.uses) (λ t. sound.tied t ∙ sym (sum_points s.uses t sound.bounded))
+
+-- what a shift takes, in terms of the uses
+pub use_cost : (parts : ℕ → ℕ) (change look search before after from to : ℕ) (s v : Standing) (ps : List Point) (spans : List Span) (d back D B M : ℤ) → IsSound s ps spans → s ≡ v → M ≡ s.most → D ≡ d → B ≡ back
+    → after ≤ before + shift_steps parts change look search (Above M) from to D B ps → after ≤ before + use_steps parts change look search v from to d back
+use_cost parts change look search before after from to s v ps spans d back D B M sound same most one two cost =
+    let e : shift_steps parts change look search (Above M) from to D B ps ≡ use_steps parts change look search v from to d back =
+    ap (λ l. shift_steps parts change look search (Above M) from to D B l) (points_are s ps spans sound)
+    ∙ ap (λ m. shift_steps parts change look search (Above m) from to D B (points_of s.uses)) most
+    ∙ ap (λ x. shift_steps parts change look search (Above s.most) from to x B (points_of s.uses)) one
+    ∙ ap (λ x. shift_steps parts change look search (Above s.most) from to d x (points_of s.uses)) two
+    ∙ ap (λ w. use_steps parts change look search w from to d back) same in
+    subst (λ n. after ≤ before + n) e cost

@@ -1,8 +1,11 @@
 -- Uses of a capacity, and where they are above the most that it has.
-use Rattle.std.specs.Prelude.{ℕ, ◌-◌, ◌<◌, ◌&&◌, ◌==◌, Bool, List, ℤ, pos, ◌≤ℤ◌, int_lt, if◌then◌else◌, ◌^◌}
+use Rattle.std.specs.Prelude.{ℕ, [], ◌∷◌, neg_ℤ, ◌-◌, ◌<◌, ◌&&◌, ◌==◌, Bool, List, ℤ, pos, ◌≤ℤ◌, int_lt, if◌then◌else◌, ◌^◌}
 use Rattle.std.specs.Ordering.{int_eq}
 use Rattle.pl_points.specs.declared.span.Span.{Span}
 use Rattle.pl_points.specs.Sums.{total}
+use Rattle.pl_points.specs.Points.{Point, merged}
+use Rattle.pl_points.specs.Counting.{shift_steps}
+use Rattle.pl_points.specs.declared.limit.Limit.TheVariants.{Above}
 use Rattle.pl_points.specs.Spans.{within, spans_of}
 use Rattle.pl_points.specs.declared.noted.Noted.{Noted}
 use Rattle.pl_points.specs.Standing.{standing}
@@ -45,3 +48,12 @@ spans_now s = spans_of (is_over s.most s.uses) s.moment (s.horizon - s.moment)
 -- the one after all that was noted
 abbrev pub state_of : Bool → ℕ → ℤ → ℕ → List (Noted Use) → Standing
 state_of spoiled horizon most moment notes = record { spoiled = spoiled; horizon = horizon; most = most; moment = moment; uses = standing same_use notes }
+
+-- the points at which what is in use changes: each use adds its amount at its begin and takes it back at its end
+abbrev pub points_of : List Use → List Point
+points_of [] = []
+points_of (u ∷ us) = merged u.to (neg_ℤ u.amount) (merged u.from u.amount (points_of us))
+
+-- how many steps a change of what is in use from a moment up to another one takes
+abbrev pub use_steps : (ℕ → ℕ) → ℕ → ℕ → ℕ → Standing → ℕ → ℕ → ℤ → ℤ → ℕ
+use_steps parts change look search s from to delta back = shift_steps parts change look search (Above s.most) from to delta back (points_of s.uses)

@@ -1,7 +1,7 @@
-ghost use Rattle.std.specs.Prelude.{◌≡◌, ◌<◌, ◌≤◌, ◌≤ℤ◌, ◌^◌, pos, true, false, [], ◌∷◌, ◌++◌, length, OnOk, OnErr, IfOk, IsErr};
+ghost use Rattle.std.specs.Prelude.{◌≡◌, ◌<◌, ◌≤◌, ◌+◌, ◌≤ℤ◌, neg_ℤ, ◌^◌, pos, true, false, [], ◌∷◌, ◌++◌, length, OnOk, OnErr, IfOk, IsErr};
 ghost use Rattle.pl_points.specs.Changes.{IsChange};
 ghost use Rattle.pl_points.specs.Standing.{without, stands};
-ghost use Rattle.pl_capacity.specs.Uses.{IsUse, use_of, same_use, used, spans_now};
+ghost use Rattle.pl_capacity.specs.Uses.{IsUse, use_of, same_use, used, spans_now, use_steps};
 
 use crate::reservation::Use;
 use crate::shifting::shift;
@@ -69,6 +69,7 @@ impl<P: Points> Capacity<P> {
         ensures unspoiled { OnOk result (self.old.spoiled ≡ false) }
         ensures err { OnErr result (self.new.spoiled ≡ true) }
         ensures after_spoil { self.old.spoiled ≡ true → IsErr result }
+        ensures cost { self.old.spoiled ≡ false → steps.new ≤ steps.old + use_steps P.parts P.change_steps P.look_steps P.search_steps self.old from to amount (neg_ℤ amount) }
     {
         if self.spoiled {
             return Err(AllocError);
@@ -109,6 +110,7 @@ impl<P: Points> Capacity<P> {
         ensures unspoiled { OnOk result (self.old.spoiled ≡ false) }
         ensures err { OnErr result (self.new.spoiled ≡ true) }
         ensures after_spoil { self.old.spoiled ≡ true → IsErr result }
+        ensures cost { self.old.spoiled ≡ false → steps.new ≤ steps.old + use_steps P.parts P.change_steps P.look_steps P.search_steps self.old from to (neg_ℤ amount) amount }
     {
         if self.spoiled {
             return Err(AllocError);

@@ -3,7 +3,9 @@
 
 mod capacity;
 mod reservation;
+mod sharing;
 mod shifting;
 
 pub use capacity::Capacity;
 pub use reservation::Use;
+pub use sharing::shared_types;

@@ -1,6 +1,7 @@
-ghost use Rattle.std.specs.Prelude.{◌≡◌, ◌<◌, ◌≤◌, ℕ, neg_ℤ, OnOk, IfOk, max, min};
+ghost use Rattle.std.specs.Prelude.{◌≡◌, ◌<◌, ◌≤◌, ◌+◌, ℕ, neg_ℤ, OnOk, IfOk, max, min};
 ghost use Rattle.pl_points.specs.Points.{sum_to, merged, AreSmall};
 ghost use Rattle.pl_points.specs.Limits.{is_outside};
+ghost use Rattle.pl_points.specs.Counting.{shift_steps};
 ghost use Rattle.pl_points.specs.Spans.{AreSpans, covers};
 ghost use Rattle.pl_points.specs.Mending.{mended};
 ghost use Rattle.pl_points.specs.Changes.{IsChange};
@@ -43,6 +44,7 @@ pub(crate) fn shift<P: Points, L: Ledger>(
     ensures apart { OnOk result (AreSpans spans.new.items) }
     ensures covers { OnOk result ((t : ℕ) → covers spans.new.items t ≡ mended (max window.from from) (max (max window.from from) (min to window.to)) (λ x. is_outside (Limit.Above most) (sum_to (P.points points.new) x)) spans.old.items t) }
     ensures change { IfOk result (λ c. IsChange spans.old.items spans.new.items c) }
+    ensures cost { steps.new ≤ steps.old + shift_steps P.parts P.change_steps P.look_steps P.search_steps (Limit.Above most) from to delta back (P.points points.old) }
 {
     points.add(from, delta, steps)?;
     points.add(to, back, steps)?;

@@ -10,20 +10,22 @@ use mir.Syntax.{w64}
 use Rattle.pl_points.specs.declared.span.Span.{Span}
 use Rattle.pl_points.specs.declared.limit.Limit.TheVariants.{Below, Above}
 use Rattle.pl_points.specs.Sums.{total, IsSmall}
-use Rattle.pl_points.specs.Points.{Point, sum_to, merged, AreSmall}
+use Rattle.pl_points.specs.Points.{Point, sum_to, merged, AreSmall, RiseFrom}
 use Rattle.pl_points.specs.Limits.{is_outside}
 use Rattle.pl_points.specs.Spans.{within, covers, AreSpans, AreMaximal, span}
 use Rattle.pl_points.specs.Mending.{mended}
 use Rattle.pl_points.specs.Changes.{IsChange}
 use Rattle.pl_points.specs.Standing.{Each, standing, stands, without}
-use Rattle.pl_points.proofs.PointLists.{sum_to-merged}
+use Rattle.pl_points.proofs.PointLists.{sum_to-merged, rising-merged, same_points}
+use Rattle.pl_points.specs.Counting.{walk_steps, points_with, points_after, goes_outside}
+use Rattle.pl_points.proofs.Strolls.{walk_less, after_all, after_same}
 use Rattle.pl_points.proofs.Spanning.{within_true, or_nil}
 use Rattle.pl_points.proofs.Cuts.{within_yes}
 use Rattle.pl_points.proofs.Maximal.{is_spans_of, remaximal, later_maximal, maximal_apart}
 use Rattle.pl_points.proofs.Totals.{total_bounds, each-all, IsAmount, total-push, total-without, length-without, each-push, each-without, each-stands, standing-push}
 use Rattle.pl_level.specs.declared.reservation.Effect.{Effect}
 use Rattle.pl_level.specs.declared.reservation.LevelChange.{LevelChange}
-use Rattle.pl_level.specs.Effects.{Standing, IsEffect, IsValue, effect_of, same_effect, counted, level, is_low, is_high, low_now, high_now}
+use Rattle.pl_level.specs.Effects.{Standing, IsEffect, IsValue, effect_of, same_effect, counted, level, is_low, is_high, low_now, high_now, points_of, effect_steps}
 use Rattle.pl_level.specs.Soundness.{summed, IsTied, IsSound, AreChanges}
 
 pub amount_of : (u : Effect) → IsEffect u → IsAmount u.delta
@@ -148,6 +150,24 @@ begin_late h moment base at le = cond_both (leb at base) h (min (max at moment) 
 pub begin_bound : (h moment base at : ℕ) → begin h moment base at ≤ h
 begin_bound h moment base at = cond_both (leb at base) h (min (max at moment) h) (λ n. n ≤ h) (λ e. omega arith) (λ e. omega arith)
 
+rising_points : (xs : List Effect) → RiseFrom 0 (points_of xs)
+rising_points [] = tt
+rising_points (u ∷ us) = rising-merged 0 u.at u.delta (points_of us) (omega arith) (rising_points us)
+
+sum_points : (xs : List Effect) (t : ℕ) → sum_to (points_of xs) t ≡ total (summed t) xs
+sum_points [] t = refl
+sum_points (u ∷ us) t = omega (arith, ints, sum_to-merged u.at u.delta (points_of us) t, sum_points us t)
+
+-- the points of a sound level are those of its effects
+pub points_are : (s : Standing) (b : ℤ) (ps : List Point) → IsTied s b ps → ps ≡ points_of s.effects
+points_are s b ps tied = same_points 0 0 ps (points_of s.effects) tied.rising (rising_points s.effects) (λ t. tied.tied t ∙ sym (sum_points s.effects t))
+
+-- what a change takes that ends early
+pub change_cost : (parts : ℕ → ℕ) (change look search before after : ℕ) (s : Standing) (ys : List Effect) (b : ℤ) (ps : List Point) (at : ℕ) (d : ℤ) → IsTied s b ps → after ≤ before + parts (length ps) + change → after ≤ before + effect_steps parts change look search s ys at d
+change_cost parts change look search before after s ys b ps at d tied cost =
+    let e : parts (length ps) ≡ parts (length (points_of s.effects)) = ap (λ (l : List Point). parts (length l)) (points_are s b ps tied) in
+    omega (arith, cost, e)
+
 module _ (spoiled : Bool) (h : ℕ) (least most : ℤ) (moment base : ℕ) (value : ℤ) (xs ys : List Effect) (b : ℤ) (ps : List Point) (at : ℕ) (d : ℤ) where
   pub tied_shifted : IsTied (make spoiled h least most moment base value xs) b ps → length ys ≤ 320000 → Each IsEffect ys → Adds at d xs ys → IsTied (make false h least most moment base value ys) (b +ℤ cond (leb at base) d (pos 0)) (merged at d ps)
   tied_shifted tied few bounded adds = record {
@@ -159,6 +179,7 @@ module _ (spoiled : Bool) (h : ℕ) (least most : ℤ) (moment base : ℕ) (valu
     value = tied.value;
     few = few;
     bounded = bounded;
+    rising = rising-merged 0 at d ps (omega arith) tied.rising;
     tied = λ t. sum_to-merged at d ps t ∙ (ap (λ z. z +ℤ cond (leb at t) d (pos 0)) (tied.tied t) ∙ sym (adds (λ n. leb n t)));
     before = ap (λ z. z +ℤ cond (leb at base) d (pos 0)) tied.before ∙ sym (adds (λ n. leb n base));
   }
@@ -195,6 +216,25 @@ module _ (spoiled : Bool) (h : ℕ) (least most : ℤ) (moment base : ℕ) (valu
             (λ t. subst (λ z. covers high' t ≡ mended (begin h moment base at) h (λ x. is_outside (Above z) (sum_to ps' x)) high t) is_m (says_high t)) (begin_late h moment base at sound.tied.in_time) (level_stays adds) refl;
       }
 
+  -- what a change takes, in terms of the effects
+  pub level_cost : (parts : ℕ → ℕ) (change look search before mid after from : ℕ) (ps' : List Point) (b' l m : ℤ) → IsTied (make spoiled h least most moment base value xs) b ps → length ys ≤ 320000 → Each IsEffect ys → Adds at d xs ys
+      → ps' ≡ merged at d ps → b' ≡ b +ℤ cond (leb at base) d (pos 0) → l ≡ (least -ℤ value) +ℤ b' → m ≡ (most -ℤ value) +ℤ b' → base ≤ from → mid ≤ before + parts (length ps) + change
+      → after ≤ mid + (walk_steps parts look search (length ps') (points_after (goes_outside (Below l) ps') from ps') + walk_steps parts look search (length ps') (points_after (goes_outside (Above m) ps') from ps'))
+      → after ≤ before + effect_steps parts change look search (make spoiled h least most moment base value xs) ys at d
+  level_cost parts change look search before mid after from ps' b' l m tied few bounded adds points is_b is_l is_m le cost walks =
+      let s' = make false h least most moment base value ys in
+      let tied' : IsTied s' b' ps' = subst (λ q. IsTied s' b' q) (sym points) (subst (λ z. IsTied s' z (merged at d ps)) (sym is_b) (tied_shifted tied few bounded adds)) in
+      let low : points_after (goes_outside (Below l) ps') from ps' ≡ points_after (is_low s') from ps' = after_same (goes_outside (Below l) ps') (is_low s') from ps' (λ t lt.
+      ap (int_lt (sum_to ps' t)) is_l ∙ low_test (sum_to ps' t) value least b' ∙ ap (λ z. int_lt z least) (sym (level_is s' b' ps' t tied' (omega (arith, le, lt))))) in
+      let high : points_after (goes_outside (Above m) ps') from ps' ≡ points_after (is_high s') from ps' = after_same (goes_outside (Above m) ps') (is_high s') from ps' (λ t lt.
+      ap (λ z. int_lt z (sum_to ps' t)) is_m ∙ high_test (sum_to ps' t) value most b' ∙ ap (int_lt most) (sym (level_is s' b' ps' t tied' (omega (arith, le, lt))))) in
+      let low_less = walk_less parts look search (length ps') (points_after (goes_outside (Below l) ps') from ps') (points_with (is_low s') ps') (omega (arith, low, after_all (is_low s') from ps')) in
+      let high_less = walk_less parts look search (length ps') (points_after (goes_outside (Above m) ps') from ps') (points_with (is_high s') ps') (omega (arith, high, after_all (is_high s') from ps')) in
+      let both : after ≤ before + ((parts (length ps) + change) + (walk_steps parts look search (length ps') (points_with (is_low s') ps') + walk_steps parts look search (length ps') (points_with (is_high s') ps'))) = omega (arith, cost, walks, low_less, high_less) in
+      let merged_is = subst (λ (q : List Point). after ≤ before + ((parts (length ps) + change) + (walk_steps parts look search (length q) (points_with (is_low s') q) + walk_steps parts look search (length q) (points_with (is_high s') q)))) points both in
+      subst (λ (q : List Point). after ≤ before + ((parts (length q) + change) + (walk_steps parts look search (length (merged at d q)) (points_with (is_low s') (merged at d q)) + walk_steps parts look search (length (merged at d q)) (points_with (is_high s') (merged at d q)))))
+      (points_are (make spoiled h least most moment base value xs) b ps tied) merged_is
+
 module _ (spoiled : Bool) (h : ℕ) (least most : ℤ) (moment base : ℕ) (value : ℤ) (xs : List Effect) (b : ℤ) (ps : List Point) where
   pub tied_rebased : (v b' : ℤ) → IsTied (make spoiled h least most moment base value xs) b ps → IsValue v → b' ≡ sum_to ps moment → IsTied (make false h least most moment moment v xs) b' ps
   tied_rebased v b' tied is before = record {
@@ -206,6 +246,7 @@ module _ (spoiled : Bool) (h : ℕ) (least most : ℤ) (moment base : ℕ) (valu
     value = is;
     few = tied.few;
     bounded = tied.bounded;
+    rising = tied.rising;
     tied = tied.tied;
     before = before ∙ tied.tied moment;
   }
@@ -238,6 +279,7 @@ module _ (spoiled : Bool) (h : ℕ) (least most : ℤ) (moment base : ℕ) (valu
       value = sound.tied.value;
       few = sound.tied.few;
       bounded = sound.tied.bounded;
+      rising = sound.tied.rising;
       tied = sound.tied.tied;
       before = sound.tied.before;
     };
@@ -314,6 +356,7 @@ sound_new h least most value xs ps low high lt fits is_least is_most is_value no
         value = is_value;
         few = omega arith;
         bounded = tt;
+        rising = subst (λ l. RiseFrom 0 l) (sym points) tt;
         tied = λ t. ap (λ l. sum_to l t) points;
         before = refl;
       };

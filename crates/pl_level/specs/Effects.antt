@@ -1,9 +1,11 @@
 -- Effects on a level, and where it is below its least or above its most.
-use Rattle.std.specs.Prelude.{ℕ, ◌-◌, ◌≤◌, ◌&&◌, ◌==◌, nat_lt, nat_le, Bool, List, ℤ, pos, neg_ℤ, ◌+ℤ◌, ◌≤ℤ◌, int_lt, if◌then◌else◌, ◌^◌}
+use Rattle.std.specs.Prelude.{ℕ, ◌-◌, ◌≤◌, ◌&&◌, ◌==◌, nat_lt, nat_le, Bool, List, [], ◌∷◌, length, ◌+◌, ℤ, pos, neg_ℤ, ◌+ℤ◌, ◌≤ℤ◌, int_lt, if◌then◌else◌, ◌^◌}
 use Rattle.std.specs.Ordering.{int_eq}
 use Rattle.pl_points.specs.declared.span.Span.{Span}
 use Rattle.pl_points.specs.declared.noted.Noted.{Noted}
 use Rattle.pl_points.specs.Sums.{total}
+use Rattle.pl_points.specs.Points.{Point, merged}
+use Rattle.pl_points.specs.Counting.{walk_steps, points_with}
 use Rattle.pl_points.specs.Spans.{spans_of}
 use Rattle.pl_points.specs.Standing.{standing}
 use Rattle.pl_level.specs.declared.reservation.Effect.{Effect}
@@ -58,3 +60,22 @@ high_now s = spans_of (is_high s) s.moment (s.horizon - s.moment)
 -- the one after all that was noted
 abbrev pub state_of : Bool → ℕ → ℤ → ℤ → ℕ → ℕ → ℤ → List (Noted Effect) → Standing
 state_of spoiled horizon least most moment base value notes = record { spoiled = spoiled; horizon = horizon; least = least; most = most; moment = moment; base = base; value = value; effects = standing same_effect notes }
+
+-- the points at which the level changes
+abbrev pub points_of : List Effect → List Point
+points_of [] = []
+points_of (u ∷ us) = merged u.at u.delta (points_of us)
+
+-- after how many of the points the level with other effects is low, and after how many it is high
+abbrev pub low_count : Standing → List Effect → List Point → ℕ
+low_count s effects ps = points_with (is_low (record s { effects = effects })) ps
+
+abbrev pub high_count : Standing → List Effect → List Point → ℕ
+high_count s effects ps = points_with (is_high (record s { effects = effects })) ps
+
+-- how many steps a change of the level from a moment on takes, where these effects stand after it
+abbrev pub effect_steps : (ℕ → ℕ) → ℕ → ℕ → ℕ → Standing → List Effect → ℕ → ℤ → ℕ
+effect_steps parts change look search s effects at delta =
+    (parts (length (points_of s.effects)) + change)
+    + (walk_steps parts look search (length (merged at delta (points_of s.effects))) (low_count s effects (merged at delta (points_of s.effects)))
+    + walk_steps parts look search (length (merged at delta (points_of s.effects))) (high_count s effects (merged at delta (points_of s.effects))))

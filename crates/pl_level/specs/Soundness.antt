@@ -3,7 +3,7 @@ use Rattle.std.specs.Prelude.{◌≡◌, ℕ, ◌≤◌, ◌<◌, List, ℤ, pos
 use Rattle.pl_points.specs.declared.span.Span.{Span}
 use Rattle.pl_points.specs.declared.span.Change.{Change}
 use Rattle.pl_points.specs.Sums.{total}
-use Rattle.pl_points.specs.Points.{sum_to}
+use Rattle.pl_points.specs.Points.{sum_to, RiseFrom}
 use Rattle.pl_points.specs.Spans.{AreMaximal}
 use Rattle.pl_points.specs.Changes.{IsChange}
 use Rattle.pl_points.specs.Standing.{Each}
@@ -24,6 +24,7 @@ pub record IsTied (state : Standing) (sum : ℤ) (points : List (ℕ × ℤ)) : 
   pub value : IsValue state.value
   pub few : length state.effects ≤ 320000
   pub bounded : Each IsEffect state.effects
+  pub rising : RiseFrom 0 points
   pub tied : (t : ℕ) → sum_to points t ≡ total (summed t) state.effects
   pub before : sum ≡ total (summed state.base) state.effects
 

@@ -1,8 +1,9 @@
-ghost use Rattle.std.specs.Prelude.{◌≡◌, ◌≤◌, ◌<◌, ◌^◌, ℕ, Bool, true, false, [], ◌∷◌, OnOk, IfOk, if◌then◌else◌};
+ghost use Rattle.std.specs.Prelude.{◌≡◌, ◌≤◌, ◌+◌, ◌<◌, length, ◌^◌, ℕ, Bool, true, false, [], ◌∷◌, OnOk, IfOk, if◌then◌else◌};
 ghost use Rattle.pl_points.specs.Points.{sum_to};
 ghost use Rattle.pl_points.specs.Limits.{is_outside};
 ghost use Rattle.pl_points.specs.Spans.{AreSpans, covers, span};
 ghost use Rattle.pl_points.specs.Mending.{mended};
+ghost use Rattle.pl_points.specs.Counting.{walk_steps, points_after, goes_outside};
 ghost use Rattle.pl_points.specs.Changes.{IsChange};
 
 use pl_lists::Copied;
@@ -80,6 +81,7 @@ impl Kept {
         ensures apart { OnOk result (AreSpans self.new) }
         ensures covers { OnOk result ((t : ℕ) → covers self.new t ≡ mended window.from window.to (λ x. is_outside limit (sum_to (P.points points.now) x)) self.old t) }
         ensures change { IfOk result (λ c. IsChange self.old self.new c) }
+        ensures cost { steps.new ≤ steps.old + walk_steps P.parts P.look_steps P.search_steps (length (P.points points.now)) (points_after (goes_outside limit (P.points points.now)) window.from (P.points points.now)) }
     {
         let mut spans = self.taken()?;
         let change = mend(self.alloc, &mut spans, points, limit, window, steps)?;

@@ -1,7 +1,7 @@
-ghost use Rattle.std.specs.Prelude.{◌≡◌, ◌<◌, ◌≤◌, true, false, [], ◌∷◌, ◌++◌, length, OnOk, OnErr, IfOk, IsErr};
+ghost use Rattle.std.specs.Prelude.{◌≡◌, ◌<◌, ◌≤◌, ◌+◌, neg_ℤ, true, false, [], ◌∷◌, ◌++◌, length, OnOk, OnErr, IfOk, IsErr};
 ghost use Rattle.pl_points.specs.Changes.{IsChange};
 ghost use Rattle.pl_points.specs.Standing.{without, stands};
-ghost use Rattle.pl_level.specs.Effects.{IsEffect, IsValue, effect_of, same_effect, level, low_now, high_now};
+ghost use Rattle.pl_level.specs.Effects.{IsEffect, IsValue, effect_of, same_effect, level, low_now, high_now, effect_steps};
 ghost use Rattle.pl_level.specs.Soundness.{AreChanges};
 
 use crate::kept::Kept;
@@ -95,6 +95,7 @@ impl<P: Points> Level<P> {
         ensures unspoiled { OnOk result (self.old.spoiled ≡ false) }
         ensures err { OnErr result (self.new.spoiled ≡ true) }
         ensures after_spoil { self.old.spoiled ≡ true → IsErr result }
+        ensures cost { self.old.spoiled ≡ false → steps.new ≤ steps.old + effect_steps P.parts P.change_steps P.look_steps P.search_steps self.old (self.old.effects ++ effect_of at delta ∷ []) at delta }
     {
         if self.spoiled {
             return Err(AllocError);
@@ -134,6 +135,7 @@ impl<P: Points> Level<P> {
         ensures unspoiled { OnOk result (self.old.spoiled ≡ false) }
         ensures err { OnErr result (self.new.spoiled ≡ true) }
         ensures after_spoil { self.old.spoiled ≡ true → IsErr result }
+        ensures cost { self.old.spoiled ≡ false → steps.new ≤ steps.old + effect_steps P.parts P.change_steps P.look_steps P.search_steps self.old (without same_effect (effect_of at delta) self.old.effects) at (neg_ℤ delta) }
     {
         if self.spoiled {
             return Err(AllocError);

@@ -4,7 +4,9 @@
 mod kept;
 mod level;
 mod reservation;
+mod sharing;
 mod windows;
 
 pub use level::Level;
 pub use reservation::{Effect, LevelChange};
+pub use sharing::shared_types;

@@ -1,10 +1,11 @@
-ghost use Rattle.std.specs.Prelude.{◌≡◌, ◌<◌, ◌≤◌, ◌≤ℤ◌, ◌+ℤ◌, ◌-ℤ◌, ◌^◌, ℕ, ℤ, pos, neg_ℤ, nat_le, false, OnOk, IfOk, max, min, if◌then◌else◌};
+ghost use Rattle.std.specs.Prelude.{◌≡◌, ◌<◌, ◌≤◌, ◌+◌, length, ◌≤ℤ◌, ◌+ℤ◌, ◌-ℤ◌, ◌^◌, ℕ, ℤ, pos, neg_ℤ, nat_le, false, OnOk, IfOk, max, min, if◌then◌else◌};
 ghost use Rattle.pl_points.specs.Sums.{IsSmall};
 ghost use Rattle.pl_points.specs.Points.{sum_to};
 ghost use Rattle.pl_points.specs.Limits.{is_outside};
 ghost use Rattle.pl_points.specs.declared.limit.Limit.TheVariants.{Below, Above};
 ghost use Rattle.pl_points.specs.Spans.{AreSpans, covers};
 ghost use Rattle.pl_points.specs.Mending.{mended};
+ghost use Rattle.pl_points.specs.Counting.{walk_steps, points_after, goes_outside};
 ghost use Rattle.pl_level.specs.Soundness.{AreChanges};
 
 use crate::kept::Kept;
@@ -78,6 +79,7 @@ pub(crate) fn mend_both<P: Points, L: Ledger>(
     ensures low_covers { OnOk result ((t : ℕ) → covers low.new t ≡ mended window.from window.to (λ x. is_outside (Below least) (sum_to (P.points points.now) x)) low.old t) }
     ensures high_covers { OnOk result ((t : ℕ) → covers high.new t ≡ mended window.from window.to (λ x. is_outside (Above most) (sum_to (P.points points.now) x)) high.old t) }
     ensures changes { IfOk result (λ c. AreChanges low.old low.new high.old high.new c) }
+    ensures cost { steps.new ≤ steps.old + (walk_steps P.parts P.look_steps P.search_steps (length (P.points points.now)) (points_after (goes_outside (Below least) (P.points points.now)) window.from (P.points points.now)) + walk_steps P.parts P.look_steps P.search_steps (length (P.points points.now)) (points_after (goes_outside (Above most) (P.points points.now)) window.from (P.points points.now))) }
 {
     let below = low.mend(points, Limit::Below(least), window, steps)?;
     let above = high.mend(points, Limit::Above(most), window, steps)?;

@@ -2,8 +2,11 @@ pub mod Walks
 pub mod Parting
 pub mod PointLists
 pub mod Spanning
+pub mod Outside
 pub mod Staying
 pub mod Cuts
+pub mod Strolls
 pub mod Rounds
 pub mod Maximal
 pub mod Totals
+pub mod Alike

@@ -19,7 +19,7 @@ none_at p [] j d none lt = absurd (omega (arith, lt))
 none_at p (x ∷ xs) zero d none lt = none.0
 none_at p (x ∷ xs) (suc j) d none lt = none_at p xs j d none.1 (omega (arith, lt))
 
-parted_by : {T : Type 0} (p : T → Bool) (xs : List T) → IsParted p xs → IsPartitionedBy p xs
+pub parted_by : {T : Type 0} (p : T → Bool) (xs : List T) → IsParted p xs → IsPartitionedBy p xs
 parted_by p [] parted i j d le lt passes = absurd (omega (arith, lt))
 parted_by p (x ∷ xs) parted zero zero d le lt passes = passes
 parted_by p (x ∷ xs) parted zero (suc j) d le lt passes = head (p x) refl
@@ -30,7 +30,7 @@ parted_by p (x ∷ xs) parted zero (suc j) d le lt passes = head (p x) refl
 parted_by p (x ∷ xs) parted (suc i) zero d le lt passes = absurd (omega (arith, le))
 parted_by p (x ∷ xs) parted (suc i) (suc j) d le lt passes = parted_by p xs parted.1 i j d (omega (arith, le)) (omega (arith, lt)) passes
 
-cut : {T : Type 0} (p : T → Bool) (xs : List T) (i : ℕ) → i ≤ length xs → IsPartitionPoint (λ y. p y ≡ true) (λ y. p y ≡ false) xs i → (take i xs ≡ front p xs) × (drop i xs ≡ back p xs)
+pub cut : {T : Type 0} (p : T → Bool) (xs : List T) (i : ℕ) → i ≤ length xs → IsPartitionPoint (λ y. p y ≡ true) (λ y. p y ≡ false) xs i → (take i xs ≡ front p xs) × (drop i xs ≡ back p xs)
 cut p [] zero le point = (refl, refl)
 cut p [] (suc i) le point = (refl, refl)
 cut p (x ∷ xs) zero le point =

@@ -1,7 +1,7 @@
 -- Sums, merges and places of change points.
 use Rattle.std.proofs.Common.{◌≡◌, ℕ, zero, suc, ◌+◌, ◌*◌, ◌^◌, ◌<◌, ◌≤◌, Bool, true, false, List, [], ◌∷◌, ◌++◌, length, get_or, take, drop, refl, ap, sym, ◌∙◌, subst, arith, cond, ℤ, pos, ◌+ℤ◌, ◌≤ℤ◌, neg_ℤ, eqb, leb, Some, None, Option, Result, Ok, Err, OnOk, OnErr, ◌-◌}
 use Rattle.std.specs.Ordering.{int_eq}
-use Rattle.std.proofs.lemmas.Bool.{cond_both, lt-ltb, le-ltb, ltb-true, ltb-false, eq-eqb, ne_eqb, eqb-true, eqb-false, leb-true, leb-false, le-leb, lt-leb}
+use Rattle.std.proofs.lemmas.Bool.{false≢true, cond_both, lt-ltb, le-ltb, ltb-true, ltb-false, eq-eqb, ne_eqb, eqb-true, eqb-false, leb-true, leb-false, le-leb, lt-leb}
 use Rattle.std.proofs.lemmas.Bool.Decides.{Decides-int_eq}
 use Rattle.std.proofs.lemmas.Int.{ints, to_z-of_z}
 use mir.Val.{to_z, of_z, SFits}
@@ -9,11 +9,11 @@ use mir.Syntax.{w64}
 use Rattle.std.proofs.lemmas.List.{length-drop, get_or-drop, get_or_default, drop_all}
 use Rattle.pl_points.specs.Lists.{front, back}
 use Rattle.pl_points.specs.Sums.{IsSmall}
-use Rattle.pl_points.specs.Points.{Point, sum_to, first_from, is_before, put, merged, RiseFrom, AreSmall, ArePoints}
+use Rattle.pl_points.specs.Points.{Point, sum_to, first_from, is_before, put, merged, RiseFrom, AreSmall, ArePoints, SmallFrom, IsNear, AreNear}
 use Rattle.pl_points.proofs.Parting.{NonePass, IsParted, back_fails, drop_next}
 
 abbrev pub IsSmall2 : ℤ → Type 0
-IsSmall2 z = (neg_ℤ (pos (2 * 10 ^ 15)) ≤ℤ z) × (z ≤ℤ pos (2 * 10 ^ 15))
+IsSmall2 z = IsNear z
 
 none_before : (at c : ℕ) (ps : List Point) → at ≤ c → RiseFrom c ps → NonePass (is_before at) ps
 none_before at c [] le rising = tt
@@ -95,7 +95,7 @@ sum_to-merged at d (p ∷ ps) t =
         let g : cond (leb p.0 t) p.1 (pos 0) ≡ cond (leb at t) p.1 (pos 0) = ap (λ n. cond (leb n t) p.1 (pos 0)) f in
         omega (arith, ints, sum_to-put at (p.1 +ℤ d) ps t, cond_add (leb at t) p.1 d, g)
 
-rising_later : (b c : ℕ) (ps : List Point) → b ≤ c → RiseFrom c ps → RiseFrom b ps
+pub rising_later : (b c : ℕ) (ps : List Point) → b ≤ c → RiseFrom c ps → RiseFrom b ps
 rising_later b c [] le rising = tt
 rising_later b c (p ∷ ps) le rising = (omega (arith, le, rising.0), rising.1, rising.2)
 
@@ -131,11 +131,6 @@ sum_before c [] t rising lt = refl
 sum_before c (p ∷ ps) t rising lt =
     let e : leb p.0 t ≡ false = lt-leb p.0 t (omega (arith, lt, rising.0)) in
     rw e (omega (arith, ints, sum_before (suc p.0) ps t rising.2 (omega (arith, lt, rising.0))))
-
--- the sums along the points, from one so far, are small
-abbrev pub SmallFrom : ℤ → List Point → Type 0
-SmallFrom s [] = IsSmall s
-SmallFrom s (p ∷ ps) = IsSmall s × SmallFrom (s +ℤ p.1) ps
 
 small_from : (c : ℕ) (s : ℤ) (ps : List Point) → IsSmall s → RiseFrom c ps → ((t : ℕ) → IsSmall (s +ℤ sum_to ps t)) → SmallFrom s ps
 small_from c s [] small rising all = small
@@ -280,3 +275,91 @@ adds_here s x small other =
     let f : to_z w64 (of_z w64 x) ≡ x = to_z-of_z w64 x (fits2 x other) in
     let fits : SFits w64 (s +ℤ x) = omega (arith, ints, small.0, small.1, other.0, other.1) in
     rw f (to_z-of_z w64 (s +ℤ x) fits)
+
+-- sums along points that follow a small sum are near without it
+pub small_near : (o r : ℤ) (ps : List Point) → IsSmall o → SmallFrom (o +ℤ r) ps → AreNear r ps
+small_near o r [] small all = (omega (arith, ints, small.0, small.1, all.0, all.1), omega (arith, ints, small.0, small.1, all.0, all.1))
+small_near o r (p ∷ ps) small all =
+    let same : (o +ℤ r) +ℤ p.1 ≡ o +ℤ (r +ℤ p.1) = omega (arith, ints) in
+    ((omega (arith, ints, small.0, small.1, all.0.0, all.0.1), omega (arith, ints, small.0, small.1, all.0.0, all.0.1)), small_near o (r +ℤ p.1) ps small (subst (λ z. SmallFrom z ps) same all.1))
+
+pub near_head : (s : ℤ) (ps : List Point) → AreNear s ps → IsNear s
+near_head s [] near = near
+near_head s (p ∷ ps) near = near.0
+
+-- within 4 * 10^15 of 0
+abbrev pub IsSmall4 : ℤ → Type 0
+IsSmall4 z = (neg_ℤ (pos (4 * 10 ^ 15)) ≤ℤ z) × (z ≤ℤ pos (4 * 10 ^ 15))
+
+pub near_delta : (ps : List Point) (s : ℤ) (i : ℕ) (p : Point) → AreNear s ps → i < length ps → p ≡ get_or ps i p → IsSmall4 p.1
+near_delta [] s i p near lt is = absurd (omega (arith, lt))
+near_delta (q ∷ ps) s zero p near lt is =
+    let h : IsNear (s +ℤ q.1) = near_head (s +ℤ q.1) ps near.1 in
+    subst (λ (r : Point). IsSmall4 r.1) (sym is) (omega (arith, ints, h.0, h.1, near.0.0, near.0.1), omega (arith, ints, h.0, h.1, near.0.0, near.0.1))
+near_delta (q ∷ ps) s (suc i) p near lt is = near_delta ps (s +ℤ q.1) i p near.1 (omega (arith, lt)) is
+
+pub near_fits : (x d : ℤ) → IsSmall4 x → IsNear d → SFits w64 (to_z w64 (of_z w64 x) +ℤ to_z w64 (of_z w64 d))
+near_fits x d small other = omega (arith, ints, small.0, small.1, other.0, other.1)
+
+pub near_is : (x d : ℤ) → IsSmall4 x → IsNear d → to_z w64 (of_z w64 (to_z w64 (of_z w64 x) +ℤ to_z w64 (of_z w64 d))) ≡ x +ℤ d
+near_is x d small other =
+    let one : SFits w64 x = omega (arith, ints, small.0, small.1) in
+    let two : SFits w64 d = omega (arith, ints, other.0, other.1) in
+    let e : to_z w64 (of_z w64 x) ≡ x = to_z-of_z w64 x one in
+    let f : to_z w64 (of_z w64 d) ≡ d = to_z-of_z w64 d two in
+    let fits : SFits w64 (x +ℤ d) = omega (arith, ints, small.0, small.1, other.0, other.1) in
+    rw e (rw f (to_z-of_z w64 (x +ℤ d) fits))
+
+-- a running sum that is near, and a point
+pub near_step : (s : ℤ) (ps : List Point) (i j : ℕ) (p : Point) → i < length ps → j ≡ i + 1 → p ≡ get_or ps i p → AreNear s (drop i ps)
+    → SFits w64 (s +ℤ to_z w64 (of_z w64 p.1)) × ((to_z w64 (of_z w64 (s +ℤ to_z w64 (of_z w64 p.1))) ≡ s +ℤ p.1) × ((drop i ps ≡ p ∷ drop j ps) × AreNear (s +ℤ p.1) (drop j ps)))
+near_step s ps i j p lt next is near =
+    let same : suc i ≡ j = omega (arith, next) in
+    let e : drop i ps ≡ p ∷ drop j ps = drop_next ps i p lt ∙ ap (λ q. q ∷ drop (suc i) ps) (sym is) ∙ ap (λ n. p ∷ drop n ps) same in
+    let along : AreNear s (p ∷ drop j ps) = subst (λ l. AreNear s l) e near in
+    let small : IsSmall4 p.1 = near_delta (p ∷ drop j ps) s 0 p along (omega arith) refl in
+    let here : IsNear s = along.0 in
+    let one : SFits w64 p.1 = omega (arith, ints, small.0, small.1) in
+    let f : to_z w64 (of_z w64 p.1) ≡ p.1 = to_z-of_z w64 p.1 one in
+    let fits : SFits w64 (s +ℤ p.1) = omega (arith, ints, small.0, small.1, here.0, here.1) in
+    let fits' : SFits w64 (s +ℤ to_z w64 (of_z w64 p.1)) = omega (arith, ints, small.0, small.1, here.0, here.1, f) in
+    let is' : to_z w64 (of_z w64 (s +ℤ to_z w64 (of_z w64 p.1))) ≡ s +ℤ p.1 = rw f (to_z-of_z w64 (s +ℤ p.1) fits) in
+    (fits', (is', (e, along.1)))
+
+first_sum : (c : ℕ) (p : Point) (ps : List Point) → RiseFrom c (p ∷ ps) → sum_to (p ∷ ps) p.0 ≡ p.1
+first_sum c p ps rising =
+    let e : leb p.0 p.0 ≡ true = le-leb p.0 p.0 (omega arith) in
+    rw e (omega (arith, ints, sum_before (suc p.0) ps p.0 rising.2 (omega arith)))
+
+some_sum : (c : ℕ) (p : Point) (ps : List Point) → RiseFrom c (p ∷ ps) → sum_to (p ∷ ps) p.0 ≡ pos 0 → ⊥
+some_sum c p ps rising none = false≢true (sym rising.1 ∙ (Decides-int_eq p.1 (pos 0)).1 (sym (first_sum c p ps rising) ∙ none))
+
+first_le : (q : Point) (qs : List Point) (p : Point) (ps : List Point) (d c : ℕ) → RiseFrom c (q ∷ qs) → RiseFrom d (p ∷ ps) → ((t : ℕ) → sum_to (q ∷ qs) t ≡ sum_to (p ∷ ps) t) → p.0 ≤ q.0
+first_le q qs p ps d c one two sums = cases (leb p.0 q.0) refl
+  where
+    cases : (v : Bool) → leb p.0 q.0 ≡ v → p.0 ≤ q.0
+    cases true e = leb-true p.0 q.0 e
+    cases false e = absurd (some_sum c q qs one (sums q.0 ∙ sum_before p.0 (p ∷ ps) q.0 (omega arith, two.1, two.2) (leb-false p.0 q.0 e)))
+
+-- rising points are determined by their sums
+pub same_points : (c e : ℕ) (ps qs : List Point) → RiseFrom c ps → RiseFrom e qs → ((t : ℕ) → sum_to ps t ≡ sum_to qs t) → ps ≡ qs
+same_points c e [] [] one two sums = refl
+same_points c e [] (q ∷ qs) one two sums = absurd (some_sum e q qs two (sym (sums q.0)))
+same_points c e (p ∷ ps) [] one two sums = absurd (some_sum c p ps one (sums p.0))
+same_points c e (p ∷ ps) (q ∷ qs) one two sums =
+    let low : p.0 ≤ q.0 = first_le q qs p ps c e two one (λ t. sym (sums t)) in
+    let high : q.0 ≤ p.0 = first_le p ps q qs e c one two sums in
+    let moment : p.0 ≡ q.0 = omega (arith, low, high) in
+    let delta : p.1 ≡ q.1 = omega (arith, ints, sums p.0, first_sum c p ps one, ap (sum_to (q ∷ qs)) moment, first_sum e q qs two) in
+    let rest : ps ≡ qs = same_points (suc p.0) (suc q.0) ps qs one.2 two.2 (λ t. later t moment delta (sums t) (leb p.0 t) refl) in
+    ap (λ n. (n, p.1) ∷ ps) moment ∙ ap (λ z. (q.0, z) ∷ ps) delta ∙ ap (λ l. q ∷ l) rest
+  where
+    later : (t : ℕ) → p.0 ≡ q.0 → p.1 ≡ q.1 → sum_to (p ∷ ps) t ≡ sum_to (q ∷ qs) t → (v : Bool) → leb p.0 t ≡ v → sum_to ps t ≡ sum_to qs t
+    later t moment delta sum true e =
+        let f : leb q.0 t ≡ true = ap (λ n. leb n t) (sym moment) ∙ e in
+        let g : cond (leb p.0 t) p.1 (pos 0) ≡ p.1 = rw e refl in
+        let h : cond (leb q.0 t) q.1 (pos 0) ≡ q.1 = rw f refl in
+        omega (arith, ints, sum, g, h, delta)
+    later t moment delta sum false e =
+        let lt : t < p.0 = leb-false p.0 t e in
+        sum_before (suc p.0) ps t one.2 (omega (arith, lt)) ∙ sym (sum_before (suc q.0) qs t two.2 (omega (arith, lt, moment)))

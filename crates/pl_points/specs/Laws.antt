@@ -1,5 +1,10 @@
--- Laws of maximal spans.
-use Rattle.std.specs.Prelude.{◌≡◌, ℕ, ◌+◌, ◌<◌, ◌≤◌, Bool, List}
+-- Laws of maximal spans, of their changes, and of what stands.
+use Rattle.std.specs.Prelude.{◌≡◌, ℕ, ◌+◌, ◌<◌, ◌≤◌, Bool, true, not, ◌&&◌, ◌||◌, List, length, ℤ, ◌+ℤ◌}
+use Rattle.std.specs.List.Sorted.{IsPermutation}
+use Rattle.pl_points.specs.declared.span.Change.{Change}
+use Rattle.pl_points.specs.Changes.{IsChange, is_among}
+use Rattle.pl_points.specs.Sums.{total}
+use Rattle.pl_points.specs.Standing.{stands, without}
 use Rattle.pl_points.specs.declared.span.Span.{Span}
 use Rattle.pl_points.specs.Spans.{AreMaximal, spans_of, joined}
 
@@ -18,3 +23,18 @@ Split = (P : ℕ → Bool) (a m n : ℕ) → spans_of P a (m + n) ≡ joined (sp
 -- the spans depend on the moments of their part alone
 abbrev pub AreLocal : Type 0
 AreLocal = (P Q : ℕ → Bool) (a n : ℕ) → ((t : ℕ) → a ≤ t → t < a + n → P t ≡ Q t) → spans_of P a n ≡ spans_of Q a n
+
+-- a list of spans after a change has what it had, less what went, and what came
+abbrev pub Exchanged : Type 0
+Exchanged = (old new : List Span) (change : Change) → IsChange old new change → (s : Span) → is_among new s ≡ ((is_among old s && not (is_among change.went s)) || is_among change.came s)
+
+-- what items add up to, how many they are and which stand depends on no order
+abbrev pub TotalsAreAlike : Type 0 → Type 0
+TotalsAreAlike T = (f : T → ℤ) (xs ys : List T) → IsPermutation xs ys → total f xs ≡ total f ys
+
+abbrev pub AreAlike : Type 0 → Type 0
+AreAlike T = (same : T → T → Bool) (item : T) (xs ys : List T) → IsPermutation xs ys → (stands same item xs ≡ stands same item ys) × (length xs ≡ length ys)
+
+-- without an item that stands, the others add up to the rest
+abbrev pub OthersRemain : Type 0 → Type 0
+OthersRemain T = (same : T → T → Bool) → ((x y : T) → same x y ≡ true → x ≡ y) → (f : T → ℤ) (xs : List T) (item : T) → stands same item xs ≡ true → total f (without same item xs) +ℤ f item ≡ total f xs

@@ -2,6 +2,7 @@ pub mod Lists
 pub mod Sums
 pub mod Points
 pub mod Limits
+pub mod Counting
 pub mod Spans
 pub mod Mending
 pub mod Changes

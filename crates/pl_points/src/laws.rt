@@ -1,4 +1,5 @@
 ghost use Rattle.pl_points.specs.Laws.{AreExact, AreUnique, Split, AreLocal};
+ghost use Rattle.pl_points.specs.Laws.{Exchanged, TotalsAreAlike, AreAlike, OthersRemain};
 
 /// The laws of maximal spans, for proofs to rest on. It does nothing.
 pub fn laws_of_spans()
@@ -6,4 +7,16 @@ pub fn laws_of_spans()
     ensures unique { AreUnique }
     ensures split { Split }
     ensures local { AreLocal }
+{}
+
+/// The law of a change of spans, for proofs to rest on. It does nothing.
+pub fn laws_of_changes()
+    ensures { Exchanged }
+{}
+
+/// The laws of what stands, in any order, for proofs to rest on. It does nothing.
+pub fn laws_of_standing<T>()
+    ensures totals { TotalsAreAlike T }
+    ensures alike { AreAlike T }
+    ensures others { OthersRemain T }
 {}

@@ -1,9 +1,10 @@
 //! Maximal spans that are kept by mending them near a change.
-ghost use Rattle.std.specs.Prelude.{◌≡◌, ◌≤◌, ◌++◌, ℕ, false, OnOk, IfOk};
+ghost use Rattle.std.specs.Prelude.{◌≡◌, ◌≤◌, ◌+◌, ◌++◌, ℕ, false, length, OnOk, IfOk};
 ghost use Rattle.pl_points.specs.Points.{sum_to};
 ghost use Rattle.pl_points.specs.Spans.{AreSpans, covers};
 ghost use Rattle.pl_points.specs.Limits.{is_outside};
 ghost use Rattle.pl_points.specs.Mending.{mended};
+ghost use Rattle.pl_points.specs.Counting.{walk_steps, goes_outside, points_after};
 ghost use Rattle.pl_points.specs.Changes.{IsChange};
 
 use crate::comparing::compare;
@@ -28,6 +29,7 @@ fn renewed<P: Points, L: Ledger>(
     requires apart { AreSpans old.now }
     ensures apart { IfOk result (λ v. AreSpans v.items) }
     ensures covers { IfOk result (λ v. (t : ℕ) → covers v.items t ≡ mended window.from window.to (λ x. is_outside limit (sum_to (P.points points.now) x)) old.now t) }
+    ensures cost { steps.new ≤ steps.old + walk_steps P.parts P.look_steps P.search_steps (length (P.points points.now)) (points_after (goes_outside limit (P.points points.now)) window.from (P.points points.now)) }
 {
     let mut fresh = Vec::from_slice(alloc, old)?;
     keep_before(&mut fresh, window.from);
@@ -68,6 +70,7 @@ pub fn mend<P: Points, L: Ledger>(
     ensures apart { OnOk result (AreSpans kept.new.items) }
     ensures covers { OnOk result ((t : ℕ) → covers kept.new.items t ≡ mended window.from window.to (λ x. is_outside limit (sum_to (P.points points.now) x)) kept.old.items t) }
     ensures change { IfOk result (λ c. IsChange kept.old.items kept.new.items c) }
+    ensures cost { steps.new ≤ steps.old + walk_steps P.parts P.look_steps P.search_steps (length (P.points points.now)) (points_after (goes_outside limit (P.points points.now)) window.from (P.points points.now)) }
 {
     let taken = take_out(alloc, kept, window)?;
     let fresh = renewed(alloc, &taken.touched, points, limit, window, steps)?;

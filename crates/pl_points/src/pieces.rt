@@ -1,5 +1,7 @@
-ghost use Rattle.std.specs.Prelude.{◌≡◌, ◌<◌, ◌≤◌, ◌+◌, ◌+ℤ◌, ◌&&◌, ◌||◌, ℕ, [], ◌∷◌, OnOk};
-ghost use Rattle.pl_points.specs.Points.{sum_to};
+ghost use Rattle.std.specs.Prelude.{◌≡◌, ◌<◌, ◌≤◌, ◌+◌, ◌&&◌, ◌||◌, true, false, ℕ, ℤ, [], ◌∷◌, length, OnOk};
+ghost use Rattle.pl_points.specs.Sums.{IsSmall};
+ghost use Rattle.pl_points.specs.Points.{sum_to, is_out, ArePoints};
+ghost use Rattle.pl_points.specs.Counting.{walk_left, walk_steps, goes_outside, points_after};
 ghost use Rattle.pl_points.specs.Spans.{AreApart, covers, joined, span, within};
 ghost use Rattle.pl_points.specs.Limits.{is_outside};
 
@@ -33,29 +35,106 @@ pub(crate) fn extend(spans: &mut Vec<Span>, from: u32, to: u32) -> Result<(), Al
     }
 }
 
-// Up to where the sum stays as it is at the moment, and what it changes by there.
-fn piece<P: Points, L: Ledger>(
+// The least and the most for which what is outside is outside the limit.
+fn bounds_of(limit: Limit) -> (i64, i64)
+    ensures { (z : ℤ) → IsSmall z → is_out result.0 result.1 z ≡ is_outside limit z }
+{
+    match limit {
+        Limit::Below(least) => (least, i64::MAX),
+        Limit::Above(most) => (i64::MIN, most),
+    }
+}
+
+// Up to the next point, where the sum is outside, and the sum there if it lies in the window.
+fn outside_piece<P: Points, L: Ledger>(
     points: &P,
+    limit: Limit,
     at: u32,
+    sum: i64,
     to: u32,
-    near: &mut usize,
     steps: &mut Steps<L>,
 ) -> (u32, i64)
-    requires { at < to }
+    requires some { at < to }
+    requires sum { sum ≡ sum_to (P.points points.now) at }
+    requires outside { is_outside limit sum ≡ true }
+    requires falls { (a b : ℕ) → a ≤ b → P.ahead points.now b ≤ P.ahead points.now a }
     ensures later { at < result.0 }
     ensures bound { result.0 ≤ to }
-    ensures same { (t : ℕ) → at ≤ t → t < result.0 → sum_to (P.points points.now) t ≡ sum_to (P.points points.now) at }
-    ensures next { sum_to (P.points points.now) result.0 ≡ sum_to (P.points points.now) at +ℤ result.1 }
+    ensures same { (t : ℕ) → at ≤ t → t < result.0 → is_outside limit (sum_to (P.points points.now) t) ≡ is_outside limit sum }
+    ensures next { result.0 < to → result.1 ≡ sum_to (P.points points.now) result.0 }
+    ensures spent { steps.new ≤ steps.old + walk_left (P.ahead points.now) P.look_steps P.search_steps (goes_outside limit (P.points points.now)) (P.points points.now) at }
+    ensures left { result.0 < to → steps.new + walk_left (P.ahead points.now) P.look_steps P.search_steps (goes_outside limit (P.points points.now)) (P.points points.now) result.0 ≤ steps.old + walk_left (P.ahead points.now) P.look_steps P.search_steps (goes_outside limit (P.points points.now)) (P.points points.now) at }
 {
-    match points.next_from(at + 1, near, steps) {
+    match points.first_from(at + 1, steps) {
         Some((moment, delta)) => {
-            if moment <= to {
-                (moment, delta)
+            if moment < to {
+                (moment, sum + delta)
             } else {
                 (to, 0)
             }
         }
         None => (to, 0),
+    }
+}
+
+// Up to the next point outside, where the sum is inside.
+fn inside_piece<P: Points, L: Ledger>(
+    points: &P,
+    limit: Limit,
+    at: u32,
+    sum: i64,
+    to: u32,
+    steps: &mut Steps<L>,
+) -> (u32, i64)
+    requires some { at < to }
+    requires sum { sum ≡ sum_to (P.points points.now) at }
+    requires small { ArePoints (P.points points.now) }
+    requires inside { is_outside limit sum ≡ false }
+    requires falls { (a b : ℕ) → a ≤ b → P.ahead points.now b ≤ P.ahead points.now a }
+    ensures later { at < result.0 }
+    ensures bound { result.0 ≤ to }
+    ensures same { (t : ℕ) → at ≤ t → t < result.0 → is_outside limit (sum_to (P.points points.now) t) ≡ is_outside limit sum }
+    ensures next { result.0 < to → result.1 ≡ sum_to (P.points points.now) result.0 }
+    ensures spent { steps.new ≤ steps.old + walk_left (P.ahead points.now) P.look_steps P.search_steps (goes_outside limit (P.points points.now)) (P.points points.now) at }
+    ensures left { result.0 < to → steps.new + walk_left (P.ahead points.now) P.look_steps P.search_steps (goes_outside limit (P.points points.now)) (P.points points.now) result.0 ≤ steps.old + walk_left (P.ahead points.now) P.look_steps P.search_steps (goes_outside limit (P.points points.now)) (P.points points.now) at }
+{
+    let (least, most) = bounds_of(limit);
+    match points.first_outside(at + 1, sum, least, most, steps) {
+        Some((moment, after)) => {
+            if moment < to {
+                (moment, after)
+            } else {
+                (to, 0)
+            }
+        }
+        None => (to, 0),
+    }
+}
+
+// Up to where the sum stays outside, or inside.
+fn piece<P: Points, L: Ledger>(
+    points: &P,
+    limit: Limit,
+    at: u32,
+    sum: i64,
+    to: u32,
+    steps: &mut Steps<L>,
+) -> (u32, i64)
+    requires some { at < to }
+    requires sum { sum ≡ sum_to (P.points points.now) at }
+    requires small { ArePoints (P.points points.now) }
+    requires falls { (a b : ℕ) → a ≤ b → P.ahead points.now b ≤ P.ahead points.now a }
+    ensures later { at < result.0 }
+    ensures bound { result.0 ≤ to }
+    ensures same { (t : ℕ) → at ≤ t → t < result.0 → is_outside limit (sum_to (P.points points.now) t) ≡ is_outside limit sum }
+    ensures next { result.0 < to → result.1 ≡ sum_to (P.points points.now) result.0 }
+    ensures spent { steps.new ≤ steps.old + walk_left (P.ahead points.now) P.look_steps P.search_steps (goes_outside limit (P.points points.now)) (P.points points.now) at }
+    ensures left { result.0 < to → steps.new + walk_left (P.ahead points.now) P.look_steps P.search_steps (goes_outside limit (P.points points.now)) (P.points points.now) result.0 ≤ steps.old + walk_left (P.ahead points.now) P.look_steps P.search_steps (goes_outside limit (P.points points.now)) (P.points points.now) at }
+{
+    if is_outside(limit, sum) {
+        outside_piece(points, limit, at, sum, to, steps)
+    } else {
+        inside_piece(points, limit, at, sum, to, steps)
     }
 }
 
@@ -91,15 +170,15 @@ pub(crate) fn push_outside<P: Points, L: Ledger>(
     requires apart { AreApart 0 window.from spans.old.items }
     ensures apart { OnOk result (AreApart 0 window.to spans.new.items) }
     ensures covers { OnOk result ((t : ℕ) → covers spans.new.items t ≡ (covers spans.old.items t || (within window.from window.to t && is_outside limit (sum_to (P.points points.now) t)))) }
+    ensures cost { steps.new ≤ steps.old + walk_steps P.parts P.look_steps P.search_steps (length (P.points points.now)) (points_after (goes_outside limit (P.points points.now)) window.from (P.points points.now)) }
 {
     let mut at = window.from;
     let mut sum = points.sum_to(at, steps);
-    let mut near = 0;
     'pieces: while at < window.to {
-        let (end, delta) = piece(points, at, window.to, &mut near, steps);
+        let (end, after) = piece(points, limit, at, sum, window.to, steps);
         push_piece(spans, limit, sum, at, end)?;
         at = end;
-        sum += delta;
+        sum = after;
     }
     Ok(())
 }

@@ -1,8 +1,10 @@
-ghost use Rattle.std.specs.Prelude.{◌≡◌, ◌<◌, ◌≤◌, ◌+◌, ◌^◌, true, suc, ℕ, ℤ, [], ◌++◌, List, length, take, drop, OnOk, OnErr};
-ghost use Rattle.pl_points.specs.Points.{sum_to, first_from, merged, AreSmall, ArePoints, RiseFrom, is_before, put};
+ghost use Rattle.std.specs.Prelude.{◌≡◌, ◌<◌, ◌≤◌, ◌+◌, ◌^◌, suc, ℕ, ℤ, pos, [], ◌++◌, List, length, take, drop, OnOk, OnErr};
+ghost use Rattle.pl_points.specs.Points.{sum_to, first_from, merged, AreSmall, ArePoints, RiseFrom};
+ghost use Rattle.pl_points.specs.Points.{is_before, put, points_from, ahead_of, AreNear, IsNear};
 ghost use Rattle.pl_points.specs.Lists.{front, back};
 
 use crate::points::Points;
+use crate::searching::leaving;
 use crate::steps::{Ledger, Steps};
 use pl_lists::Copied;
 use std::alloc::{AllocError, Global};
@@ -45,39 +47,6 @@ fn place_of(points: &[(u32, i64)], at: u32) -> usize
     points.partition_point(|point| point.0 < at)
 }
 
-// Whether the points up to this place are those before the moment.
-fn is_last(points: &[(u32, i64)], place: usize, at: u32) -> bool
-    requires { RiseFrom 0 points.now }
-    ensures bound { result ≡ true → place < length points.now }
-    ensures before { result ≡ true → take (suc place) points.now ≡ front (is_before at) points.now }
-    ensures rest { result ≡ true → drop (suc place) points.now ≡ back (is_before at) points.now }
-{
-    if place >= points.len() {
-        return false;
-    }
-    if points[place].0 >= at {
-        return false;
-    }
-    if place + 1 == points.len() {
-        return true;
-    }
-    at <= points[place + 1].0
-}
-
-// How many points lie before the moment, found at once where the hint is the place of the last of them.
-fn place_near(points: &[(u32, i64)], near: usize, at: u32) -> usize
-    requires { RiseFrom 0 points.now }
-    ensures bound { result ≤ length points.now }
-    ensures before { take result points.now ≡ front (is_before at) points.now }
-    ensures rest { drop result points.now ≡ back (is_before at) points.now }
-{
-    if is_last(points, near, at) {
-        near + 1
-    } else {
-        place_of(points, at)
-    }
-}
-
 // Writes the point over the one at its place, or takes that one out where the delta is 0.
 fn put_over(points: &mut Vec<(u32, i64)>, place: usize, at: u32, delta: i64)
     requires { place < length points.old.items }
@@ -103,9 +72,11 @@ fn put_in(points: &mut Vec<(u32, i64)>, place: usize, at: u32, delta: i64) -> Re
     Ok(())
 }
 
-fn merge_at(points: &mut Vec<(u32, i64)>, at: u32, delta: i64) -> Result<(), AllocError>
-    requires sound { ArePoints points.old.items }
-    requires small { AreSmall (merged at delta points.old.items) }
+/// Merges the delta into the points, which lie by rising moments.
+pub fn merge(points: &mut Vec<(u32, i64)>, at: u32, delta: i64) -> Result<(), AllocError>
+    requires rising { RiseFrom 0 points.old.items }
+    requires near { AreNear (pos 0) points.old.items }
+    requires delta { IsNear delta }
     ensures ok { OnOk result (points.new.items ≡ merged at delta points.old.items) }
     ensures err { OnErr result (points.new.items ≡ points.old.items) }
 {
@@ -122,7 +93,15 @@ fn merge_at(points: &mut Vec<(u32, i64)>, at: u32, delta: i64) -> Result<(), All
 impl Points for PlainPoints {
     ghost points = { λ p. p };
 
-    ghost most_steps = { λ p. length p + 1 };
+    ghost ahead = { points_from };
+
+    ghost parts = { λ n. n };
+
+    ghost change_steps = { 1 };
+
+    ghost look_steps = { 1 };
+
+    ghost search_steps = { 2 };
 
     fn add<L: Ledger>(
         &mut self,
@@ -134,7 +113,7 @@ impl Points for PlainPoints {
         if self.points.len() >= u32::MAX as usize {
             return Err(AllocError);
         }
-        merge_at(&mut self.points, at, delta)
+        merge(&mut self.points, at, delta)
     }
 
     fn first_from<L: Ledger>(&self, at: u32, steps: &mut Steps<L>) -> Option<(u32, i64)> {
@@ -147,20 +126,17 @@ impl Points for PlainPoints {
         }
     }
 
-    fn next_from<L: Ledger>(
+    fn first_outside<L: Ledger>(
         &self,
-        at: u32,
-        near: &mut usize,
+        from: u32,
+        before: i64,
+        least: i64,
+        most: i64,
         steps: &mut Steps<L>,
     ) -> Option<(u32, i64)> {
         steps.tick();
-        let place = place_near(&self.points, *near, at);
-        *near = place;
-        if place < self.points.len() {
-            Some(self.points[place])
-        } else {
-            None
-        }
+        let place = place_of(&self.points, from);
+        leaving(&self.points[place..], before, least, most, steps)
     }
 
     fn sum_to<L: Ledger>(&self, at: u32, steps: &mut Steps<L>) -> i64 {

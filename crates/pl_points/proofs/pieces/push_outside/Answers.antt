@@ -1,13 +1,31 @@
-use Rattle.std.proofs.Common.{◌≡◌, arith, ap, sym, ◌∙◌, ◌+ℤ◌, ◌||◌, ◌&&◌}
-use mir.Val.{to_z, of_z}
+use Rattle.std.proofs.Common.{rules, arith, ap, ◌∙◌, ◌||◌, ◌&&◌, length}
+use mir.Val.{to_z, SFits}
 use mir.Syntax.{w64}
+use Rattle.std.proofs.lemmas.Int.{to_z-of_z}
 use Rattle.pl_points.specs.Points.{sum_to}
 use Rattle.pl_points.specs.Spans.{covers, within}
 use Rattle.pl_points.specs.Limits.{is_outside}
-use Rattle.std.proofs.lemmas.Int.{ints}
-use Rattle.pl_points.proofs.PointLists.{adds_here, IsSmall2}
+use Rattle.pl_points.specs.Counting.{goes_outside}
 use Rattle.pl_points.proofs.Spanning.{piece_more}
+use Rattle.pl_points.proofs.Strolls.{left_first, none_within}
 use Rattle.pl_points.proofs.pieces.push_outside.Goals as goal
+
+pub pieces-init : goal.pieces-init
+pieces-init g c =
+    let ps = g.P.Points.points c.args.points.now in
+    let fits : SFits w64 c.sum_to-sum.result = search rules in
+    let first = left_first (g.P.Points.ahead c.args.points.now) g.P.Points.parts g.P.Points.look_steps g.P.Points.search_steps c.args.steps.now c.sum_to-sum.new.steps c.args.window.from (length ps) (goes_outside c.args.limit ps) ps c.sum_to-sum.ensures.cost in
+    record {
+      low = omega arith;
+      high = c.requires.some;
+      sum = λ _. to_z-of_z w64 c.sum_to-sum.result fits ∙ c.sum_to-sum.ensures.sum;
+      sound = c.sum_to-sum.ensures.sound;
+      falls = c.sum_to-sum.ensures.falls;
+      apart = c.requires.apart;
+      covers = λ t. none_within c.args.window.from t (covers c.args.spans.now.items t) (is_outside c.args.limit (sum_to ps t));
+      spent = omega (arith, first);
+      left = λ _. first;
+    }
 
 pub pieces-preserved : goal.pieces-preserved
 pieces-preserved g c =
@@ -15,22 +33,22 @@ pieces-preserved g c =
     let s = to_z w64 c.pieces.sum-bits in
     let at = c.pieces.at in
     let end = c.piece-end.result.0 in
-    let d = c.piece-end.result.1 in
     let inv = c.pieces.invariant in
-    let here = inv.sound.small at in
-    let there = inv.sound.small end in
-    let small : IsSmall2 d = (omega (arith, ints, here.0, here.1, there.0, there.1, c.piece-end.ensures.next), omega (arith, ints, here.0, here.1, there.0, there.1, c.piece-end.ensures.next)) in
-    let is : to_z w64 (of_z w64 (s +ℤ to_z w64 (of_z w64 d))) ≡ s +ℤ d = adds_here s d (omega (arith, ints, here.0, inv.sum), omega (arith, ints, here.1, inv.sum)) small in
+    let fits : SFits w64 c.piece-end.result.1 = search rules in
+    let left = inv.left c.pieces-test.true in
     record {
       low = omega (arith, inv.low, c.piece-end.ensures.later);
       high = c.piece-end.ensures.bound;
-      sum = is ∙ (ap (λ z. z +ℤ d) inv.sum ∙ sym c.piece-end.ensures.next);
+      sum = λ lt. to_z-of_z w64 c.piece-end.result.1 fits ∙ c.piece-end.ensures.next lt;
       sound = inv.sound;
+      falls = inv.falls;
       apart = c.in_ok-push_piece.ensures.apart;
       covers = λ t.
           let came = c.in_ok-push_piece.ensures.covers t in
           let old = inv.covers t in
           came ∙ (ap (λ b. b || (within at end t && is_outside c.args.limit s)) old
           ∙ piece_more c.args.window.from at end t (covers c.args.spans.now.items t) (is_outside c.args.limit (sum_to ps t)) (is_outside c.args.limit s) inv.low (omega (arith, c.piece-end.ensures.later))
-          (λ low high. ap (is_outside c.args.limit) (c.piece-end.ensures.same t low high ∙ sym inv.sum)));
+          (λ low high. c.piece-end.ensures.same t low high));
+      spent = omega (arith, left, c.piece-end.ensures.spent);
+      left = λ lt. omega (arith, left, c.piece-end.ensures.left lt);
     }

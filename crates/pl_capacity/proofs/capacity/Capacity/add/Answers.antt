@@ -8,7 +8,7 @@ use Rattle.pl_points.specs.declared.noted.Noted.TheVariants.{Came, Went}
 use Rattle.pl_points.proofs.Totals.{IsAmount, standing-push, each-push, each-without, each-stands, length-without}
 use Rattle.pl_capacity.specs.Uses.{Standing, state_of, IsUse, used, use_of, same_use, spans_now}
 use Rattle.pl_capacity.specs.Soundness.{IsSound}
-use Rattle.pl_capacity.proofs.Shifts.{small_one, small_both, sound_apart, sound_spans, sound_change, sound_shifted, sound_later, same_exact, used_more, used_less, raw, raw_back, neg_fits, make, same_state, amount_of}
+use Rattle.pl_capacity.proofs.Shifts.{small_one, small_both, sound_apart, sound_spans, sound_change, sound_shifted, sound_later, same_exact, used_more, used_less, raw, raw_back, neg_fits, make, same_state, amount_of, use_cost}
 use Rattle.pl_points.specs.Points.{Point, merged, sum_to, AreSmall}
 use Rattle.pl_points.specs.Limits.{is_outside}
 use Rattle.pl_points.specs.declared.limit.Limit.TheVariants.{Above}
@@ -133,3 +133,33 @@ returns-clause-change g c =
     (subst (λ l. length l ≤ 320000) (sym uses) few2) (subst (λ l. Each IsUse l) (sym uses) bounded) (λ t. ap (λ l. used l t) uses ∙ used_more s.uses u t) points c.in_ok-change.ensures.apart
     (λ t. subst (λ m. covers c.shift.new.spans.items t ≡ mended (max s.moment c.args.from) (max (max s.moment c.args.from) (min c.args.to s.horizon)) (λ x. is_outside (Above m) (sum_to (g.P.Points.points c.shift.new.points) x)) spans t) is_most (c.in_ok-change.ensures.covers t)) in
     subst (λ (v : Standing). IsChange (spans_now v) (spans_now s2) c.in_ok-change.change) c.self.view_is (sound_change s s2 ps (g.P.Points.points c.shift.new.points) spans c.shift.new.spans.items c.in_ok-change.change sound sound2 c.in_ok-change.ensures.change)
+
+pub returns-in_err-change-clause-cost : goal.returns-in_err-change-clause-cost
+returns-in_err-change-clause-cost g c =
+    λ _.
+    let ps = g.P.Points.points c.self.inside.points in
+    let spans = c.self.inside.spans.items in
+    let s : Standing = state_of c.self.inside.spoiled c.self.inside.horizon c.self.inside.most c.self.inside.moment c.self.inside.notes.items in
+    let sound : IsSound s ps spans = c.self.invariant c.if-self.false in
+    let a = c.args.amount in
+    let u : Use = use_of c.args.from c.args.to a in
+    let is : IsUse u = c.requires.is_use in
+    let am : IsAmount a = amount_of u is in
+    let fits : SFits w64 c.self.inside.most = search rules in
+    use_cost g.P.Points.parts g.P.Points.change_steps g.P.Points.look_steps g.P.Points.search_steps c.args.steps.now c.shift.new.steps c.args.from c.args.to s c.args.self.now ps spans a (neg_ℤ a) (to_z w64 (of_z w64 a)) (to_z w64 (of_z w64 (pos 0 -ℤ to_z w64 (of_z w64 a)))) (to_z w64 (of_z w64 c.self.inside.most))
+    sound c.self.view_is (to_z-of_z w64 c.self.inside.most fits) (raw a am) (raw_back a am) c.shift.ensures.cost
+
+pub returns-clause-cost : goal.returns-clause-cost
+returns-clause-cost g c =
+    λ _.
+    let ps = g.P.Points.points c.self.inside.points in
+    let spans = c.self.inside.spans.items in
+    let s : Standing = state_of c.self.inside.spoiled c.self.inside.horizon c.self.inside.most c.self.inside.moment c.self.inside.notes.items in
+    let sound : IsSound s ps spans = c.self.invariant c.if-self.false in
+    let a = c.args.amount in
+    let u : Use = use_of c.args.from c.args.to a in
+    let is : IsUse u = c.requires.is_use in
+    let am : IsAmount a = amount_of u is in
+    let fits : SFits w64 c.self.inside.most = search rules in
+    use_cost g.P.Points.parts g.P.Points.change_steps g.P.Points.look_steps g.P.Points.search_steps c.args.steps.now c.shift.new.steps c.args.from c.args.to s c.args.self.now ps spans a (neg_ℤ a) (to_z w64 (of_z w64 a)) (to_z w64 (of_z w64 (pos 0 -ℤ to_z w64 (of_z w64 a)))) (to_z w64 (of_z w64 c.self.inside.most))
+    sound c.self.view_is (to_z-of_z w64 c.self.inside.most fits) (raw a am) (raw_back a am) c.shift.ensures.cost

@@ -15,9 +15,9 @@ use Rattle.pl_points.specs.Mending.{mended}
 use Rattle.pl_points.specs.Standing.{Each, standing, stands, without}
 use Rattle.pl_points.proofs.Totals.{IsAmount, standing-push, each-push, each-without, each-stands, length-without}
 use Rattle.pl_level.specs.declared.reservation.Effect.{Effect}
-use Rattle.pl_level.specs.Effects.{Standing, state_of, IsEffect, IsValue, effect_of, same_effect, level, low_now, high_now}
+use Rattle.pl_level.specs.Effects.{Standing, state_of, IsEffect, IsValue, effect_of, same_effect, level, low_now, high_now, effect_steps}
 use Rattle.pl_level.specs.Soundness.{IsTied, IsSound, AreChanges}
-use Rattle.pl_level.proofs.Levels.{make, amount_of, value_small, before_small, sum_small, amount_small, small_add, before_after, level_is, begin, begin_bound, adds_more, adds_less, same_exact, sound_shifted, sound_rebased, sound_later, sound_new, apart_low, apart_high, sound_low, sound_high, sound_changes, raw, raw_back, neg_fits, neg_amount, same_state}
+use Rattle.pl_level.proofs.Levels.{make, amount_of, value_small, before_small, sum_small, amount_small, small_add, before_after, level_is, begin, begin_late, begin_bound, level_cost, change_cost, adds_more, adds_less, same_exact, sound_shifted, sound_rebased, sound_later, sound_new, apart_low, apart_high, sound_low, sound_high, sound_changes, raw, raw_back, neg_fits, neg_amount, same_state}
 use Rattle.pl_level.proofs.level.Level.add.Goals as goal
 
 pub add-requires : goal.add-requires
@@ -429,3 +429,119 @@ returns-clause-change g c =
     let sound2 : IsSound s2 (to_z w64 (of_z w64 sbr)) ps2 low2 high2 = subst (λ l. IsSound (make false h least most moment base value l) (to_z w64 (of_z w64 sbr)) ps2 low2 high2) (sym is_ys)
     (sound_shifted c.self.inside.spoiled h least most moment base value xs (xs ++ u ∷ []) b ps at a low low2 high high2 ps2 (to_z w64 (of_z w64 sbr)) (to_z w64 (of_z w64 lr)) (to_z w64 (of_z w64 mr)) sound few2 bounded adds points b2 is_l is_m c.in_ok-change.ensures.low_apart c.in_ok-change.ensures.high_apart says_low says_high) in
     subst (λ (v : Standing). AreChanges (low_now v) (low_now s2) (high_now v) (high_now s2) c.in_ok-change.change) c.self.view_is (sound_changes s s2 b (to_z w64 (of_z w64 sbr)) ps ps2 low low2 high high2 c.in_ok-change.change sound sound2 c.in_ok-change.ensures.changes)
+
+pub returns-in_err-change-clause-cost : goal.returns-in_err-change-clause-cost
+returns-in_err-change-clause-cost g c =
+    λ _.
+    let ps = g.P.Points.points c.self.inside.points in
+    let low = c.self.inside.low in
+    let high = c.self.inside.high in
+    let h = c.self.inside.horizon in
+    let least = c.self.inside.least in
+    let most = c.self.inside.most in
+    let moment = c.self.inside.moment in
+    let base = c.self.inside.base in
+    let value = c.self.inside.value in
+    let b = c.self.inside.before in
+    let xs : List Effect = standing same_effect c.self.inside.notes.items in
+    let s : Standing = make c.self.inside.spoiled h least most moment base value xs in
+    let sound : IsSound s b ps low high = c.self.invariant c.if-self.false in
+    let tied = sound.tied in
+    let a = c.args.delta in
+    let at = c.args.at in
+    let u : Effect = effect_of at a in
+    let is : IsEffect u = c.requires.is_effect in
+    let am : IsAmount a = amount_of u is in
+    let dam = am in
+    let is_d : (to_z w64 (of_z w64 a)) ≡ a = raw a (amount_small a am) in
+    let sbr = c.sum_before-self-inside.result in
+    let sb : sbr ≡ b +ℤ cond (leb at base) a (pos 0) = c.sum_before-self-inside.ensures ∙ (ap (λ z. z +ℤ cond (leb at base) (to_z w64 (of_z w64 a)) (pos 0)) (raw b (before_small s b ps tied)) ∙ ap (λ z. b +ℤ cond (leb at base) z (pos 0)) is_d) in
+    let sm : IsSmall sbr = subst (λ z. IsSmall z) (sym sb) (before_after s b ps at a tied dam) in
+    let rs : (to_z w64 (of_z w64 sbr)) ≡ sbr = raw sbr sm in
+    let rrs : (to_z w64 (of_z w64 (to_z w64 (of_z w64 sbr)))) ≡ (to_z w64 (of_z w64 sbr)) = ap (λ z. (to_z w64 (of_z w64 z))) rs in
+    let b2 : (to_z w64 (of_z w64 sbr)) ≡ b +ℤ cond (leb at base) a (pos 0) = rs ∙ sb in
+    let few : length xs ≤ 319999 = subst (λ (v : Standing). v.spoiled ≡ false → length v.effects ≤ 319999) (sym c.self.view_is) c.requires.few c.if-self.false in
+    let few2 : length (xs ++ u ∷ []) ≤ 320000 = omega (arith, few, length-append xs (u ∷ [])) in
+    let bounded : Each IsEffect (xs ++ u ∷ []) = each-push IsEffect xs u tied.bounded is in
+    let adds = adds_more xs u in
+    let ps2 = g.P.Points.points c.add.new.self in
+    let points : ps2 ≡ merged at a ps = c.in_ok-add.ensures.ok ∙ ap (λ d. merged at d ps) is_d in
+    let lr = c.limit_for.result in
+    let mr = c.limit_for-2.result in
+    let lfits : SFits w64 lr = search rules in
+    let mfits : SFits w64 mr = search rules in
+    let is_l : (to_z w64 (of_z w64 lr)) ≡ (least -ℤ value) +ℤ (to_z w64 (of_z w64 sbr)) = to_z-of_z w64 lr lfits ∙ (c.limit_for.ensures ∙ (ap (λ z. (z -ℤ (to_z w64 (of_z w64 value))) +ℤ (to_z w64 (of_z w64 (to_z w64 (of_z w64 sbr))))) (raw least (value_small least tied.least)) ∙ (ap (λ z. (least -ℤ z) +ℤ (to_z w64 (of_z w64 (to_z w64 (of_z w64 sbr))))) (raw value (value_small value tied.value)) ∙ ap (λ z. (least -ℤ value) +ℤ z) rrs))) in
+    let is_m : (to_z w64 (of_z w64 mr)) ≡ (most -ℤ value) +ℤ (to_z w64 (of_z w64 sbr)) = to_z-of_z w64 mr mfits ∙ (c.limit_for-2.ensures ∙ (ap (λ z. (z -ℤ (to_z w64 (of_z w64 value))) +ℤ (to_z w64 (of_z w64 (to_z w64 (of_z w64 sbr))))) (raw most (value_small most tied.most)) ∙ (ap (λ z. (most -ℤ z) +ℤ (to_z w64 (of_z w64 (to_z w64 (of_z w64 sbr))))) (raw value (value_small value tied.value)) ∙ ap (λ z. (most -ℤ value) +ℤ z) rrs))) in
+    let from_is : c.window_of.result.from ≡ begin h moment base at = c.window_of.ensures.from in
+    let late : base ≤ c.window_of.result.from = omega (arith, from_is, begin_late h moment base at tied.in_time, tied.based) in
+    subst (λ (w : Standing). c.mend_both.new.steps ≤ c.args.steps.now + effect_steps g.P.Points.parts g.P.Points.change_steps g.P.Points.look_steps g.P.Points.search_steps w (w.effects ++ u ∷ []) at a) c.self.view_is
+    (level_cost c.self.inside.spoiled h least most moment base value xs (xs ++ u ∷ []) b ps at a g.P.Points.parts g.P.Points.change_steps g.P.Points.look_steps g.P.Points.search_steps c.args.steps.now c.add.new.steps c.mend_both.new.steps c.window_of.result.from ps2
+    (to_z w64 (of_z w64 sbr)) (to_z w64 (of_z w64 lr)) (to_z w64 (of_z w64 mr)) tied few2 bounded adds points b2 is_l is_m late c.add.ensures.cost c.mend_both.ensures.cost)
+
+pub returns-clause-cost : goal.returns-clause-cost
+returns-clause-cost g c =
+    λ _.
+    let ps = g.P.Points.points c.self.inside.points in
+    let low = c.self.inside.low in
+    let high = c.self.inside.high in
+    let h = c.self.inside.horizon in
+    let least = c.self.inside.least in
+    let most = c.self.inside.most in
+    let moment = c.self.inside.moment in
+    let base = c.self.inside.base in
+    let value = c.self.inside.value in
+    let b = c.self.inside.before in
+    let xs : List Effect = standing same_effect c.self.inside.notes.items in
+    let s : Standing = make c.self.inside.spoiled h least most moment base value xs in
+    let sound : IsSound s b ps low high = c.self.invariant c.if-self.false in
+    let tied = sound.tied in
+    let a = c.args.delta in
+    let at = c.args.at in
+    let u : Effect = effect_of at a in
+    let is : IsEffect u = c.requires.is_effect in
+    let am : IsAmount a = amount_of u is in
+    let dam = am in
+    let is_d : (to_z w64 (of_z w64 a)) ≡ a = raw a (amount_small a am) in
+    let sbr = c.sum_before-self-inside.result in
+    let sb : sbr ≡ b +ℤ cond (leb at base) a (pos 0) = c.sum_before-self-inside.ensures ∙ (ap (λ z. z +ℤ cond (leb at base) (to_z w64 (of_z w64 a)) (pos 0)) (raw b (before_small s b ps tied)) ∙ ap (λ z. b +ℤ cond (leb at base) z (pos 0)) is_d) in
+    let sm : IsSmall sbr = subst (λ z. IsSmall z) (sym sb) (before_after s b ps at a tied dam) in
+    let rs : (to_z w64 (of_z w64 sbr)) ≡ sbr = raw sbr sm in
+    let rrs : (to_z w64 (of_z w64 (to_z w64 (of_z w64 sbr)))) ≡ (to_z w64 (of_z w64 sbr)) = ap (λ z. (to_z w64 (of_z w64 z))) rs in
+    let b2 : (to_z w64 (of_z w64 sbr)) ≡ b +ℤ cond (leb at base) a (pos 0) = rs ∙ sb in
+    let few : length xs ≤ 319999 = subst (λ (v : Standing). v.spoiled ≡ false → length v.effects ≤ 319999) (sym c.self.view_is) c.requires.few c.if-self.false in
+    let few2 : length (xs ++ u ∷ []) ≤ 320000 = omega (arith, few, length-append xs (u ∷ [])) in
+    let bounded : Each IsEffect (xs ++ u ∷ []) = each-push IsEffect xs u tied.bounded is in
+    let adds = adds_more xs u in
+    let ps2 = g.P.Points.points c.add.new.self in
+    let points : ps2 ≡ merged at a ps = c.in_ok-add.ensures.ok ∙ ap (λ d. merged at d ps) is_d in
+    let lr = c.limit_for.result in
+    let mr = c.limit_for-2.result in
+    let lfits : SFits w64 lr = search rules in
+    let mfits : SFits w64 mr = search rules in
+    let is_l : (to_z w64 (of_z w64 lr)) ≡ (least -ℤ value) +ℤ (to_z w64 (of_z w64 sbr)) = to_z-of_z w64 lr lfits ∙ (c.limit_for.ensures ∙ (ap (λ z. (z -ℤ (to_z w64 (of_z w64 value))) +ℤ (to_z w64 (of_z w64 (to_z w64 (of_z w64 sbr))))) (raw least (value_small least tied.least)) ∙ (ap (λ z. (least -ℤ z) +ℤ (to_z w64 (of_z w64 (to_z w64 (of_z w64 sbr))))) (raw value (value_small value tied.value)) ∙ ap (λ z. (least -ℤ value) +ℤ z) rrs))) in
+    let is_m : (to_z w64 (of_z w64 mr)) ≡ (most -ℤ value) +ℤ (to_z w64 (of_z w64 sbr)) = to_z-of_z w64 mr mfits ∙ (c.limit_for-2.ensures ∙ (ap (λ z. (z -ℤ (to_z w64 (of_z w64 value))) +ℤ (to_z w64 (of_z w64 (to_z w64 (of_z w64 sbr))))) (raw most (value_small most tied.most)) ∙ (ap (λ z. (most -ℤ z) +ℤ (to_z w64 (of_z w64 (to_z w64 (of_z w64 sbr))))) (raw value (value_small value tied.value)) ∙ ap (λ z. (most -ℤ value) +ℤ z) rrs))) in
+    let from_is : c.window_of.result.from ≡ begin h moment base at = c.window_of.ensures.from in
+    let late : base ≤ c.window_of.result.from = omega (arith, from_is, begin_late h moment base at tied.in_time, tied.based) in
+    subst (λ (w : Standing). c.mend_both.new.steps ≤ c.args.steps.now + effect_steps g.P.Points.parts g.P.Points.change_steps g.P.Points.look_steps g.P.Points.search_steps w (w.effects ++ u ∷ []) at a) c.self.view_is
+    (level_cost c.self.inside.spoiled h least most moment base value xs (xs ++ u ∷ []) b ps at a g.P.Points.parts g.P.Points.change_steps g.P.Points.look_steps g.P.Points.search_steps c.args.steps.now c.add.new.steps c.mend_both.new.steps c.window_of.result.from ps2
+    (to_z w64 (of_z w64 sbr)) (to_z w64 (of_z w64 lr)) (to_z w64 (of_z w64 mr)) tied few2 bounded adds points b2 is_l is_m late c.add.ensures.cost c.mend_both.ensures.cost)
+
+pub returns-in_err-add-clause-cost : goal.returns-in_err-add-clause-cost
+returns-in_err-add-clause-cost g c =
+    λ _.
+    let ps = g.P.Points.points c.self.inside.points in
+    let low = c.self.inside.low in
+    let high = c.self.inside.high in
+    let h = c.self.inside.horizon in
+    let least = c.self.inside.least in
+    let most = c.self.inside.most in
+    let moment = c.self.inside.moment in
+    let base = c.self.inside.base in
+    let value = c.self.inside.value in
+    let b = c.self.inside.before in
+    let xs : List Effect = standing same_effect c.self.inside.notes.items in
+    let s : Standing = make c.self.inside.spoiled h least most moment base value xs in
+    let sound : IsSound s b ps low high = c.self.invariant c.if-self.false in
+    let tied = sound.tied in
+    subst (λ (w : Standing). c.add.new.steps ≤ c.args.steps.now + effect_steps g.P.Points.parts g.P.Points.change_steps g.P.Points.look_steps g.P.Points.search_steps w (w.effects ++ effect_of c.args.at c.args.delta ∷ []) c.args.at c.args.delta) c.self.view_is
+    (change_cost g.P.Points.parts g.P.Points.change_steps g.P.Points.look_steps g.P.Points.search_steps c.args.steps.now c.add.new.steps s (xs ++ effect_of c.args.at c.args.delta ∷ []) b ps c.args.at c.args.delta tied c.add.ensures.cost)

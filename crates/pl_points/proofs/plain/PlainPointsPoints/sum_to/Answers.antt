@@ -3,7 +3,8 @@ use mir.Val.{to_z}
 use mir.Syntax.{w64}
 use Rattle.std.proofs.lemmas.Int.{ints}
 use Rattle.std.proofs.lemmas.List.{get_or_default}
-use Rattle.pl_points.specs.Points.{sum_to}
+use Rattle.pl_points.specs.Points.{sum_to, is_before}
+use Rattle.pl_points.proofs.Outside.{back_le, points_passed, points_fall}
 use Rattle.pl_points.proofs.PointLists.{small_along, sum_step, sum_over, fits_here, adds_here}
 use Rattle.pl_points.proofs.plain.PlainPointsPoints.sum_to.Goals as goal
 
@@ -13,6 +14,7 @@ loop-point-init g c = record {
   small = rw c.as_slice-point-items.ensures.value (small_along c.self.inside.points.items c.self.invariant.0);
   more = omega (arith, c.tick.ensures);
   few = omega (arith, c.tick.ensures);
+  passed = omega (arith, back_le (is_before c.args.at) c.as_slice-point-items.result.now);
 }
 
 pub returns-then-at-point-clause-sum : goal.returns-then-at-point-clause-sum
@@ -45,4 +47,11 @@ loop-point-preserved g c =
       small = rw sum step.1.1.0;
       more = omega (arith, c.tick-in-loop-point.ensures, c.loop-point.invariant.more);
       few = omega (arith, c.tick-in-loop-point.ensures, c.loop-point.invariant.few);
+      passed = points_passed ps i (i + 1) c.args.at p (rw c.as_slice-point-items.ensures.value c.self.invariant.0.rising) c.loop-point-test.true refl (get_or_default ps i (0, pos 0) p c.loop-point-test.true) c.if-at-point.false;
     }
+
+pub returns-then-at-point-clause-falls : goal.returns-then-at-point-clause-falls
+returns-then-at-point-clause-falls g c = λ a b le. points_fall c.args.self.now a b le
+
+pub returns-clause-falls : goal.returns-clause-falls
+returns-clause-falls g c = λ a b le. points_fall c.args.self.now a b le

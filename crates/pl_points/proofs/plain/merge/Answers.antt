@@ -4,17 +4,16 @@ use mir.Syntax.{w64}
 use Rattle.pl_points.specs.Points.{put}
 use Rattle.std.proofs.lemmas.Result.{on_ok_weaker}
 use Rattle.std.proofs.lemmas.Int.{to_z-of_z}
-use Rattle.pl_points.proofs.PointLists.{merged_found, merged_missing, small_along, delta_small, merged_small, sum_fits, sum_is, same_read}
-use Rattle.pl_points.proofs.plain.merge_at.Goals as goal
-use Rattle.pl_points.proofs.plain.merge_at.Goals.{else-place-len-via-then-place-len+else-index-at, else-place-len-via-else-place-len}
+use Rattle.pl_points.proofs.PointLists.{merged_found, merged_missing, near_delta, near_fits, near_is, same_read}
+use Rattle.pl_points.proofs.plain.merge.Goals as goal
+use Rattle.pl_points.proofs.plain.merge.Goals.{else-place-len-via-then-place-len+else-index-at, else-place-len-via-else-place-len}
 
 pub overflow_add-sum : goal.overflow_add-sum
 overflow_add-sum c =
     let p = c.index-then-index-at.result.now in
     let ps = c.args.points.now.items in
     let lt : c.place_of-place.result < length ps = search (rules, c.if-place-len.true, c.len.ensures) in
-    sum_fits p.1 c.args.delta (delta_small ps (pos 0) c.place_of-place.result p (small_along ps c.requires.sound) lt c.index-then-index-at.ensures)
-    (merged_small c.args.at c.args.delta ps c.requires.sound.small c.requires.small)
+    near_fits p.1 c.args.delta (near_delta ps (pos 0) c.place_of-place.result p c.requires.near lt c.index-then-index-at.ensures) c.requires.delta
 
 pub returns-then-index-at-clause-ok : goal.returns-then-index-at-clause-ok
 returns-then-index-at-clause-ok c =
@@ -23,8 +22,7 @@ returns-then-index-at-clause-ok c =
     let ps = c.args.points.now.items in
     let i = c.place_of-place.result in
     let lt : i < length ps = search (rules, c.if-place-len.true, c.len.ensures) in
-    let small = delta_small ps (pos 0) i p (small_along ps c.requires.sound) lt c.index-then-index-at.ensures in
-    let sum = sum_is p.1 c.args.delta small (merged_small c.args.at c.args.delta ps c.requires.sound.small c.requires.small) in
+    let sum = near_is p.1 c.args.delta (near_delta ps (pos 0) i p c.requires.near lt c.index-then-index-at.ensures) c.requires.delta in
     let here : p.0 ≡ c.args.at = ap (λ (r : ℕ × _). r.0) (same_read ps i p q lt c.index-then-index-at.ensures c.index.ensures) ∙ c.if-index-at.true in
     let before : take i ps ≡ _ = rw c.deref.ensures.value at c.place_of-place.ensures.before in
     let rest : drop i ps ≡ _ = rw c.deref.ensures.value at c.place_of-place.ensures.rest in

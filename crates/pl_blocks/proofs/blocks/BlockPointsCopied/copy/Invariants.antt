@@ -1,0 +1,6 @@
+-- what is copied so far
+use Rattle.std.proofs.Common.{◌≡◌, take}
+use Rattle.pl_blocks.proofs.blocks.BlockPointsCopied.copy.Given as goal
+
+abbrev pub invariant-loop-block : goal.invariant-loop-block
+invariant-loop-block l = l.blocks.items ≡ take l.block-index l.block-items

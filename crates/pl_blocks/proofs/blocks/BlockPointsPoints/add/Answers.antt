@@ -1,0 +1,87 @@
+use Rattle.std.proofs.Common.{rules, ◌≡◌, ◌<◌, ◌≤◌, ◌+◌, ◌-◌, ◌^◌, ◌*◌, ◌/◌, min, List, [], arith, ap, sym, ◌∙◌, refl, subst, length, take, drop, OnOk, OnErr}
+use mir.Val.{to_z, of_z}
+use mir.Syntax.{w64}
+use Rattle.std.proofs.lemmas.Int.{to_z-of_z}
+use Rattle.std.proofs.lemmas.Result.{on_ok_weaker}
+use Rattle.pl_points.specs.Lists.{front, back}
+use Rattle.pl_points.specs.Points.{Point, merged, put, AreSmall, ArePoints, IsNear}
+use Rattle.pl_points.proofs.PointLists.{merged_small, points-merged, either}
+use Rattle.pl_blocks.specs.Blocks.{together, is_past, AreBlocks}
+use Rattle.pl_blocks.specs.Mending.{with_points, Fit, IsMended}
+use Rattle.pl_blocks.proofs.Rows.{parts_most}
+use Rattle.pl_blocks.proofs.Searches.{fits_there, mended_blocks, none_blocks, begun_blocks, no_items, three}
+use Rattle.pl_blocks.proofs.blocks.BlockPointsPoints.add.Goals as goal
+
+pub begin-requires-clause-near : goal.begin-requires-clause-near
+begin-requires-clause-near g c =
+    let bs = c.self.inside.blocks.items in
+    let is : to_z w64 (of_z w64 c.args.delta) ≡ c.args.delta = to_z-of_z w64 c.args.delta c.ranges.delta in
+    let new : AreSmall (merged c.args.at c.args.delta (together bs)) = subst (λ l. AreSmall (merged c.args.at c.args.delta (together l))) (sym c.self.view_is) c.requires in
+    subst (λ z. IsNear z) (sym is) (merged_small c.args.at c.args.delta (together bs) c.self.invariant.points.small new)
+
+pub merged-requires : goal.merged-requires
+merged-requires g c =
+    let bs = c.self.inside.blocks.items in
+    let is : to_z w64 (of_z w64 c.args.delta) ≡ c.args.delta = to_z-of_z w64 c.args.delta c.ranges.delta in
+    let new : AreSmall (merged c.args.at c.args.delta (together bs)) = subst (λ l. AreSmall (merged c.args.at c.args.delta (together l))) (sym c.self.view_is) c.requires in
+    subst (λ z. IsNear z) (sym is) (merged_small c.args.at c.args.delta (together bs) c.self.invariant.points.small new)
+
+pub invariant_of-self : goal.invariant_of-self
+invariant_of-self g c =
+    let bs = c.self.inside.blocks.items in
+    let is : to_z w64 (of_z w64 c.args.delta) ≡ c.args.delta = to_z-of_z w64 c.args.delta c.ranges.delta in
+    let none : bs ≡ [] = no_items bs (search (rules, c.if-count-eq0.true, c.len-count.ensures)) in
+    let new : AreSmall (merged c.args.at c.args.delta []) = subst (λ l. AreSmall (merged c.args.at c.args.delta (together l))) (sym c.self.view_is ∙ none) c.requires in
+    let small : AreSmall (merged c.args.at (to_z w64 (of_z w64 c.args.delta)) []) = subst (λ d. AreSmall (merged c.args.at d [])) (sym is) new in
+    three c.begin.result c.begin.ensures.ok c.begin.ensures.sized c.begin.ensures.one c.begin.ensures.err
+    (λ whole sized one. begun_blocks c.begin.new.blocks.items c.args.at (to_z w64 (of_z w64 c.args.delta)) whole sized one small)
+    (λ e. subst AreBlocks (sym e) none_blocks)
+
+pub mend-requires : goal.mend-requires
+mend-requires g c =
+    let bs = c.self.inside.blocks.items in
+    let at = c.args.at in
+    let k = c.past_count.result in
+    let is : to_z w64 (of_z w64 c.args.delta) ≡ c.args.delta = to_z-of_z w64 c.args.delta c.ranges.delta in
+    let new : AreSmall (merged at c.args.delta (together bs)) = subst (λ l. AreSmall (merged at c.args.delta (together l))) (sym c.self.view_is) c.requires in
+    let before : take k bs ≡ front (is_past at) bs = rw c.deref.ensures.value at c.past_count.ensures.before in
+    let rest : drop k bs ≡ back (is_past at) bs = rw c.deref.ensures.value at c.past_count.ensures.rest in
+    let count : length bs ≡ c.len-count.result = omega (arith, c.len-count.ensures, c.deref.ensures.len, ap length c.deref.ensures.value) in
+    (fits_there bs k c.min-place.result at c.args.delta c.index.result.now c.in_ok-points.points.items c.self.invariant new (omega (arith, c.past_count.ensures.bound, ap length c.deref.ensures.value)) before rest
+    (c.min-place.ensures ∙ ap (λ n. min k (n - 1)) (sym count)) (omega (arith, count, c.if-count-eq0.false)) c.index.ensures (c.in_ok-points.ensures ∙ ap (λ d. merged at d c.index.result.now) is)).0
+
+pub invariant_of-self-2 : goal.invariant_of-self-2
+invariant_of-self-2 g c =
+    let bs = c.self.inside.blocks.items in
+    let at = c.args.at in
+    let k = c.past_count.result in
+    let is : to_z w64 (of_z w64 c.args.delta) ≡ c.args.delta = to_z-of_z w64 c.args.delta c.ranges.delta in
+    let new : AreSmall (merged at c.args.delta (together bs)) = subst (λ l. AreSmall (merged at c.args.delta (together l))) (sym c.self.view_is) c.requires in
+    let before : take k bs ≡ front (is_past at) bs = rw c.deref.ensures.value at c.past_count.ensures.before in
+    let rest : drop k bs ≡ back (is_past at) bs = rw c.deref.ensures.value at c.past_count.ensures.rest in
+    let count : length bs ≡ c.len-count.result = omega (arith, c.len-count.ensures, c.deref.ensures.len, ap length c.deref.ensures.value) in
+    let fit = fits_there bs k c.min-place.result at c.args.delta c.index.result.now c.in_ok-points.points.items c.self.invariant new (omega (arith, c.past_count.ensures.bound, ap length c.deref.ensures.value)) before rest
+    (c.min-place.ensures ∙ ap (λ n. min k (n - 1)) (sym count)) (omega (arith, count, c.if-count-eq0.false)) c.index.ensures (c.in_ok-points.ensures ∙ ap (λ d. merged at d c.index.result.now) is) in
+    either c.mend.result c.mend.ensures.ok c.mend.ensures.err
+    (λ m. mended_blocks bs c.mend.new.blocks.items c.min-place.result c.in_ok-points.points.items fit.0.points (omega (arith, count, c.if-count-ge-MOST_BLOCKS.false)) m)
+    (λ e. subst AreBlocks (sym e) c.self.invariant)
+
+pub returns-clause-ok : goal.returns-clause-ok
+returns-clause-ok g c =
+    let bs = c.self.inside.blocks.items in
+    let at = c.args.at in
+    let k = c.past_count.result in
+    let is : to_z w64 (of_z w64 c.args.delta) ≡ c.args.delta = to_z-of_z w64 c.args.delta c.ranges.delta in
+    let new : AreSmall (merged at c.args.delta (together bs)) = subst (λ l. AreSmall (merged at c.args.delta (together l))) (sym c.self.view_is) c.requires in
+    let before : take k bs ≡ front (is_past at) bs = rw c.deref.ensures.value at c.past_count.ensures.before in
+    let rest : drop k bs ≡ back (is_past at) bs = rw c.deref.ensures.value at c.past_count.ensures.rest in
+    let count : length bs ≡ c.len-count.result = omega (arith, c.len-count.ensures, c.deref.ensures.len, ap length c.deref.ensures.value) in
+    let fit = fits_there bs k c.min-place.result at c.args.delta c.index.result.now c.in_ok-points.points.items c.self.invariant new (omega (arith, c.past_count.ensures.bound, ap length c.deref.ensures.value)) before rest
+    (c.min-place.ensures ∙ ap (λ n. min k (n - 1)) (sym count)) (omega (arith, count, c.if-count-eq0.false)) c.index.ensures (c.in_ok-points.ensures ∙ ap (λ d. merged at d c.index.result.now) is) in
+    on_ok_weaker c.mend.result (λ m. m.whole ∙ sym fit.1 ∙ ap (λ l. merged at c.args.delta (together l)) c.self.view_is) c.mend.ensures.ok
+
+pub returns-clause-cost : goal.returns-clause-cost
+returns-clause-cost g c =
+    let bs = c.self.inside.blocks.items in
+    let parts = parts_most bs c.self.invariant.full in
+    omega (arith, c.tick.ensures, c.past_count.ensures.cost, c.mend.ensures.cost, parts, ap (λ l. length (together l)) c.self.view_is)

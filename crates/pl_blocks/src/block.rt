@@ -1,0 +1,148 @@
+ghost use Rattle.std.specs.Prelude.{◌≡◌, ◌<◌, ◌≤◌, ◌+◌, pos, length, take, drop, OnErr, IfOk};
+ghost use Rattle.pl_points.specs.Lists.{front, back};
+ghost use Rattle.pl_points.specs.Points.{is_before, sum_below, first_from, leaving, merged};
+ghost use Rattle.pl_points.specs.Points.{RiseFrom, AreNear, IsNear, SmallFrom};
+ghost use Rattle.pl_blocks.specs.Blocks.{is_past, change_of, least_sum, greatest_sum};
+
+use pl_lists::Copied;
+use pl_points::{Ledger, Steps, leaving, merge};
+use std::alloc::{AllocError, Global};
+use std::marker::Model;
+
+/// From 1 to 64 points, with their sum and the least and greatest sum of their fronts.
+#[derive(Drop)]
+pub(crate) struct Block {
+    points: Vec<(u32, i64)>,
+    sum: i64,
+    least: i64,
+    greatest: i64,
+}
+
+impl Model for Block {
+    ghost use Rattle.std.specs.Prelude.{ℕ, ℤ, List};
+    ghost use Rattle.pl_blocks.specs.Blocks.{IsBlock};
+
+    ghost Value = { List (ℕ × ℤ) };
+
+    ghost view = { λ b. b.points.items };
+
+    ghost invariant = { λ b. IsBlock b.points.items b.sum b.least b.greatest };
+}
+
+impl Block {
+    pub(crate) fn new<L: Ledger>(points: Vec<(u32, i64)>, steps: &mut Steps<L>) -> Block
+        requires some { 0 < length points.items }
+        requires few { length points.items ≤ 64 }
+        requires rising { RiseFrom 0 points.items }
+        requires near { AreNear (pos 0) points.items }
+        ensures points { result ≡ points.items }
+        ensures more { steps.old ≤ steps.new }
+        ensures cost { steps.new ≤ steps.old + length points.items }
+    {
+        let first = points[0].1;
+        let mut sum: i64 = 0;
+        let mut least = first;
+        let mut greatest = first;
+        for point in points.as_slice() {
+            steps.tick();
+            sum += point.1;
+            least = least.min(sum);
+            greatest = greatest.max(sum);
+        }
+        Block {
+            points,
+            sum,
+            least,
+            greatest,
+        }
+    }
+
+    pub(crate) fn points(&self) -> &[(u32, i64)]
+        ensures points { result.now ≡ self.now }
+        ensures some { 0 < length result.now }
+        ensures few { length result.now ≤ 64 }
+        ensures rising { RiseFrom 0 result.now }
+        ensures near { AreNear (pos 0) result.now }
+    {
+        &self.points
+    }
+
+    pub(crate) fn sum(&self) -> i64
+        ensures { result ≡ change_of self.now }
+    {
+        self.sum
+    }
+
+    pub(crate) fn least(&self) -> i64
+        ensures { result ≡ least_sum self.now }
+    {
+        self.least
+    }
+
+    pub(crate) fn greatest(&self) -> i64
+        ensures { result ≡ greatest_sum self.now }
+    {
+        self.greatest
+    }
+
+    /// Whether all its points lie before the moment, which need not fit 32 bits.
+    pub(crate) fn is_past(&self, at: u64) -> bool
+        ensures { result ≡ is_past at self.now }
+    {
+        let points = self.points();
+        u64::from(points[points.len() - 1].0) < at
+    }
+
+    /// The points with the delta merged in.
+    pub(crate) fn merged(
+        &self,
+        alloc: Global,
+        at: u32,
+        delta: i64,
+    ) -> Result<Vec<(u32, i64)>, AllocError>
+        requires { IsNear delta }
+        ensures { IfOk result (λ v. v.items ≡ merged at delta self.now) }
+    {
+        let mut points = Vec::from_slice(alloc, self.points())?;
+        merge(&mut points, at, delta)?;
+        Ok(points)
+    }
+}
+
+impl Copied for Block {
+    fn copy(&self, alloc: Global) -> Result<Block, AllocError> {
+        Ok(Block {
+            points: Vec::from_slice(alloc, self.points.as_slice())?,
+            sum: self.sum,
+            least: self.least,
+            greatest: self.greatest,
+        })
+    }
+}
+
+/// How many of the points lie before the moment, and what they add up to.
+pub(crate) fn passed<L: Ledger>(
+    points: &[(u32, i64)],
+    at: u64,
+    steps: &mut Steps<L>,
+) -> (usize, i64)
+    requires rising { RiseFrom 0 points.now }
+    requires near { AreNear (pos 0) points.now }
+    ensures bound { result.0 ≤ length points.now }
+    ensures before { take result.0 points.now ≡ front (is_before at) points.now }
+    ensures rest { drop result.0 points.now ≡ back (is_before at) points.now }
+    ensures sum { result.1 ≡ sum_below points.now at }
+    ensures more { steps.old ≤ steps.new }
+    ensures few { steps.new ≤ steps.old + length points.now }
+    ensures cost { steps.new ≤ steps.old + result.0 + 1 }
+{
+    let mut sum: i64 = 0;
+    for (place, point) in points.iter().enumerate() {
+        steps.tick();
+        if u64::from(point.0) >= at {
+            return (place, sum);
+        }
+        sum += point.1;
+    }
+    (points.len(), sum)
+}

@@ -1,0 +1,201 @@
+ghost use Rattle.std.specs.Prelude.{◌≡◌, ◌<◌, ◌≤◌, ◌+◌, ◌*◌, ◌/◌, ◌^◌, [], ◌∷◌, length, OnOk, OnErr};
+ghost use Rattle.pl_points.specs.Points.{leaving, RiseFrom, SmallFrom, AreSmall, ahead_of, put, IsNear};
+ghost use Rattle.pl_blocks.specs.Blocks.{together, blocks_from, AreSized};
+
+use crate::block::{Block, passed};
+use crate::finding::past_count;
+use crate::mending::mend;
+use pl_lists::Copied;
+use pl_points::{Ledger, Points, Steps, leaving};
+use std::alloc::{AllocError, Global};
+use std::marker::Model;
+
+// A row of blocks stays shorter, so that its points are fewer than 2^32.
+const MOST_BLOCKS: usize = 0x0400_0000;
+
+/// Points in a row of blocks of at most 64, each with its sum and the least and greatest sum of its
+/// fronts. Two neighbours hold more than 32 points together.
+#[derive(Drop)]
+pub struct BlockPoints {
+    alloc: Global,
+    blocks: Vec<Block>,
+}
+
+impl Model for BlockPoints {
+    ghost use Rattle.std.specs.Prelude.{ℕ, ℤ, List};
+    ghost use Rattle.pl_blocks.specs.Blocks.{AreBlocks};
+
+    ghost Value = { List (List (ℕ × ℤ)) };
+
+    ghost view = { λ p. p.blocks.items };
+
+    ghost invariant = { λ p. AreBlocks p.blocks.items };
+}
+
+impl BlockPoints {
+    /// No points yet.
+    pub fn new(alloc: Global) -> BlockPoints
+        ensures { result ≡ [] }
+    {
+        BlockPoints {
+            alloc,
+            blocks: Vec::new(alloc),
+        }
+    }
+}
+
+// The first point of the blocks after which the sum is outside. It reads the summaries, and the
+// points of the block that has the answer.
+fn leaving_blocks<L: Ledger>(
+    blocks: &[Block],
+    before: i64,
+    least: i64,
+    most: i64,
+    steps: &mut Steps<L>,
+) -> Option<(u32, i64)>
+    requires sized { AreSized blocks.now }
+    requires rising { RiseFrom 0 (together blocks.now) }
+    requires small { SmallFrom before (together blocks.now) }
+    ensures first { result ≡ leaving least most before (together blocks.now) }
+    ensures more { steps.old ≤ steps.new }
+    ensures cost { steps.new + ahead_of (blocks_from blocks.now) result ≤ steps.old + length blocks.now + 65 }
+{
+    let mut sum = before;
+    for block in blocks {
+        steps.tick();
+        if sum + block.least() < least || most < sum + block.greatest() {
+            return leaving(block.points(), sum, least, most, steps);
+        }
+        sum += block.sum();
+    }
+    None
+}
+
+// The first point of the row.
+fn begin<L: Ledger>(
+    alloc: Global,
+    blocks: &mut Vec<Block>,
+    at: u32,
+    delta: i64,
+    steps: &mut Steps<L>,
+) -> Result<(), AllocError>
+    requires none { blocks.old.items ≡ [] }
+    requires near { IsNear delta }
+    ensures ok { OnOk result (together blocks.new.items ≡ put at delta []) }
+    ensures sized { OnOk result (AreSized blocks.new.items) }
+    ensures one { OnOk result (length blocks.new.items ≤ 1) }
+    ensures err { OnErr result (blocks.new.items ≡ []) }
+    ensures more { steps.old ≤ steps.new }
+    ensures cost { steps.new ≤ steps.old + 1 }
+{
+    if delta == 0 {
+        return Ok(());
+    }
+    let mut points = Vec::new(alloc);
+    points.push((at, delta))?;
+    blocks.push(Block::new(points, steps))?;
+    Ok(())
+}
+
+impl Points for BlockPoints {
+    ghost points = { together };
+
+    ghost ahead = { blocks_from };
+
+    ghost parts = { λ n. 2 * n / 33 + 1 };
+
+    ghost change_steps = { 100 };
+
+    ghost look_steps = { 91 };
+
+    ghost search_steps = { 156 };
+
+    fn add<L: Ledger>(
+        &mut self,
+        at: u32,
+        delta: i64,
+        steps: &mut Steps<L>,
+    ) -> Result<(), AllocError> {
+        steps.tick();
+        let count = self.blocks.len();
+        if count + 1 >= MOST_BLOCKS {
+            return Err(AllocError);
+        }
+        if count == 0 {
+            return begin(self.alloc, &mut self.blocks, at, delta, steps);
+        }
+        let place = past_count(&self.blocks, at, steps).min(count - 1);
+        let points = self.blocks[place].merged(self.alloc, at, delta)?;
+        mend(self.alloc, &mut self.blocks, place, points, steps)
+    }
+
+    fn first_from<L: Ledger>(&self, at: u32, steps: &mut Steps<L>) -> Option<(u32, i64)> {
+        steps.tick();
+        let place = past_count(&self.blocks, at, steps);
+        if place == self.blocks.len() {
+            return None;
+        }
+        let points = self.blocks[place].points();
+        let (count, _) = passed(points, u64::from(at), steps);
+        Some(points[count])
+    }
+
+    fn first_outside<L: Ledger>(
+        &self,
+        from: u32,
+        before: i64,
+        least: i64,
+        most: i64,
+        steps: &mut Steps<L>,
+    ) -> Option<(u32, i64)> {
+        steps.tick();
+        let place = past_count(&self.blocks, from, steps);
+        if place == self.blocks.len() {
+            return None;
+        }
+        let block = &self.blocks[place];
+        let points = block.points();
+        let (count, skipped) = passed(points, u64::from(from), steps);
+        let found = leaving(&points[count..], before, least, most, steps);
+        if found.is_some() {
+            return found;
+        }
+        let sum = before - skipped + block.sum();
+        leaving_blocks(&self.blocks[place + 1..], sum, least, most, steps)
+    }
+
+    fn sum_to<L: Ledger>(&self, at: u32, steps: &mut Steps<L>) -> i64 {
+        steps.tick();
+        let end = u64::from(at) + 1;
+        let mut sum: i64 = 0;
+        for block in &self.blocks {
+            steps.tick();
+            if !block.is_past(end) {
+                return sum + passed(block.points(), end, steps).1;
+            }
+            sum += block.sum();
+        }
+        sum
+    }
+
+    fn len(&self) -> u32 {
+        let mut count = 0;
+        for block in &self.blocks {
+            count += block.points().len() as u32;
+        }
+        count
+    }
+}
+
+impl Copied for BlockPoints {
+    fn copy(&self, _alloc: Global) -> Result<BlockPoints, AllocError> {
+        let mut blocks = Vec::new(self.alloc);
+        for block in &self.blocks {
+            blocks.push(block.copy(self.alloc)?)?;
+        }
+        Ok(BlockPoints {
+            alloc: self.alloc,
+            blocks,
+        })
+    }
+}
