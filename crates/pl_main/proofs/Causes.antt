@@ -1,5 +1,5 @@
 -- No input has the causes of two statuses.
-use Rattle.std.proofs.Common.{◌≡◌, ◌≢◌, ℕ, ◌+◌, ◌<◌, ◌≤◌, suc, List, [], ◌∷◌, ◌++◌, length, take, Bool, true, false, All, Option, Some, None, IfSome, ◌⊎◌, inl, inr, refl, sym, ◌∙◌, ap, subst, append_assoc, arith}
+use Rattle.std.proofs.Common.{◌≡◌, ℕ, ◌+◌, ◌<◌, ◌≤◌, suc, List, [], ◌∷◌, ◌++◌, length, take, Bool, true, false, All, Option, Some, None, IfSome, ◌⊎◌, inl, inr, refl, sym, ◌∙◌, ap, subst, append_assoc, arith}
 use Rattle.std.proofs.lemmas.List.{take_all}
 use Rattle.pl_io.specs.Lines.{lines_of, first_line, after_line, next_of, given, line_too_long, input_too_long}
 use Rattle.pl_io.proofs.FirstLine.{next_of-judged, judged-last}
@@ -197,8 +197,8 @@ past_not_full turns input held now other_left other_held other_now past full =
         let both = full_and_closed waits.model (program_options turns) full.log waits.log (full.pending ++ before.more) first second (before.is ∙ append_assoc (inputs_of full.log) full.pending before.more) full.full waits.closed in
         let closed : (world_of full.model full.log).closed ≡ true = ap (λ (m : Model). (world_of m full.log).closed) same ∙ ap (λ (w : World). w.closed) both.0 ∙ waits.closed in
         elim full.due [
-          | inl open_round ↦ (let h : true ≡ false = sym closed ∙ open_round in (cc))
-          | inr some ↦ some (no_pending full.pending before.more both.1)
+          | inl open_round ↦ (let h : true ≡ false = sym closed ∙ open_round.0 in (cc))
+          | inr one ↦ (let h : one.0 ∷ [] ≡ [] = sym one.1 ∙ no_pending full.pending before.more both.1 in (cc))
         ]
 
 -- ---- an input within the limits

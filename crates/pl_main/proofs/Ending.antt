@@ -1,5 +1,5 @@
 -- The end of a run over an input: from its head, and from what was played.
-use Rattle.std.proofs.Common.{◌≡◌, ◌≢◌, ℕ, ◌<◌, ◌≤◌, List, [], ◌∷◌, ◌++◌, length, drop, OnOk, IfOk, IfErr, Bool, true, false, Option, Some, None, ◌⊎◌, inl, inr, Result, Ok, Err, refl, sym, ◌∙◌, ap, subst, append_assoc, arith}
+use Rattle.std.proofs.Common.{◌≡◌, ℕ, ◌<◌, ◌≤◌, List, [], ◌∷◌, ◌++◌, length, drop, OnOk, IfOk, IfErr, Bool, true, false, Option, Some, None, ◌⊎◌, inl, inr, Result, Ok, Err, refl, sym, ◌∙◌, ap, subst, append_assoc, arith}
 use Rattle.std.proofs.lemmas.List.{append-nil}
 use Rattle.std.specs.declared.vec.Vec.{Vec}
 use Rattle.std.specs.declared.alloc.Global.{Global}
@@ -380,7 +380,7 @@ record LeavesMore (m : Model) (log : List Entry) (words input : List ℕ) (sourc
   messages : (split_of input).messages ≡ inputs_of log ++ unanswered
   pending : List (Option (List ℕ))
   read : HasRead words (inputs_of log ++ pending) input source_left
-  due : ((world_of m log).closed ≡ false) ⊎ (pending ≢ [])
+  due : (((world_of m log).closed ≡ false) × (pending ≡ [])) ⊎ ((message : Option (List ℕ)) × (pending ≡ message ∷ []))
 
 leaves_more : (m : Model) (log : List Entry) (input : List ℕ) (heads lines : List (List ℕ)) (words : List ℕ) (room mid : ℕ) (heads_rest bytes : List ℕ) (before : List (Option (List ℕ))) (next : Option (List ℕ)) (place : Place) (source_left : Option (List ℕ))
     → IsHead heads words → Gave total_limit input heads room heads_rest → Gave room heads_rest lines mid bytes → messages_of lines ≡ before ++ None ∷ [] → GotNext next mid bytes place
@@ -401,14 +401,14 @@ leaves_more m log input heads lines words room mid heads_rest bytes before next 
       messages = whole ∙ sym (append_assoc before (next ∷ []) got.all.more) ∙ ap (λ (ns : List (Option (List ℕ))). ns ++ got.all.more) (sym both.1);
       pending = [];
       read = subst (λ (ns : List (Option (List ℕ))). HasRead words ns input source_left) (sym (append-nil (inputs_of log) ∙ both.1)) read;
-      due = inl both.0;
+      due = inl (both.0, refl);
     }
     by_due (inr same) = record {
       unanswered = next ∷ got.all.more;
       messages = whole ∙ ap (λ (ns : List (Option (List ℕ))). ns ++ next ∷ got.all.more) (sym same);
       pending = next ∷ [];
       read = subst (λ (ns : List (Option (List ℕ))). HasRead words ns input source_left) (ap (λ (ns : List (Option (List ℕ))). ns ++ next ∷ []) (sym same)) read;
-      due = inr (λ e. (let h : next ∷ [] ≡ [] = e in (cc)));
+      due = inr (next, refl);
     }
 
 full_ends : (turns : ℕ) (input words heads_rest : List ℕ) (heads : List (List ℕ)) (m : Model) (start place : Place) (source_left held opened now : Option (List ℕ)) (new : State)

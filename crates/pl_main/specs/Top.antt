@@ -1,5 +1,5 @@
 -- What the top call promises of `run solo N` and of `check`.
-use Rattle.std.specs.Prelude.{◌≡◌, ◌≢◌, ℕ, ◌<◌, ◌⊎◌, List, [], ◌∷◌, ◌++◌, length, true, false, Option, Some, None, Result, Ok, Err, codes, decimal, ⊤}
+use Rattle.std.specs.Prelude.{◌≡◌, ℕ, ◌<◌, ◌⊎◌, List, [], ◌∷◌, ◌++◌, length, true, false, Option, Some, None, Result, Ok, Err, codes, decimal, ⊤}
 use Rattle.pl_io.specs.Lines.{ahead, next_of, line_too_long, input_too_long}
 use Rattle.pl_io.specs.Sparing.{read_size}
 use Rattle.pl_model.specs.declared.whole.Model.{Model}
@@ -130,7 +130,8 @@ pub record IsReadFault (turns : ℕ) (input : List ℕ) (held now : Option (List
   pub gave : Gave total_limit input lines left rest
   pub asked : ((model_text_of lines ≡ None) × (now ≡ held)) ⊎ WaitsBehind turns lines held now
 
--- The log answers the messages up to a place. It has as many entries as it may, and one more is due: within a round, or for a message that was read.
+-- The log answers the messages up to a place. It has as many entries as it may, and one more is due: within a round, and
+-- then no further message was read, or for the one message that was read behind them.
 pub record IsFull (turns : ℕ) (input : List ℕ) (source_left held now : Option (List ℕ)) : Type 0 where
   pub model : Model
   pub log : List Entry
@@ -147,7 +148,8 @@ pub record IsFull (turns : ℕ) (input : List ℕ) (source_left held now : Optio
   pub going : (world_of model log).done ≡ false
   pub pending : List (Option (List ℕ))
   pub read : HasRead words (inputs_of log ++ pending) input source_left
-  pub due : ((world_of model log).closed ≡ false) ⊎ (pending ≢ [])
+  pub due : (((world_of model log).closed ≡ false) × (pending ≡ []))
+      ⊎ ((next : Option (List ℕ)) × (pending ≡ next ∷ []))
   pub written : Adds held now (text_of_log model log)
 
 -- How a run ended, where the input's bytes are known.
