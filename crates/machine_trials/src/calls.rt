@@ -176,9 +176,11 @@ fn plays_scripts_from_the_start(rt: HostRuntime) -> Result<(), AllocError> {
     let alloc = rt.alloc();
     let closed = "rest = not now\ndispatch = not now\nclose = not now
 commit 1 = not now\nadd-for-1 10 = not now";
-    play(&rt, &mut fresh(&rt, alloc, BOUNDS)?, closed);
+    let mut machine = fresh(&rt, alloc, BOUNDS)?;
+    play(&rt, &mut machine, closed);
     let full = "tick 3 = ok\nrest = log full";
-    play(&rt, &mut fresh(&rt, alloc, TWO_ENTRIES)?, full);
+    let mut machine = fresh(&rt, alloc, TWO_ENTRIES)?;
+    play(&rt, &mut machine, full);
     Ok(())
 }
 
