@@ -1,6 +1,7 @@
 -- Where the indexes file an activity, and what is left where one is gone.
-use Rattle.std.specs.Prelude.{◌≡◌, ℕ, List, Option, Some, None}
+use Rattle.std.specs.Prelude.{◌≡◌, ℕ, List, All, Option, Some, None}
 use Rattle.std.specs.Option.{option_map}
+use Rattle.std.specs.Map.{values_of}
 use Rattle.pl_model.specs.declared.reservations.Point.{Point}
 use Rattle.pl_model.specs.declared.reservations.Point.TheVariants.{Start, End}
 use Rattle.pl_links.specs.declared.placed.Placed.{Placed}
@@ -24,11 +25,19 @@ pub record AreFiles (items : List Placed) (files : Files) : Type 0 where
   pub ends : IsIndexOf (point_place End) items files.ends
   pub children : IsIndexOf parent_place items files.children
 
--- what a store keeps of its activities and their files
-pub record IsStored (items : List Placed) (files : Files) : Type 0 where
-  pub rising : AreRising items
-  pub apart : AreApart items
-  pub filed : AreFiles items files
+-- an activity stands under its id
+abbrev pub IsUnderId : ℕ × Placed → Type 0
+IsUnderId e = e.0 ≡ e.1.id
+
+abbrev pub AreUnderIds : List (ℕ × Placed) → Type 0
+AreUnderIds entries = All IsUnderId entries
+
+-- what a store keeps of its activities by id and their files
+pub record IsStored (entries : List (ℕ × Placed)) (files : Files) : Type 0 where
+  pub under : AreUnderIds entries
+  pub rising : AreRising (values_of entries)
+  pub apart : AreApart (values_of entries)
+  pub filed : AreFiles (values_of entries) files
 
 -- the activities but for one that is gone
 abbrev pub left : Option ℕ → List Placed → List Placed
