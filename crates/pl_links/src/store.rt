@@ -1,8 +1,9 @@
-ghost use Rattle.std.specs.Prelude.{◌≡◌, [], ◌&&◌, ◌==◌, not, Some, OnOk, OnErr, IfOk, IfSome, None, false};
+ghost use Rattle.std.specs.Prelude.{◌≡◌, [], Some, OnOk, OnErr, IfOk, IfSome, None, false};
 ghost use Rattle.std.specs.List.{list_any};
-ghost use Rattle.pl_links.specs.Items.{AreRising, AreApart, IsPlaced, item_of, with_item, without, child_of};
-ghost use Rattle.pl_links.specs.Broken.{moment_of, are_apart, is_partner};
-ghost use Rattle.pl_links.specs.Filed.{left};
+ghost use Rattle.pl_links.specs.Items.{AreRising, AreApart, IsPlaced};
+ghost use Rattle.pl_links.specs.Items.{item_of, with_item, without, child_of};
+ghost use Rattle.pl_links.specs.Broken.{is_partner};
+ghost use Rattle.pl_links.specs.Filed.{left, is_partner_of};
 ghost use Rattle.pl_links.specs.Near.{parent_of};
 ghost use Rattle.pl_links.specs.Sets.{has};
 ghost use Rattle.pl_links.specs.Standing.{stands};
@@ -126,7 +127,7 @@ impl Store {
     }
 
     fn has_partner_of(&self, gone: Option<u32>, own: u32, mine: u32, link: &Link) -> bool
-        ensures { result ≡ list_any (λ other. not (other.id == own) && ((other.kind == link.now.kind) && are_apart link.now.low link.now.high (Some mine) (moment_of link.now.theirs other))) (left gone self.now) }
+        ensures { result ≡ list_any (is_partner_of link.now own mine) (left gone self.now) }
     {
         let window = window_after(mine, link.low, link.high);
         match link.theirs {
@@ -152,7 +153,8 @@ impl Store {
         item: &Placed,
     ) -> Result<Vec<Broken>, AllocError>
         requires { item_of item.now.id self.now ≡ Some item.now }
-        ensures { IfOk result (λ all. (b : Broken) → has b all.items ≡ false → stands model.now self.now b ≡ stands model.now (without item.now.id self.now) b) }
+        ensures { IfOk result (λ all. (b : Broken) → has b all.items ≡ false →
+            stands model.now self.now b ≡ stands model.now (without item.now.id self.now) b) }
     {
         let all = near(alloc, model, &self.files, item, self.parent_of(item))?;
         Ok(all)
