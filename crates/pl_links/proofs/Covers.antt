@@ -20,7 +20,7 @@ use Rattle.pl_links.specs.Items.{is_slot, fills, AreRising, item_of, without, ch
 use Rattle.pl_links.specs.Broken.{moment_of, is_apart, are_apart, is_partner, lacks_partner, moment_in, is_unmet, are_misplaced, is_link_broken, is_order_broken, links_in, links_of, orders_of}
 use Rattle.pl_links.specs.Laws.{fails_at}
 use Rattle.pl_links.specs.Keys.{link_at, has_key}
-use Rattle.pl_links.specs.Filed.{AreFiles, IsStored, point_place}
+use Rattle.pl_links.specs.Filed.{AreFiles, point_place}
 use Rattle.pl_links.specs.Standing.{stands_at, stands}
 use Rattle.pl_links.specs.Sets.{broken_cmp, has}
 use Rattle.pl_links.specs.Near.{all_below, all_of, parent_of, keys_at, owners_at, owners_of, owners_in, owners_among, near}
@@ -163,7 +163,7 @@ order_within [] i order e = absurd (let h : None ≡ Some order = e in (cc))
 order_within (x ∷ orders) zero order e = omega arith
 order_within (x ∷ orders) (suc i) order e = omega (arith, order_within orders i order e)
 
-module _ (model : Model) (items : List Placed) (files : Files) (p : Placed) (stored : IsStored items files) (here : item_of p.id items ≡ Some p) where
+module _ (model : Model) (items : List Placed) (files : Files) (p : Placed) (rising : AreRising items) (filed : AreFiles items files) (here : item_of p.id items ≡ Some p) where
   abbrev rest : List Placed
   rest = without p.id items
 
@@ -183,7 +183,7 @@ module _ (model : Model) (items : List Placed) (files : Files) (p : Placed) (sto
       where
         cases : (t : Bool) → is_partner link own p ≡ t → lacks_partner items own link ≡ lacks_partner rest own link
         cases true e =
-            let found = link_has items files stored.filed p own placed model (kind_of model own) refl index link at e in
+            let found = link_has items files filed p own placed model (kind_of model own) refl index link at e in
             let bad : false ≡ true = sym (parts (broken own.id index false) off).2 ∙ found in
             absurd (cc)
         cases false e = ap (λ t. is_some own.end && not t) (sym (any_without (is_partner link own) p items here e))
@@ -237,8 +237,8 @@ module _ (model : Model) (items : List Placed) (files : Files) (p : Placed) (sto
 
       cases : (t : Bool) → eqb p.id b.id ≡ t → stands model items b ≡ stands model rest b
       cases true e =
-          let gone : item_of b.id rest ≡ None = item-without p.id b.id 0 items stored.rising ∙ rw e refl in
+          let gone : item_of b.id rest ≡ None = item-without p.id b.id 0 items rising ∙ rw e refl in
           let none : stands model rest b ≡ false = ap (stands_at model rest b) gone in
           let off_here : stands model items b ≡ false = false_from_ne_true (stands model items b) (λ s. let bad : false ≡ true = sym (parts b off).0 ∙ own_has b (eqb-true p.id b.id e) s in (cc)) in
           off_here ∙ sym none
-      cases false e = found (item_of b.id items) refl (item-without p.id b.id 0 items stored.rising ∙ rw e refl)
+      cases false e = found (item_of b.id items) refl (item-without p.id b.id 0 items rising ∙ rw e refl)

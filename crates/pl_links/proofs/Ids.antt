@@ -1,4 +1,4 @@
--- Where an id stands among placed activities of rising ids, and what a search for it finds.
+-- Where an id stands among placed activities of rising ids.
 use Rattle.std.proofs.Common.{◌≡◌, ℕ, zero, suc, ◌<◌, ◌≤◌, eqb, ltb, Bool, true, false, List, [], ◌∷◌, length, get_or, Some, None, Result, Ok, Err, IfOk, IfErr, refl, sym, ap, arith, ◌∙◌}
 use Rattle.std.specs.List.{insert, remove}
 use Rattle.std.specs.List.Sorted.{IsSearchInRange, IsBinarySearchResult, IsNonDecreasingBy}
@@ -8,19 +8,12 @@ use Rattle.std.proofs.lemmas.Bool.{eq-eqb, ne_eqb, lt-ltb, le-ltb, ltb-true, ltb
 use Rattle.std.proofs.lemmas.Bool.Decides.{nat_tests}
 use Rattle.pl_links.specs.declared.placed.Placed.{Placed}
 use Rattle.pl_links.specs.Items.{RiseFrom, AreRising, item_of, with_item, without}
-use Rattle.pl_links.specs.Places.{IsPlaceOf, IsGapFor}
 
 -- ids do not lie below where they begin to rise
 pub rises_above : (xs : List Placed) (c i : ℕ) (d : Placed) → RiseFrom c xs → i < length xs → c ≤ (get_or xs i d).id
 rises_above [] c i d rising lt = absurd (omega (arith, lt))
 rises_above (x ∷ xs) c zero d rising lt = rising.0
 rises_above (x ∷ xs) c (suc i) d rising lt = omega (arith, rising.0, rises_above xs (suc x.id) i d rising.1 (omega (arith, lt)))
-
-pub rises_between : (xs : List Placed) (c i j : ℕ) (d : Placed) → RiseFrom c xs → i < j → j < length xs → (get_or xs i d).id < (get_or xs j d).id
-rises_between [] c i j d rising lt in_range = absurd (omega (arith, in_range))
-rises_between (x ∷ xs) c i zero d rising lt in_range = absurd (omega (arith, lt))
-rises_between (x ∷ xs) c zero (suc j) d rising lt in_range = omega (arith, rises_above xs (suc x.id) j d rising.1 (omega (arith, in_range)))
-rises_between (x ∷ xs) c (suc i) (suc j) d rising lt in_range = rises_between xs (suc x.id) i j d rising.1 (omega (arith, lt)) (omega (arith, in_range))
 
 pub found_at : (xs : List Placed) (c i id : ℕ) (d : Placed) → RiseFrom c xs → i < length xs → (get_or xs i d).id ≡ id → item_of id xs ≡ Some (get_or xs i d)
 found_at [] c i id d rising lt is = absurd (omega (arith, lt))
@@ -29,82 +22,6 @@ found_at (x ∷ xs) c (suc i) id d rising lt is =
     let in_range : i < length xs = omega (arith, lt) in
     let above = rises_above xs (suc x.id) i d rising.1 in_range in
     rw (ne_eqb x.id id (λ e. omega (arith, above, is, e))) (found_at xs (suc x.id) i id d rising.1 in_range is)
-
-taken_at : (xs : List Placed) (c i id : ℕ) (d : Placed) → RiseFrom c xs → i < length xs → (get_or xs i d).id ≡ id → without id xs ≡ remove xs i
-taken_at [] c i id d rising lt is = absurd (omega (arith, lt))
-taken_at (x ∷ xs) c zero id d rising lt is = rw (eq-eqb x.id id is) refl
-taken_at (x ∷ xs) c (suc i) id d rising lt is =
-    let in_range : i < length xs = omega (arith, lt) in
-    let above = rises_above xs (suc x.id) i d rising.1 in_range in
-    rw (ne_eqb x.id id (λ e. omega (arith, above, is, e))) (ap (λ l. x ∷ l) (taken_at xs (suc x.id) i id d rising.1 in_range is))
-
--- smaller ids before the place, and larger ones from it on
-record IsGap (id : ℕ) (xs : List Placed) (at : ℕ) : Type 0 where
-  in_range : at ≤ length xs
-  before : (k : ℕ) (d : Placed) → k < at → (get_or xs k d).id < id
-  behind : (k : ℕ) (d : Placed) → at ≤ k → k < length xs → id < (get_or xs k d).id
-
-gap_tail : (id : ℕ) (x : Placed) (xs : List Placed) (at : ℕ) → IsGap id (x ∷ xs) (suc at) → IsGap id xs at
-gap_tail id x xs at gap = record {
-  in_range = omega (arith, gap.in_range);
-  before = λ k d lt. gap.before (suc k) d (omega (arith, lt));
-  behind = λ k d le lt. gap.behind (suc k) d (omega (arith, le)) (omega (arith, lt));
-}
-
-gap_later : (id : ℕ) (x : Placed) (xs : List Placed) → IsGap id (x ∷ xs) zero → IsGap id xs zero
-gap_later id x xs gap = record {
-  in_range = omega arith;
-  before = λ k d lt. absurd (omega (arith, lt));
-  behind = λ k d le lt. gap.behind (suc k) d (omega arith) (omega (arith, lt));
-}
-
-none_in_gap : (id : ℕ) (xs : List Placed) (at : ℕ) → IsGap id xs at → item_of id xs ≡ None
-none_in_gap id [] at gap = refl
-none_in_gap id (x ∷ xs) zero gap = rw (ne_eqb x.id id (λ e. omega (arith, gap.behind 0 x (omega arith) (omega arith), e))) (none_in_gap id xs zero (gap_later id x xs gap))
-none_in_gap id (x ∷ xs) (suc at) gap = rw (ne_eqb x.id id (λ e. omega (arith, gap.before 0 x (omega arith), e))) (none_in_gap id xs at (gap_tail id x xs at gap))
-
-put_in_gap : (id : ℕ) (xs : List Placed) (at : ℕ) → IsGap id xs at → (a : Placed) → a.id ≡ id → with_item a xs ≡ insert xs at a
-put_in_gap id [] zero gap a is = refl
-put_in_gap id [] (suc at) gap a is = absurd (omega (arith, gap.in_range))
-put_in_gap id (x ∷ xs) zero gap a is = rw (le-ltb x.id a.id (omega (arith, gap.behind 0 x (omega arith) (omega arith), is))) refl
-put_in_gap id (x ∷ xs) (suc at) gap a is = rw (lt-ltb x.id a.id (omega (arith, gap.before 0 x (omega arith), is))) (ap (λ l. x ∷ l) (put_in_gap id xs at (gap_tail id x xs at gap) a is))
-
-no_item : Placed
-no_item = record { id = 0; kind = 0; start = 0; end = None; parent = None; detail = None }
-
-module _ (xs : List Placed) (rising : AreRising xs) (id : ℕ) where
-  comparisons_rise : IsNonDecreasingBy (λ a. ordering_index (nat_cmp a.id id)) xs
-  comparisons_rise i j d le in_range =
-      let ids_rise : (get_or xs i d).id ≤ (get_or xs j d).id = grind (arith, rises_between xs 0 i j d rising, λ (same : i ≡ j). ap (λ n. (get_or xs n d).id) same) in
-      grind (arith, nat_tests)
-
-  pub searched : (r : Result ℕ ℕ) → IsSearchInRange r (length xs) → IsBinarySearchResult (λ a. nat_cmp a.id id) xs r → record { found : IfOk r (IsPlaceOf id xs); absent : IfErr r (IsGapFor id xs) }
-  searched (Ok at) in_range equal =
-      let is : (d : Placed) → (get_or xs at d).id ≡ id = λ d. ranked _ id _ (sym (equal d)) in
-      record {
-        found = record {
-          in_range = in_range;
-          is = is;
-          present = λ none. let d = no_item in let found : Some (get_or xs at d) ≡ None = sym (found_at xs 0 at id d rising in_range (is d)) ∙ none in absurd (cc);
-          found = λ d. found_at xs 0 at id d rising in_range (is d);
-          taken = let d = no_item in taken_at xs 0 at id d rising in_range (is d);
-        };
-        absent = tt;
-      }
-  searched (Err at) in_range parted =
-      let gap : IsGap id xs at = record {
-        in_range = in_range;
-        before = λ k d lt. ranked _ id _ (sym ((parted comparisons_rise).0 k d (omega arith) lt));
-        behind = λ k d le lt. ranked _ id _ (sym ((parted comparisons_rise).1 k d le lt));
-      } in
-      record {
-        found = tt;
-        absent = record {
-          in_range = in_range;
-          none = none_in_gap id xs at gap;
-          put = put_in_gap id xs at gap;
-        };
-      }
 
 rising_weaker : (b c : ℕ) (xs : List Placed) → b ≤ c → RiseFrom c xs → RiseFrom b xs
 rising_weaker b c [] le rising = tt

@@ -28,7 +28,7 @@ key_exact x y e = grind (arith, common_steps)
 abbrev pub key : ℕ → ℕ → ℕ → Key
 key group number id = record { group = group; number = number; id = id }
 
-eq_is : (o : Ordering) → is_eq o ≡ true → o ≡ Equal
+pub eq_is : (o : Ordering) → is_eq o ≡ true → o ≡ Equal
 eq_is Less e = absurd (let h : false ≡ true = e in (cc))
 eq_is Equal e = refl
 eq_is Greater e = absurd (let h : false ≡ true = e in (cc))
@@ -90,7 +90,7 @@ cmp_less a b lt = rw (lt-ltb a b lt) refl
 pub cmp_equal : (a : ℕ) → nat_cmp a a ≡ Equal
 cmp_equal a = rw (le-ltb a a (omega arith), eq-eqb a a refl) refl
 
-cmp_greater : (a b : ℕ) → b < a → nat_cmp a b ≡ Greater
+pub cmp_greater : (a b : ℕ) → b < a → nat_cmp a b ≡ Greater
 cmp_greater a b lt = rw (le-ltb a b (omega (arith, lt)), ne_eqb a b (λ e. omega (arith, lt, e))) refl
 
 -- a key at one number, by id

@@ -13,3 +13,4 @@ pub mod Covers
 pub mod Exchanging
 pub mod Keeping
 pub mod Elsewhere
+pub mod Mapped

@@ -4,7 +4,8 @@ use Rattle.pl_links.specs.declared.broken.Broken.{Broken}
 use Rattle.pl_links.specs.declared.changes.Changes.{Changes}
 use Rattle.pl_links.specs.Sets.{has}
 
--- Exactly what the new list has and the old one has not came, and exactly what the old one has and the new one has not went.
+-- Exactly what the new list has and the old one has not came, and exactly what the old one has and
+-- the new one has not went.
 pub record Tells (old new : List Broken) (changes : Changes) : Type 0 where
   pub came : (b : Broken) → has b changes.came.items ≡ (has b new && not (has b old))
   pub went : (b : Broken) → has b changes.went.items ≡ (has b old && not (has b new))

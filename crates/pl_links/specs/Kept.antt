@@ -17,7 +17,8 @@ pub record Kept : Type 0 where
 abbrev pub kept_of : Model → List Placed → Kept
 kept_of model items = record { items = items; broken = broken_of model items }
 
--- what is listed is what the activities break by this model: so after `new` by any, and then by the model of the calls
+-- What is listed is what the activities break by this model: after `new` by any, and then by the
+-- model of the calls.
 abbrev pub IsFor : Model → Kept → Type 0
 IsFor model kept = kept.broken ≡ broken_of model kept.items
 

@@ -1,5 +1,5 @@
 -- Indexes of the placed activities: keys in groups, by a number in the group and then by id.
-use Rattle.std.specs.Prelude.{◌≡◌, ℕ, ◌<◌, ◌^◌, ◌==◌, ◌&&◌, not, nat_le, Bool, false, List, All, Option, Some, None}
+use Rattle.std.specs.Prelude.{◌≡◌, ℕ, ◌<◌, ◌^◌, ◌==◌, ◌&&◌, ◌||◌, not, nat_le, Bool, false, List, All, Option, Some, None}
 use Rattle.std.specs.declared.cmp.Ordering.{Ordering}
 use Rattle.std.specs.Ordering.{nat_cmp, ordering_then}
 use Rattle.std.specs.List.{list_any}
@@ -13,7 +13,8 @@ use Rattle.pl_links.specs.Windows.{in_window}
 -- keys go by their fields in turn
 abbrev pub key_cmp : Key → Key → Ordering
 key_cmp a b =
-    ordering_then (nat_cmp a.group b.group) (ordering_then (nat_cmp a.number b.number) (nat_cmp a.id b.id))
+    ordering_then (nat_cmp a.group b.group)
+    (ordering_then (nat_cmp a.number b.number) (nat_cmp a.id b.id))
 
 -- whether a list has the key
 abbrev pub has_key : Key → List Key → Bool
@@ -22,6 +23,18 @@ has_key k keys = list_any (is_at (key_cmp k)) keys
 -- the key is that of an activity of this id, whose place is a group and a number there
 abbrev pub is_key_of : Option (ℕ × ℕ) → ℕ → Key → Bool
 is_key_of place id k = (k.id == id) && is_slot k.group k.number place
+
+-- just the keys of an activity in this place are new
+abbrev pub Adds : Option (ℕ × ℕ) → ℕ → List Key → List Key → Type 0
+Adds place id old new = (k : Key) → has_key k new ≡ (has_key k old || is_key_of place id k)
+
+-- just the keys of an activity in this place are gone
+abbrev pub Drops : Option (ℕ × ℕ) → ℕ → List Key → List Key → Type 0
+Drops place id old new = (k : Key) → has_key k new ≡ (has_key k old && not (is_key_of place id k))
+
+-- the key of this group, number and id
+abbrev pub key_at : ℕ → ℕ → ℕ → Key
+key_at group number id = record { group = group; number = number; id = id }
 
 -- the key lies in this group, from one number to another
 abbrev pub lies : ℕ → ℕ → ℕ → Key → Bool

@@ -22,14 +22,18 @@ pub record IsBroken (model : Model) (items : List Placed) (b : Broken) : Type 0 
 
 -- by id, and then by index, and at one index the link first
 abbrev pub IsBefore : Broken → Broken → Type 0
-IsBefore x y = (x.id < y.id) ⊎ ((x.id ≡ y.id) × ((x.index < y.index) ⊎ ((x.index ≡ y.index) × (x.slots ≡ false) × (y.slots ≡ true))))
+IsBefore x y =
+    (x.id < y.id)
+    ⊎ ((x.id ≡ y.id) × ((x.index < y.index) ⊎ ((x.index ≡ y.index) × (x.slots ≡ false) × (y.slots ≡ true))))
 
 -- it is the parent in this place
 abbrev pub is_parent : ℕ → Option (ℕ × ℕ) → Bool
 is_parent id None = false
 is_parent id (Some place) = place.0 == id
 
--- Where the first activity comes or goes, what the second one breaks may change only if it is the same one, its parent, or the owner
--- of a link to which it can be a partner.
+-- Where the first activity comes or goes, what the second one breaks may change only if it is the
+-- same one, its parent, or the owner of a link to which it can be a partner.
 abbrev pub is_concerned : Model → Placed → Placed → Bool
-is_concerned model p own = (own.id == p.id) || (is_parent own.id p.parent || list_any (λ link. is_partner link own p) (links_of model own))
+is_concerned model p own =
+    (own.id == p.id)
+    || (is_parent own.id p.parent || list_any (λ link. is_partner link own p) (links_of model own))

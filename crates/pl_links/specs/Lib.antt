@@ -1,5 +1,4 @@
 pub mod Items
-pub mod Places
 pub mod Broken
 pub mod Laws
 pub mod Keys

@@ -13,15 +13,22 @@ use Rattle.pl_links.specs.Items.{item_of}
 use Rattle.pl_links.specs.Keys.{link_at}
 use Rattle.pl_links.specs.Broken.{moment_of, is_apart, links_of, orders_of}
 
+-- the link and the order of one index
+abbrev pub both : ℕ → ℕ → List Broken
+both id index =
+    record { id = id; index = index; slots = false }
+    ∷ record { id = id; index = index; slots = true } ∷ []
+
 -- the links and orders of an activity at the indexes below one
 abbrev pub all_below : ℕ → ℕ → List Broken
 all_below id zero = []
-all_below id (suc n) = all_below id n ++ (record { id = id; index = n; slots = false } ∷ record { id = id; index = n; slots = true } ∷ [])
+all_below id (suc n) = all_below id n ++ both id n
 
 -- all links and orders of an activity
 abbrev pub all_of : Model → Option Placed → List Broken
 all_of model None = []
-all_of model (Some p) = all_below p.id (max (length (links_of model p)) (length (orders_of model p)))
+all_of model (Some p) =
+    all_below p.id (max (length (links_of model p)) (length (orders_of model p)))
 
 -- the parent that an activity has
 abbrev pub parent_of : List Placed → Option (ℕ × ℕ) → Option Placed
@@ -41,18 +48,25 @@ owners_at keys group link index (Some moment) =
 
 -- the owners of a link to whom an activity can be a partner
 abbrev pub owners_of : Files → ℕ → Link → ℕ → Placed → List Broken
-owners_of files group link index p = if p.kind == link.kind then owners_at (keys_at link.mine files) group link index (moment_of link.theirs p) else []
+owners_of files group link index p =
+    if p.kind == link.kind
+    then owners_at (keys_at link.mine files) group link index (moment_of link.theirs p)
+    else []
 
 -- the same of the links of a kind, from this index on
 abbrev pub owners_in : Files → ℕ → List Link → ℕ → Placed → List Broken
 owners_in files group [] index p = []
-owners_in files group (link ∷ links) index p = owners_of files group link index p ++ owners_in files group links (index + 1) p
+owners_in files group (link ∷ links) index p =
+    owners_of files group link index p ++ owners_in files group links (index + 1) p
 
 -- the same of the kinds, from this one on
 abbrev pub owners_among : Files → List Kind → ℕ → Placed → List Broken
 owners_among files [] group p = []
-owners_among files (kind ∷ kinds) group p = owners_in files group kind.links 0 p ++ owners_among files kinds (group + 1) p
+owners_among files (kind ∷ kinds) group p =
+    owners_in files group kind.links 0 p ++ owners_among files kinds (group + 1) p
 
--- the activity's own links and orders, those of its parent, and the links to which it can be a partner
+-- the activity's own links and orders, those of its parent, and the links to which it can be a
+-- partner
 abbrev pub near : Model → Files → Placed → Option Placed → List Broken
-near model files p parent = all_of model (Some p) ++ all_of model parent ++ owners_among files model.kinds 0 p
+near model files p parent =
+    all_of model (Some p) ++ all_of model parent ++ owners_among files model.kinds 0 p

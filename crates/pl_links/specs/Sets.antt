@@ -8,7 +8,9 @@ use Rattle.pl_links.specs.declared.broken.Broken.{Broken}
 
 -- by id, and then by index, and at one index the link first
 abbrev pub broken_cmp : Broken → Broken → Ordering
-broken_cmp a b = ordering_then (nat_cmp a.id b.id) (ordering_then (nat_cmp a.index b.index) (bool_cmp a.slots b.slots))
+broken_cmp a b =
+    ordering_then (nat_cmp a.id b.id)
+    (ordering_then (nat_cmp a.index b.index) (bool_cmp a.slots b.slots))
 
 -- whether a list holds it
 abbrev pub has : Broken → List Broken → Bool

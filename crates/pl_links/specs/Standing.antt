@@ -9,7 +9,8 @@ use Rattle.pl_links.specs.Laws.{fails_at}
 
 abbrev pub stands_at : Model → List Placed → Broken → Option Placed → Bool
 stands_at model items b None = false
-stands_at model items b (Some own) = fails_at items own (links_of model own) (orders_of model own) b.index b.slots
+stands_at model items b (Some own) =
+    fails_at items own (links_of model own) (orders_of model own) b.index b.slots
 
 -- it is a link without a partner, or an order that is not met, of the placed activity of its id
 abbrev pub stands : Model → List Placed → Broken → Bool

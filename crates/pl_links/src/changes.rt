@@ -1,5 +1,6 @@
 //! What comes to the list of what is broken, and what goes.
-ghost use Rattle.std.specs.Prelude.{◌≡◌, [], ◌∷◌, ◌++◌, ◌&&◌, not, filter, if◌then◌else◌, OnOk, IfOk};
+ghost use Rattle.std.specs.Prelude.{◌≡◌, ◌++◌, ◌&&◌, not, filter, OnOk, IfOk};
+ghost use Rattle.pl_links.specs.Broken.{when};
 ghost use Rattle.pl_links.specs.Filed.{left};
 ghost use Rattle.pl_links.specs.Sets.{has};
 ghost use Rattle.pl_links.specs.Standing.{stands};
@@ -20,8 +21,10 @@ pub struct Changes {
 
 impl Changes {
     fn add(&mut self, broken: Broken, is_broken: bool, is_listed: bool) -> Result<(), AllocError>
-        ensures came { OnOk result (self.new.came.items ≡ self.old.came.items ++ (if is_broken && not is_listed then broken ∷ [] else [])) }
-        ensures went { OnOk result (self.new.went.items ≡ self.old.went.items ++ (if not is_broken && is_listed then broken ∷ [] else [])) }
+        ensures came { OnOk result (self.new.came.items ≡ self.old.came.items
+            ++ when (is_broken && not is_listed) broken) }
+        ensures went { OnOk result (self.new.went.items ≡ self.old.went.items
+            ++ when (not is_broken && is_listed) broken) }
     {
         if is_broken && !is_listed {
             self.came.push(broken)?;
@@ -45,8 +48,10 @@ pub(crate) fn changes_near(
     near: &[Broken],
     listed: &BTreeSet<Broken>,
 ) -> Result<Changes, AllocError>
-    ensures came { IfOk result (λ c. c.came.items ≡ filter (λ b. stands model.now (left gone store.now) b && not (has b listed.now.keys)) near.now) }
-    ensures went { IfOk result (λ c. c.went.items ≡ filter (λ b. not (stands model.now (left gone store.now) b) && has b listed.now.keys) near.now) }
+    ensures came { IfOk result (λ c. c.came.items
+        ≡ filter (λ b. stands model.now (left gone store.now) b && not (has b listed.now.keys)) near.now) }
+    ensures went { IfOk result (λ c. c.went.items
+        ≡ filter (λ b. not (stands model.now (left gone store.now) b) && has b listed.now.keys) near.now) }
 {
     let mut changes = Changes {
         came: Vec::new(alloc),

@@ -11,7 +11,8 @@ use std::collections::BTreeSet;
 /// Takes these out.
 pub(crate) fn remove_all(listed: &mut BTreeSet<Broken>, went: &[Broken])
     requires { IsStrictlySortedBy broken_cmp listed.old.keys }
-    ensures members { (b : Broken) → has b listed.new.keys ≡ (has b listed.old.keys && not (has b went.now)) }
+    ensures members { (b : Broken) →
+        has b listed.new.keys ≡ (has b listed.old.keys && not (has b went.now)) }
     ensures ordered { IsStrictlySortedBy broken_cmp listed.new.keys }
 {
     for broken in went {
@@ -23,7 +24,8 @@ pub(crate) fn remove_all(listed: &mut BTreeSet<Broken>, went: &[Broken])
 pub(crate) fn insert_all(listed: &mut BTreeSet<Broken>, came: &[Broken]) -> Result<(), AllocError>
     requires ordered { IsStrictlySortedBy broken_cmp listed.old.keys }
     requires absent { All (λ b. has b listed.old.keys ≡ false) came.now }
-    ensures members { OnOk result ((b : Broken) → has b listed.new.keys ≡ (has b listed.old.keys || has b came.now)) }
+    ensures members { OnOk result ((b : Broken) →
+        has b listed.new.keys ≡ (has b listed.old.keys || has b came.now)) }
     ensures err { OnErr result (listed.new.keys ≡ listed.old.keys) }
     ensures rising { IsStrictlySortedBy broken_cmp listed.new.keys }
 {

@@ -1,9 +1,7 @@
 //! Activities are filed in the indexes, and taken out.
-ghost use Rattle.std.specs.Prelude.{◌≡◌, [], List, None, Some, OnOk, OnErr};
-ghost use Rattle.pl_links.specs.declared.placed.Placed.{Placed};
-ghost use Rattle.pl_links.specs.Items.{AreRising, item_of, with_item, without};
+ghost use Rattle.std.specs.Prelude.{◌≡◌, [], OnOk, OnErr};
 ghost use Rattle.pl_links.specs.Filed.{point_place, parent_place, AreFiles};
-ghost use Rattle.pl_links.specs.Keys.{IsIndexOf};
+ghost use Rattle.pl_links.specs.Filed.{GrowsIndex, StaysIndex, GrowFiles, StayFiles, ShrinkFiles};
 
 use crate::files::Files;
 use crate::index::Index;
@@ -35,8 +33,8 @@ impl Files {
 
     /// Files an activity that is not yet placed.
     pub fn insert(&mut self, item: &Placed) -> Result<(), AllocError>
-        ensures ok { OnOk result ((items : List Placed) → AreFiles items self.old → item_of item.now.id items ≡ None → AreFiles (with_item item.now items) self.new) }
-        ensures err { OnErr result ((items : List Placed) → AreFiles items self.old → item_of item.now.id items ≡ None → AreFiles items self.new) }
+        ensures ok { OnOk result (GrowFiles item.now self.old self.new) }
+        ensures err { OnErr result (StayFiles item.now self.old self.new) }
     {
         self.starts
             .insert(point_place(Point::Start, item), item.id)?;
@@ -51,9 +49,9 @@ impl Files {
 
     fn insert_rest(&mut self, item: &Placed) -> Result<(), AllocError>
         ensures starts { self.new.starts ≡ self.old.starts }
-        ensures ends { OnOk result ((items : List Placed) → IsIndexOf (point_place Point.End) items self.old.ends → item_of item.now.id items ≡ None → IsIndexOf (point_place Point.End) (with_item item.now items) self.new.ends) }
-        ensures children { OnOk result ((items : List Placed) → IsIndexOf parent_place items self.old.children → item_of item.now.id items ≡ None → IsIndexOf parent_place (with_item item.now items) self.new.children) }
-        ensures err { OnErr result ((items : List Placed) → IsIndexOf (point_place Point.End) items self.old.ends → item_of item.now.id items ≡ None → IsIndexOf (point_place Point.End) items self.new.ends) }
+        ensures ends { OnOk result (GrowsIndex (point_place Point.End) item.now self.old.ends self.new.ends) }
+        ensures children { OnOk result (GrowsIndex parent_place item.now self.old.children self.new.children) }
+        ensures err { OnErr result (StaysIndex (point_place Point.End) item.now self.old.ends self.new.ends) }
         ensures same { OnErr result (self.new.children ≡ self.old.children) }
     {
         self.ends.insert(point_place(Point::End, item), item.id)?;
@@ -68,7 +66,7 @@ impl Files {
 
     /// Takes an activity that is placed out of the indexes.
     pub fn remove(&mut self, item: &Placed)
-        ensures { (items : List Placed) → AreRising items → AreFiles items self.old → item_of item.now.id items ≡ Some item.now → AreFiles (without item.now.id items) self.new }
+        ensures { ShrinkFiles item.now self.old self.new }
     {
         self.starts.remove(point_place(Point::Start, item), item.id);
         self.ends.remove(point_place(Point::End, item), item.id);

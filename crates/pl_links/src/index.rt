@@ -1,8 +1,10 @@
-ghost use Rattle.std.specs.Prelude.{◌≡◌, ℕ, ◌≤◌, [], ◌&&◌, ◌||◌, ◌++◌, not, true, false, map, filter, OnOk, OnErr, MatchOption, IfSome};
+ghost use Rattle.std.specs.Prelude.{◌≡◌, ℕ, ◌≤◌, [], ◌&&◌, ◌++◌, true, false, map, filter};
+ghost use Rattle.std.specs.Prelude.{Some, OnOk, OnErr, IfNone, IfSome};
 ghost use Rattle.std.specs.List.{list_any};
 ghost use Rattle.std.specs.Map.Iter.{ShowsInOrder, deref};
 ghost use Rattle.pl_links.specs.declared.keys.Key.{Key};
-ghost use Rattle.pl_links.specs.Keys.{has_key, is_key_of, lies, lies_in, is_other, link_at, AreShort};
+ghost use Rattle.pl_links.specs.Keys.{has_key, key_at, lies, lies_in, is_other, link_at};
+ghost use Rattle.pl_links.specs.Keys.{Adds, Drops, AreShort};
 
 use crate::broken::Broken;
 use crate::keys::Key;
@@ -40,7 +42,7 @@ impl Index {
 
     /// Files an activity under its place, if it has one: a group, and a number there.
     pub fn insert(&mut self, place: Option<(u32, u32)>, id: u32) -> Result<(), AllocError>
-        ensures ok { OnOk result ((k : Key) → has_key k self.new ≡ (has_key k self.old || is_key_of place id k)) }
+        ensures ok { OnOk result (Adds place id self.old self.new) }
         ensures err { OnErr result (self.new ≡ self.old) }
     {
         match place {
@@ -50,7 +52,7 @@ impl Index {
     }
 
     fn insert_key(&mut self, group: u32, number: u32, id: u32) -> Result<(), AllocError>
-        ensures ok { OnOk result ((k : Key) → has_key k self.new ≡ (has_key k self.old || is_key_of (Some (group, number)) id k)) }
+        ensures ok { OnOk result (Adds (Some (group, number)) id self.old self.new) }
         ensures err { OnErr result (self.new ≡ self.old) }
     {
         self.keys.insert(Key { group, number, id })?;
@@ -59,7 +61,7 @@ impl Index {
 
     /// Takes the activity of this id out, which is filed under this place.
     pub fn remove(&mut self, place: Option<(u32, u32)>, id: u32)
-        ensures { (k : Key) → has_key k self.new ≡ (has_key k self.old && not (is_key_of place id k)) }
+        ensures { Drops place id self.old self.new }
     {
         match place {
             Some(place) => self.remove_key(place.0, place.1, id),
@@ -68,7 +70,7 @@ impl Index {
     }
 
     fn remove_key(&mut self, group: u32, number: u32, id: u32)
-        ensures { (k : Key) → has_key k self.new ≡ (has_key k self.old && not (is_key_of (Some (group, number)) id k)) }
+        ensures { Drops (Some (group, number)) id self.old self.new }
     {
         self.keys.remove(&Key { group, number, id });
     }
@@ -101,7 +103,8 @@ impl Index {
         gone: Option<u32>,
     ) -> bool
         requires { IfSome window (λ w. w.0 ≤ w.1) }
-        ensures other { result ≡ list_any (λ k. lies_in group window k && is_other own gone k.id) self.now }
+        ensures other { result
+            ≡ list_any (λ k. lies_in group window k && is_other own gone k.id) self.now }
         ensures short { AreShort self.now }
     {
         let _ = &self.keys;
@@ -133,7 +136,8 @@ impl Index {
         index: u32,
     ) -> Result<(), AllocError>
         requires { IfSome window (λ w. w.0 ≤ w.1) }
-        ensures ok { OnOk result (near.new.items ≡ near.old.items ++ map (link_at index) (filter (lies_in group window) self.now)) }
+        ensures ok { OnOk result (near.new.items ≡ near.old.items
+            ++ map (link_at index) (filter (lies_in group window) self.now)) }
         ensures short { AreShort self.now }
     {
         let _ = &self.keys;
@@ -155,7 +159,8 @@ impl Index {
         index: u32,
     ) -> Result<(), AllocError>
         requires { from ≤ to }
-        ensures { OnOk result (near.new.items ≡ near.old.items ++ map (link_at index) (filter (lies group from to) self.now)) }
+        ensures { OnOk result (near.new.items ≡ near.old.items
+            ++ map (link_at index) (filter (lies group from to) self.now)) }
     {
         for key in self.within(group, from, to) {
             near.push(Broken {
@@ -169,7 +174,8 @@ impl Index {
 
     /// An activity of the group at this number.
     pub fn first(&self, group: u32, number: u32) -> Option<u32>
-        ensures { MatchOption result ((id : ℕ) → has_key (record { group = group; number = number; id = id }) self.now ≡ false) (λ id. has_key (record { group = group; number = number; id = id }) self.now ≡ true) }
+        ensures none { IfNone result ((id : ℕ) → has_key (key_at group number id) self.now ≡ false) }
+        ensures some { IfSome result (λ id. has_key (key_at group number id) self.now ≡ true) }
     {
         match self.within(group, number, number).next() {
             Some(key) => Some(key.id),

@@ -1,5 +1,6 @@
 ghost use Rattle.std.specs.Prelude.{◌≡◌, [], OnOk, OnErr, IfOk, IfErr};
-ghost use Rattle.pl_links.specs.Items.{AreRising, AreApart, IsPlaced, CanBePlaced, with_item, without};
+ghost use Rattle.pl_links.specs.Items.{AreRising, AreApart, IsPlaced, CanBePlaced};
+ghost use Rattle.pl_links.specs.Items.{with_item, without};
 ghost use Rattle.pl_links.specs.Broken.{broken_of};
 ghost use Rattle.pl_links.specs.Kept.{IsFor, kept_of};
 ghost use Rattle.pl_links.specs.Changes.{Tells};
@@ -48,7 +49,8 @@ impl Links {
     pub fn place(&mut self, model: &Model, item: &Placed) -> Result<(), AllocError>
         requires model { IsFor model.now self.old }
         requires free { CanBePlaced model.now self.old.items item.now }
-        ensures ok { OnOk result (self.new ≡ kept_of model.now (with_item item.now self.old.items)) }
+        ensures ok { OnOk result
+            (self.new ≡ kept_of model.now (with_item item.now self.old.items)) }
         ensures err { OnErr result (self.new ≡ self.old) }
     {
         self.place_telling(model, item)?;
@@ -59,7 +61,8 @@ impl Links {
     pub fn place_telling(&mut self, model: &Model, item: &Placed) -> Result<Changes, AllocError>
         requires model { IsFor model.now self.old }
         requires free { CanBePlaced model.now self.old.items item.now }
-        ensures ok { OnOk result (self.new ≡ kept_of model.now (with_item item.now self.old.items)) }
+        ensures ok { OnOk result
+            (self.new ≡ kept_of model.now (with_item item.now self.old.items)) }
         ensures changes { IfOk result (Tells self.old.broken self.new.broken) }
         ensures err { OnErr result (self.new ≡ self.old) }
     {

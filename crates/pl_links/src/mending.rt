@@ -1,5 +1,6 @@
 //! The list of what is broken is mended where an activity came or goes.
-ghost use Rattle.std.specs.Prelude.{◌≡◌, ◌&&◌, not, Some, IfOk, IfSome, OnOk, OnErr};
+ghost use Rattle.std.specs.Prelude.{◌≡◌, Some, IfOk, IfSome, OnOk, OnErr};
+ghost use Rattle.pl_links.specs.Changes.{Tells};
 ghost use Rattle.std.specs.List.Sorted.{IsStrictlySortedBy};
 ghost use Rattle.pl_links.specs.declared.broken.Broken.{Broken};
 ghost use Rattle.pl_links.specs.Items.{item_of};
@@ -17,8 +18,8 @@ use pl_model::Model;
 use std::alloc::{AllocError, Global};
 use std::collections::BTreeSet;
 
-/// Mends the list where this activity came; or, where it is named as gone, before it is taken out. Tells
-/// what came to the list and what went.
+/// Mends the list where this activity came; or, where it is named as gone, before it is taken out.
+/// Tells what came to the list and what went.
 pub(crate) fn mend(
     alloc: Global,
     model: &Model,
@@ -30,10 +31,11 @@ pub(crate) fn mend(
     requires placed { item_of item.now.id store.now ≡ Some item.now }
     requires gone { IfSome gone (λ id. id ≡ item.now.id) }
     requires ordered { IsStrictlySortedBy broken_cmp listed.old.keys }
-    requires listed { (b : Broken) → has b listed.old.keys ≡ stands model.now (before gone item.now.id store.now) b }
-    ensures ok { OnOk result ((b : Broken) → has b listed.new.keys ≡ stands model.now (left gone store.now) b) }
-    ensures came { IfOk result (λ c. (b : Broken) → has b c.came.items ≡ (has b listed.new.keys && not (has b listed.old.keys))) }
-    ensures went { IfOk result (λ c. (b : Broken) → has b c.went.items ≡ (has b listed.old.keys && not (has b listed.new.keys))) }
+    requires listed { (b : Broken) →
+        has b listed.old.keys ≡ stands model.now (before gone item.now.id store.now) b }
+    ensures ok { OnOk result ((b : Broken) →
+        has b listed.new.keys ≡ stands model.now (left gone store.now) b) }
+    ensures changes { IfOk result (Tells listed.old.keys listed.new.keys) }
     ensures err { OnErr result (listed.new.keys ≡ listed.old.keys) }
     ensures rising { IsStrictlySortedBy broken_cmp listed.new.keys }
 {

@@ -1,6 +1,7 @@
 //! What may be broken, or mended, where an activity comes or goes.
-ghost use Rattle.std.specs.Prelude.{◌≡◌, ◌++◌, ◌∷◌, [], true, false, Some, OnOk, IfOk};
-ghost use Rattle.pl_links.specs.Near.{all_of, keys_at, owners_at, owners_of, owners_in, owners_among, near};
+ghost use Rattle.std.specs.Prelude.{◌≡◌, ◌++◌, Some, OnOk, IfOk};
+ghost use Rattle.pl_links.specs.Near.{both, all_of, keys_at, near};
+ghost use Rattle.pl_links.specs.Near.{owners_at, owners_of, owners_in, owners_among};
 
 use crate::broken::Broken;
 use crate::files::Files;
@@ -14,7 +15,7 @@ use std::alloc::{AllocError, Global};
 
 // Adds the link and the order of one index.
 fn add_both(near: &mut Vec<Broken>, id: u32, index: u32) -> Result<(), AllocError>
-    ensures { OnOk result (near.new.items ≡ near.old.items ++ (record { id = id; index = index; slots = false } ∷ record { id = id; index = index; slots = true } ∷ [])) }
+    ensures { OnOk result (near.new.items ≡ near.old.items ++ both id index) }
 {
     near.push(Broken {
         id,
@@ -54,7 +55,8 @@ fn add_owners(
     index: u32,
     moment: Option<u32>,
 ) -> Result<(), AllocError>
-    ensures { OnOk result (near.new.items ≡ near.old.items ++ owners_at keys.now group link.now index moment) }
+    ensures { OnOk result (near.new.items ≡ near.old.items
+        ++ owners_at keys.now group link.now index moment) }
 {
     match moment {
         Some(moment) => {
@@ -84,7 +86,8 @@ fn add_owners_of(
     index: u32,
     item: &Placed,
 ) -> Result<(), AllocError>
-    ensures { OnOk result (near.new.items ≡ near.old.items ++ owners_of files.now group link.now index item.now) }
+    ensures { OnOk result (near.new.items ≡ near.old.items
+        ++ owners_of files.now group link.now index item.now) }
 {
     if item.kind != link.kind {
         return Ok(());
@@ -101,7 +104,8 @@ fn add_owners_in(
     links: &[Link],
     item: &Placed,
 ) -> Result<(), AllocError>
-    ensures { OnOk result (near.new.items ≡ near.old.items ++ owners_in files.now group links.now 0 item.now) }
+    ensures { OnOk result (near.new.items ≡ near.old.items
+        ++ owners_in files.now group links.now 0 item.now) }
 {
     for (at, link) in links.iter().enumerate() {
         if at > u32::MAX as usize {
@@ -118,7 +122,8 @@ fn add_owners_among(
     kinds: &[Kind],
     item: &Placed,
 ) -> Result<(), AllocError>
-    ensures { OnOk result (near.new.items ≡ near.old.items ++ owners_among files.now kinds.now 0 item.now) }
+    ensures { OnOk result (near.new.items ≡ near.old.items
+        ++ owners_among files.now kinds.now 0 item.now) }
 {
     for (at, kind) in kinds.iter().enumerate() {
         if at > u32::MAX as usize {

@@ -41,7 +41,8 @@ fn fails_at(
     index: u32,
     slots: bool,
 ) -> bool
-    ensures { result ≡ fails_at (left gone store.now) own.now (links_of model.now own.now) (orders_of model.now own.now) index slots }
+    ensures { result ≡ fails_at (left gone store.now) own.now
+        (links_of model.now own.now) (orders_of model.now own.now) index slots }
 {
     if slots {
         is_order_broken(store, gone, own, orders_of(model, own), index as usize)

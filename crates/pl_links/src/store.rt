@@ -1,9 +1,9 @@
-ghost use Rattle.std.specs.Prelude.{◌≡◌, [], ◌&&◌, ◌==◌, not, Some, OnOk, OnErr, IfOk, IfErr, IfSome, None, false};
+ghost use Rattle.std.specs.Prelude.{◌≡◌, [], Some, OnOk, OnErr, IfOk, IfSome, None, false};
 ghost use Rattle.std.specs.List.{list_any};
-ghost use Rattle.pl_links.specs.Items.{AreRising, AreApart, IsPlaced, item_of, with_item, without, child_of};
-ghost use Rattle.pl_links.specs.Places.{IsPlaceOf, IsGapFor};
-ghost use Rattle.pl_links.specs.Broken.{moment_of, are_apart, is_partner};
-ghost use Rattle.pl_links.specs.Filed.{left};
+ghost use Rattle.pl_links.specs.Items.{AreRising, AreApart, IsPlaced};
+ghost use Rattle.pl_links.specs.Items.{item_of, with_item, without, child_of};
+ghost use Rattle.pl_links.specs.Broken.{is_partner};
+ghost use Rattle.pl_links.specs.Filed.{left, is_partner_of};
 ghost use Rattle.pl_links.specs.Near.{parent_of};
 ghost use Rattle.pl_links.specs.Sets.{has};
 ghost use Rattle.pl_links.specs.Standing.{stands};
@@ -18,24 +18,26 @@ use crate::windows::window_after;
 use pl_lists::Copied;
 use pl_model::{Link, Model, Point};
 use std::alloc::{AllocError, Global};
+use std::collections::BTreeMap;
 
 /// The placed activities with their indexes, which contracts see by rising id.
 #[derive(Debug, Drop)]
 pub(crate) struct Store {
-    items: Vec<Placed>,
+    items: BTreeMap<u32, Placed>,
     files: Files,
 }
 
 impl std::marker::Model for Store {
     ghost use Rattle.std.specs.Prelude.{List};
+    ghost use Rattle.std.specs.Map.{values_of};
     ghost use Rattle.pl_links.specs.declared.placed.Placed.{Placed};
     ghost use Rattle.pl_links.specs.Filed.{IsStored};
 
     ghost Value = { List Placed };
 
-    ghost view = { λ s. s.items.items };
+    ghost view = { λ s. values_of s.items.entries };
 
-    ghost invariant = { λ s. IsStored s.items.items s.files };
+    ghost invariant = { λ s. IsStored s.items.entries s.files };
 }
 
 impl Store {
@@ -43,7 +45,7 @@ impl Store {
         ensures { result ≡ [] }
     {
         Store {
-            items: Vec::new(alloc),
+            items: BTreeMap::new(alloc),
             files: Files::new(alloc),
         }
     }
@@ -56,13 +58,12 @@ impl Store {
         ensures rising { AreRising self.new }
         ensures apart { AreApart self.new }
     {
-        match self.search(item.id) {
-            Ok(_) => unreachable!(),
-            Err(at) => {
-                self.items.reserve(1)?;
-                self.files.insert(item)?;
-                self.items.insert(at, *item).unwrap();
-                Ok(())
+        self.items.insert(item.id, *item)?;
+        match self.files.insert(item) {
+            Ok(()) => Ok(()),
+            Err(e) => {
+                self.items.remove(&item.id);
+                Err(e)
             }
         }
     }
@@ -73,12 +74,9 @@ impl Store {
         ensures rising { AreRising self.new }
         ensures apart { AreApart self.new }
     {
-        match self.search(id) {
-            Ok(at) => {
-                let item = self.items.remove(at);
-                self.files.remove(&item);
-            }
-            Err(_) => unreachable!(),
+        match self.items.remove(&id) {
+            Some(item) => self.files.remove(&item),
+            None => unreachable!(),
         }
     }
 
@@ -88,10 +86,7 @@ impl Store {
         ensures rising { AreRising self.now }
         ensures apart { AreApart self.now }
     {
-        match self.search(id) {
-            Ok(at) => Some(self.items[at]),
-            Err(_) => None,
-        }
+        self.items.get(&id).copied()
     }
 
     /// The same, where one activity may be gone.
@@ -132,7 +127,7 @@ impl Store {
     }
 
     fn has_partner_of(&self, gone: Option<u32>, own: u32, mine: u32, link: &Link) -> bool
-        ensures { result ≡ list_any (λ other. not (other.id == own) && ((other.kind == link.now.kind) && are_apart link.now.low link.now.high (Some mine) (moment_of link.now.theirs other))) (left gone self.now) }
+        ensures { result ≡ list_any (is_partner_of link.now own mine) (left gone self.now) }
     {
         let window = window_after(mine, link.low, link.high);
         match link.theirs {
@@ -158,25 +153,18 @@ impl Store {
         item: &Placed,
     ) -> Result<Vec<Broken>, AllocError>
         requires { item_of item.now.id self.now ≡ Some item.now }
-        ensures { IfOk result (λ all. (b : Broken) → has b all.items ≡ false → stands model.now self.now b ≡ stands model.now (without item.now.id self.now) b) }
+        ensures { IfOk result (λ all. (b : Broken) → has b all.items ≡ false →
+            stands model.now self.now b ≡ stands model.now (without item.now.id self.now) b) }
     {
         let all = near(alloc, model, &self.files, item, self.parent_of(item))?;
         Ok(all)
-    }
-
-    // Where the activity of this id is, or where it would go.
-    fn search(&self, id: u32) -> Result<usize, usize>
-        ensures found { IfOk result (IsPlaceOf id self.now) }
-        ensures absent { IfErr result (IsGapFor id self.now) }
-    {
-        self.items.binary_search_by_key(&id, |item| item.id)
     }
 }
 
 impl Copied for Store {
     fn copy(&self, alloc: Global) -> Result<Store, AllocError> {
         Ok(Store {
-            items: Vec::from_slice(alloc, &self.items)?,
+            items: self.items.clone()?,
             files: self.files.copy(alloc)?,
         })
     }

@@ -29,7 +29,8 @@ fn before(moment: u32, by: i64) -> i128
 }
 
 fn clipped(from: i128, to: i128) -> Option<(u32, u32)>
-    ensures within { (m : ℕ) → m < 2 ^ 32 → in_window result m ≡ (int_le from (pos m) && int_le (pos m) to) }
+    ensures within { (m : ℕ) → m < 2 ^ 32 →
+        in_window result m ≡ (int_le from (pos m) && int_le (pos m) to) }
     ensures rising { IfSome result (λ w. w.0 ≤ w.1) }
 {
     let first = from.max(0);

@@ -25,22 +25,18 @@ returns-clause-ok c = λ b.
     ∙ rw (c.in_ok-insert_all.ensures.members b, c.as_slice-2.ensures.value, c.in_ok-changes.ensures.came, c.as_slice-3.ensures.value, c.in_ok-changes.ensures.went)
     (mended (stands model (before c.args.gone id items)) (stands model (left c.args.gone items)) c.args.listed.now.keys c.as_slice.result.now b (c.requires.listed b) kept)
 
-pub returns-clause-came : goal.returns-clause-came
-returns-clause-came c = λ b.
+pub returns-clause-changes : goal.returns-clause-changes
+returns-clause-changes c =
     let model = c.args.model.now in
     let items = c.args.store.now in
     let id = c.args.item.now.id in
-    let kept : has b c.as_slice.result.now ≡ false → stands model (before c.args.gone id items) b ≡ stands model (left c.args.gone items) b = λ off.
+    let f = stands model (before c.args.gone id items) in
+    let g = stands model (left c.args.gone items) in
+    let kept : (b : Broken) → has b c.as_slice.result.now ≡ false → stands model (before c.args.gone id items) b ≡ stands model (left c.args.gone items) b = λ b off.
     either_way model c.args.gone id items b c.requires.gone (c.in_ok-near.ensures b (sym (ap (has b) c.as_slice.ensures.value) ∙ off)) in
-    rw (c.in_ok-changes.ensures.came, returns-clause-ok c b)
-    (came_tells (stands model (before c.args.gone id items)) (stands model (left c.args.gone items)) c.args.listed.now.keys c.as_slice.result.now b (c.requires.listed b) kept)
-
-pub returns-clause-went : goal.returns-clause-went
-returns-clause-went c = λ b.
-    let model = c.args.model.now in
-    let items = c.args.store.now in
-    let id = c.args.item.now.id in
-    let kept : has b c.as_slice.result.now ≡ false → stands model (before c.args.gone id items) b ≡ stands model (left c.args.gone items) b = λ off.
-    either_way model c.args.gone id items b c.requires.gone (c.in_ok-near.ensures b (sym (ap (has b) c.as_slice.ensures.value) ∙ off)) in
-    rw (c.in_ok-changes.ensures.went, returns-clause-ok c b)
-    (went_tells (stands model (before c.args.gone id items)) (stands model (left c.args.gone items)) c.args.listed.now.keys c.as_slice.result.now b (c.requires.listed b) kept)
+    record {
+      came = λ b. rw (c.in_ok-changes.ensures.came, returns-clause-ok c b)
+          (came_tells f g c.args.listed.now.keys c.as_slice.result.now b (c.requires.listed b) (kept b));
+      went = λ b. rw (c.in_ok-changes.ensures.went, returns-clause-ok c b)
+          (went_tells f g c.args.listed.now.keys c.as_slice.result.now b (c.requires.listed b) (kept b));
+    }

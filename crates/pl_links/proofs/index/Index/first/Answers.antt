@@ -7,15 +7,15 @@ use Rattle.pl_links.proofs.Anys.{filtered_head, none_filtered}
 use Rattle.pl_links.proofs.Keyed.{key, contained, has_contained, lies_at, at_lies}
 use Rattle.pl_links.proofs.index.Index.first.Goals as goal
 
-pub returns-in-Some : goal.returns-in-Some
-returns-in-Some c =
+pub returns-in-Some-clause-some : goal.returns-in-Some-clause-some
+returns-in-Some-clause-some c =
     let k = c.in-Some.key.now in
     let head : filter (lies c.args.group c.args.number c.args.number) c.args.self.now ≡ k ∷ c.next.new.self = sym c.within.ensures.between ∙ c.in-Some.ensures.steps in
     let found = filtered_head (lies c.args.group c.args.number c.args.number) c.args.self.now k c.next.new.self head in
     rw (lies_at c.args.group c.args.number k found.1) (has_contained k c.args.self.now found.0)
 
-pub returns-in-None : goal.returns-in-None
-returns-in-None c = λ id.
+pub returns-in-None-clause-none : goal.returns-in-None-clause-none
+returns-in-None-clause-none c = λ id.
     let none : filter (lies c.args.group c.args.number c.args.number) c.args.self.now ≡ [] = sym c.within.ensures.between ∙ c.in-None.ensures.steps.0 in
     let k = key c.args.group c.args.number id in
     false_from_ne_true (has_key k c.args.self.now) (λ has. none_filtered (lies c.args.group c.args.number c.args.number) c.args.self.now k none (contained k c.args.self.now has) (at_lies c.args.group c.args.number id))

@@ -1,4 +1,5 @@
 use Rattle.std.proofs.Common.{◌≡◌, ◌∙◌, ap, sym, false, List}
+use Rattle.std.specs.Map.{values_of}
 use Rattle.pl_links.specs.declared.placed.Placed.{Placed}
 use Rattle.pl_links.specs.Near.{near, parent_of}
 use Rattle.pl_links.specs.Sets.{has}
@@ -7,11 +8,11 @@ use Rattle.pl_links.proofs.store.Store.near.Goals as goal
 
 pub returns : goal.returns
 returns c = λ b off.
-    let xs = c.self.inside.items.items in
+    let xs = values_of c.self.inside.items.entries in
     let files = c.self.inside.files in
     let model = c.args.model.now in
     let p = c.args.item.now in
     let is : c.in_ok-all.all.items ≡ near model files p (parent_of xs p.parent) =
     c.in_ok-all.ensures ∙ ap (near model files p) (c.parent_of.ensures ∙ ap (λ (l : List Placed). parent_of l p.parent) (sym c.self.view_is)) in
     let away : has b (near model files p (parent_of xs p.parent)) ≡ false = sym (ap (has b) is) ∙ off in
-    rw (← c.self.view_is) (covers model xs files p c.self.invariant (rw c.self.view_is c.requires) b away)
+    rw (← c.self.view_is) (covers model xs files p c.self.invariant.rising c.self.invariant.filed (rw c.self.view_is c.requires) b away)
