@@ -2,7 +2,7 @@
 use Rattle.std.proofs.Common.{◌≡◌, ◌++◌, take, drop}
 use Rattle.pl_points.specs.Standing.{without, stands}
 use Rattle.pl_capacity.specs.Uses.{same_use}
-use Rattle.line_tests.proofs.capacity.place_of.Given as goal
+use Rattle.line_trials.proofs.capacity.place_of.Given as goal
 
 abbrev pub invariant-loop-i : goal.invariant-loop-i
 invariant-loop-i l = record {

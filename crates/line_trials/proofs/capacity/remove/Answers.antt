@@ -2,7 +2,7 @@ use Rattle.std.proofs.Common.{◌≡◌, ap, sym, ◌∙◌, w64}
 use Rattle.std.proofs.lemmas.Int.{to_z-of_z}
 use Rattle.pl_points.specs.Standing.{without}
 use Rattle.pl_capacity.specs.Uses.{same_use, use_of}
-use Rattle.line_tests.proofs.capacity.remove.Goals as goal
+use Rattle.line_trials.proofs.capacity.remove.Goals as goal
 
 pub returns : goal.returns
 returns c =

@@ -5,7 +5,7 @@ use Rattle.pl_points.proofs.Parting.{drop_next}
 use Rattle.pl_state.proofs.Orders.{without_at}
 use Rattle.pl_capacity.specs.declared.reservation.Use.{Use}
 use Rattle.pl_capacity.specs.Uses.{same_use}
-use Rattle.line_tests.proofs.capacity.place_of.Goals as goal
+use Rattle.line_trials.proofs.capacity.place_of.Goals as goal
 
 pub returns-then-is_same-clause-stands : goal.returns-then-is_same-clause-stands
 returns-then-is_same-clause-stands c =

@@ -2,7 +2,7 @@ use Rattle.std.proofs.Common.{◌≡◌, ap, sym, ◌∙◌, w64}
 use Rattle.std.proofs.lemmas.Int.{to_z-of_z}
 use Rattle.pl_points.specs.Standing.{without}
 use Rattle.pl_level.specs.Effects.{same_effect, effect_of}
-use Rattle.line_tests.proofs.level.remove.Goals as goal
+use Rattle.line_trials.proofs.level.remove.Goals as goal
 
 pub returns-clause-tied : goal.returns-clause-tied
 returns-clause-tied c =

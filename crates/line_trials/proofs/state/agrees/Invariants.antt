@@ -1,6 +1,6 @@
 -- what the moment says of the timeline
 use Rattle.std.proofs.Common.{◌≡◌, ◌≤◌}
-use Rattle.line_tests.proofs.state.agrees.Given as goal
+use Rattle.line_trials.proofs.state.agrees.Given as goal
 
 abbrev pub invariant-loop-turn : goal.invariant-loop-turn
 invariant-loop-turn l = record {

@@ -1,11 +1,11 @@
 -- what the plain list and the moment say of the timeline
 use Rattle.std.proofs.Common.{◌≡◌, ◌≤◌}
-use Rattle.line_tests.proofs.capacity.agrees.Given as goal
+use Rattle.line_trials.proofs.level.agrees.Given as goal
 
 abbrev pub invariant-loop-turn : goal.invariant-loop-turn
 invariant-loop-turn l = record {
-  tied : l.line.uses ≡ l.uses.items;
-  moment : l.line.moment ≡ l.moment;
-  in_time : l.moment ≤ 20;
+  tied : l.line.effects ≡ l.plain.effects.items;
+  moment : l.line.moment ≡ l.plain.moment;
+  in_time : l.plain.moment ≤ 20;
   horizon : l.line.horizon ≡ 20;
 }
