@@ -149,7 +149,7 @@ fn first_failed_checks(rt: HostRuntime) -> Result<(), AllocError> {
     Ok(())
 }
 
-/// A model's text with a piece so many times, a number in the place of its `#`.
+/// A model's text with a piece so many times, in each its number in the place of its `#`.
 fn repeated(
     alloc: Global,
     (front, piece, back): (&str, &str, &str),
@@ -158,10 +158,7 @@ fn repeated(
     let mut text = format!(in alloc; "horizon 100 lead 30 {front}")?;
     for number in 0..times {
         let digits = format!(in alloc; "{number}")?;
-        let (before, behind) = piece.split_once('#').unwrap_or((piece, ""));
-        text.push_str(before)?;
-        text.push_str(digits.as_str())?;
-        text.push_str(behind)?;
+        text.push_str(piece.replace(alloc, "#", digits.as_str())?.as_str())?;
     }
     text.push_str(back)?;
     Ok(text)
@@ -172,18 +169,81 @@ fn repeated(
 fn counts_at_their_limits(rt: HostRuntime) -> Result<(), AllocError> {
     let alloc = rt.alloc();
     let table = [
-        (("kind a { ", "param p# 1 9 ", "duration 5 }"), 16, "params"),
-        (("", "kind k# { duration 5 } ", ""), 256, "kinds"),
-        (("", "capacity c# 5 ", ""), 256, "timelines"),
+        ("kind a { ", "param p# 1 9 ", "duration 5 }", 16, "params"),
+        ("", "kind k# { duration 5 } ", "", 256, "kinds"),
+        ("", "capacity c# 5 ", "", 256, "timelines"),
+        ("state s { ", "a# ", "} start a0 any", 32, "states"),
+        (
+            "capacity c 9 kind k { duration 5 ",
+            "use c 1 ",
+            "}",
+            32,
+            "reservations",
+        ),
+        (
+            "kind k { duration 5 ",
+            "link start k end 0 9 ",
+            "}",
+            16,
+            "links",
+        ),
+        (
+            "kind x { duration 1 } kind k { duration 5 ",
+            "alternative { slot a x } ",
+            "}",
+            8,
+            "alternatives",
+        ),
+        (
+            "kind x { duration 1 } kind k { duration 5 alternative { ",
+            "slot a# x ",
+            "} }",
+            16,
+            "slots",
+        ),
+        (
+            "kind x { duration 1 } kind k { duration 5 alternative { slot a x ",
+            "order parent start a start 0 9 ",
+            "} }",
+            64,
+            "orders",
+        ),
     ];
-    for (text, most, what) in table {
-        let taken = repeated(alloc, text, most)?;
+    for (front, piece, back, most, what) in table {
+        let taken = repeated(alloc, (front, piece, back), most)?;
         assert!(rt; is_judged(alloc, taken.as_bytes(), "")?, "{what}");
-        let more = repeated(alloc, text, most + 1)?;
+        let more = repeated(alloc, (front, piece, back), most + 1)?;
         let fault = format!(in alloc; "too many: {what}")?;
         assert!(rt;
             is_judged(alloc, more.as_bytes(), fault.as_str())?,
             "{what}"
+        );
+    }
+    Ok(())
+}
+
+// an expression has an odd number of nodes: 63 are taken, and 65 are too many
+#[test]
+fn nodes_at_their_limit(rt: HostRuntime) -> Result<(), AllocError> {
+    let alloc = rt.alloc();
+    let table = [
+        ("kind k { duration ", " }"),
+        ("kind k { param p 0 99 = ", " duration 5 }"),
+        ("capacity c 9 kind k { duration 5 use c ", " }"),
+        (
+            "kind x { param q 0 99 duration 1 } kind k { duration 5 alternative { slot a x ( q = ",
+            " ) } }",
+        ),
+    ];
+    for (front, back) in table {
+        let taken = format!(in alloc; "1+1{back}")?;
+        let taken = repeated(alloc, (front, "1*1+", taken.as_str()), 15)?;
+        assert!(rt; is_judged(alloc, taken.as_bytes(), "")?, "{front}");
+        let more = format!(in alloc; "1{back}")?;
+        let more = repeated(alloc, (front, "1*1+", more.as_str()), 16)?;
+        assert!(rt;
+            is_judged(alloc, more.as_bytes(), "too many: nodes")?,
+            "{front}"
         );
     }
     Ok(())
