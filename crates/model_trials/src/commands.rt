@@ -1,0 +1,132 @@
+ghost use Rattle.std.specs.Prelude.{◌≡◌, [], true, IfOk};
+ghost use Rattle.pl_plan.specs.Fitting.{Fits};
+ghost use Rattle.model_trials.specs.Samples.{HasTwoKinds, root, four};
+
+use crate::plans::parameters;
+use crate::reading::model;
+use pl_conflict::{Code, Conflict};
+use pl_entry::{Entry, Event, Reply, best, due, target};
+use pl_lists::{Copied, Items};
+use pl_model::Model;
+use pl_plan::{Activity, Plan};
+use std::alloc::{AllocError, Global};
+use std::process::Abort;
+
+const MODEL: &str =
+    "horizon 100 lead 30 kind a { duration 5 } kind b { duration 5 alternative { slot s a } }";
+
+/// Whether the plan below may stand over the model.
+fn has_two_kinds(model: &Model) -> bool
+    ensures { result ≡ true → HasTwoKinds model.now }
+{
+    model.horizon > 40
+        && model.kinds.len() == 2
+        && parameters(model, 0) == 0
+        && parameters(model, 1) == 0
+}
+
+fn activity(alloc: Global, id: u32, kind: u32, start: u32) -> Activity
+    ensures { result ≡ root id kind start }
+{
+    Activity {
+        id,
+        kind,
+        start,
+        parent: None,
+        goal: None,
+        detail: None,
+        set: Items::new(alloc),
+    }
+}
+
+/// 1 and 4 at 40, 3 at 10, and 2, whose kind has an alternative, at 5.
+fn plan(alloc: Global) -> Result<Plan, AllocError>
+    ensures { IfOk result (λ p. p.activities ≡ four) }
+{
+    let mut plan = Plan::new(alloc);
+    plan.put(activity(alloc, 1, 0, 40))?;
+    plan.put(activity(alloc, 2, 1, 5))?;
+    plan.put(activity(alloc, 3, 0, 10))?;
+    plan.put(activity(alloc, 4, 0, 40))?;
+    Ok(plan)
+}
+
+#[tactic(auto, using(crate::proofs::Fitting::four_fit))]
+fn sample(rt: &impl Abort, alloc: Global) -> Result<(Model, Plan), AllocError>
+    ensures { IfOk result (λ s. Fits s.0 s.1.activities) }
+{
+    let model = model(rt, alloc, MODEL)?;
+    assert!(rt; has_two_kinds(&model));
+    let plan = plan(alloc)?;
+    Ok((model, plan))
+}
+
+#[test]
+fn due_activities_in_start_order(rt: HostRuntime) -> Result<(), AllocError> {
+    let alloc = rt.alloc();
+    let (model, plan) = sample(&rt, alloc)?;
+    let table: [(u32, u32, &[u32]); 5] = [
+        (50, 100, &[3, 1, 4]),
+        (40, 41, &[3, 1, 4]),
+        (50, 40, &[3]),
+        (39, 100, &[3]),
+        (9, 100, &[]),
+    ];
+    for (now, committed, ids) in table {
+        assert!(rt;
+            due(alloc, &model, &plan, now, committed)?.as_slice() == ids,
+            "at {now}"
+        );
+    }
+    Ok(())
+}
+
+fn conflict(from: u32) -> Conflict {
+    Conflict {
+        from,
+        code: Code::Late,
+        subject: 1,
+        detail: 0,
+        a: 0,
+        b: 0,
+    }
+}
+
+#[test]
+fn how_far_to_commit(rt: HostRuntime) -> Result<(), AllocError> {
+    let model = model(&rt, rt.alloc(), MODEL)?;
+    for (now, first, furthest) in [
+        (0, None, 30),
+        (0, Some(20), 20),
+        (0, Some(60), 30),
+        (80, None, 100),
+    ] {
+        assert!(rt; best(&model, now, first.map(|from| conflict(from))) == furthest);
+    }
+    assert!(rt; target(&model, 69) == 99 && target(&model, 100) == 100);
+    Ok(())
+}
+
+#[test]
+fn entries_are_copied(rt: HostRuntime) -> Result<(), AllocError> {
+    let alloc = rt.alloc();
+    let mut values = Items::new(alloc);
+    values.push(Some(7))?;
+    values.push(None)?;
+    let sent = Entry {
+        event: Event::Dispatch,
+        reply: Reply::Sent {
+            id: 3,
+            kind: 0,
+            start: 10,
+            values,
+        },
+    };
+    let copy = sent.copy(alloc)?;
+    assert!(rt; matches!(&copy.event, Event::Dispatch));
+    match &copy.reply {
+        Reply::Sent { values, .. } => assert!(rt; values.as_slice() == [Some(7), None].as_slice()),
+        _ => panic!(rt; "another reply"),
+    }
+    Ok(())
+}
