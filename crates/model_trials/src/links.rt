@@ -1,5 +1,6 @@
 ghost use Rattle.std.specs.Prelude.{◌≡◌, ◌<◌, ◌+◌, length, slice_get, IfOk, Some, None};
 ghost use Rattle.pl_links.specs.Items.{alternatives_of};
+ghost use Rattle.pl_links.specs.Kept.{IsFor};
 
 use crate::reading::model;
 use pl_links::{Broken, Links, Placed};
@@ -53,7 +54,9 @@ fn is_broken(
     model: &Model,
     index: u32,
     slots: bool,
-) -> Result<bool, AllocError> {
+) -> Result<bool, AllocError>
+    requires { IsFor model.now links.now }
+{
     let id = 1;
     Ok(links.broken(alloc, model)?.as_slice() == [Broken { id, index, slots }].as_slice())
 }
