@@ -35,7 +35,8 @@ use Rattle.pl_check.specs.declared.drafts.DraftAlternative.{DraftAlternative}
 use Rattle.pl_check.specs.declared.drafts.DraftKind.{DraftKind}
 use Rattle.pl_check.specs.Judgements as judge
 use Rattle.pl_check.specs.Drafting.{kinds_in}
-use Rattle.pl_check.specs.Networks.{Pairwise, HasOffsets, FinishesAlternative, FinishesKind, net_of, span_of}
+use Rattle.pl_lists.specs.Lists.{Pairwise}
+use Rattle.pl_check.specs.Networks.{HasOffsets, FinishesAlternative, FinishesKind, net_of, span_of}
 use Rattle.pl_check.specs.Checked.{drafted, spans_in, IsModelOf, AnswersJudged, Answers as Checked, PassesEachRow}
 use Rattle.pl_check.proofs.ScheduleLemmas.{kinds_scheduled}
 use Rattle.pl_check.proofs.AcceptanceLemmas.{accepted}

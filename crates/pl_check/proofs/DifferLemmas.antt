@@ -27,10 +27,12 @@ use Rattle.pl_check.specs.Judgements.{pass, each, each_made}
 use Rattle.pl_check.specs.Names.{Name, line_name, item_name, param_name, slot_name, binding_name, own_name, nothing_inside, distinct, twice_in_line, twice_in_slot, twice_in_alternative, twice_in_kind}
 use Rattle.pl_check.specs.Finding.{known, kind_named, bindable_named, is_bindable_named, is_unequalled}
 use Rattle.pl_check.specs.Numbering.{numbered, numbered_line, numbered_step, numbered_origin, numbered_param, numbered_binding, numbered_slot, numbered_order, numbered_alternative, state_number}
-use Rattle.pl_check.specs.Networks.{Pairwise, FinishesAlternative, FinishesKind, span_of}
+use Rattle.pl_lists.specs.Lists.{Pairwise}
+use Rattle.pl_check.specs.Networks.{FinishesAlternative, FinishesKind, span_of}
 use Rattle.pl_check.proofs.SizeLemmas.{then_passes}
 use Rattle.pl_check.proofs.RangeLemmas.{both_true, each_passes}
-use Rattle.pl_check.proofs.PairLemmas.{bind_ok, known_ok, ok_same, placed_at, pair_all, pair_map, each_pairs, Makes}
+use Rattle.pl_lists.proofs.Judging.{bind_ok}
+use Rattle.pl_check.proofs.PairLemmas.{known_ok, ok_same, placed_at, pair_all, pair_map, each_pairs, Makes}
 use Rattle.pl_check.proofs.MadeLemmas.{written_kinds, written_lines}
 use Rattle.pl_check.proofs.DraftLemmas.{Numbers}
 use Rattle.pl_check.proofs.NumberLemmas.{params_made}

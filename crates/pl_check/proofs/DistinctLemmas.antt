@@ -9,7 +9,7 @@ use Rattle.pl_model.specs.Names.{Differ}
 use Rattle.pl_check.specs.declared.fault.ModelFault.TheVariants as fault
 use Rattle.pl_check.specs.Judgements.{Judgement, pass, ◌>>◌}
 use Rattle.pl_check.specs.Names.{Name, is_among, is_new, distinct}
-use Rattle.pl_check.specs.Networks.{Pairwise}
+use Rattle.pl_lists.specs.Lists.{Pairwise}
 use Rattle.pl_check.proofs.SizeLemmas.{then_passes}
 use Rattle.pl_check.proofs.PairLemmas.{pair_all}
 

@@ -8,8 +8,9 @@ use Rattle.pl_model.specs.declared.reservations.Reservation.{Reservation}
 use Rattle.pl_model.specs.declared.links.Link.{Link}
 use Rattle.pl_check.specs.declared.drafts.DraftKind.{DraftKind}
 use Rattle.pl_check.specs.Numbering.{numbered, numbered_params, numbered_reservation, numbered_reservations, numbered_link, numbered_links, numbered_alternative, numbered_alternatives, numbered_duration, numbered_head, numbered_asks, numbered_kind}
-use Rattle.pl_check.specs.Networks.{Pairwise}
-use Rattle.pl_check.proofs.PairLemmas.{bind_ok, ok_same, each_pairs, Makes}
+use Rattle.pl_lists.specs.Lists.{Pairwise}
+use Rattle.pl_lists.proofs.Judging.{bind_ok}
+use Rattle.pl_check.proofs.PairLemmas.{ok_same, each_pairs, Makes}
 
 -- a draft and the kind of the text that it numbers
 pub record Numbers (items : List Item) (k : AstKind) (d : DraftKind) : Type 0 where

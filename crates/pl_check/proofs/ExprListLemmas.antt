@@ -27,8 +27,10 @@ use Rattle.pl_check.specs.Judgements.{each_made}
 use Rattle.pl_check.specs.Names.{Name}
 use Rattle.pl_check.specs.Finding.{known, kind_named, capacity_named, level_named, bindable_named}
 use Rattle.pl_check.specs.Numbering.{numbered, numbered_origin, numbered_param, numbered_reservation, numbered_binding, numbered_slot, numbered_order, numbered_alternative, state_named}
-use Rattle.pl_check.specs.Networks.{Pairwise, FinishesAlternative, FinishesKind, span_of}
-use Rattle.pl_check.proofs.PairLemmas.{bind_ok, ok_same, pair_map, each_pairs, Makes}
+use Rattle.pl_lists.specs.Lists.{Pairwise}
+use Rattle.pl_check.specs.Networks.{FinishesAlternative, FinishesKind, span_of}
+use Rattle.pl_lists.proofs.Judging.{bind_ok}
+use Rattle.pl_check.proofs.PairLemmas.{ok_same, pair_map, each_pairs, Makes}
 use Rattle.pl_check.proofs.NumberLemmas.{origin_made}
 
 -- ---- lists of lists, place by place

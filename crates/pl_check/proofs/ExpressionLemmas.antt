@@ -17,7 +17,8 @@ use Rattle.pl_check.specs.Judgements.{Judged, ◌>>=◌}
 use Rattle.pl_check.specs.Finding.{known, param_named, is_param_named}
 use Rattle.pl_check.specs.Numbering.{numbered_at, numbered}
 use Rattle.pl_check.specs.Dependencies.{params_at, params_of}
-use Rattle.pl_check.proofs.PairLemmas.{bind_ok, known_ok, ok_same, placed_at}
+use Rattle.pl_lists.proofs.Judging.{bind_ok}
+use Rattle.pl_check.proofs.PairLemmas.{known_ok, ok_same, placed_at}
 
 -- ---- induction over expressions of the text
 

@@ -1,7 +1,8 @@
 -- How many of the drafts are kinds.
 use Rattle.std.proofs.Common.{◌≡◌, ℕ, suc, ◌+◌, ◌<◌, List, [], ◌∷◌, ◌++◌, count_by, length, map, take, drop, get_or, cond, Ok, sym, ap, subst, ◌∙◌, arith}
 use Rattle.std.proofs.Math.Seq.{drop-cons}
-use Rattle.pl_check.specs.Judgements.{Judged, each_made_from}
+use Rattle.pl_check.specs.Judgements.{Judged}
+use Rattle.pl_check.proofs.LoopLemmas.{each_made_from}
 use Rattle.std.proofs.lemmas.List.{take_more, map-append}
 use Rattle.std.proofs.lemmas.List.Sums.{sum_by-append}
 use Rattle.pl_syntax.specs.declared.whole.Item.{Item}

@@ -1,6 +1,7 @@
 pub mod NameLemmas
 pub mod SizeLemmas
 pub mod CycleLemmas
+pub mod LoopLemmas
 pub mod KindLemmas
 pub mod DependencyLemmas
 pub mod RangeLemmas

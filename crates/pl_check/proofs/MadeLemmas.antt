@@ -13,8 +13,9 @@ use Rattle.pl_check.specs.Names.{Name, place_of, item_name}
 use Rattle.pl_check.specs.Finding.{is_kind, is_line, kind_with, line_with, kind_at, line_at, kind_named, line_named}
 use Rattle.pl_check.specs.Numbering.{numbered_line, numbered_kind, numbered_item}
 use Rattle.pl_check.specs.Drafting.{lines_in, kinds_in}
-use Rattle.pl_check.specs.Networks.{Pairwise}
-use Rattle.pl_check.proofs.PairLemmas.{bind_ok, and_then_some, Makes}
+use Rattle.pl_lists.specs.Lists.{Pairwise}
+use Rattle.pl_lists.proofs.Judging.{bind_ok}
+use Rattle.pl_check.proofs.PairLemmas.{and_then_some, Makes}
 
 abbrev pub written_kind : Item → Option AstKind
 written_kind (item.Timeline l) = None

@@ -27,8 +27,9 @@ use Rattle.pl_check.specs.Names.{Name, place_of}
 use Rattle.pl_check.specs.Judgements.{each_made}
 use Rattle.pl_check.specs.Finding.{known, kind_named, line_named, capacity_named, level_named, states_named, as_capacity, as_level, as_states, bindable_named, is_bindable_named, is_unequalled, slot_named, is_slot_named}
 use Rattle.pl_check.specs.Numbering.{numbered, numbered_line, numbered_step, numbered_origin, numbered_param, numbered_params, numbered_reservation, numbered_binding, numbered_slot, numbered_place, state_named, state_number}
-use Rattle.pl_check.specs.Networks.{Pairwise}
-use Rattle.pl_check.proofs.PairLemmas.{bind_ok, known_ok, ok_same, and_then_some, placed_at, pair_at, pair_all, all_such, each_pairs, Makes}
+use Rattle.pl_lists.specs.Lists.{Pairwise}
+use Rattle.pl_lists.proofs.Judging.{bind_ok}
+use Rattle.pl_check.proofs.PairLemmas.{known_ok, ok_same, and_then_some, placed_at, pair_at, pair_all, all_such, each_pairs, Makes}
 use Rattle.pl_check.proofs.MadeLemmas.{written_kinds, written_lines, kind_found, line_found}
 use Rattle.pl_check.proofs.ExpressionLemmas.{names_made}
 use Rattle.pl_check.proofs.RangeLemmas.{both_true}

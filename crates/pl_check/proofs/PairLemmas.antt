@@ -1,23 +1,19 @@
 -- Lists that correspond place by place, and what is made of each item where every step passes.
-use Rattle.std.proofs.Common.{◌≡◌, ℕ, zero, suc, ◌+◌, Bool, true, false, ◌⊎◌, inl, inr, List, [], ◌∷◌, ◌++◌, Option, Some, None, Ok, Err, All, length, map, slice_get, refl, sym, ap, subst, ◌∙◌, append_assoc, arith}
+use Rattle.std.proofs.Common.{◌≡◌, ℕ, zero, suc, ◌+◌, Bool, true, false, ◌⊎◌, inl, inr, List, [], ◌∷◌, Option, Some, None, Ok, Err, All, length, map, slice_get, refl, ap, subst, arith}
 use Rattle.std.specs.Prelude.{option_and_then}
 use Rattle.std.specs.List.{position_from}
 use Rattle.std.proofs.lemmas.Bool.{cases_Bool}
-use Rattle.std.proofs.lemmas.List.{append-nil}
 use Rattle.std.proofs.lemmas.List.Elements.{All-nil, All-cons, All-head, All-tail}
-use Rattle.pl_check.specs.Judgements.{Judged, ◌>>=◌, each_made, each_made_from}
+use Rattle.pl_lists.proofs.Judging.{bind_ok}
+use Rattle.pl_check.specs.Judgements.{Judged, ◌>>=◌, each_made}
 use Rattle.pl_check.specs.Names.{Name}
 use Rattle.pl_check.specs.Finding.{known}
-use Rattle.pl_check.specs.Networks.{Pairwise}
+use Rattle.pl_lists.specs.Lists.{Pairwise}
 
 -- ---- steps that pass
 
 pub ok_same : {X : Type 0} (x y : X) → ◌≡◌ {A = Judged X} (Ok x) (Ok y) → x ≡ y
 ok_same x y h = cc
-
-pub bind_ok : {X Y : Type 0} (a : Judged X) (f : X → Judged Y) (y : Y) → (a >>= f) ≡ Ok y → (x : X) × (a ≡ Ok x) × (f x ≡ Ok y)
-bind_ok (Ok x) f y h = (x, refl, h)
-bind_ok (Err e) f y h = absurd (cc)
 
 pub known_ok : {X : Type 0} (name : Name) (o : Option X) (x : X) → known name o ≡ Ok x → o ≡ Some x
 known_ok name None x h = absurd (cc)
@@ -52,12 +48,6 @@ module _ {X : Type 0} (test : X → Bool) where
 -- ---- place by place
 
 module _ {X Y : Type 0} (R : X → Y → Type 0) where
-  pub pair_length : (xs : List X) (ys : List Y) → Pairwise R xs ys → length ys ≡ length xs
-  pair_length [] [] h = refl
-  pair_length [] (y ∷ ys) h = absurd h
-  pair_length (x ∷ xs) [] h = absurd h
-  pair_length (x ∷ xs) (y ∷ ys) h = omega (arith, pair_length xs ys h.1)
-
   -- what follows for each that corresponds to an item with some property
   pub pair_all : (P : X → Type 0) (Q : Y → Type 0) → ((x : X) (y : Y) → P x → R x y → Q y) → (xs : List X) (ys : List Y) → All P xs → Pairwise R xs ys → All Q ys
   pair_all P Q f [] [] p h = All-nil Q
@@ -105,12 +95,9 @@ module _ {X Y : Type 0} (make : X → Judged Y) where
   abbrev pub Makes : X → Y → Type 0
   Makes x y = make x ≡ Ok y
 
-  made_from : (made : List Y) (xs : List X) (ys : List Y) → each_made_from make made xs ≡ Ok ys → (zs : List Y) × (ys ≡ made ++ zs) × Pairwise Makes xs zs
-  made_from made [] ys h = let same : made ≡ ys = cc in ([], sym same ∙ sym (append-nil made), tt)
-  made_from made (x ∷ xs) ys h =
-      let one = bind_ok (make x) (λ y. each_made_from make (made ++ y ∷ []) xs) ys h in
-      let rest = made_from (made ++ one.0 ∷ []) xs ys one.2 in
-      (one.0 ∷ rest.0, rest.1 ∙ append_assoc made (one.0 ∷ []) rest.0, (one.1, rest.2))
-
   pub each_pairs : (xs : List X) (ys : List Y) → each_made make xs ≡ Ok ys → Pairwise Makes xs ys
-  each_pairs xs ys h = let found = made_from [] xs ys h in subst (λ zs. Pairwise Makes xs zs) (sym found.1) found.2
+  each_pairs [] ys h = subst (λ zs. Pairwise Makes [] zs) (ok_same [] ys h) tt
+  each_pairs (x ∷ xs) ys h =
+      let one = bind_ok (make x) (λ y. each_made make xs >>= λ more. Ok (y ∷ more)) ys h in
+      let rest = bind_ok (each_made make xs) (λ more. Ok (one.0 ∷ more)) ys one.2 in
+      subst (λ zs. Pairwise Makes (x ∷ xs) zs) (ok_same (one.0 ∷ rest.0) ys rest.2) (one.1, each_pairs xs rest.0 rest.1)

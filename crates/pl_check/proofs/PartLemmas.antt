@@ -35,7 +35,9 @@ use Rattle.pl_check.specs.Ranges.{is_between, is_amount, is_level, is_default, i
 use Rattle.pl_check.specs.Networks.{FinishesAlternative}
 use Rattle.pl_check.proofs.SizeLemmas.{then_passes}
 use Rattle.pl_check.proofs.RangeLemmas.{test_passes, each_passes, both_true, le_from_test, between}
-use Rattle.pl_check.proofs.PairLemmas.{bind_ok, known_ok, ok_same, pair_length, pair_all, pair_with, all_such, each_pairs, Makes}
+use Rattle.pl_lists.proofs.Judging.{bind_ok}
+use Rattle.pl_lists.proofs.Listing.{pairwise_length}
+use Rattle.pl_check.proofs.PairLemmas.{known_ok, ok_same, pair_all, pair_with, all_such, each_pairs, Makes}
 use Rattle.pl_check.proofs.MadeLemmas.{kind_found}
 use Rattle.pl_check.proofs.ExpressionLemmas.{names_made}
 use Rattle.pl_check.proofs.NumberLemmas.{IsMadeOf, origin_made, slot_made, place_made, state_below, step_made}
@@ -133,8 +135,8 @@ module _ (items : List Item) (model : Model) (made : IsMadeOf items model) where
       let order_pairs = each_pairs (numbered_order a.slots) a.orders orders.0 orders.1 in
       let slots_are : slots.0 ≡ m.slots = ap (λ (x : DraftAlternative). x.slots) same ∙ sym f.slots in
       let orders_are : orders.0 ≡ m.orders = ap (λ (x : DraftAlternative). x.orders) same ∙ sym f.orders in
-      let many_slots : length m.slots ≡ length a.slots = ap length (sym slots_are) ∙ pair_length (Makes (numbered_slot items params)) a.slots slots.0 slot_pairs in
-      let many_orders : length m.orders ≡ length a.orders = ap length (sym orders_are) ∙ pair_length (Makes (numbered_order a.slots)) a.orders orders.0 order_pairs in
+      let many_slots : length m.slots ≡ length a.slots = ap length (sym slots_are) ∙ pairwise_length (Makes (numbered_slot items params)) a.slots slots.0 slot_pairs in
+      let many_orders : length m.orders ≡ length a.orders = ap length (sym orders_are) ∙ pairwise_length (Makes (numbered_order a.slots)) a.orders orders.0 order_pairs in
       let judged = then_passes (each range_in_slot d.slots) (each (range_in_order (pos model.horizon)) d.orders) tt r in
       let judged_orders : All (λ o. range_in_order (pos model.horizon) o ≡ pass) orders.0 = subst (All (λ o. range_in_order (pos model.horizon) o ≡ pass)) (sym (ap (λ (x : DraftAlternative). x.orders) same)) (each_passes (range_in_order (pos model.horizon)) d.orders judged.1) in
       let each_slot : All (IsCheckedSlot model (length params)) slots.0 = pair_all (Makes (numbered_slot items params)) (λ x. Unit {0}) (IsCheckedSlot model (length params)) (λ x y u k. slot_made items model params x y made k) a.slots slots.0 (all_such a.slots) slot_pairs in

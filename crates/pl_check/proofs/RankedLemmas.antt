@@ -15,8 +15,10 @@ use Rattle.pl_check.specs.declared.drafts.DraftAlternative.{DraftAlternative}
 use Rattle.pl_check.specs.declared.drafts.DraftKind.{DraftKind}
 use Rattle.pl_check.specs.Cycles.{Graph, successors}
 use Rattle.pl_check.specs.Dependencies.{needs_of, param_needs, param_graph, slot_kind, alternative_kinds, contained_kinds, kind_graph, IsWellFounded, AreUncontained}
-use Rattle.pl_check.specs.Networks.{Pairwise, FinishesAlternative, FinishesKind, span_of}
-use Rattle.pl_check.proofs.PairLemmas.{pair_length, pair_all, pair_back, all_both}
+use Rattle.pl_lists.specs.Lists.{Pairwise}
+use Rattle.pl_check.specs.Networks.{FinishesAlternative, FinishesKind, span_of}
+use Rattle.pl_lists.proofs.Listing.{pairwise_length}
+use Rattle.pl_check.proofs.PairLemmas.{pair_all, pair_back, all_both}
 use Rattle.pl_check.proofs.RankLemmas.{rank_of, rank_below, rank_falls}
 use Rattle.pl_check.proofs.ExpressionLemmas.{names_ranked}
 
@@ -70,7 +72,7 @@ module _ (horizon : ℤ) (spans : List (ℤ × ℤ)) where
   kinds_ranked drafts kinds u pairs all =
       let graph : Graph = kind_graph drafts in
       let many : length graph ≡ length drafts = length-map drafts contained_kinds in
-      let same : length kinds ≡ length drafts = pair_length (FinishesKind horizon spans) drafts kinds pairs in
+      let same : length kinds ≡ length drafts = pairwise_length (FinishesKind horizon spans) drafts kinds pairs in
       record {
         rank = rank_of graph;
         below = λ k lt. let found = rank_below graph u k (omega (arith, lt, many, same)) in omega (arith, found, many, same);

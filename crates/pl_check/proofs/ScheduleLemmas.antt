@@ -14,22 +14,18 @@ use Rattle.pl_model.specs.declared.alternatives.Alternative.{Alternative}
 use Rattle.pl_model.specs.declared.kinds.Kind.{Kind}
 use Rattle.pl_model.specs.Schedules.{IsOffset}
 use Rattle.pl_check.specs.Ranges.{duration_bounds}
-use Rattle.pl_check.specs.Networks.{Pairwise, FinishesAlternative, FinishesKind, IsSpan, IsHorizon, cut_to, span_of, net_of, HasOffsets}
+use Rattle.pl_lists.specs.Lists.{Pairwise}
+use Rattle.pl_lists.proofs.Listing.{pairwise_push}
+use Rattle.pl_check.specs.Networks.{FinishesAlternative, FinishesKind, IsSpan, IsHorizon, cut_to, span_of, net_of, HasOffsets}
 use Rattle.pl_check.specs.Schedules.{HasSchedule, IsScheduled, IsConflict, IsFirstConflict, IsUnscheduledIn, IsUnscheduledFault}
 use Rattle.pl_check.proofs.DependencyLemmas.{read_at}
 
 module _ {X Y : Type 0} (R : X → Y → Type 0) where
-  pub pairwise_push : (xs : List X) (ys : List Y) (x : X) (y : Y) → Pairwise R xs ys → R x y → Pairwise R (xs ++ x ∷ []) (ys ++ y ∷ [])
-  pairwise_push [] [] x y h r = (r, tt)
-  pairwise_push [] (b ∷ ys) x y h r = absurd h
-  pairwise_push (a ∷ xs) [] x y h r = absurd h
-  pairwise_push (a ∷ xs) (b ∷ ys) x y h r = (h.0, pairwise_push xs ys x y h.1 r)
-
   -- one more, at its place
   pub pairwise_step : (xs : List X) (ys : List Y) (i : ℕ) (x : X) (y : Y) → i < length xs → x ≡ get_or xs i x → Pairwise R (take i xs) ys → R x y → Pairwise R (take (i + 1) xs) (ys ++ y ∷ [])
   pairwise_step xs ys i x y lt same h r =
       let more : take (i + 1) xs ≡ take i xs ++ x ∷ [] = take_more xs i x lt ∙ ap (λ z. take i xs ++ z ∷ []) (sym same) in
-      rw more (pairwise_push (take i xs) ys x y h r)
+      rw more (pairwise_push R (take i xs) ys x y h r)
 
   -- what holds of each that has a partner
   pub pairwise_all : (P : X → Type 0) → ((x : X) (y : Y) → R x y → P x) → (xs : List X) (ys : List Y) → Pairwise R xs ys → All P xs

@@ -45,11 +45,14 @@ use Rattle.pl_check.specs.Numbering.{numbered, numbered_line, numbered_param, nu
 use Rattle.pl_check.specs.Ranges.{range_in_line, range_in_param, range_in_reservation, range_in_duration, range_in_link, range_in_alternative, range_in_kind, range_in_draft, range_in, is_between, is_possible, param_range, duration_bounds}
 use Rattle.pl_check.specs.Drafting.{lines_in, kinds_in}
 use Rattle.pl_check.specs.Dependencies.{IsWellFounded}
-use Rattle.pl_check.specs.Networks.{Pairwise, FinishesAlternative, FinishesKind, cut_to, span_of}
+use Rattle.pl_lists.specs.Lists.{Pairwise}
+use Rattle.pl_check.specs.Networks.{FinishesAlternative, FinishesKind, cut_to, span_of}
 use Rattle.pl_check.specs.Checked.{drafted, ranged, spans_in, IsModelOf, AnswersJudged, Answers, IsChecked as IsAnswered}
 use Rattle.pl_check.proofs.SizeLemmas.{then_passes, not_too_many, below_from_test, few, small_line, small_alternative}
 use Rattle.pl_check.proofs.RangeLemmas.{each_passes, both_true, le_from_test, of_kinds, horizon_passes, lead_passes}
-use Rattle.pl_check.proofs.PairLemmas.{bind_ok, ok_same, pair_length, pair_all, pair_with, pair_at, all_both, all_such, each_pairs, Makes}
+use Rattle.pl_lists.proofs.Judging.{bind_ok}
+use Rattle.pl_lists.proofs.Listing.{pairwise_length}
+use Rattle.pl_check.proofs.PairLemmas.{ok_same, pair_all, pair_with, pair_at, all_both, all_such, each_pairs, Makes}
 use Rattle.pl_check.proofs.DraftLemmas.{Numbers, numbers_kind}
 use Rattle.pl_check.proofs.MadeLemmas.{written_kinds, written_lines, kinds_such, lines_such, made_kinds, made_lines}
 use Rattle.pl_check.proofs.ExpressionLemmas.{names_made}
@@ -188,16 +191,16 @@ module _ (items : List Item) (model : Model) (made : IsMadeOf items model) (span
   kind_checked : (k : AstKind) (d : DraftKind) (m : Kind) → 1 ≤ model.horizon → HasFew k → Numbers items k d → HasRanges model.horizon d → IsWellFounded d → FinishesKind (pos model.horizon) spans d m → IsCheckedKind model m
   kind_checked k d m one few_parts numbers ranges founded f =
       let param_pairs = params_made k.params d.params numbers.params in
-      let many : length d.params ≡ length k.params = pair_length (Makes (numbered_param k.params)) k.params d.params param_pairs in
+      let many : length d.params ≡ length k.params = pairwise_length (Makes (numbered_param k.params)) k.params d.params param_pairs in
       let drafted_params : All (IsCheckedParam (length k.params)) d.params = pair_with (Makes (numbered_param k.params)) (λ p. range_in_param p ≡ pass) (IsCheckedParam (length k.params)) (λ a p n r. param_checked k.params a p n r) k.params d.params param_pairs ranges.params in
       let own_params : All (IsCheckedParam (length d.params)) d.params = subst (λ n. All (IsCheckedParam n) d.params) (sym many) drafted_params in
       let drafted_reservations : All (IsReservation model.timelines (length k.params)) d.reservations = pair_all (Makes (numbered_reservation items k.params)) (λ x. Unit {0}) (IsReservation model.timelines (length k.params)) (λ a r u n. reservation_made items model made k.params a r n) k.reservations d.reservations (all_such k.reservations) numbers.reservations in
       let drafted_links : All (IsCheckedLink model) d.links = pair_with (Makes (numbered_link items)) (λ l. range_in_link (pos model.horizon) l ≡ pass) (IsCheckedLink model) (λ a l n r. link_checked items model made a l n r) k.links d.links numbers.links ranges.links in
       let all_alternatives : All (IsCheckedAlternative model (length k.params)) m.alternatives = alternatives_checked k.params (span_of (pos model.horizon) d) k.alternatives d.alternatives m.alternatives few_parts.small numbers.alternatives ranges.alternatives f.alternatives in
-      let few_reservations : length d.reservations ≡ length k.reservations = pair_length (Makes (numbered_reservation items k.params)) k.reservations d.reservations numbers.reservations in
-      let few_links : length d.links ≡ length k.links = pair_length (Makes (numbered_link items)) k.links d.links numbers.links in
-      let few_drafts : length d.alternatives ≡ length k.alternatives = pair_length (Makes (numbered_alternative items k.params)) k.alternatives d.alternatives numbers.alternatives in
-      let few_alternatives : length m.alternatives ≡ length d.alternatives = pair_length (FinishesAlternative spans (span_of (pos model.horizon) d)) d.alternatives m.alternatives f.alternatives in
+      let few_reservations : length d.reservations ≡ length k.reservations = pairwise_length (Makes (numbered_reservation items k.params)) k.reservations d.reservations numbers.reservations in
+      let few_links : length d.links ≡ length k.links = pairwise_length (Makes (numbered_link items)) k.links d.links numbers.links in
+      let few_drafts : length d.alternatives ≡ length k.alternatives = pairwise_length (Makes (numbered_alternative items k.params)) k.alternatives d.alternatives numbers.alternatives in
+      let few_alternatives : length m.alternatives ≡ length d.alternatives = pairwise_length (FinishesAlternative spans (span_of (pos model.horizon) d)) d.alternatives m.alternatives f.alternatives in
       let same : length m.params ≡ length k.params = ap length f.params ∙ many in
       record {
         few_params = omega (arith, same, few_parts.params);
@@ -352,8 +355,8 @@ structural ast drafts model h m =
     (all_both StandsLine (λ t. range_in_line t ≡ pass) (lines_in drafts)
     (pair_all (Makes numbered_line) (λ a. IsSmallLine a × (twice_in_line a ≡ pass)) StandsLine (λ a t f n. (a, f, n)) (written_lines ast.items) (lines_in drafts) (all_both IsSmallLine (λ a. twice_in_line a ≡ pass) (written_lines ast.items) few_items.each_line lines_distinct) line_pairs)
     (line_ranges ast.horizon drafts ranges)) in
-    let many_kinds : length model.kinds ≡ length (written_kinds ast.items) = pair_length (FinishesKind (pos model.horizon) spans) kinds model.kinds finishes ∙ pair_length (Makes (numbered_kind ast.items)) (written_kinds ast.items) kinds kind_pairs in
-    let many_lines : length model.timelines ≡ length (written_lines ast.items) = ap length m.timelines ∙ pair_length (Makes numbered_line) (written_lines ast.items) (lines_in drafts) line_pairs in
+    let many_kinds : length model.kinds ≡ length (written_kinds ast.items) = pairwise_length (FinishesKind (pos model.horizon) spans) kinds model.kinds finishes ∙ pairwise_length (Makes (numbered_kind ast.items)) (written_kinds ast.items) kinds kind_pairs in
+    let many_lines : length model.timelines ≡ length (written_lines ast.items) = ap length m.timelines ∙ pairwise_length (Makes numbered_line) (written_lines ast.items) (lines_in drafts) line_pairs in
     let line_names : map line_name (written_lines ast.items) ≡ map checked.line_name model.timelines =
     same_names (Makes numbered_line) line_name checked.line_name line_named (written_lines ast.items) (lines_in drafts) line_pairs ∙ ap (map checked.line_name) (sym m.timelines) in
     let kind_names : map kind_text (written_kinds ast.items) ≡ map checked.kind_name model.kinds =

@@ -21,8 +21,11 @@ use Rattle.pl_check.specs.declared.drafts.DraftAlternative.{DraftAlternative}
 use Rattle.pl_check.specs.declared.drafts.DraftKind.{DraftKind}
 use Rattle.pl_check.specs.Judgements.{Judged, each_made}
 use Rattle.pl_check.specs.Numbering.{numbered, numbered_line, numbered_step, numbered_param, numbered_slot, numbered_order, numbered_alternative, state_number}
-use Rattle.pl_check.specs.Networks.{Pairwise, FinishesAlternative, FinishesKind, span_of}
-use Rattle.pl_check.proofs.PairLemmas.{bind_ok, ok_same, pair_length, pair_all, each_pairs, Makes}
+use Rattle.pl_lists.specs.Lists.{Pairwise}
+use Rattle.pl_check.specs.Networks.{FinishesAlternative, FinishesKind, span_of}
+use Rattle.pl_lists.proofs.Judging.{bind_ok}
+use Rattle.pl_lists.proofs.Listing.{pairwise_length}
+use Rattle.pl_check.proofs.PairLemmas.{ok_same, pair_all, each_pairs, Makes}
 use Rattle.pl_check.proofs.NumberLemmas.{params_made}
 use Rattle.pl_check.proofs.DifferLemmas.{param_named_so, slot_named_so}
 use Rattle.pl_check.proofs.DraftLemmas.{Numbers}
@@ -47,7 +50,7 @@ alternative_written items params a d h n =
     let slots = bind_ok (each_made (numbered_slot items params) a.slots) _ d h in
     let orders = bind_ok (each_made (numbered_order a.slots) a.orders) _ d slots.2 in
     let pairs = each_pairs (numbered_slot items params) a.slots slots.0 slots.1 in
-    let many : length slots.0 ≡ length a.slots = pair_length (Makes (numbered_slot items params)) a.slots slots.0 pairs in
+    let many : length slots.0 ≡ length a.slots = pairwise_length (Makes (numbered_slot items params)) a.slots slots.0 pairs in
     let named : All IsNamedSlot slots.0 = pair_all (Makes (numbered_slot items params)) text.IsNamedSlot IsNamedSlot (λ x y is k. subst IsName (slot_named_so items params x y k) is) a.slots slots.0 n.1 pairs in
     subst (λ (x : DraftAlternative). (0 < length x.slots) × All IsNamedSlot x.slots) (ok_same _ d orders.2) (omega (arith, many, n.0), named)
 

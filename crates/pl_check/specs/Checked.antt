@@ -13,7 +13,8 @@ use Rattle.pl_check.specs.Drafting.{lines_in, kinds_in}
 use Rattle.pl_check.specs.Numbering.{numbered_items}
 use Rattle.pl_check.specs.Ranges.{range_in}
 use Rattle.pl_check.specs.Dependencies.{AreWellFounded, AreUncontained, IsFirstCircular, IsFirstRecursive}
-use Rattle.pl_check.specs.Networks.{Pairwise, FinishesKind, span_of}
+use Rattle.pl_lists.specs.Lists.{Pairwise}
+use Rattle.pl_check.specs.Networks.{FinishesKind, span_of}
 use Rattle.pl_check.specs.Schedules.{IsScheduled, IsFirstUnscheduled}
 
 -- the drafts, where their ranges pass

@@ -1,6 +1,7 @@
 -- The network of an alternative, and what the model has beside the drafts: least durations and offsets.
 use Rattle.std.specs.Prelude.{◌≡◌, ℕ, ◌+◌, ◌*◌, ◌-◌, ◌<◌, ℤ, pos, negsuc, neg_ℤ, ◌≤ℤ◌, List, [], ◌∷◌, ◌++◌, Option, Some, None, All, length, slice_index_or, slice_index}
 use Rattle.std.specs.Int.{int_min, int_max}
+use Rattle.pl_lists.specs.Lists.{Pairwise}
 use Rattle.pl_model.specs.declared.reservations.Point.{Point}
 use Rattle.pl_model.specs.declared.reservations.Point.TheVariants as point
 use Rattle.pl_model.specs.declared.alternatives.Slot.{Slot}
@@ -101,13 +102,6 @@ pub record FinishesAlternative (spans : List (ℤ × ℤ)) (own : ℤ × ℤ) (d
   pub slots : a.slots ≡ d.slots
   pub orders : a.orders ≡ d.orders
   pub offsets : HasOffsets (net_of spans own d) (length d.slots) a.offsets
-
--- place by place
-abbrev pub Pairwise : {X Y : Type 0} → (X → Y → Type 0) → List X → List Y → Type 0
-Pairwise R [] [] = Unit {0}
-Pairwise R [] (y ∷ ys) = ⊥
-Pairwise R (x ∷ xs) [] = ⊥
-Pairwise R (x ∷ xs) (y ∷ ys) = R x y × Pairwise R xs ys
 
 -- a kind of the model and its draft
 pub record FinishesKind (horizon : ℤ) (spans : List (ℤ × ℤ)) (d : DraftKind) (k : Kind) : Type 0 where

@@ -77,7 +77,7 @@ fn number_reservation(
     }
 }
 
-#[tactic(auto, unfolding(crate::specs::Numbering::numbered_reservations))]
+#[tactic(auto, using(crate::proofs::LoopLemmas::made_whole), unfolding(crate::specs::Numbering::numbered_reservations))]
 fn number_reservations(
     alloc: Global,
     names: &Names,
@@ -117,7 +117,7 @@ fn number_link(
     }
 }
 
-#[tactic(auto, unfolding(crate::specs::Numbering::numbered_links))]
+#[tactic(auto, using(crate::proofs::LoopLemmas::made_whole), unfolding(crate::specs::Numbering::numbered_links))]
 fn number_links(
     alloc: Global,
     names: &Names,
@@ -154,6 +154,7 @@ fn number_binding(
     Ok((param, value))
 }
 
+#[tactic(auto, using(crate::proofs::LoopLemmas::made_whole))]
 fn number_bindings(
     alloc: Global,
     params: &[AstParam],
@@ -201,6 +202,7 @@ fn number_slot(
     }
 }
 
+#[tactic(auto, using(crate::proofs::LoopLemmas::made_whole))]
 fn number_slots(
     alloc: Global,
     names: &Names,
@@ -257,6 +259,7 @@ fn number_order(alloc: Global, slots: &[AstSlot], order: &AstOrder) -> Result<Or
     })
 }
 
+#[tactic(auto, using(crate::proofs::LoopLemmas::made_whole))]
 fn number_orders(
     alloc: Global,
     slots: &[AstSlot],
@@ -296,7 +299,7 @@ fn number_alternative(
     Ok(DraftAlternative { slots, orders })
 }
 
-#[tactic(auto, unfolding(crate::specs::Numbering::numbered_alternatives))]
+#[tactic(auto, using(crate::proofs::LoopLemmas::made_whole), unfolding(crate::specs::Numbering::numbered_alternatives))]
 fn number_alternatives(
     alloc: Global,
     names: &Names,
@@ -406,7 +409,7 @@ fn number_item(
     }
 }
 
-#[tactic(auto, using(crate::proofs::KindLemmas::kinds_step))]
+#[tactic(auto, using(crate::proofs::KindLemmas::kinds_step, crate::proofs::LoopLemmas::made_whole))]
 /// The timelines and kinds of the text with their names numbered.
 pub fn number_items(
     alloc: Global,

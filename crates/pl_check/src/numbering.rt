@@ -62,6 +62,7 @@ fn number_step(
     Ok((from, to))
 }
 
+#[tactic(auto, using(crate::proofs::LoopLemmas::made_whole))]
 fn number_steps(
     alloc: Global,
     states: &[Name],
@@ -145,7 +146,7 @@ fn number_param(alloc: Global, params: &[AstParam], param: &AstParam) -> Result<
     })
 }
 
-#[tactic(auto, unfolding(crate::specs::Numbering::numbered_params))]
+#[tactic(auto, using(crate::proofs::LoopLemmas::made_whole), unfolding(crate::specs::Numbering::numbered_params))]
 pub fn number_params(alloc: Global, params: &[AstParam]) -> Result<Items<Param>, ModelFault>
     requires { length params.now ≤ 16 }
     ensures gives { Gives result (numbered_params params.now) }

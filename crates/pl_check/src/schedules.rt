@@ -3,7 +3,8 @@ ghost use Rattle.std.specs.Prelude.{◌≡◌, ℕ, ◌<◌, ◌≤◌, ◌+◌,
 ghost use Rattle.pl_stn.specs.Nets.{time_of};
 ghost use Rattle.pl_check.specs.Ranges.{NamesOwn};
 ghost use Rattle.pl_check.specs.Sound.{IsSoundAlternative, IsSoundKind};
-ghost use Rattle.pl_check.specs.Networks.{IsSpan, IsHorizon, IsNearOrder, IsNearAlternative, IsNearKind, cut_to, span_of, net_of, Pairwise, HasOffsets, FinishesAlternative, FinishesKind};
+ghost use Rattle.pl_lists.specs.Lists.{Pairwise};
+ghost use Rattle.pl_check.specs.Networks.{IsSpan, IsHorizon, IsNearOrder, IsNearAlternative, IsNearKind, cut_to, span_of, net_of, HasOffsets, FinishesAlternative, FinishesKind};
 ghost use Rattle.pl_check.specs.Schedules.{IfOffsets, IfCycle, IsConflict, IsUnscheduledIn, IsUnscheduledFault};
 
 use crate::drafts::{DraftAlternative, DraftKind};

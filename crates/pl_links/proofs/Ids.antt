@@ -6,6 +6,7 @@ use Rattle.std.specs.Ordering.{nat_cmp, ordering_index}
 use Rattle.std.proofs.lemmas.Cmp.{ranked}
 use Rattle.std.proofs.lemmas.Bool.{eq-eqb, ne_eqb, lt-ltb, le-ltb, ltb-true, ltb-false, eqb-false}
 use Rattle.std.proofs.lemmas.Bool.Decides.{nat_tests}
+use Rattle.pl_lists.proofs.Listing as listing
 use Rattle.pl_links.specs.declared.placed.Placed.{Placed}
 use Rattle.pl_links.specs.Items.{RiseFrom, AreRising, item_of, with_item, without}
 
@@ -23,17 +24,8 @@ found_at (x ∷ xs) c (suc i) id d rising lt is =
     let above = rises_above xs (suc x.id) i d rising.1 in_range in
     rw (ne_eqb x.id id (λ e. omega (arith, above, is, e))) (found_at xs (suc x.id) i id d rising.1 in_range is)
 
-rising_weaker : (b c : ℕ) (xs : List Placed) → b ≤ c → RiseFrom c xs → RiseFrom b xs
-rising_weaker b c [] le rising = tt
-rising_weaker b c (x ∷ xs) le rising = (omega (arith, le, rising.0), rising.1)
-
 pub rising-without : (id c : ℕ) (xs : List Placed) → RiseFrom c xs → RiseFrom c (without id xs)
-rising-without id c [] rising = tt
-rising-without id c (x ∷ xs) rising = cases (eqb x.id id) refl (rising-without id (suc x.id) xs rising.1)
-  where
-    cases : (b : Bool) → eqb x.id id ≡ b → RiseFrom (suc x.id) (without id xs) → RiseFrom c (without id (x ∷ xs))
-    cases true e more = rw e (rising_weaker c (suc x.id) xs (omega (arith, rising.0)) rising.1)
-    cases false e more = rw e (rising.0, more)
+rising-without id c xs rising = listing.rising-without (λ p. p.id) (λ p. eqb p.id id) c xs rising
 
 pub rising-with_item : (a : Placed) (c : ℕ) (xs : List Placed) → item_of a.id xs ≡ None → c ≤ a.id → RiseFrom c xs → RiseFrom c (with_item a xs)
 rising-with_item a c [] none le rising = (le, tt)

@@ -29,7 +29,8 @@ pub record AreFiles (items : List Placed) (files : Files) : Type 0 where
 -- an index stays that of the activities, where this one is not among them
 abbrev pub StaysIndex : (Placed → Option (ℕ × ℕ)) → Placed → List Key → List Key → Type 0
 StaysIndex place p old new =
-    (items : List Placed) → IsIndexOf place items old → item_of p.id items ≡ None → IsIndexOf place items new
+    (items : List Placed) → IsIndexOf place items old → item_of p.id items ≡ None
+    → IsIndexOf place items new
 
 -- it becomes that of the activities with this one
 abbrev pub GrowsIndex : (Placed → Option (ℕ × ℕ)) → Placed → List Key → List Key → Type 0

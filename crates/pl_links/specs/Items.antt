@@ -1,5 +1,6 @@
 -- Placed activities by rising id.
-use Rattle.std.specs.Prelude.{◌≡◌, ℕ, suc, ◌<◌, ◌≤◌, ◌==◌, ◌&&◌, nat_lt, if◌then◌else◌, Bool, false, List, [], ◌∷◌, length, find, filter, slice_get, Option, Some, None, IfSome, IsSome}
+use Rattle.std.specs.Prelude.{◌≡◌, ℕ, ◌<◌, ◌≤◌, ◌==◌, ◌&&◌, nat_lt, if◌then◌else◌, Bool, false, List, [], ◌∷◌, length, find, filter, slice_get, Option, Some, None, IfSome, IsSome}
+use Rattle.pl_lists.specs.Lists as lists
 use Rattle.pl_model.specs.declared.alternatives.Alternative.{Alternative}
 use Rattle.pl_model.specs.declared.kinds.Kind.{Kind}
 use Rattle.pl_model.specs.declared.whole.Model.{Model}
@@ -7,8 +8,7 @@ use Rattle.pl_links.specs.declared.placed.Placed.{Placed}
 
 -- ids rise, from this one on
 abbrev pub RiseFrom : ℕ → List Placed → Type 0
-RiseFrom from [] = Unit {0}
-RiseFrom from (p ∷ more) = (from ≤ p.id) × RiseFrom (suc p.id) more
+RiseFrom from items = lists.RiseFrom (λ (p : Placed). p.id) from items
 
 -- ids rise, so no id stands twice
 abbrev pub AreRising : List Placed → Type 0
@@ -30,8 +30,7 @@ with_item p (x ∷ more) = if nat_lt x.id p.id then x ∷ with_item p more else 
 
 -- without the one of this id
 abbrev pub without : ℕ → List Placed → List Placed
-without id [] = []
-without id (p ∷ more) = if p.id == id then more else p ∷ without id more
+without id items = lists.without (λ (p : Placed). p.id == id) items
 
 -- whether a place is this slot of this parent
 abbrev pub is_slot : ℕ → ℕ → Option (ℕ × ℕ) → Bool

@@ -24,7 +24,8 @@ pub record IsBroken (model : Model) (items : List Placed) (b : Broken) : Type 0 
 abbrev pub IsBefore : Broken → Broken → Type 0
 IsBefore x y =
     (x.id < y.id)
-    ⊎ ((x.id ≡ y.id) × ((x.index < y.index) ⊎ ((x.index ≡ y.index) × (x.slots ≡ false) × (y.slots ≡ true))))
+    ⊎ ((x.id ≡ y.id)
+    × ((x.index < y.index) ⊎ ((x.index ≡ y.index) × (x.slots ≡ false) × (y.slots ≡ true))))
 
 -- it is the parent in this place
 abbrev pub is_parent : ℕ → Option (ℕ × ℕ) → Bool

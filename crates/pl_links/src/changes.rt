@@ -49,9 +49,11 @@ pub(crate) fn changes_near(
     listed: &BTreeSet<Broken>,
 ) -> Result<Changes, AllocError>
     ensures came { IfOk result (λ c. c.came.items
-        ≡ filter (λ b. stands model.now (left gone store.now) b && not (has b listed.now.keys)) near.now) }
+        ≡ filter (λ b. stands model.now (left gone store.now) b && not (has b listed.now.keys))
+        near.now) }
     ensures went { IfOk result (λ c. c.went.items
-        ≡ filter (λ b. not (stands model.now (left gone store.now) b) && has b listed.now.keys) near.now) }
+        ≡ filter (λ b. not (stands model.now (left gone store.now) b) && has b listed.now.keys)
+        near.now) }
 {
     let mut changes = Changes {
         came: Vec::new(alloc),

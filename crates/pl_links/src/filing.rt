@@ -49,9 +49,12 @@ impl Files {
 
     fn insert_rest(&mut self, item: &Placed) -> Result<(), AllocError>
         ensures starts { self.new.starts ≡ self.old.starts }
-        ensures ends { OnOk result (GrowsIndex (point_place Point.End) item.now self.old.ends self.new.ends) }
-        ensures children { OnOk result (GrowsIndex parent_place item.now self.old.children self.new.children) }
-        ensures err { OnErr result (StaysIndex (point_place Point.End) item.now self.old.ends self.new.ends) }
+        ensures ends { OnOk result
+            (GrowsIndex (point_place Point.End) item.now self.old.ends self.new.ends) }
+        ensures children { OnOk result
+            (GrowsIndex parent_place item.now self.old.children self.new.children) }
+        ensures err { OnErr result
+            (StaysIndex (point_place Point.End) item.now self.old.ends self.new.ends) }
         ensures same { OnErr result (self.new.children ≡ self.old.children) }
     {
         self.ends.insert(point_place(Point::End, item), item.id)?;

@@ -174,7 +174,8 @@ impl Index {
 
     /// An activity of the group at this number.
     pub fn first(&self, group: u32, number: u32) -> Option<u32>
-        ensures none { IfNone result ((id : ℕ) → has_key (key_at group number id) self.now ≡ false) }
+        ensures none { IfNone result ((id : ℕ) →
+            has_key (key_at group number id) self.now ≡ false) }
         ensures some { IfSome result (λ id. has_key (key_at group number id) self.now ≡ true) }
     {
         match self.within(group, number, number).next() {

@@ -15,7 +15,8 @@ pub fn laws_of_links()
     ensures ordered { (model : Model) (items : List Placed) → AreRising items →
         AllPairs IsBefore (broken_of model items) }
     ensures child { (items : List Placed) → AreApart items → (parent slot : ℕ) (p : Placed) →
-        (child_of parent slot items ≡ Some p) ↔ (Contains items p × (p.parent ≡ Some (parent, slot))) }
+        (child_of parent slot items ≡ Some p)
+        ↔ (Contains items p × (p.parent ≡ Some (parent, slot))) }
     ensures placed { (model : Model) (items : List Placed) (p own : Placed) →
         item_of p.id items ≡ None → is_concerned model p own ≡ false →
         broken_by model (with_item p items) own ≡ broken_by model items own }

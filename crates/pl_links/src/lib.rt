@@ -1,5 +1,5 @@
-//! The temporal store: activities with their ends, and which temporal links and orders of slots they
-//! break.
+//! The temporal store: activities with their ends, and which temporal links and orders of slots
+//! they break.
 #![tactic(auto)]
 
 mod broken;

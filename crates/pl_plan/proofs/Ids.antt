@@ -6,6 +6,7 @@ use Rattle.std.specs.Ordering.{nat_cmp, ordering_index}
 use Rattle.std.proofs.lemmas.Cmp.{ranked}
 use Rattle.std.proofs.lemmas.Bool.{cases_lt, eq-eqb, ne_eqb, lt-ltb, le-ltb, ltb-true, ltb-false, eqb-true, eqb-false}
 use Rattle.std.proofs.lemmas.Bool.Decides.{nat_tests}
+use Rattle.pl_lists.proofs.Listing as listing
 use Rattle.pl_plan.specs.declared.activity.Activity.{Activity}
 use Rattle.pl_plan.specs.Activities.{RiseFrom, AreRising, activity_of, placed, without, exchanged}
 use Rattle.pl_plan.specs.Places.{IsPlaceOf, IsGapFor}
@@ -134,17 +135,8 @@ module _ (xs : List Activity) (rising : AreRising xs) (id : ℕ) where
         };
       }
 
-rising_weaker : (b c : ℕ) (xs : List Activity) → b ≤ c → RiseFrom c xs → RiseFrom b xs
-rising_weaker b c [] le rising = tt
-rising_weaker b c (x ∷ xs) le rising = (omega (arith, le, rising.0), rising.1)
-
 pub rising-without : (id c : ℕ) (xs : List Activity) → RiseFrom c xs → RiseFrom c (without id xs)
-rising-without id c [] rising = tt
-rising-without id c (x ∷ xs) rising = cases (eqb x.id id) refl (rising-without id (suc x.id) xs rising.1)
-  where
-    cases : (b : Bool) → eqb x.id id ≡ b → RiseFrom (suc x.id) (without id xs) → RiseFrom c (without id (x ∷ xs))
-    cases true e more = rw e (rising_weaker c (suc x.id) xs (omega (arith, rising.0)) rising.1)
-    cases false e more = rw e (rising.0, more)
+rising-without id c xs rising = listing.rising-without (λ a. a.id) (λ a. eqb a.id id) c xs rising
 
 pub rising-placed : (a : Activity) (c : ℕ) (xs : List Activity) → activity_of a.id xs ≡ None → c ≤ a.id → RiseFrom c xs → RiseFrom c (placed a xs)
 rising-placed a c [] none le rising = (le, tt)
@@ -167,12 +159,7 @@ length-placed a (x ∷ xs) = cases (ltb x.id a.id) refl (length-placed a xs)
     cases false e more = rw e (omega arith)
 
 pub length-without : (id : ℕ) (xs : List Activity) → length (without id xs) ≤ length xs
-length-without id [] = omega arith
-length-without id (x ∷ xs) = cases (eqb x.id id) refl (length-without id xs)
-  where
-    cases : (b : Bool) → eqb x.id id ≡ b → length (without id xs) ≤ length xs → length (without id (x ∷ xs)) ≤ length (x ∷ xs)
-    cases true e more = rw e (omega arith)
-    cases false e more = rw e (omega (arith, more))
+length-without id xs = listing.length-without (λ a. eqb a.id id) xs
 
 pub rising-exchanged : (a : Activity) (c : ℕ) (xs : List Activity) → RiseFrom c xs → RiseFrom c (exchanged a xs)
 rising-exchanged a c [] rising = tt

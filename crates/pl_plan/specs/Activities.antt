@@ -1,11 +1,11 @@
 -- Activities by rising id.
-use Rattle.std.specs.Prelude.{◌≡◌, ℕ, suc, ◌≤◌, ◌==◌, nat_lt, if◌then◌else◌, List, [], ◌∷◌, map, Option, Some, None, IsSome}
+use Rattle.std.specs.Prelude.{◌≡◌, ℕ, ◌==◌, nat_lt, if◌then◌else◌, List, [], ◌∷◌, map, Option, Some, None, IsSome}
+use Rattle.pl_lists.specs.Lists as lists
 use Rattle.pl_plan.specs.declared.activity.Activity.{Activity}
 
 -- ids rise, from this one on
 abbrev pub RiseFrom : ℕ → List Activity → Type 0
-RiseFrom from [] = Unit {0}
-RiseFrom from (a ∷ more) = (from ≤ a.id) × RiseFrom (suc a.id) more
+RiseFrom from activities = lists.RiseFrom (λ (a : Activity). a.id) from activities
 
 -- ids rise, so no id stands twice
 abbrev pub AreRising : List Activity → Type 0
@@ -27,8 +27,7 @@ placed a (x ∷ more) = if nat_lt x.id a.id then x ∷ placed a more else a ∷ 
 
 -- without the activity of this id
 abbrev pub without : ℕ → List Activity → List Activity
-without id [] = []
-without id (a ∷ more) = if a.id == id then more else a ∷ without id more
+without id activities = lists.without (λ (a : Activity). a.id == id) activities
 
 -- with another activity in the place of the one of its id
 abbrev pub exchanged : Activity → List Activity → List Activity

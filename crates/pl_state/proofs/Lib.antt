@@ -1,3 +1,5 @@
+pub mod Keys
+pub mod Seeking
 pub mod Orders
 pub mod Failing
 pub mod Renewed
@@ -7,3 +9,4 @@ pub mod Staying
 pub mod Steps
 pub mod Windows
 pub mod Changing
+pub mod Sorting

@@ -1,7 +1,9 @@
 pub use Rattle.pl_points.specs.Lists
 pub use Rattle.pl_points.specs.Spans
 pub use Rattle.pl_points.specs.Standing
+pub mod Keys
 pub mod Sets
 pub mod Musts
 pub mod Near
 pub mod Lines
+pub mod Sorted

@@ -5,6 +5,8 @@ use Rattle.pl_points.specs.Lists.{front, back}
 use Rattle.pl_points.specs.Spans.{spans_of}
 use Rattle.pl_state.specs.declared.reservation.Must.{Must}
 use Rattle.pl_state.specs.declared.answer.BrokenMust.{BrokenMust}
+use Rattle.pl_state.specs.declared.key.Key.{Key}
+use Rattle.pl_state.specs.Keys.{key_of}
 
 abbrev pub must_of : ℕ → ℕ → ℕ → ℕ → ℕ → Must
 must_of from to id index state = record { from = from; to = to; id = id; index = index; state = state }
@@ -15,6 +17,9 @@ same_must u v = (u.from == v.from) && ((u.to == v.to) && ((u.id == v.id) && ((u.
 -- by id, then index
 abbrev pub must_before : Must → Must → Bool
 must_before u x = nat_lt x.id u.id || ((x.id == u.id) && nat_lt x.index u.index)
+
+abbrev pub must_key : Must → Key
+must_key x = key_of 0 x.id x.index
 
 -- the musts with one more, in its place
 abbrev pub with_must : Must → List Must → List Must

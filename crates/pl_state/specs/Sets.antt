@@ -3,6 +3,8 @@ use Rattle.std.specs.Prelude.{ℕ, ◌≤◌, ◌&&◌, ◌||◌, ◌==◌, not,
 use Rattle.pl_points.specs.Lists.{front, back}
 use Rattle.pl_state.specs.declared.reservation.Setting.{Setting}
 use Rattle.pl_state.specs.declared.answer.BadSet.{BadSet}
+use Rattle.pl_state.specs.declared.key.Key.{Key}
+use Rattle.pl_state.specs.Keys.{key_of}
 
 abbrev pub setting_of : ℕ → ℕ → ℕ → ℕ → Setting
 setting_of at id index state = record { at = at; id = id; index = index; state = state }
@@ -17,6 +19,10 @@ set_before u x = nat_lt x.at u.at || ((x.at == u.at) && (nat_lt x.id u.id || ((x
 -- the sets with one more, in its place
 abbrev pub with_set : Setting → List Setting → List Setting
 with_set u xs = front (set_before u) xs ++ u ∷ back (set_before u) xs
+
+-- by moment, then id, then index
+abbrev pub set_key : Setting → Key
+set_key x = key_of x.at x.id x.index
 
 -- by rising moments
 abbrev pub AreInOrder : ℕ → List Setting → Type 0

@@ -7,7 +7,7 @@ ghost use Rattle.pl_state.specs.Near.{touches, all_of, counts_of, AreGroups, gon
 
 use crate::answer::BrokenMust;
 use crate::listed::{Difference, exchange, missing_from};
-use crate::musts::{group_of, place_of};
+use crate::musts::{Musts, group_of, insert_must};
 use crate::reservation::{Must, Setting};
 use pl_lists::Items;
 use pl_points::Span;
@@ -187,25 +187,24 @@ pub(crate) fn need_must(
     value: u32,
     present: Span,
     must: Must,
-    musts: &mut Vec<Must>,
+    musts: &mut Musts,
     counts: &mut Vec<usize>,
     broken: &mut Vec<BrokenMust>,
 ) -> Result<Difference<BrokenMust>, AllocError>
     requires ordered { AreInOrder 0 sets.now }
-    requires many { length counts.old.items ≡ length musts.old.items }
+    requires many { length counts.old.items ≡ length musts.old }
     requires fits { sum counts.old.items ≡ length broken.old.items }
-    requires broken { broken.old.items ≡ all_of (broken_one (λ t. state_from base t value sets.now) present.from present.to) musts.old.items }
-    requires counts { counts.old.items ≡ counts_of (broken_one (λ t. state_from base t value sets.now) present.from present.to) musts.old.items }
-    ensures musts { OnOk result (musts.new.items ≡ with_must must musts.old.items) }
-    ensures broken { OnOk result (broken.new.items ≡ all_of (broken_one (λ t. state_from base t value sets.now) present.from present.to) (with_must must musts.old.items)) }
-    ensures counts { OnOk result (counts.new.items ≡ counts_of (broken_one (λ t. state_from base t value sets.now) present.from present.to) (with_must must musts.old.items)) }
+    requires broken { broken.old.items ≡ all_of (broken_one (λ t. state_from base t value sets.now) present.from present.to) musts.old }
+    requires counts { counts.old.items ≡ counts_of (broken_one (λ t. state_from base t value sets.now) present.from present.to) musts.old }
+    ensures musts { OnOk result (musts.new ≡ with_must must musts.old) }
+    ensures broken { OnOk result (broken.new.items ≡ all_of (broken_one (λ t. state_from base t value sets.now) present.from present.to) (with_must must musts.old)) }
+    ensures counts { OnOk result (counts.new.items ≡ counts_of (broken_one (λ t. state_from base t value sets.now) present.from present.to) (with_must must musts.old)) }
     ensures went { IfOk result (λ d. d.went ≡ left_out same_broken broken.new.items broken.old.items) }
     ensures came { IfOk result (λ d. d.came ≡ left_out same_broken broken.old.items broken.new.items) }
 {
     let fresh = group_of(alloc, sets, base, value, present, must)?;
-    let place = place_of(musts, must);
+    let place = insert_must(musts, must)?;
     let begin = offset_of(counts, place);
-    musts.insert(place, must)?;
     let group = fresh.as_slice();
     counts.insert(place, group.len())?;
     let difference = exchange(alloc, broken, begin, begin, group)?;

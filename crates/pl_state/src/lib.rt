@@ -3,13 +3,18 @@
 
 mod answer;
 mod groups;
+mod key;
+mod laws;
 mod line;
 mod listed;
 mod musts;
 mod near;
 mod reservation;
 mod sets;
+mod sharing;
 
 pub use answer::{BadSet, BrokenMust, StateChange};
+pub use laws::{order_laws, same_standing, told_in_order};
 pub use line::StateLine;
 pub use reservation::{Must, Setting};
+pub use sharing::shared_types;

@@ -7,10 +7,10 @@ ghost use Rattle.pl_state.specs.Lines.{AreChanges, state_at, broken_now, bad_now
 use crate::answer::{BadSet, BrokenMust, StateChange};
 use crate::groups::{need_must, remove_group};
 use crate::listed::{Difference, answer};
-use crate::musts::remove_must;
+use crate::musts::{Musts, remove_must};
 use crate::near::mend;
 use crate::reservation::{Must, Setting};
-use crate::sets::{end_of_base, insert_set, remove_set, state_of};
+use crate::sets::{Sets, end_of_base, insert_set, remove_set, state_of};
 use pl_lists::{Copied, Items};
 use pl_points::Span;
 use std::alloc::{AllocError, Global};
@@ -27,8 +27,8 @@ pub struct StateLine {
     base: u32,
     value: u32,
     spoiled: bool,
-    sets: Vec<Setting>,
-    musts: Vec<Must>,
+    sets: Sets,
+    musts: Musts,
     // The broken spans of each must after those of the one before, and how many each must has.
     broken: Vec<BrokenMust>,
     counts: Vec<usize>,
@@ -41,9 +41,9 @@ impl Model for StateLine {
 
     ghost Value = { Standing };
 
-    ghost view = { λ c. make c.spoiled c.horizon c.any c.steps.items c.moment c.base c.value c.sets.items c.musts.items };
+    ghost view = { λ c. make c.spoiled c.horizon c.any c.steps.items c.moment c.base c.value c.sets c.musts };
 
-    ghost invariant = { λ c. c.spoiled ≡ false → IsSound (make c.spoiled c.horizon c.any c.steps.items c.moment c.base c.value c.sets.items c.musts.items) c.broken.items c.counts.items c.bad.items };
+    ghost invariant = { λ c. c.spoiled ≡ false → IsSound (make c.spoiled c.horizon c.any c.steps.items c.moment c.base c.value c.sets c.musts) c.broken.items c.counts.items c.bad.items };
 }
 
 // Steps that stay as they are.
@@ -79,8 +79,8 @@ impl StateLine {
             base: 0,
             value: start,
             spoiled: false,
-            sets: Vec::new(alloc),
-            musts: Vec::new(alloc),
+            sets: Sets::new(alloc),
+            musts: Musts::new(alloc),
             broken: Vec::new(alloc),
             counts: Vec::new(alloc),
             bad: Vec::new(alloc),
@@ -125,8 +125,8 @@ impl StateLine {
             self.value,
             present,
             near,
-            &self.sets,
-            &self.musts,
+            self.sets.as_slice(),
+            self.musts.as_slice(),
             &mut self.counts,
             &mut self.broken,
             &mut self.bad,
@@ -172,8 +172,8 @@ impl StateLine {
             self.value,
             present,
             near,
-            &self.sets,
-            &self.musts,
+            self.sets.as_slice(),
+            self.musts.as_slice(),
             &mut self.counts,
             &mut self.broken,
             &mut self.bad,
@@ -214,7 +214,7 @@ impl StateLine {
         };
         let difference = need_must(
             self.alloc,
-            &self.sets,
+            self.sets.as_slice(),
             self.base,
             self.value,
             present,
@@ -277,7 +277,7 @@ impl StateLine {
         };
         let near = Span {
             from: self.moment,
-            to: end_of_base(&self.sets, self.moment, self.horizon),
+            to: end_of_base(self.sets.as_slice(), self.moment, self.horizon),
         };
         let change = mend(
             self.alloc,
@@ -287,8 +287,8 @@ impl StateLine {
             state,
             present,
             near,
-            &self.sets,
-            &self.musts,
+            self.sets.as_slice(),
+            self.musts.as_slice(),
             &mut self.counts,
             &mut self.broken,
             &mut self.bad,
@@ -329,8 +329,8 @@ impl StateLine {
             self.value,
             present,
             near,
-            &self.sets,
-            &self.musts,
+            self.sets.as_slice(),
+            self.musts.as_slice(),
             &mut self.counts,
             &mut self.broken,
             &mut self.bad,
@@ -349,7 +349,7 @@ impl StateLine {
         if self.spoiled {
             return self.value;
         }
-        state_of(&self.sets, self.base, self.value, t)
+        state_of(self.sets.as_slice(), self.base, self.value, t)
     }
 
     /// Where musts are broken, by (id, index, from).
@@ -376,8 +376,8 @@ impl StateLine {
 impl Copied for StateLine {
     fn copy(&self, _alloc: Global) -> Result<StateLine, AllocError> {
         let steps = Vec::from_slice(self.alloc, self.steps.as_slice())?;
-        let sets = Vec::from_slice(self.alloc, self.sets.as_slice())?;
-        let musts = Vec::from_slice(self.alloc, self.musts.as_slice())?;
+        let sets = self.sets.copy(self.alloc)?;
+        let musts = self.musts.copy(self.alloc)?;
         let broken = Vec::from_slice(self.alloc, self.broken.as_slice())?;
         let counts = Vec::from_slice(self.alloc, self.counts.as_slice())?;
         let bad = Vec::from_slice(self.alloc, self.bad.as_slice())?;

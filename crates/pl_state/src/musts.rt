@@ -2,71 +2,107 @@ ghost use Rattle.std.specs.Prelude.{◌≡◌, ◌<◌, ◌≤◌, ◌-◌, ◌+
 ghost use Rattle.pl_points.specs.Lists.{front, back};
 ghost use Rattle.pl_points.specs.Spans.{span, joined, spans_of};
 ghost use Rattle.pl_points.specs.Standing.{without};
+ghost use Rattle.pl_state.specs.Keys.{AreSorted};
 ghost use Rattle.pl_state.specs.Sets.{AreInOrder, state_from};
-ghost use Rattle.pl_state.specs.Musts.{must_before, same_must, broken_spans, broken_one};
+ghost use Rattle.pl_state.specs.Musts.{must_key, same_must, with_must, broken_spans, broken_one};
 
 use crate::answer::BrokenMust;
+use crate::key::{Key, Keyed, count_before, position_of};
 use crate::reservation::{Must, Setting};
 use crate::sets::{end_of, state_of};
 use pl_points::Span;
 use std::alloc::{AllocError, Global};
+use std::marker::Model;
 
-fn is_before(must: Must, other: Must) -> bool
-    ensures { result ≡ must_before must other }
-{
-    other.id < must.id || (other.id == must.id && other.index < must.index)
+/// The musts that stand, by (id, index).
+#[derive(Drop)]
+pub(crate) struct Musts {
+    items: Vec<Must>,
 }
 
-fn is_same(one: Must, other: Must) -> bool
-    ensures { result ≡ same_must one other }
-{
-    one.from == other.from
-        && (one.to == other.to
-            && (one.id == other.id && (one.index == other.index && one.state == other.state)))
+impl Model for Musts {
+    ghost use Rattle.std.specs.Prelude.{List};
+    ghost use Rattle.pl_state.specs.declared.reservation.Must.{Must};
+    ghost use Rattle.pl_state.specs.Keys.{AreSorted};
+    ghost use Rattle.pl_state.specs.Musts.{must_key};
+
+    ghost Value = { List Must };
+
+    ghost view = { λ c. c.items.items };
+
+    ghost invariant = { λ c. AreSorted must_key c.items.items };
 }
 
-// How many musts come before the must.
-pub(crate) fn place_of(musts: &[Must], must: Must) -> usize
-    ensures bound { result ≤ length musts.now }
-    ensures front { take result musts.now ≡ front (must_before must) musts.now }
-{
-    let mut count = 0;
-    for other in musts {
-        if !is_before(must, *other) {
-            return count;
+impl Keyed for Must {
+    ghost key = { must_key };
+
+    ghost same = { same_must };
+
+    fn key(&self) -> Key {
+        Key {
+            at: 0,
+            id: self.id,
+            index: self.index,
         }
-        count += 1;
     }
-    count
+
+    fn is_same(&self, other: &Must) -> bool {
+        self.from == other.from
+            && (self.to == other.to
+                && (self.id == other.id
+                    && (self.index == other.index && self.state == other.state)))
+    }
 }
 
-// How many musts come before the first such must.
-fn first_place(musts: &[Must], must: Must) -> usize
-    ensures bound { result ≤ length musts.now }
-    ensures gone { take result musts.now ++ drop (suc result) musts.now ≡ without same_must must musts.now }
-{
-    let mut count = 0;
-    for other in musts {
-        if is_same(*other, must) {
-            return count;
+impl Musts {
+    pub(crate) fn new(alloc: Global) -> Musts
+        ensures { result ≡ [] }
+    {
+        Musts {
+            items: Vec::new(alloc),
         }
-        count += 1;
     }
-    count
+
+    pub(crate) fn as_slice(&self) -> &[Must]
+        ensures value { result.now ≡ self.now }
+        ensures sorted { AreSorted must_key self.now }
+    {
+        &self.items
+    }
+
+    pub(crate) fn copy(&self, alloc: Global) -> Result<Musts, AllocError>
+        ensures { IfOk result (λ c. c ≡ self.now) }
+    {
+        Ok(Musts {
+            items: Vec::from_slice(alloc, &self.items)?,
+        })
+    }
 }
 
-// Takes the first such must out, and says where it stood.
-pub(crate) fn remove_must(musts: &mut Vec<Must>, must: Must) -> usize
-    ensures bound { result ≤ length musts.old.items }
-    ensures gone { take result musts.old.items ++ drop (suc result) musts.old.items ≡ without same_must must musts.old.items }
-    ensures musts { musts.new.items ≡ without same_must must musts.old.items }
+// Puts the must in its place, and says where that is.
+pub(crate) fn insert_must(musts: &mut Musts, must: Must) -> Result<usize, AllocError>
+    ensures bound { IfOk result (λ i. i ≤ length musts.old) }
+    ensures place { IfOk result (λ i. take i musts.old ++ must ∷ drop i musts.old ≡ with_must must musts.old) }
+    ensures musts { OnOk result (musts.new ≡ with_must must musts.old) }
 {
-    let place = first_place(musts, must);
-    if place >= musts.len() {
-        return place;
+    let place = count_before(&musts.items, must.key());
+    musts.items.insert(place, must)?;
+    Ok(place)
+}
+
+// Takes the first such must out, and says where it stood, or how many stand.
+pub(crate) fn remove_must(musts: &mut Musts, must: Must) -> usize
+    ensures bound { result ≤ length musts.old }
+    ensures gone { take result musts.old ++ drop (suc result) musts.old ≡ without same_must must musts.old }
+    ensures musts { musts.new ≡ without same_must must musts.old }
+{
+    match position_of(&musts.items, &must) {
+        Some(place) => {
+            musts.items.remove(place);
+            place
+        }
+        None => musts.items.len(),
     }
-    musts.remove(place);
-    place
 }
 
 // Puts a span after the others, joined to the last where they touch.

@@ -1,42 +1,78 @@
 ghost use Rattle.std.specs.Prelude.{◌≡◌, ◌<◌, ◌≤◌, ◌++◌, ◌∷◌, [], ℕ, List, true, length, take, drop, suc, min, max, OnOk, OnErr, IfOk};
 ghost use Rattle.pl_points.specs.Lists.{front, back};
 ghost use Rattle.pl_points.specs.Standing.{stands, without};
-ghost use Rattle.pl_state.specs.Sets.{set_before, same_setting, with_set, state_from, is_listed, is_allowed, bad_from, is_passed, AreInOrder};
+ghost use Rattle.pl_state.specs.Sets.{set_key, set_before, same_setting, with_set, state_from, is_listed, is_allowed, bad_from, is_passed, AreInOrder};
+ghost use Rattle.pl_state.specs.Keys.{AreSorted};
 ghost use Rattle.pl_state.specs.Near.{next_moment, rest_after, comes_before, state_before};
 
 use crate::answer::BadSet;
+use crate::key::{Key, Keyed, count_before, position_of};
 use crate::reservation::Setting;
 use pl_points::Span;
 use std::alloc::{AllocError, Global};
+use std::marker::Model;
 
-fn is_before(set: Setting, other: Setting) -> bool
-    ensures { result ≡ set_before set other }
-{
-    other.at < set.at
-        || (other.at == set.at
-            && (other.id < set.id || (other.id == set.id && other.index < set.index)))
+/// The sets that stand, by (moment, id, index).
+#[derive(Drop)]
+pub(crate) struct Sets {
+    items: Vec<Setting>,
 }
 
-fn is_same(one: Setting, other: Setting) -> bool
-    ensures { result ≡ same_setting one other }
-{
-    one.at == other.at
-        && (one.id == other.id && (one.index == other.index && one.state == other.state))
+impl Model for Sets {
+    ghost use Rattle.std.specs.Prelude.{List};
+    ghost use Rattle.pl_state.specs.declared.reservation.Setting.{Setting};
+    ghost use Rattle.pl_state.specs.Keys.{AreSorted};
+    ghost use Rattle.pl_state.specs.Sets.{set_key};
+
+    ghost Value = { List Setting };
+
+    ghost view = { λ c. c.items.items };
+
+    ghost invariant = { λ c. AreSorted set_key c.items.items };
 }
 
-// How many sets come before the set.
-fn place_of(sets: &[Setting], set: Setting) -> usize
-    ensures bound { result ≤ length sets.now }
-    ensures front { take result sets.now ≡ front (set_before set) sets.now }
-{
-    let mut count = 0;
-    for other in sets {
-        if !is_before(set, *other) {
-            return count;
+impl Keyed for Setting {
+    ghost key = { set_key };
+
+    ghost same = { same_setting };
+
+    fn key(&self) -> Key {
+        Key {
+            at: self.at,
+            id: self.id,
+            index: self.index,
         }
-        count += 1;
     }
-    count
+
+    fn is_same(&self, other: &Setting) -> bool {
+        self.at == other.at
+            && (self.id == other.id && (self.index == other.index && self.state == other.state))
+    }
+}
+
+impl Sets {
+    pub(crate) fn new(alloc: Global) -> Sets
+        ensures { result ≡ [] }
+    {
+        Sets {
+            items: Vec::new(alloc),
+        }
+    }
+
+    pub(crate) fn as_slice(&self) -> &[Setting]
+        ensures value { result.now ≡ self.now }
+        ensures sorted { AreSorted set_key self.now }
+    {
+        &self.items
+    }
+
+    pub(crate) fn copy(&self, alloc: Global) -> Result<Sets, AllocError>
+        ensures { IfOk result (λ c. c ≡ self.now) }
+    {
+        Ok(Sets {
+            items: Vec::from_slice(alloc, &self.items)?,
+        })
+    }
 }
 
 fn is_listed(steps: &[(u32, u32)], from: u32, to: u32) -> bool
@@ -79,49 +115,31 @@ fn window_from(rest: &[Setting], at: u32, horizon: u32) -> Span
 }
 
 // Puts the set in its place, and says at which moments it counts.
-pub(crate) fn insert_set(
-    sets: &mut Vec<Setting>,
-    set: Setting,
-    horizon: u32,
-) -> Result<Span, AllocError>
-    ensures items { OnOk result (sets.new.items ≡ with_set set sets.old.items) }
+pub(crate) fn insert_set(sets: &mut Sets, set: Setting, horizon: u32) -> Result<Span, AllocError>
+    ensures items { OnOk result (sets.new ≡ with_set set sets.old) }
     ensures from { IfOk result (λ w. w.from ≡ min set.at horizon) }
-    ensures to { IfOk result (λ w. w.to ≡ max (next_moment horizon (back (set_before set) sets.old.items)) (min set.at horizon)) }
+    ensures to { IfOk result (λ w. w.to ≡ max (next_moment horizon (back (set_before set) sets.old)) (min set.at horizon)) }
 {
-    let place = place_of(sets, set);
-    let near = window_from(&sets[place..], set.at, horizon);
-    sets.insert(place, set)?;
+    let place = count_before(&sets.items, set.key());
+    let near = window_from(&sets.items[place..], set.at, horizon);
+    sets.items.insert(place, set)?;
     Ok(near)
 }
 
 // Takes the first such set out, and says at which moments it counted.
-pub(crate) fn remove_set(sets: &mut Vec<Setting>, set: Setting, horizon: u32) -> Span
-    ensures items { sets.new.items ≡ without same_setting set sets.old.items }
+pub(crate) fn remove_set(sets: &mut Sets, set: Setting, horizon: u32) -> Span
+    ensures items { sets.new ≡ without same_setting set sets.old }
     ensures from { result.from ≡ min set.at horizon }
-    ensures to { result.to ≡ max (next_moment horizon (rest_after same_setting set sets.old.items)) (min set.at horizon) }
+    ensures to { result.to ≡ max (next_moment horizon (rest_after same_setting set sets.old)) (min set.at horizon) }
 {
-    let place = first_place(sets, set);
-    if place >= sets.len() {
-        return window_from(&[], set.at, horizon);
-    }
-    let near = window_from(&sets[place + 1..], set.at, horizon);
-    sets.remove(place);
-    near
-}
-
-// How many sets come before the first such set.
-fn first_place(sets: &[Setting], set: Setting) -> usize
-    ensures gone { take result sets.now ++ drop (suc result) sets.now ≡ without same_setting set sets.now }
-    ensures rest { drop (suc result) sets.now ≡ rest_after same_setting set sets.now }
-{
-    let mut count = 0;
-    for other in sets {
-        if is_same(*other, set) {
-            return count;
+    match position_of(&sets.items, &set) {
+        Some(place) => {
+            let near = window_from(&sets.items[place + 1..], set.at, horizon);
+            sets.items.remove(place);
+            near
         }
-        count += 1;
+        None => window_from(&[], set.at, horizon),
     }
-    count
 }
 
 // The sets whose step is not allowed.

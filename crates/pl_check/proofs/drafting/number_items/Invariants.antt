@@ -1,5 +1,5 @@
 use Rattle.std.proofs.Common.{◌≡◌, drop, take, length, All, count_by}
-use Rattle.pl_check.specs.Judgements.{each_made_from}
+use Rattle.pl_check.proofs.LoopLemmas.{each_made_from}
 use Rattle.pl_check.specs.Drafting.{kinds_in}
 use Rattle.pl_check.specs.Finding.{is_kind}
 use Rattle.pl_check.specs.Sound.{IsSoundDraft}

@@ -1,5 +1,6 @@
 use Rattle.std.proofs.Common.{◌≡◌, drop, length, All}
-use Rattle.pl_check.specs.Judgements.{each_made, each_made_from}
+use Rattle.pl_check.specs.Judgements.{each_made}
+use Rattle.pl_check.proofs.LoopLemmas.{each_made_from}
 use Rattle.pl_check.specs.Sound.{IsOrderOf}
 use Rattle.pl_check.specs.Numbering.{numbered_order}
 use Rattle.pl_check.proofs.drafting.number_orders.Given as goal

@@ -1,5 +1,6 @@
 use Rattle.std.proofs.Common.{◌≡◌, drop, length, All, count_by}
-use Rattle.pl_check.specs.Judgements.{each_made, each_made_from}
+use Rattle.pl_check.specs.Judgements.{each_made}
+use Rattle.pl_check.proofs.LoopLemmas.{each_made_from}
 use Rattle.pl_check.specs.Finding.{is_kind}
 use Rattle.pl_check.specs.Sound.{IsSlotOf}
 use Rattle.pl_check.specs.Numbering.{numbered_slot}

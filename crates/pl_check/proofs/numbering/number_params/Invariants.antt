@@ -1,5 +1,6 @@
 use Rattle.std.proofs.Common.{◌≡◌, drop, length}
-use Rattle.pl_check.specs.Judgements.{each_made, each_made_from}
+use Rattle.pl_check.specs.Judgements.{each_made}
+use Rattle.pl_check.proofs.LoopLemmas.{each_made_from}
 use Rattle.pl_check.specs.Numbering.{numbered_param}
 use Rattle.pl_check.proofs.numbering.number_params.Given as goal
 

@@ -1,5 +1,6 @@
 use Rattle.std.proofs.Common.{take}
-use Rattle.pl_check.specs.Networks.{Pairwise, FinishesAlternative}
+use Rattle.pl_lists.specs.Lists.{Pairwise}
+use Rattle.pl_check.specs.Networks.{FinishesAlternative}
 use Rattle.pl_check.proofs.schedules.finish_alternatives.Given as goal
 
 abbrev pub invariant-loop-number : goal.invariant-loop-number

@@ -1,5 +1,6 @@
 use Rattle.std.proofs.Common.{take}
-use Rattle.pl_check.specs.Networks.{Pairwise, FinishesKind}
+use Rattle.pl_lists.specs.Lists.{Pairwise}
+use Rattle.pl_check.specs.Networks.{FinishesKind}
 use Rattle.pl_check.proofs.schedules.finish_kinds.Given as goal
 
 abbrev pub invariant-loop-kind : goal.invariant-loop-kind

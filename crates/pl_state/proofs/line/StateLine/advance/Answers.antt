@@ -15,8 +15,8 @@ mend-requires-clause-near c =
     let moment = c.self.inside.moment in
     let base = c.self.inside.base in
     let value = c.self.inside.value in
-    let sets = c.self.inside.sets.items in
-    let musts = c.self.inside.musts.items in
+    let sets = c.self.inside.sets in
+    let musts = c.self.inside.musts in
     let s : Standing = make c.self.inside.spoiled h any steps moment base value sets musts in
     let sound : IsSound s c.self.inside.broken.items c.self.inside.counts.items c.self.inside.bad.items = c.self.invariant c.if-self.false in
     let sets2 = sets in
@@ -24,8 +24,8 @@ mend-requires-clause-near c =
     let later : moment ≤ now = subst (λ (v : Standing). v.spoiled ≡ false → v.moment ≤ now) (sym c.self.view_is) c.requires.later c.if-self.false in
     let bound : now ≤ h = subst (λ (v : Standing). v.spoiled ≡ false → now ≤ v.horizon) (sym c.self.view_is) c.requires.bound c.if-self.false in
     let is_steps : c.deref.result.now ≡ steps = c.deref.ensures.value in
-    let is_sets : c.deref-2.result.now ≡ sets2 = c.deref-2.ensures.value in
-    let is_musts : c.deref-3.result.now ≡ musts = c.deref-3.ensures.value in
+    let is_sets : c.as_slice.result.now ≡ sets2 = c.as_slice.ensures.value in
+    let is_musts : c.as_slice-2.result.now ≡ musts = c.as_slice-2.ensures.value in
     let ordered : AreInOrder 0 sets2 = sound.ordered in
     later
 
@@ -37,8 +37,8 @@ mend-requires-clause-bound c =
     let moment = c.self.inside.moment in
     let base = c.self.inside.base in
     let value = c.self.inside.value in
-    let sets = c.self.inside.sets.items in
-    let musts = c.self.inside.musts.items in
+    let sets = c.self.inside.sets in
+    let musts = c.self.inside.musts in
     let s : Standing = make c.self.inside.spoiled h any steps moment base value sets musts in
     let sound : IsSound s c.self.inside.broken.items c.self.inside.counts.items c.self.inside.bad.items = c.self.invariant c.if-self.false in
     let sets2 = sets in
@@ -46,8 +46,8 @@ mend-requires-clause-bound c =
     let later : moment ≤ now = subst (λ (v : Standing). v.spoiled ≡ false → v.moment ≤ now) (sym c.self.view_is) c.requires.later c.if-self.false in
     let bound : now ≤ h = subst (λ (v : Standing). v.spoiled ≡ false → now ≤ v.horizon) (sym c.self.view_is) c.requires.bound c.if-self.false in
     let is_steps : c.deref.result.now ≡ steps = c.deref.ensures.value in
-    let is_sets : c.deref-2.result.now ≡ sets2 = c.deref-2.ensures.value in
-    let is_musts : c.deref-3.result.now ≡ musts = c.deref-3.ensures.value in
+    let is_sets : c.as_slice.result.now ≡ sets2 = c.as_slice.ensures.value in
+    let is_musts : c.as_slice-2.result.now ≡ musts = c.as_slice-2.ensures.value in
     let ordered : AreInOrder 0 sets2 = sound.ordered in
     sound.in_time
 
@@ -59,8 +59,8 @@ mend-requires-clause-ordered c =
     let moment = c.self.inside.moment in
     let base = c.self.inside.base in
     let value = c.self.inside.value in
-    let sets = c.self.inside.sets.items in
-    let musts = c.self.inside.musts.items in
+    let sets = c.self.inside.sets in
+    let musts = c.self.inside.musts in
     let s : Standing = make c.self.inside.spoiled h any steps moment base value sets musts in
     let sound : IsSound s c.self.inside.broken.items c.self.inside.counts.items c.self.inside.bad.items = c.self.invariant c.if-self.false in
     let sets2 = sets in
@@ -68,8 +68,8 @@ mend-requires-clause-ordered c =
     let later : moment ≤ now = subst (λ (v : Standing). v.spoiled ≡ false → v.moment ≤ now) (sym c.self.view_is) c.requires.later c.if-self.false in
     let bound : now ≤ h = subst (λ (v : Standing). v.spoiled ≡ false → now ≤ v.horizon) (sym c.self.view_is) c.requires.bound c.if-self.false in
     let is_steps : c.deref.result.now ≡ steps = c.deref.ensures.value in
-    let is_sets : c.deref-2.result.now ≡ sets2 = c.deref-2.ensures.value in
-    let is_musts : c.deref-3.result.now ≡ musts = c.deref-3.ensures.value in
+    let is_sets : c.as_slice.result.now ≡ sets2 = c.as_slice.ensures.value in
+    let is_musts : c.as_slice-2.result.now ≡ musts = c.as_slice-2.ensures.value in
     let ordered : AreInOrder 0 sets2 = sound.ordered in
     subst (λ l. AreInOrder 0 l) (sym is_sets) ordered
 
@@ -81,8 +81,8 @@ mend-requires-clause-groups c =
     let moment = c.self.inside.moment in
     let base = c.self.inside.base in
     let value = c.self.inside.value in
-    let sets = c.self.inside.sets.items in
-    let musts = c.self.inside.musts.items in
+    let sets = c.self.inside.sets in
+    let musts = c.self.inside.musts in
     let s : Standing = make c.self.inside.spoiled h any steps moment base value sets musts in
     let sound : IsSound s c.self.inside.broken.items c.self.inside.counts.items c.self.inside.bad.items = c.self.invariant c.if-self.false in
     let sets2 = sets in
@@ -90,10 +90,10 @@ mend-requires-clause-groups c =
     let later : moment ≤ now = subst (λ (v : Standing). v.spoiled ≡ false → v.moment ≤ now) (sym c.self.view_is) c.requires.later c.if-self.false in
     let bound : now ≤ h = subst (λ (v : Standing). v.spoiled ≡ false → now ≤ v.horizon) (sym c.self.view_is) c.requires.bound c.if-self.false in
     let is_steps : c.deref.result.now ≡ steps = c.deref.ensures.value in
-    let is_sets : c.deref-2.result.now ≡ sets2 = c.deref-2.ensures.value in
-    let is_musts : c.deref-3.result.now ≡ musts = c.deref-3.ensures.value in
+    let is_sets : c.as_slice.result.now ≡ sets2 = c.as_slice.ensures.value in
+    let is_musts : c.as_slice-2.result.now ≡ musts = c.as_slice-2.ensures.value in
     let ordered : AreInOrder 0 sets2 = sound.ordered in
-    advance_groups base value moment now h sets c.deref-2.result.now musts c.deref-3.result.now c.self.inside.counts.items c.self.inside.broken.items later is_sets is_musts sound.counted sound.musts
+    advance_groups base value moment now h sets c.as_slice.result.now musts c.as_slice-2.result.now c.self.inside.counts.items c.self.inside.broken.items later is_sets is_musts sound.counted sound.musts
 
 pub mend-requires-clause-rising : goal.mend-requires-clause-rising
 mend-requires-clause-rising c =
@@ -103,8 +103,8 @@ mend-requires-clause-rising c =
     let moment = c.self.inside.moment in
     let base = c.self.inside.base in
     let value = c.self.inside.value in
-    let sets = c.self.inside.sets.items in
-    let musts = c.self.inside.musts.items in
+    let sets = c.self.inside.sets in
+    let musts = c.self.inside.musts in
     let s : Standing = make c.self.inside.spoiled h any steps moment base value sets musts in
     let sound : IsSound s c.self.inside.broken.items c.self.inside.counts.items c.self.inside.bad.items = c.self.invariant c.if-self.false in
     let sets2 = sets in
@@ -112,8 +112,8 @@ mend-requires-clause-rising c =
     let later : moment ≤ now = subst (λ (v : Standing). v.spoiled ≡ false → v.moment ≤ now) (sym c.self.view_is) c.requires.later c.if-self.false in
     let bound : now ≤ h = subst (λ (v : Standing). v.spoiled ≡ false → now ≤ v.horizon) (sym c.self.view_is) c.requires.bound c.if-self.false in
     let is_steps : c.deref.result.now ≡ steps = c.deref.ensures.value in
-    let is_sets : c.deref-2.result.now ≡ sets2 = c.deref-2.ensures.value in
-    let is_musts : c.deref-3.result.now ≡ musts = c.deref-3.ensures.value in
+    let is_sets : c.as_slice.result.now ≡ sets2 = c.as_slice.ensures.value in
+    let is_musts : c.as_slice-2.result.now ≡ musts = c.as_slice-2.ensures.value in
     let ordered : AreInOrder 0 sets2 = sound.ordered in
     subst (λ l. AreBadInOrder 0 l) (sym sound.sets) (bad_rising (is_allowed any steps) base h moment value 0 sets sound.ordered)
 
@@ -125,8 +125,8 @@ mend-requires-clause-before c =
     let moment = c.self.inside.moment in
     let base = c.self.inside.base in
     let value = c.self.inside.value in
-    let sets = c.self.inside.sets.items in
-    let musts = c.self.inside.musts.items in
+    let sets = c.self.inside.sets in
+    let musts = c.self.inside.musts in
     let s : Standing = make c.self.inside.spoiled h any steps moment base value sets musts in
     let sound : IsSound s c.self.inside.broken.items c.self.inside.counts.items c.self.inside.bad.items = c.self.invariant c.if-self.false in
     let sets2 = sets in
@@ -134,10 +134,10 @@ mend-requires-clause-before c =
     let later : moment ≤ now = subst (λ (v : Standing). v.spoiled ≡ false → v.moment ≤ now) (sym c.self.view_is) c.requires.later c.if-self.false in
     let bound : now ≤ h = subst (λ (v : Standing). v.spoiled ≡ false → now ≤ v.horizon) (sym c.self.view_is) c.requires.bound c.if-self.false in
     let is_steps : c.deref.result.now ≡ steps = c.deref.ensures.value in
-    let is_sets : c.deref-2.result.now ≡ sets2 = c.deref-2.ensures.value in
-    let is_musts : c.deref-3.result.now ≡ musts = c.deref-3.ensures.value in
+    let is_sets : c.as_slice.result.now ≡ sets2 = c.as_slice.ensures.value in
+    let is_musts : c.as_slice-2.result.now ≡ musts = c.as_slice-2.ensures.value in
     let ordered : AreInOrder 0 sets2 = sound.ordered in
-    advance_before (is_allowed any steps) (is_allowed any c.deref.result.now) base h moment now value sets c.deref-2.result.now c.self.inside.bad.items later sound.sets
+    advance_before (is_allowed any steps) (is_allowed any c.deref.result.now) base h moment now value sets c.as_slice.result.now c.self.inside.bad.items later sound.sets
 
 pub mend-requires-clause-behind : goal.mend-requires-clause-behind
 mend-requires-clause-behind c =
@@ -147,8 +147,8 @@ mend-requires-clause-behind c =
     let moment = c.self.inside.moment in
     let base = c.self.inside.base in
     let value = c.self.inside.value in
-    let sets = c.self.inside.sets.items in
-    let musts = c.self.inside.musts.items in
+    let sets = c.self.inside.sets in
+    let musts = c.self.inside.musts in
     let s : Standing = make c.self.inside.spoiled h any steps moment base value sets musts in
     let sound : IsSound s c.self.inside.broken.items c.self.inside.counts.items c.self.inside.bad.items = c.self.invariant c.if-self.false in
     let sets2 = sets in
@@ -156,10 +156,10 @@ mend-requires-clause-behind c =
     let later : moment ≤ now = subst (λ (v : Standing). v.spoiled ≡ false → v.moment ≤ now) (sym c.self.view_is) c.requires.later c.if-self.false in
     let bound : now ≤ h = subst (λ (v : Standing). v.spoiled ≡ false → now ≤ v.horizon) (sym c.self.view_is) c.requires.bound c.if-self.false in
     let is_steps : c.deref.result.now ≡ steps = c.deref.ensures.value in
-    let is_sets : c.deref-2.result.now ≡ sets2 = c.deref-2.ensures.value in
-    let is_musts : c.deref-3.result.now ≡ musts = c.deref-3.ensures.value in
+    let is_sets : c.as_slice.result.now ≡ sets2 = c.as_slice.ensures.value in
+    let is_musts : c.as_slice-2.result.now ≡ musts = c.as_slice-2.ensures.value in
     let ordered : AreInOrder 0 sets2 = sound.ordered in
-    advance_behind (is_allowed any steps) (is_allowed any c.deref.result.now) base h moment now value sets c.deref-2.result.now c.self.inside.bad.items sound.ordered later is_sets (ap (λ l. is_allowed any l) is_steps) sound.sets
+    advance_behind (is_allowed any steps) (is_allowed any c.deref.result.now) base h moment now value sets c.as_slice.result.now c.self.inside.bad.items sound.ordered later is_sets (ap (λ l. is_allowed any l) is_steps) sound.sets
 
 pub invariant_of-self-2 : goal.invariant_of-self-2
 invariant_of-self-2 c =
@@ -169,8 +169,8 @@ invariant_of-self-2 c =
     let moment = c.self.inside.moment in
     let base = c.self.inside.base in
     let value = c.self.inside.value in
-    let sets = c.self.inside.sets.items in
-    let musts = c.self.inside.musts.items in
+    let sets = c.self.inside.sets in
+    let musts = c.self.inside.musts in
     let s : Standing = make c.self.inside.spoiled h any steps moment base value sets musts in
     let sound : IsSound s c.self.inside.broken.items c.self.inside.counts.items c.self.inside.bad.items = c.self.invariant c.if-self.false in
     let sets2 = sets in
@@ -178,12 +178,12 @@ invariant_of-self-2 c =
     let later : moment ≤ now = subst (λ (v : Standing). v.spoiled ≡ false → v.moment ≤ now) (sym c.self.view_is) c.requires.later c.if-self.false in
     let bound : now ≤ h = subst (λ (v : Standing). v.spoiled ≡ false → now ≤ v.horizon) (sym c.self.view_is) c.requires.bound c.if-self.false in
     let is_steps : c.deref.result.now ≡ steps = c.deref.ensures.value in
-    let is_sets : c.deref-2.result.now ≡ sets2 = c.deref-2.ensures.value in
-    let is_musts : c.deref-3.result.now ≡ musts = c.deref-3.ensures.value in
+    let is_sets : c.as_slice.result.now ≡ sets2 = c.as_slice.ensures.value in
+    let is_musts : c.as_slice-2.result.now ≡ musts = c.as_slice-2.ensures.value in
     let ordered : AreInOrder 0 sets2 = sound.ordered in
     let s2 : Standing = make false h any steps now base value sets2 musts in
     let sound2 : IsSound s2 c.mend.new.broken.items c.mend.new.counts.items c.mend.new.bad.items =
-    sound_renewed h any steps c.deref.result.now now base value sets2 c.deref-2.result.now musts c.deref-3.result.now c.mend.new.broken.items c.mend.new.counts.items c.mend.new.bad.items bound (omega (arith, sound.based, later)) ordered is_steps is_sets is_musts c.in_ok-change.ensures.broken c.in_ok-change.ensures.counts c.in_ok-change.ensures.bad in
+    sound_renewed h any steps c.deref.result.now now base value sets2 c.as_slice.result.now musts c.as_slice-2.result.now c.mend.new.broken.items c.mend.new.counts.items c.mend.new.bad.items bound (omega (arith, sound.based, later)) ordered is_steps is_sets is_musts c.in_ok-change.ensures.broken c.in_ok-change.ensures.counts c.in_ok-change.ensures.bad in
     λ e. sound2
 
 pub returns-clause-change : goal.returns-clause-change
@@ -194,8 +194,8 @@ returns-clause-change c =
     let moment = c.self.inside.moment in
     let base = c.self.inside.base in
     let value = c.self.inside.value in
-    let sets = c.self.inside.sets.items in
-    let musts = c.self.inside.musts.items in
+    let sets = c.self.inside.sets in
+    let musts = c.self.inside.musts in
     let s : Standing = make c.self.inside.spoiled h any steps moment base value sets musts in
     let sound : IsSound s c.self.inside.broken.items c.self.inside.counts.items c.self.inside.bad.items = c.self.invariant c.if-self.false in
     let sets2 = sets in
@@ -203,11 +203,11 @@ returns-clause-change c =
     let later : moment ≤ now = subst (λ (v : Standing). v.spoiled ≡ false → v.moment ≤ now) (sym c.self.view_is) c.requires.later c.if-self.false in
     let bound : now ≤ h = subst (λ (v : Standing). v.spoiled ≡ false → now ≤ v.horizon) (sym c.self.view_is) c.requires.bound c.if-self.false in
     let is_steps : c.deref.result.now ≡ steps = c.deref.ensures.value in
-    let is_sets : c.deref-2.result.now ≡ sets2 = c.deref-2.ensures.value in
-    let is_musts : c.deref-3.result.now ≡ musts = c.deref-3.ensures.value in
+    let is_sets : c.as_slice.result.now ≡ sets2 = c.as_slice.ensures.value in
+    let is_musts : c.as_slice-2.result.now ≡ musts = c.as_slice-2.ensures.value in
     let ordered : AreInOrder 0 sets2 = sound.ordered in
     let s2 : Standing = make false h any steps now base value sets2 musts in
     let sound2 : IsSound s2 c.mend.new.broken.items c.mend.new.counts.items c.mend.new.bad.items =
-    sound_renewed h any steps c.deref.result.now now base value sets2 c.deref-2.result.now musts c.deref-3.result.now c.mend.new.broken.items c.mend.new.counts.items c.mend.new.bad.items bound (omega (arith, sound.based, later)) ordered is_steps is_sets is_musts c.in_ok-change.ensures.broken c.in_ok-change.ensures.counts c.in_ok-change.ensures.bad in
+    sound_renewed h any steps c.deref.result.now now base value sets2 c.as_slice.result.now musts c.as_slice-2.result.now c.mend.new.broken.items c.mend.new.counts.items c.mend.new.bad.items bound (omega (arith, sound.based, later)) ordered is_steps is_sets is_musts c.in_ok-change.ensures.broken c.in_ok-change.ensures.counts c.in_ok-change.ensures.bad in
     subst (λ (v : Standing). AreChanges (broken_now v) (broken_now s2) (bad_now v) (bad_now s2) c.in_ok-change.change) c.self.view_is
     (renewed_changes s s2 c.self.inside.broken.items c.mend.new.broken.items c.self.inside.counts.items c.mend.new.counts.items c.self.inside.bad.items c.mend.new.bad.items c.in_ok-change.change sound sound2 c.in_ok-change.ensures.change)

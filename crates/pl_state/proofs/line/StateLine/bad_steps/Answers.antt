@@ -4,6 +4,6 @@ use Rattle.pl_state.proofs.line.StateLine.bad_steps.Goals as goal
 
 pub returns : goal.returns
 returns c =
-    let told : c.self.inside.spoiled ≡ false → c.deref.result.now ≡ bad_now (make c.self.inside.spoiled c.self.inside.horizon c.self.inside.any c.self.inside.steps.items c.self.inside.moment c.self.inside.base c.self.inside.value c.self.inside.sets.items c.self.inside.musts.items) =
+    let told : c.self.inside.spoiled ≡ false → c.deref.result.now ≡ bad_now (make c.self.inside.spoiled c.self.inside.horizon c.self.inside.any c.self.inside.steps.items c.self.inside.moment c.self.inside.base c.self.inside.value c.self.inside.sets c.self.inside.musts) =
     λ e. c.deref.ensures.value ∙ (c.self.invariant e).sets in
     subst (λ (v : Standing). v.spoiled ≡ false → c.deref.result.now ≡ bad_now v) c.self.view_is told

@@ -17,16 +17,16 @@ mend-requires-clause-near c =
     let moment = c.self.inside.moment in
     let base = c.self.inside.base in
     let value = c.self.inside.value in
-    let sets = c.self.inside.sets.items in
-    let musts = c.self.inside.musts.items in
+    let sets = c.self.inside.sets in
+    let musts = c.self.inside.musts in
     let s : Standing = make c.self.inside.spoiled h any steps moment base value sets musts in
     let sound : IsSound s c.self.inside.broken.items c.self.inside.counts.items c.self.inside.bad.items = c.self.invariant c.if-self.false in
     let sets2 = sets in
     let end = c.end_of_base.result in
-    let to : end ≡ next_moment h (back (is_passed moment) sets) = c.end_of_base.ensures.end ∙ ap (λ l. next_moment h (back (is_passed moment) l)) c.deref.ensures.value in
-    let is_steps : c.deref-2.result.now ≡ steps = c.deref-2.ensures.value in
-    let is_sets : c.deref-3.result.now ≡ sets2 = c.deref-3.ensures.value in
-    let is_musts : c.deref-4.result.now ≡ musts = c.deref-4.ensures.value in
+    let to : end ≡ next_moment h (back (is_passed moment) sets) = c.end_of_base.ensures.end ∙ ap (λ l. next_moment h (back (is_passed moment) l)) c.as_slice.ensures.value in
+    let is_steps : c.deref.result.now ≡ steps = c.deref.ensures.value in
+    let is_sets : c.as_slice-2.result.now ≡ sets2 = c.as_slice-2.ensures.value in
+    let is_musts : c.as_slice-3.result.now ≡ musts = c.as_slice-3.ensures.value in
     let ordered : AreInOrder 0 sets2 = sound.ordered in
     c.end_of_base.ensures.later
 
@@ -38,16 +38,16 @@ mend-requires-clause-bound c =
     let moment = c.self.inside.moment in
     let base = c.self.inside.base in
     let value = c.self.inside.value in
-    let sets = c.self.inside.sets.items in
-    let musts = c.self.inside.musts.items in
+    let sets = c.self.inside.sets in
+    let musts = c.self.inside.musts in
     let s : Standing = make c.self.inside.spoiled h any steps moment base value sets musts in
     let sound : IsSound s c.self.inside.broken.items c.self.inside.counts.items c.self.inside.bad.items = c.self.invariant c.if-self.false in
     let sets2 = sets in
     let end = c.end_of_base.result in
-    let to : end ≡ next_moment h (back (is_passed moment) sets) = c.end_of_base.ensures.end ∙ ap (λ l. next_moment h (back (is_passed moment) l)) c.deref.ensures.value in
-    let is_steps : c.deref-2.result.now ≡ steps = c.deref-2.ensures.value in
-    let is_sets : c.deref-3.result.now ≡ sets2 = c.deref-3.ensures.value in
-    let is_musts : c.deref-4.result.now ≡ musts = c.deref-4.ensures.value in
+    let to : end ≡ next_moment h (back (is_passed moment) sets) = c.end_of_base.ensures.end ∙ ap (λ l. next_moment h (back (is_passed moment) l)) c.as_slice.ensures.value in
+    let is_steps : c.deref.result.now ≡ steps = c.deref.ensures.value in
+    let is_sets : c.as_slice-2.result.now ≡ sets2 = c.as_slice-2.ensures.value in
+    let is_musts : c.as_slice-3.result.now ≡ musts = c.as_slice-3.ensures.value in
     let ordered : AreInOrder 0 sets2 = sound.ordered in
     sound.in_time
 
@@ -59,16 +59,16 @@ mend-requires-clause-ordered c =
     let moment = c.self.inside.moment in
     let base = c.self.inside.base in
     let value = c.self.inside.value in
-    let sets = c.self.inside.sets.items in
-    let musts = c.self.inside.musts.items in
+    let sets = c.self.inside.sets in
+    let musts = c.self.inside.musts in
     let s : Standing = make c.self.inside.spoiled h any steps moment base value sets musts in
     let sound : IsSound s c.self.inside.broken.items c.self.inside.counts.items c.self.inside.bad.items = c.self.invariant c.if-self.false in
     let sets2 = sets in
     let end = c.end_of_base.result in
-    let to : end ≡ next_moment h (back (is_passed moment) sets) = c.end_of_base.ensures.end ∙ ap (λ l. next_moment h (back (is_passed moment) l)) c.deref.ensures.value in
-    let is_steps : c.deref-2.result.now ≡ steps = c.deref-2.ensures.value in
-    let is_sets : c.deref-3.result.now ≡ sets2 = c.deref-3.ensures.value in
-    let is_musts : c.deref-4.result.now ≡ musts = c.deref-4.ensures.value in
+    let to : end ≡ next_moment h (back (is_passed moment) sets) = c.end_of_base.ensures.end ∙ ap (λ l. next_moment h (back (is_passed moment) l)) c.as_slice.ensures.value in
+    let is_steps : c.deref.result.now ≡ steps = c.deref.ensures.value in
+    let is_sets : c.as_slice-2.result.now ≡ sets2 = c.as_slice-2.ensures.value in
+    let is_musts : c.as_slice-3.result.now ≡ musts = c.as_slice-3.ensures.value in
     let ordered : AreInOrder 0 sets2 = sound.ordered in
     subst (λ l. AreInOrder 0 l) (sym is_sets) ordered
 
@@ -80,18 +80,18 @@ mend-requires-clause-groups c =
     let moment = c.self.inside.moment in
     let base = c.self.inside.base in
     let value = c.self.inside.value in
-    let sets = c.self.inside.sets.items in
-    let musts = c.self.inside.musts.items in
+    let sets = c.self.inside.sets in
+    let musts = c.self.inside.musts in
     let s : Standing = make c.self.inside.spoiled h any steps moment base value sets musts in
     let sound : IsSound s c.self.inside.broken.items c.self.inside.counts.items c.self.inside.bad.items = c.self.invariant c.if-self.false in
     let sets2 = sets in
     let end = c.end_of_base.result in
-    let to : end ≡ next_moment h (back (is_passed moment) sets) = c.end_of_base.ensures.end ∙ ap (λ l. next_moment h (back (is_passed moment) l)) c.deref.ensures.value in
-    let is_steps : c.deref-2.result.now ≡ steps = c.deref-2.ensures.value in
-    let is_sets : c.deref-3.result.now ≡ sets2 = c.deref-3.ensures.value in
-    let is_musts : c.deref-4.result.now ≡ musts = c.deref-4.ensures.value in
+    let to : end ≡ next_moment h (back (is_passed moment) sets) = c.end_of_base.ensures.end ∙ ap (λ l. next_moment h (back (is_passed moment) l)) c.as_slice.ensures.value in
+    let is_steps : c.deref.result.now ≡ steps = c.deref.ensures.value in
+    let is_sets : c.as_slice-2.result.now ≡ sets2 = c.as_slice-2.ensures.value in
+    let is_musts : c.as_slice-3.result.now ≡ musts = c.as_slice-3.ensures.value in
     let ordered : AreInOrder 0 sets2 = sound.ordered in
-    rebase_groups base value c.args.state moment h sets c.deref-3.result.now musts c.deref-4.result.now c.self.inside.counts.items c.self.inside.broken.items (span moment end) sound.ordered sound.based refl to is_sets is_musts sound.counted sound.musts
+    rebase_groups base value c.args.state moment h sets c.as_slice-2.result.now musts c.as_slice-3.result.now c.self.inside.counts.items c.self.inside.broken.items (span moment end) sound.ordered sound.based refl to is_sets is_musts sound.counted sound.musts
 
 pub mend-requires-clause-rising : goal.mend-requires-clause-rising
 mend-requires-clause-rising c =
@@ -101,16 +101,16 @@ mend-requires-clause-rising c =
     let moment = c.self.inside.moment in
     let base = c.self.inside.base in
     let value = c.self.inside.value in
-    let sets = c.self.inside.sets.items in
-    let musts = c.self.inside.musts.items in
+    let sets = c.self.inside.sets in
+    let musts = c.self.inside.musts in
     let s : Standing = make c.self.inside.spoiled h any steps moment base value sets musts in
     let sound : IsSound s c.self.inside.broken.items c.self.inside.counts.items c.self.inside.bad.items = c.self.invariant c.if-self.false in
     let sets2 = sets in
     let end = c.end_of_base.result in
-    let to : end ≡ next_moment h (back (is_passed moment) sets) = c.end_of_base.ensures.end ∙ ap (λ l. next_moment h (back (is_passed moment) l)) c.deref.ensures.value in
-    let is_steps : c.deref-2.result.now ≡ steps = c.deref-2.ensures.value in
-    let is_sets : c.deref-3.result.now ≡ sets2 = c.deref-3.ensures.value in
-    let is_musts : c.deref-4.result.now ≡ musts = c.deref-4.ensures.value in
+    let to : end ≡ next_moment h (back (is_passed moment) sets) = c.end_of_base.ensures.end ∙ ap (λ l. next_moment h (back (is_passed moment) l)) c.as_slice.ensures.value in
+    let is_steps : c.deref.result.now ≡ steps = c.deref.ensures.value in
+    let is_sets : c.as_slice-2.result.now ≡ sets2 = c.as_slice-2.ensures.value in
+    let is_musts : c.as_slice-3.result.now ≡ musts = c.as_slice-3.ensures.value in
     let ordered : AreInOrder 0 sets2 = sound.ordered in
     subst (λ l. AreBadInOrder 0 l) (sym sound.sets) (bad_rising (is_allowed any steps) base h moment value 0 sets sound.ordered)
 
@@ -122,18 +122,18 @@ mend-requires-clause-before c =
     let moment = c.self.inside.moment in
     let base = c.self.inside.base in
     let value = c.self.inside.value in
-    let sets = c.self.inside.sets.items in
-    let musts = c.self.inside.musts.items in
+    let sets = c.self.inside.sets in
+    let musts = c.self.inside.musts in
     let s : Standing = make c.self.inside.spoiled h any steps moment base value sets musts in
     let sound : IsSound s c.self.inside.broken.items c.self.inside.counts.items c.self.inside.bad.items = c.self.invariant c.if-self.false in
     let sets2 = sets in
     let end = c.end_of_base.result in
-    let to : end ≡ next_moment h (back (is_passed moment) sets) = c.end_of_base.ensures.end ∙ ap (λ l. next_moment h (back (is_passed moment) l)) c.deref.ensures.value in
-    let is_steps : c.deref-2.result.now ≡ steps = c.deref-2.ensures.value in
-    let is_sets : c.deref-3.result.now ≡ sets2 = c.deref-3.ensures.value in
-    let is_musts : c.deref-4.result.now ≡ musts = c.deref-4.ensures.value in
+    let to : end ≡ next_moment h (back (is_passed moment) sets) = c.end_of_base.ensures.end ∙ ap (λ l. next_moment h (back (is_passed moment) l)) c.as_slice.ensures.value in
+    let is_steps : c.deref.result.now ≡ steps = c.deref.ensures.value in
+    let is_sets : c.as_slice-2.result.now ≡ sets2 = c.as_slice-2.ensures.value in
+    let is_musts : c.as_slice-3.result.now ≡ musts = c.as_slice-3.ensures.value in
     let ordered : AreInOrder 0 sets2 = sound.ordered in
-    rebase_before (is_allowed any steps) (is_allowed any c.deref-2.result.now) base h moment value c.args.state sets c.deref-3.result.now c.self.inside.bad.items sound.sets
+    rebase_before (is_allowed any steps) (is_allowed any c.deref.result.now) base h moment value c.args.state sets c.as_slice-2.result.now c.self.inside.bad.items sound.sets
 
 pub mend-requires-clause-behind : goal.mend-requires-clause-behind
 mend-requires-clause-behind c =
@@ -143,18 +143,18 @@ mend-requires-clause-behind c =
     let moment = c.self.inside.moment in
     let base = c.self.inside.base in
     let value = c.self.inside.value in
-    let sets = c.self.inside.sets.items in
-    let musts = c.self.inside.musts.items in
+    let sets = c.self.inside.sets in
+    let musts = c.self.inside.musts in
     let s : Standing = make c.self.inside.spoiled h any steps moment base value sets musts in
     let sound : IsSound s c.self.inside.broken.items c.self.inside.counts.items c.self.inside.bad.items = c.self.invariant c.if-self.false in
     let sets2 = sets in
     let end = c.end_of_base.result in
-    let to : end ≡ next_moment h (back (is_passed moment) sets) = c.end_of_base.ensures.end ∙ ap (λ l. next_moment h (back (is_passed moment) l)) c.deref.ensures.value in
-    let is_steps : c.deref-2.result.now ≡ steps = c.deref-2.ensures.value in
-    let is_sets : c.deref-3.result.now ≡ sets2 = c.deref-3.ensures.value in
-    let is_musts : c.deref-4.result.now ≡ musts = c.deref-4.ensures.value in
+    let to : end ≡ next_moment h (back (is_passed moment) sets) = c.end_of_base.ensures.end ∙ ap (λ l. next_moment h (back (is_passed moment) l)) c.as_slice.ensures.value in
+    let is_steps : c.deref.result.now ≡ steps = c.deref.ensures.value in
+    let is_sets : c.as_slice-2.result.now ≡ sets2 = c.as_slice-2.ensures.value in
+    let is_musts : c.as_slice-3.result.now ≡ musts = c.as_slice-3.ensures.value in
     let ordered : AreInOrder 0 sets2 = sound.ordered in
-    rebase_behind (is_allowed any steps) (is_allowed any c.deref-2.result.now) base h moment value c.args.state end sets c.deref-3.result.now c.self.inside.bad.items sound.ordered sound.based c.end_of_base.ensures.later to is_sets (ap (λ l. is_allowed any l) is_steps) sound.sets
+    rebase_behind (is_allowed any steps) (is_allowed any c.deref.result.now) base h moment value c.args.state end sets c.as_slice-2.result.now c.self.inside.bad.items sound.ordered sound.based c.end_of_base.ensures.later to is_sets (ap (λ l. is_allowed any l) is_steps) sound.sets
 
 pub invariant_of-self-2 : goal.invariant_of-self-2
 invariant_of-self-2 c =
@@ -164,20 +164,20 @@ invariant_of-self-2 c =
     let moment = c.self.inside.moment in
     let base = c.self.inside.base in
     let value = c.self.inside.value in
-    let sets = c.self.inside.sets.items in
-    let musts = c.self.inside.musts.items in
+    let sets = c.self.inside.sets in
+    let musts = c.self.inside.musts in
     let s : Standing = make c.self.inside.spoiled h any steps moment base value sets musts in
     let sound : IsSound s c.self.inside.broken.items c.self.inside.counts.items c.self.inside.bad.items = c.self.invariant c.if-self.false in
     let sets2 = sets in
     let end = c.end_of_base.result in
-    let to : end ≡ next_moment h (back (is_passed moment) sets) = c.end_of_base.ensures.end ∙ ap (λ l. next_moment h (back (is_passed moment) l)) c.deref.ensures.value in
-    let is_steps : c.deref-2.result.now ≡ steps = c.deref-2.ensures.value in
-    let is_sets : c.deref-3.result.now ≡ sets2 = c.deref-3.ensures.value in
-    let is_musts : c.deref-4.result.now ≡ musts = c.deref-4.ensures.value in
+    let to : end ≡ next_moment h (back (is_passed moment) sets) = c.end_of_base.ensures.end ∙ ap (λ l. next_moment h (back (is_passed moment) l)) c.as_slice.ensures.value in
+    let is_steps : c.deref.result.now ≡ steps = c.deref.ensures.value in
+    let is_sets : c.as_slice-2.result.now ≡ sets2 = c.as_slice-2.ensures.value in
+    let is_musts : c.as_slice-3.result.now ≡ musts = c.as_slice-3.ensures.value in
     let ordered : AreInOrder 0 sets2 = sound.ordered in
     let s2 : Standing = make false h any steps moment moment c.args.state sets2 musts in
     let sound2 : IsSound s2 c.mend.new.broken.items c.mend.new.counts.items c.mend.new.bad.items =
-    sound_renewed h any steps c.deref-2.result.now moment moment c.args.state sets2 c.deref-3.result.now musts c.deref-4.result.now c.mend.new.broken.items c.mend.new.counts.items c.mend.new.bad.items sound.in_time (omega arith) ordered is_steps is_sets is_musts c.in_ok-change.ensures.broken c.in_ok-change.ensures.counts c.in_ok-change.ensures.bad in
+    sound_renewed h any steps c.deref.result.now moment moment c.args.state sets2 c.as_slice-2.result.now musts c.as_slice-3.result.now c.mend.new.broken.items c.mend.new.counts.items c.mend.new.bad.items sound.in_time (omega arith) ordered is_steps is_sets is_musts c.in_ok-change.ensures.broken c.in_ok-change.ensures.counts c.in_ok-change.ensures.bad in
     λ e. sound2
 
 pub returns-clause-change : goal.returns-clause-change
@@ -188,19 +188,19 @@ returns-clause-change c =
     let moment = c.self.inside.moment in
     let base = c.self.inside.base in
     let value = c.self.inside.value in
-    let sets = c.self.inside.sets.items in
-    let musts = c.self.inside.musts.items in
+    let sets = c.self.inside.sets in
+    let musts = c.self.inside.musts in
     let s : Standing = make c.self.inside.spoiled h any steps moment base value sets musts in
     let sound : IsSound s c.self.inside.broken.items c.self.inside.counts.items c.self.inside.bad.items = c.self.invariant c.if-self.false in
     let sets2 = sets in
     let end = c.end_of_base.result in
-    let to : end ≡ next_moment h (back (is_passed moment) sets) = c.end_of_base.ensures.end ∙ ap (λ l. next_moment h (back (is_passed moment) l)) c.deref.ensures.value in
-    let is_steps : c.deref-2.result.now ≡ steps = c.deref-2.ensures.value in
-    let is_sets : c.deref-3.result.now ≡ sets2 = c.deref-3.ensures.value in
-    let is_musts : c.deref-4.result.now ≡ musts = c.deref-4.ensures.value in
+    let to : end ≡ next_moment h (back (is_passed moment) sets) = c.end_of_base.ensures.end ∙ ap (λ l. next_moment h (back (is_passed moment) l)) c.as_slice.ensures.value in
+    let is_steps : c.deref.result.now ≡ steps = c.deref.ensures.value in
+    let is_sets : c.as_slice-2.result.now ≡ sets2 = c.as_slice-2.ensures.value in
+    let is_musts : c.as_slice-3.result.now ≡ musts = c.as_slice-3.ensures.value in
     let ordered : AreInOrder 0 sets2 = sound.ordered in
     let s2 : Standing = make false h any steps moment moment c.args.state sets2 musts in
     let sound2 : IsSound s2 c.mend.new.broken.items c.mend.new.counts.items c.mend.new.bad.items =
-    sound_renewed h any steps c.deref-2.result.now moment moment c.args.state sets2 c.deref-3.result.now musts c.deref-4.result.now c.mend.new.broken.items c.mend.new.counts.items c.mend.new.bad.items sound.in_time (omega arith) ordered is_steps is_sets is_musts c.in_ok-change.ensures.broken c.in_ok-change.ensures.counts c.in_ok-change.ensures.bad in
+    sound_renewed h any steps c.deref.result.now moment moment c.args.state sets2 c.as_slice-2.result.now musts c.as_slice-3.result.now c.mend.new.broken.items c.mend.new.counts.items c.mend.new.bad.items sound.in_time (omega arith) ordered is_steps is_sets is_musts c.in_ok-change.ensures.broken c.in_ok-change.ensures.counts c.in_ok-change.ensures.bad in
     subst (λ (v : Standing). AreChanges (broken_now v) (broken_now s2) (bad_now v) (bad_now s2) c.in_ok-change.change) c.self.view_is
     (renewed_changes s s2 c.self.inside.broken.items c.mend.new.broken.items c.self.inside.counts.items c.mend.new.counts.items c.self.inside.bad.items c.mend.new.bad.items c.in_ok-change.change sound sound2 c.in_ok-change.ensures.change)

@@ -1,0 +1,7 @@
+-- none stands before the place
+use Rattle.std.proofs.Common.{◌≤◌, length}
+use Rattle.pl_state.proofs.Seeking.{IsSought}
+use Rattle.pl_state.proofs.key.position_of.Given as goal
+
+abbrev pub invariant-loop-place : goal.invariant-loop-place
+invariant-loop-place g l = IsSought g.T.Keyed.same l.item l.list l.place
