@@ -2,6 +2,6 @@
 use Rattle.std.specs.Prelude.{List}
 use Rattle.pl_plan.specs.declared.activity.Activity.{Activity}
 
-pub record PlanState : Type 0 where
+pub record PlanValue : Type 0 where
   -- the live activities, by rising id
   pub activities : List Activity

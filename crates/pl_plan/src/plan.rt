@@ -20,9 +20,9 @@ pub struct Plan {
 
 impl Model for Plan {
     ghost use Rattle.std.specs.Prelude.{◌<◌, ◌^◌, length};
-    ghost use Rattle.pl_plan.specs.State.{PlanState};
+    ghost use Rattle.pl_plan.specs.State.{PlanValue};
 
-    ghost Value = { PlanState };
+    ghost Value = { PlanValue };
 
     ghost use Rattle.pl_plan.specs.Indexed.{AreIndexed};
 

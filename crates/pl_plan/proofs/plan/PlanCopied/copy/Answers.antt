@@ -1,12 +1,12 @@
 use Rattle.std.proofs.Common.{◌≡◌, List, ap, ◌∙◌, add-one}
 use Rattle.std.proofs.lemmas.List.{take_all}
 use Rattle.pl_plan.specs.declared.activity.Activity.{Activity}
-use Rattle.pl_plan.specs.State.{PlanState}
+use Rattle.pl_plan.specs.State.{PlanValue}
 use Rattle.pl_plan.specs.Activities.{AreRising}
 use Rattle.pl_plan.proofs.Ids.{next_absent, next_placed}
 use Rattle.pl_plan.proofs.plan.PlanCopied.copy.Goals as goal
 
-abbrev plan_of : List Activity → PlanState
+abbrev plan_of : List Activity → PlanValue
 plan_of l = record { activities = l }
 
 pub put-requires : goal.put-requires
