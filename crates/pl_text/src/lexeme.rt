@@ -1,4 +1,4 @@
-ghost use Rattle.std.specs.Prelude.{◌≡◌, true, ◌<◌, ◌≤◌, ◌^◌, ◌+◌, [], length, IfOk};
+ghost use Rattle.std.specs.Prelude.{◌≡◌, true, ◌<◌, ◌≤◌, ◌^◌, ◌+◌, length, IfOk};
 ghost use Rattle.std.specs.List.{prefix_len, AllPass};
 ghost use Rattle.pl_text.specs.Bytes.{is_name_byte, is_number_byte, in_line};
 ghost use Rattle.pl_lists.specs.Judgements.{Gives};

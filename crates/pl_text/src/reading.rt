@@ -1,7 +1,7 @@
 ghost use Rattle.std.specs.Prelude.{◌≡◌, ◌<◌, ◌≤◌, ◌^◌, ◌+◌, ◌++◌, ◌∷◌, drop, length, OnOk, IfErr};
 ghost use Rattle.pl_text.specs.declared.fault.TextFault.TheVariants.{Memory};
-ghost use Rattle.pl_lists.specs.Judgements.{behind, Shows};
-ghost use Rattle.pl_text.specs.Tokens.{kept, tokens_at, tokens_of, is_memory, items_of, Steps};
+ghost use Rattle.pl_lists.specs.Judgements.{Shows};
+ghost use Rattle.pl_text.specs.Tokens.{kept, tokens_of, is_memory, items_of, Steps};
 
 use crate::fault::TextFault;
 use crate::lexeme::{Lexeme, next_lexeme};
