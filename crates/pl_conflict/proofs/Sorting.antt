@@ -1,5 +1,5 @@
 -- What sorting and exchanging leave.
-use Rattle.std.proofs.Common.{◌≡◌, ℕ, ◌+◌, ◌<◌, length, get_or, Bool, true, false, List, [], ◌∷◌, ◌++◌, take, refl, sym, ap, ◌∙◌, subst}
+use Rattle.std.proofs.Common.{◌≡◌, ℕ, ◌+◌, ◌<◌, length, get_or, Bool, true, false, List, [], ◌∷◌, ◌++◌, take, drop, take-append-drop, refl, sym, ap, ◌∙◌, subst}
 use Rattle.std.specs.Prelude.{◌||◌, ◌&&◌, not}
 use Rattle.std.specs.declared.cmp.Ordering.{Ordering}
 use Rattle.std.specs.declared.cmp.Ordering.TheVariants.{Less, Equal, Greater}
@@ -11,7 +11,7 @@ use Rattle.std.specs.Set.{remove_key}
 use Rattle.std.specs.BTreeMap.{is_at}
 use Rattle.std.proofs.lemmas.List.{append_assoc, append-nil, take_more}
 use Rattle.std.proofs.lemmas.List.Folds.{list_any-append}
-use Rattle.pl_lists.proofs.Tests.{or_swap, or_again, or_false, or_true, and_true, and_false, without_both}
+use Rattle.pl_lists.proofs.Tests.{or_swap, or_again, or_false, or_true, and_true, and_false, without_both, both_true}
 use Rattle.pl_conflict.specs.declared.conflict.Conflict.{Conflict}
 use Rattle.pl_conflict.specs.Order.{conflict_cmp, has}
 use Rattle.pl_conflict.specs.Sorting.{AreInOrder, sorted, left_by, exchanged}
@@ -197,10 +197,6 @@ sorted_first ks ordered = sym (sorted_itself ks ordered) ∙ ap sorted (sym (app
 
 -- ---- exchanges
 
-pub exchanged_is : (ks went came left new : List Conflict) → left ≡ left_by went ks → new ≡ sorted (left ++ came) → new ≡ exchanged ks went came
-unfolding exchanged
-exchanged_is ks went came left new e is = is ∙ ap (λ l. sorted (l ++ came)) e
-
 pub has-exchanged : (ks went came : List Conflict) (q : Conflict) → has q (exchanged ks went came) ≡ ((has q ks && not (has q went)) || has q came)
 unfolding exchanged
 has-exchanged ks went came q =
@@ -209,6 +205,53 @@ has-exchanged ks went came q =
 pub ordered-exchanged : (ks went came : List Conflict) → AreInOrder (exchanged ks went came)
 unfolding exchanged
 ordered-exchanged ks went came = ordered-sorted (left_by went ks ++ came)
+
+-- What is new is put in, and then taken out what went and did not come.
+pub exchanged_in_steps : (ks went came : List Conflict) → left_by (left_by (sorted came) went) (sorted (ks ++ left_by ks came)) ≡ exchanged ks went came
+exchanged_in_steps ks went came =
+    let fresh : List Conflict = left_by ks came in
+    let leaving : List Conflict = left_by (sorted came) went in
+    conflict_unique conflict_exact (left_by leaving (sorted (ks ++ fresh))) (exchanged ks went came) (ordered-left leaving (sorted (ks ++ fresh)) (ordered-sorted (ks ++ fresh))) (ordered-exchanged ks went came)
+    (λ q. has-left leaving (sorted (ks ++ fresh)) q ∙ ap (λ b. b && not (has q leaving)) (has-sorted (ks ++ fresh) q ∙ has-append ks fresh q ∙ ap (λ b. has q ks || b) (has-left ks came q))
+    ∙ ap (λ b. (has q ks || (has q came && not (has q ks))) && not b) (has-left (sorted came) went q ∙ ap (λ b. has q went && not b) (has-sorted came q))
+    ∙ merged (has q ks) (has q went) (has q came) ∙ sym (has-exchanged ks went came q))
+  where
+    merged : (o w c : Bool) → ((o || (c && not o)) && not (w && not c)) ≡ ((o && not w) || c)
+    merged true true true = refl
+    merged true true false = refl
+    merged true false true = refl
+    merged true false false = refl
+    merged false true true = refl
+    merged false true false = refl
+    merged false false true = refl
+    merged false false false = refl
+
+-- the same of what each step leaves
+pub exchange_done : (ks went came arriving leaving fresh mid new : List Conflict) → arriving ≡ sorted came → leaving ≡ left_by arriving went → fresh ≡ left_by ks came → mid ≡ sorted (ks ++ fresh) → new ≡ left_by leaving mid → new ≡ exchanged ks went came
+exchange_done ks went came arriving leaving fresh mid new arrive leave come grown shrunk =
+    shrunk ∙ ap (λ x. left_by x mid) (leave ∙ ap (λ x. left_by x went) arrive) ∙ ap (λ x. left_by (left_by (sorted came) went) x) (grown ∙ ap (λ x. sorted (ks ++ x)) come) ∙ exchanged_in_steps ks went came
+
+-- none of what is new stands in the list
+pub new_is_absent : (ks came : List Conflict) (q : Conflict) → has q (left_by ks came) ≡ true → has q ks ≡ false
+new_is_absent ks came q is = by (has q ks) (both_true (has q came) (not (has q ks)) (sym (has-left ks came q) ∙ is)).1
+  where
+    by : (b : Bool) → not b ≡ true → b ≡ false
+    by true e = absurd (cc)
+    by false e = refl
+
+-- what was put in and not there before is taken out again
+pub put_back : (ks came : List Conflict) (i : ℕ) → AreInOrder ks → ((q : Conflict) → has q came ≡ true → has q ks ≡ false) → left_by (take i came) (sorted (ks ++ take i came)) ≡ ks
+put_back ks came i ordered absent =
+    let front : List Conflict = take i came in
+    conflict_unique conflict_exact (left_by front (sorted (ks ++ front))) ks (ordered-left front (sorted (ks ++ front)) (ordered-sorted (ks ++ front))) ordered
+    (λ q. has-left front (sorted (ks ++ front)) q ∙ ap (λ b. b && not (has q front)) (has-sorted (ks ++ front) q ∙ has-append ks front q) ∙ cases q (has q front) refl)
+  where
+    within : (q : Conflict) → has q (take i came) ≡ true → has q came ≡ true
+    within q is = ap (has q) (sym (take-append-drop i came)) ∙ has-append (take i came) (drop i came) q ∙ rw is refl
+
+    cases : (q : Conflict) (b : Bool) → has q (take i came) ≡ b → ((has q ks || has q (take i came)) && not (has q (take i came))) ≡ has q ks
+    cases q true is = rw (is, absent q (within q is)) refl
+    cases q false is = rw is (and_true (has q ks || false) ∙ or_false (has q ks))
 
 -- an exchange of what went for what came leaves the sorted conflicts
 pub exchanged_sorted : (old new went came : List Conflict) → ((q : Conflict) → has q new ≡ ((has q old && not (has q went)) || has q came)) → exchanged (sorted old) went came ≡ sorted new

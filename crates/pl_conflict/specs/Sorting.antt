@@ -1,5 +1,5 @@
 -- Conflicts in their order, and what an exchange makes of them.
-use Rattle.std.specs.Prelude.{◌≡◌, ℕ, ◌<◌, List, [], ◌∷◌, ◌++◌, length, take, filter, not}
+use Rattle.std.specs.Prelude.{List, [], ◌∷◌, ◌++◌, filter, not}
 use Rattle.std.specs.BTreeSet.{insert_key}
 use Rattle.std.specs.List.Sorted.{IsStrictlySortedBy}
 use Rattle.pl_conflict.specs.declared.conflict.Conflict.{Conflict}
@@ -21,13 +21,3 @@ left_by went ks = filter (λ k. not (has k went)) ks
 -- those that did not go and those that came, in their order
 unfoldable pub exchanged : List Conflict → List Conflict → List Conflict → List Conflict
 exchanged ks went came = sorted (left_by went ks ++ came)
-
--- besides those kept, a front of what came, and not all of it, is in
-pub record IsHalfPut (kept came new : List Conflict) : Type 0 where
-  pub count : ℕ
-  pub short : count < length came
-  pub is : new ≡ sorted (kept ++ take count came)
-
--- all that went is out, and of what came only a front is in
-abbrev pub IsHalfExchanged : (old went came new : List Conflict) → Type 0
-IsHalfExchanged old went came new = IsHalfPut (left_by went old) came new

@@ -6,7 +6,7 @@ ghost use Rattle.std.specs.BTreeMap.{is_at};
 ghost use Rattle.std.specs.Map.Iter.{ShowsInOrder, deref};
 ghost use Rattle.pl_conflict.specs.declared.conflict.Conflict.{Conflict};
 ghost use Rattle.pl_conflict.specs.Order.{conflict_cmp, has};
-ghost use Rattle.pl_conflict.specs.Sorting.{sorted, left_by, exchanged, IsHalfPut, IsHalfExchanged};
+ghost use Rattle.pl_conflict.specs.Sorting.{sorted, left_by, exchanged};
 
 use crate::conflict::Conflict;
 use std::alloc::{AllocError, Global};
@@ -16,6 +16,7 @@ use std::collections::btree_set::Iter;
 /// A set of conflicts, which contracts see as its sorted list.
 #[derive(Drop)]
 pub struct ConflictSet {
+    alloc: Global,
     all: BTreeSet<Conflict>,
 }
 
@@ -38,6 +39,7 @@ impl ConflictSet {
         ensures { result ≡ [] }
     {
         ConflictSet {
+            alloc,
             all: BTreeSet::new(alloc),
         }
     }
@@ -93,19 +95,22 @@ impl ConflictSet {
         self.all.is_empty()
     }
 
-    /// Takes out what went, and then puts in what came. On an `Err` all that went is out, and of
-    /// what came a front is in.
+    /// Takes out what went, and puts in what came; what did both is in. On an `Err` the set is as it was.
     pub fn exchange(&mut self, went: &[Conflict], came: &[Conflict]) -> Result<(), AllocError>
         ensures ok { OnOk result (self.new ≡ exchanged self.old went.now came.now) }
-        ensures err { OnErr result (IsHalfExchanged self.old went.now came.now self.new) }
+        ensures err { OnErr result (self.new ≡ self.old) }
         ensures members { OnOk result (
             (q : Conflict) →
             has q self.new ≡ ((has q self.old && not (has q went.now)) || has q came.now)
             ) }
         ensures sorted { IsStrictlySortedBy conflict_cmp self.new }
     {
-        self.remove_all(went);
-        self.insert_all(came)
+        let arriving = ConflictSet::of(self.alloc, came)?;
+        let leaving = arriving.missing(went)?;
+        let fresh = self.missing(came)?;
+        self.insert_all(fresh.as_slice())?;
+        self.remove_all(leaving.as_slice());
+        Ok(())
     }
 
     /// Goes over the conflicts in their order.
@@ -124,21 +129,49 @@ impl ConflictSet {
         self.all.iter().copied().collect(alloc)
     }
 
+    // The set of these.
+    fn of(alloc: Global, all: &[Conflict]) -> Result<ConflictSet, AllocError>
+        ensures { IfOk result (λ set. set ≡ sorted all.now) }
+    {
+        let mut set = ConflictSet::new(alloc);
+        set.insert_all(all)?;
+        Ok(set)
+    }
+
+    // Those of them that the set does not hold.
+    fn missing(&self, all: &[Conflict]) -> Result<Vec<Conflict>, AllocError>
+        ensures { IfOk result (λ missing. missing.items ≡ left_by self.now all.now) }
+    {
+        all.iter()
+            .filter(|conflict| !self.all.contains(*conflict))
+            .copied()
+            .collect(self.alloc)
+    }
+
     fn remove_all(&mut self, went: &[Conflict])
-        ensures { self.new ≡ left_by went.now self.old }
+        ensures after { self.new ≡ left_by went.now self.old }
+        ensures sorted { IsStrictlySortedBy conflict_cmp self.new }
     {
         for conflict in went {
             self.all.remove(conflict);
         }
     }
 
+    // Puts these in, none of which is there.
     fn insert_all(&mut self, came: &[Conflict]) -> Result<(), AllocError>
+        requires ordered { IsStrictlySortedBy conflict_cmp self.old }
+        requires absent { (q : Conflict) → has q came.now ≡ true → has q self.old ≡ false }
         ensures ok { OnOk result (self.new ≡ sorted (self.old ++ came.now)) }
-        ensures err { OnErr result (IsHalfPut self.old came.now self.new) }
-        ensures sorted { IsStrictlySortedBy conflict_cmp self.new }
+        ensures err { OnErr result (self.new ≡ self.old) }
     {
-        for conflict in came {
-            self.all.insert(*conflict)?;
+        for (at, conflict) in came.iter().enumerate() {
+            match self.insert(*conflict) {
+                Ok(_) => {}
+                Err(fault) => {
+                    self.remove_all(&came[..at]);
+                    return Err(fault);
+                }
+            }
         }
         Ok(())
     }

@@ -3,6 +3,7 @@ use Rattle.std.specs.Prelude.{◌≡◌, ℕ, ◌+◌, ◌<◌, ◌≤◌, false
 use Rattle.pl_io.specs.declared.errors.LineFault.{LineFault}
 use Rattle.pl_io.specs.declared.errors.LineFault.TheVariants.{Read, Long, Total, Memory}
 use Rattle.pl_io.specs.Lines.{has_newline, after_line, lines_of, next_of, given, ended, line_too_long, input_too_long}
+use Rattle.pl_io.specs.Sparing.{shows_next}
 
 -- The bytes that were read and not given, the most bytes of a line, how many more bytes the total limit lets in,
 -- the lines given so far, and the fault that stopped the reader.
@@ -30,11 +31,12 @@ pub record GaveLine (old new : Reader) (line : NumberedLine) : Type 0 where
   pub less : new.room < old.room
   pub room : new.room + length line.bytes ≤ old.room
 
--- A limit was passed by the bytes that were read and not given, also where the source tells nothing.
+-- Also where the source tells nothing: a limit was passed by the bytes that were read and not given, or a read failed and
+-- these bytes show nothing.
 abbrev pub FaultShown : (old new : Reader) → LineFault → Type 0
 FaultShown old new (Long n) = (next_of old.limit old.room new.held ≡ line_too_long) × (n ≡ old.number + 1)
 FaultShown old new Total = next_of old.limit old.room new.held ≡ input_too_long
-FaultShown old new Read = ⊤
+FaultShown old new Read = shows_next old.limit old.room new.held ≡ false
 FaultShown old new Memory = ⊤
 
 -- The reader stopped with this fault, now or before.
@@ -59,7 +61,7 @@ pub record IsNextLine (old new : Reader) (bytes : List ℕ) (after : Option (Lis
   pub rest : after ≡ Some (after_line bytes)
   pub room : new.room + length bytes ≡ old.room + length (after_line bytes)
 
--- what the answer says of the bytes that were ahead, `after` being those that are ahead now
+-- What the answer says of the bytes that were ahead, `after` being those that are ahead now. A failed read loses none.
 abbrev pub Answers : (old new : Reader) (bytes : List ℕ) (after : Option (List ℕ))
     → Result (Option NumberedLine) LineFault → Type 0
 Answers old new bytes after (Ok (Some line)) = IsNextLine old new bytes after line
@@ -67,7 +69,7 @@ Answers old new bytes after (Ok None) = (next_of old.limit old.room bytes ≡ en
 Answers old new bytes after (Err (Long n)) =
     (next_of old.limit old.room bytes ≡ line_too_long) × (n ≡ old.number + 1)
 Answers old new bytes after (Err Total) = next_of old.limit old.room bytes ≡ input_too_long
-Answers old new bytes after (Err Read) = ⊤
+Answers old new bytes after (Err Read) = after ≡ Some bytes
 Answers old new bytes after (Err Memory) = ⊤
 
 -- the reader has failed before, and the answer is the same fault

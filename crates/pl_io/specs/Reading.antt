@@ -47,6 +47,13 @@ FailsOutside before now (Long n) = ⊥
 FailsOutside before now Total = ⊥
 FailsOutside before now Memory = ⊤
 
+-- the bytes that were ahead are so still where a read failed
+abbrev pub KeepsAhead : (bytes : List ℕ) (after : Option (List ℕ)) → LineFault → Type 0
+KeepsAhead bytes after Read = after ≡ Some bytes
+KeepsAhead bytes after (Long n) = ⊤
+KeepsAhead bytes after Total = ⊤
+KeepsAhead bytes after Memory = ⊤
+
 -- a line of this many bytes stands at the front of the held bytes
 pub record HoldsLine (reader : Reader) (len : ℕ) : Type 0 where
   pub fits : len ≤ reader.limit
@@ -74,7 +81,7 @@ Reaches old new bytes after (Ok None) = (next_of old.limit old.room bytes ≡ en
 Reaches old new bytes after (Err (Long n)) =
     (next_of old.limit old.room bytes ≡ line_too_long) × (n ≡ old.number + 1)
 Reaches old new bytes after (Err Total) = next_of old.limit old.room bytes ≡ input_too_long
-Reaches old new bytes after (Err Read) = ⊤
+Reaches old new bytes after (Err Read) = after ≡ Some bytes
 Reaches old new bytes after (Err Memory) = ⊤
 
 -- the length of a last line, where there is one

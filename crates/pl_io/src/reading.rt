@@ -1,10 +1,10 @@
 //! The steps of a line reader.
-ghost use Rattle.std.specs.Prelude.{◌≡◌, ℕ, ◌+◌, ◌-◌, ◌<◌, ◌≤◌, IsTrue, length, take, drop, min, None, Some, IfSome, IfOk, IfErr, OnErr, IsErrOf};
+ghost use Rattle.std.specs.Prelude.{◌≡◌, ◌+◌, ◌-◌, ◌<◌, ◌≤◌, IsTrue, length, take, drop, min, None, Some, IfSome, IfOk, IfErr, OnErr, IsErrOf};
 ghost use Rattle.std.specs.Io.KnownBytes.{IsAtEnd};
 ghost use Rattle.pl_io.specs.Faults.{Rose};
 ghost use Rattle.pl_io.specs.Lines.{ahead};
 ghost use Rattle.pl_io.specs.Reader.{Moves, Answers, Repeats};
-ghost use Rattle.pl_io.specs.Reading.{HoldsLine, FailsOutside, Settles, Reaches, ReachesSparing, Advances, last_of};
+ghost use Rattle.pl_io.specs.Reading.{HoldsLine, FailsOutside, KeepsAhead, Settles, Reaches, ReachesSparing, Advances, last_of};
 ghost use Rattle.pl_io.specs.Sparing.{shows_next, read_size, IsSparing};
 
 use crate::errors::LineFault;
@@ -28,6 +28,8 @@ impl LineReader {
             count ≡ 0 → (self.new.held ≡ self.old.held) × IsAtEnd (S.left src.new)) }
         ensures ahead { IfOk result (λ _. IfSome (ahead self.old.held (S.left src.old)) (λ bytes.
             ahead self.new.held (S.left src.new) ≡ Some bytes)) }
+        ensures unread { IfErr result (λ fault. IfSome (ahead self.old.held (S.left src.old)) (λ bytes.
+            KeepsAhead bytes (ahead self.new.held (S.left src.new)) fault)) }
         ensures later { S.faults src.old ≤ S.faults src.new }
         ensures cause { IfErr result (λ fault. FailsOutside (S.faults src.old) (S.faults src.new) fault) }
     {

@@ -5,15 +5,16 @@ use Rattle.std.proofs.lemmas.Bool.{ltb-true, ltb-false, le-ltb, lt-ltb, eqb-true
 use Rattle.std.proofs.lemmas.List.{append-nil, take-append-drop, length-append}
 use Rattle.std.proofs.lemmas.List.Folds.{length-prefix_len}
 use Rattle.std.proofs.Math.Seq.{take-append_seam, drop-append_seam}
+use Rattle.pl_lists.specs.Judgements.{behind}
 use Rattle.pl_text.specs.declared.class.Class.{Class}
 use Rattle.pl_text.specs.declared.class.Class.TheVariants as class
 use Rattle.pl_text.specs.declared.token.Token.{Token}
 use Rattle.pl_text.specs.declared.fault.TextFault.{TextFault}
 use Rattle.pl_text.specs.declared.fault.TextFault.TheVariants as fault
 use Rattle.pl_text.specs.Bytes.{class_by, class_of, is_digit_class, is_name_byte, is_number_byte, in_line}
-use Rattle.pl_text.specs.Tokens.{lexeme_of, before, tokens_at, tokens_of}
+use Rattle.pl_text.specs.Tokens.{lexeme_of, tokens_at, tokens_of}
 use Rattle.pl_text.specs.Pieces.{Piece, blank, comment, word, number, symbol, spell_piece, spell, Stops, IsPiece, ArePieces, size, token_of, tokens_in, end_of, IsBad, Lexes, AreInOrder}
-use Rattle.pl_text.proofs.Scanning.{before_before, tokens_skip}
+use Rattle.pl_text.proofs.Scanning.{behind-behind, tokens_skip}
 
 -- ---- runs
 
@@ -53,7 +54,7 @@ skip_run at bs rest =
     let place : at + 1 + length bs ≡ at + (length bs + 1) = omega arith in
     rw (one, tokens_skip (length bs) (at + 1) (bs ++ rest), drop-append_seam bs rest, place) refl
 
-pub piece_read : (at : ℕ) (p : Piece) (rest : List ℕ) → IsPiece p rest → tokens_at 0 at (spell_piece p rest) ≡ before (token_of at p) (tokens_at 0 (at + size p) rest)
+pub piece_read : (at : ℕ) (p : Piece) (rest : List ℕ) → IsPiece p rest → tokens_at 0 at (spell_piece p rest) ≡ behind (token_of at p) (tokens_at 0 (at + size p) rest)
 unfolding tokens_at lexeme_of
 piece_read at (blank b) rest is = rw is refl
 piece_read at (comment bs) rest is =
@@ -67,16 +68,16 @@ piece_read at (number d ds) rest is =
     rw (is.0, run_len is_number_byte ds rest is.2.0 is.2.1, short, skip_run at ds rest, one, take-append_seam ds rest) refl
 piece_read at (symbol b) rest is = rw is refl
 
-pub pieces_read : (at : ℕ) (ps : List Piece) (rest : List ℕ) (r : Result (List Token) TextFault) → ArePieces ps rest → tokens_at 0 (end_of at ps) rest ≡ r → tokens_at 0 at (spell ps rest) ≡ before (tokens_in at ps) r
-pieces_read at [] rest r are e = e ∙ before_none r
+pub pieces_read : (at : ℕ) (ps : List Piece) (rest : List ℕ) (r : Result (List Token) TextFault) → ArePieces ps rest → tokens_at 0 (end_of at ps) rest ≡ r → tokens_at 0 at (spell ps rest) ≡ behind (tokens_in at ps) r
+pieces_read at [] rest r are e = e ∙ behind-none r
   where
-    before_none : (r : Result (List Token) TextFault) → r ≡ before [] r
-    before_none (Ok ts) = refl
-    before_none (Err e) = refl
+    behind-none : (r : Result (List Token) TextFault) → r ≡ behind [] r
+    behind-none (Ok ts) = refl
+    behind-none (Err e) = refl
 pieces_read at (p ∷ ps) rest r are e =
     piece_read at p (spell ps rest) are.0
-    ∙ ap (λ (x : Result (List Token) TextFault). before (token_of at p) x) (pieces_read (at + size p) ps rest r are.1 e)
-    ∙ before_before (token_of at p) (tokens_in (at + size p) ps) r
+    ∙ ap (λ (x : Result (List Token) TextFault). behind (token_of at p) x) (pieces_read (at + size p) ps rest r are.1 e)
+    ∙ behind-behind (token_of at p) (tokens_in (at + size p) ps) r
 
 -- a text that is made of pieces has their tokens
 pub made_of : (ps : List Piece) → ArePieces ps [] → tokens_of (spell ps []) ≡ Ok (tokens_in 0 ps)
@@ -139,11 +140,11 @@ next_at at b bs class.Digit e = next_number at b bs e (ltb 18 (prefix_len is_num
 next_at at b bs class.Symbol e = seen (symbol b) bs refl e
 next_at at b bs class.Bad e = bad (fault.BadByte at) (bad_byte at b bs e) (refl, e)
 
-behind : (at : ℕ) (p : Piece) (rest : List ℕ) (r : Result (List Token) TextFault) → IsPiece p rest → Lexes (at + size p) rest r → Lexes at (spell_piece p rest) (before (token_of at p) r)
-behind at p rest (Ok ts) is h =
+lexes_behind : (at : ℕ) (p : Piece) (rest : List ℕ) (r : Result (List Token) TextFault) → IsPiece p rest → Lexes (at + size p) rest r → Lexes at (spell_piece p rest) (behind (token_of at p) r)
+lexes_behind at p rest (Ok ts) is h =
     let P : List ℕ → Type 0 = λ x. IsPiece p x in
     record { pieces = p ∷ h.pieces; spelled = ap (λ (x : List ℕ). spell_piece p x) h.spelled; proper = (subst P h.spelled is, h.proper); places = ap (λ (x : List Token). token_of at p ++ x) h.places }
-behind at p rest (Err e) is h =
+lexes_behind at p rest (Err e) is h =
     let P : List ℕ → Type 0 = λ x. IsPiece p x in
     record { pieces = p ∷ h.pieces; rest = h.rest; spelled = ap (λ (x : List ℕ). spell_piece p x) h.spelled; proper = (subst P h.spelled is, h.proper); faulty = h.faulty }
 
@@ -166,7 +167,7 @@ lexes_next n at b bs short ih (seen p rest e is) =
     let P : List ℕ → Type 0 = λ x. Lexes at x (tokens_at 0 at x) in
     let Q : Result (List Token) TextFault → Type 0 = λ r. Lexes at (spell_piece p rest) r in
     let few : length rest ≤ n = omega (arith, short, ap (λ (x : List ℕ). length x) e, shorter p rest) in
-    subst P (sym e) (subst Q (sym (piece_read at p rest is)) (behind at p rest (tokens_at 0 (at + size p) rest) is (ih (at + size p) rest few)))
+    subst P (sym e) (subst Q (sym (piece_read at p rest is)) (lexes_behind at p rest (tokens_at 0 (at + size p) rest) is (ih (at + size p) rest few)))
 
 lexes_end : (at : ℕ) → Lexes at [] (tokens_at 0 at [])
 unfolding tokens_at

@@ -1,8 +1,9 @@
 -- The tokens of a text, or its first fault.
-use Rattle.std.specs.Prelude.{◌≡◌, ℕ, zero, suc, ◌+◌, ◌-◌, ◌*◌, ◌&&◌, nat_lt, nat_le, if◌then◌else◌, List, [], ◌∷◌, ◌++◌, length, ◌<◌, take, drop, Option, Some, None, Result, Ok, Err}
+use Rattle.std.specs.Prelude.{◌≡◌, ℕ, zero, suc, ◌+◌, ◌-◌, ◌*◌, ◌&&◌, nat_lt, nat_le, if◌then◌else◌, Bool, true, false, List, [], ◌∷◌, length, ◌<◌, take, drop, Option, Some, None, Result, Ok, Err}
 use Rattle.std.specs.List.{prefix_len}
 use Rattle.std.specs.declared.vec.Vec.{Vec}
 use Rattle.std.specs.declared.alloc.Global.{Global}
+use Rattle.pl_lists.specs.Judgements.{◌>>=◌, behind, Fails}
 use Rattle.pl_text.specs.declared.class.Class.{Class}
 use Rattle.pl_text.specs.declared.class.Class.TheVariants as class
 use Rattle.pl_text.specs.declared.token.TokenKind.{TokenKind}
@@ -59,36 +60,25 @@ kept_kind (Some k) at n = record { kind = k; from = at; to = at + n } ∷ []
 abbrev pub kept : ℕ → Lexeme → List Token
 kept at l = kept_kind l.kind at l.len
 
-abbrev pub before : List Token → Result (List Token) TextFault → Result (List Token) TextFault
-before found (Ok more) = Ok (found ++ more)
-before found (Err e) = Err e
-
-abbrev pub go_on : ℕ → Result Lexeme TextFault → (ℕ → Result (List Token) TextFault) → Result (List Token) TextFault
-go_on at (Err e) more = Err e
-go_on at (Ok l) more = before (kept at l) (more (l.len - 1))
-
 -- From the place `at` on. The first `skip` bytes belong to what was read already.
 unfoldable pub tokens_at : ℕ → ℕ → List ℕ → Result (List Token) TextFault
 tokens_at skip at [] = Ok []
-tokens_at zero at (b ∷ bs) = go_on at (lexeme_of at b bs) (λ skip. tokens_at skip (at + 1) bs)
+tokens_at zero at (b ∷ bs) = lexeme_of at b bs >>= λ l. behind (kept at l) (tokens_at (l.len - 1) (at + 1) bs)
 tokens_at (suc skip) at (b ∷ bs) = tokens_at skip (at + 1) bs
 
 abbrev pub tokens_of : List ℕ → Result (List Token) TextFault
 tokens_of text = tokens_at 0 0 text
 
--- what the code answers, unless memory runs out
-abbrev pub Gives : {T : Type 0} → Result T TextFault → Result T TextFault → Type 0
-Gives (Ok x) wanted = wanted ≡ Ok x
-Gives (Err fault.Memory) wanted = Unit {0}
-Gives (Err e) wanted = wanted ≡ Err e
+-- the one fault that is not the text's
+abbrev pub is_memory : TextFault → Bool
+is_memory fault.Memory = true
+is_memory e = false
 
-abbrev pub GivesTokens : Result (Vec Token Global) TextFault → Result (List Token) TextFault → Type 0
-GivesTokens (Ok v) wanted = wanted ≡ Ok v.items
-GivesTokens (Err fault.Memory) wanted = Unit {0}
-GivesTokens (Err e) wanted = wanted ≡ Err e
+-- the tokens that a call gave
+abbrev pub items_of : Vec Token Global → List Token
+items_of v = v.items
 
 -- What a step of the scanner leaves gives what was there before: or the fault is the one that was to come.
 abbrev pub Steps : Result (Unit {0}) TextFault → List Token → ℕ → List ℕ → List Token → ℕ → List ℕ → Type 0
-Steps (Ok u) found at text more place rest = (before found (tokens_at 0 at text) ≡ before more (tokens_at 0 place rest)) × (length rest < length text) × (place + length rest ≡ at + length text)
-Steps (Err fault.Memory) found at text more place rest = Unit {0}
-Steps (Err e) found at text more place rest = before found (tokens_at 0 at text) ≡ Err e
+Steps (Ok u) found at text more place rest = (behind found (tokens_at 0 at text) ≡ behind more (tokens_at 0 place rest)) × (length rest < length text) × (place + length rest ≡ at + length text)
+Steps (Err e) found at text more place rest = Fails is_memory e (behind found (tokens_at 0 at text))

@@ -1,7 +1,8 @@
-ghost use Rattle.std.specs.Prelude.{◌≡◌, true, ◌<◌, ◌≤◌, ◌^◌, ◌+◌, [], length, IfOk};
+ghost use Rattle.std.specs.Prelude.{◌≡◌, true, ◌<◌, ◌≤◌, ◌^◌, ◌+◌, length, IfOk};
 ghost use Rattle.std.specs.List.{prefix_len, AllPass};
 ghost use Rattle.pl_text.specs.Bytes.{is_name_byte, is_number_byte, in_line};
-ghost use Rattle.pl_text.specs.Tokens.{number_value, named, numbered, lexeme_of, Gives};
+ghost use Rattle.pl_lists.specs.Judgements.{Gives};
+ghost use Rattle.pl_text.specs.Tokens.{number_value, named, numbered, lexeme_of, is_memory};
 
 use crate::class::{Class, class_of, is_name_byte};
 use crate::fault::TextFault;
@@ -56,7 +57,7 @@ fn number_value(first: u8, digits: &[u8]) -> u64
 
 fn name(rest: &[u8], at: u32) -> Result<Lexeme, TextFault>
     requires { length rest.now < 2 ^ 32 }
-    ensures value { Gives result (named at (prefix_len is_name_byte rest.now + 1)) }
+    ensures value { Gives is_memory result (named at (prefix_len is_name_byte rest.now + 1)) }
     ensures within { IfOk result (λ l. (1 ≤ l.len) × (l.len ≤ length rest.now + 1)) }
 {
     let behind = name_len(rest);
@@ -72,7 +73,7 @@ fn name(rest: &[u8], at: u32) -> Result<Lexeme, TextFault>
 fn number(first: u8, rest: &[u8], at: u32) -> Result<Lexeme, TextFault>
     requires digit { is_number_byte first ≡ true }
     requires short { length rest.now < 2 ^ 32 }
-    ensures value { Gives result (numbered at (prefix_len is_number_byte rest.now + 1) first rest.now) }
+    ensures value { Gives is_memory result (numbered at (prefix_len is_number_byte rest.now + 1) first rest.now) }
     ensures within { IfOk result (λ l. (1 ≤ l.len) × (l.len ≤ length rest.now + 1)) }
 {
     let behind = digits_len(rest);
@@ -90,7 +91,7 @@ fn number(first: u8, rest: &[u8], at: u32) -> Result<Lexeme, TextFault>
 /// What the text `first` and `rest` begins with, at the place `at`.
 pub fn next_lexeme(first: u8, rest: &[u8], at: u32) -> Result<Lexeme, TextFault>
     requires { length rest.now + 1 < 2 ^ 32 }
-    ensures value { Gives result (lexeme_of at first rest.now) }
+    ensures value { Gives is_memory result (lexeme_of at first rest.now) }
     ensures within { IfOk result (λ l. (1 ≤ l.len) × (l.len ≤ length rest.now + 1)) }
 {
     match class_of(first) {

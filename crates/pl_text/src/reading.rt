@@ -1,6 +1,7 @@
 ghost use Rattle.std.specs.Prelude.{◌≡◌, ◌<◌, ◌≤◌, ◌^◌, ◌+◌, ◌++◌, ◌∷◌, drop, length, OnOk, IfErr};
 ghost use Rattle.pl_text.specs.declared.fault.TextFault.TheVariants.{Memory};
-ghost use Rattle.pl_text.specs.Tokens.{kept, before, tokens_at, tokens_of, GivesTokens, Steps};
+ghost use Rattle.pl_lists.specs.Judgements.{Shows};
+ghost use Rattle.pl_text.specs.Tokens.{kept, tokens_of, is_memory, items_of, Steps};
 
 use crate::fault::TextFault;
 use crate::lexeme::{Lexeme, next_lexeme};
@@ -68,7 +69,7 @@ impl<'a> Scanner<'a> {
 /// The tokens of a text, or its first fault.
 pub fn tokens(alloc: Global, text: &[u8]) -> Result<Vec<Token>, TextFault>
     requires { length text.now < 2 ^ 32 }
-    ensures { GivesTokens result (tokens_of text.now) }
+    ensures { Shows is_memory items_of result (tokens_of text.now) }
 {
     let mut scanner = Scanner {
         found: Vec::new(alloc),

@@ -1,14 +1,21 @@
-use Rattle.std.proofs.Common.{◌∙◌, ap}
-use Rattle.std.proofs.lemmas.Result.{on_ok_weaker}
+use Rattle.std.proofs.Common.{◌≡◌, ◌∙◌, sym, ap}
 use Rattle.pl_conflict.specs.Order.{has}
-use Rattle.pl_conflict.proofs.Sorting.{exchanged_is, has-exchanged}
+use Rattle.pl_conflict.specs.Sorting.{left_by}
+use Rattle.pl_conflict.proofs.Sorting.{new_is_absent, exchange_done, has-exchanged}
 use Rattle.pl_conflict.proofs.set.ConflictSet.exchange.Goals as goal
 
+pub insert_all-requires-clause-absent : goal.insert_all-requires-clause-absent
+insert_all-requires-clause-absent c =
+    let fresh : c.as_slice.result.now ≡ left_by c.args.self.now c.args.came.now = c.as_slice.ensures.value ∙ c.in_ok-fresh.ensures in
+    λ q is. new_is_absent c.args.self.now c.args.came.now q (sym (ap (has q) fresh) ∙ is)
+
 pub returns-clause-ok : goal.returns-clause-ok
-returns-clause-ok c = on_ok_weaker c.insert_all.result (λ is. exchanged_is c.args.self.now c.args.went.now c.args.came.now _ _ c.remove_all.ensures is) c.insert_all.ensures.ok
+returns-clause-ok c =
+    exchange_done c.args.self.now c.args.went.now c.args.came.now _ _ _ _ _ c.in_ok-arriving.ensures (c.as_slice-2.ensures.value ∙ c.in_ok-leaving.ensures) (c.as_slice.ensures.value ∙ c.in_ok-fresh.ensures)
+    c.in_ok-insert_all.ensures.ok c.remove_all.ensures.after
 
 pub returns-clause-members : goal.returns-clause-members
-returns-clause-members c =
-    on_ok_weaker c.insert_all.result
-    (λ is q. ap (has q) (exchanged_is c.args.self.now c.args.went.now c.args.came.now _ _ c.remove_all.ensures is) ∙ has-exchanged c.args.self.now c.args.went.now c.args.came.now q)
-    c.insert_all.ensures.ok
+returns-clause-members c q =
+    ap (has q) (exchange_done c.args.self.now c.args.went.now c.args.came.now _ _ _ _ _ c.in_ok-arriving.ensures (c.as_slice-2.ensures.value ∙ c.in_ok-leaving.ensures) (c.as_slice.ensures.value ∙ c.in_ok-fresh.ensures)
+    c.in_ok-insert_all.ensures.ok c.remove_all.ensures.after)
+    ∙ has-exchanged c.args.self.now c.args.went.now c.args.came.now q

@@ -11,3 +11,6 @@ invariant_of-self c = rw c.loop-conflict.invariant (ordered-left _ _ c.self.inva
 pub loop-conflict-preserved : goal.loop-conflict-preserved
 loop-conflict-preserved c =
     rw (c.remove.ensures.keys, c.loop-conflict.invariant) (left_next c.args.went.now c.self.inside.all.keys c.loop-conflict.conflict-index _ c.loop-conflict-test.true c.self.invariant)
+
+pub returns-clause-sorted : goal.returns-clause-sorted
+returns-clause-sorted c = rw c.loop-conflict.invariant (ordered-left _ _ c.self.invariant)
