@@ -56,6 +56,9 @@ behind_both a b c e f = not_before a c (follows_on a b c (follows a b e) (follow
 pub follows_itself : (a : Key) → Follows a a
 follows_itself a = (omega arith, λ _. (omega arith, λ _. omega arith))
 
+pub before_itself : (k : Key) → key_before k k ≡ false
+before_itself k = not_before k k (follows_itself k)
+
 lex_true : (a b : ℕ) (more : Bool) → (ltb a b || (eqb a b && more)) ≡ true → IsNotBefore b a (more ≡ true)
 lex_true a b more e = elim (or_cases (ltb a b) _ e) [
   | inl f ↦ let lt = ltb-true a b f in (omega (arith, lt), λ s. absurd (omega (arith, lt, s)))
