@@ -88,15 +88,16 @@ right_near touched F G keyed (k ∷ ks) ms sorted rising same each =
     let one = cut_all (λ j. key_before j k) G keyed ms (parted_before must_key k ms sorted) in
     let two = cut_all (λ j. not (key_before k j)) G keyed rest (parted_upto must_key k rest sorted_rest) in
     let early : (m : Must) → Has m (front (is_before must_key k) ms) → G m ≡ F m = λ m has.
-        let both = has_front (is_before must_key k) m ms has in
-        one_same touched F G m (same m) (λ t. before_none (must_key m) k ks rising both.1 (each m both.0 t)) in
+    let both = has_front (is_before must_key k) m ms has in
+    one_same touched F G m (same m) (λ t. before_none (must_key m) k ks rising both.1 (each m both.0 t)) in
     let late : (m : Must) → Has m (back (is_up_to must_key k) rest) → touched m ≡ true → Has (must_key m) ks = λ m has t.
-        behind_one (must_key m) k ks (back_fails (is_up_to must_key k) m rest (parted_upto must_key k rest sorted_rest) has)
-        (each m (has_back (is_before must_key k) m ms (has_back (is_up_to must_key k) m rest has)) t) in
-    let is : back (is_up_to group_key k) (back (is_before group_key k) (all_of G ms)) ≡ all_of G (back (is_up_to must_key k) rest) = ap (back (is_up_to group_key k)) one.1 ∙ two.1 in
-    (one.0 ∙ all_same F G (front (is_before must_key k) ms) early,
+    behind_one (must_key m) k ks (back_fails (is_up_to must_key k) m rest (parted_upto must_key k rest sorted_rest) has)
+    (each m (has_back (is_before must_key k) m ms (has_back (is_up_to must_key k) m rest has)) t) in
+    let is : back (is_up_to group_key k) (back (is_before group_key k) (all_of G ms)) ≡ all_of G (back (is_up_to must_key k) rest) = ap (back (is_up_to group_key k)) one.1 ∙ two.1 in (
+      one.0 ∙ all_same F G (front (is_before must_key k) ms) early,
       subst (λ l. AreRightBut ks F (back (is_up_to must_key k) rest) l) (sym is)
-      (right_near touched F G keyed ks (back (is_up_to must_key k) rest) (sorted_back must_key (is_up_to must_key k) rest sorted_rest) rising.1 same late))
+          (right_near touched F G keyed ks (back (is_up_to must_key k) rest) (sorted_back must_key (is_up_to must_key k) rest sorted_rest) rising.1 same late),
+    )
 
 -- right but for one key
 right_one : (F : Must → List BrokenMust) → IsKeyed F → (k : Key) (ms ns : List Must) → AreSorted must_key ms → front (is_before must_key k) ns ≡ front (is_before must_key k) ms
@@ -166,9 +167,10 @@ skipped F keyed k ms b sorted rising right =
     let alike : PassAlike same_broken p = λ x y e. ap (λ j. key_before j k) (knows_broken x y e) in
     let equal : front p new ≡ front p b = cut.0 ∙ sym right in
     let went : left_out same_broken (front p new) (front p b) ≡ [] = ap (λ l. left_out same_broken l (front p b)) equal ∙ left_self same_broken broken_itself (front p b) in
-    let came : left_out same_broken (front p b) (front p new) ≡ [] = ap (left_out same_broken (front p b)) equal ∙ left_self same_broken broken_itself (front p b) in
-    (ap (λ l. left_out same_broken l (back p b)) (sym cut.1) ∙ sym (left_cut same_broken p alike new b parted parted_old ∙ ap (λ l. l ++ left_out same_broken (back p new) (back p b)) went),
-      ap (left_out same_broken (back p b)) (sym cut.1) ∙ sym (left_cut same_broken p alike b new parted_old parted ∙ ap (λ l. l ++ left_out same_broken (back p b) (back p new)) came))
+    let came : left_out same_broken (front p b) (front p new) ≡ [] = ap (left_out same_broken (front p b)) equal ∙ left_self same_broken broken_itself (front p b) in (
+      ap (λ l. left_out same_broken l (back p b)) (sym cut.1) ∙ sym (left_cut same_broken p alike new b parted parted_old ∙ ap (λ l. l ++ left_out same_broken (back p new) (back p b)) went),
+      ap (left_out same_broken (back p b)) (sym cut.1) ∙ sym (left_cut same_broken p alike b new parted_old parted ∙ ap (λ l. l ++ left_out same_broken (back p b) (back p new)) came),
+    )
 
 parted_in : (F : Must → List BrokenMust) → IsKeyed F → (k : Key) (ms : List Must) (b : List BrokenMust) → AreSorted must_key ms → AreSorted group_key b
     → (left_out same_broken (all_of F ms) b ≡ left_out same_broken (all_of F (front (is_up_to must_key k) ms)) (front (is_up_to group_key k) b) ++ left_out same_broken (all_of F (back (is_up_to must_key k) ms)) (back (is_up_to group_key k) b))
@@ -179,9 +181,10 @@ parted_in F keyed k ms b sorted rising =
     let p : BrokenMust → Bool = is_up_to group_key k in
     let parted : IsParted p new = parted_upto group_key k new (all_sorted F keyed ms sorted) in
     let parted_old : IsParted p b = parted_upto group_key k b rising in
-    let alike : PassAlike same_broken p = λ x y e. ap (λ j. not (key_before k j)) (knows_broken x y e) in
-    (left_cut same_broken p alike new b parted parted_old ∙ (ap (λ l. left_out same_broken l (front p b) ++ left_out same_broken (back p new) (back p b)) cut.0 ∙ ap (λ l. left_out same_broken (all_of F (front (is_up_to must_key k) ms)) (front p b) ++ left_out same_broken l (back p b)) cut.1),
-      left_cut same_broken p alike b new parted_old parted ∙ (ap (λ l. left_out same_broken (front p b) l ++ left_out same_broken (back p b) (back p new)) cut.0 ∙ ap (λ l. left_out same_broken (front p b) (all_of F (front (is_up_to must_key k) ms)) ++ left_out same_broken (back p b) l) cut.1))
+    let alike : PassAlike same_broken p = λ x y e. ap (λ j. not (key_before k j)) (knows_broken x y e) in (
+      left_cut same_broken p alike new b parted parted_old ∙ (ap (λ l. left_out same_broken l (front p b) ++ left_out same_broken (back p new) (back p b)) cut.0 ∙ ap (λ l. left_out same_broken (all_of F (front (is_up_to must_key k) ms)) (front p b) ++ left_out same_broken l (back p b)) cut.1),
+      left_cut same_broken p alike b new parted_old parted ∙ (ap (λ l. left_out same_broken (front p b) l ++ left_out same_broken (back p b) (back p new)) cut.0 ∙ ap (λ l. left_out same_broken (front p b) (all_of F (front (is_up_to must_key k) ms)) ++ left_out same_broken (back p b) l) cut.1),
+    )
 
 all_parts : (F : Must → List BrokenMust) (p : Must → Bool) (ms : List Must) → all_of F ms ≡ all_of F (front p ms) ++ all_of F (back p ms)
 all_parts F p ms = ap (all_of F) (sym (front_back p ms)) ∙ all_append F (front p ms) (back p ms)
@@ -202,9 +205,11 @@ begun_at F keyed k ks ms b p q t u sorted rising named old in_musts in_broken ri
       in_musts = in_musts;
       in_broken = in_broken;
       low = omega arith;
-      right = (stop_old.0 ∙ ap (all_of F) (sym stop.0),
+      right = (
+        stop_old.0 ∙ ap (all_of F) (sym stop.0),
         subst (λ l. AreRightBut ks F l (back (is_up_to group_key k) (back (is_before group_key k) (drop t b)))) same
-        (subst (λ l. AreRightBut ks F (back (is_up_to must_key k) (back (is_before must_key k) ms)) l) same_old right.1));
+            (subst (λ l. AreRightBut ks F (back (is_up_to must_key k) (back (is_before must_key k) ms)) l) same_old right.1),
+      );
       whole = ap (λ l. l ++ all_of F (drop p ms)) (ap (λ n. take n b) (sym size) ∙ (old.before ∙ right.0)) ∙ (ap (λ l. all_of F (front (is_before must_key k) ms) ++ all_of F l) named.on ∙ sym (all_parts F (is_before must_key k) ms));
       gone = ap (λ l. left_out same_broken (all_of F l) (drop t b)) named.on ∙ (ap (left_out same_broken (all_of F (back (is_before must_key k) ms))) old.on ∙ kept.0);
       new = ap (λ l. left_out same_broken (drop t b) (all_of F l)) named.on ∙ (ap (λ l. left_out same_broken l (all_of F (back (is_before must_key k) ms))) old.on ∙ kept.1);

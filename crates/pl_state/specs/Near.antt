@@ -39,7 +39,7 @@ AreRightBut [] group musts broken = broken ≡ all_of group musts
 AreRightBut (k ∷ keys) group musts broken =
     (front (is_before group_key k) broken ≡ all_of group (front (is_before must_key k) musts))
     × AreRightBut keys group (back (is_up_to must_key k) (back (is_before must_key k) musts))
-        (back (is_up_to group_key k) (back (is_before group_key k) broken))
+    (back (is_up_to group_key k) (back (is_before group_key k) broken))
 
 -- the keys of the musts that have moments of the window
 abbrev pub touched_keys : Span → List Started → List Key

@@ -56,7 +56,7 @@ fn begun(alloc: Global, musts: &[Must], keys: &[Key], broken: &[BrokenMust]) -> 
     ensures { (group : Must → List BrokenMust) → IsKeyed group
         → AreRightBut keys.now group musts.now broken.now
         → IsBegun group musts.now broken.now keys.now result.begin result.passed result.taken
-            result.fresh.items result.went result.came }
+        result.fresh.items result.went result.came }
 {
     match keys.first() {
         None => renewal_from(alloc, musts.len(), broken.len()),
@@ -85,9 +85,9 @@ fn renew_key(
     requires in_broken { renewal.old.taken ≤ length broken.now }
     ensures { OnOk result ((keys : List Key)
         → IsBegun (group_at present sets.now) musts.now broken.now (key ∷ keys) renewal.old.begin
-            renewal.old.passed renewal.old.taken renewal.old.fresh.items renewal.old.went renewal.old.came
+        renewal.old.passed renewal.old.taken renewal.old.fresh.items renewal.old.went renewal.old.came
         → IsBegun (group_at present sets.now) musts.now broken.now keys renewal.new.begin
-            renewal.new.passed renewal.new.taken renewal.new.fresh.items renewal.new.went renewal.new.came) }
+        renewal.new.passed renewal.new.taken renewal.new.fresh.items renewal.new.went renewal.new.came) }
 {
     let named = run_of(musts, renewal.passed, key);
     let old = run_of(broken, renewal.taken, key);
@@ -95,7 +95,9 @@ fn renew_key(
     let gone = &broken[old.begin..old.behind];
     push_missing(&mut renewal.went, &group, gone)?;
     push_missing(&mut renewal.came, gone, &group)?;
-    renewal.fresh.extend_from_slice(&broken[renewal.taken..old.begin])?;
+    renewal
+        .fresh
+        .extend_from_slice(&broken[renewal.taken..old.begin])?;
     renewal.fresh.extend_from_slice(&group)?;
     renewal.passed = named.behind;
     renewal.taken = old.behind;
@@ -115,7 +117,8 @@ fn renewed(
     requires musts { AreSorted must_key musts.now }
     requires sorted { AreSorted group_key broken.now }
     requires right { AreRightBut keys.now (group_at present sets.now) musts.now broken.now }
-    ensures { IfOk result (λ r. IsBegun (group_at present sets.now) musts.now broken.now [] r.begin r.passed
+    ensures { IfOk result (λ r. IsBegun (group_at present sets.now) musts.now broken.now [] r.begin
+        r.passed
         r.taken r.fresh.items r.went r.came) }
 {
     let mut renewal = begun(alloc, musts, keys, broken);
@@ -139,11 +142,13 @@ pub(crate) fn renew(
     requires sorted { AreSorted group_key broken.old.items }
     requires right { AreRightBut keys.now (group_at present sets.now) musts.now broken.old.items }
     ensures broken { OnOk result (broken.new.items ≡ broken_at present sets.now musts.now) }
-    ensures went { IfOk result (λ d. d.went ≡ left_out same_broken broken.new.items broken.old.items) }
-    ensures came { IfOk result (λ d. d.came ≡ left_out same_broken broken.old.items broken.new.items) }
+    ensures went { IfOk result (λ d. d.went ≡ left_out same_broken broken.new.items
+        broken.old.items) }
+    ensures came { IfOk result (λ d. d.came ≡ left_out same_broken broken.old.items
+        broken.new.items) }
 {
     let renewal = renewed(alloc, sets, present, musts, keys, broken)?;
-    replace(alloc, broken, renewal.begin, renewal.taken, &renewal.fresh)?;
+    replace(broken, renewal.begin, renewal.taken, &renewal.fresh)?;
     let Renewal { went, came, .. } = renewal;
     Ok(Difference { went, came })
 }

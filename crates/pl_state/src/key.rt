@@ -86,8 +86,10 @@ pub(crate) fn position_of<T: Keyed>(list: &[T], item: &T) -> Option<usize>
     requires known { KnowsKey T.key T.same }
     ensures among { is_some result ≡ is_in T.same list.now item.now }
     ensures bound { IfSome result (λ i. i < length list.now) }
-    ensures gone { IfSome result (λ i. take i list.now ++ drop (suc i) list.now ≡ without T.same item.now list.now) }
-    ensures rest { IfSome result (λ i. drop (suc i) list.now ≡ rest_after T.same item.now list.now) }
+    ensures gone { IfSome result (λ i. take i list.now ++ drop (suc i) list.now
+        ≡ without T.same item.now list.now) }
+    ensures rest { IfSome result (λ i. drop (suc i) list.now
+        ≡ rest_after T.same item.now list.now) }
     ensures none { IfNone result (without T.same item.now list.now ≡ list.now) }
     ensures no_rest { IfNone result (rest_after T.same item.now list.now ≡ []) }
 {

@@ -40,9 +40,12 @@ impl Model for StateLine {
 
     ghost Value = { Standing };
 
-    ghost view = { λ c. make c.spoiled c.horizon c.any c.steps.items c.moment c.base c.value c.sets c.musts };
+    ghost view = { λ c. make c.spoiled c.horizon c.any c.steps.items c.moment c.base c.value c.sets
+        c.musts };
 
-    ghost invariant = { λ c. c.spoiled ≡ false → IsSound (make c.spoiled c.horizon c.any c.steps.items c.moment c.base c.value c.sets c.musts) c.told.broken.items c.told.bad.items };
+    ghost invariant = { λ c. c.spoiled ≡ false
+        → IsSound (make c.spoiled c.horizon c.any c.steps.items c.moment c.base c.value c.sets
+        c.musts) c.told.broken.items c.told.bad.items };
 }
 
 // Steps that stay as they are.
@@ -66,7 +69,18 @@ impl StateLine {
         any: bool,
         steps: &[(u32, u32)],
     ) -> Result<StateLine, AllocError>
-        ensures { IfOk result (λ l. l ≡ record { spoiled = false; horizon = horizon; any = any; steps = steps.now; moment = 0; base = 0; value = start; sets = []; musts = [] }) }
+        ensures { IfOk result (λ l. l ≡ record {
+          spoiled = false;
+          horizon = horizon;
+          any = any;
+          steps = steps.now;
+          moment = 0;
+          base =
+              0;
+          value = start;
+          sets = [];
+          musts = [];
+        }) }
     {
         let steps = Vec::from_slice(alloc, steps)?;
         Ok(StateLine {
@@ -96,8 +110,10 @@ impl StateLine {
         state: u32,
     ) -> Result<StateChange, AllocError>
         requires { 1 ≤ at }
-        ensures ok { OnOk result (self.new ≡ record self.old { sets = with_set (setting_of at id index state) self.old.sets }) }
-        ensures change { IfOk result (λ c. AreChanges (broken_now self.old) (broken_now self.new) (bad_now self.old) (bad_now self.new) c) }
+        ensures ok { OnOk result (self.new ≡ record self.old
+            { sets = with_set (setting_of at id index state) self.old.sets }) }
+        ensures change { IfOk result (λ c. AreChanges (broken_now self.old) (broken_now self.new)
+            (bad_now self.old) (bad_now self.new) c) }
         ensures unspoiled { OnOk result (self.old.spoiled ≡ false) }
         ensures err { OnErr result (self.new.spoiled ≡ true) }
         ensures after_spoil { self.old.spoiled ≡ true → IsErr result }
@@ -141,8 +157,10 @@ impl StateLine {
         index: u32,
         state: u32,
     ) -> Result<StateChange, AllocError>
-        ensures ok { OnOk result (self.new ≡ record self.old { sets = without same_setting (setting_of at id index state) self.old.sets }) }
-        ensures change { IfOk result (λ c. AreChanges (broken_now self.old) (broken_now self.new) (bad_now self.old) (bad_now self.new) c) }
+        ensures ok { OnOk result (self.new ≡ record self.old
+            { sets = without same_setting (setting_of at id index state) self.old.sets }) }
+        ensures change { IfOk result (λ c. AreChanges (broken_now self.old) (broken_now self.new)
+            (bad_now self.old) (bad_now self.new) c) }
         ensures unspoiled { OnOk result (self.old.spoiled ≡ false) }
         ensures err { OnErr result (self.new.spoiled ≡ true) }
         ensures after_spoil { self.old.spoiled ≡ true → IsErr result }
@@ -187,8 +205,10 @@ impl StateLine {
         index: u32,
         state: u32,
     ) -> Result<StateChange, AllocError>
-        ensures ok { OnOk result (self.new ≡ record self.old { musts = with_must (must_of from to id index state) self.old.musts }) }
-        ensures change { IfOk result (λ c. AreChanges (broken_now self.old) (broken_now self.new) (bad_now self.old) (bad_now self.new) c) }
+        ensures ok { OnOk result (self.new ≡ record self.old
+            { musts = with_must (must_of from to id index state) self.old.musts }) }
+        ensures change { IfOk result (λ c. AreChanges (broken_now self.old) (broken_now self.new)
+            (bad_now self.old) (bad_now self.new) c) }
         ensures unspoiled { OnOk result (self.old.spoiled ≡ false) }
         ensures err { OnErr result (self.new.spoiled ≡ true) }
         ensures after_spoil { self.old.spoiled ≡ true → IsErr result }
@@ -232,8 +252,10 @@ impl StateLine {
         index: u32,
         state: u32,
     ) -> Result<StateChange, AllocError>
-        ensures ok { OnOk result (self.new ≡ record self.old { musts = without same_must (must_of from to id index state) self.old.musts }) }
-        ensures change { IfOk result (λ c. AreChanges (broken_now self.old) (broken_now self.new) (bad_now self.old) (bad_now self.new) c) }
+        ensures ok { OnOk result (self.new ≡ record self.old
+            { musts = without same_must (must_of from to id index state) self.old.musts }) }
+        ensures change { IfOk result (λ c. AreChanges (broken_now self.old) (broken_now self.new)
+            (bad_now self.old) (bad_now self.new) c) }
         ensures unspoiled { OnOk result (self.old.spoiled ≡ false) }
         ensures err { OnErr result (self.new.spoiled ≡ true) }
         ensures after_spoil { self.old.spoiled ≡ true → IsErr result }
@@ -270,8 +292,10 @@ impl StateLine {
 
     /// Sets the base at the present moment: sets up to it count no more. On want of memory the timeline is spoiled.
     pub fn rebase(&mut self, state: u32) -> Result<StateChange, AllocError>
-        ensures ok { OnOk result (self.new ≡ record self.old { base = self.old.moment; value = state }) }
-        ensures change { IfOk result (λ c. AreChanges (broken_now self.old) (broken_now self.new) (bad_now self.old) (bad_now self.new) c) }
+        ensures ok { OnOk result (self.new ≡ record self.old
+            { base = self.old.moment; value = state }) }
+        ensures change { IfOk result (λ c. AreChanges (broken_now self.old) (broken_now self.new)
+            (bad_now self.old) (bad_now self.new) c) }
         ensures unspoiled { OnOk result (self.old.spoiled ≡ false) }
         ensures err { OnErr result (self.new.spoiled ≡ true) }
         ensures after_spoil { self.old.spoiled ≡ true → IsErr result }
@@ -311,7 +335,8 @@ impl StateLine {
         requires later { self.old.spoiled ≡ false → self.old.moment ≤ now }
         requires bound { self.old.spoiled ≡ false → now ≤ self.old.horizon }
         ensures ok { OnOk result (self.new ≡ record self.old { moment = now }) }
-        ensures change { IfOk result (λ c. AreChanges (broken_now self.old) (broken_now self.new) (bad_now self.old) (bad_now self.new) c) }
+        ensures change { IfOk result (λ c. AreChanges (broken_now self.old) (broken_now self.new)
+            (bad_now self.old) (bad_now self.new) c) }
         ensures unspoiled { OnOk result (self.old.spoiled ≡ false) }
         ensures err { OnErr result (self.new.spoiled ≡ true) }
         ensures after_spoil { self.old.spoiled ≡ true → IsErr result }

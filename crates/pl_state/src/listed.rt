@@ -78,11 +78,7 @@ pub(crate) fn push_missing<T: Keyed>(
 }
 
 // Those that are not among the others, which are sorted.
-fn missing_from<T: Keyed>(
-    alloc: Global,
-    others: &[T],
-    list: &[T],
-) -> Result<Items<T>, AllocError>
+fn missing_from<T: Keyed>(alloc: Global, others: &[T], list: &[T]) -> Result<Items<T>, AllocError>
     requires sorted { AreSorted T.key others.now }
     requires known { KnowsKey T.key T.same }
     ensures { IfOk result (λ v. v ≡ left_out T.same others.now list.now) }
@@ -105,20 +101,17 @@ pub(crate) struct Difference<T> {
 
 // Puts the fresh items in the place of those from `begin` up to but not at `end`.
 pub(crate) fn replace<T: Keyed>(
-    alloc: Global,
     list: &mut Vec<T>,
     begin: usize,
     end: usize,
     fresh: &[T],
 ) -> Result<(), AllocError>
-    requires begin { begin ≤ length list.old.items }
+    requires begin { begin ≤ end }
     requires end { end ≤ length list.old.items }
-    ensures { OnOk result (list.new.items ≡ take begin list.old.items ++ (fresh.now ++ drop end list.old.items)) }
+    ensures { OnOk result (list.new.items ≡ take begin list.old.items ++
+        (fresh.now ++ drop end list.old.items)) }
 {
-    let rest = Vec::from_slice(alloc, &list[end..])?;
-    list.truncate(begin);
-    list.extend_from_slice(fresh)?;
-    list.extend_from_slice(&rest)?;
+    list.splice(begin..end, fresh.iter().copied())?;
     Ok(())
 }
 
@@ -136,20 +129,28 @@ pub(crate) fn exchange<T: Keyed>(
     requires sorted_old { AreSorted T.key list.old.items }
     requires sorted_new { AreSorted T.key
         (take begin list.old.items ++ (fresh.now ++ drop end list.old.items)) }
-    ensures items { OnOk result (list.new.items ≡ take begin list.old.items ++ (fresh.now ++ drop end list.old.items)) }
-    ensures went { IfOk result (λ d. d.went ≡ left_out T.same list.new.items (take (end - begin) (drop begin list.old.items))) }
+    ensures items { OnOk result (list.new.items
+        ≡ take begin list.old.items ++ (fresh.now ++ drop end list.old.items)) }
+    ensures went { IfOk result (λ d. d.went ≡ left_out T.same list.new.items
+        (take (end - begin) (drop begin list.old.items))) }
     ensures came { IfOk result (λ d. d.came ≡ left_out T.same list.old.items fresh.now) }
 {
     let gone = Vec::from_slice(alloc, &list[begin..end])?;
     let came = missing_from(alloc, list, fresh)?;
-    replace(alloc, list, begin, end, fresh)?;
+    replace(list, begin, end, fresh)?;
     let went = missing_from(alloc, list, &gone)?;
     Ok(Difference { went, came })
 }
 
 // The answer of a change.
 pub(crate) fn answer(musts: Difference<BrokenMust>, steps: Difference<BadSet>) -> StateChange
-    ensures { result ≡ record { musts_went = musts.went; musts_came = musts.came; steps_went = steps.went; steps_came = steps.came } }
+    ensures { result ≡ record {
+      musts_went = musts.went;
+      musts_came = musts.came;
+      steps_went =
+          steps.went;
+      steps_came = steps.came;
+    } }
 {
     let Difference {
         went: musts_went,

@@ -137,7 +137,8 @@ fn extend(spans: &mut Vec<Span>, from: u32, to: u32) -> Result<(), AllocError>
 
 // Puts the piece after the others where the must fails there.
 fn push_piece(spans: &mut Vec<Span>, fails: bool, from: u32, to: u32) -> Result<(), AllocError>
-    ensures { OnOk result (spans.new.items ≡ (if fails then joined spans.old.items (span from to ∷ []) else spans.old.items)) }
+    ensures { OnOk result (spans.new.items ≡ (if fails then joined spans.old.items
+        (span from to ∷ []) else spans.old.items)) }
 {
     if fails {
         extend(spans, from, to)
@@ -157,7 +158,9 @@ fn failing_spans(
 ) -> Result<Vec<Span>, AllocError>
     requires some { window.from ≤ window.to }
     requires ordered { AreInOrder 0 sets.now }
-    ensures { IfOk result (λ v. v.items ≡ spans_of (λ t. not (state_from base t value sets.now == state)) window.from (window.to - window.from)) }
+    ensures { IfOk result (λ v. v.items ≡ spans_of
+        (λ t. not (state_from base t value sets.now == state)) window.from
+        (window.to - window.from)) }
 {
     let mut spans = Vec::new(alloc);
     let mut at = window.from;
@@ -192,7 +195,9 @@ fn spans_of_must(
     must: Must,
 ) -> Result<Vec<Span>, AllocError>
     requires { AreInOrder 0 sets.now }
-    ensures { IfOk result (λ v. v.items ≡ spans_of (λ t. not (state_from base t value sets.now == must.state)) (max must.from present.from) (min must.to present.to - max must.from present.from)) }
+    ensures { IfOk result (λ v. v.items ≡ spans_of
+        (λ t. not (state_from base t value sets.now == must.state)) (max must.from present.from)
+        (min must.to present.to - max must.from present.from)) }
 {
     let window = window_of(present, must.from, must.to);
     failing_spans(alloc, sets, base, value, must.state, window)

@@ -100,8 +100,10 @@ fn mend_musts(
     requires ordered { AreInOrder 0 sets.now }
     requires was { WasRight near present sets.now musts.now broken.old.items }
     ensures broken { OnOk result (broken.new.items ≡ broken_at present sets.now musts.now) }
-    ensures went { IfOk result (λ d. d.went ≡ left_out same_broken broken.new.items broken.old.items) }
-    ensures came { IfOk result (λ d. d.came ≡ left_out same_broken broken.old.items broken.new.items) }
+    ensures went { IfOk result (λ d. d.went ≡ left_out same_broken broken.new.items
+        broken.old.items) }
+    ensures came { IfOk result (λ d. d.came ≡ left_out same_broken broken.old.items
+        broken.new.items) }
 {
     let keys = musts.touched(alloc, near)?;
     let difference = renew(alloc, sets, present, musts.as_slice(), &keys, broken)?;
@@ -119,12 +121,14 @@ pub(crate) fn mend(
     musts: &Musts,
     told: &mut Told,
 ) -> Result<StateChange, AllocError>
-    requires right { IsRightBut near any steps.now present sets.now musts.now told.old.broken.items told.old.bad.items }
+    requires right { IsRightBut near any steps.now present sets.now musts.now told.old.broken.items
+        told.old.bad.items }
     requires sorted { AreSorted bad_key told.old.bad.items }
     ensures broken { OnOk result (told.new.broken.items ≡ broken_at present sets.now musts.now) }
     ensures bad { OnOk result (told.new.bad.items ≡ bad_at any steps.now present sets.now) }
     ensures sorted { OnOk result (AreSorted bad_key told.new.bad.items) }
-    ensures change { IfOk result (λ c. AreChanges told.old.broken.items told.new.broken.items told.old.bad.items told.new.bad.items c) }
+    ensures change { IfOk result (λ c. AreChanges told.old.broken.items told.new.broken.items
+        told.old.bad.items told.new.bad.items c) }
 {
     let list = sets.as_slice();
     let of_musts = mend_musts(alloc, present, near, list, musts, &mut told.broken)?;

@@ -15,7 +15,7 @@ pub replace-requires-clause-begin : goal.replace-requires-clause-begin
 replace-requires-clause-begin c =
     let r = c.in_ok-renewal.renewal in
     let begun : IsBegun (group_at c.args.present c.args.sets.now) c.args.musts.now c.args.broken.now.items [] r.begin r.passed r.taken r.fresh.items r.went r.came = subst (λ l. IsBegun (group_at c.args.present c.args.sets.now) c.args.musts.now l [] r.begin r.passed r.taken r.fresh.items r.went r.came) c.deref.ensures.value c.in_ok-renewal.ensures in
-    omega (arith, begun.low, begun.in_broken)
+    begun.low
 
 pub replace-requires-clause-end : goal.replace-requires-clause-end
 replace-requires-clause-end c =
