@@ -7,11 +7,11 @@ use Rattle.std.specs.List.{Contains}
 use Rattle.pl_points.specs.declared.span.Span.{Span}
 use Rattle.pl_points.specs.Lists.{front, back}
 use Rattle.pl_points.specs.Standing.{without}
-use Rattle.pl_points.proofs.Parting.{NonePass, IsParted}
+use Rattle.pl_points.proofs.Parting.{IsParted}
 use Rattle.pl_state.specs.declared.key.Key.{Key}
 use Rattle.pl_state.specs.declared.reservation.Must.{Must}
 use Rattle.pl_state.specs.declared.reservation.Started.{Started}
-use Rattle.pl_state.specs.Keys.{key_of, key_before, is_before, NoneBefore, AreSorted, AreRising, Has, many}
+use Rattle.pl_state.specs.Keys.{key_of, key_before, is_before, NoneBefore, AreRising, Has, many}
 use Rattle.pl_state.specs.Musts.{must_of, must_key, same_must, with_must}
 use Rattle.pl_state.specs.Starts.{started, start_key, same_started, with_started, IsIndex, AreKept}
 use Rattle.pl_state.specs.Near.{touches, touched_keys}

@@ -1,5 +1,5 @@
 -- Sorted lists, and where musts are broken, cut by a test of the key.
-use Rattle.std.proofs.Common.{◌≡◌, ℕ, ◌-◌, ◌==◌, ◌||◌, not, Bool, true, false, cond, List, [], ◌∷◌, ◌++◌, refl, ap, sym, ◌∙◌, subst, min, max, inl, inr, eqb}
+use Rattle.std.proofs.Common.{◌≡◌, ℕ, ◌-◌, ◌==◌, ◌||◌, not, Bool, true, false, cond, List, [], ◌∷◌, ◌++◌, refl, ap, sym, ◌∙◌, subst, min, max, eqb}
 use Rattle.std.proofs.lemmas.Bool.{true≢false, and_parts, eqb-true}
 use Rattle.pl_points.specs.declared.span.Span.{Span}
 use Rattle.pl_points.specs.Lists.{front, back}
@@ -8,7 +8,7 @@ use Rattle.pl_points.proofs.Parting.{NonePass, IsParted}
 use Rattle.pl_state.specs.declared.key.Key.{Key}
 use Rattle.pl_state.specs.declared.reservation.Must.{Must}
 use Rattle.pl_state.specs.declared.answer.BrokenMust.{BrokenMust}
-use Rattle.pl_state.specs.Keys.{key_of, key_before, NoneBefore, AreSorted, Has}
+use Rattle.pl_state.specs.Keys.{key_of, key_before, NoneBefore, AreSorted}
 use Rattle.pl_state.specs.Musts.{must_key, same_must, broken_spans, broken_one}
 use Rattle.pl_state.specs.Lines.{is_in, left_out, same_broken}
 use Rattle.pl_state.specs.Near.{all_of, group_key, AllHave, IsKeyed}

@@ -19,8 +19,8 @@ use crate::reservation::{Must, Setting};
 use pl_lists::Items;
 use std::alloc::{AllocError, Global};
 
-// How far the work has come: where the first change may be, the musts that are passed and the old spans that are
-// taken, what comes in the place of those from the first change on, and what went and came.
+// How far the work has come: where the first change may be, the musts that are passed and the old
+// spans that are taken, what comes in the place of those from there on, and what went and came.
 #[derive(Drop)]
 struct Renewal {
     begin: usize,

@@ -75,8 +75,7 @@ impl StateLine {
           any = any;
           steps = steps.now;
           moment = 0;
-          base =
-              0;
+          base = 0;
           value = start;
           sets = [];
           musts = [];

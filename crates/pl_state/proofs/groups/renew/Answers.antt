@@ -1,8 +1,8 @@
-use Rattle.std.proofs.Common.{◌≡◌, ◌≤◌, ◌++◌, [], length, take, drop, ap, sym, ◌∙◌, subst, arith}
+use Rattle.std.proofs.Common.{◌++◌, [], take, drop, ap, sym, ◌∙◌, subst}
 use Rattle.pl_state.specs.Keys.{AreSorted}
 use Rattle.pl_state.specs.Near.{group_key, AreRightBut, IsBegun}
 use Rattle.pl_state.specs.Present.{group_at}
-use Rattle.pl_state.proofs.Renewing.{IsRenewed, all_keys}
+use Rattle.pl_state.proofs.Renewing.{all_keys}
 use Rattle.pl_state.proofs.groups.renew.Goals as goal
 
 pub renewed-requires-clause-sorted : goal.renewed-requires-clause-sorted

@@ -1,4 +1,4 @@
-use Rattle.std.proofs.Common.{◌≡◌, ◌-◌, ◌++◌, take, drop, refl, ap, ◌∙◌, arith}
+use Rattle.std.proofs.Common.{◌-◌, ◌++◌, take, drop, refl, ap, ◌∙◌, arith}
 use Rattle.pl_state.specs.Sets.{state_from}
 use Rattle.pl_state.specs.Lines.{left_out, same_broken}
 use Rattle.pl_state.specs.Present.{group_at}

@@ -1,4 +1,4 @@
-use Rattle.std.proofs.Common.{◌+◌, ap, sym, ◌∙◌}
+use Rattle.std.proofs.Common.{◌+◌}
 use Rattle.std.proofs.lemmas.List.{take_rest}
 use Rattle.pl_state.proofs.Keys.{sorted_drop}
 use Rattle.pl_state.proofs.Seeking.{run_is}

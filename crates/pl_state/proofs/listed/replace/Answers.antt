@@ -1,4 +1,4 @@
-use Rattle.std.proofs.Common.{◌≡◌, List, ◌++◌, take, drop, map, ap, sym, ◌∙◌, Iter}
+use Rattle.std.proofs.Common.{◌≡◌, ◌++◌, take, drop, map, ap, sym, ◌∙◌, Iter}
 use Rattle.std.specs.declared.iter.Copied.{Copied}
 use Rattle.std.proofs.lemmas.List.{map-id}
 use Rattle.std.proofs.lemmas.Iterator.{YieldsList-from_slice, items_from_drains}

@@ -1,10 +1,10 @@
-use Rattle.std.proofs.Common.{◌≡◌, ap, sym, ◌∙◌, subst}
+use Rattle.std.proofs.Common.{ap, sym, ◌∙◌, subst}
 use Rattle.pl_points.specs.Lists.{front, back}
 use Rattle.pl_state.specs.Keys.{AreSorted}
 use Rattle.pl_state.specs.Sets.{set_key, AreInOrder, is_allowed}
 use Rattle.pl_state.specs.Sorted.{bad_key}
 use Rattle.pl_state.specs.Near.{bad_before, bad_by}
-use Rattle.pl_state.specs.Present.{broken_at, bad_at, WasRight, IsRightBut}
+use Rattle.pl_state.specs.Present.{broken_at, bad_at, WasRight}
 use Rattle.pl_state.proofs.Sorting.{bad_sorted}
 use Rattle.pl_state.proofs.near.mend.Goals as goal
 

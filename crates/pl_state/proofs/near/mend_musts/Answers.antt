@@ -1,11 +1,10 @@
-use Rattle.std.proofs.Common.{◌≡◌, ℕ, List, ap, sym, ◌∙◌, subst}
+use Rattle.std.proofs.Common.{List, ap, sym, ◌∙◌, subst}
 use Rattle.pl_state.specs.declared.reservation.Must.{Must}
 use Rattle.pl_state.specs.declared.answer.BrokenMust.{BrokenMust}
-use Rattle.pl_state.specs.Keys.{AreSorted, AreRising}
+use Rattle.pl_state.specs.Keys.{AreSorted}
 use Rattle.pl_state.specs.Musts.{must_key, broken_one}
 use Rattle.pl_state.specs.Near.{touches, group_key, AreRightBut}
 use Rattle.pl_state.specs.Present.{group_at, broken_at, WasRight}
-use Rattle.pl_state.specs.Lines.{left_out, same_broken}
 use Rattle.pl_state.proofs.Parts.{one_keyed, all_sorted}
 use Rattle.pl_state.proofs.Renewing.{right_near}
 use Rattle.pl_state.proofs.near.mend_musts.Goals as goal

@@ -1,4 +1,4 @@
-use Rattle.std.proofs.Common.{◌≡◌, false, arith, sym, subst}
+use Rattle.std.proofs.Common.{false, arith, sym, subst}
 use Rattle.pl_state.specs.Sets.{AreInOrder, setting_of}
 use Rattle.pl_state.specs.Present.{present_of}
 use Rattle.pl_state.specs.Lines.{Standing, IsSound, AreChanges, make, broken_now, bad_now}

@@ -1,4 +1,4 @@
-use Rattle.std.proofs.Common.{◌≡◌, ◌≤◌, false, arith, ap, sym, ◌∙◌, subst}
+use Rattle.std.proofs.Common.{◌≡◌, false, arith, ap, ◌∙◌, subst}
 use Rattle.pl_points.specs.Lists.{back}
 use Rattle.pl_state.specs.Sets.{is_passed}
 use Rattle.pl_state.specs.Near.{next_moment}

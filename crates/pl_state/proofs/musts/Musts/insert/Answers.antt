@@ -1,7 +1,7 @@
-use Rattle.std.proofs.Common.{◌≡◌, ◌∷◌, ◌++◌, take, drop, ap, sym, ◌∙◌, subst}
+use Rattle.std.proofs.Common.{◌≡◌, ap, sym, ◌∙◌, subst}
 use Rattle.pl_state.specs.Keys.{AreSorted}
 use Rattle.pl_state.specs.Musts.{must_key, with_must}
-use Rattle.pl_state.specs.Starts.{started, with_started, AreKept}
+use Rattle.pl_state.specs.Starts.{AreKept}
 use Rattle.pl_state.proofs.Keys.{placed, put_in}
 use Rattle.pl_state.proofs.Indexing.{kept_with, kept_more}
 use Rattle.pl_state.proofs.musts.Musts.insert.Goals as goal

@@ -1,8 +1,7 @@
-use Rattle.std.proofs.Common.{◌≡◌, ◌++◌, suc, take, drop, ap, sym, ◌∙◌, subst}
+use Rattle.std.proofs.Common.{◌≡◌, ◌++◌, suc, take, drop, sym, ◌∙◌, subst}
 use Rattle.pl_points.specs.Standing.{without}
-use Rattle.pl_state.specs.Keys.{AreSorted}
-use Rattle.pl_state.specs.Musts.{must_key, same_must}
-use Rattle.pl_state.specs.Starts.{started, same_started, AreKept}
+use Rattle.pl_state.specs.Musts.{same_must}
+use Rattle.pl_state.specs.Starts.{AreKept}
 use Rattle.pl_state.proofs.Indexing.{kept_without}
 use Rattle.pl_state.proofs.musts.Musts.remove.Goals as goal
 

@@ -1,7 +1,5 @@
-use Rattle.std.proofs.Common.{◌≡◌, sym, subst}
-use Rattle.pl_state.specs.declared.reservation.Must.{Must}
+use Rattle.std.proofs.Common.{sym, subst}
 use Rattle.pl_state.specs.Keys.{Has}
-use Rattle.pl_state.specs.Starts.{started}
 use Rattle.pl_state.proofs.Indexing.{kept_has}
 use Rattle.pl_state.proofs.musts.Musts.touched.Goals as goal
 

@@ -1,4 +1,4 @@
-use Rattle.std.proofs.Common.{◌≡◌, ◌≤◌, ◌-◌, ◌∷◌, ◌++◌, take, drop, ap, sym, ◌∙◌, subst, max, arith}
+use Rattle.std.proofs.Common.{◌≡◌, ◌-◌, ap, sym, ◌∙◌, subst, max, arith}
 use Rattle.pl_state.specs.declared.reservation.Started.{Started}
 use Rattle.pl_state.specs.Starts.{started, start_key, with_started, IsIndex}
 use Rattle.pl_state.proofs.Keys.{placed, put_in}

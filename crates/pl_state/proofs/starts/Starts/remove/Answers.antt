@@ -1,7 +1,7 @@
-use Rattle.std.proofs.Common.{◌≡◌, ◌++◌, suc, take, drop, ap, sym, ◌∙◌, subst}
+use Rattle.std.proofs.Common.{◌≡◌, ◌++◌, suc, take, drop, sym, ◌∙◌, subst}
 use Rattle.pl_points.specs.Standing.{without}
 use Rattle.pl_state.specs.declared.reservation.Started.{Started}
-use Rattle.pl_state.specs.Starts.{started, start_key, same_started, IsIndex}
+use Rattle.pl_state.specs.Starts.{started, same_started, IsIndex}
 use Rattle.pl_state.proofs.Indexing.{index_without, knows_started}
 use Rattle.pl_state.proofs.starts.Starts.remove.Goals as goal
 
