@@ -1,6 +1,6 @@
 -- Lists that are sorted by keys.
-use Rattle.std.proofs.Common.{◌≡◌, ℕ, ◌<◌, ◌≤◌, ◌&&◌, ◌||◌, ◌==◌, not, Bool, true, false, cond, List, [], ◌∷◌, ◌++◌, take, drop, refl, ap, sym, ◌∙◌, subst, arith, eqb, ltb, leb, inl, inr, zero, suc}
-use Rattle.std.proofs.lemmas.Bool.{true≢false, and_parts, or_parts, or_cases, eqb-true, eqb-false, ltb-true, ltb-false, lt-ltb, le-ltb}
+use Rattle.std.proofs.Common.{◌≡◌, ℕ, ◌≤◌, ◌&&◌, ◌||◌, not, Bool, true, false, cond, List, [], ◌∷◌, ◌++◌, take, drop, refl, ap, sym, ◌∙◌, subst, arith, eqb, ltb, inl, inr, zero, suc}
+use Rattle.std.proofs.lemmas.Bool.{true≢false, and_parts, or_parts, or_cases, eqb-true, eqb-false, ltb-true, ltb-false, le-ltb}
 use Rattle.pl_points.specs.Lists.{front, back}
 use Rattle.pl_points.specs.Standing.{without}
 use Rattle.pl_points.proofs.Parting.{NonePass, IsParted}
@@ -55,6 +55,9 @@ behind_both a b c e f = not_before a c (follows_on a b c (follows a b e) (follow
 
 pub follows_itself : (a : Key) → Follows a a
 follows_itself a = (omega arith, λ _. (omega arith, λ _. omega arith))
+
+pub before_itself : (k : Key) → key_before k k ≡ false
+before_itself k = not_before k k (follows_itself k)
 
 lex_true : (a b : ℕ) (more : Bool) → (ltb a b || (eqb a b && more)) ≡ true → IsNotBefore b a (more ≡ true)
 lex_true a b more e = elim (or_cases (ltb a b) _ e) [

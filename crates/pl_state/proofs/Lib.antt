@@ -10,3 +10,6 @@ pub mod Steps
 pub mod Windows
 pub mod Changing
 pub mod Sorting
+pub mod Parts
+pub mod Renewing
+pub mod Indexing

@@ -25,7 +25,7 @@ or_yes : (b : Bool) → (b || true) ≡ true
 or_yes true = refl
 or_yes false = refl
 
-in_append : {T : Type 0} (same : T → T → Bool) (xs ys : List T) (x : T) → is_in same (xs ++ ys) x ≡ (is_in same xs x || is_in same ys x)
+pub in_append : {T : Type 0} (same : T → T → Bool) (xs ys : List T) (x : T) → is_in same (xs ++ ys) x ≡ (is_in same xs x || is_in same ys x)
 in_append same [] ys x = refl
 in_append same (z ∷ zs) ys x = ap (λ b. same z x || b) (in_append same zs ys x) ∙ sym (or_assoc (same z x) (is_in same zs x) (is_in same ys x))
 

@@ -5,28 +5,28 @@ use Rattle.pl_state.specs.declared.reservation.Must.{Must}
 use Rattle.pl_state.specs.declared.answer.BadSet.{BadSet}
 use Rattle.pl_state.specs.declared.answer.BrokenMust.{BrokenMust}
 use Rattle.pl_state.specs.declared.answer.StateChange.{StateChange}
+use Rattle.pl_state.specs.Keys.{AreSorted}
+use Rattle.pl_state.specs.Sorted.{bad_key}
 use Rattle.pl_state.specs.Sets.{AreInOrder, state_from, is_allowed, bad_from}
-use Rattle.pl_state.specs.Musts.{broken_one}
-use Rattle.pl_state.specs.Near.{all_of, counts_of}
+use Rattle.pl_state.specs.Present.{present_of, broken_at, bad_at}
 use Rattle.pl_state.proofs.Grouping.{all_is, bad_itself}
 use Rattle.pl_state.proofs.Lists.{left_self}
 use Rattle.pl_state.specs.Lines.{Standing, IsSound, AreChanges, make, broken_now, bad_now, left_out, same_broken, same_bad}
 
-pub sound_renewed : (h : ℕ) (any : Bool) (steps steps' : List (ℕ × ℕ)) (moment base value : ℕ) (sets sets' : List Setting) (musts musts' : List Must) (broken : List BrokenMust) (counts : List ℕ) (bad : List BadSet)
-    → moment ≤ h → base ≤ moment → AreInOrder 0 sets → steps' ≡ steps → sets' ≡ sets → musts' ≡ musts
-    → broken ≡ all_of (broken_one (λ t. state_from base t value sets') moment h) musts' → counts ≡ counts_of (broken_one (λ t. state_from base t value sets') moment h) musts'
-    → bad ≡ bad_from (is_allowed any steps') base h moment value sets' → IsSound (make false h any steps moment base value sets musts) broken counts bad
-sound_renewed h any steps steps' moment base value sets sets' musts musts' broken counts bad in_time based ordered same_steps same_sets same_musts is_broken is_counts is_bad = record {
+pub sound_renewed : (h : ℕ) (any : Bool) (steps steps' : List (ℕ × ℕ)) (moment base value : ℕ) (sets : List Setting) (musts : List Must) (broken : List BrokenMust) (bad : List BadSet)
+    → moment ≤ h → base ≤ moment → AreInOrder 0 sets → steps' ≡ steps → broken ≡ broken_at (present_of moment h base value) sets musts
+    → bad ≡ bad_at any steps' (present_of moment h base value) sets → AreSorted bad_key bad → IsSound (make false h any steps moment base value sets musts) broken bad
+sound_renewed h any steps steps' moment base value sets musts broken bad in_time based ordered same_steps is_broken is_bad sorted = record {
   in_time = in_time;
   based = based;
   ordered = ordered;
-  musts = is_broken ∙ (ap (λ l. all_of (broken_one (λ t. state_from base t value l) moment h) musts') same_sets ∙ (ap (all_of (broken_one (λ t. state_from base t value sets) moment h)) same_musts ∙ sym (all_is (λ t. state_from base t value sets) moment h musts)));
-  counted = is_counts ∙ (ap (λ l. counts_of (broken_one (λ t. state_from base t value l) moment h) musts') same_sets ∙ ap (counts_of (broken_one (λ t. state_from base t value sets) moment h)) same_musts);
-  sets = is_bad ∙ (ap (λ l. bad_from (is_allowed any steps') base h moment value l) same_sets ∙ ap (λ l. bad_from (is_allowed any l) base h moment value sets) same_steps);
+  musts = is_broken ∙ sym (all_is (λ t. state_from base t value sets) moment h musts);
+  sets = is_bad ∙ ap (λ l. bad_from (is_allowed any l) base h moment value sets) same_steps;
+  sorted = sorted;
 }
 
-pub renewed_changes : (s s' : Standing) (broken broken' : List BrokenMust) (counts counts' : List ℕ) (bad bad' : List BadSet) (change : StateChange) → IsSound s broken counts bad → IsSound s' broken' counts' bad' → AreChanges broken broken' bad bad' change → AreChanges (broken_now s) (broken_now s') (bad_now s) (bad_now s') change
-renewed_changes s s' broken broken' counts counts' bad bad' change one other is = record {
+pub renewed_changes : (s s' : Standing) (broken broken' : List BrokenMust) (bad bad' : List BadSet) (change : StateChange) → IsSound s broken bad → IsSound s' broken' bad' → AreChanges broken broken' bad bad' change → AreChanges (broken_now s) (broken_now s') (bad_now s) (bad_now s') change
+renewed_changes s s' broken broken' bad bad' change one other is = record {
   musts_went = is.musts_went ∙ (ap (λ l. left_out same_broken l broken) other.musts ∙ ap (left_out same_broken (broken_now s')) one.musts);
   musts_came = is.musts_came ∙ (ap (λ l. left_out same_broken l broken') one.musts ∙ ap (left_out same_broken (broken_now s)) other.musts);
   steps_went = is.steps_went ∙ (ap (λ l. left_out same_bad l bad) other.sets ∙ ap (left_out same_bad (bad_now s')) one.sets);

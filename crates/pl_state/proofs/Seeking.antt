@@ -1,24 +1,22 @@
 -- A search for an item of a sorted list.
-use Rattle.std.proofs.Common.{◌≡◌, ℕ, ◌<◌, ◌≤◌, ◌||◌, not, Bool, true, false, cond, List, [], ◌∷◌, ◌++◌, length, take, drop, get_or, refl, ap, sym, ◌∙◌, subst, arith, zero, suc}
+use Rattle.std.proofs.Common.{◌≡◌, ℕ, ◌+◌, ◌-◌, ◌<◌, ◌≤◌, Bool, true, false, cond, List, [], ◌∷◌, ◌++◌, length, take, drop, get_or, refl, ap, sym, ◌∙◌, subst, arith, zero, suc}
 use Rattle.std.proofs.lemmas.Bool.{true≢false}
 use Rattle.std.proofs.lemmas.List.{append_assoc, take-append-drop, drop_all}
 use Rattle.pl_points.specs.Lists.{front, back}
 use Rattle.pl_points.specs.Standing.{without}
 use Rattle.pl_points.proofs.Parting.{drop_next}
 use Rattle.pl_state.specs.declared.key.Key.{Key}
-use Rattle.pl_state.specs.Keys.{key_before, NoneBefore, AreSorted, KnowsKey}
+use Rattle.pl_state.specs.Keys.{key_before, is_before, is_up_to, NoneBefore, AreSorted, KnowsKey, IsRun}
 use Rattle.pl_state.specs.Near.{rest_after}
 use Rattle.pl_state.specs.Lines.{is_in}
-use Rattle.pl_state.proofs.Keys.{follows_itself, not_before, behind_both, one_way, sorted_drop}
+use Rattle.pl_state.proofs.Grouping.{drop_drop}
+use Rattle.pl_state.proofs.Keys.{before_itself, behind_both, sorted_drop}
 
 -- none stands before the place
 pub record IsSought {T : Type 0} (same : T → T → Bool) (u : T) (xs : List T) (i : ℕ) : Type 0 where
   pub among : is_in same (drop i xs) u ≡ is_in same xs u
   pub gone : take i xs ++ without same u (drop i xs) ≡ without same u xs
   pub rest : rest_after same u (drop i xs) ≡ rest_after same u xs
-
-pub before_itself : (k : Key) → key_before k k ≡ false
-before_itself k = not_before k k (follows_itself k)
 
 -- one with an earlier key is another, and so is one with a later key
 pub earlier_other : {T : Type 0} (key : T → Key) (same : T → T → Bool) → KnowsKey key same → (u x : T) → key_before (key x) (key u) ≡ true → same x u ≡ false
@@ -96,7 +94,7 @@ pub record IsMissing {T : Type 0} (same : T → T → Bool) (u : T) (xs : List T
   pub gone : without same u xs ≡ xs
   pub rest : rest_after same u xs ≡ []
 
-none_same : {T : Type 0} (key : T → Key) (same : T → T → Bool) → KnowsKey key same → (u : T) (k : Key) (xs : List T) → key_before (key u) k ≡ true → NoneBefore key k xs → IsMissing same u xs
+pub none_same : {T : Type 0} (key : T → Key) (same : T → T → Bool) → KnowsKey key same → (u : T) (k : Key) (xs : List T) → key_before (key u) k ≡ true → NoneBefore key k xs → IsMissing same u xs
 none_same key same known u k [] lt none = record { among = refl; gone = refl; rest = refl }
 none_same key same known u k (x ∷ xs) lt none =
     let more = none_same key same known u k xs lt none.1 in
@@ -124,3 +122,16 @@ pub sought_end : {T : Type 0} (same : T → T → Bool) (u : T) (xs : List T) (i
 sought_end same u xs i sought le =
     let e : drop i xs ≡ [] = drop_all i xs le in
     missed same u xs i sought (subst (λ l. IsMissing same u l) (sym e) (record { among = refl; gone = refl; rest = refl })) (take-append-drop i xs)
+
+-- two searches find those with a key
+pub run_is : {T : Type 0} (key : T → Key) (k : Key) (xs slice rest : List T) (f n m : ℕ) → slice ≡ drop f xs → rest ≡ drop (f + n) xs → take n slice ≡ front (is_before key k) slice → drop n slice ≡ back (is_before key k) slice
+    → take m rest ≡ front (is_up_to key k) rest → drop m rest ≡ back (is_up_to key k) rest → IsRun key k xs f (f + n) ((f + n) + m)
+run_is key k xs slice rest f n m is is_rest one two three four =
+    let first : (f + n) - f ≡ n = omega arith in
+    let second : ((f + n) + m) - (f + n) ≡ m = omega arith in
+    record {
+      before = ap (λ i. take i (drop f xs)) first ∙ subst (λ l. take n l ≡ front (is_before key k) l) is one;
+      on = sym (drop_drop f n xs) ∙ subst (λ l. drop n l ≡ back (is_before key k) l) is two;
+      having = ap (λ i. take i (drop (f + n) xs)) second ∙ subst (λ l. take m l ≡ front (is_up_to key k) l) is_rest three;
+      rest = sym (drop_drop (f + n) m xs) ∙ subst (λ l. drop m l ≡ back (is_up_to key k) l) is_rest four;
+    }

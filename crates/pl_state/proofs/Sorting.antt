@@ -1,5 +1,6 @@
 -- Both lists that are told are sorted.
-use Rattle.std.proofs.Common.{◌≡◌, ℕ, ◌+◌, ◌-◌, ◌≤◌, ◌<◌, ◌==◌, ◌≢◌, ◌&&◌, not, Bool, true, false, cond, List, [], ◌∷◌, ◌++◌, refl, ap, sym, ◌∙◌, arith, min, max, suc, inl, inr}
+use Rattle.std.proofs.Common.{◌≡◌, ℕ, ◌+◌, ◌-◌, ◌≤◌, ◌<◌, ◌==◌, ◌≢◌, not, Bool, true, false, cond, List, [], ◌∷◌, ◌++◌, refl, ap, sym, ◌∙◌, arith, min, max, suc, inl, inr, eqb}
+use Rattle.std.proofs.lemmas.Bool.{and_parts, eqb-true}
 use Rattle.pl_points.specs.declared.span.Span.{Span}
 use Rattle.pl_points.specs.Spans.{AreApart, spans_of}
 use Rattle.pl_points.proofs.Maximal.{maximal_spans}
@@ -12,6 +13,8 @@ use Rattle.pl_state.specs.Keys.{key_of, key_before, NoneBefore, Has, AreSorted}
 use Rattle.pl_state.specs.Sorted.{NoneHas, AreDistinct, bad_key, broken_key}
 use Rattle.pl_state.specs.Sets.{set_key, is_counted, bad_set, bad_from}
 use Rattle.pl_state.specs.Musts.{must_key, broken_spans, broken_one, broken_all}
+use Rattle.pl_state.specs.Lines.{same_bad}
+use Rattle.pl_state.specs.Near.{AreBadInOrder}
 use Rattle.pl_state.proofs.Keys.{Follows, follows, not_before}
 use Rattle.pl_state.proofs.Steps.{told}
 
@@ -99,7 +102,7 @@ has_key key k x (y ∷ ys) none has e = elim has [
   | inr f ↦ has_key key k x ys none.1 f e
 ]
 
-has_none : {T : Type 0} (key : T → Key) (k : Key) (x : T) (xs : List T) → NoneBefore key k xs → Has x xs → key_before (key x) k ≡ false
+pub has_none : {T : Type 0} (key : T → Key) (k : Key) (x : T) (xs : List T) → NoneBefore key k xs → Has x xs → key_before (key x) k ≡ false
 has_none key k x [] none has = absurd has
 has_none key k x (y ∷ ys) none has = elim has [
   | inl f ↦ ap (λ z. key_before (key z) k) (sym f) ∙ none.0
@@ -140,3 +143,18 @@ same_lists key (x ∷ xs) (y ∷ ys) one two d e to from =
     ap (λ z. z ∷ xs) (sym f) ∙ ap (λ l. y ∷ l) (same_lists key xs ys one.1 two.1 d.1 e.1
     (λ z has. tails_hold key x y z xs ys f d.0 has (to z (inr has)))
     (λ z has. tails_hold key y x z ys xs (sym f) e.0 has (from z (inr has))))
+
+-- sorted sets stand by rising moments
+rising_from : (k : Key) (l : List BadSet) → NoneBefore bad_key k l → AreSorted bad_key l → AreBadInOrder k.at l
+rising_from k [] none sorted = tt
+rising_from k (x ∷ xs) none sorted = ((follows (bad_key x) k none.0).0, rising_from (bad_key x) xs sorted.0 sorted.1)
+
+pub sorted_rising : (l : List BadSet) → AreSorted bad_key l → AreBadInOrder 0 l
+sorted_rising [] sorted = tt
+sorted_rising (x ∷ xs) sorted = (omega arith, rising_from (bad_key x) xs sorted.0 sorted.1)
+
+pub knows_bad : (x y : BadSet) → same_bad x y ≡ true → bad_key x ≡ bad_key y
+knows_bad x y e =
+    let one = and_parts (eqb x.at y.at) _ e in
+    let two = and_parts (eqb x.id y.id) _ one.1 in
+    ap (λ n. key_of n x.id x.index) (eqb-true x.at y.at one.0) ∙ (ap (λ n. key_of y.at n x.index) (eqb-true x.id y.id two.0) ∙ ap (λ n. key_of y.at y.id n) (eqb-true x.index y.index two.1))

@@ -4,6 +4,8 @@ pub use Rattle.pl_points.specs.Standing
 pub mod Keys
 pub mod Sets
 pub mod Musts
+pub mod Starts
 pub mod Near
+pub mod Present
 pub mod Lines
 pub mod Sorted

@@ -6,8 +6,9 @@ use Rattle.pl_state.specs.declared.answer.BadSet.{BadSet}
 use Rattle.pl_state.specs.declared.answer.BrokenMust.{BrokenMust}
 use Rattle.pl_state.specs.declared.answer.StateChange.{StateChange}
 use Rattle.pl_state.specs.Sets.{AreInOrder, state_from, is_allowed, bad_from}
-use Rattle.pl_state.specs.Musts.{broken_one, broken_all}
-use Rattle.pl_state.specs.Near.{counts_of}
+use Rattle.pl_state.specs.Musts.{broken_all}
+use Rattle.pl_state.specs.Keys.{AreSorted}
+use Rattle.pl_state.specs.Sorted.{bad_key}
 
 -- the base's moment is 0 at first, before every set. The sets stand by moment, id and index, the musts by id and index
 pub record Standing : Type 0 where
@@ -30,13 +31,13 @@ broken_now s = broken_all (λ t. state_from s.base t s.value s.sets) s.moment s.
 abbrev pub bad_now : Standing → List BadSet
 bad_now s = bad_from (is_allowed s.any s.steps) s.base s.horizon s.moment s.value s.sets
 
-pub record IsSound (state : Standing) (broken : List BrokenMust) (counts : List ℕ) (bad : List BadSet) : Type 0 where
+pub record IsSound (state : Standing) (broken : List BrokenMust) (bad : List BadSet) : Type 0 where
   pub in_time : state.moment ≤ state.horizon
   pub based : state.base ≤ state.moment
   pub ordered : AreInOrder 0 state.sets
   pub musts : broken ≡ broken_now state
-  pub counted : counts ≡ counts_of (broken_one (state_at state) state.moment state.horizon) state.musts
   pub sets : bad ≡ bad_now state
+  pub sorted : AreSorted bad_key bad
 
 -- those that are not among the others
 abbrev pub is_in : {T : Type 0} → (T → T → Bool) → List T → T → Bool

@@ -1,10 +1,16 @@
 -- What a change may touch: a window of moments, the musts that have moments of it, and the sets in it.
-use Rattle.std.specs.Prelude.{◌≡◌, ℕ, ◌≤◌, ◌&&◌, nat_lt, nat_le, min, Bool, false, List, [], ◌∷◌, ◌++◌, length, take, drop, if◌then◌else◌}
+use Rattle.std.specs.Prelude.{◌≡◌, ℕ, ◌≤◌, ◌&&◌, nat_lt, nat_le, min, Bool, List, [], ◌∷◌, ◌++◌, length, take, drop, if◌then◌else◌}
+use Rattle.pl_points.specs.Lists.{front, back}
 use Rattle.pl_points.specs.declared.span.Span.{Span}
 use Rattle.pl_state.specs.declared.reservation.Setting.{Setting}
 use Rattle.pl_state.specs.declared.reservation.Must.{Must}
 use Rattle.pl_state.specs.declared.answer.BadSet.{BadSet}
 use Rattle.pl_state.specs.declared.answer.BrokenMust.{BrokenMust}
+use Rattle.pl_state.specs.declared.reservation.Started.{Started}
+use Rattle.pl_state.specs.declared.key.Key.{Key}
+use Rattle.pl_state.specs.Keys.{key_of, is_before, is_up_to}
+use Rattle.pl_state.specs.Musts.{must_key}
+use Rattle.pl_state.specs.Lines.{left_out, same_broken}
 
 -- whether a must has moments of the window
 abbrev pub touches : Span → Must → Bool
@@ -15,27 +21,31 @@ abbrev pub all_of : (Must → List BrokenMust) → List Must → List BrokenMust
 all_of group [] = []
 all_of group (m ∷ more) = group m ++ all_of group more
 
--- how many each must has
-abbrev pub counts_of : (Must → List BrokenMust) → List Must → List ℕ
-counts_of group [] = []
-counts_of group (m ∷ more) = length (group m) ∷ counts_of group more
+-- the key of the must that is broken
+abbrev pub group_key : BrokenMust → Key
+group_key b = key_of 0 b.id b.index
 
--- the broken spans lie in groups of these numbers, one for each must, and that of each must that is not touched is right
-abbrev pub AreGroups : (Must → Bool) → (Must → List BrokenMust) → List Must → List ℕ → List BrokenMust → Type 0
-AreGroups touched group [] counts broken = broken ≡ []
-AreGroups touched group (m ∷ more) [] broken = ⊥
-AreGroups touched group (m ∷ more) (n ∷ counts) broken = (n ≤ length broken) × (touched m ≡ false → take n broken ≡ group m) × AreGroups touched group more counts (drop n broken)
+-- the spans of a must have its key
+abbrev pub AllHave : Key → List BrokenMust → Type 0
+AllHave k [] = Unit {0}
+AllHave k (b ∷ bs) = (group_key b ≡ k) × AllHave k bs
 
--- the groups of those that are touched
-abbrev pub gone_of : (Must → Bool) → List Must → List ℕ → List BrokenMust → List BrokenMust
-gone_of touched [] counts broken = []
-gone_of touched (m ∷ more) [] broken = []
-gone_of touched (m ∷ more) (n ∷ counts) broken = (if touched m then take n broken else []) ++ gone_of touched more counts (drop n broken)
+abbrev pub IsKeyed : (Must → List BrokenMust) → Type 0
+IsKeyed group = (m : Must) → AllHave (must_key m) (group m)
 
--- and what they are to be
-abbrev pub fresh_of : (Must → Bool) → (Must → List BrokenMust) → List Must → List BrokenMust
-fresh_of touched group [] = []
-fresh_of touched group (m ∷ more) = (if touched m then group m else []) ++ fresh_of touched group more
+-- what is broken is right, but for musts with these keys, which rise
+abbrev pub AreRightBut : List Key → (Must → List BrokenMust) → List Must → List BrokenMust → Type 0
+AreRightBut [] group musts broken = broken ≡ all_of group musts
+AreRightBut (k ∷ keys) group musts broken =
+    (front (is_before group_key k) broken ≡ all_of group (front (is_before must_key k) musts))
+    × AreRightBut keys group (back (is_up_to must_key k) (back (is_before must_key k) musts))
+    (back (is_up_to group_key k) (back (is_before group_key k) broken))
+
+-- the keys of the musts that have moments of the window
+abbrev pub touched_keys : Span → List Started → List Key
+touched_keys near [] = []
+touched_keys near (s ∷ more) =
+    (if touches near s.must then must_key s.must ∷ [] else []) ++ touched_keys near more
 
 -- the moment of the first of the sets, at most the horizon
 abbrev pub next_moment : ℕ → List Setting → ℕ
@@ -65,3 +75,16 @@ AreBadInOrder from (x ∷ xs) = (from ≤ x.at) × AreBadInOrder x.at xs
 abbrev pub state_before : ℕ → ℕ → ℕ → List Setting → ℕ
 state_before base at state [] = state
 state_before base at state (x ∷ xs) = state_before base at (if nat_lt base x.at && nat_lt x.at at then x.state else state) xs
+
+-- How far the work on these keys has come: what is left of the musts and of the old spans gives the whole.
+pub record IsBegun (group : Must → List BrokenMust) (musts : List Must) (broken : List BrokenMust) (keys : List Key)
+    (begin passed taken : ℕ) (fresh went came : List BrokenMust) : Type 0 where
+  pub in_musts : passed ≤ length musts
+  pub in_broken : taken ≤ length broken
+  pub low : begin ≤ taken
+  pub right : AreRightBut keys group (drop passed musts) (drop taken broken)
+  pub whole : take begin broken ++ (fresh ++ all_of group (drop passed musts)) ≡ all_of group musts
+  pub gone : went ++ left_out same_broken (all_of group (drop passed musts)) (drop taken broken)
+      ≡ left_out same_broken (all_of group musts) broken
+  pub new : came ++ left_out same_broken (drop taken broken) (all_of group (drop passed musts))
+      ≡ left_out same_broken broken (all_of group musts)

@@ -1,239 +1,154 @@
-//! The broken spans of the musts, in groups: one for each must, in the order of the musts.
-ghost use Rattle.std.specs.Prelude.{◌≡◌, ◌<◌, ◌≤◌, ◌^◌, ◌++◌, ◌∷◌, [], ℕ, Bool, false, suc, sum, length, take, drop, OnOk, IfOk, if◌then◌else◌};
-ghost use Rattle.pl_state.specs.Sets.{AreInOrder, state_from};
-ghost use Rattle.pl_state.specs.Musts.{with_must, broken_one};
+//! Where the musts are broken: the spans of each must behind those of the one before it.
+ghost use Rattle.std.specs.Prelude.{◌≡◌, ◌≤◌, ◌∷◌, [], List, length, OnOk, IfOk};
+ghost use Rattle.pl_state.specs.declared.key.Key.{Key};
+ghost use Rattle.pl_state.specs.declared.reservation.Must.{Must};
+ghost use Rattle.pl_state.specs.declared.answer.BrokenMust.{BrokenMust};
+ghost use Rattle.pl_state.specs.Keys.{AreSorted};
+ghost use Rattle.pl_state.specs.Sets.{AreInOrder};
+ghost use Rattle.pl_state.specs.Musts.{must_key};
 ghost use Rattle.pl_state.specs.Lines.{left_out, same_broken};
-ghost use Rattle.pl_state.specs.Near.{touches, all_of, counts_of, AreGroups, gone_of, fresh_of};
+ghost use Rattle.pl_state.specs.Near.{group_key, IsKeyed, AreRightBut, IsBegun};
+ghost use Rattle.pl_state.specs.Present.{group_at, broken_at};
 
 use crate::answer::BrokenMust;
-use crate::listed::{Difference, exchange, missing_from};
-use crate::musts::{Musts, group_of, insert_must};
+use crate::key::{Key, run_of};
+use crate::listed::{Difference, push_missing, replace};
+use crate::musts::groups_of;
+use crate::present::Present;
 use crate::reservation::{Must, Setting};
 use pl_lists::Items;
-use pl_points::Span;
 use std::alloc::{AllocError, Global};
 
-// The groups after a change, how many spans each has, and of those that were touched the old and the fresh spans.
+// How far the work has come: where the first change may be, the musts that are passed and the old
+// spans that are taken, what comes in the place of those from there on, and what went and came.
 #[derive(Drop)]
-struct Mended {
-    broken: Vec<BrokenMust>,
-    counts: Vec<usize>,
-    gone: Vec<BrokenMust>,
+struct Renewal {
+    begin: usize,
+    passed: usize,
+    taken: usize,
     fresh: Vec<BrokenMust>,
+    went: Items<BrokenMust>,
+    came: Items<BrokenMust>,
 }
 
-// Whether the must has moments of the window.
-fn touches(near: Span, must: Must) -> bool
-    ensures { result ≡ touches near must }
+fn renewal_from(alloc: Global, passed: usize, taken: usize) -> Renewal
+    ensures begin { result.begin ≡ taken }
+    ensures passed { result.passed ≡ passed }
+    ensures taken { result.taken ≡ taken }
+    ensures fresh { result.fresh.items ≡ [] }
+    ensures went { result.went ≡ [] }
+    ensures came { result.came ≡ [] }
 {
-    must.from < near.to && near.from < must.to
-}
-
-fn push_group(mended: &mut Mended, group: &[BrokenMust]) -> Result<(), AllocError>
-    ensures broken { OnOk result (mended.new.broken.items ≡ mended.old.broken.items ++ group.now) }
-    ensures counts { OnOk result (mended.new.counts.items ≡ mended.old.counts.items ++ length group.now ∷ []) }
-    ensures gone { OnOk result (mended.new.gone.items ≡ mended.old.gone.items) }
-    ensures fresh { OnOk result (mended.new.fresh.items ≡ mended.old.fresh.items) }
-{
-    mended.broken.extend_from_slice(group)?;
-    mended.counts.push(group.len())?;
-    Ok(())
-}
-
-// Puts the fresh group in the place of the old one.
-fn push_renewed(
-    mended: &mut Mended,
-    group: &[BrokenMust],
-    fresh: &[BrokenMust],
-) -> Result<(), AllocError>
-    ensures broken { OnOk result (mended.new.broken.items ≡ mended.old.broken.items ++ fresh.now) }
-    ensures counts { OnOk result (mended.new.counts.items ≡ mended.old.counts.items ++ length fresh.now ∷ []) }
-    ensures gone { OnOk result (mended.new.gone.items ≡ mended.old.gone.items ++ group.now) }
-    ensures fresh { OnOk result (mended.new.fresh.items ≡ mended.old.fresh.items ++ fresh.now) }
-{
-    mended.gone.extend_from_slice(group)?;
-    mended.fresh.extend_from_slice(fresh)?;
-    push_group(mended, fresh)?;
-    Ok(())
-}
-
-// Works the group out anew if the must is touched, and else keeps it.
-fn mend_group(
-    alloc: Global,
-    mended: &mut Mended,
-    sets: &[Setting],
-    base: u32,
-    value: u32,
-    present: Span,
-    near: Span,
-    must: Must,
-    group: &[BrokenMust],
-) -> Result<(), AllocError>
-    requires ordered { AreInOrder 0 sets.now }
-    requires kept { touches near must ≡ false → group.now ≡ broken_one (λ t. state_from base t value sets.now) present.from present.to must }
-    ensures broken { OnOk result (mended.new.broken.items ≡ mended.old.broken.items ++ broken_one (λ t. state_from base t value sets.now) present.from present.to must) }
-    ensures counts { OnOk result (mended.new.counts.items ≡ mended.old.counts.items ++ length (broken_one (λ t. state_from base t value sets.now) present.from present.to must) ∷ []) }
-    ensures gone { OnOk result (mended.new.gone.items ≡ mended.old.gone.items ++ (if touches near must then group.now else [])) }
-    ensures fresh { OnOk result (mended.new.fresh.items ≡ mended.old.fresh.items ++ (if touches near must then broken_one (λ t. state_from base t value sets.now) present.from present.to must else [])) }
-{
-    if touches(near, must) {
-        let fresh = group_of(alloc, sets, base, value, present, must)?;
-        push_renewed(mended, group, &fresh)?;
-        Ok(())
-    } else {
-        push_group(mended, group)?;
-        Ok(())
-    }
-}
-
-// Goes over the groups, and works those anew that are touched.
-fn mend_groups(
-    alloc: Global,
-    sets: &[Setting],
-    base: u32,
-    value: u32,
-    present: Span,
-    near: Span,
-    musts: &[Must],
-    counts: &[usize],
-    broken: &[BrokenMust],
-) -> Result<Mended, AllocError>
-    requires ordered { AreInOrder 0 sets.now }
-    requires groups { AreGroups (touches near) (broken_one (λ t. state_from base t value sets.now) present.from present.to) musts.now counts.now broken.now }
-    ensures broken { IfOk result (λ m. m.broken.items ≡ all_of (broken_one (λ t. state_from base t value sets.now) present.from present.to) musts.now) }
-    ensures counts { IfOk result (λ m. m.counts.items ≡ counts_of (broken_one (λ t. state_from base t value sets.now) present.from present.to) musts.now) }
-    ensures gone { IfOk result (λ m. m.gone.items ≡ gone_of (touches near) musts.now counts.now broken.now) }
-    ensures fresh { IfOk result (λ m. m.fresh.items ≡ fresh_of (touches near) (broken_one (λ t. state_from base t value sets.now) present.from present.to) musts.now) }
-{
-    let mut mended = Mended {
-        broken: Vec::new(alloc),
-        counts: Vec::new(alloc),
-        gone: Vec::new(alloc),
+    Renewal {
+        begin: taken,
+        passed,
+        taken,
         fresh: Vec::new(alloc),
-    };
-    let mut begin = 0;
-    for (index, must) in musts.iter().enumerate() {
-        let end = begin + counts[index];
-        let group = &broken[begin..end];
-        mend_group(
-            alloc,
-            &mut mended,
-            sets,
-            base,
-            value,
-            present,
-            near,
-            *must,
-            group,
-        )?;
-        begin = end;
+        went: Items::new(alloc),
+        came: Items::new(alloc),
     }
-    Ok(mended)
 }
 
-/// Mends the groups of the musts that have moments of the window, and leaves the others as they are.
-pub(crate) fn mend_musts(
+// Before the first key nothing changes.
+fn begun(alloc: Global, musts: &[Must], keys: &[Key], broken: &[BrokenMust]) -> Renewal
+    requires musts { AreSorted must_key musts.now }
+    requires sorted { AreSorted group_key broken.now }
+    ensures { (group : Must → List BrokenMust) → IsKeyed group
+        → AreRightBut keys.now group musts.now broken.now
+        → IsBegun group musts.now broken.now keys.now result.begin result.passed result.taken
+        result.fresh.items result.went result.came }
+{
+    match keys.first() {
+        None => renewal_from(alloc, musts.len(), broken.len()),
+        Some(key) => {
+            let passed = run_of(musts, 0, *key);
+            let taken = run_of(broken, 0, *key);
+            renewal_from(alloc, passed.begin, taken.begin)
+        }
+    }
+}
+
+// Keeps the spans before those with the key, and works the spans with it out anew.
+fn renew_key(
     alloc: Global,
     sets: &[Setting],
-    base: u32,
-    value: u32,
-    present: Span,
-    near: Span,
+    present: Present,
     musts: &[Must],
-    counts: &mut Vec<usize>,
-    broken: &mut Vec<BrokenMust>,
-) -> Result<Difference<BrokenMust>, AllocError>
+    key: Key,
+    broken: &[BrokenMust],
+    renewal: &mut Renewal,
+) -> Result<(), AllocError>
     requires ordered { AreInOrder 0 sets.now }
-    requires groups { AreGroups (touches near) (broken_one (λ t. state_from base t value sets.now) present.from present.to) musts.now counts.old.items broken.old.items }
-    ensures broken { OnOk result (broken.new.items ≡ all_of (broken_one (λ t. state_from base t value sets.now) present.from present.to) musts.now) }
-    ensures counts { OnOk result (counts.new.items ≡ counts_of (broken_one (λ t. state_from base t value sets.now) present.from present.to) musts.now) }
-    ensures went { IfOk result (λ d. d.went ≡ left_out same_broken broken.new.items broken.old.items) }
-    ensures came { IfOk result (λ d. d.came ≡ left_out same_broken broken.old.items broken.new.items) }
+    requires musts { AreSorted must_key musts.now }
+    requires sorted { AreSorted group_key broken.now }
+    requires in_musts { renewal.old.passed ≤ length musts.now }
+    requires in_broken { renewal.old.taken ≤ length broken.now }
+    ensures { OnOk result ((keys : List Key)
+        → IsBegun (group_at present sets.now) musts.now broken.now (key ∷ keys) renewal.old.begin
+        renewal.old.passed renewal.old.taken renewal.old.fresh.items renewal.old.went renewal.old.came
+        → IsBegun (group_at present sets.now) musts.now broken.now keys renewal.new.begin
+        renewal.new.passed renewal.new.taken renewal.new.fresh.items renewal.new.went renewal.new.came) }
 {
-    let mended = mend_groups(
-        alloc, sets, base, value, present, near, musts, counts, broken,
-    )?;
-    let went = missing_from(alloc, &mended.broken, &mended.gone)?;
-    let came = missing_from(alloc, broken, &mended.fresh)?;
-    let Mended {
-        broken: all,
-        counts: lengths,
-        gone: _gone,
-        fresh: _fresh,
-    } = mended;
-    *broken = all;
-    *counts = lengths;
-    Ok(Difference { went, came })
+    let named = run_of(musts, renewal.passed, key);
+    let old = run_of(broken, renewal.taken, key);
+    let group = groups_of(alloc, sets, present, &musts[named.begin..named.behind])?;
+    let gone = &broken[old.begin..old.behind];
+    push_missing(&mut renewal.went, &group, gone)?;
+    push_missing(&mut renewal.came, gone, &group)?;
+    renewal
+        .fresh
+        .extend_from_slice(&broken[renewal.taken..old.begin])?;
+    renewal.fresh.extend_from_slice(&group)?;
+    renewal.passed = named.behind;
+    renewal.taken = old.behind;
+    Ok(())
 }
 
-// Where the group at the place begins.
-fn offset_of(counts: &[usize], place: usize) -> usize
-    requires place { place ≤ length counts.now }
-    requires fits { sum counts.now < 2 ^ 64 }
-    ensures { result ≡ sum (take place counts.now) }
-{
-    let mut begin = 0;
-    for count in &counts[..place] {
-        begin += *count;
-    }
-    begin
-}
-
-/// Puts the must in its place, with its group.
-pub(crate) fn need_must(
+// What comes in the place of what, for all the keys.
+fn renewed(
     alloc: Global,
     sets: &[Setting],
-    base: u32,
-    value: u32,
-    present: Span,
-    must: Must,
-    musts: &mut Musts,
-    counts: &mut Vec<usize>,
+    present: Present,
+    musts: &[Must],
+    keys: &[Key],
+    broken: &[BrokenMust],
+) -> Result<Renewal, AllocError>
+    requires ordered { AreInOrder 0 sets.now }
+    requires musts { AreSorted must_key musts.now }
+    requires sorted { AreSorted group_key broken.now }
+    requires right { AreRightBut keys.now (group_at present sets.now) musts.now broken.now }
+    ensures { IfOk result (λ r. IsBegun (group_at present sets.now) musts.now broken.now [] r.begin
+        r.passed
+        r.taken r.fresh.items r.went r.came) }
+{
+    let mut renewal = begun(alloc, musts, keys, broken);
+    for key in keys {
+        renew_key(alloc, sets, present, musts, *key, broken, &mut renewal)?;
+    }
+    Ok(renewal)
+}
+
+/// Works out anew where the musts with these keys are broken, and leaves the others as they are.
+pub(crate) fn renew(
+    alloc: Global,
+    sets: &[Setting],
+    present: Present,
+    musts: &[Must],
+    keys: &[Key],
     broken: &mut Vec<BrokenMust>,
 ) -> Result<Difference<BrokenMust>, AllocError>
     requires ordered { AreInOrder 0 sets.now }
-    requires many { length counts.old.items ≡ length musts.old }
-    requires fits { sum counts.old.items ≡ length broken.old.items }
-    requires broken { broken.old.items ≡ all_of (broken_one (λ t. state_from base t value sets.now) present.from present.to) musts.old }
-    requires counts { counts.old.items ≡ counts_of (broken_one (λ t. state_from base t value sets.now) present.from present.to) musts.old }
-    ensures musts { OnOk result (musts.new ≡ with_must must musts.old) }
-    ensures broken { OnOk result (broken.new.items ≡ all_of (broken_one (λ t. state_from base t value sets.now) present.from present.to) (with_must must musts.old)) }
-    ensures counts { OnOk result (counts.new.items ≡ counts_of (broken_one (λ t. state_from base t value sets.now) present.from present.to) (with_must must musts.old)) }
-    ensures went { IfOk result (λ d. d.went ≡ left_out same_broken broken.new.items broken.old.items) }
-    ensures came { IfOk result (λ d. d.came ≡ left_out same_broken broken.old.items broken.new.items) }
+    requires musts { AreSorted must_key musts.now }
+    requires sorted { AreSorted group_key broken.old.items }
+    requires right { AreRightBut keys.now (group_at present sets.now) musts.now broken.old.items }
+    ensures broken { OnOk result (broken.new.items ≡ broken_at present sets.now musts.now) }
+    ensures went { IfOk result (λ d. d.went ≡ left_out same_broken broken.new.items
+        broken.old.items) }
+    ensures came { IfOk result (λ d. d.came ≡ left_out same_broken broken.old.items
+        broken.new.items) }
 {
-    let fresh = group_of(alloc, sets, base, value, present, must)?;
-    let place = insert_must(musts, must)?;
-    let begin = offset_of(counts, place);
-    let group = fresh.as_slice();
-    counts.insert(place, group.len())?;
-    let difference = exchange(alloc, broken, begin, begin, group)?;
-    Ok(difference)
-}
-
-/// Takes the group at the place out, if there is one.
-pub(crate) fn remove_group(
-    alloc: Global,
-    place: usize,
-    counts: &mut Vec<usize>,
-    broken: &mut Vec<BrokenMust>,
-) -> Result<Difference<BrokenMust>, AllocError>
-    requires place { place ≤ length counts.old.items }
-    requires fits { sum counts.old.items ≡ length broken.old.items }
-    ensures counts { OnOk result (counts.new.items ≡ take place counts.old.items ++ drop (suc place) counts.old.items) }
-    ensures broken { OnOk result (broken.new.items ≡ take (sum (take place counts.old.items)) broken.old.items ++ drop (sum (take (suc place) counts.old.items)) broken.old.items) }
-    ensures went { IfOk result (λ d. d.went ≡ left_out same_broken broken.new.items broken.old.items) }
-    ensures came { IfOk result (λ d. d.came ≡ left_out same_broken broken.old.items broken.new.items) }
-{
-    if place == counts.len() {
-        return Ok(Difference {
-            went: Items::new(alloc),
-            came: Items::new(alloc),
-        });
-    }
-    let begin = offset_of(counts, place);
-    let end = begin + counts[place];
-    counts.remove(place);
-    let difference = exchange(alloc, broken, begin, end, &[])?;
-    Ok(difference)
+    let renewal = renewed(alloc, sets, present, musts, keys, broken)?;
+    replace(broken, renewal.begin, renewal.taken, &renewal.fresh)?;
+    let Renewal { went, came, .. } = renewal;
+    Ok(Difference { went, came })
 }

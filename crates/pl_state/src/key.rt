@@ -1,12 +1,12 @@
 ghost use Rattle.std.specs.Prelude.{◌≡◌, ◌≤◌, ◌<◌, ◌++◌, [], suc, length, take, drop, true, not, is_some, IfSome, IfNone};
 ghost use Rattle.pl_points.specs.Lists.{front, back};
 ghost use Rattle.pl_points.specs.Standing.{without};
-ghost use Rattle.pl_state.specs.Keys.{key_before, AreSorted, KnowsKey};
+ghost use Rattle.pl_state.specs.Keys.{key_before, AreSorted, KnowsKey, IsRun};
 ghost use Rattle.pl_state.specs.Near.{rest_after};
 ghost use Rattle.pl_state.specs.Lines.{is_in};
 
 // Where something stands in its list. What has no moment of its own has the moment 0.
-#[derive(Clone, Copy, Debug)]
+#[derive(Clone, Copy, Debug, PartialEq, Eq, PartialOrd, Ord)]
 pub(crate) struct Key {
     pub(crate) at: u32,
     pub(crate) id: u32,
@@ -59,14 +59,37 @@ pub(crate) fn count_up_to<T: Keyed>(list: &[T], key: Key) -> usize
     list.partition_point(|item| !key.is_before(item.key()))
 }
 
+// Where the items with a key stand.
+#[derive(Clone, Copy, Debug)]
+pub(crate) struct Run {
+    pub(crate) begin: usize,
+    pub(crate) behind: usize,
+}
+
+// Where those with the key stand, from a place on.
+pub(crate) fn run_of<T: Keyed>(list: &[T], from: usize, key: Key) -> Run
+    requires from { from ≤ length list.now }
+    requires sorted { AreSorted T.key list.now }
+    ensures begin { from ≤ result.begin }
+    ensures behind { result.begin ≤ result.behind }
+    ensures bound { result.behind ≤ length list.now }
+    ensures cut { IsRun T.key key list.now from result.begin result.behind }
+{
+    let begin = from + count_before(&list[from..], key);
+    let behind = begin + count_up_to(&list[begin..], key);
+    Run { begin, behind }
+}
+
 // Where the first such item stands, if there is one.
 pub(crate) fn position_of<T: Keyed>(list: &[T], item: &T) -> Option<usize>
     requires sorted { AreSorted T.key list.now }
     requires known { KnowsKey T.key T.same }
     ensures among { is_some result ≡ is_in T.same list.now item.now }
     ensures bound { IfSome result (λ i. i < length list.now) }
-    ensures gone { IfSome result (λ i. take i list.now ++ drop (suc i) list.now ≡ without T.same item.now list.now) }
-    ensures rest { IfSome result (λ i. drop (suc i) list.now ≡ rest_after T.same item.now list.now) }
+    ensures gone { IfSome result (λ i. take i list.now ++ drop (suc i) list.now
+        ≡ without T.same item.now list.now) }
+    ensures rest { IfSome result (λ i. drop (suc i) list.now
+        ≡ rest_after T.same item.now list.now) }
     ensures none { IfNone result (without T.same item.now list.now ≡ list.now) }
     ensures no_rest { IfNone result (rest_after T.same item.now list.now ≡ []) }
 {

@@ -9,9 +9,11 @@ mod line;
 mod listed;
 mod musts;
 mod near;
+mod present;
 mod reservation;
 mod sets;
 mod sharing;
+mod starts;
 
 pub use answer::{BadSet, BrokenMust, StateChange};
 pub use laws::{order_laws, same_standing, told_in_order};

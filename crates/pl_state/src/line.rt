@@ -5,10 +5,12 @@ ghost use Rattle.pl_state.specs.Musts.{must_of, same_must, with_must};
 ghost use Rattle.pl_state.specs.Lines.{AreChanges, state_at, broken_now, bad_now};
 
 use crate::answer::{BadSet, BrokenMust, StateChange};
-use crate::groups::{need_must, remove_group};
+use crate::groups::renew;
+use crate::key::Keyed;
 use crate::listed::{Difference, answer};
-use crate::musts::{Musts, remove_must};
-use crate::near::mend;
+use crate::musts::Musts;
+use crate::near::{Told, mend};
+use crate::present::Present;
 use crate::reservation::{Must, Setting};
 use crate::sets::{Sets, end_of_base, insert_set, remove_set, state_of};
 use pl_lists::{Copied, Items};
@@ -29,10 +31,7 @@ pub struct StateLine {
     spoiled: bool,
     sets: Sets,
     musts: Musts,
-    // The broken spans of each must after those of the one before, and how many each must has.
-    broken: Vec<BrokenMust>,
-    counts: Vec<usize>,
-    bad: Vec<BadSet>,
+    told: Told,
 }
 
 impl Model for StateLine {
@@ -41,9 +40,12 @@ impl Model for StateLine {
 
     ghost Value = { Standing };
 
-    ghost view = { λ c. make c.spoiled c.horizon c.any c.steps.items c.moment c.base c.value c.sets c.musts };
+    ghost view = { λ c. make c.spoiled c.horizon c.any c.steps.items c.moment c.base c.value c.sets
+        c.musts };
 
-    ghost invariant = { λ c. c.spoiled ≡ false → IsSound (make c.spoiled c.horizon c.any c.steps.items c.moment c.base c.value c.sets c.musts) c.broken.items c.counts.items c.bad.items };
+    ghost invariant = { λ c. c.spoiled ≡ false
+        → IsSound (make c.spoiled c.horizon c.any c.steps.items c.moment c.base c.value c.sets
+        c.musts) c.told.broken.items c.told.bad.items };
 }
 
 // Steps that stay as they are.
@@ -67,7 +69,17 @@ impl StateLine {
         any: bool,
         steps: &[(u32, u32)],
     ) -> Result<StateLine, AllocError>
-        ensures { IfOk result (λ l. l ≡ record { spoiled = false; horizon = horizon; any = any; steps = steps.now; moment = 0; base = 0; value = start; sets = []; musts = [] }) }
+        ensures { IfOk result (λ l. l ≡ record {
+          spoiled = false;
+          horizon = horizon;
+          any = any;
+          steps = steps.now;
+          moment = 0;
+          base = 0;
+          value = start;
+          sets = [];
+          musts = [];
+        }) }
     {
         let steps = Vec::from_slice(alloc, steps)?;
         Ok(StateLine {
@@ -81,9 +93,10 @@ impl StateLine {
             spoiled: false,
             sets: Sets::new(alloc),
             musts: Musts::new(alloc),
-            broken: Vec::new(alloc),
-            counts: Vec::new(alloc),
-            bad: Vec::new(alloc),
+            told: Told {
+                broken: Vec::new(alloc),
+                bad: Vec::new(alloc),
+            },
         })
     }
 
@@ -96,8 +109,10 @@ impl StateLine {
         state: u32,
     ) -> Result<StateChange, AllocError>
         requires { 1 ≤ at }
-        ensures ok { OnOk result (self.new ≡ record self.old { sets = with_set (setting_of at id index state) self.old.sets }) }
-        ensures change { IfOk result (λ c. AreChanges (broken_now self.old) (broken_now self.new) (bad_now self.old) (bad_now self.new) c) }
+        ensures ok { OnOk result (self.new ≡ record self.old
+            { sets = with_set (setting_of at id index state) self.old.sets }) }
+        ensures change { IfOk result (λ c. AreChanges (broken_now self.old) (broken_now self.new)
+            (bad_now self.old) (bad_now self.new) c) }
         ensures unspoiled { OnOk result (self.old.spoiled ≡ false) }
         ensures err { OnErr result (self.new.spoiled ≡ true) }
         ensures after_spoil { self.old.spoiled ≡ true → IsErr result }
@@ -113,23 +128,21 @@ impl StateLine {
             state,
         };
         let near = insert_set(&mut self.sets, set, self.horizon)?;
-        let present = Span {
-            from: self.moment,
-            to: self.horizon,
+        let present = Present {
+            moment: self.moment,
+            horizon: self.horizon,
+            base: self.base,
+            value: self.value,
         };
         let change = mend(
             self.alloc,
             self.any,
             &self.steps,
-            self.base,
-            self.value,
             present,
             near,
-            self.sets.as_slice(),
-            self.musts.as_slice(),
-            &mut self.counts,
-            &mut self.broken,
-            &mut self.bad,
+            &self.sets,
+            &self.musts,
+            &mut self.told,
         )?;
         self.spoiled = false;
         Ok(change)
@@ -143,8 +156,10 @@ impl StateLine {
         index: u32,
         state: u32,
     ) -> Result<StateChange, AllocError>
-        ensures ok { OnOk result (self.new ≡ record self.old { sets = without same_setting (setting_of at id index state) self.old.sets }) }
-        ensures change { IfOk result (λ c. AreChanges (broken_now self.old) (broken_now self.new) (bad_now self.old) (bad_now self.new) c) }
+        ensures ok { OnOk result (self.new ≡ record self.old
+            { sets = without same_setting (setting_of at id index state) self.old.sets }) }
+        ensures change { IfOk result (λ c. AreChanges (broken_now self.old) (broken_now self.new)
+            (bad_now self.old) (bad_now self.new) c) }
         ensures unspoiled { OnOk result (self.old.spoiled ≡ false) }
         ensures err { OnErr result (self.new.spoiled ≡ true) }
         ensures after_spoil { self.old.spoiled ≡ true → IsErr result }
@@ -160,23 +175,21 @@ impl StateLine {
             state,
         };
         let near = remove_set(&mut self.sets, set, self.horizon);
-        let present = Span {
-            from: self.moment,
-            to: self.horizon,
+        let present = Present {
+            moment: self.moment,
+            horizon: self.horizon,
+            base: self.base,
+            value: self.value,
         };
         let change = mend(
             self.alloc,
             self.any,
             &self.steps,
-            self.base,
-            self.value,
             present,
             near,
-            self.sets.as_slice(),
-            self.musts.as_slice(),
-            &mut self.counts,
-            &mut self.broken,
-            &mut self.bad,
+            &self.sets,
+            &self.musts,
+            &mut self.told,
         )?;
         self.spoiled = false;
         Ok(change)
@@ -191,8 +204,10 @@ impl StateLine {
         index: u32,
         state: u32,
     ) -> Result<StateChange, AllocError>
-        ensures ok { OnOk result (self.new ≡ record self.old { musts = with_must (must_of from to id index state) self.old.musts }) }
-        ensures change { IfOk result (λ c. AreChanges (broken_now self.old) (broken_now self.new) (bad_now self.old) (bad_now self.new) c) }
+        ensures ok { OnOk result (self.new ≡ record self.old
+            { musts = with_must (must_of from to id index state) self.old.musts }) }
+        ensures change { IfOk result (λ c. AreChanges (broken_now self.old) (broken_now self.new)
+            (bad_now self.old) (bad_now self.new) c) }
         ensures unspoiled { OnOk result (self.old.spoiled ≡ false) }
         ensures err { OnErr result (self.new.spoiled ≡ true) }
         ensures after_spoil { self.old.spoiled ≡ true → IsErr result }
@@ -201,10 +216,6 @@ impl StateLine {
             return Err(AllocError);
         }
         self.spoiled = true;
-        let present = Span {
-            from: self.moment,
-            to: self.horizon,
-        };
         let must = Must {
             from,
             to,
@@ -212,16 +223,20 @@ impl StateLine {
             index,
             state,
         };
-        let difference = need_must(
+        self.musts.insert(must)?;
+        let present = Present {
+            moment: self.moment,
+            horizon: self.horizon,
+            base: self.base,
+            value: self.value,
+        };
+        let difference = renew(
             self.alloc,
             self.sets.as_slice(),
-            self.base,
-            self.value,
             present,
-            must,
-            &mut self.musts,
-            &mut self.counts,
-            &mut self.broken,
+            self.musts.as_slice(),
+            &[must.key()],
+            &mut self.told.broken,
         )?;
         self.spoiled = false;
         Ok(answer(difference, no_steps(self.alloc)))
@@ -236,8 +251,10 @@ impl StateLine {
         index: u32,
         state: u32,
     ) -> Result<StateChange, AllocError>
-        ensures ok { OnOk result (self.new ≡ record self.old { musts = without same_must (must_of from to id index state) self.old.musts }) }
-        ensures change { IfOk result (λ c. AreChanges (broken_now self.old) (broken_now self.new) (bad_now self.old) (bad_now self.new) c) }
+        ensures ok { OnOk result (self.new ≡ record self.old
+            { musts = without same_must (must_of from to id index state) self.old.musts }) }
+        ensures change { IfOk result (λ c. AreChanges (broken_now self.old) (broken_now self.new)
+            (bad_now self.old) (bad_now self.new) c) }
         ensures unspoiled { OnOk result (self.old.spoiled ≡ false) }
         ensures err { OnErr result (self.new.spoiled ≡ true) }
         ensures after_spoil { self.old.spoiled ≡ true → IsErr result }
@@ -253,16 +270,31 @@ impl StateLine {
             index,
             state,
         };
-        let place = remove_must(&mut self.musts, must);
-        let difference = remove_group(self.alloc, place, &mut self.counts, &mut self.broken)?;
+        self.musts.remove(must);
+        let present = Present {
+            moment: self.moment,
+            horizon: self.horizon,
+            base: self.base,
+            value: self.value,
+        };
+        let difference = renew(
+            self.alloc,
+            self.sets.as_slice(),
+            present,
+            self.musts.as_slice(),
+            &[must.key()],
+            &mut self.told.broken,
+        )?;
         self.spoiled = false;
         Ok(answer(difference, no_steps(self.alloc)))
     }
 
     /// Sets the base at the present moment: sets up to it count no more. On want of memory the timeline is spoiled.
     pub fn rebase(&mut self, state: u32) -> Result<StateChange, AllocError>
-        ensures ok { OnOk result (self.new ≡ record self.old { base = self.old.moment; value = state }) }
-        ensures change { IfOk result (λ c. AreChanges (broken_now self.old) (broken_now self.new) (bad_now self.old) (bad_now self.new) c) }
+        ensures ok { OnOk result (self.new ≡ record self.old
+            { base = self.old.moment; value = state }) }
+        ensures change { IfOk result (λ c. AreChanges (broken_now self.old) (broken_now self.new)
+            (bad_now self.old) (bad_now self.new) c) }
         ensures unspoiled { OnOk result (self.old.spoiled ≡ false) }
         ensures err { OnErr result (self.new.spoiled ≡ true) }
         ensures after_spoil { self.old.spoiled ≡ true → IsErr result }
@@ -271,9 +303,11 @@ impl StateLine {
             return Err(AllocError);
         }
         self.spoiled = true;
-        let present = Span {
-            from: self.moment,
-            to: self.horizon,
+        let present = Present {
+            moment: self.moment,
+            horizon: self.horizon,
+            base: self.moment,
+            value: state,
         };
         let near = Span {
             from: self.moment,
@@ -283,15 +317,11 @@ impl StateLine {
             self.alloc,
             self.any,
             &self.steps,
-            self.moment,
-            state,
             present,
             near,
-            self.sets.as_slice(),
-            self.musts.as_slice(),
-            &mut self.counts,
-            &mut self.broken,
-            &mut self.bad,
+            &self.sets,
+            &self.musts,
+            &mut self.told,
         )?;
         self.base = self.moment;
         self.value = state;
@@ -304,7 +334,8 @@ impl StateLine {
         requires later { self.old.spoiled ≡ false → self.old.moment ≤ now }
         requires bound { self.old.spoiled ≡ false → now ≤ self.old.horizon }
         ensures ok { OnOk result (self.new ≡ record self.old { moment = now }) }
-        ensures change { IfOk result (λ c. AreChanges (broken_now self.old) (broken_now self.new) (bad_now self.old) (bad_now self.new) c) }
+        ensures change { IfOk result (λ c. AreChanges (broken_now self.old) (broken_now self.new)
+            (bad_now self.old) (bad_now self.new) c) }
         ensures unspoiled { OnOk result (self.old.spoiled ≡ false) }
         ensures err { OnErr result (self.new.spoiled ≡ true) }
         ensures after_spoil { self.old.spoiled ≡ true → IsErr result }
@@ -313,9 +344,11 @@ impl StateLine {
             return Err(AllocError);
         }
         self.spoiled = true;
-        let present = Span {
-            from: now,
-            to: self.horizon,
+        let present = Present {
+            moment: now,
+            horizon: self.horizon,
+            base: self.base,
+            value: self.value,
         };
         let near = Span {
             from: self.moment,
@@ -325,15 +358,11 @@ impl StateLine {
             self.alloc,
             self.any,
             &self.steps,
-            self.base,
-            self.value,
             present,
             near,
-            self.sets.as_slice(),
-            self.musts.as_slice(),
-            &mut self.counts,
-            &mut self.broken,
-            &mut self.bad,
+            &self.sets,
+            &self.musts,
+            &mut self.told,
         )?;
         self.moment = now;
         self.spoiled = false;
@@ -356,14 +385,14 @@ impl StateLine {
     pub fn broken_musts(&self) -> &[BrokenMust]
         ensures { self.now.spoiled ≡ false → result.now ≡ broken_now self.now }
     {
-        &self.broken
+        &self.told.broken
     }
 
     /// The sets that take a step that is not allowed, by (moment, id, index).
     pub fn bad_steps(&self) -> &[BadSet]
         ensures { self.now.spoiled ≡ false → result.now ≡ bad_now self.now }
     {
-        &self.bad
+        &self.told.bad
     }
 
     pub fn spoiled(&self) -> bool
@@ -378,9 +407,8 @@ impl Copied for StateLine {
         let steps = Vec::from_slice(self.alloc, self.steps.as_slice())?;
         let sets = self.sets.copy(self.alloc)?;
         let musts = self.musts.copy(self.alloc)?;
-        let broken = Vec::from_slice(self.alloc, self.broken.as_slice())?;
-        let counts = Vec::from_slice(self.alloc, self.counts.as_slice())?;
-        let bad = Vec::from_slice(self.alloc, self.bad.as_slice())?;
+        let broken = Vec::from_slice(self.alloc, self.told.broken.as_slice())?;
+        let bad = Vec::from_slice(self.alloc, self.told.bad.as_slice())?;
         Ok(StateLine {
             alloc: self.alloc,
             horizon: self.horizon,
@@ -392,9 +420,7 @@ impl Copied for StateLine {
             spoiled: self.spoiled,
             sets,
             musts,
-            broken,
-            counts,
-            bad,
+            told: Told { broken, bad },
         })
     }
 }

@@ -1,20 +1,27 @@
-ghost use Rattle.std.specs.Prelude.{◌≡◌, ◌≤◌, ◌-◌, ◌++◌, length, take, drop, Bool, OnOk, IfOk};
-ghost use Rattle.pl_state.specs.Lines.{is_in, left_out, same_broken, same_bad};
+ghost use Rattle.std.specs.Prelude.{◌≡◌, ◌≤◌, ◌-◌, ◌++◌, length, take, drop, OnOk, IfOk};
+ghost use Rattle.pl_state.specs.Keys.{AreSorted, KnowsKey};
+ghost use Rattle.pl_state.specs.Lines.{is_in, left_out};
 
 use crate::answer::{BadSet, BrokenMust, StateChange};
+use crate::key::{Key, Keyed, position_of};
 use pl_lists::Items;
 use std::alloc::{AllocError, Global};
 
-// An item of a list of answers.
-pub(crate) trait Listed: Copy {
-    ghost same: { Self → Self → Bool };
+impl Keyed for BrokenMust {
+    ghost use Rattle.pl_state.specs.Near.{group_key};
+    ghost use Rattle.pl_state.specs.Lines.{same_broken};
 
-    fn is_same(&self, other: &Self) -> bool
-        ensures { result ≡ same self.now other.now };
-}
+    ghost key = { group_key };
 
-impl Listed for BrokenMust {
     ghost same = { same_broken };
+
+    fn key(&self) -> Key {
+        Key {
+            at: 0,
+            id: self.id,
+            index: self.index,
+        }
+    }
 
     fn is_same(&self, other: &BrokenMust) -> bool {
         self.id == other.id
@@ -22,15 +29,28 @@ impl Listed for BrokenMust {
     }
 }
 
-impl Listed for BadSet {
+impl Keyed for BadSet {
+    ghost use Rattle.pl_state.specs.Sorted.{bad_key};
+    ghost use Rattle.pl_state.specs.Lines.{same_bad};
+
+    ghost key = { bad_key };
+
     ghost same = { same_bad };
+
+    fn key(&self) -> Key {
+        Key {
+            at: self.at,
+            id: self.id,
+            index: self.index,
+        }
+    }
 
     fn is_same(&self, other: &BadSet) -> bool {
         self.at == other.at && (self.id == other.id && self.index == other.index)
     }
 }
 
-fn contains<T: Listed>(list: &[T], item: &T) -> bool
+fn contains<T: Keyed>(list: &[T], item: &T) -> bool
     ensures { result ≡ is_in T.same list.now item.now }
 {
     for other in list {
@@ -41,17 +61,31 @@ fn contains<T: Listed>(list: &[T], item: &T) -> bool
     false
 }
 
-// Those that are not among the others.
-pub(crate) fn missing_from<T: Listed>(
-    alloc: Global,
+// Puts those that are not among the others behind what is missing.
+pub(crate) fn push_missing<T: Keyed>(
+    missing: &mut Items<T>,
     others: &[T],
     list: &[T],
-) -> Result<Items<T>, AllocError>
+) -> Result<(), AllocError>
+    ensures { OnOk result (missing.new ≡ missing.old ++ left_out T.same others.now list.now) }
+{
+    for item in list {
+        if !contains(others, item) {
+            missing.push(*item)?;
+        }
+    }
+    Ok(())
+}
+
+// Those that are not among the others, which are sorted.
+fn missing_from<T: Keyed>(alloc: Global, others: &[T], list: &[T]) -> Result<Items<T>, AllocError>
+    requires sorted { AreSorted T.key others.now }
+    requires known { KnowsKey T.key T.same }
     ensures { IfOk result (λ v. v ≡ left_out T.same others.now list.now) }
 {
     let mut missing = Items::new(alloc);
     for item in list {
-        if !contains(others, item) {
+        if position_of(others, item).is_none() {
             missing.push(*item)?;
         }
     }
@@ -66,26 +100,23 @@ pub(crate) struct Difference<T> {
 }
 
 // Puts the fresh items in the place of those from `begin` up to but not at `end`.
-fn replace<T: Listed>(
-    alloc: Global,
+pub(crate) fn replace<T: Keyed>(
     list: &mut Vec<T>,
     begin: usize,
     end: usize,
     fresh: &[T],
 ) -> Result<(), AllocError>
-    requires begin { begin ≤ length list.old.items }
+    requires begin { begin ≤ end }
     requires end { end ≤ length list.old.items }
-    ensures { OnOk result (list.new.items ≡ take begin list.old.items ++ (fresh.now ++ drop end list.old.items)) }
+    ensures { OnOk result (list.new.items ≡ take begin list.old.items ++
+        (fresh.now ++ drop end list.old.items)) }
 {
-    let rest = Vec::from_slice(alloc, &list[end..])?;
-    list.truncate(begin);
-    list.extend_from_slice(fresh)?;
-    list.extend_from_slice(&rest)?;
+    list.splice(begin..end, fresh.iter().copied())?;
     Ok(())
 }
 
 // The same, and says which of the items that went stand no more, and which of the fresh ones did not stand.
-pub(crate) fn exchange<T: Listed>(
+pub(crate) fn exchange<T: Keyed>(
     alloc: Global,
     list: &mut Vec<T>,
     begin: usize,
@@ -94,20 +125,32 @@ pub(crate) fn exchange<T: Listed>(
 ) -> Result<Difference<T>, AllocError>
     requires begin { begin ≤ end }
     requires end { end ≤ length list.old.items }
-    ensures items { OnOk result (list.new.items ≡ take begin list.old.items ++ (fresh.now ++ drop end list.old.items)) }
-    ensures went { IfOk result (λ d. d.went ≡ left_out T.same list.new.items (take (end - begin) (drop begin list.old.items))) }
+    requires known { KnowsKey T.key T.same }
+    requires sorted_old { AreSorted T.key list.old.items }
+    requires sorted_new { AreSorted T.key
+        (take begin list.old.items ++ (fresh.now ++ drop end list.old.items)) }
+    ensures items { OnOk result (list.new.items
+        ≡ take begin list.old.items ++ (fresh.now ++ drop end list.old.items)) }
+    ensures went { IfOk result (λ d. d.went ≡ left_out T.same list.new.items
+        (take (end - begin) (drop begin list.old.items))) }
     ensures came { IfOk result (λ d. d.came ≡ left_out T.same list.old.items fresh.now) }
 {
     let gone = Vec::from_slice(alloc, &list[begin..end])?;
     let came = missing_from(alloc, list, fresh)?;
-    replace(alloc, list, begin, end, fresh)?;
+    replace(list, begin, end, fresh)?;
     let went = missing_from(alloc, list, &gone)?;
     Ok(Difference { went, came })
 }
 
 // The answer of a change.
 pub(crate) fn answer(musts: Difference<BrokenMust>, steps: Difference<BadSet>) -> StateChange
-    ensures { result ≡ record { musts_went = musts.went; musts_came = musts.came; steps_went = steps.went; steps_came = steps.came } }
+    ensures { result ≡ record {
+      musts_went = musts.went;
+      musts_came = musts.came;
+      steps_went =
+          steps.went;
+      steps_came = steps.came;
+    } }
 {
     let Difference {
         went: musts_went,

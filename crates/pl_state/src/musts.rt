@@ -1,36 +1,40 @@
-ghost use Rattle.std.specs.Prelude.{◌≡◌, ◌<◌, ◌≤◌, ◌-◌, ◌++◌, ◌∷◌, ◌==◌, not, max, min, [], ℕ, length, take, drop, suc, OnOk, IfOk, if◌then◌else◌};
-ghost use Rattle.pl_points.specs.Lists.{front, back};
+ghost use Rattle.std.specs.Prelude.{◌≡◌, ◌≤◌, ◌-◌, ◌++◌, ◌∷◌, ◌==◌, true, not, max, min, [], OnOk, IfOk, if◌then◌else◌};
 ghost use Rattle.pl_points.specs.Spans.{span, joined, spans_of};
 ghost use Rattle.pl_points.specs.Standing.{without};
-ghost use Rattle.pl_state.specs.Keys.{AreSorted};
+ghost use Rattle.pl_state.specs.Keys.{AreSorted, AreRising, Has};
 ghost use Rattle.pl_state.specs.Sets.{AreInOrder, state_from};
-ghost use Rattle.pl_state.specs.Musts.{must_key, same_must, with_must, broken_spans, broken_one};
+ghost use Rattle.pl_state.specs.declared.reservation.Must.{Must};
+ghost use Rattle.pl_state.specs.Musts.{must_key, same_must, with_must, broken_spans};
+ghost use Rattle.pl_state.specs.Near.{touches};
+ghost use Rattle.pl_state.specs.Present.{group_at, broken_at};
 
 use crate::answer::BrokenMust;
 use crate::key::{Key, Keyed, count_before, position_of};
+use crate::present::Present;
 use crate::reservation::{Must, Setting};
 use crate::sets::{end_of, state_of};
+use crate::starts::Starts;
 use pl_points::Span;
 use std::alloc::{AllocError, Global};
 use std::marker::Model;
 
-/// The musts that stand, by (id, index).
+/// The musts that stand, by (id, index), and beside them by their starts.
 #[derive(Drop)]
 pub(crate) struct Musts {
     items: Vec<Must>,
+    starts: Starts,
 }
 
 impl Model for Musts {
     ghost use Rattle.std.specs.Prelude.{List};
     ghost use Rattle.pl_state.specs.declared.reservation.Must.{Must};
-    ghost use Rattle.pl_state.specs.Keys.{AreSorted};
-    ghost use Rattle.pl_state.specs.Musts.{must_key};
+    ghost use Rattle.pl_state.specs.Starts.{AreKept};
 
     ghost Value = { List Must };
 
     ghost view = { λ c. c.items.items };
 
-    ghost invariant = { λ c. AreSorted must_key c.items.items };
+    ghost invariant = { λ c. AreKept c.items.items c.starts };
 }
 
 impl Keyed for Must {
@@ -60,6 +64,7 @@ impl Musts {
     {
         Musts {
             items: Vec::new(alloc),
+            starts: Starts::new(alloc),
         }
     }
 
@@ -75,33 +80,43 @@ impl Musts {
     {
         Ok(Musts {
             items: Vec::from_slice(alloc, &self.items)?,
+            starts: self.starts.copy(alloc)?,
         })
     }
-}
 
-// Puts the must in its place, and says where that is.
-pub(crate) fn insert_must(musts: &mut Musts, must: Must) -> Result<usize, AllocError>
-    ensures bound { IfOk result (λ i. i ≤ length musts.old) }
-    ensures place { IfOk result (λ i. take i musts.old ++ must ∷ drop i musts.old ≡ with_must must musts.old) }
-    ensures musts { OnOk result (musts.new ≡ with_must must musts.old) }
-{
-    let place = count_before(&musts.items, must.key());
-    musts.items.insert(place, must)?;
-    Ok(place)
-}
+    /// Puts the must in its place.
+    pub(crate) fn insert(&mut self, must: Must) -> Result<(), AllocError>
+        ensures sorted { AreSorted must_key self.old }
+        ensures ok { OnOk result (self.new ≡ with_must must self.old) }
+    {
+        let place = count_before(&self.items, must.key());
+        self.starts.insert(must)?;
+        self.items.insert(place, must)?;
+        Ok(())
+    }
 
-// Takes the first such must out, and says where it stood, or how many stand.
-pub(crate) fn remove_must(musts: &mut Musts, must: Must) -> usize
-    ensures bound { result ≤ length musts.old }
-    ensures gone { take result musts.old ++ drop (suc result) musts.old ≡ without same_must must musts.old }
-    ensures musts { musts.new ≡ without same_must must musts.old }
-{
-    match position_of(&musts.items, &must) {
-        Some(place) => {
-            musts.items.remove(place);
-            place
+    /// Takes the first such must out.
+    pub(crate) fn remove(&mut self, must: Must)
+        ensures sorted { AreSorted must_key self.old }
+        ensures gone { self.new ≡ without same_must must self.old }
+    {
+        self.starts.remove(must);
+        match position_of(&self.items, &must) {
+            Some(place) => {
+                self.items.remove(place);
+            }
+            None => {}
         }
-        None => musts.items.len(),
+    }
+
+    /// The keys of those that have moments of the window.
+    pub(crate) fn touched(&self, alloc: Global, near: Span) -> Result<Vec<Key>, AllocError>
+        ensures rising { IfOk result (λ v. AreRising v.items) }
+        ensures each { IfOk result (λ v. (m : Must) → Has m self.now → touches near m ≡ true
+            → Has (must_key m) v.items) }
+    {
+        let keys = self.starts.touched(alloc, near)?;
+        Ok(keys)
     }
 }
 
@@ -122,7 +137,8 @@ fn extend(spans: &mut Vec<Span>, from: u32, to: u32) -> Result<(), AllocError>
 
 // Puts the piece after the others where the must fails there.
 fn push_piece(spans: &mut Vec<Span>, fails: bool, from: u32, to: u32) -> Result<(), AllocError>
-    ensures { OnOk result (spans.new.items ≡ (if fails then joined spans.old.items (span from to ∷ []) else spans.old.items)) }
+    ensures { OnOk result (spans.new.items ≡ (if fails then joined spans.old.items
+        (span from to ∷ []) else spans.old.items)) }
 {
     if fails {
         extend(spans, from, to)
@@ -142,7 +158,9 @@ fn failing_spans(
 ) -> Result<Vec<Span>, AllocError>
     requires some { window.from ≤ window.to }
     requires ordered { AreInOrder 0 sets.now }
-    ensures { IfOk result (λ v. v.items ≡ spans_of (λ t. not (state_from base t value sets.now == state)) window.from (window.to - window.from)) }
+    ensures { IfOk result (λ v. v.items ≡ spans_of
+        (λ t. not (state_from base t value sets.now == state)) window.from
+        (window.to - window.from)) }
 {
     let mut spans = Vec::new(alloc);
     let mut at = window.from;
@@ -177,7 +195,9 @@ fn spans_of_must(
     must: Must,
 ) -> Result<Vec<Span>, AllocError>
     requires { AreInOrder 0 sets.now }
-    ensures { IfOk result (λ v. v.items ≡ spans_of (λ t. not (state_from base t value sets.now == must.state)) (max must.from present.from) (min must.to present.to - max must.from present.from)) }
+    ensures { IfOk result (λ v. v.items ≡ spans_of
+        (λ t. not (state_from base t value sets.now == must.state)) (max must.from present.from)
+        (min must.to present.to - max must.from present.from)) }
 {
     let window = window_of(present, must.from, must.to);
     failing_spans(alloc, sets, base, value, must.state, window)
@@ -198,19 +218,38 @@ fn push_broken(broken: &mut Vec<BrokenMust>, must: Must, spans: &[Span]) -> Resu
 }
 
 // Where the must is broken.
-pub(crate) fn group_of(
+fn push_group(
     alloc: Global,
     sets: &[Setting],
-    base: u32,
-    value: u32,
-    present: Span,
+    present: Present,
     must: Must,
+    broken: &mut Vec<BrokenMust>,
+) -> Result<(), AllocError>
+    requires { AreInOrder 0 sets.now }
+    ensures { OnOk result (broken.new.items ≡ broken.old.items ++ group_at present sets.now must) }
+{
+    let window = Span {
+        from: present.moment,
+        to: present.horizon,
+    };
+    let spans = spans_of_must(alloc, sets, present.base, present.value, window, must)?;
+    push_broken(broken, must, &spans)?;
+    Ok(())
+}
+
+/// Where the musts are broken.
+pub(crate) fn groups_of(
+    alloc: Global,
+    sets: &[Setting],
+    present: Present,
+    musts: &[Must],
 ) -> Result<Vec<BrokenMust>, AllocError>
     requires { AreInOrder 0 sets.now }
-    ensures { IfOk result (λ v. v.items ≡ broken_one (λ t. state_from base t value sets.now) present.from present.to must) }
+    ensures { IfOk result (λ v. v.items ≡ broken_at present sets.now musts.now) }
 {
-    let spans = spans_of_must(alloc, sets, base, value, present, must)?;
-    let mut group = Vec::new(alloc);
-    push_broken(&mut group, must, &spans)?;
-    Ok(group)
+    let mut broken = Vec::new(alloc);
+    for must in musts {
+        push_group(alloc, sets, present, *must, &mut broken)?;
+    }
+    Ok(broken)
 }

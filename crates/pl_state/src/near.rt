@@ -1,18 +1,30 @@
 //! Both lists mended near a change.
 ghost use Rattle.std.specs.Prelude.{◌≡◌, ◌≤◌, length, take, drop, OnOk, IfOk};
 ghost use Rattle.pl_points.specs.Lists.{front, back};
-ghost use Rattle.pl_state.specs.Sets.{AreInOrder, state_from, is_allowed, bad_from};
-ghost use Rattle.pl_state.specs.Musts.{broken_one};
-ghost use Rattle.pl_state.specs.Lines.{AreChanges, left_out, same_bad};
-ghost use Rattle.pl_state.specs.Near.{touches, all_of, counts_of, AreGroups, bad_before, bad_by, AreBadInOrder};
+ghost use Rattle.pl_state.specs.Keys.{AreSorted};
+ghost use Rattle.pl_state.specs.Sets.{set_key, AreInOrder};
+ghost use Rattle.pl_state.specs.Sorted.{bad_key};
+ghost use Rattle.pl_state.specs.Lines.{AreChanges, left_out, same_bad, same_broken};
+ghost use Rattle.pl_state.specs.Near.{bad_before, bad_by, AreBadInOrder};
+ghost use Rattle.pl_state.specs.Present.{broken_at, bad_at, WasRight, IsRightBut};
 
 use crate::answer::{BadSet, BrokenMust, StateChange};
-use crate::groups::mend_musts;
+use crate::groups::renew;
 use crate::listed::{Difference, answer, exchange};
-use crate::reservation::{Must, Setting};
-use crate::sets::bad_near;
+use crate::musts::Musts;
+use crate::present::Present;
+use crate::reservation::Setting;
+use crate::sets::{Sets, bad_near};
 use pl_points::Span;
 use std::alloc::{AllocError, Global};
+
+/// Where musts are broken, the spans of each must behind those of the one before it, and the steps that are not
+/// allowed.
+#[derive(Drop)]
+pub(crate) struct Told {
+    pub(crate) broken: Vec<BrokenMust>,
+    pub(crate) bad: Vec<BadSet>,
+}
 
 // How many of them come before the moment.
 fn begun_count(bad: &[BadSet], at: u32) -> usize
@@ -38,31 +50,63 @@ fn mend_steps(
     alloc: Global,
     any: bool,
     steps: &[(u32, u32)],
-    base: u32,
-    value: u32,
-    present: Span,
+    present: Present,
     near: Span,
     sets: &[Setting],
     bad: &mut Vec<BadSet>,
 ) -> Result<Difference<BadSet>, AllocError>
     requires near { near.from ≤ near.to }
-    requires bound { near.from ≤ present.to }
+    requires bound { near.from ≤ present.horizon }
     requires ordered { AreInOrder 0 sets.now }
-    requires rising { AreBadInOrder 0 bad.old.items }
-    requires before { front (bad_before near.from) bad.old.items ≡ front (bad_before near.from) (bad_from (is_allowed any steps.now) base present.to present.from value sets.now) }
-    requires behind { back (bad_by near.to) bad.old.items ≡ back (bad_by near.to) (bad_from (is_allowed any steps.now) base present.to present.from value sets.now) }
-    ensures bad { OnOk result (bad.new.items ≡ bad_from (is_allowed any steps.now) base present.to present.from value sets.now) }
+    requires sets { AreSorted set_key sets.now }
+    requires sorted { AreSorted bad_key bad.old.items }
+    requires before { front (bad_before near.from) bad.old.items
+        ≡ front (bad_before near.from) (bad_at any steps.now present sets.now) }
+    requires behind { back (bad_by near.to) bad.old.items
+        ≡ back (bad_by near.to) (bad_at any steps.now present sets.now) }
+    ensures bad { OnOk result (bad.new.items ≡ bad_at any steps.now present sets.now) }
     ensures went { IfOk result (λ d. d.went ≡ left_out same_bad bad.new.items bad.old.items) }
     ensures came { IfOk result (λ d. d.came ≡ left_out same_bad bad.old.items bad.new.items) }
 {
     let counted = Span {
-        from: base,
-        to: present.to,
+        from: present.base,
+        to: present.horizon,
     };
-    let fresh = bad_near(alloc, any, steps, counted, present.from, value, near, sets)?;
+    let fresh = bad_near(
+        alloc,
+        any,
+        steps,
+        counted,
+        present.moment,
+        present.value,
+        near,
+        sets,
+    )?;
     let begin = begun_count(bad, near.from);
     let count = passed_count(&bad[begin..], near.to);
     let difference = exchange(alloc, bad, begin, begin + count, &fresh)?;
+    Ok(difference)
+}
+
+// Works out anew where the musts with moments of the window are broken, and leaves the others as they are.
+fn mend_musts(
+    alloc: Global,
+    present: Present,
+    near: Span,
+    sets: &[Setting],
+    musts: &Musts,
+    broken: &mut Vec<BrokenMust>,
+) -> Result<Difference<BrokenMust>, AllocError>
+    requires ordered { AreInOrder 0 sets.now }
+    requires was { WasRight near present sets.now musts.now broken.old.items }
+    ensures broken { OnOk result (broken.new.items ≡ broken_at present sets.now musts.now) }
+    ensures went { IfOk result (λ d. d.went ≡ left_out same_broken broken.new.items
+        broken.old.items) }
+    ensures came { IfOk result (λ d. d.came ≡ left_out same_broken broken.old.items
+        broken.new.items) }
+{
+    let keys = musts.touched(alloc, near)?;
+    let difference = renew(alloc, sets, present, musts.as_slice(), &keys, broken)?;
     Ok(difference)
 }
 
@@ -71,31 +115,23 @@ pub(crate) fn mend(
     alloc: Global,
     any: bool,
     steps: &[(u32, u32)],
-    base: u32,
-    value: u32,
-    present: Span,
+    present: Present,
     near: Span,
-    sets: &[Setting],
-    musts: &[Must],
-    counts: &mut Vec<usize>,
-    broken: &mut Vec<BrokenMust>,
-    bad: &mut Vec<BadSet>,
+    sets: &Sets,
+    musts: &Musts,
+    told: &mut Told,
 ) -> Result<StateChange, AllocError>
-    requires near { near.from ≤ near.to }
-    requires bound { near.from ≤ present.to }
-    requires ordered { AreInOrder 0 sets.now }
-    requires groups { AreGroups (touches near) (broken_one (λ t. state_from base t value sets.now) present.from present.to) musts.now counts.old.items broken.old.items }
-    requires rising { AreBadInOrder 0 bad.old.items }
-    requires before { front (bad_before near.from) bad.old.items ≡ front (bad_before near.from) (bad_from (is_allowed any steps.now) base present.to present.from value sets.now) }
-    requires behind { back (bad_by near.to) bad.old.items ≡ back (bad_by near.to) (bad_from (is_allowed any steps.now) base present.to present.from value sets.now) }
-    ensures broken { OnOk result (broken.new.items ≡ all_of (broken_one (λ t. state_from base t value sets.now) present.from present.to) musts.now) }
-    ensures counts { OnOk result (counts.new.items ≡ counts_of (broken_one (λ t. state_from base t value sets.now) present.from present.to) musts.now) }
-    ensures bad { OnOk result (bad.new.items ≡ bad_from (is_allowed any steps.now) base present.to present.from value sets.now) }
-    ensures change { IfOk result (λ c. AreChanges broken.old.items broken.new.items bad.old.items bad.new.items c) }
+    requires right { IsRightBut near any steps.now present sets.now musts.now told.old.broken.items
+        told.old.bad.items }
+    requires sorted { AreSorted bad_key told.old.bad.items }
+    ensures broken { OnOk result (told.new.broken.items ≡ broken_at present sets.now musts.now) }
+    ensures bad { OnOk result (told.new.bad.items ≡ bad_at any steps.now present sets.now) }
+    ensures sorted { OnOk result (AreSorted bad_key told.new.bad.items) }
+    ensures change { IfOk result (λ c. AreChanges told.old.broken.items told.new.broken.items
+        told.old.bad.items told.new.bad.items c) }
 {
-    let of_musts = mend_musts(
-        alloc, sets, base, value, present, near, musts, counts, broken,
-    )?;
-    let of_steps = mend_steps(alloc, any, steps, base, value, present, near, sets, bad)?;
+    let list = sets.as_slice();
+    let of_musts = mend_musts(alloc, present, near, list, musts, &mut told.broken)?;
+    let of_steps = mend_steps(alloc, any, steps, present, near, list, &mut told.bad)?;
     Ok(answer(of_musts, of_steps))
 }

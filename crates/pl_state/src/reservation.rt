@@ -20,6 +20,12 @@ pub struct Must {
     pub state: u32,
 }
 
+// A must where its start stands.
+#[derive(Clone, Copy, Debug)]
+pub(crate) struct Started {
+    pub(crate) must: Must,
+}
+
 impl Copied for Setting {
     fn copy(&self, _alloc: Global) -> Result<Setting, AllocError> {
         Ok(*self)

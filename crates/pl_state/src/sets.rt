@@ -118,7 +118,8 @@ fn window_from(rest: &[Setting], at: u32, horizon: u32) -> Span
 pub(crate) fn insert_set(sets: &mut Sets, set: Setting, horizon: u32) -> Result<Span, AllocError>
     ensures items { OnOk result (sets.new ≡ with_set set sets.old) }
     ensures from { IfOk result (λ w. w.from ≡ min set.at horizon) }
-    ensures to { IfOk result (λ w. w.to ≡ max (next_moment horizon (back (set_before set) sets.old)) (min set.at horizon)) }
+    ensures to { IfOk result (λ w. w.to ≡ max (next_moment horizon (back (set_before set) sets.old))
+        (min set.at horizon)) }
 {
     let place = count_before(&sets.items, set.key());
     let near = window_from(&sets.items[place..], set.at, horizon);
@@ -130,7 +131,8 @@ pub(crate) fn insert_set(sets: &mut Sets, set: Setting, horizon: u32) -> Result<
 pub(crate) fn remove_set(sets: &mut Sets, set: Setting, horizon: u32) -> Span
     ensures items { sets.new ≡ without same_setting set sets.old }
     ensures from { result.from ≡ min set.at horizon }
-    ensures to { result.to ≡ max (next_moment horizon (rest_after same_setting set sets.old)) (min set.at horizon) }
+    ensures to { result.to ≡ max (next_moment horizon (rest_after same_setting set sets.old))
+        (min set.at horizon) }
 {
     match position_of(&sets.items, &set) {
         Some(place) => {
@@ -152,7 +154,8 @@ fn bad_of(
     value: u32,
     sets: &[Setting],
 ) -> Result<Vec<BadSet>, AllocError>
-    ensures { IfOk result (λ v. v.items ≡ bad_from (is_allowed any steps.now) counted.from counted.to moment value sets.now) }
+    ensures { IfOk result (λ v. v.items ≡ bad_from
+        (is_allowed any steps.now) counted.from counted.to moment value sets.now) }
 {
     let mut bad = Vec::new(alloc);
     let mut state = value;
@@ -214,7 +217,10 @@ pub(crate) fn bad_near(
     sets: &[Setting],
 ) -> Result<Vec<BadSet>, AllocError>
     requires { AreInOrder 0 sets.now }
-    ensures { IfOk result (λ v. v.items ≡ bad_from (is_allowed any steps.now) counted.from counted.to moment (state_before counted.from near.from value sets.now) (front (is_passed near.to) (back (comes_before near.from) sets.now))) }
+    ensures { IfOk result (λ v. v.items ≡ bad_from
+        (is_allowed any steps.now) counted.from counted.to moment
+        (state_before counted.from near.from value sets.now)
+        (front (is_passed near.to) (back (comes_before near.from) sets.now))) }
 {
     let state = state_before(sets, counted.from, value, near.from);
     let rest = &sets[begun_count(sets, near.from)..];
@@ -252,7 +258,8 @@ pub(crate) fn end_of(sets: &[Setting], base: u32, value: u32, at: u32, to: u32) 
     requires ordered { AreInOrder 0 sets.now }
     ensures later { at < result }
     ensures bound { result ≤ to }
-    ensures same { (t : ℕ) → at ≤ t → t < result → state_from base t value sets.now ≡ state_from base at value sets.now }
+    ensures same { (t : ℕ) → at ≤ t → t < result → state_from base t value sets.now
+        ≡ state_from base at value sets.now }
 {
     let _ = base;
     let _ = value;

@@ -1,5 +1,4 @@
-use Rattle.std.proofs.Common.{◌≡◌, true, ap, sym, ◌∙◌, subst}
-use Rattle.std.proofs.lemmas.List.{get_or_default}
+use Rattle.std.proofs.Common.{ap, sym, ◌∙◌}
 use Rattle.pl_points.specs.Lists.{front, back}
 use Rattle.pl_state.specs.Keys.{key_before}
 use Rattle.pl_state.proofs.Seeking.{sought_begin, sought_found, sought_passed}

@@ -1,5 +1,4 @@
 -- none stands before the place
-use Rattle.std.proofs.Common.{◌≤◌, length}
 use Rattle.pl_state.proofs.Seeking.{IsSought}
 use Rattle.pl_state.proofs.key.position_of.Given as goal
 

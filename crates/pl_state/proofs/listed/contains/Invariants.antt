@@ -4,4 +4,4 @@ use Rattle.pl_state.specs.Lines.{is_in}
 use Rattle.pl_state.proofs.listed.contains.Given as goal
 
 abbrev pub invariant-loop-other : goal.invariant-loop-other
-invariant-loop-other g l = is_in g.T.Listed.same (drop l.other-index l.list) l.item ≡ is_in g.T.Listed.same l.list l.item
+invariant-loop-other g l = is_in g.T.Keyed.same (drop l.other-index l.list) l.item ≡ is_in g.T.Keyed.same l.list l.item

@@ -4,4 +4,4 @@ use Rattle.pl_state.specs.Lines.{left_out}
 use Rattle.pl_state.proofs.listed.missing_from.Given as goal
 
 abbrev pub invariant-loop-item : goal.invariant-loop-item
-invariant-loop-item g l = l.missing ++ left_out g.T.Listed.same l.others (drop l.item-index l.list) ≡ left_out g.T.Listed.same l.others l.list
+invariant-loop-item g l = l.missing ++ left_out g.T.Keyed.same l.others (drop l.item-index l.list) ≡ left_out g.T.Keyed.same l.others l.list

@@ -1,4 +1,4 @@
-use Rattle.std.proofs.Common.{◌≡◌, ◌∷◌, ◌++◌, drop, ap, sym, ◌∙◌, subst, min, max}
+use Rattle.std.proofs.Common.{drop, ap, sym, ◌∙◌, subst, min, max}
 use Rattle.std.proofs.lemmas.List.{take_rest}
 use Rattle.pl_points.specs.Lists.{back}
 use Rattle.pl_state.specs.Keys.{AreSorted}

@@ -1,101 +1,85 @@
-use Rattle.std.proofs.Common.{◌≡◌, false, arith, ap, sym, ◌∙◌, refl, subst, length, sum, take, drop, suc, ◌++◌}
+use Rattle.std.proofs.Common.{◌≡◌, ℕ, [], ◌∷◌, List, false, ap, sym, ◌∙◌, refl, subst}
 use Rattle.pl_points.specs.Standing.{without}
 use Rattle.pl_state.specs.declared.reservation.Must.{Must}
-use Rattle.pl_state.specs.Sets.{state_from}
-use Rattle.pl_state.specs.Musts.{must_of, same_must, broken_one}
-use Rattle.pl_state.specs.Near.{all_of}
+use Rattle.pl_state.specs.declared.answer.BrokenMust.{BrokenMust}
+use Rattle.pl_state.specs.Keys.{AreSorted}
+use Rattle.pl_state.specs.Sets.{AreInOrder, state_from}
+use Rattle.pl_state.specs.Musts.{must_of, must_key, same_must, broken_one}
+use Rattle.pl_state.specs.Near.{all_of, group_key, IsKeyed, AreRightBut}
+use Rattle.pl_state.specs.Present.{present_of, group_at, broken_at}
 use Rattle.pl_state.specs.Lines.{Standing, IsSound, AreChanges, make, broken_now, bad_now}
+use Rattle.pl_state.proofs.Grouping.{all_is}
+use Rattle.pl_state.proofs.Parts.{one_keyed, knows_must, all_sorted}
+use Rattle.pl_state.proofs.Renewing.{right_without}
 use Rattle.pl_state.proofs.Renewed.{sound_renewed, renewed_changes, answered}
-use Rattle.pl_state.proofs.Grouping.{all_is, counts_length, counts_sum}
-use Rattle.pl_state.proofs.Changing.{freed_all, freed_counts}
 use Rattle.pl_state.proofs.line.StateLine.free.Goals as goal
 
-pub remove_group-requires-clause-place : goal.remove_group-requires-clause-place
-remove_group-requires-clause-place c =
-    let h = c.self.inside.horizon in
-    let any = c.self.inside.any in
-    let steps = c.self.inside.steps.items in
-    let moment = c.self.inside.moment in
-    let base = c.self.inside.base in
-    let value = c.self.inside.value in
-    let sets = c.self.inside.sets in
-    let musts = c.self.inside.musts in
-    let s : Standing = make c.self.inside.spoiled h any steps moment base value sets musts in
-    let sound : IsSound s c.self.inside.broken.items c.self.inside.counts.items c.self.inside.bad.items = c.self.invariant c.if-self.false in
-    let u : Must = must_of c.args.from c.args.to c.args.id c.args.index c.args.state in
-    let F = broken_one (λ t. state_from base t value sets) moment h in
-    let place = c.remove_must-place.result in
-    let musts2 = c.remove_must-place.new.musts in
-    let is_broken : c.self.inside.broken.items ≡ all_of F musts = sound.musts ∙ all_is (λ t. state_from base t value sets) moment h musts in
-    let n = ap (λ l. length l) sound.counted ∙ counts_length F musts in
-    omega (arith, n, c.remove_must-place.ensures.bound)
+pub renew-requires-clause-ordered : goal.renew-requires-clause-ordered
+renew-requires-clause-ordered c =
+    let i = c.self.inside in
+    let sound : IsSound (make i.spoiled i.horizon i.any i.steps.items i.moment i.base i.value i.sets i.musts) i.told.broken.items i.told.bad.items = c.self.invariant c.if-self.false in
+    subst (λ l. AreInOrder 0 l) (sym c.as_slice.ensures.value) sound.ordered
 
-pub remove_group-requires-clause-fits : goal.remove_group-requires-clause-fits
-remove_group-requires-clause-fits c =
-    let h = c.self.inside.horizon in
-    let any = c.self.inside.any in
-    let steps = c.self.inside.steps.items in
-    let moment = c.self.inside.moment in
-    let base = c.self.inside.base in
-    let value = c.self.inside.value in
-    let sets = c.self.inside.sets in
-    let musts = c.self.inside.musts in
-    let s : Standing = make c.self.inside.spoiled h any steps moment base value sets musts in
-    let sound : IsSound s c.self.inside.broken.items c.self.inside.counts.items c.self.inside.bad.items = c.self.invariant c.if-self.false in
+pub renew-requires-clause-musts : goal.renew-requires-clause-musts
+renew-requires-clause-musts c = subst (λ l. AreSorted must_key l) (sym c.as_slice-2.ensures.value) c.as_slice-2.ensures.sorted
+
+pub renew-requires-clause-sorted : goal.renew-requires-clause-sorted
+renew-requires-clause-sorted c =
+    let i = c.self.inside in
+    let s : Standing = make i.spoiled i.horizon i.any i.steps.items i.moment i.base i.value i.sets i.musts in
+    let sound : IsSound s i.told.broken.items i.told.bad.items = c.self.invariant c.if-self.false in
     let u : Must = must_of c.args.from c.args.to c.args.id c.args.index c.args.state in
-    let F = broken_one (λ t. state_from base t value sets) moment h in
-    let place = c.remove_must-place.result in
-    let musts2 = c.remove_must-place.new.musts in
-    let is_broken : c.self.inside.broken.items ≡ all_of F musts = sound.musts ∙ all_is (λ t. state_from base t value sets) moment h musts in
-    ap (λ l. sum l) sound.counted ∙ (counts_sum F musts ∙ sym (ap (λ l. length l) is_broken))
+    let state : ℕ → ℕ = λ t. state_from i.base t i.value i.sets in
+    let F : Must → List BrokenMust = broken_one state i.moment i.horizon in
+    let keyed : IsKeyed F = one_keyed state i.moment i.horizon in
+    let is : i.told.broken.items ≡ all_of F i.musts = sound.musts ∙ all_is state i.moment i.horizon i.musts in
+    subst (λ l. AreSorted group_key l) (sym is) (all_sorted F keyed i.musts c.remove.ensures.sorted)
+
+pub renew-requires-clause-right : goal.renew-requires-clause-right
+renew-requires-clause-right c =
+    let i = c.self.inside in
+    let s : Standing = make i.spoiled i.horizon i.any i.steps.items i.moment i.base i.value i.sets i.musts in
+    let sound : IsSound s i.told.broken.items i.told.bad.items = c.self.invariant c.if-self.false in
+    let u : Must = must_of c.args.from c.args.to c.args.id c.args.index c.args.state in
+    let state : ℕ → ℕ = λ t. state_from i.base t i.value i.sets in
+    let F : Must → List BrokenMust = broken_one state i.moment i.horizon in
+    let keyed : IsKeyed F = one_keyed state i.moment i.horizon in
+    let is : i.told.broken.items ≡ all_of F i.musts = sound.musts ∙ all_is state i.moment i.horizon i.musts in
+    let right : AreRightBut (must_key u ∷ []) F c.as_slice-2.result.now i.told.broken.items = subst (λ l. AreRightBut (must_key u ∷ []) F l i.told.broken.items) (sym (c.as_slice-2.ensures.value ∙ c.remove.ensures.gone))
+    (subst (λ l. AreRightBut (must_key u ∷ []) F (without same_must u i.musts) l) (sym is) (right_without F keyed knows_must u i.musts c.remove.ensures.sorted)) in
+    let at : AreRightBut (must_key u ∷ []) (group_at (present_of i.moment i.horizon i.base i.value) c.as_slice.result.now) c.as_slice-2.result.now i.told.broken.items = subst (λ l. AreRightBut (must_key u ∷ []) (broken_one (λ t. state_from i.base t i.value l) i.moment i.horizon) c.as_slice-2.result.now i.told.broken.items) (sym c.as_slice.ensures.value) right in
+    subst (λ k. AreRightBut (k ∷ []) (group_at (present_of i.moment i.horizon i.base i.value) c.as_slice.result.now) c.as_slice-2.result.now i.told.broken.items) (sym c.key.ensures) at
 
 pub invariant_of-self-2 : goal.invariant_of-self-2
 invariant_of-self-2 c =
-    let h = c.self.inside.horizon in
-    let any = c.self.inside.any in
-    let steps = c.self.inside.steps.items in
-    let moment = c.self.inside.moment in
-    let base = c.self.inside.base in
-    let value = c.self.inside.value in
-    let sets = c.self.inside.sets in
-    let musts = c.self.inside.musts in
-    let s : Standing = make c.self.inside.spoiled h any steps moment base value sets musts in
-    let sound : IsSound s c.self.inside.broken.items c.self.inside.counts.items c.self.inside.bad.items = c.self.invariant c.if-self.false in
+    let i = c.self.inside in
+    let s : Standing = make i.spoiled i.horizon i.any i.steps.items i.moment i.base i.value i.sets i.musts in
+    let sound : IsSound s i.told.broken.items i.told.bad.items = c.self.invariant c.if-self.false in
     let u : Must = must_of c.args.from c.args.to c.args.id c.args.index c.args.state in
-    let F = broken_one (λ t. state_from base t value sets) moment h in
-    let place = c.remove_must-place.result in
-    let musts2 = c.remove_must-place.new.musts in
-    let is_broken : c.self.inside.broken.items ≡ all_of F musts = sound.musts ∙ all_is (λ t. state_from base t value sets) moment h musts in
-    let gone : without same_must u musts ≡ take place musts ++ drop (suc place) musts = sym c.remove_must-place.ensures.gone in
-    let s2 : Standing = make false h any steps moment base value sets musts2 in
-    let sound2 : IsSound s2 c.remove_group.new.broken.items c.remove_group.new.counts.items c.self.inside.bad.items =
-    sound_renewed h any steps steps moment base value sets sets musts2 (take place musts ++ drop (suc place) musts) c.remove_group.new.broken.items c.remove_group.new.counts.items c.self.inside.bad.items sound.in_time sound.based sound.ordered refl refl (sym (c.remove_must-place.ensures.musts ∙ gone))
-    (freed_all F place musts c.self.inside.counts.items c.self.inside.broken.items c.remove_group.new.broken.items sound.counted is_broken c.in_ok-difference.ensures.broken) (freed_counts F place musts c.self.inside.counts.items c.remove_group.new.counts.items sound.counted c.in_ok-difference.ensures.counts) sound.sets in
-    λ e. sound2
+    let state : ℕ → ℕ = λ t. state_from i.base t i.value i.sets in
+    let F : Must → List BrokenMust = broken_one state i.moment i.horizon in
+    let keyed : IsKeyed F = one_keyed state i.moment i.horizon in
+    let is : i.told.broken.items ≡ all_of F i.musts = sound.musts ∙ all_is state i.moment i.horizon i.musts in
+    let broken : c.renew.new.broken.items ≡ broken_at (present_of i.moment i.horizon i.base i.value) i.sets c.remove.new.self = c.in_ok-difference.ensures.broken ∙ (ap (λ l. broken_at (present_of i.moment i.horizon i.base i.value) l c.as_slice-2.result.now) c.as_slice.ensures.value ∙ ap (broken_at (present_of i.moment i.horizon i.base i.value) i.sets) c.as_slice-2.ensures.value) in
+    let renewed : IsSound (make false i.horizon i.any i.steps.items i.moment i.base i.value i.sets c.remove.new.self) c.renew.new.broken.items i.told.bad.items = sound_renewed i.horizon i.any i.steps.items i.steps.items i.moment i.base i.value i.sets c.remove.new.self c.renew.new.broken.items i.told.bad.items
+    sound.in_time sound.based sound.ordered refl broken sound.sets sound.sorted in
+    λ e. renewed
 
 pub returns-clause-change : goal.returns-clause-change
 returns-clause-change c =
-    let h = c.self.inside.horizon in
-    let any = c.self.inside.any in
-    let steps = c.self.inside.steps.items in
-    let moment = c.self.inside.moment in
-    let base = c.self.inside.base in
-    let value = c.self.inside.value in
-    let sets = c.self.inside.sets in
-    let musts = c.self.inside.musts in
-    let s : Standing = make c.self.inside.spoiled h any steps moment base value sets musts in
-    let sound : IsSound s c.self.inside.broken.items c.self.inside.counts.items c.self.inside.bad.items = c.self.invariant c.if-self.false in
+    let i = c.self.inside in
+    let s : Standing = make i.spoiled i.horizon i.any i.steps.items i.moment i.base i.value i.sets i.musts in
+    let sound : IsSound s i.told.broken.items i.told.bad.items = c.self.invariant c.if-self.false in
     let u : Must = must_of c.args.from c.args.to c.args.id c.args.index c.args.state in
-    let F = broken_one (λ t. state_from base t value sets) moment h in
-    let place = c.remove_must-place.result in
-    let musts2 = c.remove_must-place.new.musts in
-    let is_broken : c.self.inside.broken.items ≡ all_of F musts = sound.musts ∙ all_is (λ t. state_from base t value sets) moment h musts in
-    let gone : without same_must u musts ≡ take place musts ++ drop (suc place) musts = sym c.remove_must-place.ensures.gone in
-    let s2 : Standing = make false h any steps moment base value sets musts2 in
-    let sound2 : IsSound s2 c.remove_group.new.broken.items c.remove_group.new.counts.items c.self.inside.bad.items =
-    sound_renewed h any steps steps moment base value sets sets musts2 (take place musts ++ drop (suc place) musts) c.remove_group.new.broken.items c.remove_group.new.counts.items c.self.inside.bad.items sound.in_time sound.based sound.ordered refl refl (sym (c.remove_must-place.ensures.musts ∙ gone))
-    (freed_all F place musts c.self.inside.counts.items c.self.inside.broken.items c.remove_group.new.broken.items sound.counted is_broken c.in_ok-difference.ensures.broken) (freed_counts F place musts c.self.inside.counts.items c.remove_group.new.counts.items sound.counted c.in_ok-difference.ensures.counts) sound.sets in
-    let changes : AreChanges c.self.inside.broken.items c.remove_group.new.broken.items c.self.inside.bad.items c.self.inside.bad.items c.answer.result =
-    answered c.self.inside.broken.items c.remove_group.new.broken.items c.in_ok-difference.difference.went c.in_ok-difference.difference.came c.self.inside.bad.items c.no_steps.result.went c.no_steps.result.came c.answer.result c.answer.ensures c.in_ok-difference.ensures.went c.in_ok-difference.ensures.came c.no_steps.ensures.went c.no_steps.ensures.came in
-    subst (λ (v : Standing). AreChanges (broken_now v) (broken_now s2) (bad_now v) (bad_now s2) c.answer.result) c.self.view_is
-    (renewed_changes s s2 c.self.inside.broken.items c.remove_group.new.broken.items c.self.inside.counts.items c.remove_group.new.counts.items c.self.inside.bad.items c.self.inside.bad.items c.answer.result sound sound2 changes)
+    let state : ℕ → ℕ = λ t. state_from i.base t i.value i.sets in
+    let F : Must → List BrokenMust = broken_one state i.moment i.horizon in
+    let keyed : IsKeyed F = one_keyed state i.moment i.horizon in
+    let is : i.told.broken.items ≡ all_of F i.musts = sound.musts ∙ all_is state i.moment i.horizon i.musts in
+    let broken : c.renew.new.broken.items ≡ broken_at (present_of i.moment i.horizon i.base i.value) i.sets c.remove.new.self = c.in_ok-difference.ensures.broken ∙ (ap (λ l. broken_at (present_of i.moment i.horizon i.base i.value) l c.as_slice-2.result.now) c.as_slice.ensures.value ∙ ap (broken_at (present_of i.moment i.horizon i.base i.value) i.sets) c.as_slice-2.ensures.value) in
+    let renewed : IsSound (make false i.horizon i.any i.steps.items i.moment i.base i.value i.sets c.remove.new.self) c.renew.new.broken.items i.told.bad.items = sound_renewed i.horizon i.any i.steps.items i.steps.items i.moment i.base i.value i.sets c.remove.new.self c.renew.new.broken.items i.told.bad.items
+    sound.in_time sound.based sound.ordered refl broken sound.sets sound.sorted in
+    let t : Standing = make false i.horizon i.any i.steps.items i.moment i.base i.value i.sets c.remove.new.self in
+    let changes : AreChanges i.told.broken.items c.renew.new.broken.items i.told.bad.items i.told.bad.items c.answer.result =
+    answered i.told.broken.items c.renew.new.broken.items c.in_ok-difference.difference.went c.in_ok-difference.difference.came i.told.bad.items c.no_steps.result.went c.no_steps.result.came c.answer.result c.answer.ensures c.in_ok-difference.ensures.went c.in_ok-difference.ensures.came c.no_steps.ensures.went c.no_steps.ensures.came in
+    subst (λ (v : Standing). AreChanges (broken_now v) (broken_now t) (bad_now v) (bad_now t) c.answer.result) c.self.view_is
+    (renewed_changes s t i.told.broken.items c.renew.new.broken.items i.told.bad.items i.told.bad.items c.answer.result sound renewed changes)

@@ -1,206 +1,41 @@
-use Rattle.std.proofs.Common.{◌≡◌, false, arith, ap, sym, ◌∙◌, refl, subst}
+use Rattle.std.proofs.Common.{◌≡◌, false, arith, ap, ◌∙◌, subst}
 use Rattle.pl_points.specs.Lists.{back}
-use Rattle.pl_points.specs.Spans.{span}
-use Rattle.pl_state.specs.Sets.{AreInOrder, is_allowed, is_passed}
-use Rattle.pl_state.specs.Near.{next_moment, AreBadInOrder}
+use Rattle.pl_state.specs.Sets.{is_passed}
+use Rattle.pl_state.specs.Near.{next_moment}
 use Rattle.pl_state.specs.Lines.{Standing, IsSound, AreChanges, make, broken_now, bad_now}
-use Rattle.pl_state.proofs.Steps.{bad_rising}
 use Rattle.pl_state.proofs.Renewed.{sound_renewed, renewed_changes}
-use Rattle.pl_state.proofs.Changing.{rebase_groups, rebase_before, rebase_behind}
+use Rattle.pl_state.proofs.Changing.{rebase_right}
 use Rattle.pl_state.proofs.line.StateLine.rebase.Goals as goal
 
-pub mend-requires-clause-near : goal.mend-requires-clause-near
-mend-requires-clause-near c =
-    let h = c.self.inside.horizon in
-    let any = c.self.inside.any in
-    let steps = c.self.inside.steps.items in
-    let moment = c.self.inside.moment in
-    let base = c.self.inside.base in
-    let value = c.self.inside.value in
-    let sets = c.self.inside.sets in
-    let musts = c.self.inside.musts in
-    let s : Standing = make c.self.inside.spoiled h any steps moment base value sets musts in
-    let sound : IsSound s c.self.inside.broken.items c.self.inside.counts.items c.self.inside.bad.items = c.self.invariant c.if-self.false in
-    let sets2 = sets in
-    let end = c.end_of_base.result in
-    let to : end ≡ next_moment h (back (is_passed moment) sets) = c.end_of_base.ensures.end ∙ ap (λ l. next_moment h (back (is_passed moment) l)) c.as_slice.ensures.value in
-    let is_steps : c.deref.result.now ≡ steps = c.deref.ensures.value in
-    let is_sets : c.as_slice-2.result.now ≡ sets2 = c.as_slice-2.ensures.value in
-    let is_musts : c.as_slice-3.result.now ≡ musts = c.as_slice-3.ensures.value in
-    let ordered : AreInOrder 0 sets2 = sound.ordered in
-    c.end_of_base.ensures.later
+pub mend-requires-clause-right : goal.mend-requires-clause-right
+mend-requires-clause-right c =
+    let i = c.self.inside in
+    let sound : IsSound (make i.spoiled i.horizon i.any i.steps.items i.moment i.base i.value i.sets i.musts) i.told.broken.items i.told.bad.items = c.self.invariant c.if-self.false in
+    let to : c.end_of_base.result ≡ next_moment i.horizon (back (is_passed i.moment) i.sets) = c.end_of_base.ensures.end ∙ ap (λ l. next_moment i.horizon (back (is_passed i.moment) l)) c.as_slice.ensures.value in
+    rebase_right i.any i.steps.items c.deref.result.now i.moment i.horizon i.base i.value c.args.state c.end_of_base.result i.sets i.musts i.told.broken.items i.told.bad.items
+    sound.ordered c.deref.ensures.value sound.in_time sound.based c.end_of_base.ensures.later to sound.musts sound.sets
 
-pub mend-requires-clause-bound : goal.mend-requires-clause-bound
-mend-requires-clause-bound c =
-    let h = c.self.inside.horizon in
-    let any = c.self.inside.any in
-    let steps = c.self.inside.steps.items in
-    let moment = c.self.inside.moment in
-    let base = c.self.inside.base in
-    let value = c.self.inside.value in
-    let sets = c.self.inside.sets in
-    let musts = c.self.inside.musts in
-    let s : Standing = make c.self.inside.spoiled h any steps moment base value sets musts in
-    let sound : IsSound s c.self.inside.broken.items c.self.inside.counts.items c.self.inside.bad.items = c.self.invariant c.if-self.false in
-    let sets2 = sets in
-    let end = c.end_of_base.result in
-    let to : end ≡ next_moment h (back (is_passed moment) sets) = c.end_of_base.ensures.end ∙ ap (λ l. next_moment h (back (is_passed moment) l)) c.as_slice.ensures.value in
-    let is_steps : c.deref.result.now ≡ steps = c.deref.ensures.value in
-    let is_sets : c.as_slice-2.result.now ≡ sets2 = c.as_slice-2.ensures.value in
-    let is_musts : c.as_slice-3.result.now ≡ musts = c.as_slice-3.ensures.value in
-    let ordered : AreInOrder 0 sets2 = sound.ordered in
-    sound.in_time
-
-pub mend-requires-clause-ordered : goal.mend-requires-clause-ordered
-mend-requires-clause-ordered c =
-    let h = c.self.inside.horizon in
-    let any = c.self.inside.any in
-    let steps = c.self.inside.steps.items in
-    let moment = c.self.inside.moment in
-    let base = c.self.inside.base in
-    let value = c.self.inside.value in
-    let sets = c.self.inside.sets in
-    let musts = c.self.inside.musts in
-    let s : Standing = make c.self.inside.spoiled h any steps moment base value sets musts in
-    let sound : IsSound s c.self.inside.broken.items c.self.inside.counts.items c.self.inside.bad.items = c.self.invariant c.if-self.false in
-    let sets2 = sets in
-    let end = c.end_of_base.result in
-    let to : end ≡ next_moment h (back (is_passed moment) sets) = c.end_of_base.ensures.end ∙ ap (λ l. next_moment h (back (is_passed moment) l)) c.as_slice.ensures.value in
-    let is_steps : c.deref.result.now ≡ steps = c.deref.ensures.value in
-    let is_sets : c.as_slice-2.result.now ≡ sets2 = c.as_slice-2.ensures.value in
-    let is_musts : c.as_slice-3.result.now ≡ musts = c.as_slice-3.ensures.value in
-    let ordered : AreInOrder 0 sets2 = sound.ordered in
-    subst (λ l. AreInOrder 0 l) (sym is_sets) ordered
-
-pub mend-requires-clause-groups : goal.mend-requires-clause-groups
-mend-requires-clause-groups c =
-    let h = c.self.inside.horizon in
-    let any = c.self.inside.any in
-    let steps = c.self.inside.steps.items in
-    let moment = c.self.inside.moment in
-    let base = c.self.inside.base in
-    let value = c.self.inside.value in
-    let sets = c.self.inside.sets in
-    let musts = c.self.inside.musts in
-    let s : Standing = make c.self.inside.spoiled h any steps moment base value sets musts in
-    let sound : IsSound s c.self.inside.broken.items c.self.inside.counts.items c.self.inside.bad.items = c.self.invariant c.if-self.false in
-    let sets2 = sets in
-    let end = c.end_of_base.result in
-    let to : end ≡ next_moment h (back (is_passed moment) sets) = c.end_of_base.ensures.end ∙ ap (λ l. next_moment h (back (is_passed moment) l)) c.as_slice.ensures.value in
-    let is_steps : c.deref.result.now ≡ steps = c.deref.ensures.value in
-    let is_sets : c.as_slice-2.result.now ≡ sets2 = c.as_slice-2.ensures.value in
-    let is_musts : c.as_slice-3.result.now ≡ musts = c.as_slice-3.ensures.value in
-    let ordered : AreInOrder 0 sets2 = sound.ordered in
-    rebase_groups base value c.args.state moment h sets c.as_slice-2.result.now musts c.as_slice-3.result.now c.self.inside.counts.items c.self.inside.broken.items (span moment end) sound.ordered sound.based refl to is_sets is_musts sound.counted sound.musts
-
-pub mend-requires-clause-rising : goal.mend-requires-clause-rising
-mend-requires-clause-rising c =
-    let h = c.self.inside.horizon in
-    let any = c.self.inside.any in
-    let steps = c.self.inside.steps.items in
-    let moment = c.self.inside.moment in
-    let base = c.self.inside.base in
-    let value = c.self.inside.value in
-    let sets = c.self.inside.sets in
-    let musts = c.self.inside.musts in
-    let s : Standing = make c.self.inside.spoiled h any steps moment base value sets musts in
-    let sound : IsSound s c.self.inside.broken.items c.self.inside.counts.items c.self.inside.bad.items = c.self.invariant c.if-self.false in
-    let sets2 = sets in
-    let end = c.end_of_base.result in
-    let to : end ≡ next_moment h (back (is_passed moment) sets) = c.end_of_base.ensures.end ∙ ap (λ l. next_moment h (back (is_passed moment) l)) c.as_slice.ensures.value in
-    let is_steps : c.deref.result.now ≡ steps = c.deref.ensures.value in
-    let is_sets : c.as_slice-2.result.now ≡ sets2 = c.as_slice-2.ensures.value in
-    let is_musts : c.as_slice-3.result.now ≡ musts = c.as_slice-3.ensures.value in
-    let ordered : AreInOrder 0 sets2 = sound.ordered in
-    subst (λ l. AreBadInOrder 0 l) (sym sound.sets) (bad_rising (is_allowed any steps) base h moment value 0 sets sound.ordered)
-
-pub mend-requires-clause-before : goal.mend-requires-clause-before
-mend-requires-clause-before c =
-    let h = c.self.inside.horizon in
-    let any = c.self.inside.any in
-    let steps = c.self.inside.steps.items in
-    let moment = c.self.inside.moment in
-    let base = c.self.inside.base in
-    let value = c.self.inside.value in
-    let sets = c.self.inside.sets in
-    let musts = c.self.inside.musts in
-    let s : Standing = make c.self.inside.spoiled h any steps moment base value sets musts in
-    let sound : IsSound s c.self.inside.broken.items c.self.inside.counts.items c.self.inside.bad.items = c.self.invariant c.if-self.false in
-    let sets2 = sets in
-    let end = c.end_of_base.result in
-    let to : end ≡ next_moment h (back (is_passed moment) sets) = c.end_of_base.ensures.end ∙ ap (λ l. next_moment h (back (is_passed moment) l)) c.as_slice.ensures.value in
-    let is_steps : c.deref.result.now ≡ steps = c.deref.ensures.value in
-    let is_sets : c.as_slice-2.result.now ≡ sets2 = c.as_slice-2.ensures.value in
-    let is_musts : c.as_slice-3.result.now ≡ musts = c.as_slice-3.ensures.value in
-    let ordered : AreInOrder 0 sets2 = sound.ordered in
-    rebase_before (is_allowed any steps) (is_allowed any c.deref.result.now) base h moment value c.args.state sets c.as_slice-2.result.now c.self.inside.bad.items sound.sets
-
-pub mend-requires-clause-behind : goal.mend-requires-clause-behind
-mend-requires-clause-behind c =
-    let h = c.self.inside.horizon in
-    let any = c.self.inside.any in
-    let steps = c.self.inside.steps.items in
-    let moment = c.self.inside.moment in
-    let base = c.self.inside.base in
-    let value = c.self.inside.value in
-    let sets = c.self.inside.sets in
-    let musts = c.self.inside.musts in
-    let s : Standing = make c.self.inside.spoiled h any steps moment base value sets musts in
-    let sound : IsSound s c.self.inside.broken.items c.self.inside.counts.items c.self.inside.bad.items = c.self.invariant c.if-self.false in
-    let sets2 = sets in
-    let end = c.end_of_base.result in
-    let to : end ≡ next_moment h (back (is_passed moment) sets) = c.end_of_base.ensures.end ∙ ap (λ l. next_moment h (back (is_passed moment) l)) c.as_slice.ensures.value in
-    let is_steps : c.deref.result.now ≡ steps = c.deref.ensures.value in
-    let is_sets : c.as_slice-2.result.now ≡ sets2 = c.as_slice-2.ensures.value in
-    let is_musts : c.as_slice-3.result.now ≡ musts = c.as_slice-3.ensures.value in
-    let ordered : AreInOrder 0 sets2 = sound.ordered in
-    rebase_behind (is_allowed any steps) (is_allowed any c.deref.result.now) base h moment value c.args.state end sets c.as_slice-2.result.now c.self.inside.bad.items sound.ordered sound.based c.end_of_base.ensures.later to is_sets (ap (λ l. is_allowed any l) is_steps) sound.sets
+pub mend-requires-clause-sorted : goal.mend-requires-clause-sorted
+mend-requires-clause-sorted c =
+    let i = c.self.inside in
+    let sound : IsSound (make i.spoiled i.horizon i.any i.steps.items i.moment i.base i.value i.sets i.musts) i.told.broken.items i.told.bad.items = c.self.invariant c.if-self.false in
+    sound.sorted
 
 pub invariant_of-self-2 : goal.invariant_of-self-2
 invariant_of-self-2 c =
-    let h = c.self.inside.horizon in
-    let any = c.self.inside.any in
-    let steps = c.self.inside.steps.items in
-    let moment = c.self.inside.moment in
-    let base = c.self.inside.base in
-    let value = c.self.inside.value in
-    let sets = c.self.inside.sets in
-    let musts = c.self.inside.musts in
-    let s : Standing = make c.self.inside.spoiled h any steps moment base value sets musts in
-    let sound : IsSound s c.self.inside.broken.items c.self.inside.counts.items c.self.inside.bad.items = c.self.invariant c.if-self.false in
-    let sets2 = sets in
-    let end = c.end_of_base.result in
-    let to : end ≡ next_moment h (back (is_passed moment) sets) = c.end_of_base.ensures.end ∙ ap (λ l. next_moment h (back (is_passed moment) l)) c.as_slice.ensures.value in
-    let is_steps : c.deref.result.now ≡ steps = c.deref.ensures.value in
-    let is_sets : c.as_slice-2.result.now ≡ sets2 = c.as_slice-2.ensures.value in
-    let is_musts : c.as_slice-3.result.now ≡ musts = c.as_slice-3.ensures.value in
-    let ordered : AreInOrder 0 sets2 = sound.ordered in
-    let s2 : Standing = make false h any steps moment moment c.args.state sets2 musts in
-    let sound2 : IsSound s2 c.mend.new.broken.items c.mend.new.counts.items c.mend.new.bad.items =
-    sound_renewed h any steps c.deref.result.now moment moment c.args.state sets2 c.as_slice-2.result.now musts c.as_slice-3.result.now c.mend.new.broken.items c.mend.new.counts.items c.mend.new.bad.items sound.in_time (omega arith) ordered is_steps is_sets is_musts c.in_ok-change.ensures.broken c.in_ok-change.ensures.counts c.in_ok-change.ensures.bad in
-    λ e. sound2
+    let i = c.self.inside in
+    let sound : IsSound (make i.spoiled i.horizon i.any i.steps.items i.moment i.base i.value i.sets i.musts) i.told.broken.items i.told.bad.items = c.self.invariant c.if-self.false in
+    λ e. sound_renewed i.horizon i.any i.steps.items c.deref.result.now i.moment i.moment c.args.state i.sets i.musts c.mend.new.told.broken.items c.mend.new.told.bad.items
+    sound.in_time (omega arith) sound.ordered c.deref.ensures.value c.in_ok-change.ensures.broken c.in_ok-change.ensures.bad c.in_ok-change.ensures.sorted
 
 pub returns-clause-change : goal.returns-clause-change
 returns-clause-change c =
-    let h = c.self.inside.horizon in
-    let any = c.self.inside.any in
-    let steps = c.self.inside.steps.items in
-    let moment = c.self.inside.moment in
-    let base = c.self.inside.base in
-    let value = c.self.inside.value in
-    let sets = c.self.inside.sets in
-    let musts = c.self.inside.musts in
-    let s : Standing = make c.self.inside.spoiled h any steps moment base value sets musts in
-    let sound : IsSound s c.self.inside.broken.items c.self.inside.counts.items c.self.inside.bad.items = c.self.invariant c.if-self.false in
-    let sets2 = sets in
-    let end = c.end_of_base.result in
-    let to : end ≡ next_moment h (back (is_passed moment) sets) = c.end_of_base.ensures.end ∙ ap (λ l. next_moment h (back (is_passed moment) l)) c.as_slice.ensures.value in
-    let is_steps : c.deref.result.now ≡ steps = c.deref.ensures.value in
-    let is_sets : c.as_slice-2.result.now ≡ sets2 = c.as_slice-2.ensures.value in
-    let is_musts : c.as_slice-3.result.now ≡ musts = c.as_slice-3.ensures.value in
-    let ordered : AreInOrder 0 sets2 = sound.ordered in
-    let s2 : Standing = make false h any steps moment moment c.args.state sets2 musts in
-    let sound2 : IsSound s2 c.mend.new.broken.items c.mend.new.counts.items c.mend.new.bad.items =
-    sound_renewed h any steps c.deref.result.now moment moment c.args.state sets2 c.as_slice-2.result.now musts c.as_slice-3.result.now c.mend.new.broken.items c.mend.new.counts.items c.mend.new.bad.items sound.in_time (omega arith) ordered is_steps is_sets is_musts c.in_ok-change.ensures.broken c.in_ok-change.ensures.counts c.in_ok-change.ensures.bad in
-    subst (λ (v : Standing). AreChanges (broken_now v) (broken_now s2) (bad_now v) (bad_now s2) c.in_ok-change.change) c.self.view_is
-    (renewed_changes s s2 c.self.inside.broken.items c.mend.new.broken.items c.self.inside.counts.items c.mend.new.counts.items c.self.inside.bad.items c.mend.new.bad.items c.in_ok-change.change sound sound2 c.in_ok-change.ensures.change)
+    let i = c.self.inside in
+    let s : Standing = make i.spoiled i.horizon i.any i.steps.items i.moment i.base i.value i.sets i.musts in
+    let sound : IsSound s i.told.broken.items i.told.bad.items = c.self.invariant c.if-self.false in
+    let t : Standing = make false i.horizon i.any i.steps.items i.moment i.moment c.args.state i.sets i.musts in
+    subst (λ (v : Standing). AreChanges (broken_now v) (broken_now t) (bad_now v) (bad_now t) c.in_ok-change.change) c.self.view_is
+    (renewed_changes s t i.told.broken.items c.mend.new.told.broken.items i.told.bad.items c.mend.new.told.bad.items c.in_ok-change.change sound
+    (sound_renewed i.horizon i.any i.steps.items c.deref.result.now i.moment i.moment c.args.state i.sets i.musts c.mend.new.told.broken.items c.mend.new.told.bad.items
+    sound.in_time (omega arith) sound.ordered c.deref.ensures.value c.in_ok-change.ensures.broken c.in_ok-change.ensures.bad c.in_ok-change.ensures.sorted)
+    c.in_ok-change.ensures.change)

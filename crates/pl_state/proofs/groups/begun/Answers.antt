@@ -1,0 +1,31 @@
+use Rattle.std.proofs.Common.{◌≡◌, ◌∷◌, [], List, length, drop, sym, ap, ◌∙◌, subst, arith}
+use Rattle.std.specs.Option.{option_copied}
+use Rattle.pl_state.specs.declared.key.Key.{Key}
+use Rattle.pl_state.specs.Near.{AreRightBut, IsBegun}
+use Rattle.pl_state.proofs.Renewing.{begun_at, begun_none, first_none, first_some}
+use Rattle.pl_state.proofs.groups.begun.Goals as goal
+
+pub returns-in-None : goal.returns-in-None
+returns-in-None c = λ group keyed right.
+    let ms = c.args.musts.now in
+    let b = c.args.broken.now in
+    let none : c.args.keys.now ≡ [] = first_none c.args.keys.now (sym (ap option_copied c.in-None.is) ∙ c.first.ensures.value) in
+    let begun : IsBegun group ms b c.args.keys.now (length b) (length ms) (length b) [] [] [] = subst (λ l. IsBegun group ms b l (length b) (length ms) (length b) [] [] []) (sym none)
+    (begun_none group ms b (subst (λ l. AreRightBut l group ms b) none right)) in
+    let e = c.renewal_from.ensures in
+    rw e.begin (rw e.passed (rw e.taken (rw e.fresh (rw e.went (rw e.came begun)))))
+
+pub returns-in-Some : goal.returns-in-Some
+returns-in-Some c = λ group keyed right.
+    let ms = c.args.musts.now in
+    let b = c.args.broken.now in
+    let k : Key = c.in-Some.key.now in
+    let ks : List Key = drop 1 c.args.keys.now in
+    let some : c.args.keys.now ≡ k ∷ ks = first_some c.args.keys.now k (sym (ap option_copied c.in-Some.is) ∙ c.first.ensures.value) in
+    let p = c.run_of-passed.result in
+    let t = c.run_of-taken.result in
+    let begun : IsBegun group ms b c.args.keys.now t.begin p.begin t.begin [] [] [] = subst (λ l. IsBegun group ms b l t.begin p.begin t.begin [] [] []) (sym some)
+    (begun_at group keyed k ks ms b p.begin p.behind t.begin t.behind c.requires.musts c.requires.sorted c.run_of-passed.ensures.cut c.run_of-taken.ensures.cut
+    (omega (arith, c.run_of-passed.ensures.behind, c.run_of-passed.ensures.bound)) (omega (arith, c.run_of-taken.ensures.behind, c.run_of-taken.ensures.bound)) (subst (λ l. AreRightBut l group ms b) some right)) in
+    let e = c.renewal_from-in-Some.ensures in
+    rw e.begin (rw e.passed (rw e.taken (rw e.fresh (rw e.went (rw e.came begun)))))
