@@ -12,7 +12,7 @@ use pl_model::Model;
 use std::alloc::{AllocError, Global};
 use std::collections::BTreeSet;
 
-/// What came to the list of what is broken, and what went.
+/// What came to the list of what is broken, and what went, each once and in order.
 #[derive(Debug, Drop)]
 pub struct Changes {
     pub came: Vec<Broken>,

@@ -1,15 +1,17 @@
 ghost use Rattle.std.specs.Prelude.{◌≡◌, [], Some, OnOk, OnErr, IfOk, IfSome, None, false};
 ghost use Rattle.std.specs.List.{list_any};
+ghost use Rattle.std.specs.List.Sorted.{IsStrictlySortedBy};
 ghost use Rattle.pl_links.specs.Items.{AreRising, AreApart, IsPlaced};
 ghost use Rattle.pl_links.specs.Items.{item_of, with_item, without, child_of};
 ghost use Rattle.pl_links.specs.Broken.{is_partner};
 ghost use Rattle.pl_links.specs.Filed.{left, is_partner_of};
 ghost use Rattle.pl_links.specs.Near.{parent_of};
-ghost use Rattle.pl_links.specs.Sets.{has};
+ghost use Rattle.pl_links.specs.Sets.{broken_cmp, has};
 ghost use Rattle.pl_links.specs.Standing.{stands};
 ghost use Rattle.pl_links.specs.declared.broken.Broken.{Broken};
 
 use crate::broken::Broken;
+use crate::exchange::each_once;
 use crate::files::Files;
 use crate::moments::moment;
 use crate::near::near;
@@ -153,10 +155,12 @@ impl Store {
         item: &Placed,
     ) -> Result<Vec<Broken>, AllocError>
         requires { item_of item.now.id self.now ≡ Some item.now }
-        ensures { IfOk result (λ all. (b : Broken) → has b all.items ≡ false →
+        ensures away { IfOk result (λ all. (b : Broken) → has b all.items ≡ false →
             stands model.now self.now b ≡ stands model.now (without item.now.id self.now) b) }
+        ensures ordered { IfOk result (λ all. IsStrictlySortedBy broken_cmp all.items) }
     {
-        let all = near(alloc, model, &self.files, item, self.parent_of(item))?;
+        let found = near(alloc, model, &self.files, item, self.parent_of(item))?;
+        let all = each_once(alloc, found.as_slice())?;
         Ok(all)
     }
 }
