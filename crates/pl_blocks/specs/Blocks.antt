@@ -1,5 +1,5 @@
 -- Rows of blocks of points.
-use Rattle.std.specs.Prelude.{◌≡◌, ℕ, ◌+◌, ◌<◌, ◌≤◌, ◌^◌, Bool, true, ◌&&◌, ◌||◌, List, [], ◌∷◌, ◌++◌, length, ℤ, pos, ◌+ℤ◌, int_lt}
+use Rattle.std.specs.Prelude.{◌≡◌, ℕ, ◌+◌, ◌-◌, get_or, ◌<◌, ◌≤◌, ◌^◌, Bool, true, ◌&&◌, ◌||◌, List, [], ◌∷◌, ◌++◌, length, ℤ, pos, ◌+ℤ◌, int_lt}
 use Rattle.std.specs.Int.{int_min, int_max}
 use Rattle.pl_points.specs.Lists.{back}
 use Rattle.pl_points.specs.Sums.{total}
@@ -48,12 +48,13 @@ least_sum ps = least_along (first_delta ps) (pos 0) ps
 abbrev pub greatest_sum : List Point → ℤ
 greatest_sum ps = greatest_along (first_delta ps) (pos 0) ps
 
--- a block of 1 to 64 points, with its sum and the least and greatest sum of its fronts
-pub record IsBlock (ps : List Point) (sum least greatest : ℤ) : Type 0 where
+-- a block of 1 to 64 points, with its last moment, its sum and the least and greatest sum of its fronts
+pub record IsBlock (ps : List Point) (last : ℕ) (sum least greatest : ℤ) : Type 0 where
   pub some : 0 < length ps
   pub few : length ps ≤ 64
   pub rising : RiseFrom 0 ps
   pub near : AreNear (pos 0) ps
+  pub final : last ≡ (get_or ps (length ps - 1) (0, pos 0)).0
   pub adds_up : sum ≡ change_of ps
   pub lowest : least ≡ least_sum ps
   pub highest : greatest ≡ greatest_sum ps

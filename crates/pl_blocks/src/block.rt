@@ -9,10 +9,12 @@ use pl_points::{Ledger, Steps, leaving, merge};
 use std::alloc::{AllocError, Global};
 use std::marker::Model;
 
-/// From 1 to 64 points, with their sum and the least and greatest sum of their fronts.
+/// From 1 to 64 points, with the last moment, their sum and the least and greatest sum of their fronts.
 #[derive(Drop)]
 pub(crate) struct Block {
     points: Vec<(u32, i64)>,
+    // The moment of the last one.
+    last: u32,
     sum: i64,
     least: i64,
     greatest: i64,
@@ -26,7 +28,7 @@ impl Model for Block {
 
     ghost view = { λ b. b.points.items };
 
-    ghost invariant = { λ b. IsBlock b.points.items b.sum b.least b.greatest };
+    ghost invariant = { λ b. IsBlock b.points.items b.last b.sum b.least b.greatest };
 }
 
 impl Block {
@@ -39,6 +41,7 @@ impl Block {
         ensures more { steps.old ≤ steps.new }
         ensures cost { steps.new ≤ steps.old + length points.items }
     {
+        let last = points[points.len() - 1].0;
         let first = points[0].1;
         let mut sum: i64 = 0;
         let mut least = first;
@@ -51,6 +54,7 @@ impl Block {
         }
         Block {
             points,
+            last,
             sum,
             least,
             greatest,
@@ -89,8 +93,7 @@ impl Block {
     pub(crate) fn is_past(&self, at: u64) -> bool
         ensures { result ≡ is_past at self.now }
     {
-        let points = self.points();
-        u64::from(points[points.len() - 1].0) < at
+        u64::from(self.last) < at
     }
 
     /// The points with the delta merged in.
@@ -113,6 +116,7 @@ impl Copied for Block {
     fn copy(&self, alloc: Global) -> Result<Block, AllocError> {
         Ok(Block {
             points: Vec::from_slice(alloc, self.points.as_slice())?,
+            last: self.last,
             sum: self.sum,
             least: self.least,
             greatest: self.greatest,

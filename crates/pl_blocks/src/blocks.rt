@@ -3,10 +3,10 @@ ghost use Rattle.pl_points.specs.Points.{leaving, RiseFrom, SmallFrom, AreSmall,
 ghost use Rattle.pl_blocks.specs.Blocks.{together, blocks_from, AreSized};
 
 use crate::block::{Block, passed};
-use crate::finding::past_count;
+use crate::finding::past_near;
 use crate::mending::mend;
 use pl_lists::Copied;
-use pl_points::{Ledger, Points, Steps, leaving};
+use pl_points::{Ledger, Points, Steps, leaving, place_of};
 use std::alloc::{AllocError, Global};
 use std::marker::Model;
 
@@ -62,9 +62,12 @@ fn leaving_blocks<L: Ledger>(
 {
     let mut sum = before;
     for block in blocks {
-        steps.tick();
+        steps.pass();
         if sum + block.least() < least || most < sum + block.greatest() {
-            return leaving(block.points(), sum, least, most, steps);
+            let here = steps.near();
+            let found = leaving(block.points(), sum, least, most, steps);
+            steps.stand_at(here);
+            return found;
         }
         sum += block.sum();
     }
@@ -124,19 +127,20 @@ impl Points for BlockPoints {
         if count == 0 {
             return begin(self.alloc, &mut self.blocks, at, delta, steps);
         }
-        let place = past_count(&self.blocks, at, steps).min(count - 1);
+        let place = past_near(&self.blocks, at, steps).min(count - 1);
         let points = self.blocks[place].merged(self.alloc, at, delta)?;
         mend(self.alloc, &mut self.blocks, place, points, steps)
     }
 
     fn first_from<L: Ledger>(&self, at: u32, steps: &mut Steps<L>) -> Option<(u32, i64)> {
         steps.tick();
-        let place = past_count(&self.blocks, at, steps);
+        let place = past_near(&self.blocks, at, steps);
+        steps.stand_at(place);
         if place == self.blocks.len() {
             return None;
         }
         let points = self.blocks[place].points();
-        let (count, _) = passed(points, u64::from(at), steps);
+        let count = place_of(points, at);
         Some(points[count])
     }
 
@@ -149,7 +153,7 @@ impl Points for BlockPoints {
         steps: &mut Steps<L>,
     ) -> Option<(u32, i64)> {
         steps.tick();
-        let place = past_count(&self.blocks, from, steps);
+        let place = past_near(&self.blocks, from, steps);
         if place == self.blocks.len() {
             return None;
         }
@@ -157,6 +161,7 @@ impl Points for BlockPoints {
         let points = block.points();
         let (count, skipped) = passed(points, u64::from(from), steps);
         let found = leaving(&points[count..], before, least, most, steps);
+        steps.stand_at(place);
         if found.is_some() {
             return found;
         }

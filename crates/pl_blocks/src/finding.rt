@@ -1,4 +1,4 @@
-ghost use Rattle.std.specs.Prelude.{◌≡◌, ◌<◌, ◌≤◌, ◌+◌, ◌^◌, length, take, drop};
+ghost use Rattle.std.specs.Prelude.{◌≡◌, ◌<◌, ◌≤◌, ◌+◌, ◌^◌, true, suc, length, take, drop};
 ghost use Rattle.pl_points.specs.Lists.{front, back};
 ghost use Rattle.pl_points.specs.Points.{RiseFrom};
 ghost use Rattle.pl_blocks.specs.Blocks.{together, is_past, AreSized};
@@ -6,8 +6,8 @@ ghost use Rattle.pl_blocks.specs.Blocks.{together, is_past, AreSized};
 use crate::block::Block;
 use pl_points::{Ledger, Steps};
 
-/// How many blocks lie whole before the moment: a step for each that it looks at.
-pub(crate) fn past_count<L: Ledger>(blocks: &[Block], at: u32, steps: &mut Steps<L>) -> usize
+// How many blocks lie whole before the moment: a step for each that it looks at.
+fn past_count<L: Ledger>(blocks: &[Block], at: u32, steps: &mut Steps<L>) -> usize
     requires few { length blocks.now < 2 ^ 26 }
     requires sized { AreSized blocks.now }
     requires rising { RiseFrom 0 (together blocks.now) }
@@ -29,4 +29,50 @@ pub(crate) fn past_count<L: Ledger>(blocks: &[Block], at: u32, steps: &mut Steps
         }
     }
     low
+}
+
+// Whether the blocks up to this place are those that lie whole before the moment.
+fn is_last_past(blocks: &[Block], place: usize, at: u32) -> bool
+    requires sized { AreSized blocks.now }
+    requires rising { RiseFrom 0 (together blocks.now) }
+    ensures bound { result ≡ true → place < length blocks.now }
+    ensures before { result ≡ true → take (suc place) blocks.now ≡ front (is_past at) blocks.now }
+    ensures rest { result ≡ true → drop (suc place) blocks.now ≡ back (is_past at) blocks.now }
+{
+    let moment = u64::from(at);
+    if place >= blocks.len() {
+        return false;
+    }
+    if !blocks[place].is_past(moment) {
+        return false;
+    }
+    if place + 1 == blocks.len() {
+        return true;
+    }
+    !blocks[place + 1].is_past(moment)
+}
+
+/// How many blocks lie whole before the moment, found at once where the walk stands in the block
+/// behind them or in the last of them.
+pub(crate) fn past_near<L: Ledger>(blocks: &[Block], at: u32, steps: &mut Steps<L>) -> usize
+    requires few { length blocks.now < 2 ^ 26 }
+    requires sized { AreSized blocks.now }
+    requires rising { RiseFrom 0 (together blocks.now) }
+    ensures bound { result ≤ length blocks.now }
+    ensures before { take result blocks.now ≡ front (is_past at) blocks.now }
+    ensures rest { drop result blocks.now ≡ back (is_past at) blocks.now }
+    ensures more { steps.old ≤ steps.new }
+    ensures cost { steps.new ≤ steps.old + 26 }
+{
+    let near = steps.near();
+    let earlier = near.wrapping_sub(1);
+    if is_last_past(blocks, earlier, at) {
+        steps.tick();
+        return earlier + 1;
+    }
+    if is_last_past(blocks, near, at) {
+        steps.tick();
+        return near + 1;
+    }
+    past_count(blocks, at, steps)
 }

@@ -4,3 +4,4 @@ pub use Rattle.pl_points.specs.Changes
 pub use Rattle.pl_points.specs.Standing
 pub mod Effects
 pub mod Soundness
+pub mod Bounds

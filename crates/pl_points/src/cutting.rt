@@ -121,30 +121,30 @@ pub(crate) fn push_behind(spans: &mut Vec<Span>, old: &[Span], at: u32) -> Resul
     Ok(())
 }
 
-// Of a list of spans, those that a window may change, and those behind them.
+// Of a list of spans, those that a window may change, and from which place up to which they stand.
 #[derive(Drop)]
-pub(crate) struct Taken {
-    pub(crate) touched: Vec<Span>,
-    pub(crate) tail: Vec<Span>,
+pub(crate) struct Touched {
+    pub(crate) spans: Vec<Span>,
+    pub(crate) begin: usize,
+    pub(crate) end: usize,
 }
 
-// Leaves the spans that end before the window.
-pub(crate) fn take_out(
-    alloc: Global,
-    kept: &mut Vec<Span>,
-    window: Span,
-) -> Result<Taken, AllocError>
-    requires { AreSpans kept.old.items }
-    ensures front { OnOk result (kept.new.items ≡ front (ends_before window.from) kept.old.items) }
-    ensures touched { IfOk result (λ t. t.touched.items ≡ reached window.to (back (ends_before window.from) kept.old.items)) }
-    ensures apart { IfOk result (λ t. AreSpans t.touched.items) }
-    ensures tail { IfOk result (λ t. t.tail.items ≡ beyond window.to (back (ends_before window.from) kept.old.items)) }
+pub(crate) fn touched_by(alloc: Global, kept: &[Span], window: Span) -> Result<Touched, AllocError>
+    requires { AreSpans kept.now }
+    ensures order { IfOk result (λ t. t.begin ≤ t.end) }
+    ensures bound { IfOk result (λ t. t.end ≤ length kept.now) }
+    ensures front { IfOk result (λ t. take t.begin kept.now ≡ front (ends_before window.from) kept.now) }
+    ensures touched { IfOk result (λ t. t.spans.items ≡ reached window.to (back (ends_before window.from) kept.now)) }
+    ensures apart { IfOk result (λ t. AreSpans t.spans.items) }
+    ensures tail { IfOk result (λ t. drop t.end kept.now ≡ beyond window.to (back (ends_before window.from) kept.now)) }
 {
-    let count = ended_count(kept, window.from);
-    let rest = &kept[count..];
+    let begin = ended_count(kept, window.from);
+    let rest = &kept[begin..];
     let reach = reached_count(rest, window.to);
-    let touched = Vec::from_slice(alloc, &rest[..reach])?;
-    let tail = Vec::from_slice(alloc, &rest[reach..])?;
-    kept.truncate(count);
-    Ok(Taken { touched, tail })
+    let spans = Vec::from_slice(alloc, &rest[..reach])?;
+    Ok(Touched {
+        spans,
+        begin,
+        end: begin + reach,
+    })
 }

@@ -20,7 +20,7 @@ pub use laws::{laws_of_changes, laws_of_spans, laws_of_standing};
 pub use limit::Limit;
 pub use mending::{forget, mend};
 pub use noted::Noted;
-pub use plain::{PlainPoints, merge};
+pub use plain::{PlainPoints, merge, place_of};
 pub use points::Points;
 pub use searching::leaving;
 pub use sharing::shared_types;

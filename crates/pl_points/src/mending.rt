@@ -1,5 +1,5 @@
 //! Maximal spans that are kept by mending them near a change.
-ghost use Rattle.std.specs.Prelude.{◌≡◌, ◌≤◌, ◌+◌, ◌++◌, ℕ, false, length, OnOk, IfOk};
+ghost use Rattle.std.specs.Prelude.{◌≡◌, ◌≤◌, ◌+◌, ◌++◌, ℕ, false, length, take, drop, OnOk, IfOk};
 ghost use Rattle.pl_points.specs.Points.{sum_to};
 ghost use Rattle.pl_points.specs.Spans.{AreSpans, covers};
 ghost use Rattle.pl_points.specs.Limits.{is_outside};
@@ -8,7 +8,7 @@ ghost use Rattle.pl_points.specs.Counting.{walk_steps, goes_outside, points_afte
 ghost use Rattle.pl_points.specs.Changes.{IsChange};
 
 use crate::comparing::compare;
-use crate::cutting::{Taken, keep_before, push_behind, take_out};
+use crate::cutting::{Touched, keep_before, push_behind, touched_by};
 use crate::limit::Limit;
 use crate::pieces::push_outside;
 use crate::points::Points;
@@ -42,17 +42,18 @@ fn renewed<P: Points, L: Ledger>(
 fn put_back(
     alloc: Global,
     kept: &mut Vec<Span>,
-    mut taken: Taken,
-    mut fresh: Vec<Span>,
+    touched: &Touched,
+    fresh: Vec<Span>,
 ) -> Result<Change, AllocError>
-    requires old { AreSpans taken.touched.items }
+    requires old { AreSpans touched.now.spans.items }
     requires new { AreSpans fresh.items }
-    ensures items { OnOk result (kept.new.items ≡ kept.old.items ++ (fresh.items ++ taken.tail.items)) }
-    ensures change { IfOk result (λ c. IsChange taken.touched.items fresh.items c) }
+    requires order { touched.now.begin ≤ touched.now.end }
+    requires bound { touched.now.end ≤ length kept.old.items }
+    ensures items { OnOk result (kept.new.items ≡ take touched.now.begin kept.old.items ++ (fresh.items ++ drop touched.now.end kept.old.items)) }
+    ensures change { IfOk result (λ c. IsChange touched.now.spans.items fresh.items c) }
 {
-    let change = compare(alloc, &taken.touched, &fresh)?;
-    kept.append(&mut fresh)?;
-    kept.append(&mut taken.tail)?;
+    let change = compare(alloc, &touched.spans, &fresh)?;
+    kept.splice(touched.begin..touched.end, fresh)?;
     Ok(change)
 }
 
@@ -72,9 +73,9 @@ pub fn mend<P: Points, L: Ledger>(
     ensures change { IfOk result (λ c. IsChange kept.old.items kept.new.items c) }
     ensures cost { steps.new ≤ steps.old + walk_steps P.parts P.look_steps P.search_steps (length (P.points points.now)) (points_after (goes_outside limit (P.points points.now)) window.from (P.points points.now)) }
 {
-    let taken = take_out(alloc, kept, window)?;
-    let fresh = renewed(alloc, &taken.touched, points, limit, window, steps)?;
-    put_back(alloc, kept, taken, fresh)
+    let touched = touched_by(alloc, kept, window)?;
+    let fresh = renewed(alloc, &touched.spans, points, limit, window, steps)?;
+    put_back(alloc, kept, &touched, fresh)
 }
 
 /// Takes out what lies before the moment.
@@ -84,8 +85,8 @@ pub fn forget(alloc: Global, kept: &mut Vec<Span>, at: u32) -> Result<Change, Al
     ensures covers { OnOk result ((t : ℕ) → covers kept.new.items t ≡ mended 0 at (λ _. false) kept.old.items t) }
     ensures change { IfOk result (λ c. IsChange kept.old.items kept.new.items c) }
 {
-    let taken = take_out(alloc, kept, Span { from: 0, to: at })?;
+    let touched = touched_by(alloc, kept, Span { from: 0, to: at })?;
     let mut fresh = Vec::new(alloc);
-    push_behind(&mut fresh, &taken.touched, at)?;
-    put_back(alloc, kept, taken, fresh)
+    push_behind(&mut fresh, &touched.spans, at)?;
+    put_back(alloc, kept, &touched, fresh)
 }

@@ -1,4 +1,4 @@
-ghost use Rattle.std.specs.Prelude.{◌≡◌, ◌<◌, ◌≤◌, ◌+◌, ◌^◌, suc, ℕ, ℤ, pos, [], ◌++◌, List, length, take, drop, OnOk, OnErr};
+ghost use Rattle.std.specs.Prelude.{◌≡◌, ◌<◌, ◌≤◌, ◌+◌, ◌^◌, true, suc, ℕ, ℤ, pos, [], ◌++◌, List, length, take, drop, OnOk, OnErr};
 ghost use Rattle.pl_points.specs.Points.{sum_to, first_from, merged, AreSmall, ArePoints, RiseFrom};
 ghost use Rattle.pl_points.specs.Points.{is_before, put, points_from, ahead_of, AreNear, IsNear};
 ghost use Rattle.pl_points.specs.Lists.{front, back};
@@ -37,14 +37,47 @@ impl PlainPoints {
     }
 }
 
-// How many points lie before the moment.
-fn place_of(points: &[(u32, i64)], at: u32) -> usize
+/// How many points lie before the moment.
+pub fn place_of(points: &[(u32, i64)], at: u32) -> usize
     requires { RiseFrom 0 points.now }
     ensures bound { result ≤ length points.now }
     ensures before { take result points.now ≡ front (is_before at) points.now }
     ensures rest { drop result points.now ≡ back (is_before at) points.now }
 {
     points.partition_point(|point| point.0 < at)
+}
+
+// Whether the points up to this place are those that lie before the moment.
+fn is_last_before(points: &[(u32, i64)], place: usize, at: u32) -> bool
+    requires { RiseFrom 0 points.now }
+    ensures bound { result ≡ true → place < length points.now }
+    ensures before { result ≡ true → take (suc place) points.now ≡ front (is_before at) points.now }
+    ensures rest { result ≡ true → drop (suc place) points.now ≡ back (is_before at) points.now }
+{
+    if place >= points.len() {
+        return false;
+    }
+    if points[place].0 >= at {
+        return false;
+    }
+    if place + 1 == points.len() {
+        return true;
+    }
+    at <= points[place + 1].0
+}
+
+// How many points lie before the moment, found at once where `near` is the place of the last of them.
+fn place_near(points: &[(u32, i64)], near: usize, at: u32) -> usize
+    requires { RiseFrom 0 points.now }
+    ensures bound { result ≤ length points.now }
+    ensures before { take result points.now ≡ front (is_before at) points.now }
+    ensures rest { drop result points.now ≡ back (is_before at) points.now }
+{
+    if is_last_before(points, near, at) {
+        near + 1
+    } else {
+        place_of(points, at)
+    }
 }
 
 // Writes the point over the one at its place, or takes that one out where the delta is 0.
@@ -118,7 +151,8 @@ impl Points for PlainPoints {
 
     fn first_from<L: Ledger>(&self, at: u32, steps: &mut Steps<L>) -> Option<(u32, i64)> {
         steps.tick();
-        let place = place_of(&self.points, at);
+        let place = place_near(&self.points, steps.near(), at);
+        steps.stand_at(place);
         if place < self.points.len() {
             Some(self.points[place])
         } else {
@@ -135,7 +169,8 @@ impl Points for PlainPoints {
         steps: &mut Steps<L>,
     ) -> Option<(u32, i64)> {
         steps.tick();
-        let place = place_of(&self.points, from);
+        let place = place_near(&self.points, steps.near(), from);
+        steps.stand_at(place.wrapping_sub(1));
         leaving(&self.points[place..], before, least, most, steps)
     }
 

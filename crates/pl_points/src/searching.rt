@@ -21,7 +21,7 @@ pub fn leaving<L: Ledger>(
 {
     let mut sum = before;
     for point in points {
-        steps.tick();
+        steps.pass();
         sum += point.1;
         if sum < least || most < sum {
             return Some((point.0, sum));

@@ -21,6 +21,8 @@ impl Ledger for Quiet {
 pub struct Steps<L: Ledger> {
     ledger: L,
     taken: Told<bool>,
+    // The place at which the walk stands: a guess, on which no answer rests.
+    near: usize,
 }
 
 impl<L: Ledger> Model for Steps<L> {
@@ -38,6 +40,7 @@ impl<L: Ledger> Steps<L> {
         Steps {
             ledger,
             taken: Told::new(),
+            near: 0,
         }
     }
 
@@ -47,6 +50,26 @@ impl<L: Ledger> Steps<L> {
     {
         self.ledger.tick();
         self.taken = self.taken.with(&true);
+    }
+
+    /// One step more, by which the walk comes to the next place.
+    pub fn pass(&mut self)
+        ensures { self.new ≡ self.old + 1 }
+    {
+        self.tick();
+        self.near = self.near.wrapping_add(1);
+    }
+
+    /// The place at which the walk stands, for the next call to look there first.
+    pub fn near(&self) -> usize {
+        self.near
+    }
+
+    /// Notes where the walk stands. It is no step.
+    pub fn stand_at(&mut self, place: usize)
+        ensures { self.new ≡ self.old }
+    {
+        self.near = place;
     }
 
     pub fn ledger(&self) -> &L {

@@ -36,8 +36,8 @@ overflow_add-sum-else-sum-least g c =
     let fronts = small_fronts s b (sized_at i bs b c.requires.sized c.loop-block-test.true c.block-item.is).0 small.0 in
     (small_sum s c.greatest.result (small_head s b small.0) (subst (λ z. IsSmall (s +ℤ z)) (sym c.greatest.ensures) fronts.1)).0
 
-pub leaving-requires-clause-small : goal.leaving-requires-clause-small
-leaving-requires-clause-small g c =
+pub leaving-found-requires-clause-small : goal.leaving-found-requires-clause-small
+leaving-found-requires-clause-small g c =
     let bs = c.args.blocks.now in
     let i = c.loop-block.block-index in
     let b = c.block-item.result in
@@ -70,7 +70,7 @@ returns-then-sum-least-clause-first g c =
     let found : is_some (leaving L M s b) ≡ true = sym (out_there L M s b some) ∙ out in
     let here : leaving L M s (together (drop i bs)) ≡ leaving L M s b = ap (λ l. leaving L M s (together l)) cut ∙ leaving_first L M s b more found in
     let raw = same_leaving L M B c.args.least c.args.most c.args.before (together bs) (to_z-of_z w64 c.args.least c.ranges.least) (to_z-of_z w64 c.args.most c.ranges.most) (to_z-of_z w64 c.args.before c.ranges.before) in
-    c.leaving.ensures.first ∙ ap (leaving L M s) c.points.ensures.points ∙ sym here ∙ c.loop-block.invariant.rest ∙ raw
+    c.leaving-found.ensures.first ∙ ap (leaving L M s) c.points.ensures.points ∙ sym here ∙ c.loop-block.invariant.rest ∙ raw
 
 pub returns-then-sum-least-clause-cost : goal.returns-then-sum-least-clause-cost
 returns-then-sum-least-clause-cost g c =
@@ -81,8 +81,8 @@ returns-then-sum-least-clause-cost g c =
     let L = to_z w64 (of_z w64 c.args.least) in
     let M = to_z w64 (of_z w64 c.args.most) in
     let cut = drop_block i (i + 1) bs b c.loop-block-test.true refl c.block-item.is in
-    let ahead = ahead_there bs i L M s b (together (drop (i + 1) bs)) c.leaving.result c.requires.rising (ap together cut) (c.leaving.ensures.first ∙ ap (leaving L M s) c.points.ensures.points) in
-    omega (arith, c.leaving.ensures.few, c.points.ensures.few, c.tick.ensures, c.loop-block.invariant.few, ahead, length-drop i bs, c.loop-block-test.true)
+    let ahead = ahead_there bs i L M s b (together (drop (i + 1) bs)) c.leaving-found.result c.requires.rising (ap together cut) (c.leaving-found.ensures.first ∙ ap (leaving L M s) c.points.ensures.points) in
+    omega (arith, c.stand_at.ensures, c.leaving-found.ensures.few, c.points.ensures.few, c.pass.ensures, c.loop-block.invariant.few, ahead, length-drop i bs, c.loop-block-test.true)
 
 pub overflow_add-sum-in-loop-block : goal.overflow_add-sum-in-loop-block
 overflow_add-sum-in-loop-block g c =
@@ -117,6 +117,6 @@ loop-block-preserved g c =
     record {
       rest = ap (λ z. leaving L M z more) value ∙ sym here ∙ c.loop-block.invariant.rest;
       small = rw value small.1;
-      more = omega (arith, c.tick.ensures, c.loop-block.invariant.more);
-      few = omega (arith, c.tick.ensures, c.loop-block.invariant.few);
+      more = omega (arith, c.pass.ensures, c.loop-block.invariant.more);
+      few = omega (arith, c.pass.ensures, c.loop-block.invariant.few);
     }

@@ -42,7 +42,7 @@ returns-then-sum-least-clause-cost g c =
     let ps = c.args.points.now in
     let i = c.loop-point.point-index in
     let p = get_or ps i (0, pos 0) in
-    omega (arith, c.tick.ensures, c.loop-point.invariant.few, points_at 0 ps i p c.requires.rising c.loop-point-test.true (get_or_default ps i (0, pos 0) p c.loop-point-test.true))
+    omega (arith, c.pass.ensures, c.loop-point.invariant.few, points_at 0 ps i p c.requires.rising c.loop-point-test.true (get_or_default ps i (0, pos 0) p c.loop-point-test.true))
 
 pub loop-point-preserved : goal.loop-point-preserved
 loop-point-preserved g c =
@@ -56,6 +56,6 @@ loop-point-preserved g c =
     record {
       rest = goes_on (to_z w64 (of_z w64 c.args.least)) (to_z w64 (of_z w64 c.args.most)) (to_z w64 (of_z w64 c.args.before)) s z ps i (i + 1) p c.loop-point-test.true refl (get_or_default ps i (0, pos 0) p c.loop-point-test.true) sum c.if-sum-least.false c.if-most-sum.false c.loop-point.invariant.rest;
       small = rw sum step.1.1.0;
-      more = omega (arith, c.tick.ensures, c.loop-point.invariant.more);
-      few = omega (arith, c.tick.ensures, c.loop-point.invariant.few);
+      more = omega (arith, c.pass.ensures, c.loop-point.invariant.more);
+      few = omega (arith, c.pass.ensures, c.loop-point.invariant.few);
     }

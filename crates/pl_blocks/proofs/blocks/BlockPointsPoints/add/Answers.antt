@@ -41,26 +41,26 @@ pub mend-requires : goal.mend-requires
 mend-requires g c =
     let bs = c.self.inside.blocks.items in
     let at = c.args.at in
-    let k = c.past_count.result in
+    let k = c.past_near.result in
     let is : to_z w64 (of_z w64 c.args.delta) ≡ c.args.delta = to_z-of_z w64 c.args.delta c.ranges.delta in
     let new : AreSmall (merged at c.args.delta (together bs)) = subst (λ l. AreSmall (merged at c.args.delta (together l))) (sym c.self.view_is) c.requires in
-    let before : take k bs ≡ front (is_past at) bs = rw c.deref.ensures.value at c.past_count.ensures.before in
-    let rest : drop k bs ≡ back (is_past at) bs = rw c.deref.ensures.value at c.past_count.ensures.rest in
+    let before : take k bs ≡ front (is_past at) bs = rw c.deref.ensures.value at c.past_near.ensures.before in
+    let rest : drop k bs ≡ back (is_past at) bs = rw c.deref.ensures.value at c.past_near.ensures.rest in
     let count : length bs ≡ c.len-count.result = omega (arith, c.len-count.ensures, c.deref.ensures.len, ap length c.deref.ensures.value) in
-    (fits_there bs k c.min-place.result at c.args.delta c.index.result.now c.in_ok-points.points.items c.self.invariant new (omega (arith, c.past_count.ensures.bound, ap length c.deref.ensures.value)) before rest
+    (fits_there bs k c.min-place.result at c.args.delta c.index.result.now c.in_ok-points.points.items c.self.invariant new (omega (arith, c.past_near.ensures.bound, ap length c.deref.ensures.value)) before rest
     (c.min-place.ensures ∙ ap (λ n. min k (n - 1)) (sym count)) (omega (arith, count, c.if-count-eq0.false)) c.index.ensures (c.in_ok-points.ensures ∙ ap (λ d. merged at d c.index.result.now) is)).0
 
 pub invariant_of-self-2 : goal.invariant_of-self-2
 invariant_of-self-2 g c =
     let bs = c.self.inside.blocks.items in
     let at = c.args.at in
-    let k = c.past_count.result in
+    let k = c.past_near.result in
     let is : to_z w64 (of_z w64 c.args.delta) ≡ c.args.delta = to_z-of_z w64 c.args.delta c.ranges.delta in
     let new : AreSmall (merged at c.args.delta (together bs)) = subst (λ l. AreSmall (merged at c.args.delta (together l))) (sym c.self.view_is) c.requires in
-    let before : take k bs ≡ front (is_past at) bs = rw c.deref.ensures.value at c.past_count.ensures.before in
-    let rest : drop k bs ≡ back (is_past at) bs = rw c.deref.ensures.value at c.past_count.ensures.rest in
+    let before : take k bs ≡ front (is_past at) bs = rw c.deref.ensures.value at c.past_near.ensures.before in
+    let rest : drop k bs ≡ back (is_past at) bs = rw c.deref.ensures.value at c.past_near.ensures.rest in
     let count : length bs ≡ c.len-count.result = omega (arith, c.len-count.ensures, c.deref.ensures.len, ap length c.deref.ensures.value) in
-    let fit = fits_there bs k c.min-place.result at c.args.delta c.index.result.now c.in_ok-points.points.items c.self.invariant new (omega (arith, c.past_count.ensures.bound, ap length c.deref.ensures.value)) before rest
+    let fit = fits_there bs k c.min-place.result at c.args.delta c.index.result.now c.in_ok-points.points.items c.self.invariant new (omega (arith, c.past_near.ensures.bound, ap length c.deref.ensures.value)) before rest
     (c.min-place.ensures ∙ ap (λ n. min k (n - 1)) (sym count)) (omega (arith, count, c.if-count-eq0.false)) c.index.ensures (c.in_ok-points.ensures ∙ ap (λ d. merged at d c.index.result.now) is) in
     either c.mend.result c.mend.ensures.ok c.mend.ensures.err
     (λ m. mended_blocks bs c.mend.new.blocks.items c.min-place.result c.in_ok-points.points.items fit.0.points (omega (arith, count, c.if-count-ge-MOST_BLOCKS.false)) m)
@@ -70,13 +70,13 @@ pub returns-clause-ok : goal.returns-clause-ok
 returns-clause-ok g c =
     let bs = c.self.inside.blocks.items in
     let at = c.args.at in
-    let k = c.past_count.result in
+    let k = c.past_near.result in
     let is : to_z w64 (of_z w64 c.args.delta) ≡ c.args.delta = to_z-of_z w64 c.args.delta c.ranges.delta in
     let new : AreSmall (merged at c.args.delta (together bs)) = subst (λ l. AreSmall (merged at c.args.delta (together l))) (sym c.self.view_is) c.requires in
-    let before : take k bs ≡ front (is_past at) bs = rw c.deref.ensures.value at c.past_count.ensures.before in
-    let rest : drop k bs ≡ back (is_past at) bs = rw c.deref.ensures.value at c.past_count.ensures.rest in
+    let before : take k bs ≡ front (is_past at) bs = rw c.deref.ensures.value at c.past_near.ensures.before in
+    let rest : drop k bs ≡ back (is_past at) bs = rw c.deref.ensures.value at c.past_near.ensures.rest in
     let count : length bs ≡ c.len-count.result = omega (arith, c.len-count.ensures, c.deref.ensures.len, ap length c.deref.ensures.value) in
-    let fit = fits_there bs k c.min-place.result at c.args.delta c.index.result.now c.in_ok-points.points.items c.self.invariant new (omega (arith, c.past_count.ensures.bound, ap length c.deref.ensures.value)) before rest
+    let fit = fits_there bs k c.min-place.result at c.args.delta c.index.result.now c.in_ok-points.points.items c.self.invariant new (omega (arith, c.past_near.ensures.bound, ap length c.deref.ensures.value)) before rest
     (c.min-place.ensures ∙ ap (λ n. min k (n - 1)) (sym count)) (omega (arith, count, c.if-count-eq0.false)) c.index.ensures (c.in_ok-points.ensures ∙ ap (λ d. merged at d c.index.result.now) is) in
     on_ok_weaker c.mend.result (λ m. m.whole ∙ sym fit.1 ∙ ap (λ l. merged at c.args.delta (together l)) c.self.view_is) c.mend.ensures.ok
 
@@ -84,4 +84,4 @@ pub returns-clause-cost : goal.returns-clause-cost
 returns-clause-cost g c =
     let bs = c.self.inside.blocks.items in
     let parts = parts_most bs c.self.invariant.full in
-    omega (arith, c.tick.ensures, c.past_count.ensures.cost, c.mend.ensures.cost, parts, ap (λ l. length (together l)) c.self.view_is)
+    omega (arith, c.tick.ensures, c.past_near.ensures.cost, c.mend.ensures.cost, parts, ap (λ l. length (together l)) c.self.view_is)

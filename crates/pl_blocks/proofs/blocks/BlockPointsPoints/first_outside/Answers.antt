@@ -18,9 +18,9 @@ use Rattle.pl_blocks.proofs.blocks.BlockPointsPoints.first_outside.Goals as goal
 pub returns-then-place-len-clause-first : goal.returns-then-place-len-clause-first
 returns-then-place-len-clause-first g c =
     let bs = c.self.inside.blocks.items in
-    let i = c.past_count-place.result in
+    let i = c.past_near-place.result in
     let from = c.args.from in
-    let before : take i bs ≡ front (is_past from) bs = rw c.deref.ensures.value at c.past_count-place.ensures.before in
+    let before : take i bs ≡ front (is_past from) bs = rw c.deref.ensures.value at c.past_near-place.ensures.before in
     let none : back (is_before from) (together bs) ≡ [] = back_nowhere from i bs before (omega (arith, c.if-place-len.true, c.len.ensures, c.deref.ensures.len, ap length c.deref.ensures.value)) in
     let sum : c.args.before ≡ sum_below (together bs) from = c.requires ∙ ap (λ l. sum_below (together l) from) (sym c.self.view_is) in
     sym (first_is_leaving (together bs) from c.args.least c.args.most c.args.before c.self.invariant.points.rising sum ∙ ap (leaving c.args.least c.args.most c.args.before) none)
@@ -38,12 +38,12 @@ pub leaving-found-requires-clause-small : goal.leaving-found-requires-clause-sma
 leaving-found-requires-clause-small g c =
     let bs = c.self.inside.blocks.items in
     let from = c.args.from in
-    let i = c.past_count-place.result in
+    let i = c.past_near-place.result in
     let ps = c.points-points.result.now in
     let n = c.passed-count.result.0 in
-    let before : take i bs ≡ front (is_past from) bs = rw c.deref.ensures.value at c.past_count-place.ensures.before in
-    let rest : drop i bs ≡ back (is_past from) bs = rw c.deref.ensures.value at c.past_count-place.ensures.rest in
-    let lt : i < length bs = omega (arith, c.if-place-len.false, c.len.ensures, c.deref.ensures.len, ap length c.deref.ensures.value, c.past_count-place.ensures.bound) in
+    let before : take i bs ≡ front (is_past from) bs = rw c.deref.ensures.value at c.past_near-place.ensures.before in
+    let rest : drop i bs ≡ back (is_past from) bs = rw c.deref.ensures.value at c.past_near-place.ensures.rest in
+    let lt : i < length bs = omega (arith, c.if-place-len.false, c.len.ensures, c.deref.ensures.len, ap length c.deref.ensures.value, c.past_near-place.ensures.bound) in
     let is : ps ≡ get_or bs i ps = c.points-points.ensures.points ∙ c.index-block.ensures ∙ ap (λ x. get_or bs i x) (sym c.points-points.ensures.points) in
     let sums = sums_at bs i from ps c.self.invariant.points before rest lt is in
     let cut : take (length ps - n) (drop n ps) ≡ back (is_before from) ps = take_rest ps n ∙ c.passed-count.ensures.rest ∙ ap (λ m. back (is_before m) ps) c.from.ensures in
@@ -55,16 +55,16 @@ pub returns-then-is_some-clause-first : goal.returns-then-is_some-clause-first
 returns-then-is_some-clause-first g c =
     let bs = c.self.inside.blocks.items in
     let from = c.args.from in
-    let i = c.past_count-place.result in
+    let i = c.past_near-place.result in
     let ps = c.points-points.result.now in
     let n = c.passed-count.result.0 in
     let L = to_z w64 (of_z w64 c.args.least) in
     let M = to_z w64 (of_z w64 c.args.most) in
     let B = to_z w64 (of_z w64 c.args.before) in
     let xs = take (length ps - n) (drop n ps) in
-    let before : take i bs ≡ front (is_past from) bs = rw c.deref.ensures.value at c.past_count-place.ensures.before in
-    let rest : drop i bs ≡ back (is_past from) bs = rw c.deref.ensures.value at c.past_count-place.ensures.rest in
-    let lt : i < length bs = omega (arith, c.if-place-len.false, c.len.ensures, c.deref.ensures.len, ap length c.deref.ensures.value, c.past_count-place.ensures.bound) in
+    let before : take i bs ≡ front (is_past from) bs = rw c.deref.ensures.value at c.past_near-place.ensures.before in
+    let rest : drop i bs ≡ back (is_past from) bs = rw c.deref.ensures.value at c.past_near-place.ensures.rest in
+    let lt : i < length bs = omega (arith, c.if-place-len.false, c.len.ensures, c.deref.ensures.len, ap length c.deref.ensures.value, c.past_near-place.ensures.bound) in
     let is : ps ≡ get_or bs i ps = c.points-points.ensures.points ∙ c.index-block.ensures ∙ ap (λ x. get_or bs i x) (sym c.points-points.ensures.points) in
     let sums = sums_at bs i from ps c.self.invariant.points before rest lt is in
     let cut : xs ≡ back (is_before from) ps = take_rest ps n ∙ c.passed-count.ensures.rest ∙ ap (λ m. back (is_before m) ps) c.from.ensures in
@@ -88,17 +88,17 @@ returns-then-is_some-clause-cost g c =
     let rising : RiseFrom from (back (is_before from) ps) = rising_back 0 from ps c.points-points.ensures.rising in
     let ahead = ahead_from c.args.self.now from L M B (back (is_before from) ps) c.leaving-found.result rising (c.leaving-found.ensures.first ∙ ap (leaving L M B) cut) in
     let size : length (take (length ps - n) (drop n ps)) ≡ length ps - n = ap length (take_rest ps n) ∙ length-drop n ps in
-    omega (arith, c.tick.ensures, c.past_count-place.ensures.cost, c.passed-count.ensures.cost, c.passed-count.ensures.bound, c.leaving-found.ensures.few, size, c.points-points.ensures.few, ahead)
+    omega (arith, c.tick.ensures, c.past_near-place.ensures.cost, c.passed-count.ensures.cost, c.passed-count.ensures.bound, c.leaving-found.ensures.few, c.stand_at.ensures, size, c.points-points.ensures.few, ahead)
 
 pub overflow_sub-sum : goal.overflow_sub-sum
 overflow_sub-sum g c =
     let bs = c.self.inside.blocks.items in
     let from = c.args.from in
-    let i = c.past_count-place.result in
+    let i = c.past_near-place.result in
     let ps = c.points-points.result.now in
-    let before : take i bs ≡ front (is_past from) bs = rw c.deref.ensures.value at c.past_count-place.ensures.before in
-    let rest : drop i bs ≡ back (is_past from) bs = rw c.deref.ensures.value at c.past_count-place.ensures.rest in
-    let lt : i < length bs = omega (arith, c.if-place-len.false, c.len.ensures, c.deref.ensures.len, ap length c.deref.ensures.value, c.past_count-place.ensures.bound) in
+    let before : take i bs ≡ front (is_past from) bs = rw c.deref.ensures.value at c.past_near-place.ensures.before in
+    let rest : drop i bs ≡ back (is_past from) bs = rw c.deref.ensures.value at c.past_near-place.ensures.rest in
+    let lt : i < length bs = omega (arith, c.if-place-len.false, c.len.ensures, c.deref.ensures.len, ap length c.deref.ensures.value, c.past_near-place.ensures.bound) in
     let is : ps ≡ get_or bs i ps = c.points-points.ensures.points ∙ c.index-block.ensures ∙ ap (λ x. get_or bs i x) (sym c.points-points.ensures.points) in
     let sums = sums_at bs i from ps c.self.invariant.points before rest lt is in
     let pre = change_of (together (take i bs)) in
@@ -110,11 +110,11 @@ pub overflow_add-sum : goal.overflow_add-sum
 overflow_add-sum g c =
     let bs = c.self.inside.blocks.items in
     let from = c.args.from in
-    let i = c.past_count-place.result in
+    let i = c.past_near-place.result in
     let ps = c.points-points.result.now in
-    let before : take i bs ≡ front (is_past from) bs = rw c.deref.ensures.value at c.past_count-place.ensures.before in
-    let rest : drop i bs ≡ back (is_past from) bs = rw c.deref.ensures.value at c.past_count-place.ensures.rest in
-    let lt : i < length bs = omega (arith, c.if-place-len.false, c.len.ensures, c.deref.ensures.len, ap length c.deref.ensures.value, c.past_count-place.ensures.bound) in
+    let before : take i bs ≡ front (is_past from) bs = rw c.deref.ensures.value at c.past_near-place.ensures.before in
+    let rest : drop i bs ≡ back (is_past from) bs = rw c.deref.ensures.value at c.past_near-place.ensures.rest in
+    let lt : i < length bs = omega (arith, c.if-place-len.false, c.len.ensures, c.deref.ensures.len, ap length c.deref.ensures.value, c.past_near-place.ensures.bound) in
     let is : ps ≡ get_or bs i ps = c.points-points.ensures.points ∙ c.index-block.ensures ∙ ap (λ x. get_or bs i x) (sym c.points-points.ensures.points) in
     let sums = sums_at bs i from ps c.self.invariant.points before rest lt is in
     let pre = change_of (together (take i bs)) in
@@ -126,25 +126,25 @@ overflow_add-sum g c =
 pub leaving_blocks-requires-clause-sized : goal.leaving_blocks-requires-clause-sized
 leaving_blocks-requires-clause-sized g c =
     let all = c.deref-2.result.now in
-    let j = c.past_count-place.result + 1 in
+    let j = c.past_near-place.result + 1 in
     subst AreSized (sym (take_rest all j)) (sized_drop j all (subst AreSized (sym c.deref-2.ensures.value) c.self.invariant.sized))
 
 pub leaving_blocks-requires-clause-rising : goal.leaving_blocks-requires-clause-rising
 leaving_blocks-requires-clause-rising g c =
     let all = c.deref-2.result.now in
-    let j = c.past_count-place.result + 1 in
+    let j = c.past_near-place.result + 1 in
     subst (λ l. RiseFrom 0 (together l)) (sym (take_rest all j)) (rising_rest j all (subst (λ l. RiseFrom 0 (together l)) (sym c.deref-2.ensures.value) c.self.invariant.points.rising))
 
 pub leaving_blocks-requires-clause-small : goal.leaving_blocks-requires-clause-small
 leaving_blocks-requires-clause-small g c =
     let bs = c.self.inside.blocks.items in
     let from = c.args.from in
-    let i = c.past_count-place.result in
+    let i = c.past_near-place.result in
     let ps = c.points-points.result.now in
     let all = c.deref-2.result.now in
-    let before : take i bs ≡ front (is_past from) bs = rw c.deref.ensures.value at c.past_count-place.ensures.before in
-    let rest : drop i bs ≡ back (is_past from) bs = rw c.deref.ensures.value at c.past_count-place.ensures.rest in
-    let lt : i < length bs = omega (arith, c.if-place-len.false, c.len.ensures, c.deref.ensures.len, ap length c.deref.ensures.value, c.past_count-place.ensures.bound) in
+    let before : take i bs ≡ front (is_past from) bs = rw c.deref.ensures.value at c.past_near-place.ensures.before in
+    let rest : drop i bs ≡ back (is_past from) bs = rw c.deref.ensures.value at c.past_near-place.ensures.rest in
+    let lt : i < length bs = omega (arith, c.if-place-len.false, c.len.ensures, c.deref.ensures.len, ap length c.deref.ensures.value, c.past_near-place.ensures.bound) in
     let is : ps ≡ get_or bs i ps = c.points-points.ensures.points ∙ c.index-block.ensures ∙ ap (λ x. get_or bs i x) (sym c.points-points.ensures.points) in
     let sums = sums_at bs i from ps c.self.invariant.points before rest lt is in
     let pre = change_of (together (take i bs)) in
@@ -159,7 +159,7 @@ pub returns-clause-first : goal.returns-clause-first
 returns-clause-first g c =
     let bs = c.self.inside.blocks.items in
     let from = c.args.from in
-    let i = c.past_count-place.result in
+    let i = c.past_near-place.result in
     let ps = c.points-points.result.now in
     let n = c.passed-count.result.0 in
     let all = c.deref-2.result.now in
@@ -171,9 +171,9 @@ returns-clause-first g c =
     let S = to_z w64 (of_z w64 (to_z w64 (of_z w64 (to_z w64 (of_z w64 c.args.before) -ℤ to_z w64 (of_z w64 c.passed-count.result.1))) +ℤ to_z w64 (of_z w64 c.sum.result))) in
     let xs = take (length ps - n) (drop n ps) in
     let ys = take (length all - (i + 1)) (drop (i + 1) all) in
-    let before : take i bs ≡ front (is_past from) bs = rw c.deref.ensures.value at c.past_count-place.ensures.before in
-    let rest : drop i bs ≡ back (is_past from) bs = rw c.deref.ensures.value at c.past_count-place.ensures.rest in
-    let lt : i < length bs = omega (arith, c.if-place-len.false, c.len.ensures, c.deref.ensures.len, ap length c.deref.ensures.value, c.past_count-place.ensures.bound) in
+    let before : take i bs ≡ front (is_past from) bs = rw c.deref.ensures.value at c.past_near-place.ensures.before in
+    let rest : drop i bs ≡ back (is_past from) bs = rw c.deref.ensures.value at c.past_near-place.ensures.rest in
+    let lt : i < length bs = omega (arith, c.if-place-len.false, c.len.ensures, c.deref.ensures.len, ap length c.deref.ensures.value, c.past_near-place.ensures.bound) in
     let is : ps ≡ get_or bs i ps = c.points-points.ensures.points ∙ c.index-block.ensures ∙ ap (λ x. get_or bs i x) (sym c.points-points.ensures.points) in
     let sums = sums_at bs i from ps c.self.invariant.points before rest lt is in
     let pre = change_of (together (take i bs)) in
@@ -198,7 +198,7 @@ pub returns-clause-cost : goal.returns-clause-cost
 returns-clause-cost g c =
     let bs = c.self.inside.blocks.items in
     let from = c.args.from in
-    let i = c.past_count-place.result in
+    let i = c.past_near-place.result in
     let ps = c.points-points.result.now in
     let n = c.passed-count.result.0 in
     let all = c.deref-2.result.now in
@@ -206,8 +206,8 @@ returns-clause-cost g c =
     let M = to_z w64 (of_z w64 c.args.most) in
     let S = to_z w64 (of_z w64 (to_z w64 (of_z w64 (to_z w64 (of_z w64 c.args.before) -ℤ to_z w64 (of_z w64 c.passed-count.result.1))) +ℤ to_z w64 (of_z w64 c.sum.result))) in
     let ys = take (length all - (i + 1)) (drop (i + 1) all) in
-    let rest : drop i bs ≡ back (is_past from) bs = rw c.deref.ensures.value at c.past_count-place.ensures.rest in
-    let lt : i < length bs = omega (arith, c.if-place-len.false, c.len.ensures, c.deref.ensures.len, ap length c.deref.ensures.value, c.past_count-place.ensures.bound) in
+    let rest : drop i bs ≡ back (is_past from) bs = rw c.deref.ensures.value at c.past_near-place.ensures.rest in
+    let lt : i < length bs = omega (arith, c.if-place-len.false, c.len.ensures, c.deref.ensures.len, ap length c.deref.ensures.value, c.past_near-place.ensures.bound) in
     let cut_rest : ys ≡ drop (i + 1) bs = take_rest all (i + 1) ∙ ap (drop (i + 1)) c.deref-2.ensures.value in
     let result_is : c.leaving_blocks.result ≡ leaving L M S (together (drop (i + 1) bs)) = c.leaving_blocks.ensures.first ∙ ap (λ t. leaving L M S (together t)) cut_rest in
     let ahead = ahead_behind bs (i + 1) L M S c.leaving_blocks.result c.self.invariant.points.rising result_is in
@@ -218,10 +218,11 @@ returns-clause-cost g c =
     omega (
       arith,
       c.tick.ensures,
-      c.past_count-place.ensures.cost,
+      c.past_near-place.ensures.cost,
       c.passed-count.ensures.cost,
       c.passed-count.ensures.bound,
       c.leaving-found.ensures.few,
+      c.stand_at.ensures,
       size,
       c.points-points.ensures.few,
       c.leaving_blocks.ensures.cost,

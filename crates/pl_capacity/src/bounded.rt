@@ -1,0 +1,48 @@
+//! Changes of capacities over block points, with the most steps that they take.
+ghost use Rattle.std.specs.Prelude.{◌≡◌, ◌≤◌, ◌+◌, false, true, [], ◌∷◌, ◌++◌, length, OnOk, OnErr, IfOk};
+ghost use Rattle.pl_points.specs.Changes.{IsChange};
+ghost use Rattle.pl_points.specs.Standing.{without, stands};
+ghost use Rattle.pl_capacity.specs.Uses.{IsUse, use_of, same_use, spans_now, points_of};
+ghost use Rattle.pl_capacity.specs.Bounds.{points_with_use, points_less_use, bound};
+
+use crate::capacity::Capacity;
+use pl_blocks::{BlockPoints, laws_of_steps};
+use pl_points::{Change, Ledger, Steps};
+use std::alloc::AllocError;
+
+/// `Capacity::add` over block points: it reads summaries, and points only near what is above the most.
+pub fn add_bounded<L: Ledger>(
+    line: &mut Capacity<BlockPoints>,
+    from: u32,
+    to: u32,
+    amount: i64,
+    steps: &mut Steps<L>,
+) -> Result<Change, AllocError>
+    requires is_use { IsUse (use_of from to amount) }
+    requires few { line.old.spoiled ≡ false → length line.old.uses ≤ 319999 }
+    ensures ok { OnOk result (line.new ≡ record line.old { uses = line.old.uses ++ use_of from to amount ∷ [] }) }
+    ensures change { IfOk result (λ c. IsChange (spans_now line.old) (spans_now line.new) c) }
+    ensures err { OnErr result (line.new.spoiled ≡ true) }
+    ensures cost { line.old.spoiled ≡ false → steps.new ≤ steps.old + bound line.old.most (points_of line.old.uses) (points_with_use (use_of from to amount) line.old.uses) }
+{
+    laws_of_steps();
+    line.add(from, to, amount, steps)
+}
+
+/// `Capacity::remove` over block points.
+pub fn remove_bounded<L: Ledger>(
+    line: &mut Capacity<BlockPoints>,
+    from: u32,
+    to: u32,
+    amount: i64,
+    steps: &mut Steps<L>,
+) -> Result<Change, AllocError>
+    requires { line.old.spoiled ≡ false → stands same_use (use_of from to amount) line.old.uses ≡ true }
+    ensures ok { OnOk result (line.new ≡ record line.old { uses = without same_use (use_of from to amount) line.old.uses }) }
+    ensures change { IfOk result (λ c. IsChange (spans_now line.old) (spans_now line.new) c) }
+    ensures err { OnErr result (line.new.spoiled ≡ true) }
+    ensures cost { line.old.spoiled ≡ false → steps.new ≤ steps.old + bound line.old.most (points_of line.old.uses) (points_less_use (use_of from to amount) line.old.uses) }
+{
+    laws_of_steps();
+    line.remove(from, to, amount, steps)
+}

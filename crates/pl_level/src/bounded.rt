@@ -1,0 +1,47 @@
+//! Changes of levels over block points, with the most steps that they take.
+ghost use Rattle.std.specs.Prelude.{◌≡◌, ◌≤◌, ◌+◌, neg_ℤ, false, true, [], ◌∷◌, ◌++◌, length, OnOk, OnErr, IfOk};
+ghost use Rattle.pl_points.specs.Standing.{without, stands};
+ghost use Rattle.pl_level.specs.Effects.{IsEffect, effect_of, same_effect, low_now, high_now};
+ghost use Rattle.pl_level.specs.Soundness.{AreChanges};
+ghost use Rattle.pl_level.specs.Bounds.{bound};
+
+use crate::level::Level;
+use crate::reservation::LevelChange;
+use pl_blocks::{BlockPoints, laws_of_steps};
+use pl_points::{Ledger, Steps};
+use std::alloc::AllocError;
+
+/// `Level::add` over block points: it reads summaries, and points only near what is outside.
+pub fn add_bounded<L: Ledger>(
+    line: &mut Level<BlockPoints>,
+    at: u32,
+    delta: i64,
+    steps: &mut Steps<L>,
+) -> Result<LevelChange, AllocError>
+    requires is_effect { IsEffect (effect_of at delta) }
+    requires few { line.old.spoiled ≡ false → length line.old.effects ≤ 319999 }
+    ensures ok { OnOk result (line.new ≡ record line.old { effects = line.old.effects ++ effect_of at delta ∷ [] }) }
+    ensures change { IfOk result (λ c. AreChanges (low_now line.old) (low_now line.new) (high_now line.old) (high_now line.new) c) }
+    ensures err { OnErr result (line.new.spoiled ≡ true) }
+    ensures cost { line.old.spoiled ≡ false → steps.new ≤ steps.old + bound line.old (line.old.effects ++ effect_of at delta ∷ []) at delta }
+{
+    laws_of_steps();
+    line.add(at, delta, steps)
+}
+
+/// `Level::remove` over block points.
+pub fn remove_bounded<L: Ledger>(
+    line: &mut Level<BlockPoints>,
+    at: u32,
+    delta: i64,
+    steps: &mut Steps<L>,
+) -> Result<LevelChange, AllocError>
+    requires { line.old.spoiled ≡ false → stands same_effect (effect_of at delta) line.old.effects ≡ true }
+    ensures ok { OnOk result (line.new ≡ record line.old { effects = without same_effect (effect_of at delta) line.old.effects }) }
+    ensures change { IfOk result (λ c. AreChanges (low_now line.old) (low_now line.new) (high_now line.old) (high_now line.new) c) }
+    ensures err { OnErr result (line.new.spoiled ≡ true) }
+    ensures cost { line.old.spoiled ≡ false → steps.new ≤ steps.old + bound line.old (without same_effect (effect_of at delta) line.old.effects) at (neg_ℤ delta) }
+{
+    laws_of_steps();
+    line.remove(at, delta, steps)
+}
