@@ -1,0 +1,16 @@
+pub mod Crossing
+pub mod Owning
+pub mod Subjects
+pub mod Keys
+pub mod Standing
+pub mod Spreading
+pub mod Refusing
+pub mod Sifting
+pub mod Granting
+pub mod Naming
+pub mod Lines
+pub mod Telling
+pub mod Least
+pub mod Starting
+pub mod Causes
+pub mod Fairness
