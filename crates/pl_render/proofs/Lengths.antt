@@ -1,5 +1,5 @@
 -- How long a line is.
-use Rattle.std.proofs.Common.{◌≡◌, ℕ, ℤ, pos, negsuc, zero, suc, ◌+◌, ◌*◌, ◌<◌, ◌≤◌, ◌≤ℤ◌, ◌^◌, List, [], ◌∷◌, ◌++◌, length, Option, Some, None, codes, decimal, refl, ap, sym, ◌∙◌, arith}
+use Rattle.std.proofs.Common.{◌≡◌, ℕ, ℤ, pos, negsuc, suc, ◌+◌, ◌*◌, ◌<◌, ◌≤◌, ◌≤ℤ◌, ◌^◌, List, [], ◌∷◌, ◌++◌, length, Option, Some, None, codes, decimal, refl, ap, ◌∙◌, arith}
 use Rattle.std.specs.Prelude.{IfSome, slice_get}
 use Rattle.std.specs.List.{All, AllByRecursion}
 use Rattle.std.specs.Fmt.{signed_decimal}
@@ -13,19 +13,17 @@ use Rattle.pl_model.specs.declared.whole.Model.{Model}
 use Rattle.pl_conflict.specs.declared.conflict.Code.{Code}
 use Rattle.pl_conflict.specs.declared.conflict.Code.TheVariants as code
 use Rattle.pl_conflict.specs.declared.conflict.Conflict.{Conflict}
-use Rattle.pl_facts.specs.declared.options.Options.{Options}
 use Rattle.pl_plan.specs.declared.repair.RepairMove.{RepairMove}
 use Rattle.pl_plan.specs.declared.repair.RepairMove.TheVariants as repair
 use Rattle.pl_entry.specs.declared.event.Event.{Event}
 use Rattle.pl_entry.specs.declared.event.Event.TheVariants as event
 use Rattle.pl_entry.specs.declared.reply.Reply.{Reply}
 use Rattle.pl_entry.specs.declared.reply.Reply.TheVariants as reply
-use Rattle.pl_entry.specs.declared.reply.Reason.{Reason}
 use Rattle.pl_entry.specs.declared.reply.Reason.TheVariants as reason
 use Rattle.pl_entry.specs.declared.entry.Entry.{Entry}
-use Rattle.pl_entry.specs.Bounds.{IsWord, AreOptions, IsConflictInRange, IsMoveInRange, IsMessageLine, IsEventInRange, IsInputReply, IsFixReply, IsRestReply, IsCommitReply, IsSent, IsDispatchReply, IsReplyTo, IsJournalEntry}
+use Rattle.pl_entry.specs.Bounds.{IsWord, IsConflictInRange, IsMoveInRange, IsEventInRange, IsInputReply, IsFixReply, IsRestReply, IsCommitReply, IsSent, IsDispatchReply, IsReplyTo, IsJournalEntry}
 use Rattle.pl_render.specs.Words.{spaced}
-use Rattle.pl_render.specs.Lines.{code_word, conflict_words, kind_name, kind_params, move_words, values_words, reply_words, options_words, fix_words, event_words, text_of, line_of}
+use Rattle.pl_render.specs.Lines.{code_word, conflict_words, kind_name, kind_params, move_words, values_words, reply_words, event_words, text_of}
 
 -- names of at most 32 bytes, and at most 16 parameters
 pub record AreShort (m : Model) : Type 0 where

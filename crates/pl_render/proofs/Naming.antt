@@ -1,21 +1,21 @@
 -- What a name's bytes are, and a checked model's names.
-use Rattle.std.proofs.Common.{◌≡◌, ◌≢◌, ℕ, zero, suc, ◌+◌, ◌<◌, ◌≤◌, Bool, true, false, not, ◌&&◌, ◌||◌, cond, ◌==◌, ltb, leb, List, [], ◌∷◌, ◌++◌, map, length, get_or, ◌⊎◌, inl, inr, refl, ap, sym, ◌∙◌, subst, arith}
-use Rattle.std.specs.Prelude.{IsTrue, slice_get, Option, Some, None, is_none}
+use Rattle.std.proofs.Common.{◌≡◌, ◌≢◌, ℕ, zero, suc, ◌+◌, ◌<◌, ◌≤◌, Bool, true, false, ◌&&◌, ◌||◌, ◌==◌, ltb, leb, List, [], ◌∷◌, ◌++◌, map, length, get_or, ◌⊎◌, inl, inr, refl, ap, sym, ◌∙◌, arith}
+use Rattle.std.specs.Prelude.{slice_get, Option, Some, None, is_none}
 use Rattle.std.specs.Option.{option_map_or}
-use Rattle.std.specs.List.{list_all, All, AllByRecursion, AllPairs}
+use Rattle.std.specs.List.{list_all, AllByRecursion, AllPairs}
 use Rattle.std.proofs.lemmas.Bool.{and_parts, or_cases, eqb-true, ltb-true, leb-true, lt-ltb, ne_eqb}
-use Rattle.std.proofs.lemmas.List.{length-append, get_or-append-add, length-map, get_or-map}
+use Rattle.std.proofs.lemmas.List.{length-append, get_or-append-add}
 use Rattle.std.proofs.lemmas.List.Elements.{recursion_from_All}
 use Rattle.pl_text.specs.declared.class.Class.{Class}
 use Rattle.pl_text.specs.declared.class.Class.TheVariants as class
 use Rattle.pl_text.specs.Bytes.{is_blank, is_letter, is_digit, is_symbol, class_by, class_of, is_word_class, is_name_byte}
-use Rattle.pl_text.specs.Words.{word_of, is_letter_class, is_word, is_name}
+use Rattle.pl_text.specs.Words.{word_of, is_letter_class, is_word}
 use Rattle.pl_model.specs.declared.parameters.Param.{Param}
 use Rattle.pl_model.specs.declared.kinds.Kind.{Kind}
 use Rattle.pl_model.specs.declared.whole.Model.{Model}
-use Rattle.pl_model.specs.Names.{IsName, line_name, kind_name as name_of_kind, param_name, DistinctNames, HasDistinctNames, HasDistinctParts}
-use Rattle.pl_model.specs.Written.{IsWritten, GrammarShape, IsWrittenKind, IsNamedParam}
-use Rattle.pl_model.specs.Checked.{IsChecked, IsCheckedKind}
+use Rattle.pl_model.specs.Names.{IsName, line_name, kind_name as name_of_kind, HasDistinctNames}
+use Rattle.pl_model.specs.Written.{IsWritten, IsNamedParam}
+use Rattle.pl_model.specs.Checked.{IsChecked}
 use Rattle.pl_render.specs.Lines.{kind_name, kind_params}
 use Rattle.pl_render.proofs.Cutting.{lacks}
 use Rattle.pl_render.proofs.Plain.{plain}

@@ -1,5 +1,5 @@
 -- An entry read back from the words of its line.
-use Rattle.std.proofs.Common.{◌≡◌, ◌≢◌, ℕ, ℤ, pos, negsuc, zero, suc, ◌+◌, ◌<◌, ◌≤◌, ◌≤ℤ◌, ◌^◌, Bool, true, false, cond, List, [], ◌∷◌, ◌++◌, map, length, get_or, drop, Option, Some, None, codes, refl, ap, sym, ◌∙◌, append_assoc, arith}
+use Rattle.std.proofs.Common.{◌≡◌, ◌≢◌, ℕ, ℤ, pos, negsuc, zero, suc, ◌+◌, ◌<◌, ◌≤ℤ◌, ◌^◌, true, cond, List, [], ◌∷◌, ◌++◌, length, get_or, drop, Option, Some, None, codes, refl, ap, sym, ◌∙◌, append_assoc, arith}
 use Rattle.std.specs.Prelude.{IfSome, slice_get}
 use Rattle.std.specs.List.{AllByRecursion, All}
 use Rattle.std.specs.Str.Parse.{digits_value}
@@ -14,19 +14,14 @@ use Rattle.pl_model.specs.declared.whole.Model.{Model}
 use Rattle.pl_conflict.specs.declared.conflict.Code.{Code}
 use Rattle.pl_conflict.specs.declared.conflict.Code.TheVariants as code
 use Rattle.pl_conflict.specs.declared.conflict.Conflict.{Conflict}
-use Rattle.pl_facts.specs.declared.options.Options.{Options}
 use Rattle.pl_plan.specs.declared.repair.RepairMove.{RepairMove}
 use Rattle.pl_plan.specs.declared.repair.RepairMove.TheVariants as repair
-use Rattle.pl_entry.specs.declared.event.Event.{Event}
-use Rattle.pl_entry.specs.declared.event.Event.TheVariants as event
 use Rattle.pl_entry.specs.declared.reply.Reply.{Reply}
 use Rattle.pl_entry.specs.declared.reply.Reply.TheVariants as reply
-use Rattle.pl_entry.specs.declared.reply.Reason.{Reason}
 use Rattle.pl_entry.specs.declared.reply.Reason.TheVariants as reason
-use Rattle.pl_entry.specs.declared.entry.Entry.{Entry}
-use Rattle.pl_entry.specs.Bounds.{IsWord, AreOptions, IsConflictInRange, IsMoveInRange, IsEventInRange, IsInputReply, IsFixReply, IsRestReply, IsCommitReply, IsSent, IsDispatchReply, IsReplyTo}
-use Rattle.pl_render.specs.Lines.{code_word, conflict_words, kind_name, kind_params, goal_words, move_words, value_word, value_words, values_words, command_words, reason_word, reply_words, options_words, event_words}
-use Rattle.pl_render.proofs.Cutting.{lacks, cut, cut_behind, put_together, put_back}
+use Rattle.pl_entry.specs.Bounds.{IsWord, IsConflictInRange, IsMoveInRange, IsFixReply, IsRestReply, IsCommitReply, IsSent, IsDispatchReply}
+use Rattle.pl_render.specs.Lines.{code_word, conflict_words, kind_params, move_words, values_words, reply_words}
+use Rattle.pl_render.proofs.Cutting.{lacks, cut, cut_behind}
 use Rattle.pl_render.proofs.Finding.{same, same_itself, same_not}
 use Rattle.pl_render.proofs.Told.{Differ, AreTold, IsPlainName, kind_names, param_names, index_of, kind_found, first_differs, rest_differ}
 

@@ -1,5 +1,5 @@
 -- A line is cut into the words of its entry, and the entry is read back from them.
-use Rattle.std.proofs.Common.{◌≡◌, ℕ, ℤ, zero, suc, ◌+◌, ◌<◌, ◌≤◌, ◌^◌, Bool, true, false, cond, ◌==◌, not, List, [], ◌∷◌, ◌++◌, length, get_or, drop, Option, Some, None, codes, decimal, refl, ap, sym, ◌∙◌, append_assoc, arith}
+use Rattle.std.proofs.Common.{◌≡◌, ℕ, ℤ, suc, ◌+◌, ◌<◌, ◌^◌, true, false, cond, ◌==◌, not, List, [], ◌∷◌, ◌++◌, length, drop, Option, Some, None, codes, decimal, refl, ap, sym, ◌∙◌, append_assoc, arith}
 use Rattle.std.specs.List.{AllByRecursion, list_any}
 use Rattle.std.specs.Fmt.{signed_decimal}
 use Rattle.std.proofs.lemmas.Bool.{and_parts, or_parts, not-true}

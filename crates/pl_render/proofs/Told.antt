@@ -1,5 +1,5 @@
 -- What tells the names of a model apart.
-use Rattle.std.proofs.Common.{◌≡◌, ◌≢◌, ℕ, zero, suc, ◌+◌, ◌<◌, Bool, true, false, cond, List, [], ◌∷◌, map, length, get_or, refl, ap, sym, ◌∙◌, arith}
+use Rattle.std.proofs.Common.{◌≡◌, ◌≢◌, ℕ, zero, suc, ◌<◌, true, cond, List, [], ◌∷◌, map, length, get_or, refl, ap, ◌∙◌, arith}
 use Rattle.std.specs.List.{AllPairs, AllByRecursion}
 use Rattle.pl_model.specs.declared.kinds.Kind.{Kind}
 use Rattle.pl_model.specs.declared.parameters.Param.{Param}
