@@ -1,0 +1,9 @@
+pub mod Texts
+pub mod Cutting
+pub mod Plain
+pub mod Finding
+pub mod Told
+pub mod Reading
+pub mod Telling
+pub mod Lengths
+pub mod Naming

@@ -1,0 +1,15 @@
+//! The journal's text of every entry: a line of words, with the entry's number in front.
+#![tactic(auto)]
+
+mod commands;
+mod conflicts;
+mod entries;
+mod events;
+mod laws;
+mod moves;
+mod names;
+mod pushing;
+mod replies;
+
+pub use entries::render;
+pub use laws::{laws_of_length, laws_of_telling, text_laws};
