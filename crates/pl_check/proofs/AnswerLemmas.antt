@@ -65,14 +65,3 @@ unscheduled_answers ast drafts (fault.Unknown n) w u h = absurd h
 unscheduled_answers ast drafts (fault.Range k) w u h = absurd h
 unscheduled_answers ast drafts (fault.Circular n p) w u h = absurd h
 unscheduled_answers ast drafts (fault.Recursive n) w u h = absurd h
-
--- a fault that memory does not come into
-pub fails_self : {X : Type 0} (e : ModelFault) (judged : Judged X) → judged ≡ Err e → Fails e judged
-fails_self (fault.Twice n) judged h = h
-fails_self (fault.TooMany w) judged h = h
-fails_self (fault.Unknown n) judged h = h
-fails_self (fault.Range w) judged h = h
-fails_self (fault.Circular n p) judged h = h
-fails_self (fault.Recursive n) judged h = h
-fails_self (fault.NoSchedule n a c) judged h = h
-fails_self fault.Memory judged h = tt

@@ -1,5 +1,6 @@
 -- A judgement passes or is a fault. Judgements in the order of the text: the first fault wins.
-use Rattle.std.specs.Prelude.{◌≡◌, ℕ, ◌+◌, nat_le, List, [], ◌∷◌, Result, Ok, Err, if◌then◌else◌}
+use Rattle.std.specs.Prelude.{ℕ, ◌+◌, nat_le, Bool, true, false, List, [], ◌∷◌, Result, Ok, Err, if◌then◌else◌}
+use Rattle.pl_lists.specs.Judgements as judged
 pub use Rattle.pl_lists.specs.Judgements.{◌>>=◌, ◌>>◌, unless, each, each_made}
 use Rattle.pl_check.specs.declared.fault.ModelFault.{ModelFault}
 use Rattle.pl_check.specs.declared.fault.ModelFault.TheVariants as fault
@@ -23,16 +24,18 @@ at_most_from place limit what judge (x ∷ xs) =
 abbrev pub at_most : {X : Type 0} → ℕ → What → (X → Judgement) → List X → Judgement
 at_most limit what judge xs = at_most_from 0 limit what judge xs
 
+-- the one fault that is not the model's
+abbrev pub is_memory : ModelFault → Bool
+is_memory fault.Memory = true
+is_memory e = false
+
 -- A call gave what is meant, or ran out of memory.
 abbrev pub Fails : {X : Type 0} → ModelFault → Judged X → Type 0
-Fails fault.Memory meant = Unit {0}
-Fails e meant = meant ≡ Err e
+Fails e meant = judged.Fails is_memory e meant
 
 abbrev pub Gives : {X : Type 0} → Judged X → Judged X → Type 0
-Gives (Ok x) meant = meant ≡ Ok x
-Gives (Err e) meant = Fails e meant
+Gives result meant = judged.Gives is_memory result meant
 
 -- of what is judged alone
 abbrev pub GivesSo : {X : Type 0} → Judged X → Judgement → Type 0
-GivesSo (Ok x) meant = meant ≡ pass
-GivesSo (Err e) meant = Fails e meant
+GivesSo result meant = judged.Shows is_memory (λ _. tt) result meant

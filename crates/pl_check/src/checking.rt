@@ -58,7 +58,7 @@ fn draft_named(alloc: Global, names: &Names, ast: &Ast) -> Result<Items<Draft>, 
 }
 
 /// The rows of names, counts and ranges.
-#[tactic(auto, using(crate::proofs::JudgementLemmas::drafted_twice, crate::proofs::JudgementLemmas::drafted_counts, crate::proofs::AnswerLemmas::fails_self))]
+#[tactic(auto, using(crate::proofs::JudgementLemmas::drafted_twice, crate::proofs::JudgementLemmas::drafted_counts, crate::proofs::JudgementLemmas::fails_self))]
 fn draft(alloc: Global, ast: &Ast) -> Result<Items<Draft>, ModelFault>
     ensures gives { Gives result (drafted ast.now) }
     ensures sound { IfOk result (λ drafts. All (IsSoundDraft (length (kinds_in drafts))) drafts) }
