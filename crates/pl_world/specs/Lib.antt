@@ -1,0 +1,10 @@
+pub mod PlanStates
+pub mod Whole
+pub mod Goals
+pub mod Activities
+pub mod Links
+pub mod Demands
+pub mod Timelines
+pub mod Conflicts
+pub mod Moves
+pub mod Candidates

@@ -1,0 +1,14 @@
+//! What a plan stands for at a moment, what is wrong with it, and which repairs there are, by definition.
+#![tactic(auto)]
+
+mod demand;
+mod plan_state;
+mod refusal;
+mod shared_model;
+mod sharing;
+
+pub use demand::{Asked, Demand};
+pub use plan_state::PlanState;
+pub use refusal::Refusal;
+pub use shared_model::SharedModel;
+pub use sharing::shared_types;

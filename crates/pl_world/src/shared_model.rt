@@ -1,0 +1,47 @@
+ghost use Rattle.std.specs.Prelude.{◌≡◌};
+ghost use Rattle.std.specs.Arc.{arc_value};
+
+use pl_model::Model;
+use std::sync::Arc;
+
+/// A model that several owners hold, which contracts see as the model.
+#[derive(Drop)]
+pub struct SharedModel {
+    model: Arc<Model>,
+}
+
+impl std::marker::Model for SharedModel {
+    ghost use Rattle.std.specs.Arc.{arc_value};
+    ghost use Rattle.pl_model.specs.declared.whole.Model.{Model};
+    ghost use Rattle.pl_model.specs.contracts.expressions.Expr as e;
+    ghost use Rattle.std.specs.Coded.{codes};
+
+    ghost Value = { Model };
+
+    ghost coded = { Prim.hlevel (codes, e.the_row.coded) };
+
+    ghost view = { λ m. arc_value m.model };
+}
+
+impl SharedModel {
+    pub fn new(model: Arc<Model>) -> SharedModel
+        ensures { result ≡ arc_value model }
+    {
+        SharedModel { model }
+    }
+
+    pub fn get(&self) -> &Model
+        ensures { result.now ≡ self.now }
+    {
+        &self.model
+    }
+
+    /// A further owner of the same model.
+    pub fn share(&self) -> SharedModel
+        ensures { result ≡ self.now }
+    {
+        SharedModel {
+            model: self.model.clone(),
+        }
+    }
+}
