@@ -1,5 +1,5 @@
 -- What holds of each plan state that a board keeps.
-use Rattle.std.specs.Prelude.{◌≡◌, ℕ, ◌<◌, ◌≤◌, ℤ, pos, ◌≤ℤ◌, List, All, length, slice_get, Option, Some, None, IfSome, IsSome}
+use Rattle.std.specs.Prelude.{◌≡◌, ℕ, ◌<◌, ◌≤◌, ℤ, pos, negsuc, ◌≤ℤ◌, List, All, length, slice_get, Option, Some, None, IfSome, IsSome}
 use Rattle.pl_model.specs.declared.timelines.Timeline.{Timeline}
 use Rattle.pl_model.specs.declared.timelines.Timeline.TheVariants.{Capacity, Level, States}
 use Rattle.pl_model.specs.declared.whole.Model.{Model}
@@ -23,13 +23,18 @@ pub record IsGoalOf (model : Model) (g : Goal) : Type 0 where
 abbrev pub IsCarried : List Goal → Activity → Type 0
 IsCarried goals a = IfSome a.goal (λ n. IsSome (goal_of n goals))
 
+-- the number of one of so many states
+abbrev pub IsStateOf : ℕ → ℤ → Type 0
+IsStateOf states (pos n) = n < states
+IsStateOf states (negsuc n) = ⊥
+
 -- Below the number of states, of a state timeline; from 0 to 10^12, of a level. A capacity has no base.
 abbrev pub IsBase : ℕ → Timeline → Option (ℤ × ℤ) → Type 0
 IsBase moment (Capacity name most) base = base ≡ None
 IsBase moment (Level name least most start) None = ⊥
 IsBase moment (Level name least most start) (Some (at, v)) = (at ≤ℤ pos moment) × IsLevel v
 IsBase moment (States name states start any steps) None = ⊥
-IsBase moment (States name states start any steps) (Some (at, v)) = (at ≤ℤ pos moment) × (pos 0 ≤ℤ v) × (v ≤ℤ pos (length states))
+IsBase moment (States name states start any steps) (Some (at, v)) = (at ≤ℤ pos moment) × IsStateOf (length states) v
 
 -- each level and state timeline has a base, told at the present or before
 abbrev pub AreBasesAt : Model → ℕ → List (Option (ℤ × ℤ)) → Type 0
