@@ -15,14 +15,15 @@ use Rattle.pl_plan.specs.declared.activity.Activity.{Activity}
 use Rattle.pl_plan.specs.declared.repair.RepairMove.{RepairMove}
 use Rattle.pl_plan.specs.declared.repair.RepairMove.TheVariants.{Add, Delete, Shift, Detail, Abstract, Assign, Drop}
 use Rattle.pl_plan.specs.Activities.{placed, activity_of}
-use Rattle.pl_plan.specs.Trees.{subtree_of, id_of}
+use Rattle.pl_plan.specs.Trees.{descends}
+use Rattle.pl_plan.specs.Moves.{without_subtree, without_below, abstracted}
 use Rattle.pl_plan.specs.Fitting.{kind_of, alternatives_of, slots_of}
 use Rattle.pl_plan.specs.Firm.{is_within}
 use Rattle.pl_plan.specs.Values.{binding_of}
 use Rattle.pl_world.specs.declared.refusal.Refusal.{Refusal}
 use Rattle.pl_world.specs.declared.refusal.Refusal.TheVariants.{Locked, Behind, Beyond, Full}
 use Rattle.pl_world.specs.declared.plan_state.PlanState.{PlanState}
-use Rattle.pl_world.specs.PlanStates.{floor_of, is_committed, found, goal_at, is_open, among}
+use Rattle.pl_world.specs.PlanStates.{floor_of, is_committed, found, goal_at, is_open}
 use Rattle.pl_world.specs.Activities.{bindings_of}
 
 -- ---- proper
@@ -67,22 +68,19 @@ is_proper s (Drop number) = holds (λ g. is_open s g && not g.must) (goal_at s n
 
 -- ---- what it changes
 
-abbrev pub subtree_at : PlanState → ℕ → List ℕ
-subtree_at s id = subtree_of id s.plan.activities
+-- whether an activity is of the subtree of another
+abbrev pub is_under : PlanState → ℕ → Activity → Bool
+is_under s top a = descends s.plan.activities top a.id
 
--- the ids of the live activities that it changes, rising
-abbrev pub changed_by : PlanState → RepairMove → List ℕ
-changed_by s (Add kind start goal) = []
-changed_by s (Delete id) = subtree_at s id
-changed_by s (Shift id start) = subtree_at s id
-changed_by s (Detail id alternative) = id ∷ []
-changed_by s (Abstract id) = subtree_at s id
-changed_by s (Assign id param value) = subtree_at s id
-changed_by s (Drop number) = []
-
--- the live activities of these ids
-abbrev pub those : PlanState → List ℕ → List Activity
-those s ids = filter (λ a. among a.id ids) s.plan.activities
+-- the live activities that it changes
+abbrev pub is_changed : PlanState → RepairMove → Activity → Bool
+is_changed s (Add kind start goal) a = false
+is_changed s (Delete id) a = is_under s id a
+is_changed s (Shift id start) a = is_under s id a
+is_changed s (Detail id alternative) a = a.id == id
+is_changed s (Abstract id) a = is_under s id a
+is_changed s (Assign id param value) a = is_under s id a
+is_changed s (Drop number) a = false
 
 -- ---- new activities
 
@@ -123,7 +121,7 @@ moved from to a = record a { start = (a.start + to) - from }
 
 abbrev pub moved_with : PlanState → ℕ → Option Activity → List Activity
 moved_with s to None = []
-moved_with s to (Some a) = map (moved a.start to) (those s (subtree_at s a.id))
+moved_with s to (Some a) = map (moved a.start to) (filter (is_under s a.id) s.plan.activities)
 
 -- the activities that a move places or shifts, as they are then
 abbrev pub started_by : PlanState → RepairMove → List Activity
@@ -156,35 +154,29 @@ full_if false = None
 -- Beyond for the least one to the horizon or later; Full where more would live than may. Ids rise in each list.
 unfoldable pub refusal_of : PlanState → RepairMove → Option Refusal
 refusal_of s m =
-    or_else (first_refused Locked (is_committed s) (those s (changed_by s m)))
+    or_else (first_refused Locked (λ a. is_changed s m a && is_committed s a) s.plan.activities)
     (or_else (first_refused Behind (λ a. nat_lt a.start (floor_of s)) (started_by s m))
     (or_else (first_refused Beyond (λ a. nat_le s.model.horizon a.start) (started_by s m))
     (full_if (nat_lt s.live_limit (length s.plan.activities + count_of_new s m)))))
 
 -- ---- what it makes of the plan
 
-abbrev pub mapped_at : (Activity → Activity) → List ℕ → List Activity → List Activity
-mapped_at change ids xs = map (λ a. if among a.id ids then change a else a) xs
-
-abbrev pub left_by : List ℕ → List Activity → List Activity
-left_by ids xs = filter (λ a. not (among a.id ids)) xs
+-- the activities that pass the test are changed
+abbrev pub changed_where : (Activity → Bool) → (Activity → Activity) → List Activity → List Activity
+changed_where test change xs = map (λ a. if test a then change a else a) xs
 
 abbrev pub detailed : ℕ → Activity → Activity
 detailed alternative a = record a { detail = Some alternative }
-
-abbrev pub undetailed : Activity → Activity
-undetailed a = record a { detail = None }
 
 abbrev pub with_value : ℕ → ℤ → Activity → Activity
 with_value n value a = record a { set = slice_set a.set n (Some value) }
 
 abbrev pub shifted : PlanState → ℕ → Option Activity → List Activity
 shifted s to None = s.plan.activities
-shifted s to (Some a) = mapped_at (moved a.start to) (subtree_at s a.id) s.plan.activities
+shifted s to (Some a) = changed_where (is_under s a.id) (moved a.start to) s.plan.activities
 
--- the descendants of an activity
-abbrev pub below : PlanState → ℕ → List ℕ
-below s id = filter (λ i. not (i == id)) (subtree_at s id)
+abbrev pub has_id : ℕ → Activity → Bool
+has_id id a = a.id == id
 
 abbrev pub with_activities : PlanState → List Activity → PlanState
 with_activities s xs = record s { plan = record { activities = xs } }
@@ -192,9 +184,9 @@ with_activities s xs = record s { plan = record { activities = xs } }
 -- new ids are above all others, so new activities stand at the end
 unfoldable pub applied : PlanState → RepairMove → PlanState
 applied s (Add kind start goal) = record s { plan = record { activities = s.plan.activities ++ root_for s kind start goal ∷ [] }; next_id = suc s.next_id }
-applied s (Delete id) = with_activities s (left_by (subtree_at s id) s.plan.activities)
+applied s (Delete id) = with_activities s (without_subtree id s.plan.activities)
 applied s (Shift id start) = with_activities s (shifted s start (found s id))
-applied s (Detail id alternative) = record s { plan = record { activities = mapped_at (detailed alternative) (id ∷ []) s.plan.activities ++ children_for s alternative (found s id) }; next_id = s.next_id + count_of_new s (Detail id alternative) }
-applied s (Abstract id) = with_activities s (mapped_at undetailed (id ∷ []) (left_by (below s id) s.plan.activities))
-applied s (Assign id param value) = with_activities s (mapped_at (with_value param value) (id ∷ []) s.plan.activities)
+applied s (Detail id alternative) = record s { plan = record { activities = changed_where (has_id id) (detailed alternative) s.plan.activities ++ children_for s alternative (found s id) }; next_id = s.next_id + count_of_new s (Detail id alternative) }
+applied s (Abstract id) = with_activities s (map (abstracted id) (without_below id s.plan.activities))
+applied s (Assign id param value) = with_activities s (changed_where (has_id id) (with_value param value) s.plan.activities)
 applied s (Drop number) = record s { goals = with_dropped number s.goals }
