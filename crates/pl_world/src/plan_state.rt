@@ -37,7 +37,7 @@ impl PlanState {
 impl Copied for PlanState {
     fn copy(&self, alloc: Global) -> Result<PlanState, AllocError> {
         Ok(PlanState {
-            model: self.model.share(),
+            model: self.model.share()?,
             plan: self.plan.copy(alloc)?,
             goals: self.goals.copy(alloc)?,
             bases: self.bases.copy(alloc)?,

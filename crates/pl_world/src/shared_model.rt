@@ -1,7 +1,8 @@
-ghost use Rattle.std.specs.Prelude.{◌≡◌};
+ghost use Rattle.std.specs.Prelude.{◌≡◌, IfOk};
 ghost use Rattle.std.specs.Arc.{arc_value};
 
 use pl_model::Model;
+use std::alloc::AllocError;
 use std::sync::Arc;
 
 /// A model that several owners hold, which contracts see as the model.
@@ -37,11 +38,10 @@ impl SharedModel {
     }
 
     /// A further owner of the same model.
-    pub fn share(&self) -> SharedModel
-        ensures { result ≡ self.now }
+    pub fn share(&self) -> Result<SharedModel, AllocError>
+        ensures { IfOk result (λ m. m ≡ self.now) }
     {
-        SharedModel {
-            model: self.model.clone(),
-        }
+        let model = self.model.clone()?;
+        Ok(SharedModel { model })
     }
 }
