@@ -22,14 +22,14 @@ pub record Standing : Type 0 where
   pub state : PlanState
 
 -- a whole plan state with what its activities ask for and what is wrong with it
-pub record IsFound (s : PlanState) (demands : List Demand) (set : List Conflict) : Type 0 where
+pub record IsFound (s : PlanState) (ds : List Demand) (set : List Conflict) : Type 0 where
   pub whole : IsWhole s
-  pub demands : demands ≡ demands_of s
+  pub demands : ds ≡ demands_of s
   pub conflicts : set ≡ conflicts_of s
 
-pub record IsSound (s : PlanState) (demands : List Demand) (set : List Conflict) (spoiled : Bool) : Type 0 where
+pub record IsSound (s : PlanState) (ds : List Demand) (set : List Conflict) (spoiled : Bool) : Type 0 where
   pub checked : IsChecked s.model
-  pub found : spoiled ≡ false → IsFound s demands set
+  pub found : spoiled ≡ false → IsFound s ds set
 
 -- ---- changes
 

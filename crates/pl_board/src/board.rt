@@ -10,9 +10,10 @@ ghost use Rattle.pl_board.specs.Boards.{after, first_state, with_goal, without_g
 ghost use Rattle.pl_board.specs.Replaced.{CanReplace, with_plan};
 
 use crate::replacement::{next_after, replace};
+use crate::stubs::{demands, detect};
 use pl_conflict::ConflictSet;
-use pl_demands::demands;
-use pl_detect::detect;
+
+
 use pl_facts::{Bases, Goal, Goals};
 use pl_lists::Copied;
 use pl_model::Model;
@@ -238,16 +239,21 @@ impl Board {
     {
         self.spoiled
     }
-}
 
-impl Copied for Board {
-    fn copy(&self, alloc: Global) -> Result<Board, AllocError> {
+    /// A board of the same plan state, with memory of its own.
+    pub fn copy(&self, alloc: Global) -> Result<Board, AllocError>
+        requires { self.now.spoiled ≡ false }
+        ensures { IfOk result (λ b. b ≡ self.now) }
+    {
+        let state = self.state.copy(alloc)?;
+        let asked = demands(alloc, &state)?;
+        let conflicts = detect(alloc, &state, &asked)?;
         Ok(Board {
-            alloc: self.alloc,
-            state: self.state.copy(alloc)?,
-            demands: Vec::from_slice(self.alloc, self.demands.as_slice())?,
-            conflicts: self.conflicts.copy(alloc)?,
-            spoiled: self.spoiled,
+            alloc,
+            state,
+            demands: asked,
+            conflicts,
+            spoiled: false,
         })
     }
 }
