@@ -1,1 +1,5 @@
-mod Crossing
+pub mod Crossing
+pub mod Owning
+pub mod Subjects
+pub mod Keys
+pub mod Standing
