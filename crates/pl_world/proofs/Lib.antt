@@ -1,4 +1,4 @@
-pub mod Crossing
+mod Crossing
 pub mod Owning
 pub mod Subjects
 pub mod Keys

@@ -2,6 +2,7 @@
 use Rattle.std.proofs.Common.{◌≡◌, ℕ, true, List, ◌++◌, refl, ap, ◌∙◌}
 use Rattle.std.specs.Prelude.{◌||◌}
 use Rattle.std.specs.List.{flat_map}
+use Rattle.pl_lists.proofs.Tests.{or_assoc}
 use Rattle.pl_conflict.specs.declared.conflict.Conflict.{Conflict}
 use Rattle.pl_conflict.specs.Order.{has}
 use Rattle.pl_conflict.specs.Sorting.{AreInOrder}
@@ -27,9 +28,11 @@ pub members : (s : PlanState) (q : Conflict) → has q (conflicts_of s) ≡ (has
 unfolding conflicts_of
 members s q =
     has-sorted (goal_conflicts s ++ activity_conflicts s ++ link_conflicts s ++ timeline_conflicts s) q
-    ∙ has-append (goal_conflicts s) (activity_conflicts s ++ link_conflicts s ++ timeline_conflicts s) q
-    ∙ ap (λ b. has q (goal_conflicts s) || b) (has-append (activity_conflicts s) (link_conflicts s ++ timeline_conflicts s) q
-    ∙ ap (λ b. has q (activity_conflicts s) || b) (has-append (link_conflicts s) (timeline_conflicts s) q))
+    ∙ has-append (goal_conflicts s ++ activity_conflicts s ++ link_conflicts s) (timeline_conflicts s) q
+    ∙ ap (λ b. b || has q (timeline_conflicts s)) (has-append (goal_conflicts s ++ activity_conflicts s) (link_conflicts s) q
+    ∙ ap (λ b. b || has q (link_conflicts s)) (has-append (goal_conflicts s) (activity_conflicts s) q))
+    ∙ or_assoc (has q (goal_conflicts s) || has q (activity_conflicts s)) (has q (link_conflicts s)) (has q (timeline_conflicts s))
+    ∙ or_assoc (has q (goal_conflicts s)) (has q (activity_conflicts s)) (has q (link_conflicts s) || has q (timeline_conflicts s))
 
 -- ---- parts
 

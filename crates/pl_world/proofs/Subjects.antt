@@ -32,23 +32,31 @@ off_is s a = each_planned (IsOf of_goals a.id) (is_committed s a) (of_found (off
 
 -- ---- activities
 
-wrong_one : (s : PlanState) (a : Activity) → Each (IsOf of_activities a.id) (late_at s a ++ unset_at s a ++ bad_values_at s a ++ undetailed_at s a ++ overrun_at s a)
-wrong_one s a =
-    each_append Is (late_at s a) (unset_at s a ++ bad_values_at s a ++ undetailed_at s a ++ overrun_at s a) (each_when Is _ (at_start a code.Late 0 0) (refl, refl))
-    (each_append Is (unset_at s a) (bad_values_at s a ++ undetailed_at s a ++ overrun_at s a) (each_flat Is (unset_one s a) (params_at s a) (λ p. each_when Is _ (at_start a code.Unset p.0 0) (refl, refl)))
-    (each_append Is (bad_values_at s a) (undetailed_at s a ++ overrun_at s a) bad
-    (each_append Is (undetailed_at s a) (overrun_at s a) (each_when Is _ (at_start a code.Undetailed 0 0) (refl, refl))
-    (each_found Is (past_end s a) (end_at s a) (λ end. each_when Is _ (at_start a code.Overrun 0 end) (refl, refl))))))
+bad_is : (s : PlanState) (a : Activity) → Each (IsOf of_activities a.id) (bad_values_at s a)
+bad_is s a =
+    each_append Is (flat_map (bad_param s a) (params_at s a) ++ of_found (bad_duration s a) (kind_of s.model a)) (flat_map (bad_amount s a) (reservations_of s a))
+    (each_append Is (flat_map (bad_param s a) (params_at s a)) (of_found (bad_duration s a) (kind_of s.model a))
+    (each_flat Is (bad_param s a) (params_at s a) (λ p. each_when Is _ (at_start a code.BadValue p.0 0) (refl, refl)))
+    (each_found Is (bad_duration s a) (kind_of s.model a) (λ k. each_when Is _ (at_start a code.BadValue 16 0) (refl, refl))))
+    (each_flat Is (bad_amount s a) (reservations_of s a) (λ r. each_when Is _ (at_start a code.BadValue (17 + r.0) 0) (refl, refl)))
   where
     Is : Conflict → Type 0
     Is q = IsOf of_activities a.id q
 
-    bad : Each (IsOf of_activities a.id) (bad_values_at s a)
-    bad = each_append Is (flat_map (bad_param s a) (params_at s a)) (of_found (bad_duration s a) (kind_of s.model a) ++ flat_map (bad_amount s a) (reservations_of s a))
-        (each_flat Is (bad_param s a) (params_at s a) (λ p. each_when Is _ (at_start a code.BadValue p.0 0) (refl, refl)))
-        (each_append Is (of_found (bad_duration s a) (kind_of s.model a)) (flat_map (bad_amount s a) (reservations_of s a))
-        (each_found Is (bad_duration s a) (kind_of s.model a) (λ k. each_when Is _ (at_start a code.BadValue 16 0) (refl, refl)))
-        (each_flat Is (bad_amount s a) (reservations_of s a) (λ r. each_when Is _ (at_start a code.BadValue (17 + r.0) 0) (refl, refl))))
+wrong_one : (s : PlanState) (a : Activity) → Each (IsOf of_activities a.id) (late_at s a ++ unset_at s a ++ bad_values_at s a ++ undetailed_at s a ++ overrun_at s a)
+wrong_one s a =
+    each_append Is (late_at s a ++ unset_at s a ++ bad_values_at s a ++ undetailed_at s a) (overrun_at s a)
+    (each_append Is (late_at s a ++ unset_at s a ++ bad_values_at s a) (undetailed_at s a)
+    (each_append Is (late_at s a ++ unset_at s a) (bad_values_at s a)
+    (each_append Is (late_at s a) (unset_at s a)
+    (each_when Is _ (at_start a code.Late 0 0) (refl, refl))
+    (each_flat Is (unset_one s a) (params_at s a) (λ p. each_when Is _ (at_start a code.Unset p.0 0) (refl, refl))))
+    (bad_is s a))
+    (each_when Is _ (at_start a code.Undetailed 0 0) (refl, refl)))
+    (each_found Is (past_end s a) (end_at s a) (λ end. each_when Is _ (at_start a code.Overrun 0 end) (refl, refl)))
+  where
+    Is : Conflict → Type 0
+    Is q = IsOf of_activities a.id q
 
 pub wrong_is : (s : PlanState) (a : Activity) → Each (IsOf of_activities a.id) (wrong_at s a)
 unfolding wrong_at
