@@ -1,12 +1,21 @@
 -- Which repairs may be made now, and what a repair leaves.
-use Rattle.std.specs.Prelude.{ℕ, Bool, not, List, filter, length, is_none}
+use Rattle.std.specs.Prelude.{◌≡◌, ℕ, ◌+◌, ◌<◌, ◌≤◌, Bool, false, ◌&&◌, not, List, All, filter, length, is_none}
 use Rattle.std.specs.List.{list_any}
 use Rattle.pl_conflict.specs.declared.conflict.Conflict.{Conflict}
 use Rattle.pl_plan.specs.declared.repair.RepairMove.{RepairMove}
 use Rattle.pl_world.specs.declared.plan_state.PlanState.{PlanState}
+use Rattle.pl_world.specs.PlanStates.{floor_of, is_committed}
 use Rattle.pl_world.specs.Conflicts.{conflicts_of}
-use Rattle.pl_world.specs.Moves.{refusal_of, applied}
+use Rattle.pl_world.specs.Moves.{is_changed, started_by, count_of_new, refusal_of, applied}
 use Rattle.pl_world.specs.Candidates.{candidates_of}
+
+-- What a move that is not refused keeps to: it changes nothing committed, each start that it gives lies from the floor on and before
+-- the horizon, and no more live than may.
+pub record MayBeMade (s : PlanState) (m : RepairMove) : Type 0 where
+  pub unlocked : All (λ a. (is_changed s m a && is_committed s a) ≡ false) s.plan.activities
+  pub above : All (λ a. floor_of s ≤ a.start) (started_by s m)
+  pub within : All (λ a. a.start < s.model.horizon) (started_by s m)
+  pub room : length s.plan.activities + count_of_new s m ≤ s.live_limit
 
 -- it is not refused
 abbrev pub is_legal : PlanState → RepairMove → Bool

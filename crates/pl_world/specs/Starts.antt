@@ -23,9 +23,13 @@ steps_from zero low high step = []
 steps_from (suc n) low high step =
     if int_le low high then low ∷ steps_from n (low +ℤ pos step) high step else []
 
+-- the stride between a low and a high number
+abbrev pub stride_of : ℤ → ℤ → ℕ
+stride_of low high = stride (natural (high -ℤ low))
+
 -- the numbers from low to high that are tried: the low, and each step up from it; none where low is above high
 unfoldable pub spread : ℤ → ℤ → List ℤ
-spread low high = steps_from 16 low high (stride (natural (high -ℤ low)))
+spread low high = steps_from 16 low high (stride_of low high)
 
 -- ---- moves of starts
 
