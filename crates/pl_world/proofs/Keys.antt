@@ -19,29 +19,30 @@ abbrev pub Apart : {X : Type 0} → (X → ℕ) → List X → Type 0
 Apart key [] = Unit {0}
 Apart key (x ∷ xs) = (list_any (λ y. eqb (key y) (key x)) xs ≡ false) × Apart key xs
 
-module _ {X : Type 0} (key : X → ℕ) (f : X → List Conflict) (owned : (x : X) (k : Conflict) → has k (f x) ≡ true → k.subject ≡ key x) where
-  not_of : (x : X) (k : Conflict) → eqb (key x) k.subject ≡ false → has k (f x) ≡ false
-  not_of x k e = cases (has k (f x)) refl
+module _ {X : Type 0} (key : X → ℕ) (f : X → List Conflict) (k : Conflict) (n : ℕ) (owned : (x : X) → has k (f x) ≡ true → n ≡ key x) where
+  not_of : (x : X) → eqb (key x) n ≡ false → has k (f x) ≡ false
+  not_of x e = cases (has k (f x)) refl
     where
       cases : (b : Bool) → has k (f x) ≡ b → has k (f x) ≡ false
-      cases true h = let is : k.subject ≡ key x = owned x k h in absurd (eqb-false (key x) k.subject e (sym is))
+      cases true h = let is : n ≡ key x = owned x h in absurd (eqb-false (key x) n e (sym is))
       cases false h = h
 
-  none_of : (xs : List X) (k : Conflict) → list_any (λ y. eqb (key y) k.subject) xs ≡ false → has k (flat_map f xs) ≡ false
-  none_of [] k none = refl
-  none_of (x ∷ xs) k none = has-append (f x) (flat_map f xs) k ∙ cases (eqb (key x) k.subject) refl (none_of xs k)
+  none_of : (xs : List X) → list_any (λ y. eqb (key y) n) xs ≡ false → has k (flat_map f xs) ≡ false
+  none_of [] none = refl
+  none_of (x ∷ xs) none = has-append (f x) (flat_map f xs) k ∙ cases (eqb (key x) n) refl (none_of xs)
     where
-      cases : (b : Bool) → eqb (key x) k.subject ≡ b → (list_any (λ y. eqb (key y) k.subject) xs ≡ false → has k (flat_map f xs) ≡ false) → (has k (f x) || has k (flat_map f xs)) ≡ false
+      cases : (b : Bool) → eqb (key x) n ≡ b → (list_any (λ y. eqb (key y) n) xs ≡ false → has k (flat_map f xs) ≡ false) → (has k (f x) || has k (flat_map f xs)) ≡ false
       cases true e more = let bad : true ≡ false = rw e at none in absurd (cc)
-      cases false e more = let rest : list_any (λ y. eqb (key y) k.subject) xs ≡ false = rw e at none in rw (not_of x k e, more rest) refl
+      cases false e more = let rest : list_any (λ y. eqb (key y) n) xs ≡ false = rw e at none in rw (not_of x e, more rest) refl
 
-  pub by_key : (xs : List X) (k : Conflict) → Apart key xs → has k (flat_map f xs) ≡ has k (of_found f (find (λ x. eqb (key x) k.subject) xs))
-  by_key [] k apart = refl
-  by_key (x ∷ xs) k apart = has-append (f x) (flat_map f xs) k ∙ cases (eqb (key x) k.subject) refl (by_key xs k apart.1)
+  -- it stands where it stands by the one thing that has the number
+  pub by_key : (xs : List X) → Apart key xs → has k (flat_map f xs) ≡ has k (of_found f (find (λ x. eqb (key x) n) xs))
+  by_key [] apart = refl
+  by_key (x ∷ xs) apart = has-append (f x) (flat_map f xs) k ∙ cases (eqb (key x) n) refl (by_key xs apart.1)
     where
-      cases : (b : Bool) → eqb (key x) k.subject ≡ b → has k (flat_map f xs) ≡ has k (of_found f (find (λ x. eqb (key x) k.subject) xs)) → (has k (f x) || has k (flat_map f xs)) ≡ has k (of_found f (find (λ x. eqb (key x) k.subject) (x ∷ xs)))
-      cases true e more = let none : list_any (λ y. eqb (key y) k.subject) xs ≡ false = subst (λ n. list_any (λ y. eqb (key y) n) xs ≡ false) (eqb-true (key x) k.subject e) apart.0 in rw (e, none_of xs k none) (or_false (has k (f x)))
-      cases false e more = rw (e, not_of x k e) more
+      cases : (b : Bool) → eqb (key x) n ≡ b → has k (flat_map f xs) ≡ has k (of_found f (find (λ x. eqb (key x) n) xs)) → (has k (f x) || has k (flat_map f xs)) ≡ has k (of_found f (find (λ x. eqb (key x) n) (x ∷ xs)))
+      cases true e more = let none : list_any (λ y. eqb (key y) n) xs ≡ false = subst (λ m. list_any (λ y. eqb (key y) m) xs ≡ false) (eqb-true (key x) n e) apart.0 in rw (e, none_of xs none) (or_false (has k (f x)))
+      cases false e more = rw (e, not_of x e) more
 
 -- ---- goals by number
 
@@ -53,7 +54,7 @@ goals_apart (g ∷ goals) distinct = (
 )
 
 pub by_number : (f : Goal → List Conflict) → ((g : Goal) (k : Conflict) → has k (f g) ≡ true → k.subject ≡ g.number) → (goals : List Goal) → AreDistinct goals → (k : Conflict) → has k (flat_map f goals) ≡ has k (of_found f (find (λ (g : Goal). eqb g.number k.subject) goals))
-by_number f owned goals distinct k = by_key (λ (g : Goal). g.number) f owned goals k (goals_apart goals distinct)
+by_number f owned goals distinct k = by_key (λ (g : Goal). g.number) f k k.subject (λ g h. owned g k h) goals (goals_apart goals distinct)
 
 -- ---- activities by id
 
@@ -70,4 +71,4 @@ activity_of_find n [] = refl
 activity_of_find n (x ∷ xs) = ap (λ o. cond (eqb x.id n) (Some x) o) (activity_of_find n xs)
 
 pub by_id : (f : Activity → List Conflict) → ((a : Activity) (k : Conflict) → has k (f a) ≡ true → k.subject ≡ a.id) → (xs : List Activity) → AreRising xs → (k : Conflict) → has k (flat_map f xs) ≡ has k (of_found f (activity_of k.subject xs))
-by_id f owned xs rising k = by_key (λ (a : Activity). a.id) f owned xs k (activities_apart 0 xs rising) ∙ ap (λ o. has k (of_found f o)) (activity_of_find k.subject xs)
+by_id f owned xs rising k = by_key (λ (a : Activity). a.id) f k k.subject (λ a h. owned a k h) xs (activities_apart 0 xs rising) ∙ ap (λ o. has k (of_found f o)) (activity_of_find k.subject xs)

@@ -7,3 +7,5 @@ pub mod Spreading
 pub mod Refusing
 pub mod Sifting
 pub mod Granting
+pub mod Naming
+pub mod Lines

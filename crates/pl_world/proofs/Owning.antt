@@ -1,7 +1,8 @@
 -- What holds of each conflict of a list.
 use Rattle.std.proofs.Common.{◌≡◌, Bool, true, false, List, [], ◌∷◌, ◌++◌, refl, sym, ◌∙◌, subst}
-use Rattle.std.specs.Prelude.{◌||◌, map, Option, Some, None}
+use Rattle.std.specs.Prelude.{◌||◌, All, map, Option, Some, None}
 use Rattle.std.specs.List.{flat_map}
+use Rattle.std.proofs.lemmas.List.Elements.{All-head, All-tail}
 use Rattle.pl_lists.proofs.Tests.{or_false}
 use Rattle.pl_conflict.specs.declared.conflict.Conflict.{Conflict}
 use Rattle.pl_conflict.specs.Order.{has}
@@ -44,3 +45,7 @@ module _ (P : Conflict → Type 0) where
   pub each_map : {X : Type 0} (make : X → Conflict) (xs : List X) → ((x : X) → P (make x)) → Each P (map make xs)
   each_map make [] all = each_none
   each_map make (x ∷ xs) all = each_append (make x ∷ []) (map make xs) (each_one (make x) (all x)) (each_map make xs all)
+
+  pub each_made : {X : Type 0} (make : X → Conflict) (xs : List X) → All (λ x. P (make x)) xs → Each P (map make xs)
+  each_made make [] all = each_none
+  each_made make (x ∷ xs) all = each_append (make x ∷ []) (map make xs) (each_one (make x) (All-head (λ x. P (make x)) x xs all)) (each_made make xs (All-tail (λ x. P (make x)) x xs all))

@@ -5,6 +5,7 @@ pub mod Activities
 pub mod Links
 pub mod Demands
 pub mod Timelines
+pub mod Owners
 pub mod Conflicts
 pub mod Parts
 pub mod Grants

@@ -12,7 +12,9 @@ ghost use Rattle.pl_world.specs.Parts.{part_of, of_goals, of_activities, of_link
 ghost use Rattle.pl_world.specs.Goals.{goal_conflicts, open_of, off_of};
 ghost use Rattle.pl_world.specs.Activities.{activity_conflicts, wrong_of};
 ghost use Rattle.pl_world.specs.Links.{link_conflicts, linked_of};
-ghost use Rattle.pl_world.specs.Timelines.{timeline_conflicts};
+ghost use Rattle.pl_world.specs.Timelines.{timeline_conflicts, line_conflicts_of};
+ghost use Rattle.pl_world.specs.Owners.{owner_of};
+ghost use Rattle.pl_world.specs.PlanStates.{of_found};
 ghost use Rattle.pl_world.specs.Conflicts.{conflicts_of};
 ghost use Rattle.pl_world.specs.Grants.{touches_before};
 ghost use Rattle.pl_world.specs.Moves.{is_proper, refusal_of};
@@ -34,11 +36,13 @@ pub fn laws_of_parts()
     ensures timelines { (s : PlanState) (q : Conflict) → has q (timeline_conflicts s) ≡ true → part_of q.code ≡ of_timelines }
 {}
 
-/// A conflict of goals, activities or links stands exactly where the goal or the activity that is its subject says so.
+/// A conflict of goals, activities or links stands exactly where the goal or the activity that is its subject says so, and a
+/// conflict of timelines exactly where the timeline that it is about does.
 pub fn laws_of_subjects()
     ensures goals { (s : PlanState) → AreDistinct s.goals → AreRising s.plan.activities → (q : Conflict) → has q (goal_conflicts s) ≡ (has q (open_of s q.subject) || has q (off_of s q.subject)) }
     ensures activities { (s : PlanState) → AreRising s.plan.activities → (q : Conflict) → has q (activity_conflicts s) ≡ has q (wrong_of s q.subject) }
     ensures links { (s : PlanState) → AreRising s.plan.activities → (q : Conflict) → has q (link_conflicts s) ≡ has q (linked_of s q.subject) }
+    ensures timelines { (s : PlanState) → AreRising s.plan.activities → (q : Conflict) → has q (timeline_conflicts s) ≡ has q (of_found (line_conflicts_of s) (owner_of s q)) }
 {}
 
 /// No conflict touches what comes before a moment exactly where the first of them does not.
