@@ -16,9 +16,9 @@ use Rattle.pl_plan.specs.Known.{is_unset, is_bad_param, is_bad_duration, is_bad_
 use Rattle.pl_world.specs.declared.plan_state.PlanState.{PlanState}
 use Rattle.pl_world.specs.PlanStates.{is_committed, found, row_of, end_at, numbered, reservations_of, if_planned, of_found, when}
 
--- a conflict at the start of an activity, with two numbers more
+-- a conflict from the start of an activity, with its detail and one moment
 abbrev pub at_start : Activity → Code → ℕ → ℕ → Conflict
-at_start a code detail end = record { from = a.start; code = code; subject = a.id; detail = detail; a = end; b = 0 }
+at_start a code detail moment = record { from = a.start; code = code; subject = a.id; detail = detail; a = moment; b = 0 }
 
 -- ---- late
 

@@ -6,7 +6,7 @@ use Rattle.pl_conflict.specs.declared.conflict.Code.TheVariants.{OpenGoal, OffGo
 use Rattle.pl_facts.specs.declared.goal.Goal.{Goal}
 use Rattle.pl_plan.specs.declared.activity.Activity.{Activity}
 use Rattle.pl_world.specs.declared.plan_state.PlanState.{PlanState}
-use Rattle.pl_world.specs.PlanStates.{floor_of, is_committed, is_open, goal_at, served_by, if_planned, of_found, when}
+use Rattle.pl_world.specs.PlanStates.{floor_of, found, is_committed, is_open, goal_at, served_by, if_planned, of_found, when}
 
 -- ---- open goals
 
@@ -32,6 +32,10 @@ off_from a g = when (nat_lt a.start g.earliest || nat_lt g.latest a.start) (off_
 -- an uncommitted root starts outside what the goal that it serves allows
 unfoldable pub off_at : PlanState → Activity → List Conflict
 off_at s a = if_planned (is_committed s a) (of_found (off_from a) (served_by s a))
+
+-- the same of the activity of this id
+abbrev pub off_of : PlanState → ℕ → List Conflict
+off_of s id = of_found (off_at s) (found s id)
 
 -- ---- the part
 

@@ -5,6 +5,13 @@ pub mod Activities
 pub mod Links
 pub mod Demands
 pub mod Timelines
+pub mod Owners
 pub mod Conflicts
+pub mod Parts
+pub mod Grants
 pub mod Moves
+pub mod Starts
+pub mod Repairs
+pub mod LineRepairs
 pub mod Candidates
+pub mod Legal

@@ -10,7 +10,7 @@ use Rattle.pl_links.specs.declared.placed.Placed.{Placed}
 use Rattle.pl_links.specs.declared.broken.Broken.{Broken}
 use Rattle.pl_links.specs.Broken.{broken_by, orders_of}
 use Rattle.pl_world.specs.declared.plan_state.PlanState.{PlanState}
-use Rattle.pl_world.specs.PlanStates.{is_ahead, end_at, of_found, when}
+use Rattle.pl_world.specs.PlanStates.{found, is_ahead, end_at, of_found, when}
 
 -- an activity with its end
 abbrev pub placed_of : PlanState → Activity → Placed
@@ -57,6 +57,10 @@ conflict_of s a b = link_conflict s a b.slots b.index
 
 unfoldable pub links_at : PlanState → Activity → List Conflict
 links_at s a = flat_map (conflict_of s a) (broken_by s.model (placed_in s) (placed_of s a))
+
+-- the same of the activity of this id
+abbrev pub linked_of : PlanState → ℕ → List Conflict
+linked_of s id = of_found (links_at s) (found s id)
 
 abbrev pub link_conflicts : PlanState → List Conflict
 link_conflicts s = flat_map (links_at s) s.plan.activities

@@ -115,7 +115,7 @@ children_for s alternative (Some a) = children_in s a (slice_get (alternatives_a
 
 -- ---- starts
 
--- moved along with one that goes from its start to another
+-- Moved along with one that goes from its start to another. What would come before 0 comes to 0, which is below every floor.
 abbrev pub moved : ℕ → ℕ → Activity → Activity
 moved from to a = record a { start = (a.start + to) - from }
 

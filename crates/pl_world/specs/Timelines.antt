@@ -1,5 +1,5 @@
 -- Where timelines are outside their limits, where a state is another than is needed, and steps that are not allowed.
-use Rattle.std.specs.Prelude.{ℕ, suc, ◌-◌, ◌==◌, not, ℤ, int_lt, Bool, List, [], ◌∷◌, ◌++◌, map, Option, Some, None}
+use Rattle.std.specs.Prelude.{ℕ, suc, ◌-◌, ◌==◌, not, ℤ, int_lt, Bool, List, [], ◌∷◌, ◌++◌, map, slice_get, Option, Some, None}
 use Rattle.std.specs.List.{flat_map}
 use Rattle.pl_conflict.specs.declared.conflict.Conflict.{Conflict}
 use Rattle.pl_conflict.specs.declared.conflict.Code.{Code}
@@ -15,7 +15,7 @@ use Rattle.pl_state.specs.Sets.{is_allowed, bad_from}
 use Rattle.pl_state.specs.Musts.{broken_all}
 use Rattle.pl_plan.specs.declared.activity.Activity.{Activity}
 use Rattle.pl_world.specs.declared.plan_state.PlanState.{PlanState}
-use Rattle.pl_world.specs.PlanStates.{found, numbered, natural}
+use Rattle.pl_world.specs.PlanStates.{found, numbered, natural, of_found}
 use Rattle.pl_world.specs.Demands.{demands_of, use_at, level_at, state_at, sets_of, musts_of, since, told}
 
 -- ---- capacities and levels
@@ -67,6 +67,10 @@ unfoldable pub line_conflicts : PlanState → ℕ × Timeline → List Conflict
 line_conflicts s (line, Capacity name most) = overs s line most
 line_conflicts s (line, Level name least most start) = lows s line least ++ highs s line most
 line_conflicts s (line, States name states start any steps) = musts s line ++ bad_steps s line any steps
+
+-- the same of the timeline of this number
+abbrev pub line_conflicts_of : PlanState → ℕ → List Conflict
+line_conflicts_of s line = of_found (λ t. line_conflicts s (line, t)) (slice_get s.model.timelines line)
 
 -- the timelines of the model, each with its number
 abbrev pub lines_of : PlanState → List (ℕ × Timeline)

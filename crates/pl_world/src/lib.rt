@@ -2,12 +2,17 @@
 #![tactic(auto)]
 
 mod demand;
+mod laws;
 mod plan_state;
 mod refusal;
 mod shared_model;
 mod sharing;
 
 pub use demand::{Asked, Demand};
+pub use laws::{
+    laws_of_candidates, laws_of_conflicts, laws_of_grants, laws_of_parts, laws_of_refusals,
+    laws_of_spread, laws_of_subjects,
+};
 pub use plan_state::PlanState;
 pub use refusal::Refusal;
 pub use shared_model::SharedModel;
