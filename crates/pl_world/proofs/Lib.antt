@@ -1,4 +1,4 @@
-mod Crossing
+pub mod Crossing
 pub mod Owning
 pub mod Subjects
 pub mod Keys
