@@ -1,4 +1,6 @@
 use Rattle.std.proofs.Common.{◌≡◌, ◌∙◌, false, refl}
+use Rattle.std.proofs.Common.{arith}
+use Rattle.std.proofs.lemmas.Int.{to_z-of_z}
 use Rattle.std.specs.Prelude.{slice_get}
 use Rattle.pl_board.proofs.Telling.{can_set}
 use Rattle.pl_board.proofs.Keeping.{whole_told_as}
@@ -15,4 +17,4 @@ pub find-requires : goal.find-requires
 find-requires g c =
     let whole = (c.self.invariant.found c.if-self.false).whole in
     let can = rw (← c.self.view_is) at c.requires in
-    record { whole = whole_told_as c.self.inside.state c.args.line c.args.value c.set.new.self whole can ? }
+    record { whole = whole_told_as c.self.inside.state c.args.line c.args.value c.set.new.self whole can (grind (arith, to_z-of_z, c.set.ensures, c.from.ensures)) }
