@@ -9,3 +9,4 @@ pub mod Sifting
 pub mod Granting
 pub mod Naming
 pub mod Lines
+pub mod Telling

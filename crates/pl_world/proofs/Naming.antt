@@ -92,10 +92,10 @@ all_back P test (x ∷ xs) all = by (test x) (all_back P test xs (All-tail P x x
     by true more = more
     by false more = all
 
-all_in : {T : Type 0} (P : T → Type 0) (test : T → Bool) (x : T) (xs : List T) → P x → All P xs → All P (front test xs ++ x ∷ back test xs)
+pub all_in : {T : Type 0} (P : T → Type 0) (test : T → Bool) (x : T) (xs : List T) → P x → All P xs → All P (front test xs ++ x ∷ back test xs)
 all_in P test x xs here all = All-append P (front test xs) (x ∷ back test xs) (all_front P test xs all) (All-cons P x (back test xs) here (all_back P test xs all))
 
-all_fold : {T : Type 0} (P : T → Type 0) (put : List T → T → List T) → ((ys : List T) (x : T) → P x → All P ys → All P (put ys x)) → (xs ys : List T) → All P xs → All P ys → All P (fold put ys xs)
+pub all_fold : {T : Type 0} (P : T → Type 0) (put : List T → T → List T) → ((ys : List T) (x : T) → P x → All P ys → All P (put ys x)) → (xs ys : List T) → All P xs → All P ys → All P (fold put ys xs)
 all_fold P put keeps [] ys all sorted = sorted
 all_fold P put keeps (x ∷ xs) ys all sorted = all_fold P put keeps xs (put ys x) (All-tail P x xs all) (keeps ys x (All-head P x xs all) sorted)
 
@@ -119,21 +119,21 @@ must_named s line named (asked.Effect e) is same = All-nil (IsMustOf s line)
 must_named s line named (asked.Set x) is same = All-nil (IsMustOf s line)
 must_named s line named (asked.Must m) is same = All-cons (IsMustOf s line) m [] (subst (λ n. named_by s m.id m.index ≡ Some n) same is) (All-nil (IsMustOf s line))
 
-all_asked : {T : Type 0} (P : T → Type 0) (s : PlanState) (line : ℕ) (what : Asked → List T) → ((named : ℕ) (w : Asked) → NamedIn s named w → named ≡ line → All P (what w)) → (ds : List Demand) → All (IsNamed s) ds → All P (flat_map (asked_of what line) ds)
-all_asked P s line what each [] all = All-nil P
-all_asked P s line what each (d ∷ ds) all = All-append P (asked_of what line d) (flat_map (asked_of what line) ds) (by (eqb d.line line) refl) (all_asked P s line what each ds (All-tail (IsNamed s) d ds all))
+pub all_asked : {T : Type 0} (P : T → Type 0) (R : ℕ → Asked → Type 0) (line : ℕ) (what : Asked → List T) → ((named : ℕ) (w : Asked) → R named w → named ≡ line → All P (what w)) → (ds : List Demand) → All (λ d. R d.line d.asked) ds → All P (flat_map (asked_of what line) ds)
+all_asked P R line what each [] all = All-nil P
+all_asked P R line what each (d ∷ ds) all = All-append P (asked_of what line d) (flat_map (asked_of what line) ds) (by (eqb d.line line) refl) (all_asked P R line what each ds (All-tail (λ d. R d.line d.asked) d ds all))
   where
     by : (b : Bool) → eqb d.line line ≡ b → All P (cond b (what d.asked) [])
-    by true e = each d.line d.asked (All-head (IsNamed s) d ds all) (eqb-true d.line line e)
+    by true e = each d.line d.asked (All-head (λ d. R d.line d.asked) d ds all) (eqb-true d.line line e)
     by false e = All-nil P
 
 pub sets_named : (s : PlanState) (line : ℕ) → AreRising s.plan.activities → All (IsSetOf s line) (sets_of line (demands_of s))
 sets_named s line rising = all_fold (IsSetOf s line) (λ sorted x. with_set x sorted) (λ ys x here all. all_in (IsSetOf s line) (set_before x) x ys here all) (flat_map (asked_of set_in line) (demands_of s)) []
-    (all_asked (IsSetOf s line) s line set_in (set_named s line) (demands_of s) (demands_named s rising)) (All-nil (IsSetOf s line))
+    (all_asked (IsSetOf s line) (NamedIn s) line set_in (set_named s line) (demands_of s) (demands_named s rising)) (All-nil (IsSetOf s line))
 
 pub musts_named : (s : PlanState) (line : ℕ) → AreRising s.plan.activities → All (IsMustOf s line) (musts_of line (demands_of s))
 musts_named s line rising = all_fold (IsMustOf s line) (λ sorted m. with_must m sorted) (λ ys m here all. all_in (IsMustOf s line) (must_before m) m ys here all) (flat_map (asked_of must_in line) (demands_of s)) []
-    (all_asked (IsMustOf s line) s line must_in (must_named s line) (demands_of s) (demands_named s rising)) (All-nil (IsMustOf s line))
+    (all_asked (IsMustOf s line) (NamedIn s) line must_in (must_named s line) (demands_of s) (demands_named s rising)) (All-nil (IsMustOf s line))
 
 -- ---- what is broken
 

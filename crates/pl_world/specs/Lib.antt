@@ -4,6 +4,7 @@ pub mod Goals
 pub mod Activities
 pub mod Links
 pub mod Demands
+pub mod Telemetry
 pub mod Timelines
 pub mod Owners
 pub mod Conflicts

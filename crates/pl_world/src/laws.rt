@@ -14,7 +14,10 @@ ghost use Rattle.pl_world.specs.Activities.{activity_conflicts, wrong_of};
 ghost use Rattle.pl_world.specs.Links.{link_conflicts, linked_of};
 ghost use Rattle.pl_world.specs.Timelines.{timeline_conflicts, line_conflicts_of};
 ghost use Rattle.pl_world.specs.Owners.{owner_of};
-ghost use Rattle.pl_world.specs.PlanStates.{of_found};
+ghost use Rattle.pl_world.specs.PlanStates.{of_found, natural};
+ghost use Rattle.pl_world.specs.Demands.{demands_of, effects_of, sets_of, told, level_at, state_at};
+ghost use Rattle.pl_world.specs.Telemetry.{first_moment, told_at, counted_after, state_after};
+ghost use Rattle.pl_points.specs.Sums.{total};
 ghost use Rattle.pl_world.specs.Conflicts.{conflicts_of};
 ghost use Rattle.pl_world.specs.Grants.{touches_before};
 ghost use Rattle.pl_world.specs.Moves.{is_proper, refusal_of};
@@ -43,6 +46,13 @@ pub fn laws_of_subjects()
     ensures activities { (s : PlanState) → AreRising s.plan.activities → (q : Conflict) → has q (activity_conflicts s) ≡ has q (wrong_of s q.subject) }
     ensures links { (s : PlanState) → AreRising s.plan.activities → (q : Conflict) → has q (link_conflicts s) ≡ has q (linked_of s q.subject) }
     ensures timelines { (s : PlanState) → AreRising s.plan.activities → (q : Conflict) → has q (timeline_conflicts s) ≡ has q (of_found (line_conflicts_of s) (owner_of s q)) }
+{}
+
+/// Nothing is asked for before the moment 1, so a base of the moment -1 counts as one of 0 does.
+pub fn laws_of_telemetry()
+    ensures later { (s : PlanState) → All (λ a. 1 ≤ a.start) s.plan.activities → All (λ d. 1 ≤ first_moment d.asked) (demands_of s) }
+    ensures level { (s : PlanState) → All (λ a. 1 ≤ a.start) s.plan.activities → (line t : ℕ) → level_at s line t ≡ told s line +ℤ total (counted_after (told_at s line) t) (effects_of line (demands_of s)) }
+    ensures state { (s : PlanState) → All (λ a. 1 ≤ a.start) s.plan.activities → (line t : ℕ) → state_at s line t ≡ state_after (told_at s line) t (natural (told s line)) (sets_of line (demands_of s)) }
 {}
 
 /// No conflict touches what comes before a moment exactly where the first of them does not.

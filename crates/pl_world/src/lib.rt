@@ -11,7 +11,7 @@ mod sharing;
 pub use demand::{Asked, Demand};
 pub use laws::{
     laws_of_candidates, laws_of_conflicts, laws_of_grants, laws_of_parts, laws_of_refusals,
-    laws_of_spread, laws_of_subjects,
+    laws_of_spread, laws_of_subjects, laws_of_telemetry,
 };
 pub use plan_state::PlanState;
 pub use refusal::Refusal;
