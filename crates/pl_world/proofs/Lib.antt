@@ -10,3 +10,6 @@ pub mod Granting
 pub mod Naming
 pub mod Lines
 pub mod Telling
+pub mod Least
+pub mod Starting
+pub mod Causes

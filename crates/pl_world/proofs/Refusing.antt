@@ -1,6 +1,6 @@
 -- When a move is not refused.
 use Rattle.std.proofs.Common.{◌≡◌, ℕ, ◌+◌, ◌≤◌, ◌<◌, Bool, true, false, List, [], ◌∷◌, length, refl}
-use Rattle.std.specs.Prelude.{All, nat_lt, nat_le, ◌&&◌, find, Option, Some, None}
+use Rattle.std.specs.Prelude.{All, nat_lt, find, Option, Some, None}
 use Rattle.std.specs.Option.{option_map}
 use Rattle.std.proofs.lemmas.Bool.{ltb-false, leb-false, le-ltb, lt-leb}
 use Rattle.std.proofs.lemmas.List.Elements.{All-nil, All-cons, All-head, All-tail, All-weaker}
@@ -9,11 +9,11 @@ use Rattle.pl_plan.specs.declared.repair.RepairMove.{RepairMove}
 use Rattle.pl_world.specs.declared.plan_state.PlanState.{PlanState}
 use Rattle.pl_world.specs.declared.refusal.Refusal.{Refusal}
 use Rattle.pl_world.specs.declared.refusal.Refusal.TheVariants.{Locked, Behind, Beyond, Full}
-use Rattle.pl_world.specs.PlanStates.{floor_of, is_committed}
-use Rattle.pl_world.specs.Moves.{is_changed, started_by, count_of_new, or_else, full_if, first_refused, refusal_of}
+use Rattle.pl_world.specs.PlanStates.{floor_of}
+use Rattle.pl_world.specs.Moves.{started_by, count_of_new, is_locked, is_behind, is_beyond, is_full, or_else, full_if, first_refused, refusal_of}
 use Rattle.pl_world.specs.Legal.{MayBeMade}
 
-none_found : {X : Type 0} (p : X → Bool) (xs : List X) → find p xs ≡ None → All (λ x. p x ≡ false) xs
+pub none_found : {X : Type 0} (p : X → Bool) (xs : List X) → find p xs ≡ None → All (λ x. p x ≡ false) xs
 none_found p [] e = All-nil (λ x. p x ≡ false)
 none_found p (x ∷ xs) e = cases (p x) refl (none_found p xs)
   where
@@ -21,7 +21,7 @@ none_found p (x ∷ xs) e = cases (p x) refl (none_found p xs)
     cases true is more = let bad : Some x ≡ None = rw is at e in absurd (cc)
     cases false is more = All-cons (λ y. p y ≡ false) x xs is (more (rw is at e))
 
-found_none : {X : Type 0} (p : X → Bool) (xs : List X) → All (λ x. p x ≡ false) xs → find p xs ≡ None
+pub found_none : {X : Type 0} (p : X → Bool) (xs : List X) → All (λ x. p x ≡ false) xs → find p xs ≡ None
 found_none p [] all = refl
 found_none p (x ∷ xs) all = rw (All-head (λ y. p y ≡ false) x xs all) (found_none p xs (All-tail (λ y. p y ≡ false) x xs all))
 
@@ -40,21 +40,21 @@ no_more limit n e = cases (nat_lt limit n) refl e
 pub may : (s : PlanState) (m : RepairMove) → refusal_of s m ≡ None → MayBeMade s m
 unfolding refusal_of
 may s m e =
-    let one : (find (λ a. is_changed s m a && is_committed s a) s.plan.activities ≡ None) × (or_else (first_refused Behind (λ a. nat_lt a.start (floor_of s)) (started_by s m)) (or_else (first_refused Beyond (λ a. nat_le s.model.horizon a.start) (started_by s m)) (full_if (nat_lt s.live_limit (length s.plan.activities + count_of_new s m)))) ≡ None) = neither Locked _ _ e in
-    let two : (find (λ a. nat_lt a.start (floor_of s)) (started_by s m) ≡ None) × (or_else (first_refused Beyond (λ a. nat_le s.model.horizon a.start) (started_by s m)) (full_if (nat_lt s.live_limit (length s.plan.activities + count_of_new s m))) ≡ None) = neither Behind _ _ one.1 in
-    let three : (find (λ a. nat_le s.model.horizon a.start) (started_by s m) ≡ None) × (full_if (nat_lt s.live_limit (length s.plan.activities + count_of_new s m)) ≡ None) = neither Beyond _ _ two.1 in
+    let one : (find (is_locked s m) s.plan.activities ≡ None) × (or_else (first_refused Behind (is_behind s) (started_by s m)) (or_else (first_refused Beyond (is_beyond s) (started_by s m)) (full_if (is_full s m))) ≡ None) = neither Locked _ _ e in
+    let two : (find (is_behind s) (started_by s m) ≡ None) × (or_else (first_refused Beyond (is_beyond s) (started_by s m)) (full_if (is_full s m)) ≡ None) = neither Behind _ _ one.1 in
+    let three : (find (is_beyond s) (started_by s m) ≡ None) × (full_if (is_full s m) ≡ None) = neither Beyond _ _ two.1 in
     record {
-      unlocked = none_found (λ a. is_changed s m a && is_committed s a) s.plan.activities one.0;
-      above = All-weaker (λ a. nat_lt a.start (floor_of s) ≡ false) (λ a. floor_of s ≤ a.start) (λ a h. ltb-false a.start (floor_of s) h) (started_by s m) (none_found (λ a. nat_lt a.start (floor_of s)) (started_by s m) two.0);
-      within = All-weaker (λ a. nat_le s.model.horizon a.start ≡ false) (λ a. a.start < s.model.horizon) (λ a h. leb-false s.model.horizon a.start h) (started_by s m) (none_found (λ a. nat_le s.model.horizon a.start) (started_by s m) three.0);
+      unlocked = none_found (is_locked s m) s.plan.activities one.0;
+      above = All-weaker (λ a. is_behind s a ≡ false) (λ a. floor_of s ≤ a.start) (λ a h. ltb-false a.start (floor_of s) h) (started_by s m) (none_found (is_behind s) (started_by s m) two.0);
+      within = All-weaker (λ a. is_beyond s a ≡ false) (λ a. a.start < s.model.horizon) (λ a h. leb-false s.model.horizon a.start h) (started_by s m) (none_found (is_beyond s) (started_by s m) three.0);
       room = no_more s.live_limit (length s.plan.activities + count_of_new s m) three.1;
     }
 
 pub not_refused : (s : PlanState) (m : RepairMove) → MayBeMade s m → refusal_of s m ≡ None
 unfolding refusal_of
 not_refused s m may = rw (
-  found_none (λ a. is_changed s m a && is_committed s a) s.plan.activities may.unlocked,
-  found_none (λ a. nat_lt a.start (floor_of s)) (started_by s m) (All-weaker (λ a. floor_of s ≤ a.start) (λ a. nat_lt a.start (floor_of s) ≡ false) (λ a h. le-ltb a.start (floor_of s) h) (started_by s m) may.above),
-  found_none (λ a. nat_le s.model.horizon a.start) (started_by s m) (All-weaker (λ a. a.start < s.model.horizon) (λ a. nat_le s.model.horizon a.start ≡ false) (λ a h. lt-leb s.model.horizon a.start h) (started_by s m) may.within),
+  found_none (is_locked s m) s.plan.activities may.unlocked,
+  found_none (is_behind s) (started_by s m) (All-weaker (λ a. floor_of s ≤ a.start) (λ a. is_behind s a ≡ false) (λ a h. le-ltb a.start (floor_of s) h) (started_by s m) may.above),
+  found_none (is_beyond s) (started_by s m) (All-weaker (λ a. a.start < s.model.horizon) (λ a. is_beyond s a ≡ false) (λ a h. lt-leb s.model.horizon a.start h) (started_by s m) may.within),
   le-ltb s.live_limit (length s.plan.activities + count_of_new s m) may.room,
 ) refl

@@ -1,21 +1,46 @@
 -- Which repairs may be made now, and what a repair leaves.
-use Rattle.std.specs.Prelude.{◌≡◌, ℕ, ◌+◌, ◌<◌, ◌≤◌, Bool, false, ◌&&◌, not, List, All, filter, length, is_none}
+use Rattle.std.specs.Prelude.{◌≡◌, ℕ, ◌+◌, ◌<◌, ◌≤◌, Bool, true, false, not, List, All, filter, length, Option, Some, is_none}
 use Rattle.std.specs.List.{list_any}
 use Rattle.pl_conflict.specs.declared.conflict.Conflict.{Conflict}
+use Rattle.pl_plan.specs.declared.activity.Activity.{Activity}
+use Rattle.pl_plan.specs.Activities.{activity_of}
 use Rattle.pl_plan.specs.declared.repair.RepairMove.{RepairMove}
 use Rattle.pl_world.specs.declared.plan_state.PlanState.{PlanState}
-use Rattle.pl_world.specs.PlanStates.{floor_of, is_committed}
+use Rattle.pl_world.specs.declared.refusal.Refusal.{Refusal}
+use Rattle.pl_world.specs.declared.refusal.Refusal.TheVariants.{Locked, Behind, Beyond, Full}
+use Rattle.pl_world.specs.PlanStates.{floor_of}
 use Rattle.pl_world.specs.Conflicts.{conflicts_of}
-use Rattle.pl_world.specs.Moves.{is_changed, started_by, count_of_new, refusal_of, applied}
+use Rattle.pl_world.specs.Moves.{started_by, count_of_new, is_locked, is_behind, is_beyond, is_full, refusal_of, applied}
 use Rattle.pl_world.specs.Candidates.{candidates_of}
+
+-- ---- why a move is refused
+
+-- the activity of this id passes a test, and each other one that does has a larger id
+pub record IsLeast (test : Activity → Bool) (activities : List Activity) (id : ℕ) : Type 0 where
+  pub a : Activity
+  pub here : activity_of id activities ≡ Some a
+  pub passes : test a ≡ true
+  pub least : (b : Activity) → activity_of b.id activities ≡ Some b → test b ≡ true → id ≤ b.id
+
+abbrev pub NonePasses : (Activity → Bool) → List Activity → Type 0
+NonePasses test activities = All (λ a. test a ≡ false) activities
+
+-- the first cause that stands, with the least id that it concerns
+abbrev pub IsRefused : PlanState → RepairMove → Refusal → Type 0
+IsRefused s m (Locked id) = IsLeast (is_locked s m) s.plan.activities id
+IsRefused s m (Behind id) = NonePasses (is_locked s m) s.plan.activities × IsLeast (is_behind s) (started_by s m) id
+IsRefused s m (Beyond id) = NonePasses (is_locked s m) s.plan.activities × NonePasses (is_behind s) (started_by s m) × IsLeast (is_beyond s) (started_by s m) id
+IsRefused s m Full = NonePasses (is_locked s m) s.plan.activities × NonePasses (is_behind s) (started_by s m) × NonePasses (is_beyond s) (started_by s m) × (is_full s m ≡ true)
 
 -- What a move that is not refused keeps to: it changes nothing committed, each start that it gives lies from the floor on and before
 -- the horizon, and no more live than may.
 pub record MayBeMade (s : PlanState) (m : RepairMove) : Type 0 where
-  pub unlocked : All (λ a. (is_changed s m a && is_committed s a) ≡ false) s.plan.activities
+  pub unlocked : All (λ a. is_locked s m a ≡ false) s.plan.activities
   pub above : All (λ a. floor_of s ≤ a.start) (started_by s m)
   pub within : All (λ a. a.start < s.model.horizon) (started_by s m)
   pub room : length s.plan.activities + count_of_new s m ≤ s.live_limit
+
+-- ---- legal moves
 
 -- it is not refused
 abbrev pub is_legal : PlanState → RepairMove → Bool

@@ -138,6 +138,22 @@ count_of_new s _ = 0
 
 -- ---- refusals
 
+-- changed by the move though committed
+abbrev pub is_locked : PlanState → RepairMove → Activity → Bool
+is_locked s m a = is_changed s m a && is_committed s a
+
+-- it starts below the floor
+abbrev pub is_behind : PlanState → Activity → Bool
+is_behind s a = nat_lt a.start (floor_of s)
+
+-- it starts at the horizon or later
+abbrev pub is_beyond : PlanState → Activity → Bool
+is_beyond s a = nat_le s.model.horizon a.start
+
+-- more would live than may
+abbrev pub is_full : PlanState → RepairMove → Bool
+is_full s m = nat_lt s.live_limit (length s.plan.activities + count_of_new s m)
+
 abbrev pub first_refused : (ℕ → Refusal) → (Activity → Bool) → List Activity → Option Refusal
 first_refused why test xs = option_map (λ a. why a.id) (find test xs)
 
@@ -154,10 +170,10 @@ full_if false = None
 -- Beyond for the least one to the horizon or later; Full where more would live than may. Ids rise in each list.
 unfoldable pub refusal_of : PlanState → RepairMove → Option Refusal
 refusal_of s m =
-    or_else (first_refused Locked (λ a. is_changed s m a && is_committed s a) s.plan.activities)
-    (or_else (first_refused Behind (λ a. nat_lt a.start (floor_of s)) (started_by s m))
-    (or_else (first_refused Beyond (λ a. nat_le s.model.horizon a.start) (started_by s m))
-    (full_if (nat_lt s.live_limit (length s.plan.activities + count_of_new s m)))))
+    or_else (first_refused Locked (is_locked s m) s.plan.activities)
+    (or_else (first_refused Behind (is_behind s) (started_by s m))
+    (or_else (first_refused Beyond (is_beyond s) (started_by s m))
+    (full_if (is_full s m))))
 
 -- ---- what it makes of the plan
 

@@ -7,6 +7,7 @@ ghost use Rattle.pl_conflict.specs.Sorting.{AreInOrder};
 ghost use Rattle.pl_facts.specs.Goals.{AreDistinct};
 ghost use Rattle.pl_plan.specs.Activities.{AreRising};
 ghost use Rattle.pl_plan.specs.declared.repair.RepairMove.{RepairMove};
+ghost use Rattle.pl_world.specs.declared.refusal.Refusal.{Refusal};
 ghost use Rattle.pl_world.specs.declared.plan_state.PlanState.{PlanState};
 ghost use Rattle.pl_world.specs.Parts.{part_of, of_goals, of_activities, of_links, of_timelines};
 ghost use Rattle.pl_world.specs.Goals.{goal_conflicts, open_of, off_of};
@@ -23,7 +24,7 @@ ghost use Rattle.pl_world.specs.Grants.{touches_before};
 ghost use Rattle.pl_world.specs.Moves.{is_proper, refusal_of};
 ghost use Rattle.pl_world.specs.Starts.{spread, stride_of};
 ghost use Rattle.pl_world.specs.Candidates.{candidates_of, changes_nothing, same_move};
-ghost use Rattle.pl_world.specs.Legal.{MayBeMade};
+ghost use Rattle.pl_world.specs.Legal.{IsRefused, MayBeMade};
 
 /// The conflicts stand in their order, none twice, and exactly those of the four parts do.
 pub fn laws_of_conflicts()
@@ -60,9 +61,11 @@ pub fn laws_of_grants()
     ensures first { (s : PlanState) (h : ℕ) → All (λ k. touches_before h k ≡ false) (conflicts_of s) ↔ IfSome (slice_get (conflicts_of s) 0) (λ k. h ≤ k.from) }
 {}
 
-/// A move is not refused exactly where it changes nothing committed, gives no start below the floor or past the horizon, and has room.
+/// A move is refused by the first cause that stands, with the least id that it concerns. It is not refused exactly where it
+/// changes nothing committed, gives no start below the floor or past the horizon, and has room.
 pub fn laws_of_refusals()
-    ensures none { (s : PlanState) (m : RepairMove) → (refusal_of s m ≡ None) ↔ MayBeMade s m }
+    ensures refused { (s : PlanState) (m : RepairMove) → AreRising s.plan.activities → (r : Refusal) → (refusal_of s m ≡ Some r) ↔ IsRefused s m r }
+    ensures not_refused { (s : PlanState) (m : RepairMove) → (refusal_of s m ≡ None) ↔ MayBeMade s m }
 {}
 
 /// Of the numbers from a low to a high one every so many is tried, from the low on and up to the high: sixteen at most.
