@@ -1,5 +1,5 @@
 -- Why a move is refused.
-use Rattle.std.proofs.Common.{◌≡◌, ℕ, Bool, true, false, List, refl, ap, ◌∙◌, subst}
+use Rattle.std.proofs.Common.{◌≡◌, ℕ, Bool, true, false, List, refl, ap, subst}
 use Rattle.std.specs.Prelude.{find, Option, Some, None}
 use Rattle.std.specs.Option.{option_map}
 use Rattle.pl_plan.specs.declared.activity.Activity.{Activity}
@@ -9,7 +9,7 @@ use Rattle.pl_world.specs.declared.plan_state.PlanState.{PlanState}
 use Rattle.pl_world.specs.declared.refusal.Refusal.{Refusal}
 use Rattle.pl_world.specs.declared.refusal.Refusal.TheVariants.{Locked, Behind, Beyond, Full}
 use Rattle.pl_world.specs.Moves.{started_by, is_locked, is_behind, is_beyond, is_full, or_else, full_if, refusal_of}
-use Rattle.pl_world.specs.Legal.{IsLeast, NonePasses, IsRefused}
+use Rattle.pl_world.specs.Legal.{IsLeast, IsRefused}
 use Rattle.pl_world.proofs.Refusing.{none_found, found_none}
 use Rattle.pl_world.proofs.Least.{least_found, found_least}
 use Rattle.pl_world.proofs.Starting.{started_rise}

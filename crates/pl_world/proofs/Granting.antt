@@ -1,6 +1,6 @@
 -- The first of the conflicts decides how far a commit may go.
 use Rattle.std.proofs.Common.{◌≡◌, ℕ, ◌≤◌, false, List, [], ◌∷◌, slice_get, arith}
-use Rattle.std.specs.Prelude.{All, IfSome, nat_lt, ◌↔◌}
+use Rattle.std.specs.Prelude.{All, IfSome, ◌↔◌}
 use Rattle.std.specs.List.Sorted.{IsStrictlySortedBy}
 use Rattle.std.specs.declared.cmp.Ordering.TheVariants.{Less}
 use Rattle.std.proofs.lemmas.Bool.{ltb-false, le-ltb}

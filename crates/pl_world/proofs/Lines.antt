@@ -1,6 +1,6 @@
 -- A conflict of timelines stands exactly where the timeline that it is about says so.
-use Rattle.std.proofs.Common.{◌≡◌, ℕ, zero, suc, ◌+◌, ◌<◌, eqb, Bool, true, false, cond, List, [], ◌∷◌, ◌++◌, refl, sym, ap, ◌∙◌, subst, arith}
-use Rattle.std.specs.Prelude.{◌||◌, map, find, slice_get, Option, Some, None}
+use Rattle.std.proofs.Common.{◌≡◌, ℕ, zero, suc, ◌+◌, ◌<◌, eqb, Bool, true, false, List, [], ◌∷◌, refl, sym, ap, ◌∙◌, arith}
+use Rattle.std.specs.Prelude.{◌||◌, find, slice_get, Option, Some, None}
 use Rattle.std.specs.Option.{option_map}
 use Rattle.std.specs.List.{list_any, flat_map}
 use Rattle.std.proofs.lemmas.Bool.{eq-eqb, ne_eqb}
@@ -16,7 +16,7 @@ use Rattle.pl_state.specs.Musts.{broken_all}
 use Rattle.pl_world.specs.declared.plan_state.PlanState.{PlanState}
 use Rattle.pl_world.specs.PlanStates.{numbered, natural, of_found}
 use Rattle.pl_world.specs.Demands.{demands_of, state_at, sets_of, musts_of, since, told}
-use Rattle.pl_world.specs.Timelines.{outside, overs, lows, highs, unmet_must, musts, bad_step, bad_steps, line_conflicts, line_conflicts_of, lines_of, timeline_conflicts}
+use Rattle.pl_world.specs.Timelines.{outside, lows, highs, unmet_must, musts, bad_step, bad_steps, line_conflicts, line_conflicts_of, lines_of, timeline_conflicts}
 use Rattle.pl_world.specs.Owners.{owner_of}
 use Rattle.pl_world.proofs.Owning.{Each, each_append, each_map, each_made}
 use Rattle.pl_world.proofs.Keys.{Apart, by_key}

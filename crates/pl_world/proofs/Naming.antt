@@ -1,6 +1,6 @@
 -- The sets and musts of a timeline are those of reservations that name it.
 use Rattle.std.proofs.Common.{◌≡◌, ℕ, zero, suc, ◌+◌, eqb, Bool, true, false, cond, List, [], ◌∷◌, ◌++◌, refl, subst, arith}
-use Rattle.std.specs.Prelude.{All, map, slice_get, ◌&&◌, not, nat_le, Option, Some, None}
+use Rattle.std.specs.Prelude.{All, slice_get, ◌&&◌, not, nat_le, Option, Some, None}
 use Rattle.std.specs.List.{flat_map, fold}
 use Rattle.std.proofs.lemmas.Bool.{eqb-true}
 use Rattle.std.proofs.lemmas.List.Elements.{All-nil, All-cons, All-head, All-tail, All-append, All-map, All-weaker}

@@ -8,7 +8,7 @@ use Rattle.pl_plan.specs.declared.activity.Activity.{Activity}
 use Rattle.pl_plan.specs.declared.repair.RepairMove.{RepairMove}
 use Rattle.pl_world.specs.declared.plan_state.PlanState.{PlanState}
 use Rattle.pl_world.specs.declared.refusal.Refusal.{Refusal}
-use Rattle.pl_world.specs.declared.refusal.Refusal.TheVariants.{Locked, Behind, Beyond, Full}
+use Rattle.pl_world.specs.declared.refusal.Refusal.TheVariants.{Locked, Behind, Beyond}
 use Rattle.pl_world.specs.PlanStates.{floor_of}
 use Rattle.pl_world.specs.Moves.{started_by, count_of_new, is_locked, is_behind, is_beyond, is_full, or_else, full_if, first_refused, refusal_of}
 use Rattle.pl_world.specs.Legal.{MayBeMade}

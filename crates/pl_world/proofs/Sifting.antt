@@ -1,5 +1,5 @@
 -- What is left of the moves that are tried.
-use Rattle.std.proofs.Common.{◌≡◌, ℕ, ◌≤◌, ◌<◌, min, Bool, true, false, cond, List, [], ◌∷◌, length, get_or, take, refl, arith}
+use Rattle.std.proofs.Common.{◌≡◌, ℕ, ◌≤◌, ◌<◌, min, Bool, true, false, cond, List, [], ◌∷◌, length, take, refl, arith}
 use Rattle.std.specs.Prelude.{All, AllPairs, ◌||◌, not, filter}
 use Rattle.std.specs.List.{list_any}
 use Rattle.std.proofs.lemmas.List.{length-take, get_or-take}

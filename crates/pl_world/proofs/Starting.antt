@@ -1,5 +1,5 @@
 -- The activities that a move starts stand by rising id.
-use Rattle.std.proofs.Common.{◌≡◌, ℕ, suc, ◌+◌, ◌≤◌, Bool, true, false, cond, List, [], ◌∷◌, refl, subst, arith}
+use Rattle.std.proofs.Common.{ℕ, suc, ◌+◌, ◌≤◌, Bool, true, false, cond, List, [], ◌∷◌, arith}
 use Rattle.std.specs.Prelude.{map, filter, Option, Some, None, slice_get}
 use Rattle.pl_model.specs.declared.alternatives.Slot.{Slot}
 use Rattle.pl_model.specs.declared.alternatives.Alternative.{Alternative}

@@ -5,7 +5,6 @@ use Rattle.std.specs.List.{flat_map}
 use Rattle.pl_conflict.specs.declared.conflict.Conflict.{Conflict}
 use Rattle.pl_conflict.specs.declared.conflict.Code.TheVariants as code
 use Rattle.pl_facts.specs.declared.goal.Goal.{Goal}
-use Rattle.pl_model.specs.declared.kinds.Kind.{Kind}
 use Rattle.pl_model.specs.declared.timelines.Timeline.{Timeline}
 use Rattle.pl_model.specs.declared.timelines.Timeline.TheVariants.{Capacity, Level, States}
 use Rattle.pl_links.specs.Broken.{broken_by}
@@ -16,8 +15,8 @@ use Rattle.pl_world.specs.PlanStates.{floor_of, is_committed, is_ahead, is_open,
 use Rattle.pl_world.specs.Parts.{IsOf, part_of, of_goals, of_activities, of_links, of_timelines}
 use Rattle.pl_world.specs.Goals.{open_goal, open_at, off_goal, off_from, off_at}
 use Rattle.pl_world.specs.Activities.{at_start, late_at, unset_one, unset_at, params_at, bad_param, bad_duration, bad_amount, bad_values_at, undetailed_at, past_end, overrun_at, wrong_at}
-use Rattle.pl_world.specs.Links.{placed_of, placed_in, lone, place_in, order_at, unmet_by, unmet_from, unmet_order, link_conflict, conflict_of, links_at}
-use Rattle.pl_world.specs.Timelines.{outside, overs, lows, highs, unmet_must, musts, bad_step, bad_steps, line_conflicts}
+use Rattle.pl_world.specs.Links.{placed_of, placed_in, lone, place_in, order_at, unmet_from, unmet_order, link_conflict, conflict_of, links_at}
+use Rattle.pl_world.specs.Timelines.{outside, lows, highs, unmet_must, musts, bad_step, bad_steps, line_conflicts}
 use Rattle.pl_world.proofs.Owning.{Each, each_none, each_append, each_when, each_planned, each_found, each_flat, each_map}
 
 -- ---- goals

@@ -1,6 +1,6 @@
 -- A base of the moment -1 is as one of 0, since nothing lies before 1.
-use Rattle.std.proofs.Common.{◌≡◌, ℕ, ◌+◌, ◌≤◌, eqb, Bool, true, false, cond, List, [], ◌∷◌, refl, sym, ap, ◌∙◌, subst, arith}
-use Rattle.std.specs.Prelude.{All, map, nat_lt, nat_le, ◌&&◌, ℤ, pos, negsuc, ◌+ℤ◌, int_lt, Option, Some, None, option_and_then}
+use Rattle.std.proofs.Common.{◌≡◌, ℕ, ◌+◌, ◌≤◌, eqb, Bool, true, false, cond, List, [], ◌∷◌, refl, ap, subst, arith}
+use Rattle.std.specs.Prelude.{All, nat_lt, nat_le, ◌&&◌, ℤ, pos, negsuc, ◌+ℤ◌, int_lt, Option, Some, None, option_and_then}
 use Rattle.std.specs.Option.{option_map}
 use Rattle.std.specs.List.{flat_map}
 use Rattle.std.proofs.lemmas.Bool.{lt-ltb}
@@ -29,7 +29,7 @@ use Rattle.pl_world.specs.declared.demand.Demand.{Demand}
 use Rattle.pl_world.specs.declared.demand.Asked.{Asked}
 use Rattle.pl_world.specs.declared.demand.Asked.TheVariants as asked
 use Rattle.pl_world.specs.PlanStates.{row_of, end_at, reservations_of, natural, of_found}
-use Rattle.pl_world.specs.Demands.{asked_for, demands_until, demands_at, demands_of, asked_of, effect_in, set_in, effects_of, sets_of, moment_of_base, since, told, level_at, state_at}
+use Rattle.pl_world.specs.Demands.{asked_for, demands_until, demands_at, demands_of, asked_of, effect_in, set_in, effects_of, sets_of, moment_of_base, told, level_at, state_at}
 use Rattle.pl_world.specs.Telemetry.{first_moment, moment_told, told_at, counted_after, state_after}
 use Rattle.pl_world.proofs.Naming.{all_in, all_fold, all_asked}
 

@@ -2,7 +2,6 @@
 use Rattle.std.specs.Prelude.{ℕ, ◌==◌, ℤ, pos, negsuc, neg_ℤ, ◌+ℤ◌, List, [], ◌∷◌, map, Option, Some, None, unwrap_or, if◌then◌else◌}
 use Rattle.std.specs.List.{flat_map, fold}
 use Rattle.pl_model.specs.declared.expressions.Expr.{Expr}
-use Rattle.pl_model.specs.declared.reservations.Point.{Point}
 use Rattle.pl_model.specs.declared.reservations.Reservation.{Reservation}
 use Rattle.pl_model.specs.declared.reservations.Reservation.TheVariants as reservation
 use Rattle.pl_model.specs.Values.{value_of}

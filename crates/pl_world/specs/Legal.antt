@@ -1,5 +1,5 @@
 -- Which repairs may be made now, and what a repair leaves.
-use Rattle.std.specs.Prelude.{◌≡◌, ℕ, ◌+◌, ◌<◌, ◌≤◌, Bool, true, false, not, List, All, filter, length, Option, Some, is_none}
+use Rattle.std.specs.Prelude.{◌≡◌, ℕ, ◌+◌, ◌<◌, ◌≤◌, Bool, true, false, not, List, All, filter, length, Some, is_none}
 use Rattle.std.specs.List.{list_any}
 use Rattle.pl_conflict.specs.declared.conflict.Conflict.{Conflict}
 use Rattle.pl_plan.specs.declared.activity.Activity.{Activity}

@@ -1,5 +1,5 @@
 -- Temporal links without a partner, and orders of slots that are not met.
-use Rattle.std.specs.Prelude.{ℕ, ◌&&◌, ◌||◌, min, Bool, true, false, List, [], ◌∷◌, map, find, slice_get, Option, Some, None, option_and_then}
+use Rattle.std.specs.Prelude.{ℕ, ◌||◌, min, Bool, true, false, List, [], map, find, slice_get, Option, Some, None}
 use Rattle.std.specs.List.{flat_map}
 use Rattle.pl_conflict.specs.declared.conflict.Conflict.{Conflict}
 use Rattle.pl_conflict.specs.declared.conflict.Code.TheVariants.{Temporal, Linked}

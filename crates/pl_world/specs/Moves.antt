@@ -1,7 +1,6 @@
 -- Repair moves: when one is proper, why it is refused, and what it makes of a plan.
-use Rattle.std.specs.Prelude.{ℕ, zero, suc, ◌+◌, ◌-◌, nat_lt, nat_le, ◌==◌, Bool, true, false, ◌&&◌, not, ℤ, List, [], ◌∷◌, ◌++◌, map, filter, find, length, replicate, slice_get, slice_set, Option, Some, None, is_none, is_some, option_and_then, if◌then◌else◌}
+use Rattle.std.specs.Prelude.{ℕ, suc, ◌+◌, ◌-◌, nat_lt, nat_le, ◌==◌, Bool, true, false, ◌&&◌, not, ℤ, List, [], ◌∷◌, ◌++◌, map, filter, find, length, replicate, slice_get, slice_set, Option, Some, None, is_none, is_some, option_and_then, if◌then◌else◌}
 use Rattle.std.specs.Option.{option_map}
-use Rattle.std.specs.List.{list_any}
 use Rattle.pl_facts.specs.declared.goal.Goal.{Goal}
 use Rattle.pl_facts.specs.Goals.{with_dropped}
 use Rattle.pl_model.specs.declared.expressions.Expr.{Expr}
@@ -14,10 +13,9 @@ use Rattle.pl_model.specs.Checked.{params_of}
 use Rattle.pl_plan.specs.declared.activity.Activity.{Activity}
 use Rattle.pl_plan.specs.declared.repair.RepairMove.{RepairMove}
 use Rattle.pl_plan.specs.declared.repair.RepairMove.TheVariants.{Add, Delete, Shift, Detail, Abstract, Assign, Drop}
-use Rattle.pl_plan.specs.Activities.{placed, activity_of}
 use Rattle.pl_plan.specs.Trees.{descends}
 use Rattle.pl_plan.specs.Moves.{without_subtree, without_below, abstracted}
-use Rattle.pl_plan.specs.Fitting.{kind_of, alternatives_of, slots_of}
+use Rattle.pl_plan.specs.Fitting.{kind_of, alternatives_of}
 use Rattle.pl_plan.specs.Firm.{is_within}
 use Rattle.pl_plan.specs.Values.{binding_of}
 use Rattle.pl_world.specs.declared.refusal.Refusal.{Refusal}

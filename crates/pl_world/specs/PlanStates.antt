@@ -4,7 +4,6 @@ use Rattle.std.specs.List.{list_any}
 use Rattle.pl_world.specs.declared.plan_state.PlanState.{PlanState}
 use Rattle.pl_facts.specs.declared.goal.Goal.{Goal}
 use Rattle.pl_facts.specs.Goals.{goal_of}
-use Rattle.pl_model.specs.declared.whole.Model.{Model}
 use Rattle.pl_model.specs.declared.kinds.Kind.{Kind}
 use Rattle.pl_model.specs.declared.reservations.Reservation.{Reservation}
 use Rattle.pl_plan.specs.declared.activity.Activity.{Activity}
