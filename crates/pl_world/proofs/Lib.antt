@@ -13,3 +13,4 @@ pub mod Telling
 pub mod Least
 pub mod Starting
 pub mod Causes
+pub mod Fairness

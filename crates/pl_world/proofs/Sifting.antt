@@ -20,7 +20,7 @@ first_or : (a b : Bool) → (a || b) ≡ false → a ≡ false
 first_or true b e = absurd (cc)
 first_or false b e = refl
 
-once_keeps : (P : RepairMove → Type 0) (seen xs : List RepairMove) → All P xs → All P (once_from seen xs)
+pub once_keeps : (P : RepairMove → Type 0) (seen xs : List RepairMove) → All P xs → All P (once_from seen xs)
 once_keeps P seen [] all = all
 once_keeps P seen (m ∷ more) all = cases (list_any (same_move m) seen) (once_keeps P seen more (All-tail P m more all)) (once_keeps P (m ∷ seen) more (All-tail P m more all))
   where

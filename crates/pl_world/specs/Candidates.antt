@@ -1,5 +1,5 @@
 -- The moves that are tried for a conflict, in order.
-use Rattle.std.specs.Prelude.{ℕ, ◌==◌, Bool, true, false, ◌&&◌, not, ℤ, List, [], ◌∷◌, filter, take, Option, Some, None, if◌then◌else◌}
+use Rattle.std.specs.Prelude.{ℕ, ◌<◌, ◌≤◌, ◌==◌, Bool, true, false, ◌&&◌, not, ℤ, List, [], ◌∷◌, filter, take, Option, Some, None, if◌then◌else◌}
 use Rattle.std.specs.Ordering.{int_eq}
 use Rattle.std.specs.List.{list_any}
 use Rattle.pl_conflict.specs.declared.conflict.Conflict.{Conflict}
@@ -73,6 +73,12 @@ same_move (Abstract id) (Abstract i) = id == i
 same_move (Assign id param value) (Assign i p v) = (id == i) && ((param == p) && int_eq value v)
 same_move (Drop number) (Drop n) = number == n
 same_move _ _ = false
+
+-- the start that a move gives, if it gives one, lies from 1 to one before the horizon
+abbrev pub StartsWithin : PlanState → RepairMove → Type 0
+StartsWithin s (Add kind start goal) = (1 ≤ start) × (start < s.model.horizon)
+StartsWithin s (Shift id start) = (1 ≤ start) × (start < s.model.horizon)
+StartsWithin s _ = Unit {0}
 
 -- each move where it first stands
 abbrev pub once_from : List RepairMove → List RepairMove → List RepairMove

@@ -23,7 +23,7 @@ ghost use Rattle.pl_world.specs.Conflicts.{conflicts_of};
 ghost use Rattle.pl_world.specs.Grants.{touches_before};
 ghost use Rattle.pl_world.specs.Moves.{is_proper, refusal_of};
 ghost use Rattle.pl_world.specs.Starts.{spread, stride_of};
-ghost use Rattle.pl_world.specs.Candidates.{candidates_of, changes_nothing, same_move};
+ghost use Rattle.pl_world.specs.Candidates.{candidates_of, changes_nothing, same_move, StartsWithin};
 ghost use Rattle.pl_world.specs.Legal.{IsRefused, MayBeMade};
 
 /// The conflicts stand in their order, none twice, and exactly those of the four parts do.
@@ -75,10 +75,12 @@ pub fn laws_of_spread()
     ensures few { (low high : ℤ) → length (spread low high) ≤ 16 }
 {}
 
-/// A candidate is proper and changes something, none stands twice, and there are 256 at most.
+/// A candidate is proper, changes something and gives no start outside 1 to one before the horizon. None stands twice, and
+/// there are 256 at most.
 pub fn laws_of_candidates()
     ensures proper { (s : PlanState) (k : Conflict) → All (λ m. is_proper s m ≡ true) (candidates_of s k) }
     ensures changing { (s : PlanState) (k : Conflict) → All (λ m. changes_nothing s m ≡ false) (candidates_of s k) }
+    ensures starts { (s : PlanState) (k : Conflict) → All (StartsWithin s) (candidates_of s k) }
     ensures none_twice { (s : PlanState) (k : Conflict) → AllPairs (λ one other. same_move other one ≡ false) (candidates_of s k) }
     ensures few { (s : PlanState) (k : Conflict) → length (candidates_of s k) ≤ 256 }
 {}

@@ -1,4 +1,5 @@
 use Rattle.pl_world.proofs.Sifting.{proper, changing, none_twice, at_most}
+use Rattle.pl_world.proofs.Fairness.{fair}
 use Rattle.pl_world.proofs.laws.laws_of_candidates.Goals as goal
 
 pub returns-clause-proper : goal.returns-clause-proper
@@ -12,3 +13,6 @@ returns-clause-none_twice c = none_twice
 
 pub returns-clause-few : goal.returns-clause-few
 returns-clause-few c = at_most
+
+pub returns-clause-starts : goal.returns-clause-starts
+returns-clause-starts c = fair
