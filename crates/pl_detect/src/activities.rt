@@ -109,7 +109,8 @@ pub fn activity_conflicts(
     requires { IsWhole s.now }
     ensures { OnOk result (out.new.items ≡ out.old.items ++ activity_conflicts s.now) }
 {
-    for activity in s.plan.activities() {
+    let activities = s.plan.activities();
+    for activity in activities {
         wrong_at(alloc, s, activity, out)?;
     }
     Ok(())

@@ -80,7 +80,8 @@ pub(crate) fn add_bad_amounts(
     requires len { length own.now ≡ length kind.now.params }
     ensures { OnOk result (out.new.items ≡ out.old.items ++ flat_map (bad_amount s.now a.now) (reservations_of s.now a.now)) }
 {
-    for (number, reservation) in kind.reservations.as_slice().iter().enumerate() {
+    let reservations = kind.reservations.as_slice();
+    for (number, reservation) in reservations.iter().enumerate() {
         let holds = is_bad_amount(reservation, own);
         add_when(out, holds, at_start(a, Code::BadValue, DURATION + 1 + number as u32, 0))?;
     }

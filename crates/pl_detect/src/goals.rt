@@ -3,7 +3,7 @@ ghost use Rattle.std.specs.Prelude.{◌≡◌, ◌++◌, OnOk};
 ghost use Rattle.std.specs.List.{flat_map};
 ghost use Rattle.std.specs.Option.{option_copied, option_to_list};
 ghost use Rattle.pl_world.specs.Whole.{IsWhole};
-ghost use Rattle.pl_world.specs.PlanStates.{floor_of, is_open, served_by};
+ghost use Rattle.pl_world.specs.PlanStates.{is_open, served_by};
 ghost use Rattle.pl_world.specs.Goals.{open_at, off_from, off_at, goal_conflicts};
 
 use crate::filing::add;
@@ -12,13 +12,6 @@ use pl_facts::Goal;
 use pl_plan::Activity;
 use pl_world::PlanState;
 use std::alloc::AllocError;
-
-fn floor_of(s: &PlanState) -> u32
-    requires { IsWhole s.now }
-    ensures { result ≡ floor_of s.now }
-{
-    (s.moment + 1).max(s.committed)
-}
 
 fn is_open(s: &PlanState, goal: &Goal) -> bool
     ensures { result ≡ is_open s.now goal.now }
@@ -32,7 +25,7 @@ pub fn open_at(s: &PlanState, goal: &Goal) -> Option<Conflict>
     requires { IsWhole s.now }
     ensures { option_to_list result ≡ open_at s.now goal.now }
 {
-    if is_open(s, goal) && floor_of(s) <= goal.latest {
+    if is_open(s, goal) && s.floor() <= goal.latest {
         Some(Conflict {
             from: goal.latest,
             code: Code::OpenGoal,
@@ -100,7 +93,8 @@ fn add_open(s: &PlanState, out: &mut Vec<Conflict>) -> Result<(), AllocError>
     requires { IsWhole s.now }
     ensures { OnOk result (out.new.items ≡ out.old.items ++ flat_map (open_at s.now) s.now.goals) }
 {
-    for goal in s.goals.as_slice() {
+    let goals = s.goals.as_slice();
+    for goal in goals {
         add(out, open_at(s, goal))?;
     }
     Ok(())
@@ -109,7 +103,8 @@ fn add_open(s: &PlanState, out: &mut Vec<Conflict>) -> Result<(), AllocError>
 fn add_off(s: &PlanState, out: &mut Vec<Conflict>) -> Result<(), AllocError>
     ensures { OnOk result (out.new.items ≡ out.old.items ++ flat_map (off_at s.now) s.now.plan.activities) }
 {
-    for activity in s.plan.activities() {
+    let activities = s.plan.activities();
+    for activity in activities {
         add(out, off_at(s, activity))?;
     }
     Ok(())

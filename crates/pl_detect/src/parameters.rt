@@ -42,7 +42,8 @@ pub(crate) fn add_unset(
     ensures { OnOk result (out.new.items ≡ out.old.items ++ unset_at s.now a.now) }
 {
     let bindings = bindings_of(s, a);
-    for (number, param) in kind.params.as_slice().iter().enumerate() {
+    let params = kind.params.as_slice();
+    for (number, param) in params.iter().enumerate() {
         let holds = is_unset(binding_of(bindings, number), &param.origin, own[number]);
         add_when(out, holds, at_start(a, Code::Unset, number as u32, 0))?;
     }
@@ -111,7 +112,8 @@ pub(crate) fn add_bad_params(
     ensures { OnOk result (out.new.items ≡ out.old.items ++ flat_map (bad_param s.now a.now) (params_at s.now a.now)) }
 {
     let bindings = bindings_of(s, a);
-    for (number, param) in kind.params.as_slice().iter().enumerate() {
+    let params = kind.params.as_slice();
+    for (number, param) in params.iter().enumerate() {
         let holds = is_bad_param(number, param, bindings, above, own);
         add_when(out, holds, at_start(a, Code::BadValue, number as u32, 0))?;
     }
