@@ -13,6 +13,7 @@ use Rattle.pl_plan.proofs.Kept.{each_found}
 use Rattle.pl_links.specs.declared.placed.Placed.{Placed}
 use Rattle.pl_links.specs.declared.broken.Broken.{Broken}
 use Rattle.pl_links.specs.Broken.{when, is_link_broken, is_order_broken, broken_at, broken_below, broken_by, broken_of, links_of, orders_of}
+use Rattle.pl_links.specs.Kept.{Kept, kept_of}
 use Rattle.pl_links.proofs.BrokenLaws.{all_when}
 use Rattle.pl_world.specs.declared.plan_state.PlanState.{PlanState}
 use Rattle.pl_world.specs.PlanStates.{of_found}
@@ -61,3 +62,11 @@ module _ (s : PlanState) where
 
 pub broken_conflicts : (s : PlanState) → AreRising s.plan.activities → flat_map (broken_conflict s) (broken_of s.model (placed_in s)) ≡ link_conflicts s
 broken_conflicts s rising = each s s.plan.activities (each_found s.plan.activities rising)
+
+-- the same by what a caller knows of the model, the store and the list
+pub link_conflicts_are : (s : PlanState) → AreRising s.plan.activities → (model : Model) → model ≡ s.model → (kept : Kept) → kept ≡ kept_of s.model (placed_in s) → (bs : List Broken) → bs ≡ broken_of model kept.items → flat_map (broken_conflict s) bs ≡ link_conflicts s
+link_conflicts_are s rising model same kept so_far bs is =
+    ap (flat_map (broken_conflict s)) is
+    ∙ (ap (λ m. flat_map (broken_conflict s) (broken_of m kept.items)) same
+    ∙ (ap (λ (l : Kept). flat_map (broken_conflict s) (broken_of s.model l.items)) so_far
+    ∙ broken_conflicts s rising))

@@ -3,17 +3,22 @@ use Rattle.std.proofs.Common.{◌≡◌, ℕ, ◌<◌, eqb, Bool, true, false, L
 use Rattle.std.specs.Prelude.{All}
 use Rattle.std.proofs.lemmas.Bool.{eqb-true}
 use Rattle.std.proofs.lemmas.List.Elements.{All-head, All-tail}
+use Rattle.std.proofs.lemmas.Option.{slice_get_read}
+use Rattle.pl_model.specs.declared.kinds.Kind.{Kind}
 use Rattle.pl_plan.specs.declared.activity.Activity.{Activity}
 use Rattle.pl_plan.specs.Activities.{AreRising, IsLive, activity_of}
 use Rattle.pl_plan.specs.Trees.{IsParented}
-use Rattle.pl_plan.specs.Fitting.{FitsAlone}
+use Rattle.pl_plan.specs.Fitting.{FitsAlone, kind_of}
 use Rattle.pl_plan.proofs.Ids.{found_at}
 use Rattle.pl_world.specs.declared.plan_state.PlanState.{PlanState}
 use Rattle.pl_world.specs.Whole.{IsWhole}
 
 -- the activity at a place is found by its id
-pub found_here : (xs : List Activity) (i : ℕ) (x : Activity) → AreRising xs → i < length xs → x ≡ get_or xs i x → activity_of x.id xs ≡ Some x
-found_here xs i x rising lt is = found_at xs 0 i x.id x rising lt (ap (λ (a : Activity). a.id) (sym is)) ∙ ap Some (sym is)
+pub found_here : (xs ys : List Activity) → xs ≡ ys → AreRising ys → (i : ℕ) (x : Activity) → i < length xs → x ≡ get_or xs i x → activity_of x.id ys ≡ Some x
+found_here xs ys same rising i x lt is =
+    let lt' : i < length ys = subst (λ l. i < length l) same lt in
+    let here : x ≡ get_or ys i x = is ∙ ap (λ l. get_or l i x) same in
+    found_at ys 0 i x.id x rising lt' (ap (λ (a : Activity). a.id) (sym here)) ∙ ap Some (sym here)
 
 -- what is found has the id
 pub found_id : (id : ℕ) (xs : List Activity) (a : Activity) → activity_of id xs ≡ Some a → a.id ≡ id
@@ -43,3 +48,10 @@ pub parent_live : (s : PlanState) → IsWhole s → (a : Activity) → activity_
 parent_live s whole a live p is =
     let parented : IsParented s.plan.activities a = all_found (IsParented s.plan.activities) a.id s.plan.activities a whole.fits.rooted.parents live in
     let h = rw is at parented in h.0
+
+-- the kind at its number
+pub kind_here : (s : PlanState) → IsWhole s → (a : Activity) → activity_of a.id s.plan.activities ≡ Some a → (ks : List Kind) → ks ≡ s.model.kinds → (k : Kind) → k ≡ get_or ks a.kind k → kind_of s.model a ≡ Some k
+kind_here s whole a live ks all k is = slice_get_read s.model.kinds (length s.model.kinds) a.kind k refl (fits_alone s whole a live).kind (is ∙ ap (λ l. get_or l a.kind k) all)
+
+pub kind_within : (s : PlanState) → IsWhole s → (a : Activity) → activity_of a.id s.plan.activities ≡ Some a → (ks : List Kind) → ks ≡ s.model.kinds → a.kind < length ks
+kind_within s whole a live ks all = subst (λ l. a.kind < length l) (sym all) (fits_alone s whole a live).kind

@@ -38,7 +38,7 @@ pub(crate) fn add_bad_duration(
     requires len { length own.now ≡ length kind.now.params }
     ensures { OnOk result (out.new.items ≡ out.old.items ++ bad_duration s.now a.now kind.now) }
 {
-    let is_bad = is_bad(1, i64::from(s.model.get().horizon), &kind.duration, own);
+    let is_bad = is_bad(1, s.model.get().horizon as i64, &kind.duration, own);
     add_when(out, is_bad, at_start(a, Code::BadValue, DURATION, 0))?;
     Ok(())
 }
@@ -83,7 +83,11 @@ pub(crate) fn add_bad_amounts(
     let reservations = kind.reservations.as_slice();
     for (number, reservation) in reservations.iter().enumerate() {
         let holds = is_bad_amount(reservation, own);
-        add_when(out, holds, at_start(a, Code::BadValue, DURATION + 1 + number as u32, 0))?;
+        add_when(
+            out,
+            holds,
+            at_start(a, Code::BadValue, DURATION + 1 + number as u32, 0),
+        )?;
     }
     Ok(())
 }

@@ -68,7 +68,7 @@ fn add_unmet_from(
     second: Option<&Activity>,
     out: &mut Vec<Conflict>,
 ) -> Result<(), AllocError>
-    ensures { OnOk result (out.new.items ≡ out.old.items ++ unmet_from s.now parent.now index (option_copied first) (option_copied second)) }
+    ensures { OnOk result (out.new.items ≡ out.old.items ++ unmet_from s.now parent.now index (option_copied first.entry) (option_copied second.entry)) }
 {
     match (first, second) {
         (Some(first), Some(second)) => add_unmet_by(s, parent, index, first, second, out),
@@ -171,7 +171,8 @@ pub fn link_conflicts(
     requires { IsWhole s.now }
     ensures { OnOk result (out.new.items ≡ out.old.items ++ link_conflicts s.now) }
 {
-    let broken = placed_in(alloc, s)?.broken(alloc, s.model.get())?;
+    let links = placed_in(alloc, s)?;
+    let broken = links.broken(alloc, s.model.get())?;
     add_all_broken(alloc, s, broken.as_slice(), out)?;
     Ok(())
 }

@@ -19,7 +19,7 @@ use pl_world::PlanState;
 use std::alloc::AllocError;
 
 fn is_unset(binding: Option<&Expr>, origin: &Origin, value: Option<i64>) -> bool
-    ensures { result ≡ is_unset (option_copied binding) origin.now value }
+    ensures { result ≡ is_unset (option_copied binding.entry) origin.now value }
 {
     match (binding, origin) {
         (None, Origin::Free(_)) => value.is_none(),
@@ -68,7 +68,7 @@ fn lacks_by(
 ) -> bool
     requires binding { IfSome binding (λ e. NamesBelow (length above.now) e.now) }
     requires param { IsCheckedParam (length own.now) param.now }
-    ensures { result ≡ lacks_by (option_copied binding) param.now.origin above.now own.now }
+    ensures { result ≡ lacks_by (option_copied binding.entry) param.now.origin above.now own.now }
 {
     match (binding, &param.origin) {
         (Some(expr), _) => lacks_value(expr, above),

@@ -13,6 +13,7 @@ use Rattle.pl_plan.proofs.Ids.{next_absent, next_placed}
 use Rattle.pl_plan.proofs.ByLookUps.{is_this_slot}
 use Rattle.pl_links.specs.declared.placed.Placed.{Placed}
 use Rattle.pl_links.specs.Items as links
+use Rattle.pl_links.specs.Kept.{Kept, kept_of}
 use Rattle.pl_world.specs.declared.plan_state.PlanState.{PlanState}
 use Rattle.pl_world.specs.Whole.{IsWhole}
 use Rattle.pl_world.specs.Links.{placed_of}
@@ -37,17 +38,13 @@ module _ (s : PlanState) where
       cases true e more = rw e (ap (λ l. placed_of s x ∷ l) more)
       cases false e more = rw e refl
 
-  same_slot : (parent slot : ℕ) (o : Option (ℕ × ℕ)) → links.is_slot parent slot o ≡ plan.is_slot parent slot o
-  same_slot parent slot None = refl
-  same_slot parent slot (Some p) = refl
-
   child_is : (parent slot : ℕ) (xs : List Activity) → links.child_of parent slot (map (placed_of s) xs) ≡ option_map (placed_of s) (find (plan.fills parent slot) xs)
   child_is parent slot [] = refl
   child_is parent slot (x ∷ xs) = cases (plan.is_slot parent slot x.parent) refl (child_is parent slot xs)
     where
       cases : (b : Bool) → plan.is_slot parent slot x.parent ≡ b → links.child_of parent slot (map (placed_of s) xs) ≡ option_map (placed_of s) (find (plan.fills parent slot) xs) → links.child_of parent slot (map (placed_of s) (x ∷ xs)) ≡ option_map (placed_of s) (find (plan.fills parent slot) (x ∷ xs))
-      cases true e more = let same : links.is_slot parent slot x.parent ≡ true = same_slot parent slot x.parent ∙ e in rw (e, same) refl
-      cases false e more = let same : links.is_slot parent slot x.parent ≡ false = same_slot parent slot x.parent ∙ e in rw (e, same) more
+      cases true e more = rw e refl
+      cases false e more = rw e more
 
 -- ---- one activity in a slot
 
@@ -95,10 +92,6 @@ same_choice None (Some n) fits = fits
 same_choice (Some k) (Some n) fits = fits
 
 module _ (s : PlanState) (whole : IsWhole s) (k : ℕ) (d : Activity) (lt : k < length s.plan.activities) where
-  next : Activity
-  unfolding next
-  next = get_or s.plan.activities k d
-
   pub next_item : links.with_item (placed_of s (get_or s.plan.activities k d)) (map (placed_of s) (take k s.plan.activities)) ≡ map (placed_of s) (take (suc k) s.plan.activities)
   next_item = with_item_is s (get_or s.plan.activities k d) (take k s.plan.activities) ∙ ap (map (placed_of s)) (next_placed s.plan.activities 0 k d whole.rising lt)
 
@@ -119,3 +112,24 @@ module _ (s : PlanState) (whole : IsWhole s) (k : ℕ) (d : Activity) (lt : k < 
         choice = same_choice (slice_get s.model.kinds a.kind) a.detail alone.choice;
         slot = slot_free a.parent refl (whole.fits.no_other k d lt);
       }
+
+-- the same by what a loop knows of the activities and of the store
+module _ (s : PlanState) (whole : IsWhole s) (xs : List Activity) (all : xs ≡ s.plan.activities) (k : ℕ) (x : Activity) (lt : k < length xs) (is : x ≡ get_or xs k x) (kept : Kept) (so_far : kept ≡ kept_of s.model (map (placed_of s) (take k xs))) where
+  pub fits_next : links.CanBePlaced s.model kept.items (placed_of s x)
+  fits_next =
+      let lt' : k < length s.plan.activities = subst (λ ys. k < length ys) all lt in
+      let fits = next_fits s whole k x lt' in
+      subst (λ (l : Kept). links.CanBePlaced s.model l.items (placed_of s x)) (sym so_far)
+      (subst (λ ys. links.CanBePlaced s.model (map (placed_of s) (take k ys)) (placed_of s x)) (sym all)
+      (subst (λ y. links.CanBePlaced s.model (map (placed_of s) (take k s.plan.activities)) (placed_of s y)) (sym (is ∙ ap (λ ys. get_or ys k x) all)) fits))
+
+  pub kept_next : kept_of s.model (links.with_item (placed_of s x) kept.items) ≡ kept_of s.model (map (placed_of s) (take (k + 1) xs))
+  kept_next =
+      let lt' : k < length s.plan.activities = subst (λ ys. k < length ys) all lt in
+      let here : x ≡ get_or s.plan.activities k x = is ∙ ap (λ ys. get_or ys k x) all in
+      ap (kept_of s.model)
+      (ap (λ (l : Kept). links.with_item (placed_of s x) l.items) so_far
+      ∙ (ap (λ ys. links.with_item (placed_of s x) (map (placed_of s) (take k ys))) all
+      ∙ (ap (λ y. links.with_item (placed_of s y) (map (placed_of s) (take k s.plan.activities))) here
+      ∙ (next_item s whole k x lt'
+      ∙ (ap (λ n. map (placed_of s) (take n s.plan.activities)) (sym (add-one k)) ∙ ap (λ ys. map (placed_of s) (take (k + 1) ys)) (sym all))))))
