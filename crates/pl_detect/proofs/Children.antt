@@ -1,14 +1,13 @@
 -- The activity in a slot is found among the children.
-use Rattle.std.proofs.Common.{◌≡◌, ℕ, eqb, Bool, true, false, List, [], ◌∷◌, map, find, Option, None, Some, refl, sym, ap, ◌∙◌}
+use Rattle.std.proofs.Common.{◌≡◌, ℕ, eqb, Bool, true, false, List, [], ◌∷◌, map, find, Option, None, Some, refl, sym, ◌∙◌}
 use Rattle.std.specs.Prelude.{All, filter}
-use Rattle.std.specs.Option.{option_or}
 use Rattle.std.proofs.lemmas.List.Elements.{All-head, All-tail}
 use Rattle.pl_plan.specs.declared.activity.Activity.{Activity}
 use Rattle.pl_plan.specs.Activities.{AreRising, activity_of}
 use Rattle.pl_plan.specs.Trees.{id_of, is_child, children_of}
-use Rattle.pl_plan.specs.Fitting.{fills, is_slot}
+use Rattle.pl_plan.specs.Fitting.{fills}
 use Rattle.pl_plan.proofs.Kept.{each_found}
-use Rattle.pl_detect.specs.Slots.{filling, first_filling}
+use Rattle.pl_detect.specs.Slots.{first_filling}
 
 module _ (xs : List Activity) (parent slot : ℕ) where
   -- what is no child of the parent is in none of its slots

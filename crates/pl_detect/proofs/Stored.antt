@@ -1,17 +1,15 @@
 -- The activities of a plan come into a temporal store by rising id, each into a free slot.
 use Rattle.std.proofs.Common.{◌≡◌, ℕ, zero, suc, ◌+◌, ◌<◌, ◌≤◌, eqb, ltb, Bool, true, false, List, [], ◌∷◌, length, get_or, take, map, find, Option, None, Some, IfSome, refl, sym, ap, ◌∙◌, subst, arith, add-one}
-use Rattle.std.specs.Prelude.{All, filter, slice_get, option_and_then}
+use Rattle.std.specs.Prelude.{filter, slice_get}
 use Rattle.std.specs.Option.{option_map}
 use Rattle.pl_model.specs.declared.alternatives.Slot.{Slot}
 use Rattle.pl_model.specs.declared.kinds.Kind.{Kind}
 use Rattle.pl_model.specs.declared.whole.Model.{Model}
 use Rattle.pl_plan.specs.declared.activity.Activity.{Activity}
-use Rattle.pl_plan.specs.Activities.{AreRising, activity_of, placed}
-use Rattle.pl_plan.specs.Trees.{IsParented}
+use Rattle.pl_plan.specs.Activities.{activity_of, placed}
 use Rattle.pl_plan.specs.Fitting as plan
 use Rattle.pl_plan.proofs.Ids.{next_absent, next_placed}
 use Rattle.pl_plan.proofs.ByLookUps.{is_this_slot}
-use Rattle.pl_links.specs.declared.placed.Placed.{Placed}
 use Rattle.pl_links.specs.Items as links
 use Rattle.pl_links.specs.Kept.{Kept, kept_of}
 use Rattle.pl_world.specs.declared.plan_state.PlanState.{PlanState}
