@@ -1,12 +1,13 @@
 -- What each demand keeps, and how few there are.
 use Rattle.std.proofs.Common.{◌≡◌, ℕ, zero, suc, ◌+◌, ◌*◌, ◌<◌, ◌≤◌, leb, Bool, true, false, cond, List, [], ◌∷◌, ◌++◌, length, get_or, map, Option, Some, None, refl, sym, ap, ◌∙◌, subst, arith, ℤ, pos, negsuc, neg_ℤ, ◌≤ℤ◌}
-use Rattle.std.specs.Prelude.{◌&&◌, All, nat_le, int_le, is_some, unwrap_or, slice_get, option_and_then}
+use Rattle.std.specs.Prelude.{◌&&◌, All, IfSome, nat_le, int_le, is_some, unwrap_or, slice_get, option_and_then}
 use Rattle.std.specs.Option.{option_map}
 use Rattle.std.specs.List.{list_all, flat_map}
 use Rattle.std.proofs.lemmas.Bool.{and_parts, leb-true}
 use Rattle.std.proofs.lemmas.Int.{ints}
 use Rattle.std.proofs.lemmas.List.{length-append, length-map}
-use Rattle.std.proofs.lemmas.List.Elements.{All-nil, All-cons, All-head, All-tail, All-append}
+use Rattle.std.proofs.lemmas.List.Elements.{All-nil, All-cons, All-head, All-tail, All-append, All-weaker}
+use Rattle.std.proofs.lemmas.List.Sums.{AllPass-from_list_all}
 use Rattle.std.specs.Int.Signed.{le_z_yes}
 use Rattle.pl_model.specs.declared.expressions.Expr.{Expr}
 use Rattle.pl_model.specs.declared.reservations.Point.{Point}
@@ -16,23 +17,24 @@ use Rattle.pl_model.specs.declared.reservations.Reservation.TheVariants as reser
 use Rattle.pl_model.specs.declared.kinds.Kind.{Kind}
 use Rattle.pl_model.specs.declared.whole.Model.{Model}
 use Rattle.pl_model.specs.declared.timelines.Timeline.{Timeline}
-use Rattle.pl_model.specs.Values.{value_of}
-use Rattle.pl_model.specs.Checked.{IsChecked, IsCheckedKind, IsReservation}
+use Rattle.pl_model.specs.Values.{value_of, NamesBelow}
+use Rattle.pl_model.specs.Checked.{IsChecked, IsCheckedKind, IsReservation, params_of}
 use Rattle.pl_plan.specs.declared.activity.Activity.{Activity}
 use Rattle.pl_plan.specs.Activities.{activity_of, AreRising}
 use Rattle.pl_plan.specs.Fitting.{Fits, FitsAlone, kind_of}
 use Rattle.pl_plan.specs.Values.{Row, values_of}
-use Rattle.pl_plan.specs.Firm.{is_within, has_amount, are_in_range, moments_in, duration_in, is_firm_with, end_with, end_in, end_of}
+use Rattle.pl_plan.specs.Firm.{is_within, amount_of, has_amount, are_in_range, moments_in, duration_in, is_firm_with, end_with, end_in, end_of}
 use Rattle.pl_plan.proofs.Climbs.{all_at}
 use Rattle.pl_plan.proofs.Ids.{found_at}
-use Rattle.pl_plan.proofs.FirmSteps.{checked_kind}
+use Rattle.pl_plan.proofs.FirmSteps.{checked_kind, amounts_named}
+use Rattle.pl_plan.proofs.ValueLaws.{values_solve}
 use Rattle.pl_links.specs.Broken.{point_of}
 use Rattle.pl_world.specs.declared.plan_state.PlanState.{PlanState}
 use Rattle.pl_world.specs.declared.demand.Demand.{Demand}
 use Rattle.pl_world.specs.PlanStates.{numbered, reservations_in, reservations_of, row_of, end_at, of_found}
 use Rattle.pl_world.specs.Whole.{IsWhole}
 use Rattle.pl_world.specs.Demands.{amount_in, asked_for, demands_until, demands_at, demands_of}
-use Rattle.pl_demands.specs.Bounds.{IsMoment, IsDemandOf}
+use Rattle.pl_demands.specs.Bounds.{IsMoment, IsBounded, IsDemandOf}
 
 -- ---- one demand
 
@@ -120,6 +122,11 @@ firm_until model xs a end here e =
 
 -- ---- what one activity asks for
 
+pub record MayAsk (row : Row) (rs : List Reservation) : Type 0 where
+  pub few : length rs ≤ 32
+  pub amounts : All (λ r. has_amount row r ≡ true) rs
+  pub names : All (λ r. IfSome (amount_of r) (NamesBelow (length row))) rs
+
 pub record AreBounded (model : Model) (ds : List Demand) : Type 0 where
   pub each : All (IsDemandOf model) ds
   pub few : length ds ≤ 32
@@ -138,6 +145,21 @@ module _ (s : PlanState) (whole : IsWhole s) where
       subst P (sym is.kind) (record {
         each = all_asked s.model (length k.params) a.id a.start end (row_of s a) ends 0 k.reservations checked.reservations is.amounts;
         few = rw (length-map, length-numbered) checked.few_reservations;
+      })
+
+  -- what its values and its reservations owe
+  pub may_ask : (a : Activity) (end : ℕ) → activity_of a.id s.plan.activities ≡ Some a → end_at s a ≡ Some end → MayAsk (row_of s a) (reservations_in (kind_of s.model a))
+  may_ask a end here e =
+      let firm = firm_until s.model s.plan.activities a end here e in
+      let k = firm.0 in
+      let is = firm.1 in
+      let checked = checked_kind s.model whole.checked a.kind k is.kind in
+      let len : length (row_of s a) ≡ length k.params = (values_solve s.model s.plan.activities whole.checked whole.fits.rooted).places a.id a here ∙ ap (λ (o : Option Kind). length (params_of o)) is.kind in
+      let P : Option Kind → Type 0 = λ o. MayAsk (row_of s a) (reservations_in o) in
+      subst P (sym is.kind) (record {
+        few = checked.few_reservations;
+        amounts = AllPass-from_list_all (has_amount (row_of s a)) k.reservations is.amounts;
+        names = amounts_named s.model k checked (length (row_of s a)) len;
       })
 
   pub bounded_at : (a : Activity) → activity_of a.id s.plan.activities ≡ Some a → AreBounded s.model (demands_at s a)
@@ -174,3 +196,20 @@ module _ (s : PlanState) (whole : IsWhole s) where
           let here = (All-head (λ a. AreBounded s.model (demands_at s a)) x xs all).few in
           let more = few_in xs (All-tail (λ a. AreBounded s.model (demands_at s a)) x xs all) in
           omega (arith, length-append (demands_at s x) (flat_map (demands_at s) xs), here, more)
+
+-- ---- for those that go over a list of all
+
+pub bounded_in : (s : PlanState) → IsWhole s → (ds : List Demand) → ds ≡ demands_of s → All (λ d. IsBounded d.asked) ds
+bounded_in s whole ds is =
+    let P : List Demand → Type 0 = λ xs. All (λ d. IsBounded d.asked) xs in
+    subst P (sym is) (All-weaker (IsDemandOf s.model) (λ d. IsBounded d.asked) (λ d of. of.bounded) (demands_of s) (all_of s whole))
+
+pub few_in : (s : PlanState) → IsWhole s → (ds : List Demand) → ds ≡ demands_of s → length ds ≤ 320000
+few_in s whole ds is = rw is (few_of s whole)
+
+-- an activity that a loop has come to is live
+pub item_live : (xs ys : List Activity) (i : ℕ) (a : Activity) → ys ≡ xs → AreRising xs → i < length ys → a ≡ get_or ys i a → activity_of a.id xs ≡ Some a
+item_live xs ys i a same rising lt is =
+    let lt' : i < length xs = rw (sym same) lt in
+    let is' : a ≡ get_or xs i a = is ∙ ap (λ (zs : List Activity). get_or zs i a) same in
+    found_at xs 0 i a.id a rising lt' (ap (λ (x : Activity). x.id) (sym is')) ∙ ap Some (sym is')

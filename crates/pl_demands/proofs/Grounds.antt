@@ -1,5 +1,5 @@
 -- The limits and the bases of the timelines of a plan state that is whole.
-use Rattle.std.proofs.Common.{◌≡◌, ℕ, ◌≤◌, Bool, List, length, Option, Some, None, refl, sym, subst, arith, ℤ, pos, ◌≤ℤ◌}
+use Rattle.std.proofs.Common.{◌≡◌, ℕ, ◌≤◌, Bool, List, length, Option, Some, None, refl, sym, subst, arith, ℤ, pos, negsuc, ◌≤ℤ◌}
 use Rattle.std.specs.Prelude.{slice_get}
 use Rattle.std.proofs.lemmas.Int.{ints}
 use Rattle.std.proofs.lemmas.Option.{slice_get_within, get_or_from_slice_get}
@@ -8,7 +8,7 @@ use Rattle.pl_model.specs.declared.timelines.Timeline.TheVariants.{Capacity, Lev
 use Rattle.pl_model.specs.Checked.{IsCheckedLine, IsLevel, IsLevelLine}
 use Rattle.pl_facts.specs.Bases.{base_of}
 use Rattle.pl_world.specs.declared.plan_state.PlanState.{PlanState}
-use Rattle.pl_world.specs.Whole.{IsWhole, IsBase}
+use Rattle.pl_world.specs.Whole.{IsWhole, IsBase, IsStateOf}
 use Rattle.pl_demands.specs.Based.{IsToldBy, HasBase, IsStateLine}
 
 level_base : (moment : ℕ) (t : Timeline) (base : Option (ℤ × ℤ)) → IsLevelLine (Some t) → IsBase moment t base → IsToldBy moment 1000000000000 base
@@ -17,11 +17,22 @@ level_base moment (Level name least most start) None line is = is
 level_base moment (Level name least most start) (Some b) line is = (is.0, is.1.0, is.1.1)
 level_base moment (States name states start any steps) base line is = absurd line
 
+few_states : (states : ℕ) (v : ℤ) → states ≤ 32 → IsStateOf states v → (pos 0 ≤ℤ v) × (v ≤ℤ pos 32)
+few_states states (pos n) few is = (omega (arith, ints), omega (arith, ints, few, is))
+few_states states (negsuc n) few is = absurd is
+
 state_base : (moment : ℕ) (t : Timeline) (base : Option (ℤ × ℤ)) → IsStateLine (Some t) → IsCheckedLine t → IsBase moment t base → IsToldBy moment 32 base
 state_base moment (Capacity name most) base line checked is = absurd line
 state_base moment (Level name least most start) base line checked is = absurd line
 state_base moment (States name states start any steps) None line checked is = is
-state_base moment (States name states start any steps) (Some b) line checked is = (is.0, is.1, omega (arith, ints, is.2, checked.0))
+state_base moment (States name states start any steps) (Some b) line checked is = let state = few_states (length states) b.1 checked.0 is.1 in (is.0, state.0, state.1)
+
+wider : (moment : ℕ) (base : Option (ℤ × ℤ)) → IsToldBy moment 32 base → IsToldBy moment 1000000000000 base
+wider moment None is = is
+wider moment (Some b) is = (is.0, is.1, omega (arith, ints, is.2))
+
+pub wider_base : (s : PlanState) (line : ℕ) → HasBase s line 32 → HasBase s line 1000000000000
+wider_base s line is = wider s.moment (base_of line s.bases) is
 
 module _ (s : PlanState) (whole : IsWhole s) (line : ℕ) where
   pub checked_line : (t : Timeline) → slice_get s.model.timelines line ≡ Some t → IsCheckedLine t
@@ -40,3 +51,11 @@ module _ (s : PlanState) (whole : IsWhole s) (line : ℕ) where
       cases : (o : Option Timeline) → slice_get s.model.timelines line ≡ o → IsStateLine o → HasBase s line 32
       cases None e states = absurd states
       cases (Some t) e states = state_base s.moment t (base_of line s.bases) states (checked_line t e) (whole.bases line t e)
+
+-- of the timelines themselves
+
+pub level_limits : (s : PlanState) → IsWhole s → (line : ℕ) (t : Timeline) → slice_get s.model.timelines line ≡ Some t → IsLevelLine (Some t) → HasBase s line 1000000000000
+level_limits s whole line t is level = level_based s whole line (subst IsLevelLine (sym is) level)
+
+pub states_limits : (s : PlanState) → IsWhole s → (line : ℕ) (t : Timeline) → slice_get s.model.timelines line ≡ Some t → IsStateLine (Some t) → HasBase s line 32
+states_limits s whole line t is states = states_based s whole line (subst IsStateLine (sym is) states)

@@ -1,15 +1,15 @@
 -- The last set among sorted ones, where one more is put in its place.
-use Rattle.std.proofs.Common.{◌≡◌, ℕ, Bool, true, false, cond, List, [], ◌∷◌, ◌++◌, Option, Some, None, refl, sym, ap, ◌∙◌, subst, append-nil}
+use Rattle.std.proofs.Common.{◌≡◌, ℕ, Bool, true, false, cond, List, [], ◌∷◌, ◌++◌, Option, Some, None, refl, sym, ap, ◌∙◌, subst, append-nil, ◌+◌, ◌<◌, length, get_or, take}
 use Rattle.std.specs.List.{fold, flat_map}
 use Rattle.std.proofs.lemmas.Grind.{fold-append, flat_map-append}
 use Rattle.pl_state.specs.declared.reservation.Setting.{Setting}
-use Rattle.pl_state.specs.declared.key.Key.{Key}
-use Rattle.pl_state.specs.Keys.{key_before, NoneBefore, AreSorted}
+use Rattle.pl_state.specs.Keys.{NoneBefore, AreSorted}
 use Rattle.pl_state.specs.Sets.{set_before, set_key, with_set, state_from}
 use Rattle.pl_state.proofs.Keys.{behind_both, sorted_with}
 use Rattle.pl_world.specs.declared.demand.Demand.{Demand}
 use Rattle.pl_world.specs.Demands.{asked_of, set_in, sets_of}
 use Rattle.pl_demands.specs.Fresh.{with_sets}
+use Rattle.pl_demands.proofs.Resting.{take_next}
 use Rattle.pl_demands.specs.Latest.{is_between, or_when, last_with, later, later_when, last_among, last_after, state_left}
 
 -- ---- none of them comes before one more
@@ -97,3 +97,7 @@ state_of_last base t state (x ∷ xs) = state_of_last base t (cond (is_between b
     cases None true = refl
     cases None false = refl
     cases (Some y) b = refl
+
+-- the same at the next place of a list
+pub last_next : (p : Setting → Bool) (line : ℕ) (ds : List Demand) (i : ℕ) (d : Demand) → i < length ds → d ≡ get_or ds i d → last_after p line d (last_with p (sets_of line (take i ds))) ≡ last_with p (sets_of line (take (i + 1) ds))
+last_next p line ds i d lt is = sym (ap (λ (xs : List Demand). last_with p (sets_of line xs)) (take_next ds i d lt is) ∙ last_more p line (take i ds) d)

@@ -1,25 +1,23 @@
 //! What activities ask of timelines.
-ghost use Rattle.std.specs.Prelude.{◌≡◌, ◌++◌, ◌<◌, ◌≤◌, ◌≤ℤ◌, pos, true, length, map, OnOk, IfOk, IfSome, Some, All};
-ghost use Rattle.std.specs.List.{list_all};
+ghost use Rattle.std.specs.Prelude.{◌≡◌, ◌++◌, ◌≤◌, ◌≤ℤ◌, pos, true, length, map, OnOk, IfOk, IfSome, Some, All};
 ghost use Rattle.pl_model.specs.Values.{value_of, NamesBelow};
-ghost use Rattle.pl_model.specs.Checked.{IsChecked, IsCheckedKind};
 ghost use Rattle.pl_plan.specs.Activities.{activity_of};
-ghost use Rattle.pl_plan.specs.Fitting.{Fits, kind_of};
+ghost use Rattle.pl_plan.specs.Fitting.{kind_of};
 ghost use Rattle.pl_plan.specs.Firm.{is_within, amount_of, has_amount};
 ghost use Rattle.pl_links.specs.Broken.{point_of};
-ghost use Rattle.pl_world.specs.PlanStates.{numbered};
+ghost use Rattle.pl_world.specs.PlanStates.{numbered, reservations_in, row_of, end_at};
 ghost use Rattle.pl_world.specs.Whole.{IsWhole};
-ghost use Rattle.pl_world.specs.Demands.{amount_in, asked_for, demands_at, demands_of};
-ghost use Rattle.pl_demands.specs.Bounds.{IsDemandOf};
+ghost use Rattle.pl_world.specs.Demands.{amount_in, asked_for, demands_until, demands_at, demands_of};
 
 use pl_capacity::Use;
 use pl_level::Effect;
-use pl_model::{Expr, Kind, Model, Point, Reservation, eval};
+use pl_model::{Expr, Model, Point, Reservation, eval};
 use pl_plan::Activity;
 use pl_state::{Must, Setting};
 use pl_world::{Asked, Demand, PlanState};
 use std::alloc::{AllocError, Global};
 
+#[tactic(auto, unfolding(pl_world::specs::Demands::demands_at))]
 /// Appends what an activity asks for, by reservation: nothing where it is not firm.
 pub fn demands_at(
     alloc: Global,
@@ -31,14 +29,9 @@ pub fn demands_at(
     requires live { activity_of a.now.id s.now.plan.activities ≡ Some a.now }
     ensures { OnOk result (out.new.items ≡ out.old.items ++ demands_at s.now a.now) }
 {
-    let model = s.model.get();
-    let evaluated = s.plan.evaluate(alloc, model, a.id)?;
+    let evaluated = s.plan.evaluate(alloc, s.model.get(), a.id)?;
     match evaluated.end {
-        Some(end) => {
-            let reservations = kind_in(model, a).reservations.as_slice();
-            add_demands(a, end, evaluated.values.as_slice(), reservations, out)?;
-            Ok(())
-        }
+        Some(end) => add_until(s, a, end, evaluated.values.as_slice(), out),
         None => Ok(()),
     }
 }
@@ -55,11 +48,32 @@ pub fn demands(alloc: Global, s: &PlanState) -> Result<Vec<Demand>, AllocError>
     Ok(all)
 }
 
-fn kind_in<'m>(model: &'m Model, a: &Activity) -> &'m Kind
-    requires { a.now.kind < length model.now.kinds }
-    ensures { kind_of model.now a.now ≡ Some result.now }
+// What a firm activity asks for.
+fn add_until(
+    s: &PlanState,
+    a: &Activity,
+    end: u32,
+    values: &[Option<i64>],
+    out: &mut Vec<Demand>,
+) -> Result<(), AllocError>
+    requires whole { IsWhole s.now }
+    requires live { activity_of a.now.id s.now.plan.activities ≡ Some a.now }
+    requires end { end_at s.now a.now ≡ Some end }
+    requires values { values.now ≡ row_of s.now a.now }
+    ensures { OnOk result (out.new.items ≡ out.old.items ++ demands_until s.now a.now end) }
 {
-    &model.kinds.as_slice()[a.kind as usize]
+    let reservations = reservations_in(s.model.get(), a);
+    add_demands(a, end, values, reservations, out)?;
+    Ok(())
+}
+
+fn reservations_in<'m>(model: &'m Model, a: &Activity) -> &'m [Reservation]
+    ensures { result.now ≡ reservations_in (kind_of model.now a.now) }
+{
+    match model.kinds.as_slice().get(a.kind as usize) {
+        Some(kind) => kind.reservations.as_slice(),
+        None => &[],
+    }
 }
 
 fn add_demands(
@@ -70,7 +84,7 @@ fn add_demands(
     out: &mut Vec<Demand>,
 ) -> Result<(), AllocError>
     requires few { length reservations.now ≤ 32 }
-    requires amounts { list_all (has_amount values.now) reservations.now ≡ true }
+    requires amounts { All (λ r. has_amount values.now r ≡ true) reservations.now }
     requires names { All (λ r. IfSome (amount_of r) (NamesBelow (length values.now))) reservations.now }
     ensures { OnOk result (out.new.items ≡ out.old.items ++ map (asked_for a.now.id a.now.start end values.now) (numbered 0 reservations.now)) }
 {

@@ -1,5 +1,5 @@
 //! Capacities made anew.
-ghost use Rattle.std.specs.Prelude.{◌≡◌, ◌++◌, ◌≤◌, ◌≤ℤ◌, pos, false, length, All, OnOk, IfOk};
+ghost use Rattle.std.specs.Prelude.{◌≡◌, ◌+◌, ◌++◌, ◌≤◌, ◌≤ℤ◌, pos, length, All, OnOk, IfOk};
 ghost use Rattle.pl_world.specs.Whole.{IsWhole};
 ghost use Rattle.pl_world.specs.Demands.{asked_of, use_in, uses_of, demands_of};
 ghost use Rattle.pl_demands.specs.Bounds.{IsBounded};

@@ -33,6 +33,7 @@ pub fn timeline_conflicts(
     Ok(())
 }
 
+#[tactic(auto, unfolding(pl_world::specs::Timelines::line_conflicts))]
 /// Appends the conflicts of the timeline of this number, over what all activities ask for.
 pub fn line_conflicts(
     alloc: Global,
@@ -58,6 +59,7 @@ pub fn line_conflicts(
     }
 }
 
+#[tactic(auto, unfolding(pl_world::specs::Demands::use_at))]
 fn add_overs(
     alloc: Global,
     s: &PlanState,
@@ -76,6 +78,7 @@ fn add_overs(
     Ok(())
 }
 
+#[tactic(auto, unfolding(pl_world::specs::Demands::level_at))]
 fn add_levels(
     alloc: Global,
     s: &PlanState,
@@ -98,6 +101,7 @@ fn add_levels(
     Ok(())
 }
 
+#[tactic(auto, unfolding(pl_world::specs::Demands::state_at))]
 fn add_states(
     alloc: Global,
     s: &PlanState,
