@@ -74,9 +74,3 @@ CanTell value (Some (States name states start any steps)) = IsStateOf (length st
 -- the goal of this number stands and is open
 abbrev pub IsOpenIn : PlanState → ℕ → Type 0
 IsOpenIn s n = holds (is_open s) (goal_at s n) ≡ true
-
--- ---- what is asked of a timeline that is read
-
-abbrev pub IsStatesLine : Option Timeline → Type 0
-IsStatesLine (Some (States name states start any steps)) = Unit {0}
-IsStatesLine _ = ⊥

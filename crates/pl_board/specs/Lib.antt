@@ -1,3 +1,4 @@
+pub use Rattle.pl_demands.specs.Based
 pub use Rattle.pl_world.specs.PlanStates
 pub use Rattle.pl_world.specs.Whole
 pub use Rattle.pl_world.specs.Conflicts

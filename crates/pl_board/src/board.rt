@@ -10,10 +10,11 @@ ghost use Rattle.pl_board.specs.Boards.{after, first_state, with_goal, without_g
 ghost use Rattle.pl_board.specs.Replaced.{CanReplace, with_plan};
 
 use crate::replacement::{next_after, replace};
-use crate::stubs::{demands, detect};
 use pl_conflict::ConflictSet;
 
 
+use pl_demands::demands;
+use pl_detect::detect;
 use pl_facts::{Bases, Goal, Goals};
 use pl_lists::Copied;
 use pl_model::Model;
@@ -66,7 +67,7 @@ impl Board {
             live_limit: live,
         };
         let asked = demands(alloc, &state)?;
-        let conflicts = detect(alloc, &state, &asked)?;
+        let conflicts = detect(alloc, &state)?;
         Ok(Board {
             alloc,
             state,
@@ -84,7 +85,7 @@ impl Board {
     {
         self.spoiled = true;
         self.demands = demands(self.alloc, &self.state)?;
-        self.conflicts = detect(self.alloc, &self.state, &self.demands)?;
+        self.conflicts = detect(self.alloc, &self.state)?;
         self.spoiled = false;
         Ok(())
     }
@@ -247,7 +248,7 @@ impl Board {
     {
         let state = self.state.copy(alloc)?;
         let asked = demands(alloc, &state)?;
-        let conflicts = detect(alloc, &state, &asked)?;
+        let conflicts = detect(alloc, &state)?;
         Ok(Board {
             alloc,
             state,

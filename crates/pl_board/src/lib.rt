@@ -5,7 +5,6 @@ mod board;
 mod reading;
 mod replacement;
 mod sharing;
-mod stubs;
 
 pub use board::Board;
 pub use sharing::shared_types;

@@ -1,4 +1,7 @@
-ghost use Rattle.std.specs.Prelude.{◌≡◌, false};
+ghost use Rattle.std.specs.Prelude.{◌≡◌, ◌≤◌, ◌<◌, false, slice_get};
+ghost use Rattle.pl_model.specs.Checked.{IsCapacityLine, IsLevelLine};
+ghost use Rattle.pl_world.specs.Demands.{use_at, level_at, state_at};
+ghost use Rattle.pl_demands.specs.Based.{IsStateLine};
 ghost use Rattle.pl_world.specs.PlanStates.{floor_of};
 
 use crate::board::Board;
@@ -63,5 +66,38 @@ impl Board {
         ensures { result ≡ self.now.state.live_limit }
     {
         self.state().live_limit
+    }
+
+    /// How much of a capacity is in use at a moment.
+    pub fn use_at(&self, line: u32, t: u32) -> i64
+        requires unspoiled { self.now.spoiled ≡ false }
+        requires capacity { IsCapacityLine (slice_get self.now.state.model.timelines line) }
+        requires now { self.now.state.moment ≤ t }
+        requires before_horizon { t < self.now.state.model.horizon }
+        ensures { result ≡ use_at self.now.state line t }
+    {
+        pl_demands::use_at(self.state(), self.demands(), line, t)
+    }
+
+    /// The level at a moment.
+    pub fn level_at(&self, line: u32, t: u32) -> i64
+        requires unspoiled { self.now.spoiled ≡ false }
+        requires level { IsLevelLine (slice_get self.now.state.model.timelines line) }
+        requires now { self.now.state.moment ≤ t }
+        requires before_horizon { t < self.now.state.model.horizon }
+        ensures { result ≡ level_at self.now.state line t }
+    {
+        pl_demands::level_at(self.state(), self.demands(), line, t)
+    }
+
+    /// The number of the state at a moment.
+    pub fn state_at(&self, line: u32, t: u32) -> u32
+        requires unspoiled { self.now.spoiled ≡ false }
+        requires states { IsStateLine (slice_get self.now.state.model.timelines line) }
+        requires now { self.now.state.moment ≤ t }
+        requires before_horizon { t < self.now.state.model.horizon }
+        ensures { result ≡ state_at self.now.state line t }
+    {
+        pl_demands::state_at(self.state(), self.demands(), line, t)
     }
 }

@@ -12,6 +12,7 @@ use crate::activities::activity_conflicts;
 use crate::goals::goal_conflicts;
 use crate::links::link_conflicts;
 use pl_conflict::{Conflict, ConflictSet};
+use pl_demands::timeline_conflicts;
 use pl_world::PlanState;
 use std::alloc::{AllocError, Global};
 
@@ -53,4 +54,14 @@ pub fn detect_with(
     plan_conflicts(alloc, s, &mut all)?;
     all.extend_from_slice(of_timelines)?;
     sorted(alloc, all.as_slice())
+}
+
+/// All that is wrong with a plan.
+pub fn detect(alloc: Global, s: &PlanState) -> Result<ConflictSet, AllocError>
+    requires { IsWhole s.now }
+    ensures { IfOk result (λ set. set ≡ conflicts_of s.now) }
+{
+    let mut of_timelines = Vec::new(alloc);
+    timeline_conflicts(alloc, s, &mut of_timelines)?;
+    detect_with(alloc, s, of_timelines.as_slice())
 }

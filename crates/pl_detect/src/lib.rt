@@ -14,6 +14,6 @@ mod slots;
 mod valuation;
 
 pub use activities::{activity_conflicts, wrong_at};
-pub use detection::{detect_with, plan_conflicts};
+pub use detection::{detect, detect_with, plan_conflicts};
 pub use goals::{goal_conflicts, off_at, open_at};
 pub use links::{add_broken, add_conflict_of, link_conflicts};
