@@ -67,7 +67,7 @@ impl Board {
             live_limit: live,
         };
         let asked = demands(alloc, &state)?;
-        let conflicts = detect(alloc, &state)?;
+        let conflicts = detect(alloc, &state, &asked)?;
         Ok(Board {
             alloc,
             state,
@@ -85,7 +85,7 @@ impl Board {
     {
         self.spoiled = true;
         self.demands = demands(self.alloc, &self.state)?;
-        self.conflicts = detect(self.alloc, &self.state)?;
+        self.conflicts = detect(self.alloc, &self.state, &self.demands)?;
         self.spoiled = false;
         Ok(())
     }
@@ -248,7 +248,7 @@ impl Board {
     {
         let state = self.state.copy(alloc)?;
         let asked = demands(alloc, &state)?;
-        let conflicts = detect(alloc, &state)?;
+        let conflicts = detect(alloc, &state, &asked)?;
         Ok(Board {
             alloc,
             state,

@@ -1,6 +1,7 @@
 //! All that is wrong with a plan.
 ghost use Rattle.std.specs.Prelude.{◌≡◌, ◌++◌, IfOk, OnOk};
 ghost use Rattle.pl_conflict.specs.Sorting.{sorted};
+ghost use Rattle.pl_world.specs.Demands.{demands_of};
 ghost use Rattle.pl_world.specs.Whole.{IsWhole};
 ghost use Rattle.pl_world.specs.Goals.{goal_conflicts};
 ghost use Rattle.pl_world.specs.Activities.{activity_conflicts};
@@ -13,7 +14,7 @@ use crate::goals::goal_conflicts;
 use crate::links::link_conflicts;
 use pl_conflict::{Conflict, ConflictSet};
 use pl_demands::timeline_conflicts;
-use pl_world::PlanState;
+use pl_world::{Demand, PlanState};
 use std::alloc::{AllocError, Global};
 
 /// Appends the conflicts of goals, of activities, and of links and orders.
@@ -56,12 +57,17 @@ pub fn detect_with(
     sorted(alloc, all.as_slice())
 }
 
-/// All that is wrong with a plan.
-pub fn detect(alloc: Global, s: &PlanState) -> Result<ConflictSet, AllocError>
-    requires { IsWhole s.now }
+/// All that is wrong with a plan, given what its activities ask for.
+pub fn detect(
+    alloc: Global,
+    s: &PlanState,
+    demands: &[Demand],
+) -> Result<ConflictSet, AllocError>
+    requires whole { IsWhole s.now }
+    requires demands { demands.now ≡ demands_of s.now }
     ensures { IfOk result (λ set. set ≡ conflicts_of s.now) }
 {
     let mut of_timelines = Vec::new(alloc);
-    timeline_conflicts(alloc, s, &mut of_timelines)?;
+    timeline_conflicts(alloc, s, demands, &mut of_timelines)?;
     detect_with(alloc, s, of_timelines.as_slice())
 }

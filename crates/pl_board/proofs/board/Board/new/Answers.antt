@@ -2,8 +2,8 @@ use Rattle.std.proofs.Common.{◌≡◌, ◌∙◌, false, refl}
 use Rattle.pl_board.proofs.Keeping.{whole_first_as}
 use Rattle.pl_board.proofs.board.Board.new.Goals as goal
 
-pub detect-requires : goal.detect-requires
-detect-requires c =
+pub detect-requires-clause-whole : goal.detect-requires-clause-whole
+detect-requires-clause-whole c =
     whole_first_as _ c.new-2.result c.args.live c.new-3.result.activities c.new-4.result c.in_ok-bases.bases c.requires.checked c.requires.live c.new-2.ensures c.new-3.ensures c.new-4.ensures (rw c.deref.ensures at c.in_ok-bases.ensures.first)
 
 pub invariant_of-result : goal.invariant_of-result
