@@ -1,6 +1,6 @@
 use Rattle.std.proofs.Common.{◌≡◌, ◌+◌, ◌+ℤ◌, drop, arith}
 use Rattle.std.specs.List.{flat_map}
-use Rattle.std.proofs.lemmas.Int.{ints, to_z-of_z}
+use Rattle.std.proofs.lemmas.Int.{ints}
 use Rattle.pl_points.specs.Sums.{total}
 use Rattle.pl_capacity.specs.Uses.{taken_at}
 use Rattle.pl_world.specs.Demands.{asked_of, use_in}
@@ -14,4 +14,4 @@ loop-demand-preserved c =
     let z = c.taken-sum.result in
     let rest : total (taken_at c.args.t) (flat_map (asked_of use_in c.args.line) (drop i ds)) ≡ z +ℤ total (taken_at c.args.t) (flat_map (asked_of use_in c.args.line) (drop (i + 1) ds)) =
     sum_next (taken_at c.args.t) (asked_of use_in c.args.line) ds i _ z c.loop-demand-test.true c.taken-sum.ensures.value in
-    (grind (arith, ints, to_z-of_z), (omega (arith, ints), omega (arith, ints)))
+    (omega (arith, ints), (omega (arith, ints), omega (arith, ints)))
