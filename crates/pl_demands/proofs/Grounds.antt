@@ -1,7 +1,9 @@
 -- The limits and the bases of the timelines of a plan state that is whole.
 use Rattle.std.proofs.Common.{◌≡◌, ℕ, ◌≤◌, Bool, List, length, Option, Some, None, refl, sym, subst, arith, ℤ, pos, negsuc, ◌≤ℤ◌}
 use Rattle.std.specs.Prelude.{slice_get}
-use Rattle.std.proofs.lemmas.Int.{ints}
+use Rattle.std.proofs.lemmas.Int.{ints, to_z-of_z}
+use mir.Val.{to_z, of_z, SFits}
+use mir.Syntax.{w64}
 use Rattle.std.proofs.lemmas.Option.{slice_get_within, get_or_from_slice_get}
 use Rattle.pl_model.specs.declared.timelines.Timeline.{Timeline}
 use Rattle.pl_model.specs.declared.timelines.Timeline.TheVariants.{Capacity, Level, States}
@@ -10,6 +12,17 @@ use Rattle.pl_facts.specs.Bases.{base_of}
 use Rattle.pl_world.specs.declared.plan_state.PlanState.{PlanState}
 use Rattle.pl_world.specs.Whole.{IsWhole, IsBase, IsStateOf}
 use Rattle.pl_demands.specs.Based.{IsToldBy, HasBase, IsStateLine}
+
+fits_level : (z : ℤ) → IsLevel z → SFits w64 z
+fits_level (pos n) is = omega (arith, ints, is.1)
+fits_level (negsuc n) is = absurd (omega (arith, ints, is.0))
+
+-- as a program holds it
+pub raw_level : (z : ℤ) → IsLevel z → IsLevel (to_z w64 (of_z w64 z))
+raw_level z is =
+    let fits : SFits w64 z = fits_level z is in
+    let P : ℤ → Type 0 = λ y. IsLevel y in
+    subst P (sym (to_z-of_z w64 z fits)) is
 
 level_base : (moment : ℕ) (t : Timeline) (base : Option (ℤ × ℤ)) → IsLevelLine (Some t) → IsBase moment t base → IsToldBy moment 1000000000000 base
 level_base moment (Capacity name most) base line is = absurd line

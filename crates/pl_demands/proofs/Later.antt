@@ -99,5 +99,6 @@ state_of_last base t state (x ∷ xs) = state_of_last base t (cond (is_between b
     cases (Some y) b = refl
 
 -- the same at the next place of a list
-pub last_next : (p : Setting → Bool) (line : ℕ) (ds : List Demand) (i : ℕ) (d : Demand) → i < length ds → d ≡ get_or ds i d → last_after p line d (last_with p (sets_of line (take i ds))) ≡ last_with p (sets_of line (take (i + 1) ds))
-last_next p line ds i d lt is = sym (ap (λ (xs : List Demand). last_with p (sets_of line xs)) (take_next ds i d lt is) ∙ last_more p line (take i ds) d)
+pub last_next : (p : Setting → Bool) (line : ℕ) (ds : List Demand) (i : ℕ) (d : Demand) (last next : Option Setting) → i < length ds → last ≡ last_with p (sets_of line (take i ds)) → next ≡ last_after p line (get_or ds i d) last → next ≡ last_with p (sets_of line (take (i + 1) ds))
+last_next p line ds i d last next lt was is =
+    is ∙ (ap (last_after p line (get_or ds i d)) was ∙ sym (ap (λ (xs : List Demand). last_with p (sets_of line xs)) (take_next ds i d lt) ∙ last_more p line (take i ds) (get_or ds i d)))

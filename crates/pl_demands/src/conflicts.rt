@@ -5,30 +5,34 @@ ghost use Rattle.pl_world.specs.Whole.{IsWhole};
 ghost use Rattle.pl_world.specs.Demands.{demands_of};
 ghost use Rattle.pl_world.specs.Timelines.{overs, lows, highs, musts, bad_steps, line_conflicts, timeline_conflicts};
 ghost use Rattle.pl_demands.specs.Based.{HasBase};
+ghost use Rattle.pl_demands.specs.Fresh.{level_of, states_of};
 
-use crate::asking::demands;
 use crate::capacities::capacity_of;
 use crate::levels::level_of;
 use crate::outside::{add_bad_steps, add_musts, add_outside};
 use crate::states::states_of;
 use pl_conflict::{Code, Conflict};
+use pl_level::Level;
 use pl_model::Timeline;
+use pl_points::PlainPoints;
+use pl_state::StateLine;
 use pl_world::{Demand, PlanState};
 use std::alloc::{AllocError, Global};
 
-/// Appends the conflicts of all timelines, by their numbers.
+/// Appends the conflicts of all timelines, by their numbers, over what all activities ask for.
 pub fn timeline_conflicts(
     alloc: Global,
     s: &PlanState,
+    demands: &[Demand],
     out: &mut Vec<Conflict>,
 ) -> Result<(), AllocError>
-    requires { IsWhole s.now }
+    requires whole { IsWhole s.now }
+    requires demands { demands.now ≡ demands_of s.now }
     ensures { OnOk result (out.new.items ≡ out.old.items ++ timeline_conflicts s.now) }
 {
-    let demands = demands(alloc, s)?;
     let timelines = s.model.get().timelines.as_slice();
     for (line, timeline) in timelines.iter().enumerate() {
-        line_conflicts(alloc, s, &demands, line as u32, timeline, out)?;
+        line_conflicts(alloc, s, demands, line as u32, timeline, out)?;
     }
     Ok(())
 }
@@ -78,7 +82,6 @@ fn add_overs(
     Ok(())
 }
 
-#[tactic(auto, unfolding(pl_world::specs::Demands::level_at))]
 fn add_levels(
     alloc: Global,
     s: &PlanState,
@@ -96,12 +99,11 @@ fn add_levels(
     ensures { OnOk result (out.new.items ≡ out.old.items ++ (lows s.now line least ++ highs s.now line most)) }
 {
     let level = level_of(alloc, s, demands, line, least, most)?;
-    add_outside(Code::Low, line, level.low_spans(), out)?;
-    add_outside(Code::High, line, level.high_spans(), out)?;
+    add_lows(s, line, least, most, &level, out)?;
+    add_highs(s, line, least, most, &level, out)?;
     Ok(())
 }
 
-#[tactic(auto, unfolding(pl_world::specs::Demands::state_at))]
 fn add_states(
     alloc: Global,
     s: &PlanState,
@@ -117,7 +119,71 @@ fn add_states(
     ensures { OnOk result (out.new.items ≡ out.old.items ++ (musts s.now line ++ bad_steps s.now line any steps.now)) }
 {
     let states = states_of(alloc, s, demands, line, any, steps)?;
+    add_unmet(s, line, any, steps, &states, out)?;
+    add_bad(s, line, any, steps, &states, out)?;
+    Ok(())
+}
+
+#[tactic(auto, unfolding(pl_world::specs::Demands::level_at))]
+fn add_lows(
+    s: &PlanState,
+    line: u32,
+    least: i64,
+    most: i64,
+    level: &Level<PlainPoints>,
+    out: &mut Vec<Conflict>,
+) -> Result<(), AllocError>
+    requires { level.now ≡ level_of s.now line least most }
+    ensures { OnOk result (out.new.items ≡ out.old.items ++ lows s.now line least) }
+{
+    add_outside(Code::Low, line, level.low_spans(), out)?;
+    Ok(())
+}
+
+#[tactic(auto, unfolding(pl_world::specs::Demands::level_at))]
+fn add_highs(
+    s: &PlanState,
+    line: u32,
+    least: i64,
+    most: i64,
+    level: &Level<PlainPoints>,
+    out: &mut Vec<Conflict>,
+) -> Result<(), AllocError>
+    requires { level.now ≡ level_of s.now line least most }
+    ensures { OnOk result (out.new.items ≡ out.old.items ++ highs s.now line most) }
+{
+    add_outside(Code::High, line, level.high_spans(), out)?;
+    Ok(())
+}
+
+#[tactic(auto, unfolding(pl_world::specs::Demands::state_at))]
+fn add_unmet(
+    s: &PlanState,
+    line: u32,
+    any: bool,
+    steps: &[(u32, u32)],
+    states: &StateLine,
+    out: &mut Vec<Conflict>,
+) -> Result<(), AllocError>
+    requires { states.now ≡ states_of s.now line any steps.now }
+    ensures { OnOk result (out.new.items ≡ out.old.items ++ musts s.now line) }
+{
     add_musts(s, states.broken_musts(), out)?;
+    Ok(())
+}
+
+#[tactic(auto, unfolding(pl_world::specs::Demands::state_at))]
+fn add_bad(
+    s: &PlanState,
+    line: u32,
+    any: bool,
+    steps: &[(u32, u32)],
+    states: &StateLine,
+    out: &mut Vec<Conflict>,
+) -> Result<(), AllocError>
+    requires { states.now ≡ states_of s.now line any steps.now }
+    ensures { OnOk result (out.new.items ≡ out.old.items ++ bad_steps s.now line any steps.now) }
+{
     add_bad_steps(s, states.bad_steps(), out)?;
     Ok(())
 }
