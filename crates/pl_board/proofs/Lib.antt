@@ -1,0 +1,4 @@
+mod Goals
+mod Telling
+mod Putting
+mod Keeping

@@ -1,0 +1,10 @@
+pub use Rattle.pl_demands.specs.Based
+pub use Rattle.pl_world.specs.PlanStates
+pub use Rattle.pl_world.specs.Whole
+pub use Rattle.pl_world.specs.Conflicts
+pub use Rattle.pl_world.specs.Demands
+pub use Rattle.pl_world.specs.Moves
+pub use Rattle.pl_world.specs.Candidates
+pub mod Boards
+pub mod Replaced
+pub mod Putting

@@ -1,0 +1,260 @@
+ghost use Rattle.std.specs.Prelude.{◌≡◌, OnOk, OnErr, IfOk, IsErr, true, false, None, ◌≤◌, ◌<◌, All, slice_get};
+ghost use Rattle.std.specs.Arc.{arc_value};
+ghost use Rattle.pl_facts.specs.Goals.{goal_of};
+ghost use Rattle.pl_model.specs.Checked.{IsChecked};
+ghost use Rattle.pl_world.specs.Conflicts.{conflicts_of};
+ghost use Rattle.pl_world.specs.Demands.{demands_of};
+ghost use Rattle.pl_world.specs.PlanStates.{goal_at, is_open};
+ghost use Rattle.pl_world.specs.Whole.{IsWhole, IsGoalOf, IsIdBelow};
+ghost use Rattle.pl_board.specs.Boards.{after, first_state, with_goal, without_goal, moved_on, told_now, committed_to, with_next, CanTell, IsOpenIn};
+ghost use Rattle.pl_board.specs.Replaced.{CanReplace, with_plan};
+
+use crate::replacement::{next_after, replace};
+use pl_conflict::ConflictSet;
+
+
+use pl_demands::demands;
+use pl_detect::detect;
+use pl_facts::{Bases, Goal, Goals};
+use pl_lists::Copied;
+use pl_model::Model;
+use pl_plan::{Activity, Plan};
+use pl_points::{Ledger, Steps};
+use pl_world::{Demand, PlanState, SharedModel};
+use std::alloc::{AllocError, Global};
+use std::sync::Arc;
+
+/// A plan state with its conflicts, which are found anew after each change. After want of memory a board is spoiled for good.
+#[derive(Drop)]
+pub struct Board {
+    alloc: Global,
+    state: PlanState,
+    demands: Vec<Demand>,
+    conflicts: ConflictSet,
+    spoiled: bool,
+}
+
+impl std::marker::Model for Board {
+    ghost use Rattle.pl_board.specs.Boards.{Standing, IsSound};
+    ghost use Rattle.pl_model.specs.contracts.expressions.Expr as e;
+    ghost use Rattle.std.specs.Coded.{codes};
+
+    ghost Value = { Standing };
+
+    ghost coded = { Prim.hlevel (codes, e.the_row.coded) };
+
+    ghost view = { λ b. record { spoiled = b.spoiled; state = b.state } };
+
+    ghost invariant = { λ b. IsSound b.state b.demands.items b.conflicts b.spoiled };
+}
+
+impl Board {
+    /// A board of a checked model at the moment 0, with nothing planned. At most `live` activities will be live.
+    pub fn new(alloc: Global, model: Arc<Model>, live: u32) -> Result<Board, AllocError>
+        requires checked { IsChecked (arc_value model) }
+        requires live { live ≤ 10000 }
+        ensures { IfOk result (λ b. b ≡ after (first_state (arc_value model) live)) }
+    {
+        let bases = Bases::new(alloc, &model)?;
+        let state = PlanState {
+            model: SharedModel::new(model),
+            plan: Plan::new(alloc),
+            goals: Goals::new(alloc),
+            bases,
+            moment: 0,
+            committed: 0,
+            next_id: 1,
+            live_limit: live,
+        };
+        let asked = demands(alloc, &state)?;
+        let conflicts = detect(alloc, &state, &asked)?;
+        Ok(Board {
+            alloc,
+            state,
+            demands: asked,
+            conflicts,
+            spoiled: false,
+        })
+    }
+
+    // Finds anew what the plan state asks for and what is wrong with it.
+    fn find(&mut self) -> Result<(), AllocError>
+        requires whole { IsWhole self.old.state }
+        ensures ok { OnOk result (self.new ≡ after self.old.state) }
+        ensures err { OnErr result (self.new.spoiled ≡ true) }
+    {
+        self.spoiled = true;
+        self.demands = demands(self.alloc, &self.state)?;
+        self.conflicts = detect(self.alloc, &self.state, &self.demands)?;
+        self.spoiled = false;
+        Ok(())
+    }
+
+    /// Takes the activities of `gone` out, and puts those of `placed` in their places.
+    pub fn replace<L: Ledger>(
+        &mut self,
+        gone: &[u32],
+        placed: &[Activity],
+        _steps: &mut Steps<L>,
+    ) -> Result<(), AllocError>
+        requires can { self.old.spoiled ≡ false → CanReplace self.old.state gone.now placed.now }
+        ensures ok { OnOk result (self.new ≡ after (with_plan gone.now placed.now self.old.state)) }
+        ensures err { OnErr result (self.new.spoiled ≡ true) }
+        ensures after_spoil { self.old.spoiled ≡ true → IsErr result }
+    {
+        if self.spoiled {
+            return Err(AllocError);
+        }
+        self.spoiled = true;
+        replace(self.alloc, &mut self.state.plan, gone, placed)?;
+        self.state.next_id = next_after(self.state.next_id, placed);
+        self.find()
+    }
+
+    pub fn add_goal(&mut self, goal: Goal) -> Result<(), AllocError>
+        requires fresh { self.old.spoiled ≡ false → goal_of goal.number self.old.state.goals ≡ None }
+        requires of_model { IsGoalOf self.old.state.model goal }
+        requires stays { goal.dropped ≡ false }
+        ensures ok { OnOk result (self.new ≡ after (with_goal goal self.old.state)) }
+        ensures err { OnErr result (self.new.spoiled ≡ true) }
+        ensures after_spoil { self.old.spoiled ≡ true → IsErr result }
+    {
+        if self.spoiled {
+            return Err(AllocError);
+        }
+        self.spoiled = true;
+        self.state.goals.push(goal)?;
+        self.find()
+    }
+
+    /// Drops an open goal.
+    pub fn drop_goal(&mut self, number: u32) -> Result<(), AllocError>
+        requires { self.old.spoiled ≡ false → IsOpenIn self.old.state number }
+        ensures ok { OnOk result (self.new ≡ after (without_goal number self.old.state)) }
+        ensures err { OnErr result (self.new.spoiled ≡ true) }
+        ensures after_spoil { self.old.spoiled ≡ true → IsErr result }
+    {
+        if self.spoiled {
+            return Err(AllocError);
+        }
+        self.spoiled = true;
+        self.state.goals.drop_goal(number);
+        self.find()
+    }
+
+    /// Moves the present on.
+    pub fn tick<L: Ledger>(&mut self, now: u32, _steps: &mut Steps<L>) -> Result<(), AllocError>
+        requires later { self.old.spoiled ≡ false → self.old.state.moment < now }
+        requires bound { now ≤ self.old.state.model.horizon }
+        ensures ok { OnOk result (self.new ≡ after (moved_on now self.old.state)) }
+        ensures err { OnErr result (self.new.spoiled ≡ true) }
+        ensures after_spoil { self.old.spoiled ≡ true → IsErr result }
+    {
+        if self.spoiled {
+            return Err(AllocError);
+        }
+        self.spoiled = true;
+        self.state.moment = now;
+        self.find()
+    }
+
+    /// Tells the value of a level, or the state of a state timeline, at the present.
+    pub fn telemetry<L: Ledger>(
+        &mut self,
+        line: u32,
+        value: i64,
+        _steps: &mut Steps<L>,
+    ) -> Result<(), AllocError>
+        requires { CanTell value (slice_get self.old.state.model.timelines line) }
+        ensures ok { OnOk result (self.new ≡ after (told_now line value self.old.state)) }
+        ensures err { OnErr result (self.new.spoiled ≡ true) }
+        ensures after_spoil { self.old.spoiled ≡ true → IsErr result }
+    {
+        if self.spoiled {
+            return Err(AllocError);
+        }
+        self.spoiled = true;
+        self.state
+            .bases
+            .set(line, i64::from(self.state.moment), value);
+        self.find()
+    }
+
+    /// Commits what starts before `h`.
+    pub fn commit(&mut self, h: u32) -> Result<(), AllocError>
+        requires least { self.old.spoiled ≡ false → self.old.state.committed ≤ h }
+        requires most { h ≤ self.old.state.model.horizon }
+        ensures ok { OnOk result (self.new ≡ after (committed_to h self.old.state)) }
+        ensures err { OnErr result (self.new.spoiled ≡ true) }
+        ensures after_spoil { self.old.spoiled ≡ true → IsErr result }
+    {
+        if self.spoiled {
+            return Err(AllocError);
+        }
+        self.spoiled = true;
+        self.state.committed = h;
+        self.find()
+    }
+
+    /// Makes an id, above every live one, the next one again. It takes no memory.
+    pub fn reset_next(&mut self, id: u32)
+        requires unspoiled { self.old.spoiled ≡ false }
+        requires least { (1 ≤ id) × All (IsIdBelow id) self.old.state.plan.activities }
+        requires most { id ≤ self.old.state.next_id }
+        ensures { self.new ≡ after (with_next id self.old.state) }
+    {
+        self.state.next_id = id;
+    }
+
+    /// Marks the board as spoiled. It takes no memory.
+    pub fn spoil(&mut self)
+        ensures { self.new ≡ record self.old { spoiled = true } }
+    {
+        self.spoiled = true;
+    }
+
+    /// What stands.
+    pub fn state(&self) -> &PlanState
+        ensures value { result.now ≡ self.now.state }
+        ensures whole { self.now.spoiled ≡ false → IsWhole result.now }
+    {
+        &self.state
+    }
+
+    /// All that is wrong with it.
+    pub fn conflicts(&self) -> &ConflictSet
+        ensures { self.now.spoiled ≡ false → result.now ≡ conflicts_of self.now.state }
+    {
+        &self.conflicts
+    }
+
+    // What its activities ask of timelines.
+    pub(crate) fn demands(&self) -> &[Demand]
+        ensures { self.now.spoiled ≡ false → result.now ≡ demands_of self.now.state }
+    {
+        &self.demands
+    }
+
+    pub fn spoiled(&self) -> bool
+        ensures { result ≡ self.now.spoiled }
+    {
+        self.spoiled
+    }
+
+    /// A board of the same plan state, with memory of its own.
+    pub fn copy(&self, alloc: Global) -> Result<Board, AllocError>
+        requires { self.now.spoiled ≡ false }
+        ensures { IfOk result (λ b. b ≡ self.now) }
+    {
+        let state = self.state.copy(alloc)?;
+        let asked = demands(alloc, &state)?;
+        let conflicts = detect(alloc, &state, &asked)?;
+        Ok(Board {
+            alloc,
+            state,
+            demands: asked,
+            conflicts,
+            spoiled: false,
+        })
+    }
+}

@@ -1,0 +1,103 @@
+ghost use Rattle.std.specs.Prelude.{◌≡◌, ◌≤◌, ◌<◌, false, slice_get};
+ghost use Rattle.pl_model.specs.Checked.{IsCapacityLine, IsLevelLine};
+ghost use Rattle.pl_world.specs.Demands.{use_at, level_at, state_at};
+ghost use Rattle.pl_demands.specs.Based.{IsStateLine};
+ghost use Rattle.pl_world.specs.PlanStates.{floor_of};
+
+use crate::board::Board;
+use pl_facts::{Bases, Goals};
+use pl_model::Model;
+use pl_plan::Plan;
+
+impl Board {
+    pub fn model(&self) -> &Model
+        ensures { result.now ≡ self.now.state.model }
+    {
+        self.state().model.get()
+    }
+
+    pub fn plan(&self) -> &Plan
+        ensures { result.now ≡ self.now.state.plan }
+    {
+        &self.state().plan
+    }
+
+    pub fn goals(&self) -> &Goals
+        ensures { result.now ≡ self.now.state.goals }
+    {
+        &self.state().goals
+    }
+
+    pub fn bases(&self) -> &Bases
+        ensures { result.now ≡ self.now.state.bases }
+    {
+        &self.state().bases
+    }
+
+    /// The present.
+    pub fn now(&self) -> u32
+        ensures { result ≡ self.now.state.moment }
+    {
+        self.state().moment
+    }
+
+    /// What starts before this is committed.
+    pub fn committed(&self) -> u32
+        ensures { result ≡ self.now.state.committed }
+    {
+        self.state().committed
+    }
+
+    /// The least start that a repair may give.
+    pub fn floor(&self) -> u32
+        requires { self.now.spoiled ≡ false }
+        ensures { result ≡ floor_of self.now.state }
+    {
+        self.state().floor()
+    }
+
+    pub fn next_id(&self) -> u32
+        ensures { result ≡ self.now.state.next_id }
+    {
+        self.state().next_id
+    }
+
+    pub fn live_limit(&self) -> u32
+        ensures { result ≡ self.now.state.live_limit }
+    {
+        self.state().live_limit
+    }
+
+    /// How much of a capacity is in use at a moment.
+    pub fn use_at(&self, line: u32, t: u32) -> i64
+        requires unspoiled { self.now.spoiled ≡ false }
+        requires capacity { IsCapacityLine (slice_get self.now.state.model.timelines line) }
+        requires now { self.now.state.moment ≤ t }
+        requires before_horizon { t < self.now.state.model.horizon }
+        ensures { result ≡ use_at self.now.state line t }
+    {
+        pl_demands::use_at(self.state(), self.demands(), line, t)
+    }
+
+    /// The level at a moment.
+    pub fn level_at(&self, line: u32, t: u32) -> i64
+        requires unspoiled { self.now.spoiled ≡ false }
+        requires level { IsLevelLine (slice_get self.now.state.model.timelines line) }
+        requires now { self.now.state.moment ≤ t }
+        requires before_horizon { t < self.now.state.model.horizon }
+        ensures { result ≡ level_at self.now.state line t }
+    {
+        pl_demands::level_at(self.state(), self.demands(), line, t)
+    }
+
+    /// The number of the state at a moment.
+    pub fn state_at(&self, line: u32, t: u32) -> u32
+        requires unspoiled { self.now.spoiled ≡ false }
+        requires states { IsStateLine (slice_get self.now.state.model.timelines line) }
+        requires now { self.now.state.moment ≤ t }
+        requires before_horizon { t < self.now.state.model.horizon }
+        ensures { result ≡ state_at self.now.state line t }
+    {
+        pl_demands::state_at(self.state(), self.demands(), line, t)
+    }
+}

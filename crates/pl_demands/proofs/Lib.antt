@@ -1,0 +1,4 @@
+pub mod Bounded
+pub mod Later
+pub mod Grounds
+pub mod Resting

@@ -1,0 +1,173 @@
+//! What activities ask of timelines.
+ghost use Rattle.std.specs.Prelude.{◌≡◌, ◌++◌, ◌≤◌, ◌≤ℤ◌, pos, true, length, map, OnOk, IfOk, IfSome, Some, All};
+ghost use Rattle.pl_model.specs.Values.{value_of, NamesBelow};
+ghost use Rattle.pl_plan.specs.Activities.{activity_of};
+ghost use Rattle.pl_plan.specs.Fitting.{kind_of};
+ghost use Rattle.pl_plan.specs.Firm.{is_within, amount_of, has_amount};
+ghost use Rattle.pl_links.specs.Broken.{point_of};
+ghost use Rattle.pl_world.specs.PlanStates.{numbered, reservations_in, row_of, end_at};
+ghost use Rattle.pl_world.specs.Whole.{IsWhole};
+ghost use Rattle.pl_world.specs.Demands.{amount_in, asked_for, demands_until, demands_at, demands_of};
+
+use pl_capacity::Use;
+use pl_level::Effect;
+use pl_model::{Expr, Model, Point, Reservation, eval};
+use pl_plan::Activity;
+use pl_state::{Must, Setting};
+use pl_world::{Asked, Demand, PlanState};
+use std::alloc::{AllocError, Global};
+
+#[tactic(auto, unfolding(pl_world::specs::Demands::demands_at))]
+/// Appends what an activity asks for, by reservation: nothing where it is not firm.
+pub fn demands_at(
+    alloc: Global,
+    s: &PlanState,
+    a: &Activity,
+    out: &mut Vec<Demand>,
+) -> Result<(), AllocError>
+    requires whole { IsWhole s.now }
+    requires live { activity_of a.now.id s.now.plan.activities ≡ Some a.now }
+    ensures { OnOk result (out.new.items ≡ out.old.items ++ demands_at s.now a.now) }
+{
+    let evaluated = s.plan.evaluate(alloc, s.model.get(), a.id)?;
+    match evaluated.end {
+        Some(end) => add_until(s, a, end, evaluated.values.as_slice(), out),
+        None => Ok(()),
+    }
+}
+
+/// What all activities ask for, by id and then by reservation.
+pub fn demands(alloc: Global, s: &PlanState) -> Result<Vec<Demand>, AllocError>
+    requires { IsWhole s.now }
+    ensures { IfOk result (λ all. all.items ≡ demands_of s.now) }
+{
+    let mut all = Vec::new(alloc);
+    for a in s.plan.activities() {
+        demands_at(alloc, s, a, &mut all)?;
+    }
+    Ok(all)
+}
+
+// What a firm activity asks for.
+fn add_until(
+    s: &PlanState,
+    a: &Activity,
+    end: u32,
+    values: &[Option<i64>],
+    out: &mut Vec<Demand>,
+) -> Result<(), AllocError>
+    requires whole { IsWhole s.now }
+    requires live { activity_of a.now.id s.now.plan.activities ≡ Some a.now }
+    requires end { end_at s.now a.now ≡ Some end }
+    requires values { values.now ≡ row_of s.now a.now }
+    ensures { OnOk result (out.new.items ≡ out.old.items ++ demands_until s.now a.now end) }
+{
+    let reservations = reservations_in(s.model.get(), a);
+    add_demands(a, end, values, reservations, out)?;
+    Ok(())
+}
+
+fn reservations_in<'m>(model: &'m Model, a: &Activity) -> &'m [Reservation]
+    ensures { result.now ≡ reservations_in (kind_of model.now a.now) }
+{
+    match model.kinds.as_slice().get(a.kind as usize) {
+        Some(kind) => kind.reservations.as_slice(),
+        None => &[],
+    }
+}
+
+fn add_demands(
+    a: &Activity,
+    end: u32,
+    values: &[Option<i64>],
+    reservations: &[Reservation],
+    out: &mut Vec<Demand>,
+) -> Result<(), AllocError>
+    requires few { length reservations.now ≤ 32 }
+    requires amounts { All (λ r. has_amount values.now r ≡ true) reservations.now }
+    requires names { All (λ r. IfSome (amount_of r) (NamesBelow (length values.now))) reservations.now }
+    ensures { OnOk result (out.new.items ≡ out.old.items ++ map (asked_for a.now.id a.now.start end values.now) (numbered 0 reservations.now)) }
+{
+    for (number, reservation) in reservations.iter().enumerate() {
+        out.push(asked_for(a, end, values, number as u32, reservation))?;
+    }
+    Ok(())
+}
+
+fn asked_for(
+    a: &Activity,
+    end: u32,
+    values: &[Option<i64>],
+    number: u32,
+    reservation: &Reservation,
+) -> Demand
+    requires amount { has_amount values.now reservation.now ≡ true }
+    requires names { IfSome (amount_of reservation.now) (NamesBelow (length values.now)) }
+    ensures { result ≡ asked_for a.now.id a.now.start end values.now (number, reservation.now) }
+{
+    match reservation {
+        Reservation::Take(line, amount) => Demand {
+            line: *line,
+            asked: Asked::Use(Use {
+                from: a.start,
+                to: end,
+                amount: amount_in(amount, values),
+            }),
+        },
+        Reservation::Raise(line, amount, point) => Demand {
+            line: *line,
+            asked: Asked::Effect(Effect {
+                at: moment(*point, a.start, end),
+                delta: amount_in(amount, values),
+            }),
+        },
+        Reservation::Lower(line, amount, point) => Demand {
+            line: *line,
+            asked: Asked::Effect(Effect {
+                at: moment(*point, a.start, end),
+                delta: -amount_in(amount, values),
+            }),
+        },
+        Reservation::Put(line, state, point) => Demand {
+            line: *line,
+            asked: Asked::Set(Setting {
+                at: moment(*point, a.start, end),
+                id: a.id,
+                index: number,
+                state: *state,
+            }),
+        },
+        Reservation::Must(line, state) => Demand {
+            line: *line,
+            asked: Asked::Must(Must {
+                from: a.start,
+                to: end,
+                id: a.id,
+                index: number,
+                state: *state,
+            }),
+        },
+    }
+}
+
+fn moment(point: Point, start: u32, end: u32) -> u32
+    ensures { result ≡ point_of point start end }
+{
+    match point {
+        Point::Start => start,
+        Point::End => end,
+    }
+}
+
+fn amount_in(amount: &Expr, values: &[Option<i64>]) -> i64
+    requires within { is_within (pos 0) (pos 1000000000) (value_of amount.now values.now) ≡ true }
+    requires names { NamesBelow (length values.now) amount.now }
+    ensures value { result ≡ amount_in values.now amount.now }
+    ensures least { pos 0 ≤ℤ result }
+    ensures most { result ≤ℤ pos 1000000000 }
+{
+    match eval(amount, values) {
+        Some(value) => value,
+        None => unreachable!(),
+    }
+}

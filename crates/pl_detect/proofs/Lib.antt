@@ -1,0 +1,5 @@
+pub mod Found
+pub mod Named
+pub mod Stored
+pub mod Children
+pub mod BrokenConflicts

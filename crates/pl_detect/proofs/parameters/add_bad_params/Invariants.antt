@@ -1,0 +1,9 @@
+use Rattle.std.proofs.Common.{◌≡◌, ◌++◌, drop}
+use Rattle.std.specs.List.{flat_map}
+use Rattle.pl_world.specs.PlanStates.{numbered}
+use Rattle.pl_world.specs.Activities.{bad_param, params_at}
+use Rattle.pl_detect.proofs.parameters.add_bad_params.Given as goal
+
+-- what was added and what the other parameters give
+abbrev pub invariant-loop-number : goal.invariant-loop-number
+invariant-loop-number l = l.out.items ++ flat_map (bad_param l.s l.a) (numbered l.number (drop l.number l.params)) ≡ l.initial.out.items ++ flat_map (bad_param l.s l.a) (params_at l.s l.a)

@@ -1,0 +1,19 @@
+//! What is wrong with a plan, found anew: the conflicts of its goals, its activities and its links.
+#![tactic(auto)]
+
+mod activities;
+mod amounts;
+mod bindings;
+mod detection;
+mod filing;
+mod goals;
+mod links;
+mod parameters;
+mod placing;
+mod slots;
+mod valuation;
+
+pub use activities::{activity_conflicts, wrong_at};
+pub use detection::{detect, detect_with, plan_conflicts};
+pub use goals::{goal_conflicts, off_at, open_at};
+pub use links::{add_broken, add_conflict_of, link_conflicts};
