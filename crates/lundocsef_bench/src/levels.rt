@@ -40,10 +40,15 @@ fn jump_at(place: u32, calm: u32) -> Jump
     requires { place < 20000 }
     ensures { 1 ≤ result.at }
 {
-    let by = if place < calm { 1 } else { 3 };
+    let is_up = matches!(place % 4, 0 | 3);
     Jump {
         at: place * SPACING + 1,
-        by: if matches!(place % 4, 0 | 3) { by } else { -by },
+        by: match (place < calm, is_up) {
+            (true, true) => 1,
+            (true, false) => -1,
+            (false, true) => 3,
+            (false, false) => -3,
+        },
     }
 }
 
