@@ -1,4 +1,6 @@
 use crate::{capacity, level, state};
+use pl_blocks::BlockPoints;
+use pl_points::PlainPoints;
 use std::test::Fail;
 
 const SEQUENCES: u64 = 200;
@@ -6,7 +8,23 @@ const SEQUENCES: u64 = 200;
 #[test]
 fn capacities(rt: HostRuntime) -> Result<(), Fail> {
     for seed in 0..SEQUENCES {
-        assert!(rt; capacity::agrees(rt.alloc(), seed)?, "with seed {seed}");
+        let points = PlainPoints::new(rt.alloc());
+        assert!(rt;
+            capacity::agrees(rt.alloc(), seed, points)?,
+            "with seed {seed}"
+        );
+    }
+    Ok(())
+}
+
+#[test]
+fn capacities_over_blocks(rt: HostRuntime) -> Result<(), Fail> {
+    for seed in 0..SEQUENCES {
+        let points = BlockPoints::new(rt.alloc());
+        assert!(rt;
+            capacity::agrees(rt.alloc(), seed, points)?,
+            "with seed {seed}"
+        );
     }
     Ok(())
 }
@@ -14,7 +32,23 @@ fn capacities(rt: HostRuntime) -> Result<(), Fail> {
 #[test]
 fn levels(rt: HostRuntime) -> Result<(), Fail> {
     for seed in 0..SEQUENCES {
-        assert!(rt; level::agrees(rt.alloc(), seed)?, "with seed {seed}");
+        let points = PlainPoints::new(rt.alloc());
+        assert!(rt;
+            level::agrees(rt.alloc(), seed, points)?,
+            "with seed {seed}"
+        );
+    }
+    Ok(())
+}
+
+#[test]
+fn levels_over_blocks(rt: HostRuntime) -> Result<(), Fail> {
+    for seed in 0..SEQUENCES {
+        let points = BlockPoints::new(rt.alloc());
+        assert!(rt;
+            level::agrees(rt.alloc(), seed, points)?,
+            "with seed {seed}"
+        );
     }
     Ok(())
 }
