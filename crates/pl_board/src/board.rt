@@ -11,8 +11,6 @@ ghost use Rattle.pl_board.specs.Replaced.{CanReplace, with_plan};
 
 use crate::replacement::{next_after, replace};
 use pl_conflict::ConflictSet;
-
-
 use pl_demands::demands;
 use pl_detect::detect;
 use pl_facts::{Bases, Goal, Goals};

@@ -58,11 +58,7 @@ pub fn detect_with(
 }
 
 /// All that is wrong with a plan, given what its activities ask for.
-pub fn detect(
-    alloc: Global,
-    s: &PlanState,
-    demands: &[Demand],
-) -> Result<ConflictSet, AllocError>
+pub fn detect(alloc: Global, s: &PlanState, demands: &[Demand]) -> Result<ConflictSet, AllocError>
     requires whole { IsWhole s.now }
     requires demands { demands.now ≡ demands_of s.now }
     ensures { IfOk result (λ set. set ≡ conflicts_of s.now) }
