@@ -1,11 +1,11 @@
 //! A capacity and its uses.
-ghost use Rattle.std.specs.Prelude.{◌≡◌, ◌<◌, ◌≤◌, [], ◌++◌, true, suc, length, take, drop, OnOk, IfSome};
+ghost use Rattle.std.specs.Prelude.{◌≡◌, ◌<◌, ◌≤◌, ◌++◌, true, suc, length, take, drop, OnOk, IfSome};
 ghost use Rattle.pl_points.specs.Standing.{without, stands};
 ghost use Rattle.pl_capacity.specs.Uses.{IsUse, same_use, use_of};
 
 use crate::plain::{CHANGES, HORIZON, below, grow, is_change};
 use pl_capacity::{Capacity, Use};
-use pl_points::{Change, Points, Quiet, Span, Steps};
+use pl_points::{Change, PlainPoints, Quiet, Span, Steps};
 use rand_pcg::Pcg32;
 use std::alloc::{AllocError, Global};
 
@@ -31,8 +31,8 @@ fn place_of(uses: &[Use], found: Use) -> Option<usize>
     None
 }
 
-fn add<P: Points>(
-    line: &mut Capacity<P>,
+fn add(
+    line: &mut Capacity<PlainPoints>,
     uses: &mut Vec<Use>,
     added: Use,
 ) -> Result<Change, AllocError>
@@ -46,8 +46,8 @@ fn add<P: Points>(
     Ok(change)
 }
 
-fn remove<P: Points>(
-    line: &mut Capacity<P>,
+fn remove(
+    line: &mut Capacity<PlainPoints>,
     uses: &mut Vec<Use>,
     place: usize,
     from: u32,
@@ -85,7 +85,7 @@ fn spans_of(alloc: Global, uses: &[Use], moment: u32) -> Result<Vec<Span>, Alloc
     Ok(spans)
 }
 
-fn tells<P: Points>(line: &Capacity<P>, uses: &[Use], moment: u32) -> bool
+fn tells(line: &Capacity<PlainPoints>, uses: &[Use], moment: u32) -> bool
     requires moment { line.now.moment ≡ moment }
     requires horizon { line.now.horizon ≡ 20 }
 {
@@ -111,8 +111,8 @@ fn any_use(words: &mut Pcg32) -> Use
 }
 
 // One change of any kind, or None where the drawn one asks for what does not stand.
-fn change<P: Points>(
-    line: &mut Capacity<P>,
+fn change(
+    line: &mut Capacity<PlainPoints>,
     uses: &mut Vec<Use>,
     moment: &mut u32,
     words: &mut Pcg32,
@@ -133,8 +133,8 @@ fn change<P: Points>(
     }
 }
 
-fn go_on<P: Points>(
-    line: &mut Capacity<P>,
+fn go_on(
+    line: &mut Capacity<PlainPoints>,
     moment: &mut u32,
     words: &mut Pcg32,
 ) -> Result<Option<Change>, AllocError>
@@ -152,8 +152,8 @@ fn go_on<P: Points>(
     Ok(Some(change))
 }
 
-fn give_back<P: Points>(
-    line: &mut Capacity<P>,
+fn give_back(
+    line: &mut Capacity<PlainPoints>,
     uses: &mut Vec<Use>,
     words: &mut Pcg32,
 ) -> Result<Option<Change>, AllocError>
@@ -170,8 +170,8 @@ fn give_back<P: Points>(
     }
 }
 
-fn give_back_one<P: Points>(
-    line: &mut Capacity<P>,
+fn give_back_one(
+    line: &mut Capacity<PlainPoints>,
     uses: &mut Vec<Use>,
     gone: Use,
 ) -> Result<Option<Change>, AllocError>
@@ -187,8 +187,8 @@ fn give_back_one<P: Points>(
     }
 }
 
-fn take_more<P: Points>(
-    line: &mut Capacity<P>,
+fn take_more(
+    line: &mut Capacity<PlainPoints>,
     uses: &mut Vec<Use>,
     words: &mut Pcg32,
 ) -> Result<Option<Change>, AllocError>
@@ -202,11 +202,9 @@ fn take_more<P: Points>(
     Ok(Some(change))
 }
 
-/// Whether all of a sequence of changes, over the points, is as the plain definition has it.
-pub fn agrees<P: Points>(alloc: Global, seed: u64, points: P) -> Result<bool, AllocError>
-    requires { P.points points ≡ [] }
-{
-    let mut line = Capacity::new(alloc, HORIZON, MOST, points);
+/// Whether all of a sequence of changes is as the plain definition has it.
+pub fn agrees(alloc: Global, seed: u64) -> Result<bool, AllocError> {
+    let mut line = Capacity::new(alloc, HORIZON, MOST, PlainPoints::new(alloc));
     let mut uses = Vec::new(alloc);
     let mut moment = 0;
     let mut plain = Vec::new(alloc);

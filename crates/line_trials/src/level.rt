@@ -1,11 +1,11 @@
 //! A level and its effects.
-ghost use Rattle.std.specs.Prelude.{◌≡◌, ◌<◌, ◌≤◌, [], ◌++◌, true, suc, length, take, drop, OnOk, IfSome};
+ghost use Rattle.std.specs.Prelude.{◌≡◌, ◌<◌, ◌≤◌, ◌++◌, true, suc, length, take, drop, OnOk, IfSome};
 ghost use Rattle.pl_points.specs.Standing.{without, stands};
 ghost use Rattle.pl_level.specs.Effects.{IsEffect, same_effect, effect_of};
 
 use crate::plain::{CHANGES, HORIZON, below, grow, is_change};
 use pl_level::{Effect, Level, LevelChange};
-use pl_points::{Points, Quiet, Span, Steps};
+use pl_points::{PlainPoints, Quiet, Span, Steps};
 use rand_pcg::Pcg32;
 use std::alloc::{AllocError, Global};
 
@@ -83,8 +83,8 @@ fn any_effect(words: &mut Pcg32) -> Effect
     }
 }
 
-fn go_on<P: Points>(
-    line: &mut Level<P>,
+fn go_on(
+    line: &mut Level<PlainPoints>,
     plain: &mut Plain,
     words: &mut Pcg32,
 ) -> Result<Option<LevelChange>, AllocError>
@@ -103,8 +103,8 @@ fn go_on<P: Points>(
     Ok(Some(change))
 }
 
-fn set_base<P: Points>(
-    line: &mut Level<P>,
+fn set_base(
+    line: &mut Level<PlainPoints>,
     plain: &mut Plain,
     words: &mut Pcg32,
 ) -> Result<Option<LevelChange>, AllocError>
@@ -121,8 +121,8 @@ fn set_base<P: Points>(
     Ok(Some(change))
 }
 
-fn give_back<P: Points>(
-    line: &mut Level<P>,
+fn give_back(
+    line: &mut Level<PlainPoints>,
     plain: &mut Plain,
     words: &mut Pcg32,
 ) -> Result<Option<LevelChange>, AllocError>
@@ -140,8 +140,8 @@ fn give_back<P: Points>(
     }
 }
 
-fn remove<P: Points>(
-    line: &mut Level<P>,
+fn remove(
+    line: &mut Level<PlainPoints>,
     plain: &mut Plain,
     place: usize,
     at: u32,
@@ -159,8 +159,8 @@ fn remove<P: Points>(
     Ok(change)
 }
 
-fn give_back_one<P: Points>(
-    line: &mut Level<P>,
+fn give_back_one(
+    line: &mut Level<PlainPoints>,
     plain: &mut Plain,
     gone: Effect,
 ) -> Result<Option<LevelChange>, AllocError>
@@ -177,8 +177,8 @@ fn give_back_one<P: Points>(
     }
 }
 
-fn take_more<P: Points>(
-    line: &mut Level<P>,
+fn take_more(
+    line: &mut Level<PlainPoints>,
     plain: &mut Plain,
     words: &mut Pcg32,
 ) -> Result<Option<LevelChange>, AllocError>
@@ -196,8 +196,8 @@ fn take_more<P: Points>(
 }
 
 // One change of any kind, or None where the drawn one asks for what does not stand.
-fn change<P: Points>(
-    line: &mut Level<P>,
+fn change(
+    line: &mut Level<PlainPoints>,
     plain: &mut Plain,
     words: &mut Pcg32,
 ) -> Result<Option<LevelChange>, AllocError>
@@ -218,7 +218,7 @@ fn change<P: Points>(
     }
 }
 
-fn tells<P: Points>(line: &Level<P>, plain: &Plain) -> bool
+fn tells(line: &Level<PlainPoints>, plain: &Plain) -> bool
     requires moment { line.now.moment ≡ plain.now.moment }
     requires horizon { line.now.horizon ≡ 20 }
 {
@@ -246,13 +246,11 @@ fn is_answer(
     }
 }
 
-/// Whether all of a sequence of changes, over the points, is as the plain definition has it.
-pub fn agrees<P: Points>(alloc: Global, seed: u64, points: P) -> Result<bool, AllocError>
-    requires { P.points points ≡ [] }
-{
+/// Whether all of a sequence of changes is as the plain definition has it.
+pub fn agrees(alloc: Global, seed: u64) -> Result<bool, AllocError> {
     let mut words = Pcg32::new(seed, 100);
     let start = i64::from(below(&mut words, 9));
-    let mut line = Level::new(alloc, HORIZON, LEAST, MOST, start, points);
+    let mut line = Level::new(alloc, HORIZON, LEAST, MOST, start, PlainPoints::new(alloc));
     let mut plain = Plain {
         effects: Vec::new(alloc),
         moment: 0,

@@ -1,12 +1,11 @@
-ghost use Rattle.std.specs.Prelude.{◌≡◌, ◌≤◌, ◌<◌, [], length, OnOk, IfOk, vec_len};
+ghost use Rattle.std.specs.Prelude.{◌≡◌, ◌≤◌, ◌<◌, length, OnOk, IfOk, vec_len};
 
 use crate::places::place_of;
 use crate::report::{Cost, Found, nanos_each, show};
 use crate::spans::{Delta, push_piece};
 use anyhow::Result;
-use pl_blocks::BlockPoints;
 use pl_capacity::Capacity;
-use pl_points::{PlainPoints, Points, Quiet, Span, Steps};
+use pl_points::{PlainPoints, Quiet, Span, Steps};
 use std::alloc::{AllocError, Global};
 use std::time::CpuClock;
 
@@ -25,7 +24,7 @@ struct Booking {
 }
 
 // The use of a place. Most of them reach into the next one's.
-fn booking_at(place: u32, amount: u16) -> Booking
+fn booking_at(place: u32) -> Booking
     requires { place < 10000 }
     ensures { result.from < result.to }
 {
@@ -33,12 +32,12 @@ fn booking_at(place: u32, amount: u16) -> Booking
     Booking {
         from,
         to: from + 85 + place % 20 * 2,
-        amount,
+        amount: 6,
     }
 }
 
 // One that lies within the use of its place.
-fn extra_at(place: u32, amount: u16) -> Booking
+fn extra_at(place: u32) -> Booking
     requires { place < 10000 }
     ensures { result.from < result.to }
 {
@@ -46,44 +45,39 @@ fn extra_at(place: u32, amount: u16) -> Booking
     Booking {
         from,
         to: from + 50,
-        amount,
+        amount: 6,
     }
 }
 
-fn filled<P: Points>(
-    alloc: Global,
-    points: P,
-    count: u32,
-    amount: u16,
-) -> Result<Capacity<P>, AllocError>
-    requires points { P.points points ≡ [] }
-    requires few { count ≤ 10000 }
+fn filled(alloc: Global, count: u32) -> Result<Capacity<PlainPoints>, AllocError>
+    requires { count ≤ 10000 }
     ensures { IfOk result (λ c. length c.uses ≡ count) }
 {
     let mut steps = Steps::new(Quiet);
+    let points = PlainPoints::new(alloc);
     let mut line = Capacity::new(alloc, count * SPACING, i64::from(MOST), points);
     for index in 0..count {
-        let new = booking_at(place_of(index, count), amount);
+        let new = booking_at(place_of(index, count));
         line.add(new.from, new.to, i64::from(new.amount), &mut steps)?;
     }
     Ok(line)
 }
 
 // The same uses in a plain list.
-fn listed(alloc: Global, count: u32, amount: u16) -> Result<Vec<Booking>, AllocError>
+fn listed(alloc: Global, count: u32) -> Result<Vec<Booking>, AllocError>
     requires { count ≤ 10000 }
     ensures { IfOk result (λ v. vec_len v ≡ count) }
 {
     let mut bookings = Vec::new(alloc);
     for index in 0..count {
-        bookings.push(booking_at(place_of(index, count), amount))?;
+        bookings.push(booking_at(place_of(index, count)))?;
     }
     Ok(bookings)
 }
 
 // One use comes and goes.
 #[tactic(auto, using(crate::proofs::Pairs::use_stands, crate::proofs::Pairs::use_gone))]
-fn change<P: Points>(line: &mut Capacity<P>, new: Booking) -> Result<(), AllocError>
+fn change(line: &mut Capacity<PlainPoints>, new: Booking) -> Result<(), AllocError>
     requires few { length line.old.uses ≤ 10000 }
     requires new { new.from < new.to }
     ensures { OnOk result (length line.new.uses ≡ length line.old.uses) }
@@ -96,18 +90,13 @@ fn change<P: Points>(line: &mut Capacity<P>, new: Booking) -> Result<(), AllocEr
 }
 
 // Changes at so many of the places.
-fn changed<P: Points>(
-    line: &mut Capacity<P>,
-    count: u32,
-    amount: u16,
-    changes: u32,
-) -> Result<(), AllocError>
+fn changed(line: &mut Capacity<PlainPoints>, count: u32, changes: u32) -> Result<(), AllocError>
     requires few { length line.old.uses ≤ 10000 }
     requires count { count ≤ 10000 }
     requires changes { changes ≤ count }
 {
     for index in 0..changes {
-        change(line, extra_at(place_of(index, count), amount))?;
+        change(line, extra_at(place_of(index, count)))?;
     }
     Ok(())
 }
@@ -160,7 +149,6 @@ fn recomputed_twice(
     alloc: Global,
     bookings: &mut Vec<Booking>,
     count: u32,
-    amount: u16,
     rounds: u32,
 ) -> Result<(), AllocError>
     requires few { vec_len bookings.old ≤ 10000 }
@@ -169,7 +157,7 @@ fn recomputed_twice(
     ensures { OnOk result (vec_len bookings.new ≡ vec_len bookings.old) }
 {
     for index in 0..rounds {
-        bookings.push(extra_at(place_of(index, count), amount))?;
+        bookings.push(extra_at(place_of(index, count)))?;
         recomputed(alloc, bookings, count * SPACING)?;
         bookings.pop();
         recomputed(alloc, bookings, count * SPACING)?;
@@ -178,13 +166,12 @@ fn recomputed_twice(
 }
 
 // Times the changes, and the recomputations.
-fn measure<P: Points>(
+fn measure(
     rt: &impl CpuClock,
     alloc: Global,
-    line: &mut Capacity<P>,
+    line: &mut Capacity<PlainPoints>,
     bookings: &mut Vec<Booking>,
     count: u32,
-    amount: u16,
     changes: u32,
 ) -> Result<Cost>
     requires uses { length line.old.uses ≤ 10000 }
@@ -195,9 +182,9 @@ fn measure<P: Points>(
     ensures { OnOk result (vec_len bookings.new ≡ vec_len bookings.old) }
 {
     let start = rt.thread_cpu_time()?;
-    changed(line, count, amount, changes)?;
+    changed(line, count, changes)?;
     let middle = rt.thread_cpu_time()?;
-    recomputed_twice(alloc, bookings, count, amount, ROUNDS)?;
+    recomputed_twice(alloc, bookings, count, ROUNDS)?;
     let end = rt.thread_cpu_time()?;
     Ok(Cost {
         change: nanos_each(start, middle, changes),
@@ -206,9 +193,9 @@ fn measure<P: Points>(
 }
 
 // Holds what the timeline tells against what is recomputed.
-fn compare<P: Points>(
+fn compare(
     alloc: Global,
-    line: &Capacity<P>,
+    line: &Capacity<PlainPoints>,
     bookings: &[Booking],
     horizon: u32,
 ) -> Result<Found, AllocError>
@@ -222,14 +209,12 @@ fn compare<P: Points>(
 }
 
 // Changes, recomputes, and says what was found.
-fn try_out<P: Points>(
+fn try_out(
     rt: &(impl Print + CpuClock),
     alloc: Global,
-    name: &str,
-    line: &mut Capacity<P>,
+    line: &mut Capacity<PlainPoints>,
     bookings: &mut Vec<Booking>,
     count: u32,
-    amount: u16,
     changes: u32,
     is_timed: bool,
 ) -> Result<()>
@@ -239,48 +224,16 @@ fn try_out<P: Points>(
     requires few { count ≤ 10000 }
     requires changes { changes ≤ count }
 {
-    let cost = measure(rt, alloc, line, bookings, count, amount, changes)?;
+    let cost = measure(rt, alloc, line, bookings, count, changes)?;
     let found = compare(alloc, line, bookings, count * SPACING)?;
-    show(rt, name, "spans", found, cost, is_timed)
+    show(rt, "capacity", "spans", found, cost, is_timed)
 }
 
-// Changes a capacity over the points, recomputes beside it, and says what both found.
-fn run_over<P: Points>(
-    rt: &(impl Print + CpuClock),
-    alloc: Global,
-    points: P,
-    name: &str,
-    count: u32,
-    amount: u16,
-    changes: u32,
-    is_timed: bool,
-) -> Result<()>
-    requires points { P.points points ≡ [] }
-    requires some { 40 ≤ count }
-    requires few { count ≤ 10000 }
-    requires changes { changes ≤ count }
-{
-    let mut line = filled(alloc, points, count, amount)?;
-    let mut bookings = listed(alloc, count, amount)?;
-    try_out(
-        rt,
-        alloc,
-        name,
-        &mut line,
-        &mut bookings,
-        count,
-        amount,
-        changes,
-        is_timed,
-    )
-}
-
-/// The same for a capacity over plain points and for one over blocks, with uses of the amount.
+/// Changes a capacity, recomputes beside it, and says what both found.
 pub fn run(
     rt: &(impl Print + CpuClock),
     alloc: Global,
     count: u32,
-    amount: u16,
     changes: u32,
     is_timed: bool,
 ) -> Result<()>
@@ -288,18 +241,14 @@ pub fn run(
     requires few { count ≤ 10000 }
     requires changes { changes ≤ count }
 {
-    let plain = PlainPoints::new(alloc);
-    run_over(
-        rt, alloc, plain, "capacity", count, amount, changes, is_timed,
-    )?;
-    let blocks = BlockPoints::new(alloc);
-    run_over(
+    let mut line = filled(alloc, count)?;
+    let mut bookings = listed(alloc, count)?;
+    try_out(
         rt,
         alloc,
-        blocks,
-        "capacity over blocks",
+        &mut line,
+        &mut bookings,
         count,
-        amount,
         changes,
         is_timed,
     )

@@ -3,7 +3,7 @@ use Rattle.std.proofs.Common.{◌≡◌, ◌≤◌}
 use Rattle.line_trials.proofs.capacity.agrees.Given as goal
 
 abbrev pub invariant-loop-turn : goal.invariant-loop-turn
-invariant-loop-turn g l = record {
+invariant-loop-turn l = record {
   tied : l.line.uses ≡ l.uses.items;
   moment : l.line.moment ≡ l.moment;
   in_time : l.moment ≤ 20;

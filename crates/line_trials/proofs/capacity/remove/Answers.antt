@@ -5,7 +5,7 @@ use Rattle.pl_capacity.specs.Uses.{same_use, use_of}
 use Rattle.line_trials.proofs.capacity.remove.Goals as goal
 
 pub returns : goal.returns
-returns g c =
+returns c =
     let is = to_z-of_z w64 c.args.amount c.ranges.amount in
     let e : c.remove-2.new.self.items ≡ without same_use (use_of c.args.from c.args.to c.args.amount) c.args.line.now.uses =
     c.remove-2.ensures.items ∙ (c.requires.rest ∙ ap (without same_use (use_of c.args.from c.args.to c.args.amount)) (sym c.requires.tied)) in

@@ -3,7 +3,7 @@ use Rattle.std.proofs.Common.{◌≡◌, ◌≤◌}
 use Rattle.line_trials.proofs.level.agrees.Given as goal
 
 abbrev pub invariant-loop-turn : goal.invariant-loop-turn
-invariant-loop-turn g l = record {
+invariant-loop-turn l = record {
   tied : l.line.effects ≡ l.plain.effects.items;
   moment : l.line.moment ≡ l.plain.moment;
   in_time : l.plain.moment ≤ 20;

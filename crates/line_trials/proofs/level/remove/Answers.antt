@@ -5,7 +5,7 @@ use Rattle.pl_level.specs.Effects.{same_effect, effect_of}
 use Rattle.line_trials.proofs.level.remove.Goals as goal
 
 pub returns-clause-tied : goal.returns-clause-tied
-returns-clause-tied g c =
+returns-clause-tied c =
     let is = to_z-of_z w64 c.args.delta c.ranges.delta in
     let gone = effect_of c.args.at c.args.delta in
     let e : c.remove-2.new.self.items ≡ without same_effect gone c.args.line.now.effects =
