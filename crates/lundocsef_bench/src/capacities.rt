@@ -1,11 +1,12 @@
-ghost use Rattle.std.specs.Prelude.{◌≡◌, ◌≤◌, ◌<◌, length, OnOk, IfOk, vec_len};
+ghost use Rattle.std.specs.Prelude.{◌≡◌, ◌≤◌, ◌<◌, [], length, OnOk, IfOk, vec_len};
 
 use crate::places::place_of;
 use crate::report::{Cost, Found, nanos_each, show};
 use crate::spans::{Delta, push_piece};
 use anyhow::Result;
+use pl_blocks::BlockPoints;
 use pl_capacity::Capacity;
-use pl_points::{PlainPoints, Quiet, Span, Steps};
+use pl_points::{PlainPoints, Points, Quiet, Span, Steps};
 use std::alloc::{AllocError, Global};
 use std::time::CpuClock;
 
@@ -24,7 +25,7 @@ struct Booking {
 }
 
 // The use of a place. Most of them reach into the next one's.
-fn booking_at(place: u32) -> Booking
+fn booking_at(place: u32, amount: u16) -> Booking
     requires { place < 10000 }
     ensures { result.from < result.to }
 {
@@ -32,12 +33,12 @@ fn booking_at(place: u32) -> Booking
     Booking {
         from,
         to: from + 85 + place % 20 * 2,
-        amount: 6,
+        amount,
     }
 }
 
 // One that lies within the use of its place.
-fn extra_at(place: u32) -> Booking
+fn extra_at(place: u32, amount: u16) -> Booking
     requires { place < 10000 }
     ensures { result.from < result.to }
 {
@@ -45,39 +46,44 @@ fn extra_at(place: u32) -> Booking
     Booking {
         from,
         to: from + 50,
-        amount: 6,
+        amount,
     }
 }
 
-fn filled(alloc: Global, count: u32) -> Result<Capacity<PlainPoints>, AllocError>
-    requires { count ≤ 10000 }
+fn filled<P: Points>(
+    alloc: Global,
+    points: P,
+    count: u32,
+    amount: u16,
+) -> Result<Capacity<P>, AllocError>
+    requires points { P.points points ≡ [] }
+    requires few { count ≤ 10000 }
     ensures { IfOk result (λ c. length c.uses ≡ count) }
 {
     let mut steps = Steps::new(Quiet);
-    let points = PlainPoints::new(alloc);
     let mut line = Capacity::new(alloc, count * SPACING, i64::from(MOST), points);
     for index in 0..count {
-        let new = booking_at(place_of(index, count));
+        let new = booking_at(place_of(index, count), amount);
         line.add(new.from, new.to, i64::from(new.amount), &mut steps)?;
     }
     Ok(line)
 }
 
 // The same uses in a plain list.
-fn listed(alloc: Global, count: u32) -> Result<Vec<Booking>, AllocError>
+fn listed(alloc: Global, count: u32, amount: u16) -> Result<Vec<Booking>, AllocError>
     requires { count ≤ 10000 }
     ensures { IfOk result (λ v. vec_len v ≡ count) }
 {
     let mut bookings = Vec::new(alloc);
     for index in 0..count {
-        bookings.push(booking_at(place_of(index, count)))?;
+        bookings.push(booking_at(place_of(index, count), amount))?;
     }
     Ok(bookings)
 }
 
 // One use comes and goes.
 #[tactic(auto, using(crate::proofs::Pairs::use_stands, crate::proofs::Pairs::use_gone))]
-fn change(line: &mut Capacity<PlainPoints>, new: Booking) -> Result<(), AllocError>
+fn change<P: Points>(line: &mut Capacity<P>, new: Booking) -> Result<(), AllocError>
     requires few { length line.old.uses ≤ 10000 }
     requires new { new.from < new.to }
     ensures { OnOk result (length line.new.uses ≡ length line.old.uses) }
@@ -90,13 +96,18 @@ fn change(line: &mut Capacity<PlainPoints>, new: Booking) -> Result<(), AllocErr
 }
 
 // Changes at so many of the places.
-fn changed(line: &mut Capacity<PlainPoints>, count: u32, changes: u32) -> Result<(), AllocError>
+fn changed<P: Points>(
+    line: &mut Capacity<P>,
+    count: u32,
+    amount: u16,
+    changes: u32,
+) -> Result<(), AllocError>
     requires few { length line.old.uses ≤ 10000 }
     requires count { count ≤ 10000 }
     requires changes { changes ≤ count }
 {
     for index in 0..changes {
-        change(line, extra_at(place_of(index, count)))?;
+        change(line, extra_at(place_of(index, count), amount))?;
     }
     Ok(())
 }
@@ -149,6 +160,7 @@ fn recomputed_twice(
     alloc: Global,
     bookings: &mut Vec<Booking>,
     count: u32,
+    amount: u16,
     rounds: u32,
 ) -> Result<(), AllocError>
     requires few { vec_len bookings.old ≤ 10000 }
@@ -157,7 +169,7 @@ fn recomputed_twice(
     ensures { OnOk result (vec_len bookings.new ≡ vec_len bookings.old) }
 {
     for index in 0..rounds {
-        bookings.push(extra_at(place_of(index, count)))?;
+        bookings.push(extra_at(place_of(index, count), amount))?;
         recomputed(alloc, bookings, count * SPACING)?;
         bookings.pop();
         recomputed(alloc, bookings, count * SPACING)?;
@@ -166,12 +178,13 @@ fn recomputed_twice(
 }
 
 // Times the changes, and the recomputations.
-fn measure(
+fn measure<P: Points>(
     rt: &impl CpuClock,
     alloc: Global,
-    line: &mut Capacity<PlainPoints>,
+    line: &mut Capacity<P>,
     bookings: &mut Vec<Booking>,
     count: u32,
+    amount: u16,
     changes: u32,
 ) -> Result<Cost>
     requires uses { length line.old.uses ≤ 10000 }
@@ -182,9 +195,9 @@ fn measure(
     ensures { OnOk result (vec_len bookings.new ≡ vec_len bookings.old) }
 {
     let start = rt.thread_cpu_time()?;
-    changed(line, count, changes)?;
+    changed(line, count, amount, changes)?;
     let middle = rt.thread_cpu_time()?;
-    recomputed_twice(alloc, bookings, count, ROUNDS)?;
+    recomputed_twice(alloc, bookings, count, amount, ROUNDS)?;
     let end = rt.thread_cpu_time()?;
     Ok(Cost {
         change: nanos_each(start, middle, changes),
@@ -193,9 +206,9 @@ fn measure(
 }
 
 // Holds what the timeline tells against what is recomputed.
-fn compare(
+fn compare<P: Points>(
     alloc: Global,
-    line: &Capacity<PlainPoints>,
+    line: &Capacity<P>,
     bookings: &[Booking],
     horizon: u32,
 ) -> Result<Found, AllocError>
@@ -209,12 +222,14 @@ fn compare(
 }
 
 // Changes, recomputes, and says what was found.
-fn try_out(
+fn try_out<P: Points>(
     rt: &(impl Print + CpuClock),
     alloc: Global,
-    line: &mut Capacity<PlainPoints>,
+    name: &str,
+    line: &mut Capacity<P>,
     bookings: &mut Vec<Booking>,
     count: u32,
+    amount: u16,
     changes: u32,
     is_timed: bool,
 ) -> Result<()>
@@ -224,16 +239,48 @@ fn try_out(
     requires few { count ≤ 10000 }
     requires changes { changes ≤ count }
 {
-    let cost = measure(rt, alloc, line, bookings, count, changes)?;
+    let cost = measure(rt, alloc, line, bookings, count, amount, changes)?;
     let found = compare(alloc, line, bookings, count * SPACING)?;
-    show(rt, "capacity", "spans", found, cost, is_timed)
+    show(rt, name, "spans", found, cost, is_timed)
 }
 
-/// Changes a capacity, recomputes beside it, and says what both found.
+// Changes a capacity over the points, recomputes beside it, and says what both found.
+fn run_over<P: Points>(
+    rt: &(impl Print + CpuClock),
+    alloc: Global,
+    points: P,
+    name: &str,
+    count: u32,
+    amount: u16,
+    changes: u32,
+    is_timed: bool,
+) -> Result<()>
+    requires points { P.points points ≡ [] }
+    requires some { 40 ≤ count }
+    requires few { count ≤ 10000 }
+    requires changes { changes ≤ count }
+{
+    let mut line = filled(alloc, points, count, amount)?;
+    let mut bookings = listed(alloc, count, amount)?;
+    try_out(
+        rt,
+        alloc,
+        name,
+        &mut line,
+        &mut bookings,
+        count,
+        amount,
+        changes,
+        is_timed,
+    )
+}
+
+/// The same for a capacity over plain points and for one over blocks, with uses of the amount.
 pub fn run(
     rt: &(impl Print + CpuClock),
     alloc: Global,
     count: u32,
+    amount: u16,
     changes: u32,
     is_timed: bool,
 ) -> Result<()>
@@ -241,14 +288,18 @@ pub fn run(
     requires few { count ≤ 10000 }
     requires changes { changes ≤ count }
 {
-    let mut line = filled(alloc, count)?;
-    let mut bookings = listed(alloc, count)?;
-    try_out(
+    let plain = PlainPoints::new(alloc);
+    run_over(
+        rt, alloc, plain, "capacity", count, amount, changes, is_timed,
+    )?;
+    let blocks = BlockPoints::new(alloc);
+    run_over(
         rt,
         alloc,
-        &mut line,
-        &mut bookings,
+        blocks,
+        "capacity over blocks",
         count,
+        amount,
         changes,
         is_timed,
     )

@@ -1,11 +1,12 @@
-ghost use Rattle.std.specs.Prelude.{◌≡◌, ◌≤◌, ◌<◌, length, OnOk, IfOk, vec_len};
+ghost use Rattle.std.specs.Prelude.{◌≡◌, ◌≤◌, ◌<◌, [], length, OnOk, IfOk, vec_len};
 
 use crate::places::place_of;
 use crate::report::{Cost, Found, nanos_each, show};
 use crate::spans::{Delta, push_piece};
 use anyhow::Result;
+use pl_blocks::BlockPoints;
 use pl_level::Level;
-use pl_points::{PlainPoints, Quiet, Span, Steps};
+use pl_points::{PlainPoints, Points, Quiet, Span, Steps};
 use std::alloc::{AllocError, Global};
 use std::time::CpuClock;
 
@@ -33,14 +34,21 @@ struct Outside {
     high: Vec<Span>,
 }
 
-// The effect at a place: up and back, down and back, in turn.
-fn jump_at(place: u32) -> Jump
+// The effect at a place: up and back, down and back, in turn. Before the place `calm` the level
+// stays within its limits.
+fn jump_at(place: u32, calm: u32) -> Jump
     requires { place < 20000 }
     ensures { 1 ≤ result.at }
 {
+    let is_up = matches!(place % 4, 0 | 3);
     Jump {
         at: place * SPACING + 1,
-        by: if matches!(place % 4, 0 | 3) { 3 } else { -3 },
+        by: match (place < calm, is_up) {
+            (true, true) => 1,
+            (true, false) => -1,
+            (false, true) => 3,
+            (false, false) => -3,
+        },
     }
 }
 
@@ -51,11 +59,17 @@ fn extra_at(place: u32) -> Jump
 {
     Jump {
         at: place * SPACING + 26,
-        by: 2,
+        by: 1,
     }
 }
 
-fn filled(alloc: Global, count: u32) -> Result<Level<PlainPoints>, AllocError>
+fn filled<P: Points>(
+    alloc: Global,
+    points: P,
+    count: u32,
+    calm: u32,
+) -> Result<Level<P>, AllocError>
+    requires points { P.points points ≡ [] }
     requires some { 0 < count }
     requires few { count ≤ 20000 }
     ensures { IfOk result (λ c. length c.effects ≡ count) }
@@ -67,30 +81,30 @@ fn filled(alloc: Global, count: u32) -> Result<Level<PlainPoints>, AllocError>
         i64::from(LEAST),
         i64::from(MOST),
         i64::from(START),
-        PlainPoints::new(alloc),
+        points,
     );
     for index in 0..count {
-        let new = jump_at(place_of(index, count));
+        let new = jump_at(place_of(index, count), calm);
         line.add(new.at, i64::from(new.by), &mut steps)?;
     }
     Ok(line)
 }
 
 // The same effects in a plain list.
-fn listed(alloc: Global, count: u32) -> Result<Vec<Jump>, AllocError>
+fn listed(alloc: Global, count: u32, calm: u32) -> Result<Vec<Jump>, AllocError>
     requires { count ≤ 20000 }
     ensures { IfOk result (λ v. vec_len v ≡ count) }
 {
     let mut jumps = Vec::new(alloc);
     for index in 0..count {
-        jumps.push(jump_at(place_of(index, count)))?;
+        jumps.push(jump_at(place_of(index, count), calm))?;
     }
     Ok(jumps)
 }
 
 // One effect comes and goes.
 #[tactic(auto, using(crate::proofs::Pairs::effect_stands, crate::proofs::Pairs::effect_gone))]
-fn change(line: &mut Level<PlainPoints>, new: Jump) -> Result<(), AllocError>
+fn change<P: Points>(line: &mut Level<P>, new: Jump) -> Result<(), AllocError>
     requires few { length line.old.effects ≤ 20000 }
     requires new { 1 ≤ new.at }
     ensures { OnOk result (length line.new.effects ≡ length line.old.effects) }
@@ -103,7 +117,7 @@ fn change(line: &mut Level<PlainPoints>, new: Jump) -> Result<(), AllocError>
 }
 
 // Changes at so many of the places.
-fn changed(line: &mut Level<PlainPoints>, count: u32, changes: u32) -> Result<(), AllocError>
+fn changed<P: Points>(line: &mut Level<P>, count: u32, changes: u32) -> Result<(), AllocError>
     requires few { length line.old.effects ≤ 20000 }
     requires count { count ≤ 20000 }
     requires changes { changes ≤ count }
@@ -183,10 +197,10 @@ fn recomputed_twice(
 }
 
 // Times the changes, and the recomputations.
-fn measure(
+fn measure<P: Points>(
     rt: &impl CpuClock,
     alloc: Global,
-    line: &mut Level<PlainPoints>,
+    line: &mut Level<P>,
     jumps: &mut Vec<Jump>,
     count: u32,
     changes: u32,
@@ -210,9 +224,9 @@ fn measure(
 }
 
 // Holds what the timeline tells against what is recomputed.
-fn compare(
+fn compare<P: Points>(
     alloc: Global,
-    line: &Level<PlainPoints>,
+    line: &Level<P>,
     jumps: &[Jump],
     horizon: u32,
 ) -> Result<Found, AllocError>
@@ -228,10 +242,11 @@ fn compare(
 }
 
 // Changes, recomputes, and says what was found.
-fn try_out(
+fn try_out<P: Points>(
     rt: &(impl Print + CpuClock),
     alloc: Global,
-    line: &mut Level<PlainPoints>,
+    name: &str,
+    line: &mut Level<P>,
     jumps: &mut Vec<Jump>,
     count: u32,
     changes: u32,
@@ -245,14 +260,39 @@ fn try_out(
 {
     let cost = measure(rt, alloc, line, jumps, count, changes)?;
     let found = compare(alloc, line, jumps, count * SPACING)?;
-    show(rt, "level", "spans", found, cost, is_timed)
+    show(rt, name, "spans", found, cost, is_timed)
 }
 
-/// Changes a level, recomputes beside it, and says what both found.
+// Changes a level over the points, recomputes beside it, and says what both found.
+fn run_over<P: Points>(
+    rt: &(impl Print + CpuClock),
+    alloc: Global,
+    points: P,
+    name: &str,
+    count: u32,
+    calm: u32,
+    changes: u32,
+    is_timed: bool,
+) -> Result<()>
+    requires points { P.points points ≡ [] }
+    requires some { 40 ≤ count }
+    requires few { count ≤ 20000 }
+    requires changes { changes ≤ count }
+{
+    let mut line = filled(alloc, points, count, calm)?;
+    let mut jumps = listed(alloc, count, calm)?;
+    try_out(
+        rt, alloc, name, &mut line, &mut jumps, count, changes, is_timed,
+    )
+}
+
+/// The same for a level over plain points and for one over blocks, which stays within its limits
+/// up to the place `calm`.
 pub fn run(
     rt: &(impl Print + CpuClock),
     alloc: Global,
     count: u32,
+    calm: u32,
     changes: u32,
     is_timed: bool,
 ) -> Result<()>
@@ -260,7 +300,17 @@ pub fn run(
     requires few { count ≤ 20000 }
     requires changes { changes ≤ count }
 {
-    let mut line = filled(alloc, count)?;
-    let mut jumps = listed(alloc, count)?;
-    try_out(rt, alloc, &mut line, &mut jumps, count, changes, is_timed)
+    let plain = PlainPoints::new(alloc);
+    run_over(rt, alloc, plain, "level", count, calm, changes, is_timed)?;
+    let blocks = BlockPoints::new(alloc);
+    run_over(
+        rt,
+        alloc,
+        blocks,
+        "level over blocks",
+        count,
+        calm,
+        changes,
+        is_timed,
+    )
 }
