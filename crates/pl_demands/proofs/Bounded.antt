@@ -1,6 +1,6 @@
 -- What each demand keeps, and how few there are.
-use Rattle.std.proofs.Common.{◌≡◌, ℕ, zero, suc, ◌+◌, ◌*◌, ◌<◌, ◌≤◌, leb, Bool, true, false, cond, List, [], ◌∷◌, ◌++◌, length, get_or, map, Option, Some, None, refl, sym, ap, ◌∙◌, subst, arith, ℤ, pos, negsuc, neg_ℤ, ◌≤ℤ◌}
-use Rattle.std.specs.Prelude.{◌&&◌, All, IfSome, nat_le, int_le, is_some, unwrap_or, slice_get, option_and_then}
+use Rattle.std.proofs.Common.{◌≡◌, ℕ, suc, ◌+◌, ◌*◌, ◌<◌, ◌≤◌, Bool, true, false, cond, List, [], ◌∷◌, length, get_or, map, Option, Some, None, refl, sym, ap, ◌∙◌, subst, arith, ℤ, pos, negsuc, ◌≤ℤ◌}
+use Rattle.std.specs.Prelude.{◌&&◌, All, IfSome, nat_le, int_le, is_some, unwrap_or, option_and_then}
 use Rattle.std.specs.Option.{option_map}
 use Rattle.std.specs.List.{list_all, flat_map}
 use Rattle.std.proofs.lemmas.Bool.{and_parts, leb-true}
@@ -8,20 +8,17 @@ use Rattle.std.proofs.lemmas.Int.{ints}
 use Rattle.std.proofs.lemmas.List.{length-append, length-map}
 use Rattle.std.proofs.lemmas.List.Elements.{All-nil, All-cons, All-head, All-tail, All-append, All-weaker}
 use Rattle.std.proofs.lemmas.List.Sums.{AllPass-from_list_all}
-use Rattle.std.specs.Int.Signed.{le_z_yes}
-use Rattle.pl_model.specs.declared.expressions.Expr.{Expr}
 use Rattle.pl_model.specs.declared.reservations.Point.{Point}
 use Rattle.pl_model.specs.declared.reservations.Point.TheVariants.{Start, End}
 use Rattle.pl_model.specs.declared.reservations.Reservation.{Reservation}
 use Rattle.pl_model.specs.declared.reservations.Reservation.TheVariants as reservation
 use Rattle.pl_model.specs.declared.kinds.Kind.{Kind}
 use Rattle.pl_model.specs.declared.whole.Model.{Model}
-use Rattle.pl_model.specs.declared.timelines.Timeline.{Timeline}
 use Rattle.pl_model.specs.Values.{value_of, NamesBelow}
-use Rattle.pl_model.specs.Checked.{IsChecked, IsCheckedKind, IsReservation, params_of}
+use Rattle.pl_model.specs.Checked.{IsReservation, params_of}
 use Rattle.pl_plan.specs.declared.activity.Activity.{Activity}
 use Rattle.pl_plan.specs.Activities.{activity_of, AreRising}
-use Rattle.pl_plan.specs.Fitting.{Fits, FitsAlone, kind_of}
+use Rattle.pl_plan.specs.Fitting.{FitsAlone, kind_of}
 use Rattle.pl_plan.specs.Values.{Row, values_of}
 use Rattle.pl_plan.specs.Firm.{is_within, amount_of, has_amount, are_in_range, moments_in, duration_in, is_firm_with, end_with, end_in, end_of}
 use Rattle.pl_plan.proofs.Climbs.{all_at}
@@ -31,9 +28,9 @@ use Rattle.pl_plan.proofs.ValueLaws.{values_solve}
 use Rattle.pl_links.specs.Broken.{point_of}
 use Rattle.pl_world.specs.declared.plan_state.PlanState.{PlanState}
 use Rattle.pl_world.specs.declared.demand.Demand.{Demand}
-use Rattle.pl_world.specs.PlanStates.{numbered, reservations_in, reservations_of, row_of, end_at, of_found}
+use Rattle.pl_world.specs.PlanStates.{numbered, reservations_in, row_of, end_at, of_found}
 use Rattle.pl_world.specs.Whole.{IsWhole}
-use Rattle.pl_world.specs.Demands.{amount_in, asked_for, demands_until, demands_at, demands_of}
+use Rattle.pl_world.specs.Demands.{asked_for, demands_until, demands_at, demands_of}
 use Rattle.pl_demands.specs.Bounds.{IsMoment, IsBounded, IsDemandOf}
 
 -- ---- one demand

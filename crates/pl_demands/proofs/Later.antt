@@ -1,6 +1,6 @@
 -- The last set among sorted ones, where one more is put in its place.
 use Rattle.std.proofs.Common.{◌≡◌, ℕ, Bool, true, false, cond, List, [], ◌∷◌, ◌++◌, Option, Some, None, refl, sym, ap, ◌∙◌, subst, append-nil, ◌+◌, ◌<◌, length, get_or, take}
-use Rattle.std.specs.List.{fold, flat_map}
+use Rattle.std.specs.List.{flat_map}
 use Rattle.std.proofs.lemmas.Grind.{fold-append, flat_map-append}
 use Rattle.pl_state.specs.declared.reservation.Setting.{Setting}
 use Rattle.pl_state.specs.Keys.{NoneBefore, AreSorted}
@@ -10,7 +10,7 @@ use Rattle.pl_world.specs.declared.demand.Demand.{Demand}
 use Rattle.pl_world.specs.Demands.{asked_of, set_in, sets_of}
 use Rattle.pl_demands.specs.Fresh.{with_sets}
 use Rattle.pl_demands.proofs.Resting.{take_next}
-use Rattle.pl_demands.specs.Latest.{is_between, or_when, last_with, later, later_when, last_among, last_after, state_left}
+use Rattle.pl_demands.specs.Latest.{is_between, or_when, last_with, later_when, last_among, last_after, state_left}
 
 -- ---- none of them comes before one more
 

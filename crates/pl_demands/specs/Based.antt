@@ -1,7 +1,7 @@
 -- Timelines that have a base.
 use Rattle.std.specs.Prelude.{ℕ, ℤ, pos, ◌≤ℤ◌, Option, Some, None}
 use Rattle.pl_model.specs.declared.timelines.Timeline.{Timeline}
-use Rattle.pl_model.specs.declared.timelines.Timeline.TheVariants.{Capacity, Level, States}
+use Rattle.pl_model.specs.declared.timelines.Timeline.TheVariants.{States}
 use Rattle.pl_facts.specs.Bases.{base_of}
 use Rattle.pl_world.specs.declared.plan_state.PlanState.{PlanState}
 

@@ -1,4 +1,3 @@
-use Rattle.std.proofs.Common.{◌≡◌, sym, subst, List, ℕ}
 use Rattle.pl_demands.proofs.Bounded.{may_ask}
 use Rattle.pl_demands.proofs.asking.add_until.Goals as goal
 

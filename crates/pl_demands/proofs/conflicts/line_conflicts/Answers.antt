@@ -1,5 +1,4 @@
-use Rattle.std.proofs.Common.{sym, ap, ◌∙◌, Some, subst}
-use Rattle.pl_model.specs.Checked.{IsCheckedLine}
+use Rattle.std.proofs.Common.{ap, ◌∙◌, Some}
 use Rattle.pl_demands.proofs.Grounds.{raw_level, checked_line, level_limits, states_limits}
 use Rattle.pl_demands.proofs.conflicts.line_conflicts.Goals as goal
 

@@ -1,7 +1,6 @@
 use Rattle.std.proofs.Common.{◌≡◌, ◌++◌, drop}
 use Rattle.std.specs.List.{flat_map}
 use Rattle.pl_world.specs.PlanStates.{numbered}
-use Rattle.pl_world.specs.Demands.{demands_of}
 use Rattle.pl_world.specs.Timelines.{line_conflicts, timeline_conflicts}
 use Rattle.pl_demands.proofs.conflicts.timeline_conflicts.Given as goal
 

@@ -1,4 +1,4 @@
-use Rattle.std.proofs.Common.{◌≡◌, sym}
+use Rattle.std.proofs.Common.{sym}
 use Rattle.pl_world.specs.PlanStates.{natural}
 use Rattle.pl_world.specs.Demands.{since, told, sets_of, demands_of, state_at}
 use Rattle.pl_demands.proofs.Grounds.{states_based, wider_base}
