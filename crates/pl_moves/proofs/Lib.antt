@@ -1,0 +1,10 @@
+mod Descents
+mod Offsets
+mod Slots
+mod Swaps
+mod Subtrees
+mod Cuts
+mod Remade
+mod Grown
+mod Branched
+mod Made
