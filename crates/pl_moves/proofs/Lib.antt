@@ -8,3 +8,4 @@ mod Remade
 mod Grown
 mod Branched
 mod Made
+mod Drops
