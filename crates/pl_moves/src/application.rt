@@ -1,0 +1,79 @@
+ghost use Rattle.std.specs.Prelude.{◌≡◌, ◌≤◌, false, true, None, OnOk, OnErr, IfErr};
+ghost use Rattle.pl_world.specs.Moves.{is_proper, refusal_of, applied};
+ghost use Rattle.pl_board.specs.Boards.{after};
+ghost use Rattle.pl_moves.specs.Changes.{IsOfActivities};
+ghost use Rattle.pl_moves.specs.Outcomes.{Fails, IsMade};
+
+use crate::change::change_of;
+use crate::legality::refusal;
+use crate::move_fault::MoveFault;
+use pl_board::Board;
+use pl_plan::RepairMove;
+use pl_points::{Ledger, Steps};
+use std::alloc::{AllocError, Global};
+
+// Makes a move of activities.
+fn replace_by<L: Ledger>(
+    alloc: Global,
+    board: &mut Board,
+    mv: &RepairMove,
+    steps: &mut Steps<L>,
+) -> Result<(), AllocError>
+    requires unspoiled { board.old.spoiled ≡ false }
+    requires proper { is_proper board.old.state mv.now ≡ true }
+    requires allowed { refusal_of board.old.state mv.now ≡ None }
+    requires next { board.old.state.next_id ≤ 3999999000 }
+    requires activities { IsOfActivities mv.now }
+    ensures ok { OnOk result (board.new ≡ after (applied board.old.state mv.now)) }
+    ensures err { OnErr result (board.new.spoiled ≡ true) }
+{
+    match change_of(alloc, board.state(), mv) {
+        Ok(change) => board.replace(&change.gone, &change.placed, steps),
+        Err(fault) => {
+            board.spoil();
+            Err(fault)
+        }
+    }
+}
+
+// Makes a move that is not refused.
+pub(crate) fn make<L: Ledger>(
+    alloc: Global,
+    board: &mut Board,
+    mv: &RepairMove,
+    steps: &mut Steps<L>,
+) -> Result<(), AllocError>
+    requires unspoiled { board.old.spoiled ≡ false }
+    requires proper { is_proper board.old.state mv.now ≡ true }
+    requires allowed { refusal_of board.old.state mv.now ≡ None }
+    requires next { board.old.state.next_id ≤ 3999999000 }
+    ensures ok { OnOk result (board.new ≡ after (applied board.old.state mv.now)) }
+    ensures err { OnErr result (board.new.spoiled ≡ true) }
+{
+    match *mv {
+        RepairMove::Drop { goal } => board.drop_goal(goal),
+        _ => replace_by(alloc, board, mv, steps),
+    }
+}
+
+/// Makes a proper move, if it is not refused. Want of memory spoils the board.
+pub fn apply<L: Ledger>(
+    alloc: Global,
+    board: &mut Board,
+    mv: &RepairMove,
+    steps: &mut Steps<L>,
+) -> Result<(), MoveFault>
+    requires unspoiled { board.old.spoiled ≡ false }
+    requires proper { is_proper board.old.state mv.now ≡ true }
+    requires next { board.old.state.next_id ≤ 3999999000 }
+    ensures made { OnOk result (IsMade mv.now board.old board.new) }
+    ensures fault { IfErr result (λ fault. Fails mv.now fault board.old board.new) }
+{
+    match refusal(board.state(), mv) {
+        Some(reason) => Err(MoveFault::Refused(reason)),
+        None => {
+            make(alloc, board, mv, steps)?;
+            Ok(())
+        }
+    }
+}

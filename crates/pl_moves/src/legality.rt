@@ -1,0 +1,114 @@
+ghost use Rattle.std.specs.Prelude.{◌≡◌, false, true, length, find, ◌≤◌, IfOk, IfErr, Some, None};
+ghost use Rattle.std.specs.Option.{option_map};
+ghost use Rattle.pl_plan.specs.Trees.{IsRooted, id_of};
+ghost use Rattle.pl_world.specs.PlanStates.{found};
+ghost use Rattle.pl_world.specs.Whole.{IsWhole};
+ghost use Rattle.pl_world.specs.Moves.{children_for, count_of_new, is_changed, is_full, is_locked, is_proper, refusal_of};
+
+use crate::descent::descends;
+use crate::side::Side;
+use crate::starts::{alternative_at, first_started};
+use pl_board::Board;
+use pl_plan::{Activity, RepairMove};
+use pl_world::{PlanState, Refusal};
+
+fn changes(s: &PlanState, mv: &RepairMove, a: &Activity) -> bool
+    requires { IsRooted s.now.plan.activities }
+    ensures { result ≡ is_changed s.now mv.now a.now }
+{
+    match *mv {
+        RepairMove::Delete { id } => descends(&s.plan, id, a.id),
+        RepairMove::Shift { id, .. } => descends(&s.plan, id, a.id),
+        RepairMove::Detail { id, .. } => a.id == id,
+        RepairMove::Abstract { id } => descends(&s.plan, id, a.id),
+        RepairMove::Assign { id, .. } => descends(&s.plan, id, a.id),
+        RepairMove::Add { .. } => false,
+        RepairMove::Drop { .. } => false,
+    }
+}
+
+// The move changes it, though it is committed.
+fn is_locked(s: &PlanState, mv: &RepairMove, a: &Activity) -> bool
+    requires { IsRooted s.now.plan.activities }
+    ensures { result ≡ is_locked s.now mv.now a.now }
+{
+    a.start < s.committed && changes(s, mv, a)
+}
+
+fn first_locked(s: &PlanState, mv: &RepairMove, activities: &[Activity]) -> Option<u32>
+    requires { IsRooted s.now.plan.activities }
+    ensures { result ≡ option_map id_of (find (is_locked s.now mv.now) activities.now) }
+{
+    for a in activities {
+        if is_locked(s, mv, a) {
+            return Some(a.id);
+        }
+    }
+    None
+}
+
+fn count_of_children(s: &PlanState, id: u32, alternative: u32) -> usize
+    requires { IsWhole s.now }
+    ensures count { result ≡ length (children_for s.now alternative (found s.now id)) }
+    ensures few { result ≤ 16 }
+{
+    match s.plan.get(id) {
+        Some(a) => match alternative_at(s, a, alternative) {
+            Some(of) => of.slots.len(),
+            None => 0,
+        },
+        None => 0,
+    }
+}
+
+fn count_of_new(s: &PlanState, mv: &RepairMove) -> usize
+    requires { IsWhole s.now }
+    ensures count { result ≡ count_of_new s.now mv.now }
+    ensures few { result ≤ 16 }
+{
+    match *mv {
+        RepairMove::Add { .. } => 1,
+        RepairMove::Detail { id, alternative } => count_of_children(s, id, alternative),
+        _ => 0,
+    }
+}
+
+// More would live than may.
+fn is_full(s: &PlanState, mv: &RepairMove) -> bool
+    requires { IsWhole s.now }
+    ensures { result ≡ is_full s.now mv.now }
+{
+    (s.live_limit as usize) < s.plan.len() as usize + count_of_new(s, mv)
+}
+
+/// Why the move is refused, if it is.
+#[tactic(auto, unfolding(pl_world::specs::Moves::refusal_of))]
+pub(crate) fn refusal(s: &PlanState, mv: &RepairMove) -> Option<Refusal>
+    requires { IsWhole s.now }
+    ensures { result ≡ refusal_of s.now mv.now }
+{
+    if let Some(id) = first_locked(s, mv, s.plan.activities()) {
+        Some(Refusal::Locked(id))
+    } else if let Some(id) = first_started(s, mv, Side::BelowFloor) {
+        Some(Refusal::Behind(id))
+    } else if let Some(id) = first_started(s, mv, Side::PastHorizon) {
+        Some(Refusal::Beyond(id))
+    } else if is_full(s, mv) {
+        Some(Refusal::Full)
+    } else {
+        None
+    }
+}
+
+/// Whether a proper move may be made, and why not.
+pub fn legal(board: &Board, mv: &RepairMove) -> Result<(), Refusal>
+    requires unspoiled { board.now.spoiled ≡ false }
+    requires proper { is_proper board.now.state mv.now ≡ true }
+    ensures ok { IfOk result (λ made. refusal_of board.now.state mv.now ≡ None) }
+    ensures refused { IfErr result (λ reason. refusal_of board.now.state mv.now ≡ Some reason) }
+{
+    match refusal(board.state(), mv) {
+        Some(reason) => Err(reason),
+        None => Ok(()),
+    }
+}

@@ -1,0 +1,20 @@
+//! Repair moves on a board: which may be made, and what they make of it.
+#![tactic(auto)]
+
+mod application;
+mod change;
+mod children;
+mod descent;
+mod legality;
+mod lookups;
+mod move_fault;
+mod properness;
+mod side;
+mod starts;
+mod trial;
+
+pub use application::apply;
+pub use legality::legal;
+pub use move_fault::MoveFault;
+pub use properness::proper;
+pub use trial::left_after;

@@ -1,0 +1,6 @@
+/// On which side of the starts that a repair may give another start lies.
+#[derive(Clone, Copy, Debug, PartialEq, Eq)]
+pub(crate) enum Side {
+    BelowFloor,
+    PastHorizon,
+}
