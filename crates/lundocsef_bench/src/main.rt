@@ -43,6 +43,15 @@ fn try_levels(rt: &(impl Print + CpuClock), alloc: Global, count: u32) -> Result
     levels::run(rt, alloc, count, 0, 1_000, true)
 }
 
+// States with so many sets and as many musts.
+fn try_states(rt: &(impl Print + CpuClock), alloc: Global, count: u32) -> Result<()>
+    requires some { 1250 ≤ count }
+    requires few { count ≤ 10000 }
+{
+    println!(rt; "{count} sets and musts")?;
+    states::run(rt, alloc, count, 2_500, true)
+}
+
 fn main(rt: HostRuntime) -> Result<()> {
     let mut words = env::args(&rt)?;
     words.next();
@@ -53,7 +62,8 @@ fn main(rt: HostRuntime) -> Result<()> {
             try_capacities(&rt, rt.alloc(), 10_000)?;
             try_levels(&rt, rt.alloc(), 2_500)?;
             try_levels(&rt, rt.alloc(), 20_000)?;
-            states::run(&rt, rt.alloc(), 5_000, 10_000, true)
+            try_states(&rt, rt.alloc(), 1_250)?;
+            try_states(&rt, rt.alloc(), 10_000)
         }
         Some("turns") => turns::run(&rt, rt.alloc(), 200_000, true),
         Some("texts") => texts::run(&rt, rt.alloc(), 131_072, 4, true),

@@ -1,5 +1,5 @@
 -- Rows in which one block makes place for others.
-use Rattle.std.proofs.Common.{◌≡◌, ℕ, zero, suc, ◌+◌, ◌-◌, ◌*◌, ◌<◌, ◌≤◌, List, [], ◌∷◌, ◌++◌, length, get_or, take, drop, refl, ap, sym, ◌∙◌, subst, arith, append_assoc, set, pos}
+use Rattle.std.proofs.Common.{◌≡◌, ℕ, zero, suc, ◌+◌, ◌-◌, ◌<◌, ◌≤◌, List, [], ◌∷◌, ◌++◌, length, get_or, take, drop, refl, ap, sym, ◌∙◌, subst, arith, append_assoc, set, pos}
 use Rattle.std.proofs.lemmas.List.{length-drop, length-append}
 use Rattle.pl_points.specs.Points.{Point, ArePoints, RiseFrom, AreNear}
 use Rattle.pl_points.proofs.Parting.{drop_next}

@@ -1,12 +1,12 @@
 -- Rows of blocks as one list of points.
-use Rattle.std.proofs.Common.{◌≡◌, ℕ, zero, suc, ◌+◌, ◌-◌, ◌*◌, ◌<◌, ◌≤◌, Bool, true, false, ◌&&◌, cond, ltb, ◌/◌, List, [], ◌∷◌, ◌++◌, length, get_or, take, drop, refl, ap, sym, ◌∙◌, subst, arith, append_assoc, ℤ, pos, ◌+ℤ◌, eqb, leb, Some, None, Option}
+use Rattle.std.proofs.Common.{◌≡◌, ℕ, zero, suc, ◌+◌, ◌*◌, ◌<◌, ◌≤◌, Bool, true, false, ◌&&◌, cond, ltb, ◌/◌, List, [], ◌∷◌, ◌++◌, length, get_or, take, drop, refl, ap, sym, ◌∙◌, subst, arith, append_assoc, ℤ, pos, ◌+ℤ◌, eqb, leb}
 use Rattle.std.specs.Ordering.{int_eq}
-use Rattle.std.proofs.lemmas.Bool.{false≢true, cond_both, lt-ltb, le-ltb, ltb-true, ltb-false, leb-true, leb-false}
+use Rattle.std.proofs.lemmas.Bool.{false≢true, lt-ltb, le-ltb, ltb-true, leb-true, leb-false}
 use Rattle.std.proofs.lemmas.Int.{ints, to_z-of_z}
-use Rattle.std.proofs.lemmas.List.{length-drop, length-append}
-use Rattle.pl_points.specs.Lists.{front, back}
-use Rattle.pl_points.specs.Sums.{total, IsSmall}
-use Rattle.pl_points.specs.Points.{Point, sum_to, sum_below, is_before, put, merged, leaving, is_out, ahead_of, RiseFrom, SmallFrom, AreNear, ArePoints}
+use Rattle.std.proofs.lemmas.List.{length-append}
+use Rattle.pl_lists.specs.Lists.{front, back}
+use Rattle.pl_points.specs.Sums.{IsSmall}
+use Rattle.pl_points.specs.Points.{Point, sum_to, sum_below, is_before, put, merged, RiseFrom, SmallFrom, AreNear, ArePoints}
 use Rattle.pl_points.proofs.Parting.{NonePass, IsParted, back_fails, drop_next}
 use Rattle.pl_points.proofs.PointLists.{small_along, rising_later, small_near, rising_drop}
 use Rattle.pl_points.proofs.Outside.{back_le, below_none, small_back}

@@ -1,23 +1,22 @@
 -- Where a search over blocks ends, and how many blocks it passes.
-use Rattle.std.proofs.Common.{◌≡◌, ℕ, zero, suc, ◌+◌, ◌-◌, ◌*◌, ◌/◌, ◌^◌, ◌<◌, ◌≤◌, Bool, true, false, ◌||◌, cond, eqb, leb, List, [], ◌∷◌, ◌++◌, length, get_or, take, drop, refl, ap, sym, ◌∙◌, subst, arith, ℤ, pos, ◌+ℤ◌, ◌-ℤ◌, min, Some, None, Option, Result, Ok, Err, OnOk, OnErr}
-use Rattle.std.specs.Prelude.{int_lt, is_some}
+use Rattle.std.proofs.Common.{◌≡◌, ℕ, zero, suc, ◌+◌, ◌-◌, ◌/◌, ◌^◌, ◌<◌, ◌≤◌, Bool, true, false, cond, eqb, leb, List, [], ◌∷◌, ◌++◌, length, get_or, take, drop, refl, ap, sym, ◌∙◌, subst, arith, ℤ, pos, ◌+ℤ◌, ◌-ℤ◌, min, Some, None, Option, Result, Ok, Err, OnOk, OnErr}
+use Rattle.std.specs.Prelude.{int_lt}
 use Rattle.std.specs.Int.{int_min, int_max}
 use mir.Val.{to_z, of_z, SFits}
 use mir.Syntax.{w64}
-use Rattle.std.proofs.lemmas.Bool.{false≢true, cond_both, lt-ltb, le-ltb, ltb-false, leb-true, leb-false}
+use Rattle.std.proofs.lemmas.Bool.{false≢true, cond_both, ltb-false, leb-true, leb-false}
 use Rattle.std.specs.Ordering.{int_eq}
 use Rattle.std.proofs.lemmas.Int.{ints, to_z-of_z}
-use Rattle.std.proofs.lemmas.List.{length-drop, length-append, get_or_default, take_all}
-use Rattle.std.specs.List.Sorted.{IsPartitionPoint}
-use Rattle.pl_points.specs.Lists.{front, back}
+use Rattle.std.proofs.lemmas.List.{length-drop, get_or_default, take_all}
+use Rattle.pl_lists.specs.Lists.{front, back}
 use Rattle.pl_points.specs.Sums.{IsSmall}
-use Rattle.pl_points.specs.Points.{Point, sum_below, is_before, first_from, first_outside, merged, put, leaving, is_out, ahead_of, RiseFrom, SmallFrom, AreSmall, ArePoints}
+use Rattle.pl_points.specs.Points.{Point, sum_below, is_before, first_from, merged, put, leaving, is_out, ahead_of, RiseFrom, SmallFrom, AreSmall, ArePoints}
 use Rattle.pl_points.proofs.Parting.{IsParted, parted_by, cut, back_fails, drop_next}
 use Rattle.pl_points.proofs.PointLists.{head_of, first_is_head, small_along, rising_later, points-merged, length-merged}
-use Rattle.pl_points.proofs.Outside.{back_le, below_none, small_back, rising_back, first_is_leaving, leaving_ahead}
-use Rattle.pl_blocks.specs.Blocks.{together, is_past, blocks_from, change_of, delta_of, least_along, greatest_along, least_sum, greatest_sum, AreSized, AreFull, AreBlocks}
+use Rattle.pl_points.proofs.Outside.{back_le, below_none, small_back, leaving_ahead}
+use Rattle.pl_blocks.specs.Blocks.{together, is_past, blocks_from, change_of, least_along, greatest_along, least_sum, greatest_sum, AreSized, AreFull, AreBlocks}
 use Rattle.pl_blocks.specs.Mending.{with_points, Fit, IsMended}
-use Rattle.pl_blocks.proofs.Rows.{back_there, back_nowhere, not_past_there, in_two, is_past_up_to, whole_in_three, past_more, blocks_fall, blocks_behind, rise_split, rise_front, small_split, small_head, below_past, merged_there, merged_last, take_drop, sized_at, below_here}
+use Rattle.pl_blocks.proofs.Rows.{back_there, back_nowhere, not_past_there, in_two, is_past_up_to, whole_in_three, blocks_fall, blocks_behind, rise_split, rise_front, small_split, small_head, below_past, merged_there, merged_last, take_drop, sized_at, below_here}
 
 -- halves
 pub half_room : (w v e f : ℕ) → w < 2 ^ e → 0 < w → f ≡ e - 1 → v ≤ w / 2 → (v < 2 ^ f) × (0 < e)

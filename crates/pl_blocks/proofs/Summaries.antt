@@ -1,11 +1,11 @@
 -- What the least and the greatest sum of a block's fronts say.
-use Rattle.std.proofs.Common.{◌≡◌, ℕ, ◌+◌, ◌<◌, ◌≤◌, Bool, true, false, ◌||◌, cond, List, [], ◌∷◌, ◌++◌, length, get_or, refl, ap, sym, ◌∙◌, subst, arith, ℤ, pos, ◌+ℤ◌, Some, None, Option}
+use Rattle.std.proofs.Common.{◌≡◌, ◌<◌, Bool, true, false, ◌||◌, cond, List, [], ◌∷◌, ◌++◌, length, refl, ap, sym, ◌∙◌, arith, ℤ, pos, ◌+ℤ◌, Some, Option}
 use Rattle.std.specs.Prelude.{int_lt, is_some}
 use Rattle.std.specs.Int.{int_min, int_max}
 use Rattle.std.proofs.lemmas.Bool.{false≢true}
-use Rattle.std.proofs.lemmas.Int.{ints, clamps}
+use Rattle.std.proofs.lemmas.Int.{ints}
 use Rattle.pl_points.specs.Points.{Point, leaving, is_out}
-use Rattle.pl_blocks.specs.Blocks.{least_along, greatest_along, first_delta, least_sum, greatest_sum, change_of}
+use Rattle.pl_blocks.specs.Blocks.{least_along, greatest_along, least_sum, greatest_sum, change_of}
 
 -- whether the least or the greatest of some sums is outside
 abbrev pub either_out : ℤ → ℤ → ℤ → ℤ → Bool

@@ -1,5 +1,5 @@
 ghost use Rattle.std.specs.Prelude.{◌≡◌, ◌<◌, ◌≤◌, ◌+◌, pos, length, take, drop, OnErr, IfOk};
-ghost use Rattle.pl_points.specs.Lists.{front, back};
+ghost use Rattle.pl_lists.specs.Lists.{front, back};
 ghost use Rattle.pl_points.specs.Points.{is_before, sum_below, first_from, leaving, merged};
 ghost use Rattle.pl_points.specs.Points.{RiseFrom, AreNear, IsNear, SmallFrom};
 ghost use Rattle.pl_blocks.specs.Blocks.{is_past, change_of, least_sum, greatest_sum};

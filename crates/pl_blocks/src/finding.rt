@@ -1,5 +1,5 @@
 ghost use Rattle.std.specs.Prelude.{◌≡◌, ◌<◌, ◌≤◌, ◌+◌, ◌^◌, true, suc, length, take, drop};
-ghost use Rattle.pl_points.specs.Lists.{front, back};
+ghost use Rattle.pl_lists.specs.Lists.{front, back};
 ghost use Rattle.pl_points.specs.Points.{RiseFrom};
 ghost use Rattle.pl_blocks.specs.Blocks.{together, is_past, AreSized};
 

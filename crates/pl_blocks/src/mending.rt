@@ -161,20 +161,20 @@ pub(crate) fn mend<L: Ledger>(
 {
     let count = points.len();
     if count == 0 {
-        count_moved(blocks.len(), steps);
+        count_moved(blocks.len() - place, steps);
         blocks.remove(place);
         return Ok(());
     }
     if count > MOST {
-        count_moved(blocks.len(), steps);
+        count_moved(blocks.len() - place, steps);
         return split(alloc, blocks, place, points, steps);
     }
     if before_count(blocks, place) + count <= FEW {
-        count_moved(blocks.len(), steps);
+        count_moved(blocks.len() - place, steps);
         return join_before(alloc, blocks, place, points, steps);
     }
     if count + behind_count(blocks, place) <= FEW {
-        count_moved(blocks.len(), steps);
+        count_moved(blocks.len() - place, steps);
         return join_behind(blocks, place, points, steps);
     }
     blocks[place] = Block::new(points, steps);

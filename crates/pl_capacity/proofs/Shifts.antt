@@ -1,7 +1,7 @@
 -- What a shift of the sums leaves of a sound capacity.
-use Rattle.std.proofs.Common.{◌≡◌, ℕ, zero, suc, ◌+◌, ◌-◌, ◌^◌, ◌<◌, ◌≤◌, Bool, true, false, ◌&&◌, cond, List, [], ◌∷◌, ◌++◌, length, refl, ap, sym, ◌∙◌, subst, arith, eqb, ltb, leb, min, max, ℤ, pos, ◌+ℤ◌, ◌-ℤ◌, ◌≤ℤ◌, neg_ℤ}
+use Rattle.std.proofs.Common.{◌≡◌, ℕ, ◌+◌, ◌^◌, ◌≤◌, Bool, true, false, ◌&&◌, cond, List, [], ◌∷◌, ◌++◌, length, refl, ap, sym, ◌∙◌, subst, arith, eqb, leb, min, max, ℤ, pos, ◌+ℤ◌, ◌-ℤ◌, ◌≤ℤ◌, neg_ℤ}
 use Rattle.std.specs.Ordering.{int_eq}
-use Rattle.std.proofs.lemmas.Bool.{cond_both, eqb-true, true≢false, false≢true, and_parts, ltb-true, ltb-false, leb-true, leb-false, lt-ltb, le-ltb, le-leb, lt-leb}
+use Rattle.std.proofs.lemmas.Bool.{cond_both, eqb-true, true≢false, and_parts, leb-true, leb-false}
 use Rattle.std.proofs.lemmas.Bool.Decides.{nat_tests, Decides-int_eq}
 use Rattle.std.proofs.lemmas.Int.{ints, to_z-of_z}
 use mir.Val.{to_z, of_z, SFits}
@@ -10,23 +10,20 @@ use Rattle.std.specs.Prelude.{int_lt}
 use Rattle.pl_points.specs.declared.span.Span.{Span}
 use Rattle.pl_points.specs.declared.span.Change.{Change}
 use Rattle.pl_points.specs.declared.limit.Limit.TheVariants.{Above}
-use Rattle.pl_points.specs.declared.noted.Noted.{Noted}
-use Rattle.pl_points.specs.declared.noted.Noted.TheVariants.{Came, Went}
-use Rattle.pl_points.specs.Sums.{total}
 use Rattle.pl_points.specs.Points.{Point, sum_to, merged, AreSmall, RiseFrom}
 use Rattle.pl_points.specs.Limits.{is_outside}
 use Rattle.pl_points.specs.Counting.{shift_steps}
 use Rattle.pl_points.specs.Spans.{within, covers, AreSpans, AreMaximal}
 use Rattle.pl_points.specs.Mending.{mended}
 use Rattle.pl_points.specs.Changes.{IsChange}
-use Rattle.pl_points.specs.Standing.{Each, standing, stands, without}
+use Rattle.pl_points.specs.Standing.{Each, stands, without}
 use Rattle.pl_points.proofs.PointLists.{sum_to-merged, rising-merged, same_points}
 use Rattle.pl_points.proofs.Spanning.{within_true}
 use Rattle.pl_points.proofs.Cuts.{within_yes}
 use Rattle.pl_points.proofs.Maximal.{is_spans_of, remaximal, later_maximal, maximal_apart}
-use Rattle.pl_points.proofs.Totals.{total_bounds, each-all, IsAmount, total-push, total-without, length-without, each-push, each-without, each-stands, standing-push}
+use Rattle.pl_points.proofs.Totals.{total_bounds, each-all, IsAmount, total-push, total-without}
 use Rattle.pl_capacity.specs.declared.reservation.Use.{Use}
-use Rattle.pl_capacity.specs.Uses.{Standing, state_of, IsUse, use_of, same_use, taken_at, used, is_over, spans_now, points_of, use_steps}
+use Rattle.pl_capacity.specs.Uses.{Standing, IsUse, use_of, same_use, taken_at, used, is_over, spans_now, points_of, use_steps}
 use Rattle.pl_capacity.specs.Soundness.{IsSound}
 
 amount_taken : (t : ℕ) (u : Use) → IsUse u → IsAmount (taken_at t u)

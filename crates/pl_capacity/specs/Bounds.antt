@@ -1,5 +1,5 @@
 -- How many steps a change of a capacity over block points takes at most.
-use Rattle.std.specs.Prelude.{ℕ, ◌+◌, ◌*◌, ◌/◌, List, ◌∷◌, length, ℤ, neg_ℤ}
+use Rattle.std.specs.Prelude.{ℕ, ◌+◌, ◌*◌, ◌/◌, List, length, ℤ, neg_ℤ}
 use Rattle.pl_points.specs.Points.{Point, merged}
 use Rattle.pl_points.specs.Counting.{outside_count}
 use Rattle.pl_points.specs.declared.limit.Limit.TheVariants.{Above}

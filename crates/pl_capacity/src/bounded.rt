@@ -1,5 +1,5 @@
 //! Changes of capacities over block points, with the most steps that they take.
-ghost use Rattle.std.specs.Prelude.{◌≡◌, ◌≤◌, ◌+◌, false, true, [], ◌∷◌, ◌++◌, length, OnOk, OnErr, IfOk};
+ghost use Rattle.std.specs.Prelude.{◌≡◌, ◌≤◌, ◌+◌, false, true, [], ◌∷◌, ◌++◌, length, OnOk, OnErr, IfOk, IsErr};
 ghost use Rattle.pl_points.specs.Changes.{IsChange};
 ghost use Rattle.pl_points.specs.Standing.{without, stands};
 ghost use Rattle.pl_capacity.specs.Uses.{IsUse, use_of, same_use, spans_now, points_of};
@@ -22,8 +22,11 @@ pub fn add_bounded<L: Ledger>(
     requires few { line.old.spoiled ≡ false → length line.old.uses ≤ 319999 }
     ensures ok { OnOk result (line.new ≡ record line.old { uses = line.old.uses ++ use_of from to amount ∷ [] }) }
     ensures change { IfOk result (λ c. IsChange (spans_now line.old) (spans_now line.new) c) }
+    ensures unspoiled { OnOk result (line.old.spoiled ≡ false) }
     ensures err { OnErr result (line.new.spoiled ≡ true) }
+    ensures after_spoil { line.old.spoiled ≡ true → IsErr result }
     ensures cost { line.old.spoiled ≡ false → steps.new ≤ steps.old + bound line.old.most (points_of line.old.uses) (points_with_use (use_of from to amount) line.old.uses) }
+    ensures idle { line.old.spoiled ≡ true → steps.new ≡ steps.old }
 {
     laws_of_steps();
     line.add(from, to, amount, steps)
@@ -40,8 +43,11 @@ pub fn remove_bounded<L: Ledger>(
     requires { line.old.spoiled ≡ false → stands same_use (use_of from to amount) line.old.uses ≡ true }
     ensures ok { OnOk result (line.new ≡ record line.old { uses = without same_use (use_of from to amount) line.old.uses }) }
     ensures change { IfOk result (λ c. IsChange (spans_now line.old) (spans_now line.new) c) }
+    ensures unspoiled { OnOk result (line.old.spoiled ≡ false) }
     ensures err { OnErr result (line.new.spoiled ≡ true) }
+    ensures after_spoil { line.old.spoiled ≡ true → IsErr result }
     ensures cost { line.old.spoiled ≡ false → steps.new ≤ steps.old + bound line.old.most (points_of line.old.uses) (points_less_use (use_of from to amount) line.old.uses) }
+    ensures idle { line.old.spoiled ≡ true → steps.new ≡ steps.old }
 {
     laws_of_steps();
     line.remove(from, to, amount, steps)

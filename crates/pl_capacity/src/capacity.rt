@@ -70,6 +70,7 @@ impl<P: Points> Capacity<P> {
         ensures err { OnErr result (self.new.spoiled ≡ true) }
         ensures after_spoil { self.old.spoiled ≡ true → IsErr result }
         ensures cost { self.old.spoiled ≡ false → steps.new ≤ steps.old + use_steps P.parts P.change_steps P.look_steps P.search_steps self.old from to amount (neg_ℤ amount) }
+        ensures idle { self.old.spoiled ≡ true → steps.new ≡ steps.old }
     {
         if self.spoiled {
             return Err(AllocError);
@@ -111,6 +112,7 @@ impl<P: Points> Capacity<P> {
         ensures err { OnErr result (self.new.spoiled ≡ true) }
         ensures after_spoil { self.old.spoiled ≡ true → IsErr result }
         ensures cost { self.old.spoiled ≡ false → steps.new ≤ steps.old + use_steps P.parts P.change_steps P.look_steps P.search_steps self.old from to (neg_ℤ amount) amount }
+        ensures idle { self.old.spoiled ≡ true → steps.new ≡ steps.old }
     {
         if self.spoiled {
             return Err(AllocError);

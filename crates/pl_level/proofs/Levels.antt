@@ -1,10 +1,10 @@
 -- What a change leaves of a sound level.
-use Rattle.std.proofs.Common.{◌≡◌, ℕ, zero, suc, ◌+◌, ◌-◌, ◌*◌, ◌^◌, ◌<◌, ◌≤◌, Bool, true, false, ◌&&◌, cond, List, [], ◌∷◌, ◌++◌, length, refl, ap, sym, ◌∙◌, subst, arith, eqb, ltb, leb, min, max, ℤ, pos, ◌+ℤ◌, ◌-ℤ◌, ◌≤ℤ◌, ◌<ℤ◌, neg_ℤ}
+use Rattle.std.proofs.Common.{◌≡◌, ℕ, ◌+◌, ◌^◌, ◌<◌, ◌≤◌, Bool, true, false, ◌&&◌, cond, List, [], ◌∷◌, ◌++◌, length, refl, ap, sym, ◌∙◌, subst, arith, eqb, ltb, leb, min, max, ℤ, pos, ◌+ℤ◌, ◌-ℤ◌, ◌≤ℤ◌, neg_ℤ}
 use Rattle.std.specs.Ordering.{int_eq}
 use Rattle.std.specs.Prelude.{int_lt}
-use Rattle.std.proofs.lemmas.Bool.{cond_both, eqb-true, true≢false, false≢true, and_parts, ltb-true, ltb-false, leb-true, leb-false, lt-ltb, le-ltb, le-leb, lt-leb}
-use Rattle.std.proofs.lemmas.Bool.Decides.{nat_tests, Decides-int_eq}
-use Rattle.std.proofs.lemmas.Int.{ints, to_z-of_z, by_lt_z}
+use Rattle.std.proofs.lemmas.Bool.{cond_both, eqb-true, true≢false, and_parts, leb-true, leb-false, lt-ltb, le-ltb, le-leb}
+use Rattle.std.proofs.lemmas.Bool.Decides.{Decides-int_eq}
+use Rattle.std.proofs.lemmas.Int.{ints, to_z-of_z}
 use mir.Val.{to_z, of_z, SFits}
 use mir.Syntax.{w64}
 use Rattle.pl_points.specs.declared.span.Span.{Span}
@@ -15,14 +15,14 @@ use Rattle.pl_points.specs.Limits.{is_outside}
 use Rattle.pl_points.specs.Spans.{within, covers, AreSpans, AreMaximal, span}
 use Rattle.pl_points.specs.Mending.{mended}
 use Rattle.pl_points.specs.Changes.{IsChange}
-use Rattle.pl_points.specs.Standing.{Each, standing, stands, without}
+use Rattle.pl_points.specs.Standing.{Each, stands, without}
 use Rattle.pl_points.proofs.PointLists.{sum_to-merged, rising-merged, same_points}
 use Rattle.pl_points.specs.Counting.{walk_steps, points_with, points_after, goes_outside}
 use Rattle.pl_points.proofs.Strolls.{walk_less, after_all, after_same}
 use Rattle.pl_points.proofs.Spanning.{within_true, or_nil}
 use Rattle.pl_points.proofs.Cuts.{within_yes}
 use Rattle.pl_points.proofs.Maximal.{is_spans_of, remaximal, later_maximal, maximal_apart}
-use Rattle.pl_points.proofs.Totals.{total_bounds, each-all, IsAmount, total-push, total-without, length-without, each-push, each-without, each-stands, standing-push}
+use Rattle.pl_points.proofs.Totals.{total_bounds, each-all, IsAmount, total-push, total-without}
 use Rattle.pl_level.specs.declared.reservation.Effect.{Effect}
 use Rattle.pl_level.specs.declared.reservation.LevelChange.{LevelChange}
 use Rattle.pl_level.specs.Effects.{Standing, IsEffect, IsValue, effect_of, same_effect, counted, level, is_low, is_high, low_now, high_now, points_of, effect_steps}

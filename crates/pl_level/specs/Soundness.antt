@@ -1,7 +1,6 @@
 -- What a level that is not spoiled keeps.
 use Rattle.std.specs.Prelude.{◌≡◌, ℕ, ◌≤◌, ◌<◌, List, ℤ, pos, nat_le, length, ◌^◌, if◌then◌else◌}
 use Rattle.pl_points.specs.declared.span.Span.{Span}
-use Rattle.pl_points.specs.declared.span.Change.{Change}
 use Rattle.pl_points.specs.Sums.{total}
 use Rattle.pl_points.specs.Points.{sum_to, RiseFrom}
 use Rattle.pl_points.specs.Spans.{AreMaximal}

@@ -1,5 +1,5 @@
 //! Changes of levels over block points, with the most steps that they take.
-ghost use Rattle.std.specs.Prelude.{◌≡◌, ◌≤◌, ◌+◌, neg_ℤ, false, true, [], ◌∷◌, ◌++◌, length, OnOk, OnErr, IfOk};
+ghost use Rattle.std.specs.Prelude.{◌≡◌, ◌≤◌, ◌+◌, neg_ℤ, false, true, [], ◌∷◌, ◌++◌, length, OnOk, OnErr, IfOk, IsErr};
 ghost use Rattle.pl_points.specs.Standing.{without, stands};
 ghost use Rattle.pl_level.specs.Effects.{IsEffect, effect_of, same_effect, low_now, high_now};
 ghost use Rattle.pl_level.specs.Soundness.{AreChanges};
@@ -22,8 +22,11 @@ pub fn add_bounded<L: Ledger>(
     requires few { line.old.spoiled ≡ false → length line.old.effects ≤ 319999 }
     ensures ok { OnOk result (line.new ≡ record line.old { effects = line.old.effects ++ effect_of at delta ∷ [] }) }
     ensures change { IfOk result (λ c. AreChanges (low_now line.old) (low_now line.new) (high_now line.old) (high_now line.new) c) }
+    ensures unspoiled { OnOk result (line.old.spoiled ≡ false) }
     ensures err { OnErr result (line.new.spoiled ≡ true) }
+    ensures after_spoil { line.old.spoiled ≡ true → IsErr result }
     ensures cost { line.old.spoiled ≡ false → steps.new ≤ steps.old + bound line.old (line.old.effects ++ effect_of at delta ∷ []) at delta }
+    ensures idle { line.old.spoiled ≡ true → steps.new ≡ steps.old }
 {
     laws_of_steps();
     line.add(at, delta, steps)
@@ -39,8 +42,11 @@ pub fn remove_bounded<L: Ledger>(
     requires { line.old.spoiled ≡ false → stands same_effect (effect_of at delta) line.old.effects ≡ true }
     ensures ok { OnOk result (line.new ≡ record line.old { effects = without same_effect (effect_of at delta) line.old.effects }) }
     ensures change { IfOk result (λ c. AreChanges (low_now line.old) (low_now line.new) (high_now line.old) (high_now line.new) c) }
+    ensures unspoiled { OnOk result (line.old.spoiled ≡ false) }
     ensures err { OnErr result (line.new.spoiled ≡ true) }
+    ensures after_spoil { line.old.spoiled ≡ true → IsErr result }
     ensures cost { line.old.spoiled ≡ false → steps.new ≤ steps.old + bound line.old (without same_effect (effect_of at delta) line.old.effects) at (neg_ℤ delta) }
+    ensures idle { line.old.spoiled ≡ true → steps.new ≡ steps.old }
 {
     laws_of_steps();
     line.remove(at, delta, steps)

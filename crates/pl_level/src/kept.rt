@@ -1,13 +1,13 @@
-ghost use Rattle.std.specs.Prelude.{◌≡◌, ◌≤◌, ◌+◌, ◌<◌, length, ◌^◌, ℕ, Bool, true, false, [], ◌∷◌, OnOk, IfOk, if◌then◌else◌};
-ghost use Rattle.pl_points.specs.Points.{sum_to};
+ghost use Rattle.std.specs.Prelude.{◌≡◌, ◌≤◌, ◌+◌, ◌<◌, ◌^◌, ℕ, Bool, true, false, [], ◌∷◌, OnOk, IfOk, if◌then◌else◌};
+ghost use Rattle.pl_points.specs.Points.{sum_to, ArePoints};
 ghost use Rattle.pl_points.specs.Limits.{is_outside};
 ghost use Rattle.pl_points.specs.Spans.{AreSpans, covers, span};
 ghost use Rattle.pl_points.specs.Mending.{mended};
-ghost use Rattle.pl_points.specs.Counting.{walk_steps, points_after, goes_outside};
+ghost use Rattle.pl_points.specs.Counting.{walk_until, goes_outside};
 ghost use Rattle.pl_points.specs.Changes.{IsChange};
 
 use pl_lists::Copied;
-use pl_points::{Change, Ledger, Limit, Points, Span, Steps, forget, mend};
+use pl_points::{Change, Ledger, Limit, Mark, Points, Span, Steps, forget, mend_from};
 use std::alloc::{AllocError, Global};
 use std::marker::Model;
 use std::slice::from_ref;
@@ -68,23 +68,29 @@ impl Kept {
         Ok(spans)
     }
 
-    /// Mends the spans in the window, as the points say it.
+    /// Mends the spans in the window, as the points say it, where none lies before the mark.
     pub(crate) fn mend<P: Points, L: Ledger>(
         &mut self,
         points: &P,
         limit: Limit,
         window: Span,
+        mark: Mark,
         steps: &mut Steps<L>,
     ) -> Result<Change, AllocError>
-        requires some { window.from ≤ window.to }
+        requires low { window.from ≤ mark.at }
+        requires bound { mark.at ≤ window.to }
+        requires inside { (t : ℕ) → window.from ≤ t → t < mark.at → is_outside limit (sum_to (P.points points.now) t) ≡ false }
+        requires sum { mark.at < window.to → mark.sum ≡ sum_to (P.points points.now) mark.at }
+        requires sound { ArePoints (P.points points.now) }
+        requires falls { (a b : ℕ) → a ≤ b → P.ahead points.now b ≤ P.ahead points.now a }
         requires apart { AreSpans self.old }
         ensures apart { OnOk result (AreSpans self.new) }
         ensures covers { OnOk result ((t : ℕ) → covers self.new t ≡ mended window.from window.to (λ x. is_outside limit (sum_to (P.points points.now) x)) self.old t) }
         ensures change { IfOk result (λ c. IsChange self.old self.new c) }
-        ensures cost { steps.new ≤ steps.old + walk_steps P.parts P.look_steps P.search_steps (length (P.points points.now)) (points_after (goes_outside limit (P.points points.now)) window.from (P.points points.now)) }
+        ensures cost { steps.new ≤ steps.old + walk_until (P.ahead points.now) P.look_steps P.search_steps (goes_outside limit (P.points points.now)) (P.points points.now) mark.at window.to }
     {
         let mut spans = self.taken()?;
-        let change = mend(self.alloc, &mut spans, points, limit, window, steps)?;
+        let change = mend_from(self.alloc, &mut spans, points, limit, window, mark, steps)?;
         self.whole = false;
         self.spans = spans;
         Ok(change)

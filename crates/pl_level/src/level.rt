@@ -96,6 +96,7 @@ impl<P: Points> Level<P> {
         ensures err { OnErr result (self.new.spoiled ≡ true) }
         ensures after_spoil { self.old.spoiled ≡ true → IsErr result }
         ensures cost { self.old.spoiled ≡ false → steps.new ≤ steps.old + effect_steps P.parts P.change_steps P.look_steps P.search_steps self.old (self.old.effects ++ effect_of at delta ∷ []) at delta }
+        ensures idle { self.old.spoiled ≡ true → steps.new ≡ steps.old }
     {
         if self.spoiled {
             return Err(AllocError);
@@ -136,6 +137,7 @@ impl<P: Points> Level<P> {
         ensures err { OnErr result (self.new.spoiled ≡ true) }
         ensures after_spoil { self.old.spoiled ≡ true → IsErr result }
         ensures cost { self.old.spoiled ≡ false → steps.new ≤ steps.old + effect_steps P.parts P.change_steps P.look_steps P.search_steps self.old (without same_effect (effect_of at delta) self.old.effects) at (neg_ℤ delta) }
+        ensures idle { self.old.spoiled ≡ true → steps.new ≡ steps.old }
     {
         if self.spoiled {
             return Err(AllocError);

@@ -10,7 +10,7 @@ ghost use Rattle.pl_level.specs.Soundness.{AreChanges};
 
 use crate::kept::Kept;
 use crate::reservation::LevelChange;
-use pl_points::{Ledger, Limit, Points, Span, Steps};
+use pl_points::{Ledger, Limit, Points, Span, Steps, calm_until};
 use std::alloc::AllocError;
 
 // The moments at which an effect changes the level.
@@ -61,7 +61,7 @@ pub(crate) fn value_for(value: i64, sum: i64, before: i64) -> i64
     value + (sum - before)
 }
 
-// Mends both lists in the window.
+// Mends both lists in the window. One walk goes to where the level is first outside either limit.
 pub(crate) fn mend_both<P: Points, L: Ledger>(
     points: &P,
     low: &mut Kept,
@@ -81,8 +81,9 @@ pub(crate) fn mend_both<P: Points, L: Ledger>(
     ensures changes { IfOk result (λ c. AreChanges low.old low.new high.old high.new c) }
     ensures cost { steps.new ≤ steps.old + (walk_steps P.parts P.look_steps P.search_steps (length (P.points points.now)) (points_after (goes_outside (Below least) (P.points points.now)) window.from (P.points points.now)) + walk_steps P.parts P.look_steps P.search_steps (length (P.points points.now)) (points_after (goes_outside (Above most) (P.points points.now)) window.from (P.points points.now))) }
 {
-    let below = low.mend(points, Limit::Below(least), window, steps)?;
-    let above = high.mend(points, Limit::Above(most), window, steps)?;
+    let mark = calm_until(points, least, most, window, steps);
+    let below = low.mend(points, Limit::Below(least), window, mark, steps)?;
+    let above = high.mend(points, Limit::Above(most), window, mark, steps)?;
     Ok(LevelChange {
         low: below,
         high: above,

@@ -1,4 +1,4 @@
--- Sums over items in another order, and lists of spans after a change.
+-- Sums over items in another order, and lists after a change.
 use Rattle.std.proofs.Common.{◌≡◌, ℕ, suc, ◌+◌, Bool, true, false, ◌&&◌, ◌||◌, not, cond, List, [], ◌∷◌, length, refl, ap, sym, ◌∙◌, arith, eqb, ltb, ℤ, pos, negsuc, ◌+ℤ◌}
 use Rattle.std.specs.List.{sum_by}
 use Rattle.std.specs.List.Sorted.{IsPermutation}
@@ -11,7 +11,9 @@ use Rattle.pl_points.specs.Standing.{stands}
 use Rattle.pl_points.specs.declared.span.Span.{Span}
 use Rattle.pl_points.specs.declared.span.Change.{Change}
 use Rattle.pl_points.specs.Spans.{span}
-use Rattle.pl_points.specs.Changes.{same_span, is_among, left_out, IsChange}
+use Rattle.pl_points.specs.Changes.{same_span, IsChange}
+use Rattle.pl_lists.specs.Lists.{is_among, left_out}
+use Rattle.pl_points.specs.Laws.{Exchanged}
 
 above : ℤ → ℕ
 above (pos n) = n
@@ -72,21 +74,21 @@ same_exact s t e =
     let h = and_parts (eqb s.from t.from) (eqb s.to t.to) e in
     ap (λ n. span n s.to) (eqb-true s.from t.from h.0) ∙ ap (span t.from) (eqb-true s.to t.to h.1)
 
-among_left : (others xs : List Span) (s : Span) → is_among (left_out others xs) s ≡ (is_among xs s && not (is_among others s))
-among_left others [] s = refl
-among_left others (x ∷ xs) s = cases (same_span x s) refl (is_among others x) refl (among_left others xs s)
+among_left : {T : Type 0} (same : T → T → Bool) → ((x y : T) → same x y ≡ true → x ≡ y) → (others xs : List T) (s : T) → is_among same (left_out same others xs) s ≡ (is_among same xs s && not (is_among same others s))
+among_left same exact others [] s = refl
+among_left same exact others (x ∷ xs) s = cases (same x s) refl (is_among same others x) refl (among_left same exact others xs s)
   where
     no_more : (a b : Bool) → b ≡ true → (a && not b) ≡ false
     no_more true b e = rw e refl
     no_more false b e = refl
 
-    cases : (v : Bool) → same_span x s ≡ v → (w : Bool) → is_among others x ≡ w → is_among (left_out others xs) s ≡ (is_among xs s && not (is_among others s))
-        → is_among (cond w (left_out others xs) (x ∷ left_out others xs)) s ≡ ((same_span x s || is_among xs s) && not (is_among others s))
+    cases : (v : Bool) → same x s ≡ v → (w : Bool) → is_among same others x ≡ w → is_among same (left_out same others xs) s ≡ (is_among same xs s && not (is_among same others s))
+        → is_among same (cond w (left_out same others xs) (x ∷ left_out same others xs)) s ≡ ((same x s || is_among same xs s) && not (is_among same others s))
     cases true e true f more =
-        let g : is_among others s ≡ true = ap (is_among others) (sym (same_exact x s e)) ∙ f in
-        more ∙ no_more (is_among xs s) (is_among others s) g ∙ sym (no_more (same_span x s || is_among xs s) (is_among others s) g)
+        let g : is_among same others s ≡ true = ap (is_among same others) (sym (exact x s e)) ∙ f in
+        more ∙ no_more (is_among same xs s) (is_among same others s) g ∙ sym (no_more (same x s || is_among same xs s) (is_among same others s) g)
     cases true e false f more =
-        let g : is_among others s ≡ false = ap (is_among others) (sym (same_exact x s e)) ∙ f in
+        let g : is_among same others s ≡ false = ap (is_among same others) (sym (exact x s e)) ∙ f in
         rw e (rw g refl)
     cases false e true f more = rw e more
     cases false e false f more = rw e more
@@ -97,8 +99,11 @@ table true false = refl
 table false true = refl
 table false false = refl
 
-pub exchanged : (old new : List Span) (change : Change) → IsChange old new change → (s : Span) → is_among new s ≡ ((is_among old s && not (is_among change.went s)) || is_among change.came s)
-exchanged old new change is s =
-    let went : is_among change.went s ≡ (is_among old s && not (is_among new s)) = ap (λ l. is_among l s) is.went ∙ among_left new old s in
-    let came : is_among change.came s ≡ (is_among new s && not (is_among old s)) = ap (λ l. is_among l s) is.came ∙ among_left old new s in
-    table (is_among old s) (is_among new s) ∙ ap (λ b. (is_among old s && not b) || (is_among new s && not (is_among old s))) (sym went) ∙ ap (λ b. (is_among old s && not (is_among change.went s)) || b) (sym came)
+pub exchange : {T : Type 0} (same : T → T → Bool) → ((x y : T) → same x y ≡ true → x ≡ y) → (old new went came : List T) → went ≡ left_out same new old → came ≡ left_out same old new → Exchanged same old new went came
+exchange same exact old new went came gone more s =
+    let left : is_among same went s ≡ (is_among same old s && not (is_among same new s)) = ap (λ l. is_among same l s) gone ∙ among_left same exact new old s in
+    let come : is_among same came s ≡ (is_among same new s && not (is_among same old s)) = ap (λ l. is_among same l s) more ∙ among_left same exact old new s in
+    table (is_among same old s) (is_among same new s) ∙ ap (λ b. (is_among same old s && not b) || (is_among same new s && not (is_among same old s))) (sym left) ∙ ap (λ b. (is_among same old s && not (is_among same went s)) || b) (sym come)
+
+pub exchanged : (old new : List Span) (change : Change) → IsChange old new change → Exchanged same_span old new change.went change.came
+exchanged old new change is = exchange same_span same_exact old new change.went change.came is.went is.came

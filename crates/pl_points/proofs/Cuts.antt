@@ -4,7 +4,7 @@ use Rattle.std.proofs.lemmas.Bool.{cond_both, true≢false, ltb-true, ltb-false,
 use Rattle.std.proofs.lemmas.Bool.Decides.{nat_tests}
 use Rattle.std.proofs.lemmas.List.{drop_all, drop-drop}
 use Rattle.pl_points.specs.declared.span.Span.{Span}
-use Rattle.pl_points.specs.Lists.{front, back}
+use Rattle.pl_lists.specs.Lists.{front, back}
 use Rattle.pl_points.specs.Spans.{within, covers, AreApart, span, joined}
 use Rattle.pl_points.specs.Mending.{ends_before, ends_by, begins_before, reached, beyond, cut_last, before, behind}
 use Rattle.pl_points.proofs.Parting.{NonePass, IsParted, drop_next}

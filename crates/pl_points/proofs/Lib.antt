@@ -6,6 +6,7 @@ pub mod Outside
 pub mod Staying
 pub mod Cuts
 pub mod Strolls
+pub mod Calming
 pub mod Rounds
 pub mod Maximal
 pub mod Totals

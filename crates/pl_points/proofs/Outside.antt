@@ -4,7 +4,7 @@ use Rattle.std.proofs.lemmas.Bool.{cond_both, lt-ltb, le-ltb, ltb-true, ltb-fals
 use Rattle.std.proofs.lemmas.Int.{ints}
 use Rattle.std.specs.Prelude.{int_lt}
 use Rattle.std.proofs.lemmas.List.{length-drop}
-use Rattle.pl_points.specs.Lists.{back}
+use Rattle.pl_lists.specs.Lists.{back}
 use Rattle.pl_points.specs.Points.{Point, sum_to, sum_below, is_before, is_out, outside_among, first_outside, leaving, points_from, ahead_of, RiseFrom, SmallFrom}
 use Rattle.pl_points.proofs.Parting.{drop_next}
 use Rattle.pl_points.proofs.PointLists.{sum_before}

@@ -2,7 +2,7 @@
 use Rattle.std.proofs.Common.{◌≡◌, ℕ, zero, suc, ◌<◌, ◌≤◌, Bool, true, false, List, [], ◌∷◌, length, get_or, take, drop, refl, ap, sym, ◌∙◌, subst, arith}
 use Rattle.std.specs.List.Sorted.{IsPartitionedBy, IsPartitionPoint}
 use Rattle.std.proofs.lemmas.Bool.{false≢true}
-use Rattle.pl_points.specs.Lists.{front, back}
+use Rattle.pl_lists.specs.Lists.{front, back}
 
 -- none passes
 abbrev pub NonePass : {T : Type 0} → (T → Bool) → List T → Type 0

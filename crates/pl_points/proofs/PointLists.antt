@@ -7,7 +7,7 @@ use Rattle.std.proofs.lemmas.Int.{ints, to_z-of_z}
 use mir.Val.{to_z, of_z, SFits}
 use mir.Syntax.{w64}
 use Rattle.std.proofs.lemmas.List.{length-drop, get_or-drop, get_or_default, drop_all}
-use Rattle.pl_points.specs.Lists.{front, back}
+use Rattle.pl_lists.specs.Lists.{front, back}
 use Rattle.pl_points.specs.Sums.{IsSmall}
 use Rattle.pl_points.specs.Points.{Point, sum_to, first_from, is_before, put, merged, RiseFrom, AreSmall, ArePoints, SmallFrom, IsNear, AreNear}
 use Rattle.pl_points.proofs.Parting.{NonePass, IsParted, back_fails, drop_next}

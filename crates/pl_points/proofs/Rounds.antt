@@ -3,10 +3,11 @@ use Rattle.std.proofs.Common.{◌≡◌, ℕ, suc, ◌^◌, ◌<◌, ◌≤◌, 
 use Rattle.std.proofs.lemmas.Bool.{cond_both, eq-eqb, ne_eqb, ltb-true, ltb-false, leb-true, leb-false, le-leb, lt-leb}
 use Rattle.std.proofs.lemmas.List.{drop_all, append-nil}
 use Rattle.pl_points.specs.declared.span.Span.{Span}
-use Rattle.pl_points.specs.Lists.{front, back}
+use Rattle.pl_lists.specs.Lists.{front, back}
 use Rattle.pl_points.specs.Spans.{within, covers, AreApart, joined}
 use Rattle.pl_points.specs.Mending.{ends_before, ends_by, begins_before, reached, beyond, before, behind, mended}
-use Rattle.pl_points.specs.Changes.{same_span, is_among, left_out, IsChange}
+use Rattle.pl_points.specs.Changes.{same_span, IsChange}
+use Rattle.pl_lists.specs.Lists.{is_among, left_out}
 use Rattle.pl_points.specs.declared.span.Change.{Change}
 use Rattle.pl_points.proofs.Parting.{drop_next, back_fails}
 use Rattle.pl_points.proofs.Spanning.{or_nil, or_assoc, apart_later, apart-joined, covers-joined, within_true}
@@ -16,17 +17,17 @@ other_begin : (p x : Span) → (p.from ≡ x.from → ⊥) → same_span p x ≡
 other_begin p x h = let e : eqb p.from x.from ≡ false = ne_eqb p.from x.from h in rw e refl
 
 -- spans that all begin later do not have it
-pub not_among_high : (c e : ℕ) (s : List Span) (x : Span) → AreApart c e s → x.from < c → is_among s x ≡ false
+pub not_among_high : (c e : ℕ) (s : List Span) (x : Span) → AreApart c e s → x.from < c → is_among same_span s x ≡ false
 not_among_high c e [] x apart lt = refl
 not_among_high c e (p ∷ s) x apart lt =
     let f : same_span p x ≡ false = other_begin p x (λ h. omega (arith, h, lt, apart.0)) in
     rw f (not_among_high (suc p.to) e s x apart.3 (omega (arith, lt, apart.0, apart.1)))
 
-among_back : (s : List Span) (x : Span) → is_among s x ≡ is_among (back (begins_before x.from) s) x
+among_back : (s : List Span) (x : Span) → is_among same_span s x ≡ is_among same_span (back (begins_before x.from) s) x
 among_back [] x = refl
 among_back (p ∷ s) x = cases (begins_before x.from p) refl (among_back s x)
   where
-    cases : (v : Bool) → begins_before x.from p ≡ v → is_among s x ≡ is_among (back (begins_before x.from) s) x → is_among (p ∷ s) x ≡ is_among (back (begins_before x.from) (p ∷ s)) x
+    cases : (v : Bool) → begins_before x.from p ≡ v → is_among same_span s x ≡ is_among same_span (back (begins_before x.from) s) x → is_among same_span (p ∷ s) x ≡ is_among same_span (back (begins_before x.from) (p ∷ s)) x
     cases true f more =
         let g : same_span p x ≡ false = other_begin p x (λ h. omega (arith, h, ltb-true p.from x.from f)) in
         rw f (rw g more)
@@ -37,20 +38,20 @@ apart_back at c e [] apart = tt
 apart_back at c e (p ∷ s) apart = cond_both (begins_before at p) (back (begins_before at) s) (p ∷ s) (λ l. AreApart c e l)
     (λ f. apart_later c (suc p.to) e (back (begins_before at) s) (omega (arith, apart.0, apart.1)) (apart_back at (suc p.to) e s apart.3)) (λ f. apart)
 
-pub among_none : (s : List Span) (i : ℕ) (x : Span) → drop i s ≡ back (begins_before x.from) s → length s ≤ i → is_among s x ≡ false
-among_none s i x rest le = among_back s x ∙ ap (λ l. is_among l x) (sym rest ∙ drop_all i s le)
+pub among_none : (s : List Span) (i : ℕ) (x : Span) → drop i s ≡ back (begins_before x.from) s → length s ≤ i → is_among same_span s x ≡ false
+among_none s i x rest le = among_back s x ∙ ap (λ l. is_among same_span l x) (sym rest ∙ drop_all i s le)
 
-pub among_some : (s : List Span) (i : ℕ) (p x : Span) → AreApart 0 (2 ^ 32) s → drop i s ≡ back (begins_before x.from) s → i < length s → p ≡ get_or s i p → is_among s x ≡ same_span p x
+pub among_some : (s : List Span) (i : ℕ) (p x : Span) → AreApart 0 (2 ^ 32) s → drop i s ≡ back (begins_before x.from) s → i < length s → p ≡ get_or s i p → is_among same_span s x ≡ same_span p x
 among_some s i p x apart rest lt is =
     let e : back (begins_before x.from) s ≡ p ∷ drop (suc i) s = sym rest ∙ (drop_next s i p lt ∙ ap (λ q. q ∷ drop (suc i) s) (sym is)) in
-    among_back s x ∙ (ap (λ l. is_among l x) e ∙ first (drop (suc i) s) (fails e) (subst (λ l. AreApart 0 (2 ^ 32) l) e (apart_back x.from 0 (2 ^ 32) s apart)))
+    among_back s x ∙ (ap (λ l. is_among same_span l x) e ∙ first (drop (suc i) s) (fails e) (subst (λ l. AreApart 0 (2 ^ 32) l) e (apart_back x.from 0 (2 ^ 32) s apart)))
   where
     fails : back (begins_before x.from) s ≡ p ∷ drop (suc i) s → begins_before x.from p ≡ false
     fails e = back_fails (begins_before x.from) s p (drop (suc i) s) e
 
-    first : (more : List Span) → begins_before x.from p ≡ false → AreApart 0 (2 ^ 32) (p ∷ more) → is_among (p ∷ more) x ≡ same_span p x
+    first : (more : List Span) → begins_before x.from p ≡ false → AreApart 0 (2 ^ 32) (p ∷ more) → is_among same_span (p ∷ more) x ≡ same_span p x
     first more f apart =
-        let g : is_among more x ≡ false = not_among_high (suc p.to) (2 ^ 32) more x apart.3 (omega (arith, ltb-false p.from x.from f, apart.1)) in
+        let g : is_among same_span more x ≡ false = not_among_high (suc p.to) (2 ^ 32) more x apart.3 (omega (arith, ltb-false p.from x.from f, apart.1)) in
         ap (λ b. same_span p x || b) g ∙ or_nil (same_span p x)
 
 -- a window between what lies before it and what lies behind
@@ -214,13 +215,13 @@ rounded_covers a b q s f le lt apart new says t =
         rw e (rw is (sym whole))
 
 -- what is among a list
-is_among-append : (s t : List Span) (x : Span) → is_among (s ++ t) x ≡ (is_among s x || is_among t x)
+is_among-append : (s t : List Span) (x : Span) → is_among same_span (s ++ t) x ≡ (is_among same_span s x || is_among same_span t x)
 is_among-append [] t x = refl
-is_among-append (p ∷ s) t x = ap (λ b. same_span p x || b) (is_among-append s t x) ∙ sym (or_assoc (same_span p x) (is_among s x) (is_among t x))
+is_among-append (p ∷ s) t x = ap (λ b. same_span p x || b) (is_among-append s t x) ∙ sym (or_assoc (same_span p x) (is_among same_span s x) (is_among same_span t x))
 
 abbrev AllAmong : List Span → List Span → Type 0
 AllAmong others [] = Unit {0}
-AllAmong others (x ∷ xs) = (is_among others x ≡ true) × AllAmong others xs
+AllAmong others (x ∷ xs) = (is_among same_span others x ≡ true) × AllAmong others xs
 
 or_yes : (a b : Bool) → b ≡ true → (a || b) ≡ true
 or_yes true b e = refl
@@ -228,7 +229,7 @@ or_yes false b e = e
 
 among_more : (p : Span) (others xs : List Span) → AllAmong others xs → AllAmong (p ∷ others) xs
 among_more p others [] all = tt
-among_more p others (x ∷ xs) all = (or_yes (same_span p x) (is_among others x) all.0, among_more p others xs all.1)
+among_more p others (x ∷ xs) all = (or_yes (same_span p x) (is_among same_span others x) all.0, among_more p others xs all.1)
 
 among_prefix : (ps others xs : List Span) → AllAmong others xs → AllAmong (ps ++ others) xs
 among_prefix [] others xs all = all
@@ -245,15 +246,15 @@ among_self : (s : List Span) → AllAmong s s
 among_self [] = tt
 among_self (x ∷ s) = (rw (same_self x) refl, among_more x s s (among_self s))
 
-left_out_none : (others xs : List Span) → AllAmong others xs → left_out others xs ≡ []
+left_out_none : (others xs : List Span) → AllAmong others xs → left_out same_span others xs ≡ []
 left_out_none others [] all = refl
 left_out_none others (x ∷ xs) all = rw all.0 (left_out_none others xs all.1)
 
-left_out-append : (others xs ys : List Span) → left_out others (xs ++ ys) ≡ left_out others xs ++ left_out others ys
+left_out-append : (others xs ys : List Span) → left_out same_span others (xs ++ ys) ≡ left_out same_span others xs ++ left_out same_span others ys
 left_out-append others [] ys = refl
-left_out-append others (x ∷ xs) ys = cases (is_among others x) refl (left_out-append others xs ys)
+left_out-append others (x ∷ xs) ys = cases (is_among same_span others x) refl (left_out-append others xs ys)
   where
-    cases : (v : Bool) → is_among others x ≡ v → left_out others (xs ++ ys) ≡ left_out others xs ++ left_out others ys → left_out others (x ∷ (xs ++ ys)) ≡ left_out others (x ∷ xs) ++ left_out others ys
+    cases : (v : Bool) → is_among same_span others x ≡ v → left_out same_span others (xs ++ ys) ≡ left_out same_span others xs ++ left_out same_span others ys → left_out same_span others (x ∷ (xs ++ ys)) ≡ left_out same_span others (x ∷ xs) ++ left_out same_span others ys
     cases true f more = rw f more
     cases false f more = rw f (ap (λ l. x ∷ l) more)
 
@@ -261,52 +262,52 @@ next_later : (c e : ℕ) (s : List Span) → AreApart c e s → c ≤ next c s
 next_later c e [] apart = omega arith
 next_later c e (p ∷ s) apart = omega (arith, apart.0, apart.1, next_later (suc p.to) e s apart.3)
 
-not_among_low : (c e : ℕ) (s : List Span) (x : Span) → AreApart c e s → next c s ≤ x.from → is_among s x ≡ false
+not_among_low : (c e : ℕ) (s : List Span) (x : Span) → AreApart c e s → next c s ≤ x.from → is_among same_span s x ≡ false
 not_among_low c e [] x apart le = refl
 not_among_low c e (p ∷ s) x apart le =
     let f : same_span p x ≡ false = other_begin p x (λ h. omega (arith, h, le, apart.1, next_later (suc p.to) e s apart.3)) in
     rw f (not_among_low (suc p.to) e s x apart.3 le)
 
 -- of those between, only those between are looked for
-left_out_mid : (c x : ℕ) (s f b t : List Span) → AreApart 0 (2 ^ 32) s → next 0 s ≤ c → AreApart (suc x) (2 ^ 32) b → AreApart c x t → left_out (s ++ (f ++ b)) t ≡ left_out f t
+left_out_mid : (c x : ℕ) (s f b t : List Span) → AreApart 0 (2 ^ 32) s → next 0 s ≤ c → AreApart (suc x) (2 ^ 32) b → AreApart c x t → left_out same_span (s ++ (f ++ b)) t ≡ left_out same_span f t
 left_out_mid c x s f b [] front_apart low tail_apart apart = refl
 left_out_mid c x s f b (p ∷ t) front_apart low tail_apart apart =
-    cases (is_among f p) refl looked (left_out_mid (suc p.to) x s f b t front_apart (omega (arith, low, apart.0, apart.1)) tail_apart apart.3)
+    cases (is_among same_span f p) refl looked (left_out_mid (suc p.to) x s f b t front_apart (omega (arith, low, apart.0, apart.1)) tail_apart apart.3)
   where
-    looked : is_among (s ++ (f ++ b)) p ≡ is_among f p
+    looked : is_among same_span (s ++ (f ++ b)) p ≡ is_among same_span f p
     looked =
-        let not_front : is_among s p ≡ false = not_among_low 0 (2 ^ 32) s p front_apart (omega (arith, low, apart.0)) in
-        let not_tail : is_among b p ≡ false = not_among_high (suc x) (2 ^ 32) b p tail_apart (omega (arith, apart.1, apart.2)) in
-        is_among-append s (f ++ b) p ∙ (ap (λ v. v || is_among (f ++ b) p) not_front ∙ (is_among-append f b p ∙ (ap (λ v. is_among f p || v) not_tail ∙ or_nil (is_among f p))))
+        let not_front : is_among same_span s p ≡ false = not_among_low 0 (2 ^ 32) s p front_apart (omega (arith, low, apart.0)) in
+        let not_tail : is_among same_span b p ≡ false = not_among_high (suc x) (2 ^ 32) b p tail_apart (omega (arith, apart.1, apart.2)) in
+        is_among-append s (f ++ b) p ∙ (ap (λ v. v || is_among same_span (f ++ b) p) not_front ∙ (is_among-append f b p ∙ (ap (λ v. is_among same_span f p || v) not_tail ∙ or_nil (is_among same_span f p))))
 
-    cases : (v : Bool) → is_among f p ≡ v → is_among (s ++ (f ++ b)) p ≡ is_among f p → left_out (s ++ (f ++ b)) t ≡ left_out f t → left_out (s ++ (f ++ b)) (p ∷ t) ≡ left_out f (p ∷ t)
+    cases : (v : Bool) → is_among same_span f p ≡ v → is_among same_span (s ++ (f ++ b)) p ≡ is_among same_span f p → left_out same_span (s ++ (f ++ b)) t ≡ left_out same_span f t → left_out same_span (s ++ (f ++ b)) (p ∷ t) ≡ left_out same_span f (p ∷ t)
     cases true e looked more = rw (looked ∙ e) (rw e more)
     cases false e looked more = rw (looked ∙ e) (rw e (ap (λ l. p ∷ l) more))
 
-left_out_round : (c x : ℕ) (s f b t : List Span) → AreApart 0 (2 ^ 32) s → next 0 s ≤ c → AreApart (suc x) (2 ^ 32) b → AreApart c x t → left_out (s ++ (f ++ b)) (s ++ (t ++ b)) ≡ left_out f t
+left_out_round : (c x : ℕ) (s f b t : List Span) → AreApart 0 (2 ^ 32) s → next 0 s ≤ c → AreApart (suc x) (2 ^ 32) b → AreApart c x t → left_out same_span (s ++ (f ++ b)) (s ++ (t ++ b)) ≡ left_out same_span f t
 left_out_round c x s f b t front_apart low tail_apart apart =
     let all = s ++ (f ++ b) in
-    left_out-append all s (t ++ b) ∙ (ap (λ l. l ++ left_out all (t ++ b)) (left_out_none all s (among_front s (f ++ b)))
-    ∙ (left_out-append all t b ∙ (ap (λ l. left_out all t ++ l) (left_out_none all b (among_prefix s (f ++ b) b (among_prefix f b b (among_self b))))
-    ∙ (append-nil (left_out all t) ∙ left_out_mid c x s f b t front_apart low tail_apart apart))))
+    left_out-append all s (t ++ b) ∙ (ap (λ l. l ++ left_out same_span all (t ++ b)) (left_out_none all s (among_front s (f ++ b)))
+    ∙ (left_out-append all t b ∙ (ap (λ l. left_out same_span all t ++ l) (left_out_none all b (among_prefix s (f ++ b) b (among_prefix f b b (among_self b))))
+    ∙ (append-nil (left_out same_span all t) ∙ left_out_mid c x s f b t front_apart low tail_apart apart))))
 
 pub rounded_went : (a b : ℕ) (q : ℕ → Bool) (s f : List Span) → a ≤ b → b < 2 ^ 32 → AreApart 0 (2 ^ 32) s → AreApart 0 (2 ^ 32) f → ((t : ℕ) → covers f t ≡ mended a b q (touched a b s) t)
-    → left_out (kept_front a s ++ (f ++ tail a b s)) s ≡ left_out f (touched a b s)
+    → left_out same_span (kept_front a s ++ (f ++ tail a b s)) s ≡ left_out same_span f (touched a b s)
 rounded_went a b q s f le lt apart new says =
     let h = fits a b q s f le lt apart new says in
-    ap (left_out (kept_front a s ++ (f ++ tail a b s))) (in_parts a b s) ∙ left_out_round h.0 h.1 (kept_front a s) f (tail a b s) (touched a b s) h.6 (omega (arith, h.3)) h.9 h.7
+    ap (left_out same_span (kept_front a s ++ (f ++ tail a b s))) (in_parts a b s) ∙ left_out_round h.0 h.1 (kept_front a s) f (tail a b s) (touched a b s) h.6 (omega (arith, h.3)) h.9 h.7
 
 pub rounded_came : (a b : ℕ) (q : ℕ → Bool) (s f : List Span) → a ≤ b → b < 2 ^ 32 → AreApart 0 (2 ^ 32) s → AreApart 0 (2 ^ 32) f → ((t : ℕ) → covers f t ≡ mended a b q (touched a b s) t)
-    → left_out s (kept_front a s ++ (f ++ tail a b s)) ≡ left_out (touched a b s) f
+    → left_out same_span s (kept_front a s ++ (f ++ tail a b s)) ≡ left_out same_span (touched a b s) f
 rounded_came a b q s f le lt apart new says =
     let h = fits a b q s f le lt apart new says in
-    ap (λ l. left_out l (kept_front a s ++ (f ++ tail a b s))) (in_parts a b s) ∙ left_out_round h.0 h.1 (kept_front a s) (touched a b s) (tail a b s) f h.6 (omega (arith, h.3)) h.9 h.8
+    ap (λ l. left_out same_span l (kept_front a s ++ (f ++ tail a b s))) (in_parts a b s) ∙ left_out_round h.0 h.1 (kept_front a s) (touched a b s) (tail a b s) f h.6 (omega (arith, h.3)) h.9 h.8
 
 pub rounded_change : (a b : ℕ) (q : ℕ → Bool) (s f new : List Span) (change : Change) → a ≤ b → b < 2 ^ 32 → AreApart 0 (2 ^ 32) s → AreApart 0 (2 ^ 32) f → ((t : ℕ) → covers f t ≡ mended a b q (touched a b s) t)
     → new ≡ kept_front a s ++ (f ++ tail a b s) → IsChange (touched a b s) f change → IsChange s new change
 rounded_change a b q s f new change le lt apart fresh says is c = record {
-  went = c.went ∙ sym (ap (λ l. left_out l s) is ∙ rounded_went a b q s f le lt apart fresh says);
-  came = c.came ∙ sym (ap (left_out s) is ∙ rounded_came a b q s f le lt apart fresh says);
+  went = c.went ∙ sym (ap (λ l. left_out same_span l s) is ∙ rounded_went a b q s f le lt apart fresh says);
+  came = c.came ∙ sym (ap (left_out same_span s) is ∙ rounded_came a b q s f le lt apart fresh says);
 }
 
 pub both_ok : {T E : Type 0} (A : Type 0) (P Q : T → Type 0) (r : Result T E) → ((x : T) → A → P x → Q x) → OnOk r A → IfOk r P → IfOk r Q

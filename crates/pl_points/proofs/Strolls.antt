@@ -3,7 +3,7 @@ use Rattle.std.proofs.Common.{◌≡◌, ℕ, suc, ◌+◌, ◌*◌, ◌<◌, �
 use Rattle.std.proofs.lemmas.Bool.{cond_both, lt-ltb, le-ltb, ltb-true, ltb-false, leb-true, leb-false, le-leb, lt-leb}
 use Rattle.std.proofs.lemmas.Int.{ints}
 use Rattle.std.proofs.Math.Nat.{mul-le-mul_left}
-use Rattle.pl_points.specs.Lists.{back}
+use Rattle.pl_lists.specs.Lists.{back}
 use Rattle.pl_points.specs.Points.{Point, sum_to, sum_below, is_before, is_out, first_from, outside_among, first_outside, leaving, RiseFrom}
 use Rattle.pl_points.specs.Counting.{points_with, points_after, walk_left, walk_steps}
 use Rattle.pl_points.specs.Spans.{within}
@@ -84,11 +84,11 @@ left_look ahead look search s t at m out ps e has lt cost falls =
     let same : cond (out at) look 0 ≡ look = ap (λ v. cond v look 0) e in
     omega (arith, h, same)
 
-pub left_search : (ahead : ℕ → ℕ) (look search s t at m : ℕ) (out : ℕ → Bool) (ps : List Point) → out at ≡ false → out m ≡ true → HasMoment m ps → at < m → t + ahead m ≤ s + ahead (at + 1) + search → ahead (at + 1) ≤ ahead at
+pub left_search : (ahead : ℕ → ℕ) (look search s t at m : ℕ) (out : ℕ → Bool) (ps : List Point) → out at ≡ false → out m ≡ true → cond (out m) 1 0 + points_after out m ps ≤ points_after out at ps → t + ahead m ≤ s + ahead (at + 1) + search → ahead (at + 1) ≤ ahead at
     → t + walk_left ahead look search out ps m ≤ s + walk_left ahead look search out ps at
-left_search ahead look search s t at m out ps e f has lt cost falls =
+left_search ahead look search s t at m out ps e f less cost falls =
     let one : ◌≡◌ {A = ℕ} (cond (out m) 1 0) 1 = ap (λ v. cond v 1 0) f in
-    let h : t + (ahead m + look + search + (look + search) * points_after out m ps) ≤ s + (ahead at + 0 + search + (look + search) * points_after out at ps) = spend_search s t (ahead at) (ahead m) look search (points_after out at ps) (points_after out m ps) (omega (arith, cost, falls)) (omega (arith, one, after_step out at m ps has lt)) in
+    let h : t + (ahead m + look + search + (look + search) * points_after out m ps) ≤ s + (ahead at + 0 + search + (look + search) * points_after out at ps) = spend_search s t (ahead at) (ahead m) look search (points_after out at ps) (points_after out m ps) (omega (arith, cost, falls)) (omega (arith, one, less)) in
     let same : cond (out at) look 0 ≡ 0 = ap (λ v. cond v look 0) e in
     let other : cond (out m) look 0 ≡ look = ap (λ v. cond v look 0) f in
     omega (arith, h, same, other)

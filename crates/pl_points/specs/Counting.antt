@@ -29,6 +29,10 @@ walk_steps parts look search count outside = parts count + search + (look + sear
 abbrev pub walk_left : (ℕ → ℕ) → ℕ → ℕ → (ℕ → Bool) → List Point → ℕ → ℕ
 walk_left ahead look search out ps at = ahead at + (if out at then look else 0) + search + (look + search) * points_after out at ps
 
+-- and up to another moment, where nothing is left
+abbrev pub walk_until : (ℕ → ℕ) → ℕ → ℕ → (ℕ → Bool) → List Point → ℕ → ℕ → ℕ
+walk_until ahead look search out ps at to = if nat_lt at to then walk_left ahead look search out ps at else 0
+
 -- what two changes take, and a walk over what they leave
 abbrev pub shift_steps : (ℕ → ℕ) → ℕ → ℕ → ℕ → Limit → ℕ → ℕ → ℤ → ℤ → List Point → ℕ
 shift_steps parts change look search limit from to delta back ps =

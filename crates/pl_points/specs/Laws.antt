@@ -2,7 +2,8 @@
 use Rattle.std.specs.Prelude.{◌≡◌, ℕ, ◌+◌, ◌<◌, ◌≤◌, Bool, true, not, ◌&&◌, ◌||◌, List, length, ℤ, ◌+ℤ◌}
 use Rattle.std.specs.List.Sorted.{IsPermutation}
 use Rattle.pl_points.specs.declared.span.Change.{Change}
-use Rattle.pl_points.specs.Changes.{IsChange, is_among}
+use Rattle.pl_points.specs.Changes.{IsChange, same_span}
+use Rattle.pl_lists.specs.Lists.{is_among, left_out}
 use Rattle.pl_points.specs.Sums.{total}
 use Rattle.pl_points.specs.Standing.{stands, without}
 use Rattle.pl_points.specs.declared.span.Span.{Span}
@@ -24,9 +25,17 @@ Split = (P : ℕ → Bool) (a m n : ℕ) → spans_of P a (m + n) ≡ joined (sp
 abbrev pub AreLocal : Type 0
 AreLocal = (P Q : ℕ → Bool) (a n : ℕ) → ((t : ℕ) → a ≤ t → t < a + n → P t ≡ Q t) → spans_of P a n ≡ spans_of Q a n
 
+-- from one list to another: what it has after is what it had, less what went, and what came
+abbrev pub Exchanged : {T : Type 0} → (T → T → Bool) → (old new went came : List T) → Type 0
+Exchanged {T} same old new went came = (x : T) → is_among same new x ≡ ((is_among same old x && not (is_among same went x)) || is_among same came x)
+
 -- a list of spans after a change has what it had, less what went, and what came
-abbrev pub Exchanged : Type 0
-Exchanged = (old new : List Span) (change : Change) → IsChange old new change → (s : Span) → is_among new s ≡ ((is_among old s && not (is_among change.went s)) || is_among change.came s)
+abbrev pub SpansAreExchanged : Type 0
+SpansAreExchanged = (old new : List Span) (change : Change) → IsChange old new change → Exchanged same_span old new change.went change.came
+
+-- so has any list of which the items left out of the other are told
+abbrev pub AreExchanged : Type 0 → Type 0
+AreExchanged T = (same : T → T → Bool) → ((x y : T) → same x y ≡ true → x ≡ y) → (old new : List T) → Exchanged same old new (left_out same new old) (left_out same old new)
 
 -- what items add up to, how many they are and which stand depends on no order
 abbrev pub TotalsAreAlike : Type 0 → Type 0

@@ -1,4 +1,4 @@
-pub mod Lists
+pub use Rattle.pl_lists.specs.Lists
 pub mod Sums
 pub mod Points
 pub mod Limits

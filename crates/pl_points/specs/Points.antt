@@ -2,7 +2,7 @@
 use Rattle.std.specs.Prelude.{◌≡◌, ℕ, suc, ◌≤◌, Bool, false, ◌&&◌, ◌||◌, List, [], ◌∷◌, length, ℤ, pos, int_lt, ◌+ℤ◌, ◌≤ℤ◌, neg_ℤ, ◌*◌, ◌^◌, Option, Some, None, if◌then◌else◌, nat_le, nat_lt, ◌==◌}
 use Rattle.std.specs.Ordering.{int_eq}
 use Rattle.pl_points.specs.Sums.{IsSmall}
-use Rattle.pl_points.specs.Lists.{back}
+use Rattle.pl_lists.specs.Lists.{back}
 
 abbrev pub Point : Type 0
 Point = ℕ × ℤ

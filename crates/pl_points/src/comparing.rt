@@ -1,6 +1,7 @@
 ghost use Rattle.std.specs.Prelude.{◌≡◌, IfOk};
 ghost use Rattle.pl_points.specs.Spans.{AreSpans};
-ghost use Rattle.pl_points.specs.Changes.{IsChange, left_out, is_among, same_span};
+ghost use Rattle.pl_points.specs.Changes.{IsChange, same_span};
+ghost use Rattle.pl_lists.specs.Lists.{left_out, is_among};
 
 use crate::cutting::begun_near;
 use crate::span::{Change, Span};
@@ -16,7 +17,7 @@ fn is_same(one: Span, other: Span) -> bool
 // `near` is where the last one that was sought stood; it changes no answer.
 fn contains(spans: &[Span], span: Span, near: &mut usize) -> bool
     requires { AreSpans spans.now }
-    ensures { result ≡ is_among spans.now span }
+    ensures { result ≡ is_among same_span spans.now span }
 {
     let at = begun_near(spans, *near, span.from);
     *near = at;
@@ -29,7 +30,7 @@ fn contains(spans: &[Span], span: Span, near: &mut usize) -> bool
 // Those that are not among the others.
 fn missing_from(alloc: Global, others: &[Span], spans: &[Span]) -> Result<Vec<Span>, AllocError>
     requires { AreSpans others.now }
-    ensures { IfOk result (λ v. v.items ≡ left_out others.now spans.now) }
+    ensures { IfOk result (λ v. v.items ≡ left_out same_span others.now spans.now) }
 {
     let mut missing = Vec::new(alloc);
     let mut near = 0;

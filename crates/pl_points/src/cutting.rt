@@ -1,6 +1,6 @@
 ghost use Rattle.std.specs.Prelude.{◌≡◌, ◌<◌, ◌≤◌, true, suc, length, take, drop, OnOk, IfOk};
 ghost use Rattle.pl_points.specs.Spans.{AreSpans, joined};
-ghost use Rattle.pl_points.specs.Lists.{front, back};
+ghost use Rattle.pl_lists.specs.Lists.{front, back};
 ghost use Rattle.pl_points.specs.Mending.{ends_before, ends_by, begins_before, reached, beyond, before, behind, cut_last};
 
 use crate::pieces::extend;

@@ -1,5 +1,5 @@
 ghost use Rattle.pl_points.specs.Laws.{AreExact, AreUnique, Split, AreLocal};
-ghost use Rattle.pl_points.specs.Laws.{Exchanged, TotalsAreAlike, AreAlike, OthersRemain};
+ghost use Rattle.pl_points.specs.Laws.{SpansAreExchanged, AreExchanged, TotalsAreAlike, AreAlike, OthersRemain};
 
 /// The laws of maximal spans, for proofs to rest on. It does nothing.
 pub fn laws_of_spans()
@@ -11,7 +11,12 @@ pub fn laws_of_spans()
 
 /// The law of a change of spans, for proofs to rest on. It does nothing.
 pub fn laws_of_changes()
-    ensures { Exchanged }
+    ensures { SpansAreExchanged }
+{}
+
+/// The law of a change of a list of any items that are told apart, for proofs to rest on. It does nothing.
+pub fn laws_of_exchanges<T>()
+    ensures { AreExchanged T }
 {}
 
 /// The laws of what stands, in any order, for proofs to rest on. It does nothing.

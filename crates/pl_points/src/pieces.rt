@@ -1,11 +1,13 @@
-ghost use Rattle.std.specs.Prelude.{◌≡◌, ◌<◌, ◌≤◌, ◌+◌, ◌&&◌, ◌||◌, true, false, ℕ, ℤ, [], ◌∷◌, length, OnOk};
+ghost use Rattle.std.specs.Prelude.{◌≡◌, ◌<◌, ◌≤◌, ◌+◌, ◌&&◌, ◌||◌, true, false, ℕ, ℤ, [], ◌∷◌, OnOk};
 ghost use Rattle.pl_points.specs.Sums.{IsSmall};
 ghost use Rattle.pl_points.specs.Points.{sum_to, is_out, ArePoints};
-ghost use Rattle.pl_points.specs.Counting.{walk_left, walk_steps, goes_outside, points_after};
+ghost use Rattle.pl_points.specs.Counting.{walk_left, walk_until, goes_outside};
 ghost use Rattle.pl_points.specs.Spans.{AreApart, covers, joined, span, within};
 ghost use Rattle.pl_points.specs.Limits.{is_outside};
 
+use crate::calm::calm_piece;
 use crate::limit::Limit;
+use crate::mark::Mark;
 use crate::points::Points;
 use crate::span::Span;
 use crate::steps::{Ledger, Steps};
@@ -99,16 +101,7 @@ fn inside_piece<P: Points, L: Ledger>(
     ensures left { result.0 < to → steps.new + walk_left (P.ahead points.now) P.look_steps P.search_steps (goes_outside limit (P.points points.now)) (P.points points.now) result.0 ≤ steps.old + walk_left (P.ahead points.now) P.look_steps P.search_steps (goes_outside limit (P.points points.now)) (P.points points.now) at }
 {
     let (least, most) = bounds_of(limit);
-    match points.first_outside(at + 1, sum, least, most, steps) {
-        Some((moment, after)) => {
-            if moment < to {
-                (moment, after)
-            } else {
-                (to, 0)
-            }
-        }
-        None => (to, 0),
-    }
+    calm_piece(points, least, most, at, sum, to, steps)
 }
 
 // Up to where the sum stays outside, or inside.
@@ -158,24 +151,28 @@ fn push_piece(
     }
 }
 
-// Puts the spans of the window after the others.
+// Puts the spans from the mark up to a moment after the others.
 pub(crate) fn push_outside<P: Points, L: Ledger>(
     spans: &mut Vec<Span>,
     points: &P,
     limit: Limit,
-    window: Span,
+    mark: Mark,
+    to: u32,
     steps: &mut Steps<L>,
 ) -> Result<(), AllocError>
-    requires some { window.from ≤ window.to }
-    requires apart { AreApart 0 window.from spans.old.items }
-    ensures apart { OnOk result (AreApart 0 window.to spans.new.items) }
-    ensures covers { OnOk result ((t : ℕ) → covers spans.new.items t ≡ (covers spans.old.items t || (within window.from window.to t && is_outside limit (sum_to (P.points points.now) t)))) }
-    ensures cost { steps.new ≤ steps.old + walk_steps P.parts P.look_steps P.search_steps (length (P.points points.now)) (points_after (goes_outside limit (P.points points.now)) window.from (P.points points.now)) }
+    requires some { mark.at ≤ to }
+    requires apart { AreApart 0 mark.at spans.old.items }
+    requires sum { mark.at < to → mark.sum ≡ sum_to (P.points points.now) mark.at }
+    requires sound { ArePoints (P.points points.now) }
+    requires falls { (a b : ℕ) → a ≤ b → P.ahead points.now b ≤ P.ahead points.now a }
+    ensures apart { OnOk result (AreApart 0 to spans.new.items) }
+    ensures covers { OnOk result ((t : ℕ) → covers spans.new.items t ≡ (covers spans.old.items t || (within mark.at to t && is_outside limit (sum_to (P.points points.now) t)))) }
+    ensures cost { steps.new ≤ steps.old + walk_until (P.ahead points.now) P.look_steps P.search_steps (goes_outside limit (P.points points.now)) (P.points points.now) mark.at to }
 {
-    let mut at = window.from;
-    let mut sum = points.sum_to(at, steps);
-    'pieces: while at < window.to {
-        let (end, after) = piece(points, limit, at, sum, window.to, steps);
+    let mut at = mark.at;
+    let mut sum = mark.sum;
+    'pieces: while at < to {
+        let (end, after) = piece(points, limit, at, sum, to, steps);
         push_piece(spans, limit, sum, at, end)?;
         at = end;
         sum = after;

@@ -1,7 +1,7 @@
 ghost use Rattle.std.specs.Prelude.{◌≡◌, ◌<◌, ◌≤◌, ◌+◌, ◌^◌, true, suc, ℕ, ℤ, pos, [], ◌++◌, List, length, take, drop, OnOk, OnErr};
 ghost use Rattle.pl_points.specs.Points.{sum_to, first_from, merged, AreSmall, ArePoints, RiseFrom};
 ghost use Rattle.pl_points.specs.Points.{is_before, put, points_from, ahead_of, AreNear, IsNear};
-ghost use Rattle.pl_points.specs.Lists.{front, back};
+ghost use Rattle.pl_lists.specs.Lists.{front, back};
 
 use crate::points::Points;
 use crate::searching::leaving;

@@ -4,7 +4,7 @@ ghost use Rattle.pl_points.specs.Points.{RiseFrom, SmallFrom, leaving, points_fr
 use crate::steps::{Ledger, Steps};
 
 /// Of points that follow the sum, the first after which the sum is below `least` or above `most`,
-/// and that sum. A step for each point that it goes over.
+/// and that sum. A step for each point that it goes over; then the walk stands at the one found.
 pub fn leaving<L: Ledger>(
     points: &[(u32, i64)],
     before: i64,
@@ -20,10 +20,11 @@ pub fn leaving<L: Ledger>(
     ensures cost { steps.new + ahead_of (points_from points.now) result ≤ steps.old + length points.now + 1 }
 {
     let mut sum = before;
-    for point in points {
-        steps.pass();
+    for (place, point) in points.iter().enumerate() {
+        steps.tick();
         sum += point.1;
         if sum < least || most < sum {
+            steps.go_on(place + 1);
             return Some((point.0, sum));
         }
     }

@@ -1,6 +1,7 @@
 //! Which types may be shared among threads.
 
 use crate::limit::Limit;
+use crate::mark::Mark;
 use crate::noted::Noted;
 use crate::plain::PlainPoints;
 use crate::span::{Change, Span};
@@ -12,6 +13,7 @@ use pl_lists::may_be_shared;
 pub fn shared_types() {
     may_be_shared::<Change>();
     may_be_shared::<Limit>();
+    may_be_shared::<Mark>();
     may_be_shared::<Noted<u32>>();
     may_be_shared::<PlainPoints>();
     may_be_shared::<Quiet>();

@@ -2,7 +2,7 @@
 use Rattle.std.proofs.Common.{◌≡◌, ℕ, ◌+◌, ◌-◌, ◌≤◌, Bool, true, false, List, ◌++◌, take, drop, ap, sym, ◌∙◌, subst, refl, arith, min, max}
 use Rattle.std.proofs.lemmas.List.{take-append-drop}
 use Rattle.pl_points.specs.declared.span.Span.{Span}
-use Rattle.pl_points.specs.Lists.{front, back}
+use Rattle.pl_lists.specs.Lists.{front, back, left_out}
 use Rattle.pl_points.specs.Spans.{span}
 use Rattle.pl_points.specs.Standing.{without}
 use Rattle.pl_state.specs.declared.present.Present.{Present}
@@ -12,7 +12,6 @@ use Rattle.pl_state.specs.declared.answer.BadSet.{BadSet}
 use Rattle.pl_state.specs.declared.answer.BrokenMust.{BrokenMust}
 use Rattle.pl_state.specs.Sets.{set_before, same_setting, with_set, AreInOrder, is_passed, is_allowed, state_from, bad_from}
 use Rattle.pl_state.specs.Musts.{broken_one, broken_all}
-use Rattle.pl_state.specs.Lines.{left_out}
 use Rattle.pl_state.specs.Near.{touches, next_moment, rest_after, comes_before, bad_before, bad_by, state_before}
 use Rattle.pl_state.specs.Present.{present_of, group_at, bad_at, IsRightBut}
 use Rattle.pl_state.proofs.Lists.{left_middle}

@@ -5,7 +5,7 @@ use Rattle.std.specs.List.Sorted.{IsSorted}
 use Rattle.std.proofs.lemmas.Bool.{true≢false, and_parts, eqb-true, ltb-true, lt-ltb, le-ltb}
 use Rattle.std.specs.List.{Contains}
 use Rattle.pl_points.specs.declared.span.Span.{Span}
-use Rattle.pl_points.specs.Lists.{front, back}
+use Rattle.pl_lists.specs.Lists.{front, back}
 use Rattle.pl_points.specs.Standing.{without}
 use Rattle.pl_points.proofs.Parting.{IsParted}
 use Rattle.pl_state.specs.declared.key.Key.{Key}

@@ -1,7 +1,7 @@
 -- Lists that are sorted by keys.
 use Rattle.std.proofs.Common.{◌≡◌, ℕ, ◌≤◌, ◌&&◌, ◌||◌, not, Bool, true, false, cond, List, [], ◌∷◌, ◌++◌, take, drop, refl, ap, sym, ◌∙◌, subst, arith, eqb, ltb, inl, inr, zero, suc}
 use Rattle.std.proofs.lemmas.Bool.{true≢false, and_parts, or_parts, or_cases, eqb-true, eqb-false, ltb-true, ltb-false, le-ltb}
-use Rattle.pl_points.specs.Lists.{front, back}
+use Rattle.pl_lists.specs.Lists.{front, back}
 use Rattle.pl_points.specs.Standing.{without}
 use Rattle.pl_points.proofs.Parting.{NonePass, IsParted}
 use Rattle.pl_state.specs.declared.key.Key.{Key}

@@ -13,3 +13,4 @@ pub mod Sorting
 pub mod Parts
 pub mod Renewing
 pub mod Indexing
+pub mod Apart

@@ -2,16 +2,16 @@
 use Rattle.std.proofs.Common.{◌≡◌, Bool, true, false, ◌||◌, cond, List, [], ◌∷◌, ◌++◌, refl, ap, sym, ◌∙◌, subst}
 use Rattle.std.proofs.lemmas.List.{append_assoc, append-nil}
 use Rattle.pl_points.proofs.Spanning.{or_assoc}
-use Rattle.pl_state.specs.Lines.{is_in, left_out}
+use Rattle.pl_lists.specs.Lists.{is_among, left_out}
 
 -- each item is in the list
 abbrev pub Held : {T : Type 0} → (T → T → Bool) → List T → List T → Type 0
 Held same all [] = Unit {0}
-Held same all (x ∷ xs) = (is_in same all x ≡ true) × Held same all xs
+Held same all (x ∷ xs) = (is_among same all x ≡ true) × Held same all xs
 
 pub left_append : {T : Type 0} (same : T → T → Bool) (all xs ys : List T) → left_out same all (xs ++ ys) ≡ left_out same all xs ++ left_out same all ys
 left_append same all [] ys = refl
-left_append same all (x ∷ xs) ys = cases (is_in same all x) (left_append same all xs ys)
+left_append same all (x ∷ xs) ys = cases (is_among same all x) (left_append same all xs ys)
   where
     cases : (b : Bool) → left_out same all (xs ++ ys) ≡ left_out same all xs ++ left_out same all ys → cond b (left_out same all (xs ++ ys)) (x ∷ left_out same all (xs ++ ys)) ≡ cond b (left_out same all xs) (x ∷ left_out same all xs) ++ left_out same all ys
     cases true e = e
@@ -25,21 +25,21 @@ or_yes : (b : Bool) → (b || true) ≡ true
 or_yes true = refl
 or_yes false = refl
 
-pub in_append : {T : Type 0} (same : T → T → Bool) (xs ys : List T) (x : T) → is_in same (xs ++ ys) x ≡ (is_in same xs x || is_in same ys x)
+pub in_append : {T : Type 0} (same : T → T → Bool) (xs ys : List T) (x : T) → is_among same (xs ++ ys) x ≡ (is_among same xs x || is_among same ys x)
 in_append same [] ys x = refl
-in_append same (z ∷ zs) ys x = ap (λ b. same z x || b) (in_append same zs ys x) ∙ sym (or_assoc (same z x) (is_in same zs x) (is_in same ys x))
+in_append same (z ∷ zs) ys x = ap (λ b. same z x || b) (in_append same zs ys x) ∙ sym (or_assoc (same z x) (is_among same zs x) (is_among same ys x))
 
 pub held_wide : {T : Type 0} (same : T → T → Bool) (p all q xs : List T) → Held same all xs → Held same (p ++ (all ++ q)) xs
 held_wide same p all q [] held = tt
 held_wide same p all q (x ∷ xs) held = (
-  in_append same p (all ++ q) x ∙ (ap (λ b. is_in same p x || b) (in_append same all q x ∙ ap (λ b. b || is_in same q x) held.0) ∙ or_yes (is_in same p x)),
+  in_append same p (all ++ q) x ∙ (ap (λ b. is_among same p x || b) (in_append same all q x ∙ ap (λ b. b || is_among same q x) held.0) ∙ or_yes (is_among same p x)),
   held_wide same p all q xs held.1,
 )
 
 pub held_self : {T : Type 0} (same : T → T → Bool) → ((x : T) → same x x ≡ true) → (p xs : List T) → Held same (p ++ xs) xs
 held_self same itself p [] = tt
 held_self same itself p (x ∷ xs) = (
-  in_append same p (x ∷ xs) x ∙ (ap (λ b. is_in same p x || (b || is_in same xs x)) (itself x) ∙ or_yes (is_in same p x)),
+  in_append same p (x ∷ xs) x ∙ (ap (λ b. is_among same p x || (b || is_among same xs x)) (itself x) ∙ or_yes (is_among same p x)),
   subst (λ l. Held same l xs) (append_assoc p (x ∷ []) xs) (held_self same itself (p ++ x ∷ []) xs),
 )
 

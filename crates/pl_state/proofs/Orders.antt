@@ -2,7 +2,7 @@
 use Rattle.std.proofs.Common.{◌≡◌, ℕ, zero, suc, ◌<◌, ◌≤◌, Bool, true, false, ◌&&◌, cond, List, [], ◌∷◌, ◌++◌, length, get_or, take, drop, refl, ap, sym, ◌∙◌, arith, eqb, ltb, leb, inl, inr}
 use Rattle.std.proofs.lemmas.Bool.{cond_both, or_cases, and_parts, or_parts, eqb-true, ltb-true, ltb-false, leb-true, leb-false, le-ltb, le-leb, lt-leb}
 use Rattle.std.proofs.lemmas.List.{drop_all}
-use Rattle.pl_points.specs.Lists.{front, back}
+use Rattle.pl_lists.specs.Lists.{front, back}
 use Rattle.pl_points.specs.Standing.{without}
 use Rattle.pl_points.proofs.Parting.{NonePass, IsParted, drop_next, back_fails}
 use Rattle.pl_state.specs.declared.reservation.Setting.{Setting}

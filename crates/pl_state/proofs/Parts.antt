@@ -2,7 +2,7 @@
 use Rattle.std.proofs.Common.{◌≡◌, ℕ, ◌-◌, ◌==◌, ◌||◌, not, Bool, true, false, cond, List, [], ◌∷◌, ◌++◌, refl, ap, sym, ◌∙◌, subst, min, max, eqb}
 use Rattle.std.proofs.lemmas.Bool.{true≢false, and_parts, eqb-true}
 use Rattle.pl_points.specs.declared.span.Span.{Span}
-use Rattle.pl_points.specs.Lists.{front, back}
+use Rattle.pl_lists.specs.Lists.{front, back, is_among, left_out}
 use Rattle.pl_points.specs.Spans.{spans_of}
 use Rattle.pl_points.proofs.Parting.{NonePass, IsParted}
 use Rattle.pl_state.specs.declared.key.Key.{Key}
@@ -10,7 +10,7 @@ use Rattle.pl_state.specs.declared.reservation.Must.{Must}
 use Rattle.pl_state.specs.declared.answer.BrokenMust.{BrokenMust}
 use Rattle.pl_state.specs.Keys.{key_of, key_before, NoneBefore, AreSorted}
 use Rattle.pl_state.specs.Musts.{must_key, same_must, broken_spans, broken_one}
-use Rattle.pl_state.specs.Lines.{is_in, left_out, same_broken}
+use Rattle.pl_state.specs.Lines.{same_broken}
 use Rattle.pl_state.specs.Near.{all_of, group_key, AllHave, IsKeyed}
 use Rattle.pl_state.proofs.Keys.{before_itself}
 use Rattle.pl_state.proofs.Lists.{in_append, left_append}
@@ -60,19 +60,19 @@ sorted_back key p (x ∷ xs) sorted = cases (p x) (sorted_back key p xs sorted.1
 abbrev pub PassAlike : {T : Type 0} → (T → T → Bool) → (T → Bool) → Type 0
 PassAlike {T} same p = (x y : T) → same x y ≡ true → p x ≡ p y
 
-in_passing : {T : Type 0} (same : T → T → Bool) (p : T → Bool) → PassAlike same p → (ys : List T) (x : T) → AllPass p ys → p x ≡ false → is_in same ys x ≡ false
+in_passing : {T : Type 0} (same : T → T → Bool) (p : T → Bool) → PassAlike same p → (ys : List T) (x : T) → AllPass p ys → p x ≡ false → is_among same ys x ≡ false
 in_passing same p alike [] x all e = refl
 in_passing same p alike (y ∷ ys) x all e = cases (same y x) refl (in_passing same p alike ys x all.1 e)
   where
-    cases : (b : Bool) → same y x ≡ b → is_in same ys x ≡ false → (b || is_in same ys x) ≡ false
+    cases : (b : Bool) → same y x ≡ b → is_among same ys x ≡ false → (b || is_among same ys x) ≡ false
     cases true f more = absurd (true≢false (sym all.0 ∙ (alike y x f ∙ e)))
     cases false f more = more
 
-in_failing : {T : Type 0} (same : T → T → Bool) (p : T → Bool) → PassAlike same p → (ys : List T) (x : T) → NonePass p ys → p x ≡ true → is_in same ys x ≡ false
+in_failing : {T : Type 0} (same : T → T → Bool) (p : T → Bool) → PassAlike same p → (ys : List T) (x : T) → NonePass p ys → p x ≡ true → is_among same ys x ≡ false
 in_failing same p alike [] x none e = refl
 in_failing same p alike (y ∷ ys) x none e = cases (same y x) refl (in_failing same p alike ys x none.1 e)
   where
-    cases : (b : Bool) → same y x ≡ b → is_in same ys x ≡ false → (b || is_in same ys x) ≡ false
+    cases : (b : Bool) → same y x ≡ b → is_among same ys x ≡ false → (b || is_among same ys x) ≡ false
     cases true f more = absurd (true≢false (sym e ∙ (sym (alike y x f) ∙ none.0)))
     cases false f more = more
 
@@ -83,14 +83,14 @@ or_no false = refl
 left_passing : {T : Type 0} (same : T → T → Bool) (p : T → Bool) → PassAlike same p → (ys zs xs : List T) → NonePass p zs → AllPass p xs → left_out same (ys ++ zs) xs ≡ left_out same ys xs
 left_passing same p alike ys zs [] none all = refl
 left_passing same p alike ys zs (x ∷ xs) none all =
-    let e : is_in same (ys ++ zs) x ≡ is_in same ys x = in_append same ys zs x ∙ (ap (λ b. is_in same ys x || b) (in_failing same p alike zs x none all.0) ∙ or_no (is_in same ys x)) in
-    ap (λ b. cond b (left_out same (ys ++ zs) xs) (x ∷ left_out same (ys ++ zs) xs)) e ∙ ap (λ l. cond (is_in same ys x) l (x ∷ l)) (left_passing same p alike ys zs xs none all.1)
+    let e : is_among same (ys ++ zs) x ≡ is_among same ys x = in_append same ys zs x ∙ (ap (λ b. is_among same ys x || b) (in_failing same p alike zs x none all.0) ∙ or_no (is_among same ys x)) in
+    ap (λ b. cond b (left_out same (ys ++ zs) xs) (x ∷ left_out same (ys ++ zs) xs)) e ∙ ap (λ l. cond (is_among same ys x) l (x ∷ l)) (left_passing same p alike ys zs xs none all.1)
 
 left_failing : {T : Type 0} (same : T → T → Bool) (p : T → Bool) → PassAlike same p → (ys zs xs : List T) → AllPass p ys → NonePass p xs → left_out same (ys ++ zs) xs ≡ left_out same zs xs
 left_failing same p alike ys zs [] all none = refl
 left_failing same p alike ys zs (x ∷ xs) all none =
-    let e : is_in same (ys ++ zs) x ≡ is_in same zs x = in_append same ys zs x ∙ ap (λ b. b || is_in same zs x) (in_passing same p alike ys x all none.0) in
-    ap (λ b. cond b (left_out same (ys ++ zs) xs) (x ∷ left_out same (ys ++ zs) xs)) e ∙ ap (λ l. cond (is_in same zs x) l (x ∷ l)) (left_failing same p alike ys zs xs all none.1)
+    let e : is_among same (ys ++ zs) x ≡ is_among same zs x = in_append same ys zs x ∙ ap (λ b. b || is_among same zs x) (in_passing same p alike ys x all none.0) in
+    ap (λ b. cond b (left_out same (ys ++ zs) xs) (x ∷ left_out same (ys ++ zs) xs)) e ∙ ap (λ l. cond (is_among same zs x) l (x ∷ l)) (left_failing same p alike ys zs xs all none.1)
 
 -- what a list leaves out of another is what each part leaves out of the other's
 pub left_cut : {T : Type 0} (same : T → T → Bool) (p : T → Bool) → PassAlike same p → (xs ys : List T) → IsParted p xs → IsParted p ys → left_out same xs ys ≡ left_out same (front p xs) (front p ys) ++ left_out same (back p xs) (back p ys)

@@ -11,7 +11,8 @@ use Rattle.pl_state.specs.Sets.{AreInOrder, state_from, is_allowed, bad_from}
 use Rattle.pl_state.specs.Present.{present_of, broken_at, bad_at}
 use Rattle.pl_state.proofs.Grouping.{all_is, bad_itself}
 use Rattle.pl_state.proofs.Lists.{left_self}
-use Rattle.pl_state.specs.Lines.{Standing, IsSound, AreChanges, make, broken_now, bad_now, left_out, same_broken, same_bad}
+use Rattle.pl_state.specs.Lines.{Standing, IsSound, AreChanges, make, broken_now, bad_now, same_broken, same_bad}
+use Rattle.pl_lists.specs.Lists.{left_out}
 
 pub sound_renewed : (h : ℕ) (any : Bool) (steps steps' : List (ℕ × ℕ)) (moment base value : ℕ) (sets : List Setting) (musts : List Must) (broken : List BrokenMust) (bad : List BadSet)
     → moment ≤ h → base ≤ moment → AreInOrder 0 sets → steps' ≡ steps → broken ≡ broken_at (present_of moment h base value) sets musts

@@ -2,19 +2,18 @@
 use Rattle.std.proofs.Common.{◌≡◌, ℕ, ◌+◌, ◌-◌, ◌<◌, ◌≤◌, Bool, true, false, cond, List, [], ◌∷◌, ◌++◌, length, take, drop, get_or, refl, ap, sym, ◌∙◌, subst, arith, zero, suc}
 use Rattle.std.proofs.lemmas.Bool.{true≢false}
 use Rattle.std.proofs.lemmas.List.{append_assoc, take-append-drop, drop_all}
-use Rattle.pl_points.specs.Lists.{front, back}
+use Rattle.pl_lists.specs.Lists.{front, back, is_among}
 use Rattle.pl_points.specs.Standing.{without}
 use Rattle.pl_points.proofs.Parting.{drop_next}
 use Rattle.pl_state.specs.declared.key.Key.{Key}
 use Rattle.pl_state.specs.Keys.{key_before, is_before, is_up_to, NoneBefore, AreSorted, KnowsKey, IsRun}
 use Rattle.pl_state.specs.Near.{rest_after}
-use Rattle.pl_state.specs.Lines.{is_in}
 use Rattle.pl_state.proofs.Grouping.{drop_drop}
 use Rattle.pl_state.proofs.Keys.{before_itself, behind_both, sorted_drop}
 
 -- none stands before the place
 pub record IsSought {T : Type 0} (same : T → T → Bool) (u : T) (xs : List T) (i : ℕ) : Type 0 where
-  pub among : is_in same (drop i xs) u ≡ is_in same xs u
+  pub among : is_among same (drop i xs) u ≡ is_among same xs u
   pub gone : take i xs ++ without same u (drop i xs) ≡ without same u xs
   pub rest : rest_after same u (drop i xs) ≡ rest_after same u xs
 
@@ -34,12 +33,12 @@ later_other key same known u x e = cases (same x u) refl
     cases true f = absurd (true≢false (sym e ∙ (ap (λ k. key_before (key u) k) (known x u f) ∙ before_itself (key u))))
 
 skip_front : {T : Type 0} (same : T → T → Bool) (u : T) (p : T → Bool) → ((x : T) → p x ≡ true → same x u ≡ false) → (xs : List T)
-    → (is_in same (back p xs) u ≡ is_in same xs u) × (front p xs ++ without same u (back p xs) ≡ without same u xs) × (rest_after same u (back p xs) ≡ rest_after same u xs)
+    → (is_among same (back p xs) u ≡ is_among same xs u) × (front p xs ++ without same u (back p xs) ≡ without same u xs) × (rest_after same u (back p xs) ≡ rest_after same u xs)
 skip_front same u p other [] = (refl, refl, refl)
 skip_front same u p other (x ∷ xs) = cases (p x) refl (skip_front same u p other xs)
   where
-    cases : (b : Bool) → p x ≡ b → (is_in same (back p xs) u ≡ is_in same xs u) × (front p xs ++ without same u (back p xs) ≡ without same u xs) × (rest_after same u (back p xs) ≡ rest_after same u xs)
-        → (is_in same (cond b (back p xs) (x ∷ xs)) u ≡ is_in same (x ∷ xs) u) × (cond b (x ∷ front p xs) [] ++ without same u (cond b (back p xs) (x ∷ xs)) ≡ without same u (x ∷ xs)) × (rest_after same u (cond b (back p xs) (x ∷ xs)) ≡ rest_after same u (x ∷ xs))
+    cases : (b : Bool) → p x ≡ b → (is_among same (back p xs) u ≡ is_among same xs u) × (front p xs ++ without same u (back p xs) ≡ without same u xs) × (rest_after same u (back p xs) ≡ rest_after same u xs)
+        → (is_among same (cond b (back p xs) (x ∷ xs)) u ≡ is_among same (x ∷ xs) u) × (cond b (x ∷ front p xs) [] ++ without same u (cond b (back p xs) (x ∷ xs)) ≡ without same u (x ∷ xs)) × (rest_after same u (cond b (back p xs) (x ∷ xs)) ≡ rest_after same u (x ∷ xs))
     cases true e more = let f : same x u ≡ false = other x e in (more.0 ∙ rw f refl, ap (λ l. x ∷ l) more.1 ∙ rw f refl, more.2 ∙ rw f refl)
     cases false e more = (refl, refl, refl)
 
@@ -47,7 +46,7 @@ pub sought_begin : {T : Type 0} (key : T → Key) (same : T → T → Bool) → 
 sought_begin key same known u xs i before rest =
     let all = skip_front same u (λ x. key_before (key x) (key u)) (earlier_other key same known u) xs in
     record {
-      among = ap (λ l. is_in same l u) rest ∙ all.0;
+      among = ap (λ l. is_among same l u) rest ∙ all.0;
       gone = ap (λ l. l ++ without same u (drop i xs)) before ∙ (ap (λ l. front (λ x. key_before (key x) (key u)) xs ++ without same u l) rest ∙ all.1);
       rest = ap (rest_after same u) rest ∙ all.2;
     }
@@ -61,36 +60,36 @@ pub sought_next : {T : Type 0} (same : T → T → Bool) (u : T) (xs : List T) (
 sought_next same u xs i p sought lt is other =
     let e : drop i xs ≡ p ∷ drop (suc i) xs = drop_next xs i p lt ∙ ap (λ q. q ∷ drop (suc i) xs) (sym is) in
     let f : take (suc i) xs ≡ take i xs ++ p ∷ [] = take_next xs i p lt ∙ ap (λ q. take i xs ++ q ∷ []) (sym is) in
-    let a : is_in same (p ∷ drop (suc i) xs) u ≡ is_in same (drop (suc i) xs) u = rw other refl in
+    let a : is_among same (p ∷ drop (suc i) xs) u ≡ is_among same (drop (suc i) xs) u = rw other refl in
     let b : without same u (p ∷ drop (suc i) xs) ≡ p ∷ without same u (drop (suc i) xs) = rw other refl in
     let c : rest_after same u (p ∷ drop (suc i) xs) ≡ rest_after same u (drop (suc i) xs) = rw other refl in
     record {
-      among = sym a ∙ (sym (ap (λ l. is_in same l u) e) ∙ sought.among);
+      among = sym a ∙ (sym (ap (λ l. is_among same l u) e) ∙ sought.among);
       gone = ap (λ l. l ++ without same u (drop (suc i) xs)) f ∙ (append_assoc (take i xs) (p ∷ []) (without same u (drop (suc i) xs)) ∙ (ap (λ l. take i xs ++ l) (sym b) ∙ (sym (ap (λ l. take i xs ++ without same u l) e) ∙ sought.gone)));
       rest = sym c ∙ (sym (ap (rest_after same u) e) ∙ sought.rest);
     }
 
 -- it is found
 pub record IsFound {T : Type 0} (same : T → T → Bool) (u : T) (xs : List T) (i : ℕ) : Type 0 where
-  pub among : true ≡ is_in same xs u
+  pub among : true ≡ is_among same xs u
   pub gone : take i xs ++ drop (suc i) xs ≡ without same u xs
   pub rest : drop (suc i) xs ≡ rest_after same u xs
 
 pub sought_found : {T : Type 0} (same : T → T → Bool) (u : T) (xs : List T) (i : ℕ) (p : T) → IsSought same u xs i → i < length xs → p ≡ get_or xs i p → same p u ≡ true → IsFound same u xs i
 sought_found same u xs i p sought lt is found =
     let e : drop i xs ≡ p ∷ drop (suc i) xs = drop_next xs i p lt ∙ ap (λ q. q ∷ drop (suc i) xs) (sym is) in
-    let a : is_in same (p ∷ drop (suc i) xs) u ≡ true = rw found refl in
+    let a : is_among same (p ∷ drop (suc i) xs) u ≡ true = rw found refl in
     let b : without same u (p ∷ drop (suc i) xs) ≡ drop (suc i) xs = rw found refl in
     let c : rest_after same u (p ∷ drop (suc i) xs) ≡ drop (suc i) xs = rw found refl in
     record {
-      among = sym a ∙ (sym (ap (λ l. is_in same l u) e) ∙ sought.among);
+      among = sym a ∙ (sym (ap (λ l. is_among same l u) e) ∙ sought.among);
       gone = ap (λ l. take i xs ++ l) (sym b) ∙ (sym (ap (λ l. take i xs ++ without same u l) e) ∙ sought.gone);
       rest = sym c ∙ (sym (ap (rest_after same u) e) ∙ sought.rest);
     }
 
 -- it is not there
 pub record IsMissing {T : Type 0} (same : T → T → Bool) (u : T) (xs : List T) : Type 0 where
-  pub among : false ≡ is_in same xs u
+  pub among : false ≡ is_among same xs u
   pub gone : without same u xs ≡ xs
   pub rest : rest_after same u xs ≡ []
 

@@ -2,7 +2,7 @@
 use Rattle.std.proofs.Common.{◌≡◌, ℕ, ◌+◌, ◌-◌, ◌<◌, ◌≤◌, ◌==◌, ◌&&◌, not, Bool, true, false, cond, List, [], ◌∷◌, refl, ap, sym, ◌∙◌, arith, eqb, ltb, leb, min, max}
 use Rattle.std.proofs.lemmas.Bool.{and_parts, eqb-true, ltb-false, leb-false, lt-ltb, le-ltb, le-leb, lt-leb}
 use Rattle.pl_points.specs.declared.span.Span.{Span}
-use Rattle.pl_points.specs.Lists.{back}
+use Rattle.pl_lists.specs.Lists.{back}
 use Rattle.pl_points.specs.Spans.{spans_of, span}
 use Rattle.pl_points.specs.Standing.{without}
 use Rattle.pl_points.proofs.Maximal.{local}

@@ -2,7 +2,7 @@
 use Rattle.std.proofs.Common.{◌≡◌, ℕ, zero, suc, drop, ◌<◌, ◌≤◌, ◌&&◌, not, Bool, true, false, cond, List, [], ◌∷◌, ◌++◌, refl, ap, sym, ◌∙◌, arith, ltb, leb}
 use Rattle.std.proofs.lemmas.Bool.{and_parts, ltb-true, ltb-false, leb-true, leb-false, lt-ltb, le-ltb, le-leb, lt-leb}
 use Rattle.std.proofs.lemmas.List.{append_assoc}
-use Rattle.pl_points.specs.Lists.{front, back}
+use Rattle.pl_lists.specs.Lists.{front, back}
 use Rattle.pl_points.proofs.Parting.{NonePass, IsParted}
 use Rattle.pl_state.specs.declared.reservation.Setting.{Setting}
 use Rattle.pl_state.specs.declared.answer.BadSet.{BadSet}

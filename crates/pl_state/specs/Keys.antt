@@ -1,6 +1,6 @@
 -- The order of what a state keeps: by moment, then id, then index.
 use Rattle.std.specs.Prelude.{◌≡◌, ℕ, ◌&&◌, ◌||◌, ◌==◌, not, nat_lt, Bool, false, true, ◌⊎◌, List, [], ◌∷◌, ◌+◌, ◌-◌, take, drop, if◌then◌else◌}
-use Rattle.pl_points.specs.Lists.{front, back}
+use Rattle.pl_lists.specs.Lists.{front, back}
 use Rattle.pl_state.specs.declared.key.Key.{Key}
 
 abbrev pub key_of : ℕ → ℕ → ℕ → Key

@@ -1,4 +1,4 @@
-pub use Rattle.pl_points.specs.Lists
+pub use Rattle.pl_lists.specs.Lists
 pub use Rattle.pl_points.specs.Spans
 pub use Rattle.pl_points.specs.Standing
 pub mod Keys

@@ -1,5 +1,6 @@
 -- What a state timeline stands for, and what it keeps.
-use Rattle.std.specs.Prelude.{◌≡◌, ℕ, ◌≤◌, ◌||◌, ◌&&◌, ◌==◌, Bool, false, List, [], ◌∷◌, if◌then◌else◌}
+use Rattle.std.specs.Prelude.{◌≡◌, ℕ, ◌≤◌, ◌&&◌, ◌==◌, Bool, List}
+use Rattle.pl_lists.specs.Lists.{left_out}
 use Rattle.pl_state.specs.declared.reservation.Setting.{Setting}
 use Rattle.pl_state.specs.declared.reservation.Must.{Must}
 use Rattle.pl_state.specs.declared.answer.BadSet.{BadSet}
@@ -38,15 +39,6 @@ pub record IsSound (state : Standing) (broken : List BrokenMust) (bad : List Bad
   pub musts : broken ≡ broken_now state
   pub sets : bad ≡ bad_now state
   pub sorted : AreSorted bad_key bad
-
--- those that are not among the others
-abbrev pub is_in : {T : Type 0} → (T → T → Bool) → List T → T → Bool
-is_in same [] x = false
-is_in same (y ∷ ys) x = same y x || is_in same ys x
-
-abbrev pub left_out : {T : Type 0} → (T → T → Bool) → List T → List T → List T
-left_out same others [] = []
-left_out same others (x ∷ xs) = if is_in same others x then left_out same others xs else x ∷ left_out same others xs
 
 abbrev pub same_broken : BrokenMust → BrokenMust → Bool
 same_broken u v = (u.id == v.id) && ((u.index == v.index) && ((u.from == v.from) && (u.to == v.to)))

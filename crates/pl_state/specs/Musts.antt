@@ -1,7 +1,7 @@
 -- Musts of a state, in order, and where they are broken.
 use Rattle.std.specs.Prelude.{ℕ, ◌-◌, ◌&&◌, ◌||◌, ◌==◌, not, nat_lt, max, min, Bool, List, [], ◌∷◌, ◌++◌}
 use Rattle.pl_points.specs.declared.span.Span.{Span}
-use Rattle.pl_points.specs.Lists.{front, back}
+use Rattle.pl_lists.specs.Lists.{front, back}
 use Rattle.pl_points.specs.Spans.{spans_of}
 use Rattle.pl_state.specs.declared.reservation.Must.{Must}
 use Rattle.pl_state.specs.declared.answer.BrokenMust.{BrokenMust}

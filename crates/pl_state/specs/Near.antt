@@ -1,6 +1,6 @@
 -- What a change may touch: a window of moments, the musts that have moments of it, and the sets in it.
 use Rattle.std.specs.Prelude.{◌≡◌, ℕ, ◌≤◌, ◌&&◌, nat_lt, nat_le, min, Bool, List, [], ◌∷◌, ◌++◌, length, take, drop, if◌then◌else◌}
-use Rattle.pl_points.specs.Lists.{front, back}
+use Rattle.pl_lists.specs.Lists.{front, back, left_out}
 use Rattle.pl_points.specs.declared.span.Span.{Span}
 use Rattle.pl_state.specs.declared.reservation.Setting.{Setting}
 use Rattle.pl_state.specs.declared.reservation.Must.{Must}
@@ -10,7 +10,7 @@ use Rattle.pl_state.specs.declared.reservation.Started.{Started}
 use Rattle.pl_state.specs.declared.key.Key.{Key}
 use Rattle.pl_state.specs.Keys.{key_of, is_before, is_up_to}
 use Rattle.pl_state.specs.Musts.{must_key}
-use Rattle.pl_state.specs.Lines.{left_out, same_broken}
+use Rattle.pl_state.specs.Lines.{same_broken}
 
 -- whether a must has moments of the window
 abbrev pub touches : Span → Must → Bool

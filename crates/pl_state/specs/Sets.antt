@@ -1,6 +1,6 @@
 -- Sets of a state, in order, and the state that they leave.
 use Rattle.std.specs.Prelude.{ℕ, ◌≤◌, ◌&&◌, ◌||◌, ◌==◌, not, nat_lt, nat_le, Bool, false, List, [], ◌∷◌, ◌++◌, if◌then◌else◌}
-use Rattle.pl_points.specs.Lists.{front, back}
+use Rattle.pl_lists.specs.Lists.{front, back}
 use Rattle.pl_state.specs.declared.reservation.Setting.{Setting}
 use Rattle.pl_state.specs.declared.answer.BadSet.{BadSet}
 use Rattle.pl_state.specs.declared.key.Key.{Key}

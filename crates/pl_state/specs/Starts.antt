@@ -1,6 +1,6 @@
 -- Musts by their start.
 use Rattle.std.specs.Prelude.{ℕ, ◌+◌, ◌≤◌, Bool, List, ◌∷◌, ◌++◌}
-use Rattle.pl_points.specs.Lists.{front, back}
+use Rattle.pl_lists.specs.Lists.{front, back}
 use Rattle.pl_state.specs.declared.reservation.Must.{Must}
 use Rattle.pl_state.specs.declared.reservation.Started.{Started}
 use Rattle.pl_state.specs.declared.key.Key.{Key}

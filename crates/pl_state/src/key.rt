@@ -1,9 +1,8 @@
 ghost use Rattle.std.specs.Prelude.{◌≡◌, ◌≤◌, ◌<◌, ◌++◌, [], suc, length, take, drop, true, not, is_some, IfSome, IfNone};
-ghost use Rattle.pl_points.specs.Lists.{front, back};
+ghost use Rattle.pl_lists.specs.Lists.{front, back, is_among};
 ghost use Rattle.pl_points.specs.Standing.{without};
 ghost use Rattle.pl_state.specs.Keys.{key_before, AreSorted, KnowsKey, IsRun};
 ghost use Rattle.pl_state.specs.Near.{rest_after};
-ghost use Rattle.pl_state.specs.Lines.{is_in};
 
 // Where something stands in its list. What has no moment of its own has the moment 0.
 #[derive(Clone, Copy, Debug, PartialEq, Eq, PartialOrd, Ord)]
@@ -84,7 +83,7 @@ pub(crate) fn run_of<T: Keyed>(list: &[T], from: usize, key: Key) -> Run
 pub(crate) fn position_of<T: Keyed>(list: &[T], item: &T) -> Option<usize>
     requires sorted { AreSorted T.key list.now }
     requires known { KnowsKey T.key T.same }
-    ensures among { is_some result ≡ is_in T.same list.now item.now }
+    ensures among { is_some result ≡ is_among T.same list.now item.now }
     ensures bound { IfSome result (λ i. i < length list.now) }
     ensures gone { IfSome result (λ i. take i list.now ++ drop (suc i) list.now
         ≡ without T.same item.now list.now) }

@@ -16,7 +16,7 @@ mod sharing;
 mod starts;
 
 pub use answer::{BadSet, BrokenMust, StateChange};
-pub use laws::{order_laws, same_standing, told_in_order};
+pub use laws::{change_laws, distinct_laws, order_laws, same_standing, told_in_order};
 pub use line::StateLine;
 pub use reservation::{Must, Setting};
 pub use sharing::shared_types;

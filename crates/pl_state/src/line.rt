@@ -2,6 +2,8 @@ ghost use Rattle.std.specs.Prelude.{◌≡◌, ◌<◌, ◌≤◌, true, false, 
 ghost use Rattle.pl_points.specs.Standing.{without};
 ghost use Rattle.pl_state.specs.Sets.{setting_of, same_setting, with_set};
 ghost use Rattle.pl_state.specs.Musts.{must_of, same_must, with_must};
+ghost use Rattle.pl_state.specs.Keys.{AreSorted};
+ghost use Rattle.pl_state.specs.Sorted.{bad_key};
 ghost use Rattle.pl_state.specs.Lines.{AreChanges, state_at, broken_now, bad_now};
 
 use crate::answer::{BadSet, BrokenMust, StateChange};
@@ -390,7 +392,8 @@ impl StateLine {
 
     /// The sets that take a step that is not allowed, by (moment, id, index).
     pub fn bad_steps(&self) -> &[BadSet]
-        ensures { self.now.spoiled ≡ false → result.now ≡ bad_now self.now }
+        ensures told { self.now.spoiled ≡ false → result.now ≡ bad_now self.now }
+        ensures sorted { self.now.spoiled ≡ false → AreSorted bad_key result.now }
     {
         &self.told.bad
     }

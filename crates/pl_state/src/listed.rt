@@ -1,6 +1,6 @@
 ghost use Rattle.std.specs.Prelude.{◌≡◌, ◌≤◌, ◌-◌, ◌++◌, length, take, drop, OnOk, IfOk};
 ghost use Rattle.pl_state.specs.Keys.{AreSorted, KnowsKey};
-ghost use Rattle.pl_state.specs.Lines.{is_in, left_out};
+ghost use Rattle.pl_lists.specs.Lists.{is_among, left_out};
 
 use crate::answer::{BadSet, BrokenMust, StateChange};
 use crate::key::{Key, Keyed, position_of};
@@ -51,7 +51,7 @@ impl Keyed for BadSet {
 }
 
 fn contains<T: Keyed>(list: &[T], item: &T) -> bool
-    ensures { result ≡ is_in T.same list.now item.now }
+    ensures { result ≡ is_among T.same list.now item.now }
 {
     for other in list {
         if other.is_same(item) {

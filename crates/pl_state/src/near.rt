@@ -1,10 +1,10 @@
 //! Both lists mended near a change.
 ghost use Rattle.std.specs.Prelude.{◌≡◌, ◌≤◌, length, take, drop, OnOk, IfOk};
-ghost use Rattle.pl_points.specs.Lists.{front, back};
+ghost use Rattle.pl_lists.specs.Lists.{front, back, left_out};
 ghost use Rattle.pl_state.specs.Keys.{AreSorted};
 ghost use Rattle.pl_state.specs.Sets.{set_key, AreInOrder};
 ghost use Rattle.pl_state.specs.Sorted.{bad_key};
-ghost use Rattle.pl_state.specs.Lines.{AreChanges, left_out, same_bad, same_broken};
+ghost use Rattle.pl_state.specs.Lines.{AreChanges, same_bad, same_broken};
 ghost use Rattle.pl_state.specs.Near.{bad_before, bad_by, AreBadInOrder};
 ghost use Rattle.pl_state.specs.Present.{broken_at, bad_at, WasRight, IsRightBut};
 

@@ -1,5 +1,5 @@
 ghost use Rattle.std.specs.Prelude.{◌≡◌, ◌<◌, ◌≤◌, ◌++◌, ◌∷◌, [], ℕ, List, true, length, take, drop, suc, min, max, OnOk, OnErr, IfOk};
-ghost use Rattle.pl_points.specs.Lists.{front, back};
+ghost use Rattle.pl_lists.specs.Lists.{front, back};
 ghost use Rattle.pl_points.specs.Standing.{stands, without};
 ghost use Rattle.pl_state.specs.Sets.{set_key, set_before, same_setting, with_set, state_from, is_listed, is_allowed, bad_from, is_passed, AreInOrder};
 ghost use Rattle.pl_state.specs.Keys.{AreSorted};

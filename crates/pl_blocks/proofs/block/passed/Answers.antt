@@ -1,4 +1,4 @@
-use Rattle.std.proofs.Common.{◌≡◌, ◌<◌, ◌≤◌, ◌+◌, arith, ap, sym, ◌∙◌, refl, length, get_or, take, drop, pos, ◌+ℤ◌, subst, true}
+use Rattle.std.proofs.Common.{◌≡◌, ◌+◌, arith, ap, sym, ◌∙◌, refl, length, get_or, take, pos, ◌+ℤ◌, true}
 use mir.Val.{to_z}
 use mir.Syntax.{w64}
 use Rattle.std.proofs.lemmas.List.{get_or_default, take_all, drop_all}

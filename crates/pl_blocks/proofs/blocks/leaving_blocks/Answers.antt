@@ -1,13 +1,13 @@
-use Rattle.std.proofs.Common.{rules, ◌≡◌, ◌<◌, ◌≤◌, ◌+◌, ◌++◌, ◌||◌, arith, ap, sym, ◌∙◌, refl, subst, length, drop, pos, ◌+ℤ◌, true, false}
+use Rattle.std.proofs.Common.{◌≡◌, ◌+◌, arith, ap, sym, ◌∙◌, refl, subst, drop, ◌+ℤ◌, true, false}
 use Rattle.std.specs.Prelude.{int_lt, is_some}
 use mir.Val.{to_z, of_z}
 use mir.Syntax.{w64}
-use Rattle.std.proofs.lemmas.Int.{ints, to_z-of_z}
+use Rattle.std.proofs.lemmas.Int.{to_z-of_z}
 use Rattle.std.proofs.lemmas.List.{length-drop}
 use Rattle.pl_points.specs.Sums.{IsSmall}
-use Rattle.pl_points.specs.Points.{leaving, SmallFrom, RiseFrom, ahead_of}
+use Rattle.pl_points.specs.Points.{leaving, SmallFrom}
 use Rattle.pl_points.proofs.Outside.{same_leaving}
-use Rattle.pl_blocks.specs.Blocks.{together, blocks_from, change_of, least_sum, greatest_sum}
+use Rattle.pl_blocks.specs.Blocks.{together, change_of, least_sum, greatest_sum}
 use Rattle.pl_blocks.proofs.Rows.{small_sum, small_split, small_head, drop_block, sized_at}
 use Rattle.pl_blocks.proofs.Summaries.{either_out, out_there, leaving_first, leaving_later, or_left, or_right, or_neither}
 use Rattle.pl_blocks.proofs.Searches.{small_fronts, ahead_there}

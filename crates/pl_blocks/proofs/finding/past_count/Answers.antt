@@ -1,4 +1,4 @@
-use Rattle.std.proofs.Common.{◌≡◌, ◌<◌, ◌≤◌, ◌+◌, ◌-◌, ◌/◌, [], length, true, false, ap, sym, ◌∙◌, arith}
+use Rattle.std.proofs.Common.{◌≡◌, ◌<◌, ◌+◌, ◌-◌, ◌/◌, [], length, true, false, ap, sym, ◌∙◌, arith}
 use Rattle.pl_blocks.specs.Blocks.{is_past}
 use Rattle.pl_blocks.proofs.Rows.{parted_blocks}
 use Rattle.pl_blocks.proofs.Searches.{half_room, below_past_one, above_one, place_cut}

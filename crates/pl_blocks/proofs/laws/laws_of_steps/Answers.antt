@@ -1,6 +1,5 @@
-use Rattle.std.proofs.Common.{◌≤◌, ◌+◌, ◌*◌, ◌/◌, length, arith}
+use Rattle.std.proofs.Common.{arith}
 use Rattle.pl_points.specs.Points.{merged}
-use Rattle.pl_points.specs.Counting.{outside_count}
 use Rattle.pl_points.proofs.PointLists.{length-merged}
 use Rattle.pl_blocks.proofs.laws.laws_of_steps.Goals as goal
 

@@ -1,4 +1,4 @@
-use Rattle.std.proofs.Common.{◌≡◌, ◌<◌, ◌≤◌, ◌+◌, ◌-◌, ◌++◌, ◌∷◌, [], List, suc, ap, sym, ◌∙◌, arith, subst, length, take, drop, pos, get_or}
+use Rattle.std.proofs.Common.{◌≡◌, ◌<◌, ◌-◌, ◌++◌, ◌∷◌, [], suc, ap, sym, ◌∙◌, arith, subst, length, take, drop, pos, get_or}
 use Rattle.std.proofs.lemmas.List.{get_or_default}
 use Rattle.pl_points.specs.Points.{RiseFrom, AreNear}
 use Rattle.pl_blocks.proofs.Mends.{part_before, mended_before}

@@ -1,6 +1,5 @@
-use Rattle.std.proofs.Common.{rules, ◌≡◌, ◌<◌, ◌≤◌, ◌+◌, ◌-◌, ◌++◌, ◌∷◌, [], List, suc, ap, sym, ◌∙◌, arith, subst, length, take, drop, pos, get_or, set}
-use Rattle.std.proofs.lemmas.List.{get_or_default, set_split}
-use Rattle.pl_points.specs.Points.{RiseFrom, AreNear}
+use Rattle.std.proofs.Common.{rules, ◌≡◌, ◌-◌, ◌++◌, ◌∷◌, [], suc, ap, ◌∙◌, arith, length, take, drop, get_or, set}
+use Rattle.std.proofs.lemmas.List.{set_split}
 use Rattle.pl_blocks.proofs.Searches.{no_items}
 use Rattle.pl_blocks.proofs.Mends.{one_part, mended_none, mended_one, size_before}
 use Rattle.pl_blocks.proofs.mending.mend.Goals as goal

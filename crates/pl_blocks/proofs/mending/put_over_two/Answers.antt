@@ -1,4 +1,4 @@
-use Rattle.std.proofs.Common.{◌≡◌, suc, ap, ◌∙◌, set}
+use Rattle.std.proofs.Common.{ap, ◌∙◌, set}
 use Rattle.pl_blocks.proofs.Mends.{set_over_two}
 use Rattle.pl_blocks.proofs.mending.put_over_two.Goals as goal
 

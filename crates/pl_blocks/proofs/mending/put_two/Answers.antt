@@ -1,4 +1,4 @@
-use Rattle.std.proofs.Common.{◌≡◌, ◌+◌, suc, ap, ◌∙◌, set, arith}
+use Rattle.std.proofs.Common.{◌+◌, ap, ◌∙◌, set, arith}
 use Rattle.pl_blocks.proofs.Mends.{set_two}
 use Rattle.pl_blocks.proofs.mending.put_two.Goals as goal
 

@@ -1,4 +1,4 @@
-use Rattle.std.proofs.Common.{◌≡◌, ◌<◌, ◌≤◌, ◌+◌, ◌-◌, ◌++◌, ◌∷◌, suc, ap, sym, ◌∙◌, arith, subst, length, take, drop, pos}
+use Rattle.std.proofs.Common.{◌≡◌, ◌-◌, ◌++◌, ◌∷◌, suc, ap, sym, ◌∙◌, arith, subst, length, take, drop, pos}
 use Rattle.std.proofs.lemmas.List.{take_rest, length-drop, length-append}
 use Rattle.std.proofs.lemmas.Result.{on_ok_weaker}
 use Rattle.pl_points.specs.Points.{RiseFrom, AreNear}

@@ -1,10 +1,9 @@
-use Rattle.std.proofs.Common.{◌≤◌, ◌+◌, neg_ℤ, [], ◌∷◌, ◌++◌, arith, subst}
+use Rattle.std.proofs.Common.{◌≤◌, ◌+◌, [], ◌∷◌, ◌++◌, arith, subst}
 use mir.Val.{to_z, of_z}
 use mir.Syntax.{w64}
 use Rattle.std.proofs.lemmas.Int.{to_z-of_z}
 use Rattle.pl_points.specs.Points.{merged}
-use Rattle.pl_points.specs.Standing.{without}
-use Rattle.pl_level.specs.Effects.{points_of, low_count, high_count, effect_of, same_effect}
+use Rattle.pl_level.specs.Effects.{points_of, low_count, high_count, effect_of}
 use Rattle.pl_level.specs.Bounds.{outside_before, bound}
 use Rattle.pl_level.proofs.bounded.add_bounded.Goals as goal
 

@@ -1,4 +1,4 @@
-use Rattle.std.proofs.Common.{◌≤◌, ◌+◌, neg_ℤ, [], ◌∷◌, ◌++◌, arith, subst}
+use Rattle.std.proofs.Common.{◌≤◌, ◌+◌, neg_ℤ, arith, subst}
 use mir.Val.{to_z, of_z}
 use mir.Syntax.{w64}
 use Rattle.std.proofs.lemmas.Int.{to_z-of_z}

@@ -1,8 +1,7 @@
-use Rattle.std.proofs.Common.{◌≡◌, ◌+◌, drop, ap, sym, ◌∙◌, subst, ◌^◌}
-use Rattle.std.proofs.lemmas.List.{take_rest, drop_more}
+use Rattle.std.proofs.Common.{◌≡◌, ap, sym, ◌∙◌, subst, ◌^◌}
+use Rattle.std.proofs.lemmas.List.{take_rest}
 use Rattle.pl_points.specs.Spans.{AreSpans}
-use Rattle.pl_points.specs.Lists.{back}
-use Rattle.pl_points.specs.Mending.{reached, beyond, ends_before}
+use Rattle.pl_points.specs.Mending.{reached}
 use Rattle.pl_points.proofs.Cuts.{apart_drop}
 use Rattle.pl_points.proofs.Rounds.{touched, touched_apart}
 use Rattle.pl_points.proofs.cutting.touched_by.Goals as goal

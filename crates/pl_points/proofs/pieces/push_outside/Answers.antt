@@ -1,4 +1,4 @@
-use Rattle.std.proofs.Common.{rules, arith, ap, ◌∙◌, ◌||◌, ◌&&◌, length}
+use Rattle.std.proofs.Common.{rules, arith, ap, ◌∙◌, ◌||◌, ◌&&◌}
 use mir.Val.{to_z, SFits}
 use mir.Syntax.{w64}
 use Rattle.std.proofs.lemmas.Int.{to_z-of_z}
@@ -7,24 +7,24 @@ use Rattle.pl_points.specs.Spans.{covers, within}
 use Rattle.pl_points.specs.Limits.{is_outside}
 use Rattle.pl_points.specs.Counting.{goes_outside}
 use Rattle.pl_points.proofs.Spanning.{piece_more}
-use Rattle.pl_points.proofs.Strolls.{left_first, none_within}
+use Rattle.pl_points.proofs.Strolls.{none_within}
+use Rattle.pl_points.proofs.Calming.{until_is}
 use Rattle.pl_points.proofs.pieces.push_outside.Goals as goal
 
 pub pieces-init : goal.pieces-init
 pieces-init g c =
     let ps = g.P.Points.points c.args.points.now in
-    let fits : SFits w64 c.sum_to-sum.result = search rules in
-    let first = left_first (g.P.Points.ahead c.args.points.now) g.P.Points.parts g.P.Points.look_steps g.P.Points.search_steps c.args.steps.now c.sum_to-sum.new.steps c.args.window.from (length ps) (goes_outside c.args.limit ps) ps c.sum_to-sum.ensures.cost in
+    let fits : SFits w64 c.args.mark.sum = search rules in
     record {
       low = omega arith;
       high = c.requires.some;
-      sum = λ _. to_z-of_z w64 c.sum_to-sum.result fits ∙ c.sum_to-sum.ensures.sum;
-      sound = c.sum_to-sum.ensures.sound;
-      falls = c.sum_to-sum.ensures.falls;
+      sum = λ lt. to_z-of_z w64 c.args.mark.sum fits ∙ c.requires.sum lt;
+      sound = c.requires.sound;
+      falls = c.requires.falls;
       apart = c.requires.apart;
-      covers = λ t. none_within c.args.window.from t (covers c.args.spans.now.items t) (is_outside c.args.limit (sum_to ps t));
-      spent = omega (arith, first);
-      left = λ _. first;
+      covers = λ t. none_within c.args.mark.at t (covers c.args.spans.now.items t) (is_outside c.args.limit (sum_to ps t));
+      spent = omega arith;
+      left = λ lt. let e = until_is (g.P.Points.ahead c.args.points.now) g.P.Points.look_steps g.P.Points.search_steps (goes_outside c.args.limit ps) ps c.args.mark.at c.args.to lt in omega (arith, e);
     }
 
 pub pieces-preserved : goal.pieces-preserved
@@ -47,7 +47,7 @@ pieces-preserved g c =
           let came = c.in_ok-push_piece.ensures.covers t in
           let old = inv.covers t in
           came ∙ (ap (λ b. b || (within at end t && is_outside c.args.limit s)) old
-          ∙ piece_more c.args.window.from at end t (covers c.args.spans.now.items t) (is_outside c.args.limit (sum_to ps t)) (is_outside c.args.limit s) inv.low (omega (arith, c.piece-end.ensures.later))
+          ∙ piece_more c.args.mark.at at end t (covers c.args.spans.now.items t) (is_outside c.args.limit (sum_to ps t)) (is_outside c.args.limit s) inv.low (omega (arith, c.piece-end.ensures.later))
           (λ low high. c.piece-end.ensures.same t low high));
       spent = omega (arith, left, c.piece-end.ensures.spent);
       left = λ lt. omega (arith, left, c.piece-end.ensures.left lt);

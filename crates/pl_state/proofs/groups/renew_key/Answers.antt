@@ -1,6 +1,7 @@
 use Rattle.std.proofs.Common.{◌-◌, ◌++◌, take, drop, refl, ap, ◌∙◌, arith}
 use Rattle.pl_state.specs.Sets.{state_from}
-use Rattle.pl_state.specs.Lines.{left_out, same_broken}
+use Rattle.pl_state.specs.Lines.{same_broken}
+use Rattle.pl_lists.specs.Lists.{left_out}
 use Rattle.pl_state.specs.Present.{group_at}
 use Rattle.pl_state.proofs.Parts.{one_keyed}
 use Rattle.pl_state.proofs.Renewing.{one_key}

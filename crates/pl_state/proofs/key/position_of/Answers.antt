@@ -1,5 +1,5 @@
 use Rattle.std.proofs.Common.{ap, sym, ◌∙◌}
-use Rattle.pl_points.specs.Lists.{front, back}
+use Rattle.pl_lists.specs.Lists.{front, back}
 use Rattle.pl_state.specs.Keys.{key_before}
 use Rattle.pl_state.proofs.Seeking.{sought_begin, sought_found, sought_passed}
 use Rattle.pl_state.proofs.key.position_of.Goals as goal

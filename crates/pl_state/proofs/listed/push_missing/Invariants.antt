@@ -1,6 +1,6 @@
 -- the rest gives the whole
 use Rattle.std.proofs.Common.{◌≡◌, ◌++◌, drop}
-use Rattle.pl_state.specs.Lines.{left_out}
+use Rattle.pl_lists.specs.Lists.{left_out}
 use Rattle.pl_state.proofs.listed.push_missing.Given as goal
 
 abbrev pub invariant-loop-item : goal.invariant-loop-item

@@ -1,6 +1,6 @@
 use Rattle.std.proofs.Common.{◌≡◌, ◌≤◌, ap, sym, ◌∙◌, subst}
 use Rattle.std.proofs.lemmas.List.{take_rest}
-use Rattle.pl_points.specs.Lists.{back}
+use Rattle.pl_lists.specs.Lists.{back}
 use Rattle.pl_state.specs.Sets.{is_passed}
 use Rattle.pl_state.specs.Near.{next_moment}
 use Rattle.pl_state.proofs.Orders.{later_moment}

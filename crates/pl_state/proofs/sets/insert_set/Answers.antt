@@ -1,6 +1,6 @@
 use Rattle.std.proofs.Common.{drop, ap, sym, ◌∙◌, subst, min, max}
 use Rattle.std.proofs.lemmas.List.{take_rest}
-use Rattle.pl_points.specs.Lists.{back}
+use Rattle.pl_lists.specs.Lists.{back}
 use Rattle.pl_state.specs.Keys.{AreSorted}
 use Rattle.pl_state.specs.Sets.{set_key, set_before, with_set}
 use Rattle.pl_state.specs.Near.{next_moment}

@@ -1,7 +1,7 @@
 use Rattle.std.proofs.Common.{◌≡◌, ◌<◌, ◌-◌, suc, [], length, take, arith, ap, sym, ◌∙◌, get_or, true, false, cond, ltb}
 use Rattle.std.proofs.lemmas.List.{get_or_default}
 use Rattle.std.proofs.lemmas.Bool.{lt-ltb, le-ltb}
-use Rattle.pl_points.specs.Lists.{front}
+use Rattle.pl_lists.specs.Lists.{front}
 use Rattle.pl_state.specs.declared.reservation.Setting.{Setting}
 use Rattle.pl_state.specs.Sets.{is_passed}
 use Rattle.pl_state.proofs.Orders.{state_none, state_last}

@@ -1,4 +1,4 @@
-use Rattle.std.proofs.Common.{◌≡◌, ◌-◌, arith, ap, sym, ◌∙◌, length, ltb, pos}
+use Rattle.std.proofs.Common.{◌-◌, arith, ap, ◌∙◌, length, ltb, pos}
 use Rattle.pl_blocks.specs.Blocks.{is_past}
 use Rattle.pl_blocks.proofs.Rows.{last_past}
 use Rattle.pl_blocks.proofs.block.Block.is_past.Goals as goal

@@ -1,13 +1,12 @@
-use Rattle.std.proofs.Common.{rules, ◌≡◌, ◌<◌, ◌≤◌, ◌+◌, ◌-◌, ◌^◌, ◌*◌, ◌/◌, min, List, [], arith, ap, sym, ◌∙◌, refl, subst, length, take, drop, OnOk, OnErr}
+use Rattle.std.proofs.Common.{rules, ◌≡◌, ◌-◌, min, [], arith, ap, sym, ◌∙◌, subst, length, take, drop}
 use mir.Val.{to_z, of_z}
 use mir.Syntax.{w64}
 use Rattle.std.proofs.lemmas.Int.{to_z-of_z}
 use Rattle.std.proofs.lemmas.Result.{on_ok_weaker}
-use Rattle.pl_points.specs.Lists.{front, back}
-use Rattle.pl_points.specs.Points.{Point, merged, put, AreSmall, ArePoints, IsNear}
-use Rattle.pl_points.proofs.PointLists.{merged_small, points-merged, either}
+use Rattle.pl_lists.specs.Lists.{front, back}
+use Rattle.pl_points.specs.Points.{merged, AreSmall, IsNear}
+use Rattle.pl_points.proofs.PointLists.{merged_small, either}
 use Rattle.pl_blocks.specs.Blocks.{together, is_past, AreBlocks}
-use Rattle.pl_blocks.specs.Mending.{with_points, Fit, IsMended}
 use Rattle.pl_blocks.proofs.Rows.{parts_most}
 use Rattle.pl_blocks.proofs.Searches.{fits_there, mended_blocks, none_blocks, begun_blocks, no_items, three}
 use Rattle.pl_blocks.proofs.blocks.BlockPointsPoints.add.Goals as goal

@@ -1,6 +1,6 @@
-use Rattle.std.proofs.Common.{◌≡◌, ◌<◌, ◌≤◌, ◌+◌, suc, arith, ap, sym, ◌∙◌, subst, length, take, drop, get_or, Some, None, false, pos}
+use Rattle.std.proofs.Common.{◌≡◌, ◌<◌, ◌≤◌, arith, ap, sym, ◌∙◌, length, take, drop, get_or, false, pos}
 use Rattle.std.proofs.lemmas.List.{get_or_default}
-use Rattle.pl_points.specs.Lists.{front, back}
+use Rattle.pl_lists.specs.Lists.{front, back}
 use Rattle.pl_points.specs.Points.{is_before, first_from}
 use Rattle.pl_blocks.specs.Blocks.{together, is_past, blocks_from}
 use Rattle.pl_blocks.proofs.Rows.{not_past_there, blocks_fall}

@@ -1,18 +1,18 @@
-use Rattle.std.proofs.Common.{rules, ◌≡◌, ◌<◌, ◌≤◌, ◌+◌, ◌-◌, ◌++◌, suc, arith, ap, sym, ◌∙◌, refl, subst, List, [], length, take, drop, get_or, pos, ◌+ℤ◌, ◌-ℤ◌, Some, None, true, false}
+use Rattle.std.proofs.Common.{◌≡◌, ◌<◌, ◌+◌, ◌-◌, suc, arith, ap, sym, ◌∙◌, refl, subst, [], length, take, drop, get_or, ◌+ℤ◌, ◌-ℤ◌, true, false}
 use Rattle.std.specs.Prelude.{is_some}
-use mir.Val.{to_z, of_z, SFits}
+use mir.Val.{to_z, of_z}
 use mir.Syntax.{w64}
 use Rattle.std.proofs.lemmas.Int.{ints, to_z-of_z}
 use Rattle.std.proofs.lemmas.List.{take_rest, length-drop}
-use Rattle.pl_points.specs.Lists.{front, back}
+use Rattle.pl_lists.specs.Lists.{front, back}
 use Rattle.pl_points.specs.Sums.{IsSmall}
-use Rattle.pl_points.specs.Points.{Point, is_before, sum_below, first_outside, leaving, RiseFrom, SmallFrom, ahead_of}
+use Rattle.pl_points.specs.Points.{is_before, sum_below, first_outside, leaving, RiseFrom, SmallFrom, ahead_of}
 use Rattle.pl_points.proofs.PointLists.{rising_later}
 use Rattle.pl_points.proofs.Outside.{same_leaving, first_is_leaving, rising_back}
 use Rattle.pl_blocks.specs.Blocks.{together, is_past, blocks_from, change_of, AreSized}
 use Rattle.pl_blocks.proofs.Rows.{back_nowhere, sized_drop, rising_rest}
 use Rattle.pl_blocks.proofs.Summaries.{leaving_first, leaving_later}
-use Rattle.pl_blocks.proofs.Searches.{Sums, sums_at, exchanged, ahead_from, ahead_behind, from_next}
+use Rattle.pl_blocks.proofs.Searches.{sums_at, exchanged, ahead_from, ahead_behind, from_next}
 use Rattle.pl_blocks.proofs.blocks.BlockPointsPoints.first_outside.Goals as goal
 
 pub returns-then-place-len-clause-first : goal.returns-then-place-len-clause-first

@@ -1,4 +1,4 @@
-use Rattle.std.proofs.Common.{◌≡◌, ◌<◌, ◌≤◌, ◌+◌, ◌*◌, ◌^◌, arith, ap, sym, ◌∙◌, refl, length, drop, subst}
+use Rattle.std.proofs.Common.{◌≤◌, ◌+◌, ◌*◌, arith, ap, sym, refl, length, drop, subst}
 use Rattle.std.proofs.lemmas.List.{length-append}
 use Rattle.pl_blocks.specs.Blocks.{together, AreSized}
 use Rattle.pl_blocks.proofs.Rows.{count_most, drop_block}

@@ -1,4 +1,4 @@
-use Rattle.std.proofs.Common.{rules, ◌≡◌, ◌<◌, ◌≤◌, ◌+◌, ◌*◌, ◌/◌, arith, ap, sym, ◌∙◌, ◌++◌, refl, subst, length, drop, pos, ◌+ℤ◌, true, false}
+use Rattle.std.proofs.Common.{◌≡◌, ◌+◌, arith, ap, sym, ◌∙◌, ◌++◌, refl, subst, length, drop, pos, ◌+ℤ◌, true, false}
 use mir.Val.{to_z, of_z}
 use mir.Syntax.{w64}
 use Rattle.std.proofs.lemmas.Int.{ints}

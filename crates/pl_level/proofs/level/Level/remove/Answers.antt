@@ -1,23 +1,20 @@
-use Rattle.std.proofs.Common.{rules, ◌≡◌, ◌<◌, ◌≤◌, ◌+◌, ◌-◌, suc, ℕ, [], ◌∷◌, ◌++◌, List, length, arith, ap, sym, ◌∙◌, refl, subst, pos, ◌+ℤ◌, ◌-ℤ◌, ◌≤ℤ◌, neg_ℤ, ℤ, Bool, true, false, ◌^◌, cond, leb, min, max}
+use Rattle.std.proofs.Common.{rules, ◌≡◌, ◌≤◌, ◌+◌, ℕ, [], ◌∷◌, ◌++◌, List, length, arith, ap, sym, ◌∙◌, subst, pos, ◌+ℤ◌, ◌-ℤ◌, neg_ℤ, true, false, cond, leb}
 use mir.Val.{to_z, of_z, SFits}
 use mir.Syntax.{w64}
-use Rattle.std.proofs.lemmas.Int.{ints, to_z-of_z}
-use Rattle.std.proofs.lemmas.List.{length-append}
-use Rattle.std.specs.Prelude.{int_lt}
-use Rattle.pl_points.specs.declared.span.Span.{Span}
-use Rattle.pl_points.specs.declared.noted.Noted.TheVariants.{Came, Went}
+use Rattle.std.proofs.lemmas.Int.{to_z-of_z}
+use Rattle.pl_points.specs.declared.noted.Noted.TheVariants.{Went}
 use Rattle.pl_points.specs.declared.limit.Limit.TheVariants.{Below, Above}
 use Rattle.pl_points.specs.Sums.{IsSmall}
-use Rattle.pl_points.specs.Points.{Point, merged, sum_to, AreSmall}
+use Rattle.pl_points.specs.Points.{merged, sum_to, AreSmall}
 use Rattle.pl_points.specs.Limits.{is_outside}
-use Rattle.pl_points.specs.Spans.{AreSpans, covers}
+use Rattle.pl_points.specs.Spans.{covers}
 use Rattle.pl_points.specs.Mending.{mended}
 use Rattle.pl_points.specs.Standing.{Each, standing, stands, without}
-use Rattle.pl_points.proofs.Totals.{IsAmount, standing-push, each-push, each-without, each-stands, length-without}
+use Rattle.pl_points.proofs.Totals.{IsAmount, standing-push, each-without, each-stands, length-without}
 use Rattle.pl_level.specs.declared.reservation.Effect.{Effect}
-use Rattle.pl_level.specs.Effects.{Standing, state_of, IsEffect, IsValue, effect_of, same_effect, level, low_now, high_now, effect_steps}
-use Rattle.pl_level.specs.Soundness.{IsTied, IsSound, AreChanges}
-use Rattle.pl_level.proofs.Levels.{make, amount_of, value_small, before_small, sum_small, amount_small, small_add, before_after, level_is, begin, begin_late, begin_bound, level_cost, change_cost, adds_more, adds_less, same_exact, sound_shifted, sound_rebased, sound_later, sound_new, apart_low, apart_high, sound_low, sound_high, sound_changes, raw, raw_back, neg_fits, neg_amount, same_state}
+use Rattle.pl_level.specs.Effects.{Standing, IsEffect, effect_of, same_effect, low_now, high_now, effect_steps}
+use Rattle.pl_level.specs.Soundness.{IsSound, AreChanges}
+use Rattle.pl_level.proofs.Levels.{make, amount_of, value_small, before_small, amount_small, small_add, before_after, begin, begin_late, begin_bound, level_cost, change_cost, adds_less, same_exact, sound_shifted, apart_low, apart_high, sound_changes, raw, raw_back, neg_fits, neg_amount, same_state}
 use Rattle.pl_level.proofs.level.Level.remove.Goals as goal
 
 pub overflow_sub-added : goal.overflow_sub-added

@@ -3,7 +3,7 @@ use mir.Val.{to_z, of_z}
 use mir.Syntax.{w64}
 use Rattle.std.proofs.lemmas.Int.{ints, to_z-of_z}
 use Rattle.std.proofs.lemmas.List.{take_rest}
-use Rattle.pl_points.specs.Lists.{back}
+use Rattle.pl_lists.specs.Lists.{back}
 use Rattle.pl_points.specs.Points.{Point, is_before, sum_below, first_outside, RiseFrom, SmallFrom, ahead_of, points_from}
 use Rattle.pl_points.proofs.PointLists.{small_along, rising_later}
 use Rattle.pl_points.proofs.Outside.{rising_back, small_back, first_left, outside_passes}

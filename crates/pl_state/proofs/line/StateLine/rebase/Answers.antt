@@ -1,5 +1,5 @@
 use Rattle.std.proofs.Common.{◌≡◌, false, arith, ap, ◌∙◌, subst}
-use Rattle.pl_points.specs.Lists.{back}
+use Rattle.pl_lists.specs.Lists.{back}
 use Rattle.pl_state.specs.Sets.{is_passed}
 use Rattle.pl_state.specs.Near.{next_moment}
 use Rattle.pl_state.specs.Lines.{Standing, IsSound, AreChanges, make, broken_now, bad_now}

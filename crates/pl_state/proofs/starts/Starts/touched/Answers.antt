@@ -2,7 +2,7 @@ use Rattle.std.proofs.Common.{◌≡◌, ◌-◌, length, take, drop, ap, sym, �
 use Rattle.std.specs.Ordering.{ordering_then}
 use Rattle.std.proofs.lemmas.List.{take_rest}
 use Rattle.std.proofs.lemmas.List.Sorted.{Contains-permutation}
-use Rattle.pl_points.specs.Lists.{front, back}
+use Rattle.pl_lists.specs.Lists.{front, back}
 use Rattle.pl_state.specs.declared.key.Key.{Key}
 use Rattle.pl_state.specs.Keys.{key_of, is_before, AreSorted, Has}
 use Rattle.pl_state.specs.Musts.{must_key}
