@@ -77,7 +77,7 @@ slot_same p m n same = ap slot_of same
 
 -- ---- the move
 
-module _ (s : PlanState) (whole : IsWhole s) (next : s.next_id ≤ 3999999000) (a : Activity) (here : activity_of a.id s.plan.activities ≡ Some a) (undone : a.detail ≡ None) (alternative : ℕ) (of : Alternative) (chosen : slice_get (alternatives_at s a) alternative ≡ Some of) (few_slots : length of.slots ≤ 16) (each : length of.offsets ≡ length of.slots) (kinds : All (λ (d : Slot). d.kind < length s.model.kinds) of.slots) where
+module _ (s : PlanState) (whole : IsWhole s) (a : Activity) (here : activity_of a.id s.plan.activities ≡ Some a) (undone : a.detail ≡ None) (alternative : ℕ) (of : Alternative) (chosen : slice_get (alternatives_at s a) alternative ≡ Some of) (few_slots : length of.slots ≤ 16) (each : length of.offsets ≡ length of.slots) (kinds : All (λ (d : Slot). d.kind < length s.model.kinds) of.slots) where
   abbrev xs : List Activity
   xs = s.plan.activities
 
@@ -111,8 +111,8 @@ module _ (s : PlanState) (whole : IsWhole s) (next : s.next_id ≤ 3999999000) (
   id_below : a.id < s.next_id
   id_below = (all_at (IsIdBelow s.next_id) xs a.id a whole.ids here).0.1
 
-  new_ids : All (λ b. (s.next_id ≤ b.id) × (b.id ≤ 4000000000)) children
-  new_ids = children_all s a (λ b. (s.next_id ≤ b.id) × (b.id ≤ 4000000000)) 0 of.slots of.offsets (λ k d at lt. (omega arith, omega (arith, lt, few_slots, next)))
+  new_ids : All (λ b. (s.next_id ≤ b.id) × (b.id < s.next_id + 17)) children
+  new_ids = children_all s a (λ b. (s.next_id ≤ b.id) × (b.id < s.next_id + 17)) 0 of.slots of.offsets (λ k d at lt. (omega arith, omega (arith, lt, few_slots)))
 
   -- no child has an id that is given
   no_child : (q : ℕ) → q < s.next_id → activity_of q children ≡ None
@@ -180,7 +180,7 @@ module _ (s : PlanState) (whole : IsWhole s) (next : s.next_id ≤ 3999999000) (
       by_child : (o : Option Activity) → activity_of q children ≡ o → option_or o (activity_of q xs) ≡ activity_of q xs
       by_child None e = refl
       by_child (Some b) e =
-          let all = all_at (λ c. (s.next_id ≤ c.id) × (c.id ≤ 4000000000)) children q b new_ids e in
+          let all = all_at (λ c. (s.next_id ≤ c.id) × (c.id < s.next_id + 17)) children q b new_ids e in
           let none : activity_of q xs ≡ None = unused s whole q (subst (λ n. s.next_id ≤ n) all.1 all.0.0) in
           let same : id ≡ q = alone_below s whole q id none above in
           absurd (let bad : true ≡ false = sym (rw (same, e) refl) ∙ children_apart in cc)
@@ -220,10 +220,10 @@ module _ (s : PlanState) (whole : IsWhole s) (next : s.next_id ≤ 3999999000) (
 
     come : AreNewChildren s.model xs parent children
     come = record {
-      fresh = λ id b is. let all = all_at (λ c. (s.next_id ≤ c.id) × (c.id ≤ 4000000000)) children id b new_ids is in unused s whole id (subst (λ n. s.next_id ≤ n) all.1 all.0.0);
+      fresh = λ id b is. let all = all_at (λ c. (s.next_id ≤ c.id) × (c.id < s.next_id + 17)) children id b new_ids is in unused s whole id (subst (λ n. s.next_id ≤ n) all.1 all.0.0);
       alone = λ id b is. (all_at (FitsAlone s.model) children id b children_alone is).0;
       bare = λ id b is. let none : b.detail ≡ None = (all_at (λ c. c.detail ≡ None) children id b bare is).0 in rw none refl;
-      larger = λ id b is. let all = all_at (λ c. (s.next_id ≤ c.id) × (c.id ≤ 4000000000)) children id b new_ids is in let least : s.next_id ≤ id = subst (λ n. s.next_id ≤ n) all.1 all.0.0 in omega (arith, least, id_below);
+      larger = λ id b is. let all = all_at (λ c. (s.next_id ≤ c.id) × (c.id < s.next_id + 17)) children id b new_ids is in let least : s.next_id ≤ id = subst (λ n. s.next_id ≤ n) all.1 all.0.0 in omega (arith, least, id_below);
       place = λ id b is. let at = (all_at IsPlaced children id b children_placed is).0 in (at.slot, at.up, rw parent_slots at.in_range);
       filled = λ slot d lt.
           let within_slots : slot < length of.slots = rw parent_slots at lt in
@@ -263,7 +263,7 @@ module _ (s : PlanState) (whole : IsWhole s) (next : s.next_id ≤ 3999999000) (
       live = All-cons (λ id. IsLive id xs) a.id [] (rw here refl) (All-nil (λ id. IsLive id xs));
       rises = (omega arith, children_rise s a 0 (suc a.id) of.slots of.offsets (omega (arith, id_below)));
       may = All-cons (MayCome xs (a.id ∷ [])) parent children (λ live. rw (eq-eqb a.id a.id refl) refl) (λ i d lt live. absurd (let none = unused s whole (get_or children i d).id (new_ids i d lt).0 in let bad : false ≡ true = rw none at live in cc));
-      ids = All-cons (λ b. (1 ≤ b.id) × (b.id ≤ 4000000000)) parent children ((all_at (IsIdBelow s.next_id) xs a.id a whole.ids here).0.0, omega (arith, id_below, next)) (λ i d lt. let ids = new_ids i d lt in (omega (arith, ids.0, whole.next.0), ids.1));
+      ids = All-cons (λ b. (1 ≤ b.id) × (b.id < s.next_id + 17)) parent children ((all_at (IsIdBelow s.next_id) xs a.id a whole.ids here).0.0, omega (arith, id_below)) (λ i d lt. let ids = new_ids i d lt in (omega (arith, ids.0, whole.next.0), ids.1));
       carried = All-cons (IsCarried s.goals) parent children (all_at (IsCarried s.goals) xs a.id a whole.carried here).0 (children_all s a (IsCarried s.goals) 0 of.slots of.offsets (λ k d at lt. tt));
       rising = rising_ys;
       found = found_branched;

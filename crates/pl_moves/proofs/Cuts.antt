@@ -45,7 +45,7 @@ abstracted_keeps top = record { id = λ a. id (eqb a.id top) a; kind = λ a. kin
     parent true a = refl
     parent false a = refl
 
-module _ (s : PlanState) (whole : IsWhole s) (next : s.next_id ≤ 4000000001) (top : ℕ) where
+module _ (s : PlanState) (whole : IsWhole s) (top : ℕ) where
   abbrev xs : List Activity
   xs = s.plan.activities
 
@@ -66,7 +66,6 @@ module _ (s : PlanState) (whole : IsWhole s) (next : s.next_id ≤ 4000000001) (
       (filter_rising (λ a. not (descends xs top a.id)) 0 xs whole.rising)
       (fits_deleted s.model xs whole.rising whole.fits top root)
       (let le = fewer (λ a. not (descends xs top a.id)) xs in omega (arith, le, whole.live))
-      next
 
   -- ---- all below an activity goes
 
@@ -108,4 +107,3 @@ module _ (s : PlanState) (whole : IsWhole s) (next : s.next_id ≤ 4000000001) (
         (rising_map (abstracted top) (abstracted_keeps top) 0 (without_below top xs) (filter_rising (λ b. stays b.id) 0 xs whole.rising))
         (fits_abstracted s.model xs whole.rising whole.fits top)
         (let le = fewer (λ b. stays b.id) xs in let same = length-map (without_below top xs) (abstracted top) in omega (arith, le, same, whole.live))
-        next

@@ -64,7 +64,7 @@ module _ (s : PlanState) (whole : IsWhole s) where
       let live : IsLive p xs = (parent_smaller xs whole.fits.rooted n p is).0 in
       absurd (let held : is_some (activity_of q xs) ≡ true = subst (λ k. is_some (activity_of k xs) ≡ true) same live in let bad : false ≡ true = rw none at held in cc)
 
-  module _ (r : Activity) (id : r.id ≡ s.next_id) (next : s.next_id ≤ 3999999000) where
+  module _ (r : Activity) (id : r.id ≡ s.next_id) where
     absent : activity_of r.id xs ≡ None
     absent = unused r.id (omega (arith, id))
 
@@ -84,7 +84,7 @@ module _ (s : PlanState) (whole : IsWhole s) where
       live = λ i d lt. absurd (omega (arith, lt));
       rises = (omega arith, tt);
       may = All-cons (MayCome xs []) r [] (λ live. absurd (let bad : false ≡ true = rw absent at live in cc)) (All-nil (MayCome xs []));
-      ids = All-cons (λ (a : Activity). (1 ≤ a.id) × (a.id ≤ 4000000000)) r [] (omega (arith, id, whole.next.0), omega (arith, id, next)) (All-nil (λ (a : Activity). (1 ≤ a.id) × (a.id ≤ 4000000000)));
+      ids = All-cons (λ (a : Activity). (1 ≤ a.id) × (a.id < s.next_id + 17)) r [] (omega (arith, id, whole.next.0), omega (arith, id)) (All-nil (λ (a : Activity). (1 ≤ a.id) × (a.id < s.next_id + 17)));
       carried = All-cons (IsCarried s.goals) r [] carried (All-nil (IsCarried s.goals));
       rising = rising_append 0 s.next_id xs (r ∷ []) (omega arith) whole.rising below (omega (arith, id), tt);
       found = found_added;

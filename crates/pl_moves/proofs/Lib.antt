@@ -9,3 +9,5 @@ mod Grown
 mod Branched
 mod Made
 mod Drops
+pub mod Keeping
+pub mod Flags

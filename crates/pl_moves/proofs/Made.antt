@@ -35,7 +35,7 @@ use Rattle.pl_moves.proofs.Offsets.{paired, slot_kinds}
 use Rattle.pl_moves.proofs.Branched.{detail_swap}
 
 pub record IsMadeBy (s : PlanState) (m : RepairMove) : Type 0 where
-  pub can : CanReplace s (gone_by s m) (placed_by s m)
+  pub swap : IsSwap s (gone_by s m) (placed_by s m) (applied s m).plan.activities
   pub is : with_plan (gone_by s m) (placed_by s m) s ≡ applied s m
 
 -- ---- what a proper move says
@@ -108,12 +108,9 @@ wanted_carried s kind (Some n) wanted = option_live (λ g. is_open s g && (eqb g
 
 -- ---- moves
 
-module _ (s : PlanState) (whole : IsWhole s) (next : s.next_id ≤ 3999999000) where
+module _ (s : PlanState) (whole : IsWhole s) where
   abbrev xs : List Activity
   xs = s.plan.activities
-
-  near_next : s.next_id ≤ 4000000001
-  near_next = omega (arith, next)
 
   planned : (gone : List ℕ) (more ys : List Activity) → IsSwap s gone more ys → (n : ℕ) → next_after s.next_id more ≡ n → with_plan gone more s ≡ record s { plan = record { activities = ys }; next_id = n }
   planned gone more ys swap n is =
@@ -127,9 +124,9 @@ module _ (s : PlanState) (whole : IsWhole s) (next : s.next_id ≤ 3999999000) w
   delete_made : (id : ℕ) → is_proper s (Delete id) ≡ true → IsMadeBy s (Delete id)
   unfolding applied
   delete_made id proper =
-      let swap = delete_swap s whole near_next id (root_named s id proper) in
+      let swap = delete_swap s whole id (root_named s id proper) in
       record {
-        can = can_swap s (subtree_of id xs) [] (without_subtree id xs) whole swap;
+        swap = swap;
         is = kept_next (subtree_of id xs) [] (without_subtree id xs) swap (All-nil (λ (a : Activity). a.id < s.next_id));
       }
 
@@ -146,19 +143,19 @@ module _ (s : PlanState) (whole : IsWhole s) (next : s.next_id ≤ 3999999000) w
       by : (o : Option Activity) → found s id ≡ o → IsMadeBy s (Abstract id)
       by None e = absurd (let bad : false ≡ true = rw e at live in cc)
       by (Some a) e =
-          let swap = abstract_swap s whole near_next id a e in
+          let swap = abstract_swap s whole id a e in
           record {
-            can = rw e (can_swap s (subtree_of id xs) (undetailed a) (map (abstracted id) (without_below id xs)) whole swap);
+            swap = rw e swap;
             is = rw e (kept_next (subtree_of id xs) (undetailed a) (map (abstracted id) (without_below id xs)) swap (below_it a e));
           }
 
   assign_made : (id param : ℕ) (value : ℤ) → IsMadeBy s (Assign id param value)
   unfolding applied
   assign_made id param value =
-      let swap = assign_swap s whole near_next id param value in
+      let swap = assign_swap s whole id param value in
       record {
-        can = can_swap s (subtree_of id xs) (placed_by s (Assign id param value)) (map (assigned id param value) xs) whole swap;
-        is = kept_next (subtree_of id xs) (placed_by s (Assign id param value)) (map (assigned id param value) xs) swap (below_all s whole near_next id (assigned id param value) (assigned_keeps s whole near_next id param value));
+        swap = swap;
+        is = kept_next (subtree_of id xs) (placed_by s (Assign id param value)) (map (assigned id param value) xs) swap (below_all s whole id (assigned id param value) (assigned_keeps s whole id param value));
       }
 
   shift_made : (id to : ℕ) → is_proper s (Shift id to) ≡ true → refusal_of s (Shift id to) ≡ None → IsMadeBy s (Shift id to)
@@ -175,16 +172,16 @@ module _ (s : PlanState) (whole : IsWhole s) (next : s.next_id ≤ 3999999000) w
           let keeps = may s (Shift id to) allowed in
           let above : All (λ b. floor_of s ≤ b.start) (map (moved a.start to) (filter (is_under s a.id) xs)) = rw e at keeps.above in
           let within : All (λ b. b.start < s.model.horizon) (map (moved a.start to) (filter (is_under s a.id) xs)) = rw e at keeps.within in
-          let swap : IsSwap s (subtree_of id xs) (map (moved a.start to) (filter (is_under s a.id) xs)) (map (shifted_one s whole near_next a.id a.start to) xs) = subst (λ n. IsSwap s (subtree_of n xs) (map (moved a.start to) (filter (is_under s a.id) xs)) (map (shifted_one s whole near_next a.id a.start to) xs)) is_id (shift_swap s whole near_next a.id a.start to above within) in
+          let swap : IsSwap s (subtree_of id xs) (map (moved a.start to) (filter (is_under s a.id) xs)) (map (shifted_one s whole a.id a.start to) xs) = subst (λ n. IsSwap s (subtree_of n xs) (map (moved a.start to) (filter (is_under s a.id) xs)) (map (shifted_one s whole a.id a.start to) xs)) is_id (shift_swap s whole a.id a.start to above within) in
           record {
-            can = rw e (can_swap s (subtree_of id xs) (map (moved a.start to) (filter (is_under s a.id) xs)) (map (shifted_one s whole near_next a.id a.start to) xs) whole swap);
-            is = rw e (kept_next (subtree_of id xs) (map (moved a.start to) (filter (is_under s a.id) xs)) (map (shifted_one s whole near_next a.id a.start to) xs) swap (below_all s whole near_next a.id (moved a.start to) (moved_keeps s whole near_next a.id a.start to)));
+            swap = rw e swap;
+            is = rw e (kept_next (subtree_of id xs) (map (moved a.start to) (filter (is_under s a.id) xs)) (map (shifted_one s whole a.id a.start to) xs) swap (below_all s whole a.id (moved a.start to) (moved_keeps s whole a.id a.start to)));
           }
 
   add_made : (kind start : ℕ) (goal : Option ℕ) → is_proper s (Add kind start goal) ≡ true → refusal_of s (Add kind start goal) ≡ None → IsMadeBy s (Add kind start goal)
   unfolding applied
   add_made kind start goal proper allowed = record {
-    can = can_swap s [] ((root_for s kind start goal) ∷ []) (xs ++ (root_for s kind start goal) ∷ []) whole swap;
+    swap = swap;
     is = planned [] ((root_for s kind start goal) ∷ []) (xs ++ (root_for s kind start goal) ∷ []) swap (suc s.next_id) (omega arith);
   }
     where
@@ -207,7 +204,7 @@ module _ (s : PlanState) (whole : IsWhole s) (next : s.next_id ≤ 3999999000) w
           record { kind = in_model; start = (omega (arith, up), down); set = set_fits s whole kind goal wanted; choice = tt }
 
       swap : IsSwap s [] ((root_for s kind start goal) ∷ []) (xs ++ (root_for s kind start goal) ∷ [])
-      swap = add_swap s whole (root_for s kind start goal) refl next alone refl refl (wanted_carried s kind goal wanted) keeps.room
+      swap = add_swap s whole (root_for s kind start goal) refl alone refl refl (wanted_carried s kind goal wanted) keeps.room
 
   next_children : (a : Activity) (n : ℕ) (slots : List Slot) (offsets : List ℕ) → next_after (s.next_id + n) (children_from s a n slots offsets) ≡ s.next_id + (n + length (children_from s a n slots offsets))
   next_children a n [] offsets = omega arith
@@ -235,10 +232,10 @@ module _ (s : PlanState) (whole : IsWhole s) (next : s.next_id ≤ 3999999000) w
           let within : All (λ b. b.start < s.model.horizon) (children_from s a 0 of.slots of.offsets) = rw (e, f) at keeps.within in
           let room : length xs + length (children_from s a 0 of.slots of.offsets) ≤ s.live_limit = rw (e, f) at keeps.room in
           let pairs = paired s.model whole.checked a alternative of f in
-          let swap : IsSwap s (a.id ∷ []) (detailed alternative a ∷ children_from s a 0 of.slots of.offsets) (changed_where (has_id a.id) (detailed alternative) xs ++ children_from s a 0 of.slots of.offsets) = detail_swap s whole next a here (none_of a.detail undone) alternative of f pairs.few pairs.each (slot_kinds s.model whole.checked a alternative of f) (λ i d lt2. let up = above i d lt2 in omega (arith, up)) within lt room in
+          let swap : IsSwap s (a.id ∷ []) (detailed alternative a ∷ children_from s a 0 of.slots of.offsets) (changed_where (has_id a.id) (detailed alternative) xs ++ children_from s a 0 of.slots of.offsets) = detail_swap s whole a here (none_of a.detail undone) alternative of f pairs.few pairs.each (slot_kinds s.model whole.checked a alternative of f) (λ i d lt2. let up = above i d lt2 in omega (arith, up)) within lt room in
           let swap_id : IsSwap s (id ∷ []) (detailed alternative a ∷ children_from s a 0 of.slots of.offsets) (changed_where (has_id id) (detailed alternative) xs ++ children_from s a 0 of.slots of.offsets) = subst (λ n. IsSwap s (n ∷ []) (detailed alternative a ∷ children_from s a 0 of.slots of.offsets) (changed_where (has_id n) (detailed alternative) xs ++ children_from s a 0 of.slots of.offsets)) is_id swap in
           record {
-            can = rw (e, f) (can_swap s (id ∷ []) (detailed alternative a ∷ children_from s a 0 of.slots of.offsets) (changed_where (has_id id) (detailed alternative) xs ++ children_from s a 0 of.slots of.offsets) whole swap_id);
+            swap = rw (e, f) swap_id;
             is = rw (e, f) (planned (id ∷ []) (detailed alternative a ∷ children_from s a 0 of.slots of.offsets) (changed_where (has_id id) (detailed alternative) xs ++ children_from s a 0 of.slots of.offsets) swap_id (s.next_id + length (children_from s a 0 of.slots of.offsets)) (next_detailed a of.slots of.offsets (all_at (IsIdBelow s.next_id) xs id a whole.ids e).0.1));
           }
 
@@ -254,6 +251,9 @@ module _ (s : PlanState) (whole : IsWhole s) (next : s.next_id ≤ 3999999000) w
   made (Abstract id) of proper allowed = abstract_made id proper
   made (Assign id param value) of proper allowed = assign_made id param value
   made (Drop goal) of proper allowed = absurd of
+
+pub can_replace : (s : PlanState) → IsWhole s → s.next_id ≤ 3999999000 → (m : RepairMove) → IsMadeBy s m → CanReplace s (gone_by s m) (placed_by s m)
+can_replace s whole next m by = can_swap s (gone_by s m) (placed_by s m) (applied s m).plan.activities whole next by.swap
 
 -- ---- what a change asks for
 

@@ -46,7 +46,7 @@ pub record KeepsAll (c : Activity → Activity) : Type 0 where
   pub goal : (a : Activity) → (c a).goal ≡ a.goal
   pub detail : (a : Activity) → (c a).detail ≡ a.detail
 
-module _ (s : PlanState) (whole : IsWhole s) (next : s.next_id ≤ 4000000001) (top : ℕ) where
+module _ (s : PlanState) (whole : IsWhole s) (top : ℕ) where
   abbrev xs : List Activity
   xs = s.plan.activities
 
@@ -80,7 +80,6 @@ module _ (s : PlanState) (whole : IsWhole s) (next : s.next_id ≤ 4000000001) (
         (rising_map e keeps_too.tree 0 xs whole.rising)
         (fits_changed s.model xs whole.rising whole.fits e keeps_too.tree keeps_too.detail alone)
         (let same = length-map xs e in omega (arith, same, whole.live))
-        next
 
   -- ids that come were there
   pub below_all : (c : Activity → Activity) → KeepsAll c → All (λ a. a.id < s.next_id) (map c (filter under xs))

@@ -127,12 +127,12 @@ module _ (s : PlanState) (whole : IsWhole s) (top : ℕ) where
             let all = all_at (λ b. among b.id gone ≡ true) more q a inside e in
             absurd (let bad : true ≡ false = sym (subst (λ n. among n gone ≡ true) all.1 all.0) ∙ apart in cc)
 
-    pub subtree_swap : AreRising more → All (IsCarried s.goals) more → AreRising ys → Fits s.model ys → length ys ≤ s.live_limit → s.next_id ≤ 4000000001 → IsSwap s gone more ys
-    subtree_swap rises carried rising fits few next = record {
+    pub subtree_swap : AreRising more → All (IsCarried s.goals) more → AreRising ys → Fits s.model ys → length ys ≤ s.live_limit → IsSwap s gone more ys
+    subtree_swap rises carried rising fits few = record {
       live = all_live;
       rises = rises;
       may = λ i d lt live. inside i d lt;
-      ids = λ i d lt. let id = live_id (get_or more i d).id (goes (get_or more i d).id (inside i d lt)).1 in (id.0, omega (arith, id.1, next));
+      ids = λ i d lt. let id = live_id (get_or more i d).id (goes (get_or more i d).id (inside i d lt)).1 in (id.0, omega (arith, id.1));
       carried = carried;
       rising = rising;
       found = found;

@@ -94,7 +94,7 @@ pub record IsSwap (s : PlanState) (gone : List ℕ) (more ys : List Activity) : 
   pub live : All (λ id. IsLive id s.plan.activities) gone
   pub rises : AreRising more
   pub may : All (MayCome s.plan.activities gone) more
-  pub ids : All (λ a. (1 ≤ a.id) × (a.id ≤ 4000000000)) more
+  pub ids : All (λ a. (1 ≤ a.id) × (a.id < s.next_id + 17)) more
   pub carried : All (IsCarried s.goals) more
   pub rising : AreRising ys
   pub found : (q : ℕ) → activity_of q ys ≡ swapped_at s.plan.activities gone more q
@@ -105,14 +105,14 @@ pub record IsSwap (s : PlanState) (gone : List ℕ) (more ys : List Activity) : 
 pub swap_is : (s : PlanState) (gone : List ℕ) (more ys : List Activity) → IsWhole s → IsSwap s gone more ys → replaced s.plan.activities gone more ≡ ys
 swap_is s gone more ys whole swap = same_replaced s.plan.activities gone more ys whole.rising swap.rises swap.may swap.rising swap.found
 
-pub can_swap : (s : PlanState) (gone : List ℕ) (more ys : List Activity) → IsWhole s → IsSwap s gone more ys → CanReplace s gone more
-can_swap s gone more ys whole swap =
+pub can_swap : (s : PlanState) (gone : List ℕ) (more ys : List Activity) → IsWhole s → s.next_id ≤ 3999999000 → IsSwap s gone more ys → CanReplace s gone more
+can_swap s gone more ys whole next swap =
     let is : ys ≡ replaced s.plan.activities gone more = sym (swap_is s gone more ys whole swap) in
     record {
       live = swap.live;
       once = λ i j d lt within e. let less = rises_between more 0 i j d swap.rises lt within in omega (arith, less, e);
       free = swap.may;
-      ids = swap.ids;
+      ids = λ i d lt. let ids = swap.ids i d lt in (ids.0, omega (arith, ids.1, next));
       carried = swap.carried;
       kept = λ id apart. subst (λ (l : List Activity). values_of s.model l id ≡ values_of s.model s.plan.activities id) is (sym (values_local s.model s.plan.activities ys whole.fits.rooted swap.fits.rooted id (swap.above id apart)));
       fits = subst (λ (l : List Activity). Fits s.model l) is swap.fits;

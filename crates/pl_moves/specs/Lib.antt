@@ -5,3 +5,4 @@ pub use Rattle.pl_world.specs.Legal
 pub mod Sides
 pub mod Changes
 pub mod Outcomes
+pub mod Keeping

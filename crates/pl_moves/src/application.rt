@@ -1,7 +1,8 @@
-ghost use Rattle.std.specs.Prelude.{◌≡◌, ◌≤◌, false, true, None, OnOk, OnErr, IfErr};
+ghost use Rattle.std.specs.Prelude.{◌≡◌, ◌+◌, ◌≤◌, false, true, None, OnOk, OnErr, IfErr};
 ghost use Rattle.pl_world.specs.Moves.{is_proper, refusal_of, applied};
 ghost use Rattle.pl_board.specs.Boards.{after};
 ghost use Rattle.pl_moves.specs.Changes.{IsOfActivities};
+ghost use Rattle.pl_moves.specs.Keeping.{KeepsCommitted};
 ghost use Rattle.pl_moves.specs.Outcomes.{Fails, IsMade};
 
 use crate::change::change_of;
@@ -67,6 +68,8 @@ pub fn apply<L: Ledger>(
     requires proper { is_proper board.old.state mv.now ≡ true }
     requires next { board.old.state.next_id ≤ 3999999000 }
     ensures made { OnOk result (IsMade mv.now board.old board.new) }
+    ensures committed { OnOk result (KeepsCommitted board.old.state board.new.state) }
+    ensures ids { OnOk result (board.new.state.next_id ≤ board.old.state.next_id + 16) }
     ensures fault { IfErr result (λ fault. Fails mv.now fault board.old board.new) }
 {
     match refusal(board.state(), mv) {

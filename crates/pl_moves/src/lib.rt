@@ -5,6 +5,7 @@ mod application;
 mod change;
 mod children;
 mod descent;
+mod laws;
 mod legality;
 mod lookups;
 mod move_fault;
@@ -14,6 +15,7 @@ mod starts;
 mod trial;
 
 pub use application::apply;
+pub use laws::laws_of_repairs;
 pub use legality::legal;
 pub use move_fault::MoveFault;
 pub use properness::proper;

@@ -2,7 +2,7 @@ use Rattle.std.proofs.Common.{sym, subst}
 use Rattle.pl_world.specs.declared.plan_state.PlanState.{PlanState}
 use Rattle.pl_world.specs.Whole.{IsWhole}
 use Rattle.pl_moves.specs.Changes.{IsNamedLive}
-use Rattle.pl_moves.proofs.Made.{IsMadeBy, named_live, near_if, made}
+use Rattle.pl_moves.proofs.Made.{IsMadeBy, named_live, near_if, made, can_replace}
 use Rattle.pl_moves.proofs.application.replace_by.Goals as goal
 
 pub change_of-requires-clause-named : goal.change_of-requires-clause-named
@@ -14,11 +14,11 @@ change_of-requires-clause-near g c = near_if c.args.board.now.state (subst IsWho
 pub replace-requires : goal.replace-requires
 replace-requires g c =
     let whole : IsWhole c.args.board.now.state = subst IsWhole c.state.ensures.value (c.state.ensures.whole c.requires.unspoiled) in
-    let by : IsMadeBy c.args.board.now.state c.args.mv.now = made c.args.board.now.state whole c.requires.next c.args.mv.now c.requires.activities c.requires.proper c.requires.allowed in
-    record { can = λ _. rw (c.deref.ensures.value, c.deref-in-Ok.ensures.value, c.in-Ok.ensures.gone, c.in-Ok.ensures.placed, c.state.ensures.value) by.can }
+    let by : IsMadeBy c.args.board.now.state c.args.mv.now = made c.args.board.now.state whole c.args.mv.now c.requires.activities c.requires.proper c.requires.allowed in
+    record { can = λ _. rw (c.deref.ensures.value, c.deref-in-Ok.ensures.value, c.in-Ok.ensures.gone, c.in-Ok.ensures.placed, c.state.ensures.value) (can_replace c.args.board.now.state whole c.requires.next c.args.mv.now by) }
 
 pub returns-in-Ok-clause-ok : goal.returns-in-Ok-clause-ok
 returns-in-Ok-clause-ok g c =
     let whole : IsWhole c.args.board.now.state = subst IsWhole c.state.ensures.value (c.state.ensures.whole c.requires.unspoiled) in
-    let by : IsMadeBy c.args.board.now.state c.args.mv.now = made c.args.board.now.state whole c.requires.next c.args.mv.now c.requires.activities c.requires.proper c.requires.allowed in
+    let by : IsMadeBy c.args.board.now.state c.args.mv.now = made c.args.board.now.state whole c.args.mv.now c.requires.activities c.requires.proper c.requires.allowed in
     rw (c.deref.ensures.value, c.deref-in-Ok.ensures.value, c.in-Ok.ensures.gone, c.in-Ok.ensures.placed, c.state.ensures.value, by.is) at c.replace.ensures.ok
