@@ -1,0 +1,133 @@
+-- The first so many of those that pass a test, and moves where they first stand.
+use Rattle.std.proofs.Common.{◌≡◌, ℕ, zero, suc, ◌+◌, ◌-◌, ◌<◌, ◌≤◌, Bool, true, false, List, [], ◌∷◌, ◌++◌, length, take, drop, get_or, map, add-one, drop-cons, refl, sym, ap, ◌∙◌, arith, append_assoc, append-nil, length-append}
+use Rattle.std.specs.Prelude.{filter, ◌||◌}
+use Rattle.std.specs.List.{list_any}
+use Rattle.std.proofs.lemmas.List.Folds.{list_any-append}
+use Rattle.pl_plan.specs.declared.repair.RepairMove.{RepairMove}
+use Rattle.pl_world.specs.Candidates.{same_move, once_from}
+use Rattle.pl_plan.specs.declared.activity.Activity.{Activity}
+use Rattle.pl_plan.specs.Trees.{id_of}
+use Rattle.pl_world.specs.declared.plan_state.PlanState.{PlanState}
+use Rattle.pl_cand.specs.declared.role.Role.{Role}
+use Rattle.pl_cand.specs.Tests.{is_user, users_with}
+use Rattle.pl_model.specs.declared.kinds.Kind.{Kind}
+use Rattle.pl_world.specs.PlanStates.{numbered}
+use Rattle.pl_cand.specs.declared.help.Help.{Help}
+use Rattle.pl_cand.specs.Helping.{helpers_with, is_helper, number_of}
+use Rattle.pl_cand.specs.Cuts.{once_after, standing}
+
+-- ---- the first so many
+
+pub one_more : {X : Type 0} (P : X → Bool) (n : ℕ) (x : X) (xs : List X) → 0 < n → P x ≡ true → take n (filter P (x ∷ xs)) ≡ x ∷ take (n - 1) (filter P xs)
+one_more P zero x xs some is = absurd (omega (arith, some))
+one_more P (suc n) x xs some is = let less : suc n - 1 ≡ n = omega arith in rw (is, less) refl
+
+pub one_past : {X : Type 0} (P : X → Bool) (n : ℕ) (x : X) (xs : List X) → P x ≡ false → take n (filter P (x ∷ xs)) ≡ take n (filter P xs)
+one_past P n x xs is = rw is refl
+
+pub none_more : {X : Type 0} (n : ℕ) (xs : List X) → n ≤ 0 → take n xs ≡ []
+none_more zero xs le = refl
+none_more (suc n) xs le = absurd (omega (arith, le))
+
+take_empty : {X : Type 0} (n : ℕ) (xs : List X) → xs ≡ [] → take n xs ≡ []
+take_empty zero xs is = refl
+take_empty (suc n) xs is = rw is refl
+
+-- nothing comes of no others
+pub keep_none : {X Y : Type 0} (f : X → Y) (P : X → Bool) (kept : List Y) (n : ℕ) (xs : List X) → xs ≡ [] → kept ++ map f (take n (filter P xs)) ≡ kept
+keep_none f P kept n xs is = rw (take_empty n (filter P xs) (ap (filter P) is)) (append-nil kept)
+
+-- the same of a list that is kept up to a length
+pub room_more : {X Y : Type 0} (f : X → Y) (P : X → Bool) (most : ℕ) (kept : List Y) (x : X) (xs : List X) → length kept < most → P x ≡ true → kept ++ map f (take (most - length kept) (filter P (x ∷ xs))) ≡ (kept ++ f x ∷ []) ++ map f (take (most - length (kept ++ f x ∷ [])) (filter P xs))
+room_more f P most kept x xs room is =
+    let less : most - length (kept ++ f x ∷ []) ≡ (most - length kept) - 1 = omega (arith, length-append kept (f x ∷ [])) in
+    let one = one_more P (most - length kept) x xs (omega (arith, room)) is in
+    rw (one, less, append_assoc) refl
+
+-- an item and what lies behind it
+pub drop_here : {X : Type 0} (xs : List X) (i : ℕ) (x : X) → i < length xs → x ≡ get_or xs i x → x ∷ drop (i + 1) xs ≡ drop i xs
+drop_here xs i x lt is = rw (add-one, drop-cons xs i x) (ap (λ y. y ∷ drop (suc i) xs) is)
+
+-- the same with its number
+pub numbered_here : (ks : List Kind) (i : ℕ) (k : Kind) → i < length ks → k ≡ get_or ks i k → (i, k) ∷ numbered (i + 1) (drop (i + 1) ks) ≡ numbered i (drop i ks)
+numbered_here ks i k lt is =
+    let e : i + 1 ≡ suc i = omega arith in
+    ap (λ m. (i, k) ∷ numbered m (drop (i + 1) ks)) e ∙ ap (numbered i) (drop_here ks i k lt is)
+
+-- ---- the first eight users
+
+module _ (s : PlanState) (line : ℕ) (part : Role) (ids : List ℕ) (a : Activity) (rest : List Activity) where
+  pub users_full : 8 ≤ length ids → users_with s line part ids (a ∷ rest) ≡ users_with s line part ids rest
+  users_full full =
+      let none : (xs : List Activity) → take (8 - length ids) xs ≡ [] = λ xs. none_more (8 - length ids) xs (omega (arith, full)) in
+      ap (λ l. ids ++ map id_of l) (none (filter (is_user s line part) (a ∷ rest)) ∙ sym (none (filter (is_user s line part) rest)))
+
+  pub users_past : is_user s line part a ≡ false → users_with s line part ids (a ∷ rest) ≡ users_with s line part ids rest
+  users_past is = ap (λ l. ids ++ map id_of l) (one_past (is_user s line part) (8 - length ids) a rest is)
+
+  pub users_more : length ids < 8 → is_user s line part a ≡ true → users_with s line part ids (a ∷ rest) ≡ users_with s line part (ids ++ a.id ∷ []) rest
+  users_more room is = room_more id_of (is_user s line part) 8 ids a rest room is
+
+-- ---- the first four helpers
+
+module _ (line : ℕ) (help : Help) (found : List ℕ) (k : ℕ × Kind) (rest : List (ℕ × Kind)) where
+  pub helpers_full : 4 ≤ length found → helpers_with line help found (k ∷ rest) ≡ helpers_with line help found rest
+  helpers_full full =
+      let none : (xs : List (ℕ × Kind)) → take (4 - length found) xs ≡ [] = λ xs. none_more (4 - length found) xs (omega (arith, full)) in
+      ap (λ l. found ++ map number_of l) (none (filter (is_helper line help) (k ∷ rest)) ∙ sym (none (filter (is_helper line help) rest)))
+
+  pub helpers_past : is_helper line help k ≡ false → helpers_with line help found (k ∷ rest) ≡ helpers_with line help found rest
+  helpers_past is = ap (λ l. found ++ map number_of l) (one_past (is_helper line help) (4 - length found) k rest is)
+
+  pub helpers_more : length found < 4 → is_helper line help k ≡ true → helpers_with line help found (k ∷ rest) ≡ helpers_with line help (found ++ k.0 ∷ []) rest
+  helpers_more room is = room_more number_of (is_helper line help) 4 found k rest room is
+
+-- ---- moves where they first stand
+
+any_one_more : (m q : RepairMove) (kept : List RepairMove) → list_any (same_move q) (kept ++ m ∷ []) ≡ (same_move q m || list_any (same_move q) kept)
+any_one_more m q kept = list_any-append (same_move q) kept (m ∷ []) ∙ cases (list_any (same_move q) kept) (same_move q m)
+  where
+    cases : (a b : Bool) → (a || (b || false)) ≡ (b || a)
+    cases true true = refl
+    cases true false = refl
+    cases false true = refl
+    cases false false = refl
+
+pub once_same : (seen kept xs : List RepairMove) → ((q : RepairMove) → list_any (same_move q) seen ≡ list_any (same_move q) kept) → once_from seen xs ≡ once_after kept xs
+once_same seen kept [] same = refl
+once_same seen kept (m ∷ more) same = cases (list_any (same_move m) kept) refl (once_same seen kept more same) (once_same (m ∷ seen) (kept ++ m ∷ []) more longer)
+  where
+    longer : (q : RepairMove) → list_any (same_move q) (m ∷ seen) ≡ list_any (same_move q) (kept ++ m ∷ [])
+    longer q = ap (λ b. same_move q m || b) (same q) ∙ sym (any_one_more m q kept)
+
+    cases : (b : Bool) → list_any (same_move m) kept ≡ b → once_from seen more ≡ once_after kept more → once_from (m ∷ seen) more ≡ once_after (kept ++ m ∷ []) more → once_from seen (m ∷ more) ≡ once_after kept (m ∷ more)
+    cases true e old new = let e' : list_any (same_move m) seen ≡ true = same m ∙ e in rw (e', e) old
+    cases false e old new = let e' : list_any (same_move m) seen ≡ false = same m ∙ e in rw (e', e) (ap (λ l. m ∷ l) new)
+
+pub once_is : (xs : List RepairMove) → once_from [] xs ≡ once_after [] xs
+once_is xs = once_same [] [] xs (λ q. refl)
+
+pub stand_full : (P : RepairMove → Bool) (kept : List RepairMove) (m : RepairMove) (xs : List RepairMove) → 256 ≤ length kept → standing P kept (m ∷ xs) ≡ standing P kept xs
+stand_full P kept m xs full =
+    let none : (ys : List RepairMove) → take (256 - length kept) ys ≡ [] = λ ys. none_more (256 - length kept) ys (omega (arith, full)) in
+    ap (λ l. kept ++ l) (none (once_after kept (filter P (m ∷ xs))) ∙ sym (none (once_after kept (filter P xs))))
+
+pub stand_worthless : (P : RepairMove → Bool) (kept : List RepairMove) (m : RepairMove) (xs : List RepairMove) → P m ≡ false → standing P kept (m ∷ xs) ≡ standing P kept xs
+stand_worthless P kept m xs is = rw is refl
+
+pub stand_again : (P : RepairMove → Bool) (kept : List RepairMove) (m : RepairMove) (xs : List RepairMove) → P m ≡ true → list_any (same_move m) kept ≡ true → standing P kept (m ∷ xs) ≡ standing P kept xs
+stand_again P kept m xs is again = rw (is, again) refl
+
+pub stand_new : (P : RepairMove → Bool) (kept : List RepairMove) (m : RepairMove) (xs : List RepairMove) → length kept < 256 → P m ≡ true → list_any (same_move m) kept ≡ false → standing P kept (m ∷ xs) ≡ standing P (kept ++ m ∷ []) xs
+stand_new P kept m xs room is fresh =
+    let more : 256 - length kept ≡ suc (256 - length (kept ++ m ∷ [])) = omega (arith, room, length-append kept (m ∷ [])) in
+    rw (is, fresh, more, append_assoc) refl
+
+pub stand_end : (P : RepairMove → Bool) (kept : List RepairMove) (xs : List RepairMove) → xs ≡ [] → standing P kept xs ≡ kept
+stand_end P kept xs is = rw (take_empty (256 - length kept) (once_after kept (filter P xs)) (rw is refl)) (append-nil kept)
+
+pub nothing_left : (xs : List RepairMove) (i : ℕ) → length xs ≤ i → drop i xs ≡ []
+nothing_left [] zero le = refl
+nothing_left [] (suc i) le = refl
+nothing_left (x ∷ xs) zero le = absurd (omega (arith, le))
+nothing_left (x ∷ xs) (suc i) le = nothing_left xs i (omega (arith, le))

@@ -1,0 +1,9 @@
+pub mod Steps
+pub mod Found
+pub mod Children
+pub mod Listing
+pub mod Checks
+pub mod Keeping
+pub mod Playing
+pub mod Bounds
+pub mod Small

@@ -1,0 +1,8 @@
+use Rattle.std.proofs.Common.{◌≡◌, drop}
+use Rattle.std.specs.List.{list_any}
+use Rattle.pl_world.specs.Candidates.{same_move}
+use Rattle.pl_cand.proofs.cuts.contains.Given as goal
+
+-- none so far
+abbrev pub invariant-loop-other : goal.invariant-loop-other
+invariant-loop-other l = list_any (same_move l.mv) (drop l.other-index l.kept) ≡ list_any (same_move l.mv) l.kept

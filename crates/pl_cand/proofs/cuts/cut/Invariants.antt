@@ -1,0 +1,8 @@
+use Rattle.std.proofs.Common.{◌≡◌, [], drop}
+use Rattle.pl_world.specs.Candidates.{is_worth}
+use Rattle.pl_cand.specs.Cuts.{standing}
+use Rattle.pl_cand.proofs.cuts.cut.Given as goal
+
+-- what is kept and what comes of the other moves
+abbrev pub invariant-loop-mv : goal.invariant-loop-mv
+invariant-loop-mv l = standing (is_worth l.s) l.kept.items (drop l.mv-index l.tried) ≡ standing (is_worth l.s) [] l.tried

@@ -1,0 +1,7 @@
+use Rattle.std.proofs.Common.{◌≡◌, ◌++◌, take}
+use Rattle.std.specs.List.{flat_map}
+use Rattle.pl_world.specs.Starts.{starting, shift_to}
+use Rattle.pl_cand.proofs.starts.add_shifts.Given as goal
+
+abbrev pub invariant-loop-start : goal.invariant-loop-start
+invariant-loop-start l = l.out.items ≡ l.initial.out.items ++ flat_map (starting l.s (shift_to l.id)) (take l.start-index l.starts)

@@ -1,0 +1,10 @@
+pub mod Near
+pub mod Details
+pub mod Levels
+pub mod Slots
+pub mod Tests
+pub mod Tried
+pub mod ById
+pub mod Helping
+pub mod Cuts
+pub mod Proposals

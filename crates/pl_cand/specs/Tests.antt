@@ -1,0 +1,56 @@
+-- Which kinds help with a timeline, and which activities are shifted away.
+use Rattle.std.specs.Prelude.{ℕ, nat_lt, ◌==◌, Bool, false, ◌&&◌, not, pos, int_lt, List, ◌++◌, ◌-◌, map, take, filter, length}
+use Rattle.pl_model.specs.declared.reservations.Reservation.{Reservation}
+use Rattle.pl_model.specs.declared.reservations.Reservation.TheVariants.{Take, Raise, Lower}
+use Rattle.pl_plan.specs.declared.activity.Activity.{Activity}
+use Rattle.pl_plan.specs.Trees.{id_of}
+use Rattle.pl_plan.specs.Values.{Row}
+use Rattle.pl_world.specs.declared.plan_state.PlanState.{PlanState}
+use Rattle.pl_world.specs.PlanStates.{is_committed}
+use Rattle.pl_world.specs.declared.demand.Demand.{Demand}
+use Rattle.pl_world.specs.Demands.{amount_in}
+use Rattle.pl_world.specs.LineRepairs.{raises, lowers, sets_state, sets_any, is_used_in, takes_in, lowers_below, raises_below, point_counts}
+use Rattle.pl_cand.specs.declared.help.Help.{Help}
+use Rattle.pl_cand.specs.declared.help.Help.TheVariants as help
+use Rattle.pl_cand.specs.declared.role.Role.{Role}
+use Rattle.pl_cand.specs.declared.role.Role.TheVariants as role
+
+abbrev pub helps : ℕ → Help → Reservation → Bool
+helps line help.Raise r = raises line r
+helps line help.Lower r = lowers line r
+helps line (help.SetState state) r = sets_state line state r
+helps line help.SetAny r = sets_any line r
+
+abbrev pub plays : PlanState → ℕ → Role → Activity → Bool
+plays s line (role.Uses a b) x = takes_in s line a b x
+plays s line (role.LowersBelow b) x = lowers_below s line b x
+plays s line (role.RaisesBelow b) x = raises_below s line b x
+
+-- not committed, and plays the role
+abbrev pub is_user : PlanState → ℕ → Role → Activity → Bool
+is_user s line part x = not (is_committed s x) && plays s line part x
+
+-- a reservation of an activity from a start to an end takes an amount above 0 of the timeline at moments of a span
+abbrev pub uses_in : ℕ → ℕ → ℕ → ℕ → ℕ → Row → Reservation → Bool
+uses_in line a b start end values (Take l e) = (l == line) && (int_lt (pos 0) (amount_in values e) && (nat_lt start b && nat_lt a end))
+uses_in line a b start end values _ = false
+
+-- what is asked of the timeline is an amount above 0 at moments of a span
+abbrev pub is_used_of : ℕ → ℕ → ℕ → Demand → Bool
+is_used_of line a b d = (d.line == line) && is_used_in a b d.asked
+
+-- ---- one reservation of a level
+
+abbrev pub lowers_at : PlanState → ℕ → ℕ → Activity → Reservation → Bool
+lowers_at s line b a (Lower l e point) = (l == line) && point_counts s line b a point
+lowers_at s line b a _ = false
+
+abbrev pub raises_at : PlanState → ℕ → ℕ → Activity → Reservation → Bool
+raises_at s line b a (Raise l e point) = (l == line) && point_counts s line b a point
+raises_at s line b a _ = false
+
+-- ---- the first eight users
+
+-- what is there, and what comes of the other activities
+abbrev pub users_with : PlanState → ℕ → Role → List ℕ → List Activity → List ℕ
+users_with s line part ids rest = ids ++ map id_of (take (8 - length ids) (filter (is_user s line part) rest))

@@ -1,0 +1,264 @@
+//! Moves for what is wrong with an activity.
+ghost use Rattle.std.specs.Prelude.{◌≡◌, ◌≤◌, ◌++◌, pos, map, length, slice_get, All, OnOk, Some};
+ghost use Rattle.pl_plan.specs.Activities.{activity_of};
+ghost use Rattle.pl_world.specs.Whole.{IsWhole};
+ghost use Rattle.std.specs.List.{flat_map};
+ghost use Rattle.std.specs.Option.{option_copied};
+ghost use Rattle.pl_world.specs.PlanStates.{numbered, of_found};
+ghost use Rattle.pl_world.specs.Activities.{bindings_of, params_at};
+ghost use Rattle.pl_world.specs.Moves.{alternatives_at};
+ghost use Rattle.pl_world.specs.Repairs.{all_assigns, assigns, assigns_one, end_by, for_bad_value, for_overrun, for_undetailed, for_unset, parent_at};
+ghost use Rattle.pl_cand.specs.Near.{AreNear};
+ghost use Rattle.pl_cand.specs.Details.{assign_to, assigns_as, assigns_if_free, detail_of};
+
+use crate::reading::{bindings_of, checked_alternatives, checked_params, end_of, is_free};
+use crate::repairs::{add_deletion, add_moves};
+use crate::starts::add_shift;
+use crate::strides::spread;
+use pl_model::{Expr, Param};
+use pl_plan::{Activity, RepairMove};
+use pl_world::PlanState;
+use std::alloc::{AllocError, Global};
+
+// Each of these values for one parameter.
+fn add_values(
+    id: u32,
+    number: u8,
+    values: &[i64],
+    out: &mut Vec<RepairMove>,
+) -> Result<(), AllocError>
+    ensures { OnOk result (out.new.items ≡ out.old.items ++ map (assign_to id number) values.now) }
+{
+    for value in values {
+        out.push(RepairMove::Assign {
+            id,
+            param: number,
+            value: *value,
+        })?;
+    }
+    Ok(())
+}
+
+// Values for one parameter.
+fn add_assigns(
+    alloc: Global,
+    id: u32,
+    number: u8,
+    param: &Param,
+    out: &mut Vec<RepairMove>,
+) -> Result<(), AllocError>
+    requires { AreNear param.now }
+    ensures { OnOk result (out.new.items ≡ out.old.items ++ assigns id (number, param.now)) }
+{
+    let values = spread(alloc, param.low, param.high)?;
+    add_values(id, number, values.as_slice(), out)?;
+    Ok(())
+}
+
+// Values for one parameter, where it is free.
+fn add_if_free(
+    alloc: Global,
+    id: u32,
+    bindings: &[(u8, Expr)],
+    number: u8,
+    param: &Param,
+    out: &mut Vec<RepairMove>,
+) -> Result<(), AllocError>
+    requires { AreNear param.now }
+    ensures { OnOk result (out.new.items ≡ out.old.items ++ assigns_if_free bindings.now id (number, param.now)) }
+{
+    if is_free(bindings, number, param) {
+        add_assigns(alloc, id, number, param, out)?;
+    }
+    Ok(())
+}
+
+// Values for each of these parameters that is free.
+fn add_free_assigns(
+    alloc: Global,
+    id: u32,
+    bindings: &[(u8, Expr)],
+    params: &[Param],
+    out: &mut Vec<RepairMove>,
+) -> Result<(), AllocError>
+    requires few { length params.now ≤ 16 }
+    requires near { All AreNear params.now }
+    ensures { OnOk result (out.new.items ≡ out.old.items ++ flat_map (assigns_if_free bindings.now id) (numbered 0 params.now)) }
+{
+    for (number, param) in params.iter().enumerate() {
+        add_if_free(alloc, id, bindings, number as u8, param, out)?;
+    }
+    Ok(())
+}
+
+// Values for each parameter that is free.
+#[tactic(auto, using(crate::proofs::Listing::free_all))]
+fn add_all_assigns(
+    alloc: Global,
+    s: &PlanState,
+    a: &Activity,
+    out: &mut Vec<RepairMove>,
+) -> Result<(), AllocError>
+    requires { IsWhole s.now }
+    ensures { OnOk result (out.new.items ≡ out.old.items ++ all_assigns s.now a.now) }
+{
+    add_free_assigns(alloc, a.id, bindings_of(s, a), checked_params(s, a), out)?;
+    Ok(())
+}
+
+// Values for the parameter of this number.
+fn add_assigns_at(
+    alloc: Global,
+    id: u32,
+    params: &[Param],
+    number: u32,
+    out: &mut Vec<RepairMove>,
+) -> Result<(), AllocError>
+    requires few { length params.now ≤ 16 }
+    requires near { All AreNear params.now }
+    ensures { OnOk result (out.new.items ≡ out.old.items ++ of_found (assigns_as id number) (slice_get params.now number)) }
+{
+    match params.get(number as usize) {
+        Some(param) => add_assigns(alloc, id, number as u8, param, out),
+        None => Ok(()),
+    }
+}
+
+#[tactic(auto, using(crate::proofs::Listing::assigns_at))]
+fn add_assigns_of(
+    alloc: Global,
+    s: &PlanState,
+    a: &Activity,
+    number: u32,
+    out: &mut Vec<RepairMove>,
+) -> Result<(), AllocError>
+    requires { IsWhole s.now }
+    ensures { OnOk result (out.new.items ≡ out.old.items ++ flat_map (assigns_one a.now number) (params_at s.now a.now)) }
+{
+    add_assigns_at(alloc, a.id, checked_params(s, a), number, out)?;
+    Ok(())
+}
+
+/// Appends values for a parameter that has none, and that the root goes.
+pub(crate) fn for_unset(
+    alloc: Global,
+    s: &PlanState,
+    a: &Activity,
+    number: u32,
+    out: &mut Vec<RepairMove>,
+) -> Result<(), AllocError>
+    requires whole { IsWhole s.now }
+    requires live { activity_of a.now.id s.now.plan.activities ≡ Some a.now }
+    ensures { OnOk result (out.new.items ≡ out.old.items ++ for_unset s.now a.now number) }
+{
+    add_assigns_of(alloc, s, a, number, out)?;
+    add_deletion(s, a, out)?;
+    Ok(())
+}
+
+fn parent_at<'s>(s: &'s PlanState, a: &Activity) -> Option<&'s Activity>
+    ensures { option_copied result ≡ parent_at s.now a.now }
+{
+    match a.parent {
+        Some((parent, _)) => s.plan.get(parent),
+        None => None,
+    }
+}
+
+fn add_assigns_above(
+    alloc: Global,
+    s: &PlanState,
+    a: &Activity,
+    out: &mut Vec<RepairMove>,
+) -> Result<(), AllocError>
+    requires { IsWhole s.now }
+    ensures { OnOk result (out.new.items ≡ out.old.items ++ of_found (all_assigns s.now) (parent_at s.now a.now)) }
+{
+    match parent_at(s, a) {
+        Some(parent) => add_all_assigns(alloc, s, parent, out),
+        None => Ok(()),
+    }
+}
+
+/// Appends values for each free parameter of the activity and then of its parent, and that the root goes.
+pub(crate) fn for_bad_value(
+    alloc: Global,
+    s: &PlanState,
+    a: &Activity,
+    out: &mut Vec<RepairMove>,
+) -> Result<(), AllocError>
+    requires whole { IsWhole s.now }
+    requires live { activity_of a.now.id s.now.plan.activities ≡ Some a.now }
+    ensures { OnOk result (out.new.items ≡ out.old.items ++ for_bad_value s.now a.now) }
+{
+    add_all_assigns(alloc, s, a, out)?;
+    add_assigns_above(alloc, s, a, out)?;
+    add_deletion(s, a, out)?;
+    Ok(())
+}
+
+fn add_details(s: &PlanState, a: &Activity, out: &mut Vec<RepairMove>) -> Result<(), AllocError>
+    requires { IsWhole s.now }
+    ensures { OnOk result (out.new.items ≡ out.old.items ++ map (detail_of a.now.id) (numbered 0 (alternatives_at s.now a.now))) }
+{
+    let alternatives = checked_alternatives(s, a);
+    for (number, _alternative) in alternatives.iter().enumerate() {
+        out.push(RepairMove::Detail {
+            id: a.id,
+            alternative: number as u32,
+        })?;
+    }
+    Ok(())
+}
+
+/// Appends each alternative of the activity's kind, and that the root goes.
+pub(crate) fn for_undetailed(
+    s: &PlanState,
+    a: &Activity,
+    out: &mut Vec<RepairMove>,
+) -> Result<(), AllocError>
+    requires whole { IsWhole s.now }
+    requires live { activity_of a.now.id s.now.plan.activities ≡ Some a.now }
+    ensures { OnOk result (out.new.items ≡ out.old.items ++ for_undetailed s.now a.now) }
+{
+    add_details(s, a, out)?;
+    add_deletion(s, a, out)?;
+    Ok(())
+}
+
+/// Appends the shift by which a live activity, where it is firm, ends at this moment.
+pub(crate) fn end_by(
+    s: &PlanState,
+    a: &Activity,
+    moment: u32,
+    out: &mut Vec<RepairMove>,
+) -> Result<(), AllocError>
+    requires whole { IsWhole s.now }
+    requires live { activity_of a.now.id s.now.plan.activities ≡ Some a.now }
+    ensures { OnOk result (out.new.items ≡ out.old.items ++ end_by s.now a.now (pos moment)) }
+{
+    match end_of(s, a) {
+        Some(end) => {
+            let duration = i64::from(end) - i64::from(a.start);
+            add_shift(s, a.id, i64::from(moment) - duration, out)?;
+            Ok(())
+        }
+        None => Ok(()),
+    }
+}
+
+/// Appends the shift by which the activity ends at the horizon, and its moves.
+pub(crate) fn for_overrun(
+    alloc: Global,
+    s: &PlanState,
+    a: &Activity,
+    out: &mut Vec<RepairMove>,
+) -> Result<(), AllocError>
+    requires whole { IsWhole s.now }
+    requires live { activity_of a.now.id s.now.plan.activities ≡ Some a.now }
+    ensures { OnOk result (out.new.items ≡ out.old.items ++ for_overrun s.now a.now) }
+{
+    end_by(s, a, s.model.get().horizon, out)?;
+    add_moves(alloc, s, a, out)?;
+    Ok(())
+}

@@ -1,0 +1,45 @@
+//! Moves for a goal that is open.
+ghost use Rattle.std.specs.Prelude.{◌≡◌, ◌++◌, OnOk};
+ghost use Rattle.pl_world.specs.Whole.{IsWhole};
+ghost use Rattle.pl_world.specs.Repairs.{for_goal};
+ghost use Rattle.pl_cand.specs.Details.{serving};
+
+use crate::reading::{from_floor, to_last};
+use crate::starts::add_news;
+use crate::strides::spread;
+use pl_facts::Goal;
+use pl_plan::RepairMove;
+use pl_world::PlanState;
+use std::alloc::{AllocError, Global};
+
+// An activity that serves the goal, from start to start.
+fn add_serving(
+    alloc: Global,
+    s: &PlanState,
+    goal: &Goal,
+    out: &mut Vec<RepairMove>,
+) -> Result<(), AllocError>
+    requires { IsWhole s.now }
+    ensures { OnOk result (out.new.items ≡ out.old.items ++ serving s.now goal.now) }
+{
+    let earliest = from_floor(s, i64::from(goal.earliest));
+    let latest = to_last(s, i64::from(goal.latest));
+    let starts = spread(alloc, earliest, latest)?;
+    add_news(s, goal.kind, Some(goal.number), starts.as_slice(), out)?;
+    Ok(())
+}
+
+/// Appends an activity that serves the goal, from start to start, and that the goal is dropped.
+pub(crate) fn for_goal(
+    alloc: Global,
+    s: &PlanState,
+    goal: &Goal,
+    out: &mut Vec<RepairMove>,
+) -> Result<(), AllocError>
+    requires { IsWhole s.now }
+    ensures { OnOk result (out.new.items ≡ out.old.items ++ for_goal s.now goal.now) }
+{
+    add_serving(alloc, s, goal, out)?;
+    out.push(RepairMove::Drop { goal: goal.number })?;
+    Ok(())
+}

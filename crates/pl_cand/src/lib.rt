@@ -1,0 +1,27 @@
+//! The repair moves that are tried for a conflict.
+#![tactic(auto)]
+
+mod activities;
+mod chooser;
+mod conflicts;
+mod cuts;
+mod goals;
+mod help;
+mod helping;
+mod links;
+mod numbers;
+mod properness;
+mod proposal;
+mod reading;
+mod repairs;
+mod role;
+mod slots;
+mod starts;
+mod strides;
+mod timelines;
+mod users;
+
+pub use chooser::Chooser;
+pub use conflicts::candidates;
+pub use numbers::{places, spread};
+pub use proposal::Proposal;

@@ -1,0 +1,133 @@
+//! Moves of an activity: its starts, those of its root, and that the root goes.
+ghost use Rattle.std.specs.Prelude.{◌≡◌, ◌++◌, IfOk, OnOk, Some};
+ghost use Rattle.std.specs.Option.{option_copied};
+ghost use Rattle.pl_plan.specs.Activities.{activity_of};
+ghost use Rattle.pl_world.specs.Whole.{IsWhole};
+ghost use Rattle.pl_world.specs.PlanStates.{of_found, served_by};
+ghost use Rattle.pl_world.specs.Starts.{above_it, delete_root, moves_of, places_of, shifts_of, window_of};
+
+use crate::reading::{floor, from_floor, last};
+use crate::starts::add_shifts;
+use crate::strides::spread;
+use pl_facts::Goal;
+use pl_plan::{Activity, RepairMove};
+use pl_world::PlanState;
+use std::alloc::{AllocError, Global};
+
+// The goal that an activity serves.
+fn served_by<'s>(s: &'s PlanState, a: &Activity) -> Option<&'s Goal>
+    ensures { option_copied result ≡ served_by s.now a.now }
+{
+    match (a.parent, a.goal) {
+        (None, Some(number)) => s.goals.get(number),
+        _ => None,
+    }
+}
+
+// The starts of a goal's window, from the floor on.
+fn window_of(alloc: Global, s: &PlanState, goal: &Goal) -> Result<Vec<i64>, AllocError>
+    requires { IsWhole s.now }
+    ensures { IfOk result (λ all. all.items ≡ window_of s.now (Some goal.now)) }
+{
+    let earliest = from_floor(s, i64::from(goal.earliest));
+    spread(alloc, earliest, i64::from(goal.latest))
+}
+
+// The starts of an activity's goal window, or all from the floor on.
+fn window(alloc: Global, s: &PlanState, a: &Activity) -> Result<Vec<i64>, AllocError>
+    requires { IsWhole s.now }
+    ensures { IfOk result (λ all. all.items ≡ window_of s.now (served_by s.now a.now)) }
+{
+    match served_by(s, a) {
+        Some(goal) => window_of(alloc, s, goal),
+        None => spread(alloc, floor(s), last(s)),
+    }
+}
+
+/// The starts that are tried for an activity.
+pub(crate) fn places(alloc: Global, s: &PlanState, a: &Activity) -> Result<Vec<i64>, AllocError>
+    requires { IsWhole s.now }
+    ensures { IfOk result (λ all. all.items ≡ places_of s.now a.now) }
+{
+    let window = window(alloc, s, a)?;
+    let mut all = Vec::new(alloc);
+    all.push(floor(s))?;
+    all.extend_from_slice(window.as_slice())?;
+    Ok(all)
+}
+
+fn add_shifts_of(
+    alloc: Global,
+    s: &PlanState,
+    a: &Activity,
+    out: &mut Vec<RepairMove>,
+) -> Result<(), AllocError>
+    requires { IsWhole s.now }
+    ensures { OnOk result (out.new.items ≡ out.old.items ++ shifts_of s.now a.now) }
+{
+    let starts = places(alloc, s, a)?;
+    add_shifts(s, a.id, starts.as_slice(), out)?;
+    Ok(())
+}
+
+// The root above an activity, if it is not one itself.
+fn above_it<'s>(s: &'s PlanState, a: &Activity) -> Option<&'s Activity>
+    requires whole { IsWhole s.now }
+    requires live { activity_of a.now.id s.now.plan.activities ≡ Some a.now }
+    ensures { option_copied result ≡ above_it s.now a.now }
+{
+    match a.parent {
+        Some(_) => s.plan.get(s.plan.root(a.id)),
+        None => None,
+    }
+}
+
+fn add_shifts_above(
+    alloc: Global,
+    s: &PlanState,
+    a: &Activity,
+    out: &mut Vec<RepairMove>,
+) -> Result<(), AllocError>
+    requires whole { IsWhole s.now }
+    requires live { activity_of a.now.id s.now.plan.activities ≡ Some a.now }
+    ensures { OnOk result (out.new.items ≡ out.old.items ++ of_found (shifts_of s.now) (above_it s.now a.now)) }
+{
+    match above_it(s, a) {
+        Some(root) => add_shifts_of(alloc, s, root, out),
+        None => Ok(()),
+    }
+}
+
+/// Appends that the root above a live activity goes.
+pub(crate) fn add_deletion(
+    s: &PlanState,
+    a: &Activity,
+    out: &mut Vec<RepairMove>,
+) -> Result<(), AllocError>
+    requires whole { IsWhole s.now }
+    requires live { activity_of a.now.id s.now.plan.activities ≡ Some a.now }
+    ensures { OnOk result (out.new.items ≡ out.old.items ++ delete_root s.now a.now) }
+{
+    out.push(RepairMove::Delete {
+        id: s.plan.root(a.id),
+    })?;
+    Ok(())
+}
+
+/// Appends the moves of a live activity: its shifts, those of its root where it is none, and that the root goes.
+#[tactic(auto, unfolding(pl_world::specs::Starts::moves_of))]
+pub(crate) fn add_moves(
+    alloc: Global,
+    s: &PlanState,
+    a: &Activity,
+    out: &mut Vec<RepairMove>,
+) -> Result<(), AllocError>
+    requires whole { IsWhole s.now }
+    requires live { activity_of a.now.id s.now.plan.activities ≡ Some a.now }
+    ensures { OnOk result (out.new.items ≡ out.old.items ++ moves_of s.now a.now) }
+{
+    add_shifts_of(alloc, s, a, out)?;
+    add_shifts_above(alloc, s, a, out)?;
+    add_deletion(s, a, out)?;
+    Ok(())
+}

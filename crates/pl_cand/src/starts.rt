@@ -1,0 +1,84 @@
+//! Shifts and new activities, which start within the horizon.
+ghost use Rattle.std.specs.Prelude.{◌≡◌, ℕ, ◌++◌, OnOk};
+ghost use Rattle.std.specs.List.{flat_map};
+ghost use Rattle.std.specs.Option.{option_map, option_to_list};
+ghost use Rattle.pl_plan.specs.declared.repair.RepairMove.{RepairMove};
+ghost use Rattle.pl_plan.specs.declared.repair.RepairMove.TheVariants.{Add};
+ghost use Rattle.pl_world.specs.Starts.{starting, shift_to};
+
+use pl_plan::RepairMove;
+use pl_world::PlanState;
+use std::alloc::AllocError;
+
+// The moment, where an activity may start then: from 1 to one before the horizon.
+fn start_in(s: &PlanState, start: i64) -> Option<u32>
+    ensures { (make : ℕ → RepairMove) → option_to_list (option_map make result) ≡ starting s.now make start }
+{
+    if 1 <= start && start < i64::from(s.model.get().horizon) {
+        Some(start as u32)
+    } else {
+        None
+    }
+}
+
+/// Appends a shift, left out where no activity may start then.
+pub(crate) fn add_shift(
+    s: &PlanState,
+    id: u32,
+    start: i64,
+    out: &mut Vec<RepairMove>,
+) -> Result<(), AllocError>
+    ensures { OnOk result (out.new.items ≡ out.old.items ++ starting s.now (shift_to id) start) }
+{
+    match start_in(s, start) {
+        Some(start) => Ok(out.push(RepairMove::Shift { id, start })?),
+        None => Ok(()),
+    }
+}
+
+// A new activity, left out where no activity may start then.
+fn add_new(
+    s: &PlanState,
+    kind: u32,
+    goal: Option<u32>,
+    start: i64,
+    out: &mut Vec<RepairMove>,
+) -> Result<(), AllocError>
+    ensures { OnOk result (out.new.items ≡ out.old.items ++ starting s.now (λ start. Add kind start goal) start) }
+{
+    match start_in(s, start) {
+        Some(start) => Ok(out.push(RepairMove::Add { kind, start, goal })?),
+        None => Ok(()),
+    }
+}
+
+/// Appends the shifts of one activity to these starts.
+pub(crate) fn add_shifts(
+    s: &PlanState,
+    id: u32,
+    starts: &[i64],
+    out: &mut Vec<RepairMove>,
+) -> Result<(), AllocError>
+    ensures { OnOk result (out.new.items ≡ out.old.items ++ flat_map (starting s.now (shift_to id)) starts.now) }
+{
+    for start in starts {
+        add_shift(s, id, *start, out)?;
+    }
+    Ok(())
+}
+
+/// Appends new activities of one kind with these starts.
+pub(crate) fn add_news(
+    s: &PlanState,
+    kind: u32,
+    goal: Option<u32>,
+    starts: &[i64],
+    out: &mut Vec<RepairMove>,
+) -> Result<(), AllocError>
+    ensures { OnOk result (out.new.items ≡ out.old.items ++ flat_map (starting s.now (λ start. Add kind start goal)) starts.now) }
+{
+    for start in starts {
+        add_new(s, kind, goal, *start, out)?;
+    }
+    Ok(())
+}

@@ -1,0 +1,59 @@
+//! The numbers between two that are tried.
+ghost use Rattle.std.specs.Prelude.{◌≡◌, ◌≤◌, ◌-ℤ◌, IfOk};
+ghost use Rattle.pl_world.specs.PlanStates.{natural};
+ghost use Rattle.pl_world.specs.Starts.{spread, stride, steps_from};
+ghost use Rattle.pl_cand.specs.Near.{IsNear};
+
+use std::alloc::{AllocError, Global};
+
+/// The most numbers that are tried.
+const MOST: u32 = 16;
+
+// Every how many numbers one is tried, so that there are at most sixteen.
+fn stride(width: u64) -> u64
+    requires { width ≤ 2000000000000 }
+    ensures value { result ≡ stride width }
+    ensures few { result ≤ 1000000000000 }
+{
+    ((width + 14) / 15).max(1)
+}
+
+// The numbers from a low one up to a high one, so many at most.
+fn steps(alloc: Global, low: i64, high: i64, step: u64, most: u32) -> Result<Vec<i64>, AllocError>
+    requires low { IsNear low }
+    requires high { IsNear high }
+    requires step { step ≤ 1000000000000 }
+    ensures { IfOk result (λ all. all.items ≡ steps_from most low high step) }
+{
+    let mut all = Vec::new(alloc);
+    let mut next = low;
+    let mut left = most;
+    while left > 0 {
+        if high < next {
+            return Ok(all);
+        }
+        all.push(next)?;
+        next += step as i64;
+        left -= 1;
+    }
+    Ok(all)
+}
+
+// How far a high number lies above a low one.
+fn width(low: i64, high: i64) -> u64
+    requires low { IsNear low }
+    requires high { IsNear high }
+    ensures value { result ≡ natural (high -ℤ low) }
+    ensures few { result ≤ 2000000000000 }
+{
+    if low <= high { (high - low) as u64 } else { 0 }
+}
+
+/// The numbers from `low` to `high` that are tried: `low` and each step up from it, sixteen at most.
+pub(crate) fn spread(alloc: Global, low: i64, high: i64) -> Result<Vec<i64>, AllocError>
+    requires low { IsNear low }
+    requires high { IsNear high }
+    ensures { IfOk result (λ all. all.items ≡ spread low high) }
+{
+    steps(alloc, low, high, stride(width(low, high)), MOST)
+}

@@ -1,0 +1,229 @@
+//! Moves for what is wrong with timelines.
+ghost use Rattle.std.specs.Prelude.{◌≡◌, ◌++◌, OnOk, Some};
+ghost use Rattle.std.specs.List.{flat_map};
+ghost use Rattle.std.specs.Option.{option_copied};
+ghost use Rattle.pl_plan.specs.Activities.{activity_of};
+ghost use Rattle.pl_world.specs.Whole.{IsWhole};
+ghost use Rattle.pl_world.specs.PlanStates.{of_found};
+ghost use Rattle.pl_world.specs.LineRepairs.{for_bad_step, for_high, for_low, for_must, for_over, help_must, help_step, reservation_at};
+ghost use Rattle.pl_cand.specs.ById.{around_id, moves_of_id};
+
+use crate::activities::end_by;
+use crate::help::Help;
+use crate::helping::add_help;
+use crate::reading::{kind_of, live};
+use crate::repairs::add_moves;
+use crate::role::Role;
+use crate::starts::add_shift;
+use crate::users::first_users;
+use pl_model::Reservation;
+use pl_plan::{Activity, RepairMove};
+use pl_world::PlanState;
+use std::alloc::{AllocError, Global};
+
+// Behind the span, and before it.
+fn add_around(
+    s: &PlanState,
+    id: u32,
+    a: u32,
+    b: u32,
+    out: &mut Vec<RepairMove>,
+) -> Result<(), AllocError>
+    requires { IsWhole s.now }
+    ensures { OnOk result (out.new.items ≡ out.old.items ++ around_id s.now a b id) }
+{
+    match live(s, id) {
+        Some(user) => {
+            add_shift(s, user.id, i64::from(b), out)?;
+            end_by(s, user, a, out)?;
+            Ok(())
+        }
+        None => Ok(()),
+    }
+}
+
+fn add_all_around(
+    s: &PlanState,
+    ids: &[u32],
+    a: u32,
+    b: u32,
+    out: &mut Vec<RepairMove>,
+) -> Result<(), AllocError>
+    requires { IsWhole s.now }
+    ensures { OnOk result (out.new.items ≡ out.old.items ++ flat_map (around_id s.now a b) ids.now) }
+{
+    for id in ids {
+        add_around(s, *id, a, b, out)?;
+    }
+    Ok(())
+}
+
+fn add_moves_of(
+    alloc: Global,
+    s: &PlanState,
+    id: u32,
+    out: &mut Vec<RepairMove>,
+) -> Result<(), AllocError>
+    requires { IsWhole s.now }
+    ensures { OnOk result (out.new.items ≡ out.old.items ++ moves_of_id s.now id) }
+{
+    match live(s, id) {
+        Some(user) => add_moves(alloc, s, user, out),
+        None => Ok(()),
+    }
+}
+
+fn add_all_moves(
+    alloc: Global,
+    s: &PlanState,
+    ids: &[u32],
+    out: &mut Vec<RepairMove>,
+) -> Result<(), AllocError>
+    requires { IsWhole s.now }
+    ensures { OnOk result (out.new.items ≡ out.old.items ++ flat_map (moves_of_id s.now) ids.now) }
+{
+    for id in ids {
+        add_moves_of(alloc, s, *id, out)?;
+    }
+    Ok(())
+}
+
+/// Appends shifts of the first eight users behind the span and before it, and then the moves of each.
+#[tactic(auto, using(crate::proofs::Playing::moves_by_ids, crate::proofs::Playing::around_by_ids))]
+pub(crate) fn for_over(
+    alloc: Global,
+    s: &PlanState,
+    line: u32,
+    a: u32,
+    b: u32,
+    out: &mut Vec<RepairMove>,
+) -> Result<(), AllocError>
+    requires { IsWhole s.now }
+    ensures { OnOk result (out.new.items ≡ out.old.items ++ for_over s.now line a b) }
+{
+    let users = first_users(alloc, s, line, Role::Uses(a, b))?;
+    add_all_around(s, users.as_slice(), a, b, out)?;
+    add_all_moves(alloc, s, users.as_slice(), out)?;
+    Ok(())
+}
+
+/// Appends help by kinds that raise the level, and the moves of the first eight that lower it before the span's end.
+#[tactic(auto, using(crate::proofs::Playing::moves_by_ids, crate::proofs::Playing::around_by_ids))]
+pub(crate) fn for_low(
+    alloc: Global,
+    s: &PlanState,
+    line: u32,
+    a: u32,
+    b: u32,
+    out: &mut Vec<RepairMove>,
+) -> Result<(), AllocError>
+    requires { IsWhole s.now }
+    ensures { OnOk result (out.new.items ≡ out.old.items ++ for_low s.now line a b) }
+{
+    add_help(alloc, s, line, Help::Raise, a, out)?;
+    let users = first_users(alloc, s, line, Role::LowersBelow(b))?;
+    add_all_moves(alloc, s, users.as_slice(), out)?;
+    Ok(())
+}
+
+/// Appends help by kinds that lower the level, and the moves of the first eight that raise it before the span's end.
+#[tactic(auto, using(crate::proofs::Playing::moves_by_ids, crate::proofs::Playing::around_by_ids))]
+pub(crate) fn for_high(
+    alloc: Global,
+    s: &PlanState,
+    line: u32,
+    a: u32,
+    b: u32,
+    out: &mut Vec<RepairMove>,
+) -> Result<(), AllocError>
+    requires { IsWhole s.now }
+    ensures { OnOk result (out.new.items ≡ out.old.items ++ for_high s.now line a b) }
+{
+    add_help(alloc, s, line, Help::Lower, a, out)?;
+    let users = first_users(alloc, s, line, Role::RaisesBelow(b))?;
+    add_all_moves(alloc, s, users.as_slice(), out)?;
+    Ok(())
+}
+
+fn reservation_at<'s>(s: &'s PlanState, a: &Activity, index: u32) -> Option<&'s Reservation>
+    ensures { option_copied result ≡ reservation_at s.now a.now index }
+{
+    match kind_of(s, a) {
+        Some(kind) => kind.reservations.as_slice().get(index as usize),
+        None => None,
+    }
+}
+
+// Help by kinds that set the state that is needed.
+fn add_help_must(
+    alloc: Global,
+    s: &PlanState,
+    a: &Activity,
+    index: u32,
+    until: u32,
+    out: &mut Vec<RepairMove>,
+) -> Result<(), AllocError>
+    requires { IsWhole s.now }
+    ensures { OnOk result (out.new.items ≡ out.old.items ++ of_found (help_must s.now until) (reservation_at s.now a.now index)) }
+{
+    match reservation_at(s, a, index) {
+        Some(Reservation::Must(line, state)) => {
+            add_help(alloc, s, *line, Help::SetState(*state), until, out)
+        }
+        _ => Ok(()),
+    }
+}
+
+// Help by kinds that set the timeline.
+fn add_help_step(
+    alloc: Global,
+    s: &PlanState,
+    a: &Activity,
+    index: u32,
+    until: u32,
+    out: &mut Vec<RepairMove>,
+) -> Result<(), AllocError>
+    requires { IsWhole s.now }
+    ensures { OnOk result (out.new.items ≡ out.old.items ++ of_found (help_step s.now until) (reservation_at s.now a.now index)) }
+{
+    match reservation_at(s, a, index) {
+        Some(Reservation::Put(line, _, _)) => add_help(alloc, s, *line, Help::SetAny, until, out),
+        _ => Ok(()),
+    }
+}
+
+/// Appends help for the state that a reservation needs, up to a moment, and the moves of the activity.
+pub(crate) fn for_must(
+    alloc: Global,
+    s: &PlanState,
+    a: &Activity,
+    index: u32,
+    until: u32,
+    out: &mut Vec<RepairMove>,
+) -> Result<(), AllocError>
+    requires whole { IsWhole s.now }
+    requires live { activity_of a.now.id s.now.plan.activities ≡ Some a.now }
+    ensures { OnOk result (out.new.items ≡ out.old.items ++ for_must s.now a.now index until) }
+{
+    add_help_must(alloc, s, a, index, until, out)?;
+    add_moves(alloc, s, a, out)?;
+    Ok(())
+}
+
+/// Appends help for the timeline that a reservation sets, up to a moment, and the moves of the activity.
+pub(crate) fn for_bad_step(
+    alloc: Global,
+    s: &PlanState,
+    a: &Activity,
+    index: u32,
+    until: u32,
+    out: &mut Vec<RepairMove>,
+) -> Result<(), AllocError>
+    requires whole { IsWhole s.now }
+    requires live { activity_of a.now.id s.now.plan.activities ≡ Some a.now }
+    ensures { OnOk result (out.new.items ≡ out.old.items ++ for_bad_step s.now a.now index until) }
+{
+    add_help_step(alloc, s, a, index, until, out)?;
+    add_moves(alloc, s, a, out)?;
+    Ok(())
+}

@@ -1,0 +1,273 @@
+//! The activities that are shifted away from a timeline.
+ghost use Rattle.std.specs.Prelude.{◌≡◌, ◌≤ℤ◌, pos, List, ◌∷◌, IfOk, IfSome, OnOk, Some, All, length, map};
+ghost use Rattle.std.specs.List.{list_any};
+ghost use Rattle.pl_model.specs.Values.{NamesBelow};
+ghost use Rattle.pl_plan.specs.declared.activity.Activity.{Activity};
+ghost use Rattle.pl_plan.specs.Activities.{activity_of};
+ghost use Rattle.pl_plan.specs.Firm.{amount_of};
+ghost use Rattle.pl_plan.specs.Trees.{id_of};
+ghost use Rattle.pl_world.specs.Whole.{IsWhole};
+ghost use Rattle.pl_world.specs.Demands.{amount_in, moment_of_base, since};
+ghost use Rattle.pl_world.specs.LineRepairs.{first_eight, lowers_below, point_counts, raises_below, takes_in};
+ghost use Rattle.pl_cand.specs.Tests.{is_user, lowers_at, plays, raises_at, users_with, uses_in};
+ghost use Rattle.pl_cand.specs.Levels.{HasBase, IsOfLevel};
+
+use crate::reading::{is_committed, moment_of, reservations_of};
+use crate::role::Role;
+use pl_model::{Expr, Point, Reservation, eval};
+use pl_plan::Activity;
+use pl_world::PlanState;
+use std::alloc::{AllocError, Global};
+
+/// How many activities are shifted away.
+const MOST: usize = 8;
+
+fn amount_in(amount: &Expr, values: &[Option<i64>]) -> i64
+    requires { NamesBelow (length values.now) amount.now }
+    ensures { result ≡ amount_in values.now amount.now }
+{
+    match eval(amount, values) {
+        Some(value) => value,
+        None => 0,
+    }
+}
+
+fn uses_in(
+    line: u32,
+    a: u32,
+    b: u32,
+    start: u32,
+    end: u32,
+    values: &[Option<i64>],
+    reservation: &Reservation,
+) -> bool
+    requires { IfSome (amount_of reservation.now) (NamesBelow (length values.now)) }
+    ensures { result ≡ uses_in line a b start end values.now reservation.now }
+{
+    match reservation {
+        Reservation::Take(of, amount) => {
+            *of == line && amount_in(amount, values) > 0 && start < b && a < end
+        }
+        _ => false,
+    }
+}
+
+fn any_uses(
+    line: u32,
+    a: u32,
+    b: u32,
+    start: u32,
+    end: u32,
+    values: &[Option<i64>],
+    reservations: &[Reservation],
+) -> bool
+    requires { All (λ r. IfSome (amount_of r) (NamesBelow (length values.now))) reservations.now }
+    ensures { result ≡ list_any (uses_in line a b start end values.now) reservations.now }
+{
+    for reservation in reservations {
+        if uses_in(line, a, b, start, end, values, reservation) {
+            return true;
+        }
+    }
+    false
+}
+
+#[tactic(auto, unfolding(pl_world::specs::Demands::demands_at))]
+fn takes_in(
+    alloc: Global,
+    s: &PlanState,
+    line: u32,
+    a: u32,
+    b: u32,
+    x: &Activity,
+) -> Result<bool, AllocError>
+    requires whole { IsWhole s.now }
+    requires live { activity_of x.now.id s.now.plan.activities ≡ Some x.now }
+    ensures { IfOk result (λ t. t ≡ takes_in s.now line a b x.now) }
+{
+    let evaluated = s.plan.evaluate(alloc, s.model.get(), x.id)?;
+    match evaluated.end {
+        Some(end) => Ok(any_uses(
+            line,
+            a,
+            b,
+            x.start,
+            end,
+            evaluated.values.as_slice(),
+            reservations_of(s, x),
+        )),
+        None => Ok(false),
+    }
+}
+
+// The moment of a level's base: 0 also before any telemetry, as no effect lies at 0.
+fn since(s: &PlanState, line: u32) -> u32
+    requires whole { IsWhole s.now }
+    requires line { HasBase s.now line }
+    ensures { result ≡ since s.now line }
+{
+    moment_of_base(s.bases.get(line))
+}
+
+fn moment_of_base(base: (i64, i64)) -> u32
+    requires { base.0 ≤ℤ pos 10000000 }
+    ensures { result ≡ moment_of_base (Some base) }
+{
+    if base.0 < 0 { 0 } else { base.0 as u32 }
+}
+
+// Whether the point lies after the base's moment, and before the horizon and another moment.
+fn point_counts(s: &PlanState, line: u32, b: u32, a: &Activity, point: Point) -> bool
+    requires whole { IsWhole s.now }
+    requires live { activity_of a.now.id s.now.plan.activities ≡ Some a.now }
+    requires line { HasBase s.now line }
+    ensures { result ≡ point_counts s.now line b a.now point }
+{
+    match moment_of(s, a, point) {
+        Some(at) => since(s, line) < at && at < s.model.get().horizon && at < b,
+        None => false,
+    }
+}
+
+fn lowers_at(s: &PlanState, line: u32, b: u32, a: &Activity, reservation: &Reservation) -> bool
+    requires whole { IsWhole s.now }
+    requires live { activity_of a.now.id s.now.plan.activities ≡ Some a.now }
+    requires sort { IsOfLevel s.now reservation.now }
+    ensures { result ≡ lowers_at s.now line b a.now reservation.now }
+{
+    match reservation {
+        Reservation::Lower(of, _, point) => *of == line && point_counts(s, *of, b, a, *point),
+        _ => false,
+    }
+}
+
+fn any_lowers(s: &PlanState, line: u32, b: u32, a: &Activity, reservations: &[Reservation]) -> bool
+    requires whole { IsWhole s.now }
+    requires live { activity_of a.now.id s.now.plan.activities ≡ Some a.now }
+    requires level { All (IsOfLevel s.now) reservations.now }
+    ensures { result ≡ list_any (lowers_at s.now line b a.now) reservations.now }
+{
+    for reservation in reservations {
+        if lowers_at(s, line, b, a, reservation) {
+            return true;
+        }
+    }
+    false
+}
+
+fn lowers_below(s: &PlanState, line: u32, b: u32, a: &Activity) -> bool
+    requires whole { IsWhole s.now }
+    requires live { activity_of a.now.id s.now.plan.activities ≡ Some a.now }
+    ensures { result ≡ lowers_below s.now line b a.now }
+{
+    any_lowers(s, line, b, a, reservations_of(s, a))
+}
+
+fn raises_at(s: &PlanState, line: u32, b: u32, a: &Activity, reservation: &Reservation) -> bool
+    requires whole { IsWhole s.now }
+    requires live { activity_of a.now.id s.now.plan.activities ≡ Some a.now }
+    requires sort { IsOfLevel s.now reservation.now }
+    ensures { result ≡ raises_at s.now line b a.now reservation.now }
+{
+    match reservation {
+        Reservation::Raise(of, _, point) => *of == line && point_counts(s, *of, b, a, *point),
+        _ => false,
+    }
+}
+
+fn any_raises(s: &PlanState, line: u32, b: u32, a: &Activity, reservations: &[Reservation]) -> bool
+    requires whole { IsWhole s.now }
+    requires live { activity_of a.now.id s.now.plan.activities ≡ Some a.now }
+    requires level { All (IsOfLevel s.now) reservations.now }
+    ensures { result ≡ list_any (raises_at s.now line b a.now) reservations.now }
+{
+    for reservation in reservations {
+        if raises_at(s, line, b, a, reservation) {
+            return true;
+        }
+    }
+    false
+}
+
+fn raises_below(s: &PlanState, line: u32, b: u32, a: &Activity) -> bool
+    requires whole { IsWhole s.now }
+    requires live { activity_of a.now.id s.now.plan.activities ≡ Some a.now }
+    ensures { result ≡ raises_below s.now line b a.now }
+{
+    any_raises(s, line, b, a, reservations_of(s, a))
+}
+
+fn plays(
+    alloc: Global,
+    s: &PlanState,
+    line: u32,
+    role: Role,
+    a: &Activity,
+) -> Result<bool, AllocError>
+    requires whole { IsWhole s.now }
+    requires live { activity_of a.now.id s.now.plan.activities ≡ Some a.now }
+    ensures { IfOk result (λ p. p ≡ plays s.now line role a.now) }
+{
+    match role {
+        Role::Uses(from, to) => takes_in(alloc, s, line, from, to, a),
+        Role::LowersBelow(before) => Ok(lowers_below(s, line, before, a)),
+        Role::RaisesBelow(before) => Ok(raises_below(s, line, before, a)),
+    }
+}
+
+fn is_user(
+    alloc: Global,
+    s: &PlanState,
+    line: u32,
+    role: Role,
+    a: &Activity,
+) -> Result<bool, AllocError>
+    requires whole { IsWhole s.now }
+    requires live { activity_of a.now.id s.now.plan.activities ≡ Some a.now }
+    ensures { IfOk result (λ u. u ≡ is_user s.now line role a.now) }
+{
+    if is_committed(s, a) {
+        return Ok(false);
+    }
+    plays(alloc, s, line, role, a)
+}
+
+// Puts the id of an activity at the end, where it is one of the first eight.
+#[tactic(auto, using(crate::proofs::Keeping::users_full, crate::proofs::Keeping::users_past, crate::proofs::Keeping::users_more))]
+fn add_if_user(
+    alloc: Global,
+    s: &PlanState,
+    line: u32,
+    role: Role,
+    a: &Activity,
+    ids: &mut Vec<u32>,
+) -> Result<(), AllocError>
+    requires whole { IsWhole s.now }
+    requires live { activity_of a.now.id s.now.plan.activities ≡ Some a.now }
+    ensures { OnOk result ((rest : List Activity) → users_with s.now line role ids.old.items (a.now ∷ rest) ≡ users_with s.now line role ids.new.items rest) }
+{
+    if ids.len() >= MOST {
+        return Ok(());
+    }
+    if is_user(alloc, s, line, role, a)? {
+        ids.push(a.id)?;
+    }
+    Ok(())
+}
+
+/// The ids of the first eight activities that are not committed and play the role.
+pub(crate) fn first_users(
+    alloc: Global,
+    s: &PlanState,
+    line: u32,
+    role: Role,
+) -> Result<Vec<u32>, AllocError>
+    requires { IsWhole s.now }
+    ensures { IfOk result (λ ids. ids.items ≡ map id_of (first_eight s.now (plays s.now line role))) }
+{
+    let mut ids = Vec::new(alloc);
+    for a in s.plan.activities() {
+        add_if_user(alloc, s, line, role, a, &mut ids)?;
+    }
+    Ok(ids)
+}
