@@ -1,0 +1,4 @@
+pub mod Lowest
+pub mod Finding
+pub mod Proposing
+pub mod Faults

@@ -1,0 +1,27 @@
+-- What is found on the way to a proposal.
+use Rattle.std.specs.Prelude.{◌≡◌, true, false, find, Option, Some, None}
+use Rattle.pl_conflict.specs.declared.conflict.Conflict.{Conflict}
+use Rattle.pl_plan.specs.declared.repair.RepairMove.{RepairMove}
+use Rattle.pl_world.specs.declared.plan_state.PlanState.{PlanState}
+use Rattle.pl_world.specs.Conflicts.{conflicts_of}
+use Rattle.pl_world.specs.Moves.{is_proper, refusal_of}
+use Rattle.pl_world.specs.Legal.{has_repair, legal_for}
+use Rattle.pl_choose.specs.declared.repairs.Repairs.{Repairs}
+
+-- the legal candidates of a conflict, or none where it has none
+abbrev pub AreFor : PlanState → Conflict → Option Repairs → Type 0
+AreFor s k None = has_repair s k ≡ false
+AreFor s k (Some r) = (has_repair s k ≡ true) × (r.conflict ≡ k) × (r.moves.items ≡ legal_for s k)
+
+-- the legal candidates of the first conflict that has one, or none where no conflict has one
+abbrev pub AreFirst : PlanState → Option Repairs → Type 0
+AreFirst s None = find (has_repair s) (conflicts_of s) ≡ None
+AreFirst s (Some r) = (find (has_repair s) (conflicts_of s) ≡ Some r.conflict) × (r.moves.items ≡ legal_for s r.conflict)
+
+abbrev pub IsProper : PlanState → RepairMove → Type 0
+IsProper s m = is_proper s m ≡ true
+
+-- it makes sense, and nothing refuses it
+pub record IsAllowed (s : PlanState) (m : RepairMove) : Type 0 where
+  pub proper : is_proper s m ≡ true
+  pub allowed : refusal_of s m ≡ None

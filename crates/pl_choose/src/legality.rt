@@ -1,0 +1,65 @@
+ghost use Rattle.std.specs.Prelude.{◌≡◌, ◌++◌, ◌∷◌, [], true, false, All, filter, IfOk, OnOk};
+ghost use Rattle.pl_world.specs.Moves.{is_proper};
+ghost use Rattle.pl_world.specs.Legal.{is_legal, legal_for};
+ghost use Rattle.pl_choose.specs.Found.{IsProper};
+
+use pl_board::Board;
+use pl_cand::candidates;
+use pl_conflict::Conflict;
+use pl_moves::legal;
+use pl_plan::RepairMove;
+use std::alloc::{AllocError, Global};
+
+fn is_legal(board: &Board, mv: &RepairMove) -> bool
+    requires unspoiled { board.now.spoiled ≡ false }
+    requires proper { is_proper board.now.state mv.now ≡ true }
+    ensures { result ≡ is_legal board.now.state mv.now }
+{
+    match legal(board, mv) {
+        Ok(()) => true,
+        Err(_) => false,
+    }
+}
+
+fn add_if_legal(board: &Board, mv: &RepairMove, all: &mut Vec<RepairMove>) -> Result<(), AllocError>
+    requires unspoiled { board.now.spoiled ≡ false }
+    requires proper { is_proper board.now.state mv.now ≡ true }
+    ensures { OnOk result (all.new.items ≡ all.old.items ++ filter (is_legal board.now.state) (mv.now ∷ [])) }
+{
+    if !is_legal(board, mv) {
+        return Ok(());
+    }
+    all.push(*mv)?;
+    Ok(())
+}
+
+// Those that nothing refuses.
+fn legal_among(
+    alloc: Global,
+    board: &Board,
+    tried: &[RepairMove],
+) -> Result<Vec<RepairMove>, AllocError>
+    requires unspoiled { board.now.spoiled ≡ false }
+    requires proper { All (IsProper board.now.state) tried.now }
+    ensures { IfOk result (λ all. all.items ≡ filter (is_legal board.now.state) tried.now) }
+{
+    let mut all = Vec::new(alloc);
+    for mv in tried {
+        add_if_legal(board, mv, &mut all)?;
+    }
+    Ok(all)
+}
+
+/// The legal candidates of a conflict, in their order.
+#[tactic(auto, unfolding(pl_world::specs::Legal::legal_for))]
+pub(crate) fn legal_moves(
+    alloc: Global,
+    board: &Board,
+    conflict: &Conflict,
+) -> Result<Vec<RepairMove>, AllocError>
+    requires { board.now.spoiled ≡ false }
+    ensures { IfOk result (λ all. all.items ≡ legal_for board.now.state conflict.now) }
+{
+    let tried = candidates(alloc, board, conflict)?;
+    legal_among(alloc, board, tried.as_slice())
+}

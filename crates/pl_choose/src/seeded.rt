@@ -1,0 +1,125 @@
+ghost use Rattle.std.specs.Prelude.{◌≡◌, ◌≤◌, true, false, IfOk, OnOk, OnErr};
+ghost use Rattle.rand_pcg.specs.Lcg.{started, increment_of};
+ghost use Rattle.rand_pcg.specs.Pcg.{multiplier_64};
+ghost use Rattle.pl_cand.specs.Proposals.{IsProposal};
+ghost use Rattle.pl_choose.specs.Picks.{word_of, after_word, is_random, draw_of, pick_by, random_pick, seeded_pick, seeded_after};
+
+use crate::draw::Draw;
+use crate::least::propose_least;
+use crate::picking::pick;
+use pl_board::Board;
+use pl_cand::{Chooser, Proposal};
+use rand_core::utils::NextWord;
+use rand_pcg::Lcg64Xsh32;
+use std::alloc::{AllocError, Global};
+use std::marker::Model;
+
+/// Chooses as [`crate::Least`] does, and for one word in eight by chance. Contracts see it as its generator.
+#[derive(Drop)]
+pub struct Seeded {
+    generator: Lcg64Xsh32,
+}
+
+impl Model for Seeded {
+    ghost use Rattle.rand_pcg.specs.Lcg.{Lcg};
+
+    ghost Value = { Lcg };
+
+    ghost view = { λ s. s.generator };
+}
+
+impl Seeded {
+    /// A chooser with the words of this seed.
+    pub fn new(seed: u64) -> Seeded
+        ensures { result ≡ started 64 multiplier_64 seed (increment_of 64 0) }
+    {
+        Seeded {
+            generator: Lcg64Xsh32::new(seed, 0),
+        }
+    }
+
+    // The next word.
+    #[tactic(auto, unfolding(crate::specs::Picks::word_of, crate::specs::Picks::after_word))]
+    fn word(&mut self) -> u32
+        ensures word { result ≡ word_of self.old }
+        ensures after { self.new ≡ after_word self.old }
+    {
+        self.generator.next_word()
+    }
+
+    // One word, or three.
+    #[tactic(auto, unfolding(crate::specs::Picks::draw_of, crate::specs::Picks::seeded_after))]
+    fn draw(&mut self) -> Draw
+        ensures draw { result ≡ draw_of self.old }
+        ensures after { self.new ≡ seeded_after self.old }
+    {
+        if !is_random(self.word()) {
+            return Draw::AsLeast;
+        }
+        let conflict = self.word();
+        let repair = self.word();
+        Draw::AtRandom { conflict, repair }
+    }
+}
+
+#[tactic(auto, unfolding(crate::specs::Picks::is_random))]
+fn is_random(word: u32) -> bool
+    ensures { result ≡ is_random word }
+{
+    word % 8 == 0
+}
+
+fn propose_at_random(
+    alloc: Global,
+    board: &mut Board,
+    conflict: u32,
+    repair: u32,
+) -> Result<Option<Proposal>, AllocError>
+    requires { board.old.spoiled ≡ false }
+    ensures picks { IfOk result (λ p. p ≡ random_pick board.old.state conflict repair) }
+    ensures same { OnOk result (board.new ≡ board.old) }
+    ensures err { OnErr result (board.new.spoiled ≡ true) }
+{
+    match pick(alloc, board, conflict, repair) {
+        Ok(proposal) => Ok(proposal),
+        Err(fault) => {
+            board.spoil();
+            Err(fault)
+        }
+    }
+}
+
+fn propose_by(alloc: Global, board: &mut Board, draw: Draw) -> Result<Option<Proposal>, AllocError>
+    requires unspoiled { board.old.spoiled ≡ false }
+    requires next_id { board.old.state.next_id ≤ 3999999000 }
+    ensures picks { IfOk result (λ p. p ≡ pick_by board.old.state draw) }
+    ensures same { OnOk result (board.new ≡ board.old) }
+    ensures err { OnErr result (board.new.spoiled ≡ true) }
+{
+    match draw {
+        Draw::AsLeast => propose_least(alloc, board),
+        Draw::AtRandom { conflict, repair } => propose_at_random(alloc, board, conflict, repair),
+    }
+}
+
+impl Chooser for Seeded {
+    ghost use Rattle.std.specs.Prelude.{◌≡◌};
+    ghost use Rattle.pl_choose.specs.Picks.{seeded_pick, seeded_after};
+
+    ghost picks = { λ before s p now. (p ≡ seeded_pick s before) × (now ≡ seeded_after before) };
+
+    /// The words are drawn before the plan is looked at, so they are drawn whatever the answer.
+    #[tactic(auto, unfolding(crate::specs::Picks::seeded_pick))]
+    fn propose(&mut self, alloc: Global, board: &mut Board) -> Result<Option<Proposal>, AllocError>
+        requires unspoiled { board.old.spoiled ≡ false }
+        requires next_id { board.old.state.next_id ≤ 3999999000 }
+        ensures picks { IfOk result (λ p. (p ≡ seeded_pick board.old.state self.old) × (self.new ≡ seeded_after self.old)) }
+        ensures legal { IfOk result (IsProposal board.old.state) }
+        ensures same { OnOk result (board.new ≡ board.old) }
+        ensures err { OnErr result (board.new.spoiled ≡ true) }
+        ensures drawn { self.new ≡ seeded_after self.old }
+    {
+        let draw = self.draw();
+        propose_by(alloc, board, draw)
+    }
+}
