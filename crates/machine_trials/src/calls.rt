@@ -1,15 +1,15 @@
 //! Scripts of calls of the machine, each with its reply.
 ghost use Rattle.std.specs.Prelude.{◌≡◌, ◌==◌};
 ghost use Rattle.std.specs.List.{list_any};
-ghost use Rattle.pl_machine.specs.Legal.{AreOptions};
+ghost use Rattle.pl_entry.specs.Bounds.{AreOptions};
 
 use crate::reading::{model, number, word};
+use pl_choose::Least;
 use pl_conflict::{Code, Conflict};
-use pl_lists::{Copied, Items};
-use pl_machine::{
-    Activity, Choice, Entry, Goal, Machine, Options, Reason, RepairMove, Reply, Stop,
-    is_begin_line, line_tokens,
-};
+use pl_entry::{Entry, Reason, Reply};
+use pl_facts::Options;
+use pl_machine::{Choice, Machine, Stop, is_begin_line};
+use pl_plan::RepairMove;
 use std::alloc::{AllocError, Global};
 use std::process::Abort;
 use std::sync::Arc;
@@ -91,6 +91,8 @@ fn reply_word(reply: &Result<Reply, Stop>) -> &'static str {
         Ok(Reply::Done) => "ok",
         Ok(Reply::Ended) => "end",
         Ok(Reply::BadLine) => "bad-line",
+        Ok(Reply::TickBack) => "tick-back",
+        Ok(Reply::TooManyGoals) => "too-many-goals",
         Ok(Reply::Stale) => "stale",
         Ok(Reply::NotFor) => "not-for",
         Ok(Reply::Full) => "full",
@@ -166,7 +168,7 @@ fn plays_scripts(rt: HostRuntime) -> Result<(), AllocError> {
     let stuck = "close = ok\ngoal 2 obs 40 50 must = ok\nadd-for-1 10 = stale
 add-for-2 39 = not-for\nadd-for-2 40 = full\nrest = stuck";
     play_on(&rt, alloc, FULL_PLAN, stuck)?;
-    let refused = "close = ok\ngoal 2 obs 40 50 must = bad-line";
+    let refused = "close = ok\ngoal 2 obs 40 50 must = too-many-goals";
     play_on(&rt, alloc, ONE_GOAL, refused)?;
     Ok(())
 }
@@ -219,7 +221,7 @@ dispatch = not now
 close = not now
 commit 40 = ok
 close = ok
-tick 10 = bad-line
+tick 10 = tick-back
 rest = clear
 close = ok
 end = end
@@ -246,65 +248,28 @@ fn picks_and_chooses(rt: HostRuntime) -> Result<(), Stop> {
     let alloc = rt.alloc();
     let mut machine = fresh(&rt, alloc, BOUNDS)?;
     assert!(rt; !machine.spoiled());
-    assert!(rt; machine.exec_choice().is_none() && machine.first_pick(alloc)?.is_none());
+    assert!(rt; machine.exec_choice().is_none() && machine.propose(&mut Least)?.is_none());
     tell(&rt, &mut machine, b"goal 1 obs 10 20 must")?;
     assert!(rt; !machine.spoiled());
     assert_eq!(rt; machine.exec_choice(), Some(Choice::Commit(30)));
-    assert_eq!(rt;
-        machine.first_pick(alloc)?,
-        Some((
-            open_goal(1, 10, 20),
-            RepairMove::Add {
-                kind: 0,
-                start: 10,
-                goal: Some(1)
-            }
-        ))
-    );
-    assert_eq!(rt; machine.reason(alloc)?, None);
-    Ok(())
-}
-
-#[test]
-fn reads_and_copies(rt: HostRuntime) -> Result<(), AllocError> {
-    let alloc = rt.alloc();
-    assert!(rt; is_begin_line(alloc, b" begin # now")? && !is_begin_line(alloc, b"begin begin")?);
-    assert_eq!(rt;
-        line_tokens(alloc, b"tick 3")?.map(|tokens| tokens.len()),
-        Some(2)
-    );
-    assert!(rt; line_tokens(alloc, b"tick $")?.is_none());
-    Ok(())
-}
-
-#[test]
-fn copies_goals_and_activities(rt: HostRuntime) -> Result<(), AllocError> {
-    let alloc = rt.alloc();
-    let mut presets = Items::new(alloc);
-    presets.push(Some(7))?;
-    let goal = Goal {
-        number: 1,
-        kind: 0,
-        earliest: 10,
-        latest: 20,
-        must: true,
-        presets,
-        dropped: false,
+    let Some(proposal) = machine.propose(&mut Least)? else {
+        panic!(rt; "nothing is proposed");
     };
-    let copy = goal.copy(alloc)?;
-    assert_eq!(rt; (copy.number, copy.latest, copy.must), (1, 20, true));
-    assert_eq!(rt; copy.presets.as_slice(), [Some(7)].as_slice());
-    let activity = Activity {
-        id: 3,
+    let add = RepairMove::Add {
         kind: 0,
         start: 10,
-        parent: Some((1, 2)),
         goal: Some(1),
-        detail: None,
-        set: copy.presets,
     };
-    let copy = activity.copy(alloc)?;
-    assert_eq!(rt; (copy.id, copy.start, copy.parent), (3, 10, Some((1, 2))));
-    assert_eq!(rt; copy.set.as_slice(), [Some(7)].as_slice());
+    assert_eq!(rt;
+        (proposal.conflict, proposal.mv),
+        (open_goal(1, 10, 20), add)
+    );
+    Ok(())
+}
+
+#[test]
+fn tells_begin_lines(rt: HostRuntime) -> Result<(), AllocError> {
+    let alloc = rt.alloc();
+    assert!(rt; is_begin_line(alloc, b" begin # now")? && !is_begin_line(alloc, b"begin begin")?);
     Ok(())
 }

@@ -2,9 +2,11 @@
 use crate::reading::{number, word};
 use pl_accept::{Accepted, accept};
 use pl_conflict::{Code, Conflict};
-use pl_journal::render;
+use pl_entry::{Entry, Event, Reason, Reply};
+use pl_facts::Options;
 use pl_lists::Items;
-use pl_machine::{Entry, Event, Options, Reason, RepairMove, Reply};
+use pl_plan::RepairMove;
+use pl_render::render;
 use std::alloc::{AllocError, Global};
 
 const KINDS: [(&str, &[&str]); 3] = [

@@ -1,22 +1,18 @@
 //! What the tests read of their tables' texts.
 ghost use Rattle.std.specs.Prelude.{IfOk};
-ghost use Rattle.pl_machine.specs.Plain.{IsPlain};
+ghost use Rattle.pl_model.specs.Checked.{IsChecked};
 
 use pl_accept::{Accepted, accept};
 use pl_model::Model;
-use pl_plain::is_runnable;
 use std::alloc::{AllocError, Global};
 use std::process::Abort;
 
-/// The model of a text, as a run's.
+/// The model of a text.
 pub fn model(rt: &impl Abort, alloc: Global, text: &str) -> Result<Model, AllocError>
-    ensures { IfOk result IsPlain }
+    ensures { IfOk result IsChecked }
 {
     match accept(alloc, text.as_bytes())? {
-        Accepted::Model(model) => {
-            assert!(rt; is_runnable(&model), "{text}");
-            Ok(model)
-        }
+        Accepted::Model(model) => Ok(model),
         Accepted::Refused(_) => panic!(rt; "no model: {text}"),
     }
 }

@@ -112,14 +112,6 @@ fn refuses_texts(rt: HostRuntime) -> Result<(), AllocError> {
             "horizon 9\nlead 3\nkind a { duration 0 }\nbegin\n",
             "model: out of range: duration\n",
         ),
-        (
-            "horizon 9\nlead 3\ncapacity c 5\nkind a { duration 5 }\nbegin\n",
-            "model: not built\n",
-        ),
-        (
-            "horizon 9\nlead 3\nkind a { duration 2 + 3 }\nbegin\n",
-            "model: not built\n",
-        ),
     ];
     for (input, text) in table {
         let as_wanted = ends(rt.alloc(), NONE, input.as_bytes(), 3, text.as_bytes())?;
@@ -192,6 +184,199 @@ fn plays_messages(rt: HostRuntime) -> Result<(), AllocError> {
         let as_wanted = plays(rt.alloc(), NONE, messages, 0, text)?;
         assert!(rt; as_wanted);
     }
+    Ok(())
+}
+
+const LEAD: &str = "horizon 100 lead 5 kind obs { duration 5 }
+";
+
+const TOO_BIG: &str = "horizon 100 lead 30 capacity cam 5 kind big { duration 5 use cam 6 }
+";
+
+const LOW: &str = "horizon 100 lead 30 level bat 3 9 5
+";
+
+const SCAN: &str = "horizon 100 lead 30 kind shot { duration 5 }
+kind scan { duration 10 alternative { slot a shot slot b shot order a end b start 0 3 } }
+";
+
+/// Whether a run of so many turns over a model and messages writes these lines behind the open entry's.
+fn plans(
+    alloc: Global,
+    turns: &str,
+    model: &str,
+    messages: &str,
+    text: &str,
+) -> Result<bool, AllocError> {
+    let mut input = joined(alloc, model, b"begin\n")?;
+    input.extend_from_slice(messages.as_bytes())?;
+    let mut wanted = joined(alloc, "0 open turns ", turns.as_bytes())?;
+    wanted.extend_from_slice(b" live 10000 goals 20000 entries 250000\n")?;
+    wanted.extend_from_slice(text.as_bytes())?;
+    let words = ["run", "solo", turns];
+    does(
+        alloc,
+        words.as_slice(),
+        NONE,
+        input.as_slice(),
+        0,
+        wanted.as_slice(),
+    )
+}
+
+#[test]
+fn repairs_what_comes_late(rt: HostRuntime) -> Result<(), AllocError> {
+    let messages = "goal 1 obs 10 20 must
+tick 10
+end
+";
+    let text = "1 in ok : goal 1 obs 10 20 must
+2 fix 20 open-goal 1 0 10 20 by add obs 10 goal 1 : ok
+3 rest clear
+4 commit 5 : ok
+5 close
+6 in ok : tick 10
+7 fix 10 late 1 0 0 0 by shift 1 11 : ok
+8 rest clear
+9 commit 15 : ok
+10 close
+11 in end : end
+";
+    assert!(rt; plans(rt.alloc(), "8", LEAD, messages, text)?);
+    Ok(())
+}
+
+#[test]
+fn gives_up_what_cannot_be(rt: HostRuntime) -> Result<(), AllocError> {
+    let alloc = rt.alloc();
+    let dropped = "1 in ok : goal 1 big 10 20 may
+2 fix 20 open-goal 1 0 10 20 by drop 1 : ok
+3 rest clear
+4 commit 30 : ok
+5 close
+6 in eof
+";
+    assert!(rt; plans(alloc, "8", TOO_BIG, "goal 1 big 10 20 may", dropped)?);
+    let spent = "1 in ok : goal 1 big 10 20 must
+2 fix 20 open-goal 1 0 10 20 by add big 10 goal 1 : ok
+3 rest spent
+4 commit 10 : ok
+5 close
+6 in eof
+";
+    assert!(rt; plans(alloc, "1", TOO_BIG, "goal 1 big 10 20 must", spent)?);
+    let stuck = "1 in ok : tele bat 2
+2 rest stuck
+3 close
+4 in eof
+";
+    assert!(rt; plans(alloc, "8", LOW, "tele bat 2", stuck)?);
+    Ok(())
+}
+
+#[test]
+fn details_a_scan(rt: HostRuntime) -> Result<(), AllocError> {
+    let messages = "goal 1 scan 10 20 must
+tick 5
+end
+";
+    let text = "1 in ok : goal 1 scan 10 20 must
+2 fix 20 open-goal 1 0 10 20 by add scan 10 goal 1 : ok
+3 rest spent
+4 commit 10 : ok
+5 close
+6 in ok : tick 5
+7 fix 10 undetailed 1 0 0 0 by detail 1 0 : ok
+8 rest clear
+9 commit 35 : ok
+10 close
+11 in end : end
+";
+    assert!(rt; plans(rt.alloc(), "1", SCAN, messages, text)?);
+    Ok(())
+}
+
+#[test]
+fn refuses_messages(rt: HostRuntime) -> Result<(), AllocError> {
+    let messages = b"tick 5
+tick 5
+goal 1 obs 40 50 must
+goal 1 obs 40 50 must
+goal 2 obs 10 20 must
+fly home
+end
+";
+    let text = b"1 in ok : tick 5
+2 rest clear
+3 commit 35 : ok
+4 close
+5 in tick-back : tick 5
+6 rest clear
+7 close
+8 in ok : goal 1 obs 40 50 must
+9 fix 50 open-goal 1 0 40 50 by add obs 40 goal 1 : ok
+10 rest clear
+11 close
+12 in duplicate-goal : goal 1 obs 40 50 must
+13 rest clear
+14 close
+15 in too-late : goal 2 obs 10 20 must
+16 rest clear
+17 close
+18 in bad-line : fly home
+19 rest clear
+20 close
+21 in end : end
+";
+    assert!(rt; plays(rt.alloc(), NONE, messages, 0, text)?);
+    Ok(())
+}
+
+const CAMERA: &str = "horizon 2000
+lead 120
+capacity antenna 1
+level memory 0 64 0
+state camera { off warm on } start off step off warm step warm on step on off
+kind warm_up { duration 10 set camera warm at start set camera on at end }
+kind image { param frames 1 16 default 4 duration frames * 5 raise memory frames * 2 at end must camera on link start warm_up end -60 0 }
+kind downlink { duration 30 use antenna 1 lower memory 8 at end }
+";
+
+#[test]
+fn plans_a_camera(rt: HostRuntime) -> Result<(), AllocError> {
+    let messages = "goal 7 image 200 260 must frames=8
+tick 100
+tick 130
+tele memory 20
+tick 200
+end
+";
+    let text = "1 in ok : goal 7 image 200 260 must frames=8
+2 fix 260 open-goal 7 0 200 260 by add image 200 goal 7 : ok
+3 fix 200 temporal 1 0 0 0 by add warm_up 130 : ok
+4 rest clear
+5 commit 120 : ok
+6 close
+7 in ok : tick 100
+8 rest clear
+9 commit 220 : ok
+10 close
+11 in ok : tick 130
+12 rest clear
+13 dispatch 2 warm_up 130
+14 commit 250 : ok
+15 close
+16 in ok : tele memory 20
+17 rest clear
+18 close
+19 in ok : tick 200
+20 rest clear
+21 dispatch 1 image 200 frames=8
+22 commit 320 : ok
+23 close
+24 in end : end
+";
+    assert!(rt; plans(rt.alloc(), "16", CAMERA, messages, text)?);
     Ok(())
 }
 

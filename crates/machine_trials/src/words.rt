@@ -1,7 +1,5 @@
-use pl_accept::{Accepted, accept};
-use pl_plain::{Command, Task, is_runnable, read_words};
-use std::alloc::{AllocError, Global};
-use std::process::Abort;
+use pl_main::{Command, Task, read_words};
+use std::alloc::AllocError;
 
 /// What the words ask for: the turns of a run, 0 for a check, nothing where they are no command.
 fn turns_of(words: &[String]) -> Option<u32> {
@@ -39,43 +37,5 @@ fn reads_words(rt: HostRuntime) -> Result<(), AllocError> {
         assert_eq!(rt; turns_of(words.as_slice()), wanted.parse().ok(), "{line}");
     }
     assert_eq!(rt; turns_of(&[]), None);
-    Ok(())
-}
-
-/// Whether the model of the text, with this horizon and lead in place of its own, can be run.
-fn is_run(
-    rt: &impl Abort,
-    alloc: Global,
-    text: &str,
-    horizon: u32,
-    lead: u32,
-) -> Result<bool, AllocError> {
-    match accept(alloc, text.as_bytes())? {
-        Accepted::Model(mut model) => {
-            model.horizon = horizon;
-            model.lead = lead;
-            Ok(is_runnable(&model))
-        }
-        Accepted::Refused(_) => panic!(rt; "no model: {text}"),
-    }
-}
-
-#[test]
-fn runs_plain_models(rt: HostRuntime) -> Result<(), AllocError> {
-    let plain = "horizon 9 lead 9 kind obs { duration 5 }";
-    let sum = "horizon 9 lead 9 kind obs { duration 2 + 3 }";
-    let lined = "horizon 9 lead 9 capacity cam 5 kind obs { duration 5 }";
-    let table = [
-        (plain, 2, 1, true),
-        (plain, 10_000_000, 10_000_000, true),
-        (plain, 1, 1, false),
-        (plain, 9, 10, false),
-        (sum, 9, 9, false),
-        (lined, 9, 9, false),
-    ];
-    for (text, horizon, lead, wanted) in table {
-        let runs = is_run(&rt, rt.alloc(), text, horizon, lead)?;
-        assert_eq!(rt; runs, wanted, "{text}");
-    }
     Ok(())
 }

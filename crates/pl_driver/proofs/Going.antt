@@ -1,44 +1,180 @@
 -- A round goes on by one entry.
-use Rattle.std.proofs.Common.{◌≡◌, ℕ, List, [], ◌∷◌, ◌++◌, length, Bool, true, false, Option, Some, None, refl, sym, ◌∙◌, ap, subst, append_assoc}
+use Rattle.std.proofs.Common.{◌≡◌, ℕ, ◌<◌, ◌≤◌, List, [], ◌∷◌, ◌++◌, length, Bool, true, false, not, ◌&&◌, Option, Some, None, Ok, Err, Result, refl, sym, ◌∙◌, ap, subst, append_assoc, arith}
+use Rattle.std.specs.Prelude.{is_some, nat_lt, ◌==◌}
+use Rattle.std.proofs.lemmas.Bool.{lt-ltb}
 use Rattle.std.proofs.lemmas.List.{append-nil}
 use Rattle.std.proofs.lemmas.List.Elements.{filter_map-append}
-use Rattle.std.specs.List.{filter_map}
-use Rattle.pl_machine.specs.declared.event.Event.{Event}
-use Rattle.pl_machine.specs.declared.event.Event.TheVariants as event
-use Rattle.pl_machine.specs.declared.event.Entry.{Entry}
-use Rattle.pl_machine.specs.World.{World}
-use Rattle.pl_machine.specs.Step.{after}
+use Rattle.pl_conflict.specs.declared.conflict.Conflict.{Conflict}
+use Rattle.pl_plan.specs.declared.repair.RepairMove.{RepairMove}
+use Rattle.pl_entry.specs.declared.event.Event.{Event}
+use Rattle.pl_entry.specs.declared.event.Event.TheVariants as event
+use Rattle.pl_entry.specs.declared.reply.Reply.{Reply}
+use Rattle.pl_entry.specs.declared.reply.Reply.TheVariants as reply
+use Rattle.pl_entry.specs.declared.reply.Reason.{Reason}
+use Rattle.pl_entry.specs.declared.entry.Entry.{Entry}
+use Rattle.pl_world.specs.Conflicts.{conflicts_of}
+use Rattle.pl_world.specs.Legal.{is_stuck}
+use Rattle.pl_machine.specs.declared.choice.Choice.{Choice}
+use Rattle.pl_machine.specs.declared.choice.Choice.TheVariants as choice
+use Rattle.pl_machine.specs.declared.stop.Stop.{Stop}
+use Rattle.pl_machine.specs.declared.stop.Stop.TheVariants as stop
+use Rattle.pl_machine.specs.World.{World, reason_by, reason_of}
+use Rattle.pl_machine.specs.Step.{is_enabled, reply_of, after_fix, after_commit, after_dispatch, after}
+use Rattle.pl_machine.specs.Choices.{exec_choice_of, event_of}
 use Rattle.pl_machine.specs.Legal.{world_from}
-use Rattle.pl_machine.specs.Solo.{solo_event, IsSoloEvent, solo_from}
+use Rattle.pl_machine.specs.Solo.{Picks, IsSoloEvent, solo_from}
 use Rattle.pl_machine.specs.Finished.{inputs_of, input_in}
 use Rattle.pl_machine.specs.Sound.{State}
+use Rattle.pl_machine.specs.Taking.{IsOpen, Takes, Spoils, Answers}
 use Rattle.pl_machine.proofs.Runs.{world_from_push}
-use Rattle.pl_driver.specs.Rounds.{SameRun, Goes, Ran, RanTo, Waits}
+use Rattle.pl_driver.specs.Rounds.{SameRun, Goes, Ran, RanTo, Waits, Executes, Stepped}
 
-is_solo : (w : World) (e : Event) → solo_event w ≡ Some e → IsSoloEvent w e
-is_solo w (event.Opened o) fixed = fixed
-is_solo w (event.Input line) fixed = tt
-is_solo w (event.Fix k m) fixed = fixed
-is_solo w event.Rest fixed = fixed
-is_solo w (event.Commit h) fixed = fixed
-is_solo w event.Dispatch fixed = fixed
-is_solo w event.Close fixed = fixed
+-- ---- tests
 
-solo_from_push : (w : World) (es : List Entry) (e : Entry) → solo_from w es → IsSoloEvent (world_from w es) e.event → solo_from w (es ++ e ∷ [])
-solo_from_push w [] e solo here = (here, tt)
-solo_from_push w (x ∷ es) e solo here = (solo.0, solo_from_push (after w x.event) es e solo.1 here)
+both : (a b : Bool) → (a && b) ≡ true → (a ≡ true) × (b ≡ true)
+both true b e = (refl, e)
+both false b e = absurd (cc)
+
+none_of : {X : Type 0} (o : Option X) → is_some o ≡ false → o ≡ None
+none_of None e = refl
+none_of (Some x) e = absurd (cc)
+
+-- ---- where repair goes on
+
+-- a rest that is not enabled in an open round has no reason
+pub no_reason : (w : World) → w.closed ≡ false → w.rested ≡ false → is_enabled w event.Rest ≡ false → reason_of w ≡ None
+no_reason w open_ going e = none_of (reason_of w) (let h : (not w.closed && (not w.rested && is_some (reason_of w))) ≡ false = e in rw (open_, going) at h)
+
+by_reason : (ks : List Conflict) (spent stuck : Bool) → reason_by ks spent stuck ≡ None → (spent ≡ false) × (stuck ≡ false)
+by_reason [] spent stuck e = absurd (cc)
+by_reason (k ∷ ks) true stuck e = absurd (cc)
+by_reason (k ∷ ks) false true e = absurd (cc)
+by_reason (k ∷ ks) false false e = (refl, refl)
+
+-- without a reason to rest some conflict has a legal candidate, and turns are left
+pub not_stuck : (w : World) → reason_of w ≡ None → is_stuck w.state ≡ false
+not_stuck w e = (by_reason (conflicts_of w.state) (w.turn == w.options.turns) (is_stuck w.state) e).1
+
+turns_left : (w : World) → reason_of w ≡ None → w.turn ≤ w.options.turns → nat_lt w.turn w.options.turns ≡ true
+turns_left w e most =
+    let other : (w.turn == w.options.turns) ≡ false = (by_reason (conflicts_of w.state) (w.turn == w.options.turns) (is_stuck w.state) e).0 in
+    lt-ltb w.turn w.options.turns (grind (arith, other, most))
+
+pub fix_enabled : (w : World) (k : Conflict) (m : RepairMove) → w.closed ≡ false → w.rested ≡ false → reason_of w ≡ None → w.turn ≤ w.options.turns → is_enabled w (event.Fix k m) ≡ true
+fix_enabled w k m open_ going e most = rw (open_, going) (turns_left w e most)
+
+-- ---- one entry
+
+fix_done : (w : World) (m : RepairMove) (r : Reply) → (after_fix w m r).done ≡ w.done
+fix_done w m reply.Done = refl
+fix_done w m _ = refl
+
+commit_done : (w : World) (h : ℕ) (r : Reply) → (after_commit w h r).done ≡ w.done
+commit_done w h reply.Done = refl
+commit_done w h (reply.Held k) = refl
+commit_done w h _ = refl
+
+dispatch_done : (w : World) (r : Reply) → (after_dispatch w r).done ≡ w.done
+dispatch_done w (reply.Sent id kind start values) = refl
+dispatch_done w _ = refl
+
+-- only an input ends a run
+still_going : (w : World) (e : Event) → input_in e ≡ None → (after w e).done ≡ w.done
+still_going w (event.Opened o) none = refl
+still_going w (event.Input line) none = absurd (cc)
+still_going w (event.Fix k m) none = fix_done w m (reply_of w (event.Fix k m))
+still_going w event.Rest none = refl
+still_going w (event.Commit h) none = commit_done w h (reply_of w (event.Commit h))
+still_going w event.Dispatch none = dispatch_done w (reply_of w event.Dispatch)
+still_going w event.Close none = refl
+
+takes_goes : {C : Type 0} (picks : Picks C) (old new : State) (c c2 : C) (e : Event) (r : Reply) → Answers old e (Ok r) new → input_in e ≡ None → IsSoloEvent picks old.world c e c2 → Goes picks old c new c2
+takes_goes picks old new c c2 e r takes none solo = record {
+  entry = record { event = e; reply = r };
+  log = takes.1.log;
+  world = takes.1.step.leaves;
+  unspoiled = takes.1.spoiled;
+  solo = solo;
+  input = none;
+  same = record { model = takes.1.model; options = takes.1.options };
+  done = ap (λ (w : World). w.done) takes.1.step.leaves ∙ still_going old.world e none;
+  room = takes.0.room;
+}
+
+pub spoils_waits : (old new : State) → Spoils old new → Waits old new
+spoils_waits old new spoils = record { log = spoils.log; same = record { model = spoils.model; options = ap (λ (w : World). w.options) spoils.world } }
+
+-- ---- what is answered to an event that is enabled
+
+pub stopped : {C : Type 0} (picks : Picks C) (old new : State) (c c2 : C) (e : Event) (s : Stop) → is_enabled old.world e ≡ true → Answers old e (Err s) new → c2 ≡ c → Stepped picks old c (Err s) new c2
+stopped picks old new c c2 e stop.NotNow on answers same = absurd (let h : true ≡ false = sym on ∙ answers.1 in (cc))
+stopped picks old new c c2 e stop.LogFull on answers same = (answers.0, answers.2, answers.3, same)
+stopped picks old new c c2 e stop.Spoiled on answers same = (answers.0, answers.1, same)
+stopped picks old new c c2 e stop.Memory on answers same = spoils_waits old new answers.1
+
+-- the same where there is room, whatever the chooser has drawn
+full_or_not : {C : Type 0} (picks : Picks C) (old new : State) (c c2 : C) (e : Event) (s : Stop) → is_enabled old.world e ≡ true → old.spoiled ≡ false → length old.log < old.world.options.entries
+    → Answers old e (Err s) new → Stepped picks old c (Err s) new c2
+full_or_not picks old new c c2 e stop.NotNow on unspoiled room answers = absurd (let h : true ≡ false = sym on ∙ answers.1 in (cc))
+full_or_not picks old new c c2 e stop.LogFull on unspoiled room answers = absurd (let full = answers.2 in omega (arith, room, full))
+full_or_not picks old new c c2 e stop.Spoiled on unspoiled room answers = absurd (let h : true ≡ false = sym answers.0 ∙ unspoiled in (cc))
+full_or_not picks old new c c2 e stop.Memory on unspoiled room answers = spoils_waits old new answers.1
+
+-- a repair
+pub fix_goes : {C : Type 0} (picks : Picks C) (old mid new : State) (c c2 : C) (k : Conflict) (m : RepairMove) (r : Reply) → old.world.rested ≡ false → reason_of old.world ≡ None
+    → picks c old.world.state (Some (record { conflict = k; mv = m })) c2 → mid ≡ old → Answers mid (event.Fix k m) (Ok r) new → Goes picks old c new c2
+fix_goes picks old mid new c c2 k m r going reason picked same answers =
+    takes_goes picks old new c c2 (event.Fix k m) r (subst (λ (s : State). Answers s (event.Fix k m) (Ok r) new) same answers) refl (going, reason, picked)
+
+pub fix_stops : {C : Type 0} (picks : Picks C) (old mid new : State) (c c2 : C) (k : Conflict) (m : RepairMove) (s : Stop) → old.spoiled ≡ false → old.world.closed ≡ false → old.world.rested ≡ false → reason_of old.world ≡ None
+    → length old.log < old.world.options.entries → old.world.turn ≤ old.world.options.turns → mid ≡ old → Answers mid (event.Fix k m) (Err s) new → Stepped picks old c (Err s) new c2
+fix_stops picks old mid new c c2 k m s unspoiled open_ going reason room most same answers =
+    full_or_not picks old new c c2 (event.Fix k m) s (fix_enabled old.world k m open_ going reason most) unspoiled room (subst (λ (t : State). Answers t (event.Fix k m) (Err s) new) same answers)
+
+-- a rest
+pub rest_goes : {C : Type 0} (picks : Picks C) (old new : State) (c c2 : C) (r : Reply) → old.world.closed ≡ false → old.world.rested ≡ false → Answers old event.Rest (Ok r) new → c2 ≡ c → Goes picks old c new c2
+rest_goes picks old new c c2 r open_ going answers same =
+    let on : (not old.world.closed && (not old.world.rested && is_some (reason_of old.world))) ≡ true = answers.0.enabled in
+    let some : is_some (reason_of old.world) ≡ true = (both (not old.world.rested) (is_some (reason_of old.world)) (both (not old.world.closed) _ on).1).1 in
+    takes_goes picks old new c c2 event.Rest r answers refl (going, some, same)
+
+pub rest_stops : {C : Type 0} (picks : Picks C) (old new : State) (c c2 : C) (s : Stop) → old.spoiled ≡ false → length old.log < old.world.options.entries → (s ≡ stop.NotNow → ⊥) → Answers old event.Rest (Err s) new → Stepped picks old c (Err s) new c2
+rest_stops picks old new c c2 stop.NotNow unspoiled room other answers = absurd (other refl)
+rest_stops picks old new c c2 stop.LogFull unspoiled room other answers = absurd (let full = answers.2 in omega (arith, room, full))
+rest_stops picks old new c c2 stop.Spoiled unspoiled room other answers = absurd (let h : true ≡ false = sym answers.0 ∙ unspoiled in (cc))
+rest_stops picks old new c c2 stop.Memory unspoiled room other answers = spoils_waits old new answers.1
+
+-- what the executive chooses
+chosen_solo : {C : Type 0} (picks : Picks C) (w : World) (c c2 : C) (it : Choice) → w.rested ≡ true → exec_choice_of w ≡ Some it → c2 ≡ c → IsSoloEvent picks w c (event_of it) c2 × (input_in (event_of it) ≡ None)
+chosen_solo picks w c c2 choice.Dispatch rested chosen same = ((rested, chosen, same), refl)
+chosen_solo picks w c c2 (choice.Commit h) rested chosen same = ((rested, chosen, same), refl)
+chosen_solo picks w c c2 choice.Close rested chosen same = ((rested, chosen, same), refl)
+
+pub executes_goes : {C : Type 0} (picks : Picks C) (old new : State) (c c2 : C) (r : Reply) → old.world.rested ≡ true → Executes old (Ok r) new → c2 ≡ c → Goes picks old c new c2
+executes_goes picks old new c c2 r rested does same =
+    let solo = chosen_solo picks old.world c c2 does.choice rested does.chosen same in
+    takes_goes picks old new c c2 (event_of does.choice) r does.answers solo.1 solo.0
+
+pub executes_stops : {C : Type 0} (picks : Picks C) (old new : State) (c c2 : C) (s : Stop) → Executes old (Err s) new → c2 ≡ c → Stepped picks old c (Err s) new c2
+executes_stops picks old new c c2 s does same = stopped picks old new c c2 (event_of does.choice) s does.enabled does.answers same
+
+-- ---- one more entry behind others
+
+solo_push : {C : Type 0} (picks : Picks C) (w : World) (c : C) (es : List Entry) (e : Entry) (c2 c3 : C) → solo_from picks w c es c2 → IsSoloEvent picks (world_from w es) c2 e.event c3 → solo_from picks w c (es ++ e ∷ []) c3
+solo_push picks w c [] e c2 c3 solo here = (c3, subst (λ d. IsSoloEvent picks w d e.event c3) solo here, refl)
+solo_push picks w c (x ∷ es) e c2 c3 solo here = (solo.0, solo.1, solo_push picks (after w x.event) solo.0 es e c2 c3 solo.2 here)
 
 input_none : (e : Entry) → input_in e.event ≡ None → inputs_of (e ∷ []) ≡ []
 input_none e none = rw none refl
 
-pub ran_on : (old mid new : State) → RanTo old mid → Goes mid new → RanTo old new
-ran_on old mid new ran goes =
+pub ran_on : {C : Type 0} (picks : Picks C) (old mid new : State) (c c2 c3 : C) → RanTo picks old c mid c2 → Goes picks mid c2 new c3 → RanTo picks old c new c3
+ran_on picks old mid new c c2 c3 ran goes =
     let es = ran.entries in
     let e = goes.entry in
     record {
       entries = es ++ e ∷ [];
       log = rw (goes.log, ran.log) (append_assoc old.log es (e ∷ []));
-      solo = solo_from_push old.world es e ran.solo (subst (λ (w : World). IsSoloEvent w e.event) ran.world (is_solo mid.world e.event goes.solo));
+      solo = solo_push picks old.world c es e c2 c3 ran.solo (subst (λ (w : World). IsSoloEvent picks w c2 e.event c3) ran.world goes.solo);
       inputs = filter_map-append (λ (x : Entry). input_in x.event) es (e ∷ []) ∙ (rw (ran.inputs) (input_none e goes.input));
       same = record { model = goes.same.model ∙ ran.same.model; options = goes.same.options ∙ ran.same.options };
       world = goes.world ∙ ap (λ (w : World). after w e.event) ran.world ∙ sym (world_from_push old.world es e);
@@ -46,11 +182,11 @@ ran_on old mid new ran goes =
       done = goes.done ∙ ran.done;
     }
 
-pub ran_none : (s : State) → s.spoiled ≡ false → RanTo s s
-ran_none s unspoiled = record {
+pub ran_none : {C : Type 0} (picks : Picks C) (s : State) (c : C) → s.spoiled ≡ false → RanTo picks s c s c
+ran_none picks s c unspoiled = record {
   entries = [];
   log = sym (append-nil s.log);
-  solo = tt;
+  solo = refl;
   inputs = refl;
   same = record { model = refl; options = refl };
   world = refl;
@@ -58,9 +194,10 @@ ran_none s unspoiled = record {
   done = refl;
 }
 
-pub ran_waits : (old mid new : State) → RanTo old mid → Waits mid new → Ran old new
-ran_waits old mid new ran waits = record {
+pub ran_waits : {C : Type 0} (picks : Picks C) (old mid new : State) (c c2 : C) → RanTo picks old c mid c2 → Waits mid new → Ran picks old c new
+ran_waits picks old mid new c c2 ran waits = record {
   entries = ran.entries;
+  chooser = c2;
   log = waits.log ∙ ran.log;
   solo = ran.solo;
   inputs = ran.inputs;

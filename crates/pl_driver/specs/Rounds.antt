@@ -1,45 +1,50 @@
 -- A round by one thread.
-use Rattle.std.specs.Prelude.{◌≡◌, ℕ, ◌≤◌, ◌<◌, List, [], ◌∷◌, ◌++◌, length, Bool, true, false, Option, Some, None, Result, Ok, Err}
-use Rattle.pl_machine.specs.declared.event.Event.{Event}
-use Rattle.pl_machine.specs.declared.event.Entry.{Entry}
+use Rattle.std.specs.Prelude.{◌≡◌, ◌≤◌, ◌<◌, List, [], ◌∷◌, ◌++◌, length, true, false, Some, None, Result, Ok, Err}
+use Rattle.pl_entry.specs.declared.entry.Entry.{Entry}
+use Rattle.pl_entry.specs.declared.reply.Reply.{Reply}
+use Rattle.pl_machine.specs.declared.choice.Choice.{Choice}
 use Rattle.pl_machine.specs.declared.stop.Stop.{Stop}
 use Rattle.pl_machine.specs.declared.stop.Stop.TheVariants as stop
-use Rattle.pl_machine.specs.Step.{after}
+use Rattle.pl_machine.specs.Step.{is_enabled, after}
 use Rattle.pl_machine.specs.Legal.{world_from}
-use Rattle.pl_machine.specs.Solo.{solo_event, solo_from}
+use Rattle.pl_machine.specs.Choices.{exec_choice_of, event_of}
+use Rattle.pl_machine.specs.Taking.{Answers}
+use Rattle.pl_machine.specs.Solo.{Picks, IsSoloEvent, solo_from}
 use Rattle.pl_machine.specs.Finished.{inputs_of, input_in}
 use Rattle.pl_machine.specs.Sound.{State}
 
 -- what no call changes
 pub record SameRun (old new : State) : Type 0 where
-  pub model : new.world.scene.model ≡ old.world.scene.model
+  pub model : new.model ≡ old.model
   pub options : new.world.options ≡ old.world.options
 
--- One more entry, whose event is the one that the world before it fixes, and no input.
-pub record Goes (old new : State) : Type 0 where
+-- One more entry, whose event is the one that the world before it and the chooser fix, and no input.
+pub record Goes {C : Type 0} (picks : Picks C) (old : State) (c : C) (new : State) (c2 : C) : Type 0 where
   pub entry : Entry
   pub log : new.log ≡ old.log ++ entry ∷ []
   pub world : new.world ≡ after old.world entry.event
   pub unspoiled : new.spoiled ≡ false
-  pub solo : solo_event old.world ≡ Some entry.event
+  pub solo : IsSoloEvent picks old.world c entry.event c2
   pub input : input_in entry.event ≡ None
   pub same : SameRun old new
   pub done : new.world.done ≡ old.world.done
   pub room : length old.log < old.world.options.entries
 
--- More entries: none of them an input, each with the event that the world before it fixes.
-pub record Ran (old new : State) : Type 0 where
+-- More entries: none of them an input, each with the event that the world before it and the chooser fix. What the chooser has
+-- drawn behind the last of them is not said.
+pub record Ran {C : Type 0} (picks : Picks C) (old : State) (c : C) (new : State) : Type 0 where
   pub entries : List Entry
+  pub chooser : C
   pub log : new.log ≡ old.log ++ entries
-  pub solo : solo_from old.world entries
+  pub solo : solo_from picks old.world c entries chooser
   pub inputs : inputs_of entries ≡ []
   pub same : SameRun old new
 
--- The same, and the machine stands for the world after them.
-pub record RanTo (old new : State) : Type 0 where
+-- The same, with the chooser after them, and the machine stands for the world after them.
+pub record RanTo {C : Type 0} (picks : Picks C) (old : State) (c : C) (new : State) (c2 : C) : Type 0 where
   pub entries : List Entry
   pub log : new.log ≡ old.log ++ entries
-  pub solo : solo_from old.world entries
+  pub solo : solo_from picks old.world c entries c2
   pub inputs : inputs_of entries ≡ []
   pub same : SameRun old new
   pub world : new.world ≡ world_from old.world entries
@@ -51,17 +56,31 @@ pub record Waits (old new : State) : Type 0 where
   pub log : new.log ≡ old.log
   pub same : SameRun old new
 
-abbrev pub Stepped : State → Result (Unit {0}) Stop → State → Type 0
-Stepped old (Ok u) new = Goes old new
-Stepped old (Err stop.NotNow) new = ⊥
-Stepped old (Err stop.LogFull) new = (old.spoiled ≡ false) × (old.world.options.entries ≤ length old.log) × (new ≡ old)
-Stepped old (Err stop.Spoiled) new = (old.spoiled ≡ true) × (new ≡ old)
-Stepped old (Err stop.Memory) new = Waits old new
+-- only want of memory stops a proposal
+abbrev pub Stops : State → Stop → State → Type 0
+Stops old stop.Memory new = Waits old new
+Stops old stop.NotNow new = ⊥
+Stops old stop.LogFull new = ⊥
+Stops old stop.Spoiled new = ⊥
 
--- what a round does, up to its close or until it stops
-abbrev pub Rounds : State → Result (Unit {0}) Stop → State → Type 0
-Rounds old (Ok u) new = RanTo old new × (new.world.closed ≡ true)
-Rounds old (Err stop.NotNow) new = ⊥
-Rounds old (Err stop.LogFull) new = RanTo old new × (new.world.closed ≡ false) × (old.world.options.entries ≤ length new.log)
-Rounds old (Err stop.Spoiled) new = (old.spoiled ≡ true) × (new ≡ old)
-Rounds old (Err stop.Memory) new = Ran old new
+-- The event that the executive chooses is asked for.
+pub record Executes (old : State) (answer : Result Reply Stop) (new : State) : Type 0 where
+  pub choice : Choice
+  pub chosen : exec_choice_of old.world ≡ Some choice
+  pub enabled : is_enabled old.world (event_of choice) ≡ true
+  pub answers : Answers old (event_of choice) answer new
+
+abbrev pub Stepped : {C : Type 0} → Picks C → State → C → Result (Unit {0}) Stop → State → C → Type 0
+Stepped picks old c (Ok u) new c2 = Goes picks old c new c2
+Stepped picks old c (Err stop.NotNow) new c2 = ⊥
+Stepped picks old c (Err stop.LogFull) new c2 = (old.spoiled ≡ false) × (old.world.options.entries ≤ length old.log) × (new ≡ old) × (c2 ≡ c)
+Stepped picks old c (Err stop.Spoiled) new c2 = (old.spoiled ≡ true) × (new ≡ old) × (c2 ≡ c)
+Stepped picks old c (Err stop.Memory) new c2 = Waits old new
+
+-- What a round does, up to its close or until it stops. Only where memory is wanting the chooser may have drawn more.
+abbrev pub Rounds : {C : Type 0} → Picks C → State → C → Result (Unit {0}) Stop → State → C → Type 0
+Rounds picks old c (Ok u) new c2 = RanTo picks old c new c2 × (new.world.closed ≡ true)
+Rounds picks old c (Err stop.NotNow) new c2 = ⊥
+Rounds picks old c (Err stop.LogFull) new c2 = RanTo picks old c new c2 × (new.world.closed ≡ false) × (old.world.options.entries ≤ length new.log)
+Rounds picks old c (Err stop.Spoiled) new c2 = (old.spoiled ≡ true) × (new ≡ old) × (c2 ≡ c)
+Rounds picks old c (Err stop.Memory) new c2 = Ran picks old c new

@@ -1,18 +1,17 @@
 -- An open round is not done: the input ends only between rounds.
 use Rattle.std.proofs.Common.{◌≡◌, ℕ, List, [], ◌∷◌, Bool, true, false, Option, Some, None, unwrap_or, refl, sym, ◌∙◌, subst}
 use Rattle.std.specs.Prelude.{not, ◌&&◌}
-use Rattle.pl_machine.specs.declared.options.Options.{Options}
-use Rattle.pl_machine.specs.declared.repair.RepairMove.{RepairMove}
-use Rattle.pl_machine.specs.declared.event.Event.{Event}
-use Rattle.pl_machine.specs.declared.event.Event.TheVariants as event
-use Rattle.pl_machine.specs.declared.event.Reply.{Reply}
-use Rattle.pl_machine.specs.declared.event.Reply.TheVariants as reply
-use Rattle.pl_machine.specs.declared.event.Entry.{Entry}
+use Rattle.pl_facts.specs.declared.options.Options.{Options}
+use Rattle.pl_plan.specs.declared.repair.RepairMove.{RepairMove}
+use Rattle.pl_entry.specs.declared.event.Event.{Event}
+use Rattle.pl_entry.specs.declared.event.Event.TheVariants as event
+use Rattle.pl_entry.specs.declared.reply.Reply.{Reply}
+use Rattle.pl_entry.specs.declared.reply.Reply.TheVariants as reply
+use Rattle.pl_entry.specs.declared.entry.Entry.{Entry}
 use Rattle.pl_model.specs.declared.whole.Model.{Model}
 use Rattle.pl_machine.specs.World.{World, fresh_world}
 use Rattle.pl_machine.specs.Step.{is_enabled, reply_of, after_input, after_fix, after_commit, after_dispatch, after}
-use Rattle.pl_conflict.specs.declared.conflict.Conflict.{Conflict}
-use Rattle.pl_machine.specs.Sound.{State, IsSound}
+use Rattle.pl_machine.specs.Sound.{IsSound}
 use Rattle.pl_machine.specs.Legal.{legal_from, world_from, options_in, IsOpenedRun, Legal, no_options, world_of, IsHistory}
 
 abbrev Goes : World → Type 0
@@ -72,10 +71,9 @@ unfolding world_of
 world_goes m [] legal = absurd legal
 world_goes m (first ∷ es) legal = opened_goes m (options_in first.event) first.reply es legal
 
-pub open_goes : (log : List Entry) (w : World) → IsHistory log w → w.closed ≡ false → w.done ≡ false
-open_goes log w history = subst Goes (sym history.world) (world_goes w.scene.model log history.legal)
+pub open_goes : (m : Model) (log : List Entry) (w : World) → IsHistory m log w → w.closed ≡ false → w.done ≡ false
+open_goes m log w history = subst Goes (sym history.world) (world_goes m log history.legal)
 
-pub sound_goes : {spoiled : Bool} {log : List Entry} {w : World} {kept : List Conflict} (s : State) → record { spoiled = spoiled; log = log; world = w } ≡ s → IsSound spoiled log w kept → s.spoiled ≡ false → s.world.closed ≡ false → s.world.done ≡ false
-sound_goes {spoiled} {log} {w} s is sound =
-    let P : State → Type 0 = λ (t : State). t.spoiled ≡ false → t.world.closed ≡ false → t.world.done ≡ false in
-    subst P is (λ unspoiled. open_goes log w (sound.stands unspoiled).history)
+-- also where memory was wanting: the plan state is no part of it
+pub sound_goes : {spoiled : Bool} {m : Model} {log : List Entry} {w : World} {due : List ℕ} {sent : ℕ} → IsSound spoiled m log w due sent → w.closed ≡ false → w.done ≡ false
+sound_goes {spoiled} {m} {log} {w} sound = subst Goes (sym sound.others) (world_goes m log sound.legal)

@@ -2,9 +2,9 @@
 use Rattle.std.specs.Prelude.{◌≡◌, ℕ, List, true, Option, Some, None}
 use Rattle.std.specs.List.{filter_map}
 use Rattle.pl_model.specs.declared.whole.Model.{Model}
-use Rattle.pl_machine.specs.declared.event.Event.{Event}
-use Rattle.pl_machine.specs.declared.event.Event.TheVariants as event
-use Rattle.pl_machine.specs.declared.event.Entry.{Entry}
+use Rattle.pl_entry.specs.declared.event.Event.{Event}
+use Rattle.pl_entry.specs.declared.event.Event.TheVariants as event
+use Rattle.pl_entry.specs.declared.entry.Entry.{Entry}
 use Rattle.pl_machine.specs.Legal.{Legal, world_of}
 use Rattle.pl_machine.specs.Lines.{split_of}
 

@@ -1,26 +1,11 @@
 -- Lines of the input, by their tokens.
-use Rattle.std.specs.Prelude.{ℕ, ◌-◌, List, [], ◌∷◌, ◌++◌, length, take, drop, Bool, true, false, not, ◌||◌, ◌&&◌, ◌==◌, nat_le, if◌then◌else◌, Option, Some, None, Result, Ok, codes}
+use Rattle.std.specs.Prelude.{ℕ, List, [], ◌∷◌, ◌++◌, Bool, true, false, not, ◌||◌, ◌==◌, if◌then◌else◌, Option, Some, None, Result, Ok, codes}
 use Rattle.std.specs.List.{list_all, take_while}
-use Rattle.std.specs.Str.{bytes_eq}
 use Rattle.pl_io.specs.Lines.{lines_of}
 use Rattle.pl_text.specs.declared.token.Token.{Token}
-use Rattle.pl_text.specs.declared.token.TokenKind.{TokenKind}
-use Rattle.pl_text.specs.declared.token.TokenKind.TheVariants as kind
 use Rattle.pl_text.specs.declared.fault.TextFault.{TextFault}
 use Rattle.pl_text.specs.Tokens.{tokens_of}
-
--- the bytes of a token, and none where it isn't within the line
-abbrev pub token_text : List ℕ → Token → List ℕ
-token_text line t = if nat_le t.from t.to && nat_le t.to (length line) then take (t.to - t.from) (drop t.from line) else []
-
-abbrev pub is_word : TokenKind → Bool
-is_word kind.Name = true
-is_word (kind.Number n) = false
-is_word (kind.Symbol b) = false
-
--- whether the token is this word
-abbrev pub says : List ℕ → Token → List ℕ → Bool
-says line t word = is_word t.kind && bytes_eq (token_text line t) word
+use Rattle.pl_msg.specs.Words.{says}
 
 abbrev pub is_only : List ℕ → List ℕ → Result (List Token) TextFault → Bool
 is_only word line (Ok (t ∷ [])) = says line t word

@@ -1,77 +1,74 @@
--- What a message says, its reply, and what it changes. So far every refused message is a bad line.
-use Rattle.std.specs.Prelude.{ℕ, List, [], ◌∷◌, ◌++◌, length, Bool, true, false, not, ◌&&◌, ◌==◌, nat_lt, nat_le, if◌then◌else◌, Option, Some, None, Result, Ok, Err, codes}
-use Rattle.std.specs.List.{list_any, position}
-use Rattle.std.specs.Str.{bytes_eq}
-use Rattle.pl_text.specs.declared.token.Token.{Token}
-use Rattle.pl_text.specs.declared.token.TokenKind.{TokenKind}
-use Rattle.pl_text.specs.declared.token.TokenKind.TheVariants as kind
-use Rattle.pl_text.specs.declared.fault.TextFault.{TextFault}
-use Rattle.pl_text.specs.Tokens.{tokens_of}
-use Rattle.pl_model.specs.declared.whole.Model.{Model}
-use Rattle.pl_machine.specs.declared.goal.Goal.{Goal}
-use Rattle.pl_machine.specs.declared.message.Message.{Message}
-use Rattle.pl_machine.specs.declared.message.Message.TheVariants as message
-use Rattle.pl_machine.specs.declared.event.Reply.{Reply}
-use Rattle.pl_machine.specs.declared.event.Reply.TheVariants as reply
-use Rattle.pl_machine.specs.Lines.{says, token_text, end_word}
-use Rattle.pl_machine.specs.Scene.{Scene, floor_of}
+-- What is answered to a message line, and what an accepted message makes of the plan state.
+use Rattle.std.specs.Prelude.{ℕ, pos, length, nat_lt, nat_le, if◌then◌else◌, List, Ok, Err}
+use Rattle.std.specs.List.{list_any}
+use Rattle.pl_facts.specs.declared.goal.Goal.{Goal}
+use Rattle.pl_facts.specs.Goals.{is_numbered}
+use Rattle.pl_msg.specs.declared.message.Message.{Message}
+use Rattle.pl_msg.specs.declared.message.Message.TheVariants as message
+use Rattle.pl_msg.specs.declared.fault.MsgFault.{MsgFault}
+use Rattle.pl_msg.specs.declared.fault.MsgFault.TheVariants as fault
+use Rattle.pl_msg.specs.Reads.{Read}
+use Rattle.pl_msg.specs.Messages.{message_of}
+use Rattle.pl_entry.specs.declared.reply.Reply.{Reply}
+use Rattle.pl_entry.specs.declared.reply.Reply.TheVariants as reply
+use Rattle.pl_world.specs.declared.plan_state.PlanState.{PlanState}
+use Rattle.pl_world.specs.PlanStates.{floor_of}
+use Rattle.pl_board.specs.Boards.{with_goal, told_now, moved_on}
 
-abbrev pub number_by : TokenKind → Option ℕ
-number_by kind.Name = None
-number_by (kind.Number n) = Some n
-number_by (kind.Symbol b) = None
+-- ---- replies
 
--- the number of the kind with this name
-abbrev pub kind_named : Model → List ℕ → Option ℕ
-kind_named m name = position (λ k. bytes_eq k.name name) m.kinds
+-- a goal whose number was accepted before, one that is to start below the floor, and one too many are refused, in this order
+abbrev pub goal_reply : PlanState → ℕ → Goal → Reply
+goal_reply s limit g =
+    if list_any (is_numbered g.number) s.goals then reply.DuplicateGoal
+    else if nat_lt g.latest (floor_of s) then reply.TooLate
+    else if nat_le limit (length s.goals) then reply.TooManyGoals
+    else reply.Done
 
--- a number from 1 to 1,000,000,000, and a window that ends below the horizon
-abbrev pub is_in_range : Model → ℕ → ℕ → ℕ → Bool
-is_in_range m number earliest latest = (nat_le 1 number && nat_le number 1000000000) && (nat_le earliest latest && nat_lt latest m.horizon)
+-- a moment up to the present, and one past the horizon are refused, in this order
+abbrev pub tick_reply : PlanState → ℕ → Reply
+tick_reply s moment =
+    if nat_le moment s.moment then reply.TickBack
+    else if nat_lt s.model.horizon moment then reply.TickBeyond
+    else reply.Done
 
-abbrev pub goal_by : Model → Option ℕ → Option ℕ → Option ℕ → Option ℕ → Option Message
-goal_by m (Some number) (Some kind) (Some earliest) (Some latest) =
-    if is_in_range m number earliest latest
-    then Some (message.Goal (record { number = number; kind = kind; earliest = earliest; latest = latest; must = true; presets = []; dropped = false }))
-    else None
-goal_by m _ _ _ _ = None
+abbrev pub message_reply : PlanState → ℕ → Message → Reply
+message_reply s limit (message.Goal g) = goal_reply s limit g
+message_reply s limit (message.TeleLevel line value) = reply.Done
+message_reply s limit (message.TeleState line state) = reply.Done
+message_reply s limit (message.Tick moment) = tick_reply s moment
+message_reply s limit message.End = reply.Ended
 
-abbrev pub tick_by : Option ℕ → Option Message
-tick_by (Some moment) = Some (message.Tick moment)
-tick_by None = None
+-- no line has the fault of wanting memory
+abbrev pub fault_reply : MsgFault → Reply
+fault_reply fault.BadLine = reply.BadLine
+fault_reply fault.UnknownName = reply.UnknownName
+fault_reply fault.Range = reply.Range
+fault_reply fault.Memory = reply.BadLine
 
-abbrev pub said_by : Model → List ℕ → List Token → Option Message
-said_by m line (t ∷ []) = if says line t end_word then Some message.End else None
-said_by m line (t ∷ moment ∷ []) = if says line t (codes "tick") then tick_by (number_by moment.kind) else None
-said_by m line (t ∷ number ∷ kind ∷ earliest ∷ latest ∷ must ∷ []) =
-    if says line t (codes "goal") && says line must (codes "must")
-    then goal_by m (number_by number.kind) (kind_named m (token_text line kind)) (number_by earliest.kind) (number_by latest.kind)
-    else None
-said_by m line _ = None
+-- to a line that was read; so many goals may be accepted
+abbrev pub read_reply : PlanState → ℕ → Read Message → Reply
+read_reply s limit (Ok m) = message_reply s limit m
+read_reply s limit (Err e) = fault_reply e
 
-abbrev pub said_in : Model → List ℕ → Result (List Token) TextFault → Option Message
-said_in m line (Ok tokens) = said_by m line tokens
-said_in m line (Err e) = None
+-- the reply to a line
+unfoldable pub line_reply : PlanState → ℕ → List ℕ → Reply
+line_reply s limit line = read_reply s limit (message_of s.model line)
 
--- the message of a line, where it is one: `goal NUMBER KIND EARLIEST LATEST must`, `tick MOMENT` or `end`
-unfoldable pub message_of : Model → List ℕ → Option Message
-message_of m line = said_in m line (tokens_of line)
+-- ---- the plan state after
 
--- ---- what the plan does with it
+-- a goal stands at the end of the goals, a base is told at the present, and the present moves on
+abbrev pub told : PlanState → Message → PlanState
+told s (message.Goal g) = with_goal g s
+told s (message.TeleLevel line value) = told_now line value s
+told s (message.TeleState line state) = told_now line (pos state) s
+told s (message.Tick moment) = moved_on moment s
+told s message.End = s
 
--- new, in time and not one too many
-abbrev pub is_accepted : Scene → ℕ → Goal → Bool
-is_accepted s limit g = not (list_any (λ h. h.number == g.number) s.goals) && (nat_le (floor_of s) g.latest && nat_lt (length s.goals) limit)
+abbrev pub told_by : PlanState → Read Message → PlanState
+told_by s (Ok m) = told s m
+told_by s (Err e) = s
 
-abbrev pub told_reply : Scene → ℕ → Option Message → Reply
-told_reply s limit None = reply.BadLine
-told_reply s limit (Some (message.Goal g)) = if is_accepted s limit g then reply.Done else reply.BadLine
-told_reply s limit (Some (message.Tick moment)) = if nat_lt s.moment moment && nat_le moment s.model.horizon then reply.Done else reply.BadLine
-told_reply s limit (Some message.End) = reply.Ended
-
--- the plan after a message that was accepted
-abbrev pub told_scene : Scene → Option Message → Scene
-told_scene s None = s
-told_scene s (Some (message.Goal g)) = record s { goals = s.goals ++ g ∷ [] }
-told_scene s (Some (message.Tick moment)) = record s { moment = moment }
-told_scene s (Some message.End) = s
+-- after a line that was accepted
+unfoldable pub told_line : PlanState → List ℕ → PlanState
+told_line s line = told_by s (message_of s.model line)

@@ -1,61 +1,36 @@
--- What one thread does in an open round: repair until there is reason to rest, then what the executive chooses.
-use Rattle.std.specs.Prelude.{◌≡◌, List, [], ◌∷◌, length, not, ◌&&◌, ◌||◌, nat_lt, if◌then◌else◌, Option, Some, None}
-use Rattle.std.specs.Option.{option_map}
+-- What one thread does in an open round: repair as a chooser proposes until there is reason to rest, then what the executive chooses.
+use Rattle.std.specs.Prelude.{◌≡◌, List, [], ◌∷◌, true, false, Option, Some, None, IsSome}
 use Rattle.pl_model.specs.declared.whole.Model.{Model}
-use Rattle.pl_conflict.specs.declared.conflict.Conflict.{Conflict}
-use Rattle.pl_machine.specs.declared.repair.RepairMove.{RepairMove}
-use Rattle.pl_machine.specs.declared.event.Event.{Event}
-use Rattle.pl_machine.specs.declared.event.Event.TheVariants as event
-use Rattle.pl_machine.specs.declared.event.Entry.{Entry}
-use Rattle.pl_machine.specs.declared.event.Reason.{Reason}
-use Rattle.pl_machine.specs.declared.choice.Choice.{Choice}
+use Rattle.pl_entry.specs.declared.event.Event.{Event}
+use Rattle.pl_entry.specs.declared.event.Event.TheVariants as event
+use Rattle.pl_entry.specs.declared.entry.Entry.{Entry}
+use Rattle.pl_world.specs.declared.plan_state.PlanState.{PlanState}
+use Rattle.pl_cand.specs.declared.proposal.Proposal.{Proposal}
 use Rattle.pl_machine.specs.declared.choice.Choice.TheVariants as choice
-use Rattle.pl_machine.specs.Horizon.{target_of, best_of, due_of}
-use Rattle.pl_machine.specs.Candidates.{least_pick}
 use Rattle.pl_machine.specs.World.{World, fresh_world, reason_of}
-use Rattle.pl_machine.specs.Step.{behind_of, after}
+use Rattle.pl_machine.specs.Step.{after}
+use Rattle.pl_machine.specs.Choices.{exec_choice_of}
 use Rattle.pl_machine.specs.Legal.{options_of, entries_behind}
 
--- The first that applies: send what is due; commit to the target where repair is not over and no commit was held; commit as
--- far as no conflict stands before, once repair rests; close, once repair rests.
-unfoldable pub exec_choice_of : World → Option Choice
-exec_choice_of w =
-    if w.closed || w.done then None
-    else (if nat_lt (length w.dispatched) (length (due_of w.scene)) then Some choice.Dispatch
-    else (if not w.rested && (not w.held && nat_lt (behind_of w.scene) (target_of w.scene)) then Some (choice.Commit (target_of w.scene))
-    else (if w.rested && nat_lt (behind_of w.scene) (best_of w.scene) then Some (choice.Commit (best_of w.scene))
-    else (if w.rested then Some choice.Close else None))))
+-- what a chooser proposes: the chooser before, the plan state, the proposal, and the chooser after
+abbrev pub Picks : Type 0 → Type 1
+Picks C = C → PlanState → Option Proposal → C → Type 0
 
-abbrev pub event_of : Choice → Event
-event_of choice.Dispatch = event.Dispatch
-event_of (choice.Commit h) = event.Commit h
-event_of choice.Close = event.Close
+-- An input is free. Where repair goes on the chooser is asked. It is not asked where repair is to rest, nor by the executive.
+abbrev pub IsSoloEvent : {C : Type 0} → Picks C → World → C → Event → C → Type 0
+IsSoloEvent picks w c (event.Opened o) c2 = ⊥
+IsSoloEvent picks w c (event.Input line) c2 = c2 ≡ c
+IsSoloEvent picks w c (event.Fix k m) c2 = (w.rested ≡ false) × (reason_of w ≡ None) × picks c w.state (Some (record { conflict = k; mv = m })) c2
+IsSoloEvent picks w c event.Rest c2 = (w.rested ≡ false) × IsSome (reason_of w) × (c2 ≡ c)
+IsSoloEvent picks w c (event.Commit h) c2 = (w.rested ≡ true) × (exec_choice_of w ≡ Some (choice.Commit h)) × (c2 ≡ c)
+IsSoloEvent picks w c event.Dispatch c2 = (w.rested ≡ true) × (exec_choice_of w ≡ Some choice.Dispatch) × (c2 ≡ c)
+IsSoloEvent picks w c event.Close c2 = (w.rested ≡ true) × (exec_choice_of w ≡ Some choice.Close) × (c2 ≡ c)
 
-abbrev pub fix_of : Option (Conflict × RepairMove) → Option Event
-fix_of None = None
-fix_of (Some pick) = Some (event.Fix pick.0 pick.1)
+-- each entry has the event that the world before it and the chooser fix
+abbrev pub solo_from : {C : Type 0} → Picks C → World → C → List Entry → C → Type 0
+solo_from picks w c [] c2 = c2 ≡ c
+solo_from {C} picks w c (e ∷ es) c2 = (middle : C) × IsSoloEvent picks w c e.event middle × solo_from picks (after w e.event) middle es c2
 
-abbrev pub repair_event : Option Reason → Option (Conflict × RepairMove) → Option Event
-repair_event (Some reason) pick = Some event.Rest
-repair_event None pick = fix_of pick
-
--- the event that a world fixes, where it is not an input's turn
-abbrev pub solo_event : World → Option Event
-solo_event w = if w.rested then option_map event_of (exec_choice_of w) else repair_event (reason_of w) (least_pick w.scene)
-
-abbrev pub IsSoloEvent : World → Event → Type 0
-IsSoloEvent w (event.Opened o) = solo_event w ≡ Some (event.Opened o)
-IsSoloEvent w (event.Input line) = Unit {0}
-IsSoloEvent w (event.Fix k m) = solo_event w ≡ Some (event.Fix k m)
-IsSoloEvent w event.Rest = solo_event w ≡ Some event.Rest
-IsSoloEvent w (event.Commit h) = solo_event w ≡ Some (event.Commit h)
-IsSoloEvent w event.Dispatch = solo_event w ≡ Some event.Dispatch
-IsSoloEvent w event.Close = solo_event w ≡ Some event.Close
-
-abbrev pub solo_from : World → List Entry → Type 0
-solo_from w [] = Unit {0}
-solo_from w (e ∷ es) = IsSoloEvent w e.event × solo_from (after w e.event) es
-
--- each entry behind the open one is an input, or has the event that the world before it fixes
-unfoldable pub Solo : Model → List Entry → Type 0
-Solo m log = solo_from (fresh_world m (options_of log)) (entries_behind log)
+-- the same of a log, behind the open entry
+unfoldable pub SoloBy : {C : Type 0} → Picks C → C → Model → List Entry → C → Type 0
+SoloBy picks c m log c2 = solo_from picks (fresh_world m (options_of log)) c (entries_behind log) c2

@@ -1,31 +1,36 @@
--- What stands of a machine at all times.
-use Rattle.std.specs.Prelude.{◌≡◌, ◌≤◌, List, length, take, Bool, false}
-use Rattle.pl_conflict.specs.declared.conflict.Conflict.{Conflict}
-use Rattle.pl_machine.specs.declared.event.Entry.{Entry}
-use Rattle.pl_machine.specs.Conflicts.{conflicts_of}
-use Rattle.pl_machine.specs.Horizon.{due_of}
-use Rattle.pl_machine.specs.World.{World}
-use Rattle.pl_machine.specs.Step.{ids_of}
-use Rattle.pl_machine.specs.Legal.{Legal, IsHistory, AreOptions}
+-- What a machine is seen as, and what stands of it at all times.
+use Rattle.std.specs.Prelude.{◌≡◌, ℕ, ◌≤◌, ◌*◌, List, length, Bool, false}
+use Rattle.pl_model.specs.declared.whole.Model.{Model}
+use Rattle.pl_model.specs.Checked.{IsChecked}
+use Rattle.pl_entry.specs.declared.entry.Entry.{Entry}
+use Rattle.pl_entry.specs.Bounds.{AreOptions}
+use Rattle.pl_machine.specs.World.{World, due_in}
+use Rattle.pl_machine.specs.Keeping.{AreSendable}
+use Rattle.pl_machine.specs.Legal.{Legal, options_of, world_of}
 
--- what a machine is seen as
+-- Of a spoiled machine the plan state of the world tells nothing; all else is as the log says.
 pub record State : Type 0 where
   pub spoiled : Bool
+  pub model : Model
   pub log : List Entry
   pub world : World
 
--- The log is a legal one that leads to the world, the kept conflicts are those of the plan, what was sent is a front of what
--- is due, and the counts stay within their bounds.
-pub record IsStanding (log : List Entry) (w : World) (kept : List Conflict) : Type 0 where
-  pub history : IsHistory log w
-  pub conflicts : kept ≡ conflicts_of w.scene
-  pub sent : w.dispatched ≡ take (length w.dispatched) (ids_of (due_of w.scene))
-  pub turn : w.turn ≤ w.options.turns
-  pub next_id : w.scene.next_id ≤ length log
-  pub bounded : length log ≤ w.options.entries
+-- The plan state is the one after the log, the kept list is what is due, and the ids given so far are few.
+pub record IsStanding (m : Model) (log : List Entry) (w : World) (due : List ℕ) : Type 0 where
+  pub model : w.state.model ≡ m
+  pub world : w ≡ world_of m log
+  pub listed : due ≡ due_in w.state
+  pub sendable : AreSendable w.state
+  pub next_id : w.state.next_id ≤ 16 * length log
 
--- an unspoiled machine stands, and a spoiled one has a legal log
-pub record IsSound (spoiled : Bool) (log : List Entry) (w : World) (kept : List Conflict) : Type 0 where
-  pub legal : Legal w.scene.model log
-  pub options : AreOptions w.options
-  pub stands : spoiled ≡ false → IsStanding log w kept
+-- The log is a legal one, and but for the plan state the world is the one after it. An unspoiled machine stands.
+pub record IsSound (spoiled : Bool) (m : Model) (log : List Entry) (w : World) (due : List ℕ) (sent : ℕ) : Type 0 where
+  pub checked : IsChecked m
+  pub legal : Legal m log
+  pub options : options_of log ≡ w.options
+  pub limits : AreOptions w.options
+  pub others : w ≡ record (world_of m log) { state = w.state }
+  pub within : sent ≤ length due
+  pub turn : w.turn ≤ w.options.turns
+  pub bounded : length log ≤ w.options.entries
+  pub stands : spoiled ≡ false → IsStanding m log w due

@@ -1,37 +1,44 @@
--- A world: the plan, and where the round stands.
+-- A world: the plan state, and where the round stands.
 use Rattle.std.specs.Prelude.{ℕ, List, [], ◌∷◌, Bool, true, false, ◌==◌, Option, Some, None}
 use Rattle.pl_model.specs.declared.whole.Model.{Model}
 use Rattle.pl_conflict.specs.declared.conflict.Conflict.{Conflict}
-use Rattle.pl_machine.specs.declared.options.Options.{Options}
-use Rattle.pl_machine.specs.declared.event.Reason.{Reason}
-use Rattle.pl_machine.specs.declared.event.Reason.TheVariants as reason
-use Rattle.pl_machine.specs.declared.repair.RepairMove.{RepairMove}
-use Rattle.pl_machine.specs.Scene.{Scene, empty_scene}
-use Rattle.pl_machine.specs.Conflicts.{conflicts_of}
-use Rattle.pl_machine.specs.Candidates.{least_pick}
+use Rattle.pl_facts.specs.declared.options.Options.{Options}
+use Rattle.pl_entry.specs.declared.reply.Reason.{Reason}
+use Rattle.pl_entry.specs.declared.reply.Reason.TheVariants as reason
+use Rattle.pl_entry.specs.Due.{due_of}
+use Rattle.pl_world.specs.declared.plan_state.PlanState.{PlanState}
+use Rattle.pl_world.specs.Conflicts.{conflicts_of}
+use Rattle.pl_world.specs.Legal.{is_stuck}
+use Rattle.pl_board.specs.Boards.{first_state}
 
 pub record World : Type 0 where
-  pub scene : Scene
+  pub state : PlanState
   pub options : Options
-  -- the ids of the activities whose commands were sent
+  -- the ids of the activities whose commands were sent, in the order in which they were
   pub dispatched : List ℕ
   -- the repairs of this round
   pub turn : ℕ
+  -- repair is over in this round
   pub rested : Bool
-  -- a commit of this round was held
+  -- a commit of this round was held, and no repair was made since
   pub held : Bool
   pub closed : Bool
   pub done : Bool
 
+-- nothing planned, between rounds
 abbrev pub fresh_world : Model → Options → World
-fresh_world m o = record { scene = empty_scene m o.live; options = o; dispatched = []; turn = 0; rested = false; held = false; closed = true; done = false }
+fresh_world m o = record { state = first_state m o.live; options = o; dispatched = []; turn = 0; rested = false; held = false; closed = true; done = false }
 
-abbrev pub reason_by : List Conflict → Bool → Option (Conflict × RepairMove) → Option Reason
-reason_by [] spent pick = Some reason.Clear
-reason_by (k ∷ ks) true pick = Some reason.Spent
-reason_by (k ∷ ks) false None = Some reason.Stuck
-reason_by (k ∷ ks) false (Some m) = None
+-- the ids of the activities whose commands are to be sent by now, in start order
+abbrev pub due_in : PlanState → List ℕ
+due_in s = due_of s.model s.plan.activities s.moment s.committed
 
--- why repair is to rest, if it is to: no conflict is left, the turns are spent, or no conflict has a legal candidate
+abbrev pub reason_by : List Conflict → (spent stuck : Bool) → Option Reason
+reason_by [] spent stuck = Some reason.Clear
+reason_by (k ∷ ks) true stuck = Some reason.Spent
+reason_by (k ∷ ks) false true = Some reason.Stuck
+reason_by (k ∷ ks) false false = None
+
+-- Why repair is to rest, if it is to: no conflict is left, else the turns are spent, else no candidate of any conflict is legal.
 abbrev pub reason_of : World → Option Reason
-reason_of w = reason_by (conflicts_of w.scene) (w.turn == w.options.turns) (least_pick w.scene)
+reason_of w = reason_by (conflicts_of w.state) (w.turn == w.options.turns) (is_stuck w.state)

@@ -1,13 +1,14 @@
 ghost use Rattle.std.specs.Prelude.{◌≡◌, ◌<◌, ◌^◌, length, Ok, Err, IfOk, MatchResult, IfSome, OnErr};
 ghost use Rattle.pl_text.specs.Tokens.{tokens_of};
-ghost use Rattle.pl_machine.specs.Lines.{token_text, is_word, says, is_only, is_line_of, begin_word, end_word, is_space, is_blank_line};
+ghost use Rattle.pl_msg.specs.Words.{token_text, says};
+ghost use Rattle.pl_machine.specs.Lines.{is_only, is_line_of, begin_word, is_space, is_blank_line};
 ghost use Rattle.pl_machine.specs.Reading.{GivesTokens};
 
-use pl_text::{TextFault, Token, TokenKind, tokens};
+use pl_text::{TextFault, Token, tokens};
 use std::alloc::{AllocError, Global};
 
 /// The bytes of a token of a line, and none where the token is not within the line.
-pub fn token_text<'a>(line: &'a [u8], token: &Token) -> &'a [u8]
+fn token_text<'a>(line: &'a [u8], token: &Token) -> &'a [u8]
     ensures { result.now ≡ token_text line.now token.now }
 {
     let from = token.from as usize;
@@ -19,21 +20,15 @@ pub fn token_text<'a>(line: &'a [u8], token: &Token) -> &'a [u8]
     }
 }
 
-fn is_word(kind: &TokenKind) -> bool
-    ensures { result ≡ is_word kind.now }
-{
-    matches!(kind, TokenKind::Name)
-}
-
 /// Whether a token of a line is this word.
-pub fn says(line: &[u8], token: &Token, word: &[u8]) -> bool
+fn says(line: &[u8], token: &Token, word: &[u8]) -> bool
     ensures { result ≡ says line.now token.now word.now }
 {
-    is_word(&token.kind) && token_text(line, token) == word
+    token_text(line, token) == word
 }
 
 /// The tokens of a line, or none where it has a fault.
-pub fn line_tokens(alloc: Global, line: &[u8]) -> Result<Option<Vec<Token>>, AllocError>
+fn line_tokens(alloc: Global, line: &[u8]) -> Result<Option<Vec<Token>>, AllocError>
     requires { length line.now < 2 ^ 32 }
     ensures { IfOk result (GivesTokens (tokens_of line.now)) }
 {

@@ -5,19 +5,18 @@ use Rattle.pl_io.specs.Lines.{lines_of, first_line, after_line, next_of, given, 
 use Rattle.pl_io.proofs.FirstLine.{next_of-judged, judged-last}
 use Rattle.pl_io.proofs.LineLaws.{lines_of-front}
 use Rattle.pl_model.specs.declared.whole.Model.{Model}
-use Rattle.pl_machine.specs.declared.event.Entry.{Entry}
+use Rattle.pl_entry.specs.declared.entry.Entry.{Entry}
 use Rattle.pl_machine.specs.Lines.{model_text_of, lines_behind, messages_of, split_of}
 use Rattle.pl_machine.specs.World.{World}
 use Rattle.pl_machine.specs.Legal.{Legal, world_of}
-use Rattle.pl_machine.specs.Solo.{Solo}
+use Rattle.pl_main.specs.Solo.{Solo}
 use Rattle.pl_machine.specs.Finished.{inputs_of}
 use Rattle.pl_accept.specs.Accepting.{IsModelText, IsRefusedAs}
 use Rattle.pl_accept.proofs.Apart.{apart, one_model}
-use Rattle.pl_plain.specs.Models.{IsRunnable}
-use Rattle.pl_plain.specs.declared.command.Task.{Task}
-use Rattle.pl_plain.specs.declared.command.Task.TheVariants as task
+use Rattle.pl_main.specs.declared.command.Task.{Task}
+use Rattle.pl_main.specs.declared.command.Task.TheVariants as task
 use Rattle.pl_main.specs.Reads.{Gave}
-use Rattle.pl_main.specs.Top.{total_limit, program_options, HasRead, HasHead, IsDone, IsNoModel, no_begin, faulty, IsRefused, no_model, not_built, WaitsBehind, IsPastLimit, IsFull, IsFound, IsPastHead}
+use Rattle.pl_main.specs.Top.{total_limit, program_options, HasRead, HasHead, IsDone, IsNoModel, no_begin, faulty, WaitsBehind, IsPastLimit, IsFull, IsFound, IsPastHead}
 use Rattle.pl_main.specs.Limits.{IsWithinLimits, CanRun, CanCheck, CanDo, IsDoneBy}
 use Rattle.pl_main.specs.Statuses.{SaysRan, SaysChecked, SaysKnown, IsSoloStatus, is_done, is_refused, is_read, is_write, is_limit, is_full, is_memory}
 use Rattle.pl_main.proofs.Reading.{gave_lines}
@@ -40,12 +39,6 @@ no_model_of : (input words : List ℕ) (m : Model) (left held now : Option (List
 no_model_of input words m left held now text accepted (no_begin lines room gave none source adds) = (let h : Some words ≡ None = sym text ∙ none in (cc))
 no_model_of input words m left held now text accepted (faulty others line head refused adds) =
     apart words line m accepted (subst (λ (w : List ℕ). IsRefusedAs w line) (some_same others words (sym head.text ∙ text)) refused)
-
-not_refused : (input words : List ℕ) (m : Model) (left held now : Option (List ℕ)) → (split_of input).text ≡ Some words → IsModelText words m → IsRunnable m → IsRefused input left held now → ⊥
-not_refused input words m left held now text accepted runnable (no_model none) = no_model_of input words m left held now text accepted none
-not_refused input words m left held now text accepted runnable (not_built others other head accepted2 waits adds) =
-    let same : others ≡ words = some_same others words (sym head.text ∙ text) in
-    waits (subst (λ (x : Model). IsRunnable x) (one_model words m other accepted (subst (λ (w : List ℕ). IsModelText w other) same accepted2)) runnable)
 
 -- ---- the model's text and a limit
 
@@ -77,22 +70,17 @@ found_not_refused input left held now other_left other_held other_now found none
 
 -- ---- a run that is refused
 
-pub done_not_refused : (turns : ℕ) (input : List ℕ) (left held now other_left other_held other_now : Option (List ℕ)) → IsDone turns input left held now → IsRefused input other_left other_held other_now → ⊥
-done_not_refused turns input left held now other_left other_held other_now done refused = not_refused input done.words done.model other_left other_held other_now done.text done.accepted done.runnable refused
+pub done_not_refused : (turns : ℕ) (input : List ℕ) (left held now other_left other_held other_now : Option (List ℕ)) → IsDone turns input left held now → IsNoModel input other_left other_held other_now → ⊥
+done_not_refused turns input left held now other_left other_held other_now done refused = no_model_of input done.words done.model other_left other_held other_now done.text done.accepted refused
 
-pub refused_not_full : (turns : ℕ) (input : List ℕ) (left held now other_left other_held other_now : Option (List ℕ)) → IsRefused input left held now → IsFull turns input other_left other_held other_now → ⊥
-refused_not_full turns input left held now other_left other_held other_now refused full = not_refused input full.words full.model left held now full.text full.accepted full.runnable refused
+pub refused_not_full : (turns : ℕ) (input : List ℕ) (left held now other_left other_held other_now : Option (List ℕ)) → IsNoModel input left held now → IsFull turns input other_left other_held other_now → ⊥
+refused_not_full turns input left held now other_left other_held other_now refused full = no_model_of input full.words full.model left held now full.text full.accepted refused
 
-refused_head : (input : List ℕ) (xs : Lines) (room : ℕ) (rest : List ℕ) (left held now : Option (List ℕ)) → IsStuck room rest → Gave total_limit input xs room rest → model_text_of xs ≡ None → IsRefused input left held now → ⊥
-refused_head input xs room rest left held now stuck gave none (no_model is) = head_not_past input xs room rest left held now stuck gave none is
-refused_head input xs room rest left held now stuck gave none (not_built words m head accepted other adds) =
-    no_text xs words (text_then_limit input xs head.lines room rest head.left head.rest words stuck gave head.gave head.head) none
-
-pub refused_not_past : (turns : ℕ) (input : List ℕ) (left held now other_held other_now : Option (List ℕ)) → IsRefused input left held now → IsPastLimit turns input other_held other_now → ⊥
+pub refused_not_past : (turns : ℕ) (input : List ℕ) (left held now other_held other_now : Option (List ℕ)) → IsNoModel input left held now → IsPastLimit turns input other_held other_now → ⊥
 refused_not_past turns input left held now other_held other_now refused past =
     elim past.asked [
-      | inl none ↦ refused_head input past.lines past.left past.rest left held now past.why past.gave none.0 refused
-      | inr waits ↦ not_refused input waits.words waits.model left held now (split_text input past.lines past.left past.rest waits.words past.gave waits.text) waits.accepted waits.runnable refused
+      | inl none ↦ head_not_past input past.lines past.left past.rest left held now past.why past.gave none.0 refused
+      | inr waits ↦ no_model_of input waits.words waits.model left held now (split_text input past.lines past.left past.rest waits.words past.gave waits.text) waits.accepted refused
     ]
 
 -- ---- messages and a limit
@@ -249,7 +237,7 @@ head_within input held now within past = is_within input past.lines past.left pa
 pub run_completes : (turns : ℕ) (input : List ℕ) (left held now : Option (List ℕ)) (status : ℕ) → SaysRan turns input left held now status → IsSoloStatus status → CanRun turns input
     → (status ≡ 4 → ⊥) → (status ≡ 5 → ⊥) → IsDoneBy (task.Solo turns) status
 run_completes turns input left held now status says (is_done e) can no_read no_write = inl e
-run_completes turns input left held now status says (is_refused e) can no_read no_write = absurd (not_refused input can.words can.model left held now can.text can.accepted can.runnable (says.refused e))
+run_completes turns input left held now status says (is_refused e) can no_read no_write = absurd (no_model_of input can.words can.model left held now can.text can.accepted (says.refused e))
 run_completes turns input left held now status says (is_read e) can no_read no_write = absurd (no_read e)
 run_completes turns input left held now status says (is_write e) can no_read no_write = absurd (no_write e)
 run_completes turns input left held now status says (is_limit e) can no_read no_write = absurd (can.no_limit held now (says.limit e))

@@ -8,19 +8,18 @@ use Rattle.pl_io.specs.Lines.{ahead, lines_of}
 use Rattle.pl_io.specs.Reader.{Reader, NumberedLine}
 use Rattle.pl_io.specs.Sparing.{read_size}
 use Rattle.pl_model.specs.declared.whole.Model.{Model}
-use Rattle.pl_machine.specs.declared.event.Entry.{Entry}
+use Rattle.pl_entry.specs.declared.entry.Entry.{Entry}
 use Rattle.pl_machine.specs.Lines.{is_blank_line, is_line_of, end_word, model_text_of, lines_behind, messages_of, split_of}
 use Rattle.pl_machine.specs.World.{World, fresh_world}
 use Rattle.pl_machine.specs.Legal.{Legal, opening, world_from, world_of}
-use Rattle.pl_machine.specs.Solo.{solo_from, Solo}
+use Rattle.pl_main.specs.Solo.{solo_from, Solo}
 use Rattle.pl_machine.specs.Finished.{inputs_of}
 use Rattle.pl_machine.specs.Sound.{State}
 use Rattle.pl_driver.specs.Rounds.{SameRun}
-use Rattle.pl_journal.specs.Lines.{line_of, text_from, text_of_log}
+use Rattle.pl_render.specs.Lines.{line_of, text_from, text_of_log}
 use Rattle.pl_accept.specs.declared.accepting.Accepted.{Accepted}
 use Rattle.pl_accept.specs.declared.accepting.Accepted.TheVariants as accepted
 use Rattle.pl_accept.specs.Accepting.{IsModelText}
-use Rattle.pl_plain.specs.Models.{IsRunnable, Tells}
 use Rattle.pl_main.specs.declared.halt.Halt.{Halt}
 use Rattle.pl_main.specs.declared.halt.Halt.TheVariants as halt
 use Rattle.pl_main.specs.declared.outcome.Outcome.{Outcome}
@@ -31,8 +30,8 @@ use Rattle.pl_main.specs.Heads.{IsHead, IsBegun, HasNoBegin, HeadHalts}
 use Rattle.pl_main.specs.Tells.{FillsUp, at_once, within}
 use Rattle.pl_main.specs.Written.{Adds, WriteStops}
 use Rattle.pl_main.specs.Plays.{Place, place_of, HaltFor, Plays, EndsWith, by_end, by_line, EndsAll, PlaysOut, StopsBy, PlayHalts, PlayFills, Playing, line_in}
-use Rattle.pl_main.specs.Runs.{fresh_state, ModelRuns, AcceptsKept, TextFails, TextWaits, TextRun, TextRuns}
-use Rattle.pl_main.specs.Top.{RanKnown, IsReadTo, program_options, total_limit, IsDone, HasHead, no_begin_line, not_built_line, IsNoModel, no_begin, faulty, no_model, not_built, WaitsBehind, IsReadFault, IsPastLimit, HasRead, IsFull}
+use Rattle.pl_main.specs.Runs.{fresh_state, ModelRuns, AcceptsKept, TextFails, TextRun, TextRuns}
+use Rattle.pl_main.specs.Top.{RanKnown, IsReadTo, program_options, total_limit, IsDone, HasHead, no_begin_line, IsNoModel, no_begin, faulty, WaitsBehind, IsReadFault, IsPastLimit, HasRead, IsFull}
 use Rattle.pl_main.proofs.Reading.{gave_append, gave_lines}
 use Rattle.pl_main.proofs.Beginning.{head_then}
 use Rattle.pl_main.proofs.Writing.{adds_then, log_is_short}
@@ -41,7 +40,7 @@ use Rattle.pl_main.proofs.Playing.{blanks_first, message_first, end_first, none_
 -- ---- a run over a model
 
 pub run_stops : (turns : ℕ) (m : Model) (start place : Place) (held opened now : Option (List ℕ)) (e : Halt) (new : State)
-    → Adds held opened (text_from m 0 (opening (program_options turns) ∷ [])) → Playing (fresh_state turns m) start opened (Err e) new place now → Legal new.world.scene.model new.log → ModelRuns turns m start held (Err e) place now
+    → Adds held opened (text_from m 0 (opening (program_options turns) ∷ [])) → Playing (fresh_state turns m) start opened (Err e) new place now → Legal new.model new.log → ModelRuns turns m start held (Err e) place now
 run_stops turns m start place held opened now halt.Limit new first playing legal = record { opened = opened; new = new; first = first; playing = playing; legal = legal }
 run_stops turns m start place held opened now halt.Full new first playing legal = record { opened = opened; new = new; first = first; playing = playing; legal = legal }
 run_stops turns m start place held opened now halt.Read new first playing legal = record { opened = opened; new = new; first = first; playing = playing; legal = legal }
@@ -52,7 +51,7 @@ run_stops turns m start place held opened now halt.Memory new first playing lega
 
 pub text_refused : (turns : ℕ) (kept : Option (Vec ℕ Global)) (start : Place) (held now : Option (List ℕ)) (line : List ℕ) (r : Result Outcome Halt) (faults later : ℕ)
     → AcceptsKept kept (accepted.Refused line) → OnOk r (Adds held now line) → IfOk r (λ o. o ≡ outcome.Refused) → IfErr r (WriteStops faults later) → TextRuns turns kept start held r start now
-text_refused turns kept start held now line (Ok outcome.Refused) faults later text adds refused cause = (inl record { line = line; refused = text; written = adds }, refl)
+text_refused turns kept start held now line (Ok outcome.Refused) faults later text adds refused cause = (record { line = line; refused = text; written = adds }, refl)
 text_refused turns kept start held now line (Ok outcome.Done) faults later text adds refused cause = absurd (let h : outcome.Done ≡ outcome.Refused = refused in (cc))
 text_refused turns kept start held now line (Err halt.Limit) faults later text adds refused cause = absurd cause
 text_refused turns kept start held now line (Err halt.Full) faults later text adds refused cause = absurd cause
@@ -60,27 +59,17 @@ text_refused turns kept start held now line (Err halt.Read) faults later text ad
 text_refused turns kept start held now line (Err halt.Write) faults later text adds refused cause = tt
 text_refused turns kept start held now line (Err halt.Memory) faults later text adds refused cause = tt
 
-pub text_waits : (turns : ℕ) (kept : Option (Vec ℕ Global)) (start : Place) (held now : Option (List ℕ)) (m : Model) (r : Result Outcome Halt) (faults later : ℕ)
-    → AcceptsKept kept (accepted.Model m) → (IsRunnable m → ⊥) → OnOk r (Adds held now not_built_line) → IfOk r (λ o. o ≡ outcome.Refused) → IfErr r (WriteStops faults later) → TextRuns turns kept start held r start now
-text_waits turns kept start held now m (Ok outcome.Refused) faults later text other adds refused cause = (inr record { model = m; text = text; other = other; written = adds }, refl)
-text_waits turns kept start held now m (Ok outcome.Done) faults later text other adds refused cause = absurd (let h : outcome.Done ≡ outcome.Refused = refused in (cc))
-text_waits turns kept start held now m (Err halt.Limit) faults later text other adds refused cause = absurd cause
-text_waits turns kept start held now m (Err halt.Full) faults later text other adds refused cause = absurd cause
-text_waits turns kept start held now m (Err halt.Read) faults later text other adds refused cause = absurd cause
-text_waits turns kept start held now m (Err halt.Write) faults later text other adds refused cause = tt
-text_waits turns kept start held now m (Err halt.Memory) faults later text other adds refused cause = tt
-
 pub text_ran : (turns : ℕ) (kept : Option (Vec ℕ Global)) (start place : Place) (held now : Option (List ℕ)) (m : Model)
-    → AcceptsKept kept (accepted.Model m) → IsRunnable m → ModelRuns turns m start held (Ok tt) place now → TextRuns turns kept start held (Ok outcome.Done) place now
-text_ran turns kept start place held now m text runnable run = record { model = m; text = text; runnable = runnable; run = run }
+    → AcceptsKept kept (accepted.Model m) → ModelRuns turns m start held (Ok tt) place now → TextRuns turns kept start held (Ok outcome.Done) place now
+text_ran turns kept start place held now m text run = record { model = m; text = text; run = run }
 
 pub text_stops : (turns : ℕ) (kept : Option (Vec ℕ Global)) (start place : Place) (held now : Option (List ℕ)) (m : Model) (e : Halt)
-    → AcceptsKept kept (accepted.Model m) → IsRunnable m → ModelRuns turns m start held (Err e) place now → TextRuns turns kept start held (Err e) place now
-text_stops turns kept start place held now m halt.Limit text runnable run = record { model = m; text = text; runnable = runnable; run = run }
-text_stops turns kept start place held now m halt.Full text runnable run = record { model = m; text = text; runnable = runnable; run = run }
-text_stops turns kept start place held now m halt.Read text runnable run = record { model = m; text = text; runnable = runnable; run = run }
-text_stops turns kept start place held now m halt.Write text runnable run = tt
-text_stops turns kept start place held now m halt.Memory text runnable run = tt
+    → AcceptsKept kept (accepted.Model m) → ModelRuns turns m start held (Err e) place now → TextRuns turns kept start held (Err e) place now
+text_stops turns kept start place held now m halt.Limit text run = record { model = m; text = text; run = run }
+text_stops turns kept start place held now m halt.Full text run = record { model = m; text = text; run = run }
+text_stops turns kept start place held now m halt.Read text run = record { model = m; text = text; run = run }
+text_stops turns kept start place held now m halt.Write text run = tt
+text_stops turns kept start place held now m halt.Memory text run = tt
 
 -- ---- what was read
 
@@ -111,12 +100,12 @@ record IsLogged (turns : ℕ) (m : Model) (new : State) (held now : Option (List
   text : Adds held now (text_of_log m (opening (program_options turns) ∷ entries))
 
 logged : (turns : ℕ) (m : Model) (new : State) (held opened now : Option (List ℕ)) (entries : List Entry)
-    → Legal new.world.scene.model new.log → SameRun (fresh_state turns m) new → new.log ≡ opening (program_options turns) ∷ entries
+    → Legal new.model new.log → SameRun (fresh_state turns m) new → new.log ≡ opening (program_options turns) ∷ entries
     → solo_from (fresh_world m (program_options turns)) entries → new.world ≡ world_from (fresh_world m (program_options turns)) entries
     → Adds held opened (text_from m 0 (opening (program_options turns) ∷ [])) → Adds opened now (text_from m 1 entries) → IsLogged turns m new held now entries
 unfolding Solo world_of
 logged turns m new held opened now entries legal same log solo world first text = record {
-  legal = subst (λ (x : Model). Legal x (opening (program_options turns) ∷ entries)) same.model (subst (λ (l : List Entry). Legal new.world.scene.model l) log legal);
+  legal = subst (λ (x : Model). Legal x (opening (program_options turns) ∷ entries)) same.model (subst (λ (l : List Entry). Legal new.model l) log legal);
   solo = solo;
   world = world;
   text = subst (λ (t : List ℕ). Adds held now (t ++ text_from m 1 entries)) (append-nil (line_of m 0 (opening (program_options turns)))) (adds_then held opened now (text_from m 0 (opening (program_options turns) ∷ [])) (text_from m 1 entries) first text);
@@ -158,9 +147,9 @@ read_to : (place : Place) (source_left : Option (List ℕ)) (rest : List ℕ) �
 read_to place source_left rest few behind is = record { came = place.reader.held; few = few; behind = behind ∙ is }
 
 done_ends : (turns : ℕ) (input words heads_rest : List ℕ) (heads : List (List ℕ)) (m : Model) (start place : Place) (source_left held opened now : Option (List ℕ)) (new : State)
-    → IsHead heads words → Gave total_limit input heads start.reader.room heads_rest → start.ahead ≡ Some heads_rest → IsModelText words m → IsRunnable m
-    → Adds held opened (text_from m 0 (opening (program_options turns) ∷ [])) → PlaysOut (fresh_state turns m) start opened new place now → Legal new.world.scene.model new.log → ahead place.reader.held source_left ≡ place.ahead → IsDone turns input source_left held now
-done_ends turns input words heads_rest heads m start place source_left held opened now new head gave is_ahead accepted runnable first plays legal behind =
+    → IsHead heads words → Gave total_limit input heads start.reader.room heads_rest → start.ahead ≡ Some heads_rest → IsModelText words m
+    → Adds held opened (text_from m 0 (opening (program_options turns) ∷ [])) → PlaysOut (fresh_state turns m) start opened new place now → Legal new.model new.log → ahead place.reader.held source_left ≡ place.ahead → IsDone turns input source_left held now
+done_ends turns input words heads_rest heads m start place source_left held opened now new head gave is_ahead accepted first plays legal behind =
     let from = subst (λ (b : Option (List ℕ)). GaveKnown start.reader.room b plays.lines place.reader.room place.ahead) is_ahead plays.gave in
     let k = known start.reader.room heads_rest plays.lines place.reader.room place.ahead from in
     let ends = subst (λ (a : Option (List ℕ)). EndsAll (Some heads_rest) a plays.lines (inputs_of plays.entries)) k.is (subst (λ (b : Option (List ℕ)). EndsAll b place.ahead plays.lines (inputs_of plays.entries)) is_ahead plays.messages) in
@@ -173,7 +162,6 @@ done_ends turns input words heads_rest heads m start place source_left held open
       words = words;
       text = split.text;
       accepted = accepted;
-      runnable = runnable;
       finished = record {
         legal = l.legal;
         done = ap (λ (w : World). w.done) (sym l.world) ∙ plays.done;
@@ -213,9 +201,9 @@ read_fault : (turns : ℕ) (input : List ℕ) (held now : Option (List ℕ)) →
 read_fault turns input held now s = record { lines = s.lines; left = s.left; rest = s.rest; gave = s.gave; asked = s.asked }
 
 stopped_ends : (e : Halt) (turns : ℕ) (input words heads_rest : List ℕ) (heads : List (List ℕ)) (m : Model) (start : Place) (held opened now : Option (List ℕ)) (new : State)
-    → IsHead heads words → Gave total_limit input heads start.reader.room heads_rest → start.ahead ≡ Some heads_rest → IsModelText words m → IsRunnable m
-    → Adds held opened (text_from m 0 (opening (program_options turns) ∷ [])) → PlayHalts e (fresh_state turns m) start opened new now → Legal new.world.scene.model new.log → IsStopped e turns input held now
-stopped_ends e turns input words heads_rest heads m start held opened now new head gave is_ahead accepted runnable first plays legal =
+    → IsHead heads words → Gave total_limit input heads start.reader.room heads_rest → start.ahead ≡ Some heads_rest → IsModelText words m
+    → Adds held opened (text_from m 0 (opening (program_options turns) ∷ [])) → PlayHalts e (fresh_state turns m) start opened new now → Legal new.model new.log → IsStopped e turns input held now
+stopped_ends e turns input words heads_rest heads m start held opened now new head gave is_ahead accepted first plays legal =
     let from = subst (λ (b : Option (List ℕ)). GaveKnown start.reader.room b plays.lines plays.left plays.rest) is_ahead plays.gave in
     let k = known start.reader.room heads_rest plays.lines plays.left plays.rest from in
     let both = head_then heads words plays.lines head in
@@ -232,7 +220,6 @@ stopped_ends e turns input words heads_rest heads m start held opened now new he
         words = words;
         text = both.0;
         accepted = accepted;
-        runnable = runnable;
         legal = l.legal;
         solo = l.solo;
         options = refl;
@@ -319,11 +306,11 @@ record IsFilled (turns : ℕ) (m : Model) (new : State) (opened now : Option (Li
   due : ((new.world.closed ≡ false) × (inputs_of entries ≡ before ++ next ∷ [])) ⊎ (inputs_of entries ≡ before)
 
 filled : (turns : ℕ) (m : Model) (start place behind : Place) (opened written now : Option (List ℕ)) (mid new : State) (input : Option (List ℕ))
-    → (plays : Plays (fresh_state turns m) start opened mid place written) → FillsUp mid input new → Adds written now (text_from mid.world.scene.model (length mid.log) (drop (length mid.log) new.log)) → IsFilled turns m new opened now (inputs_of plays.entries) input
+    → (plays : Plays (fresh_state turns m) start opened mid place written) → FillsUp mid input new → Adds written now (text_from mid.model (length mid.log) (drop (length mid.log) new.log)) → IsFilled turns m new opened now (inputs_of plays.entries) input
 filled turns m start place behind opened written now mid new input plays (at_once full is) text =
     let j = joined (fresh_state turns m) mid new opened written now plays.entries [] plays.log plays.solo plays.world plays.same plays.written
     (ap (λ (s : State). s.log) is ∙ sym (append-nil mid.log)) tt (ap (λ (s : State). s.world) is)
-    record { model = ap (λ (s : State). s.world.scene.model) is; options = ap (λ (s : State). s.world.options) is } text in
+    record { model = ap (λ (s : State). s.model) is; options = ap (λ (s : State). s.world.options) is } text in
     record {
       entries = plays.entries ++ [];
       log = j.log;
@@ -412,9 +399,9 @@ leaves_more m log input heads lines words room mid heads_rest bytes before next 
     }
 
 full_ends : (turns : ℕ) (input words heads_rest : List ℕ) (heads : List (List ℕ)) (m : Model) (start place : Place) (source_left held opened now : Option (List ℕ)) (new : State)
-    → IsHead heads words → Gave total_limit input heads start.reader.room heads_rest → start.ahead ≡ Some heads_rest → IsModelText words m → IsRunnable m
-    → Adds held opened (text_from m 0 (opening (program_options turns) ∷ [])) → PlayFills (fresh_state turns m) start opened new place now → Legal new.world.scene.model new.log → ahead place.reader.held source_left ≡ place.ahead → IsFull turns input source_left held now
-full_ends turns input words heads_rest heads m start place source_left held opened now new head gave is_ahead accepted runnable first plays legal behind =
+    → IsHead heads words → Gave total_limit input heads start.reader.room heads_rest → start.ahead ≡ Some heads_rest → IsModelText words m
+    → Adds held opened (text_from m 0 (opening (program_options turns) ∷ [])) → PlayFills (fresh_state turns m) start opened new place now → Legal new.model new.log → ahead place.reader.held source_left ≡ place.ahead → IsFull turns input source_left held now
+full_ends turns input words heads_rest heads m start place source_left held opened now new head gave is_ahead accepted first plays legal behind =
     let f = filled turns m start plays.middle place opened plays.written now plays.waiting new (line_in plays.step.message) plays.plays plays.step.fills plays.step.written in
     let split = split_is input heads words (lines_of heads_rest) head (gave_lines total_limit input heads start.reader.room heads_rest gave) in
     let l = logged turns m new held opened now f.entries legal f.same f.log f.solo f.world first f.text in
@@ -429,13 +416,12 @@ full_ends turns input words heads_rest heads m start place source_left held open
       words = words;
       text = split.text;
       accepted = accepted;
-      runnable = runnable;
       legal = l.legal;
       solo = l.solo;
       options = refl;
       unanswered = more.unanswered;
       messages = more.messages;
-      full = ap (λ (es : List Entry). length es) (sym f.log) ∙ between (length new.log) (log_is_short new.world.scene.model new.log legal) f.full;
+      full = ap (λ (es : List Entry). length es) (sym f.log) ∙ between (length new.log) (log_is_short new.model new.log legal) f.full;
       going = ap (λ (w : World). w.done) (sym l.world) ∙ f.going;
       pending = more.pending;
       read = more.read;
@@ -465,23 +451,20 @@ begun_known : (turns : ℕ) (old : Reader) (kept : Option (Vec ℕ Global)) (sta
     → RanKnown turns (Some input) source_left held now r
 begun_known turns old kept start place input source_left held now (Ok outcome.Done) room begun run behind =
     let k = known old.room input begun.lines start.reader.room start.ahead begun.took.gave in
-    done_ends turns input begun.words k.rest begun.lines run.model start place source_left held run.run.opened now run.run.new begun.head (subst (λ (n : ℕ). Gave n input begun.lines start.reader.room k.rest) room k.gave) k.is (run.text begun.words begun.keeps) run.runnable run.run.first run.run.playing run.run.legal behind
+    done_ends turns input begun.words k.rest begun.lines run.model start place source_left held run.run.opened now run.run.new begun.head (subst (λ (n : ℕ). Gave n input begun.lines start.reader.room k.rest) room k.gave) k.is (run.text begun.words begun.keeps) run.run.first run.run.playing run.run.legal behind
 begun_known turns old kept start place input source_left held now (Ok outcome.Refused) room begun run behind =
     let same = subst (λ (p : Place). ahead p.reader.held source_left ≡ p.ahead) run.1 behind in
     let begins = begins_at old kept start.reader input start.ahead source_left room begun same in
-    elim run.0 [
-      | inl fails ↦ no_model (faulty begun.words fails.line begins (fails.refused begun.words begun.keeps) fails.written)
-      | inr waits ↦ not_built begun.words waits.model begins (waits.text begun.words begun.keeps) waits.other waits.written
-    ]
+    faulty begun.words run.0.line begins (run.0.refused begun.words begun.keeps) run.0.written
 begun_known turns old kept start place input source_left held now (Err halt.Limit) room begun run behind =
     let k = known old.room input begun.lines start.reader.room start.ahead begun.took.gave in
-    past_limit turns input held now (stopped_ends halt.Limit turns input begun.words k.rest begun.lines run.model start held run.run.opened now run.run.new begun.head (subst (λ (n : ℕ). Gave n input begun.lines start.reader.room k.rest) room k.gave) k.is (run.text begun.words begun.keeps) run.runnable run.run.first run.run.playing run.run.legal)
+    past_limit turns input held now (stopped_ends halt.Limit turns input begun.words k.rest begun.lines run.model start held run.run.opened now run.run.new begun.head (subst (λ (n : ℕ). Gave n input begun.lines start.reader.room k.rest) room k.gave) k.is (run.text begun.words begun.keeps) run.run.first run.run.playing run.run.legal)
 begun_known turns old kept start place input source_left held now (Err halt.Read) room begun run behind =
     let k = known old.room input begun.lines start.reader.room start.ahead begun.took.gave in
-    read_fault turns input held now (stopped_ends halt.Read turns input begun.words k.rest begun.lines run.model start held run.run.opened now run.run.new begun.head (subst (λ (n : ℕ). Gave n input begun.lines start.reader.room k.rest) room k.gave) k.is (run.text begun.words begun.keeps) run.runnable run.run.first run.run.playing run.run.legal)
+    read_fault turns input held now (stopped_ends halt.Read turns input begun.words k.rest begun.lines run.model start held run.run.opened now run.run.new begun.head (subst (λ (n : ℕ). Gave n input begun.lines start.reader.room k.rest) room k.gave) k.is (run.text begun.words begun.keeps) run.run.first run.run.playing run.run.legal)
 begun_known turns old kept start place input source_left held now (Err halt.Full) room begun run behind =
     let k = known old.room input begun.lines start.reader.room start.ahead begun.took.gave in
-    full_ends turns input begun.words k.rest begun.lines run.model start place source_left held run.run.opened now run.run.new begun.head (subst (λ (n : ℕ). Gave n input begun.lines start.reader.room k.rest) room k.gave) k.is (run.text begun.words begun.keeps) run.runnable run.run.first run.run.playing run.run.legal behind
+    full_ends turns input begun.words k.rest begun.lines run.model start place source_left held run.run.opened now run.run.new begun.head (subst (λ (n : ℕ). Gave n input begun.lines start.reader.room k.rest) room k.gave) k.is (run.text begun.words begun.keeps) run.run.first run.run.playing run.run.legal behind
 begun_known turns old kept start place input source_left held now (Err halt.Write) room begun run behind = tt
 begun_known turns old kept start place input source_left held now (Err halt.Memory) room begun run behind = tt
 
@@ -504,7 +487,7 @@ begins_nowhere old new input after source_left held now room head behind adds =
 no_begin_ran : (turns : ℕ) (old new : Reader) (input after source_left held now : Option (List ℕ)) → old.room ≡ total_limit → HasNoBegin old input new after → ahead new.held source_left ≡ after → Adds held now no_begin_line
     → RanKnown turns input source_left held now (Ok outcome.Refused)
 no_begin_ran turns old new None after source_left held now room head behind adds = tt
-no_begin_ran turns old new (Some input) after source_left held now room head behind adds = no_model (begins_nowhere old new input after source_left held now room head behind adds)
+no_begin_ran turns old new (Some input) after source_left held now room head behind adds = begins_nowhere old new input after source_left held now room head behind adds
 
 -- the refusal's line may fail to be written
 refused_ran : (turns : ℕ) (old new : Reader) (input after source_left held now : Option (List ℕ)) (r : Result Outcome Halt) (faults later : ℕ) → old.room ≡ total_limit

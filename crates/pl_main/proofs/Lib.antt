@@ -1,6 +1,9 @@
 pub mod Reading
 pub mod Beginning
 pub mod Skipping
+pub mod Digits
+pub mod Ends
+pub mod Leasts
 pub mod Telling
 pub mod Writing
 pub mod Playing

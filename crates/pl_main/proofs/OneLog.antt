@@ -4,15 +4,15 @@ use Rattle.std.specs.Prelude.{unwrap_or}
 use Rattle.std.specs.List.{cons_option}
 use Rattle.std.proofs.lemmas.List.{append-nil}
 use Rattle.pl_model.specs.declared.whole.Model.{Model}
-use Rattle.pl_machine.specs.declared.options.Options.{Options}
-use Rattle.pl_machine.specs.declared.event.Event.{Event}
-use Rattle.pl_machine.specs.declared.event.Event.TheVariants as event
-use Rattle.pl_machine.specs.declared.event.Reply.{Reply}
-use Rattle.pl_machine.specs.declared.event.Entry.{Entry}
+use Rattle.pl_facts.specs.declared.options.Options.{Options}
+use Rattle.pl_entry.specs.declared.event.Event.{Event}
+use Rattle.pl_entry.specs.declared.event.Event.TheVariants as event
+use Rattle.pl_entry.specs.declared.reply.Reply.{Reply}
+use Rattle.pl_entry.specs.declared.entry.Entry.{Entry}
 use Rattle.pl_machine.specs.World.{World, fresh_world}
 use Rattle.pl_machine.specs.Step.{is_enabled, reply_of, after}
 use Rattle.pl_machine.specs.Legal.{MayFollow, legal_from, world_from, Legal, IsOpenedRun, options_in, options_of, no_options, entries_behind, world_of}
-use Rattle.pl_machine.specs.Solo.{solo_event, IsSoloEvent, solo_from, Solo}
+use Rattle.pl_main.specs.Solo.{solo_event, IsSoloEvent, solo_from, Solo}
 use Rattle.pl_machine.specs.Finished.{input_in, inputs_of}
 use Rattle.pl_main.proofs.Playing.{inputs_append}
 

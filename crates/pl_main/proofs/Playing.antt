@@ -1,22 +1,23 @@
 -- Message after message.
-use Rattle.std.proofs.Common.{◌≡◌, ℕ, ◌+◌, ◌<◌, List, [], ◌∷◌, ◌++◌, length, drop, Bool, true, false, Option, Some, None, inl, inr, Ok, Err, refl, sym, ◌∙◌, ap, subst, append_assoc, length-append}
+use Rattle.std.proofs.Common.{◌≡◌, ℕ, ◌+◌, ◌<◌, List, [], ◌∷◌, ◌++◌, length, drop, Bool, true, false, All, Option, Some, None, IfSome, inl, inr, Ok, Err, refl, sym, ◌∙◌, ap, subst, append_assoc, length-append}
 use Rattle.std.proofs.lemmas.List.{append-nil}
 use Rattle.std.proofs.lemmas.List.Elements.{filter_map-append}
 use Rattle.pl_io.specs.declared.errors.LineFault.{LineFault}
 use Rattle.pl_io.specs.declared.errors.LineFault.TheVariants as fault
 use Rattle.pl_io.specs.Reader.{NumberedLine}
 use Rattle.pl_model.specs.declared.whole.Model.{Model}
-use Rattle.pl_machine.specs.declared.event.Entry.{Entry}
+use Rattle.pl_entry.specs.declared.entry.Entry.{Entry}
 use Rattle.pl_machine.specs.Lines.{is_blank_line, is_line_of, end_word, messages_from, messages_of}
 use Rattle.pl_machine.specs.World.{World}
 use Rattle.pl_machine.specs.Step.{after}
-use Rattle.pl_machine.specs.Legal.{InputFits, world_from}
-use Rattle.pl_machine.specs.Solo.{solo_from}
+use Rattle.pl_entry.specs.Bounds.{IsMessageLine}
+use Rattle.pl_machine.specs.Legal.{world_from}
+use Rattle.pl_main.specs.Solo.{solo_from}
 use Rattle.pl_machine.specs.Finished.{inputs_of, input_in}
 use Rattle.pl_machine.specs.Sound.{State}
 use Rattle.pl_driver.specs.Rounds.{SameRun}
-use Rattle.pl_journal.specs.Lines.{text_from}
-use Rattle.pl_journal.proofs.Texts.{text_joined}
+use Rattle.pl_render.specs.Lines.{text_from}
+use Rattle.pl_render.proofs.Texts.{text_joined}
 use Rattle.pl_main.specs.declared.halt.Halt.{Halt}
 use Rattle.pl_main.specs.declared.halt.Halt.TheVariants as halt
 use Rattle.pl_main.specs.Reads.{GaveKnown, WhyKnown, IsUsedUp, AreBlank}
@@ -28,9 +29,14 @@ use Rattle.pl_main.proofs.Reading.{gave_none, known_append}
 use Rattle.pl_main.proofs.Beginning.{took_more}
 use Rattle.pl_main.proofs.Writing.{some_held, adds_then}
 
-pub input_fits : (start place : Place) (message : Option NumberedLine) → MessageGives start.reader start.ahead (Ok message) place.reader place.ahead → InputFits (line_in message)
-input_fits start place None gets = tt
-input_fits start place (Some line) gets = record { short = gets.fits; one_line = gets.no_newline }
+pub input_fits : (start place : Place) (message : Option NumberedLine) (line : Option (List ℕ)) → line ≡ line_in message → IfSome line (λ bytes. All (λ byte. byte < 256) bytes)
+    → MessageGives start.reader start.ahead (Ok message) place.reader place.ahead → IfSome line IsMessageLine
+input_fits start place None None is bytes gets = tt
+input_fits start place None (Some line) is bytes gets = absurd (cc)
+input_fits start place (Some message) None is bytes gets = tt
+input_fits start place (Some message) (Some line) is bytes gets =
+    let same : line ≡ message.bytes = (let h : Some line ≡ Some message.bytes = is in (cc)) in
+    record { short = rw same gets.fits; bytes = bytes; one_line = rw same gets.no_newline }
 
 pub step_on : (old new : State) (start place : Place) (held now : Option (List ℕ)) (message : Option NumberedLine) → MessageGives start.reader start.ahead (Ok message) place.reader place.ahead
     → Answered old (line_in message) held new now → StepsOn old start held new place now
@@ -146,24 +152,24 @@ pub record Joined (old mid new : State) (held written now : Option (List ℕ)) (
   pub solo : solo_from old.world (before ++ added)
   pub world : new.world ≡ world_from old.world (before ++ added)
   pub same : SameRun old new
-  pub text : Adds held now (text_from old.world.scene.model (length old.log) (before ++ added))
+  pub text : Adds held now (text_from old.model (length old.log) (before ++ added))
 
 pub joined : (old mid new : State) (held written now : Option (List ℕ)) (before added : List Entry)
-    → mid.log ≡ old.log ++ before → solo_from old.world before → mid.world ≡ world_from old.world before → SameRun old mid → Adds held written (text_from old.world.scene.model (length old.log) before)
-    → new.log ≡ mid.log ++ added → solo_from mid.world added → new.world ≡ world_from mid.world added → SameRun mid new → Adds written now (text_from mid.world.scene.model (length mid.log) (drop (length mid.log) new.log))
+    → mid.log ≡ old.log ++ before → solo_from old.world before → mid.world ≡ world_from old.world before → SameRun old mid → Adds held written (text_from old.model (length old.log) before)
+    → new.log ≡ mid.log ++ added → solo_from mid.world added → new.world ≡ world_from mid.world added → SameRun mid new → Adds written now (text_from mid.model (length mid.log) (drop (length mid.log) new.log))
     → Joined old mid new held written now before added
 joined old mid new held written now before added log solo world same text log2 solo2 world2 same2 text2 =
     let whole : new.log ≡ old.log ++ (before ++ added) = log2 ∙ ap (λ (l : List Entry). l ++ added) log ∙ append_assoc old.log before added in
     let fresh : drop (length mid.log) new.log ≡ added = ap (λ (l : List Entry). drop (length mid.log) l) log2 ∙ drop_front mid.log added in
     let place : length mid.log ≡ length old.log + length before = ap (λ (l : List Entry). length l) log ∙ length-append old.log before in
-    let added_text : text_from mid.world.scene.model (length mid.log) (drop (length mid.log) new.log) ≡ text_from old.world.scene.model (length old.log + length before) added =
-    ap (λ (l : List Entry). text_from mid.world.scene.model (length mid.log) l) fresh ∙ ap (λ (n : ℕ). text_from mid.world.scene.model n added) place ∙ ap (λ (m : Model). text_from m (length old.log + length before) added) same.model in
+    let added_text : text_from mid.model (length mid.log) (drop (length mid.log) new.log) ≡ text_from old.model (length old.log + length before) added =
+    ap (λ (l : List Entry). text_from mid.model (length mid.log) l) fresh ∙ ap (λ (n : ℕ). text_from mid.model n added) place ∙ ap (λ (m : Model). text_from m (length old.log + length before) added) same.model in
     record {
       log = whole;
       solo = solo_append old.world before added solo (subst (λ (w : World). solo_from w added) world solo2);
       world = world2 ∙ ap (λ (w : World). world_from w added) world ∙ sym (world_append old.world before added);
       same = record { model = same2.model ∙ same.model; options = same2.options ∙ same.options };
-      text = subst (λ (t : List ℕ). Adds held now t) (sym (text_append old.world.scene.model (length old.log) before added)) (adds_then held written now (text_from old.world.scene.model (length old.log) before) (text_from old.world.scene.model (length old.log + length before) added) text (subst (λ (t : List ℕ). Adds written now t) added_text text2));
+      text = subst (λ (t : List ℕ). Adds held now t) (sym (text_append old.model (length old.log) before added)) (adds_then held written now (text_from old.model (length old.log) before) (text_from old.model (length old.log + length before) added) text (subst (λ (t : List ℕ). Adds written now t) added_text text2));
     }
 
 -- the messages of a line that doesn't end the run
@@ -295,7 +301,7 @@ plays_halt e old mid new start middle held written now plays step =
           ∙ ap (λ (ns : List (Option (List ℕ))). inputs_of plays.entries ++ ns) (ap messages_of (sym (append-nil step.fault.lines)) ∙ blanks_first step.fault.lines [] step.fault.blank ∙ none_left);
       ready = subst (λ (t : State). IsReady t) (sym step.same) plays.ready;
       same = subst (λ (t : State). SameRun old t) (sym step.same) plays.same;
-      written = subst (λ (h : Option (List ℕ)). Adds held h (text_from old.world.scene.model (length old.log) plays.entries)) (sym step.written) plays.written;
+      written = subst (λ (h : Option (List ℕ)). Adds held h (text_from old.model (length old.log) plays.entries)) (sym step.written) plays.written;
     }
 
 pub plays_fill : (old mid new : State) (start middle place : Place) (held written now : Option (List ℕ)) → Plays old start held mid middle written → StepFills mid middle written new place now → PlayFills old start held new place now

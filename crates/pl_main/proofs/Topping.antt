@@ -5,11 +5,11 @@ use Rattle.std.specs.Str.{bytes_eq}
 use Rattle.std.specs.String.{string_bytes}
 use Rattle.std.specs.declared.string.String.{String}
 use Rattle.std.specs.declared.alloc.Global.{Global}
-use Rattle.pl_plain.specs.declared.command.Command.TheVariants as command
-use Rattle.pl_plain.specs.declared.command.Task.{Task}
-use Rattle.pl_plain.specs.declared.command.Task.TheVariants as task
-use Rattle.pl_plain.specs.Numbers.{number_in}
-use Rattle.pl_plain.specs.Words.{turns_by, command_in, command_of}
+use Rattle.pl_main.specs.declared.command.Command.TheVariants as command
+use Rattle.pl_main.specs.declared.command.Task.{Task}
+use Rattle.pl_main.specs.declared.command.Task.TheVariants as task
+use Rattle.pl_main.specs.Numbers.{number_in}
+use Rattle.pl_main.specs.Words.{turns_by, command_in, command_of}
 use Rattle.pl_main.specs.declared.halt.Halt.{Halt}
 use Rattle.pl_main.specs.declared.halt.Halt.TheVariants as halt
 use Rattle.pl_main.specs.declared.outcome.Outcome.{Outcome}

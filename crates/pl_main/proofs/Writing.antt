@@ -2,11 +2,11 @@
 use Rattle.std.proofs.Common.{◌≡◌, ℕ, suc, ◌+◌, ◌<◌, ◌≤◌, List, [], ◌∷◌, ◌++◌, length, drop, get_or, drop-cons, add-one, Option, Some, None, IfSome, refl, sym, ◌∙◌, ap, subst, append_assoc, arith}
 use Rattle.std.proofs.lemmas.List.{append-nil}
 use Rattle.pl_model.specs.declared.whole.Model.{Model}
-use Rattle.pl_machine.specs.declared.options.Options.{Options}
-use Rattle.pl_machine.specs.declared.event.Reply.{Reply}
-use Rattle.pl_machine.specs.declared.event.Entry.{Entry}
+use Rattle.pl_facts.specs.declared.options.Options.{Options}
+use Rattle.pl_entry.specs.declared.reply.Reply.{Reply}
+use Rattle.pl_entry.specs.declared.entry.Entry.{Entry}
 use Rattle.pl_machine.specs.Legal.{Legal, IsOpenedRun, options_in}
-use Rattle.pl_journal.specs.Lines.{line_of, text_from}
+use Rattle.pl_render.specs.Lines.{line_of, text_from}
 use Rattle.pl_main.specs.Written.{Adds}
 
 -- what is still to be written gives the whole text
@@ -37,7 +37,7 @@ adds_more old mid new line rest whole front adds = record {
 
 opened_short : (m : Model) (o : Option Options) (answer : Reply) (es : List Entry) → IsOpenedRun m o answer es → length es + 1 ≤ 250000
 opened_short m None answer es run = absurd run
-opened_short m (Some o) answer es run = omega (arith, run.bounded, run.options_fit.entries_high)
+opened_short m (Some o) answer es run = omega (arith, run.bounded, run.options.entries.1)
 
 pub log_is_short : (m : Model) (log : List Entry) → Legal m log → length log ≤ 250000
 log_is_short m [] legal = absurd legal

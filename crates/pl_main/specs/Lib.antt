@@ -1,3 +1,6 @@
+pub mod Numbers
+pub mod Words
+pub mod Solo
 pub mod Reads
 pub mod Heads
 pub mod Waits

@@ -4,9 +4,8 @@ use Rattle.pl_io.specs.Lines.{lines_of}
 use Rattle.pl_model.specs.declared.whole.Model.{Model}
 use Rattle.pl_machine.specs.Lines.{split_of}
 use Rattle.pl_accept.specs.Accepting.{IsModelText}
-use Rattle.pl_plain.specs.Models.{IsRunnable}
-use Rattle.pl_plain.specs.declared.command.Task.{Task}
-use Rattle.pl_plain.specs.declared.command.Task.TheVariants as task
+use Rattle.pl_main.specs.declared.command.Task.{Task}
+use Rattle.pl_main.specs.declared.command.Task.TheVariants as task
 use Rattle.pl_main.specs.Top.{total_limit, IsPastLimit, IsPastHead}
 
 -- Each line is within the line limit, and the input within the total limit.
@@ -14,13 +13,12 @@ pub record IsWithinLimits (input : List ℕ) : Type 0 where
   pub lines : All (λ line. length line ≤ 4096) (lines_of input)
   pub total : length input ≤ total_limit
 
--- The input begins with the text of a model that the program runs, and no line that is asked for passes a limit.
+-- The input begins with the text of a model, and no line that is asked for passes a limit.
 pub record CanRun (turns : ℕ) (input : List ℕ) : Type 0 where
   pub words : List ℕ
   pub model : Model
   pub text : (split_of input).text ≡ Some words
   pub accepted : IsModelText words model
-  pub runnable : IsRunnable model
   pub no_limit : (held now : Option (List ℕ)) → IsPastLimit turns input held now → ⊥
 
 -- The same for a check, which runs nothing.

@@ -5,14 +5,14 @@ use Rattle.pl_io.specs.Reader.{Reader, NumberedLine}
 use Rattle.pl_io.specs.Sparing.{read_size}
 use Rattle.pl_io.specs.declared.errors.LineFault.{LineFault}
 use Rattle.pl_io.specs.declared.errors.LineFault.TheVariants as fault
-use Rattle.pl_machine.specs.declared.event.Entry.{Entry}
+use Rattle.pl_entry.specs.declared.entry.Entry.{Entry}
 use Rattle.pl_machine.specs.Lines.{messages_of}
 use Rattle.pl_machine.specs.Legal.{world_from}
-use Rattle.pl_machine.specs.Solo.{solo_from}
+use Rattle.pl_main.specs.Solo.{solo_from}
 use Rattle.pl_machine.specs.Finished.{inputs_of}
 use Rattle.pl_machine.specs.Sound.{State}
 use Rattle.pl_driver.specs.Rounds.{SameRun}
-use Rattle.pl_journal.specs.Lines.{text_from}
+use Rattle.pl_render.specs.Lines.{text_from}
 use Rattle.pl_main.specs.declared.halt.Halt.{Halt}
 use Rattle.pl_main.specs.declared.halt.Halt.TheVariants as halt
 use Rattle.pl_main.specs.Reads.{GaveKnown, Took}
@@ -53,7 +53,7 @@ pub record Plays (old : State) (start : Place) (held : Option (List ℕ)) (new :
   pub messages : messages_of lines ≡ inputs_of entries ++ None ∷ []
   pub ready : IsReady new
   pub same : SameRun old new
-  pub written : Adds held now (text_from old.world.scene.model (length old.log) entries)
+  pub written : Adds held now (text_from old.model (length old.log) entries)
 
 -- The messages of these lines end with the input, or with the last of the lines, whatever stands behind it.
 pub data EndsWith (rest : List ℕ) (lines : List (List ℕ)) (inputs : List (Option (List ℕ))) : Type 0 where
@@ -81,7 +81,7 @@ pub record PlaysOut (old : State) (start : Place) (held : Option (List ℕ)) (ne
   pub closed : new.world.closed ≡ true
   pub unspoiled : new.spoiled ≡ false
   pub same : SameRun old new
-  pub written : Adds held now (text_from old.world.scene.model (length old.log) entries)
+  pub written : Adds held now (text_from old.model (length old.log) entries)
 
 -- a line or the input is too long
 abbrev pub TooLong : ℕ → Option (List ℕ) → Type 0
@@ -110,17 +110,17 @@ pub record PlayHalts (e : Halt) (old : State) (start : Place) (held : Option (Li
   pub messages : messages_of lines ≡ inputs_of entries ++ None ∷ []
   pub ready : IsReady new
   pub same : SameRun old new
-  pub written : Adds held now (text_from old.world.scene.model (length old.log) entries)
+  pub written : Adds held now (text_from old.model (length old.log) entries)
 
 -- The message was answered.
 pub record Answered (old : State) (input : Option (List ℕ)) (held : Option (List ℕ)) (new : State) (now : Option (List ℕ)) : Type 0 where
   pub told : Told old input new
-  pub written : Adds held now (text_from old.world.scene.model (length old.log) (drop (length old.log) new.log))
+  pub written : Adds held now (text_from old.model (length old.log) (drop (length old.log) new.log))
 
 -- The log is full.
 pub record Filled (old : State) (input : Option (List ℕ)) (held : Option (List ℕ)) (new : State) (now : Option (List ℕ)) : Type 0 where
   pub fills : FillsUp old input new
-  pub written : Adds held now (text_from old.world.scene.model (length old.log) (drop (length old.log) new.log))
+  pub written : Adds held now (text_from old.model (length old.log) (drop (length old.log) new.log))
 
 abbrev pub Answering : State → Option (List ℕ) → Option (List ℕ) → Result Bool Halt → State → Option (List ℕ) → Type 0
 Answering old input held (Ok done) new now = Answered old input held new now × (done ≡ new.world.done)
@@ -139,14 +139,14 @@ pub record StepsOn (old : State) (start : Place) (held : Option (List ℕ)) (new
   pub message : Option NumberedLine
   pub gets : MessageGives start.reader start.ahead (Ok message) place.reader place.ahead
   pub told : Told old (line_in message) new
-  pub written : Adds held now (text_from old.world.scene.model (length old.log) (drop (length old.log) new.log))
+  pub written : Adds held now (text_from old.model (length old.log) (drop (length old.log) new.log))
 
 -- The log is full while an entry is due.
 pub record StepFills (old : State) (start : Place) (held : Option (List ℕ)) (new : State) (place : Place) (now : Option (List ℕ)) : Type 0 where
   pub message : Option NumberedLine
   pub gets : MessageGives start.reader start.ahead (Ok message) place.reader place.ahead
   pub fills : FillsUp old (line_in message) new
-  pub written : Adds held now (text_from old.world.scene.model (length old.log) (drop (length old.log) new.log))
+  pub written : Adds held now (text_from old.model (length old.log) (drop (length old.log) new.log))
 
 -- The next line is not given.
 pub record StepHalts (e : Halt) (old : State) (start : Place) (held : Option (List ℕ)) (new : State) (now : Option (List ℕ)) : Type 0 where

@@ -1,15 +1,14 @@
 -- A run over a model, and over the text of one.
-use Rattle.std.specs.Prelude.{◌≡◌, ℕ, List, [], ◌∷◌, false, Option, Some, None, ◌⊎◌, Result, Ok, Err, ⊤}
+use Rattle.std.specs.Prelude.{◌≡◌, ℕ, List, [], ◌∷◌, false, Option, Some, None, Result, Ok, Err, ⊤}
 use Rattle.std.specs.declared.vec.Vec.{Vec}
 use Rattle.std.specs.declared.alloc.Global.{Global}
 use Rattle.pl_model.specs.declared.whole.Model.{Model}
 use Rattle.pl_machine.specs.Legal.{Legal, opening}
 use Rattle.pl_machine.specs.World.{fresh_world}
 use Rattle.pl_machine.specs.Sound.{State}
-use Rattle.pl_journal.specs.Lines.{text_from}
+use Rattle.pl_render.specs.Lines.{text_from}
 use Rattle.pl_accept.specs.declared.accepting.Accepted.{Accepted}
 use Rattle.pl_accept.specs.Accepting.{IsModelText, IsRefusedAs, Accepts}
-use Rattle.pl_plain.specs.Models.{IsRunnable}
 use Rattle.pl_main.specs.declared.halt.Halt.{Halt}
 use Rattle.pl_main.specs.declared.halt.Halt.TheVariants as halt
 use Rattle.pl_main.specs.declared.outcome.Outcome.{Outcome}
@@ -17,10 +16,10 @@ use Rattle.pl_main.specs.declared.outcome.Outcome.TheVariants as outcome
 use Rattle.pl_main.specs.Heads.{Keeps}
 use Rattle.pl_main.specs.Written.{Adds}
 use Rattle.pl_main.specs.Plays.{Place, Playing}
-use Rattle.pl_main.specs.Top.{program_options, not_built_line, model_ok_line}
+use Rattle.pl_main.specs.Top.{program_options, model_ok_line}
 
 abbrev pub fresh_state : ℕ → Model → State
-fresh_state turns m = record { spoiled = false; log = opening (program_options turns) ∷ []; world = fresh_world m (program_options turns) }
+fresh_state turns m = record { spoiled = false; model = m; log = opening (program_options turns) ∷ []; world = fresh_world m (program_options turns) }
 
 -- The open entry's line was written, and then the messages were played.
 pub record ModelRun (turns : ℕ) (model : Model) (start : Place) (held : Option (List ℕ))
@@ -29,7 +28,7 @@ pub record ModelRun (turns : ℕ) (model : Model) (start : Place) (held : Option
   pub new : State
   pub first : Adds held opened (text_from model 0 (opening (program_options turns) ∷ []))
   pub playing : Playing (fresh_state turns model) start opened r new place now
-  pub legal : Legal new.world.scene.model new.log
+  pub legal : Legal new.model new.log
 
 abbrev pub ModelRuns : ℕ → Model → Place → Option (List ℕ) → Result (Unit {0}) Halt → Place
     → Option (List ℕ) → Type 0
@@ -54,7 +53,6 @@ pub record TextRun (turns : ℕ) (kept : Option (Vec ℕ Global)) (start : Place
     (r : Result (Unit {0}) Halt) (place : Place) (now : Option (List ℕ)) : Type 0 where
   pub model : Model
   pub text : IsKeptModel kept model
-  pub runnable : IsRunnable model
   pub run : ModelRun turns model start held r place now
 
 -- The text is no model's, and its fault was written.
@@ -63,17 +61,11 @@ pub record TextFails (kept : Option (Vec ℕ Global)) (held now : Option (List �
   pub refused : (words : List ℕ) → Keeps kept words → IsRefusedAs words line
   pub written : Adds held now line
 
-pub record TextWaits (kept : Option (Vec ℕ Global)) (held now : Option (List ℕ)) : Type 0 where
-  pub model : Model
-  pub text : IsKeptModel kept model
-  pub other : IsRunnable model → ⊥
-  pub written : Adds held now not_built_line
-
 -- Behind a text that is refused no line is asked for.
 abbrev pub TextRuns : ℕ → Option (Vec ℕ Global) → Place → Option (List ℕ) → Result Outcome Halt → Place
     → Option (List ℕ) → Type 0
 TextRuns turns kept start held (Ok outcome.Refused) place now =
-    (TextFails kept held now ⊎ TextWaits kept held now) × (place ≡ start)
+    TextFails kept held now × (place ≡ start)
 TextRuns turns kept start held (Ok outcome.Done) place now =
     TextRun turns kept start held (Ok tt) place now
 TextRuns turns kept start held (Err halt.Limit) place now =

@@ -1,12 +1,12 @@
 -- The statuses of the program.
 use Rattle.std.specs.Prelude.{◌≡◌, ℕ, ◌≤◌, List, Option, Some, None, Result, Ok, Err, ⊤, codes, ◌++◌, ◌∷◌, []}
-use Rattle.pl_plain.specs.declared.command.Task.{Task}
-use Rattle.pl_plain.specs.declared.command.Task.TheVariants as task
+use Rattle.pl_main.specs.declared.command.Task.{Task}
+use Rattle.pl_main.specs.declared.command.Task.TheVariants as task
 use Rattle.pl_main.specs.declared.halt.Halt.{Halt}
 use Rattle.pl_main.specs.declared.halt.Halt.TheVariants as halt
 use Rattle.pl_main.specs.declared.outcome.Outcome.{Outcome}
 use Rattle.pl_main.specs.declared.outcome.Outcome.TheVariants as outcome
-use Rattle.pl_main.specs.Top.{IsDone, IsRefused, IsReadFault, IsPastLimit, IsFull, IsFound, IsNoModel, IsHeadFault, IsPastHead}
+use Rattle.pl_main.specs.Top.{IsDone, IsReadFault, IsPastLimit, IsFull, IsFound, IsNoModel, IsHeadFault, IsPastHead}
 
 -- 0 done, 3 the model is refused, 4 a read failed, 5 a write failed, 6 a line or the input is too long, 7 the log is full, 9 memory
 abbrev pub status_of : Result Outcome Halt → ℕ
@@ -26,7 +26,7 @@ IsTask task.Check = ⊤
 pub record SaysRan (turns : ℕ) (input : List ℕ) (source_left held now : Option (List ℕ)) (status : ℕ)
     : Type 0 where
   pub done : status ≡ 0 → IsDone turns input source_left held now
-  pub refused : status ≡ 3 → IsRefused input source_left held now
+  pub refused : status ≡ 3 → IsNoModel input source_left held now
   pub read_fault : status ≡ 4 → IsReadFault turns input held now
   pub limit : status ≡ 6 → IsPastLimit turns input held now
   pub full : status ≡ 7 → IsFull turns input source_left held now

@@ -3,15 +3,14 @@ use Rattle.std.specs.Prelude.{◌≡◌, ℕ, ◌<◌, ◌⊎◌, List, [], ◌�
 use Rattle.pl_io.specs.Lines.{ahead, next_of, line_too_long, input_too_long}
 use Rattle.pl_io.specs.Sparing.{read_size}
 use Rattle.pl_model.specs.declared.whole.Model.{Model}
-use Rattle.pl_machine.specs.declared.options.Options.{Options}
-use Rattle.pl_machine.specs.declared.event.Entry.{Entry}
+use Rattle.pl_facts.specs.declared.options.Options.{Options}
+use Rattle.pl_entry.specs.declared.entry.Entry.{Entry}
 use Rattle.pl_machine.specs.Lines.{model_text_of, lines_behind, messages_of, split_of}
 use Rattle.pl_machine.specs.Legal.{Legal, options_of, world_of}
-use Rattle.pl_machine.specs.Solo.{Solo}
+use Rattle.pl_main.specs.Solo.{Solo}
 use Rattle.pl_machine.specs.Finished.{inputs_of, Finished}
-use Rattle.pl_journal.specs.Lines.{text_of_log}
+use Rattle.pl_render.specs.Lines.{text_of_log}
 use Rattle.pl_accept.specs.Accepting.{IsModelText, IsRefusedAs}
-use Rattle.pl_plain.specs.Models.{IsRunnable}
 use Rattle.pl_main.specs.declared.halt.Halt.{Halt}
 use Rattle.pl_main.specs.declared.halt.Halt.TheVariants as halt
 use Rattle.pl_main.specs.declared.outcome.Outcome.{Outcome}
@@ -56,7 +55,6 @@ pub record IsDone (turns : ℕ) (input : List ℕ) (source_left held now : Optio
   pub words : List ℕ
   pub text : (split_of input).text ≡ Some words
   pub accepted : IsModelText words model
-  pub runnable : IsRunnable model
   pub finished : Finished model log input
   pub closed : (world_of model log).closed ≡ true
   pub solo : Solo model log
@@ -79,9 +77,6 @@ pub record HasHead (input words : List ℕ) (source_left : Option (List ℕ)) : 
 abbrev pub no_begin_line : List ℕ
 no_begin_line = codes "model: no begin" ++ 10 ∷ []
 
-abbrev pub not_built_line : List ℕ
-not_built_line = codes "model: not built" ++ 10 ∷ []
-
 -- The input begins with no model: there is no `begin` line, or the text before it has a fault, which was written. All lines, or those up to `begin`, are within the limits.
 pub data IsNoModel (input : List ℕ) (source_left held now : Option (List ℕ)) : Type 0 where
   no_begin : (lines : List (List ℕ)) (left : ℕ) → Gave total_limit input lines left []
@@ -90,13 +85,6 @@ pub data IsNoModel (input : List ℕ) (source_left held now : Option (List ℕ))
   faulty : (words line : List ℕ) → HasHead input words source_left → IsRefusedAs words line
       → Adds held now line → IsNoModel input source_left held now
 
--- The model is refused: there is none, or it is one that the program cannot run so far.
-pub data IsRefused (input : List ℕ) (source_left held now : Option (List ℕ)) : Type 0 where
-  no_model : IsNoModel input source_left held now → IsRefused input source_left held now
-  not_built : (words : List ℕ) → (model : Model) → HasHead input words source_left
-      → IsModelText words model → (IsRunnable model → ⊥) → Adds held now not_built_line
-      → IsRefused input source_left held now
-
 -- a solo log of the program that answers the messages among these lines and waits for the next
 pub record WaitsBehind (turns : ℕ) (lines : List (List ℕ)) (held now : Option (List ℕ)) : Type 0 where
   pub model : Model
@@ -104,7 +92,6 @@ pub record WaitsBehind (turns : ℕ) (lines : List (List ℕ)) (held now : Optio
   pub words : List ℕ
   pub text : model_text_of lines ≡ Some words
   pub accepted : IsModelText words model
-  pub runnable : IsRunnable model
   pub legal : Legal model log
   pub solo : Solo model log
   pub options : options_of log ≡ program_options turns
@@ -138,7 +125,6 @@ pub record IsFull (turns : ℕ) (input : List ℕ) (source_left held now : Optio
   pub words : List ℕ
   pub text : (split_of input).text ≡ Some words
   pub accepted : IsModelText words model
-  pub runnable : IsRunnable model
   pub legal : Legal model log
   pub solo : Solo model log
   pub options : options_of log ≡ program_options turns
@@ -155,7 +141,7 @@ pub record IsFull (turns : ℕ) (input : List ℕ) (source_left held now : Optio
 -- How a run ended, where the input's bytes are known.
 abbrev pub Ran : ℕ → List ℕ → (source_left held now : Option (List ℕ)) → Result Outcome Halt → Type 0
 Ran turns input source_left held now (Ok outcome.Done) = IsDone turns input source_left held now
-Ran turns input source_left held now (Ok outcome.Refused) = IsRefused input source_left held now
+Ran turns input source_left held now (Ok outcome.Refused) = IsNoModel input source_left held now
 Ran turns input source_left held now (Err halt.Limit) = IsPastLimit turns input held now
 Ran turns input source_left held now (Err halt.Full) = IsFull turns input source_left held now
 Ran turns input source_left held now (Err halt.Read) = IsReadFault turns input held now

@@ -1,8 +1,9 @@
-ghost use Rattle.std.specs.Prelude.{◌≡◌};
+ghost use Rattle.std.specs.Prelude.{◌≡◌, IfSome};
 ghost use Rattle.std.specs.Option.{option_copied};
-ghost use Rattle.pl_machine.specs.Legal.{InputFits};
+ghost use Rattle.pl_entry.specs.Bounds.{IsMessageLine};
 ghost use Rattle.pl_main.specs.Tells.{IsReady, Hearing, Telling};
 
+use pl_choose::Least;
 use pl_driver::solo_round;
 use pl_machine::{Machine, Stop};
 use std::alloc::Global;
@@ -10,7 +11,7 @@ use std::alloc::Global;
 #[tactic(auto, using(crate::proofs::Telling::takes_hears))]
 fn hear(machine: &mut Machine, line: Option<&[u8]>) -> Result<(), Stop>
     requires ready { IsReady machine.old }
-    requires fits { InputFits (option_copied line) }
+    requires fits { IfSome (option_copied line) IsMessageLine }
     ensures { Hearing machine.old (option_copied line.entry) result machine.new }
 {
     machine.input(line)?;
@@ -18,16 +19,16 @@ fn hear(machine: &mut Machine, line: Option<&[u8]>) -> Result<(), Stop>
 }
 
 /// Takes a message, or the end of the input, and goes on to the close of its round.
-#[tactic(auto, using(crate::proofs::Telling::told_last, crate::proofs::Telling::told_round, crate::proofs::Telling::told_in_part, crate::proofs::Telling::told_at_once))]
+#[tactic(auto, using(crate::proofs::Telling::told_last, crate::proofs::Telling::told_at_once))]
 pub fn tell(alloc: Global, machine: &mut Machine, line: Option<&[u8]>) -> Result<(), Stop>
     requires ready { IsReady machine.old }
-    requires fits { InputFits (option_copied line) }
+    requires fits { IfSome (option_copied line) IsMessageLine }
     ensures { Telling machine.old (option_copied line.entry) result machine.new }
 {
     hear(machine, line)?;
     if machine.done() {
         return Ok(());
     }
-    solo_round(alloc, machine)?;
-    Ok(())
+    let mut chooser = Least;
+    solo_round(alloc, machine, &mut chooser)
 }

@@ -1,4 +1,5 @@
 ghost use Rattle.std.specs.Prelude.{◌≡◌, ◌≤◌, OnOk, IfOk, IfErr};
+ghost use Rattle.pl_accept.specs.Accepting.{HoldsChecked};
 ghost use Rattle.pl_main.specs.Runs.{AcceptsKept};
 ghost use Rattle.pl_main.specs.Written.{Adds, WriteStops};
 
@@ -21,7 +22,8 @@ pub fn refuse<O: Sink>(out: &mut O, line: &[u8]) -> Result<Outcome, Halt>
 
 /// What the text that was kept is.
 pub fn model_of(alloc: Global, kept: &Option<Vec<u8>>) -> Result<Accepted, AllocError>
-    ensures { IfOk result (AcceptsKept kept.now) }
+    ensures accepts { IfOk result (AcceptsKept kept.now) }
+    ensures checked { IfOk result HoldsChecked }
 {
     match kept {
         None => too_long(alloc),

@@ -1,21 +1,21 @@
 //! No input has the causes of two statuses.
 ghost use Rattle.std.specs.Prelude.{ℕ, List, Option};
-ghost use Rattle.pl_main.specs.Top.{IsDone, IsRefused, IsPastLimit, IsFull, IsFound, IsNoModel, IsPastHead};
+ghost use Rattle.pl_main.specs.Top.{IsDone, IsPastLimit, IsFull, IsFound, IsNoModel, IsPastHead};
 ghost use Rattle.pl_main.specs.Limits.{IsWithinLimits};
 
 /// The causes of the statuses 0, 3, 6 and 7 of a run stand one at a time, whatever was written, and
 /// so do those of the statuses 0, 3 and 6 of a check. An input within the limits has no cause of 6.
 pub fn statuses_are_told_apart()
     ensures done_not_refused { (turns : ℕ) (input : List ℕ) (left held now other_left other_held other_now : Option (List ℕ))
-        → IsDone turns input left held now → IsRefused input other_left other_held other_now → ⊥ }
+        → IsDone turns input left held now → IsNoModel input other_left other_held other_now → ⊥ }
     ensures done_not_past { (turns : ℕ) (input : List ℕ) (left held now other_held other_now : Option (List ℕ))
         → IsDone turns input left held now → IsPastLimit turns input other_held other_now → ⊥ }
     ensures done_not_full { (turns : ℕ) (input : List ℕ) (left held now other_left other_held other_now : Option (List ℕ))
         → IsDone turns input left held now → IsFull turns input other_left other_held other_now → ⊥ }
     ensures refused_not_past { (turns : ℕ) (input : List ℕ) (left held now other_held other_now : Option (List ℕ))
-        → IsRefused input left held now → IsPastLimit turns input other_held other_now → ⊥ }
+        → IsNoModel input left held now → IsPastLimit turns input other_held other_now → ⊥ }
     ensures refused_not_full { (turns : ℕ) (input : List ℕ) (left held now other_left other_held other_now : Option (List ℕ))
-        → IsRefused input left held now → IsFull turns input other_left other_held other_now → ⊥ }
+        → IsNoModel input left held now → IsFull turns input other_left other_held other_now → ⊥ }
     ensures past_not_full { (turns : ℕ) (input : List ℕ) (held now other_left other_held other_now : Option (List ℕ))
         → IsPastLimit turns input held now → IsFull turns input other_left other_held other_now → ⊥ }
     ensures found_not_refused { (input : List ℕ) (left held now other_left other_held other_now : Option (List ℕ))

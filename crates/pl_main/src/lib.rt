@@ -3,18 +3,25 @@
 
 mod answers;
 mod check;
+mod command;
 mod found;
 mod halt;
 mod head;
 mod judging;
 mod laws;
 mod messages;
+mod number;
 mod outcome;
 mod play;
 mod reads;
+mod sharing;
 mod top;
 mod whole;
+mod words;
 mod writes;
 
+pub use command::{Command, Task};
 pub use laws::statuses_are_told_apart;
+pub use sharing::shared_types;
 pub use top::{run, run_solo};
+pub use words::read_words;

@@ -1,8 +1,8 @@
-ghost use Rattle.std.specs.Prelude.{◌≡◌, ◌≤◌, None, IsErrOf, IfErr, length, ◌<◌};
+ghost use Rattle.std.specs.Prelude.{◌≡◌, ◌≤◌, None, IsErrOf, IfErr, IfSome, All, length, ◌<◌};
 ghost use Rattle.std.specs.Option.{option_copied};
 ghost use Rattle.pl_io.specs.Faults.{Rose};
 ghost use Rattle.pl_io.specs.Sparing.{read_size};
-ghost use Rattle.pl_machine.specs.Legal.{InputFits};
+ghost use Rattle.pl_entry.specs.Bounds.{IsMessageLine};
 ghost use Rattle.pl_main.specs.Tells.{IsReady};
 ghost use Rattle.pl_main.specs.Plays.{place_of, line_in, HaltFor, Answering, Steps, Playing};
 
@@ -14,12 +14,22 @@ use pl_io::{Line, LineFault, LineReader, Sink, Source};
 use pl_machine::{Machine, Stop};
 use std::alloc::Global;
 
+/// The bytes of a line.
+fn bytes_of(line: &Line) -> &[u8]
+    ensures same { result.now ≡ line.now.bytes }
+    ensures bytes { All (λ byte. byte < 256) result.now }
+{
+    let bytes = line.bytes();
+    bytes
+}
+
 fn line_in(message: &Option<Line>) -> Option<&[u8]>
-    ensures { option_copied result ≡ line_in message.now }
+    ensures same { option_copied result ≡ line_in message.now }
+    ensures bytes { IfSome (option_copied result) (λ bytes. All (λ byte. byte < 256) bytes) }
 {
     match message {
         None => None,
-        Some(line) => Some(line.bytes()),
+        Some(line) => Some(bytes_of(line)),
     }
 }
 
@@ -31,7 +41,7 @@ fn answer<O: Sink>(
     out: &mut O,
 ) -> Result<bool, Halt>
     requires ready { IsReady machine.old }
-    requires fits { InputFits (option_copied line) }
+    requires fits { IfSome (option_copied line) IsMessageLine }
     ensures answer { Answering machine.old (option_copied line.entry) (O.held out.old) result machine.new (O.held out.new) }
     ensures cause { IsErrOf result Halt.Write → Rose (O.faults out.old) (O.faults out.new) }
     ensures later { O.faults out.old ≤ O.faults out.new }

@@ -1,16 +1,17 @@
 ghost use Rattle.std.specs.Prelude.{◌≡◌, ◌⊎◌, ℕ, None, Some, IfSome};
 ghost use Rattle.pl_io.specs.Faults.{Rose};
-ghost use Rattle.pl_plain.specs.Words.{command_of};
+ghost use Rattle.pl_main.specs.Words.{command_of};
 ghost use Rattle.pl_main.specs.Limits.{CanDo, IsDoneBy};
 ghost use Rattle.pl_main.specs.Statuses.{IsTask, IsSoloStatus, status_of, usage_line, SaysKnown};
 ghost use Rattle.pl_main.specs.Written.{Adds};
 
 use crate::check::check;
+use crate::command::{Command, Task};
 use crate::halt::Halt;
 use crate::outcome::Outcome;
 use crate::whole::solo;
+use crate::words::read_words;
 use pl_io::{Sink, Source, put};
-use pl_plain::{Command, Task, read_words};
 use std::alloc::Global;
 
 fn status_of(ended: Result<Outcome, Halt>) -> u8

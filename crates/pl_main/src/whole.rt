@@ -1,7 +1,7 @@
 ghost use Rattle.std.specs.Prelude.{◌≡◌, ◌≤◌, None, IsErrOf, ◌<◌, length};
 ghost use Rattle.pl_io.specs.Faults.{Rose};
 ghost use Rattle.pl_io.specs.Sparing.{read_size};
-ghost use Rattle.pl_machine.specs.Plain.{IsPlain};
+ghost use Rattle.pl_model.specs.Checked.{IsChecked};
 ghost use Rattle.pl_main.specs.Plays.{place_of};
 ghost use Rattle.pl_main.specs.Runs.{ModelRuns, TextRuns};
 ghost use Rattle.pl_main.specs.Top.{program_options, RanKnown};
@@ -14,10 +14,10 @@ use crate::outcome::Outcome;
 use crate::play::{halt_of, play};
 use crate::writes::write_log;
 use pl_accept::Accepted;
+use pl_facts::Options;
 use pl_io::{LineReader, Sink, Source};
-use pl_machine::{Machine, Options};
+use pl_machine::Machine;
 use pl_model::Model;
-use pl_plain::is_runnable;
 use std::alloc::Global;
 use std::sync::Arc;
 
@@ -46,7 +46,7 @@ fn run_model<S: Source, O: Sink>(
     src: &mut S,
     out: &mut O,
 ) -> Result<(), Halt>
-    requires plain { IsPlain model }
+    requires checked { IsChecked model }
     requires turns { (1 ≤ turns) × (turns ≤ 1000) }
     requires limit { lines.old.limit ≡ 4096 }
     requires working { lines.old.failed ≡ None }
@@ -67,7 +67,7 @@ fn run_model<S: Source, O: Sink>(
     }
 }
 
-#[tactic(auto, using(crate::proofs::Ending::text_refused, crate::proofs::Ending::text_waits, crate::proofs::Ending::text_ran, crate::proofs::Ending::text_stops))]
+#[tactic(auto, using(crate::proofs::Ending::text_refused, crate::proofs::Ending::text_ran, crate::proofs::Ending::text_stops))]
 fn run_text<S: Source, O: Sink>(
     alloc: Global,
     turns: u32,
@@ -87,15 +87,10 @@ fn run_text<S: Source, O: Sink>(
 {
     match model_of(alloc, &kept)? {
         Accepted::Refused(line) => refuse(out, line.as_slice()),
-        Accepted::Model(model) => {
-            if !is_runnable(&model) {
-                return refuse(out, b"model: not built\n");
-            }
-            match run_model(alloc, turns, model, lines, src, out) {
-                Ok(()) => Ok(Outcome::Done),
-                Err(halt) => Err(halt),
-            }
-        }
+        Accepted::Model(model) => match run_model(alloc, turns, model, lines, src, out) {
+            Ok(()) => Ok(Outcome::Done),
+            Err(halt) => Err(halt),
+        },
     }
 }
 

@@ -1,12 +1,13 @@
 ghost use Rattle.std.specs.Prelude.{◌≡◌, ◌≤◌, ◌+◌, ◌<◌, OnOk, IfErr, length, drop};
-ghost use Rattle.pl_journal.specs.Lines.{line_of, text_from};
+ghost use Rattle.pl_render.specs.Lines.{line_of, text_from};
 ghost use Rattle.pl_main.specs.Written.{Adds, WriteStops};
 
 use crate::halt::Halt;
+use pl_entry::Entry;
 use pl_io::{Sink, put};
-use pl_journal::render;
-use pl_machine::{Entry, Machine};
+use pl_machine::Machine;
 use pl_model::Model;
+use pl_render::render;
 use std::alloc::Global;
 
 fn write_entry<O: Sink>(
@@ -55,7 +56,7 @@ pub fn write_log<O: Sink>(
     out: &mut O,
 ) -> Result<(), Halt>
     requires { from ≤ length machine.now.log }
-    ensures text { OnOk result (Adds (O.held out.old) (O.held out.new) (text_from machine.now.world.scene.model from (drop from machine.now.log))) }
+    ensures text { OnOk result (Adds (O.held out.old) (O.held out.new) (text_from machine.now.model from (drop from machine.now.log))) }
     ensures cause { IfErr result (WriteStops (O.faults out.old) (O.faults out.new)) }
     ensures later { O.faults out.old ≤ O.faults out.new }
 {

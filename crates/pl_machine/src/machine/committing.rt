@@ -1,107 +1,121 @@
-ghost use Rattle.std.specs.Prelude.{◌≡◌, ◌≤◌, ◌⊎◌, false};
-ghost use Rattle.pl_machine.specs.Horizon.{target_of, best_of};
-ghost use Rattle.pl_machine.specs.Step.{behind_of, commit_reply};
+ghost use Rattle.std.specs.Prelude.{◌≡◌, ◌⊎◌, ◌↔◌, false, IfOk};
+ghost use Rattle.pl_entry.specs.Bounds.{IsConflictInRange, IsCommitReply};
+ghost use Rattle.pl_world.specs.Grants.{IsGrantable};
+ghost use Rattle.pl_world.specs.Whole.{IsWhole};
+ghost use Rattle.pl_machine.specs.Step.{behind_of, target_in, best_in, first_conflict, commit_reply, held_reply};
 ghost use Rattle.pl_machine.specs.Taking.{IsOpen, Answers};
 
-use crate::event::{Event, Reply};
-use crate::machine::{Machine, push_entry};
+use crate::change::Change;
+use crate::machine::Machine;
+use crate::ranges::known_conflict;
+use crate::round::Round;
 use crate::stop::Stop;
 use pl_conflict::Conflict;
+use pl_entry::{Event, Reply, best, target};
 
 impl Machine {
-    pub(crate) fn target(&self) -> u32
-        ensures { result ≡ target_of self.now.world.scene }
+    pub(crate) fn behind(&self) -> u32
+        ensures { result ≡ behind_of self.now.world.state }
     {
-        let model = self.plan.model();
-        (self.plan.moment() + model.lead).min(model.horizon)
+        self.board.committed().max(self.board.now())
+    }
+
+    pub(crate) fn target(&self) -> u32
+        ensures { result ≡ target_in self.now.world.state }
+    {
+        target(self.board.model(), self.board.now())
+    }
+
+    fn first(&self) -> Option<Conflict>
+        requires { self.now.spoiled ≡ false }
+        ensures { result ≡ first_conflict self.now.world.state }
+    {
+        self.board.conflicts().first()
     }
 
     pub(crate) fn best(&self) -> u32
         requires { self.now.spoiled ≡ false }
-        ensures { result ≡ best_of self.now.world.scene }
+        ensures { result ≡ best_in self.now.world.state }
     {
-        let target = self.target();
-        match self.conflicts.first() {
-            None => target,
-            Some(conflict) => target.min(conflict.from),
-        }
+        best(self.board.model(), self.board.now(), self.first())
     }
 
-    pub(crate) fn behind(&self) -> u32
-        ensures { result ≡ behind_of self.now.world.scene }
-    {
-        self.plan.committed().max(self.plan.moment())
-    }
-
-    fn commit_reply(&self, horizon: u32) -> Reply
+    fn held_reply(&self, h: u32) -> Reply
         requires { self.now.spoiled ≡ false }
-        ensures { result ≡ commit_reply self.now.world.scene horizon }
+        ensures value { result ≡ held_reply (first_conflict self.now.world.state) h }
+        ensures commit { IsCommitReply result }
     {
-        if horizon <= self.behind() {
-            return Reply::CommitBehind;
-        }
-        if self.plan.model().horizon < horizon {
-            return Reply::CommitBeyond;
-        }
-        match self.conflicts.first() {
-            Some(conflict) if conflict.from < horizon => Reply::Held(conflict),
+        match self.first() {
+            Some(conflict) if conflict.from < h => Reply::Held(known_conflict(&conflict)),
             _ => Reply::Done,
         }
     }
 
-    fn grant(&mut self, horizon: u32) -> Result<Reply, Stop>
-        requires open { IsOpen self.old (Event.Commit horizon) }
-        requires done { commit_reply self.old.world.scene horizon ≡ Reply.Done }
-        ensures { Answers self.old (Event.Commit horizon) result self.new }
+    fn commit_reply(&self, h: u32) -> Reply
+        requires { self.now.spoiled ≡ false }
+        ensures value { result ≡ commit_reply self.now.world.state h }
+        ensures commit { IsCommitReply result }
+        ensures whole { IsWhole self.now.world.state }
     {
-        self.spoiled = true;
-        self.plan.commit(horizon);
-        self.conflicts = self.plan.conflicts(self.alloc)?;
-        let reply = push_entry(
-            &mut self.log,
-            self.alloc,
-            Event::Commit(horizon),
-            Reply::Done,
-        )?;
-        self.spoiled = false;
-        Ok(reply)
-    }
-
-    fn hold(&mut self, horizon: u32, conflict: Conflict) -> Result<Reply, Stop>
-        requires open { IsOpen self.old (Event.Commit horizon) }
-        requires held { commit_reply self.old.world.scene horizon ≡ Reply.Held conflict }
-        ensures { Answers self.old (Event.Commit horizon) result self.new }
-    {
-        self.spoiled = true;
-        self.held = true;
-        let reply = Reply::Held(conflict);
-        let reply = push_entry(&mut self.log, self.alloc, Event::Commit(horizon), reply)?;
-        self.spoiled = false;
-        Ok(reply)
-    }
-
-    fn refuse_commit(&mut self, horizon: u32, refusal: Reply) -> Result<Reply, Stop>
-        requires open { IsOpen self.old (Event.Commit horizon) }
-        requires refusal { commit_reply self.old.world.scene horizon ≡ refusal }
-        requires other { (refusal ≡ Reply.CommitBehind) ⊎ (refusal ≡ Reply.CommitBeyond) }
-        ensures { Answers self.old (Event.Commit horizon) result self.new }
-    {
-        self.spoiled = true;
-        let reply = push_entry(&mut self.log, self.alloc, Event::Commit(horizon), refusal)?;
-        self.spoiled = false;
-        Ok(reply)
-    }
-
-    /// Commits what starts before `horizon`, where no conflict stands before it.
-    pub fn commit(&mut self, horizon: u32) -> Result<Reply, Stop>
-        ensures { Answers self.old (Event.Commit horizon) result self.new }
-    {
-        self.admit(!self.closed)?;
-        match self.commit_reply(horizon) {
-            Reply::Done => self.grant(horizon),
-            Reply::Held(conflict) => self.hold(horizon, conflict),
-            Reply::CommitBeyond => self.refuse_commit(horizon, Reply::CommitBeyond),
-            _ => self.refuse_commit(horizon, Reply::CommitBehind),
+        let state = self.board.state();
+        if h <= state.committed.max(state.moment) {
+            Reply::CommitBehind
+        } else if state.model.get().horizon < h {
+            Reply::CommitBeyond
+        } else {
+            self.held_reply(h)
         }
+    }
+
+    /// What starts before a moment is committed.
+    fn grant(&mut self, h: u32) -> Result<Reply, Stop>
+        requires open { IsOpen self.old (Event.Commit h) }
+        requires whole { IsWhole self.old.world.state }
+        requires done { commit_reply self.old.world.state h ≡ Reply.Done }
+        ensures { Answers self.old (Event.Commit h) result self.new }
+    {
+        self.carry_out(Event::Commit(h), Change::Commit(h), self.round)
+    }
+
+    fn hold(&mut self, h: u32, conflict: Conflict) -> Result<Reply, Stop>
+        requires open { IsOpen self.old (Event.Commit h) }
+        requires conflict { IsConflictInRange conflict }
+        requires held { commit_reply self.old.world.state h ≡ Reply.Held conflict }
+        ensures { Answers self.old (Event.Commit h) result self.new }
+    {
+        let round = Round {
+            held: true,
+            ..self.round
+        };
+        self.append(Event::Commit(h), Reply::Held(conflict), round)
+    }
+
+    fn refuse_commit(&mut self, h: u32, refusal: Reply) -> Result<Reply, Stop>
+        requires open { IsOpen self.old (Event.Commit h) }
+        requires other { (refusal ≡ Reply.CommitBehind) ⊎ (refusal ≡ Reply.CommitBeyond) }
+        requires refused { commit_reply self.old.world.state h ≡ refusal }
+        ensures { Answers self.old (Event.Commit h) result self.new }
+    {
+        self.append(Event::Commit(h), refusal, self.round)
+    }
+
+    fn take_commit(&mut self, h: u32) -> Result<Reply, Stop>
+        ensures { Answers self.old (Event.Commit h) result self.new }
+    {
+        self.admit(!self.round.closed)?;
+        match self.commit_reply(h) {
+            Reply::Done => self.grant(h),
+            Reply::Held(conflict) => self.hold(h, conflict),
+            Reply::CommitBeyond => self.refuse_commit(h, Reply::CommitBeyond),
+            _ => self.refuse_commit(h, Reply::CommitBehind),
+        }
+    }
+
+    /// Commits what starts before `h`, where no conflict touches it.
+    pub fn commit(&mut self, h: u32) -> Result<Reply, Stop>
+        ensures answers { Answers self.old (Event.Commit h) result self.new }
+        ensures granted { IfOk result (λ reply. (reply ≡ Reply.Done) ↔ IsGrantable self.old.world.state h) }
+    {
+        self.take_commit(h)
     }
 }

@@ -1,139 +1,106 @@
-ghost use Rattle.std.specs.Prelude.{◌≡◌, ◌≢◌, ◌<◌, ◌^◌, ◌+◌, false, true, IfOk, length, Some, None};
-ghost use Rattle.pl_conflict.specs.Order.{has};
-ghost use Rattle.pl_machine.specs.Conflicts.{conflicts_of};
-ghost use Rattle.pl_machine.specs.Candidates.{is_candidate};
-ghost use Rattle.pl_machine.specs.Moves.{refusal_of};
-ghost use Rattle.pl_machine.specs.Step.{fix_reply, done_or};
-ghost use Rattle.pl_machine.specs.Legal.{IsWord32, IsNumbered, ConflictFits, MoveFits, IsMoveOf};
+ghost use Rattle.std.specs.Prelude.{◌≡◌, ◌≢◌, ◌≤◌, not, ◌&&◌, nat_lt, false, true, IfOk, OnOk, Some};
+ghost use Rattle.pl_entry.specs.Bounds.{IsConflictInRange, IsMoveInRange, IsFixReply};
+ghost use Rattle.pl_world.specs.Moves.{is_proper, refusal_of};
+ghost use Rattle.pl_world.specs.Whole.{IsWhole};
+ghost use Rattle.pl_moves.specs.Keeping.{KeepsCommitted};
+ghost use Rattle.pl_machine.specs.Changes.{CanChange};
+ghost use Rattle.pl_machine.specs.Repairs.{IsMoveOf};
+ghost use Rattle.pl_machine.specs.Step.{is_candidate, fix_reply, refusal_reply};
 ghost use Rattle.pl_machine.specs.Taking.{IsOpen, Answers};
 
-use crate::event::{Event, Reply};
-use crate::machine::{Machine, push_entry};
-use crate::plan::{Plan, same_move};
-use crate::repair::RepairMove;
+use crate::change::Change;
+use crate::machine::Machine;
+use crate::ranges::{known_conflict, known_move, word};
+use crate::round::Round;
+use crate::same::is_among;
 use crate::stop::Stop;
+use pl_board::Board;
+use pl_cand::candidates;
 use pl_conflict::Conflict;
-use std::alloc::{AllocError, Global};
+use pl_entry::{Event, Reply};
+use pl_moves::legal;
+use pl_plan::RepairMove;
+use pl_world::{PlanState, Refusal};
+use std::alloc::AllocError;
 
-/// The number, which fits its type.
-fn word(number: u32) -> u32
-    ensures same { result ≡ number }
-    ensures fits { IsWord32 number }
+fn refusal_reply(refusal: Refusal) -> Reply
+    ensures value { result ≡ refusal_reply (Some refusal) }
+    ensures fix { IsFixReply result }
 {
-    number
-}
-
-fn word_of(number: Option<u32>) -> Option<u32>
-    ensures same { result ≡ number }
-    ensures fits { IsNumbered number }
-{
-    match number {
-        None => None,
-        Some(number) => Some(word(number)),
+    match refusal {
+        Refusal::Locked(id) => Reply::Locked(word(id)),
+        Refusal::Behind(id) => Reply::Behind(word(id)),
+        Refusal::Beyond(id) => Reply::Beyond(word(id)),
+        Refusal::Full => Reply::Full,
     }
 }
 
-fn byte(number: u8) -> u8
-    ensures same { result ≡ number }
-    ensures fits { number < 256 }
+/// The reply to a move that is a candidate.
+fn legal_reply(board: &Board, repair: &RepairMove) -> Reply
+    requires unspoiled { board.now.spoiled ≡ false }
+    requires proper { is_proper board.now.state repair.now ≡ true }
+    ensures value { result ≡ refusal_reply (refusal_of board.now.state repair.now) }
+    ensures fix { IsFixReply result }
 {
-    number
-}
-
-/// The conflict, whose numbers fit their types.
-fn known_conflict(conflict: &Conflict) -> Conflict
-    ensures same { result ≡ conflict.now }
-    ensures fits { ConflictFits conflict.now }
-{
-    Conflict {
-        from: word(conflict.from),
-        code: conflict.code,
-        subject: word(conflict.subject),
-        detail: word(conflict.detail),
-        a: word(conflict.a),
-        b: word(conflict.b),
-    }
-}
-
-/// The move, whose numbers fit their types.
-fn known_move(repair: &RepairMove) -> RepairMove
-    ensures same { result ≡ repair.now }
-    ensures fits { MoveFits repair.now }
-{
-    match *repair {
-        RepairMove::Add { kind, start, goal } => RepairMove::Add {
-            kind: word(kind),
-            start: word(start),
-            goal: word_of(goal),
-        },
-        RepairMove::Delete { id } => RepairMove::Delete { id: word(id) },
-        RepairMove::Shift { id, start } => RepairMove::Shift {
-            id: word(id),
-            start: word(start),
-        },
-        RepairMove::Detail { id, alternative } => RepairMove::Detail {
-            id: word(id),
-            alternative: word(alternative),
-        },
-        RepairMove::Abstract { id } => RepairMove::Abstract { id: word(id) },
-        RepairMove::Assign { id, param, value } => RepairMove::Assign {
-            id: word(id),
-            param: byte(param),
-            value,
-        },
-        RepairMove::Drop { goal } => RepairMove::Drop { goal: word(goal) },
-    }
-}
-
-impl Plan {
-    /// Whether a move is a candidate of a conflict.
-    fn is_candidate(
-        &self,
-        alloc: Global,
-        conflict: &Conflict,
-        repair: &RepairMove,
-    ) -> Result<bool, AllocError>
-        ensures { IfOk result (λ is. is ≡ is_candidate self.now conflict.now repair.now) }
-    {
-        let moves = self.candidates(alloc, conflict)?;
-        Ok(moves.iter().any(|other| same_move(repair, other)))
+    match legal(board, repair) {
+        Ok(()) => Reply::Done,
+        Err(refusal) => refusal_reply(refusal),
     }
 }
 
 impl Machine {
-    fn fix_reply(&self, conflict: &Conflict, repair: &RepairMove) -> Result<Reply, AllocError>
+    /// Whether a move is a candidate of a conflict that stands.
+    fn is_candidate(&self, conflict: &Conflict, repair: &RepairMove) -> Result<bool, AllocError>
         requires { self.now.spoiled ≡ false }
-        ensures { IfOk result (λ reply. reply ≡ fix_reply self.now.world.scene conflict.now repair.now) }
+        ensures { IfOk result (λ is. is ≡ is_candidate self.now.world.state conflict.now repair.now) }
     {
-        if !self.conflicts.has(conflict) {
-            return Ok(Reply::Stale);
-        }
-        if !self.plan.is_candidate(self.alloc, conflict, repair)? {
-            return Ok(Reply::NotFor);
-        }
-        match self.plan.refusal(repair) {
-            None => Ok(Reply::Done),
-            Some(refusal) => Ok(refusal),
-        }
+        let moves = candidates(self.alloc, &self.board, conflict)?;
+        Ok(is_among(repair, &moves))
     }
 
-    fn apply(&mut self, conflict: Conflict, repair: RepairMove) -> Result<Reply, Stop>
+    /// The plan state, which is whole, and whose ids are few.
+    fn standing(&self) -> &PlanState
+        requires { self.now.spoiled ≡ false }
+        ensures value { result.now ≡ self.now.world.state }
+        ensures whole { IsWhole self.now.world.state }
+        ensures next_id { self.now.world.state.next_id ≤ 3999999000 }
+    {
+        self.board.state()
+    }
+
+    #[tactic(auto, using(crate::proofs::Handed::candidate_proper), unfolding(crate::specs::Step::fix_reply))]
+    fn fix_reply(&self, conflict: &Conflict, repair: &RepairMove) -> Result<Reply, AllocError>
+        requires { self.now.spoiled ≡ false }
+        ensures value { IfOk result (λ reply. reply ≡ fix_reply self.now.world.state conflict.now repair.now) }
+        ensures fix { IfOk result IsFixReply }
+        ensures whole { IsWhole self.now.world.state }
+        ensures next_id { self.now.world.state.next_id ≤ 3999999000 }
+    {
+        let _state = self.standing();
+        if !self.board.conflicts().has(conflict) {
+            return Ok(Reply::Stale);
+        }
+        if !self.is_candidate(conflict, repair)? {
+            return Ok(Reply::NotFor);
+        }
+        Ok(legal_reply(&self.board, repair))
+    }
+
+    fn repair(&mut self, conflict: Conflict, repair: RepairMove) -> Result<Reply, Stop>
         requires open { IsOpen self.old (Event.Fix conflict repair) }
-        requires conflict { ConflictFits conflict }
-        requires numbers { MoveFits repair }
-        requires kind { IsMoveOf (length self.old.world.scene.model.kinds) repair }
-        requires done { fix_reply self.old.world.scene conflict repair ≡ Reply.Done }
+        requires conflict { IsConflictInRange conflict }
+        requires repair { IsMoveInRange self.old.model repair }
+        requires whole { IsWhole self.old.world.state }
+        requires can { CanChange self.old.world.state (Change.Repair repair) }
+        requires done { fix_reply self.old.world.state conflict repair ≡ Reply.Done }
         ensures { Answers self.old (Event.Fix conflict repair) result self.new }
     {
-        self.spoiled = true;
-        self.plan.apply(self.alloc, &repair)?;
-        self.conflicts = self.plan.conflicts(self.alloc)?;
-        self.turn += 1;
-        self.held = false;
-        let event = Event::Fix(conflict, repair);
-        let reply = push_entry(&mut self.log, self.alloc, event, Reply::Done)?;
-        self.spoiled = false;
-        Ok(reply)
+        let round = Round {
+            turn: self.round.turn + 1,
+            held: false,
+            ..self.round
+        };
+        self.carry_out(Event::Fix(conflict, repair), Change::Repair(repair), round)
     }
 
     fn refuse_fix(
@@ -143,33 +110,58 @@ impl Machine {
         refusal: Reply,
     ) -> Result<Reply, Stop>
         requires open { IsOpen self.old (Event.Fix conflict repair) }
-        requires conflict { ConflictFits conflict }
-        requires numbers { MoveFits repair }
-        requires kind { IsMoveOf (length self.old.world.scene.model.kinds) repair }
-        requires refusal { fix_reply self.old.world.scene conflict repair ≡ refusal }
+        requires conflict { IsConflictInRange conflict }
+        requires repair { IsMoveInRange self.old.model repair }
+        requires refusal { fix_reply self.old.world.state conflict repair ≡ refusal }
+        requires fix { IsFixReply refusal }
         requires other { refusal ≢ Reply.Done }
         ensures { Answers self.old (Event.Fix conflict repair) result self.new }
     {
-        self.spoiled = true;
-        self.turn += 1;
-        let event = Event::Fix(conflict, repair);
-        let reply = push_entry(&mut self.log, self.alloc, event, refusal)?;
-        self.spoiled = false;
-        Ok(reply)
+        let round = Round {
+            turn: self.round.turn + 1,
+            ..self.round
+        };
+        self.append(Event::Fix(conflict, repair), refusal, round)
     }
 
-    /// Makes a repair of a conflict, where it is a legal candidate of it.
-    pub fn fix(&mut self, conflict: &Conflict, repair: &RepairMove) -> Result<Reply, Stop>
-        requires { IsMoveOf (length self.old.world.scene.model.kinds) repair.now }
-        ensures { Answers self.old (Event.Fix conflict.now repair.now) result self.new }
+    fn fix_by(
+        &mut self,
+        conflict: Conflict,
+        repair: RepairMove,
+        reply: Reply,
+    ) -> Result<Reply, Stop>
+        requires open { IsOpen self.old (Event.Fix conflict repair) }
+        requires conflict { IsConflictInRange conflict }
+        requires repair { IsMoveInRange self.old.model repair }
+        requires whole { IsWhole self.old.world.state }
+        requires next_id { self.old.world.state.next_id ≤ 3999999000 }
+        requires reply { fix_reply self.old.world.state conflict repair ≡ reply }
+        requires fix { IsFixReply reply }
+        ensures { Answers self.old (Event.Fix conflict repair) result self.new }
     {
-        self.admit(!self.closed && !self.rested && self.turn < self.options.turns)?;
-        let known_repair = known_move(repair);
-        let known = known_conflict(conflict);
+        match reply {
+            Reply::Done => self.repair(conflict, repair),
+            refusal => self.refuse_fix(conflict, repair, refusal),
+        }
+    }
+
+    /// Whether a repair may be tried.
+    fn can_fix(&self) -> bool
+        ensures { result ≡ (not self.now.world.closed && (not self.now.world.rested && nat_lt self.now.world.turn self.now.world.options.turns)) }
+    {
+        !self.round.closed && (!self.round.rested && self.round.turn < self.options.turns)
+    }
+
+    /// Makes a repair of a conflict, where it is a legal candidate of it. No repair changes what is committed.
+    pub fn fix(&mut self, conflict: &Conflict, repair: &RepairMove) -> Result<Reply, Stop>
+        requires { IsMoveOf self.old.model repair.now }
+        ensures answers { Answers self.old (Event.Fix conflict.now repair.now) result self.new }
+        ensures committed { OnOk result (KeepsCommitted self.old.world.state self.new.world.state) }
+    {
+        self.admit(self.can_fix())?;
         match self.fix_reply(conflict, repair) {
             Err(_) => Err(self.spoil()),
-            Ok(Reply::Done) => self.apply(known, known_repair),
-            Ok(refusal) => self.refuse_fix(known, known_repair, refusal),
+            Ok(reply) => self.fix_by(known_conflict(conflict), known_move(repair), reply),
         }
     }
 }

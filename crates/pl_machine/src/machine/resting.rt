@@ -1,44 +1,96 @@
-ghost use Rattle.std.specs.Prelude.{◌≡◌, ◌<◌, false, IfOk, IfSome, IfNone, Some, None, length};
-ghost use Rattle.pl_machine.specs.Candidates.{least_pick};
-ghost use Rattle.pl_machine.specs.Legal.{IsMoveOf};
+ghost use Rattle.std.specs.Prelude.{◌≡◌, IfOk, All, true, false};
+ghost use Rattle.std.specs.List.{list_any};
+ghost use Rattle.pl_world.specs.Moves.{is_proper};
+ghost use Rattle.pl_world.specs.Legal.{is_legal, has_repair, is_stuck};
 ghost use Rattle.pl_machine.specs.World.{reason_of};
-ghost use Rattle.pl_machine.specs.Taking.{IsOpen, Spoils, Answers};
+ghost use Rattle.pl_machine.specs.Taking.{IsOpen, Answers};
 
-use crate::event::{Event, Reason, Reply};
-use crate::machine::{Machine, push_entry};
-use crate::repair::RepairMove;
+use crate::machine::Machine;
+use crate::round::Round;
 use crate::stop::Stop;
+use pl_board::Board;
+use pl_cand::candidates;
 use pl_conflict::Conflict;
+use pl_entry::{Event, Reason, Reply};
+use pl_moves::legal;
+use pl_plan::RepairMove;
 use std::alloc::{AllocError, Global};
 
-impl Machine {
-    /// The first conflict that has a legal candidate, with its first one.
-    #[tactic(auto, unfolding(crate::specs::Candidates::least_pick))]
-    pub fn first_pick(&self, alloc: Global) -> Result<Option<(Conflict, RepairMove)>, AllocError>
-        requires { self.now.spoiled ≡ false }
-        ensures pick { IfOk result (λ pick. pick ≡ least_pick self.now.world.scene) }
-        ensures kind { IfOk result (λ pick. IfSome pick (λ p. IsMoveOf (length self.now.world.scene.model.kinds) p.1)) }
-    {
-        let conflicts = self.conflicts.list(alloc)?;
-        self.plan.first_pick(alloc, conflicts.as_slice())
+/// Whether a proper move is legal.
+fn is_legal(board: &Board, repair: &RepairMove) -> bool
+    requires unspoiled { board.now.spoiled ≡ false }
+    requires proper { is_proper board.now.state repair.now ≡ true }
+    ensures { result ≡ is_legal board.now.state repair.now }
+{
+    match legal(board, repair) {
+        Ok(()) => true,
+        Err(_) => false,
     }
+}
 
+/// Whether one of the moves is legal.
+fn any_legal(board: &Board, moves: &[RepairMove]) -> bool
+    requires unspoiled { board.now.spoiled ≡ false }
+    requires proper { All (λ m. is_proper board.now.state m ≡ true) moves.now }
+    ensures { result ≡ list_any (is_legal board.now.state) moves.now }
+{
+    for repair in moves {
+        if is_legal(board, repair) {
+            return true;
+        }
+    }
+    false
+}
+
+/// Whether a conflict has a legal candidate.
+fn has_repair(alloc: Global, board: &Board, conflict: &Conflict) -> Result<bool, AllocError>
+    requires { board.now.spoiled ≡ false }
+    ensures { IfOk result (λ has. has ≡ has_repair board.now.state conflict.now) }
+{
+    let moves = candidates(alloc, board, conflict)?;
+    Ok(any_legal(board, moves.as_slice()))
+}
+
+/// Whether one of the conflicts has a legal candidate.
+fn any_repair(alloc: Global, board: &Board, conflicts: &[Conflict]) -> Result<bool, AllocError>
+    requires { board.now.spoiled ≡ false }
+    ensures { IfOk result (λ any. any ≡ list_any (has_repair board.now.state) conflicts.now) }
+{
+    for conflict in conflicts {
+        if has_repair(alloc, board, conflict)? {
+            return Ok(true);
+        }
+    }
+    Ok(false)
+}
+
+/// Whether no conflict has a legal candidate.
+#[tactic(auto, unfolding(pl_world::specs::Legal::is_stuck))]
+fn is_stuck(alloc: Global, board: &Board) -> Result<bool, AllocError>
+    requires { board.now.spoiled ≡ false }
+    ensures { IfOk result (λ stuck. stuck ≡ is_stuck board.now.state) }
+{
+    let conflicts = board.conflicts().list(alloc)?;
+    let any = any_repair(alloc, board, conflicts.as_slice())?;
+    Ok(!any)
+}
+
+impl Machine {
     /// Why repair is to rest, if it is to.
-    pub fn reason(&self, alloc: Global) -> Result<Option<Reason>, AllocError>
+    fn reason(&self) -> Result<Option<Reason>, AllocError>
         requires { self.now.spoiled ≡ false }
-        ensures reason { IfOk result (λ reason. reason ≡ reason_of self.now.world) }
-        ensures turns { IfOk result (λ reason. IfNone reason (self.now.world.turn < self.now.world.options.turns)) }
+        ensures { IfOk result (λ reason. reason ≡ reason_of self.now.world) }
     {
-        if self.conflicts.is_empty() {
+        if self.board.conflicts().is_empty() {
             return Ok(Some(Reason::Clear));
         }
-        if self.turn == self.options.turns {
+        if self.round.turn == self.options.turns {
             return Ok(Some(Reason::Spent));
         }
-        match self.first_pick(alloc)? {
-            None => Ok(Some(Reason::Stuck)),
-            Some(_) => Ok(None),
+        if is_stuck(self.alloc, &self.board)? {
+            return Ok(Some(Reason::Stuck));
         }
+        Ok(None)
     }
 
     fn rest_for(&mut self, reason: Reason) -> Result<Reply, Stop>
@@ -46,33 +98,24 @@ impl Machine {
         requires reason { reason_of self.old.world ≡ Some reason }
         ensures { Answers self.old Event.Rest result self.new }
     {
-        self.spoiled = true;
-        self.rested = true;
-        let reply = Reply::Rested(reason);
-        let reply = push_entry(&mut self.log, self.alloc, Event::Rest, reply)?;
-        self.spoiled = false;
-        Ok(reply)
-    }
-
-    pub(crate) fn spoil(&mut self) -> Stop
-        ensures stop { result ≡ Stop.Memory }
-        ensures spoils { Spoils self.old self.new }
-    {
-        self.spoiled = true;
-        Stop::Memory
+        let round = Round {
+            rested: true,
+            ..self.round
+        };
+        self.append(Event::Rest, Reply::Rested(reason), round)
     }
 
     /// Lets repair rest, where there is a reason to.
     pub fn rest(&mut self) -> Result<Reply, Stop>
         ensures { Answers self.old Event.Rest result self.new }
     {
-        if self.spoiled {
+        if self.spoiled() {
             return Err(Stop::Spoiled);
         }
-        if self.closed || self.rested {
+        if self.round.closed || self.round.rested {
             return Err(Stop::NotNow);
         }
-        match self.reason(self.alloc) {
+        match self.reason() {
             Err(_) => Err(self.spoil()),
             Ok(None) => Err(Stop::NotNow),
             Ok(Some(reason)) => {

@@ -1,5 +1,5 @@
 use Rattle.std.proofs.Common.{◌≡◌, ◌≤◌, ◌+◌, drop}
-use Rattle.pl_journal.specs.Lines.{text_from}
+use Rattle.pl_render.specs.Lines.{text_from}
 use Rattle.pl_main.proofs.Writing.{AddsFront}
 use Rattle.pl_main.proofs.writes.write_entries.Given as goal
 

@@ -1,5 +1,9 @@
+use Rattle.std.proofs.Common.{◌≡◌, rules}
+use Rattle.std.specs.Arc.{arc_value}
 use Rattle.pl_machine.proofs.Runs.{sound_fresh}
 use Rattle.pl_machine.proofs.machine.Machine.fresh.Goals as goal
 
 pub invariant_of-result : goal.invariant_of-result
-invariant_of-result c = rw (c.in_ok-push.ensures.items, c.new-log.ensures.items, c.new.ensures, c.new-2.ensures.items, c.new-3.ensures) (sound_fresh _ _ c.requires.options)
+invariant_of-result c =
+    let same : c.new-shared.result ≡ arc_value c.args.model = search rules in
+    rw (c.in_ok-push.ensures.items, c.new-log.ensures.items, c.in_ok-board.ensures, c.new-2.ensures.items, c.closed.ensures, same) (sound_fresh _ _ c.requires.checked c.requires.options)

@@ -1,9 +1,23 @@
-use Rattle.std.proofs.Common.{rules, refl}
-use Rattle.pl_machine.proofs.Runs.{sound_step}
-use Rattle.pl_machine.proofs.Sends.{stands_on_send}
+use Rattle.std.proofs.Common.{◌≡◌, ◌<◌, false, length, arith, refl, sym, ◌∙◌, ap, subst}
+use Rattle.pl_board.specs.Boards.{Standing}
+use Rattle.pl_world.specs.Whole.{IsWhole}
+use Rattle.pl_machine.specs.Sound.{State}
+use Rattle.pl_machine.proofs.Runs.{sound_spoiled}
+use Rattle.pl_machine.proofs.Sends.{left_of_open, sound_sent, took_sent}
 use Rattle.pl_machine.proofs.machine.Machine.send.Goals as goal
+
+pub invariant_of-self : goal.invariant_of-self
+invariant_of-self c = rw c.in_err-reply.ensures.err (sound_spoiled _ _ c.self.invariant (ap (λ (b : Standing). b.spoiled) c.in_err-reply.ensures.spoils))
 
 pub invariant_of-self-2 : goal.invariant_of-self-2
 invariant_of-self-2 c =
-    rw c.in_ok-reply.ensures.ok (sound_step c.args.self.now c.self.view_is c.self.invariant c.requires.open tt (search rules) (search rules)
-    (stands_on_send c.args.command c.args.self.now c.self.view_is c.self.invariant c.requires.open.unspoiled c.requires.next refl refl c.in_ok-push.ensures.items refl))
+    let whole = subst (λ (t : State). IsWhole t.world.state) (sym c.self.view_is) c.requires.whole in
+    rw (c.in_ok-reply.ensures.ok, c.in_ok-reply.ensures.stays)
+    (sound_sent c.args.self.now _ c.args.command c.self.view_is c.self.invariant refl whole c.requires.open c.requires.reply c.requires.next)
+
+pub returns : goal.returns
+returns c =
+    let whole = subst (λ (t : State). IsWhole t.world.state) (sym c.self.view_is) c.requires.whole in
+    let unspoiled : c.self.inside.board.spoiled ≡ false = ap (λ (t : State). t.spoiled) c.self.view_is ∙ c.requires.open.unspoiled in
+    rw (c.in_ok-reply.ensures.same, c.in_ok-reply.ensures.ok, c.in_ok-reply.ensures.stays)
+    (took_sent c.args.self.now _ c.args.command c.self.view_is c.self.invariant refl whole c.requires.open c.requires.reply c.requires.next unspoiled)

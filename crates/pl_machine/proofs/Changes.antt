@@ -1,0 +1,39 @@
+-- What each change of the plan state keeps.
+use Rattle.std.proofs.Common.{◌≡◌, ℕ, ◌<◌, ℤ, [], refl, sym, subst, arith, append-nil}
+use Rattle.std.specs.Prelude.{Result, OnOk}
+use Rattle.std.proofs.lemmas.Result.{on_ok_weaker}
+use Rattle.pl_facts.specs.declared.goal.Goal.{Goal}
+use Rattle.pl_plan.specs.Activities.{AreRising}
+use Rattle.pl_entry.proofs.Growth.{due_grows}
+use Rattle.pl_world.specs.declared.plan_state.PlanState.{PlanState}
+use Rattle.pl_board.specs.Boards.{Standing, after, with_goal, told_now, moved_on}
+use Rattle.pl_machine.specs.World.{due_in}
+use Rattle.pl_machine.specs.Keeping.{KeepsStanding}
+
+pub keeps_accept : (s : PlanState) (g : Goal) → KeepsStanding s (with_goal g s)
+keeps_accept s g = record {
+  model = refl;
+  next_id = omega arith;
+  due = ([], sym (append-nil (due_in s)));
+  sendable = λ sendable. sendable;
+}
+
+pub keeps_tell : (s : PlanState) (line : ℕ) (value : ℤ) → KeepsStanding s (told_now line value s)
+keeps_tell s line value = record {
+  model = refl;
+  next_id = omega arith;
+  due = ([], sym (append-nil (due_in s)));
+  sendable = λ sendable. sendable;
+}
+
+pub keeps_tick : (s : PlanState) (moment : ℕ) → AreRising s.plan.activities → s.moment < moment → KeepsStanding s (moved_on moment s)
+keeps_tick s moment rising later = record {
+  model = refl;
+  next_id = omega arith;
+  due = due_grows s.model s.plan.activities rising s.moment s.committed moment s.committed (omega arith) (omega arith);
+  sendable = λ sendable. sendable;
+}
+
+-- of a board on which the change was made
+pub keeps_on : {X E : Type 0} (r : Result X E) (s s2 : PlanState) (b : Standing) → KeepsStanding s s2 → OnOk r (b ≡ after s2) → OnOk r (KeepsStanding s b.state)
+keeps_on r s s2 b keeps made = on_ok_weaker r (λ (e : b ≡ after s2). subst (λ (x : Standing). KeepsStanding s x.state) (sym e) keeps) made

@@ -1,0 +1,185 @@
+-- Moves that are handed in, and candidates.
+use Rattle.std.proofs.Common.{◌≡◌, ℕ, ◌+◌, ◌≤◌, ℤ, eqb, List, [], ◌∷◌, Bool, true, false, not, ◌&&◌, ◌||◌, nat_lt, All, Option, Some, None, if◌then◌else◌, refl, sym, ◌∙◌, ap, subst, arith}
+use Rattle.std.specs.List.{list_any}
+use Rattle.std.specs.Ordering.{int_eq}
+use Rattle.std.specs.Prelude.{Result, Ok, Err, OnOk}
+use Rattle.std.proofs.lemmas.Bool.{eqb-true, ltb-true}
+use Rattle.std.proofs.lemmas.Int.{ints}
+use Rattle.std.proofs.lemmas.List.Elements.{All-head, All-tail}
+use Rattle.pl_conflict.specs.declared.conflict.Conflict.{Conflict}
+use Rattle.pl_conflict.specs.Order.{has}
+use Rattle.pl_model.specs.declared.whole.Model.{Model}
+use Rattle.pl_plan.specs.declared.repair.RepairMove.{RepairMove}
+use Rattle.pl_plan.specs.declared.repair.RepairMove.TheVariants as repair
+use Rattle.pl_entry.specs.Bounds.{IsMoveInRange}
+use Rattle.pl_entry.specs.declared.reply.Reply.{Reply}
+use Rattle.pl_entry.specs.declared.reply.Reply.TheVariants as reply
+use Rattle.pl_world.specs.declared.plan_state.PlanState.{PlanState}
+use Rattle.pl_world.specs.declared.refusal.Refusal.{Refusal}
+use Rattle.pl_world.specs.declared.refusal.Refusal.TheVariants as refusal
+use Rattle.pl_world.specs.Conflicts.{conflicts_of}
+use Rattle.pl_world.specs.Moves.{is_proper, refusal_of}
+use Rattle.pl_world.specs.Candidates.{candidates_of, same_move, same_number}
+use Rattle.pl_world.proofs.Sifting.{proper}
+use Rattle.pl_machine.specs.declared.change.Change.TheVariants.{Repair}
+use Rattle.pl_machine.specs.Repairs.{IsMoveOf, FitsTypes}
+use Rattle.pl_machine.specs.Changes.{CanChange}
+use Rattle.pl_entry.specs.declared.event.Event.TheVariants as event
+use Rattle.pl_world.specs.Whole.{IsWhole}
+use Rattle.pl_moves.specs.Keeping.{KeepsCommitted}
+use Rattle.pl_moves.proofs.Keeping.{keeps}
+use Rattle.pl_machine.specs.declared.stop.Stop.{Stop}
+use Rattle.pl_machine.specs.World.{World}
+use Rattle.pl_machine.specs.Sound.{State}
+use Rattle.pl_machine.specs.Taking.{Answers}
+use Rattle.pl_machine.specs.Step.{is_candidate, refusal_reply, fix_reply, is_enabled, after_fix}
+
+-- ---- the numbers of a move
+
+pub in_range : (m : Model) (r : RepairMove) → IsMoveOf m r → FitsTypes r → IsMoveInRange m r
+in_range m (repair.Add kind start goal) is fits = (is, fits.0, fits.1, fits.2)
+in_range m (repair.Delete id) is fits = fits
+in_range m (repair.Shift id start) is fits = fits
+in_range m (repair.Detail id alternative) is fits = fits
+in_range m (repair.Abstract id) is fits = fits
+in_range m (repair.Assign id param value) is fits = (fits.0, fits.1, is)
+in_range m (repair.Drop goal) is fits = fits
+
+-- ---- moves that are one
+
+both_hold : (a b : Bool) → (a && b) ≡ true → (a ≡ true) × (b ≡ true)
+both_hold true b e = (refl, e)
+both_hold false b e = absurd (cc)
+
+one_number : (x y : Option ℕ) → same_number x y ≡ true → x ≡ y
+one_number None None e = refl
+one_number None (Some n) e = absurd (cc)
+one_number (Some m) None e = absurd (cc)
+one_number (Some m) (Some n) e = ap (λ (k : ℕ). Some k) (eqb-true m n e)
+
+one_value : (x y : ℤ) → int_eq x y ≡ true → x ≡ y
+one_value x y e = grind (arith, ints)
+
+same_two : (make : ℕ → ℕ → RepairMove) (a b x y : ℕ) → a ≡ b → x ≡ y → make a x ≡ make b y
+same_two make a b x y e f = ap (λ (n : ℕ). make n x) e ∙ ap (make b) f
+
+same_add : (a b x y : ℕ) (g h : Option ℕ) → a ≡ b → x ≡ y → g ≡ h → repair.Add a x g ≡ repair.Add b y h
+same_add a b x y g h e f i = ap (λ (n : ℕ). repair.Add n x g) e ∙ ap (λ (n : ℕ). repair.Add b n g) f ∙ ap (λ (o : Option ℕ). repair.Add b y o) i
+
+same_assign : (a b x y : ℕ) (v w : ℤ) → a ≡ b → x ≡ y → v ≡ w → repair.Assign a x v ≡ repair.Assign b y w
+same_assign a b x y v w e f i = ap (λ (n : ℕ). repair.Assign n x v) e ∙ ap (λ (n : ℕ). repair.Assign b n v) f ∙ ap (λ (z : ℤ). repair.Assign b y z) i
+
+one_move : (m x : RepairMove) → same_move m x ≡ true → m ≡ x
+one_move (repair.Add kind start goal) (repair.Add kind2 start2 goal2) e = let first = both_hold (eqb kind kind2) _ e in let rest = both_hold (eqb start start2) _ first.1 in same_add kind kind2 start start2 goal goal2 (eqb-true kind kind2 first.0) (eqb-true start start2 rest.0) (one_number goal goal2 rest.1)
+one_move (repair.Add kind start goal) (repair.Delete id2) e = absurd (cc)
+one_move (repair.Add kind start goal) (repair.Shift id2 start2) e = absurd (cc)
+one_move (repair.Add kind start goal) (repair.Detail id2 alternative2) e = absurd (cc)
+one_move (repair.Add kind start goal) (repair.Abstract id2) e = absurd (cc)
+one_move (repair.Add kind start goal) (repair.Assign id2 param2 value2) e = absurd (cc)
+one_move (repair.Add kind start goal) (repair.Drop number2) e = absurd (cc)
+one_move (repair.Delete id) (repair.Add kind2 start2 goal2) e = absurd (cc)
+one_move (repair.Delete id) (repair.Delete id2) e = ap (λ (n : ℕ). repair.Delete n) (eqb-true id id2 e)
+one_move (repair.Delete id) (repair.Shift id2 start2) e = absurd (cc)
+one_move (repair.Delete id) (repair.Detail id2 alternative2) e = absurd (cc)
+one_move (repair.Delete id) (repair.Abstract id2) e = absurd (cc)
+one_move (repair.Delete id) (repair.Assign id2 param2 value2) e = absurd (cc)
+one_move (repair.Delete id) (repair.Drop number2) e = absurd (cc)
+one_move (repair.Shift id start) (repair.Add kind2 start2 goal2) e = absurd (cc)
+one_move (repair.Shift id start) (repair.Delete id2) e = absurd (cc)
+one_move (repair.Shift id start) (repair.Shift id2 start2) e = let both = both_hold (eqb id id2) _ e in same_two (λ x y. repair.Shift x y) id id2 start start2 (eqb-true id id2 both.0) (eqb-true start start2 both.1)
+one_move (repair.Shift id start) (repair.Detail id2 alternative2) e = absurd (cc)
+one_move (repair.Shift id start) (repair.Abstract id2) e = absurd (cc)
+one_move (repair.Shift id start) (repair.Assign id2 param2 value2) e = absurd (cc)
+one_move (repair.Shift id start) (repair.Drop number2) e = absurd (cc)
+one_move (repair.Detail id alternative) (repair.Add kind2 start2 goal2) e = absurd (cc)
+one_move (repair.Detail id alternative) (repair.Delete id2) e = absurd (cc)
+one_move (repair.Detail id alternative) (repair.Shift id2 start2) e = absurd (cc)
+one_move (repair.Detail id alternative) (repair.Detail id2 alternative2) e = let both = both_hold (eqb id id2) _ e in same_two (λ x y. repair.Detail x y) id id2 alternative alternative2 (eqb-true id id2 both.0) (eqb-true alternative alternative2 both.1)
+one_move (repair.Detail id alternative) (repair.Abstract id2) e = absurd (cc)
+one_move (repair.Detail id alternative) (repair.Assign id2 param2 value2) e = absurd (cc)
+one_move (repair.Detail id alternative) (repair.Drop number2) e = absurd (cc)
+one_move (repair.Abstract id) (repair.Add kind2 start2 goal2) e = absurd (cc)
+one_move (repair.Abstract id) (repair.Delete id2) e = absurd (cc)
+one_move (repair.Abstract id) (repair.Shift id2 start2) e = absurd (cc)
+one_move (repair.Abstract id) (repair.Detail id2 alternative2) e = absurd (cc)
+one_move (repair.Abstract id) (repair.Abstract id2) e = ap (λ (n : ℕ). repair.Abstract n) (eqb-true id id2 e)
+one_move (repair.Abstract id) (repair.Assign id2 param2 value2) e = absurd (cc)
+one_move (repair.Abstract id) (repair.Drop number2) e = absurd (cc)
+one_move (repair.Assign id param value) (repair.Add kind2 start2 goal2) e = absurd (cc)
+one_move (repair.Assign id param value) (repair.Delete id2) e = absurd (cc)
+one_move (repair.Assign id param value) (repair.Shift id2 start2) e = absurd (cc)
+one_move (repair.Assign id param value) (repair.Detail id2 alternative2) e = absurd (cc)
+one_move (repair.Assign id param value) (repair.Abstract id2) e = absurd (cc)
+one_move (repair.Assign id param value) (repair.Assign id2 param2 value2) e = let first = both_hold (eqb id id2) _ e in let rest = both_hold (eqb param param2) _ first.1 in same_assign id id2 param param2 value value2 (eqb-true id id2 first.0) (eqb-true param param2 rest.0) (one_value value value2 rest.1)
+one_move (repair.Assign id param value) (repair.Drop number2) e = absurd (cc)
+one_move (repair.Drop number) (repair.Add kind2 start2 goal2) e = absurd (cc)
+one_move (repair.Drop number) (repair.Delete id2) e = absurd (cc)
+one_move (repair.Drop number) (repair.Shift id2 start2) e = absurd (cc)
+one_move (repair.Drop number) (repair.Detail id2 alternative2) e = absurd (cc)
+one_move (repair.Drop number) (repair.Abstract id2) e = absurd (cc)
+one_move (repair.Drop number) (repair.Assign id2 param2 value2) e = absurd (cc)
+one_move (repair.Drop number) (repair.Drop number2) e = ap (λ (n : ℕ). repair.Drop n) (eqb-true number number2 e)
+
+-- ---- candidates are proper
+
+found_by : (s : PlanState) (m x : RepairMove) (rest b : Bool) → same_move m x ≡ b → is_proper s x ≡ true → (rest ≡ true → is_proper s m ≡ true) → (b || rest) ≡ true → is_proper s m ≡ true
+found_by s m x rest true is here later e = subst (λ y. is_proper s y ≡ true) (sym (one_move m x is)) here
+found_by s m x rest false is here later e = later e
+
+found_proper : (s : PlanState) (m : RepairMove) (ms : List RepairMove) → All (λ x. is_proper s x ≡ true) ms → list_any (same_move m) ms ≡ true → is_proper s m ≡ true
+found_proper s m [] all e = absurd (cc)
+found_proper s m (x ∷ ms) all e =
+    found_by s m x (list_any (same_move m) ms) (same_move m x) refl (All-head (λ y. is_proper s y ≡ true) x ms all) (found_proper s m ms (All-tail (λ y. is_proper s y ≡ true) x ms all)) e
+
+pub candidate_proper : (s : PlanState) (k : Conflict) (m : RepairMove) → is_candidate s k m ≡ true → is_proper s m ≡ true
+candidate_proper s k m e = found_proper s m (candidates_of s k) (proper s k) e
+
+-- ---- a repair that is answered by ok
+
+not_refused : (o : Option Refusal) → refusal_reply o ≡ reply.Done → o ≡ None
+not_refused None e = refl
+not_refused (Some (refusal.Locked id)) e = absurd (cc)
+not_refused (Some (refusal.Behind id)) e = absurd (cc)
+not_refused (Some (refusal.Beyond id)) e = absurd (cc)
+not_refused (Some refusal.Full) e = absurd (cc)
+
+done_by : (stands candidate : Bool) (r : Reply) → (if not stands then reply.Stale else if not candidate then reply.NotFor else r) ≡ reply.Done → (candidate ≡ true) × (r ≡ reply.Done)
+done_by false candidate r e = absurd (cc)
+done_by true false r e = absurd (cc)
+done_by true true r e = (refl, e)
+
+allowed : (s : PlanState) (k : Conflict) (m : RepairMove) → fix_reply s k m ≡ reply.Done → (is_proper s m ≡ true) × (refusal_of s m ≡ None)
+unfolding fix_reply
+allowed s k m done =
+    let both = done_by (has k (conflicts_of s)) (is_candidate s k m) (refusal_reply (refusal_of s m)) done in
+    (candidate_proper s k m both.0, not_refused (refusal_of s m) both.1)
+
+pub can_repair : (s : PlanState) (k : Conflict) (m : RepairMove) → fix_reply s k m ≡ reply.Done → s.next_id ≤ 3999999000 → CanChange s (Repair m)
+can_repair s k m done few = let both = allowed s k m done in (both.0, both.1, few)
+
+-- a refused repair counts a turn alone
+pub refused_fix : (w : World) (m : RepairMove) (r : Reply) → (r ≡ reply.Done → ⊥) → after_fix w m r ≡ record w { turn = w.turn + 1 }
+refused_fix w m reply.Done other = absurd (other refl)
+refused_fix w m _ other = refl
+
+last_of : (a b c : Bool) → (a && (b && c)) ≡ true → c ≡ true
+last_of true true c e = e
+last_of true false c e = absurd (cc)
+last_of false b c e = absurd (cc)
+
+-- a repair that may be tried has a turn left
+pub turn_left : (w : World) (k : Conflict) (m : RepairMove) → is_enabled w (event.Fix k m) ≡ true → w.turn + 1 ≤ w.options.turns
+turn_left w k m enabled = let less = ltb-true w.turn w.options.turns (last_of (not w.closed) (not w.rested) (nat_lt w.turn w.options.turns) enabled) in omega (arith, less)
+
+-- ---- what is committed stays
+
+keeps_itself : (s : PlanState) → KeepsCommitted s s
+keeps_itself s = record { model = refl; moment = refl; committed = refl; bases = refl; live_limit = refl; stands = λ id a here c. here; values = λ id a here c. refl; ends = λ id a here c. refl; no_other = λ id a here c. here }
+
+fix_keeps : (w : World) (k : Conflict) (m : RepairMove) (r : Reply) → IsWhole w.state → fix_reply w.state k m ≡ r → KeepsCommitted w.state (after_fix w m r).state
+fix_keeps w k m reply.Done whole is = let both = allowed w.state k m is in keeps w.state m whole both.0 both.1
+fix_keeps w k m _ whole is = keeps_itself w.state
+
+pub committed_stays : (old : State) (k : Conflict) (m : RepairMove) (r : Result Reply Stop) (new : State) → IsWhole old.world.state → Answers old (event.Fix k m) r new → OnOk r (KeepsCommitted old.world.state new.world.state)
+committed_stays old k m (Ok answer) new whole a = subst (λ (w : World). KeepsCommitted old.world.state w.state) (sym a.1.step.leaves) (fix_keeps old.world k m (fix_reply old.world.state k m) whole refl)
+committed_stays old k m (Err e) new whole a = tt

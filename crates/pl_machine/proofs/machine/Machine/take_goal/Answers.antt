@@ -1,9 +1,0 @@
-use Rattle.std.proofs.Common.{rules, refl, sym}
-use Rattle.pl_machine.proofs.Runs.{sound_step}
-use Rattle.pl_machine.proofs.Inputs.{stands_on_goal}
-use Rattle.pl_machine.proofs.machine.Machine.take_goal.Goals as goal
-
-pub invariant_of-self-2 : goal.invariant_of-self-2
-invariant_of-self-2 c =
-    rw (c.in_ok-reply.ensures.ok, c.in_ok-bytes.ensures) (sound_step c.args.self.now c.self.view_is c.self.invariant c.requires.open c.requires.fits (sym c.requires.done) (search rules)
-    (stands_on_goal _ c.args.self.now c.self.view_is c.self.invariant c.requires.open.unspoiled c.in_ok-add_goal.ensures.ok c.in_ok-self-inside.ensures refl refl refl))

@@ -1,0 +1,51 @@
+use Rattle.std.proofs.Common.{subst, rules}
+use mir.Syntax.{w64}
+use mir.Val.{SFits, to_z, of_z}
+use Rattle.std.proofs.lemmas.Int.{to_z-of_z}
+use Rattle.pl_board.specs.Boards.{with_goal, told_now, moved_on, committed_to}
+use Rattle.pl_world.specs.Moves.{applied}
+use Rattle.pl_machine.specs.Changes.{CanChange}
+use Rattle.pl_machine.proofs.Changes.{keeps_accept, keeps_tell, keeps_tick, keeps_on}
+use Rattle.pl_machine.proofs.Granting.{keeps_commit, commit_bounds}
+use Rattle.pl_machine.proofs.Repairs.{keeps_applied}
+use Rattle.pl_machine.proofs.machine.appending.change_board.Goals as goal
+
+pub add_goal-requires : goal.add_goal-requires
+add_goal-requires c = let can = subst (CanChange c.args.board.now.state) c.in-Accept.is c.requires.can in record { fresh = λ _. can.0; of_model = can.1; stays = can.2 }
+
+pub telemetry-requires : goal.telemetry-requires
+telemetry-requires c =
+    let fits : SFits w64 c.in-Tell.value = search rules in
+    rw (to_z-of_z w64 c.in-Tell.value fits) (subst (CanChange c.args.board.now.state) c.in-Tell.is c.requires.can)
+
+pub tick-requires : goal.tick-requires
+tick-requires c = let can = subst (CanChange c.args.board.now.state) c.in-Tick.is c.requires.can in record { later = λ _. can.0; bound = can.1 }
+
+pub commit-requires : goal.commit-requires
+commit-requires c = let can = subst (CanChange c.args.board.now.state) c.in-Commit.is c.requires.can in let bounds = commit_bounds c.args.board.now.state c.in-Commit.h can in record { least = λ _. bounds.0; most = bounds.1 }
+
+pub make_repair-requires : goal.make_repair-requires
+make_repair-requires c = let can = subst (CanChange c.args.board.now.state) c.in-Repair.is c.requires.can in record { unspoiled = c.requires.unspoiled; proper = can.0; allowed = can.1; next = can.2 }
+
+pub returns-in-Accept-clause-keeps : goal.returns-in-Accept-clause-keeps
+returns-in-Accept-clause-keeps c = keeps_on _ _ (with_goal c.in-Accept.goal c.args.board.now.state) _ (keeps_accept c.args.board.now.state c.in-Accept.goal) c.add_goal.ensures.ok
+
+pub returns-in-Tell-clause-keeps : goal.returns-in-Tell-clause-keeps
+returns-in-Tell-clause-keeps c =
+    let told = to_z w64 (of_z w64 c.in-Tell.value) in
+    keeps_on _ _ (told_now c.in-Tell.line told c.args.board.now.state) _ (keeps_tell c.args.board.now.state c.in-Tell.line told) c.telemetry.ensures.ok
+
+pub returns-in-Tick-clause-keeps : goal.returns-in-Tick-clause-keeps
+returns-in-Tick-clause-keeps c =
+    let can = subst (CanChange c.args.board.now.state) c.in-Tick.is c.requires.can in
+    keeps_on _ _ (moved_on c.in-Tick.moment c.args.board.now.state) _ (keeps_tick c.args.board.now.state c.in-Tick.moment c.requires.whole.rising can.0) c.tick.ensures.ok
+
+pub returns-in-Commit-clause-keeps : goal.returns-in-Commit-clause-keeps
+returns-in-Commit-clause-keeps c =
+    let can = subst (CanChange c.args.board.now.state) c.in-Commit.is c.requires.can in
+    keeps_on _ _ (committed_to c.in-Commit.h c.args.board.now.state) _ (keeps_commit c.args.board.now.state c.in-Commit.h c.requires.whole can) c.commit.ensures.ok
+
+pub returns-in-Repair-clause-keeps : goal.returns-in-Repair-clause-keeps
+returns-in-Repair-clause-keeps c =
+    let can = subst (CanChange c.args.board.now.state) c.in-Repair.is c.requires.can in
+    keeps_on _ _ (applied c.args.board.now.state c.in-Repair.repair) _ (keeps_applied c.args.board.now.state c.in-Repair.repair c.requires.whole can.0 can.1) c.make_repair.ensures.ok

@@ -1,0 +1,212 @@
+ghost use Rattle.std.specs.Prelude.{◌≡◌, ◌≤◌, [], ◌∷◌, ◌++◌, false, true, None, IfOk, OnOk, OnErr};
+ghost use Rattle.pl_entry.specs.Bounds.{IsEventInRange, IsReplyTo};
+ghost use Rattle.pl_world.specs.Moves.{is_proper, refusal_of, applied};
+ghost use Rattle.pl_world.specs.Whole.{IsWhole};
+ghost use Rattle.pl_board.specs.Boards.{after as board_of};
+ghost use Rattle.pl_machine.specs.World.{due_in};
+ghost use Rattle.pl_machine.specs.Changes.{changed, CanChange};
+ghost use Rattle.pl_machine.specs.Keeping.{KeepsStanding};
+ghost use Rattle.pl_machine.specs.Step.{reply_of, after};
+ghost use Rattle.pl_machine.specs.Taking.{IsOpen, Spoils, Answers, with_round, with_state};
+
+use crate::change::Change;
+use crate::machine::Machine;
+use crate::round::Round;
+use crate::stop::Stop;
+use pl_board::Board;
+use pl_entry::{Entry, Event, Reply, due};
+use pl_lists::Copied;
+use pl_moves::apply;
+use pl_plan::RepairMove;
+use pl_points::{Ledger, Quiet, Steps};
+use std::alloc::{AllocError, Global};
+
+/// Appends an entry to a log, and gives the reply back.
+fn log_entry(
+    log: &mut Vec<Entry>,
+    alloc: Global,
+    event: Event,
+    reply: Reply,
+) -> Result<Reply, AllocError>
+    ensures ok { OnOk result (log.new.items ≡ log.old.items ++ record { event = event; reply = reply } ∷ []) }
+    ensures same { IfOk result (λ r. r ≡ reply) }
+    ensures err { OnErr result (log.new.items ≡ log.old.items) }
+{
+    let again = reply.copy(alloc)?;
+    log.push(Entry { event, reply })?;
+    Ok(again)
+}
+
+/// Appends an entry. Where memory is wanting the board is spoiled.
+pub(crate) fn push_entry(
+    log: &mut Vec<Entry>,
+    board: &mut Board,
+    alloc: Global,
+    event: Event,
+    reply: Reply,
+) -> Result<Reply, AllocError>
+    ensures ok { OnOk result (log.new.items ≡ log.old.items ++ record { event = event; reply = reply } ∷ []) }
+    ensures same { IfOk result (λ r. r ≡ reply) }
+    ensures stays { OnOk result (board.new ≡ board.old) }
+    ensures err { OnErr result (log.new.items ≡ log.old.items) }
+    ensures spoils { OnErr result (board.new ≡ record board.old { spoiled = true }) }
+{
+    match log_entry(log, alloc, event, reply) {
+        Ok(reply) => Ok(reply),
+        Err(fault) => {
+            board.spoil();
+            Err(fault)
+        }
+    }
+}
+
+/// Makes a repair that is not refused.
+#[tactic(auto, using(crate::proofs::Repairs::fails_spoils))]
+fn make_repair<L: Ledger>(
+    board: &mut Board,
+    alloc: Global,
+    repair: &RepairMove,
+    steps: &mut Steps<L>,
+) -> Result<(), AllocError>
+    requires unspoiled { board.old.spoiled ≡ false }
+    requires proper { is_proper board.old.state repair.now ≡ true }
+    requires allowed { refusal_of board.old.state repair.now ≡ None }
+    requires next { board.old.state.next_id ≤ 3999999000 }
+    ensures ok { OnOk result (board.new ≡ board_of (applied board.old.state repair.now)) }
+    ensures err { OnErr result (board.new.spoiled ≡ true) }
+{
+    match apply(alloc, board, repair, steps) {
+        Ok(()) => Ok(()),
+        Err(_) => Err(AllocError),
+    }
+}
+
+/// Makes a change of a board.
+fn change_board(board: &mut Board, alloc: Global, change: Change) -> Result<(), AllocError>
+    requires unspoiled { board.old.spoiled ≡ false }
+    requires whole { IsWhole board.old.state }
+    requires can { CanChange board.old.state change }
+    ensures ok { OnOk result (board.new ≡ board_of (changed change board.old.state)) }
+    ensures keeps { OnOk result (KeepsStanding board.old.state board.new.state) }
+    ensures err { OnErr result (board.new.spoiled ≡ true) }
+{
+    let mut steps = Steps::new(Quiet);
+    match change {
+        Change::Accept(goal) => board.add_goal(goal),
+        Change::Tell(line, value) => board.telemetry(line, value, &mut steps),
+        Change::Tick(moment) => board.tick(moment, &mut steps),
+        Change::Commit(h) => board.commit(h),
+        Change::Repair(repair) => make_repair(board, alloc, &repair, &mut steps),
+    }
+}
+
+/// The ids of what is due on a board, in start order.
+fn due_on(board: &Board, alloc: Global) -> Result<Vec<u32>, AllocError>
+    requires { board.now.spoiled ≡ false }
+    ensures { IfOk result (λ due. due.items ≡ due_in board.now.state) }
+{
+    let state = board.state();
+    due(
+        alloc,
+        state.model.get(),
+        &state.plan,
+        state.moment,
+        state.committed,
+    )
+}
+
+/// Makes a change of a board, and gives what is due then. Where memory is wanting the board is spoiled.
+fn change_due(board: &mut Board, alloc: Global, change: Change) -> Result<Vec<u32>, AllocError>
+    requires unspoiled { board.old.spoiled ≡ false }
+    requires whole { IsWhole board.old.state }
+    requires can { CanChange board.old.state change }
+    ensures ok { OnOk result (board.new ≡ board_of (changed change board.old.state)) }
+    ensures keeps { OnOk result (KeepsStanding board.old.state board.new.state) }
+    ensures due { IfOk result (λ due. due.items ≡ due_in board.new.state) }
+    ensures err { OnErr result (board.new.spoiled ≡ true) }
+{
+    change_board(board, alloc, change)?;
+    match due_on(board, alloc) {
+        Ok(due) => Ok(due),
+        Err(fault) => {
+            board.spoil();
+            Err(fault)
+        }
+    }
+}
+
+/// Makes a change of a board, appends its entry, and gives what is due then. The place in the log is reserved first.
+fn push_change(
+    log: &mut Vec<Entry>,
+    board: &mut Board,
+    alloc: Global,
+    event: Event,
+    change: Change,
+) -> Result<Vec<u32>, AllocError>
+    requires unspoiled { board.old.spoiled ≡ false }
+    requires whole { IsWhole board.old.state }
+    requires can { CanChange board.old.state change }
+    ensures ok { OnOk result (log.new.items ≡ log.old.items ++ record { event = event; reply = Reply.Done } ∷ []) }
+    ensures changed { OnOk result (board.new ≡ board_of (changed change board.old.state)) }
+    ensures keeps { OnOk result (KeepsStanding board.old.state board.new.state) }
+    ensures due { IfOk result (λ due. due.items ≡ due_in board.new.state) }
+    ensures err { OnErr result (log.new.items ≡ log.old.items) }
+    ensures spoils { OnErr result (board.new.spoiled ≡ true) }
+{
+    if log.reserve(1).is_err() {
+        board.spoil();
+        return Err(AllocError);
+    }
+    let due = change_due(board, alloc, change)?;
+    let reply = Reply::Done;
+    log.push(Entry { event, reply }).unwrap();
+    Ok(due)
+}
+
+impl Machine {
+    pub(crate) fn spoil(&mut self) -> Stop
+        ensures stop { result ≡ Stop.Memory }
+        ensures spoils { Spoils self.old self.new }
+    {
+        self.board.spoil();
+        Stop::Memory
+    }
+
+    /// Appends an event that leaves the plan state.
+    pub(crate) fn append(&mut self, event: Event, reply: Reply, round: Round) -> Result<Reply, Stop>
+        requires open { IsOpen self.old event }
+        requires event { IsEventInRange self.old.model event }
+        requires reply { IsReplyTo self.old.model event reply }
+        requires answers { reply ≡ reply_of self.old.world event }
+        requires leaves { with_round round self.old.world ≡ after self.old.world event }
+        requires turn { round.turn ≤ self.old.world.options.turns }
+        ensures { Answers self.old event result self.new }
+    {
+        let reply = push_entry(&mut self.log, &mut self.board, self.alloc, event, reply)?;
+        self.round = round;
+        Ok(reply)
+    }
+
+    /// Appends an event that changes the plan state. Its place in the log is reserved first.
+    pub(crate) fn carry_out(
+        &mut self,
+        event: Event,
+        change: Change,
+        round: Round,
+    ) -> Result<Reply, Stop>
+        requires open { IsOpen self.old event }
+        requires event { IsEventInRange self.old.model event }
+        requires reply { IsReplyTo self.old.model event Reply.Done }
+        requires answers { Reply.Done ≡ reply_of self.old.world event }
+        requires whole { IsWhole self.old.world.state }
+        requires can { CanChange self.old.world.state change }
+        requires leaves { with_round round (with_state (changed change self.old.world.state) self.old.world) ≡ after self.old.world event }
+        requires turn { round.turn ≤ self.old.world.options.turns }
+        ensures { Answers self.old event result self.new }
+    {
+        let due = push_change(&mut self.log, &mut self.board, self.alloc, event, change)?;
+        self.due = due;
+        self.round = round;
+        Ok(Reply::Done)
+    }
+}

@@ -1,0 +1,231 @@
+ghost use Rattle.std.specs.Prelude.{◌≡◌, ◌≢◌, ◌&&◌, not, nat_le, length, true, IfOk, IfSome, Ok, Some};
+ghost use Rattle.std.specs.List.{list_any};
+ghost use Rattle.std.specs.Option.{option_copied};
+ghost use Rattle.pl_facts.specs.Goals.{is_numbered};
+ghost use Rattle.pl_entry.specs.Bounds.{IsMessageLine, IsInputReply, IsEventInRange, IsReplyTo};
+ghost use Rattle.pl_msg.specs.Messages.{message_of};
+ghost use Rattle.pl_msg.specs.Limits.{IsWithin};
+ghost use Rattle.pl_world.specs.Whole.{IsWhole};
+ghost use Rattle.pl_machine.specs.Changes.{changed, CanChange};
+ghost use Rattle.pl_machine.specs.Messages.{goal_reply, tick_reply, message_reply, line_reply, told_line};
+ghost use Rattle.pl_machine.specs.Step.{input_reply, reply_of, after};
+ghost use Rattle.pl_machine.specs.Taking.{IsOpen, Answers};
+
+use crate::change::Change;
+use crate::machine::Machine;
+use crate::machine::appending::push_entry;
+use crate::round::Round;
+use crate::stop::Stop;
+use pl_entry::{Bytes, Event, Reply};
+use pl_facts::{Goal, Goals};
+use pl_lists::Items;
+use pl_msg::{Message, MsgFault, read_message};
+use pl_world::PlanState;
+use std::alloc::{AllocError, Global};
+
+fn line_bytes(alloc: Global, line: &[u8]) -> Result<Bytes, AllocError>
+    ensures { IfOk result (λ bytes. bytes ≡ line.now) }
+{
+    let bytes = Vec::from_slice(alloc, line)?;
+    Ok(Items::from_vec(bytes))
+}
+
+fn input_bytes(alloc: Global, line: Option<&[u8]>) -> Result<Option<Bytes>, AllocError>
+    ensures { IfOk result (λ bytes. bytes ≡ option_copied line.entry) }
+{
+    match line {
+        None => Ok(None),
+        Some(line) => Ok(Some(line_bytes(alloc, line)?)),
+    }
+}
+
+/// Whether a goal of this number was accepted.
+fn is_taken(goals: &Goals, number: u32) -> bool
+    ensures { result ≡ list_any (is_numbered number) goals.now }
+{
+    goals.get(number).is_some()
+}
+
+/// Whether as many goals as the limit were accepted.
+fn are_full(goals: &Goals, limit: u32) -> bool
+    ensures { result ≡ nat_le limit (length goals.now) }
+{
+    limit <= goals.len()
+}
+
+fn goal_reply(state: &PlanState, limit: u32, goal: &Goal) -> Reply
+    requires { IsWhole state.now }
+    ensures { result ≡ goal_reply state.now limit goal.now }
+{
+    if is_taken(&state.goals, goal.number) {
+        Reply::DuplicateGoal
+    } else if goal.latest < state.floor() {
+        Reply::TooLate
+    } else if are_full(&state.goals, limit) {
+        Reply::TooManyGoals
+    } else {
+        Reply::Done
+    }
+}
+
+fn tick_reply(state: &PlanState, moment: u64) -> Reply
+    ensures { result ≡ tick_reply state.now moment }
+{
+    if moment <= u64::from(state.moment) {
+        Reply::TickBack
+    } else if u64::from(state.model.get().horizon) < moment {
+        Reply::TickBeyond
+    } else {
+        Reply::Done
+    }
+}
+
+fn message_reply(state: &PlanState, limit: u32, message: &Message) -> Reply
+    requires { IsWhole state.now }
+    ensures value { result ≡ message_reply state.now limit message.now }
+    ensures input { IsInputReply result }
+{
+    match message {
+        Message::Goal(goal) => goal_reply(state, limit, goal),
+        Message::TeleLevel(_, _) | Message::TeleState(_, _) => Reply::Done,
+        Message::Tick(moment) => tick_reply(state, *moment),
+        Message::End => Reply::Ended,
+    }
+}
+
+impl Machine {
+    /// The input is over.
+    fn end(&mut self, line: Option<&[u8]>) -> Result<Reply, Stop>
+        requires open { IsOpen self.old (Event.Input (option_copied line)) }
+        requires line { IfSome (option_copied line) IsMessageLine }
+        requires ended { input_reply self.old.world (option_copied line) ≡ Reply.Ended }
+        ensures { Answers self.old (Event.Input (option_copied line.entry)) result self.new }
+    {
+        match input_bytes(self.alloc, line) {
+            Err(_) => Err(self.spoil()),
+            Ok(bytes) => self.finish(Event::Input(bytes)),
+        }
+    }
+
+    /// Appends the end of the input.
+    fn finish(&mut self, event: Event) -> Result<Reply, Stop>
+        requires open { IsOpen self.old event }
+        requires event { IsEventInRange self.old.model event }
+        requires reply { IsReplyTo self.old.model event Reply.Ended }
+        requires ended { Reply.Ended ≡ reply_of self.old.world event }
+        requires leaves { record self.old.world { done = true } ≡ after self.old.world event }
+        ensures { Answers self.old event result self.new }
+    {
+        let reply = push_entry(
+            &mut self.log,
+            &mut self.board,
+            self.alloc,
+            event,
+            Reply::Ended,
+        )?;
+        self.done = true;
+        Ok(reply)
+    }
+
+    /// A line is refused, and a round begins.
+    fn refuse(&mut self, line: &[u8], refusal: Reply) -> Result<Reply, Stop>
+        requires open { IsOpen self.old (Event.Input (Some line.now)) }
+        requires line { IsMessageLine line.now }
+        requires refused { line_reply self.old.world.state self.old.world.options.goals line.now ≡ refusal }
+        requires input { IsInputReply refusal }
+        requires not_done { refusal ≢ Reply.Done }
+        requires not_ended { refusal ≢ Reply.Ended }
+        ensures { Answers self.old (Event.Input (Some line.now)) result self.new }
+    {
+        match line_bytes(self.alloc, line) {
+            Err(_) => Err(self.spoil()),
+            Ok(bytes) => self.append(Event::Input(Some(bytes)), refusal, Round::begun()),
+        }
+    }
+
+    /// A line is accepted: the plan state changes, and a round begins.
+    fn begin(&mut self, line: &[u8], change: Change) -> Result<Reply, Stop>
+        requires open { IsOpen self.old (Event.Input (Some line.now)) }
+        requires line { IsMessageLine line.now }
+        requires done { line_reply self.old.world.state self.old.world.options.goals line.now ≡ Reply.Done }
+        requires whole { IsWhole self.old.world.state }
+        requires can { CanChange self.old.world.state change }
+        requires told { told_line self.old.world.state line.now ≡ changed change self.old.world.state }
+        ensures { Answers self.old (Event.Input (Some line.now)) result self.new }
+    {
+        match line_bytes(self.alloc, line) {
+            Err(_) => Err(self.spoil()),
+            Ok(bytes) => self.carry_out(Event::Input(Some(bytes)), change, Round::begun()),
+        }
+    }
+
+    #[tactic(auto, using(crate::proofs::Inputs::can_accept, crate::proofs::Inputs::can_tell_level, crate::proofs::Inputs::can_tell_state, crate::proofs::Inputs::can_tick), unfolding(crate::specs::Messages::line_reply, crate::specs::Messages::told_line))]
+    fn accept(&mut self, line: &[u8], message: Message) -> Result<Reply, Stop>
+        requires open { IsOpen self.old (Event.Input (Some line.now)) }
+        requires line { IsMessageLine line.now }
+        requires message { message_of self.old.world.state.model line.now ≡ Ok message }
+        requires within { IsWithin self.old.world.state.model message }
+        requires whole { IsWhole self.old.world.state }
+        requires done { message_reply self.old.world.state self.old.world.options.goals message ≡ Reply.Done }
+        ensures { Answers self.old (Event.Input (Some line.now)) result self.new }
+    {
+        match message {
+            Message::Goal(goal) => self.begin(line, Change::Accept(goal)),
+            Message::TeleLevel(timeline, value) => self.begin(line, Change::Tell(timeline, value)),
+            Message::TeleState(timeline, state) => {
+                self.begin(line, Change::Tell(timeline, i64::from(state)))
+            }
+            Message::Tick(moment) => self.begin(line, Change::Tick(moment as u32)),
+            Message::End => self.end(Some(line)),
+        }
+    }
+
+    #[tactic(auto, unfolding(crate::specs::Messages::line_reply))]
+    fn take_message(&mut self, line: &[u8], message: Message) -> Result<Reply, Stop>
+        requires open { IsOpen self.old (Event.Input (Some line.now)) }
+        requires line { IsMessageLine line.now }
+        requires message { message_of self.old.world.state.model line.now ≡ Ok message }
+        requires within { IsWithin self.old.world.state.model message }
+        ensures { Answers self.old (Event.Input (Some line.now)) result self.new }
+    {
+        match message_reply(self.board.state(), self.options.goals, &message) {
+            Reply::Done => self.accept(line, message),
+            Reply::Ended => self.end(Some(line)),
+            refusal => self.refuse(line, refusal),
+        }
+    }
+
+    #[tactic(auto, using(crate::proofs::Inputs::is_numbered_model), unfolding(crate::specs::Messages::line_reply))]
+    fn take_line(&mut self, line: &[u8]) -> Result<Reply, Stop>
+        requires open { IsOpen self.old (Event.Input (Some line.now)) }
+        requires line { IsMessageLine line.now }
+        ensures { Answers self.old (Event.Input (Some line.now)) result self.new }
+    {
+        match read_message(self.alloc, line, self.board.model()) {
+            Ok(message) => self.take_message(line, message),
+            Err(MsgFault::BadLine) => self.refuse(line, Reply::BadLine),
+            Err(MsgFault::UnknownName) => self.refuse(line, Reply::UnknownName),
+            Err(MsgFault::Range) => self.refuse(line, Reply::Range),
+            Err(MsgFault::Memory) => Err(self.spoil()),
+        }
+    }
+
+    /// Whether a message is taken.
+    fn can_listen(&self) -> bool
+        ensures { result ≡ (self.now.world.closed && not self.now.world.done) }
+    {
+        self.round.closed && !self.done
+    }
+
+    /// Takes a message line, or the end of the input.
+    pub fn input(&mut self, line: Option<&[u8]>) -> Result<Reply, Stop>
+        requires { IfSome (option_copied line) IsMessageLine }
+        ensures { Answers self.old (Event.Input (option_copied line.entry)) result self.new }
+    {
+        self.admit(self.can_listen())?;
+        match line {
+            None => self.end(None),
+            Some(line) => self.take_line(line),
+        }
+    }
+}

@@ -1,0 +1,90 @@
+ghost use Rattle.std.specs.Prelude.{◌≡◌, ◌<◌, ◌≤◌, false};
+ghost use Rattle.pl_machine.specs.Legal.{Legal, IsHistory};
+ghost use Rattle.pl_machine.specs.Taking.{Admits};
+
+use crate::machine::Machine;
+use crate::stop::Stop;
+use pl_board::Board;
+use pl_entry::Entry;
+use pl_facts::Options;
+use pl_model::Model;
+
+impl Machine {
+    /// The log. It is a legal one, and an unspoiled machine stands for the world after it.
+    pub fn log(&self) -> &[Entry]
+        ensures entries { result.now ≡ self.now.log }
+        ensures legal { Legal self.now.model self.now.log }
+        ensures history { self.now.spoiled ≡ false → IsHistory self.now.model self.now.log self.now.world }
+    {
+        self.log.as_slice()
+    }
+
+    pub fn model(&self) -> &Model
+        ensures { result.now ≡ self.now.model }
+    {
+        self.model.get()
+    }
+
+    pub fn board(&self) -> &Board
+        ensures { result.now ≡ record { spoiled = self.now.spoiled; state = self.now.world.state } }
+    {
+        &self.board
+    }
+
+    pub fn options(&self) -> &Options
+        ensures value { result.now ≡ self.now.world.options }
+        ensures turns { self.now.world.turn ≤ self.now.world.options.turns }
+    {
+        &self.options
+    }
+
+    /// The repairs of this round so far.
+    pub fn turn(&self) -> u32
+        ensures { result ≡ self.now.world.turn }
+    {
+        self.round.turn
+    }
+
+    /// Whether repair rests in this round.
+    pub fn resting(&self) -> bool
+        ensures { result ≡ self.now.world.rested }
+    {
+        self.round.rested
+    }
+
+    /// Whether the round is closed. The input ends only between rounds.
+    pub fn closed(&self) -> bool
+        ensures value { result ≡ self.now.world.closed }
+        ensures going { self.now.world.closed ≡ false → self.now.world.done ≡ false }
+    {
+        self.round.closed
+    }
+
+    /// Whether the input has ended.
+    pub fn done(&self) -> bool
+        ensures { result ≡ self.now.world.done }
+    {
+        self.done
+    }
+
+    /// Whether memory was wanting in an event of this machine.
+    pub fn spoiled(&self) -> bool
+        ensures { result ≡ self.now.spoiled }
+    {
+        self.board.spoiled()
+    }
+
+    pub(crate) fn admit(&self, enabled: bool) -> Result<(), Stop>
+        ensures { Admits self.now enabled result }
+    {
+        if self.spoiled() {
+            Err(Stop::Spoiled)
+        } else if !enabled {
+            Err(Stop::NotNow)
+        } else if self.log.len() >= self.options.entries as usize {
+            Err(Stop::LogFull)
+        } else {
+            Ok(())
+        }
+    }
+}

@@ -1,0 +1,39 @@
+ghost use Rattle.std.specs.Prelude.{◌≡◌, true, false};
+
+/// Where a round stands.
+#[derive(Clone, Copy, Debug, PartialEq, Eq)]
+pub(crate) struct Round {
+    /// The repairs so far.
+    pub(crate) turn: u32,
+    /// Repair is over.
+    pub(crate) rested: bool,
+    /// A commit was held, and no repair was made since.
+    pub(crate) held: bool,
+    pub(crate) closed: bool,
+}
+
+impl Round {
+    /// Between rounds, before the first one.
+    pub(crate) fn closed() -> Round
+        ensures { result ≡ record { turn = 0; rested = false; held = false; closed = true } }
+    {
+        Round {
+            turn: 0,
+            rested: false,
+            held: false,
+            closed: true,
+        }
+    }
+
+    /// A round that has just begun.
+    pub(crate) fn begun() -> Round
+        ensures { result ≡ record { turn = 0; rested = false; held = false; closed = false } }
+    {
+        Round {
+            turn: 0,
+            rested: false,
+            held: false,
+            closed: false,
+        }
+    }
+}

@@ -1,0 +1,24 @@
+-- The forms of the command line. So far `run solo N` and `check`.
+use Rattle.std.specs.Prelude.{ℕ, List, [], ◌∷◌, Bool, ◌&&◌, nat_le, if◌then◌else◌, Option, Some, None, codes, map}
+use Rattle.std.specs.Str.{bytes_eq}
+use Rattle.std.specs.String.{string_bytes}
+use Rattle.std.specs.declared.string.String.{String}
+use Rattle.std.specs.declared.alloc.Global.{Global}
+use Rattle.pl_main.specs.declared.command.Command.{Command}
+use Rattle.pl_main.specs.declared.command.Command.TheVariants as command
+use Rattle.pl_main.specs.declared.command.Task.TheVariants as task
+use Rattle.pl_main.specs.Numbers.{number_in}
+
+-- the turns of a round, from 1 to 1,000
+abbrev pub turns_by : Option ℕ → Option Command
+turns_by None = None
+turns_by (Some n) = if nat_le 1 n && nat_le n 1000 then Some (command.Alone (task.Solo n)) else None
+
+abbrev pub command_in : List (List ℕ) → Option Command
+command_in (check ∷ []) = if bytes_eq check (codes "check") then Some (command.Alone task.Check) else None
+command_in (run ∷ solo ∷ turns ∷ []) = if bytes_eq run (codes "run") && bytes_eq solo (codes "solo") then turns_by (number_in turns) else None
+command_in _ = None
+
+-- what the words ask for, where they are one of the forms
+unfoldable pub command_of : List (String Global) → Option Command
+command_of words = command_in (map string_bytes words)

@@ -1,0 +1,41 @@
+ghost use Rattle.std.specs.Prelude.{◌≡◌, map};
+ghost use Rattle.std.specs.String.{string_bytes};
+ghost use Rattle.pl_main.specs.Words.{turns_by, command_in, command_of};
+
+use crate::command::{Command, Task};
+use crate::number::read_number;
+
+fn solo(turns: Option<u64>) -> Option<Command>
+    ensures { result ≡ turns_by turns }
+{
+    match turns {
+        Some(turns) if 1 <= turns && turns <= 1000 => Some(Command::Alone(Task::Solo {
+            turns: turns as u32,
+        })),
+        _ => None,
+    }
+}
+
+/// What the words behind the program's name ask for: `run solo N`, N from 1 to 1,000, or `check`.
+#[tactic(auto, unfolding(crate::specs::Words::command_of))]
+pub fn read_words(words: &[String]) -> Option<Command>
+    ensures { result ≡ command_of words.now }
+{
+    match words {
+        [check] => {
+            if check.as_bytes() == b"check".as_slice() {
+                Some(Command::Alone(Task::Check))
+            } else {
+                None
+            }
+        }
+        [run, solo_word, turns] => {
+            if run.as_bytes() == b"run".as_slice() && solo_word.as_bytes() == b"solo".as_slice() {
+                solo(read_number(turns.as_bytes()))
+            } else {
+                None
+            }
+        }
+        _ => None,
+    }
+}
