@@ -1,0 +1,48 @@
+-- The laws that hold of each step by itself, of the world before an entry and the world after it.
+use Rattle.std.proofs.Common.{◌≡◌, ◌≤◌, [], ◌∷◌, Bool, true, false, not, ◌&&◌, nat_le, refl, sym, ◌∙◌, ap, subst}
+use lib.Pointwise.{bytes_decides}
+use Rattle.pl_model.specs.declared.whole.Model.{Model}
+use Rattle.pl_entry.specs.declared.event.Event.TheVariants as event
+use Rattle.pl_entry.specs.declared.reply.Reply.{Reply}
+use Rattle.pl_entry.specs.declared.reply.Reply.TheVariants as reply
+use Rattle.pl_world.specs.Conflicts.{conflicts_of}
+use Rattle.pl_board.specs.Boards.{committed_to}
+use Rattle.pl_machine.specs.World.{World, due_in}
+use Rattle.pl_machine.specs.Step.{all_sent, best_in, behind_of, commit_reply, after_commit}
+use Rattle.pl_machine.specs.Legal.{world_of}
+use Rattle.pl_machine.proofs.Granting.{grants}
+use Rattle.pl_laws.specs.Laws.{FrontsAreLegal, CommitsNeverFall, GrantsChangeNoConflict, AllIsSentAtClose, with_entry}
+use Rattle.pl_laws.proofs.Fronts.{goes_on, last_entry}
+use Rattle.pl_laws.proofs.Lasting.{lasts_on}
+use Rattle.pl_laws.proofs.Granted.{granted_same}
+
+pub fronts : (m : Model) → FrontsAreLegal m
+fronts m first es more legal = (goes_on m first es more legal).front
+
+pub never_less : (m : Model) → CommitsNeverFall m
+never_less m [] more front legal = absurd front
+never_less m (first ∷ es) more front legal =
+    let on = goes_on m first es more legal in
+    let w = world_of m (first ∷ es) in
+    subst (λ (v : World). w.state.committed ≤ v.state.committed) (sym on.world) (lasts_on w more).committed
+
+third_of : (a b c d : Bool) → (a && (b && (c && d))) ≡ true → c ≡ true
+third_of true true true d e = refl
+third_of true true false d e = e
+third_of true false c d e = absurd (cc)
+third_of false b c d e = absurd (cc)
+
+pub sent_at_close : (m : Model) → AllIsSentAtClose m
+sent_at_close m log answer legal =
+    let last = last_entry m log event.Close answer (λ begun. begun) legal in
+    let w = world_of m log in
+    let all : w.dispatched ≡ due_in w.state = (bytes_decides w.dispatched (due_in w.state)).0 (third_of (not w.closed) w.rested (all_sent w) (nat_le (best_in w.state) (behind_of w.state)) last.follows.enabled) in
+    subst (λ (v : World). v.dispatched ≡ due_in v.state) (sym last.leaves) all
+
+pub grants_same : (m : Model) → GrantsChangeNoConflict m
+grants_same m log h legal =
+    let last = last_entry m log (event.Commit h) reply.Done (λ begun. begun) legal in
+    let w = world_of m log in
+    let done : commit_reply w.state h ≡ reply.Done = sym last.follows.answers in
+    let state : (world_of m (with_entry log (event.Commit h) reply.Done)).state ≡ committed_to h w.state = ap (λ (v : World). v.state) last.leaves ∙ ap (λ (r : Reply). (after_commit w h r).state) done in
+    ap conflicts_of state ∙ granted_same w.state h ((grants w.state h).0 done)
