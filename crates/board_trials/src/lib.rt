@@ -1,0 +1,17 @@
+//! Tests of boards: worked rows of models, changes, and what is wrong and what is tried then.
+#![tactic(auto)]
+
+#[cfg(test)]
+mod boards;
+#[cfg(test)]
+mod changes;
+#[cfg(test)]
+mod messages;
+#[cfg(test)]
+mod reading;
+#[cfg(test)]
+mod repairs;
+#[cfg(test)]
+mod rows;
+#[cfg(test)]
+mod values;

@@ -1,0 +1,73 @@
+//! What the tests read of their tables' texts.
+use pl_conflict::{Code, Conflict};
+use pl_plan::RepairMove;
+
+/// Takes the first word off; nothing is left where there is no space.
+pub fn word<'a>(rest: &mut &'a str) -> &'a str {
+    let (first, more) = rest.split_once(' ').unwrap_or((*rest, ""));
+    *rest = more;
+    first
+}
+
+/// Takes a number off, 0 where the first word is none.
+pub fn number(rest: &mut &str) -> u32 {
+    word(rest).parse().unwrap_or(0)
+}
+
+fn code(name: &str) -> Code {
+    match name {
+        "open-goal" => Code::OpenGoal,
+        "bad-value" => Code::BadValue,
+        "link" => Code::Linked,
+        "over" => Code::Over,
+        "low" => Code::Low,
+        _ => Code::BadStep,
+    }
+}
+
+/// The conflict of a line as the journal prints it.
+pub fn conflict(line: &str) -> Conflict {
+    let mut rest = line;
+    Conflict {
+        from: number(&mut rest),
+        code: code(word(&mut rest)),
+        subject: number(&mut rest),
+        detail: number(&mut rest),
+        a: number(&mut rest),
+        b: number(&mut rest),
+    }
+}
+
+/// The move of a line; a kind is its number.
+pub fn repair(line: &str) -> RepairMove {
+    let mut rest = line;
+    match word(&mut rest) {
+        "add" => RepairMove::Add {
+            kind: number(&mut rest),
+            start: number(&mut rest),
+            goal: None,
+        },
+        "delete" => RepairMove::Delete {
+            id: number(&mut rest),
+        },
+        "shift" => RepairMove::Shift {
+            id: number(&mut rest),
+            start: number(&mut rest),
+        },
+        "detail" => RepairMove::Detail {
+            id: number(&mut rest),
+            alternative: number(&mut rest),
+        },
+        "abstract" => RepairMove::Abstract {
+            id: number(&mut rest),
+        },
+        "assign" => RepairMove::Assign {
+            id: number(&mut rest),
+            param: word(&mut rest).parse().unwrap_or(0),
+            value: word(&mut rest).parse().unwrap_or(0),
+        },
+        _ => RepairMove::Drop {
+            goal: number(&mut rest),
+        },
+    }
+}
