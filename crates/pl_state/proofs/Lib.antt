@@ -1,4 +1,5 @@
 pub mod Keys
+pub mod InRows
 pub mod Seeking
 pub mod Orders
 pub mod Failing

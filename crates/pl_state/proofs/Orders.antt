@@ -4,18 +4,10 @@ use Rattle.std.proofs.lemmas.Bool.{cond_both, or_cases, and_parts, or_parts, eqb
 use Rattle.std.proofs.lemmas.List.{drop_all}
 use Rattle.pl_lists.specs.Lists.{front, back}
 use Rattle.pl_points.specs.Standing.{without}
-use Rattle.pl_points.proofs.Parting.{NonePass, IsParted, drop_next, back_fails}
+use Rattle.pl_points.proofs.Parting.{drop_next, back_fails}
 use Rattle.pl_state.specs.declared.reservation.Setting.{Setting}
 use Rattle.pl_state.specs.Sets.{set_before, same_setting, with_set, AreInOrder, is_passed, state_from}
 use Rattle.pl_state.specs.Near.{rest_after, next_moment}
-
-none_passed : (at c : ℕ) (xs : List Setting) → at < c → AreInOrder c xs → NonePass (is_passed at) xs
-none_passed at c [] lt ordered = tt
-none_passed at c (x ∷ xs) lt ordered = (lt-leb x.at at (omega (arith, lt, ordered.0)), none_passed at x.at xs (omega (arith, lt, ordered.0)) ordered.1)
-
-pub parted_passed : (at c : ℕ) (xs : List Setting) → AreInOrder c xs → IsParted (is_passed at) xs
-parted_passed at c [] ordered = tt
-parted_passed at c (x ∷ xs) ordered = ((λ f. none_passed at x.at xs (leb-false x.at at f) ordered.1), parted_passed at x.at xs ordered.1)
 
 pub order_later : (b c : ℕ) (xs : List Setting) → b ≤ c → AreInOrder c xs → AreInOrder b xs
 order_later b c [] le ordered = tt

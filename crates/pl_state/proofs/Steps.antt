@@ -84,24 +84,10 @@ pub parted_bad_by : (at c : ℕ) (l : List BadSet) → AreBadInOrder c l → IsP
 parted_bad_by at c [] ordered = tt
 parted_bad_by at c (x ∷ l) ordered = ((λ f. none_bad_by at x.at l (leb-false x.at at f) ordered.1), parted_bad_by at x.at l ordered.1)
 
-none_before : (at c : ℕ) (xs : List Setting) → at ≤ c → AreInOrder c xs → NonePass (comes_before at) xs
-none_before at c [] le ordered = tt
-none_before at c (x ∷ xs) le ordered = (le-ltb x.at at (omega (arith, le, ordered.0)), none_before at x.at xs (omega (arith, le, ordered.0)) ordered.1)
-
-pub parted_before : (at c : ℕ) (xs : List Setting) → AreInOrder c xs → IsParted (comes_before at) xs
-parted_before at c [] ordered = tt
-parted_before at c (x ∷ xs) ordered = ((λ f. none_before at x.at xs (ltb-false x.at at f) ordered.1), parted_before at x.at xs ordered.1)
-
 pub bad_order_drop : (i c : ℕ) (l : List BadSet) → AreBadInOrder c l → AreBadInOrder 0 (drop i l)
 bad_order_drop zero c l ordered = bad_later 0 c l (omega arith) ordered
 bad_order_drop (suc i) c [] ordered = tt
 bad_order_drop (suc i) c (x ∷ l) ordered = bad_order_drop i x.at l ordered.1
-
-pub order_drop : (i c : ℕ) (l : List Setting) → AreInOrder c l → AreInOrder 0 (drop i l)
-order_drop zero c [] ordered = tt
-order_drop zero c (x ∷ l) ordered = (omega arith, ordered.1)
-order_drop (suc i) c [] ordered = tt
-order_drop (suc i) c (x ∷ l) ordered = order_drop i x.at l ordered.1
 
 -- behind a later moment
 pub back_both : (a z : ℕ) (l : List BadSet) → a ≤ z → back (bad_by z) (back (bad_before a) l) ≡ back (bad_by z) l

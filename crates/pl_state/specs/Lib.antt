@@ -2,6 +2,7 @@ pub use Rattle.pl_lists.specs.Lists
 pub use Rattle.pl_points.specs.Spans
 pub use Rattle.pl_points.specs.Standing
 pub mod Keys
+pub mod Rows
 pub mod Sets
 pub mod Musts
 pub mod Starts

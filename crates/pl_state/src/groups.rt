@@ -5,7 +5,6 @@ ghost use Rattle.pl_state.specs.declared.reservation.Must.{Must};
 ghost use Rattle.pl_state.specs.declared.answer.BrokenMust.{BrokenMust};
 ghost use Rattle.pl_state.specs.Keys.{AreSorted};
 ghost use Rattle.pl_state.specs.Sets.{AreInOrder};
-ghost use Rattle.pl_state.specs.Musts.{must_key};
 ghost use Rattle.pl_state.specs.Lines.{same_broken};
 ghost use Rattle.pl_lists.specs.Lists.{left_out};
 ghost use Rattle.pl_state.specs.Near.{group_key, IsKeyed, AreRightBut, IsBegun};
@@ -14,9 +13,9 @@ ghost use Rattle.pl_state.specs.Present.{group_at, broken_at};
 use crate::answer::BrokenMust;
 use crate::key::{Key, run_of};
 use crate::listed::{Difference, push_missing, replace};
-use crate::musts::groups_of;
+use crate::musts::{Musts, groups_of};
 use crate::present::Present;
-use crate::reservation::{Must, Setting};
+use crate::sets::Sets;
 use pl_lists::Items;
 use std::alloc::{AllocError, Global};
 
@@ -51,9 +50,8 @@ fn renewal_from(alloc: Global, passed: usize, taken: usize) -> Renewal
 }
 
 // Before the first key nothing changes.
-fn begun(alloc: Global, musts: &[Must], keys: &[Key], broken: &[BrokenMust]) -> Renewal
-    requires musts { AreSorted must_key musts.now }
-    requires sorted { AreSorted group_key broken.now }
+fn begun(alloc: Global, musts: &Musts, keys: &[Key], broken: &[BrokenMust]) -> Renewal
+    requires { AreSorted group_key broken.now }
     ensures { (group : Must → List BrokenMust) → IsKeyed group
         → AreRightBut keys.now group musts.now broken.now
         → IsBegun group musts.now broken.now keys.now result.begin result.passed result.taken
@@ -62,7 +60,7 @@ fn begun(alloc: Global, musts: &[Must], keys: &[Key], broken: &[BrokenMust]) -> 
     match keys.first() {
         None => renewal_from(alloc, musts.len(), broken.len()),
         Some(key) => {
-            let passed = run_of(musts, 0, *key);
+            let passed = musts.run_of(0, *key);
             let taken = run_of(broken, 0, *key);
             renewal_from(alloc, passed.begin, taken.begin)
         }
@@ -72,15 +70,14 @@ fn begun(alloc: Global, musts: &[Must], keys: &[Key], broken: &[BrokenMust]) -> 
 // Keeps the spans before those with the key, and works the spans with it out anew.
 fn renew_key(
     alloc: Global,
-    sets: &[Setting],
+    sets: &Sets,
     present: Present,
-    musts: &[Must],
+    musts: &Musts,
     key: Key,
     broken: &[BrokenMust],
     renewal: &mut Renewal,
 ) -> Result<(), AllocError>
     requires ordered { AreInOrder 0 sets.now }
-    requires musts { AreSorted must_key musts.now }
     requires sorted { AreSorted group_key broken.now }
     requires in_musts { renewal.old.passed ≤ length musts.now }
     requires in_broken { renewal.old.taken ≤ length broken.now }
@@ -90,9 +87,10 @@ fn renew_key(
         → IsBegun (group_at present sets.now) musts.now broken.now keys renewal.new.begin
         renewal.new.passed renewal.new.taken renewal.new.fresh.items renewal.new.went renewal.new.came) }
 {
-    let named = run_of(musts, renewal.passed, key);
+    let run = musts.run_of(renewal.passed, key);
+    let named = musts.part(alloc, run)?;
     let old = run_of(broken, renewal.taken, key);
-    let group = groups_of(alloc, sets, present, &musts[named.begin..named.behind])?;
+    let group = groups_of(alloc, sets, present, &named)?;
     let gone = &broken[old.begin..old.behind];
     push_missing(&mut renewal.went, &group, gone)?;
     push_missing(&mut renewal.came, gone, &group)?;
@@ -100,7 +98,7 @@ fn renew_key(
         .fresh
         .extend_from_slice(&broken[renewal.taken..old.begin])?;
     renewal.fresh.extend_from_slice(&group)?;
-    renewal.passed = named.behind;
+    renewal.passed = run.behind;
     renewal.taken = old.behind;
     Ok(())
 }
@@ -108,14 +106,13 @@ fn renew_key(
 // What comes in the place of what, for all the keys.
 fn renewed(
     alloc: Global,
-    sets: &[Setting],
+    sets: &Sets,
     present: Present,
-    musts: &[Must],
+    musts: &Musts,
     keys: &[Key],
     broken: &[BrokenMust],
 ) -> Result<Renewal, AllocError>
     requires ordered { AreInOrder 0 sets.now }
-    requires musts { AreSorted must_key musts.now }
     requires sorted { AreSorted group_key broken.now }
     requires right { AreRightBut keys.now (group_at present sets.now) musts.now broken.now }
     ensures { IfOk result (λ r. IsBegun (group_at present sets.now) musts.now broken.now [] r.begin
@@ -132,14 +129,13 @@ fn renewed(
 /// Works out anew where the musts with these keys are broken, and leaves the others as they are.
 pub(crate) fn renew(
     alloc: Global,
-    sets: &[Setting],
+    sets: &Sets,
     present: Present,
-    musts: &[Must],
+    musts: &Musts,
     keys: &[Key],
     broken: &mut Vec<BrokenMust>,
 ) -> Result<Difference<BrokenMust>, AllocError>
     requires ordered { AreInOrder 0 sets.now }
-    requires musts { AreSorted must_key musts.now }
     requires sorted { AreSorted group_key broken.old.items }
     requires right { AreRightBut keys.now (group_at present sets.now) musts.now broken.old.items }
     ensures broken { OnOk result (broken.new.items ≡ broken_at present sets.now musts.now) }

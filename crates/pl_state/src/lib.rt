@@ -2,6 +2,8 @@
 #![tactic(auto)]
 
 mod answer;
+mod bound;
+mod finding;
 mod groups;
 mod key;
 mod laws;
@@ -11,6 +13,8 @@ mod musts;
 mod near;
 mod present;
 mod reservation;
+mod row;
+mod rows;
 mod sets;
 mod sharing;
 mod starts;

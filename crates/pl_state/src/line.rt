@@ -234,9 +234,9 @@ impl StateLine {
         };
         let difference = renew(
             self.alloc,
-            self.sets.as_slice(),
+            &self.sets,
             present,
-            self.musts.as_slice(),
+            &self.musts,
             &[must.key()],
             &mut self.told.broken,
         )?;
@@ -281,9 +281,9 @@ impl StateLine {
         };
         let difference = renew(
             self.alloc,
-            self.sets.as_slice(),
+            &self.sets,
             present,
-            self.musts.as_slice(),
+            &self.musts,
             &[must.key()],
             &mut self.told.broken,
         )?;
@@ -313,7 +313,7 @@ impl StateLine {
         };
         let near = Span {
             from: self.moment,
-            to: end_of_base(self.sets.as_slice(), self.moment, self.horizon),
+            to: end_of_base(&self.sets, self.moment, self.horizon),
         };
         let change = mend(
             self.alloc,
@@ -380,7 +380,7 @@ impl StateLine {
         if self.spoiled {
             return self.value;
         }
-        state_of(self.sets.as_slice(), self.base, self.value, t)
+        state_of(&self.sets, self.base, self.value, t)
     }
 
     /// Where musts are broken, by (id, index, from).

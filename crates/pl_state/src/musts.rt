@@ -1,7 +1,7 @@
-ghost use Rattle.std.specs.Prelude.{◌≡◌, ◌≤◌, ◌-◌, ◌++◌, ◌∷◌, ◌==◌, true, not, max, min, [], OnOk, IfOk, if◌then◌else◌};
+ghost use Rattle.std.specs.Prelude.{◌≡◌, ◌≤◌, ◌-◌, length, take, drop, ◌++◌, ◌∷◌, ◌==◌, true, not, max, min, [], OnOk, IfOk, if◌then◌else◌};
 ghost use Rattle.pl_points.specs.Spans.{span, joined, spans_of};
 ghost use Rattle.pl_points.specs.Standing.{without};
-ghost use Rattle.pl_state.specs.Keys.{AreSorted, AreRising, Has};
+ghost use Rattle.pl_state.specs.Keys.{AreSorted, AreRising, Has, IsRun};
 ghost use Rattle.pl_state.specs.Sets.{AreInOrder, state_from};
 ghost use Rattle.pl_state.specs.declared.reservation.Must.{Must};
 ghost use Rattle.pl_state.specs.Musts.{must_key, same_must, with_must, broken_spans};
@@ -9,10 +9,13 @@ ghost use Rattle.pl_state.specs.Near.{touches};
 ghost use Rattle.pl_state.specs.Present.{group_at, broken_at};
 
 use crate::answer::BrokenMust;
-use crate::key::{Key, Keyed, count_before, position_of};
+use crate::bound::Bound;
+use crate::finding::{position_in, run_in};
+use crate::key::{Key, Keyed, Run};
 use crate::present::Present;
-use crate::reservation::{Must, Setting};
-use crate::sets::{end_of, state_of};
+use crate::reservation::Must;
+use crate::rows::Rows;
+use crate::sets::{Sets, end_of, state_of};
 use crate::starts::Starts;
 use pl_points::Span;
 use std::alloc::{AllocError, Global};
@@ -21,7 +24,7 @@ use std::marker::Model;
 /// The musts that stand, by (id, index), and beside them by their starts.
 #[derive(Drop)]
 pub(crate) struct Musts {
-    items: Vec<Must>,
+    items: Rows<Must>,
     starts: Starts,
 }
 
@@ -32,9 +35,9 @@ impl Model for Musts {
 
     ghost Value = { List Must };
 
-    ghost view = { λ c. c.items.items };
+    ghost view = { λ c. c.items };
 
-    ghost invariant = { λ c. AreKept c.items.items c.starts };
+    ghost invariant = { λ c. AreKept c.items c.starts };
 }
 
 impl Keyed for Must {
@@ -63,23 +66,43 @@ impl Musts {
         ensures { result ≡ [] }
     {
         Musts {
-            items: Vec::new(alloc),
+            items: Rows::new(alloc),
             starts: Starts::new(alloc),
         }
     }
 
-    pub(crate) fn as_slice(&self) -> &[Must]
-        ensures value { result.now ≡ self.now }
-        ensures sorted { AreSorted must_key self.now }
+    pub(crate) fn len(&self) -> usize
+        ensures { result ≡ length self.now }
     {
-        &self.items
+        self.items.len()
+    }
+
+    /// Where those with the key stand, from a place on.
+    pub(crate) fn run_of(&self, from: usize, key: Key) -> Run
+        requires { from ≤ length self.now }
+        ensures sorted { AreSorted must_key self.now }
+        ensures begin { from ≤ result.begin }
+        ensures behind { result.begin ≤ result.behind }
+        ensures bound { result.behind ≤ length self.now }
+        ensures cut { IsRun must_key key self.now from result.begin result.behind }
+    {
+        run_in(&self.items, from, key)
+    }
+
+    /// Those of a run.
+    pub(crate) fn part(&self, alloc: Global, run: Run) -> Result<Vec<Must>, AllocError>
+        requires { run.begin ≤ run.behind }
+        ensures { IfOk result (λ v. v.items ≡ take (run.behind - run.begin) (drop run.begin self.now)) }
+    {
+        let part = self.items.part(alloc, run.begin, run.behind - run.begin)?;
+        Ok(part)
     }
 
     pub(crate) fn copy(&self, alloc: Global) -> Result<Musts, AllocError>
         ensures { IfOk result (λ c. c ≡ self.now) }
     {
         Ok(Musts {
-            items: Vec::from_slice(alloc, &self.items)?,
+            items: self.items.copy(alloc)?,
             starts: self.starts.copy(alloc)?,
         })
     }
@@ -89,7 +112,7 @@ impl Musts {
         ensures sorted { AreSorted must_key self.old }
         ensures ok { OnOk result (self.new ≡ with_must must self.old) }
     {
-        let place = count_before(&self.items, must.key());
+        let place = self.items.count(Bound::Before(must.key()));
         self.starts.insert(must)?;
         self.items.insert(place, must)?;
         Ok(())
@@ -101,7 +124,7 @@ impl Musts {
         ensures gone { self.new ≡ without same_must must self.old }
     {
         self.starts.remove(must);
-        match position_of(&self.items, &must) {
+        match position_in(&self.items, &must) {
             Some(place) => {
                 self.items.remove(place);
             }
@@ -111,6 +134,7 @@ impl Musts {
 
     /// The keys of those that have moments of the window.
     pub(crate) fn touched(&self, alloc: Global, near: Span) -> Result<Vec<Key>, AllocError>
+        ensures sorted { AreSorted must_key self.now }
         ensures rising { IfOk result (λ v. AreRising v.items) }
         ensures each { IfOk result (λ v. (m : Must) → Has m self.now → touches near m ≡ true
             → Has (must_key m) v.items) }
@@ -150,7 +174,7 @@ fn push_piece(spans: &mut Vec<Span>, fails: bool, from: u32, to: u32) -> Result<
 // The maximal spans of the window in which the state is another.
 fn failing_spans(
     alloc: Global,
-    sets: &[Setting],
+    sets: &Sets,
     base: u32,
     value: u32,
     state: u32,
@@ -188,7 +212,7 @@ fn window_of(present: Span, from: u32, to: u32) -> Span
 // Where the must is broken, from the present moment up to the horizon.
 fn spans_of_must(
     alloc: Global,
-    sets: &[Setting],
+    sets: &Sets,
     base: u32,
     value: u32,
     present: Span,
@@ -220,7 +244,7 @@ fn push_broken(broken: &mut Vec<BrokenMust>, must: Must, spans: &[Span]) -> Resu
 // Where the must is broken.
 fn push_group(
     alloc: Global,
-    sets: &[Setting],
+    sets: &Sets,
     present: Present,
     must: Must,
     broken: &mut Vec<BrokenMust>,
@@ -240,7 +264,7 @@ fn push_group(
 /// Where the musts are broken.
 pub(crate) fn groups_of(
     alloc: Global,
-    sets: &[Setting],
+    sets: &Sets,
     present: Present,
     musts: &[Must],
 ) -> Result<Vec<BrokenMust>, AllocError>

@@ -2,7 +2,7 @@
 ghost use Rattle.std.specs.Prelude.{◌≡◌, ◌≤◌, length, take, drop, OnOk, IfOk};
 ghost use Rattle.pl_lists.specs.Lists.{front, back, left_out};
 ghost use Rattle.pl_state.specs.Keys.{AreSorted};
-ghost use Rattle.pl_state.specs.Sets.{set_key, AreInOrder};
+ghost use Rattle.pl_state.specs.Sets.{AreInOrder};
 ghost use Rattle.pl_state.specs.Sorted.{bad_key};
 ghost use Rattle.pl_state.specs.Lines.{AreChanges, same_bad, same_broken};
 ghost use Rattle.pl_state.specs.Near.{bad_before, bad_by, AreBadInOrder};
@@ -13,7 +13,6 @@ use crate::groups::renew;
 use crate::listed::{Difference, answer, exchange};
 use crate::musts::Musts;
 use crate::present::Present;
-use crate::reservation::Setting;
 use crate::sets::{Sets, bad_near};
 use pl_points::Span;
 use std::alloc::{AllocError, Global};
@@ -52,19 +51,19 @@ fn mend_steps(
     steps: &[(u32, u32)],
     present: Present,
     near: Span,
-    sets: &[Setting],
+    sets: &Sets,
     bad: &mut Vec<BadSet>,
 ) -> Result<Difference<BadSet>, AllocError>
     requires near { near.from ≤ near.to }
     requires bound { near.from ≤ present.horizon }
     requires ordered { AreInOrder 0 sets.now }
-    requires sets { AreSorted set_key sets.now }
     requires sorted { AreSorted bad_key bad.old.items }
     requires before { front (bad_before near.from) bad.old.items
         ≡ front (bad_before near.from) (bad_at any steps.now present sets.now) }
     requires behind { back (bad_by near.to) bad.old.items
         ≡ back (bad_by near.to) (bad_at any steps.now present sets.now) }
     ensures bad { OnOk result (bad.new.items ≡ bad_at any steps.now present sets.now) }
+    ensures sorted { OnOk result (AreSorted bad_key bad.new.items) }
     ensures went { IfOk result (λ d. d.went ≡ left_out same_bad bad.new.items bad.old.items) }
     ensures came { IfOk result (λ d. d.came ≡ left_out same_bad bad.old.items bad.new.items) }
 {
@@ -93,7 +92,7 @@ fn mend_musts(
     alloc: Global,
     present: Present,
     near: Span,
-    sets: &[Setting],
+    sets: &Sets,
     musts: &Musts,
     broken: &mut Vec<BrokenMust>,
 ) -> Result<Difference<BrokenMust>, AllocError>
@@ -106,7 +105,7 @@ fn mend_musts(
         broken.new.items) }
 {
     let keys = musts.touched(alloc, near)?;
-    let difference = renew(alloc, sets, present, musts.as_slice(), &keys, broken)?;
+    let difference = renew(alloc, sets, present, musts, &keys, broken)?;
     Ok(difference)
 }
 
@@ -130,8 +129,7 @@ pub(crate) fn mend(
     ensures change { IfOk result (λ c. AreChanges told.old.broken.items told.new.broken.items
         told.old.bad.items told.new.bad.items c) }
 {
-    let list = sets.as_slice();
-    let of_musts = mend_musts(alloc, present, near, list, musts, &mut told.broken)?;
-    let of_steps = mend_steps(alloc, any, steps, present, near, list, &mut told.bad)?;
+    let of_musts = mend_musts(alloc, present, near, sets, musts, &mut told.broken)?;
+    let of_steps = mend_steps(alloc, any, steps, present, near, sets, &mut told.bad)?;
     Ok(answer(of_musts, of_steps))
 }

@@ -1,4 +1,4 @@
-ghost use Rattle.std.specs.Prelude.{◌≡◌, ◌<◌, ◌≤◌, ◌++◌, ◌∷◌, [], ℕ, List, true, length, take, drop, suc, min, max, OnOk, OnErr, IfOk};
+ghost use Rattle.std.specs.Prelude.{◌≡◌, ◌<◌, ◌≤◌, ◌-◌, ◌++◌, ◌∷◌, [], ℕ, List, true, length, take, drop, suc, min, max, slice_index_or, OnOk, OnErr, IfOk};
 ghost use Rattle.pl_lists.specs.Lists.{front, back};
 ghost use Rattle.pl_points.specs.Standing.{stands, without};
 ghost use Rattle.pl_state.specs.Sets.{set_key, set_before, same_setting, with_set, state_from, is_listed, is_allowed, bad_from, is_passed, AreInOrder};
@@ -6,8 +6,11 @@ ghost use Rattle.pl_state.specs.Keys.{AreSorted};
 ghost use Rattle.pl_state.specs.Near.{next_moment, rest_after, comes_before, state_before};
 
 use crate::answer::BadSet;
-use crate::key::{Key, Keyed, count_before, position_of};
+use crate::bound::Bound;
+use crate::finding::position_in;
+use crate::key::{Key, Keyed};
 use crate::reservation::Setting;
+use crate::rows::Rows;
 use pl_points::Span;
 use std::alloc::{AllocError, Global};
 use std::marker::Model;
@@ -15,7 +18,7 @@ use std::marker::Model;
 /// The sets that stand, by (moment, id, index).
 #[derive(Drop)]
 pub(crate) struct Sets {
-    items: Vec<Setting>,
+    items: Rows<Setting>,
 }
 
 impl Model for Sets {
@@ -26,9 +29,9 @@ impl Model for Sets {
 
     ghost Value = { List Setting };
 
-    ghost view = { λ c. c.items.items };
+    ghost view = { λ c. c.items };
 
-    ghost invariant = { λ c. AreSorted set_key c.items.items };
+    ghost invariant = { λ c. AreSorted set_key c.items };
 }
 
 impl Keyed for Setting {
@@ -55,23 +58,65 @@ impl Sets {
         ensures { result ≡ [] }
     {
         Sets {
-            items: Vec::new(alloc),
+            items: Rows::new(alloc),
         }
-    }
-
-    pub(crate) fn as_slice(&self) -> &[Setting]
-        ensures value { result.now ≡ self.now }
-        ensures sorted { AreSorted set_key self.now }
-    {
-        &self.items
     }
 
     pub(crate) fn copy(&self, alloc: Global) -> Result<Sets, AllocError>
         ensures { IfOk result (λ c. c ≡ self.now) }
     {
         Ok(Sets {
-            items: Vec::from_slice(alloc, &self.items)?,
+            items: self.items.copy(alloc)?,
         })
+    }
+
+    fn len(&self) -> usize
+        ensures { result ≡ length self.now }
+    {
+        self.items.len()
+    }
+
+    fn at(&self, place: usize) -> Setting
+        requires { place < length self.now }
+        ensures { result ≡ slice_index_or self.now place result }
+    {
+        self.items.at(place)
+    }
+
+    // How many sets come before the moment.
+    fn begun_count(&self, at: u32) -> usize
+        ensures bound { result ≤ length self.now }
+        ensures rest { drop result self.now ≡ back (comes_before at) self.now }
+    {
+        self.items.count(Bound::Earlier(at))
+    }
+
+    // How many sets are at the moment or before it.
+    fn passed_count(&self, at: u32) -> usize
+        ensures bound { result ≤ length self.now }
+        ensures front { take result self.now ≡ front (is_passed at) self.now }
+        ensures rest { drop result self.now ≡ back (is_passed at) self.now }
+    {
+        self.items.count(Bound::By(at))
+    }
+
+    // The place behind the sets from a place on that are at the moment or before it.
+    fn passed_from(&self, from: usize, at: u32) -> usize
+        requires { from ≤ length self.now }
+        ensures low { from ≤ result }
+        ensures front { take (result - from) (drop from self.now)
+            ≡ front (is_passed at) (drop from self.now) }
+    {
+        self.items.end_from(from, Bound::By(at))
+    }
+
+    // So many sets from the place on.
+    fn part(&self, alloc: Global, from: usize, count: usize) -> Result<Vec<Setting>, AllocError>
+        ensures sorted { AreSorted set_key self.now }
+        ensures part { IfOk result (λ v. v.items ≡ take count (drop from self.now)) }
+    {
+        let part = self.items.part(alloc, from, count)?;
+        Ok(part)
     }
 }
 
@@ -92,25 +137,26 @@ pub(crate) fn is_allowed(any: bool, steps: &[(u32, u32)], from: u32, to: u32) ->
     any || from == to || is_listed(steps, from, to)
 }
 
-// The moment of the first of the sets, at most the horizon.
-fn next_moment(rest: &[Setting], horizon: u32) -> u32
-    ensures { result ≡ next_moment horizon rest.now }
+// The moment of the first set from the place on, at most the horizon.
+fn next_moment(sets: &Sets, from: usize, horizon: u32) -> u32
+    ensures { result ≡ next_moment horizon (drop from sets.now) }
 {
-    match rest.first() {
-        Some(set) => set.at.min(horizon),
-        None => horizon,
+    if from < sets.len() {
+        sets.at(from).at.min(horizon)
+    } else {
+        horizon
     }
 }
 
-// The moments from one set up to the next.
-fn window_from(rest: &[Setting], at: u32, horizon: u32) -> Span
+// The moments from one set up to the next, which stands at the place.
+fn window_from(sets: &Sets, next: usize, at: u32, horizon: u32) -> Span
     ensures from { result.from ≡ min at horizon }
-    ensures to { result.to ≡ max (next_moment horizon rest.now) (min at horizon) }
+    ensures to { result.to ≡ max (next_moment horizon (drop next sets.now)) (min at horizon) }
 {
     let from = at.min(horizon);
     Span {
         from,
-        to: next_moment(rest, horizon).max(from),
+        to: next_moment(sets, next, horizon).max(from),
     }
 }
 
@@ -121,8 +167,8 @@ pub(crate) fn insert_set(sets: &mut Sets, set: Setting, horizon: u32) -> Result<
     ensures to { IfOk result (λ w. w.to ≡ max (next_moment horizon (back (set_before set) sets.old))
         (min set.at horizon)) }
 {
-    let place = count_before(&sets.items, set.key());
-    let near = window_from(&sets.items[place..], set.at, horizon);
+    let place = sets.items.count(Bound::Before(set.key()));
+    let near = window_from(sets, place, set.at, horizon);
     sets.items.insert(place, set)?;
     Ok(near)
 }
@@ -134,13 +180,12 @@ pub(crate) fn remove_set(sets: &mut Sets, set: Setting, horizon: u32) -> Span
     ensures to { result.to ≡ max (next_moment horizon (rest_after same_setting set sets.old))
         (min set.at horizon) }
 {
-    match position_of(&sets.items, &set) {
+    match position_in(&sets.items, &set) {
         Some(place) => {
-            let near = window_from(&sets.items[place + 1..], set.at, horizon);
             sets.items.remove(place);
-            near
+            window_from(sets, place, set.at, horizon)
         }
-        None => window_from(&[], set.at, horizon),
+        None => window_from(sets, sets.len(), set.at, horizon),
     }
 }
 
@@ -174,27 +219,17 @@ fn bad_of(
 }
 
 // The moment of the first set after the base, at most the horizon.
-pub(crate) fn end_of_base(sets: &[Setting], base: u32, horizon: u32) -> u32
-    requires ordered { AreInOrder 0 sets.now }
-    requires bound { base ≤ horizon }
+pub(crate) fn end_of_base(sets: &Sets, base: u32, horizon: u32) -> u32
+    requires { base ≤ horizon }
     ensures end { result ≡ next_moment horizon (back (is_passed base) sets.now) }
     ensures later { base ≤ result }
 {
-    let count = passed_count(sets, base);
-    next_moment(&sets[count..], horizon)
-}
-
-// How many sets come before the moment.
-fn begun_count(sets: &[Setting], at: u32) -> usize
-    requires { AreInOrder 0 sets.now }
-    ensures bound { result ≤ length sets.now }
-    ensures rest { drop result sets.now ≡ back (comes_before at) sets.now }
-{
-    sets.partition_point(|set| set.at < at)
+    let count = sets.passed_count(base);
+    next_moment(sets, count, horizon)
 }
 
 // The state that the sets before the moment leave.
-fn state_before(sets: &[Setting], base: u32, value: u32, at: u32) -> u32
+fn state_before(sets: &Sets, base: u32, value: u32, at: u32) -> u32
     requires { AreInOrder 0 sets.now }
     ensures { result ≡ state_before base at value sets.now }
 {
@@ -214,46 +249,38 @@ pub(crate) fn bad_near(
     moment: u32,
     value: u32,
     near: Span,
-    sets: &[Setting],
+    sets: &Sets,
 ) -> Result<Vec<BadSet>, AllocError>
     requires { AreInOrder 0 sets.now }
-    ensures { IfOk result (λ v. v.items ≡ bad_from
+    ensures sorted { OnOk result (AreSorted set_key sets.now) }
+    ensures bad { IfOk result (λ v. v.items ≡ bad_from
         (is_allowed any steps.now) counted.from counted.to moment
         (state_before counted.from near.from value sets.now)
         (front (is_passed near.to) (back (comes_before near.from) sets.now))) }
 {
     let state = state_before(sets, counted.from, value, near.from);
-    let rest = &sets[begun_count(sets, near.from)..];
-    let count = passed_count(rest, near.to);
-    let bad = bad_of(alloc, any, steps, counted, moment, state, &rest[..count])?;
+    let begin = sets.begun_count(near.from);
+    let end = sets.passed_from(begin, near.to);
+    let window = sets.part(alloc, begin, end - begin)?;
+    let bad = bad_of(alloc, any, steps, counted, moment, state, &window)?;
     Ok(bad)
 }
 
-// How many sets are at the moment or before it.
-fn passed_count(sets: &[Setting], at: u32) -> usize
-    requires { AreInOrder 0 sets.now }
-    ensures bound { result ≤ length sets.now }
-    ensures front { take result sets.now ≡ front (is_passed at) sets.now }
-    ensures rest { drop result sets.now ≡ back (is_passed at) sets.now }
-{
-    sets.partition_point(|set| set.at <= at)
-}
-
 // The state at the moment.
-pub(crate) fn state_of(sets: &[Setting], base: u32, value: u32, at: u32) -> u32
+pub(crate) fn state_of(sets: &Sets, base: u32, value: u32, at: u32) -> u32
     requires { AreInOrder 0 sets.now }
     ensures { result ≡ state_from base at value sets.now }
 {
-    let count = passed_count(sets, at);
+    let count = sets.passed_count(at);
     if count == 0 {
         return value;
     }
-    let last = sets[count - 1];
+    let last = sets.at(count - 1);
     if base < last.at { last.state } else { value }
 }
 
 // Up to where the state stays as it is at the moment.
-pub(crate) fn end_of(sets: &[Setting], base: u32, value: u32, at: u32, to: u32) -> u32
+pub(crate) fn end_of(sets: &Sets, base: u32, value: u32, at: u32, to: u32) -> u32
     requires some { at < to }
     requires ordered { AreInOrder 0 sets.now }
     ensures later { at < result }
@@ -263,9 +290,9 @@ pub(crate) fn end_of(sets: &[Setting], base: u32, value: u32, at: u32, to: u32) 
 {
     let _ = base;
     let _ = value;
-    let count = passed_count(sets, at);
+    let count = sets.passed_count(at);
     if count < sets.len() {
-        sets[count].at.min(to)
+        sets.at(count).at.min(to)
     } else {
         to
     }

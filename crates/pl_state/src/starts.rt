@@ -6,8 +6,11 @@ ghost use Rattle.pl_state.specs.Musts.{must_key};
 ghost use Rattle.pl_state.specs.Starts.{started, start_key, same_started, with_started};
 ghost use Rattle.pl_state.specs.Near.{touches, touched_keys};
 
-use crate::key::{Key, Keyed, count_before, position_of};
+use crate::bound::Bound;
+use crate::finding::position_in;
+use crate::key::{Key, Keyed};
 use crate::reservation::{Must, Started};
+use crate::rows::Rows;
 use pl_points::Span;
 use std::alloc::{AllocError, Global};
 use std::marker::Model;
@@ -35,7 +38,7 @@ impl Keyed for Started {
 /// The musts by (start, id, index), none of which is longer than the longest that ever stood.
 #[derive(Drop)]
 pub(crate) struct Starts {
-    items: Vec<Started>,
+    items: Rows<Started>,
     longest: u32,
 }
 
@@ -46,9 +49,9 @@ impl Model for Starts {
 
     ghost Value = { List Started };
 
-    ghost view = { λ c. c.items.items };
+    ghost view = { λ c. c.items };
 
-    ghost invariant = { λ c. IsIndex c.longest c.items.items };
+    ghost invariant = { λ c. IsIndex c.longest c.items };
 }
 
 // Whether the must has moments of the window.
@@ -76,7 +79,7 @@ impl Starts {
         ensures { result ≡ [] }
     {
         Starts {
-            items: Vec::new(alloc),
+            items: Rows::new(alloc),
             longest: 0,
         }
     }
@@ -85,7 +88,7 @@ impl Starts {
         ensures { IfOk result (λ c. c ≡ self.now) }
     {
         Ok(Starts {
-            items: Vec::from_slice(alloc, &self.items)?,
+            items: self.items.copy(alloc)?,
             longest: self.longest,
         })
     }
@@ -95,7 +98,7 @@ impl Starts {
         ensures err { OnErr result (self.new ≡ self.old) }
     {
         let start = Started { must };
-        let place = count_before(&self.items, start.key());
+        let place = self.items.count(Bound::Before(start.key()));
         self.longest = self.longest.max(must.to.saturating_sub(must.from));
         self.items.insert(place, start)?;
         Ok(())
@@ -105,7 +108,7 @@ impl Starts {
     pub(crate) fn remove(&mut self, must: Must)
         ensures { self.new ≡ without same_started (started must) self.old }
     {
-        if let Some(place) = position_of(&self.items, &Started { must }) {
+        if let Some(place) = position_in(&self.items, &Started { must }) {
             self.items.remove(place);
         }
     }
@@ -126,8 +129,10 @@ impl Starts {
             id: 0,
             index: 0,
         };
-        let rest = &self.items[count_before(&self.items, begin)..];
-        let mut keys = touched_keys(alloc, near, &rest[..count_before(rest, behind)])?;
+        let first = self.items.count(Bound::Before(begin));
+        let end = self.items.end_from(first, Bound::Before(behind));
+        let starts = self.items.part(alloc, first, end - first)?;
+        let mut keys = touched_keys(alloc, near, &starts)?;
         keys.sort_unstable();
         Ok(keys)
     }

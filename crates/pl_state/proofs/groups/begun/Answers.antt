@@ -13,7 +13,7 @@ returns-in-None c = λ group keyed right.
     let begun : IsBegun group ms b c.args.keys.now (length b) (length ms) (length b) [] [] [] = subst (λ l. IsBegun group ms b l (length b) (length ms) (length b) [] [] []) (sym none)
     (begun_none group ms b (subst (λ l. AreRightBut l group ms b) none right)) in
     let e = c.renewal_from.ensures in
-    rw e.begin (rw e.passed (rw e.taken (rw e.fresh (rw e.went (rw e.came begun)))))
+    rw e.begin (rw e.passed (rw c.len.ensures (rw e.taken (rw e.fresh (rw e.went (rw e.came begun))))))
 
 pub returns-in-Some : goal.returns-in-Some
 returns-in-Some c = λ group keyed right.
@@ -25,7 +25,7 @@ returns-in-Some c = λ group keyed right.
     let p = c.run_of-passed.result in
     let t = c.run_of-taken.result in
     let begun : IsBegun group ms b c.args.keys.now t.begin p.begin t.begin [] [] [] = subst (λ l. IsBegun group ms b l t.begin p.begin t.begin [] [] []) (sym some)
-    (begun_at group keyed k ks ms b p.begin p.behind t.begin t.behind c.requires.musts c.requires.sorted c.run_of-passed.ensures.cut c.run_of-taken.ensures.cut
+    (begun_at group keyed k ks ms b p.begin p.behind t.begin t.behind c.run_of-passed.ensures.sorted c.requires c.run_of-passed.ensures.cut c.run_of-taken.ensures.cut
     (omega (arith, c.run_of-passed.ensures.behind, c.run_of-passed.ensures.bound)) (omega (arith, c.run_of-taken.ensures.behind, c.run_of-taken.ensures.bound)) (subst (λ l. AreRightBut l group ms b) some right)) in
     let e = c.renewal_from-in-Some.ensures in
     rw e.begin (rw e.passed (rw e.taken (rw e.fresh (rw e.went (rw e.came begun)))))

@@ -33,8 +33,8 @@ exchange-requires-clause-sorted_new c =
     let slice : take (length c.deref-2.result.now - i) (drop i c.deref-2.result.now) ≡ drop i old = take_rest c.deref-2.result.now i ∙ ap (drop i) c.deref-2.ensures.value in
     let behind : drop n (drop i old) ≡ back (bad_by c.args.near.to) (drop i old) = subst (λ l. drop n l ≡ back (bad_by c.args.near.to) l) slice c.passed_count-count.ensures.rest in
     let new : take i old ++ (c.deref-3.result.now ++ drop (i + n) old) ≡ bad_at c.args.any c.args.steps.now p c.args.sets.now = steps_mended (is_allowed c.args.any c.args.steps.now) p.base p.horizon p.moment p.value c.args.near.from c.args.near.to c.args.sets.now old c.deref-3.result.now i n
-    c.requires.ordered c.requires.near c.requires.bound first rest behind c.requires.before c.requires.behind (c.deref-3.ensures.value ∙ c.in_ok-fresh.ensures) in
-    subst (λ l. AreSorted bad_key l) (sym new) (bad_sorted (is_allowed c.args.any c.args.steps.now) p.base p.horizon p.moment p.value c.args.sets.now c.requires.sets)
+    c.requires.ordered c.requires.near c.requires.bound first rest behind c.requires.before c.requires.behind (c.deref-3.ensures.value ∙ c.in_ok-fresh.ensures.bad) in
+    subst (λ l. AreSorted bad_key l) (sym new) (bad_sorted (is_allowed c.args.any c.args.steps.now) p.base p.horizon p.moment p.value c.args.sets.now c.in_ok-fresh.ensures.sorted)
 
 pub returns-clause-bad : goal.returns-clause-bad
 returns-clause-bad c =
@@ -47,7 +47,7 @@ returns-clause-bad c =
     let slice : take (length c.deref-2.result.now - i) (drop i c.deref-2.result.now) ≡ drop i old = take_rest c.deref-2.result.now i ∙ ap (drop i) c.deref-2.ensures.value in
     let behind : drop n (drop i old) ≡ back (bad_by c.args.near.to) (drop i old) = subst (λ l. drop n l ≡ back (bad_by c.args.near.to) l) slice c.passed_count-count.ensures.rest in
     c.in_ok-difference.ensures.items ∙ steps_mended (is_allowed c.args.any c.args.steps.now) p.base p.horizon p.moment p.value c.args.near.from c.args.near.to c.args.sets.now old c.deref-3.result.now i n
-    c.requires.ordered c.requires.near c.requires.bound first rest behind c.requires.before c.requires.behind (c.deref-3.ensures.value ∙ c.in_ok-fresh.ensures)
+    c.requires.ordered c.requires.near c.requires.bound first rest behind c.requires.before c.requires.behind (c.deref-3.ensures.value ∙ c.in_ok-fresh.ensures.bad)
 
 pub returns-clause-went : goal.returns-clause-went
 returns-clause-went c =
@@ -58,3 +58,8 @@ pub returns-clause-came : goal.returns-clause-came
 returns-clause-came c =
     let i = c.begun_count-begin.result in
     c.in_ok-difference.ensures.came ∙ exchanged_came same_bad bad_itself c.args.bad.now.items c.deref-3.result.now c.exchange.new.list.items i (i + c.passed_count-count.result) (omega arith) c.in_ok-difference.ensures.items
+
+pub returns-clause-sorted : goal.returns-clause-sorted
+returns-clause-sorted c =
+    let p = c.args.present in
+    subst (λ l. AreSorted bad_key l) (sym (returns-clause-bad c)) (bad_sorted (is_allowed c.args.any c.args.steps.now) p.base p.horizon p.moment p.value c.args.sets.now c.in_ok-fresh.ensures.sorted)

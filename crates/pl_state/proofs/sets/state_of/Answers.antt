@@ -1,8 +1,6 @@
-use Rattle.std.proofs.Common.{◌≡◌, ◌<◌, ◌-◌, suc, [], length, take, arith, ap, sym, ◌∙◌, get_or, true, false, cond, ltb}
-use Rattle.std.proofs.lemmas.List.{get_or_default}
+use Rattle.std.proofs.Common.{◌≡◌, ◌<◌, ◌-◌, suc, [], length, take, arith, ap, sym, ◌∙◌, true, false, cond, ltb}
 use Rattle.std.proofs.lemmas.Bool.{lt-ltb, le-ltb}
 use Rattle.pl_lists.specs.Lists.{front}
-use Rattle.pl_state.specs.declared.reservation.Setting.{Setting}
 use Rattle.pl_state.specs.Sets.{is_passed}
 use Rattle.pl_state.proofs.Orders.{state_none, state_last}
 use Rattle.pl_state.proofs.sets.state_of.Goals as goal
@@ -17,11 +15,11 @@ returns-then-base-last c =
     let xs = c.args.sets.now in
     let i = c.passed_count-count.result in
     let n = i - 1 in
-    let p : Setting = get_or xs n (record { at = 0; id = 0; index = 0; state = 0 }) in
+    let p = c.at-last.result in
     let more : i ≡ suc n = grind (arith, c.if-count-eq0.false) in
     let lt : n < length xs = omega (arith, more, c.passed_count-count.ensures.bound) in
     let front_is : take (suc n) xs ≡ front (is_passed c.args.at) xs = ap (λ k. take k xs) (sym more) ∙ c.passed_count-count.ensures.front in
-    let last = state_last c.args.base c.args.value 0 xs n c.args.at p c.requires front_is lt (get_or_default xs n (record { at = 0; id = 0; index = 0; state = 0 }) p lt) in
+    let last = state_last c.args.base c.args.value 0 xs n c.args.at p c.requires front_is lt c.at-last.ensures in
     let test : ltb c.args.base p.at ≡ true = lt-ltb c.args.base p.at c.if-base-last.true in
     sym (last ∙ ap (λ b. cond b p.state c.args.value) test)
 
@@ -30,10 +28,10 @@ returns-else-base-last c =
     let xs = c.args.sets.now in
     let i = c.passed_count-count.result in
     let n = i - 1 in
-    let p : Setting = get_or xs n (record { at = 0; id = 0; index = 0; state = 0 }) in
+    let p = c.at-last.result in
     let more : i ≡ suc n = grind (arith, c.if-count-eq0.false) in
     let lt : n < length xs = omega (arith, more, c.passed_count-count.ensures.bound) in
     let front_is : take (suc n) xs ≡ front (is_passed c.args.at) xs = ap (λ k. take k xs) (sym more) ∙ c.passed_count-count.ensures.front in
-    let last = state_last c.args.base c.args.value 0 xs n c.args.at p c.requires front_is lt (get_or_default xs n (record { at = 0; id = 0; index = 0; state = 0 }) p lt) in
+    let last = state_last c.args.base c.args.value 0 xs n c.args.at p c.requires front_is lt c.at-last.ensures in
     let test : ltb c.args.base p.at ≡ false = le-ltb c.args.base p.at c.if-base-last.false in
     sym (last ∙ ap (λ b. cond b p.state c.args.value) test)

@@ -1,9 +1,9 @@
-use Rattle.std.proofs.Common.{◌≡◌, ℕ, [], ◌∷◌, List, false, ap, sym, ◌∙◌, refl, subst}
+use Rattle.std.proofs.Common.{◌≡◌, ℕ, [], ◌∷◌, List, false, sym, ◌∙◌, refl, subst}
 use Rattle.pl_points.specs.Standing.{without}
 use Rattle.pl_state.specs.declared.reservation.Must.{Must}
 use Rattle.pl_state.specs.declared.answer.BrokenMust.{BrokenMust}
 use Rattle.pl_state.specs.Keys.{AreSorted}
-use Rattle.pl_state.specs.Sets.{AreInOrder, state_from}
+use Rattle.pl_state.specs.Sets.{state_from}
 use Rattle.pl_state.specs.Musts.{must_of, must_key, same_must, broken_one}
 use Rattle.pl_state.specs.Near.{all_of, group_key, IsKeyed, AreRightBut}
 use Rattle.pl_state.specs.Present.{present_of, group_at, broken_at}
@@ -18,10 +18,7 @@ pub renew-requires-clause-ordered : goal.renew-requires-clause-ordered
 renew-requires-clause-ordered c =
     let i = c.self.inside in
     let sound : IsSound (make i.spoiled i.horizon i.any i.steps.items i.moment i.base i.value i.sets i.musts) i.told.broken.items i.told.bad.items = c.self.invariant c.if-self.false in
-    subst (λ l. AreInOrder 0 l) (sym c.as_slice.ensures.value) sound.ordered
-
-pub renew-requires-clause-musts : goal.renew-requires-clause-musts
-renew-requires-clause-musts c = subst (λ l. AreSorted must_key l) (sym c.as_slice-2.ensures.value) c.as_slice-2.ensures.sorted
+    sound.ordered
 
 pub renew-requires-clause-sorted : goal.renew-requires-clause-sorted
 renew-requires-clause-sorted c =
@@ -45,10 +42,9 @@ renew-requires-clause-right c =
     let F : Must → List BrokenMust = broken_one state i.moment i.horizon in
     let keyed : IsKeyed F = one_keyed state i.moment i.horizon in
     let is : i.told.broken.items ≡ all_of F i.musts = sound.musts ∙ all_is state i.moment i.horizon i.musts in
-    let right : AreRightBut (must_key u ∷ []) F c.as_slice-2.result.now i.told.broken.items = subst (λ l. AreRightBut (must_key u ∷ []) F l i.told.broken.items) (sym (c.as_slice-2.ensures.value ∙ c.remove.ensures.gone))
+    let right : AreRightBut (must_key u ∷ []) F c.remove.new.self i.told.broken.items = subst (λ l. AreRightBut (must_key u ∷ []) F l i.told.broken.items) (sym c.remove.ensures.gone)
     (subst (λ l. AreRightBut (must_key u ∷ []) F (without same_must u i.musts) l) (sym is) (right_without F keyed knows_must u i.musts c.remove.ensures.sorted)) in
-    let at : AreRightBut (must_key u ∷ []) (group_at (present_of i.moment i.horizon i.base i.value) c.as_slice.result.now) c.as_slice-2.result.now i.told.broken.items = subst (λ l. AreRightBut (must_key u ∷ []) (broken_one (λ t. state_from i.base t i.value l) i.moment i.horizon) c.as_slice-2.result.now i.told.broken.items) (sym c.as_slice.ensures.value) right in
-    subst (λ k. AreRightBut (k ∷ []) (group_at (present_of i.moment i.horizon i.base i.value) c.as_slice.result.now) c.as_slice-2.result.now i.told.broken.items) (sym c.key.ensures) at
+    subst (λ k. AreRightBut (k ∷ []) (group_at (present_of i.moment i.horizon i.base i.value) i.sets) c.remove.new.self i.told.broken.items) (sym c.key.ensures) right
 
 pub invariant_of-self-2 : goal.invariant_of-self-2
 invariant_of-self-2 c =
@@ -60,7 +56,7 @@ invariant_of-self-2 c =
     let F : Must → List BrokenMust = broken_one state i.moment i.horizon in
     let keyed : IsKeyed F = one_keyed state i.moment i.horizon in
     let is : i.told.broken.items ≡ all_of F i.musts = sound.musts ∙ all_is state i.moment i.horizon i.musts in
-    let broken : c.renew.new.broken.items ≡ broken_at (present_of i.moment i.horizon i.base i.value) i.sets c.remove.new.self = c.in_ok-difference.ensures.broken ∙ (ap (λ l. broken_at (present_of i.moment i.horizon i.base i.value) l c.as_slice-2.result.now) c.as_slice.ensures.value ∙ ap (broken_at (present_of i.moment i.horizon i.base i.value) i.sets) c.as_slice-2.ensures.value) in
+    let broken : c.renew.new.broken.items ≡ broken_at (present_of i.moment i.horizon i.base i.value) i.sets c.remove.new.self = c.in_ok-difference.ensures.broken in
     let renewed : IsSound (make false i.horizon i.any i.steps.items i.moment i.base i.value i.sets c.remove.new.self) c.renew.new.broken.items i.told.bad.items = sound_renewed i.horizon i.any i.steps.items i.steps.items i.moment i.base i.value i.sets c.remove.new.self c.renew.new.broken.items i.told.bad.items
     sound.in_time sound.based sound.ordered refl broken sound.sets sound.sorted in
     λ e. renewed
@@ -75,7 +71,7 @@ returns-clause-change c =
     let F : Must → List BrokenMust = broken_one state i.moment i.horizon in
     let keyed : IsKeyed F = one_keyed state i.moment i.horizon in
     let is : i.told.broken.items ≡ all_of F i.musts = sound.musts ∙ all_is state i.moment i.horizon i.musts in
-    let broken : c.renew.new.broken.items ≡ broken_at (present_of i.moment i.horizon i.base i.value) i.sets c.remove.new.self = c.in_ok-difference.ensures.broken ∙ (ap (λ l. broken_at (present_of i.moment i.horizon i.base i.value) l c.as_slice-2.result.now) c.as_slice.ensures.value ∙ ap (broken_at (present_of i.moment i.horizon i.base i.value) i.sets) c.as_slice-2.ensures.value) in
+    let broken : c.renew.new.broken.items ≡ broken_at (present_of i.moment i.horizon i.base i.value) i.sets c.remove.new.self = c.in_ok-difference.ensures.broken in
     let renewed : IsSound (make false i.horizon i.any i.steps.items i.moment i.base i.value i.sets c.remove.new.self) c.renew.new.broken.items i.told.bad.items = sound_renewed i.horizon i.any i.steps.items i.steps.items i.moment i.base i.value i.sets c.remove.new.self c.renew.new.broken.items i.told.bad.items
     sound.in_time sound.based sound.ordered refl broken sound.sets sound.sorted in
     let t : Standing = make false i.horizon i.any i.steps.items i.moment i.base i.value i.sets c.remove.new.self in

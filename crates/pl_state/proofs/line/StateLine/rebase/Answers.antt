@@ -1,4 +1,4 @@
-use Rattle.std.proofs.Common.{◌≡◌, false, arith, ap, ◌∙◌, subst}
+use Rattle.std.proofs.Common.{◌≡◌, false, arith, subst}
 use Rattle.pl_lists.specs.Lists.{back}
 use Rattle.pl_state.specs.Sets.{is_passed}
 use Rattle.pl_state.specs.Near.{next_moment}
@@ -11,7 +11,7 @@ pub mend-requires-clause-right : goal.mend-requires-clause-right
 mend-requires-clause-right c =
     let i = c.self.inside in
     let sound : IsSound (make i.spoiled i.horizon i.any i.steps.items i.moment i.base i.value i.sets i.musts) i.told.broken.items i.told.bad.items = c.self.invariant c.if-self.false in
-    let to : c.end_of_base.result ≡ next_moment i.horizon (back (is_passed i.moment) i.sets) = c.end_of_base.ensures.end ∙ ap (λ l. next_moment i.horizon (back (is_passed i.moment) l)) c.as_slice.ensures.value in
+    let to : c.end_of_base.result ≡ next_moment i.horizon (back (is_passed i.moment) i.sets) = c.end_of_base.ensures.end in
     rebase_right i.any i.steps.items c.deref.result.now i.moment i.horizon i.base i.value c.args.state c.end_of_base.result i.sets i.musts i.told.broken.items i.told.bad.items
     sound.ordered c.deref.ensures.value sound.in_time sound.based c.end_of_base.ensures.later to sound.musts sound.sets
 

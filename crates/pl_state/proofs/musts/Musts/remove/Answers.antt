@@ -7,17 +7,17 @@ use Rattle.pl_state.proofs.musts.Musts.remove.Goals as goal
 
 pub invariant_of-self : goal.invariant_of-self
 invariant_of-self c =
-    let xs = c.self.inside.items.items in
+    let xs = c.self.inside.items in
     let i = c.in-Some.place in
     let u = c.args.must in
-    let gone : take i xs ++ drop (suc i) xs ≡ without same_must u xs = subst (λ q. take i q ++ drop (suc i) q ≡ without same_must u q) c.deref.ensures.value c.in-Some.ensures.gone in
-    subst (λ l. AreKept l c.remove.new.self) (sym (c.remove-in-Some.ensures.items ∙ gone))
+    let gone : take i xs ++ drop (suc i) xs ≡ without same_must u xs = c.in-Some.ensures.gone in
+    subst (λ l. AreKept l c.remove.new.self) (sym (c.remove-in-Some.ensures ∙ gone))
     (subst (λ l. AreKept (without same_must u xs) l) (sym c.remove.ensures) (kept_without u xs c.self.inside.starts c.self.invariant))
 
 pub invariant_of-self-in-None : goal.invariant_of-self-in-None
 invariant_of-self-in-None c =
-    let xs = c.self.inside.items.items in
+    let xs = c.self.inside.items in
     let u = c.args.must in
-    let none : without same_must u xs ≡ xs = subst (λ q. without same_must u q ≡ q) c.deref.ensures.value c.in-None.ensures.none in
+    let none : without same_must u xs ≡ xs = c.in-None.ensures.none in
     subst (λ l. AreKept l c.remove.new.self) none
     (subst (λ l. AreKept (without same_must u xs) l) (sym c.remove.ensures) (kept_without u xs c.self.inside.starts c.self.invariant))

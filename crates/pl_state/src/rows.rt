@@ -1,0 +1,291 @@
+//! A sorted list in rows, so that an item that comes or goes moves no more than a row.
+ghost use Rattle.std.specs.Prelude.{◌≡◌, ◌<◌, ◌≤◌, ◌-◌, ◌^◌, ◌++◌, ◌∷◌, [], suc, length, take, drop, slice_index_or, OnOk, OnErr, IfOk};
+ghost use Rattle.pl_lists.specs.Lists.{front, back};
+ghost use Rattle.pl_state.specs.Keys.{AreSorted};
+ghost use Rattle.pl_state.specs.Rows.{is_covered, last_passes, together, AreFilled, IsSpot};
+
+use crate::bound::Bound;
+use crate::key::Keyed;
+use crate::row::Row;
+use std::alloc::{AllocError, Global};
+use std::marker::Model;
+
+// A row that has as many is split before one more comes.
+const MOST: usize = 512;
+
+/// A list in rows of 1 to 512 items.
+#[derive(Drop)]
+pub(crate) struct Rows<T> {
+    alloc: Global,
+    count: usize,
+    rows: Vec<Row<T>>,
+}
+
+impl<T> Model for Rows<T> {
+    ghost use Rattle.std.specs.Prelude.{List};
+    ghost use Rattle.pl_state.specs.Rows.{together, AreRows};
+
+    ghost Value = { List T };
+
+    ghost view = { λ r. together r.rows.items };
+
+    ghost invariant = { λ r. AreRows r.count r.rows.items };
+}
+
+// Where a place lies: in which row, and behind how many items of the row.
+#[derive(Clone, Copy, Debug)]
+struct Spot {
+    row: usize,
+    at: usize,
+}
+
+// The first row in which or at whose end the place lies.
+fn spot_of<T: Keyed>(rows: &[Row<T>], place: usize) -> Spot
+    requires some { 0 < length rows.now }
+    requires bound { place ≤ length (together rows.now) }
+    ensures { IsSpot rows.now place result.row result.at }
+{
+    let mut row = 0;
+    let mut at = place;
+    'rows: while rows[row].len() < at {
+        at -= rows[row].len();
+        row += 1;
+    }
+    Spot { row, at }
+}
+
+// How many rows end within the bound.
+fn covered_count<T: Keyed>(rows: &[Row<T>], bound: Bound) -> usize
+    requires filled { AreFilled rows.now }
+    requires sorted { AreSorted T.key (together rows.now) }
+    ensures bound { result ≤ length rows.now }
+    ensures front { take result rows.now
+        ≡ front (last_passes (is_covered T.key bound)) rows.now }
+    ensures rest { drop result rows.now
+        ≡ back (last_passes (is_covered T.key bound)) rows.now }
+{
+    rows.partition_point(|row| row.is_covered(bound))
+}
+
+// How many items the rows have.
+fn length_of<T: Keyed>(rows: &[Row<T>]) -> usize
+    requires { length (together rows.now) < 2 ^ 64 }
+    ensures { result ≡ length (together rows.now) }
+{
+    let mut count = 0;
+    for row in rows {
+        count += row.len();
+    }
+    count
+}
+
+// The first item.
+fn begin<T: Keyed>(alloc: Global, rows: &mut Vec<Row<T>>, item: T) -> Result<(), AllocError>
+    requires { rows.old.items ≡ [] }
+    ensures ok { OnOk result (together rows.new.items ≡ item ∷ []) }
+    ensures err { OnErr result (together rows.new.items ≡ []) }
+    ensures filled { AreFilled rows.new.items }
+{
+    let mut row = Row::new(alloc);
+    row.insert(0, item)?;
+    rows.push(row)?;
+    Ok(())
+}
+
+// The row in two halves.
+fn split<T: Keyed>(alloc: Global, rows: &mut Vec<Row<T>>, row: usize) -> Result<(), AllocError>
+    requires there { row < length rows.old.items }
+    requires many { 1 < length (slice_index_or rows.old.items row []) }
+    requires filled { AreFilled rows.old.items }
+    ensures same { together rows.new.items ≡ together rows.old.items }
+    ensures filled { AreFilled rows.new.items }
+    ensures some { 0 < length rows.new.items }
+{
+    let half = rows[row].len() / 2;
+    let behind = Row::from_slice(alloc, &rows[row].as_slice()[half..])?;
+    rows.insert(row + 1, behind)?;
+    rows[row].truncate(half);
+    Ok(())
+}
+
+// Splits the row of the place where it is full.
+fn make_room<T: Keyed>(
+    alloc: Global,
+    rows: &mut Vec<Row<T>>,
+    place: usize,
+) -> Result<(), AllocError>
+    requires some { 0 < length rows.old.items }
+    requires bound { place ≤ length (together rows.old.items) }
+    requires filled { AreFilled rows.old.items }
+    ensures same { together rows.new.items ≡ together rows.old.items }
+    ensures filled { AreFilled rows.new.items }
+    ensures some { 0 < length rows.new.items }
+{
+    let row = spot_of(rows, place).row;
+    if rows[row].len() < MOST {
+        return Ok(());
+    }
+    split(alloc, rows, row)
+}
+
+fn insert_into<T: Keyed>(
+    alloc: Global,
+    rows: &mut Vec<Row<T>>,
+    place: usize,
+    item: T,
+) -> Result<(), AllocError>
+    requires some { 0 < length rows.old.items }
+    requires bound { place ≤ length (together rows.old.items) }
+    requires filled { AreFilled rows.old.items }
+    ensures ok { OnOk result (together rows.new.items
+        ≡ take place (together rows.old.items) ++ item ∷ drop place (together rows.old.items)) }
+    ensures err { OnErr result (together rows.new.items ≡ together rows.old.items) }
+    ensures filled { AreFilled rows.new.items }
+{
+    make_room(alloc, rows, place)?;
+    let spot = spot_of(rows, place);
+    rows[spot.row].insert(spot.at, item)?;
+    Ok(())
+}
+
+// Takes out the item at the place in the row, and the row with its last one.
+fn take_out<T: Keyed>(rows: &mut Vec<Row<T>>, row: usize, at: usize)
+    requires there { row < length rows.old.items }
+    requires bound { at < length (slice_index_or rows.old.items row []) }
+    requires filled { AreFilled rows.old.items }
+    ensures gone { together rows.new.items ≡ together (take row rows.old.items)
+        ++ ((take at (slice_index_or rows.old.items row []) ++ drop (suc at) (slice_index_or rows.old.items row []))
+        ++ together (drop (suc row) rows.old.items)) }
+    ensures filled { AreFilled rows.new.items }
+{
+    if rows[row].len() == 1 {
+        rows.remove(row);
+    } else {
+        rows[row].remove(at);
+    }
+}
+
+impl<T: Keyed> Rows<T> {
+    pub(crate) fn new(alloc: Global) -> Rows<T>
+        ensures { result ≡ [] }
+    {
+        Rows {
+            alloc,
+            count: 0,
+            rows: Vec::new(alloc),
+        }
+    }
+
+    pub(crate) fn copy(&self, alloc: Global) -> Result<Rows<T>, AllocError>
+        ensures { IfOk result (λ c. c ≡ self.now) }
+    {
+        let mut rows = Vec::new(alloc);
+        for row in &self.rows {
+            rows.push(Row::from_slice(alloc, row.as_slice())?)?;
+        }
+        Ok(Rows {
+            alloc,
+            count: self.count,
+            rows,
+        })
+    }
+
+    pub(crate) fn len(&self) -> usize
+        ensures { result ≡ length self.now }
+    {
+        self.count
+    }
+
+    pub(crate) fn at(&self, place: usize) -> T
+        requires { place < length self.now }
+        ensures { result ≡ slice_index_or self.now place result }
+    {
+        let count = self.count;
+        prove!(place < count);
+        let spot = spot_of(&self.rows, place + 1);
+        self.rows[spot.row].as_slice()[spot.at - 1]
+    }
+
+    /// Puts the item at the place.
+    pub(crate) fn insert(&mut self, place: usize, item: T) -> Result<(), AllocError>
+        requires { place ≤ length self.old }
+        ensures ok { OnOk result (self.new ≡ take place self.old ++ item ∷ drop place self.old) }
+        ensures err { OnErr result (self.new ≡ self.old) }
+    {
+        if self.count == usize::MAX {
+            return Err(AllocError);
+        }
+        if self.rows.is_empty() {
+            begin(self.alloc, &mut self.rows, item)?;
+        } else {
+            insert_into(self.alloc, &mut self.rows, place, item)?;
+        }
+        self.count += 1;
+        Ok(())
+    }
+
+    /// Takes the item at the place out.
+    pub(crate) fn remove(&mut self, place: usize)
+        requires { place < length self.old }
+        ensures { self.new ≡ take place self.old ++ drop (suc place) self.old }
+    {
+        let spot = spot_of(&self.rows, place + 1);
+        take_out(&mut self.rows, spot.row, spot.at - 1);
+        self.count -= 1;
+    }
+
+    /// How many items lie within the bound.
+    pub(crate) fn count(&self, bound: Bound) -> usize
+        requires { AreSorted T.key self.now }
+        ensures bound { result ≤ length self.now }
+        ensures front { take result self.now ≡ front (is_covered T.key bound) self.now }
+        ensures rest { drop result self.now ≡ back (is_covered T.key bound) self.now }
+    {
+        let whole = self.len();
+        let row = covered_count(&self.rows, bound);
+        if row == self.rows.len() {
+            return whole;
+        }
+        length_of(&self.rows[..row]) + self.rows[row].count(bound)
+    }
+
+    /// The place behind the items from a place on that lie within the bound.
+    pub(crate) fn end_from(&self, from: usize, bound: Bound) -> usize
+        requires from { from ≤ length self.now }
+        requires sorted { AreSorted T.key self.now }
+        ensures low { from ≤ result }
+        ensures bound { result ≤ length self.now }
+        ensures front { take (result - from) (drop from self.now)
+            ≡ front (is_covered T.key bound) (drop from self.now) }
+        ensures rest { drop result self.now
+            ≡ back (is_covered T.key bound) (drop from self.now) }
+    {
+        self.count(bound).max(from)
+    }
+
+    /// So many items from the place on.
+    pub(crate) fn part(
+        &self,
+        alloc: Global,
+        from: usize,
+        count: usize,
+    ) -> Result<Vec<T>, AllocError>
+        ensures { IfOk result (λ v. v.items ≡ take count (drop from self.now)) }
+    {
+        let mut part = Vec::new(alloc);
+        let mut skipped = from;
+        let mut left = count;
+        for row in &self.rows {
+            if left == 0 {
+                return Ok(part);
+            }
+            let items = row.as_slice();
+            let begin = items.len().min(skipped);
+            let taken = (items.len() - begin).min(left);
+            part.extend_from_slice(&items[begin..begin + taken])?;
+            skipped -= begin;
+            left -= taken;
+        }
+        Ok(part)
+    }
+}
