@@ -1,4 +1,5 @@
-mod Goals
-mod Telling
-mod Putting
-mod Keeping
+mod Once
+mod Joining
+mod Watching
+mod Committing
+pub mod Crossing

@@ -1,76 +1,27 @@
--- What a board is seen as, what holds of it, and what its changes come to.
-use Rattle.std.specs.Prelude.{◌≡◌, ℕ, ◌≤◌, ℤ, pos, ◌≤ℤ◌, ◌<◌, Bool, true, false, ◌++◌, ◌∷◌, [], List, All, length, slice_get, slice_set, Option, Some, None}
-use Rattle.pl_conflict.specs.declared.conflict.Conflict.{Conflict}
-use Rattle.pl_facts.specs.declared.goal.Goal.{Goal}
-use Rattle.pl_facts.specs.Goals.{with_dropped}
-use Rattle.pl_facts.specs.Bases.{first_bases}
-use Rattle.pl_model.specs.declared.timelines.Timeline.{Timeline}
-use Rattle.pl_model.specs.declared.timelines.Timeline.TheVariants.{Capacity, Level, States}
-use Rattle.pl_model.specs.declared.whole.Model.{Model}
-use Rattle.pl_model.specs.Checked.{IsChecked, IsLevel}
-use Rattle.pl_plan.specs.declared.activity.Activity.{Activity}
+-- What a board is seen as, and what holds of it.
+use Rattle.std.specs.Prelude.{◌≡◌, Bool, false}
+use Rattle.pl_links.specs.Kept.{kept_of}
+use Rattle.pl_lines.specs.Framed.{AreLinesOf}
 use Rattle.pl_world.specs.declared.plan_state.PlanState.{PlanState}
-use Rattle.pl_world.specs.declared.demand.Demand.{Demand}
-use Rattle.pl_world.specs.PlanStates.{goal_at, is_open}
-use Rattle.pl_world.specs.Moves.{holds}
-use Rattle.pl_world.specs.Whole.{IsWhole, IsStateOf}
-use Rattle.pl_world.specs.Demands.{demands_of}
+use Rattle.pl_world.specs.Whole.{IsWhole}
+use Rattle.pl_world.specs.Links.{placed_in}
 use Rattle.pl_world.specs.Conflicts.{conflicts_of}
+use Rattle.pl_board.specs.declared.watched.WatchedState.{WatchedState}
 
 pub record Standing : Type 0 where
   pub spoiled : Bool
   pub state : PlanState
 
--- a whole plan state with what its activities ask for and what is wrong with it
-pub record IsFound (s : PlanState) (ds : List Demand) (set : List Conflict) : Type 0 where
-  pub whole : IsWhole s
-  pub demands : ds ≡ demands_of s
-  pub conflicts : set ≡ conflicts_of s
+-- a whole plan state: its timelines hold what its activities ask for, the store has them all, and the conflicts are all that is wrong
+pub record IsWatched (w : WatchedState) : Type 0 where
+  pub whole : IsWhole w.state
+  pub timelines : AreLinesOf w.state w.lines
+  pub store : w.links ≡ kept_of w.state.model (placed_in w.state)
+  pub found : w.conflicts ≡ conflicts_of w.state
 
-pub record IsSound (s : PlanState) (ds : List Demand) (set : List Conflict) (spoiled : Bool) : Type 0 where
-  pub checked : IsChecked s.model
-  pub found : spoiled ≡ false → IsFound s ds set
-
--- ---- changes
-
--- nothing planned, no goals, and the start values of timelines, at the moment 0
-abbrev pub first_state : Model → ℕ → PlanState
-first_state model live = record { model = model; plan = record { activities = [] }; goals = []; bases = first_bases model; moment = 0; committed = 0; next_id = 1; live_limit = live }
-
-abbrev pub with_goal : Goal → PlanState → PlanState
-with_goal goal s = record s { goals = s.goals ++ goal ∷ [] }
-
-abbrev pub without_goal : ℕ → PlanState → PlanState
-without_goal number s = record s { goals = with_dropped number s.goals }
-
-abbrev pub moved_on : ℕ → PlanState → PlanState
-moved_on now s = record s { moment = now }
-
--- the timeline's base is the value, told at the present
-abbrev pub told_now : ℕ → ℤ → PlanState → PlanState
-told_now line value s = record s { bases = slice_set s.bases line (Some (pos s.moment, value)) }
-
-abbrev pub committed_to : ℕ → PlanState → PlanState
-committed_to h s = record s { committed = h }
-
-abbrev pub with_next : ℕ → PlanState → PlanState
-with_next id s = record s { next_id = id }
+pub record IsSound (w : WatchedState) (spoiled : Bool) : Type 0 where
+  pub watched : spoiled ≡ false → IsWatched w
 
 -- an unspoiled board of this state
 abbrev pub after : PlanState → Standing
 after s = record { spoiled = false; state = s }
-
--- ---- what is asked of a value that is told
-
--- from 0 to 10^12 of a level, and below the number of states of a state timeline
-abbrev pub CanTell : ℤ → Option Timeline → Type 0
-CanTell value None = ⊥
-CanTell value (Some (Capacity name most)) = ⊥
-CanTell value (Some (Level name least most start)) = IsLevel value
-CanTell value (Some (States name states start any steps)) = IsStateOf (length states) value
-
--- ---- what is asked of a goal that is dropped
-
--- the goal of this number stands and is open
-abbrev pub IsOpenIn : PlanState → ℕ → Type 0
-IsOpenIn s n = holds (is_open s) (goal_at s n) ≡ true

@@ -5,6 +5,6 @@ pub use Rattle.pl_world.specs.Conflicts
 pub use Rattle.pl_world.specs.Demands
 pub use Rattle.pl_world.specs.Moves
 pub use Rattle.pl_world.specs.Candidates
+pub use Rattle.pl_changes.specs.Changes
+pub use Rattle.pl_changes.specs.Replaced
 pub mod Boards
-pub mod Replaced
-pub mod Putting

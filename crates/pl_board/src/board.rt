@@ -3,32 +3,27 @@ ghost use Rattle.std.specs.Arc.{arc_value};
 ghost use Rattle.pl_facts.specs.Goals.{goal_of};
 ghost use Rattle.pl_model.specs.Checked.{IsChecked};
 ghost use Rattle.pl_world.specs.Conflicts.{conflicts_of};
-ghost use Rattle.pl_world.specs.Demands.{demands_of};
-ghost use Rattle.pl_world.specs.PlanStates.{goal_at, is_open};
 ghost use Rattle.pl_world.specs.Whole.{IsWhole, IsGoalOf, IsIdBelow};
-ghost use Rattle.pl_board.specs.Boards.{after, first_state, with_goal, without_goal, moved_on, told_now, committed_to, with_next, CanTell, IsOpenIn};
-ghost use Rattle.pl_board.specs.Replaced.{CanReplace, with_plan};
+ghost use Rattle.pl_board.specs.Boards.{after, IsWatched};
+ghost use Rattle.pl_changes.specs.Changes.{first_state, with_goal, without_goal, moved_on, told_now, committed_to, with_next, CanTell, IsOpenIn};
+ghost use Rattle.pl_changes.specs.Replaced.{CanReplace, with_plan};
 
-use crate::replacement::{next_after, replace};
+use crate::watched::WatchedState;
 use pl_conflict::ConflictSet;
-use pl_demands::demands;
-use pl_detect::detect;
 use pl_facts::{Bases, Goal, Goals};
 use pl_lists::Copied;
 use pl_model::Model;
 use pl_plan::{Activity, Plan};
 use pl_points::{Ledger, Steps};
-use pl_world::{Demand, PlanState, SharedModel};
+use pl_world::{PlanState, SharedModel};
 use std::alloc::{AllocError, Global};
 use std::sync::Arc;
 
-/// A plan state with its conflicts, which are found anew after each change. After want of memory a board is spoiled for good.
+/// A plan state with its conflicts, which are mended near each change. After want of memory a board is spoiled for good.
 #[derive(Drop)]
 pub struct Board {
     alloc: Global,
-    state: PlanState,
-    demands: Vec<Demand>,
-    conflicts: ConflictSet,
+    watched: WatchedState,
     spoiled: bool,
 }
 
@@ -41,9 +36,9 @@ impl std::marker::Model for Board {
 
     ghost coded = { Prim.hlevel (codes, e.the_row.coded) };
 
-    ghost view = { λ b. record { spoiled = b.spoiled; state = b.state } };
+    ghost view = { λ b. record { spoiled = b.spoiled; state = b.watched.state } };
 
-    ghost invariant = { λ b. IsSound b.state b.demands.items b.conflicts b.spoiled };
+    ghost invariant = { λ b. IsSound b.watched b.spoiled };
 }
 
 impl Board {
@@ -64,28 +59,12 @@ impl Board {
             next_id: 1,
             live_limit: live,
         };
-        let asked = demands(alloc, &state)?;
-        let conflicts = detect(alloc, &state, &asked)?;
+        let watched = WatchedState::new(alloc, state)?;
         Ok(Board {
             alloc,
-            state,
-            demands: asked,
-            conflicts,
+            watched,
             spoiled: false,
         })
-    }
-
-    // Finds anew what the plan state asks for and what is wrong with it.
-    fn find(&mut self) -> Result<(), AllocError>
-        requires whole { IsWhole self.old.state }
-        ensures ok { OnOk result (self.new ≡ after self.old.state) }
-        ensures err { OnErr result (self.new.spoiled ≡ true) }
-    {
-        self.spoiled = true;
-        self.demands = demands(self.alloc, &self.state)?;
-        self.conflicts = detect(self.alloc, &self.state, &self.demands)?;
-        self.spoiled = false;
-        Ok(())
     }
 
     /// Takes the activities of `gone` out, and puts those of `placed` in their places.
@@ -93,7 +72,7 @@ impl Board {
         &mut self,
         gone: &[u32],
         placed: &[Activity],
-        _steps: &mut Steps<L>,
+        steps: &mut Steps<L>,
     ) -> Result<(), AllocError>
         requires can { self.old.spoiled ≡ false → CanReplace self.old.state gone.now placed.now }
         ensures ok { OnOk result (self.new ≡ after (with_plan gone.now placed.now self.old.state)) }
@@ -104,9 +83,9 @@ impl Board {
             return Err(AllocError);
         }
         self.spoiled = true;
-        replace(self.alloc, &mut self.state.plan, gone, placed)?;
-        self.state.next_id = next_after(self.state.next_id, placed);
-        self.find()
+        self.watched.replace(self.alloc, gone, placed, steps)?;
+        self.spoiled = false;
+        Ok(())
     }
 
     pub fn add_goal(&mut self, goal: Goal) -> Result<(), AllocError>
@@ -121,8 +100,9 @@ impl Board {
             return Err(AllocError);
         }
         self.spoiled = true;
-        self.state.goals.push(goal)?;
-        self.find()
+        self.watched.add_goal(self.alloc, goal)?;
+        self.spoiled = false;
+        Ok(())
     }
 
     /// Drops an open goal.
@@ -136,12 +116,13 @@ impl Board {
             return Err(AllocError);
         }
         self.spoiled = true;
-        self.state.goals.drop_goal(number);
-        self.find()
+        self.watched.drop_goal(self.alloc, number)?;
+        self.spoiled = false;
+        Ok(())
     }
 
     /// Moves the present on.
-    pub fn tick<L: Ledger>(&mut self, now: u32, _steps: &mut Steps<L>) -> Result<(), AllocError>
+    pub fn tick<L: Ledger>(&mut self, now: u32, steps: &mut Steps<L>) -> Result<(), AllocError>
         requires later { self.old.spoiled ≡ false → self.old.state.moment < now }
         requires bound { now ≤ self.old.state.model.horizon }
         ensures ok { OnOk result (self.new ≡ after (moved_on now self.old.state)) }
@@ -152,8 +133,9 @@ impl Board {
             return Err(AllocError);
         }
         self.spoiled = true;
-        self.state.moment = now;
-        self.find()
+        self.watched.tick(self.alloc, now, steps)?;
+        self.spoiled = false;
+        Ok(())
     }
 
     /// Tells the value of a level, or the state of a state timeline, at the present.
@@ -161,7 +143,7 @@ impl Board {
         &mut self,
         line: u32,
         value: i64,
-        _steps: &mut Steps<L>,
+        steps: &mut Steps<L>,
     ) -> Result<(), AllocError>
         requires { CanTell value (slice_get self.old.state.model.timelines line) }
         ensures ok { OnOk result (self.new ≡ after (told_now line value self.old.state)) }
@@ -172,10 +154,9 @@ impl Board {
             return Err(AllocError);
         }
         self.spoiled = true;
-        self.state
-            .bases
-            .set(line, i64::from(self.state.moment), value);
-        self.find()
+        self.watched.tell(line, value, steps)?;
+        self.spoiled = false;
+        Ok(())
     }
 
     /// Commits what starts before `h`.
@@ -190,8 +171,9 @@ impl Board {
             return Err(AllocError);
         }
         self.spoiled = true;
-        self.state.committed = h;
-        self.find()
+        self.watched.commit(self.alloc, h)?;
+        self.spoiled = false;
+        Ok(())
     }
 
     /// Makes an id, above every live one, the next one again. It takes no memory.
@@ -201,7 +183,7 @@ impl Board {
         requires most { id ≤ self.old.state.next_id }
         ensures { self.new ≡ after (with_next id self.old.state) }
     {
-        self.state.next_id = id;
+        self.watched.state.next_id = id;
     }
 
     /// Marks the board as spoiled. It takes no memory.
@@ -216,21 +198,21 @@ impl Board {
         ensures value { result.now ≡ self.now.state }
         ensures whole { self.now.spoiled ≡ false → IsWhole result.now }
     {
-        &self.state
+        &self.watched.state
     }
 
     /// All that is wrong with it.
     pub fn conflicts(&self) -> &ConflictSet
         ensures { self.now.spoiled ≡ false → result.now ≡ conflicts_of self.now.state }
     {
-        &self.conflicts
+        &self.watched.conflicts
     }
 
-    // What its activities ask of timelines.
-    pub(crate) fn demands(&self) -> &[Demand]
-        ensures { self.now.spoiled ≡ false → result.now ≡ demands_of self.now.state }
+    pub(crate) fn watched(&self) -> &WatchedState
+        ensures state { result.now.state ≡ self.now.state }
+        ensures watched { self.now.spoiled ≡ false → IsWatched result.now }
     {
-        &self.demands
+        &self.watched
     }
 
     pub fn spoiled(&self) -> bool
@@ -239,19 +221,19 @@ impl Board {
         self.spoiled
     }
 
+    /// Where its memory is from.
+    pub fn alloc(&self) -> Global {
+        self.alloc
+    }
+
     /// A board of the same plan state, with memory of its own.
     pub fn copy(&self, alloc: Global) -> Result<Board, AllocError>
         requires { self.now.spoiled ≡ false }
         ensures { IfOk result (λ b. b ≡ self.now) }
     {
-        let state = self.state.copy(alloc)?;
-        let asked = demands(alloc, &state)?;
-        let conflicts = detect(alloc, &state, &asked)?;
         Ok(Board {
             alloc,
-            state,
-            demands: asked,
-            conflicts,
+            watched: self.watched.copy(alloc)?,
             spoiled: false,
         })
     }

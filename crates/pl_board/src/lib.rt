@@ -1,10 +1,11 @@
 //! A plan state with its conflicts.
 #![tactic(auto)]
 
+mod asking;
 mod board;
 mod reading;
-mod replacement;
 mod sharing;
+mod watched;
 
 pub use board::Board;
 pub use sharing::shared_types;

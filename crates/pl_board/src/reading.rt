@@ -76,7 +76,7 @@ impl Board {
         requires before_horizon { t < self.now.state.model.horizon }
         ensures { result ≡ use_at self.now.state line t }
     {
-        pl_demands::use_at(self.state(), self.demands(), line, t)
+        self.watched().lines.use_at(line, t)
     }
 
     /// The level at a moment.
@@ -87,7 +87,7 @@ impl Board {
         requires before_horizon { t < self.now.state.model.horizon }
         ensures { result ≡ level_at self.now.state line t }
     {
-        pl_demands::level_at(self.state(), self.demands(), line, t)
+        self.watched().lines.level_at(line, t)
     }
 
     /// The number of the state at a moment.
@@ -98,6 +98,6 @@ impl Board {
         requires before_horizon { t < self.now.state.model.horizon }
         ensures { result ≡ state_at self.now.state line t }
     {
-        pl_demands::state_at(self.state(), self.demands(), line, t)
+        self.watched().lines.state_at(line, t)
     }
 }

@@ -20,7 +20,7 @@ use Rattle.pl_detect.proofs.Found.{found_id, all_found}
 -- ---- look-ups in the store are look-ups in the plan
 
 module _ (s : PlanState) where
-  item_is : (q : ℕ) (xs : List Activity) → links.item_of q (map (placed_of s) xs) ≡ option_map (placed_of s) (activity_of q xs)
+  pub item_is : (q : ℕ) (xs : List Activity) → links.item_of q (map (placed_of s) xs) ≡ option_map (placed_of s) (activity_of q xs)
   item_is q [] = refl
   item_is q (x ∷ xs) = cases (eqb x.id q) refl (item_is q xs)
     where
@@ -28,7 +28,7 @@ module _ (s : PlanState) where
       cases true e more = rw e refl
       cases false e more = rw e more
 
-  with_item_is : (a : Activity) (xs : List Activity) → links.with_item (placed_of s a) (map (placed_of s) xs) ≡ map (placed_of s) (placed a xs)
+  pub with_item_is : (a : Activity) (xs : List Activity) → links.with_item (placed_of s a) (map (placed_of s) xs) ≡ map (placed_of s) (placed a xs)
   with_item_is a [] = refl
   with_item_is a (x ∷ xs) = cases (ltb x.id a.id) refl (with_item_is a xs)
     where
@@ -36,7 +36,7 @@ module _ (s : PlanState) where
       cases true e more = rw e (ap (λ l. placed_of s x ∷ l) more)
       cases false e more = rw e refl
 
-  child_is : (parent slot : ℕ) (xs : List Activity) → links.child_of parent slot (map (placed_of s) xs) ≡ option_map (placed_of s) (find (plan.fills parent slot) xs)
+  pub child_is : (parent slot : ℕ) (xs : List Activity) → links.child_of parent slot (map (placed_of s) xs) ≡ option_map (placed_of s) (find (plan.fills parent slot) xs)
   child_is parent slot [] = refl
   child_is parent slot (x ∷ xs) = cases (plan.is_slot parent slot x.parent) refl (child_is parent slot xs)
     where
@@ -74,7 +74,7 @@ some_slot [] i lt = absurd (omega (arith, lt))
 some_slot (x ∷ slots) i lt = x
 
 -- at most one activity is in a slot of the alternative that is chosen
-slot_few : (model : Model) (xs : List Activity) (above : Option Activity) (p : ℕ × ℕ) → activity_of p.0 xs ≡ above → plan.Fits model xs → p.1 < length (plan.chosen_slots_of model above) → length (filter (plan.fills p.0 p.1) xs) ≤ 1
+pub slot_few : (model : Model) (xs : List Activity) (above : Option Activity) (p : ℕ × ℕ) → activity_of p.0 xs ≡ above → plan.Fits model xs → p.1 < length (plan.chosen_slots_of model above) → length (filter (plan.fills p.0 p.1) xs) ≤ 1
 slot_few model xs None p found fits lt = absurd (omega (arith, lt))
 slot_few model xs (Some b) p found fits lt =
     let filled : plan.AreFilled model xs b = all_found (plan.AreFilled model xs) p.0 xs b fits.filled found in
@@ -84,7 +84,7 @@ slot_few model xs (Some b) p found fits lt =
 
 -- ---- what is asked of the next activity
 
-same_choice : (kind : Option Kind) (choice : Option ℕ) → plan.IsChoice kind choice → links.IsChoice kind choice
+pub same_choice : (kind : Option Kind) (choice : Option ℕ) → plan.IsChoice kind choice → links.IsChoice kind choice
 same_choice kind None fits = tt
 same_choice None (Some n) fits = fits
 same_choice (Some k) (Some n) fits = fits

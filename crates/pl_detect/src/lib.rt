@@ -16,4 +16,5 @@ mod valuation;
 pub use activities::{activity_conflicts, wrong_at};
 pub use detection::{detect, detect_with, plan_conflicts};
 pub use goals::{goal_conflicts, off_at, open_at};
-pub use links::{add_broken, add_conflict_of, link_conflicts};
+pub use links::{add_all_broken, add_broken, add_conflict_of, link_conflicts};
+pub use placing::placed_of;

@@ -147,7 +147,8 @@ pub fn add_broken(
     }
 }
 
-fn add_all_broken(
+/// Appends the conflicts of all that is broken, in its order.
+pub fn add_all_broken(
     alloc: Global,
     s: &PlanState,
     broken: &[Broken],

@@ -11,7 +11,7 @@ use pl_world::PlanState;
 use std::alloc::{AllocError, Global};
 
 /// A live activity with its end.
-pub(crate) fn placed_of(s: &PlanState, a: &Activity) -> Placed
+pub fn placed_of(s: &PlanState, a: &Activity) -> Placed
     requires whole { IsWhole s.now }
     requires live { activity_of a.now.id s.now.plan.activities ≡ Some a.now }
     ensures { result ≡ placed_of s.now a.now }

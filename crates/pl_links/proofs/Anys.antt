@@ -48,6 +48,10 @@ module _ {X : Type 0} where
       let more = filter_alike f g xs (All-tail (λ x. f x ≡ g x) x xs each) in
       rw same (ap (λ (ys : List X). cond (g x) (x ∷ ys) ys) more)
 
+  pub filter_same : (f g : X → Bool) (xs : List X) → ((x : X) → f x ≡ g x) → filter f xs ≡ filter g xs
+  filter_same f g [] same = refl
+  filter_same f g (x ∷ xs) same = rw (same x) (ap (λ (ys : List X). cond (g x) (x ∷ ys) ys) (filter_same f g xs same))
+
   pub any_alike : (f g : X → Bool) (xs : List X) → ((x : X) → f x ≡ g x) → list_any f xs ≡ list_any g xs
   any_alike f g [] each = refl
   any_alike f g (x ∷ xs) each = rw (each x, any_alike f g xs each) refl

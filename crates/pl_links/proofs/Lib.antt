@@ -14,3 +14,4 @@ pub mod Exchanging
 pub mod Keeping
 pub mod Elsewhere
 pub mod Mapped
+pub mod OfOne

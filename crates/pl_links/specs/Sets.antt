@@ -1,5 +1,5 @@
 -- The order of what is broken, and what a list of it holds.
-use Rattle.std.specs.Prelude.{List, Bool}
+use Rattle.std.specs.Prelude.{ℕ, ◌==◌, List, Bool, false}
 use Rattle.std.specs.declared.cmp.Ordering.{Ordering}
 use Rattle.std.specs.Ordering.{nat_cmp, bool_cmp, ordering_then}
 use Rattle.std.specs.List.{list_any}
@@ -15,3 +15,11 @@ broken_cmp a b =
 -- whether a list holds it
 abbrev pub has : Broken → List Broken → Bool
 has b bs = list_any (is_at (broken_cmp b)) bs
+
+-- whether it is a link or an order of the activity of this id
+abbrev pub is_of : ℕ → Broken → Bool
+is_of id b = b.id == id
+
+-- the first link of an activity, which stands before all else that it may break
+abbrev pub first_of : ℕ → Broken
+first_of id = record { id = id; index = 0; slots = false }

@@ -1,8 +1,11 @@
-ghost use Rattle.std.specs.Prelude.{◌≡◌, [], OnOk, OnErr, IfOk, IfErr};
+ghost use Rattle.std.specs.Prelude.{◌≡◌, ◌+◌, [], OnOk, OnErr, IfOk, IfErr, filter, is_some};
+ghost use Rattle.std.specs.Map.Iter.{ShowsInOrder, deref};
+ghost use Rattle.pl_links.specs.declared.broken.Broken.{Broken};
 ghost use Rattle.pl_links.specs.Items.{AreRising, AreApart, IsPlaced, CanBePlaced};
-ghost use Rattle.pl_links.specs.Items.{with_item, without};
+ghost use Rattle.pl_links.specs.Items.{with_item, without, item_of};
 ghost use Rattle.pl_links.specs.Broken.{broken_of};
 ghost use Rattle.pl_links.specs.Kept.{IsFor, kept_of};
+ghost use Rattle.pl_links.specs.Sets.{has, is_of, first_of};
 ghost use Rattle.pl_links.specs.Changes.{Tells};
 
 use crate::broken::Broken;
@@ -14,6 +17,7 @@ use pl_lists::Copied;
 use pl_model::Model;
 use std::alloc::{AllocError, Global};
 use std::collections::BTreeSet;
+use std::collections::btree_set::Range;
 
 /// The placed activities, which contracts see by rising id, and the list of what they break.
 #[derive(Debug, Drop)]
@@ -123,6 +127,54 @@ impl Links {
     {
         let _ = &self.store;
         self.broken.iter().copied().collect(alloc)
+    }
+
+    /// Whether the activity of this id is placed.
+    pub fn is_placed(&self, id: u32) -> bool
+        ensures { result ≡ is_some (item_of id self.now.items) }
+    {
+        self.store.item(id).is_some()
+    }
+
+    /// Whether a link has no partner, or an order is not met.
+    pub fn is_broken(&self, broken: &Broken) -> bool
+        ensures { result ≡ has broken.now self.now.broken }
+    {
+        self.broken.contains(broken)
+    }
+
+    /// What the activity of this id breaks, by index.
+    pub fn broken_by(&self, alloc: Global, id: u32) -> Result<Vec<Broken>, AllocError>
+        ensures { IfOk result (λ all. all.items ≡ filter (is_of id) self.now.broken) }
+    {
+        match id.checked_add(1) {
+            Some(next) => self.between(id, next).copied().collect(alloc),
+            None => self
+                .broken
+                .iter()
+                .filter(|broken| broken.id == id)
+                .copied()
+                .collect(alloc),
+        }
+    }
+
+    fn between(&self, id: u32, next: u32) -> Range<'_, Broken>
+        requires { next ≡ id + 1 }
+        ensures between { result ≡ filter (is_of id) self.now.broken }
+        ensures runs { ShowsInOrder (deref {X = Broken}) }
+    {
+        self.broken.range(first_of(id)..first_of(next))
+    }
+}
+
+// The first link of an activity.
+fn first_of(id: u32) -> Broken
+    ensures { result ≡ first_of id }
+{
+    Broken {
+        id,
+        index: 0,
+        slots: false,
     }
 }
 

@@ -1,19 +1,19 @@
-use Rattle.std.proofs.Common.{◌≡◌, ◌∙◌, false, refl}
-use Rattle.pl_board.proofs.Keeping.{whole_with_next, demands_next, conflicts_next}
+use Rattle.pl_changes.proofs.Keeping.{whole_with_next, conflicts_next}
+use Rattle.pl_lines.proofs.StandingLater.{lines_next}
 use Rattle.pl_board.proofs.board.Board.reset_next.Goals as goal
 
 pub invariant_of-self : goal.invariant_of-self
 invariant_of-self c =
-    let s = c.self.inside.state in
+    let w = c.self.inside.watched in
     let least = rw (← c.self.view_is) at c.requires.least in
     let most = rw (← c.self.view_is) at c.requires.most in
     record {
-      checked = c.self.invariant.checked;
-      found = λ e.
-          let found = c.self.invariant.found e in
+      watched = λ e.
+          let kept = c.self.invariant.watched e in
           record {
-            whole = whole_with_next s c.args.id found.whole least.0 least.1 most;
-            demands = rw (demands_next s c.args.id) found.demands;
-            conflicts = rw (conflicts_next s c.args.id) found.conflicts;
+            whole = whole_with_next w.state c.args.id kept.whole least.0 least.1 most;
+            timelines = lines_next w.state c.args.id w.lines kept.timelines;
+            store = kept.store;
+            found = rw (conflicts_next w.state c.args.id) kept.found;
           };
     }

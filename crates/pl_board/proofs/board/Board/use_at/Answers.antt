@@ -1,0 +1,24 @@
+use Rattle.std.proofs.Common.{◌≡◌, ◌∙◌, ap}
+use Rattle.pl_lines.proofs.StandingReadings.{capacity_at, used_at}
+use Rattle.std.proofs.Common.{rules}
+use mir.Syntax.{w64}
+use mir.Val.{SFits}
+use Rattle.std.proofs.lemmas.Int.{to_z-of_z}
+use Rattle.pl_world.specs.declared.plan_state.PlanState.{PlanState}
+use Rattle.pl_world.specs.Demands as Demands
+use Rattle.pl_board.proofs.board.Board.use_at.Goals as goal
+
+pub use_at-requires : goal.use_at-requires
+use_at-requires c =
+    let w = c.watched.result.now in
+    let kept = c.watched.ensures.watched c.requires.unspoiled in
+    capacity_at w.state w.lines kept.timelines c.args.line c.args.t (rw c.watched.ensures.state c.requires.capacity) (rw c.watched.ensures.state c.requires.now) (rw c.watched.ensures.state c.requires.before_horizon)
+
+pub returns : goal.returns
+returns c =
+    let w = c.watched.result.now in
+    let kept = c.watched.ensures.watched c.requires.unspoiled in
+    let is : c.use_at.result ≡ Demands.use_at c.args.self.now.state c.args.line c.args.t =
+    c.use_at.ensures ∙ used_at w.state w.lines kept.timelines c.args.line c.args.t (rw c.watched.ensures.state c.requires.capacity) ∙ ap (λ (s : PlanState). Demands.use_at s c.args.line c.args.t) c.watched.ensures.state in
+    let fits : SFits w64 c.use_at.result = search rules in
+    to_z-of_z w64 c.use_at.result fits ∙ is

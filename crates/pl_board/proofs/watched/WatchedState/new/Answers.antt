@@ -1,0 +1,11 @@
+use Rattle.pl_lines.proofs.StandingLater.{lines_first}
+use Rattle.pl_board.proofs.Committing.{kept_none}
+use Rattle.pl_board.proofs.watched.WatchedState.new.Goals as goal
+
+pub returns-clause-watched : goal.returns-clause-watched
+returns-clause-watched c = record {
+  whole = c.requires.whole;
+  timelines = rw c.in_ok-lines.ensures (lines_first c.args.state c.requires.none);
+  store = kept_none c.args.state c.new-2.result c.requires.none c.new-2.ensures.items c.new-2.ensures.broken;
+  found = c.in_ok-conflicts.ensures;
+}

@@ -1,0 +1,56 @@
+//! What some activities ask of timelines.
+ghost use Rattle.std.specs.Prelude.{◌≡◌, ◌++◌, OnOk, IfOk, Some, All};
+ghost use Rattle.std.specs.List.{flat_map};
+ghost use Rattle.pl_plan.specs.Activities.{activity_of};
+ghost use Rattle.pl_world.specs.Whole.{IsWhole};
+ghost use Rattle.pl_world.specs.PlanStates.{found, of_found};
+ghost use Rattle.pl_world.specs.Demands.{demands_at};
+
+use pl_demands::demands_at;
+use pl_plan::Activity;
+use pl_world::{Demand, PlanState};
+use std::alloc::{AllocError, Global};
+
+fn add_asked_by(
+    alloc: Global,
+    s: &PlanState,
+    id: u32,
+    out: &mut Vec<Demand>,
+) -> Result<(), AllocError>
+    requires { IsWhole s.now }
+    ensures { OnOk result (out.new.items ≡ out.old.items ++ of_found (demands_at s.now) (found s.now id)) }
+{
+    match s.plan.get(id) {
+        Some(a) => demands_at(alloc, s, a, out),
+        None => Ok(()),
+    }
+}
+
+/// What the activities of these ids ask for.
+pub(crate) fn asked_by(alloc: Global, s: &PlanState, ids: &[u32]) -> Result<Vec<Demand>, AllocError>
+    requires { IsWhole s.now }
+    ensures { IfOk result (λ all. all.items ≡ flat_map (λ id. of_found (demands_at s.now) (found s.now id)) ids.now) }
+{
+    let mut all = Vec::new(alloc);
+    for id in ids {
+        add_asked_by(alloc, s, *id, &mut all)?;
+    }
+    Ok(all)
+}
+
+/// What these live activities ask for.
+pub(crate) fn asked_of(
+    alloc: Global,
+    s: &PlanState,
+    placed: &[Activity],
+) -> Result<Vec<Demand>, AllocError>
+    requires whole { IsWhole s.now }
+    requires live { All (λ a. activity_of a.id s.now.plan.activities ≡ Some a) placed.now }
+    ensures { IfOk result (λ all. all.items ≡ flat_map (demands_at s.now) placed.now) }
+{
+    let mut all = Vec::new(alloc);
+    for a in placed {
+        demands_at(alloc, s, a, &mut all)?;
+    }
+    Ok(all)
+}

@@ -1,0 +1,6 @@
+pub mod Goals
+pub mod Telling
+pub mod Putting
+pub mod Keeping
+pub mod Finding
+pub mod Renewing

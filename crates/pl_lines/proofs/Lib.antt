@@ -1,0 +1,15 @@
+pub mod Members
+pub mod MovingOne
+pub mod Moving
+pub mod Mending
+pub mod MovingTime
+pub mod Listing
+pub mod Standing
+pub mod StandingApart
+pub mod StandingEqual
+pub mod StandingLines
+pub mod StandingNamed
+pub mod StandingLater
+pub mod Replacing
+pub mod ReplacingLines
+pub mod StandingReadings

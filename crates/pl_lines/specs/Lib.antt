@@ -1,0 +1,12 @@
+pub use Rattle.pl_world.specs.PlanStates
+pub use Rattle.pl_world.specs.Demands
+pub use Rattle.pl_world.specs.Timelines
+pub mod Held
+pub mod Framed
+pub mod Told
+pub mod Named
+pub mod Mending
+pub mod Changed
+pub mod Moments
+pub mod Readings
+pub mod Laws

@@ -1,0 +1,31 @@
+ghost use Rattle.std.specs.Prelude.{◌≡◌, []};
+
+use crate::line::Line;
+use std::alloc::Global;
+
+/// The timelines of a model by their numbers.
+#[derive(Drop)]
+pub struct Lines {
+    pub(crate) alloc: Global,
+    pub(crate) all: Vec<Line>,
+}
+
+impl std::marker::Model for Lines {
+    ghost use Rattle.std.specs.Prelude.{List};
+    ghost use Rattle.pl_lines.specs.declared.line.Line.{Line};
+
+    ghost Value = { List Line };
+
+    ghost view = { λ l. l.all.items };
+}
+
+impl Lines {
+    pub fn none(alloc: Global) -> Lines
+        ensures { result ≡ [] }
+    {
+        Lines {
+            alloc,
+            all: Vec::new(alloc),
+        }
+    }
+}

@@ -1,0 +1,16 @@
+//! What a change of a plan state does to the conflicts of temporal links and orders of slots, found near what changes.
+#![tactic(auto)]
+
+mod breaking;
+mod laws;
+mod mended;
+mod near;
+mod passing;
+mod placing;
+mod replacement;
+mod taking;
+
+pub use laws::{laws_of_keeping, laws_of_passing};
+pub use mended::Mended;
+pub use passing::pass;
+pub use replacement::replace;

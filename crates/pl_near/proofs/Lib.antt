@@ -1,0 +1,9 @@
+pub mod Mending
+pub mod Standing
+pub mod OfGoals
+pub mod ByIds
+pub mod Touching
+pub mod Passing
+pub mod Granted
+pub mod Once
+pub mod Walking
