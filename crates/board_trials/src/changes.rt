@@ -1,7 +1,7 @@
 //! Changes of a board, each by its public call.
 ghost use Rattle.std.specs.Prelude.{◌≡◌, ◌<◌, false, true, length, slice_get};
 ghost use Rattle.pl_model.specs.Checked.{params_of};
-ghost use Rattle.pl_board.specs.Boards.{CanTell};
+ghost use Rattle.pl_changes.specs.Changes.{CanTell};
 ghost use Rattle.pl_world.specs.Whole.{IsGoalOf};
 
 use crate::reading::{number, repair, word};

@@ -1,6 +1,6 @@
 -- Tests one by one, and activities by their ids.
 use Rattle.std.proofs.Common.{◌≡◌, ℕ, zero, suc, ◌≤◌, eqb, Bool, true, false, List, [], ◌∷◌, ◌++◌, length, map, Option, Some, None, IfSome, refl, ap, ◌∙◌, arith}
-use Rattle.std.specs.Prelude.{All, slice_index_or, ◌&&◌, ◌||◌}
+use Rattle.std.specs.Prelude.{All, slice_index_or, ◌&&◌, ◌||◌, nat_lt, int_lt, pos}
 use Rattle.pl_world.specs.Activities.{value_in}
 use Rattle.std.specs.List.{flat_map, list_any}
 use Rattle.std.proofs.lemmas.List.Elements.{All-nil, All-head, All-tail, All-filter, All-take}
@@ -19,7 +19,7 @@ use Rattle.pl_world.specs.PlanStates.{found, numbered, of_found, reservations_in
 use Rattle.pl_world.specs.Whole.{IsWhole}
 use Rattle.pl_world.specs.LineRepairs.{around, takes_in, first_eight, lowers_below, raises_below}
 use Rattle.pl_plan.specs.Values.{Row}
-use Rattle.pl_world.specs.Demands.{asked_for, demands_at}
+use Rattle.pl_world.specs.Demands.{amount_in, asked_for, demands_at}
 use Rattle.pl_model.specs.declared.kinds.Kind.{Kind}
 use Rattle.pl_model.specs.Values.{NamesBelow}
 use Rattle.pl_model.specs.Checked.{params_of}
@@ -28,7 +28,7 @@ use Rattle.pl_plan.proofs.FirmSteps.{checked_kind, amounts_named}
 use Rattle.pl_plan.proofs.ValueLaws.{values_solve}
 use Rattle.pl_world.specs.Starts.{moves_of}
 use Rattle.pl_cand.specs.ById.{around_id, moves_of_id}
-use Rattle.pl_cand.specs.Tests.{lowers_at, raises_at, uses_in, is_used_of}
+use Rattle.pl_cand.specs.Tests.{lowers_at, may_take, raises_at, uses_in, is_used_of}
 
 -- ---- by the ids
 
@@ -98,6 +98,35 @@ takes_some s line a b x end e = rw e (use_any line a b x.id x.start end (row_of 
 pub takes_none : (s : PlanState) (line a b : ℕ) (x : Activity) → end_at s x ≡ None → takes_in s line a b x ≡ false
 unfolding demands_at
 takes_none s line a b x e = rw e refl
+
+-- one that may not take of it takes nothing
+takes_not : (line a b start end : ℕ) (values : Row) (rs : List Reservation) → list_any (may_take line b start) rs ≡ false → list_any (uses_in line a b start end values) rs ≡ false
+takes_not line a b start end values [] none = refl
+takes_not line a b start end values (r ∷ rs) none = cases (may_take line b start r) refl none (takes_not line a b start end values rs)
+  where
+    no_use : (r : Reservation) → may_take line b start r ≡ false → uses_in line a b start end values r ≡ false
+    no_use (Take l e) not_so = both (eqb l line) (int_lt (pos 0) (amount_in values e)) (nat_lt start b) (nat_lt a end) not_so
+      where
+        both : (one amount before after : Bool) → (one && before) ≡ false → (one && (amount && (before && after))) ≡ false
+        both false amount before after not_so = refl
+        both true false before after not_so = refl
+        both true true false after not_so = refl
+        both true true true after not_so = absurd (cc)
+    no_use (Raise l e point) not_so = refl
+    no_use (Lower l e point) not_so = refl
+    no_use (Put l state point) not_so = refl
+    no_use (Must l state) not_so = refl
+
+    cases : (m : Bool) → may_take line b start r ≡ m → (m || list_any (may_take line b start) rs) ≡ false → (list_any (may_take line b start) rs ≡ false → list_any (uses_in line a b start end values) rs ≡ false) → list_any (uses_in line a b start end values) (r ∷ rs) ≡ false
+    cases true e not_so more = absurd (cc)
+    cases false e not_so more = rw (no_use r e) (more not_so)
+
+pub takes_never : (s : PlanState) (line a b : ℕ) (x : Activity) → list_any (may_take line b x.start) (reservations_in (kind_of s.model x)) ≡ false → takes_in s line a b x ≡ false
+takes_never s line a b x none = by (end_at s x) refl
+  where
+    by : (o : Option ℕ) → end_at s x ≡ o → takes_in s line a b x ≡ false
+    by None e = takes_none s line a b x e
+    by (Some end) e = takes_some s line a b x end e ∙ takes_not line a b x.start end (row_of s x) (reservations_in (kind_of s.model x)) none
 
 pub amounts_here : (s : PlanState) → IsWhole s → (a : Activity) → activity_of a.id s.plan.activities ≡ Some a → All (λ r. IfSome (amount_of r) (NamesBelow (length (row_of s a)))) (reservations_in (kind_of s.model a))
 amounts_here s whole a live = cases (kind_of s.model a) refl

@@ -35,6 +35,11 @@ abbrev pub uses_in : ℕ → ℕ → ℕ → ℕ → ℕ → Row → Reservation
 uses_in line a b start end values (Take l e) = (l == line) && (int_lt (pos 0) (amount_in values e) && (nat_lt start b && nat_lt a end))
 uses_in line a b start end values _ = false
 
+-- it takes of the timeline, and its activity starts before a moment
+abbrev pub may_take : ℕ → ℕ → ℕ → Reservation → Bool
+may_take line b start (Take l e) = (l == line) && nat_lt start b
+may_take line b start _ = false
+
 -- what is asked of the timeline is an amount above 0 at moments of a span
 abbrev pub is_used_of : ℕ → ℕ → ℕ → Demand → Bool
 is_used_of line a b d = (d.line == line) && is_used_in a b d.asked

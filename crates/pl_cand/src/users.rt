@@ -9,7 +9,7 @@ ghost use Rattle.pl_plan.specs.Trees.{id_of};
 ghost use Rattle.pl_world.specs.Whole.{IsWhole};
 ghost use Rattle.pl_world.specs.Demands.{amount_in, moment_of_base, since};
 ghost use Rattle.pl_world.specs.LineRepairs.{first_eight, lowers_below, point_counts, raises_below, takes_in};
-ghost use Rattle.pl_cand.specs.Tests.{is_user, lowers_at, plays, raises_at, users_with, uses_in};
+ghost use Rattle.pl_cand.specs.Tests.{is_user, lowers_at, may_take, plays, raises_at, users_with, uses_in};
 ghost use Rattle.pl_cand.specs.Levels.{HasBase, IsOfLevel};
 
 use crate::reading::{is_committed, moment_of, reservations_of};
@@ -72,6 +72,28 @@ fn any_uses(
     false
 }
 
+// It may take of the timeline before a moment, whatever its amount and its end.
+fn may_take(line: u32, b: u32, start: u32, reservation: &Reservation) -> bool
+    ensures { result ≡ may_take line b start reservation.now }
+{
+    match reservation {
+        Reservation::Take(of, _) => *of == line && start < b,
+        _ => false,
+    }
+}
+
+fn any_may_take(line: u32, b: u32, start: u32, reservations: &[Reservation]) -> bool
+    ensures { result ≡ list_any (may_take line b start) reservations.now }
+{
+    for reservation in reservations {
+        if may_take(line, b, start, reservation) {
+            return true;
+        }
+    }
+    false
+}
+
+// Its values are worked out only where its kind takes of the timeline at all.
 #[tactic(auto, unfolding(pl_world::specs::Demands::demands_at))]
 fn takes_in(
     alloc: Global,
@@ -85,6 +107,10 @@ fn takes_in(
     requires live { activity_of x.now.id s.now.plan.activities ≡ Some x.now }
     ensures { IfOk result (λ t. t ≡ takes_in s.now line a b x.now) }
 {
+    let reservations = reservations_of(s, x);
+    if !any_may_take(line, b, x.start, reservations) {
+        return Ok(false);
+    }
     let evaluated = s.plan.evaluate(alloc, s.model.get(), x.id)?;
     match evaluated.end {
         Some(end) => Ok(any_uses(
@@ -94,7 +120,7 @@ fn takes_in(
             x.start,
             end,
             evaluated.values.as_slice(),
-            reservations_of(s, x),
+            reservations,
         )),
         None => Ok(false),
     }

@@ -1,13 +1,17 @@
 -- What each change of the plan state keeps.
-use Rattle.std.proofs.Common.{◌≡◌, ℕ, ◌<◌, ℤ, [], refl, sym, subst, arith, append-nil}
+use Rattle.std.proofs.Common.{◌≡◌, ℕ, ◌<◌, ℤ, [], true, false, refl, sym, ap, ◌∙◌, subst, arith, append-nil}
 use Rattle.std.specs.Prelude.{Result, OnOk}
 use Rattle.std.proofs.lemmas.Result.{on_ok_weaker}
 use Rattle.pl_facts.specs.declared.goal.Goal.{Goal}
 use Rattle.pl_plan.specs.Activities.{AreRising}
 use Rattle.pl_entry.proofs.Growth.{due_grows}
 use Rattle.pl_world.specs.declared.plan_state.PlanState.{PlanState}
-use Rattle.pl_board.specs.Boards.{Standing, after, with_goal, told_now, moved_on}
+use Rattle.pl_board.specs.Boards.{Standing, after}
+use Rattle.pl_changes.specs.Changes.{with_goal, told_now, moved_on}
 use Rattle.pl_machine.specs.World.{due_in}
+use Rattle.pl_machine.specs.declared.change.Change.{Change}
+use Rattle.pl_machine.specs.declared.change.Change.TheVariants.{Tick}
+use Rattle.pl_machine.specs.Changes.{is_tick, KeepsDue}
 use Rattle.pl_machine.specs.Keeping.{KeepsStanding}
 
 pub keeps_accept : (s : PlanState) (g : Goal) → KeepsStanding s (with_goal g s)
@@ -37,3 +41,10 @@ keeps_tick s moment rising later = record {
 -- of a board on which the change was made
 pub keeps_on : {X E : Type 0} (r : Result X E) (s s2 : PlanState) (b : Standing) → KeepsStanding s s2 → OnOk r (b ≡ after s2) → OnOk r (KeepsStanding s b.state)
 keeps_on r s s2 b keeps made = on_ok_weaker r (λ (e : b ≡ after s2). subst (λ (x : Standing). KeepsStanding s x.state) (sym e) keeps) made
+
+pub due_on : {X E : Type 0} (r : Result X E) (change : Change) (s s2 : PlanState) (b : Standing) → KeepsDue change s s2 → OnOk r (b ≡ after s2) → OnOk r (KeepsDue change s b.state)
+due_on r change s s2 b keeps made = on_ok_weaker r (λ (e : b ≡ after s2). subst (λ (x : Standing). KeepsDue change s x.state) (sym e) keeps) made
+
+-- a tick may bring something
+pub due_tick : (change : Change) (moment : ℕ) (s s2 : PlanState) → change ≡ Tick moment → KeepsDue change s s2
+due_tick change moment s s2 is stays = absurd (let bad : true ≡ false = sym (ap is_tick is) ∙ stays in cc)

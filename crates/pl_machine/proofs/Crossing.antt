@@ -1,19 +1,9 @@
--- The parts of a machine may be sent to another thread and be read by several, one by one.
+-- The entries of a log may be sent to another thread and be read by several.
 use denote.Param.Send.{IsSend, IsSync, sendable}
 use Rattle.std.proofs.Crossing.{crosses}
-use Rattle.std.proofs.MapsCrossing as maps
-use Rattle.std.proofs.MapsCrossingOver as over
-use Rattle.pl_world.proofs.Crossing.{state_parts}
-use Rattle.pl_board.specs.contracts.board.Board
 use Rattle.pl_entry.specs.contracts.event.Event
 use Rattle.pl_entry.specs.contracts.reply.Reply
 use Rattle.pl_entry.specs.contracts.entry.Entry
-
-pub board_send : IsSend Board.the_field.row
-board_send = search (state_parts, maps.crosses, over.crosses, sendable, crosses) depth 40 fits 6000
-
-pub board_sync : IsSync Board.the_field.row
-board_sync = search (state_parts, maps.crosses, over.crosses, sendable, crosses) depth 40 fits 6000
 
 event_send : IsSend Event.the_field.row
 event_send = search (sendable, crosses) depth 40 fits 6000
@@ -34,8 +24,6 @@ pub entry_sync : IsSync Entry.the_field.row
 entry_sync = search (event_sync, reply_sync, sendable, crosses) depth 80 fits 6000
 
 pub ruleset machine_parts = (
-  board_send,
-  board_sync,
   entry_send,
   entry_sync,
 )

@@ -1,13 +1,13 @@
 -- What is committed can be sent: a commit is granted only where no value of what it commits is out of range.
 use Rattle.std.proofs.Common.{◌≡◌, ℕ, zero, suc, ◌+◌, ◌<◌, ◌≤◌, ℤ, ◌≤ℤ◌, List, [], ◌∷◌, ◌++◌, length, Bool, true, false, not, ◌&&◌, ◌||◌, int_le, nat_lt, nat_le, All, Option, Some, None, IfSome, Result, Ok, Err, IfOk, ◌↔◌, if◌then◌else◌, refl, sym, ◌∙◌, subst, arith}
 use Rattle.std.specs.List.{flat_map}
-use Rattle.std.proofs.lemmas.Bool.{leb-false, ltb-false, ltb-true, lt-leb, le-ltb}
+use Rattle.std.proofs.lemmas.Bool.{leb-false, ltb-false, ltb-true, lt-leb, le-leb, le-ltb}
 use Rattle.std.proofs.lemmas.Grind.{common_steps}
 use Rattle.std.proofs.lemmas.Int.{ints}
 use Rattle.std.proofs.lemmas.List.Elements.{All-nil, All-cons, All-head, All-tail, All-get_or, All-from_get_or, All-weaker}
 use Rattle.std.proofs.lemmas.Option.{get_or_from_slice_get}
 use Rattle.pl_conflict.specs.declared.conflict.Conflict.{Conflict}
-use Rattle.pl_conflict.specs.declared.conflict.Code.TheVariants.{BadValue}
+use Rattle.pl_conflict.specs.declared.conflict.Code.TheVariants.{BadValue, Late}
 use Rattle.pl_conflict.specs.Order.{has}
 use Rattle.pl_conflict.proofs.Sorting.{same, same_is, has-append}
 use Rattle.pl_model.specs.declared.parameters.Param.{Param}
@@ -30,12 +30,15 @@ use Rattle.pl_world.specs.Whole.{IsWhole}
 use Rattle.pl_plan.proofs.Climbs.{all_at}
 use Rattle.pl_plan.proofs.ValueLaws.{values_solve}
 use Rattle.pl_entry.proofs.Growth.{due_grows}
+use Rattle.pl_entry.proofs.DueLaws.{due_meets, due_only}
+use Rattle.pl_entry.specs.Due.{AreDue}
+use Rattle.pl_machine.specs.World.{due_in}
 use Rattle.pl_entry.specs.declared.event.Event.TheVariants as event
 use Rattle.pl_entry.specs.declared.reply.Reply.{Reply}
 use Rattle.pl_entry.specs.declared.reply.Reply.TheVariants as reply
 use Rattle.pl_world.proofs.Standing.{members, activities_by_subject}
 use Rattle.pl_world.proofs.Granting.{untouched}
-use Rattle.pl_board.specs.Boards.{committed_to}
+use Rattle.pl_changes.specs.Changes.{committed_to}
 use Rattle.pl_machine.specs.declared.stop.Stop.{Stop}
 use Rattle.pl_machine.specs.Sound.{State}
 use Rattle.pl_machine.specs.Taking.{Answers}
@@ -201,6 +204,52 @@ keeps_commit s h whole done =
       due = due_grows s.model s.plan.activities whole.rising s.moment s.committed s.moment h (omega arith) (omega (arith, ok.0));
       sendable = sendable_then s h whole free;
     }
+
+-- ---- nothing comes to be due by a commit: what has started and is not committed is late
+
+late_stands : (s : PlanState) (a : Activity) → IsWhole s → found s a.id ≡ Some a → is_committed s a ≡ false → nat_le a.start s.moment ≡ true → has (at_start a Late 0 0) (conflicts_of s) ≡ true
+unfolding wrong_at
+late_stands s a whole here planned started =
+    let q = at_start a Late 0 0 in
+    let late : has q (late_at s a) ≡ true = rw started (has-itself q) in
+    let all : has q (late_at s a ++ unset_at s a ++ bad_values_at s a ++ undetailed_at s a ++ overrun_at s a) ≡ true =
+    has-left (late_at s a ++ unset_at s a ++ bad_values_at s a ++ undetailed_at s a) (overrun_at s a) q (has-left (late_at s a ++ unset_at s a ++ bad_values_at s a) (undetailed_at s a) q (has-left (late_at s a ++ unset_at s a) (bad_values_at s a) q (has-left (late_at s a) (unset_at s a) q late))) in
+    let wrong : has q (wrong_at s a) ≡ true = rw planned all in
+    let subject : has q (wrong_of s a.id) ≡ true = rw here wrong in
+    let others = has q (link_conflicts s) || has q (timeline_conflicts s) in
+    let among : (has q (activity_conflicts s) || others) ≡ true = or_left (has q (activity_conflicts s)) others (activities_by_subject s whole.rising q ∙ subject) in
+    members s q ∙ or_right (has q (goal_conflicts s)) (has q (activity_conflicts s) || others) among
+
+module _ (s : PlanState) (h : ℕ) (whole : IsWhole s) (untouched : All (λ (k : Conflict). touches_before h k ≡ false) (conflicts_of s)) where
+  -- what has started before the moment is committed
+  was_committed : (a : Activity) → found s a.id ≡ Some a → a.start ≤ s.moment → a.start < h → a.start < s.committed
+  was_committed a here started early = by (is_committed s a) refl
+    where
+      by : (b : Bool) → is_committed s a ≡ b → a.start < s.committed
+      by true e = ltb-true a.start s.committed e
+      by false e =
+          let free : nat_lt a.start h ≡ false = all_each (λ (k : Conflict). touches_before h k ≡ false) (conflicts_of s) untouched (at_start a Late 0 0) (late_stands s a whole here e (le-leb a.start s.moment started)) in
+          let late = ltb-false a.start h free in absurd (omega (arith, early, late))
+
+  pub due_stays : s.committed ≤ h → due_in (committed_to h s) ≡ due_in s
+  due_stays later = sym (due_only s.model s.plan.activities whole.rising s.moment h (due_in s) (record {
+    members = λ id. (
+      (λ in'. let d = (meets.members id).0 in' in let early = d.2.committed in (d.0, d.1, record { committed = omega (arith, early, later); started = d.2.started; basic = d.2.basic })),
+      (λ d. (meets.members id).1 (d.0, d.1, record { committed = was_committed d.0 (itself id d.0 d.1) d.2.started d.2.committed; started = d.2.started; basic = d.2.basic })),
+    );
+    order = meets.order;
+  }))
+    where
+      meets : AreDue s.model s.plan.activities s.moment s.committed (due_in s)
+      meets = due_meets s.model s.plan.activities whole.rising s.moment s.committed
+
+      itself : (id : ℕ) (a : Activity) → found s id ≡ Some a → found s a.id ≡ Some a
+      itself id a here = subst (λ (n : ℕ). found s n ≡ Some a) (sym (all_at (FitsAlone s.model) s.plan.activities id a whole.fits.each here).1) here
+
+pub due_committed : (s : PlanState) (h : ℕ) → IsWhole s → commit_reply s h ≡ reply.Done → due_in (committed_to h s) ≡ due_in s
+due_committed s h whole done =
+    let ok = granted s h (nat_le h (behind_of s)) (nat_lt s.model.horizon h) refl refl done in
+    due_stays s h whole ((untouched s h).1 (not_held (first_conflict s) h ok.2)) (omega (arith, ok.0))
 
 -- ---- a commit is granted exactly where no conflict touches what comes before it
 

@@ -20,7 +20,7 @@ use Rattle.pl_entry.specs.declared.reply.Reply.{Reply}
 use Rattle.pl_entry.specs.declared.reply.Reply.TheVariants as reply
 use Rattle.pl_world.specs.declared.plan_state.PlanState.{PlanState}
 use Rattle.pl_world.specs.Whole.{IsGoalOf}
-use Rattle.pl_board.specs.Boards.{CanTell}
+use Rattle.pl_changes.specs.Changes.{CanTell}
 use Rattle.pl_machine.specs.Changes.{CanChange}
 use Rattle.pl_machine.specs.declared.change.Change.TheVariants.{Accept, Tell, Tick}
 use Rattle.pl_entry.specs.Bounds.{IsLineReply}

@@ -11,3 +11,5 @@ pub mod Handed
 pub mod Proposed
 pub mod Closes
 pub mod Crossing
+pub mod Search
+pub mod Granted

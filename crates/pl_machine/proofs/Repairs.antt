@@ -1,5 +1,5 @@
 -- A repair keeps what is due.
-use Rattle.std.proofs.Common.{◌≡◌, ℕ, ◌+◌, ◌≤◌, List, [], true, nat_lt, All, Some, None, IfSome, refl, sym, ◌∙◌, ap, subst, arith, append-nil}
+use Rattle.std.proofs.Common.{◌≡◌, ℕ, List, [], true, nat_lt, All, Some, None, IfSome, refl, sym, ◌∙◌, ap, subst, arith, append-nil}
 use Rattle.std.specs.Prelude.{Contains, get_or}
 use Rattle.std.proofs.lemmas.Bool.{lt-ltb}
 use Rattle.std.proofs.lemmas.List.Elements.{Contains-get_or}
@@ -68,6 +68,14 @@ keeps_repair s s2 rising ids keeps = record {
       let early : is_committed s a ≡ true = ap (λ c. nat_lt a.start c) (sym keeps.committed) ∙ committed in
       subst (λ row. All (λ v. IfSome v IsAmount) row) (sym (keeps.values id a before early)) (sendable id a before early);
 }
+
+pub due_applied : (s : PlanState) (m : RepairMove) → IsWhole s → is_proper s m ≡ true → refusal_of s m ≡ None → due_in (applied s m) ≡ due_in s
+due_applied s m whole proper allowed =
+    let ids = gives s m whole proper allowed in
+    let kept = keeps s m whole proper allowed in
+    due_at (applied s m) s.model s.moment s.committed kept.model kept.moment kept.committed
+    ∙ sym (due_same s.model s.plan.activities (applied s m).plan.activities s.moment s.committed whole.rising ids.rising kept.stands
+    (λ id a here early. kept.no_other id a here (ap (λ c. nat_lt a.start c) kept.committed ∙ early)))
 
 pub keeps_applied : (s : PlanState) (m : RepairMove) → IsWhole s → is_proper s m ≡ true → refusal_of s m ≡ None → KeepsStanding s (applied s m)
 keeps_applied s m whole proper allowed = keeps_repair s (applied s m) whole.rising (gives s m whole proper allowed) (keeps s m whole proper allowed)

@@ -1,11 +1,12 @@
 -- The changes that events make of the plan state.
-use Rattle.std.specs.Prelude.{◌≡◌, ◌<◌, ◌≤◌, false, true, None, slice_get}
+use Rattle.std.specs.Prelude.{◌≡◌, ◌<◌, ◌≤◌, Bool, false, true, None, slice_get}
 use Rattle.pl_facts.specs.Goals.{goal_of}
 use Rattle.pl_world.specs.declared.plan_state.PlanState.{PlanState}
 use Rattle.pl_world.specs.Whole.{IsGoalOf}
 use Rattle.pl_world.specs.Moves.{is_proper, refusal_of, applied}
-use Rattle.pl_board.specs.Boards.{with_goal, told_now, moved_on, committed_to, CanTell}
+use Rattle.pl_changes.specs.Changes.{with_goal, told_now, moved_on, committed_to, CanTell}
 use Rattle.pl_entry.specs.declared.reply.Reply.TheVariants as reply
+use Rattle.pl_machine.specs.World.{due_in}
 use Rattle.pl_machine.specs.Step.{commit_reply}
 use Rattle.pl_machine.specs.declared.change.Change.{Change}
 use Rattle.pl_machine.specs.declared.change.Change.TheVariants.{Accept, Tell, Tick, Commit, Repair}
@@ -16,6 +17,18 @@ changed (Tell line value) s = told_now line value s
 changed (Tick moment) s = moved_on moment s
 changed (Commit h) s = committed_to h s
 changed (Repair m) s = applied s m
+
+-- the present moves on
+abbrev pub is_tick : Change → Bool
+is_tick (Accept goal) = false
+is_tick (Tell line value) = false
+is_tick (Tick moment) = true
+is_tick (Commit h) = false
+is_tick (Repair m) = false
+
+-- unless the present moves on, what is due stays
+abbrev pub KeepsDue : Change → PlanState → PlanState → Type 0
+KeepsDue change old new = is_tick change ≡ false → due_in new ≡ due_in old
 
 -- the change may be made
 abbrev pub CanChange : PlanState → Change → Type 0

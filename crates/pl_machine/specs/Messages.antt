@@ -13,7 +13,7 @@ use Rattle.pl_entry.specs.declared.reply.Reply.{Reply}
 use Rattle.pl_entry.specs.declared.reply.Reply.TheVariants as reply
 use Rattle.pl_world.specs.declared.plan_state.PlanState.{PlanState}
 use Rattle.pl_world.specs.PlanStates.{floor_of}
-use Rattle.pl_board.specs.Boards.{with_goal, told_now, moved_on}
+use Rattle.pl_changes.specs.Changes.{with_goal, told_now, moved_on}
 
 -- ---- replies
 

@@ -19,7 +19,7 @@ use Rattle.pl_world.specs.PlanStates.{found, row_of}
 use Rattle.pl_world.specs.Conflicts.{conflicts_of}
 use Rattle.pl_world.specs.Moves.{refusal_of, applied}
 use Rattle.pl_world.specs.Candidates.{candidates_of, same_move}
-use Rattle.pl_board.specs.Boards.{committed_to}
+use Rattle.pl_changes.specs.Changes.{committed_to}
 use Rattle.pl_machine.specs.Messages.{line_reply, told_line}
 use Rattle.pl_machine.specs.World.{World, due_in, reason_of}
 

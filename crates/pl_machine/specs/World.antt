@@ -9,7 +9,7 @@ use Rattle.pl_entry.specs.Due.{due_of}
 use Rattle.pl_world.specs.declared.plan_state.PlanState.{PlanState}
 use Rattle.pl_world.specs.Conflicts.{conflicts_of}
 use Rattle.pl_world.specs.Legal.{is_stuck}
-use Rattle.pl_board.specs.Boards.{first_state}
+use Rattle.pl_changes.specs.Changes.{first_state}
 
 pub record World : Type 0 where
   pub state : PlanState

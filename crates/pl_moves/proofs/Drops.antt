@@ -7,7 +7,7 @@ use Rattle.pl_plan.specs.declared.repair.RepairMove.TheVariants.{Add, Delete, Sh
 use Rattle.pl_world.specs.declared.plan_state.PlanState.{PlanState}
 use Rattle.pl_world.specs.PlanStates.{goal_at, is_open}
 use Rattle.pl_world.specs.Moves.{holds, is_proper, applied}
-use Rattle.pl_board.specs.Boards.{IsOpenIn, without_goal}
+use Rattle.pl_changes.specs.Changes.{IsOpenIn, without_goal}
 use Rattle.pl_moves.specs.Changes.{IsOfActivities}
 use Rattle.pl_moves.proofs.Subtrees.{both_left}
 

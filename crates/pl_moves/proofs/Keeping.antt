@@ -25,7 +25,7 @@ use Rattle.pl_world.specs.Whole.{IsWhole}
 use Rattle.pl_world.specs.Moves.{is_proper, refusal_of, applied, is_changed, is_locked, is_under, started_by, with_value, children_for, children_in, alternatives_at}
 use Rattle.pl_world.specs.Legal.{MayBeMade}
 use Rattle.pl_world.proofs.Refusing.{may}
-use Rattle.pl_board.specs.Replaced.{touched}
+use Rattle.pl_changes.specs.Replaced.{touched}
 use Rattle.pl_moves.specs.Changes.{gone_by, placed_by, assigned, undetailed, with_children, IsOfActivities}
 use Rattle.pl_moves.specs.Keeping.{KeepsCommitted, GivesIds}
 use Rattle.pl_moves.proofs.Swaps.{MayCome, IsSwap}

@@ -3,11 +3,15 @@ mod Offsets
 mod Slots
 mod Swaps
 mod Subtrees
+mod Returning
+mod Picking
+mod Trying
 mod Cuts
 mod Remade
 mod Grown
 mod Branched
-mod Made
-mod Drops
+pub mod Made
+pub mod Drops
+mod OneGoalLess
 pub mod Keeping
 pub mod Flags

@@ -24,7 +24,7 @@ use Rattle.pl_world.specs.Whole.{IsWhole, IsGoalOf, IsIdBelow}
 use Rattle.pl_world.specs.Moves.{holds, is_proper, is_wanted, refusal_of, applied, root_for, unset_row, presets_of, moved, is_under, alternatives_at, changed_where, children_from, detailed, has_id}
 use Rattle.pl_world.specs.Legal.{MayBeMade}
 use Rattle.pl_world.proofs.Refusing.{may}
-use Rattle.pl_board.specs.Replaced.{CanReplace, next_after, with_plan}
+use Rattle.pl_changes.specs.Replaced.{CanReplace, next_after, with_plan}
 use Rattle.pl_moves.specs.Changes.{IsNamedLive, IsNear, IsOfActivities, assigned, gone_by, placed_by, undetailed}
 use Rattle.pl_moves.proofs.Swaps.{IsSwap, can_swap, swap_is, next_same}
 use Rattle.pl_moves.proofs.Subtrees.{both_left, both_right}

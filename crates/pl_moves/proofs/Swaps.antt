@@ -16,7 +16,7 @@ use Rattle.pl_plan.proofs.LocalValues.{values_local}
 use Rattle.pl_world.specs.declared.plan_state.PlanState.{PlanState}
 use Rattle.pl_world.specs.PlanStates.{among}
 use Rattle.pl_world.specs.Whole.{IsWhole, IsCarried}
-use Rattle.pl_board.specs.Replaced.{CanReplace, taken, put, replaced, touched, next_after}
+use Rattle.pl_changes.specs.Replaced.{CanReplace, taken, put, replaced, touched, next_after}
 
 -- ---- those that go
 
@@ -82,7 +82,7 @@ free_then xs gone a rising may = found_taken xs gone a.id rising ∙ by (among a
 abbrev pub swapped_at : List Activity → List ℕ → List Activity → ℕ → Option Activity
 swapped_at xs gone more q = option_or (activity_of q more) (cond (among q gone) None (activity_of q xs))
 
-same_replaced : (xs : List Activity) (gone : List ℕ) (more ys : List Activity) → AreRising xs → AreRising more → All (MayCome xs gone) more → AreRising ys → ((q : ℕ) → activity_of q ys ≡ swapped_at xs gone more q) → replaced xs gone more ≡ ys
+pub same_replaced : (xs : List Activity) (gone : List ℕ) (more ys : List Activity) → AreRising xs → AreRising more → All (MayCome xs gone) more → AreRising ys → ((q : ℕ) → activity_of q ys ≡ swapped_at xs gone more q) → replaced xs gone more ≡ ys
 unfolding replaced
 same_replaced xs gone more ys rising rises may rises_then found =
     let free : All (Free (taken xs gone)) more = λ i d lt. free_then xs gone (get_or more i d) rising (may i d lt) in

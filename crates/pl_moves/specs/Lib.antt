@@ -4,5 +4,6 @@ pub use Rattle.pl_world.specs.Moves
 pub use Rattle.pl_world.specs.Legal
 pub mod Sides
 pub mod Changes
+pub mod Undone
 pub mod Outcomes
 pub mod Keeping

@@ -7,6 +7,7 @@ use Rattle.pl_plan.specs.declared.activity.Activity.{Activity}
 use Rattle.pl_model.specs.declared.alternatives.Slot.{Slot}
 use Rattle.pl_world.specs.declared.plan_state.PlanState.{PlanState}
 use Rattle.pl_world.specs.PlanStates.{floor_of}
+use Rattle.pl_world.specs.Moves.{moved}
 use Rattle.pl_moves.specs.declared.side.Side.{Side}
 use Rattle.pl_moves.specs.declared.side.Side.TheVariants.{BelowFloor, PastHorizon}
 
@@ -17,6 +18,10 @@ lies_on s PastHorizon start = nat_le s.model.horizon start
 
 abbrev pub starts_on : PlanState → Side → Activity → Bool
 starts_on s side a = lies_on s side a.start
+
+-- it starts there once it is moved along with one that goes from its start to another
+abbrev pub moves_to : PlanState → Side → ℕ → ℕ → Activity → Bool
+moves_to s side from to a = starts_on s side (moved from to a)
 
 -- the id of the first activity that starts there
 abbrev pub first_on : PlanState → Side → List Activity → Option ℕ

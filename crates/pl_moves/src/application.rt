@@ -1,17 +1,32 @@
 ghost use Rattle.std.specs.Prelude.{◌≡◌, ◌+◌, ◌≤◌, false, true, None, OnOk, OnErr, IfErr};
 ghost use Rattle.pl_world.specs.Moves.{is_proper, refusal_of, applied};
+ghost use Rattle.pl_changes.specs.Replaced.{CanReplace, with_plan};
 ghost use Rattle.pl_board.specs.Boards.{after};
 ghost use Rattle.pl_moves.specs.Changes.{IsOfActivities};
 ghost use Rattle.pl_moves.specs.Keeping.{KeepsCommitted};
 ghost use Rattle.pl_moves.specs.Outcomes.{Fails, IsMade};
 
-use crate::change::change_of;
+use crate::change::{Change, change_of};
 use crate::legality::refusal;
 use crate::move_fault::MoveFault;
 use pl_board::Board;
 use pl_plan::RepairMove;
 use pl_points::{Ledger, Steps};
 use std::alloc::{AllocError, Global};
+
+/// Takes out what a change takes out, and puts in what it places.
+pub(crate) fn make_change<L: Ledger>(
+    board: &mut Board,
+    change: &Change,
+    steps: &mut Steps<L>,
+) -> Result<(), AllocError>
+    requires unspoiled { board.old.spoiled ≡ false }
+    requires can { CanReplace board.old.state change.now.gone.items change.now.placed.items }
+    ensures ok { OnOk result (board.new ≡ after (with_plan change.now.gone.items change.now.placed.items board.old.state)) }
+    ensures err { OnErr result (board.new.spoiled ≡ true) }
+{
+    board.replace(&change.gone, &change.placed, steps)
+}
 
 // Makes a move of activities.
 fn replace_by<L: Ledger>(
@@ -29,7 +44,7 @@ fn replace_by<L: Ledger>(
     ensures err { OnErr result (board.new.spoiled ≡ true) }
 {
     match change_of(alloc, board.state(), mv) {
-        Ok(change) => board.replace(&change.gone, &change.placed, steps),
+        Ok(change) => make_change(board, &change, steps),
         Err(fault) => {
             board.spoil();
             Err(fault)
@@ -72,7 +87,7 @@ pub fn apply<L: Ledger>(
     ensures ids { OnOk result (board.new.state.next_id ≤ board.old.state.next_id + 16) }
     ensures fault { IfErr result (λ fault. Fails mv.now fault board.old board.new) }
 {
-    match refusal(board.state(), mv) {
+    match refusal(alloc, board.state(), mv) {
         Some(reason) => Err(MoveFault::Refused(reason)),
         None => {
             make(alloc, board, mv, steps)?;

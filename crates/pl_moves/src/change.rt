@@ -1,13 +1,13 @@
-ghost use Rattle.std.specs.Prelude.{◌≡◌, ◌+◌, ◌^◌, ◌<◌, ◌≤◌, [], ◌∷◌, IfOk, All, Some, None, map, filter, slice_set};
-ghost use Rattle.pl_plan.specs.Activities.{IsLive};
+ghost use Rattle.std.specs.Prelude.{◌≡◌, ◌+◌, ◌^◌, ◌<◌, ◌≤◌, [], ◌∷◌, ◌++◌, IfOk, OnOk, Some, None, map, filter, slice_set};
 ghost use Rattle.pl_plan.specs.Trees.{subtree_of};
 ghost use Rattle.pl_world.specs.PlanStates.{found, of_found};
 ghost use Rattle.pl_world.specs.Whole.{IsWhole};
 ghost use Rattle.pl_world.specs.Moves.{is_under, moved, moved_with, root_for, with_value};
 ghost use Rattle.pl_moves.specs.Changes.{IsNamedLive, IsNear, assigned, gone_by, placed_by, undetailed, with_children};
+ghost use Rattle.pl_moves.specs.Undone.{alone, picked};
 
 use crate::children::{add_children, root_for};
-use crate::descent::descends;
+use crate::gone::gone_by;
 use crate::starts::alternative_at;
 use pl_lists::{Copied, Items};
 use pl_plan::{Activity, RepairMove};
@@ -83,58 +83,118 @@ fn with_detail(alloc: Global, a: &Activity, detail: Option<u32>) -> Result<Activ
     Ok(a)
 }
 
-// Those of the subtree, moved along with its top.
+fn add_moved(
+    alloc: Global,
+    s: &PlanState,
+    id: u32,
+    top: &Activity,
+    to: u32,
+    all: &mut Vec<Activity>,
+) -> Result<(), AllocError>
+    requires whole { IsWhole s.now }
+    requires near { to ≤ 10000000 }
+    ensures { OnOk result (all.new.items ≡ all.old.items ++ map (moved top.now.start to) (of_found alone (found s.now id))) }
+{
+    match s.plan.get(id) {
+        Some(a) => {
+            all.push(moved(alloc, a, top.start, to)?)?;
+            Ok(())
+        }
+        None => Ok(()),
+    }
+}
+
+// Those of these ids, moved along with the activity from which they descend.
 fn shift_all(
     alloc: Global,
     s: &PlanState,
-    activities: &[Activity],
+    ids: &[u32],
     top: &Activity,
     to: u32,
 ) -> Result<Vec<Activity>, AllocError>
     requires whole { IsWhole s.now }
-    requires starts { All (λ a. a.start ≤ 10000000) activities.now }
     requires near { to ≤ 10000000 }
-    ensures { IfOk result (λ all. all.items ≡ map (moved top.now.start to) (filter (is_under s.now top.now.id) activities.now)) }
+    ensures { IfOk result (λ all. all.items ≡ map (moved top.now.start to) (picked s.now.plan.activities ids.now)) }
 {
     let mut all = Vec::new(alloc);
-    for a in activities {
-        if descends(&s.plan, top.id, a.id) {
-            all.push(moved(alloc, a, top.start, to)?)?;
-        }
+    for id in ids {
+        add_moved(alloc, s, *id, top, to, &mut all)?;
     }
     Ok(all)
 }
 
-fn shift(alloc: Global, s: &PlanState, id: u32, to: u32) -> Result<Vec<Activity>, AllocError>
+fn shift(
+    alloc: Global,
+    s: &PlanState,
+    id: u32,
+    ids: &[u32],
+    to: u32,
+) -> Result<Vec<Activity>, AllocError>
     requires whole { IsWhole s.now }
     requires near { to ≤ 10000000 }
+    requires ids { ids.now ≡ subtree_of id s.now.plan.activities }
     ensures { IfOk result (λ all. all.items ≡ moved_with s.now to (found s.now id)) }
 {
     match s.plan.get(id) {
-        Some(top) => shift_all(alloc, s, s.plan.activities(), top, to),
+        Some(top) => shift_all(alloc, s, ids, top, to),
         None => Ok(Vec::new(alloc)),
     }
+}
+
+fn add_assigned(
+    alloc: Global,
+    s: &PlanState,
+    id: u32,
+    top: u32,
+    number: u8,
+    value: i64,
+    all: &mut Vec<Activity>,
+) -> Result<(), AllocError>
+    requires whole { IsWhole s.now }
+    ensures { OnOk result (all.new.items ≡ all.old.items ++ map (assigned top number value) (of_found alone (found s.now id))) }
+{
+    match s.plan.get(id) {
+        Some(a) => {
+            all.push(assigned(alloc, a, top, number, value)?)?;
+            Ok(())
+        }
+        None => Ok(()),
+    }
+}
+
+// Those of these ids, with the value set at the top.
+fn assign_all(
+    alloc: Global,
+    s: &PlanState,
+    ids: &[u32],
+    top: u32,
+    number: u8,
+    value: i64,
+) -> Result<Vec<Activity>, AllocError>
+    requires whole { IsWhole s.now }
+    ensures { IfOk result (λ all. all.items ≡ map (assigned top number value) (picked s.now.plan.activities ids.now)) }
+{
+    let mut all = Vec::new(alloc);
+    for id in ids {
+        add_assigned(alloc, s, *id, top, number, value, &mut all)?;
+    }
+    Ok(all)
 }
 
 // Those of the subtree, with the value set at its top.
 fn assign(
     alloc: Global,
     s: &PlanState,
-    activities: &[Activity],
     id: u32,
+    ids: &[u32],
     number: u8,
     value: i64,
 ) -> Result<Vec<Activity>, AllocError>
     requires whole { IsWhole s.now }
-    ensures { IfOk result (λ all. all.items ≡ map (assigned id number value) (filter (is_under s.now id) activities.now)) }
+    requires ids { ids.now ≡ subtree_of id s.now.plan.activities }
+    ensures { IfOk result (λ all. all.items ≡ map (assigned id number value) (filter (is_under s.now id) s.now.plan.activities)) }
 {
-    let mut all = Vec::new(alloc);
-    for a in activities {
-        if descends(&s.plan, id, a.id) {
-            all.push(assigned(alloc, a, id, number, value)?)?;
-        }
-    }
-    Ok(all)
+    assign_all(alloc, s, ids, id, number, value)
 }
 
 fn detail_one(
@@ -200,52 +260,24 @@ fn add(
     single(alloc, root_for(alloc, s, kind, start, goal)?)
 }
 
-fn subtree(alloc: Global, s: &PlanState, id: u32) -> Result<Vec<u32>, AllocError>
-    requires whole { IsWhole s.now }
-    requires live { IsLive id s.now.plan.activities }
-    ensures { IfOk result (λ ids. ids.items ≡ subtree_of id s.now.plan.activities) }
-{
-    s.plan.subtree(alloc, id)
-}
-
-fn single_id(alloc: Global, id: u32) -> Result<Vec<u32>, AllocError>
-    ensures { IfOk result (λ ids. ids.items ≡ id ∷ []) }
-{
-    let mut ids = Vec::new(alloc);
-    ids.push(id)?;
-    Ok(ids)
-}
-
-fn gone_by(alloc: Global, s: &PlanState, mv: &RepairMove) -> Result<Vec<u32>, AllocError>
-    requires whole { IsWhole s.now }
-    requires named { IsNamedLive s.now mv.now }
-    ensures { IfOk result (λ ids. ids.items ≡ gone_by s.now mv.now) }
-{
-    match *mv {
-        RepairMove::Add { .. } => Ok(Vec::new(alloc)),
-        RepairMove::Delete { id } => subtree(alloc, s, id),
-        RepairMove::Shift { id, .. } => subtree(alloc, s, id),
-        RepairMove::Detail { id, .. } => single_id(alloc, id),
-        RepairMove::Abstract { id } => subtree(alloc, s, id),
-        RepairMove::Assign { id, .. } => subtree(alloc, s, id),
-        RepairMove::Drop { .. } => Ok(Vec::new(alloc)),
-    }
-}
-
-fn placed_by(alloc: Global, s: &PlanState, mv: &RepairMove) -> Result<Vec<Activity>, AllocError>
+fn placed_by(
+    alloc: Global,
+    s: &PlanState,
+    mv: &RepairMove,
+    gone: &[u32],
+) -> Result<Vec<Activity>, AllocError>
     requires whole { IsWhole s.now }
     requires near { IsNear mv.now }
+    requires gone { gone.now ≡ gone_by s.now mv.now }
     ensures { IfOk result (λ all. all.items ≡ placed_by s.now mv.now) }
 {
     match *mv {
         RepairMove::Add { kind, start, goal } => add(alloc, s, kind, start, goal),
         RepairMove::Delete { .. } => Ok(Vec::new(alloc)),
-        RepairMove::Shift { id, start } => shift(alloc, s, id, start),
+        RepairMove::Shift { id, start } => shift(alloc, s, id, gone, start),
         RepairMove::Detail { id, alternative } => detail(alloc, s, id, alternative),
         RepairMove::Abstract { id } => without_detail(alloc, s, id),
-        RepairMove::Assign { id, param, value } => {
-            assign(alloc, s, s.plan.activities(), id, param, value)
-        }
+        RepairMove::Assign { id, param, value } => assign(alloc, s, id, gone, param, value),
         RepairMove::Drop { .. } => Ok(Vec::new(alloc)),
     }
 }
@@ -258,8 +290,7 @@ pub(crate) fn change_of(alloc: Global, s: &PlanState, mv: &RepairMove) -> Result
     ensures gone { IfOk result (λ c. c.gone.items ≡ gone_by s.now mv.now) }
     ensures placed { IfOk result (λ c. c.placed.items ≡ placed_by s.now mv.now) }
 {
-    Ok(Change {
-        gone: gone_by(alloc, s, mv)?,
-        placed: placed_by(alloc, s, mv)?,
-    })
+    let gone = gone_by(alloc, s, mv)?;
+    let placed = placed_by(alloc, s, mv, &gone)?;
+    Ok(Change { gone, placed })
 }

@@ -1,16 +1,20 @@
 ghost use Rattle.std.specs.Prelude.{◌≡◌, false, true, length, find, ◌≤◌, IfOk, IfErr, Some, None};
 ghost use Rattle.std.specs.Option.{option_map};
 ghost use Rattle.pl_plan.specs.Trees.{IsRooted, id_of};
-ghost use Rattle.pl_world.specs.PlanStates.{found};
+ghost use Rattle.pl_world.specs.PlanStates.{found, is_committed};
 ghost use Rattle.pl_world.specs.Whole.{IsWhole};
-ghost use Rattle.pl_world.specs.Moves.{children_for, count_of_new, is_changed, is_full, is_locked, is_proper, refusal_of};
+ghost use Rattle.pl_world.specs.Moves.{children_for, count_of_new, holds, is_changed, is_full, is_locked, is_proper, refusal_of};
+ghost use Rattle.pl_moves.specs.Changes.{IsNamedLive, gone_by};
+ghost use Rattle.pl_moves.specs.Undone.{picked};
 
 use crate::descent::descends;
+use crate::gone::gone_by;
 use crate::side::Side;
-use crate::starts::{alternative_at, first_started};
+use crate::starts::{alternative_at, first_started, first_started_among};
 use pl_board::Board;
 use pl_plan::{Activity, RepairMove};
 use pl_world::{PlanState, Refusal};
+use std::alloc::Global;
 
 fn changes(s: &PlanState, mv: &RepairMove, a: &Activity) -> bool
     requires { IsRooted s.now.plan.activities }
@@ -47,6 +51,37 @@ fn first_locked(s: &PlanState, mv: &RepairMove, activities: &[Activity]) -> Opti
     None
 }
 
+// The id, where the activity of it is committed.
+fn is_committed_at(s: &PlanState, id: u32) -> bool
+    ensures { result ≡ holds (is_committed s.now) (found s.now id) }
+{
+    match s.plan.get(id) {
+        Some(a) => a.start < s.committed,
+        None => false,
+    }
+}
+
+// The first of these whose activity is committed.
+fn first_committed(s: &PlanState, ids: &[u32]) -> Option<u32>
+    ensures { result ≡ option_map id_of (find (is_committed s.now) (picked s.now.plan.activities ids.now)) }
+{
+    for id in ids {
+        if is_committed_at(s, *id) {
+            return Some(*id);
+        }
+    }
+    None
+}
+
+// Of these, which the move changes, the first that is committed.
+fn locked_among(s: &PlanState, mv: &RepairMove, ids: &[u32]) -> Option<u32>
+    requires whole { IsWhole s.now }
+    requires ids { ids.now ≡ gone_by s.now mv.now }
+    ensures { result ≡ option_map id_of (find (is_locked s.now mv.now) s.now.plan.activities) }
+{
+    first_committed(s, ids)
+}
+
 fn count_of_children(s: &PlanState, id: u32, alternative: u32) -> usize
     requires { IsWhole s.now }
     ensures count { result ≡ length (children_for s.now alternative (found s.now id)) }
@@ -81,9 +116,29 @@ fn is_full(s: &PlanState, mv: &RepairMove) -> bool
     (s.live_limit as usize) < s.plan.len() as usize + count_of_new(s, mv)
 }
 
-/// Why the move is refused, if it is.
+// By the ids of the activities that the move changes.
 #[tactic(auto, unfolding(pl_world::specs::Moves::refusal_of))]
-pub(crate) fn refusal(s: &PlanState, mv: &RepairMove) -> Option<Refusal>
+fn refusal_among(s: &PlanState, mv: &RepairMove, ids: &[u32]) -> Option<Refusal>
+    requires whole { IsWhole s.now }
+    requires ids { ids.now ≡ gone_by s.now mv.now }
+    ensures { result ≡ refusal_of s.now mv.now }
+{
+    if let Some(id) = locked_among(s, mv, ids) {
+        Some(Refusal::Locked(id))
+    } else if let Some(id) = first_started_among(s, mv, ids, Side::BelowFloor) {
+        Some(Refusal::Behind(id))
+    } else if let Some(id) = first_started_among(s, mv, ids, Side::PastHorizon) {
+        Some(Refusal::Beyond(id))
+    } else if is_full(s, mv) {
+        Some(Refusal::Full)
+    } else {
+        None
+    }
+}
+
+// By a walk over the whole plan, which takes no memory.
+#[tactic(auto, unfolding(pl_world::specs::Moves::refusal_of))]
+fn refusal_by_walk(s: &PlanState, mv: &RepairMove) -> Option<Refusal>
     requires { IsWhole s.now }
     ensures { result ≡ refusal_of s.now mv.now }
 {
@@ -100,6 +155,18 @@ pub(crate) fn refusal(s: &PlanState, mv: &RepairMove) -> Option<Refusal>
     }
 }
 
+/// Why the move is refused, if it is. Only the activities that it changes are looked at, but where memory is wanting for their ids.
+pub(crate) fn refusal(alloc: Global, s: &PlanState, mv: &RepairMove) -> Option<Refusal>
+    requires whole { IsWhole s.now }
+    requires named { IsNamedLive s.now mv.now }
+    ensures { result ≡ refusal_of s.now mv.now }
+{
+    match gone_by(alloc, s, mv) {
+        Ok(ids) => refusal_among(s, mv, &ids),
+        Err(_) => refusal_by_walk(s, mv),
+    }
+}
+
 /// Whether a proper move may be made, and why not.
 pub fn legal(board: &Board, mv: &RepairMove) -> Result<(), Refusal>
     requires unspoiled { board.now.spoiled ≡ false }
@@ -107,7 +174,7 @@ pub fn legal(board: &Board, mv: &RepairMove) -> Result<(), Refusal>
     ensures ok { IfOk result (λ made. refusal_of board.now.state mv.now ≡ None) }
     ensures refused { IfErr result (λ reason. refusal_of board.now.state mv.now ≡ Some reason) }
 {
-    match refusal(board.state(), mv) {
+    match refusal(board.alloc(), board.state(), mv) {
         Some(reason) => Err(reason),
         None => Ok(()),
     }

@@ -5,6 +5,8 @@ mod application;
 mod change;
 mod children;
 mod descent;
+mod dropping;
+mod gone;
 mod laws;
 mod legality;
 mod lookups;
@@ -13,6 +15,7 @@ mod properness;
 mod side;
 mod starts;
 mod trial;
+mod undoing;
 
 pub use application::apply;
 pub use laws::laws_of_repairs;

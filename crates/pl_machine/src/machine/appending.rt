@@ -4,7 +4,7 @@ ghost use Rattle.pl_world.specs.Moves.{is_proper, refusal_of, applied};
 ghost use Rattle.pl_world.specs.Whole.{IsWhole};
 ghost use Rattle.pl_board.specs.Boards.{after as board_of};
 ghost use Rattle.pl_machine.specs.World.{due_in};
-ghost use Rattle.pl_machine.specs.Changes.{changed, CanChange};
+ghost use Rattle.pl_machine.specs.Changes.{changed, is_tick, CanChange, KeepsDue};
 ghost use Rattle.pl_machine.specs.Keeping.{KeepsStanding};
 ghost use Rattle.pl_machine.specs.Step.{reply_of, after};
 ghost use Rattle.pl_machine.specs.Taking.{IsOpen, Spoils, Answers, with_round, with_state};
@@ -88,6 +88,7 @@ fn change_board(board: &mut Board, alloc: Global, change: Change) -> Result<(), 
     requires can { CanChange board.old.state change }
     ensures ok { OnOk result (board.new ≡ board_of (changed change board.old.state)) }
     ensures keeps { OnOk result (KeepsStanding board.old.state board.new.state) }
+    ensures due { OnOk result (KeepsDue change board.old.state board.new.state) }
     ensures err { OnErr result (board.new.spoiled ≡ true) }
 {
     let mut steps = Steps::new(Quiet);
@@ -115,19 +116,29 @@ fn due_on(board: &Board, alloc: Global) -> Result<Vec<u32>, AllocError>
     )
 }
 
-/// Makes a change of a board, and gives what is due then. Where memory is wanting the board is spoiled.
-fn change_due(board: &mut Board, alloc: Global, change: Change) -> Result<Vec<u32>, AllocError>
-    requires unspoiled { board.old.spoiled ≡ false }
-    requires whole { IsWhole board.old.state }
-    requires can { CanChange board.old.state change }
-    ensures ok { OnOk result (board.new ≡ board_of (changed change board.old.state)) }
-    ensures keeps { OnOk result (KeepsStanding board.old.state board.new.state) }
-    ensures due { IfOk result (λ due. due.items ≡ due_in board.new.state) }
-    ensures err { OnErr result (board.new.spoiled ≡ true) }
+/// Whether something may come to be due by it.
+fn is_tick(change: &Change) -> bool
+    ensures { result ≡ is_tick change.now }
 {
-    change_board(board, alloc, change)?;
+    match change {
+        Change::Tick(_) => true,
+        _ => false,
+    }
+}
+
+/// Lists anew what is due on a board. Where memory is wanting the board is spoiled.
+fn list_due(board: &mut Board, due: &mut Vec<u32>, alloc: Global) -> Result<(), AllocError>
+    requires { board.old.spoiled ≡ false }
+    ensures same { OnOk result (board.new ≡ board.old) }
+    ensures due { OnOk result (due.new.items ≡ due_in board.old.state) }
+    ensures err { OnErr result (due.new.items ≡ due.old.items) }
+    ensures spoils { OnErr result (board.new.spoiled ≡ true) }
+{
     match due_on(board, alloc) {
-        Ok(due) => Ok(due),
+        Ok(all) => {
+            *due = all;
+            Ok(())
+        }
         Err(fault) => {
             board.spoil();
             Err(fault)
@@ -135,32 +146,62 @@ fn change_due(board: &mut Board, alloc: Global, change: Change) -> Result<Vec<u3
     }
 }
 
-/// Makes a change of a board, appends its entry, and gives what is due then. The place in the log is reserved first.
-fn push_change(
-    log: &mut Vec<Entry>,
+/// Makes a change of a board, and keeps the list of what is due, which only a tick changes. Where memory is wanting the board
+/// is spoiled.
+fn change_due(
     board: &mut Board,
+    due: &mut Vec<u32>,
     alloc: Global,
-    event: Event,
     change: Change,
-) -> Result<Vec<u32>, AllocError>
+) -> Result<(), AllocError>
     requires unspoiled { board.old.spoiled ≡ false }
     requires whole { IsWhole board.old.state }
     requires can { CanChange board.old.state change }
+    requires listed { due.old.items ≡ due_in board.old.state }
+    ensures ok { OnOk result (board.new ≡ board_of (changed change board.old.state)) }
+    ensures keeps { OnOk result (KeepsStanding board.old.state board.new.state) }
+    ensures due { OnOk result (due.new.items ≡ due_in board.new.state) }
+    ensures same { OnErr result (due.new.items ≡ due.old.items) }
+    ensures err { OnErr result (board.new.spoiled ≡ true) }
+{
+    let ticks = is_tick(&change);
+    change_board(board, alloc, change)?;
+    if ticks {
+        list_due(board, due, alloc)
+    } else {
+        Ok(())
+    }
+}
+
+/// Makes a change of a board, appends its entry, and keeps the list of what is due. The place in the log is reserved first.
+fn push_change(
+    log: &mut Vec<Entry>,
+    board: &mut Board,
+    due: &mut Vec<u32>,
+    alloc: Global,
+    event: Event,
+    change: Change,
+) -> Result<(), AllocError>
+    requires unspoiled { board.old.spoiled ≡ false }
+    requires whole { IsWhole board.old.state }
+    requires can { CanChange board.old.state change }
+    requires listed { due.old.items ≡ due_in board.old.state }
     ensures ok { OnOk result (log.new.items ≡ log.old.items ++ record { event = event; reply = Reply.Done } ∷ []) }
     ensures changed { OnOk result (board.new ≡ board_of (changed change board.old.state)) }
     ensures keeps { OnOk result (KeepsStanding board.old.state board.new.state) }
-    ensures due { IfOk result (λ due. due.items ≡ due_in board.new.state) }
+    ensures due { OnOk result (due.new.items ≡ due_in board.new.state) }
     ensures err { OnErr result (log.new.items ≡ log.old.items) }
+    ensures same { OnErr result (due.new.items ≡ due.old.items) }
     ensures spoils { OnErr result (board.new.spoiled ≡ true) }
 {
     if log.reserve(1).is_err() {
         board.spoil();
         return Err(AllocError);
     }
-    let due = change_due(board, alloc, change)?;
+    change_due(board, due, alloc, change)?;
     let reply = Reply::Done;
     log.push(Entry { event, reply }).unwrap();
-    Ok(due)
+    Ok(())
 }
 
 impl Machine {
@@ -204,8 +245,14 @@ impl Machine {
         requires turn { round.turn ≤ self.old.world.options.turns }
         ensures { Answers self.old event result self.new }
     {
-        let due = push_change(&mut self.log, &mut self.board, self.alloc, event, change)?;
-        self.due = due;
+        push_change(
+            &mut self.log,
+            &mut self.board,
+            &mut self.due,
+            self.alloc,
+            event,
+            change,
+        )?;
         self.round = round;
         Ok(Reply::Done)
     }

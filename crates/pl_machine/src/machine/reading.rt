@@ -38,6 +38,13 @@ impl Machine {
         &self.options
     }
 
+    /// The ids of the activities whose commands were sent, in the order in which they were.
+    pub fn dispatched(&self) -> &[u32]
+        ensures { result.now ≡ self.now.world.dispatched }
+    {
+        &self.due[..self.sent]
+    }
+
     /// The repairs of this round so far.
     pub fn turn(&self) -> u32
         ensures { result ≡ self.now.world.turn }

@@ -1,6 +1,7 @@
 ghost use Rattle.std.specs.Prelude.{◌≡◌, IfOk, All, true, false};
 ghost use Rattle.std.specs.List.{list_any};
 ghost use Rattle.pl_world.specs.Moves.{is_proper};
+ghost use Rattle.pl_world.specs.Conflicts.{conflicts_of};
 ghost use Rattle.pl_world.specs.Legal.{is_legal, has_repair, is_stuck};
 ghost use Rattle.pl_machine.specs.World.{reason_of};
 ghost use Rattle.pl_machine.specs.Taking.{IsOpen, Answers};
@@ -51,12 +52,12 @@ fn has_repair(alloc: Global, board: &Board, conflict: &Conflict) -> Result<bool,
     Ok(any_legal(board, moves.as_slice()))
 }
 
-/// Whether one of the conflicts has a legal candidate.
-fn any_repair(alloc: Global, board: &Board, conflicts: &[Conflict]) -> Result<bool, AllocError>
+/// Whether one of the conflicts that stand has a legal candidate.
+fn any_repair(alloc: Global, board: &Board) -> Result<bool, AllocError>
     requires { board.now.spoiled ≡ false }
-    ensures { IfOk result (λ any. any ≡ list_any (has_repair board.now.state) conflicts.now) }
+    ensures { IfOk result (λ any. any ≡ list_any (has_repair board.now.state) (conflicts_of board.now.state)) }
 {
-    for conflict in conflicts {
+    for conflict in board.conflicts().iter() {
         if has_repair(alloc, board, conflict)? {
             return Ok(true);
         }
@@ -70,8 +71,7 @@ fn is_stuck(alloc: Global, board: &Board) -> Result<bool, AllocError>
     requires { board.now.spoiled ≡ false }
     ensures { IfOk result (λ stuck. stuck ≡ is_stuck board.now.state) }
 {
-    let conflicts = board.conflicts().list(alloc)?;
-    let any = any_repair(alloc, board, conflicts.as_slice())?;
+    let any = any_repair(alloc, board)?;
     Ok(!any)
 }
 

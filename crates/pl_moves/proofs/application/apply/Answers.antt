@@ -5,7 +5,12 @@ use Rattle.pl_world.specs.Whole.{IsWhole}
 use Rattle.pl_board.specs.Boards.{Standing}
 use Rattle.pl_moves.specs.Keeping.{KeepsCommitted}
 use Rattle.pl_moves.proofs.Keeping.{keeps, gives}
+use Rattle.pl_moves.specs.Changes.{IsNamedLive}
+use Rattle.pl_moves.proofs.Made.{named_live}
 use Rattle.pl_moves.proofs.application.apply.Goals as goal
+
+pub refusal-requires-clause-named : goal.refusal-requires-clause-named
+refusal-requires-clause-named g c = subst (λ (s : PlanState). IsNamedLive s c.args.mv.now) (sym c.state.ensures.value) (named_live c.args.board.now.state c.args.mv.now c.requires.proper)
 
 pub returns-in_ok-make-in-None-clause-committed : goal.returns-in_ok-make-in-None-clause-committed
 returns-in_ok-make-in-None-clause-committed g c =

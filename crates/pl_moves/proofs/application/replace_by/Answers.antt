@@ -11,14 +11,14 @@ change_of-requires-clause-named g c = subst (λ (s : PlanState). IsNamedLive s c
 pub change_of-requires-clause-near : goal.change_of-requires-clause-near
 change_of-requires-clause-near g c = near_if c.args.board.now.state (subst IsWhole c.state.ensures.value (c.state.ensures.whole c.requires.unspoiled)) c.args.mv.now c.requires.proper c.requires.allowed
 
-pub replace-requires : goal.replace-requires
-replace-requires g c =
+pub make_change-requires : goal.make_change-requires
+make_change-requires g c =
     let whole : IsWhole c.args.board.now.state = subst IsWhole c.state.ensures.value (c.state.ensures.whole c.requires.unspoiled) in
     let by : IsMadeBy c.args.board.now.state c.args.mv.now = made c.args.board.now.state whole c.args.mv.now c.requires.activities c.requires.proper c.requires.allowed in
-    record { can = λ _. rw (c.deref.ensures.value, c.deref-in-Ok.ensures.value, c.in-Ok.ensures.gone, c.in-Ok.ensures.placed, c.state.ensures.value) (can_replace c.args.board.now.state whole c.requires.next c.args.mv.now by) }
+    record { unspoiled = c.requires.unspoiled; can = rw (c.in-Ok.ensures.gone, c.in-Ok.ensures.placed, c.state.ensures.value) (can_replace c.args.board.now.state whole c.requires.next c.args.mv.now by) }
 
 pub returns-in-Ok-clause-ok : goal.returns-in-Ok-clause-ok
 returns-in-Ok-clause-ok g c =
     let whole : IsWhole c.args.board.now.state = subst IsWhole c.state.ensures.value (c.state.ensures.whole c.requires.unspoiled) in
     let by : IsMadeBy c.args.board.now.state c.args.mv.now = made c.args.board.now.state whole c.args.mv.now c.requires.activities c.requires.proper c.requires.allowed in
-    rw (c.deref.ensures.value, c.deref-in-Ok.ensures.value, c.in-Ok.ensures.gone, c.in-Ok.ensures.placed, c.state.ensures.value, by.is) at c.replace.ensures.ok
+    rw (c.in-Ok.ensures.gone, c.in-Ok.ensures.placed, c.state.ensures.value, by.is) at c.make_change.ensures.ok

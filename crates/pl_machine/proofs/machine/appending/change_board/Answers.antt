@@ -1,13 +1,13 @@
-use Rattle.std.proofs.Common.{subst, rules}
+use Rattle.std.proofs.Common.{refl, subst, rules}
 use mir.Syntax.{w64}
 use mir.Val.{SFits, to_z, of_z}
 use Rattle.std.proofs.lemmas.Int.{to_z-of_z}
-use Rattle.pl_board.specs.Boards.{with_goal, told_now, moved_on, committed_to}
+use Rattle.pl_changes.specs.Changes.{with_goal, told_now, moved_on, committed_to}
 use Rattle.pl_world.specs.Moves.{applied}
 use Rattle.pl_machine.specs.Changes.{CanChange}
-use Rattle.pl_machine.proofs.Changes.{keeps_accept, keeps_tell, keeps_tick, keeps_on}
-use Rattle.pl_machine.proofs.Granting.{keeps_commit, commit_bounds}
-use Rattle.pl_machine.proofs.Repairs.{keeps_applied}
+use Rattle.pl_machine.proofs.Changes.{due_on, due_tick, keeps_accept, keeps_tell, keeps_tick, keeps_on}
+use Rattle.pl_machine.proofs.Granting.{due_committed, keeps_commit, commit_bounds}
+use Rattle.pl_machine.proofs.Repairs.{due_applied, keeps_applied}
 use Rattle.pl_machine.proofs.machine.appending.change_board.Goals as goal
 
 pub add_goal-requires : goal.add_goal-requires
@@ -49,3 +49,24 @@ pub returns-in-Repair-clause-keeps : goal.returns-in-Repair-clause-keeps
 returns-in-Repair-clause-keeps c =
     let can = subst (CanChange c.args.board.now.state) c.in-Repair.is c.requires.can in
     keeps_on _ _ (applied c.args.board.now.state c.in-Repair.repair) _ (keeps_applied c.args.board.now.state c.in-Repair.repair c.requires.whole can.0 can.1) c.make_repair.ensures.ok
+
+pub returns-in-Accept-clause-due : goal.returns-in-Accept-clause-due
+returns-in-Accept-clause-due c = due_on _ c.args.change c.args.board.now.state (with_goal c.in-Accept.goal c.args.board.now.state) _ (λ _. refl) c.add_goal.ensures.ok
+
+pub returns-in-Tell-clause-due : goal.returns-in-Tell-clause-due
+returns-in-Tell-clause-due c =
+    let told = to_z w64 (of_z w64 c.in-Tell.value) in
+    due_on _ c.args.change c.args.board.now.state (told_now c.in-Tell.line told c.args.board.now.state) _ (λ _. refl) c.telemetry.ensures.ok
+
+pub returns-in-Tick-clause-due : goal.returns-in-Tick-clause-due
+returns-in-Tick-clause-due c = due_on _ c.args.change c.args.board.now.state (moved_on c.in-Tick.moment c.args.board.now.state) _ (due_tick c.args.change c.in-Tick.moment c.args.board.now.state (moved_on c.in-Tick.moment c.args.board.now.state) c.in-Tick.is) c.tick.ensures.ok
+
+pub returns-in-Commit-clause-due : goal.returns-in-Commit-clause-due
+returns-in-Commit-clause-due c =
+    let can = subst (CanChange c.args.board.now.state) c.in-Commit.is c.requires.can in
+    due_on _ c.args.change c.args.board.now.state (committed_to c.in-Commit.h c.args.board.now.state) _ (λ _. due_committed c.args.board.now.state c.in-Commit.h c.requires.whole can) c.commit.ensures.ok
+
+pub returns-in-Repair-clause-due : goal.returns-in-Repair-clause-due
+returns-in-Repair-clause-due c =
+    let can = subst (CanChange c.args.board.now.state) c.in-Repair.is c.requires.can in
+    due_on _ c.args.change c.args.board.now.state (applied c.args.board.now.state c.in-Repair.repair) _ (λ _. due_applied c.args.board.now.state c.in-Repair.repair c.requires.whole can.0 can.1) c.make_repair.ensures.ok

@@ -1,0 +1,12 @@
+use Rattle.pl_moves.proofs.Made.{named_live, near_if}
+use Rattle.pl_moves.proofs.Returning.{undone_by}
+use Rattle.pl_moves.proofs.trial.trial_of.Goals as goal
+
+pub change_of-requires-clause-named : goal.change_of-requires-clause-named
+change_of-requires-clause-named c = named_live c.args.s.now c.args.mv.now c.requires.proper
+
+pub change_of-requires-clause-near : goal.change_of-requires-clause-near
+change_of-requires-clause-near c = near_if c.args.s.now c.requires.whole c.args.mv.now c.requires.proper c.requires.allowed
+
+pub returns : goal.returns
+returns c = rw (c.in_ok-undo.ensures.gone, c.in_ok-undo.ensures.placed, c.in_ok-change.ensures.gone, c.in_ok-change.ensures.placed) (undone_by c.args.s.now c.requires.whole c.requires.next c.args.mv.now c.requires.activities c.requires.proper c.requires.allowed)
