@@ -1,5 +1,9 @@
 pub mod Fronts
 pub mod Lasting
-pub mod Granted
 pub mod Written
 pub mod Logs
+pub mod Changing
+pub mod Running
+pub mod Sent
+pub mod Worlds
+pub mod Budgets

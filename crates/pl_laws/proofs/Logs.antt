@@ -6,7 +6,7 @@ use Rattle.pl_entry.specs.declared.event.Event.TheVariants as event
 use Rattle.pl_entry.specs.declared.reply.Reply.{Reply}
 use Rattle.pl_entry.specs.declared.reply.Reply.TheVariants as reply
 use Rattle.pl_world.specs.Conflicts.{conflicts_of}
-use Rattle.pl_board.specs.Boards.{committed_to}
+use Rattle.pl_changes.specs.Changes.{committed_to}
 use Rattle.pl_machine.specs.World.{World, due_in}
 use Rattle.pl_machine.specs.Step.{all_sent, best_in, behind_of, commit_reply, after_commit}
 use Rattle.pl_machine.specs.Legal.{world_of}
@@ -14,7 +14,7 @@ use Rattle.pl_machine.proofs.Granting.{grants}
 use Rattle.pl_laws.specs.Laws.{FrontsAreLegal, CommitsNeverFall, GrantsChangeNoConflict, AllIsSentAtClose, with_entry}
 use Rattle.pl_laws.proofs.Fronts.{goes_on, last_entry}
 use Rattle.pl_laws.proofs.Lasting.{lasts_on}
-use Rattle.pl_laws.proofs.Granted.{granted_same}
+use Rattle.pl_machine.proofs.Granted.{granted_same}
 
 pub fronts : (m : Model) → FrontsAreLegal m
 fronts m first es more legal = (goes_on m first es more legal).front

@@ -1,7 +1,10 @@
 -- The laws of the legal logs of a model. The world after a log is the one that all its entries led to, and a log with an entry more
 -- has that entry behind it.
-use Rattle.std.specs.Prelude.{◌≡◌, ℕ, ◌≤◌, List, [], ◌∷◌, ◌++◌}
+use Rattle.std.specs.Prelude.{◌≡◌, ℕ, ◌+◌, ◌*◌, ◌≤◌, true, List, [], ◌∷◌, ◌++◌, length, Option, Some, None, AllPairs}
+use Rattle.std.specs.List.{filter_map}
 use Rattle.pl_model.specs.declared.whole.Model.{Model}
+use Rattle.pl_conflict.specs.declared.conflict.Conflict.{Conflict}
+use Rattle.pl_plan.specs.declared.repair.RepairMove.{RepairMove}
 use Rattle.pl_entry.specs.declared.event.Event.{Event}
 use Rattle.pl_entry.specs.declared.event.Event.TheVariants as event
 use Rattle.pl_entry.specs.declared.reply.Reply.{Reply}
@@ -9,9 +12,15 @@ use Rattle.pl_entry.specs.declared.reply.Reply.TheVariants as reply
 use Rattle.pl_entry.specs.declared.entry.Entry.{Entry}
 use Rattle.pl_world.specs.declared.plan_state.PlanState.{PlanState}
 use Rattle.pl_world.specs.Conflicts.{conflicts_of}
-use Rattle.pl_machine.specs.World.{due_in}
-use Rattle.pl_machine.specs.Legal.{Legal, world_of}
+use Rattle.pl_moves.specs.Keeping.{KeepsCommitted}
+use Rattle.pl_machine.specs.declared.choice.Choice.TheVariants as choice
+use Rattle.pl_machine.specs.World.{World, fresh_world, due_in}
+use Rattle.pl_machine.specs.Step.{after}
+use Rattle.pl_machine.specs.Choices.{exec_choice_of}
+use Rattle.pl_machine.specs.Legal.{Legal, options_of, entries_behind, world_of}
+use Rattle.pl_machine.specs.Finished.{inputs_of}
 use Rattle.pl_render.specs.Lines.{text_of_log, AreEntries}
+use Rattle.pl_laws.specs.Standing.{IsFrontOfDue, StaysCommitted}
 
 abbrev pub with_entry : List Entry → Event → Reply → List Entry
 with_entry log happened answer = log ++ record { event = happened; reply = answer } ∷ []
@@ -36,6 +45,15 @@ AreToldApart m = (one other : List Entry) → Legal m one → Legal m other → 
 
 -- ---- what is committed
 
+-- A repair, whatever is answered, leaves each committed activity as it was: itself, its values and its end. It commits nothing.
+abbrev pub RepairsKeepCommitted : Model → Type 0
+RepairsKeepCommitted m = (log : List Entry) (k : Conflict) (mv : RepairMove) (answer : Reply) → Legal m (with_entry log (event.Fix k mv) answer)
+    → KeepsCommitted (state_of m log) (state_of m (with_entry log (event.Fix k mv) answer))
+
+-- in a log that goes on each committed activity stands as it was
+abbrev pub CommittedStays : Model → Type 0
+CommittedStays m = (log more : List Entry) → Legal m log → Legal m (log ++ more) → StaysCommitted (state_of m log) (state_of m (log ++ more))
+
 -- in a log that goes on no less is committed
 abbrev pub CommitsNeverFall : Model → Type 0
 CommitsNeverFall m = (log more : List Entry) → Legal m log → Legal m (log ++ more) → (state_of m log).committed ≤ (state_of m (log ++ more)).committed
@@ -47,7 +65,48 @@ GrantsChangeNoConflict m = (log : List Entry) (h : ℕ) → Legal m (with_entry 
 
 -- ---- what is sent
 
+-- what was sent is a front of what is due
+abbrev pub SentIsInFront : Model → Type 0
+SentIsInFront m = (log : List Entry) → Legal m log → IsFrontOfDue (world_of m log)
+
 -- at a close all that is due was sent
 abbrev pub AllIsSentAtClose : Model → Type 0
 AllIsSentAtClose m = (log : List Entry) (answer : Reply) → Legal m (with_entry log event.Close answer)
     → (world_of m (with_entry log event.Close answer)).dispatched ≡ due_in (state_of m (with_entry log event.Close answer))
+
+-- the start that a command gives
+abbrev pub start_sent : Reply → Option ℕ
+start_sent (reply.Sent id kind start values) = Some start
+start_sent _ = None
+
+-- the starts of the commands of a log, in its order
+abbrev pub starts_of : List Entry → List ℕ
+starts_of log = filter_map (λ e. start_sent e.reply) log
+
+-- no command starts before one that was sent earlier
+abbrev pub StartsNeverFall : Model → Type 0
+StartsNeverFall m = (log : List Entry) → Legal m log → AllPairs (λ earlier later. earlier ≤ later) (starts_of log)
+
+-- ---- how long a log is
+
+-- a commit is what the executive chooses, once repair rests
+abbrev pub IsChosen : World → Event → Type 0
+IsChosen w (event.Opened o) = Unit {0}
+IsChosen w (event.Input line) = Unit {0}
+IsChosen w (event.Fix k mv) = Unit {0}
+IsChosen w event.Rest = Unit {0}
+IsChosen w (event.Commit h) = (w.rested ≡ true) × (exec_choice_of w ≡ Some (choice.Commit h))
+IsChosen w event.Dispatch = Unit {0}
+IsChosen w event.Close = Unit {0}
+
+abbrev pub chosen_from : World → List Entry → Type 0
+chosen_from w [] = Unit {0}
+chosen_from w (e ∷ es) = IsChosen w e.event × chosen_from (after w e.event) es
+
+-- so is each commit of a log, as in every log of one thread
+abbrev pub AreCommitsChosen : Model → List Entry → Type 0
+AreCommitsChosen m log = chosen_from (fresh_world m (options_of log)) (entries_behind log)
+
+-- Beside its opening such a log has ten thousand commands at most, and for each input four entries and as many as a round has turns.
+abbrev pub LengthIsBounded : Model → Type 0
+LengthIsBounded m = (log : List Entry) → Legal m log → AreCommitsChosen m log → length log ≤ 10001 + length (inputs_of log) * ((options_of log).turns + 4)

@@ -4,7 +4,9 @@
 mod commands;
 mod commits;
 mod journals;
+mod lengths;
 
 pub use commands::laws_of_commands;
 pub use commits::laws_of_commits;
 pub use journals::laws_of_journals;
+pub use lengths::laws_of_length;
