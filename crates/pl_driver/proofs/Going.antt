@@ -27,7 +27,7 @@ use Rattle.pl_machine.specs.Finished.{inputs_of, input_in}
 use Rattle.pl_machine.specs.Sound.{State}
 use Rattle.pl_machine.specs.Taking.{IsOpen, Takes, Spoils, Answers}
 use Rattle.pl_machine.proofs.Runs.{world_from_push}
-use Rattle.pl_driver.specs.Rounds.{SameRun, Goes, Ran, RanTo, Waits, Executes, Stepped}
+use Rattle.pl_driver.specs.Rounds.{SameRun, Goes, Ran, RanTo, Executes, Stepped}
 
 -- ---- tests
 
@@ -101,16 +101,13 @@ takes_goes picks old new c c2 e r takes none solo = record {
   room = takes.0.room;
 }
 
-pub spoils_waits : (old new : State) → Spoils old new → Waits old new
-spoils_waits old new spoils = record { log = spoils.log; same = record { model = spoils.model; options = ap (λ (w : World). w.options) spoils.world } }
-
 -- ---- what is answered to an event that is enabled
 
 pub stopped : {C : Type 0} (picks : Picks C) (old new : State) (c c2 : C) (e : Event) (s : Stop) → is_enabled old.world e ≡ true → Answers old e (Err s) new → c2 ≡ c → Stepped picks old c (Err s) new c2
 stopped picks old new c c2 e stop.NotNow on answers same = absurd (let h : true ≡ false = sym on ∙ answers.1 in (cc))
 stopped picks old new c c2 e stop.LogFull on answers same = (answers.0, answers.2, answers.3, same)
 stopped picks old new c c2 e stop.Spoiled on answers same = (answers.0, answers.1, same)
-stopped picks old new c c2 e stop.Memory on answers same = spoils_waits old new answers.1
+stopped picks old new c c2 e stop.Memory on answers same = answers
 
 -- the same where there is room, whatever the chooser has drawn
 full_or_not : {C : Type 0} (picks : Picks C) (old new : State) (c c2 : C) (e : Event) (s : Stop) → is_enabled old.world e ≡ true → old.spoiled ≡ false → length old.log < old.world.options.entries
@@ -118,7 +115,7 @@ full_or_not : {C : Type 0} (picks : Picks C) (old new : State) (c c2 : C) (e : E
 full_or_not picks old new c c2 e stop.NotNow on unspoiled room answers = absurd (let h : true ≡ false = sym on ∙ answers.1 in (cc))
 full_or_not picks old new c c2 e stop.LogFull on unspoiled room answers = absurd (let full = answers.2 in omega (arith, room, full))
 full_or_not picks old new c c2 e stop.Spoiled on unspoiled room answers = absurd (let h : true ≡ false = sym answers.0 ∙ unspoiled in (cc))
-full_or_not picks old new c c2 e stop.Memory on unspoiled room answers = spoils_waits old new answers.1
+full_or_not picks old new c c2 e stop.Memory on unspoiled room answers = answers
 
 -- a repair
 pub fix_goes : {C : Type 0} (picks : Picks C) (old mid new : State) (c c2 : C) (k : Conflict) (m : RepairMove) (r : Reply) → old.world.rested ≡ false → reason_of old.world ≡ None
@@ -142,7 +139,7 @@ pub rest_stops : {C : Type 0} (picks : Picks C) (old new : State) (c c2 : C) (s 
 rest_stops picks old new c c2 stop.NotNow unspoiled room other answers = absurd (other refl)
 rest_stops picks old new c c2 stop.LogFull unspoiled room other answers = absurd (let full = answers.2 in omega (arith, room, full))
 rest_stops picks old new c c2 stop.Spoiled unspoiled room other answers = absurd (let h : true ≡ false = sym answers.0 ∙ unspoiled in (cc))
-rest_stops picks old new c c2 stop.Memory unspoiled room other answers = spoils_waits old new answers.1
+rest_stops picks old new c c2 stop.Memory unspoiled room other answers = answers
 
 -- what the executive chooses
 chosen_solo : {C : Type 0} (picks : Picks C) (w : World) (c c2 : C) (it : Choice) → w.rested ≡ true → exec_choice_of w ≡ Some it → c2 ≡ c → IsSoloEvent picks w c (event_of it) c2 × (input_in (event_of it) ≡ None)
@@ -173,6 +170,7 @@ ran_on picks old mid new c c2 c3 ran goes =
     let e = goes.entry in
     record {
       entries = es ++ e ∷ [];
+      ready = ran.ready;
       log = rw (goes.log, ran.log) (append_assoc old.log es (e ∷ []));
       solo = solo_push picks old.world c es e c2 c3 ran.solo (subst (λ (w : World). IsSoloEvent picks w c2 e.event c3) ran.world goes.solo);
       inputs = filter_map-append (λ (x : Entry). input_in x.event) es (e ∷ []) ∙ (rw (ran.inputs) (input_none e goes.input));
@@ -185,6 +183,7 @@ ran_on picks old mid new c c2 c3 ran goes =
 pub ran_none : {C : Type 0} (picks : Picks C) (s : State) (c : C) → s.spoiled ≡ false → RanTo picks s c s c
 ran_none picks s c unspoiled = record {
   entries = [];
+  ready = unspoiled;
   log = sym (append-nil s.log);
   solo = refl;
   inputs = refl;
@@ -194,12 +193,15 @@ ran_none picks s c unspoiled = record {
   done = refl;
 }
 
-pub ran_waits : {C : Type 0} (picks : Picks C) (old mid new : State) (c c2 : C) → RanTo picks old c mid c2 → Waits mid new → Ran picks old c new
-ran_waits picks old mid new c c2 ran waits = record {
+pub ran_spoils : {C : Type 0} (picks : Picks C) (old mid new : State) (c c2 : C) → RanTo picks old c mid c2 → (mid.spoiled ≡ false) × Spoils mid new → Ran picks old c new
+ran_spoils picks old mid new c c2 ran (unspoiled, spoils) = record {
   entries = ran.entries;
   chooser = c2;
-  log = waits.log ∙ ran.log;
+  ready = ran.ready;
+  log = spoils.log ∙ ran.log;
   solo = ran.solo;
   inputs = ran.inputs;
-  same = record { model = waits.same.model ∙ ran.same.model; options = waits.same.options ∙ ran.same.options };
+  same = record { model = spoils.model ∙ ran.same.model; options = ap (λ (w : World). w.options) spoils.world ∙ ran.same.options };
+  world = spoils.world ∙ ap (λ (w : World). record w { state = new.world.state }) ran.world;
+  spoiled = spoils.spoiled;
 }

@@ -8,7 +8,7 @@ use Rattle.pl_machine.specs.declared.stop.Stop.TheVariants as stop
 use Rattle.pl_machine.specs.Step.{is_enabled, after}
 use Rattle.pl_machine.specs.Legal.{world_from}
 use Rattle.pl_machine.specs.Choices.{exec_choice_of, event_of}
-use Rattle.pl_machine.specs.Taking.{Answers}
+use Rattle.pl_machine.specs.Taking.{Spoils, Answers}
 use Rattle.pl_machine.specs.Solo.{Picks, IsSoloEvent, solo_from}
 use Rattle.pl_machine.specs.Finished.{inputs_of, input_in}
 use Rattle.pl_machine.specs.Sound.{State}
@@ -30,19 +30,24 @@ pub record Goes {C : Type 0} (picks : Picks C) (old : State) (c : C) (new : Stat
   pub done : new.world.done ≡ old.world.done
   pub room : length old.log < old.world.options.entries
 
--- More entries: none of them an input, each with the event that the world before it and the chooser fix. What the chooser has
--- drawn behind the last of them is not said.
+-- More entries: none of them an input, each with the event that the world before it and the chooser fix. Then memory was wanting:
+-- the machine is spoiled, and but for the plan state its world is the one after them. What the chooser has drawn behind the last of
+-- them is not said.
 pub record Ran {C : Type 0} (picks : Picks C) (old : State) (c : C) (new : State) : Type 0 where
   pub entries : List Entry
   pub chooser : C
+  pub ready : old.spoiled ≡ false
   pub log : new.log ≡ old.log ++ entries
   pub solo : solo_from picks old.world c entries chooser
   pub inputs : inputs_of entries ≡ []
   pub same : SameRun old new
+  pub world : new.world ≡ record (world_from old.world entries) { state = new.world.state }
+  pub spoiled : new.spoiled ≡ true
 
 -- The same, with the chooser after them, and the machine stands for the world after them.
 pub record RanTo {C : Type 0} (picks : Picks C) (old : State) (c : C) (new : State) (c2 : C) : Type 0 where
   pub entries : List Entry
+  pub ready : old.spoiled ≡ false
   pub log : new.log ≡ old.log ++ entries
   pub solo : solo_from picks old.world c entries c2
   pub inputs : inputs_of entries ≡ []
@@ -51,14 +56,9 @@ pub record RanTo {C : Type 0} (picks : Picks C) (old : State) (c : C) (new : Sta
   pub unspoiled : new.spoiled ≡ false
   pub done : new.world.done ≡ old.world.done
 
--- nothing was logged
-pub record Waits (old new : State) : Type 0 where
-  pub log : new.log ≡ old.log
-  pub same : SameRun old new
-
--- only want of memory stops a proposal
+-- only want of memory stops a proposal, and it spoils the machine
 abbrev pub Stops : State → Stop → State → Type 0
-Stops old stop.Memory new = Waits old new
+Stops old stop.Memory new = (old.spoiled ≡ false) × Spoils old new
 Stops old stop.NotNow new = ⊥
 Stops old stop.LogFull new = ⊥
 Stops old stop.Spoiled new = ⊥
@@ -75,7 +75,7 @@ Stepped picks old c (Ok u) new c2 = Goes picks old c new c2
 Stepped picks old c (Err stop.NotNow) new c2 = ⊥
 Stepped picks old c (Err stop.LogFull) new c2 = (old.spoiled ≡ false) × (old.world.options.entries ≤ length old.log) × (new ≡ old) × (c2 ≡ c)
 Stepped picks old c (Err stop.Spoiled) new c2 = (old.spoiled ≡ true) × (new ≡ old) × (c2 ≡ c)
-Stepped picks old c (Err stop.Memory) new c2 = Waits old new
+Stepped picks old c (Err stop.Memory) new c2 = (old.spoiled ≡ false) × Spoils old new
 
 -- What a round does, up to its close or until it stops. Only where memory is wanting the chooser may have drawn more.
 abbrev pub Rounds : {C : Type 0} → Picks C → State → C → Result (Unit {0}) Stop → State → C → Type 0

@@ -114,7 +114,7 @@ fn step<C: Chooser>(machine: &mut Machine, chooser: &mut C) -> Result<(), Stop>
 }
 
 /// Goes on until the round is closed, or the log is full, or memory is wanting. It never answers `NotNow`.
-#[tactic(auto, using(crate::proofs::Going::ran_on, crate::proofs::Going::ran_none, crate::proofs::Going::ran_waits))]
+#[tactic(auto, using(crate::proofs::Going::ran_on, crate::proofs::Going::ran_none, crate::proofs::Going::ran_spoils))]
 pub fn solo_round<C: Chooser>(
     _alloc: Global,
     machine: &mut Machine,

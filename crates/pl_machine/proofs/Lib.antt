@@ -13,3 +13,5 @@ pub mod Closes
 pub mod Crossing
 pub mod Search
 pub mod Granted
+pub mod Commits
+pub mod Starts

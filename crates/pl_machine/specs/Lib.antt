@@ -18,6 +18,7 @@ pub mod Keeping
 pub mod Changes
 pub mod Sound
 pub mod Taking
+pub mod Sending
 pub mod Choices
 pub mod Solo
 pub mod Finished

@@ -186,7 +186,7 @@ past_not_full turns input held now other_left other_held other_now past full =
         let closed : (world_of full.model full.log).closed ≡ true = ap (λ (m : Model). (world_of m full.log).closed) same ∙ ap (λ (w : World). w.closed) both.0 ∙ waits.closed in
         elim full.due [
           | inl open_round ↦ (let h : true ≡ false = sym closed ∙ open_round.0 in (cc))
-          | inr one ↦ (let h : one.0 ∷ [] ≡ [] = sym one.1 ∙ no_pending full.pending before.more both.1 in (cc))
+          | inr one ↦ (let h : one.1.0 ∷ [] ≡ [] = sym one.1.1 ∙ no_pending full.pending before.more both.1 in (cc))
         ]
 
 -- ---- an input within the limits

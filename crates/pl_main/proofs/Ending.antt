@@ -303,7 +303,7 @@ record IsFilled (turns : ℕ) (m : Model) (new : State) (opened now : Option (Li
   going : new.world.done ≡ false
   full : 250000 ≤ length new.log
   text : Adds opened now (text_from m 1 entries)
-  due : ((new.world.closed ≡ false) × (inputs_of entries ≡ before ++ next ∷ [])) ⊎ (inputs_of entries ≡ before)
+  due : ((new.world.closed ≡ false) × (inputs_of entries ≡ before ++ next ∷ [])) ⊎ ((new.world.closed ≡ true) × (inputs_of entries ≡ before))
 
 filled : (turns : ℕ) (m : Model) (start place behind : Place) (opened written now : Option (List ℕ)) (mid new : State) (input : Option (List ℕ))
     → (plays : Plays (fresh_state turns m) start opened mid place written) → FillsUp mid input new → Adds written now (text_from mid.model (length mid.log) (drop (length mid.log) new.log)) → IsFilled turns m new opened now (inputs_of plays.entries) input
@@ -320,7 +320,7 @@ filled turns m start place behind opened written now mid new input plays (at_onc
       going = ap (λ (s : State). s.world.done) is ∙ plays.ready.going;
       full = subst (λ (n : ℕ). 250000 ≤ n) (ap (λ (s : State). length s.log) (sym is)) (subst (λ (n : ℕ). n ≤ length mid.log) (ap (λ o. o.entries) plays.same.options) full);
       text = j.text;
-      due = inr (ap inputs_of (append-nil plays.entries));
+      due = inr (ap (λ (s : State). s.world.closed) is ∙ plays.ready.closed, ap inputs_of (append-nil plays.entries));
     }
 filled turns m start place behind opened written now mid new input plays (within told) text =
     let j = joined (fresh_state turns m) mid new opened written now plays.entries told.entries plays.log plays.solo plays.world plays.same plays.written told.log told.solo told.world told.same text in
@@ -367,11 +367,11 @@ record LeavesMore (m : Model) (log : List Entry) (words input : List ℕ) (sourc
   messages : (split_of input).messages ≡ inputs_of log ++ unanswered
   pending : List (Option (List ℕ))
   read : HasRead words (inputs_of log ++ pending) input source_left
-  due : (((world_of m log).closed ≡ false) × (pending ≡ [])) ⊎ ((message : Option (List ℕ)) × (pending ≡ message ∷ []))
+  due : (((world_of m log).closed ≡ false) × (pending ≡ [])) ⊎ (((world_of m log).closed ≡ true) × ((message : Option (List ℕ)) × (pending ≡ message ∷ [])))
 
 leaves_more : (m : Model) (log : List Entry) (input : List ℕ) (heads lines : List (List ℕ)) (words : List ℕ) (room mid : ℕ) (heads_rest bytes : List ℕ) (before : List (Option (List ℕ))) (next : Option (List ℕ)) (place : Place) (source_left : Option (List ℕ))
     → IsHead heads words → Gave total_limit input heads room heads_rest → Gave room heads_rest lines mid bytes → messages_of lines ≡ before ++ None ∷ [] → GotNext next mid bytes place
-    → ahead place.reader.held source_left ≡ place.ahead → (((world_of m log).closed ≡ false) × (inputs_of log ≡ before ++ next ∷ [])) ⊎ (inputs_of log ≡ before) → LeavesMore m log words input source_left
+    → ahead place.reader.held source_left ≡ place.ahead → (((world_of m log).closed ≡ false) × (inputs_of log ≡ before ++ next ∷ [])) ⊎ (((world_of m log).closed ≡ true) × (inputs_of log ≡ before)) → LeavesMore m log words input source_left
 leaves_more m log input heads lines words room mid heads_rest bytes before next place source_left head gave gave2 so_far got behind due = by_due due
   where
     whole : (split_of input).messages ≡ before ++ next ∷ got.all.more
@@ -382,7 +382,7 @@ leaves_more m log input heads lines words room mid heads_rest bytes before next 
     read : HasRead words (before ++ next ∷ []) input source_left
     read = has_read input words heads lines room mid heads_rest bytes before next place source_left head gave gave2 so_far got behind
 
-    by_due : (((world_of m log).closed ≡ false) × (inputs_of log ≡ before ++ next ∷ [])) ⊎ (inputs_of log ≡ before) → LeavesMore m log words input source_left
+    by_due : (((world_of m log).closed ≡ false) × (inputs_of log ≡ before ++ next ∷ [])) ⊎ (((world_of m log).closed ≡ true) × (inputs_of log ≡ before)) → LeavesMore m log words input source_left
     by_due (inl both) = record {
       unanswered = got.all.more;
       messages = whole ∙ sym (append_assoc before (next ∷ []) got.all.more) ∙ ap (λ (ns : List (Option (List ℕ))). ns ++ got.all.more) (sym both.1);
@@ -390,12 +390,12 @@ leaves_more m log input heads lines words room mid heads_rest bytes before next 
       read = subst (λ (ns : List (Option (List ℕ))). HasRead words ns input source_left) (sym (append-nil (inputs_of log) ∙ both.1)) read;
       due = inl (both.0, refl);
     }
-    by_due (inr same) = record {
+    by_due (inr both) = record {
       unanswered = next ∷ got.all.more;
-      messages = whole ∙ ap (λ (ns : List (Option (List ℕ))). ns ++ next ∷ got.all.more) (sym same);
+      messages = whole ∙ ap (λ (ns : List (Option (List ℕ))). ns ++ next ∷ got.all.more) (sym both.1);
       pending = next ∷ [];
-      read = subst (λ (ns : List (Option (List ℕ))). HasRead words ns input source_left) (ap (λ (ns : List (Option (List ℕ))). ns ++ next ∷ []) (sym same)) read;
-      due = inr (next, refl);
+      read = subst (λ (ns : List (Option (List ℕ))). HasRead words ns input source_left) (ap (λ (ns : List (Option (List ℕ))). ns ++ next ∷ []) (sym both.1)) read;
+      due = inr (both.0, (next, refl));
     }
 
 full_ends : (turns : ℕ) (input words heads_rest : List ℕ) (heads : List (List ℕ)) (m : Model) (start place : Place) (source_left held opened now : Option (List ℕ)) (new : State)
@@ -409,7 +409,7 @@ full_ends turns input words heads_rest heads m start place source_left held open
     let k = known start.reader.room heads_rest plays.plays.lines plays.middle.reader.room plays.middle.ahead from in
     let got = got_next plays.middle place k.rest plays.step.message k.is plays.step.gets in
     let more = leaves_more m (opening (program_options turns) ∷ f.entries) input heads plays.plays.lines words start.reader.room plays.middle.reader.room heads_rest k.rest (inputs_of plays.plays.entries) (line_in plays.step.message) place source_left head gave k.gave plays.plays.messages got behind
-    (subst (λ (w : World). ((w.closed ≡ false) × (inputs_of f.entries ≡ inputs_of plays.plays.entries ++ line_in plays.step.message ∷ [])) ⊎ (inputs_of f.entries ≡ inputs_of plays.plays.entries)) l.world f.due) in
+    (subst (λ (w : World). ((w.closed ≡ false) × (inputs_of f.entries ≡ inputs_of plays.plays.entries ++ line_in plays.step.message ∷ [])) ⊎ ((w.closed ≡ true) × (inputs_of f.entries ≡ inputs_of plays.plays.entries))) l.world f.due) in
     record {
       model = m;
       log = opening (program_options turns) ∷ f.entries;

@@ -118,7 +118,7 @@ pub record IsReadFault (turns : ℕ) (input : List ℕ) (held now : Option (List
   pub asked : ((model_text_of lines ≡ None) × (now ≡ held)) ⊎ WaitsBehind turns lines held now
 
 -- The log answers the messages up to a place. It has as many entries as it may, and one more is due: within a round, and
--- then no further message was read, or for the one message that was read behind them.
+-- then no further message was read, or between rounds for the one message that was read behind them.
 pub record IsFull (turns : ℕ) (input : List ℕ) (source_left held now : Option (List ℕ)) : Type 0 where
   pub model : Model
   pub log : List Entry
@@ -135,7 +135,7 @@ pub record IsFull (turns : ℕ) (input : List ℕ) (source_left held now : Optio
   pub pending : List (Option (List ℕ))
   pub read : HasRead words (inputs_of log ++ pending) input source_left
   pub due : (((world_of model log).closed ≡ false) × (pending ≡ []))
-      ⊎ ((next : Option (List ℕ)) × (pending ≡ next ∷ []))
+      ⊎ (((world_of model log).closed ≡ true) × ((next : Option (List ℕ)) × (pending ≡ next ∷ [])))
   pub written : Adds held now (text_of_log model log)
 
 -- How a run ended, where the input's bytes are known.

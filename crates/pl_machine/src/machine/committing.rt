@@ -1,5 +1,6 @@
-ghost use Rattle.std.specs.Prelude.{◌≡◌, ◌⊎◌, ◌↔◌, false, IfOk};
+ghost use Rattle.std.specs.Prelude.{◌≡◌, ◌≤◌, ◌⊎◌, ◌↔◌, false, IfOk, OnOk};
 ghost use Rattle.pl_entry.specs.Bounds.{IsConflictInRange, IsCommitReply};
+ghost use Rattle.pl_world.specs.Conflicts.{conflicts_of};
 ghost use Rattle.pl_world.specs.Grants.{IsGrantable};
 ghost use Rattle.pl_world.specs.Whole.{IsWhole};
 ghost use Rattle.pl_machine.specs.Step.{behind_of, target_in, best_in, first_conflict, commit_reply, held_reply};
@@ -111,9 +112,11 @@ impl Machine {
         }
     }
 
-    /// Commits what starts before `h`, where no conflict touches it.
+    /// Commits what starts before `h`, where no conflict touches it. Nothing committed is taken back, and no conflict comes or goes.
     pub fn commit(&mut self, h: u32) -> Result<Reply, Stop>
         ensures answers { Answers self.old (Event.Commit h) result self.new }
+        ensures never_falls { OnOk result (self.old.world.state.committed ≤ self.new.world.state.committed) }
+        ensures conflicts { OnOk result (conflicts_of self.new.world.state ≡ conflicts_of self.old.world.state) }
         ensures granted { IfOk result (λ reply. (reply ≡ Reply.Done) ↔ IsGrantable self.old.world.state h) }
     {
         self.take_commit(h)

@@ -1,5 +1,6 @@
 ghost use Rattle.std.specs.Prelude.{◌≡◌, ◌<◌, ◌≤◌, false};
-ghost use Rattle.pl_machine.specs.Legal.{Legal, IsHistory};
+ghost use Rattle.pl_model.specs.Checked.{IsChecked};
+ghost use Rattle.pl_machine.specs.Legal.{Legal, world_of, IsHistory};
 ghost use Rattle.pl_machine.specs.Taking.{Admits};
 
 use crate::machine::Machine;
@@ -10,17 +11,19 @@ use pl_facts::Options;
 use pl_model::Model;
 
 impl Machine {
-    /// The log. It is a legal one, and an unspoiled machine stands for the world after it.
+    /// The log. It is a legal one, and an unspoiled machine stands for the world after it, a spoiled one for all of it but the plan state.
     pub fn log(&self) -> &[Entry]
         ensures entries { result.now ≡ self.now.log }
         ensures legal { Legal self.now.model self.now.log }
+        ensures others { self.now.world ≡ record (world_of self.now.model self.now.log) { state = self.now.world.state } }
         ensures history { self.now.spoiled ≡ false → IsHistory self.now.model self.now.log self.now.world }
     {
         self.log.as_slice()
     }
 
     pub fn model(&self) -> &Model
-        ensures { result.now ≡ self.now.model }
+        ensures value { result.now ≡ self.now.model }
+        ensures checked { IsChecked self.now.model }
     {
         self.model.get()
     }

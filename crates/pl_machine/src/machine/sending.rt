@@ -4,6 +4,7 @@ ghost use Rattle.pl_world.specs.PlanStates.{found, is_committed};
 ghost use Rattle.pl_world.specs.Whole.{IsWhole};
 ghost use Rattle.pl_machine.specs.World.{due_in};
 ghost use Rattle.pl_machine.specs.Step.{all_sent, is_enabled, sent_of, reply_of};
+ghost use Rattle.pl_machine.specs.Sending.{StartsLast};
 ghost use Rattle.pl_machine.specs.Taking.{IsOpen, Answers};
 
 use crate::machine::Machine;
@@ -49,7 +50,8 @@ impl Machine {
         requires whole { IsWhole self.old.world.state }
         requires reply { IsDispatchReply self.old.model command }
         requires next { command ≡ reply_of self.old.world Event.Dispatch }
-        ensures { Answers self.old Event.Dispatch result self.new }
+        ensures answers { Answers self.old Event.Dispatch result self.new }
+        ensures starts { IfOk result (StartsLast self.old.world) }
     {
         let event = Event::Dispatch;
         let reply = push_entry(&mut self.log, &mut self.board, self.alloc, event, command)?;
@@ -88,9 +90,10 @@ impl Machine {
         !self.round.closed && self.is_left()
     }
 
-    /// Sends the next due command.
+    /// Sends the next due command, whose start is no earlier than that of any that was sent.
     pub fn dispatch(&mut self) -> Result<Reply, Stop>
-        ensures { Answers self.old Event.Dispatch result self.new }
+        ensures answers { Answers self.old Event.Dispatch result self.new }
+        ensures starts { IfOk result (StartsLast self.old.world) }
     {
         if self.spoiled() {
             return Err(Stop::Spoiled);
