@@ -1,0 +1,8 @@
+use Rattle.pl_runs.proofs.Bounded.{solo_bounded, full_bounded}
+use Rattle.pl_runs.proofs.lengths.laws_of_runs.Goals as goal
+
+pub returns-clause-length : goal.returns-clause-length
+returns-clause-length c = solo_bounded
+
+pub returns-clause-full : goal.returns-clause-full
+returns-clause-full c = full_bounded

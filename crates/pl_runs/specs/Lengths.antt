@@ -1,0 +1,20 @@
+-- How long the journal of a run is.
+use Rattle.std.specs.Prelude.{ℕ, ◌+◌, ◌*◌, ◌≤◌, List, length, Option}
+use Rattle.pl_model.specs.declared.whole.Model.{Model}
+use Rattle.pl_entry.specs.declared.entry.Entry.{Entry}
+use Rattle.pl_machine.specs.Lines.{split_of}
+use Rattle.pl_machine.specs.Legal.{Legal, options_of}
+use Rattle.pl_machine.specs.Finished.{inputs_of}
+use Rattle.pl_main.specs.Solo.{Solo}
+use Rattle.pl_main.specs.Top.{IsFull}
+
+-- A log of one thread has, beside its opening, ten thousand commands at most, and for each input four entries and as many
+-- as a round has turns.
+abbrev pub SoloIsBounded : Model → Type 0
+SoloIsBounded m = (log : List Entry) → Legal m log → Solo m log
+    → length log ≤ 10001 + length (inputs_of log) * ((options_of log).turns + 4)
+
+-- A run whose log is full has so many messages that its log may be as long.
+abbrev pub FullHasMany : Type 0
+FullHasMany = (turns : ℕ) (input : List ℕ) (left held now : Option (List ℕ)) → IsFull turns input left held now
+    → 250000 ≤ 10001 + length (split_of input).messages * (turns + 4)
