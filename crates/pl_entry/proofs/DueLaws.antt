@@ -21,7 +21,7 @@ use Rattle.pl_plan.specs.Activities.{AreRising, activity_of}
 use Rattle.pl_plan.specs.Fitting.{kind_of, alternatives_of}
 use Rattle.pl_plan.proofs.Ids.{found_at}
 use Rattle.pl_plan.proofs.Climbs.{all_at}
-use Rattle.pl_entry.specs.Due.{IsDue, is_due, start_of, start_cmp, with_starts, due_starts, due_of, StartsBefore, AreDue}
+use Rattle.pl_entry.specs.Due.{IsDue, is_due, start_of, start_cmp, with_starts, due_of, StartsBefore, AreDue}
 
 start_total : IsTotalOrder start_cmp
 start_total = then_total (on_total (λ (s : ℕ × ℕ). s.0) nat_cmp_total) (on_total (λ (s : ℕ × ℕ). s.1) nat_cmp_total)
@@ -126,16 +126,19 @@ due_passes model now c a d =
     and_from (ltb a.start c) (leb a.start now && eqb (length (alternatives_of (kind_of model a))) 0) (lt-ltb a.start c d.committed)
     (and_from (leb a.start now) (eqb (length (alternatives_of (kind_of model a))) 0) (le-leb a.start now d.started) (eq-eqb (length (alternatives_of (kind_of model a))) 0 (ap (λ l. length l) d.basic)))
 
--- the start of a due activity
-abbrev IsDueStart : Model → List Activity → ℕ → ℕ → ℕ × ℕ → Type 0
-IsDueStart model xs now c s = (a : Activity) × (activity_of s.1 xs ≡ Some a) × (a.start ≡ s.0) × (a.id ≡ s.1) × IsDue model now c a
+-- the start of an activity of which this holds
+abbrev pub IsStartOf : List Activity → (Activity → Type 0) → ℕ × ℕ → Type 0
+IsStartOf xs Q s = (a : Activity) × (activity_of s.1 xs ≡ Some a) × (a.start ≡ s.0) × (a.id ≡ s.1) × Q a
 
-starts_hold : (model : Model) (xs : List Activity) (now c : ℕ) → AreRising xs → All (IsDueStart model xs now c) (due_starts model xs now c)
-starts_hold model xs now c rising =
-    let p = is_due model now c in
+-- the starts of those that pass, in order
+abbrev pub starts_of : (Activity → Bool) → List Activity → List (ℕ × ℕ)
+starts_of p xs = with_starts [] (map start_of (filter p xs))
+
+starts_hold : (p : Activity → Bool) (Q : Activity → Type 0) → ((a : Activity) → p a ≡ true → Q a) → (xs : List Activity) → AreRising xs → All (IsStartOf xs Q) (starts_of p xs)
+starts_hold p Q holds xs rising =
     let found : All (λ a. activity_of a.id xs ≡ Some a) (filter p xs) = All-filter p (λ a. activity_of a.id xs ≡ Some a) xs (λ k d lt. found_at xs 0 k (slice_index_or xs k d).id d rising lt refl) in
-    let each : All (λ a. IsDueStart model xs now c (start_of a)) (filter p xs) = λ k d lt. (slice_index_or (filter p xs) k d, found k d lt, refl, refl, due_holds model now c (slice_index_or (filter p xs) k d) (filter_passes p xs k d lt)) in
-    all_hold (IsDueStart model xs now c) (map start_of (filter p xs)) [] (All-nil (IsDueStart model xs now c)) (All-map (IsDueStart model xs now c) start_of (filter p xs) each)
+    let each : All (λ a. IsStartOf xs Q (start_of a)) (filter p xs) = λ k d lt. (slice_index_or (filter p xs) k d, found k d lt, refl, refl, holds (slice_index_or (filter p xs) k d) (filter_passes p xs k d lt)) in
+    all_hold (IsStartOf xs Q) (map start_of (filter p xs)) [] (All-nil (IsStartOf xs Q)) (All-map (IsStartOf xs Q) start_of (filter p xs) each)
 
 start_in : (p : Activity → Bool) (xs : List Activity) (id : ℕ) (a : Activity) → activity_of id xs ≡ Some a → p a ≡ true → Contains (map start_of (filter p xs)) (start_of a)
 start_in p [] id a is holds = absurd (cc)
@@ -161,7 +164,7 @@ id_in (x ∷ xs) q (suc k, lt, is) = contains_cons x.1 (map (λ s. s.1) xs) q.1 
 
 -- ---- the order
 
-abbrev Before : List Activity → ℕ → ℕ → Type 0
+abbrev pub Before : List Activity → ℕ → ℕ → Type 0
 Before xs m n = (a b : Activity) → activity_of m xs ≡ Some a → activity_of n xs ≡ Some b → StartsBefore a b
 
 earlier : (s t : ℕ × ℕ) → start_cmp s t ≡ Less → (s.0 < t.0) ⊎ ((s.0 ≡ t.0) × (s.1 < t.1))
@@ -174,45 +177,53 @@ earlier s t e = by (cases_lt s.0 t.0)
 some_same : (a b : Activity) → Some a ≡ Some b → a ≡ b
 some_same a b e = cc
 
-goes_before : (model : Model) (xs : List Activity) (now c : ℕ) (s t : ℕ × ℕ) → start_cmp s t ≡ Less → IsDueStart model xs now c s → IsDueStart model xs now c t → Before xs s.1 t.1
-goes_before model xs now c s t e (a, ea, sa, ia, da) (b, eb, sb, ib, db) x y fx fy =
+goes_before : (xs : List Activity) (Q : Activity → Type 0) (s t : ℕ × ℕ) → start_cmp s t ≡ Less → IsStartOf xs Q s → IsStartOf xs Q t → Before xs s.1 t.1
+goes_before xs Q s t e (a, ea, sa, ia, da) (b, eb, sb, ib, db) x y fx fy =
     subst (λ z. StartsBefore z y) (some_same a x (sym ea ∙ fx)) (subst (λ z. StartsBefore a z) (some_same b y (sym eb ∙ fy)) (by (earlier s t e)))
   where
     by : ((s.0 < t.0) ⊎ ((s.0 ≡ t.0) × (s.1 < t.1))) → StartsBefore a b
     by (inl lt) = inl (omega (arith, lt, sa, sb))
     by (inr (is, lt)) = inr (sa ∙ is ∙ sym sb, omega (arith, lt, ia, ib))
 
-all_later : (model : Model) (xs : List Activity) (now c : ℕ) (s : ℕ × ℕ) (ts : List (ℕ × ℕ)) → AllByRecursion (λ t. start_cmp s t ≡ Less) ts → IsDueStart model xs now c s → All (IsDueStart model xs now c) ts → All (λ t. Before xs s.1 t.1) ts
-all_later model xs now c s [] less one all = All-nil (λ t. Before xs s.1 t.1)
-all_later model xs now c s (t ∷ ts) less one all =
-    All-cons (λ u. Before xs s.1 u.1) t ts (goes_before model xs now c s t less.0 one (All-head (IsDueStart model xs now c) t ts all)) (all_later model xs now c s ts less.1 one (All-tail (IsDueStart model xs now c) t ts all))
+all_later : (xs : List Activity) (Q : Activity → Type 0) (s : ℕ × ℕ) (ts : List (ℕ × ℕ)) → AllByRecursion (λ t. start_cmp s t ≡ Less) ts → IsStartOf xs Q s → All (IsStartOf xs Q) ts → All (λ t. Before xs s.1 t.1) ts
+all_later xs Q s [] less one all = All-nil (λ t. Before xs s.1 t.1)
+all_later xs Q s (t ∷ ts) less one all =
+    All-cons (λ u. Before xs s.1 u.1) t ts (goes_before xs Q s t less.0 one (All-head (IsStartOf xs Q) t ts all)) (all_later xs Q s ts less.1 one (All-tail (IsStartOf xs Q) t ts all))
 
-in_order : (model : Model) (xs : List Activity) (now c : ℕ) (ts : List (ℕ × ℕ)) → IsStrictlySortedBy start_cmp ts → All (IsDueStart model xs now c) ts → AllPairs (Before xs) (map (λ s. s.1) ts)
+in_order : (xs : List Activity) (Q : Activity → Type 0) (ts : List (ℕ × ℕ)) → IsStrictlySortedBy start_cmp ts → All (IsStartOf xs Q) ts → AllPairs (Before xs) (map (λ s. s.1) ts)
 unfolding IsStrictlySortedBy
-in_order model xs now c [] sorted all = λ i j d lt in_range. absurd (omega (arith, in_range))
-in_order model xs now c (t ∷ ts) sorted all =
-    AllPairs-cons (Before xs) t.1 (map (λ s. s.1) ts) (All-map (Before xs t.1) (λ s. s.1) ts (all_later model xs now c t ts sorted.0 (All-head (IsDueStart model xs now c) t ts all) (All-tail (IsDueStart model xs now c) t ts all)))
-    (in_order model xs now c ts sorted.1 (All-tail (IsDueStart model xs now c) t ts all))
+in_order xs Q [] sorted all = λ i j d lt in_range. absurd (omega (arith, in_range))
+in_order xs Q (t ∷ ts) sorted all =
+    AllPairs-cons (Before xs) t.1 (map (λ s. s.1) ts) (All-map (Before xs t.1) (λ s. s.1) ts (all_later xs Q t ts sorted.0 (All-head (IsStartOf xs Q) t ts all) (All-tail (IsStartOf xs Q) t ts all)))
+    (in_order xs Q ts sorted.1 (All-tail (IsStartOf xs Q) t ts all))
+
+-- ---- those that pass
+
+same_id : (xs : List Activity) (id : ℕ) (a : Activity) → activity_of id xs ≡ Some a → a.id ≡ id
+same_id xs id a is = (all_at (λ b. Unit {0}) xs id a (λ k d lt. tt) is).1
+
+pub listed : (p : Activity → Bool) (Q : Activity → Type 0) → ((a : Activity) → p a ≡ true → Q a) → (xs : List Activity) → AreRising xs → (id : ℕ) → Contains (map (λ s. s.1) (starts_of p xs)) id → (a : Activity) × (activity_of id xs ≡ Some a) × Q a
+listed p Q holds xs rising id has =
+    All-contains (λ n. (a : Activity) × (activity_of n xs ≡ Some a) × Q a) (map (λ s. s.1) (starts_of p xs)) id
+    (All-map (λ n. (a : Activity) × (activity_of n xs ≡ Some a) × Q a) (λ s. s.1) (starts_of p xs)
+    (All-weaker (IsStartOf xs Q) (λ s. (a : Activity) × (activity_of s.1 xs ≡ Some a) × Q a) (λ s h. (h.0, h.1, h.4)) (starts_of p xs) (starts_hold p Q holds xs rising))) has
+
+pub lists : (p : Activity → Bool) (xs : List Activity) (id : ℕ) (a : Activity) → activity_of id xs ≡ Some a → p a ≡ true → Contains (map (λ s. s.1) (starts_of p xs)) id
+lists p xs id a is passes =
+    subst (λ n. Contains (map (λ s. s.1) (starts_of p xs)) n) (same_id xs id a is)
+    (id_in (starts_of p xs) (start_of a) (all_there (map start_of (filter p xs)) [] (start_of a) (start_in p xs id a is passes)))
+
+pub lists_in_order : (p : Activity → Bool) (Q : Activity → Type 0) → ((a : Activity) → p a ≡ true → Q a) → (xs : List Activity) → AreRising xs → AllPairs (Before xs) (map (λ s. s.1) (starts_of p xs))
+lists_in_order p Q holds xs rising = in_order xs Q (starts_of p xs) (all_sorted (map start_of (filter p xs)) [] sorted_none) (starts_hold p Q holds xs rising)
 
 -- ---- together
 
 pub due_meets : (model : Model) (xs : List Activity) → AreRising xs → (now c : ℕ) → AreDue model xs now c (due_of model xs now c)
 unfolding due_of
-due_meets model xs rising now c = record { members = λ id. (there id, back id); order = in_order model xs now c (due_starts model xs now c) (all_sorted (map start_of (filter (is_due model now c) xs)) [] sorted_none) (starts_hold model xs now c rising) }
-  where
-    there : (id : ℕ) → Contains (map (λ s. s.1) (due_starts model xs now c)) id → (a : Activity) × (activity_of id xs ≡ Some a) × IsDue model now c a
-    there id has =
-        All-contains (λ n. (a : Activity) × (activity_of n xs ≡ Some a) × IsDue model now c a) (map (λ s. s.1) (due_starts model xs now c)) id
-        (All-map (λ n. (a : Activity) × (activity_of n xs ≡ Some a) × IsDue model now c a) (λ s. s.1) (due_starts model xs now c)
-        (All-weaker (IsDueStart model xs now c) (λ s. (a : Activity) × (activity_of s.1 xs ≡ Some a) × IsDue model now c a) (λ s h. (h.0, h.1, h.4)) (due_starts model xs now c) (starts_hold model xs now c rising))) has
-
-    same_id : (id : ℕ) (a : Activity) → activity_of id xs ≡ Some a → a.id ≡ id
-    same_id id a is = (all_at (λ b. Unit {0}) xs id a (λ k d lt. tt) is).1
-
-    back : (id : ℕ) → (a : Activity) × (activity_of id xs ≡ Some a) × IsDue model now c a → Contains (map (λ s. s.1) (due_starts model xs now c)) id
-    back id (a, is, d) =
-        subst (λ n. Contains (map (λ s. s.1) (due_starts model xs now c)) n) (same_id id a is)
-        (id_in (due_starts model xs now c) (start_of a) (all_there (map start_of (filter (is_due model now c) xs)) [] (start_of a) (start_in (is_due model now c) xs id a is (due_passes model now c a d))))
+due_meets model xs rising now c = record {
+  members = λ id. (listed (is_due model now c) (IsDue model now c) (due_holds model now c) xs rising id, λ w. lists (is_due model now c) xs id w.0 w.1 (due_passes model now c w.0 w.2));
+  order = lists_in_order (is_due model now c) (IsDue model now c) (due_holds model now c) xs rising;
+}
 
 -- ---- no other list
 

@@ -41,6 +41,19 @@ due_starts model activities now c = with_starts [] (map start_of (filter (is_due
 unfoldable pub due_of : Model → List Activity → ℕ → ℕ → List ℕ
 due_of model activities now c = map (λ s. s.1) (due_starts model activities now c)
 
+-- ---- as the present moves on
+
+-- whether it is due, and started behind an earlier moment
+abbrev pub is_due_since : Model → ℕ → ℕ → ℕ → Activity → Bool
+is_due_since model before now c a = nat_lt before a.start && is_due model now c a
+
+abbrev pub starts_since : Model → List Activity → ℕ → ℕ → ℕ → List (ℕ × ℕ)
+starts_since model activities before now c = with_starts [] (map start_of (filter (is_due_since model before now c) activities))
+
+-- the ids of those that come to be due, in start order
+unfoldable pub due_since : Model → List Activity → ℕ → ℕ → ℕ → List ℕ
+due_since model activities before now c = map (λ s. s.1) (starts_since model activities before now c)
+
 -- ---- what the list means
 
 abbrev pub StartsBefore : Activity → Activity → Type 0

@@ -8,6 +8,7 @@ mod laws;
 mod reply;
 mod sending;
 mod sharing;
+mod since;
 
 pub use entry::Entry;
 pub use event::{Bytes, Event};
@@ -16,3 +17,4 @@ pub use laws::{laws_of_due, laws_of_horizon};
 pub use reply::{Reason, Reply, Values};
 pub use sending::due;
 pub use sharing::shared_types;
+pub use since::due_since;

@@ -15,3 +15,4 @@ pub mod Search
 pub mod Granted
 pub mod Commits
 pub mod Starts
+mod Ticking

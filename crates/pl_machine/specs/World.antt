@@ -33,6 +33,10 @@ fresh_world m o = record { state = first_state m o.live; options = o; dispatched
 abbrev pub due_in : PlanState → List ℕ
 due_in s = due_of s.model s.plan.activities s.moment s.committed
 
+-- those that were to be sent by an earlier moment
+abbrev pub due_at : ℕ → PlanState → List ℕ
+due_at before s = due_of s.model s.plan.activities before s.committed
+
 abbrev pub reason_by : List Conflict → (spent stuck : Bool) → Option Reason
 reason_by [] spent stuck = Some reason.Clear
 reason_by (k ∷ ks) true stuck = Some reason.Spent

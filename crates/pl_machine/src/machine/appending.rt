@@ -3,7 +3,7 @@ ghost use Rattle.pl_entry.specs.Bounds.{IsEventInRange, IsReplyTo};
 ghost use Rattle.pl_world.specs.Moves.{is_proper, refusal_of, applied};
 ghost use Rattle.pl_world.specs.Whole.{IsWhole};
 ghost use Rattle.pl_board.specs.Boards.{after as board_of};
-ghost use Rattle.pl_machine.specs.World.{due_in};
+ghost use Rattle.pl_machine.specs.World.{due_at, due_in};
 ghost use Rattle.pl_machine.specs.Changes.{changed, is_tick, CanChange, KeepsDue};
 ghost use Rattle.pl_machine.specs.Keeping.{KeepsStanding};
 ghost use Rattle.pl_machine.specs.Step.{reply_of, after};
@@ -14,7 +14,7 @@ use crate::machine::Machine;
 use crate::round::Round;
 use crate::stop::Stop;
 use pl_board::Board;
-use pl_entry::{Entry, Event, Reply, due};
+use pl_entry::{Entry, Event, Reply, due_since};
 use pl_lists::Copied;
 use pl_moves::apply;
 use pl_plan::RepairMove;
@@ -101,19 +101,63 @@ fn change_board(board: &mut Board, alloc: Global, change: Change) -> Result<(), 
     }
 }
 
-/// The ids of what is due on a board, in start order.
-fn due_on(board: &Board, alloc: Global) -> Result<Vec<u32>, AllocError>
-    requires { board.now.spoiled ≡ false }
-    ensures { IfOk result (λ due. due.items ≡ due_in board.now.state) }
+/// The ids of what has come to be due on a board since an earlier moment, in start order.
+fn due_since_on(board: &Board, alloc: Global, before: u32) -> Result<Vec<u32>, AllocError>
+    requires unspoiled { board.now.spoiled ≡ false }
+    requires later { before ≤ board.now.state.moment }
+    ensures { IfOk result (λ more. due_in board.now.state ≡ due_at before board.now.state ++ more.items) }
 {
     let state = board.state();
-    due(
+    due_since(
         alloc,
         state.model.get(),
         &state.plan,
+        before,
         state.moment,
         state.committed,
     )
+}
+
+/// Lists what has come to be due on a board behind what was due at an earlier moment.
+fn extend_due(
+    board: &Board,
+    due: &mut Vec<u32>,
+    alloc: Global,
+    before: u32,
+) -> Result<(), AllocError>
+    requires unspoiled { board.now.spoiled ≡ false }
+    requires later { before ≤ board.now.state.moment }
+    requires listed { due.old.items ≡ due_at before board.now.state }
+    ensures ok { OnOk result (due.new.items ≡ due_in board.now.state) }
+    ensures err { OnErr result (due.new.items ≡ due.old.items) }
+{
+    let more = due_since_on(board, alloc, before)?;
+    due.extend_from_slice(&more)?;
+    Ok(())
+}
+
+/// The same. Where memory is wanting the board is spoiled.
+fn list_due(
+    board: &mut Board,
+    due: &mut Vec<u32>,
+    alloc: Global,
+    before: u32,
+) -> Result<(), AllocError>
+    requires unspoiled { board.old.spoiled ≡ false }
+    requires later { before ≤ board.old.state.moment }
+    requires listed { due.old.items ≡ due_at before board.old.state }
+    ensures same { OnOk result (board.new ≡ board.old) }
+    ensures due { OnOk result (due.new.items ≡ due_in board.old.state) }
+    ensures err { OnErr result (due.new.items ≡ due.old.items) }
+    ensures spoils { OnErr result (board.new.spoiled ≡ true) }
+{
+    match extend_due(board, due, alloc, before) {
+        Ok(()) => Ok(()),
+        Err(fault) => {
+            board.spoil();
+            Err(fault)
+        }
+    }
 }
 
 /// Whether something may come to be due by it.
@@ -123,26 +167,6 @@ fn is_tick(change: &Change) -> bool
     match change {
         Change::Tick(_) => true,
         _ => false,
-    }
-}
-
-/// Lists anew what is due on a board. Where memory is wanting the board is spoiled.
-fn list_due(board: &mut Board, due: &mut Vec<u32>, alloc: Global) -> Result<(), AllocError>
-    requires { board.old.spoiled ≡ false }
-    ensures same { OnOk result (board.new ≡ board.old) }
-    ensures due { OnOk result (due.new.items ≡ due_in board.old.state) }
-    ensures err { OnErr result (due.new.items ≡ due.old.items) }
-    ensures spoils { OnErr result (board.new.spoiled ≡ true) }
-{
-    match due_on(board, alloc) {
-        Ok(all) => {
-            *due = all;
-            Ok(())
-        }
-        Err(fault) => {
-            board.spoil();
-            Err(fault)
-        }
     }
 }
 
@@ -165,9 +189,10 @@ fn change_due(
     ensures err { OnErr result (board.new.spoiled ≡ true) }
 {
     let ticks = is_tick(&change);
+    let before = board.state().moment;
     change_board(board, alloc, change)?;
     if ticks {
-        list_due(board, due, alloc)
+        list_due(board, due, alloc, before)
     } else {
         Ok(())
     }
