@@ -1,11 +1,13 @@
 use pl_main::{Command, Task, read_words};
 use std::alloc::AllocError;
 
-/// What the words ask for: the turns of a run, 0 for a check, nothing where they are no command.
-fn turns_of(words: &[String]) -> Option<u32> {
+/// What the words ask for: the turns of a run, 0 for a check, the goals of a demonstration, nothing where they are no
+/// command.
+fn number_of(words: &[String]) -> Option<u32> {
     match read_words(words)? {
         Command::Alone(Task::Solo { turns }) => Some(turns),
         Command::Alone(Task::Check) => Some(0),
+        Command::Alone(Task::Demo { goals }) => Some(goals),
     }
 }
 
@@ -23,7 +25,14 @@ run solo +8 = none
 run solo = none
 run solo 8 9 = none
 run pair 8 = none
-Run solo 8 = none";
+Run solo 8 = none
+demo 1 = 1
+demo 4000 = 4000
+demo 0 = none
+demo 4001 = none
+demo = none
+demo 1 2 = none
+demo one = none";
 
 #[test]
 fn reads_words(rt: HostRuntime) -> Result<(), AllocError> {
@@ -34,8 +43,8 @@ fn reads_words(rt: HostRuntime) -> Result<(), AllocError> {
         for word in text.split(' ') {
             words.push(String::from_str(alloc, word)?)?;
         }
-        assert_eq!(rt; turns_of(words.as_slice()), wanted.parse().ok(), "{line}");
+        assert_eq!(rt; number_of(words.as_slice()), wanted.parse().ok(), "{line}");
     }
-    assert_eq!(rt; turns_of(&[]), None);
+    assert_eq!(rt; number_of(&[]), None);
     Ok(())
 }

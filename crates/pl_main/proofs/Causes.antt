@@ -1,11 +1,10 @@
 -- No input has the causes of two statuses.
-use Rattle.std.proofs.Common.{◌≡◌, ℕ, ◌+◌, ◌<◌, ◌≤◌, suc, List, [], ◌∷◌, ◌++◌, length, take, Bool, true, false, All, Option, Some, None, IfSome, ◌⊎◌, inl, inr, refl, sym, ◌∙◌, ap, subst, append_assoc, arith}
+use Rattle.std.proofs.Common.{◌≡◌, ℕ, ◌+◌, ◌<◌, ◌≤◌, suc, List, [], ◌∷◌, ◌++◌, length, take, true, false, All, Option, Some, None, inl, inr, refl, sym, ◌∙◌, ap, subst, append_assoc, arith}
 use Rattle.std.proofs.lemmas.List.{take_all}
-use Rattle.pl_io.specs.Lines.{lines_of, first_line, after_line, next_of, given, line_too_long, input_too_long}
+use Rattle.pl_io.specs.Lines.{lines_of, first_line, after_line, given, line_too_long, input_too_long}
 use Rattle.pl_io.proofs.FirstLine.{next_of-judged, judged-last}
 use Rattle.pl_io.proofs.LineLaws.{lines_of-front}
 use Rattle.pl_model.specs.declared.whole.Model.{Model}
-use Rattle.pl_entry.specs.declared.entry.Entry.{Entry}
 use Rattle.pl_machine.specs.Lines.{model_text_of, lines_behind, messages_of, split_of}
 use Rattle.pl_machine.specs.World.{World}
 use Rattle.pl_machine.specs.Legal.{Legal, world_of}
@@ -16,12 +15,14 @@ use Rattle.pl_accept.proofs.Apart.{apart, one_model}
 use Rattle.pl_main.specs.declared.command.Task.{Task}
 use Rattle.pl_main.specs.declared.command.Task.TheVariants as task
 use Rattle.pl_main.specs.Reads.{Gave}
-use Rattle.pl_main.specs.Top.{total_limit, program_options, HasRead, HasHead, IsDone, IsNoModel, no_begin, faulty, WaitsBehind, IsPastLimit, IsFull, IsFound, IsPastHead}
-use Rattle.pl_main.specs.Limits.{IsWithinLimits, CanRun, CanCheck, CanDo, IsDoneBy}
-use Rattle.pl_main.specs.Statuses.{SaysRan, SaysChecked, SaysKnown, IsSoloStatus, is_done, is_refused, is_read, is_write, is_limit, is_full, is_memory}
+use Rattle.pl_main.specs.Top.{total_limit, program_options, IsDone, IsNoModel, no_begin, faulty, WaitsBehind, IsPastLimit, IsFull, IsFound, IsPastHead}
+use Rattle.pl_report.specs.Demonstration.{demo_text}
+use Rattle.pl_main.specs.Demos.{demo_turns, IsShown, IsShownInPart, HasNoDemo, CanShow}
+use Rattle.pl_main.specs.Limits.{IsWithinLimits, CanRun, CanCheck, IsDoneBy, Completes}
+use Rattle.pl_main.specs.Statuses.{SaysRan, SaysChecked, SaysShown, SaysKnown, IsSoloStatus, is_done, is_refused, is_read, is_write, is_limit, is_full, is_memory}
 use Rattle.pl_main.proofs.Reading.{gave_lines}
 use Rattle.pl_main.proofs.Playing.{messages_append, not_single}
-use Rattle.pl_main.proofs.OneInput.{IsStuck, end_is_no_limit, GoesOn, goes_on, all_or_stuck, text_goes_on, behind_goes_on, split_text, split_messages, Ends, messages_end, HasLast, messages_last, Front, front_of, longer}
+use Rattle.pl_main.proofs.OneInput.{IsStuck, end_is_no_limit, goes_on, all_or_stuck, text_goes_on, behind_goes_on, split_text, split_messages, Ends, messages_end, messages_last, Front, front_of, longer}
 use Rattle.pl_main.proofs.OneLog.{opened_with, full_and_closed}
 
 abbrev Lines : Type 0
@@ -254,8 +255,34 @@ check_completes input left held now status says (is_limit e) can no_read no_writ
 check_completes input left held now status says (is_full e) can no_read no_write = absurd (says.never_full e)
 check_completes input left held now status says (is_memory e) can no_read no_write = inr e
 
+-- ---- a demonstration
+
+pub shown_not_refused : (goals : ℕ) (held now other_held other_now : Option (List ℕ)) → IsShown goals held now → HasNoDemo goals other_held other_now → ⊥
+shown_not_refused goals held now other_held other_now shown none = done_not_refused demo_turns (demo_text goals) shown.left None None none.left other_held other_now shown.done none.refused
+
+pub shown_not_full : (goals : ℕ) (held now other_held other_now : Option (List ℕ)) → IsShown goals held now → IsShownInPart goals other_held other_now → ⊥
+shown_not_full goals held now other_held other_now shown part = done_not_full demo_turns (demo_text goals) shown.left None None part.left None None shown.done part.full
+
+pub no_demo_not_full : (goals : ℕ) (held now other_held other_now : Option (List ℕ)) → HasNoDemo goals held now → IsShownInPart goals other_held other_now → ⊥
+no_demo_not_full goals held now other_held other_now none part = refused_not_full demo_turns (demo_text goals) none.left held now part.left None None none.refused part.full
+
+pub demo_completes : (goals : ℕ) (held now : Option (List ℕ)) (status : ℕ) → SaysShown goals held now status → IsSoloStatus status → CanShow goals → (status ≡ 5 → ⊥) → IsDoneBy (task.Demo goals) status
+demo_completes goals held now status says (is_done e) can no_write = inl e
+demo_completes goals held now status says (is_refused e) can no_write =
+    let none = says.refused e in
+    absurd (no_model_of (demo_text goals) can.words can.model none.left held now can.text can.accepted none.refused)
+demo_completes goals held now status says (is_read e) can no_write = absurd (says.never_read e)
+demo_completes goals held now status says (is_write e) can no_write = absurd (no_write e)
+demo_completes goals held now status says (is_limit e) can no_write = absurd (says.never_limit e)
+demo_completes goals held now status says (is_full e) can no_write = inr (inl e)
+demo_completes goals held now status says (is_memory e) can no_write = inr (inr e)
+
+-- ---- any job
+
 pub completes : (t : Task) (input : Option (List ℕ)) (left held now : Option (List ℕ)) (status : ℕ) → SaysKnown t input left held now status → IsSoloStatus status → (status ≡ 4 → ⊥) → (status ≡ 5 → ⊥)
-    → IfSome input (λ bytes. CanDo t bytes → IsDoneBy t status)
-completes t None left held now status says is no_read no_write = tt
+    → Completes t input status
+completes (task.Solo turns) None left held now status says is no_read no_write = tt
+completes task.Check None left held now status says is no_read no_write = tt
 completes (task.Solo turns) (Some input) left held now status says is no_read no_write = λ can. run_completes turns input left held now status says is can no_read no_write
 completes task.Check (Some input) left held now status says is no_read no_write = λ can. check_completes input left held now status says is can no_read no_write
+completes (task.Demo goals) input left held now status says is no_read no_write = λ can. demo_completes goals held now status says is can no_write

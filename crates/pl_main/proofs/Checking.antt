@@ -1,22 +1,21 @@
 -- The end of a check.
-use Rattle.std.proofs.Common.{◌≡◌, ℕ, ◌≤◌, List, [], ◌∷◌, ◌++◌, OnOk, IfOk, IfErr, Option, Some, None, Result, Ok, Err, refl, sym, ap, subst, append_assoc}
+use Rattle.std.proofs.Common.{◌≡◌, ℕ, List, [], ◌++◌, OnOk, IfOk, IfErr, Option, Some, None, Result, Ok, Err, refl, subst, append_assoc}
 use Rattle.std.specs.declared.vec.Vec.{Vec}
 use Rattle.std.specs.declared.alloc.Global.{Global}
 use Rattle.pl_io.specs.declared.errors.LineFault.{LineFault}
 use Rattle.pl_io.specs.Lines.{ahead}
 use Rattle.pl_io.specs.Reader.{Reader}
 use Rattle.pl_model.specs.declared.whole.Model.{Model}
-use Rattle.pl_accept.specs.declared.accepting.Accepted.{Accepted}
 use Rattle.pl_accept.specs.declared.accepting.Accepted.TheVariants as accepted
 use Rattle.pl_main.specs.declared.halt.Halt.{Halt}
 use Rattle.pl_main.specs.declared.halt.Halt.TheVariants as halt
 use Rattle.pl_main.specs.declared.outcome.Outcome.{Outcome}
 use Rattle.pl_main.specs.declared.outcome.Outcome.TheVariants as outcome
-use Rattle.pl_main.specs.Heads.{Keeps, IsBegun, HasNoBegin, HeadHalts}
-use Rattle.pl_main.specs.Reads.{Gave, GaveKnown}
+use Rattle.pl_main.specs.Heads.{IsBegun, HasNoBegin, HeadHalts}
+use Rattle.pl_main.specs.Reads.{Gave}
 use Rattle.pl_main.specs.Plays.{HaltFor, StopsBy}
 use Rattle.pl_main.specs.Written.{Adds, WriteStops}
-use Rattle.pl_main.specs.Runs.{AcceptsKept, TextFails, TextPasses, TextChecks}
+use Rattle.pl_main.specs.Runs.{AcceptsKept, TextChecks}
 use Rattle.pl_main.specs.Top.{total_limit, no_begin_line, model_ok_line, faulty, IsPastHead, IsHeadFault, ChecksKnown}
 use Rattle.pl_main.proofs.Playing.{never_full, stops_by}
 use Rattle.pl_main.proofs.Ending.{known, begins_at, begins_nowhere, all_ahead}

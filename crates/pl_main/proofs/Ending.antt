@@ -17,7 +17,6 @@ use Rattle.pl_machine.specs.Finished.{inputs_of}
 use Rattle.pl_machine.specs.Sound.{State}
 use Rattle.pl_driver.specs.Rounds.{SameRun}
 use Rattle.pl_render.specs.Lines.{line_of, text_from, text_of_log}
-use Rattle.pl_accept.specs.declared.accepting.Accepted.{Accepted}
 use Rattle.pl_accept.specs.declared.accepting.Accepted.TheVariants as accepted
 use Rattle.pl_accept.specs.Accepting.{IsModelText}
 use Rattle.pl_main.specs.declared.halt.Halt.{Halt}
@@ -30,7 +29,7 @@ use Rattle.pl_main.specs.Heads.{IsHead, IsBegun, HasNoBegin, HeadHalts}
 use Rattle.pl_main.specs.Tells.{FillsUp, at_once, within}
 use Rattle.pl_main.specs.Written.{Adds, WriteStops}
 use Rattle.pl_main.specs.Plays.{Place, place_of, HaltFor, Plays, EndsWith, by_end, by_line, EndsAll, PlaysOut, StopsBy, PlayHalts, PlayFills, Playing, line_in}
-use Rattle.pl_main.specs.Runs.{fresh_state, ModelRuns, AcceptsKept, TextFails, TextRun, TextRuns}
+use Rattle.pl_main.specs.Runs.{fresh_state, ModelRuns, AcceptsKept, IsKeptModel, TextRuns}
 use Rattle.pl_main.specs.Top.{RanKnown, IsReadTo, program_options, total_limit, IsDone, HasHead, no_begin_line, IsNoModel, no_begin, faulty, WaitsBehind, IsReadFault, IsPastLimit, HasRead, IsFull}
 use Rattle.pl_main.proofs.Reading.{gave_append, gave_lines}
 use Rattle.pl_main.proofs.Beginning.{head_then}
@@ -146,7 +145,7 @@ ends_behind xs ys before line is = (xs ++ before, ap (λ (ls : List (List ℕ)).
 read_to : (place : Place) (source_left : Option (List ℕ)) (rest : List ℕ) → length place.reader.held < read_size → ahead place.reader.held source_left ≡ place.ahead → place.ahead ≡ Some rest → IsReadTo rest source_left
 read_to place source_left rest few behind is = record { came = place.reader.held; few = few; behind = behind ∙ is }
 
-done_ends : (turns : ℕ) (input words heads_rest : List ℕ) (heads : List (List ℕ)) (m : Model) (start place : Place) (source_left held opened now : Option (List ℕ)) (new : State)
+abbrev done_ends : (turns : ℕ) (input words heads_rest : List ℕ) (heads : List (List ℕ)) (m : Model) (start place : Place) (source_left held opened now : Option (List ℕ)) (new : State)
     → IsHead heads words → Gave total_limit input heads start.reader.room heads_rest → start.ahead ≡ Some heads_rest → IsModelText words m
     → Adds held opened (text_from m 0 (opening (program_options turns) ∷ [])) → PlaysOut (fresh_state turns m) start opened new place now → Legal new.model new.log → ahead place.reader.held source_left ≡ place.ahead → IsDone turns input source_left held now
 done_ends turns input words heads_rest heads m start place source_left held opened now new head gave is_ahead accepted first plays legal behind =
@@ -444,6 +443,24 @@ begins_at old kept new input after source_left room begun behind =
       no_further = begun.head.behind;
       text = (split_is input begun.lines begun.words (lines_of k.rest) begun.head (gave_lines old.room input begun.lines new.room k.rest k.gave)).text;
       source = record { came = new.held; few = begun.took.few; behind = behind ∙ k.is };
+    }
+
+-- a run that is done, with the log and the world that its machine is left with
+pub record IsDoneWith (turns : ℕ) (input : List ℕ) (source_left : Option (List ℕ)) (new : State) : Type 0 where
+  pub done : IsDone turns input source_left None None
+  pub log : new.log ≡ done.log
+  pub world : new.world ≡ world_of done.model done.log
+
+pub done_with : (turns : ℕ) (old : Reader) (kept : Option (Vec ℕ Global)) (start place : Place) (input : List ℕ) (source_left : Option (List ℕ)) (m : Model) (new : State)
+    → old.room ≡ total_limit → IsBegun old (Some input) kept start.reader start.ahead → IsKeptModel kept m → PlaysOut (fresh_state turns m) start None new place None → Legal new.model new.log → ahead place.reader.held source_left ≡ place.ahead
+    → IsDoneWith turns input source_left new
+done_with turns old kept start place input source_left m new room begun text plays legal behind =
+    let k = known old.room input begun.lines start.reader.room start.ahead begun.took.gave in
+    let l = logged turns m new None None None plays.entries legal plays.same plays.log plays.solo plays.world tt plays.written in
+    record {
+      done = done_ends turns input begun.words k.rest begun.lines m start place source_left None None None new begun.head (subst (λ (n : ℕ). Gave n input begun.lines start.reader.room k.rest) room k.gave) k.is (text begun.words begun.keeps) tt plays legal behind;
+      log = plays.log;
+      world = l.world;
     }
 
 begun_known : (turns : ℕ) (old : Reader) (kept : Option (Vec ℕ Global)) (start place : Place) (input : List ℕ) (source_left held now : Option (List ℕ)) (r : Result Outcome Halt)

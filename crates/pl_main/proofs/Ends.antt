@@ -1,5 +1,5 @@
 -- A message ends a run exactly where its line has `end` as its only token.
-use Rattle.std.proofs.Common.{◌≡◌, ℕ, List, [], ◌∷◌, length, Bool, true, false, Option, Some, None, if◌then◌else◌, nat_le, nat_lt, Result, Ok, Err, refl, ap, sym, ◌∙◌, subst}
+use Rattle.std.proofs.Common.{◌≡◌, ℕ, List, [], ◌∷◌, length, Bool, true, false, Option, Some, None, if◌then◌else◌, nat_le, nat_lt, Result, Ok, Err, refl, ap, sym, ◌∙◌}
 use Rattle.std.specs.Prelude.{codes, bytes_eq}
 use Rattle.std.specs.List.{list_any}
 use Rattle.std.proofs.lemmas.Slice.Eq.{bytes_eq-Decides}
@@ -20,15 +20,15 @@ use Rattle.pl_msg.specs.declared.telemetry.Value.TheVariants as said
 use Rattle.pl_msg.specs.Reads.{Read}
 use Rattle.pl_msg.specs.Words.{token_text, says, number_in, name_in, without_fault}
 use Rattle.pl_msg.specs.Names.{timeline_named, state_named}
-use Rattle.pl_msg.specs.Goals.{form_in, goal_in}
+use Rattle.pl_msg.specs.Goals.{goal_in}
 use Rattle.pl_msg.specs.Telemetry.{value_by, level_by, state_with, state_by, told_by, telemetry_in}
-use Rattle.pl_msg.specs.Messages.{tick_in, end_in, said_in, message_of}
+use Rattle.pl_msg.specs.Messages.{tick_in, said_in, message_of}
 use Rattle.pl_entry.specs.declared.reply.Reply.{Reply}
 use Rattle.pl_entry.specs.declared.reply.Reply.TheVariants as reply
 use Rattle.pl_world.specs.declared.plan_state.PlanState.{PlanState}
 use Rattle.pl_world.specs.PlanStates.{floor_of}
 use Rattle.pl_machine.specs.Lines.{is_only, is_line_of, end_word}
-use Rattle.pl_machine.specs.Messages.{goal_reply, tick_reply, message_reply, fault_reply, read_reply, line_reply}
+use Rattle.pl_machine.specs.Messages.{fault_reply, read_reply, line_reply}
 
 abbrev pub is_ended : Reply → Bool
 is_ended reply.Ended = true

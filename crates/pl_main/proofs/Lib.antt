@@ -9,6 +9,8 @@ pub mod Writing
 pub mod Playing
 pub mod Ending
 pub mod Checking
+pub mod Showing
+pub mod Summing
 pub mod Topping
 pub mod OneInput
 pub mod OneLog

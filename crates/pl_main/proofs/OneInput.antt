@@ -1,12 +1,11 @@
 -- What two readings of one input have in common.
-use Rattle.std.proofs.Common.{◌≡◌, ℕ, ◌+◌, ◌<◌, ◌≤◌, List, [], ◌∷◌, ◌++◌, length, Bool, true, false, if◌then◌else◌, Option, Some, None, ◌⊎◌, inl, inr, refl, sym, ◌∙◌, ap, subst, append_assoc, length-append, arith}
+use Rattle.std.proofs.Common.{◌≡◌, ℕ, ◌+◌, List, [], ◌∷◌, ◌++◌, length, Bool, true, false, if◌then◌else◌, Option, Some, None, ◌⊎◌, inl, inr, refl, sym, ◌∙◌, ap, subst, length-append, arith}
 use Rattle.std.proofs.lemmas.List.{append-nil}
 use Rattle.pl_io.specs.Lines.{lines_of, after_line, next_of, given, ended, line_too_long, input_too_long}
-use Rattle.pl_machine.specs.Lines.{is_blank_line, is_line_of, begin_word, end_word, text_before, model_text_of, lines_behind, messages_from, messages_of, split_of, with_newline}
+use Rattle.pl_machine.specs.Lines.{is_blank_line, is_line_of, begin_word, end_word, text_before, model_text_of, lines_behind, messages_from, messages_of, split_of}
 use Rattle.pl_main.specs.Reads.{GaveOne, Gave}
 use Rattle.pl_main.specs.Top.{total_limit}
 use Rattle.pl_main.proofs.Reading.{gave_lines}
-use Rattle.pl_main.proofs.Playing.{messages_append}
 
 abbrev Lines : Type 0
 Lines = List (List ℕ)

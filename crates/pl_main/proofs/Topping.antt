@@ -9,12 +9,13 @@ use Rattle.pl_main.specs.declared.command.Command.TheVariants as command
 use Rattle.pl_main.specs.declared.command.Task.{Task}
 use Rattle.pl_main.specs.declared.command.Task.TheVariants as task
 use Rattle.pl_main.specs.Numbers.{number_in}
-use Rattle.pl_main.specs.Words.{turns_by, command_in, command_of}
+use Rattle.pl_main.specs.Words.{turns_by, goals_by, command_in, command_of}
 use Rattle.pl_main.specs.declared.halt.Halt.{Halt}
 use Rattle.pl_main.specs.declared.halt.Halt.TheVariants as halt
 use Rattle.pl_main.specs.declared.outcome.Outcome.{Outcome}
 use Rattle.pl_main.specs.declared.outcome.Outcome.TheVariants as outcome
 use Rattle.pl_main.specs.Statuses.{IsTask, status_of, SaysKnown, IsSoloStatus, is_done, is_refused, is_read, is_write, is_limit, is_full, is_memory}
+use Rattle.pl_main.specs.Demos.{Shows}
 use Rattle.pl_main.specs.Top.{RanKnown, ChecksKnown}
 
 pub says_of : (turns : ℕ) (input source_left held now : Option (List ℕ)) (r : Result Outcome Halt) → RanKnown turns input source_left held now r → SaysKnown (task.Solo turns) input source_left held now (status_of r)
@@ -36,6 +37,15 @@ says_checked (Some input) source_left held now (Err halt.Read) ran = record { do
 says_checked (Some input) source_left held now (Err halt.Write) ran = record { done = λ e. absurd (omega (arith, e)); refused = λ e. absurd (omega (arith, e)); read_fault = λ e. absurd (omega (arith, e)); limit = λ e. absurd (omega (arith, e)); never_full = λ e. absurd (omega (arith, e)) }
 says_checked (Some input) source_left held now (Err halt.Memory) ran = record { done = λ e. absurd (omega (arith, e)); refused = λ e. absurd (omega (arith, e)); read_fault = λ e. absurd (omega (arith, e)); limit = λ e. absurd (omega (arith, e)); never_full = λ e. absurd (omega (arith, e)) }
 says_checked (Some input) source_left held now (Err halt.Full) ran = absurd ran
+
+pub says_shown : (goals : ℕ) (input source_left held now : Option (List ℕ)) (r : Result Outcome Halt) → Shows goals held now r → SaysKnown (task.Demo goals) input source_left held now (status_of r)
+says_shown goals input source_left held now (Ok outcome.Done) shows = record { done = λ e. shows; refused = λ e. absurd (omega (arith, e)); never_read = λ e. omega (arith, e); short = λ e. absurd (omega (arith, e)); never_limit = λ e. omega (arith, e); full = λ e. absurd (omega (arith, e)); silent = λ e. absurd (omega (arith, e)) }
+says_shown goals input source_left held now (Ok outcome.Refused) shows = record { done = λ e. absurd (omega (arith, e)); refused = λ e. shows; never_read = λ e. omega (arith, e); short = λ e. absurd (omega (arith, e)); never_limit = λ e. omega (arith, e); full = λ e. absurd (omega (arith, e)); silent = λ e. absurd (omega (arith, e)) }
+says_shown goals input source_left held now (Err halt.Full) shows = record { done = λ e. absurd (omega (arith, e)); refused = λ e. absurd (omega (arith, e)); never_read = λ e. omega (arith, e); short = λ e. absurd (omega (arith, e)); never_limit = λ e. omega (arith, e); full = λ e. shows; silent = λ e. absurd (omega (arith, e)) }
+says_shown goals input source_left held now (Err halt.Write) shows = record { done = λ e. absurd (omega (arith, e)); refused = λ e. absurd (omega (arith, e)); never_read = λ e. omega (arith, e); short = λ e. shows; never_limit = λ e. omega (arith, e); full = λ e. absurd (omega (arith, e)); silent = λ e. absurd (omega (arith, e)) }
+says_shown goals input source_left held now (Err halt.Memory) shows = record { done = λ e. absurd (omega (arith, e)); refused = λ e. absurd (omega (arith, e)); never_read = λ e. omega (arith, e); short = λ e. absurd (omega (arith, e)); never_limit = λ e. omega (arith, e); full = λ e. absurd (omega (arith, e)); silent = λ e. shows }
+says_shown goals input source_left held now (Err halt.Limit) shows = absurd shows
+says_shown goals input source_left held now (Err halt.Read) shows = absurd shows
 
 pub status_is : (r : Result Outcome Halt) → IsSoloStatus (status_of r)
 status_is (Ok outcome.Done) = is_done refl
@@ -70,10 +80,26 @@ by_check true t e =
     subst (λ (x : Task). IsTask x) is tt
 by_check false t e = absurd (let h : None ≡ Some (command.Alone t) = e in (cc))
 
+by_goal_bounds : (n : ℕ) (a b : Bool) → nat_le 1 n ≡ a → nat_le n 4000 ≡ b → (t : Task) → (if a && b then Some (command.Alone (task.Demo n)) else None) ≡ Some (command.Alone t) → IsTask t
+by_goal_bounds n true true low high t e =
+    let is : task.Demo n ≡ t = (let h : Some (command.Alone (task.Demo n)) ≡ Some (command.Alone t) = e in (cc)) in
+    let fits : (1 ≤ n) × (n ≤ 4000) = (leb-true 1 n low, leb-true n 4000 high) in
+    subst (λ (x : Task). IsTask x) is fits
+by_goal_bounds n true false low high t e = absurd (let h : None ≡ Some (command.Alone t) = e in (cc))
+by_goal_bounds n false b low high t e = absurd (let h : None ≡ Some (command.Alone t) = e in (cc))
+
+by_goals : (n : Option ℕ) (t : Task) → goals_by n ≡ Some (command.Alone t) → IsTask t
+by_goals None t e = absurd (let h : None ≡ Some (command.Alone t) = e in (cc))
+by_goals (Some n) t e = by_goal_bounds n (nat_le 1 n) (nat_le n 4000) refl refl t e
+
+by_demo : (b : Bool) (n : Option ℕ) (t : Task) → (if b then goals_by n else None) ≡ Some (command.Alone t) → IsTask t
+by_demo true n t e = by_goals n t e
+by_demo false n t e = absurd (let h : None ≡ Some (command.Alone t) = e in (cc))
+
 by_words : (ws : List (List ℕ)) (t : Task) → command_in ws ≡ Some (command.Alone t) → IsTask t
 by_words [] t e = absurd (let h : None ≡ Some (command.Alone t) = e in (cc))
 by_words (a ∷ []) t e = by_check (bytes_eq a (codes "check")) t e
-by_words (a ∷ b ∷ []) t e = absurd (let h : None ≡ Some (command.Alone t) = e in (cc))
+by_words (a ∷ n ∷ []) t e = by_demo (bytes_eq a (codes "demo")) (number_in n) t e
 by_words (a ∷ b ∷ n ∷ []) t e = by_form (bytes_eq a (codes "run") && bytes_eq b (codes "solo")) (number_in n) t e
 by_words (a ∷ b ∷ n ∷ d ∷ ds) t e = absurd (let h : None ≡ Some (command.Alone t) = e in (cc))
 

@@ -9,5 +9,6 @@ pub mod Written
 pub mod Plays
 pub mod Top
 pub mod Runs
+pub mod Demos
 pub mod Limits
 pub mod Statuses

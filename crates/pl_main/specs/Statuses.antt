@@ -7,6 +7,7 @@ use Rattle.pl_main.specs.declared.halt.Halt.TheVariants as halt
 use Rattle.pl_main.specs.declared.outcome.Outcome.{Outcome}
 use Rattle.pl_main.specs.declared.outcome.Outcome.TheVariants as outcome
 use Rattle.pl_main.specs.Top.{IsDone, IsReadFault, IsPastLimit, IsFull, IsFound, IsNoModel, IsHeadFault, IsPastHead}
+use Rattle.pl_main.specs.Demos.{IsShown, IsShownInPart, IsShownShort, HasNoDemo}
 
 -- 0 done, 3 the model is refused, 4 a read failed, 5 a write failed, 6 a line or the input is too long, 7 the log is full, 9 memory
 abbrev pub status_of : Result Outcome Halt → ℕ
@@ -21,6 +22,7 @@ status_of (Err halt.Memory) = 9
 abbrev pub IsTask : Task → Type 0
 IsTask (task.Solo turns) = (1 ≤ turns) × (turns ≤ 1000)
 IsTask task.Check = ⊤
+IsTask (task.Demo goals) = (1 ≤ goals) × (goals ≤ 4000)
 
 -- What the status of a run says where the input's bytes are known. Only what was written needs those of the sink.
 pub record SaysRan (turns : ℕ) (input : List ℕ) (source_left held now : Option (List ℕ)) (status : ℕ)
@@ -40,14 +42,31 @@ pub record SaysChecked (input : List ℕ) (source_left held now : Option (List �
   pub limit : status ≡ 6 → IsPastHead input held now
   pub never_full : status ≡ 7 → ⊥
 
-abbrev pub Says : Task → List ℕ → (source_left held now : Option (List ℕ)) → ℕ → Type 0
-Says (task.Solo turns) input source_left held now status =
-    SaysRan turns input source_left held now status
-Says task.Check input source_left held now status = SaysChecked input source_left held now status
+-- What the status of a demonstration says, which reads nothing: no line of its input is too long, and no read of it fails.
+pub record SaysShown (goals : ℕ) (held now : Option (List ℕ)) (status : ℕ) : Type 0 where
+  pub done : status ≡ 0 → IsShown goals held now
+  pub refused : status ≡ 3 → HasNoDemo goals held now
+  pub never_read : status ≡ 4 → ⊥
+  pub short : status ≡ 5 → IsShownShort goals held now
+  pub never_limit : status ≡ 6 → ⊥
+  pub full : status ≡ 7 → IsShownInPart goals held now
+  pub silent : status ≡ 9 → now ≡ held
 
+-- what a status says where the input's bytes are known, if the task reads them
 abbrev pub SaysKnown : Task → (input source_left held now : Option (List ℕ)) → ℕ → Type 0
-SaysKnown t None source_left held now status = ⊤
-SaysKnown t (Some input) source_left held now status = Says t input source_left held now status
+SaysKnown (task.Solo turns) None source_left held now status = ⊤
+SaysKnown (task.Solo turns) (Some input) source_left held now status =
+    SaysRan turns input source_left held now status
+SaysKnown task.Check None source_left held now status = ⊤
+SaysKnown task.Check (Some input) source_left held now status =
+    SaysChecked input source_left held now status
+SaysKnown (task.Demo goals) input source_left held now status = SaysShown goals held now status
+
+-- a demonstration leaves the input as it was
+abbrev pub IsUnread : {A : Type 0} → Task → A → A → Type 0
+IsUnread (task.Solo turns) old new = ⊤
+IsUnread task.Check old new = ⊤
+IsUnread (task.Demo goals) old new = new ≡ old
 
 -- a task of one thread has one of these statuses, and no other
 pub data IsSoloStatus (status : ℕ) : Type 0 where

@@ -1,5 +1,5 @@
--- The forms of the command line. So far `run solo N` and `check`.
-use Rattle.std.specs.Prelude.{ℕ, List, [], ◌∷◌, Bool, ◌&&◌, nat_le, if◌then◌else◌, Option, Some, None, codes, map}
+-- The forms of the command line. So far `run solo N`, `check` and `demo N`.
+use Rattle.std.specs.Prelude.{ℕ, List, [], ◌∷◌, ◌&&◌, nat_le, if◌then◌else◌, Option, Some, None, codes, map}
 use Rattle.std.specs.Str.{bytes_eq}
 use Rattle.std.specs.String.{string_bytes}
 use Rattle.std.specs.declared.string.String.{String}
@@ -14,8 +14,14 @@ abbrev pub turns_by : Option ℕ → Option Command
 turns_by None = None
 turns_by (Some n) = if nat_le 1 n && nat_le n 1000 then Some (command.Alone (task.Solo n)) else None
 
+-- the goals of the demonstration, from 1 to 4,000
+abbrev pub goals_by : Option ℕ → Option Command
+goals_by None = None
+goals_by (Some n) = if nat_le 1 n && nat_le n 4000 then Some (command.Alone (task.Demo n)) else None
+
 abbrev pub command_in : List (List ℕ) → Option Command
 command_in (check ∷ []) = if bytes_eq check (codes "check") then Some (command.Alone task.Check) else None
+command_in (demo ∷ goals ∷ []) = if bytes_eq demo (codes "demo") then goals_by (number_in goals) else None
 command_in (run ∷ solo ∷ turns ∷ []) = if bytes_eq run (codes "run") && bytes_eq solo (codes "solo") then turns_by (number_in turns) else None
 command_in _ = None
 

@@ -16,7 +16,7 @@ use pl_io::{LineReader, Sink, Source, put};
 use pl_model::Model;
 use std::alloc::{AllocError, Global};
 
-fn push_counted(out: &mut Vec<u8>, words: &[u8], count: usize) -> Result<(), AllocError>
+pub fn push_counted(out: &mut Vec<u8>, words: &[u8], count: usize) -> Result<(), AllocError>
     ensures { OnOk result (out.new.items ≡ out.old.items ++ (words.now ++ decimal count)) }
 {
     out.extend_from_slice(words)?;

@@ -11,4 +11,6 @@ pub enum Task {
     Solo { turns: u32 },
     /// Says whether a model is one, or its first fault.
     Check,
+    /// Plans a mission of so many goals, from 1 to 4,000, and says how it ended.
+    Demo { goals: u32 },
 }

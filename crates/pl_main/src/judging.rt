@@ -1,4 +1,5 @@
-ghost use Rattle.std.specs.Prelude.{◌≡◌, ◌≤◌, OnOk, IfOk, IfErr};
+ghost use Rattle.std.specs.Prelude.{◌≡◌, ◌≤◌, OnOk, OnErr, IfOk, IfErr};
+ghost use Rattle.pl_io.specs.Writes.{AppendsFront};
 ghost use Rattle.pl_accept.specs.Accepting.{HoldsChecked};
 ghost use Rattle.pl_main.specs.Runs.{AcceptsKept};
 ghost use Rattle.pl_main.specs.Written.{Adds, WriteStops};
@@ -13,6 +14,8 @@ use std::alloc::{AllocError, Global};
 pub fn refuse<O: Sink>(out: &mut O, line: &[u8]) -> Result<Outcome, Halt>
     ensures text { OnOk result (Adds (O.held out.old) (O.held out.new) line.now) }
     ensures refused { IfOk result (λ outcome. outcome ≡ Outcome.Refused) }
+    ensures front { OnErr result (AppendsFront (O.held out.old) (O.held out.new) line.now) }
+    ensures fails { IfErr result (λ e. e ≡ Halt.Write) }
     ensures cause { IfErr result (WriteStops (O.faults out.old) (O.faults out.new)) }
     ensures later { O.faults out.old ≤ O.faults out.new }
 {

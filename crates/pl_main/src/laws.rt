@@ -1,10 +1,11 @@
 //! No input has the causes of two statuses.
 ghost use Rattle.std.specs.Prelude.{ℕ, List, Option};
 ghost use Rattle.pl_main.specs.Top.{IsDone, IsPastLimit, IsFull, IsFound, IsNoModel, IsPastHead};
+ghost use Rattle.pl_main.specs.Demos.{IsShown, IsShownInPart, HasNoDemo};
 ghost use Rattle.pl_main.specs.Limits.{IsWithinLimits};
 
 /// The causes of the statuses 0, 3, 6 and 7 of a run stand one at a time, whatever was written, and
-/// so do those of the statuses 0, 3 and 6 of a check. An input within the limits has no cause of 6.
+/// so do those of the statuses 0, 3 and 6 of a check, and of 0, 3 and 7 of a demonstration. An input within the limits has no cause of 6.
 pub fn statuses_are_told_apart()
     ensures done_not_refused { (turns : ℕ) (input : List ℕ) (left held now other_left other_held other_now : Option (List ℕ))
         → IsDone turns input left held now → IsNoModel input other_left other_held other_now → ⊥ }
@@ -24,6 +25,12 @@ pub fn statuses_are_told_apart()
         → IsFound input left held now → IsPastHead input other_held other_now → ⊥ }
     ensures no_model_not_past { (input : List ℕ) (left held now other_held other_now : Option (List ℕ))
         → IsNoModel input left held now → IsPastHead input other_held other_now → ⊥ }
+    ensures shown_not_refused { (goals : ℕ) (held now other_held other_now : Option (List ℕ))
+        → IsShown goals held now → HasNoDemo goals other_held other_now → ⊥ }
+    ensures shown_not_full { (goals : ℕ) (held now other_held other_now : Option (List ℕ))
+        → IsShown goals held now → IsShownInPart goals other_held other_now → ⊥ }
+    ensures no_demo_not_full { (goals : ℕ) (held now other_held other_now : Option (List ℕ))
+        → HasNoDemo goals held now → IsShownInPart goals other_held other_now → ⊥ }
     ensures within { (turns : ℕ) (input : List ℕ) (held now : Option (List ℕ))
         → IsWithinLimits input → IsPastLimit turns input held now → ⊥ }
     ensures head_within { (input : List ℕ) (held now : Option (List ℕ))

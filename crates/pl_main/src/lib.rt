@@ -4,6 +4,7 @@
 mod answers;
 mod check;
 mod command;
+mod demo;
 mod found;
 mod halt;
 mod head;

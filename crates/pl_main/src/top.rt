@@ -1,12 +1,13 @@
-ghost use Rattle.std.specs.Prelude.{◌≡◌, ◌⊎◌, ℕ, None, Some, IfSome};
+ghost use Rattle.std.specs.Prelude.{◌≡◌, ◌⊎◌, ℕ, None, Some};
 ghost use Rattle.pl_io.specs.Faults.{Rose};
 ghost use Rattle.pl_main.specs.Words.{command_of};
-ghost use Rattle.pl_main.specs.Limits.{CanDo, IsDoneBy};
-ghost use Rattle.pl_main.specs.Statuses.{IsTask, IsSoloStatus, status_of, usage_line, SaysKnown};
+ghost use Rattle.pl_main.specs.Limits.{Completes};
+ghost use Rattle.pl_main.specs.Statuses.{IsTask, IsSoloStatus, status_of, usage_line, SaysKnown, IsUnread};
 ghost use Rattle.pl_main.specs.Written.{Adds};
 
 use crate::check::check;
 use crate::command::{Command, Task};
+use crate::demo::demo;
 use crate::halt::Halt;
 use crate::outcome::Outcome;
 use crate::whole::solo;
@@ -28,7 +29,7 @@ fn status_of(ended: Result<Outcome, Halt>) -> u8
     }
 }
 
-#[tactic(auto, using(crate::proofs::Topping::says_of, crate::proofs::Topping::says_checked, crate::proofs::Topping::status_is))]
+#[tactic(auto, using(crate::proofs::Topping::says_of, crate::proofs::Topping::says_checked, crate::proofs::Topping::says_shown, crate::proofs::Topping::status_is))]
 fn task_status<I: Source, O: Sink>(alloc: Global, task: &Task, input: &mut I, out: &mut O) -> u8
     requires { IsTask task.now }
     ensures status { IsSoloStatus result }
@@ -36,10 +37,12 @@ fn task_status<I: Source, O: Sink>(alloc: Global, task: &Task, input: &mut I, ou
     ensures write { result ≡ 5 → Rose (O.faults out.old) (O.faults out.new) }
     ensures says { SaysKnown task.now (I.left input.old) (I.left input.new) (O.held out.old)
         (O.held out.new) result }
+    ensures unread { IsUnread task.now input.old input.new }
 {
     match task {
         Task::Solo { turns } => status_of(solo(alloc, *turns, input, out)),
         Task::Check => status_of(check(alloc, input, out)),
+        Task::Demo { goals } => status_of(demo(alloc, *goals, out)),
     }
 }
 
@@ -51,9 +54,10 @@ pub fn run_solo<I: Source, O: Sink>(alloc: Global, task: &Task, input: &mut I, o
     ensures write { result ≡ 5 → Rose (O.faults out.old) (O.faults out.new) }
     ensures says { SaysKnown task.now (I.left input.old) (I.left input.new) (O.held out.old)
         (O.held out.new) result }
+    ensures unread { IsUnread task.now input.old input.new }
     ensures complete { (Rose (I.faults input.old) (I.faults input.new) → ⊥)
         → (Rose (O.faults out.old) (O.faults out.new) → ⊥)
-        → IfSome (I.left input.old) (λ bytes. CanDo task.now bytes → IsDoneBy task.now result) }
+        → Completes task.now (I.left input.old) result }
 {
     task_status(alloc, task, input, out)
 }
@@ -79,6 +83,8 @@ pub fn run<I: Source, O: Sink>(alloc: Global, words: &[String], input: &mut I, o
     ensures usage { result ≡ 2 → command_of words.now ≡ None }
     ensures words { command_of words.now ≡ None → (result ≡ 2) ⊎ (result ≡ 5) }
     ensures unread { command_of words.now ≡ None → input.new ≡ input.old }
+    ensures task_unread { (task : Task) → command_of words.now ≡ Some (Command.Alone task)
+        → IsUnread task input.old input.new }
     ensures usage_text { result ≡ 2 → Adds (O.held out.old) (O.held out.new) usage_line }
     ensures status { (result ≡ 2) ⊎ IsSoloStatus result }
     ensures read { result ≡ 4 → Rose (I.faults input.old) (I.faults input.new) }
@@ -88,7 +94,7 @@ pub fn run<I: Source, O: Sink>(alloc: Global, words: &[String], input: &mut I, o
     ensures complete { (task : Task) → command_of words.now ≡ Some (Command.Alone task)
         → (Rose (I.faults input.old) (I.faults input.new) → ⊥)
         → (Rose (O.faults out.old) (O.faults out.new) → ⊥)
-        → IfSome (I.left input.old) (λ bytes. CanDo task bytes → IsDoneBy task result) }
+        → Completes task (I.left input.old) result }
 {
     match read_words(words) {
         None => usage(out),

@@ -25,7 +25,7 @@ pub const LINE_LIMIT: u32 = 4096;
 
 pub const TOTAL_LIMIT: u64 = 1_073_741_824;
 
-fn program_options(turns: u32) -> Options
+pub fn program_options(turns: u32) -> Options
     ensures { result ≡ program_options turns }
 {
     Options {

@@ -1,6 +1,6 @@
 ghost use Rattle.std.specs.Prelude.{◌≡◌, map};
 ghost use Rattle.std.specs.String.{string_bytes};
-ghost use Rattle.pl_main.specs.Words.{turns_by, command_in, command_of};
+ghost use Rattle.pl_main.specs.Words.{turns_by, goals_by, command_in, command_of};
 
 use crate::command::{Command, Task};
 use crate::number::read_number;
@@ -16,7 +16,19 @@ fn solo(turns: Option<u64>) -> Option<Command>
     }
 }
 
-/// What the words behind the program's name ask for: `run solo N`, N from 1 to 1,000, or `check`.
+fn demo(goals: Option<u64>) -> Option<Command>
+    ensures { result ≡ goals_by goals }
+{
+    match goals {
+        Some(goals) if 1 <= goals && goals <= 4000 => Some(Command::Alone(Task::Demo {
+            goals: goals as u32,
+        })),
+        _ => None,
+    }
+}
+
+/// What the words behind the program's name ask for: `run solo N`, N from 1 to 1,000, `check`, or `demo N`, N from 1 to
+/// 4,000.
 #[tactic(auto, unfolding(crate::specs::Words::command_of))]
 pub fn read_words(words: &[String]) -> Option<Command>
     ensures { result ≡ command_of words.now }
@@ -25,6 +37,13 @@ pub fn read_words(words: &[String]) -> Option<Command>
         [check] => {
             if check.as_bytes() == b"check".as_slice() {
                 Some(Command::Alone(Task::Check))
+            } else {
+                None
+            }
+        }
+        [demo_word, goals] => {
+            if demo_word.as_bytes() == b"demo".as_slice() {
+                demo(read_number(goals.as_bytes()))
             } else {
                 None
             }

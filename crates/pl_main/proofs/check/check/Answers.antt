@@ -1,4 +1,4 @@
-use Rattle.std.proofs.Common.{◌≡◌, refl, ap}
+use Rattle.std.proofs.Common.{ap}
 use Rattle.pl_io.specs.Reader.{Reader}
 use Rattle.pl_main.proofs.Checking.{begun_checks, refused_checks}
 use Rattle.pl_main.proofs.check.check.Goals as goal
