@@ -1,0 +1,4 @@
+pub mod Items
+pub mod Turning
+pub mod Answering
+pub mod Crossing

@@ -1,0 +1,61 @@
+-- What the calls that take a turn do.
+use Rattle.std.specs.Prelude.{◌≡◌, ◌≤◌, ℕ, List, [], ◌∷◌, ◌++◌, length, drop, Bool, true, false, Option, Result, Ok, Err, ◌⊎◌}
+use mathlib.Core.List.{IsPrefix}
+use Rattle.pl_turn.specs.Passes.{seen_of, mine_of, counted_of, crew_of}
+use Rattle.pl_entry.specs.declared.entry.Entry.{Entry}
+use Rattle.pl_machine.specs.declared.stop.Stop.{Stop}
+use Rattle.pl_machine.specs.declared.stop.Stop.TheVariants as stop
+use Rattle.pl_machine.specs.World.{World}
+use Rattle.pl_shared.specs.declared.noted.Noted.{Noted}
+use Rattle.pl_shared.specs.declared.noted.Noted.TheVariants.{Made, Stopped}
+use Rattle.pl_shared.specs.declared.part.Part.{Part}
+use Rattle.pl_shared.specs.Items.{entries_in, model_in, stop_in, InWorld}
+use Rattle.pl_shared.specs.Roles.{IsInputOf}
+use Rattle.pl_shared.specs.Inside.{IsStepIn, can_listen}
+use Rattle.pl_shared.specs.Plans.{PlanPass}
+
+-- What the pass has seen goes on, and is no shorter than any length that it was told.
+pub record TakesTurn (old new : PlanPass) : Type 0 where
+  pub longer : IsPrefix (seen_of old) (seen_of new)
+  pub model : model_in (seen_of new) ≡ model_in (seen_of old)
+  pub counted : counted_of old ≤ length (seen_of new)
+  pub same_counted : counted_of new ≡ counted_of old
+  pub crew : crew_of new ≡ crew_of old
+
+-- The call made the entry of this number, the last that the pass has seen, and its newest own one.
+pub record Makes (By : World → Entry → Type 0) (old new : PlanPass) (number : ℕ) : Type 0 where
+  pub between : List Noted
+  pub entry : Entry
+  pub seen : seen_of new ≡ (seen_of old ++ between) ++ Made entry ∷ []
+  pub place : number ≡ length (seen_of old ++ between)
+  pub mine : mine_of new ≡ mine_of old ++ (number, Made entry) ∷ []
+  pub running : stop_in (seen_of old ++ between) ≡ false
+  pub step : InWorld (seen_of old ++ between) (λ w. IsStepIn w entry)
+  pub by : InWorld (seen_of old ++ between) (λ w. By w entry)
+
+abbrev pub MakesNothing : PlanPass → PlanPass → Type 0
+MakesNothing old new = mine_of new ≡ mine_of old
+
+-- as many entries as the options allow
+abbrev pub IsFull : List Noted → Type 0
+IsFull seen = InWorld seen (λ w. w.options.entries ≤ length (entries_in seen))
+
+-- NotNow and LogFull come in this order, exactly by their causes.
+abbrev pub Feeds : Option (List ℕ) → PlanPass → Result ℕ Stop → PlanPass → Type 0
+Feeds line old (Ok number) new = Makes (IsInputOf line) old new number
+Feeds line old (Err stop.NotNow) new = MakesNothing old new × InWorld (seen_of new) (λ w. can_listen w (stop_in (seen_of new)) ≡ false)
+Feeds line old (Err stop.LogFull) new = MakesNothing old new × InWorld (seen_of new) (λ w. can_listen w (stop_in (seen_of new)) ≡ true) × IsFull (seen_of new)
+Feeds line old (Err stop.Spoiled) new = MakesNothing old new
+Feeds line old (Err stop.Memory) new = MakesNothing old new
+
+-- The plan is stopped. Where it was not yet, the stop is the pass's newest own item, and the last that it has seen.
+pub data Stops (old new : PlanPass) : Type 0 where
+  was_stopped : mine_of new ≡ mine_of old → stop_in (seen_of new) ≡ true → Stops old new
+  is_stopped : (seen : List Noted) → IsPrefix (seen_of old) seen → stop_in seen ≡ false → seen_of new ≡ seen ++ Stopped ∷ []
+      → mine_of new ≡ mine_of old ++ (length seen, Stopped) ∷ [] → Stops old new
+
+-- the entries from this number on, and the world behind them
+pub record Copies (from : ℕ) (seen : List Noted) (part : Part) : Type 0 where
+  pub entries : part.entries ≡ drop from (entries_in seen)
+  pub world : InWorld seen (λ w. (part.closed ≡ w.closed) × (part.done ≡ w.done))
+  pub stopped : part.stopped ≡ stop_in seen

@@ -1,0 +1,21 @@
+//! One plan under a lock: a feeder, a planner and an executive take turns on it, each event of theirs one entry of one history.
+#![tactic(auto)]
+
+mod bell;
+mod copying;
+mod feeding;
+mod held;
+mod inside;
+mod noted;
+mod part;
+mod passes;
+mod plan;
+mod sharing;
+mod stopping;
+mod turns;
+
+pub use held::Held;
+pub use noted::Noted;
+pub use part::{Entries, Part};
+pub use plan::{Pass, SharedPlan};
+pub use sharing::shared_types;
