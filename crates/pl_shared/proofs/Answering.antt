@@ -1,20 +1,30 @@
 -- What the machine's answers come to inside a turn.
 use Rattle.std.proofs.Common.{◌≡◌, ℕ, ◌+◌, ◌<◌, ◌≤◌, List, [], ◌∷◌, ◌++◌, length, Bool, true, false, Option, Some, None, IsSome, Result, Ok, Err, refl, sym, ◌∙◌, ap, subst, arith, length-append}
 use Rattle.std.specs.Prelude.{not, ◌&&◌, is_some}
+use Rattle.pl_conflict.specs.declared.conflict.Conflict.{Conflict}
+use Rattle.pl_plan.specs.declared.repair.RepairMove.{RepairMove}
 use Rattle.pl_entry.specs.declared.event.Event.{Event}
 use Rattle.pl_entry.specs.declared.event.Event.TheVariants as event
 use Rattle.pl_entry.specs.declared.reply.Reply.{Reply}
 use Rattle.pl_entry.specs.declared.reply.Reply.TheVariants as reply
 use Rattle.pl_entry.specs.declared.entry.Entry.{Entry}
+use Rattle.rand_pcg.specs.Lcg.{Lcg}
 use Rattle.pl_machine.specs.declared.stop.Stop.{Stop}
 use Rattle.pl_machine.specs.declared.stop.Stop.TheVariants as stop
+use Rattle.pl_machine.specs.declared.choice.Choice.{Choice}
 use Rattle.pl_machine.specs.World.{World}
 use Rattle.pl_machine.specs.Step.{is_enabled}
+use Rattle.pl_machine.specs.Choices.{exec_choice_of, event_of}
 use Rattle.pl_machine.specs.Sound.{State}
 use Rattle.pl_machine.specs.Taking.{IsOpen, Takes, Spoils, Answers}
 use Rattle.pl_shared.specs.declared.held.Held.{Held}
-use Rattle.pl_shared.specs.Roles.{IsInputOf}
-use Rattle.pl_shared.specs.Inside.{Logs, KeepsLog, Spoiled, can_listen, FeedsIn}
+use Rattle.pl_shared.specs.declared.role.Role.{Role}
+use Rattle.pl_shared.specs.declared.role.Role.TheVariants.{Planner, Executive}
+use Rattle.pl_shared.specs.declared.role.Acted.{Acted}
+use Rattle.pl_shared.specs.declared.role.Acted.TheVariants as acted
+use Rattle.pl_shared.specs.Roles.{worker_of, has_event, IsChosen, IsPlanned, IsBy, IsInputOf}
+use Rattle.pl_shared.specs.Inside.{Logs, KeepsLog, Spoiled, IsFull, can_listen, FeedsIn, IsGoing, ActsIn}
+use Rattle.pl_shared.specs.Planning.{Fails, IsRepaired, Plans}
 
 and_true : (b : Bool) → (b && true) ≡ b
 and_true true = refl
@@ -69,3 +79,62 @@ stopped_listens w false e = absurd (cc)
 
 pub fed_stopped : (line : Option (List ℕ)) (old : Held) → old.machine.spoiled ≡ false → old.stopped ≡ true → FeedsIn line old (Err stop.NotNow) old
 fed_stopped line old unspoiled stopped = (unspoiled, stopped_listens old.machine.world old.stopped stopped, refl)
+
+-- ---- the executive
+
+abbrev Chosen : Held → Choice → Type 0
+Chosen old choice = exec_choice_of old.machine.world ≡ Some choice
+
+some_chosen : (o : Option Choice) (choice : Choice) → o ≡ Some choice → is_some o ≡ true
+some_chosen o choice e = ap (λ (x : Option Choice). is_some x) e
+
+pub executed : (old : Held) (m : State) (choice : Choice) (r : Reply) (n : ℕ) → Chosen old choice → old.machine.world.done ≡ false → old.stopped ≡ false
+    → Answers old.machine (event_of choice) (Ok r) m → n + 1 ≡ length m.log → ActsIn Executive old (Ok (acted.Did n)) Executive (with_machine m old)
+executed old m choice r n chosen going running answers last =
+    let P : Option Choice → Type 0 = λ o. IsChosen o (event_of choice) in (
+      took_one (IsBy Executive Executive) old m (event_of choice) r n running answers.0 answers.1 last (subst P (sym chosen) refl),
+      going,
+      some_chosen (exec_choice_of old.machine.world) choice chosen,
+    )
+
+pub execute_stops : (old : Held) (m : State) (choice : Choice) (s : Stop) → Chosen old choice → is_enabled old.machine.world (event_of choice) ≡ true → old.machine.spoiled ≡ false
+    → old.machine.world.done ≡ false → old.stopped ≡ false → Answers old.machine (event_of choice) (Err s) m → ActsIn Executive old (Err s) Executive (with_machine m old)
+execute_stops old m choice stop.Spoiled chosen enabled unspoiled going running answers = (answers.0, same_held old m answers.1, refl)
+execute_stops old m choice stop.NotNow chosen enabled unspoiled going running answers = absurd (let h : true ≡ false = sym enabled ∙ answers.1 in cc)
+execute_stops old m choice stop.LogFull chosen enabled unspoiled going running answers =
+    (record { unspoiled = unspoiled; going = going; running = running }, some_chosen (exec_choice_of old.machine.world) choice chosen, answers.2, same_held old m answers.3, refl)
+execute_stops old m choice stop.Memory chosen enabled unspoiled going running answers = (spoils_held old m answers.0 answers.1, refl)
+
+pub execute_none : (old : Held) → exec_choice_of old.machine.world ≡ None → old.machine.spoiled ≡ false → old.machine.world.done ≡ false → old.stopped ≡ false
+    → ActsIn Executive old (Ok acted.Nothing) Executive old
+execute_none old none unspoiled going running = (record { unspoiled = unspoiled; going = going; running = running }, ap (λ (x : Option Choice). is_some x) none, refl, refl)
+
+-- ---- the planner
+
+pub planned : (old : Held) (m : State) (g g2 : Lcg) (r : Reply) (n : ℕ) → old.machine.world.done ≡ false → old.stopped ≡ false → has_event (Planner g) old.machine.world ≡ true
+    → Plans old.machine g (Ok r) m g2 → n + 1 ≡ length m.log → ActsIn (Planner g) old (Ok (acted.Did n)) (Planner g2) (with_machine m old)
+planned old m g g2 r n going running has plans last =
+    (took_one (IsBy (Planner g) (Planner g2)) old m plans.event r n running plans.may plans.takes last plans.planned, going, has)
+
+pub plan_stops : (old : Held) (m : State) (g g2 : Lcg) (s : Stop) → old.machine.spoiled ≡ false → Plans old.machine g (Err s) m g2 → ActsIn (Planner g) old (Err s) (Planner g2) (with_machine m old)
+plan_stops old m g g2 stop.Memory unspoiled fails = (spoils_held old m unspoiled fails, refl)
+plan_stops old m g g2 stop.NotNow unspoiled fails = absurd fails
+plan_stops old m g g2 stop.LogFull unspoiled fails = absurd fails
+plan_stops old m g g2 stop.Spoiled unspoiled fails = absurd fails
+
+pub plan_none : (old : Held) (g : Lcg) → has_event (Planner g) old.machine.world ≡ false → old.machine.spoiled ≡ false → old.machine.world.done ≡ false → old.stopped ≡ false
+    → ActsIn (Planner g) old (Ok acted.Nothing) (Planner g) old
+plan_none old g none unspoiled going running = (record { unspoiled = unspoiled; going = going; running = running }, none, refl, refl)
+
+pub plan_full : (old : Held) (g : Lcg) → has_event (Planner g) old.machine.world ≡ true → old.machine.spoiled ≡ false → old.machine.world.done ≡ false → old.stopped ≡ false → IsFull old.machine
+    → ActsIn (Planner g) old (Err stop.LogFull) (Planner g) old
+plan_full old g has unspoiled going running full = (record { unspoiled = unspoiled; going = going; running = running }, has, full, refl, refl)
+
+-- where the planner has an event the round is open and does not rest
+pub opened_by : (w : World) → (not w.closed && not w.rested) ≡ true → (w.closed ≡ false) × (w.rested ≡ false)
+opened_by w e = both_false w.closed w.rested e
+  where
+    both_false : (a b : Bool) → (not a && not b) ≡ true → (a ≡ false) × (b ≡ false)
+    both_false true b e = absurd (cc)
+    both_false false true e = absurd (cc)
+    both_false false false e = (refl, refl)

@@ -17,12 +17,15 @@ use Rattle.pl_shared.specs.declared.noted.Noted.{Noted}
 use Rattle.pl_shared.specs.declared.noted.Noted.TheVariants.{Made, Stopped}
 use Rattle.pl_shared.specs.declared.held.Held.{Held}
 use Rattle.pl_shared.specs.declared.part.Part.{Part}
+use Rattle.pl_shared.specs.declared.role.Role.{Role}
+use Rattle.pl_shared.specs.declared.role.Acted.{Acted}
+use Rattle.pl_shared.specs.declared.role.Acted.TheVariants as acted
 use Rattle.pl_shared.specs.Items.{items_of, entries_in, model_in, stop_in, InWorld}
-use Rattle.pl_shared.specs.Roles.{IsInputOf}
-use Rattle.pl_shared.specs.Inside.{items_in, IsSound, IsStepIn, Logs, KeepsLog, Spoiled, can_listen, FeedsIn, IsPart}
+use Rattle.pl_shared.specs.Roles.{has_event, IsBy, IsInputOf, worker_of}
+use Rattle.pl_shared.specs.Inside.{items_in, IsSound, IsStepIn, Logs, KeepsLog, Spoiled, can_listen, FeedsIn, IsPart, IsGoing, ActsIn}
 use Rattle.pl_shared.specs.declared.plan.SharedPlan.{SharedPlan}
 use Rattle.pl_shared.specs.Plans.{PlanPass, IsPlan, BelongsTo, Closes}
-use Rattle.pl_shared.specs.Turns.{TakesTurn, Makes, MakesNothing, IsFull, Feeds, Stops, was_stopped, is_stopped, Copies}
+use Rattle.pl_shared.specs.Turns.{TakesTurn, Makes, MakesNothing, IsFull, Feeds, Acts, Stops, was_stopped, is_stopped, Copies}
 use Rattle.pl_shared.proofs.Items.{length_going, model_in_items, model_in_prefix, items_push, items_stopped, in_world_of, in_world, stop_in_same, entries_in_items}
 
 -- ---- the lists
@@ -57,6 +60,16 @@ grows_fed line seen old new (Err stop.Spoiled) found sound feeds = grows_same se
 grows_fed line seen old new (Err stop.NotNow) found sound feeds = grows_same seen old new found (same_held old new feeds.2)
 grows_fed line seen old new (Err stop.LogFull) found sound feeds = grows_same seen old new found (same_held old new feeds.3)
 grows_fed line seen old new (Err stop.Memory) found sound feeds = grows_same seen old new found feeds.1
+
+pub grows_acted : (r r2 : Role) (seen : List Noted) (old new : Held) (a : Result Acted Stop) → seen ≡ items_in old → IsSound old.machine → ActsIn r old a r2 new → IsSameOrOneMore seen (items_in new)
+grows_acted r r2 seen old new (Ok (acted.Did n)) found sound acts = grows_more (IsBy r r2) seen old new n found sound acts.0
+grows_acted r r2 seen old new (Ok acted.Nothing) found sound acts = grows_same seen old new found (same_held old new acts.2)
+grows_acted r r2 seen old new (Ok acted.Finished) found sound acts = grows_same seen old new found (same_held old new acts.2)
+grows_acted r r2 seen old new (Ok acted.Stopped) found sound acts = grows_same seen old new found (same_held old new acts.3)
+grows_acted r r2 seen old new (Err stop.Spoiled) found sound acts = grows_same seen old new found (same_held old new acts.1)
+grows_acted r r2 seen old new (Err stop.NotNow) found sound acts = absurd acts
+grows_acted r r2 seen old new (Err stop.LogFull) found sound acts = grows_same seen old new found (same_held old new acts.3)
+grows_acted r r2 seen old new (Err stop.Memory) found sound acts = grows_same seen old new found acts.0.1
 
 stop_mark : (m : Model) (log : List Entry) (s : Bool) → IsSameOrOneMore (items_of m log s) (items_of m log true)
 stop_mark m log true = inl refl
@@ -174,6 +187,32 @@ module _ (old mid new : PlanPass) (held held2 : Held) (turn : Turn old mid new h
   fed line (Err stop.LogFull) feeds =
       let keeps = same_held held held2 feeds.3 in (made_none keeps, listens_in keeps true feeds.0 feeds.1, full_in keeps feeds.0 feeds.2)
   fed line (Err stop.Memory) feeds = made_none feeds.1
+
+  pub did : (r r2 : Role) (a : Result Acted Stop) → ActsIn r held a r2 held2 → Acts r old a r2 new
+  did r r2 (Ok (acted.Did n)) acts =
+      made_one (IsBy r r2) (λ w e. (w.done ≡ false) × (has_event r w ≡ true) × IsBy r r2 w e) n (turn.sound.history acts.0.unspoiled) acts.0 (acts.1, acts.2, acts.0.by)
+  did r r2 (Ok acted.Nothing) acts =
+      let keeps = same_held held held2 acts.2 in (
+        made_none keeps,
+        stands_in keeps (λ w. (w.done ≡ false) × (has_event r w ≡ false)) acts.0.unspoiled (acts.0.going, acts.1),
+        stop_is keeps ∙ acts.0.running,
+        acts.3,
+      )
+  did r r2 (Ok acted.Finished) acts =
+      let keeps = same_held held held2 acts.2 in (made_none keeps, stands_in keeps (λ w. w.done ≡ true) acts.0 acts.1, acts.3)
+  did r r2 (Ok acted.Stopped) acts =
+      let keeps = same_held held held2 acts.3 in (made_none keeps, stands_in keeps (λ w. w.done ≡ false) acts.0 acts.1, stop_is keeps ∙ acts.2, acts.4)
+  did r r2 (Err stop.Spoiled) acts = (made_none (same_held held held2 acts.1), acts.2)
+  did r r2 (Err stop.NotNow) acts = absurd acts
+  did r r2 (Err stop.LogFull) acts =
+      let keeps = same_held held held2 acts.3 in (
+        made_none keeps,
+        stands_in keeps (λ w. (w.done ≡ false) × (has_event r w ≡ true)) acts.0.unspoiled (acts.0.going, acts.1),
+        stop_is keeps ∙ acts.0.running,
+        full_in keeps acts.0.unspoiled acts.2,
+        acts.4,
+      )
+  did r r2 (Err stop.Memory) acts = (made_none acts.0.1, acts.1)
 
   copied : (from : ℕ) (part : Part) → held2 ≡ held → IsPart from held part → Copies from (seen_of new) part
   copied from part same is =

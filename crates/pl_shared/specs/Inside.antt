@@ -10,9 +10,12 @@ use Rattle.pl_machine.specs.Legal.{Legal, IsHistory, world_of}
 use Rattle.pl_machine.specs.Sound.{State}
 use Rattle.pl_shared.specs.declared.noted.Noted.{Noted}
 use Rattle.pl_shared.specs.declared.held.Held.{Held}
+use Rattle.pl_shared.specs.declared.role.Role.{Role}
+use Rattle.pl_shared.specs.declared.role.Acted.{Acted}
+use Rattle.pl_shared.specs.declared.role.Acted.TheVariants as acted
 use Rattle.pl_shared.specs.declared.part.Part.{Part}
 use Rattle.pl_shared.specs.Items.{items_of}
-use Rattle.pl_shared.specs.Roles.{IsInputOf}
+use Rattle.pl_shared.specs.Roles.{worker_of, has_event, IsBy, IsInputOf}
 
 abbrev pub items_in : Held → List Noted
 items_in h = items_of h.machine.model h.machine.log h.stopped
@@ -71,3 +74,20 @@ pub record IsPart (from : ℕ) (h : Held) (part : Part) : Type 0 where
   pub done : part.done ≡ h.machine.world.done
   pub spoiled : part.spoiled ≡ h.machine.spoiled
   pub stopped : part.stopped ≡ h.stopped
+
+-- an unspoiled plan before the end of the input and the stop
+pub record IsGoing (h : Held) : Type 0 where
+  pub unspoiled : h.machine.spoiled ≡ false
+  pub going : h.machine.world.done ≡ false
+  pub running : h.stopped ≡ false
+
+-- Each answer comes exactly by its cause, in this order: Spoiled, Finished, Stopped, Nothing, LogFull. All of them but the entry and want of memory change nothing.
+abbrev pub ActsIn : Role → Held → Result Acted Stop → Role → Held → Type 0
+ActsIn r old (Ok (acted.Did number)) r2 new = Logs (IsBy r r2) old new number × (old.machine.world.done ≡ false) × (has_event r old.machine.world ≡ true)
+ActsIn r old (Ok acted.Nothing) r2 new = IsGoing old × (has_event r old.machine.world ≡ false) × (new ≡ old) × (r2 ≡ r)
+ActsIn r old (Ok acted.Finished) r2 new = (old.machine.spoiled ≡ false) × (old.machine.world.done ≡ true) × (new ≡ old) × (r2 ≡ r)
+ActsIn r old (Ok acted.Stopped) r2 new = (old.machine.spoiled ≡ false) × (old.machine.world.done ≡ false) × (old.stopped ≡ true) × (new ≡ old) × (r2 ≡ r)
+ActsIn r old (Err stop.Spoiled) r2 new = (old.machine.spoiled ≡ true) × (new ≡ old) × (r2 ≡ r)
+ActsIn r old (Err stop.NotNow) r2 new = ⊥
+ActsIn r old (Err stop.LogFull) r2 new = IsGoing old × (has_event r old.machine.world ≡ true) × IsFull old.machine × (new ≡ old) × (r2 ≡ r)
+ActsIn r old (Err stop.Memory) r2 new = Spoiled old new × (worker_of r2 ≡ worker_of r)

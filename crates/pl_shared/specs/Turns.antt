@@ -1,5 +1,6 @@
 -- What the calls that take a turn do.
 use Rattle.std.specs.Prelude.{◌≡◌, ◌≤◌, ℕ, List, [], ◌∷◌, ◌++◌, length, drop, Bool, true, false, Option, Result, Ok, Err, ◌⊎◌}
+use Rattle.std.specs.List.{All}
 use mathlib.Core.List.{IsPrefix}
 use Rattle.pl_turn.specs.Passes.{seen_of, mine_of, counted_of, crew_of}
 use Rattle.pl_entry.specs.declared.entry.Entry.{Entry}
@@ -9,8 +10,11 @@ use Rattle.pl_machine.specs.World.{World}
 use Rattle.pl_shared.specs.declared.noted.Noted.{Noted}
 use Rattle.pl_shared.specs.declared.noted.Noted.TheVariants.{Made, Stopped}
 use Rattle.pl_shared.specs.declared.part.Part.{Part}
+use Rattle.pl_shared.specs.declared.role.Role.{Role}
+use Rattle.pl_shared.specs.declared.role.Acted.{Acted}
+use Rattle.pl_shared.specs.declared.role.Acted.TheVariants as acted
 use Rattle.pl_shared.specs.Items.{entries_in, model_in, stop_in, InWorld}
-use Rattle.pl_shared.specs.Roles.{IsInputOf}
+use Rattle.pl_shared.specs.Roles.{worker_of, has_event, IsBy, IsInputOf, kind_of, is_entry}
 use Rattle.pl_shared.specs.Inside.{IsStepIn, can_listen}
 use Rattle.pl_shared.specs.Plans.{PlanPass}
 
@@ -48,6 +52,17 @@ Feeds line old (Err stop.LogFull) new = MakesNothing old new × InWorld (seen_of
 Feeds line old (Err stop.Spoiled) new = MakesNothing old new
 Feeds line old (Err stop.Memory) new = MakesNothing old new
 
+-- Finished, Stopped, Nothing and LogFull come in this order, exactly by their causes.
+abbrev pub Acts : Role → PlanPass → Result Acted Stop → Role → PlanPass → Type 0
+Acts r old (Ok (acted.Did number)) r2 new = Makes (λ w e. (w.done ≡ false) × (has_event r w ≡ true) × IsBy r r2 w e) old new number
+Acts r old (Ok acted.Nothing) r2 new = MakesNothing old new × InWorld (seen_of new) (λ w. (w.done ≡ false) × (has_event r w ≡ false)) × (stop_in (seen_of new) ≡ false) × (r2 ≡ r)
+Acts r old (Ok acted.Finished) r2 new = MakesNothing old new × InWorld (seen_of new) (λ w. w.done ≡ true) × (r2 ≡ r)
+Acts r old (Ok acted.Stopped) r2 new = MakesNothing old new × InWorld (seen_of new) (λ w. w.done ≡ false) × (stop_in (seen_of new) ≡ true) × (r2 ≡ r)
+Acts r old (Err stop.Spoiled) r2 new = MakesNothing old new × (r2 ≡ r)
+Acts r old (Err stop.NotNow) r2 new = ⊥
+Acts r old (Err stop.LogFull) r2 new = MakesNothing old new × InWorld (seen_of new) (λ w. (w.done ≡ false) × (has_event r w ≡ true)) × (stop_in (seen_of new) ≡ false) × IsFull (seen_of new) × (r2 ≡ r)
+Acts r old (Err stop.Memory) r2 new = MakesNothing old new × (worker_of r2 ≡ worker_of r)
+
 -- The plan is stopped. Where it was not yet, the stop is the pass's newest own item, and the last that it has seen.
 pub data Stops (old new : PlanPass) : Type 0 where
   was_stopped : mine_of new ≡ mine_of old → stop_in (seen_of new) ≡ true → Stops old new
@@ -59,3 +74,33 @@ pub record Copies (from : ℕ) (seen : List Noted) (part : Part) : Type 0 where
   pub entries : part.entries ≡ drop from (entries_in seen)
   pub world : InWorld seen (λ w. (part.closed ≡ w.closed) × (part.done ≡ w.done))
   pub stopped : part.stopped ≡ stop_in seen
+
+-- the input has ended, or the plan was stopped
+abbrev pub IsOver : List Noted → Type 0
+IsOver seen = InWorld seen (λ w. w.done ≡ true) ⊎ (stop_in seen ≡ true)
+
+-- The pass's new own entries, each of the kind of the role.
+pub record Works (r : Role) (old : PlanPass) (count : ℕ) (r2 : Role) (new : PlanPass) : Type 0 where
+  pub own : List (ℕ × Noted)
+  pub mine : mine_of new ≡ mine_of old ++ own
+  pub counts : length own ≡ count
+  pub kinds : All (λ x. is_entry (kind_of r) x.1 ≡ true) own
+  pub worker : worker_of r2 ≡ worker_of r
+
+-- The same, and then the stop where the plan was not stopped yet.
+pub record WorksUntil (r : Role) (old : PlanPass) (r2 : Role) (new : PlanPass) : Type 0 where
+  pub own : List (ℕ × Noted)
+  pub rest : List (ℕ × Noted)
+  pub mine : mine_of new ≡ (mine_of old ++ own) ++ rest
+  pub kinds : All (λ x. is_entry (kind_of r) x.1 ≡ true) own
+  pub behind : (rest ≡ []) ⊎ ((place : ℕ) × (rest ≡ (place, Stopped) ∷ []))
+  pub stopped : stop_in (seen_of new) ≡ true
+  pub worker : worker_of r2 ≡ worker_of r
+
+-- A count comes only where the plan is over. A refusal stops the plan, and none is NotNow.
+abbrev pub WorksOn : Role → PlanPass → Result ℕ Stop → Role → PlanPass → Type 0
+WorksOn r old (Ok count) r2 new = Works r old count r2 new × IsOver (seen_of new)
+WorksOn r old (Err stop.NotNow) r2 new = ⊥
+WorksOn r old (Err stop.LogFull) r2 new = WorksUntil r old r2 new × IsFull (seen_of new)
+WorksOn r old (Err stop.Spoiled) r2 new = WorksUntil r old r2 new
+WorksOn r old (Err stop.Memory) r2 new = WorksUntil r old r2 new

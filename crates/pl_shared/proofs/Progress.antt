@@ -1,0 +1,280 @@
+-- What a worker made so far.
+use Rattle.std.proofs.Common.{◌≡◌, ℕ, suc, ◌+◌, ◌<◌, ◌≤◌, List, [], ◌∷◌, ◌++◌, length, Bool, true, false, Option, Some, None, Result, Ok, Err, refl, sym, ◌∙◌, ap, subst, arith, inl, inr, ◌⊎◌, append_assoc, length-append}
+use Rattle.std.proofs.lemmas.List.{append-nil}
+use Rattle.std.proofs.lemmas.List.Folds.{list_any-append}
+use Rattle.std.specs.Prelude.{◌||◌}
+use Rattle.std.specs.List.{All, filter_map}
+use Rattle.std.proofs.lemmas.List.Elements.{All-push, filter_map-append}
+use mathlib.Core.List.{IsPrefix}
+use Rattle.pl_turn.specs.Passes.{seen_of, mine_of, counted_of, crew_of}
+use Rattle.pl_turn.proofs.Histories.{prefix_self, prefix_trans, prefix_length}
+use Rattle.pl_model.specs.declared.whole.Model.{Model}
+use Rattle.pl_facts.specs.declared.options.Options.{Options}
+use Rattle.pl_plan.specs.declared.repair.RepairMove.{RepairMove}
+use Rattle.pl_entry.specs.declared.event.Event.{Event}
+use Rattle.pl_entry.specs.declared.event.Event.TheVariants as event
+use Rattle.pl_entry.specs.declared.reply.Reply.{Reply}
+use Rattle.pl_entry.specs.declared.reply.Reply.TheVariants as reply
+use Rattle.pl_entry.specs.declared.entry.Entry.{Entry}
+use Rattle.rand_pcg.specs.Lcg.{Lcg}
+use Rattle.pl_machine.specs.declared.stop.Stop.{Stop}
+use Rattle.pl_machine.specs.declared.stop.Stop.TheVariants as stop
+use Rattle.pl_machine.specs.declared.choice.Choice.{Choice}
+use Rattle.pl_machine.specs.declared.choice.Choice.TheVariants as choice
+use Rattle.pl_machine.specs.World.{World, fresh_world}
+use Rattle.pl_machine.specs.Choices.{exec_choice_of, event_of}
+use Rattle.pl_machine.specs.Step.{reply_of, after_input, after_fix, after_commit, after_dispatch, after}
+use Rattle.pl_machine.specs.Legal.{world_from, options_of, entries_behind, world_of}
+use Rattle.pl_shared.specs.declared.noted.Noted.{Noted}
+use Rattle.pl_shared.specs.declared.noted.Noted.TheVariants.{Made, Stopped}
+use Rattle.pl_shared.specs.declared.role.Role.{Role}
+use Rattle.pl_shared.specs.declared.role.Role.TheVariants.{Planner, Executive}
+use Rattle.pl_shared.specs.declared.role.Acted.{Acted}
+use Rattle.pl_shared.specs.declared.role.Acted.TheVariants as acted
+use Rattle.pl_shared.specs.Items.{items_of, model_in, is_stop, stop_in, OfWorld, InWorld, entry_in, entries_in}
+use Rattle.pl_shared.specs.Roles.{worker_of, has_event, IsPlanned, IsChosen, IsBy, kind_of, is_entry, is_executed}
+use Rattle.pl_shared.specs.Plans.{PlanPass, IsPlan}
+use Rattle.pl_shared.specs.Turns.{TakesTurn, Makes, Acts, Stops, was_stopped, is_stopped, IsOver, IsFull, Works, WorksUntil, WorksOn}
+use Rattle.pl_shared.proofs.Items.{log_is_some, log_is_short, length_stopped, length_going, entries_in_items}
+
+-- ---- which entries a role makes
+
+planned_kind : (g g2 : Lcg) (w : World) (v : Event) (r : Reply) → IsPlanned g w v r g2 → kind_of (Planner g) v ≡ true
+planned_kind g g2 w (event.Fix k m) r planned = refl
+planned_kind g g2 w event.Rest r planned = refl
+planned_kind g g2 w (event.Opened o) r planned = absurd planned
+planned_kind g g2 w (event.Input line) r planned = absurd planned
+planned_kind g g2 w (event.Commit h) r planned = absurd planned
+planned_kind g g2 w event.Dispatch r planned = absurd planned
+planned_kind g g2 w event.Close r planned = absurd planned
+
+executed_kind : (c : Choice) → is_executed (event_of c) ≡ true
+executed_kind choice.Dispatch = refl
+executed_kind (choice.Commit h) = refl
+executed_kind choice.Close = refl
+
+chosen_kind : (o : Option Choice) (v : Event) → IsChosen o v → is_executed v ≡ true
+chosen_kind None v chosen = absurd chosen
+chosen_kind (Some c) v chosen = ap is_executed chosen ∙ executed_kind c
+
+by_kind : (r r2 : Role) (w : World) (e : Entry) → IsBy r r2 w e → (kind_of r e.event ≡ true) × (worker_of r2 ≡ worker_of r)
+by_kind (Planner g) (Planner g2) w e by = (planned_kind g g2 w e.event e.reply by, refl)
+by_kind (Planner g) Executive w e by = absurd by
+by_kind Executive (Planner g2) w e by = absurd by
+by_kind Executive Executive w e by = (chosen_kind (exec_choice_of w) e.event by, refl)
+
+kind_same : (r r2 : Role) → worker_of r2 ≡ worker_of r → kind_of r2 ≡ kind_of r
+kind_same (Planner g) (Planner g2) e = refl
+kind_same (Planner g) Executive e = absurd (omega arith)
+kind_same Executive (Planner g2) e = absurd (omega arith)
+kind_same Executive Executive e = refl
+
+-- what holds whatever the world
+of_world : (P : World → Type 0) (Q : Type 0) (o : Option Model) (es : List Entry) → OfWorld o es P → ((w : World) → P w → Q) → Q
+of_world P Q None es h f = absurd h
+of_world P Q (Some m) es h f = f (world_of m es) h
+
+from_world : (P : World → Type 0) (Q : Type 0) (items : List Noted) → InWorld items P → ((w : World) → P w → Q) → Q
+from_world P Q items h f = of_world P Q (model_in items) (entries_in items) h f
+
+-- ---- so far
+
+plan_length : (m : Model) (log : List Entry) (s : Bool) → length log ≤ 250000 → length (items_of m log s) ≤ 250001
+plan_length m log true le = (let e = length_stopped m log true refl in omega arith)
+plan_length m log false le = (let e = length_going m log false refl in omega arith)
+
+pub plan_short : (seen : List Noted) → IsPlan seen → length seen ≤ 250001
+plan_short seen plan =
+    let le = plan_length plan.model plan.log plan.stopped (log_is_short plan.model plan.log plan.legal) in
+    let same = ap length plan.is in
+    omega arith
+
+-- What a worker knows between its acts: `start` is its pass as it began.
+pub record Working (start : PlanPass) (r : Role) (count : ℕ) (now : PlanPass) (r2 : Role) : Type 0 where
+  pub works : Works r start count r2 now
+  pub longer : IsPrefix (seen_of start) (seen_of now)
+  pub model : model_in (seen_of now) ≡ model_in (seen_of start)
+  pub same_counted : counted_of now ≡ counted_of start
+  pub crew : crew_of now ≡ crew_of start
+  pub few : count ≤ length (seen_of now)
+
+pub working_none : (start : PlanPass) (r : Role) → Working start r 0 start r
+working_none start r = record {
+  works = record { own = []; mine = sym (append-nil (mine_of start)); counts = refl; kinds = λ k d lt. absurd (omega arith); worker = refl };
+  longer = prefix_self (seen_of start);
+  model = refl;
+  same_counted = refl;
+  crew = refl;
+  few = omega arith;
+}
+
+module _ (start now new : PlanPass) (r r2 r3 : Role) (count : ℕ) (so_far : Working start r count now r2) (takes : TakesTurn now new) where
+  on : IsPrefix (seen_of start) (seen_of new)
+  on = prefix_trans (seen_of start) (seen_of now) (seen_of new) so_far.longer takes.longer
+
+  -- an act that made nothing
+  keeps_working : mine_of new ≡ mine_of now → worker_of r3 ≡ worker_of r2 → Working start r count new r3
+  keeps_working same worker = record {
+    works = record { own = so_far.works.own; mine = same ∙ so_far.works.mine; counts = so_far.works.counts; kinds = so_far.works.kinds; worker = worker ∙ so_far.works.worker };
+    longer = on;
+    model = takes.model ∙ so_far.model;
+    same_counted = takes.same_counted ∙ so_far.same_counted;
+    crew = takes.crew ∙ so_far.crew;
+    few = (let more = prefix_length (seen_of now) (seen_of new) takes.longer in let few = so_far.few in omega arith);
+  }
+
+  pub took_all : TakesTurn start new
+  took_all = record {
+    longer = on;
+    model = takes.model ∙ so_far.model;
+    counted = (let same = so_far.same_counted in let le = takes.counted in omega arith);
+    same_counted = takes.same_counted ∙ so_far.same_counted;
+    crew = takes.crew ∙ so_far.crew;
+  }
+
+  pub works_on : (n : ℕ) → Acts r2 now (Ok (acted.Did n)) r3 new → Working start r (count + 1) new r3
+  works_on n makes =
+      let e = makes.entry in
+      let kind = from_world (λ w. (w.done ≡ false) × (has_event r2 w ≡ true) × IsBy r2 r3 w e) ((kind_of r2 e.event ≡ true) × (worker_of r3 ≡ worker_of r2)) (seen_of now ++ makes.between) makes.by
+      (λ w h. by_kind r2 r3 w e h.2) in
+      let same : kind_of r2 ≡ kind_of r = kind_same r r2 so_far.works.worker in
+      let fits : is_entry (kind_of r) (Made e) ≡ true = sym (ap (λ (k : Event → Bool). k e.event) same) ∙ kind.0 in
+      let own = so_far.works.own in
+      let P : (ℕ × Noted) → Type 0 = λ x. is_entry (kind_of r) x.1 ≡ true in
+      let long : length (seen_of new) ≡ length (seen_of now ++ makes.between) + 1 = ap length makes.seen ∙ length-append (seen_of now ++ makes.between) (Made e ∷ []) in
+      let front = length-append (seen_of now) makes.between in
+      let few = so_far.few in
+      record {
+        works = record {
+          own = own ++ (n, Made e) ∷ [];
+          mine = makes.mine ∙ ap (λ (xs : List (ℕ × Noted)). xs ++ (n, Made e) ∷ []) so_far.works.mine ∙ append_assoc (mine_of start) own ((n, Made e) ∷ []);
+          counts = (let counts = so_far.works.counts in let more = length-append own ((n, Made e) ∷ []) in omega arith);
+          kinds = All-push P own (n, Made e) so_far.works.kinds fits;
+          worker = kind.1 ∙ so_far.works.worker;
+        };
+        longer = on;
+        model = takes.model ∙ so_far.model;
+        same_counted = takes.same_counted ∙ so_far.same_counted;
+        crew = takes.crew ∙ so_far.crew;
+        few = omega (arith, long, front, few);
+      }
+
+  same_worker : r3 ≡ r2 → worker_of r3 ≡ worker_of r2
+  same_worker e = ap worker_of e
+
+  pub works_idle : Acts r2 now (Ok acted.Nothing) r3 new → Working start r count new r3
+  works_idle acts = keeps_working acts.0 (same_worker acts.3)
+
+  pub works_finished : Acts r2 now (Ok acted.Finished) r3 new → WorksOn r start (Ok count) r3 new
+  works_finished acts = ((keeps_working acts.0 (same_worker acts.2)).works, inl acts.1)
+
+  pub works_stopped : Acts r2 now (Ok acted.Stopped) r3 new → WorksOn r start (Ok count) r3 new
+  works_stopped acts = ((keeps_working acts.0 (same_worker acts.3)).works, inr acts.2)
+
+  -- a refusal, before the plan is stopped
+  pub refused : (s : Stop) → Acts r2 now (Err s) r3 new → Working start r count new r3
+  refused stop.Spoiled acts = keeps_working acts.0 (same_worker acts.1)
+  refused stop.NotNow acts = absurd acts
+  refused stop.LogFull acts = keeps_working acts.0 (same_worker acts.4)
+  refused stop.Memory acts = keeps_working acts.0 acts.1
+
+or_true : (b : Bool) → (b || true) ≡ true
+or_true true = refl
+or_true false = refl
+
+-- the stop behind a refusal
+until : (start now new : PlanPass) (r r2 : Role) (count : ℕ) → Working start r count now r2 → Stops now new → WorksUntil r start r2 new
+until start now new r r2 count so_far (was_stopped same stopped) = record {
+  own = so_far.works.own;
+  rest = [];
+  mine = same ∙ so_far.works.mine ∙ sym (append-nil (mine_of start ++ so_far.works.own));
+  kinds = so_far.works.kinds;
+  behind = inl refl;
+  stopped = stopped;
+  worker = so_far.works.worker;
+}
+until start now new r r2 count so_far (is_stopped seen prefix going is mine) = record {
+  own = so_far.works.own;
+  rest = (length seen, Stopped) ∷ [];
+  mine = mine ∙ ap (λ (xs : List (ℕ × Noted)). xs ++ (length seen, Stopped) ∷ []) so_far.works.mine;
+  kinds = so_far.works.kinds;
+  behind = inr (length seen, refl);
+  stopped = ap stop_in is ∙ list_any-append is_stop seen (Stopped ∷ []) ∙ or_true (stop_in seen);
+  worker = so_far.works.worker;
+}
+
+-- ---- a full log
+
+input_keeps : (w : World) (line : Option (List ℕ)) (r : Reply) → (after_input w line r).options ≡ w.options
+input_keeps w line reply.Ended = refl
+input_keeps w None _ = refl
+input_keeps w (Some line) reply.Done = refl
+input_keeps w (Some line) _ = refl
+
+fix_keeps : (w : World) (m : RepairMove) (r : Reply) → (after_fix w m r).options ≡ w.options
+fix_keeps w m reply.Done = refl
+fix_keeps w m _ = refl
+
+commit_keeps : (w : World) (h : ℕ) (r : Reply) → (after_commit w h r).options ≡ w.options
+commit_keeps w h reply.Done = refl
+commit_keeps w h (reply.Held k) = refl
+commit_keeps w h _ = refl
+
+dispatch_keeps : (w : World) (r : Reply) → (after_dispatch w r).options ≡ w.options
+dispatch_keeps w (reply.Sent id kind start values) = refl
+dispatch_keeps w _ = refl
+
+step_keeps : (w : World) (v : Event) → (after w v).options ≡ w.options
+step_keeps w (event.Opened o) = refl
+step_keeps w (event.Input line) = input_keeps w line (reply_of w (event.Input line))
+step_keeps w (event.Fix k m) = fix_keeps w m (reply_of w (event.Fix k m))
+step_keeps w event.Rest = refl
+step_keeps w (event.Commit h) = commit_keeps w h (reply_of w (event.Commit h))
+step_keeps w event.Dispatch = dispatch_keeps w (reply_of w event.Dispatch)
+step_keeps w event.Close = refl
+
+run_keeps : (w : World) (es : List Entry) → (world_from w es).options ≡ w.options
+run_keeps w [] = refl
+run_keeps w (e ∷ es) = run_keeps (after w e.event) es ∙ step_keeps w e.event
+
+world_options : (m : Model) (log : List Entry) → (world_of m log).options ≡ options_of log
+unfolding world_of
+world_options m log = run_keeps (fresh_world m (options_of log)) (entries_behind log)
+
+options_on : (log rest : List Entry) → 0 < length log → options_of (log ++ rest) ≡ options_of log
+options_on [] rest lt = absurd (omega arith)
+options_on (first ∷ es) rest lt = refl
+
+full_of : (o : Option Model) (es more : List Entry) → 0 < length es → OfWorld o es (λ w. w.options.entries ≤ length es) → OfWorld o (es ++ more) (λ w. w.options.entries ≤ length (es ++ more))
+full_of None es more lt full = absurd full
+full_of (Some m) es more lt full =
+    let same : (world_of m (es ++ more)).options ≡ (world_of m es).options = world_options m (es ++ more) ∙ options_on es more lt ∙ sym (world_options m es) in
+    let long = length-append es more in
+    rw same (omega (arith, long, full))
+
+full_on : (xs ys : List Noted) → IsPlan xs → IsPrefix xs ys → model_in ys ≡ model_in xs → IsFull xs → IsFull ys
+full_on xs ys plan on same full =
+    let es = entries_in xs in
+    let more = entries_in on.0 in
+    let all : es ++ more ≡ entries_in ys = sym (filter_map-append entry_in xs on.0) ∙ ap entries_in on.1 in
+    let some : 0 < length es = rw (ap entries_in plan.is ∙ entries_in_items plan.model plan.log plan.stopped) (log_is_some plan.model plan.log plan.legal) in
+    let P : Option Model → Type 0 = λ o. OfWorld o (es ++ more) (λ w. w.options.entries ≤ length (es ++ more)) in
+    let Q : List Entry → Type 0 = λ zs. OfWorld (model_in ys) zs (λ w. w.options.entries ≤ length zs) in
+    subst Q all (subst P (sym same) (full_of (model_in xs) es more some full))
+
+-- ---- a refusal, and then the stop
+
+pub worked_until : (start now mid new : PlanPass) (r r2 r3 : Role) (count : ℕ) (s : Stop) → Working start r count now r2 → IsPlan (seen_of mid) → TakesTurn now mid → Acts r2 now (Err s) r3 mid → TakesTurn mid new → Stops mid new
+    → WorksOn r start (Err s) r3 new
+worked_until start now mid new r r2 r3 count stop.Spoiled so_far plan takes acts takes2 stops =
+    until start mid new r r3 count (refused start now mid r r2 r3 count so_far takes stop.Spoiled acts) stops
+worked_until start now mid new r r2 r3 count stop.NotNow so_far plan takes acts takes2 stops = absurd acts
+worked_until start now mid new r r2 r3 count stop.LogFull so_far plan takes acts takes2 stops = (
+  until start mid new r r3 count (refused start now mid r r2 r3 count so_far takes stop.LogFull acts) stops,
+  full_on (seen_of mid) (seen_of new) plan takes2.longer takes2.model acts.3,
+)
+worked_until start now mid new r r2 r3 count stop.Memory so_far plan takes acts takes2 stops =
+    until start mid new r r3 count (refused start now mid r r2 r3 count so_far takes stop.Memory acts) stops
+
+pub took_until : (start now mid new : PlanPass) (r r2 r3 : Role) (count : ℕ) (s : Stop) → Working start r count now r2 → TakesTurn now mid → Acts r2 now (Err s) r3 mid → TakesTurn mid new → TakesTurn start new
+took_until start now mid new r r2 r3 count s so_far takes acts takes2 = took_all start mid new r r3 r3 count (refused start now mid r r2 r3 count so_far takes s acts) takes2
