@@ -1,0 +1,7 @@
+mod Reading
+mod Blanks
+mod Moves
+mod Found
+mod Logs
+mod Judged
+mod Steps

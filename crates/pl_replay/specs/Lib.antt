@@ -1,0 +1,4 @@
+pub mod Taken
+pub mod Skipping
+pub mod Journals
+pub mod Verifying
