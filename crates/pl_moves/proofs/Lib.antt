@@ -6,6 +6,9 @@ mod Subtrees
 mod Returning
 mod Picking
 mod Trying
+mod Kin
+mod Onward
+mod Along
 mod Cuts
 mod Remade
 mod Grown

@@ -96,7 +96,7 @@ among_all P (i ∷ ids) q all e = cases (eqb i q) refl (among_all P ids q (All-t
     cases true f more = subst P (eqb-true i q f) (All-head P i ids all)
     cases false f more = more (rw f at e)
 
-among_neither : (q : ℕ) (ids more : List ℕ) → among q ids ≡ false → among q more ≡ false → among q (ids ++ more) ≡ false
+pub among_neither : (q : ℕ) (ids more : List ℕ) → among q ids ≡ false → among q more ≡ false → among q (ids ++ more) ≡ false
 among_neither q [] more one two = two
 among_neither q (i ∷ ids) more one two = cases (eqb i q) refl (among_neither q ids more)
   where

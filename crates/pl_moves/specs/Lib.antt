@@ -5,5 +5,6 @@ pub use Rattle.pl_world.specs.Legal
 pub mod Sides
 pub mod Changes
 pub mod Undone
+pub mod Runs
 pub mod Outcomes
 pub mod Keeping

@@ -5,6 +5,7 @@ ghost use Rattle.pl_world.specs.Legal.{left_after};
 ghost use Rattle.pl_world.specs.Moves.{is_proper, refusal_of};
 ghost use Rattle.pl_moves.specs.Changes.{IsOfActivities};
 ghost use Rattle.pl_moves.specs.Outcomes.{Fails, IsCounted};
+ghost use Rattle.pl_moves.specs.Runs.{IsTrialOf};
 ghost use Rattle.pl_moves.specs.Undone.{IsUndoneBy};
 
 use crate::application::make_change;
@@ -21,18 +22,18 @@ use std::alloc::{AllocError, Global};
 
 // A change, and the one that undoes it.
 #[derive(Drop)]
-struct Trial {
-    change: Change,
-    undo: Change,
+pub(crate) struct Trial {
+    pub(crate) change: Change,
+    pub(crate) undo: Change,
 }
 
-fn trial_of(alloc: Global, s: &PlanState, mv: &RepairMove) -> Result<Trial, AllocError>
+pub(crate) fn trial_of(alloc: Global, s: &PlanState, mv: &RepairMove) -> Result<Trial, AllocError>
     requires whole { IsWhole s.now }
     requires proper { is_proper s.now mv.now ≡ true }
     requires allowed { refusal_of s.now mv.now ≡ None }
     requires next { s.now.next_id ≤ 3999999000 }
     requires activities { IsOfActivities mv.now }
-    ensures { IfOk result (λ t. IsUndoneBy s.now mv.now t.change.gone.items t.change.placed.items t.undo.gone.items t.undo.placed.items) }
+    ensures { IfOk result (λ t. IsTrialOf s.now mv.now t.change.gone.items t.change.placed.items t.undo.gone.items t.undo.placed.items) }
 {
     let change = change_of(alloc, s, mv)?;
     let undo = undoing(alloc, &s.plan, &change)?;
@@ -100,7 +101,7 @@ fn count_dropped(alloc: Global, board: &mut Board, goal: u32) -> Result<u32, All
     }
 }
 
-fn count_after<L: Ledger>(
+pub(crate) fn count_after<L: Ledger>(
     alloc: Global,
     board: &mut Board,
     mv: &RepairMove,

@@ -10,4 +10,4 @@ pub trial_of-requires-clause-next : goal.trial_of-requires-clause-next
 trial_of-requires-clause-next g c = rw c.state.ensures.value c.requires.next
 
 pub count_between-requires-clause-undone : goal.count_between-requires-clause-undone
-count_between-requires-clause-undone g c = rw c.state.ensures.value at c.in-Ok.ensures
+count_between-requires-clause-undone g c = rw c.state.ensures.value at c.in-Ok.ensures.undone
