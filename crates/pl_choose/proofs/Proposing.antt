@@ -17,7 +17,8 @@ use Rattle.pl_choose.specs.declared.draw.Draw.{Draw}
 use Rattle.pl_choose.specs.declared.draw.Draw.TheVariants.{AsLeast, AtRandom}
 use Rattle.pl_choose.specs.Found.{IsProper, IsAllowed}
 use Rattle.pl_choose.specs.Picks.{proposal, leaves_fewest, fewest, least_pick, picked_by, random_pick, pick_by}
-use Rattle.pl_choose.proofs.Lowest.{lowest, first_lowest}
+use Rattle.pl_choose.specs.Found.{lowest}
+use Rattle.pl_choose.proofs.Lowest.{first_lowest}
 use Rattle.pl_choose.proofs.Finding.{HasFirst, nonempty, any_is, any_find, find_passing, filter_contains, filter_passing, get_contains, picked_some}
 
 -- a legal candidate of the conflict, by this rule

@@ -1,9 +1,10 @@
 ghost use Rattle.std.specs.Prelude.{◌≡◌, ◌≤◌, true, false, min, IfOk, OnOk, OnErr};
 ghost use Rattle.pl_world.specs.Legal.{left_after};
+ghost use Rattle.pl_moves.specs.Runs.{counted};
 ghost use Rattle.pl_choose.specs.Found.{IsAllowed};
 
 use pl_board::Board;
-use pl_moves::{apply, left_after};
+use pl_moves::apply;
 use pl_plan::RepairMove;
 use pl_points::{Quiet, Steps};
 use std::alloc::{AllocError, Global};
@@ -43,12 +44,18 @@ fn count_or_spoil(alloc: Global, board: &mut Board, mv: &RepairMove) -> Result<u
     }
 }
 
-// A count that stands at its type's end is taken anew.
-fn exact(alloc: Global, board: &mut Board, mv: &RepairMove, count: u32) -> Result<usize, AllocError>
+/// How many conflicts a move leaves, given the count of `pl_moves`, which stands still at its type's end: there they are counted
+/// anew. An error is want of memory.
+pub(crate) fn exact(
+    alloc: Global,
+    board: &mut Board,
+    mv: &RepairMove,
+    count: u32,
+) -> Result<usize, AllocError>
     requires unspoiled { board.old.spoiled ≡ false }
     requires allowed { IsAllowed board.old.state mv.now }
     requires next { board.old.state.next_id ≤ 3999999000 }
-    requires count { count ≡ min (left_after board.old.state mv.now) 4294967295 }
+    requires count { count ≡ counted board.old.state mv.now }
     ensures count { IfOk result (λ n. n ≡ left_after board.old.state mv.now) }
     ensures same { OnOk result (board.new ≡ board.old) }
     ensures err { OnErr result (board.new.spoiled ≡ true) }
@@ -57,20 +64,4 @@ fn exact(alloc: Global, board: &mut Board, mv: &RepairMove, count: u32) -> Resul
         return Ok(count as usize);
     }
     count_or_spoil(alloc, board, mv)
-}
-
-/// How many conflicts a move that nothing refuses would leave. The count of `pl_moves` stands still at its type's end; this one
-/// does not. An error is want of memory.
-pub(crate) fn left(alloc: Global, board: &mut Board, mv: &RepairMove) -> Result<usize, AllocError>
-    requires unspoiled { board.old.spoiled ≡ false }
-    requires allowed { IsAllowed board.old.state mv.now }
-    requires next { board.old.state.next_id ≤ 3999999000 }
-    ensures count { IfOk result (λ n. n ≡ left_after board.old.state mv.now) }
-    ensures same { OnOk result (board.new ≡ board.old) }
-    ensures err { OnErr result (board.new.spoiled ≡ true) }
-{
-    match left_after(alloc, board, mv, &mut Steps::new(Quiet)) {
-        Ok(count) => exact(alloc, board, mv, count),
-        Err(_) => Err(AllocError),
-    }
 }

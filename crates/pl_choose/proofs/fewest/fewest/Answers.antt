@@ -1,7 +1,6 @@
 use Rattle.std.proofs.Common.{◌≡◌, ◌∷◌, [], List, Some, None, refl, sym, subst, ◌∙◌, length}
 use Rattle.std.specs.Prelude.{All}
 use Rattle.std.proofs.lemmas.Bool.{eqb-true}
-use Rattle.std.proofs.lemmas.List.Elements.{All-head, All-tail}
 use Rattle.pl_plan.specs.declared.repair.RepairMove.{RepairMove}
 use Rattle.pl_world.specs.Legal.{left_after}
 use Rattle.pl_choose.specs.Found.{IsAllowed}
@@ -24,15 +23,10 @@ returns-then-is_empty-clause-fewest c =
     let alone : c.in-Some.rest.now ≡ [] = empty_if c.in-Some.rest.now (eqb-true (length c.in-Some.rest.now) 0 (sym c.is_empty.ensures ∙ c.if-is_empty.true)) in
     subst P (sym c.in-Some.ensures.cases.0) (subst Q (sym alone) (sym (first_lowest (left_after s) first [])))
 
-pub fewest_of-requires-clause-first : goal.fewest_of-requires-clause-first
-fewest_of-requires-clause-first c =
+pub fewest_of-requires-clause-allowed : goal.fewest_of-requires-clause-allowed
+fewest_of-requires-clause-allowed c =
     let P : List RepairMove → Type 0 = λ ms. All (IsAllowed c.args.board.now.state) ms in
-    All-head (IsAllowed c.args.board.now.state) c.in-Some.first.now c.in-Some.rest.now (subst P c.in-Some.ensures.cases.0 c.requires.allowed)
-
-pub fewest_of-requires-clause-rest : goal.fewest_of-requires-clause-rest
-fewest_of-requires-clause-rest c =
-    let P : List RepairMove → Type 0 = λ ms. All (IsAllowed c.args.board.now.state) ms in
-    All-tail (IsAllowed c.args.board.now.state) c.in-Some.first.now c.in-Some.rest.now (subst P c.in-Some.ensures.cases.0 c.requires.allowed)
+    subst P c.in-Some.ensures.cases.0 c.requires.allowed
 
 pub returns-clause-fewest : goal.returns-clause-fewest
 returns-clause-fewest c =

@@ -1,12 +1,13 @@
-use Rattle.std.proofs.Common.{◌≡◌, drop}
-use Rattle.pl_world.specs.Legal.{left_after}
-use Rattle.pl_choose.proofs.Lowest.{lowest}
+-- the best so far leads to the best of all
+use Rattle.std.proofs.Common.{◌≡◌, ◌-◌, length}
+use Rattle.pl_choose.specs.Found.{IsOnWay}
 use Rattle.pl_choose.proofs.fewest.fewest_of.Given as goal
 
--- the best so far, and the first of the best among it and the others
-abbrev pub invariant-loop-mv : goal.invariant-loop-mv
-invariant-loop-mv l = record {
+abbrev pub invariant-runs : goal.invariant-runs
+invariant-runs l = record {
   same : l.board ≡ l.fn.board;
-  count : l.least ≡ left_after l.fn.board.state l.best;
-  leads : lowest (left_after l.fn.board.state) l.best (drop l.mv-index l.rest) ≡ lowest (left_after l.fn.board.state) l.first l.rest;
+  way : IsOnWay l.fn.board.state l.first l.rest l.tried.best.mv l.tried.best.left l.tried.count;
 }
+
+abbrev pub decreases-runs : goal.decreases-runs
+decreases-runs l = length l.rest - l.tried.count
