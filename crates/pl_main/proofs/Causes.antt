@@ -14,15 +14,17 @@ use Rattle.pl_accept.specs.Accepting.{IsModelText, IsRefusedAs}
 use Rattle.pl_accept.proofs.Apart.{apart, one_model}
 use Rattle.pl_main.specs.declared.command.Task.{Task}
 use Rattle.pl_main.specs.declared.command.Task.TheVariants as task
-use Rattle.pl_main.specs.Reads.{Gave}
-use Rattle.pl_main.specs.Top.{total_limit, program_options, IsDone, IsNoModel, no_begin, faulty, WaitsBehind, IsPastLimit, IsFull, IsFound, IsPastHead}
+use Rattle.pl_stream.specs.Reads.{Gave}
+use Rattle.pl_stream.specs.Stops.{IsStuck}
+use Rattle.pl_main.specs.Top.{line_limit, total_limit, program_options, IsDone, IsNoModel, no_begin, faulty, WaitsBehind, IsPastLimit, IsFull, IsFound, IsPastHead}
 use Rattle.pl_report.specs.Demonstration.{demo_text}
 use Rattle.pl_main.specs.Demos.{demo_turns, IsShown, IsShownInPart, HasNoDemo, CanShow}
 use Rattle.pl_main.specs.Limits.{IsWithinLimits, CanRun, CanCheck, IsDoneBy, Completes}
 use Rattle.pl_main.specs.Statuses.{SaysRan, SaysChecked, SaysShown, SaysKnown, IsSoloStatus, is_done, is_refused, is_read, is_write, is_limit, is_full, is_memory}
-use Rattle.pl_main.proofs.Reading.{gave_lines}
+use Rattle.pl_stream.proofs.Reading.{gave_lines}
 use Rattle.pl_main.proofs.Playing.{messages_append, not_single}
-use Rattle.pl_main.proofs.OneInput.{IsStuck, end_is_no_limit, goes_on, all_or_stuck, text_goes_on, behind_goes_on, split_text, split_messages, Ends, messages_end, messages_last, Front, front_of, longer}
+use Rattle.pl_stream.proofs.Comparing.{end_is_no_limit, goes_on, all_or_stuck}
+use Rattle.pl_main.proofs.OneInput.{text_goes_on, behind_goes_on, split_text, split_messages, Ends, messages_end, messages_last, Front, front_of, longer}
 use Rattle.pl_main.proofs.OneLog.{opened_with, full_and_closed}
 
 abbrev Lines : Type 0
@@ -36,52 +38,52 @@ some_same x y e = cc
 
 -- ---- a model's text
 
-no_model_of : (input words : List ℕ) (m : Model) (left held now : Option (List ℕ)) → (split_of input).text ≡ Some words → IsModelText words m → IsNoModel input left held now → ⊥
-no_model_of input words m left held now text accepted (no_begin lines room gave none source adds) = (let h : Some words ≡ None = sym text ∙ none in (cc))
-no_model_of input words m left held now text accepted (faulty others line head refused adds) =
+pub no_model_of : (limit : ℕ) (input words : List ℕ) (m : Model) (left held now : Option (List ℕ)) → (split_of input).text ≡ Some words → IsModelText words m → IsNoModel limit input left held now → ⊥
+no_model_of limit input words m left held now text accepted (no_begin lines room gave none source adds) = (let h : Some words ≡ None = sym text ∙ none in (cc))
+no_model_of limit input words m left held now text accepted (faulty others line head refused adds) =
     apart words line m accepted (subst (λ (w : List ℕ). IsRefusedAs w line) (some_same others words (sym head.text ∙ text)) refused)
 
 -- ---- the model's text and a limit
 
-text_then_limit : (input : List ℕ) (xs ys : Lines) (left1 : ℕ) (rest1 : List ℕ) (left2 : ℕ) (rest2 words : List ℕ) → IsStuck left1 rest1 → Gave total_limit input xs left1 rest1 → Gave total_limit input ys left2 rest2
+pub text_then_limit : (limit : ℕ) (input : List ℕ) (xs ys : Lines) (left1 : ℕ) (rest1 : List ℕ) (left2 : ℕ) (rest2 words : List ℕ) → IsStuck limit left1 rest1 → Gave limit total_limit input xs left1 rest1 → Gave limit total_limit input ys left2 rest2
     → model_text_of ys ≡ Some words → model_text_of xs ≡ Some words
-text_then_limit input xs ys left1 rest1 left2 rest2 words stuck g h text =
-    let on = goes_on total_limit input xs ys left1 rest1 left2 rest2 stuck g h in
+text_then_limit limit input xs ys left1 rest1 left2 rest2 words stuck g h text =
+    let on = goes_on limit total_limit input xs ys left1 rest1 left2 rest2 stuck g h in
     ap model_text_of on.is ∙ text_goes_on ys on.more words text
 
-no_text : (xs : Lines) (words : List ℕ) → model_text_of xs ≡ Some words → model_text_of xs ≡ None → ⊥
+pub no_text : (xs : Lines) (words : List ℕ) → model_text_of xs ≡ Some words → model_text_of xs ≡ None → ⊥
 no_text xs words some none = (let h : Some words ≡ None = sym some ∙ none in (cc))
 
 -- the reading that a limit stops, while no `begin` was read
-head_not_past : (input : List ℕ) (xs : Lines) (room : ℕ) (rest : List ℕ) (left held now : Option (List ℕ)) → IsStuck room rest → Gave total_limit input xs room rest → model_text_of xs ≡ None → IsNoModel input left held now → ⊥
-head_not_past input xs room rest left held now stuck gave none (no_begin lines room2 gave2 none2 source adds) =
-    all_or_stuck xs lines room rest room2 [] (goes_on total_limit input xs lines room rest room2 [] stuck gave gave2) refl stuck
-head_not_past input xs room rest left held now stuck gave none (faulty words line head refused adds) =
-    no_text xs words (text_then_limit input xs head.lines room rest head.left head.rest words stuck gave head.gave head.head) none
+pub head_not_past : (limit : ℕ) (input : List ℕ) (xs : Lines) (room : ℕ) (rest : List ℕ) (left held now : Option (List ℕ)) → IsStuck limit room rest → Gave limit total_limit input xs room rest → model_text_of xs ≡ None → IsNoModel limit input left held now → ⊥
+head_not_past limit input xs room rest left held now stuck gave none (no_begin lines room2 gave2 none2 source adds) =
+    all_or_stuck limit xs lines room rest room2 [] (goes_on limit total_limit input xs lines room rest room2 [] stuck gave gave2) refl stuck
+head_not_past limit input xs room rest left held now stuck gave none (faulty words line head refused adds) =
+    no_text xs words (text_then_limit limit input xs head.lines room rest head.left head.rest words stuck gave head.gave head.head) none
 
-pub found_not_past : (input : List ℕ) (left held now other_held other_now : Option (List ℕ)) → IsFound input left held now → IsPastHead input other_held other_now → ⊥
+pub found_not_past : (input : List ℕ) (left held now other_held other_now : Option (List ℕ)) → IsFound input left held now → IsPastHead line_limit input other_held other_now → ⊥
 found_not_past input left held now other_held other_now found past =
-    no_text past.lines found.words (text_then_limit input past.lines found.begins.lines past.left past.rest found.begins.left found.begins.rest found.words past.why past.gave found.begins.gave found.begins.head) past.none
+    no_text past.lines found.words (text_then_limit line_limit input past.lines found.begins.lines past.left past.rest found.begins.left found.begins.rest found.words past.why past.gave found.begins.gave found.begins.head) past.none
 
-pub no_model_not_past : (input : List ℕ) (left held now other_held other_now : Option (List ℕ)) → IsNoModel input left held now → IsPastHead input other_held other_now → ⊥
-no_model_not_past input left held now other_held other_now none past = head_not_past input past.lines past.left past.rest left held now past.why past.gave past.none none
+pub no_model_not_past : (limit : ℕ) (input : List ℕ) (left held now other_held other_now : Option (List ℕ)) → IsNoModel limit input left held now → IsPastHead limit input other_held other_now → ⊥
+no_model_not_past limit input left held now other_held other_now none past = head_not_past limit input past.lines past.left past.rest left held now past.why past.gave past.none none
 
-pub found_not_refused : (input : List ℕ) (left held now other_left other_held other_now : Option (List ℕ)) → IsFound input left held now → IsNoModel input other_left other_held other_now → ⊥
-found_not_refused input left held now other_left other_held other_now found none = no_model_of input found.words found.model other_left other_held other_now found.begins.text found.accepted none
+pub found_not_refused : (input : List ℕ) (left held now other_left other_held other_now : Option (List ℕ)) → IsFound input left held now → IsNoModel line_limit input other_left other_held other_now → ⊥
+found_not_refused input left held now other_left other_held other_now found none = no_model_of line_limit input found.words found.model other_left other_held other_now found.begins.text found.accepted none
 
 -- ---- a run that is refused
 
-pub done_not_refused : (turns : ℕ) (input : List ℕ) (left held now other_left other_held other_now : Option (List ℕ)) → IsDone turns input left held now → IsNoModel input other_left other_held other_now → ⊥
-done_not_refused turns input left held now other_left other_held other_now done refused = no_model_of input done.words done.model other_left other_held other_now done.text done.accepted refused
+pub done_not_refused : (turns : ℕ) (input : List ℕ) (left held now other_left other_held other_now : Option (List ℕ)) → IsDone turns input left held now → IsNoModel line_limit input other_left other_held other_now → ⊥
+done_not_refused turns input left held now other_left other_held other_now done refused = no_model_of line_limit input done.words done.model other_left other_held other_now done.text done.accepted refused
 
-pub refused_not_full : (turns : ℕ) (input : List ℕ) (left held now other_left other_held other_now : Option (List ℕ)) → IsNoModel input left held now → IsFull turns input other_left other_held other_now → ⊥
-refused_not_full turns input left held now other_left other_held other_now refused full = no_model_of input full.words full.model left held now full.text full.accepted refused
+pub refused_not_full : (turns : ℕ) (input : List ℕ) (left held now other_left other_held other_now : Option (List ℕ)) → IsNoModel line_limit input left held now → IsFull turns input other_left other_held other_now → ⊥
+refused_not_full turns input left held now other_left other_held other_now refused full = no_model_of line_limit input full.words full.model left held now full.text full.accepted refused
 
-pub refused_not_past : (turns : ℕ) (input : List ℕ) (left held now other_held other_now : Option (List ℕ)) → IsNoModel input left held now → IsPastLimit turns input other_held other_now → ⊥
+pub refused_not_past : (turns : ℕ) (input : List ℕ) (left held now other_held other_now : Option (List ℕ)) → IsNoModel line_limit input left held now → IsPastLimit turns input other_held other_now → ⊥
 refused_not_past turns input left held now other_held other_now refused past =
     elim past.asked [
-      | inl none ↦ head_not_past input past.lines past.left past.rest left held now past.why past.gave none.0 refused
-      | inr waits ↦ no_model_of input waits.words waits.model left held now (split_text input past.lines past.left past.rest waits.words past.gave waits.text) waits.accepted refused
+      | inl none ↦ head_not_past line_limit input past.lines past.left past.rest left held now past.why past.gave none.0 refused
+      | inr waits ↦ no_model_of line_limit input waits.words waits.model left held now (split_text line_limit input past.lines past.left past.rest waits.words past.gave waits.text) waits.accepted refused
     ]
 
 -- ---- messages and a limit
@@ -136,15 +138,15 @@ done_before input ys zs messages more inputs rest whole behind all no_end = by_e
 pub done_not_past : (turns : ℕ) (input : List ℕ) (left held now other_held other_now : Option (List ℕ)) → IsDone turns input left held now → IsPastLimit turns input other_held other_now → ⊥
 done_not_past turns input left held now other_held other_now done past =
     elim past.asked [
-      | inl none ↦ no_text past.lines done.words (text_then_limit input past.lines done.read.lines past.left past.rest done.read.left done.read.rest done.words past.why past.gave done.read.gave done.read.text) none.0
+      | inl none ↦ no_text past.lines done.words (text_then_limit line_limit input past.lines done.read.lines past.left past.rest done.read.left done.read.rest done.words past.why past.gave done.read.gave done.read.text) none.0
       | inr waits ↦ (
-          let on = goes_on total_limit input past.lines done.read.lines past.left past.rest done.read.left done.read.rest past.why past.gave done.read.gave in
+          let on = goes_on line_limit total_limit input past.lines done.read.lines past.left past.rest done.read.left done.read.rest past.why past.gave done.read.gave in
           let all : messages_of (lines_behind done.read.lines ++ on.more) ≡ inputs_of waits.log ++ None ∷ [] =
           ap messages_of (sym (ap lines_behind on.is ∙ behind_goes_on done.read.lines on.more done.words done.read.text)) ∙ waits.messages in
           done_before input (lines_behind done.read.lines) on.more (inputs_of done.log) done.read.more (inputs_of waits.log) done.read.rest
-          (done.finished.inputs ∙ split_messages input done.read.lines done.read.left done.read.rest done.words done.read.gave done.read.text)
+          (done.finished.inputs ∙ split_messages line_limit input done.read.lines done.read.left done.read.rest done.words done.read.gave done.read.text)
           done.read.behind all
-          (λ front e. all_or_stuck past.lines done.read.lines past.left past.rest done.read.left done.read.rest on (done.read.used_up front e) past.why))
+          (λ front e. all_or_stuck line_limit past.lines done.read.lines past.left past.rest done.read.left done.read.rest on (done.read.used_up front e) past.why))
     ]
 
 -- ---- a log that is full
@@ -169,18 +171,18 @@ no_pending (p ∷ pending) more e = (let h : p ∷ (pending ++ more) ≡ [] = e 
 pub past_not_full : (turns : ℕ) (input : List ℕ) (held now other_left other_held other_now : Option (List ℕ)) → IsPastLimit turns input held now → IsFull turns input other_left other_held other_now → ⊥
 past_not_full turns input held now other_left other_held other_now past full =
     elim past.asked [
-      | inl none ↦ no_text past.lines full.words (text_then_limit input past.lines full.read.lines past.left past.rest full.read.left full.read.rest full.words past.why past.gave full.read.gave full.read.text) none.0
+      | inl none ↦ no_text past.lines full.words (text_then_limit line_limit input past.lines full.read.lines past.left past.rest full.read.left full.read.rest full.words past.why past.gave full.read.gave full.read.text) none.0
       | inr waits ↦ waiting_not_full waits
     ]
   where
     waiting_not_full : WaitsBehind turns past.lines held now → ⊥
     waiting_not_full waits =
-        let on = goes_on total_limit input past.lines full.read.lines past.left past.rest full.read.left full.read.rest past.why past.gave full.read.gave in
+        let on = goes_on line_limit total_limit input past.lines full.read.lines past.left past.rest full.read.left full.read.rest past.why past.gave full.read.gave in
         let all : messages_of (lines_behind full.read.lines ++ on.more) ≡ inputs_of waits.log ++ None ∷ [] =
         ap messages_of (sym (ap lines_behind on.is ∙ behind_goes_on full.read.lines on.more full.words full.read.text)) ∙ waits.messages in
         let before = are_before (lines_behind full.read.lines) on.more (inputs_of full.log ++ full.pending) full.read.more (inputs_of waits.log) full.read.behind all
-        (λ front e. all_or_stuck past.lines full.read.lines past.left past.rest full.read.left full.read.rest on (full.read.used_up front e) past.why) in
-        let same : full.model ≡ waits.model = model_same waits.words full.words waits.model full.model (split_of input).text (split_text input past.lines past.left past.rest waits.words past.gave waits.text) full.text waits.accepted full.accepted in
+        (λ front e. all_or_stuck line_limit past.lines full.read.lines past.left past.rest full.read.left full.read.rest on (full.read.used_up front e) past.why) in
+        let same : full.model ≡ waits.model = model_same waits.words full.words waits.model full.model (split_of input).text (split_text line_limit input past.lines past.left past.rest waits.words past.gave waits.text) full.text waits.accepted full.accepted in
         let first = opened_with waits.model (program_options turns) full.log (subst (λ (m : Model). Legal m full.log) same full.legal) (subst (λ (m : Model). Solo m full.log) same full.solo) full.options in
         let second = opened_with waits.model (program_options turns) waits.log waits.legal waits.solo waits.options in
         let both = full_and_closed waits.model (program_options turns) full.log waits.log (full.pending ++ before.more) first second (before.is ∙ append_assoc (inputs_of full.log) full.pending before.more) full.full waits.closed in
@@ -192,53 +194,53 @@ past_not_full turns input held now other_left other_held other_now past full =
 
 -- ---- an input within the limits
 
-abbrev IsShort : List ℕ → Type 0
-IsShort line = length line ≤ 4096
+abbrev IsShort : ℕ → List ℕ → Type 0
+IsShort limit line = length line ≤ limit
 
-in_the_middle : (xs ys : Lines) (y : List ℕ) → All IsShort (xs ++ y ∷ ys) → IsShort y
-in_the_middle [] ys y all = all 0 [] (omega arith)
-in_the_middle (x ∷ xs) ys y all = in_the_middle xs ys y (λ k d less. all (suc k) d (omega (arith, less)))
+in_the_middle : (limit : ℕ) (xs ys : Lines) (y : List ℕ) → All (IsShort limit) (xs ++ y ∷ ys) → IsShort limit y
+in_the_middle limit [] ys y all = all 0 [] (omega arith)
+in_the_middle limit (x ∷ xs) ys y all = in_the_middle limit xs ys y (λ k d less. all (suc k) d (omega (arith, less)))
 
-room_left : (room : ℕ) (bytes : List ℕ) (lines : Lines) (left : ℕ) (rest : List ℕ) → Gave room bytes lines left rest → left + length bytes ≡ room + length rest
-room_left room bytes [] left rest gave =
+room_left : (limit room : ℕ) (bytes : List ℕ) (lines : Lines) (left : ℕ) (rest : List ℕ) → Gave limit room bytes lines left rest → left + length bytes ≡ room + length rest
+room_left limit room bytes [] left rest gave =
     let same : length rest ≡ length bytes = ap (λ (b : List ℕ). length b) gave.1 in
     omega (arith, gave.0, same)
-room_left room bytes (line ∷ lines) left rest gave =
-    omega (arith, gave.1.leaves, room_left gave.0 (after_line bytes) lines left rest gave.2)
+room_left limit room bytes (line ∷ lines) left rest gave =
+    omega (arith, gave.1.leaves, room_left limit gave.0 (after_line bytes) lines left rest gave.2)
 
-next_fits : (left : ℕ) (rest : List ℕ) → 0 < length rest → length rest ≤ left → length (first_line rest) ≤ 4096 → IsStuck left rest → ⊥
-next_fits left rest some room short stuck =
+next_fits : (limit left : ℕ) (rest : List ℕ) → 0 < length rest → length rest ≤ left → length (first_line rest) ≤ limit → IsStuck limit left rest → ⊥
+next_fits limit left rest some room short stuck =
     let all : take left rest ≡ rest = take_all left rest room in
-    let given_next = next_of-judged 4096 left rest some ∙ judged-last 4096 left rest (take left rest) (subst (λ (b : List ℕ). length (first_line b) ≤ 4096) (sym all) short) room in
+    let given_next = next_of-judged limit left rest some ∙ judged-last limit left rest (take left rest) (subst (λ (b : List ℕ). length (first_line b) ≤ limit) (sym all) short) room in
     elim stuck [
       | inl e ↦ (let h : line_too_long ≡ given (first_line rest) (after_line rest) = sym e ∙ given_next in (cc))
       | inr e ↦ (let h : input_too_long ≡ given (first_line rest) (after_line rest) = sym e ∙ given_next in (cc))
     ]
 
-within_rest : (lines : Lines) (left : ℕ) (rest : List ℕ) → All IsShort (lines ++ lines_of rest) → length rest ≤ left → IsStuck left rest → ⊥
-within_rest lines left [] short room stuck = end_is_no_limit left stuck
-within_rest lines left (b ∷ bs) short room stuck =
+within_rest : (limit : ℕ) (lines : Lines) (left : ℕ) (rest : List ℕ) → All (IsShort limit) (lines ++ lines_of rest) → length rest ≤ left → IsStuck limit left rest → ⊥
+within_rest limit lines left [] short room stuck = end_is_no_limit limit left stuck
+within_rest limit lines left (b ∷ bs) short room stuck =
     let front = lines_of-front (b ∷ bs) (λ e. (let h : b ∷ bs ≡ [] = e in (cc))) in
-    let first : IsShort (first_line (b ∷ bs)) = in_the_middle lines (lines_of (after_line (b ∷ bs))) (first_line (b ∷ bs)) (subst (λ (ls : Lines). All IsShort (lines ++ ls)) front short) in
-    next_fits left (b ∷ bs) (omega arith) room first stuck
+    let first : IsShort limit (first_line (b ∷ bs)) = in_the_middle limit lines (lines_of (after_line (b ∷ bs))) (first_line (b ∷ bs)) (subst (λ (ls : Lines). All (IsShort limit) (lines ++ ls)) front short) in
+    next_fits limit left (b ∷ bs) (omega arith) room first stuck
 
-is_within : (input : List ℕ) (lines : Lines) (left : ℕ) (rest : List ℕ) → IsWithinLimits input → Gave total_limit input lines left rest → IsStuck left rest → ⊥
-is_within input lines left rest within gave stuck =
-    within_rest lines left rest (subst (λ (ls : Lines). All IsShort ls) (gave_lines total_limit input lines left rest gave) within.lines)
-    (omega (arith, room_left total_limit input lines left rest gave, within.total)) stuck
+pub is_within : (limit : ℕ) (input : List ℕ) (lines : Lines) (left : ℕ) (rest : List ℕ) → IsWithinLimits limit input → Gave limit total_limit input lines left rest → IsStuck limit left rest → ⊥
+is_within limit input lines left rest within gave stuck =
+    within_rest limit lines left rest (subst (λ (ls : Lines). All (IsShort limit) ls) (gave_lines limit total_limit input lines left rest gave) within.lines)
+    (omega (arith, room_left limit total_limit input lines left rest gave, within.total)) stuck
 
-pub run_within : (turns : ℕ) (input : List ℕ) (held now : Option (List ℕ)) → IsWithinLimits input → IsPastLimit turns input held now → ⊥
-run_within turns input held now within past = is_within input past.lines past.left past.rest within past.gave past.why
+pub run_within : (turns : ℕ) (input : List ℕ) (held now : Option (List ℕ)) → IsWithinLimits line_limit input → IsPastLimit turns input held now → ⊥
+run_within turns input held now within past = is_within line_limit input past.lines past.left past.rest within past.gave past.why
 
-pub head_within : (input : List ℕ) (held now : Option (List ℕ)) → IsWithinLimits input → IsPastHead input held now → ⊥
-head_within input held now within past = is_within input past.lines past.left past.rest within past.gave past.why
+pub head_within : (input : List ℕ) (held now : Option (List ℕ)) → IsWithinLimits line_limit input → IsPastHead line_limit input held now → ⊥
+head_within input held now within past = is_within line_limit input past.lines past.left past.rest within past.gave past.why
 
 -- ---- a job that can be done is done
 
 pub run_completes : (turns : ℕ) (input : List ℕ) (left held now : Option (List ℕ)) (status : ℕ) → SaysRan turns input left held now status → IsSoloStatus status → CanRun turns input
     → (status ≡ 4 → ⊥) → (status ≡ 5 → ⊥) → IsDoneBy (task.Solo turns) status
 run_completes turns input left held now status says (is_done e) can no_read no_write = inl e
-run_completes turns input left held now status says (is_refused e) can no_read no_write = absurd (no_model_of input can.words can.model left held now can.text can.accepted (says.refused e))
+run_completes turns input left held now status says (is_refused e) can no_read no_write = absurd (no_model_of line_limit input can.words can.model left held now can.text can.accepted (says.refused e))
 run_completes turns input left held now status says (is_read e) can no_read no_write = absurd (no_read e)
 run_completes turns input left held now status says (is_write e) can no_read no_write = absurd (no_write e)
 run_completes turns input left held now status says (is_limit e) can no_read no_write = absurd (can.no_limit held now (says.limit e))
@@ -248,7 +250,7 @@ run_completes turns input left held now status says (is_memory e) can no_read no
 pub check_completes : (input : List ℕ) (left held now : Option (List ℕ)) (status : ℕ) → SaysChecked input left held now status → IsSoloStatus status → CanCheck input
     → (status ≡ 4 → ⊥) → (status ≡ 5 → ⊥) → IsDoneBy task.Check status
 check_completes input left held now status says (is_done e) can no_read no_write = inl e
-check_completes input left held now status says (is_refused e) can no_read no_write = absurd (no_model_of input can.words can.model left held now can.text can.accepted (says.refused e))
+check_completes input left held now status says (is_refused e) can no_read no_write = absurd (no_model_of line_limit input can.words can.model left held now can.text can.accepted (says.refused e))
 check_completes input left held now status says (is_read e) can no_read no_write = absurd (no_read e)
 check_completes input left held now status says (is_write e) can no_read no_write = absurd (no_write e)
 check_completes input left held now status says (is_limit e) can no_read no_write = absurd (can.no_limit held now (says.limit e))
@@ -270,7 +272,7 @@ pub demo_completes : (goals : ℕ) (held now : Option (List ℕ)) (status : ℕ)
 demo_completes goals held now status says (is_done e) can no_write = inl e
 demo_completes goals held now status says (is_refused e) can no_write =
     let none = says.refused e in
-    absurd (no_model_of (demo_text goals) can.words can.model none.left held now can.text can.accepted none.refused)
+    absurd (no_model_of line_limit (demo_text goals) can.words can.model none.left held now can.text can.accepted none.refused)
 demo_completes goals held now status says (is_read e) can no_write = absurd (says.never_read e)
 demo_completes goals held now status says (is_write e) can no_write = absurd (no_write e)
 demo_completes goals held now status says (is_limit e) can no_write = absurd (says.never_limit e)

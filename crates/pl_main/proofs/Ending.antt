@@ -19,22 +19,24 @@ use Rattle.pl_driver.specs.Rounds.{SameRun}
 use Rattle.pl_render.specs.Lines.{line_of, text_from, text_of_log}
 use Rattle.pl_accept.specs.declared.accepting.Accepted.TheVariants as accepted
 use Rattle.pl_accept.specs.Accepting.{IsModelText}
-use Rattle.pl_main.specs.declared.halt.Halt.{Halt}
-use Rattle.pl_main.specs.declared.halt.Halt.TheVariants as halt
+use Rattle.pl_stream.specs.declared.halt.Halt.{Halt}
+use Rattle.pl_stream.specs.declared.halt.Halt.TheVariants as halt
 use Rattle.pl_main.specs.declared.outcome.Outcome.{Outcome}
 use Rattle.pl_main.specs.declared.outcome.Outcome.TheVariants as outcome
-use Rattle.pl_main.specs.Reads.{Gave, GaveKnown, IsUsedUp, AreBlank}
-use Rattle.pl_main.specs.Waits.{MessageGives}
-use Rattle.pl_main.specs.Heads.{IsHead, IsBegun, HasNoBegin, HeadHalts}
+use Rattle.pl_stream.specs.Reads.{Gave, IsUsedUp, AreBlank}
+use Rattle.pl_stream.specs.Stops.{HaltFor, StopsBy}
+use Rattle.pl_stream.specs.Waits.{MessageGives}
+use Rattle.pl_stream.specs.Heads.{IsHead, IsBegun, HasNoBegin, HeadHalts}
 use Rattle.pl_main.specs.Tells.{FillsUp, at_once, within}
-use Rattle.pl_main.specs.Written.{Adds, WriteStops}
-use Rattle.pl_main.specs.Plays.{Place, place_of, HaltFor, Plays, EndsWith, by_end, by_line, EndsAll, PlaysOut, StopsBy, PlayHalts, PlayFills, Playing, line_in}
+use Rattle.pl_stream.specs.Written.{Adds, WriteStops}
+use Rattle.pl_main.specs.Plays.{Place, place_of, Plays, EndsWith, by_end, by_line, EndsAll, PlaysOut, PlayHalts, PlayFills, Playing, line_in}
 use Rattle.pl_main.specs.Runs.{fresh_state, ModelRuns, AcceptsKept, IsKeptModel, TextRuns}
-use Rattle.pl_main.specs.Top.{RanKnown, IsReadTo, program_options, total_limit, IsDone, HasHead, no_begin_line, IsNoModel, no_begin, faulty, WaitsBehind, IsReadFault, IsPastLimit, HasRead, IsFull}
-use Rattle.pl_main.proofs.Reading.{gave_append, gave_lines}
-use Rattle.pl_main.proofs.Beginning.{head_then}
-use Rattle.pl_main.proofs.Writing.{adds_then, log_is_short}
-use Rattle.pl_main.proofs.Playing.{blanks_first, message_first, end_first, none_left, not_single, messages_append, inputs_append, joined, never_full, stops_by}
+use Rattle.pl_main.specs.Top.{RanKnown, IsReadTo, program_options, line_limit, total_limit, fresh_reader, IsDone, HasHead, no_begin_line, IsNoModel, no_begin, faulty, WaitsBehind, IsReadFault, IsPastLimit, HasRead, IsFull}
+use Rattle.pl_stream.proofs.Reading.{gave_append, gave_lines, known}
+use Rattle.pl_stream.proofs.Stopping.{never_full, stops_by}
+use Rattle.pl_stream.proofs.Beginning.{head_then}
+use Rattle.pl_stream.proofs.Writing.{adds_then, log_is_short}
+use Rattle.pl_main.proofs.Playing.{blanks_first, message_first, end_first, none_left, not_single, messages_append, inputs_append, joined}
 
 -- ---- a run over a model
 
@@ -71,15 +73,6 @@ text_stops turns kept start place held now m halt.Write text run = tt
 text_stops turns kept start place held now m halt.Memory text run = tt
 
 -- ---- what was read
-
-pub record IsKnown (room : ℕ) (bytes : List ℕ) (lines : List (List ℕ)) (left : ℕ) (after : Option (List ℕ)) : Type 0 where
-  pub rest : List ℕ
-  pub is : after ≡ Some rest
-  pub gave : Gave room bytes lines left rest
-
-pub known : (room : ℕ) (bytes : List ℕ) (lines : List (List ℕ)) (left : ℕ) (after : Option (List ℕ)) → GaveKnown room (Some bytes) lines left after → IsKnown room bytes lines left after
-known room bytes lines left None gave = absurd gave
-known room bytes lines left (Some rest) gave = record { rest = rest; is = refl; gave = gave }
 
 record IsSplit (input words : List ℕ) (more : List (List ℕ)) : Type 0 where
   text : (split_of input).text ≡ Some words
@@ -141,18 +134,22 @@ ends_last rest lines inputs front line (by_line ahead_of found before last is al
 ends_behind : (xs ys before : List (List ℕ)) (line : List ℕ) → ys ≡ before ++ line ∷ [] → (front : List (List ℕ)) × (xs ++ ys ≡ front ++ line ∷ [])
 ends_behind xs ys before line is = (xs ++ before, ap (λ (ls : List (List ℕ)). xs ++ ls) is ∙ sym (append_assoc xs before (line ∷ [])))
 
+-- the reader behind the model's text
+pub record BeginsAt (place : Place) : Type 0 where
+  pub limit : place.reader.limit ≡ line_limit
+  pub few : length place.reader.held < read_size
+
 -- what a source has left behind a reader
 read_to : (place : Place) (source_left : Option (List ℕ)) (rest : List ℕ) → length place.reader.held < read_size → ahead place.reader.held source_left ≡ place.ahead → place.ahead ≡ Some rest → IsReadTo rest source_left
 read_to place source_left rest few behind is = record { came = place.reader.held; few = few; behind = behind ∙ is }
 
 abbrev done_ends : (turns : ℕ) (input words heads_rest : List ℕ) (heads : List (List ℕ)) (m : Model) (start place : Place) (source_left held opened now : Option (List ℕ)) (new : State)
-    → IsHead heads words → Gave total_limit input heads start.reader.room heads_rest → start.ahead ≡ Some heads_rest → IsModelText words m
+    → IsHead heads words → Gave line_limit total_limit input heads start.reader.room heads_rest → start.ahead ≡ Some heads_rest → BeginsAt start → IsModelText words m
     → Adds held opened (text_from m 0 (opening (program_options turns) ∷ [])) → PlaysOut (fresh_state turns m) start opened new place now → Legal new.model new.log → ahead place.reader.held source_left ≡ place.ahead → IsDone turns input source_left held now
-done_ends turns input words heads_rest heads m start place source_left held opened now new head gave is_ahead accepted first plays legal behind =
-    let from = subst (λ (b : Option (List ℕ)). GaveKnown start.reader.room b plays.lines place.reader.room place.ahead) is_ahead plays.gave in
-    let k = known start.reader.room heads_rest plays.lines place.reader.room place.ahead from in
+done_ends turns input words heads_rest heads m start place source_left held opened now new head gave is_ahead begins accepted first plays legal behind =
+    let k = known start.reader.limit start.reader.room line_limit start.reader.room start.ahead heads_rest plays.lines place.reader.room place.ahead begins.limit refl is_ahead plays.gave in
     let ends = subst (λ (a : Option (List ℕ)). EndsAll (Some heads_rest) a plays.lines (inputs_of plays.entries)) k.is (subst (λ (b : Option (List ℕ)). EndsAll b place.ahead plays.lines (inputs_of plays.entries)) is_ahead plays.messages) in
-    let split = split_is input heads words (lines_of heads_rest) head (gave_lines total_limit input heads start.reader.room heads_rest gave) in
+    let split = split_is input heads words (lines_of heads_rest) head (gave_lines line_limit total_limit input heads start.reader.room heads_rest gave) in
     let both = head_then heads words plays.lines head in
     let l = logged turns m new held opened now plays.entries legal plays.same plays.log plays.solo plays.world first plays.written in
     record {
@@ -164,7 +161,7 @@ done_ends turns input words heads_rest heads m start place source_left held open
       finished = record {
         legal = l.legal;
         done = ap (λ (w : World). w.done) (sym l.world) ∙ plays.done;
-        inputs = sym (ends_all k.rest plays.lines (inputs_of plays.entries) ends) ∙ sym (ap messages_of (gave_lines start.reader.room heads_rest plays.lines place.reader.room k.rest k.gave)) ∙ sym split.messages;
+        inputs = sym (ends_all k.rest plays.lines (inputs_of plays.entries) ends) ∙ sym (ap messages_of (gave_lines line_limit start.reader.room heads_rest plays.lines place.reader.room k.rest k.gave)) ∙ sym split.messages;
       };
       closed = ap (λ (w : World). w.closed) (sym l.world) ∙ plays.closed;
       solo = l.solo;
@@ -174,12 +171,12 @@ done_ends turns input words heads_rest heads m start place source_left held open
         left = place.reader.room;
         rest = k.rest;
         more = [];
-        gave = gave_append total_limit input heads plays.lines start.reader.room heads_rest place.reader.room k.rest gave k.gave;
+        gave = gave_append line_limit total_limit input heads plays.lines start.reader.room heads_rest place.reader.room k.rest gave k.gave;
         text = both.0;
         behind = ap messages_of both.1 ∙ ends_read k.rest plays.lines (inputs_of plays.entries) ends ∙ sym (append-nil (inputs_of plays.entries));
         no_further = λ front line e. (let last = ends_last k.rest plays.lines (inputs_of plays.entries) front line ends e in ends_behind heads plays.lines last.0 line last.1);
         used_up = λ front e. ends_used_up k.rest plays.lines (inputs_of plays.entries) front ends e;
-        source = read_to place source_left k.rest plays.few behind k.is;
+        source = read_to place source_left k.rest (plays.few begins.few) behind k.is;
       };
       written = l.text;
     }
@@ -189,8 +186,8 @@ record IsStopped (e : Halt) (turns : ℕ) (input : List ℕ) (held now : Option 
   lines : List (List ℕ)
   left : ℕ
   rest : List ℕ
-  gave : Gave total_limit input lines left rest
-  why : StopsBy e left (Some rest)
+  gave : Gave line_limit total_limit input lines left rest
+  why : StopsBy e line_limit left (Some rest)
   asked : ((model_text_of lines ≡ None) × (now ≡ held)) ⊎ WaitsBehind turns lines held now
 
 past_limit : (turns : ℕ) (input : List ℕ) (held now : Option (List ℕ)) → IsStopped halt.Limit turns input held now → IsPastLimit turns input held now
@@ -200,19 +197,18 @@ read_fault : (turns : ℕ) (input : List ℕ) (held now : Option (List ℕ)) →
 read_fault turns input held now s = record { lines = s.lines; left = s.left; rest = s.rest; gave = s.gave; asked = s.asked }
 
 stopped_ends : (e : Halt) (turns : ℕ) (input words heads_rest : List ℕ) (heads : List (List ℕ)) (m : Model) (start : Place) (held opened now : Option (List ℕ)) (new : State)
-    → IsHead heads words → Gave total_limit input heads start.reader.room heads_rest → start.ahead ≡ Some heads_rest → IsModelText words m
+    → IsHead heads words → Gave line_limit total_limit input heads start.reader.room heads_rest → start.ahead ≡ Some heads_rest → BeginsAt start → IsModelText words m
     → Adds held opened (text_from m 0 (opening (program_options turns) ∷ [])) → PlayHalts e (fresh_state turns m) start opened new now → Legal new.model new.log → IsStopped e turns input held now
-stopped_ends e turns input words heads_rest heads m start held opened now new head gave is_ahead accepted first plays legal =
-    let from = subst (λ (b : Option (List ℕ)). GaveKnown start.reader.room b plays.lines plays.left plays.rest) is_ahead plays.gave in
-    let k = known start.reader.room heads_rest plays.lines plays.left plays.rest from in
+stopped_ends e turns input words heads_rest heads m start held opened now new head gave is_ahead begins accepted first plays legal =
+    let k = known start.reader.limit start.reader.room line_limit start.reader.room start.ahead heads_rest plays.lines plays.left plays.rest begins.limit refl is_ahead plays.gave in
     let both = head_then heads words plays.lines head in
     let l = logged turns m new held opened now plays.entries legal plays.same plays.log plays.solo plays.world first plays.written in
     record {
       lines = heads ++ plays.lines;
       left = plays.left;
       rest = k.rest;
-      gave = gave_append total_limit input heads plays.lines start.reader.room heads_rest plays.left k.rest gave k.gave;
-      why = subst (λ (r : Option (List ℕ)). StopsBy e plays.left r) k.is plays.why;
+      gave = gave_append line_limit total_limit input heads plays.lines start.reader.room heads_rest plays.left k.rest gave k.gave;
+      why = subst (λ (r : Option (List ℕ)). StopsBy e line_limit plays.left r) k.is (subst (λ n. StopsBy e n plays.left plays.rest) begins.limit plays.why);
       asked = inr record {
         model = m;
         log = opening (program_options turns) ∷ plays.entries;
@@ -248,7 +244,7 @@ record GotNext (next : Option (List ℕ)) (room : ℕ) (bytes : List ℕ) (behin
   lines : List (List ℕ)
   left : ℕ
   rest : List ℕ
-  gave : Gave room bytes lines left rest
+  gave : Gave line_limit room bytes lines left rest
   read : BeginsWith next (messages_of lines)
   all : BeginsWith next (messages_of (lines ++ lines_of rest))
   used_up : next ≡ None → rest ≡ []
@@ -256,10 +252,9 @@ record GotNext (next : Option (List ℕ)) (room : ℕ) (bytes : List ℕ) (behin
   few : length behind.reader.held < read_size
   is : behind.ahead ≡ Some rest
 
-got_next : (before behind : Place) (bytes : List ℕ) (message : Option NumberedLine) → before.ahead ≡ Some bytes → MessageGives before.reader before.ahead (Ok message) behind.reader behind.ahead → GotNext (line_in message) before.reader.room bytes behind
-got_next before behind bytes (Some line) ahead gets =
-    let from = subst (λ (b : Option (List ℕ)). GaveKnown before.reader.room b (gets.lines ++ line.bytes ∷ []) behind.reader.room behind.ahead) ahead gets.took.gave in
-    let k = known before.reader.room bytes (gets.lines ++ line.bytes ∷ []) behind.reader.room behind.ahead from in
+got_next : (before behind : Place) (bytes : List ℕ) (message : Option NumberedLine) → BeginsAt before → before.ahead ≡ Some bytes → MessageGives before.reader before.ahead (Ok message) behind.reader behind.ahead → GotNext (line_in message) before.reader.room bytes behind
+got_next before behind bytes (Some line) starts is_ahead gets =
+    let k = known before.reader.limit before.reader.room line_limit before.reader.room before.ahead bytes (gets.lines ++ line.bytes ∷ []) behind.reader.room behind.ahead starts.limit refl is_ahead gets.took.gave in
     record {
       lines = gets.lines ++ line.bytes ∷ [];
       left = behind.reader.room;
@@ -270,13 +265,12 @@ got_next before behind bytes (Some line) ahead gets =
           (behind_blanks gets.lines (line.bytes ∷ lines_of k.rest) (Some line.bytes) gets.blank (first_message line.bytes (lines_of k.rest) gets.message (is_line_of end_word line.bytes) refl));
       used_up = λ e. absurd (let h : Some line.bytes ≡ None = e in (cc));
       last = λ found e. (let same : line.bytes ≡ found = (let h : Some line.bytes ≡ Some found = e in (cc)) in (gets.lines, ap (λ (l : List ℕ). gets.lines ++ l ∷ []) same));
-      few = gets.took.few;
+      few = gets.took.few starts.few;
       is = k.is;
     }
-got_next before behind bytes None ahead gets =
-    let from = subst (λ (b : Option (List ℕ)). GaveKnown before.reader.room b gets.lines behind.reader.room behind.ahead) ahead gets.took.gave in
-    let k = known before.reader.room bytes gets.lines behind.reader.room behind.ahead from in
-    let used = subst (λ (b : Option (List ℕ)). IsUsedUp b behind.ahead) ahead gets.used_up in
+got_next before behind bytes None starts is_ahead gets =
+    let k = known before.reader.limit before.reader.room line_limit before.reader.room before.ahead bytes gets.lines behind.reader.room behind.ahead starts.limit refl is_ahead gets.took.gave in
+    let used = subst (λ (b : Option (List ℕ)). IsUsedUp b behind.ahead) is_ahead gets.used_up in
     let none : k.rest ≡ [] = (let h : Some k.rest ≡ Some [] = sym k.is ∙ used in (cc)) in
     let begins : BeginsWith None (messages_of gets.lines) = record { more = []; is = ap messages_of (sym (append-nil gets.lines)) ∙ blanks_first gets.lines [] gets.blank ∙ none_left } in
     record {
@@ -288,7 +282,7 @@ got_next before behind bytes None ahead gets =
       all = subst (λ (ls : List (List ℕ)). BeginsWith None (messages_of ls)) (sym (ap (λ (r : List ℕ). gets.lines ++ lines_of r) none ∙ append-nil gets.lines)) begins;
       used_up = λ e. none;
       last = λ found e. absurd (let h : None ≡ Some found = e in (cc));
-      few = gets.took.few;
+      few = gets.took.few starts.few;
       is = k.is;
     }
 
@@ -340,7 +334,7 @@ between n low high = omega (arith, low, high)
 
 -- the lines with a next message behind those that were played
 has_read : (input words : List ℕ) (heads lines : List (List ℕ)) (room mid : ℕ) (heads_rest bytes : List ℕ) (before : List (Option (List ℕ))) (next : Option (List ℕ)) (place : Place) (source_left : Option (List ℕ))
-    → IsHead heads words → Gave total_limit input heads room heads_rest → Gave room heads_rest lines mid bytes → messages_of lines ≡ before ++ None ∷ [] → GotNext next mid bytes place
+    → IsHead heads words → Gave line_limit total_limit input heads room heads_rest → Gave line_limit room heads_rest lines mid bytes → messages_of lines ≡ before ++ None ∷ [] → GotNext next mid bytes place
     → ahead place.reader.held source_left ≡ place.ahead → HasRead words (before ++ next ∷ []) input source_left
 has_read input words heads lines room mid heads_rest bytes before next place source_left head gave gave2 so_far got behind =
     let both = head_then heads words (lines ++ got.lines) head in
@@ -349,7 +343,7 @@ has_read input words heads lines room mid heads_rest bytes before next place sou
       left = got.left;
       rest = got.rest;
       more = got.read.more;
-      gave = gave_append total_limit input heads (lines ++ got.lines) room heads_rest got.left got.rest gave (gave_append room heads_rest lines got.lines mid bytes got.left got.rest gave2 got.gave);
+      gave = gave_append line_limit total_limit input heads (lines ++ got.lines) room heads_rest got.left got.rest gave (gave_append line_limit room heads_rest lines got.lines mid bytes got.left got.rest gave2 got.gave);
       text = both.0;
       behind = ap messages_of both.1 ∙ messages_append lines got.lines before so_far ∙ ap (λ (ns : List (Option (List ℕ))). before ++ ns) got.read.is ∙ sym (append_assoc before (next ∷ []) got.read.more);
       no_further = λ front line e.
@@ -369,13 +363,13 @@ record LeavesMore (m : Model) (log : List Entry) (words input : List ℕ) (sourc
   due : (((world_of m log).closed ≡ false) × (pending ≡ [])) ⊎ (((world_of m log).closed ≡ true) × ((message : Option (List ℕ)) × (pending ≡ message ∷ [])))
 
 leaves_more : (m : Model) (log : List Entry) (input : List ℕ) (heads lines : List (List ℕ)) (words : List ℕ) (room mid : ℕ) (heads_rest bytes : List ℕ) (before : List (Option (List ℕ))) (next : Option (List ℕ)) (place : Place) (source_left : Option (List ℕ))
-    → IsHead heads words → Gave total_limit input heads room heads_rest → Gave room heads_rest lines mid bytes → messages_of lines ≡ before ++ None ∷ [] → GotNext next mid bytes place
+    → IsHead heads words → Gave line_limit total_limit input heads room heads_rest → Gave line_limit room heads_rest lines mid bytes → messages_of lines ≡ before ++ None ∷ [] → GotNext next mid bytes place
     → ahead place.reader.held source_left ≡ place.ahead → (((world_of m log).closed ≡ false) × (inputs_of log ≡ before ++ next ∷ [])) ⊎ (((world_of m log).closed ≡ true) × (inputs_of log ≡ before)) → LeavesMore m log words input source_left
 leaves_more m log input heads lines words room mid heads_rest bytes before next place source_left head gave gave2 so_far got behind due = by_due due
   where
     whole : (split_of input).messages ≡ before ++ next ∷ got.all.more
-    whole = (split_is input heads words (lines_of heads_rest) head (gave_lines total_limit input heads room heads_rest gave)).messages
-        ∙ ap messages_of (gave_lines room heads_rest lines mid bytes gave2 ∙ ap (λ (ls : List (List ℕ)). lines ++ ls) (gave_lines mid bytes got.lines got.left got.rest got.gave))
+    whole = (split_is input heads words (lines_of heads_rest) head (gave_lines line_limit total_limit input heads room heads_rest gave)).messages
+        ∙ ap messages_of (gave_lines line_limit room heads_rest lines mid bytes gave2 ∙ ap (λ (ls : List (List ℕ)). lines ++ ls) (gave_lines line_limit mid bytes got.lines got.left got.rest got.gave))
         ∙ messages_append lines (got.lines ++ lines_of got.rest) before so_far ∙ ap (λ (ns : List (Option (List ℕ))). before ++ ns) got.all.is
 
     read : HasRead words (before ++ next ∷ []) input source_left
@@ -398,15 +392,15 @@ leaves_more m log input heads lines words room mid heads_rest bytes before next 
     }
 
 full_ends : (turns : ℕ) (input words heads_rest : List ℕ) (heads : List (List ℕ)) (m : Model) (start place : Place) (source_left held opened now : Option (List ℕ)) (new : State)
-    → IsHead heads words → Gave total_limit input heads start.reader.room heads_rest → start.ahead ≡ Some heads_rest → IsModelText words m
+    → IsHead heads words → Gave line_limit total_limit input heads start.reader.room heads_rest → start.ahead ≡ Some heads_rest → BeginsAt start → IsModelText words m
     → Adds held opened (text_from m 0 (opening (program_options turns) ∷ [])) → PlayFills (fresh_state turns m) start opened new place now → Legal new.model new.log → ahead place.reader.held source_left ≡ place.ahead → IsFull turns input source_left held now
-full_ends turns input words heads_rest heads m start place source_left held opened now new head gave is_ahead accepted first plays legal behind =
+full_ends turns input words heads_rest heads m start place source_left held opened now new head gave is_ahead begins accepted first plays legal behind =
     let f = filled turns m start plays.middle place opened plays.written now plays.waiting new (line_in plays.step.message) plays.plays plays.step.fills plays.step.written in
-    let split = split_is input heads words (lines_of heads_rest) head (gave_lines total_limit input heads start.reader.room heads_rest gave) in
+    let split = split_is input heads words (lines_of heads_rest) head (gave_lines line_limit total_limit input heads start.reader.room heads_rest gave) in
     let l = logged turns m new held opened now f.entries legal f.same f.log f.solo f.world first f.text in
-    let from = subst (λ (b : Option (List ℕ)). GaveKnown start.reader.room b plays.plays.lines plays.middle.reader.room plays.middle.ahead) is_ahead plays.plays.took.gave in
-    let k = known start.reader.room heads_rest plays.plays.lines plays.middle.reader.room plays.middle.ahead from in
-    let got = got_next plays.middle place k.rest plays.step.message k.is plays.step.gets in
+    let k = known start.reader.limit start.reader.room line_limit start.reader.room start.ahead heads_rest plays.plays.lines plays.middle.reader.room plays.middle.ahead begins.limit refl is_ahead plays.plays.took.gave in
+    let middle : BeginsAt plays.middle = record { limit = plays.plays.took.limit ∙ begins.limit; few = plays.plays.took.few begins.few } in
+    let got = got_next plays.middle place k.rest plays.step.message middle k.is plays.step.gets in
     let more = leaves_more m (opening (program_options turns) ∷ f.entries) input heads plays.plays.lines words start.reader.room plays.middle.reader.room heads_rest k.rest (inputs_of plays.plays.entries) (line_in plays.step.message) place source_left head gave k.gave plays.plays.messages got behind
     (subst (λ (w : World). ((w.closed ≡ false) × (inputs_of f.entries ≡ inputs_of plays.plays.entries ++ line_in plays.step.message ∷ [])) ⊎ ((w.closed ≡ true) × (inputs_of f.entries ≡ inputs_of plays.plays.entries))) l.world f.due) in
     record {
@@ -430,20 +424,24 @@ full_ends turns input words heads_rest heads m start place source_left held open
 
 -- ---- the end of a run whose text begins
 
-pub begins_at : (old : Reader) (kept : Option (Vec ℕ Global)) (new : Reader) (input : List ℕ) (after source_left : Option (List ℕ)) → old.room ≡ total_limit
-    → (begun : IsBegun old (Some input) kept new after) → ahead new.held source_left ≡ after → HasHead input begun.words source_left
-begins_at old kept new input after source_left room begun behind =
-    let k = known old.room input begun.lines new.room after begun.took.gave in
+pub begins_at : (limit : ℕ) (kept : Option (Vec ℕ Global)) (new : Reader) (input : List ℕ) (after source_left : Option (List ℕ))
+    → (begun : IsBegun (fresh_reader limit) (Some input) kept new after) → ahead new.held source_left ≡ after → HasHead limit input begun.words source_left
+begins_at limit kept new input after source_left begun behind =
+    let k = known limit total_limit limit total_limit (Some input) input begun.lines new.room after refl refl refl begun.took.gave in
     record {
       lines = begun.lines;
       left = new.room;
       rest = k.rest;
-      gave = subst (λ (n : ℕ). Gave n input begun.lines new.room k.rest) room k.gave;
+      gave = k.gave;
       head = begun.head.text;
       no_further = begun.head.behind;
-      text = (split_is input begun.lines begun.words (lines_of k.rest) begun.head (gave_lines old.room input begun.lines new.room k.rest k.gave)).text;
-      source = record { came = new.held; few = begun.took.few; behind = behind ∙ k.is };
+      text = (split_is input begun.lines begun.words (lines_of k.rest) begun.head (gave_lines limit total_limit input begun.lines new.room k.rest k.gave)).text;
+      source = record { came = new.held; few = begun.took.few (omega arith); behind = behind ∙ k.is };
     }
+
+-- the reader behind a text that begins
+behind_text : (kept : Option (Vec ℕ Global)) (start : Place) (input : Option (List ℕ)) → IsBegun (fresh_reader line_limit) input kept start.reader start.ahead → BeginsAt start
+behind_text kept start input begun = record { limit = begun.took.limit; few = begun.took.few (omega arith) }
 
 -- a run that is done, with the log and the world that its machine is left with
 pub record IsDoneWith (turns : ℕ) (input : List ℕ) (source_left : Option (List ℕ)) (new : State) : Type 0 where
@@ -451,75 +449,75 @@ pub record IsDoneWith (turns : ℕ) (input : List ℕ) (source_left : Option (Li
   pub log : new.log ≡ done.log
   pub world : new.world ≡ world_of done.model done.log
 
-pub done_with : (turns : ℕ) (old : Reader) (kept : Option (Vec ℕ Global)) (start place : Place) (input : List ℕ) (source_left : Option (List ℕ)) (m : Model) (new : State)
-    → old.room ≡ total_limit → IsBegun old (Some input) kept start.reader start.ahead → IsKeptModel kept m → PlaysOut (fresh_state turns m) start None new place None → Legal new.model new.log → ahead place.reader.held source_left ≡ place.ahead
+pub done_with : (turns : ℕ) (kept : Option (Vec ℕ Global)) (start place : Place) (input : List ℕ) (source_left : Option (List ℕ)) (m : Model) (new : State)
+    → IsBegun (fresh_reader line_limit) (Some input) kept start.reader start.ahead → IsKeptModel kept m → PlaysOut (fresh_state turns m) start None new place None → Legal new.model new.log → ahead place.reader.held source_left ≡ place.ahead
     → IsDoneWith turns input source_left new
-done_with turns old kept start place input source_left m new room begun text plays legal behind =
-    let k = known old.room input begun.lines start.reader.room start.ahead begun.took.gave in
+done_with turns kept start place input source_left m new begun text plays legal behind =
+    let k = known line_limit total_limit line_limit total_limit (Some input) input begun.lines start.reader.room start.ahead refl refl refl begun.took.gave in
     let l = logged turns m new None None None plays.entries legal plays.same plays.log plays.solo plays.world tt plays.written in
     record {
-      done = done_ends turns input begun.words k.rest begun.lines m start place source_left None None None new begun.head (subst (λ (n : ℕ). Gave n input begun.lines start.reader.room k.rest) room k.gave) k.is (text begun.words begun.keeps) tt plays legal behind;
+      done = done_ends turns input begun.words k.rest begun.lines m start place source_left None None None new begun.head k.gave k.is (behind_text kept start (Some input) begun) (text begun.words begun.keeps) tt plays legal behind;
       log = plays.log;
       world = l.world;
     }
 
-begun_known : (turns : ℕ) (old : Reader) (kept : Option (Vec ℕ Global)) (start place : Place) (input : List ℕ) (source_left held now : Option (List ℕ)) (r : Result Outcome Halt)
-    → old.room ≡ total_limit → IsBegun old (Some input) kept start.reader start.ahead → TextRuns turns kept start held r place now → ahead place.reader.held source_left ≡ place.ahead
+begun_known : (turns : ℕ) (kept : Option (Vec ℕ Global)) (start place : Place) (input : List ℕ) (source_left held now : Option (List ℕ)) (r : Result Outcome Halt)
+    → IsBegun (fresh_reader line_limit) (Some input) kept start.reader start.ahead → TextRuns turns kept start held r place now → ahead place.reader.held source_left ≡ place.ahead
     → RanKnown turns (Some input) source_left held now r
-begun_known turns old kept start place input source_left held now (Ok outcome.Done) room begun run behind =
-    let k = known old.room input begun.lines start.reader.room start.ahead begun.took.gave in
-    done_ends turns input begun.words k.rest begun.lines run.model start place source_left held run.run.opened now run.run.new begun.head (subst (λ (n : ℕ). Gave n input begun.lines start.reader.room k.rest) room k.gave) k.is (run.text begun.words begun.keeps) run.run.first run.run.playing run.run.legal behind
-begun_known turns old kept start place input source_left held now (Ok outcome.Refused) room begun run behind =
+begun_known turns kept start place input source_left held now (Ok outcome.Done) begun run behind =
+    let k = known line_limit total_limit line_limit total_limit (Some input) input begun.lines start.reader.room start.ahead refl refl refl begun.took.gave in
+    done_ends turns input begun.words k.rest begun.lines run.model start place source_left held run.run.opened now run.run.new begun.head k.gave k.is (behind_text kept start (Some input) begun) (run.text begun.words begun.keeps) run.run.first run.run.playing run.run.legal behind
+begun_known turns kept start place input source_left held now (Ok outcome.Refused) begun run behind =
     let same = subst (λ (p : Place). ahead p.reader.held source_left ≡ p.ahead) run.1 behind in
-    let begins = begins_at old kept start.reader input start.ahead source_left room begun same in
+    let begins = begins_at line_limit kept start.reader input start.ahead source_left begun same in
     faulty begun.words run.0.line begins (run.0.refused begun.words begun.keeps) run.0.written
-begun_known turns old kept start place input source_left held now (Err halt.Limit) room begun run behind =
-    let k = known old.room input begun.lines start.reader.room start.ahead begun.took.gave in
-    past_limit turns input held now (stopped_ends halt.Limit turns input begun.words k.rest begun.lines run.model start held run.run.opened now run.run.new begun.head (subst (λ (n : ℕ). Gave n input begun.lines start.reader.room k.rest) room k.gave) k.is (run.text begun.words begun.keeps) run.run.first run.run.playing run.run.legal)
-begun_known turns old kept start place input source_left held now (Err halt.Read) room begun run behind =
-    let k = known old.room input begun.lines start.reader.room start.ahead begun.took.gave in
-    read_fault turns input held now (stopped_ends halt.Read turns input begun.words k.rest begun.lines run.model start held run.run.opened now run.run.new begun.head (subst (λ (n : ℕ). Gave n input begun.lines start.reader.room k.rest) room k.gave) k.is (run.text begun.words begun.keeps) run.run.first run.run.playing run.run.legal)
-begun_known turns old kept start place input source_left held now (Err halt.Full) room begun run behind =
-    let k = known old.room input begun.lines start.reader.room start.ahead begun.took.gave in
-    full_ends turns input begun.words k.rest begun.lines run.model start place source_left held run.run.opened now run.run.new begun.head (subst (λ (n : ℕ). Gave n input begun.lines start.reader.room k.rest) room k.gave) k.is (run.text begun.words begun.keeps) run.run.first run.run.playing run.run.legal behind
-begun_known turns old kept start place input source_left held now (Err halt.Write) room begun run behind = tt
-begun_known turns old kept start place input source_left held now (Err halt.Memory) room begun run behind = tt
+begun_known turns kept start place input source_left held now (Err halt.Limit) begun run behind =
+    let k = known line_limit total_limit line_limit total_limit (Some input) input begun.lines start.reader.room start.ahead refl refl refl begun.took.gave in
+    past_limit turns input held now (stopped_ends halt.Limit turns input begun.words k.rest begun.lines run.model start held run.run.opened now run.run.new begun.head k.gave k.is (behind_text kept start (Some input) begun) (run.text begun.words begun.keeps) run.run.first run.run.playing run.run.legal)
+begun_known turns kept start place input source_left held now (Err halt.Read) begun run behind =
+    let k = known line_limit total_limit line_limit total_limit (Some input) input begun.lines start.reader.room start.ahead refl refl refl begun.took.gave in
+    read_fault turns input held now (stopped_ends halt.Read turns input begun.words k.rest begun.lines run.model start held run.run.opened now run.run.new begun.head k.gave k.is (behind_text kept start (Some input) begun) (run.text begun.words begun.keeps) run.run.first run.run.playing run.run.legal)
+begun_known turns kept start place input source_left held now (Err halt.Full) begun run behind =
+    let k = known line_limit total_limit line_limit total_limit (Some input) input begun.lines start.reader.room start.ahead refl refl refl begun.took.gave in
+    full_ends turns input begun.words k.rest begun.lines run.model start place source_left held run.run.opened now run.run.new begun.head k.gave k.is (behind_text kept start (Some input) begun) (run.text begun.words begun.keeps) run.run.first run.run.playing run.run.legal behind
+begun_known turns kept start place input source_left held now (Err halt.Write) begun run behind = tt
+begun_known turns kept start place input source_left held now (Err halt.Memory) begun run behind = tt
 
-begun_ran : (turns : ℕ) (old : Reader) (kept : Option (Vec ℕ Global)) (start place : Place) (input source_left held now : Option (List ℕ)) (r : Result Outcome Halt)
-    → old.room ≡ total_limit → IsBegun old input kept start.reader start.ahead → TextRuns turns kept start held r place now → ahead place.reader.held source_left ≡ place.ahead
+begun_ran : (turns : ℕ) (kept : Option (Vec ℕ Global)) (start place : Place) (input source_left held now : Option (List ℕ)) (r : Result Outcome Halt)
+    → IsBegun (fresh_reader line_limit) input kept start.reader start.ahead → TextRuns turns kept start held r place now → ahead place.reader.held source_left ≡ place.ahead
     → RanKnown turns input source_left held now r
-begun_ran turns old kept start place None source_left held now r room begun run behind = tt
-begun_ran turns old kept start place (Some input) source_left held now r room begun run behind = begun_known turns old kept start place input source_left held now r room begun run behind
+begun_ran turns kept start place None source_left held now r begun run behind = tt
+begun_ran turns kept start place (Some input) source_left held now r begun run behind = begun_known turns kept start place input source_left held now r begun run behind
 
 -- ---- the end of a run whose text has no `begin`
 
-pub begins_nowhere : (old new : Reader) (input : List ℕ) (after source_left held now : Option (List ℕ)) → old.room ≡ total_limit → HasNoBegin old (Some input) new after → ahead new.held source_left ≡ after
-    → Adds held now no_begin_line → IsNoModel input source_left held now
-begins_nowhere old new input after source_left held now room head behind adds =
-    let k = known old.room input head.lines new.room after head.took.gave in
+pub begins_nowhere : (limit : ℕ) (new : Reader) (input : List ℕ) (after source_left held now : Option (List ℕ)) → HasNoBegin (fresh_reader limit) (Some input) new after → ahead new.held source_left ≡ after
+    → Adds held now no_begin_line → IsNoModel limit input source_left held now
+begins_nowhere limit new input after source_left held now head behind adds =
+    let k = known limit total_limit limit total_limit (Some input) input head.lines new.room after refl refl refl head.took.gave in
     let none : k.rest ≡ [] = (let h : Some k.rest ≡ Some [] = sym k.is ∙ head.used_up in (cc)) in
-    no_begin head.lines new.room (subst (λ (r : List ℕ). Gave total_limit input head.lines new.room r) none (subst (λ (n : ℕ). Gave n input head.lines new.room k.rest) room k.gave)) (ap model_text_of (gave_lines old.room input head.lines new.room k.rest k.gave ∙ ap (λ (r : List ℕ). head.lines ++ lines_of r) none ∙ append-nil head.lines) ∙ head.none)
-    record { came = new.held; few = head.took.few; behind = behind ∙ head.used_up } adds
+    no_begin head.lines new.room (subst (λ (r : List ℕ). Gave limit total_limit input head.lines new.room r) none k.gave) (ap model_text_of (gave_lines limit total_limit input head.lines new.room k.rest k.gave ∙ ap (λ (r : List ℕ). head.lines ++ lines_of r) none ∙ append-nil head.lines) ∙ head.none)
+    record { came = new.held; few = head.took.few (omega arith); behind = behind ∙ head.used_up } adds
 
-no_begin_ran : (turns : ℕ) (old new : Reader) (input after source_left held now : Option (List ℕ)) → old.room ≡ total_limit → HasNoBegin old input new after → ahead new.held source_left ≡ after → Adds held now no_begin_line
+no_begin_ran : (turns : ℕ) (new : Reader) (input after source_left held now : Option (List ℕ)) → HasNoBegin (fresh_reader line_limit) input new after → ahead new.held source_left ≡ after → Adds held now no_begin_line
     → RanKnown turns input source_left held now (Ok outcome.Refused)
-no_begin_ran turns old new None after source_left held now room head behind adds = tt
-no_begin_ran turns old new (Some input) after source_left held now room head behind adds = begins_nowhere old new input after source_left held now room head behind adds
+no_begin_ran turns new None after source_left held now head behind adds = tt
+no_begin_ran turns new (Some input) after source_left held now head behind adds = begins_nowhere line_limit new input after source_left held now head behind adds
 
 -- the refusal's line may fail to be written
-refused_ran : (turns : ℕ) (old new : Reader) (input after source_left held now : Option (List ℕ)) (r : Result Outcome Halt) (faults later : ℕ) → old.room ≡ total_limit
-    → HasNoBegin old input new after → ahead new.held source_left ≡ after → OnOk r (Adds held now no_begin_line) → IfOk r (λ o. o ≡ outcome.Refused) → IfErr r (WriteStops faults later) → RanKnown turns input source_left held now r
-refused_ran turns old new input after source_left held now (Ok outcome.Refused) faults later room head behind adds refused cause = no_begin_ran turns old new input after source_left held now room head behind adds
-refused_ran turns old new input after source_left held now (Ok outcome.Done) faults later room head behind adds refused cause = absurd (let h : outcome.Done ≡ outcome.Refused = refused in (cc))
-refused_ran turns old new input after source_left held now (Err halt.Limit) faults later room head behind adds refused cause = absurd cause
-refused_ran turns old new input after source_left held now (Err halt.Full) faults later room head behind adds refused cause = absurd cause
-refused_ran turns old new input after source_left held now (Err halt.Read) faults later room head behind adds refused cause = absurd cause
-refused_ran turns old new input after source_left held now (Err halt.Write) faults later room head behind adds refused cause = free_write input
+refused_ran : (turns : ℕ) (new : Reader) (input after source_left held now : Option (List ℕ)) (r : Result Outcome Halt) (faults later : ℕ)
+    → HasNoBegin (fresh_reader line_limit) input new after → ahead new.held source_left ≡ after → OnOk r (Adds held now no_begin_line) → IfOk r (λ o. o ≡ outcome.Refused) → IfErr r (WriteStops faults later) → RanKnown turns input source_left held now r
+refused_ran turns new input after source_left held now (Ok outcome.Refused) faults later head behind adds refused cause = no_begin_ran turns new input after source_left held now head behind adds
+refused_ran turns new input after source_left held now (Ok outcome.Done) faults later head behind adds refused cause = absurd (let h : outcome.Done ≡ outcome.Refused = refused in (cc))
+refused_ran turns new input after source_left held now (Err halt.Limit) faults later head behind adds refused cause = absurd cause
+refused_ran turns new input after source_left held now (Err halt.Full) faults later head behind adds refused cause = absurd cause
+refused_ran turns new input after source_left held now (Err halt.Read) faults later head behind adds refused cause = absurd cause
+refused_ran turns new input after source_left held now (Err halt.Write) faults later head behind adds refused cause = free_write input
   where
     free_write : (bytes : Option (List ℕ)) → RanKnown turns bytes source_left held now (Err halt.Write)
     free_write None = tt
     free_write (Some bytes) = tt
-refused_ran turns old new input after source_left held now (Err halt.Memory) faults later room head behind adds refused cause = free_memory input
+refused_ran turns new input after source_left held now (Err halt.Memory) faults later head behind adds refused cause = free_memory input
   where
     free_memory : (bytes : Option (List ℕ)) → RanKnown turns bytes source_left held now (Err halt.Memory)
     free_memory None = tt
@@ -527,45 +525,67 @@ refused_ran turns old new input after source_left held now (Err halt.Memory) fau
 
 -- ---- the end of a run that stops before `begin`
 
-head_stopped : (turns : ℕ) (old : Reader) (input : List ℕ) (held : Option (List ℕ)) (f : LineFault) (e : Halt) → old.room ≡ total_limit → HeadHalts old (Some input) f → HaltFor f e → IsStopped e turns input held held
-head_stopped turns old input held f e room head is =
+-- the lines before `begin` behind which no line was given
+pub record IsHeadStopped (e : Halt) (limit : ℕ) (input : List ℕ) : Type 0 where
+  pub lines : List (List ℕ)
+  pub left : ℕ
+  pub rest : List ℕ
+  pub gave : Gave limit total_limit input lines left rest
+  pub why : StopsBy e limit left (Some rest)
+  pub none : model_text_of lines ≡ None
+
+pub head_stopped : (limit : ℕ) (input : List ℕ) (f : LineFault) (e : Halt) → HeadHalts (fresh_reader limit) (Some input) f → HaltFor f e → IsHeadStopped e limit input
+head_stopped limit input f e head is =
     let halts = head.halts in
-    let k = known old.room input head.lines halts.left halts.rest halts.gave in
+    let k = known limit total_limit limit total_limit (Some input) input head.lines halts.left halts.rest refl refl refl halts.gave in
     record {
       lines = head.lines;
       left = halts.left;
       rest = k.rest;
-      gave = subst (λ (n : ℕ). Gave n input head.lines halts.left k.rest) room k.gave;
-      why = subst (λ (r : Option (List ℕ)). StopsBy e halts.left r) k.is (stops_by e halts.left halts.rest f is halts.why);
-      asked = inl (head.none, refl);
+      gave = k.gave;
+      why = subst (λ (r : Option (List ℕ)). StopsBy e limit halts.left r) k.is (stops_by e limit halts.left halts.rest f is halts.why);
+      none = head.none;
     }
 
-head_ran : (turns : ℕ) (old : Reader) (input source_left held : Option (List ℕ)) (f : LineFault) (e : Halt) → old.room ≡ total_limit → HeadHalts old input f → HaltFor f e → RanKnown turns input source_left held held (Err e)
-head_ran turns old None source_left held f e room head is = tt
-head_ran turns old (Some input) source_left held f halt.Limit room head is = past_limit turns input held held (head_stopped turns old input held f halt.Limit room head is)
-head_ran turns old (Some input) source_left held f halt.Full room head is = absurd (never_full f is)
-head_ran turns old (Some input) source_left held f halt.Read room head is = read_fault turns input held held (head_stopped turns old input held f halt.Read room head is)
-head_ran turns old (Some input) source_left held f halt.Write room head is = tt
-head_ran turns old (Some input) source_left held f halt.Memory room head is = tt
+head_ran : (turns : ℕ) (input source_left held : Option (List ℕ)) (f : LineFault) (e : Halt) → HeadHalts (fresh_reader line_limit) input f → HaltFor f e → RanKnown turns input source_left held held (Err e)
+head_ran turns None source_left held f e head is = tt
+head_ran turns (Some input) source_left held f halt.Limit head is =
+    let s = head_stopped line_limit input f halt.Limit head is in
+    record { lines = s.lines; left = s.left; rest = s.rest; gave = s.gave; why = s.why; asked = inl (s.none, refl) }
+head_ran turns (Some input) source_left held f halt.Full head is = absurd (never_full f is)
+head_ran turns (Some input) source_left held f halt.Read head is =
+    let s = head_stopped line_limit input f halt.Read head is in
+    record { lines = s.lines; left = s.left; rest = s.rest; gave = s.gave; asked = inl (s.none, refl) }
+head_ran turns (Some input) source_left held f halt.Write head is = tt
+head_ran turns (Some input) source_left held f halt.Memory head is = tt
 
--- ---- from the reader that a run begins with
+-- ---- from the reader that a task begins with
 
 none_ahead : (left : Option (List ℕ)) → ahead [] left ≡ left
 none_ahead None = refl
 none_ahead (Some bytes) = refl
 
-pub all_ahead : (old : Reader) (left : Option (List ℕ)) → old.held ≡ [] → ahead old.held left ≡ left
-all_ahead old left e = ap (λ (h : List ℕ). ahead h left) e ∙ none_ahead left
+pub fresh_begun : (limit : ℕ) (old : Reader) (kept : Option (Vec ℕ Global)) (new : Reader) (left after : Option (List ℕ)) → old ≡ fresh_reader limit → IsBegun old (ahead old.held left) kept new after → IsBegun (fresh_reader limit) left kept new after
+fresh_begun limit old kept new left after is begun =
+    subst (λ (b : Option (List ℕ)). IsBegun (fresh_reader limit) b kept new after) (none_ahead left) (subst (λ (r : Reader). IsBegun r (ahead r.held left) kept new after) is begun)
 
-pub refused_solo : (turns : ℕ) (old new : Reader) (left source_left held now : Option (List ℕ)) (r : Result Outcome Halt) (faults later : ℕ) → old.held ≡ [] → old.room ≡ total_limit
+pub fresh_nowhere : (limit : ℕ) (old new : Reader) (left after : Option (List ℕ)) → old ≡ fresh_reader limit → HasNoBegin old (ahead old.held left) new after → HasNoBegin (fresh_reader limit) left new after
+fresh_nowhere limit old new left after is head =
+    subst (λ (b : Option (List ℕ)). HasNoBegin (fresh_reader limit) b new after) (none_ahead left) (subst (λ (r : Reader). HasNoBegin r (ahead r.held left) new after) is head)
+
+pub fresh_halts : (limit : ℕ) (old : Reader) (left : Option (List ℕ)) (f : LineFault) → old ≡ fresh_reader limit → HeadHalts old (ahead old.held left) f → HeadHalts (fresh_reader limit) left f
+fresh_halts limit old left f is head =
+    subst (λ (b : Option (List ℕ)). HeadHalts (fresh_reader limit) b f) (none_ahead left) (subst (λ (r : Reader). HeadHalts r (ahead r.held left) f) is head)
+
+pub refused_solo : (turns : ℕ) (old new : Reader) (left source_left held now : Option (List ℕ)) (r : Result Outcome Halt) (faults later : ℕ) → old ≡ fresh_reader line_limit
     → HasNoBegin old (ahead old.held left) new (ahead new.held source_left) → OnOk r (Adds held now no_begin_line) → IfOk r (λ o. o ≡ outcome.Refused) → IfErr r (WriteStops faults later) → RanKnown turns left source_left held now r
-refused_solo turns old new left source_left held now r faults later empty room head adds refused cause =
-    refused_ran turns old new left (ahead new.held source_left) source_left held now r faults later room (subst (λ (b : Option (List ℕ)). HasNoBegin old b new (ahead new.held source_left)) (all_ahead old left empty) head) refl adds refused cause
+refused_solo turns old new left source_left held now r faults later is head adds refused cause =
+    refused_ran turns new left (ahead new.held source_left) source_left held now r faults later (fresh_nowhere line_limit old new left (ahead new.held source_left) is head) refl adds refused cause
 
-pub begun_solo : (turns : ℕ) (old : Reader) (kept : Option (Vec ℕ Global)) (new last : Reader) (left after source_left held now : Option (List ℕ)) (r : Result Outcome Halt) → old.held ≡ [] → old.room ≡ total_limit
+pub begun_solo : (turns : ℕ) (old : Reader) (kept : Option (Vec ℕ Global)) (new last : Reader) (left after source_left held now : Option (List ℕ)) (r : Result Outcome Halt) → old ≡ fresh_reader line_limit
     → IsBegun old (ahead old.held left) kept new (ahead new.held after) → TextRuns turns kept (place_of new after) held r (place_of last source_left) now → RanKnown turns left source_left held now r
-begun_solo turns old kept new last left after source_left held now r empty room begun run =
-    begun_ran turns old kept (place_of new after) (place_of last source_left) left source_left held now r room (subst (λ (b : Option (List ℕ)). IsBegun old b kept new (ahead new.held after)) (all_ahead old left empty) begun) run refl
+begun_solo turns old kept new last left after source_left held now r is begun run =
+    begun_ran turns kept (place_of new after) (place_of last source_left) left source_left held now r (fresh_begun line_limit old kept new left (ahead new.held after) is begun) run refl
 
-pub head_solo : (turns : ℕ) (old : Reader) (left source_left held : Option (List ℕ)) (f : LineFault) (e : Halt) → old.held ≡ [] → old.room ≡ total_limit → HeadHalts old (ahead old.held left) f → HaltFor f e → RanKnown turns left source_left held held (Err e)
-head_solo turns old left source_left held f e empty room head is = head_ran turns old left source_left held f e room (subst (λ (b : Option (List ℕ)). HeadHalts old b f) (all_ahead old left empty) head) is
+pub head_solo : (turns : ℕ) (old : Reader) (left source_left held : Option (List ℕ)) (f : LineFault) (e : Halt) → old ≡ fresh_reader line_limit → HeadHalts old (ahead old.held left) f → HaltFor f e → RanKnown turns left source_left held held (Err e)
+head_solo turns old left source_left held f e is head halts = head_ran turns left source_left held f e (fresh_halts line_limit old left f is head) halts

@@ -1,11 +1,7 @@
-pub mod Reading
-pub mod Beginning
-pub mod Skipping
 pub mod Digits
 pub mod Ends
 pub mod Leasts
 pub mod Telling
-pub mod Writing
 pub mod Playing
 pub mod Ending
 pub mod Checking

@@ -1,88 +1,16 @@
 -- What two readings of one input have in common.
 use Rattle.std.proofs.Common.{◌≡◌, ℕ, ◌+◌, List, [], ◌∷◌, ◌++◌, length, Bool, true, false, if◌then◌else◌, Option, Some, None, ◌⊎◌, inl, inr, refl, sym, ◌∙◌, ap, subst, length-append, arith}
-use Rattle.std.proofs.lemmas.List.{append-nil}
-use Rattle.pl_io.specs.Lines.{lines_of, after_line, next_of, given, ended, line_too_long, input_too_long}
+use Rattle.pl_io.specs.Lines.{lines_of}
 use Rattle.pl_machine.specs.Lines.{is_blank_line, is_line_of, begin_word, end_word, text_before, model_text_of, lines_behind, messages_from, messages_of, split_of}
-use Rattle.pl_main.specs.Reads.{GaveOne, Gave}
+use Rattle.pl_stream.specs.Reads.{Gave}
 use Rattle.pl_main.specs.Top.{total_limit}
-use Rattle.pl_main.proofs.Reading.{gave_lines}
+use Rattle.pl_stream.proofs.Reading.{gave_lines}
 
 abbrev Lines : Type 0
 Lines = List (List ℕ)
 
 abbrev Message : Type 0
 Message = Option (List ℕ)
-
--- ---- the lines
-
--- one reading goes on where the other one ends
-data Compared (xs ys : Lines) (left1 : ℕ) (rest1 : List ℕ) (left2 : ℕ) (rest2 : List ℕ) : Type 0 where
-  further : (more : Lines) → ys ≡ xs ++ more → Gave left1 rest1 more left2 rest2 → Compared xs ys left1 rest1 left2 rest2
-  shorter : (more : Lines) → xs ≡ ys ++ more → Gave left2 rest2 more left1 rest1 → Compared xs ys left1 rest1 left2 rest2
-
-one_line : (room : ℕ) (bytes x y : List ℕ) (left1 left2 : ℕ) → GaveOne room bytes x left1 → GaveOne room bytes y left2 → (x ≡ y) × (left1 ≡ left2)
-one_line room bytes x y left1 left2 g h =
-    let e : given x (after_line bytes) ≡ given y (after_line bytes) = sym g.next ∙ h.next in
-    let same : x ≡ y = (cc) in
-    (same, omega (arith, g.leaves, h.leaves))
-
-compared_more : (x y : List ℕ) (xs ys : Lines) (left1 : ℕ) (rest1 : List ℕ) (left2 : ℕ) (rest2 : List ℕ) → x ≡ y → Compared xs ys left1 rest1 left2 rest2 → Compared (x ∷ xs) (y ∷ ys) left1 rest1 left2 rest2
-compared_more x y xs ys left1 rest1 left2 rest2 same (further more e g) = further more (ap (λ (b : List ℕ). b ∷ ys) (sym same) ∙ ap (λ (ls : Lines). x ∷ ls) e) g
-compared_more x y xs ys left1 rest1 left2 rest2 same (shorter more e g) = shorter more (ap (λ (b : List ℕ). b ∷ xs) same ∙ ap (λ (ls : Lines). y ∷ ls) e) g
-
-compared : (room : ℕ) (bytes : List ℕ) (xs ys : Lines) (left1 : ℕ) (rest1 : List ℕ) (left2 : ℕ) (rest2 : List ℕ) → Gave room bytes xs left1 rest1 → Gave room bytes ys left2 rest2 → Compared xs ys left1 rest1 left2 rest2
-compared room bytes [] ys left1 rest1 left2 rest2 g h = further ys refl (subst (λ (r : List ℕ). Gave left1 r ys left2 rest2) (sym g.1) (subst (λ (n : ℕ). Gave n bytes ys left2 rest2) (sym g.0) h))
-compared room bytes (x ∷ xs) [] left1 rest1 left2 rest2 g h = shorter (x ∷ xs) refl (subst (λ (r : List ℕ). Gave left2 r (x ∷ xs) left1 rest1) (sym h.1) (subst (λ (n : ℕ). Gave n bytes (x ∷ xs) left1 rest1) (sym h.0) g))
-compared room bytes (x ∷ xs) (y ∷ ys) left1 rest1 left2 rest2 g h =
-    let same = one_line room bytes x y g.0 h.0 g.1 h.1 in
-    compared_more x y xs ys left1 rest1 left2 rest2 same.0 (compared g.0 (after_line bytes) xs ys left1 rest1 left2 rest2 g.2 (subst (λ (n : ℕ). Gave n (after_line bytes) ys left2 rest2) (sym same.1) h.2))
-
--- the next line, or the input, is too long
-abbrev pub IsStuck : ℕ → List ℕ → Type 0
-IsStuck left rest = (next_of 4096 left rest ≡ line_too_long) ⊎ (next_of 4096 left rest ≡ input_too_long)
-
-gives_none : (left : ℕ) (rest line : List ℕ) (left2 : ℕ) → IsStuck left rest → GaveOne left rest line left2 → ⊥
-gives_none left rest line left2 stuck gave =
-    elim stuck [
-      | inl e ↦ (let h : line_too_long ≡ given line (after_line rest) = sym e ∙ gave.next in (cc))
-      | inr e ↦ (let h : input_too_long ≡ given line (after_line rest) = sym e ∙ gave.next in (cc))
-    ]
-
-at_end : (left : ℕ) → next_of 4096 left [] ≡ ended
-unfolding next_of
-at_end left = refl
-
-pub end_is_no_limit : (left : ℕ) → IsStuck left [] → ⊥
-end_is_no_limit left stuck =
-    elim stuck [
-      | inl e ↦ (let h : ended ≡ line_too_long = sym (at_end left) ∙ e in (cc))
-      | inr e ↦ (let h : ended ≡ input_too_long = sym (at_end left) ∙ e in (cc))
-    ]
-
--- A reading that a limit stops begins with each other reading of the input.
-pub record GoesOn (xs ys : Lines) (left1 : ℕ) (rest1 : List ℕ) (left2 : ℕ) (rest2 : List ℕ) : Type 0 where
-  pub more : Lines
-  pub is : xs ≡ ys ++ more
-  pub gave : Gave left2 rest2 more left1 rest1
-
-no_further : (xs ys more : Lines) (left1 : ℕ) (rest1 : List ℕ) (left2 : ℕ) (rest2 : List ℕ) → IsStuck left1 rest1 → ys ≡ xs ++ more → Gave left1 rest1 more left2 rest2 → GoesOn xs ys left1 rest1 left2 rest2
-no_further xs ys [] left1 rest1 left2 rest2 stuck is gave = record { more = []; is = sym (append-nil ys ∙ is ∙ append-nil xs); gave = (sym gave.0, sym gave.1) }
-no_further xs ys (z ∷ zs) left1 rest1 left2 rest2 stuck is gave = absurd (gives_none left1 rest1 z gave.0 stuck gave.1)
-
-by_compared : (xs ys : Lines) (left1 : ℕ) (rest1 : List ℕ) (left2 : ℕ) (rest2 : List ℕ) → IsStuck left1 rest1 → Compared xs ys left1 rest1 left2 rest2 → GoesOn xs ys left1 rest1 left2 rest2
-by_compared xs ys left1 rest1 left2 rest2 stuck (further more is gave) = no_further xs ys more left1 rest1 left2 rest2 stuck is gave
-by_compared xs ys left1 rest1 left2 rest2 stuck (shorter more is gave) = record { more = more; is = is; gave = gave }
-
-pub goes_on : (room : ℕ) (bytes : List ℕ) (xs ys : Lines) (left1 : ℕ) (rest1 : List ℕ) (left2 : ℕ) (rest2 : List ℕ) → IsStuck left1 rest1 → Gave room bytes xs left1 rest1 → Gave room bytes ys left2 rest2 → GoesOn xs ys left1 rest1 left2 rest2
-goes_on room bytes xs ys left1 rest1 left2 rest2 stuck g h = by_compared xs ys left1 rest1 left2 rest2 stuck (compared room bytes xs ys left1 rest1 left2 rest2 g h)
-
-nothing_left : (more : Lines) (left1 : ℕ) (rest1 : List ℕ) (left2 : ℕ) → Gave left2 [] more left1 rest1 → IsStuck left1 rest1 → ⊥
-nothing_left [] left1 rest1 left2 gave stuck = end_is_no_limit left1 (subst (λ (r : List ℕ). IsStuck left1 r) gave.1 stuck)
-nothing_left (z ∷ zs) left1 rest1 left2 gave stuck = (let h : ended ≡ given z (after_line []) = sym (at_end left2) ∙ gave.1.next in (cc))
-
--- a reading of all bytes is not one that a limit stops
-pub all_or_stuck : (xs ys : Lines) (left1 : ℕ) (rest1 : List ℕ) (left2 : ℕ) (rest2 : List ℕ) → GoesOn xs ys left1 rest1 left2 rest2 → rest2 ≡ [] → IsStuck left1 rest1 → ⊥
-all_or_stuck xs ys left1 rest1 left2 rest2 on none stuck = nothing_left on.more left1 rest1 left2 (subst (λ (r : List ℕ). Gave left2 r on.more left1 rest1) none on.gave) stuck
 
 -- ---- the model's text
 
@@ -105,13 +33,13 @@ pub behind_goes_on : (lines more : Lines) (words : List ℕ) → model_text_of l
 behind_goes_on [] more words e = absurd (let h : None ≡ Some words = e in (cc))
 behind_goes_on (x ∷ xs) more words e = behind_step (is_line_of begin_word x) x xs more (model_text_of xs) words e (λ w h. behind_goes_on xs more w h)
 
-pub split_text : (input : List ℕ) (lines : Lines) (left : ℕ) (rest words : List ℕ) → Gave total_limit input lines left rest → model_text_of lines ≡ Some words → (split_of input).text ≡ Some words
-split_text input lines left rest words gave e = ap model_text_of (gave_lines total_limit input lines left rest gave) ∙ text_goes_on lines (lines_of rest) words e
+pub split_text : (limit : ℕ) (input : List ℕ) (lines : Lines) (left : ℕ) (rest words : List ℕ) → Gave limit total_limit input lines left rest → model_text_of lines ≡ Some words → (split_of input).text ≡ Some words
+split_text limit input lines left rest words gave e = ap model_text_of (gave_lines limit total_limit input lines left rest gave) ∙ text_goes_on lines (lines_of rest) words e
 
-pub split_messages : (input : List ℕ) (lines : Lines) (left : ℕ) (rest words : List ℕ) → Gave total_limit input lines left rest → model_text_of lines ≡ Some words
+pub split_messages : (limit : ℕ) (input : List ℕ) (lines : Lines) (left : ℕ) (rest words : List ℕ) → Gave limit total_limit input lines left rest → model_text_of lines ≡ Some words
     → (split_of input).messages ≡ messages_of (lines_behind lines ++ lines_of rest)
-split_messages input lines left rest words gave e =
-    ap (λ (ls : Lines). messages_of (lines_behind ls)) (gave_lines total_limit input lines left rest gave) ∙ ap messages_of (behind_goes_on lines (lines_of rest) words e)
+split_messages limit input lines left rest words gave e =
+    ap (λ (ls : Lines). messages_of (lines_behind ls)) (gave_lines limit total_limit input lines left rest gave) ∙ ap messages_of (behind_goes_on lines (lines_of rest) words e)
 
 -- ---- the messages
 

@@ -1,9 +1,8 @@
 -- Message after message.
-use Rattle.std.proofs.Common.{◌≡◌, ℕ, ◌+◌, ◌<◌, List, [], ◌∷◌, ◌++◌, length, drop, Bool, true, false, All, Option, Some, None, IfSome, inl, inr, Ok, Err, refl, sym, ◌∙◌, ap, subst, append_assoc, length-append}
+use Rattle.std.proofs.Common.{◌≡◌, ℕ, ◌+◌, ◌<◌, ◌≤◌, List, [], ◌∷◌, ◌++◌, length, drop, Bool, true, false, All, Option, Some, None, IfSome, Ok, Err, refl, sym, ◌∙◌, ap, subst, append_assoc, length-append}
 use Rattle.std.proofs.lemmas.List.{append-nil}
 use Rattle.std.proofs.lemmas.List.Elements.{filter_map-append}
 use Rattle.pl_io.specs.declared.errors.LineFault.{LineFault}
-use Rattle.pl_io.specs.declared.errors.LineFault.TheVariants as fault
 use Rattle.pl_io.specs.Reader.{NumberedLine}
 use Rattle.pl_model.specs.declared.whole.Model.{Model}
 use Rattle.pl_entry.specs.declared.entry.Entry.{Entry}
@@ -18,25 +17,26 @@ use Rattle.pl_machine.specs.Sound.{State}
 use Rattle.pl_driver.specs.Rounds.{SameRun}
 use Rattle.pl_render.specs.Lines.{text_from}
 use Rattle.pl_render.proofs.Texts.{text_joined}
-use Rattle.pl_main.specs.declared.halt.Halt.{Halt}
-use Rattle.pl_main.specs.declared.halt.Halt.TheVariants as halt
-use Rattle.pl_main.specs.Reads.{GaveKnown, WhyKnown, IsUsedUp, AreBlank}
-use Rattle.pl_main.specs.Waits.{GetsFault, MessageGives}
+use Rattle.pl_stream.specs.declared.halt.Halt.{Halt}
+use Rattle.pl_stream.specs.declared.halt.Halt.TheVariants as halt
+use Rattle.pl_stream.specs.Reads.{GaveKnown, IsUsedUp, AreBlank}
+use Rattle.pl_stream.specs.Stops.{HaltFor, StopsBy}
+use Rattle.pl_stream.specs.Waits.{GetsFault, MessageGives}
 use Rattle.pl_main.specs.Tells.{IsReady, Told}
-use Rattle.pl_main.specs.Written.{Adds}
-use Rattle.pl_main.specs.Plays.{HaltFor, IsLimit, Place, Plays, EndsAll, by_end, by_line, PlaysOut, TooLong, StopsBy, PlayHalts, Answered, Filled, line_in, StepsOn, StepFills, StepHalts, PlayFills, Steps, Playing}
-use Rattle.pl_main.proofs.Reading.{gave_none, known_append}
-use Rattle.pl_main.proofs.Beginning.{took_more}
-use Rattle.pl_main.proofs.Writing.{some_held, adds_then}
+use Rattle.pl_stream.specs.Written.{Adds}
+use Rattle.pl_main.specs.Plays.{Place, Plays, EndsAll, by_end, by_line, PlaysOut, PlayHalts, Answered, Filled, line_in, StepsOn, StepFills, StepHalts, PlayFills, Steps, Playing}
+use Rattle.pl_stream.proofs.Reading.{took_none, took_more, gave_later}
+use Rattle.pl_stream.proofs.Stopping.{never_full, stops_by}
+use Rattle.pl_stream.proofs.Writing.{some_held, adds_then}
 
-pub input_fits : (start place : Place) (message : Option NumberedLine) (line : Option (List ℕ)) → line ≡ line_in message → IfSome line (λ bytes. All (λ byte. byte < 256) bytes)
+pub input_fits : (start place : Place) (message : Option NumberedLine) (line : Option (List ℕ)) → start.reader.limit ≡ 4096 → line ≡ line_in message → IfSome line (λ bytes. All (λ byte. byte < 256) bytes)
     → MessageGives start.reader start.ahead (Ok message) place.reader place.ahead → IfSome line IsMessageLine
-input_fits start place None None is bytes gets = tt
-input_fits start place None (Some line) is bytes gets = absurd (cc)
-input_fits start place (Some message) None is bytes gets = tt
-input_fits start place (Some message) (Some line) is bytes gets =
+input_fits start place None None limit is bytes gets = tt
+input_fits start place None (Some line) limit is bytes gets = absurd (cc)
+input_fits start place (Some message) None limit is bytes gets = tt
+input_fits start place (Some message) (Some line) limit is bytes gets =
     let same : line ≡ message.bytes = (let h : Some line ≡ Some message.bytes = is in (cc)) in
-    record { short = rw same gets.fits; bytes = bytes; one_line = rw same gets.no_newline }
+    record { short = rw same (subst (λ n. length message.bytes ≤ n) limit gets.fits); bytes = bytes; one_line = rw same gets.no_newline }
 
 pub step_on : (old new : State) (start place : Place) (held now : Option (List ℕ)) (message : Option NumberedLine) → MessageGives start.reader start.ahead (Ok message) place.reader place.ahead
     → Answered old (line_in message) held new now → StepsOn old start held new place now
@@ -45,18 +45,6 @@ step_on old new start place held now message gets answered = record { message = 
 pub step_fills : (old new : State) (start place : Place) (held now : Option (List ℕ)) (message : Option NumberedLine) → MessageGives start.reader start.ahead (Ok message) place.reader place.ahead
     → Filled old (line_in message) held new now → StepFills old start held new place now
 step_fills old new start place held now message gets filled = record { message = message; gets = gets; fills = filled.fills; written = filled.written }
-
-limit_only : (f : LineFault) → HaltFor f halt.Limit → IsLimit f
-limit_only fault.Read is = absurd (let h : halt.Limit ≡ halt.Read = is in (cc))
-limit_only (fault.Long n) is = tt
-limit_only fault.Total is = tt
-limit_only fault.Memory is = absurd (let h : halt.Limit ≡ halt.Memory = is in (cc))
-
-pub never_full : (f : LineFault) → HaltFor f halt.Full → ⊥
-never_full fault.Read is = let h : halt.Full ≡ halt.Read = is in (cc)
-never_full (fault.Long n) is = let h : halt.Full ≡ halt.Limit = is in (cc)
-never_full fault.Total is = let h : halt.Full ≡ halt.Limit = is in (cc)
-never_full fault.Memory is = let h : halt.Full ≡ halt.Memory = is in (cc)
 
 pub step_stops : (old : State) (start place : Place) (held : Option (List ℕ)) (f : LineFault) (e : Halt) → GetsFault start.reader start.ahead f → HaltFor f e → Steps old start held (Err e) old place held
 step_stops old start place held f halt.Limit gets is = record { reason = f; fault = gets; halts = is; same = refl; written = refl }
@@ -132,11 +120,11 @@ inputs_append xs ys = filter_map-append (λ (e : Entry). input_in e.event) xs ys
 
 -- ---- the whole of a play
 
-pub plays_none : (old : State) (start : Place) (held : Option (List ℕ)) → IsReady old → start.reader.limit ≡ 4096 → start.reader.failed ≡ None → length start.reader.held < 4096 → Plays old start held old start held
-plays_none old start held ready limit working few = record {
+pub plays_none : (old : State) (start : Place) (held : Option (List ℕ)) → IsReady old → start.reader.failed ≡ None → Plays old start held old start held
+plays_none old start held ready working = record {
   lines = [];
   entries = [];
-  took = record { limit = limit; working = working; few = few; gave = gave_none start.reader.room start.ahead };
+  took = took_none start.reader start.ahead working;
   log = sym (append-nil old.log);
   solo = tt;
   world = refl;
@@ -219,12 +207,12 @@ ends_known None after lines inputs front line so_far last is all = tt
 ends_known (Some bytes) None lines inputs front line so_far last is all = tt
 ends_known (Some bytes) (Some rest) lines inputs front line so_far last is all = by_line front line so_far last is all
 
-ends_used : (room : ℕ) (before middle : Option (List ℕ)) (xs : List (List ℕ)) (mid : ℕ) (after : Option (List ℕ)) (lines : List (List ℕ)) (inputs front : List (Option (List ℕ))) → inputs ≡ front ++ None ∷ [] → GaveKnown room before xs mid middle → IsUsedUp middle after
+ends_used : (limit room : ℕ) (before middle : Option (List ℕ)) (xs : List (List ℕ)) (mid : ℕ) (after : Option (List ℕ)) (lines : List (List ℕ)) (inputs front : List (Option (List ℕ))) → inputs ≡ front ++ None ∷ [] → GaveKnown limit room before xs mid middle → IsUsedUp middle after
     → messages_of (lines ++ []) ≡ inputs → EndsAll before after lines inputs
-ends_used room None middle xs mid after lines inputs front last gave used all = tt
-ends_used room (Some bytes) None xs mid after lines inputs front last gave used all = absurd gave
-ends_used room (Some bytes) (Some m) xs mid None lines inputs front last gave used all = tt
-ends_used room (Some bytes) (Some m) xs mid (Some rest) lines inputs front last gave used all =
+ends_used limit room None middle xs mid after lines inputs front last gave used all = tt
+ends_used limit room (Some bytes) None xs mid after lines inputs front last gave used all = absurd gave
+ends_used limit room (Some bytes) (Some m) xs mid None lines inputs front last gave used all = tt
+ends_used limit room (Some bytes) (Some m) xs mid (Some rest) lines inputs front last gave used all =
     by_end front last (let h : Some rest ≡ Some [] = used in (cc)) (ap messages_of (sym (append-nil lines)) ∙ all)
 
 pub plays_out : (old mid new : State) (start middle place : Place) (held written now : Option (List ℕ)) → Plays old start held mid middle written → StepsOn mid middle written new place now → new.world.done ≡ true → PlaysOut old start held new place now
@@ -237,13 +225,13 @@ plays_out old mid new start middle place held written now plays step done = by_m
         record {
           lines = plays.lines ++ gets.lines;
           entries = plays.entries ++ told.entries;
-          gave = known_append start.reader.room start.ahead plays.lines gets.lines middle.reader.room middle.ahead place.reader.room place.ahead plays.took.gave gets.took.gave;
+          gave = gave_later start.reader middle.reader start.ahead middle.ahead plays.lines gets.lines place.reader.room place.ahead plays.took gets.took.gave;
           log = j.log;
           solo = j.solo;
           world = j.world;
-          messages = ends_used start.reader.room start.ahead middle.ahead plays.lines middle.reader.room place.ahead (plays.lines ++ gets.lines) (inputs_of (plays.entries ++ told.entries)) (inputs_of plays.entries) (sym inputs) plays.took.gave gets.used_up
+          messages = ends_used start.reader.limit start.reader.room start.ahead middle.ahead plays.lines middle.reader.room place.ahead (plays.lines ++ gets.lines) (inputs_of (plays.entries ++ told.entries)) (inputs_of plays.entries) (sym inputs) plays.took.gave gets.used_up
               (input_ends plays.lines gets.lines (inputs_of plays.entries) plays.messages gets.blank ∙ inputs);
-          few = gets.took.few;
+          few = λ small. gets.took.few (plays.took.few small);
           done = done;
           closed = told.closed;
           unspoiled = told.unspoiled;
@@ -256,33 +244,19 @@ plays_out old mid new start middle place held written now plays step done = by_m
         record {
           lines = plays.lines ++ (gets.lines ++ line.bytes ∷ []);
           entries = plays.entries ++ told.entries;
-          gave = known_append start.reader.room start.ahead plays.lines (gets.lines ++ line.bytes ∷ []) middle.reader.room middle.ahead place.reader.room place.ahead plays.took.gave gets.took.gave;
+          gave = gave_later start.reader middle.reader start.ahead middle.ahead plays.lines (gets.lines ++ line.bytes ∷ []) place.reader.room place.ahead plays.took gets.took.gave;
           log = j.log;
           solo = j.solo;
           world = j.world;
           messages = ends_known start.ahead place.ahead (plays.lines ++ (gets.lines ++ line.bytes ∷ [])) (inputs_of (plays.entries ++ told.entries)) (inputs_of plays.entries) line.bytes (plays.lines ++ gets.lines) (sym inputs) (sym (append_assoc plays.lines gets.lines (line.bytes ∷ [])))
               (λ more. message_ends plays.lines gets.lines more line.bytes (inputs_of plays.entries) plays.messages gets.blank gets.message (sym told.done ∙ done) ∙ inputs);
-          few = gets.took.few;
+          few = λ small. gets.took.few (plays.took.few small);
           done = done;
           closed = told.closed;
           unspoiled = told.unspoiled;
           same = j.same;
           written = j.text;
         }
-
-pub too_long : (left : ℕ) (rest : Option (List ℕ)) (f : LineFault) → IsLimit f → WhyKnown left rest f → TooLong left rest
-too_long left None f limit why = tt
-too_long left (Some rest) fault.Read limit why = absurd limit
-too_long left (Some rest) (fault.Long n) limit why = inl why
-too_long left (Some rest) fault.Total limit why = inr why
-too_long left (Some rest) fault.Memory limit why = absurd limit
-
-pub stops_by : (e : Halt) (left : ℕ) (rest : Option (List ℕ)) (f : LineFault) → HaltFor f e → WhyKnown left rest f → StopsBy e left rest
-stops_by halt.Limit left rest f is why = too_long left rest f (limit_only f is) why
-stops_by halt.Read left rest f is why = tt
-stops_by halt.Write left rest f is why = tt
-stops_by halt.Full left rest f is why = tt
-stops_by halt.Memory left rest f is why = tt
 
 pub plays_halt : (e : Halt) (old mid new : State) (start middle : Place) (held written now : Option (List ℕ)) → Plays old start held mid middle written → StepHalts e mid middle written new now → PlayHalts e old start held new now
 plays_halt e old mid new start middle held written now plays step =
@@ -292,8 +266,8 @@ plays_halt e old mid new start middle held written now plays step =
       entries = plays.entries;
       left = halts.left;
       rest = halts.rest;
-      gave = known_append start.reader.room start.ahead plays.lines step.fault.lines middle.reader.room middle.ahead halts.left halts.rest plays.took.gave halts.gave;
-      why = stops_by e halts.left halts.rest step.reason step.halts halts.why;
+      gave = gave_later start.reader middle.reader start.ahead middle.ahead plays.lines step.fault.lines halts.left halts.rest plays.took halts.gave;
+      why = subst (λ n. StopsBy e n halts.left halts.rest) plays.took.limit (stops_by e middle.reader.limit halts.left halts.rest step.reason step.halts halts.why);
       log = ap (λ (t : State). t.log) step.same ∙ plays.log;
       solo = plays.solo;
       world = ap (λ (t : State). t.world) step.same ∙ plays.world;

@@ -16,24 +16,25 @@ use Rattle.pl_machine.specs.Sound.{State}
 use Rattle.pl_accept.specs.declared.accepting.Accepted.TheVariants as accepted
 use Rattle.pl_report.specs.Demonstration.{demo_text}
 use Rattle.pl_report.proofs.Lines.{demo_text_lines, demo_lines_short, demo_text_short}
-use Rattle.pl_main.specs.declared.halt.Halt.{Halt}
-use Rattle.pl_main.specs.declared.halt.Halt.TheVariants as halt
+use Rattle.pl_stream.specs.declared.halt.Halt.{Halt}
+use Rattle.pl_stream.specs.declared.halt.Halt.TheVariants as halt
 use Rattle.pl_main.specs.declared.outcome.Outcome.{Outcome}
 use Rattle.pl_main.specs.declared.outcome.Outcome.TheVariants as outcome
-use Rattle.pl_main.specs.Heads.{IsBegun, HasNoBegin, HeadHalts}
-use Rattle.pl_main.specs.Plays.{Place, place_of, HaltFor, Playing}
+use Rattle.pl_stream.specs.Stops.{HaltFor}
+use Rattle.pl_stream.specs.Heads.{IsBegun, HasNoBegin, HeadHalts}
+use Rattle.pl_main.specs.Plays.{Place, place_of, Playing}
 use Rattle.pl_main.specs.Runs.{fresh_state, AcceptsKept, IsKeptModel}
-use Rattle.pl_main.specs.Top.{total_limit, no_begin_line}
+use Rattle.pl_main.specs.Top.{line_limit, fresh_reader, no_begin_line}
 use Rattle.pl_main.specs.Limits.{IsWithinLimits}
-use Rattle.pl_main.specs.Written.{Adds}
+use Rattle.pl_stream.specs.Written.{Adds}
 use Rattle.pl_main.specs.Demos.{demo_turns, summary_line, IsShownShort, of_summary, of_refusal, Shows, IsPlayed, DemoPlays, ModelShown, ModelShows, TextShort, of_model, of_line, TextShows}
-use Rattle.pl_main.proofs.Playing.{never_full}
-use Rattle.pl_main.proofs.Ending.{all_ahead, IsDoneWith, done_with, begun_solo, refused_solo, head_solo}
+use Rattle.pl_stream.proofs.Stopping.{never_full, never_writes, only_reads}
+use Rattle.pl_main.proofs.Ending.{fresh_begun, IsDoneWith, done_with, begun_solo, refused_solo, head_solo}
 use Rattle.pl_main.proofs.Causes.{run_within}
 
 -- ---- the demonstration's input
 
-demo_within : (goals : ℕ) → goals ≤ 4000 → IsWithinLimits (demo_text goals)
+demo_within : (goals : ℕ) → goals ≤ 4000 → IsWithinLimits line_limit (demo_text goals)
 demo_within goals few = record {
   lines = subst (λ (ls : List (List ℕ)). All (λ line. length line ≤ 4096) ls) (sym (demo_text_lines goals few)) (λ k d less. omega (arith, demo_lines_short goals few k d less));
   total = omega (arith, demo_text_short goals few);
@@ -102,100 +103,91 @@ abbrev Input : ℕ → Option (List ℕ)
 Input goals = Some (demo_text goals)
 
 -- the run of the demonstration's input, with the log and the world at its end
-done_at : (goals : ℕ) (old : Reader) (kept : Option (Vec ℕ Global)) (new last : Reader) (after left : Option (List ℕ)) (m : Model) (end_state : State) → old.held ≡ [] → old.room ≡ total_limit
+done_at : (goals : ℕ) (old : Reader) (kept : Option (Vec ℕ Global)) (new last : Reader) (after left : Option (List ℕ)) (m : Model) (end_state : State) → old ≡ fresh_reader line_limit
     → IsBegun old (ahead old.held (Input goals)) kept new (ahead new.held after) → IsKeptModel kept m → IsPlayed m (place_of new after) end_state (place_of last left) → IsDoneWith demo_turns (demo_text goals) left end_state
-done_at goals old kept new last after left m end_state empty room begun text played =
-    done_with demo_turns old kept (place_of new after) (place_of last left) (demo_text goals) left m end_state room
-    (subst (λ (b : Option (List ℕ)). IsBegun old b kept new (ahead new.held after)) (all_ahead old (Input goals) empty) begun) text played.plays played.legal refl
+done_at goals old kept new last after left m end_state is_fresh begun text played =
+    done_with demo_turns kept (place_of new after) (place_of last left) (demo_text goals) left m end_state
+    (fresh_begun line_limit old kept new (Input goals) (ahead new.held after) is_fresh begun) text played.plays played.legal refl
 
 -- the summary of the log and the world at its end
 summary_is : (goals : ℕ) (left : Option (List ℕ)) (end_state : State) → (d : IsDoneWith demo_turns (demo_text goals) left end_state)
     → summary_line goals end_state.log end_state.world ≡ summary_line goals d.done.log (world_of d.done.model d.done.log)
 summary_is goals left end_state d = ap (λ (l : List Entry). summary_line goals l end_state.world) d.log ∙ ap (λ (w : World). summary_line goals d.done.log w) d.world
 
-short_then : (goals : ℕ) (old : Reader) (kept : Option (Vec ℕ Global)) (new last : Reader) (after left held now : Option (List ℕ)) → old.held ≡ [] → old.room ≡ total_limit
+short_then : (goals : ℕ) (old : Reader) (kept : Option (Vec ℕ Global)) (new last : Reader) (after left held now : Option (List ℕ)) → old ≡ fresh_reader line_limit
     → IsBegun old (ahead old.held (Input goals)) kept new (ahead new.held after) → TextShort goals kept (place_of new after) held (place_of last left) now → IsShownShort goals held now
-short_then goals old kept new last after left held now empty room begun (of_model text) =
+short_then goals old kept new last after left held now is_fresh begun (of_model text) =
     let shown = text.shows in
-    let d = done_at goals old kept new last after left text.model shown.new empty room begun text.text shown.played in
+    let d = done_at goals old kept new last after left text.model shown.new is_fresh begun text.text shown.played in
     of_summary left d.done (subst (λ (l : List ℕ). AppendsFront held now l) (summary_is goals left shown.new d) shown.front)
-short_then goals old kept new last after left held now empty room begun (of_line fails front same) =
-    let refused = begun_solo demo_turns old kept new last (Input goals) after left (Some []) (Some fails.line) (Ok outcome.Refused) empty room begun (record { line = fails.line; refused = fails.refused; written = refl }, same) in
+short_then goals old kept new last after left held now is_fresh begun (of_line fails front same) =
+    let refused = begun_solo demo_turns old kept new last (Input goals) after left (Some []) (Some fails.line) (Ok outcome.Refused) is_fresh begun (record { line = fails.line; refused = fails.refused; written = refl }, same) in
     of_refusal left fails.line refused front
 
-begun_then : (goals : ℕ) (old : Reader) (kept : Option (Vec ℕ Global)) (new last : Reader) (after left held now : Option (List ℕ)) (r : Result Outcome Halt) → goals ≤ 4000 → old.held ≡ [] → old.room ≡ total_limit
+begun_then : (goals : ℕ) (old : Reader) (kept : Option (Vec ℕ Global)) (new last : Reader) (after left held now : Option (List ℕ)) (r : Result Outcome Halt) → goals ≤ 4000 → old ≡ fresh_reader line_limit
     → IsBegun old (ahead old.held (Input goals)) kept new (ahead new.held after) → TextShows goals kept (place_of new after) held r (place_of last left) now → Shows goals held now r
-begun_then goals old kept new last after left held now (Ok outcome.Done) few empty room begun text =
+begun_then goals old kept new last after left held now (Ok outcome.Done) few is_fresh begun text =
     let shown = text.shows in
-    let d = done_at goals old kept new last after left text.model shown.new empty room begun text.text shown.played in
+    let d = done_at goals old kept new last after left text.model shown.new is_fresh begun text.text shown.played in
     record {
       left = left;
       done = d.done;
       written = subst (λ (l : List ℕ). Adds held now l) (summary_is goals left shown.new d) shown.written;
     }
-begun_then goals old kept new last after left held now (Ok outcome.Refused) few empty room begun text =
-    record { left = left; refused = begun_solo demo_turns old kept new last (Input goals) after left held now (Ok outcome.Refused) empty room begun text }
-begun_then goals old kept new last after left held now (Err halt.Limit) few empty room begun text =
+begun_then goals old kept new last after left held now (Ok outcome.Refused) few is_fresh begun text =
+    record { left = left; refused = begun_solo demo_turns old kept new last (Input goals) after left held now (Ok outcome.Refused) is_fresh begun text }
+begun_then goals old kept new last after left held now (Err halt.Limit) few is_fresh begun text =
     run_within demo_turns (demo_text goals) None None (demo_within goals few)
-    (begun_solo demo_turns old kept new last (Input goals) after left None None (Err halt.Limit) empty room begun record { model = text.model; text = text.text; run = text.shows.run })
-begun_then goals old kept new last after left held now (Err halt.Full) few empty room begun text =
+    (begun_solo demo_turns old kept new last (Input goals) after left None None (Err halt.Limit) is_fresh begun record { model = text.model; text = text.text; run = text.shows.run })
+begun_then goals old kept new last after left held now (Err halt.Full) few is_fresh begun text =
     record {
       left = left;
-      full = begun_solo demo_turns old kept new last (Input goals) after left None None (Err halt.Full) empty room begun record { model = text.model; text = text.text; run = text.shows.run };
+      full = begun_solo demo_turns old kept new last (Input goals) after left None None (Err halt.Full) is_fresh begun record { model = text.model; text = text.text; run = text.shows.run };
       silent = text.shows.silent;
     }
-begun_then goals old kept new last after left held now (Err halt.Read) few empty room begun text = absurd text
-begun_then goals old kept new last after left held now (Err halt.Write) few empty room begun text = short_then goals old kept new last after left held now empty room begun text
-begun_then goals old kept new last after left held now (Err halt.Memory) few empty room begun text = text
+begun_then goals old kept new last after left held now (Err halt.Read) few is_fresh begun text = absurd text
+begun_then goals old kept new last after left held now (Err halt.Write) few is_fresh begun text = short_then goals old kept new last after left held now is_fresh begun text
+begun_then goals old kept new last after left held now (Err halt.Memory) few is_fresh begun text = text
 
-pub begun_shows : (goals : ℕ) (text : List ℕ) (old : Reader) (kept : Option (Vec ℕ Global)) (new last : Reader) (after left held now : Option (List ℕ)) (r : Result Outcome Halt) → goals ≤ 4000 → text ≡ demo_text goals → old.held ≡ [] → old.room ≡ total_limit
+pub begun_shows : (goals : ℕ) (text : List ℕ) (old : Reader) (kept : Option (Vec ℕ Global)) (new last : Reader) (after left held now : Option (List ℕ)) (r : Result Outcome Halt) → goals ≤ 4000 → text ≡ demo_text goals → old ≡ fresh_reader line_limit
     → IsBegun old (ahead old.held (Some text)) kept new (ahead new.held after) → TextShows goals kept (place_of new after) held r (place_of last left) now → Shows goals held now r
-begun_shows goals text old kept new last after left held now r few is empty room begun shows =
-    begun_then goals old kept new last after left held now r few empty room (subst (λ (t : List ℕ). IsBegun old (ahead old.held (Some t)) kept new (ahead new.held after)) is begun) shows
+begun_shows goals text old kept new last after left held now r few is is_fresh begun shows =
+    begun_then goals old kept new last after left held now r few is_fresh (subst (λ (t : List ℕ). IsBegun old (ahead old.held (Some t)) kept new (ahead new.held after)) is begun) shows
 
 -- ---- where there is none
 
-no_begin_then : (goals : ℕ) (old new : Reader) (left held now : Option (List ℕ)) (r : Result Outcome Halt) → old.held ≡ [] → old.room ≡ total_limit
+no_begin_then : (goals : ℕ) (old new : Reader) (left held now : Option (List ℕ)) (r : Result Outcome Halt) → old ≡ fresh_reader line_limit
     → HasNoBegin old (ahead old.held (Input goals)) new (ahead new.held left) → OnOk r (Adds held now no_begin_line) → IfOk r (λ o. o ≡ outcome.Refused) → OnErr r (AppendsFront held now no_begin_line) → IfErr r (λ e. e ≡ halt.Write) → Shows goals held now r
-no_begin_then goals old new left held now (Ok outcome.Refused) empty room head adds refused front fails =
-    record { left = left; refused = refused_solo demo_turns old new (Input goals) left held now (Ok outcome.Refused) 0 0 empty room head adds refl tt }
-no_begin_then goals old new left held now (Ok outcome.Done) empty room head adds refused front fails = absurd (let h : outcome.Done ≡ outcome.Refused = refused in (cc))
-no_begin_then goals old new left held now (Err halt.Write) empty room head adds refused front fails =
-    of_refusal left no_begin_line (refused_solo demo_turns old new (Input goals) left (Some []) (Some no_begin_line) (Ok outcome.Refused) 0 0 empty room head refl refl tt) front
-no_begin_then goals old new left held now (Err halt.Limit) empty room head adds refused front fails = absurd (let h : halt.Limit ≡ halt.Write = fails in (cc))
-no_begin_then goals old new left held now (Err halt.Full) empty room head adds refused front fails = absurd (let h : halt.Full ≡ halt.Write = fails in (cc))
-no_begin_then goals old new left held now (Err halt.Read) empty room head adds refused front fails = absurd (let h : halt.Read ≡ halt.Write = fails in (cc))
-no_begin_then goals old new left held now (Err halt.Memory) empty room head adds refused front fails = absurd (let h : halt.Memory ≡ halt.Write = fails in (cc))
+no_begin_then goals old new left held now (Ok outcome.Refused) is_fresh head adds refused front fails =
+    record { left = left; refused = refused_solo demo_turns old new (Input goals) left held now (Ok outcome.Refused) 0 0 is_fresh head adds refl tt }
+no_begin_then goals old new left held now (Ok outcome.Done) is_fresh head adds refused front fails = absurd (let h : outcome.Done ≡ outcome.Refused = refused in (cc))
+no_begin_then goals old new left held now (Err halt.Write) is_fresh head adds refused front fails =
+    of_refusal left no_begin_line (refused_solo demo_turns old new (Input goals) left (Some []) (Some no_begin_line) (Ok outcome.Refused) 0 0 is_fresh head refl refl tt) front
+no_begin_then goals old new left held now (Err halt.Limit) is_fresh head adds refused front fails = absurd (let h : halt.Limit ≡ halt.Write = fails in (cc))
+no_begin_then goals old new left held now (Err halt.Full) is_fresh head adds refused front fails = absurd (let h : halt.Full ≡ halt.Write = fails in (cc))
+no_begin_then goals old new left held now (Err halt.Read) is_fresh head adds refused front fails = absurd (let h : halt.Read ≡ halt.Write = fails in (cc))
+no_begin_then goals old new left held now (Err halt.Memory) is_fresh head adds refused front fails = absurd (let h : halt.Memory ≡ halt.Write = fails in (cc))
 
-pub no_begin_shows : (goals : ℕ) (text : List ℕ) (old new : Reader) (left held now : Option (List ℕ)) (r : Result Outcome Halt) → text ≡ demo_text goals → old.held ≡ [] → old.room ≡ total_limit
+pub no_begin_shows : (goals : ℕ) (text : List ℕ) (old new : Reader) (left held now : Option (List ℕ)) (r : Result Outcome Halt) → text ≡ demo_text goals → old ≡ fresh_reader line_limit
     → HasNoBegin old (ahead old.held (Some text)) new (ahead new.held left) → OnOk r (Adds held now no_begin_line) → IfOk r (λ o. o ≡ outcome.Refused) → OnErr r (AppendsFront held now no_begin_line) → IfErr r (λ e. e ≡ halt.Write) → Shows goals held now r
-no_begin_shows goals text old new left held now r is empty room head adds refused front fails =
-    no_begin_then goals old new left held now r empty room (subst (λ (t : List ℕ). HasNoBegin old (ahead old.held (Some t)) new (ahead new.held left)) is head) adds refused front fails
+no_begin_shows goals text old new left held now r is is_fresh head adds refused front fails =
+    no_begin_then goals old new left held now r is_fresh (subst (λ (t : List ℕ). HasNoBegin old (ahead old.held (Some t)) new (ahead new.held left)) is head) adds refused front fails
 
 -- ---- where the reader stops
 
 never_reads : (f : LineFault) → HaltFor f halt.Read → (f ≡ fault.Read → ⊥) → ⊥
-never_reads fault.Read is no_read = no_read refl
-never_reads (fault.Long n) is no_read = let h : halt.Read ≡ halt.Limit = is in (cc)
-never_reads fault.Total is no_read = let h : halt.Read ≡ halt.Limit = is in (cc)
-never_reads fault.Memory is no_read = let h : halt.Read ≡ halt.Memory = is in (cc)
+never_reads f is no_read = no_read (only_reads f is)
 
-never_writes : (f : LineFault) → HaltFor f halt.Write → ⊥
-never_writes fault.Read is = let h : halt.Write ≡ halt.Read = is in (cc)
-never_writes (fault.Long n) is = let h : halt.Write ≡ halt.Limit = is in (cc)
-never_writes fault.Total is = let h : halt.Write ≡ halt.Limit = is in (cc)
-never_writes fault.Memory is = let h : halt.Write ≡ halt.Memory = is in (cc)
-
-head_then : (goals : ℕ) (old : Reader) (held : Option (List ℕ)) (f : LineFault) (e : Halt) → goals ≤ 4000 → old.held ≡ [] → old.room ≡ total_limit
+head_then : (goals : ℕ) (old : Reader) (held : Option (List ℕ)) (f : LineFault) (e : Halt) → goals ≤ 4000 → old ≡ fresh_reader line_limit
     → HeadHalts old (ahead old.held (Input goals)) f → HaltFor f e → (f ≡ fault.Read → ⊥) → Shows goals held held (Err e)
-head_then goals old held f halt.Limit few empty room head is no_read =
-    run_within demo_turns (demo_text goals) None None (demo_within goals few) (head_solo demo_turns old (Input goals) None None f halt.Limit empty room head is)
-head_then goals old held f halt.Full few empty room head is no_read = absurd (never_full f is)
-head_then goals old held f halt.Read few empty room head is no_read = absurd (never_reads f is no_read)
-head_then goals old held f halt.Write few empty room head is no_read = absurd (never_writes f is)
-head_then goals old held f halt.Memory few empty room head is no_read = refl
+head_then goals old held f halt.Limit few is_fresh head is no_read =
+    run_within demo_turns (demo_text goals) None None (demo_within goals few) (head_solo demo_turns old (Input goals) None None f halt.Limit is_fresh head is)
+head_then goals old held f halt.Full few is_fresh head is no_read = absurd (never_full f is)
+head_then goals old held f halt.Read few is_fresh head is no_read = absurd (never_reads f is no_read)
+head_then goals old held f halt.Write few is_fresh head is no_read = absurd (never_writes f is)
+head_then goals old held f halt.Memory few is_fresh head is no_read = refl
 
-pub head_shows : (goals : ℕ) (text : List ℕ) (old : Reader) (held : Option (List ℕ)) (f : LineFault) (e : Halt) → goals ≤ 4000 → text ≡ demo_text goals → old.held ≡ [] → old.room ≡ total_limit
+pub head_shows : (goals : ℕ) (text : List ℕ) (old : Reader) (held : Option (List ℕ)) (f : LineFault) (e : Halt) → goals ≤ 4000 → text ≡ demo_text goals → old ≡ fresh_reader line_limit
     → HeadHalts old (ahead old.held (Some text)) f → HaltFor f e → (f ≡ fault.Read → ⊥) → Shows goals held held (Err e)
-head_shows goals text old held f e few is_text empty room head is no_read =
-    head_then goals old held f e few empty room (subst (λ (t : List ℕ). HeadHalts old (ahead old.held (Some t)) f) is_text head) is no_read
+head_shows goals text old held f e few is_text is_fresh head is no_read =
+    head_then goals old held f e few is_fresh (subst (λ (t : List ℕ). HeadHalts old (ahead old.held (Some t)) f) is_text head) is no_read

@@ -12,14 +12,14 @@ use Rattle.pl_accept.specs.Accepting.{IsModelText}
 use Rattle.pl_report.specs.Demonstration.{demo_text}
 use Rattle.std.specs.declared.vec.Vec.{Vec}
 use Rattle.std.specs.declared.alloc.Global.{Global}
-use Rattle.pl_main.specs.declared.halt.Halt.{Halt}
-use Rattle.pl_main.specs.declared.halt.Halt.TheVariants as halt
+use Rattle.pl_stream.specs.declared.halt.Halt.{Halt}
+use Rattle.pl_stream.specs.declared.halt.Halt.TheVariants as halt
 use Rattle.pl_main.specs.declared.outcome.Outcome.{Outcome}
 use Rattle.pl_main.specs.declared.outcome.Outcome.TheVariants as outcome
 use Rattle.pl_main.specs.Plays.{Place, PlaysOut}
 use Rattle.pl_main.specs.Runs.{fresh_state, ModelRun, IsKeptModel, TextFails}
-use Rattle.pl_main.specs.Top.{IsDone, IsNoModel, IsFull}
-use Rattle.pl_main.specs.Written.{Adds}
+use Rattle.pl_main.specs.Top.{line_limit, IsDone, IsNoModel, IsFull}
+use Rattle.pl_stream.specs.Written.{Adds}
 
 -- the repair turns of a round
 abbrev pub demo_turns : ℕ
@@ -50,14 +50,14 @@ pub record IsShownInPart (goals : ℕ) (held now : Option (List ℕ)) : Type 0 w
 -- The demonstration's input begins with no model.
 pub record HasNoDemo (goals : ℕ) (held now : Option (List ℕ)) : Type 0 where
   pub left : Option (List ℕ)
-  pub refused : IsNoModel (demo_text goals) left held now
+  pub refused : IsNoModel line_limit (demo_text goals) left held now
 
 -- A write failed. What went out is a front of the line that was due: the summary of the run, or the line that refuses the
 -- input.
 pub data IsShownShort (goals : ℕ) (held now : Option (List ℕ)) : Type 0 where
   of_summary : (left : Option (List ℕ)) → (done : IsDone demo_turns (demo_text goals) left None None)
       → AppendsFront held now (summary_line goals done.log (world_of done.model done.log)) → IsShownShort goals held now
-  of_refusal : (left : Option (List ℕ)) → (line : List ℕ) → IsNoModel (demo_text goals) left (Some []) (Some line)
+  of_refusal : (left : Option (List ℕ)) → (line : List ℕ) → IsNoModel line_limit (demo_text goals) left (Some []) (Some line)
       → AppendsFront held now line → IsShownShort goals held now
 
 -- The demonstration's input begins with a model.

@@ -1,11 +1,7 @@
 pub mod Numbers
 pub mod Words
 pub mod Solo
-pub mod Reads
-pub mod Heads
-pub mod Waits
 pub mod Tells
-pub mod Written
 pub mod Plays
 pub mod Top
 pub mod Runs

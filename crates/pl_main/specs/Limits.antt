@@ -7,11 +7,11 @@ use Rattle.pl_accept.specs.Accepting.{IsModelText}
 use Rattle.pl_main.specs.declared.command.Task.{Task}
 use Rattle.pl_main.specs.declared.command.Task.TheVariants as task
 use Rattle.pl_main.specs.Demos.{CanShow}
-use Rattle.pl_main.specs.Top.{total_limit, IsPastLimit, IsPastHead}
+use Rattle.pl_main.specs.Top.{line_limit, total_limit, IsPastLimit, IsPastHead}
 
 -- Each line is within the line limit, and the input within the total limit.
-pub record IsWithinLimits (input : List ℕ) : Type 0 where
-  pub lines : All (λ line. length line ≤ 4096) (lines_of input)
+pub record IsWithinLimits (limit : ℕ) (input : List ℕ) : Type 0 where
+  pub lines : All (λ line. length line ≤ limit) (lines_of input)
   pub total : length input ≤ total_limit
 
 -- The input begins with the text of a model, and no line that is asked for passes a limit.
@@ -28,7 +28,7 @@ pub record CanCheck (input : List ℕ) : Type 0 where
   pub model : Model
   pub text : (split_of input).text ≡ Some words
   pub accepted : IsModelText words model
-  pub no_limit : (held now : Option (List ℕ)) → IsPastHead input held now → ⊥
+  pub no_limit : (held now : Option (List ℕ)) → IsPastHead line_limit input held now → ⊥
 
 -- The job is done, or memory is wanting, or, for a run, the log is full.
 abbrev pub IsDoneBy : Task → ℕ → Type 0

@@ -1,10 +1,9 @@
 -- The messages of a run and what is written for them.
-use Rattle.std.specs.Prelude.{◌≡◌, ℕ, ◌<◌, List, [], ◌∷◌, ◌++◌, length, drop, Bool, true, false, Option, Some, None, IfSome, ◌⊎◌, Result, Ok, Err, ⊤}
-use Rattle.pl_io.specs.Lines.{ahead, next_of, line_too_long, input_too_long}
+use Rattle.std.specs.Prelude.{◌≡◌, ℕ, ◌<◌, List, [], ◌∷◌, ◌++◌, length, drop, Bool, true, false, Option, Some, None, IfSome, Result, Ok, Err, ⊤}
+use Rattle.pl_io.specs.Lines.{ahead}
 use Rattle.pl_io.specs.Reader.{Reader, NumberedLine}
 use Rattle.pl_io.specs.Sparing.{read_size}
 use Rattle.pl_io.specs.declared.errors.LineFault.{LineFault}
-use Rattle.pl_io.specs.declared.errors.LineFault.TheVariants as fault
 use Rattle.pl_entry.specs.declared.entry.Entry.{Entry}
 use Rattle.pl_machine.specs.Lines.{messages_of}
 use Rattle.pl_machine.specs.Legal.{world_from}
@@ -13,19 +12,13 @@ use Rattle.pl_machine.specs.Finished.{inputs_of}
 use Rattle.pl_machine.specs.Sound.{State}
 use Rattle.pl_driver.specs.Rounds.{SameRun}
 use Rattle.pl_render.specs.Lines.{text_from}
-use Rattle.pl_main.specs.declared.halt.Halt.{Halt}
-use Rattle.pl_main.specs.declared.halt.Halt.TheVariants as halt
-use Rattle.pl_main.specs.Reads.{GaveKnown, Took}
+use Rattle.pl_stream.specs.declared.halt.Halt.{Halt}
+use Rattle.pl_stream.specs.declared.halt.Halt.TheVariants as halt
+use Rattle.pl_stream.specs.Reads.{GaveKnown, Took}
 use Rattle.pl_main.specs.Tells.{IsReady, Told, FillsUp}
-use Rattle.pl_main.specs.Waits.{MessageGives, GetsFault}
-use Rattle.pl_main.specs.Written.{Adds}
-
--- a line or the input is too long
-abbrev pub IsLimit : LineFault → Type 0
-IsLimit fault.Read = ⊥
-IsLimit (fault.Long n) = ⊤
-IsLimit fault.Total = ⊤
-IsLimit fault.Memory = ⊥
+use Rattle.pl_stream.specs.Stops.{HaltFor, StopsBy}
+use Rattle.pl_stream.specs.Waits.{MessageGives, GetsFault}
+use Rattle.pl_stream.specs.Written.{Adds}
 
 -- a reader with the bytes that are ahead of it
 pub record Place : Type 0 where
@@ -34,13 +27,6 @@ pub record Place : Type 0 where
 
 abbrev pub place_of : Reader → Option (List ℕ) → Place
 place_of r left = record { reader = r; ahead = ahead r.held left }
-
--- how a run stops by a fault of its reader
-abbrev pub HaltFor : LineFault → Halt → Type 0
-HaltFor fault.Read h = h ≡ halt.Read
-HaltFor (fault.Long n) h = h ≡ halt.Limit
-HaltFor fault.Total h = h ≡ halt.Limit
-HaltFor fault.Memory h = h ≡ halt.Memory
 
 -- Lines were taken, their messages are the inputs of these entries, and the entries' lines were written.
 pub record Plays (old : State) (start : Place) (held : Option (List ℕ)) (new : State) (place : Place) (now : Option (List ℕ)) : Type 0 where
@@ -71,30 +57,17 @@ EndsAll (Some bytes) after lines inputs = IfSome after (λ rest. EndsWith rest l
 pub record PlaysOut (old : State) (start : Place) (held : Option (List ℕ)) (new : State) (place : Place) (now : Option (List ℕ)) : Type 0 where
   pub lines : List (List ℕ)
   pub entries : List Entry
-  pub gave : GaveKnown start.reader.room start.ahead lines place.reader.room place.ahead
+  pub gave : GaveKnown start.reader.limit start.reader.room start.ahead lines place.reader.room place.ahead
   pub log : new.log ≡ old.log ++ entries
   pub solo : solo_from old.world entries
   pub world : new.world ≡ world_from old.world entries
   pub messages : EndsAll start.ahead place.ahead lines (inputs_of entries)
-  pub few : length place.reader.held < read_size
+  pub few : length start.reader.held < read_size → length place.reader.held < read_size
   pub done : new.world.done ≡ true
   pub closed : new.world.closed ≡ true
   pub unspoiled : new.spoiled ≡ false
   pub same : SameRun old new
   pub written : Adds held now (text_from old.model (length old.log) entries)
-
--- a line or the input is too long
-abbrev pub TooLong : ℕ → Option (List ℕ) → Type 0
-TooLong left None = ⊤
-TooLong left (Some rest) = (next_of 4096 left rest ≡ line_too_long) ⊎ (next_of 4096 left rest ≡ input_too_long)
-
--- why no line is given behind those that were
-abbrev pub StopsBy : Halt → ℕ → Option (List ℕ) → Type 0
-StopsBy halt.Limit left rest = TooLong left rest
-StopsBy halt.Read left rest = ⊤
-StopsBy halt.Write left rest = ⊤
-StopsBy halt.Full left rest = ⊤
-StopsBy halt.Memory left rest = ⊤
 
 -- The next line is not given, while the machine waits for a message.
 pub record PlayHalts (e : Halt) (old : State) (start : Place) (held : Option (List ℕ)) (new : State) (now : Option (List ℕ)) : Type 0 where
@@ -102,8 +75,8 @@ pub record PlayHalts (e : Halt) (old : State) (start : Place) (held : Option (Li
   pub entries : List Entry
   pub left : ℕ
   pub rest : Option (List ℕ)
-  pub gave : GaveKnown start.reader.room start.ahead lines left rest
-  pub why : StopsBy e left rest
+  pub gave : GaveKnown start.reader.limit start.reader.room start.ahead lines left rest
+  pub why : StopsBy e start.reader.limit left rest
   pub log : new.log ≡ old.log ++ entries
   pub solo : solo_from old.world entries
   pub world : new.world ≡ world_from old.world entries

@@ -9,12 +9,12 @@ use Rattle.pl_machine.specs.Sound.{State}
 use Rattle.pl_render.specs.Lines.{text_from}
 use Rattle.pl_accept.specs.declared.accepting.Accepted.{Accepted}
 use Rattle.pl_accept.specs.Accepting.{IsModelText, IsRefusedAs, Accepts}
-use Rattle.pl_main.specs.declared.halt.Halt.{Halt}
-use Rattle.pl_main.specs.declared.halt.Halt.TheVariants as halt
+use Rattle.pl_stream.specs.declared.halt.Halt.{Halt}
+use Rattle.pl_stream.specs.declared.halt.Halt.TheVariants as halt
 use Rattle.pl_main.specs.declared.outcome.Outcome.{Outcome}
 use Rattle.pl_main.specs.declared.outcome.Outcome.TheVariants as outcome
-use Rattle.pl_main.specs.Heads.{Keeps}
-use Rattle.pl_main.specs.Written.{Adds}
+use Rattle.pl_stream.specs.Heads.{Keeps}
+use Rattle.pl_stream.specs.Written.{Adds}
 use Rattle.pl_main.specs.Plays.{Place, Playing}
 use Rattle.pl_main.specs.Top.{program_options, model_ok_line}
 

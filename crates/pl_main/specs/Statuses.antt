@@ -2,11 +2,11 @@
 use Rattle.std.specs.Prelude.{◌≡◌, ℕ, ◌≤◌, List, Option, Some, None, Result, Ok, Err, ⊤, codes, ◌++◌, ◌∷◌, []}
 use Rattle.pl_main.specs.declared.command.Task.{Task}
 use Rattle.pl_main.specs.declared.command.Task.TheVariants as task
-use Rattle.pl_main.specs.declared.halt.Halt.{Halt}
-use Rattle.pl_main.specs.declared.halt.Halt.TheVariants as halt
+use Rattle.pl_stream.specs.declared.halt.Halt.{Halt}
+use Rattle.pl_stream.specs.declared.halt.Halt.TheVariants as halt
 use Rattle.pl_main.specs.declared.outcome.Outcome.{Outcome}
 use Rattle.pl_main.specs.declared.outcome.Outcome.TheVariants as outcome
-use Rattle.pl_main.specs.Top.{IsDone, IsReadFault, IsPastLimit, IsFull, IsFound, IsNoModel, IsHeadFault, IsPastHead}
+use Rattle.pl_main.specs.Top.{line_limit, IsDone, IsReadFault, IsPastLimit, IsFull, IsFound, IsNoModel, IsHeadFault, IsPastHead}
 use Rattle.pl_main.specs.Demos.{IsShown, IsShownInPart, IsShownShort, HasNoDemo}
 
 -- 0 done, 3 the model is refused, 4 a read failed, 5 a write failed, 6 a line or the input is too long, 7 the log is full, 9 memory
@@ -28,7 +28,7 @@ IsTask (task.Demo goals) = (1 ≤ goals) × (goals ≤ 4000)
 pub record SaysRan (turns : ℕ) (input : List ℕ) (source_left held now : Option (List ℕ)) (status : ℕ)
     : Type 0 where
   pub done : status ≡ 0 → IsDone turns input source_left held now
-  pub refused : status ≡ 3 → IsNoModel input source_left held now
+  pub refused : status ≡ 3 → IsNoModel line_limit input source_left held now
   pub read_fault : status ≡ 4 → IsReadFault turns input held now
   pub limit : status ≡ 6 → IsPastLimit turns input held now
   pub full : status ≡ 7 → IsFull turns input source_left held now
@@ -37,9 +37,9 @@ pub record SaysRan (turns : ℕ) (input : List ℕ) (source_left held now : Opti
 pub record SaysChecked (input : List ℕ) (source_left held now : Option (List ℕ)) (status : ℕ)
     : Type 0 where
   pub done : status ≡ 0 → IsFound input source_left held now
-  pub refused : status ≡ 3 → IsNoModel input source_left held now
-  pub read_fault : status ≡ 4 → IsHeadFault input held now
-  pub limit : status ≡ 6 → IsPastHead input held now
+  pub refused : status ≡ 3 → IsNoModel line_limit input source_left held now
+  pub read_fault : status ≡ 4 → IsHeadFault line_limit input held now
+  pub limit : status ≡ 6 → IsPastHead line_limit input held now
   pub never_full : status ≡ 7 → ⊥
 
 -- What the status of a demonstration says, which reads nothing: no line of its input is too long, and no read of it fails.

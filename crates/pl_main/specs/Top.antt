@@ -1,6 +1,7 @@
 -- What the top call promises of `run solo N` and of `check`.
 use Rattle.std.specs.Prelude.{◌≡◌, ℕ, ◌<◌, ◌⊎◌, List, [], ◌∷◌, ◌++◌, length, true, false, Option, Some, None, Result, Ok, Err, codes, decimal, ⊤}
-use Rattle.pl_io.specs.Lines.{ahead, next_of, line_too_long, input_too_long}
+use Rattle.pl_io.specs.Lines.{ahead}
+use Rattle.pl_io.specs.Reader.{Reader}
 use Rattle.pl_io.specs.Sparing.{read_size}
 use Rattle.pl_model.specs.declared.whole.Model.{Model}
 use Rattle.pl_facts.specs.declared.options.Options.{Options}
@@ -11,19 +12,28 @@ use Rattle.pl_main.specs.Solo.{Solo}
 use Rattle.pl_machine.specs.Finished.{inputs_of, Finished}
 use Rattle.pl_render.specs.Lines.{text_of_log}
 use Rattle.pl_accept.specs.Accepting.{IsModelText, IsRefusedAs}
-use Rattle.pl_main.specs.declared.halt.Halt.{Halt}
-use Rattle.pl_main.specs.declared.halt.Halt.TheVariants as halt
+use Rattle.pl_stream.specs.declared.halt.Halt.{Halt}
+use Rattle.pl_stream.specs.declared.halt.Halt.TheVariants as halt
 use Rattle.pl_main.specs.declared.outcome.Outcome.{Outcome}
 use Rattle.pl_main.specs.declared.outcome.Outcome.TheVariants as outcome
-use Rattle.pl_main.specs.Reads.{Gave}
-use Rattle.pl_main.specs.Written.{Adds}
+use Rattle.pl_stream.specs.Reads.{Gave}
+use Rattle.pl_stream.specs.Stops.{IsStuck}
+use Rattle.pl_stream.specs.Written.{Adds}
 
 -- the limits of the program, with the turns of the words
 abbrev pub program_options : ℕ → Options
 program_options turns = record { turns = turns; live = 10000; goals = 20000; entries = 250000 }
 
+-- the most bytes of a line, and of the whole input
+abbrev pub line_limit : ℕ
+line_limit = 4096
+
 abbrev pub total_limit : ℕ
 total_limit = 1073741824
+
+-- the reader that a task begins with
+abbrev pub fresh_reader : ℕ → Reader
+fresh_reader limit = record { held = []; limit = limit; room = total_limit; number = 0; failed = None }
 
 -- What a source that tells its bytes has left is what stands behind the lines that were asked for, but for fewer bytes
 -- than one read asks for, which came with them.
@@ -40,7 +50,7 @@ pub record HasRead (words : List ℕ) (messages : List (Option (List ℕ))) (inp
   pub left : ℕ
   pub rest : List ℕ
   pub more : List (Option (List ℕ))
-  pub gave : Gave total_limit input lines left rest
+  pub gave : Gave line_limit total_limit input lines left rest
   pub text : model_text_of lines ≡ Some words
   pub behind : messages_of (lines_behind lines) ≡ messages ++ more
   pub no_further : (front : List (Option (List ℕ))) (line : List ℕ) → messages ≡ front ++ Some line ∷ []
@@ -64,11 +74,11 @@ pub record IsDone (turns : ℕ) (input : List ℕ) (source_left held now : Optio
 
 -- The input begins with this text and a `begin` line. The lines up to it are within the limits, and no further line was
 -- asked for.
-pub record HasHead (input words : List ℕ) (source_left : Option (List ℕ)) : Type 0 where
+pub record HasHead (limit : ℕ) (input words : List ℕ) (source_left : Option (List ℕ)) : Type 0 where
   pub lines : List (List ℕ)
   pub left : ℕ
   pub rest : List ℕ
-  pub gave : Gave total_limit input lines left rest
+  pub gave : Gave limit total_limit input lines left rest
   pub head : model_text_of lines ≡ Some words
   pub no_further : lines_behind lines ≡ []
   pub text : (split_of input).text ≡ Some words
@@ -78,12 +88,12 @@ abbrev pub no_begin_line : List ℕ
 no_begin_line = codes "model: no begin" ++ 10 ∷ []
 
 -- The input begins with no model: there is no `begin` line, or the text before it has a fault, which was written. All lines, or those up to `begin`, are within the limits.
-pub data IsNoModel (input : List ℕ) (source_left held now : Option (List ℕ)) : Type 0 where
-  no_begin : (lines : List (List ℕ)) (left : ℕ) → Gave total_limit input lines left []
+pub data IsNoModel (limit : ℕ) (input : List ℕ) (source_left held now : Option (List ℕ)) : Type 0 where
+  no_begin : (lines : List (List ℕ)) (left : ℕ) → Gave limit total_limit input lines left []
       → (split_of input).text ≡ None → IsReadTo [] source_left → Adds held now no_begin_line
-      → IsNoModel input source_left held now
-  faulty : (words line : List ℕ) → HasHead input words source_left → IsRefusedAs words line
-      → Adds held now line → IsNoModel input source_left held now
+      → IsNoModel limit input source_left held now
+  faulty : (words line : List ℕ) → HasHead limit input words source_left → IsRefusedAs words line
+      → Adds held now line → IsNoModel limit input source_left held now
 
 -- a solo log of the program that answers the messages among these lines and waits for the next
 pub record WaitsBehind (turns : ℕ) (lines : List (List ℕ)) (held now : Option (List ℕ)) : Type 0 where
@@ -105,8 +115,8 @@ pub record IsPastLimit (turns : ℕ) (input : List ℕ) (held now : Option (List
   pub lines : List (List ℕ)
   pub left : ℕ
   pub rest : List ℕ
-  pub gave : Gave total_limit input lines left rest
-  pub why : (next_of 4096 left rest ≡ line_too_long) ⊎ (next_of 4096 left rest ≡ input_too_long)
+  pub gave : Gave line_limit total_limit input lines left rest
+  pub why : IsStuck line_limit left rest
   pub asked : ((model_text_of lines ≡ None) × (now ≡ held)) ⊎ WaitsBehind turns lines held now
 
 -- A read failed: behind these lines, while the model's text was read or a message was due.
@@ -114,7 +124,7 @@ pub record IsReadFault (turns : ℕ) (input : List ℕ) (held now : Option (List
   pub lines : List (List ℕ)
   pub left : ℕ
   pub rest : List ℕ
-  pub gave : Gave total_limit input lines left rest
+  pub gave : Gave line_limit total_limit input lines left rest
   pub asked : ((model_text_of lines ≡ None) × (now ≡ held)) ⊎ WaitsBehind turns lines held now
 
 -- The log answers the messages up to a place. It has as many entries as it may, and one more is due: within a round, and
@@ -141,7 +151,7 @@ pub record IsFull (turns : ℕ) (input : List ℕ) (source_left held now : Optio
 -- How a run ended, where the input's bytes are known.
 abbrev pub Ran : ℕ → List ℕ → (source_left held now : Option (List ℕ)) → Result Outcome Halt → Type 0
 Ran turns input source_left held now (Ok outcome.Done) = IsDone turns input source_left held now
-Ran turns input source_left held now (Ok outcome.Refused) = IsNoModel input source_left held now
+Ran turns input source_left held now (Ok outcome.Refused) = IsNoModel line_limit input source_left held now
 Ran turns input source_left held now (Err halt.Limit) = IsPastLimit turns input held now
 Ran turns input source_left held now (Err halt.Full) = IsFull turns input source_left held now
 Ran turns input source_left held now (Err halt.Read) = IsReadFault turns input held now
@@ -161,36 +171,36 @@ model_ok_line m = codes "model ok: timelines " ++ (decimal (length m.timelines) 
 pub record IsFound (input : List ℕ) (source_left held now : Option (List ℕ)) : Type 0 where
   pub model : Model
   pub words : List ℕ
-  pub begins : HasHead input words source_left
+  pub begins : HasHead line_limit input words source_left
   pub accepted : IsModelText words model
   pub written : Adds held now (model_ok_line model)
 
 -- The line asked for is too long, or the input is, while the model's text was read.
-pub record IsPastHead (input : List ℕ) (held now : Option (List ℕ)) : Type 0 where
+pub record IsPastHead (limit : ℕ) (input : List ℕ) (held now : Option (List ℕ)) : Type 0 where
   pub lines : List (List ℕ)
   pub left : ℕ
   pub rest : List ℕ
-  pub gave : Gave total_limit input lines left rest
-  pub why : (next_of 4096 left rest ≡ line_too_long) ⊎ (next_of 4096 left rest ≡ input_too_long)
+  pub gave : Gave limit total_limit input lines left rest
+  pub why : IsStuck limit left rest
   pub none : model_text_of lines ≡ None
   pub silent : now ≡ held
 
 -- A read failed while the model's text was read.
-pub record IsHeadFault (input : List ℕ) (held now : Option (List ℕ)) : Type 0 where
+pub record IsHeadFault (limit : ℕ) (input : List ℕ) (held now : Option (List ℕ)) : Type 0 where
   pub lines : List (List ℕ)
   pub left : ℕ
   pub rest : List ℕ
-  pub gave : Gave total_limit input lines left rest
+  pub gave : Gave limit total_limit input lines left rest
   pub none : model_text_of lines ≡ None
   pub silent : now ≡ held
 
 -- How a check ended, where the input's bytes are known.
 abbrev pub Checks : List ℕ → (source_left held now : Option (List ℕ)) → Result Outcome Halt → Type 0
 Checks input source_left held now (Ok outcome.Done) = IsFound input source_left held now
-Checks input source_left held now (Ok outcome.Refused) = IsNoModel input source_left held now
-Checks input source_left held now (Err halt.Limit) = IsPastHead input held now
+Checks input source_left held now (Ok outcome.Refused) = IsNoModel line_limit input source_left held now
+Checks input source_left held now (Err halt.Limit) = IsPastHead line_limit input held now
 Checks input source_left held now (Err halt.Full) = ⊥
-Checks input source_left held now (Err halt.Read) = IsHeadFault input held now
+Checks input source_left held now (Err halt.Read) = IsHeadFault line_limit input held now
 Checks input source_left held now (Err halt.Write) = ⊤
 Checks input source_left held now (Err halt.Memory) = ⊤
 

@@ -2,18 +2,15 @@ ghost use Rattle.std.specs.Prelude.{◌≡◌, ◌≤◌, ◌++◌, OnOk, IfOk, 
 ghost use Rattle.pl_io.specs.Faults.{Rose};
 ghost use Rattle.pl_main.specs.Runs.{TextChecks};
 ghost use Rattle.pl_main.specs.Top.{model_ok_line, ChecksKnown};
-ghost use Rattle.pl_main.specs.Written.{Adds, WriteStops};
+ghost use Rattle.pl_stream.specs.Written.{Adds, WriteStops};
 
-use crate::found::Head;
-use crate::halt::Halt;
-use crate::head::read_head;
 use crate::judging::{model_of, refuse};
 use crate::outcome::Outcome;
-use crate::play::halt_of;
 use crate::whole::{LINE_LIMIT, TOTAL_LIMIT};
 use pl_accept::Accepted;
 use pl_io::{LineReader, Sink, Source, put};
 use pl_model::Model;
+use pl_stream::{Halt, Head, halt_of, read_head};
 use std::alloc::{AllocError, Global};
 
 pub fn push_counted(out: &mut Vec<u8>, words: &[u8], count: usize) -> Result<(), AllocError>

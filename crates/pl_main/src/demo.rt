@@ -1,23 +1,20 @@
-ghost use Rattle.std.specs.Prelude.{◌≡◌, ◌≤◌, ◌<◌, None, Some, IsErrOf, IfOk, false, length};
+ghost use Rattle.std.specs.Prelude.{◌≡◌, ◌≤◌, None, Some, IsErrOf, IfOk, false};
 ghost use Rattle.pl_io.specs.Faults.{Rose};
-ghost use Rattle.pl_io.specs.Sparing.{read_size};
 ghost use Rattle.pl_model.specs.Checked.{IsChecked};
 ghost use Rattle.pl_main.specs.Plays.{place_of};
 ghost use Rattle.pl_main.specs.Demos.{summary_line, Shows, DemoPlays, ModelShows, TextShows};
 
 use crate::check::push_counted;
-use crate::found::Head;
-use crate::halt::Halt;
-use crate::head::read_head;
 use crate::judging::{model_of, refuse};
 use crate::outcome::Outcome;
-use crate::play::{halt_of, play};
+use crate::play::play;
 use crate::whole::{LINE_LIMIT, TOTAL_LIMIT, program_options};
 use pl_accept::Accepted;
 use pl_io::{LineReader, Sink, SureSink, SureSource, put};
 use pl_machine::Machine;
 use pl_model::Model;
 use pl_report::demo_input;
+use pl_stream::{Halt, Head, halt_of, read_head};
 use std::alloc::{AllocError, Global};
 use std::sync::Arc;
 
@@ -51,7 +48,6 @@ fn play_out(
     requires checked { IsChecked model }
     requires limit { lines.old.limit ≡ 4096 }
     requires working { lines.old.failed ≡ None }
-    requires few { length lines.old.held < read_size }
     ensures plays { DemoPlays model (place_of lines.old (Some src.old)) result
         (place_of lines.new (Some src.new)) }
     ensures write { IsErrOf result Halt.Write → ⊥ }
@@ -79,7 +75,6 @@ fn show_model<O: Sink>(
     requires checked { IsChecked model }
     requires limit { lines.old.limit ≡ 4096 }
     requires working { lines.old.failed ≡ None }
-    requires few { length lines.old.held < read_size }
     ensures shows { ModelShows goals model (place_of lines.old (Some src.old)) (O.held out.old) result
         (place_of lines.new (Some src.new)) (O.held out.new) }
     ensures write { IsErrOf result Halt.Write → Rose (O.faults out.old) (O.faults out.new) }
@@ -101,7 +96,6 @@ fn show_text<O: Sink>(
 ) -> Result<Outcome, Halt>
     requires limit { lines.old.limit ≡ 4096 }
     requires working { lines.old.failed ≡ None }
-    requires few { length lines.old.held < read_size }
     ensures shows { TextShows goals kept (place_of lines.old (Some src.old)) (O.held out.old) result
         (place_of lines.new (Some src.new)) (O.held out.new) }
     ensures write { IsErrOf result Halt.Write → Rose (O.faults out.old) (O.faults out.new) }

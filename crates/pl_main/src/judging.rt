@@ -2,12 +2,12 @@ ghost use Rattle.std.specs.Prelude.{◌≡◌, ◌≤◌, OnOk, OnErr, IfOk, IfE
 ghost use Rattle.pl_io.specs.Writes.{AppendsFront};
 ghost use Rattle.pl_accept.specs.Accepting.{HoldsChecked};
 ghost use Rattle.pl_main.specs.Runs.{AcceptsKept};
-ghost use Rattle.pl_main.specs.Written.{Adds, WriteStops};
+ghost use Rattle.pl_stream.specs.Written.{Adds, WriteStops};
 
-use crate::halt::Halt;
 use crate::outcome::Outcome;
 use pl_accept::{Accepted, accept, too_long};
 use pl_io::{Sink, put};
+use pl_stream::Halt;
 use std::alloc::{AllocError, Global};
 
 /// Writes the line that refuses a model.

@@ -1,6 +1,6 @@
 //! No input has the causes of two statuses.
 ghost use Rattle.std.specs.Prelude.{ℕ, List, Option};
-ghost use Rattle.pl_main.specs.Top.{IsDone, IsPastLimit, IsFull, IsFound, IsNoModel, IsPastHead};
+ghost use Rattle.pl_main.specs.Top.{line_limit, IsDone, IsPastLimit, IsFull, IsFound, IsNoModel, IsPastHead};
 ghost use Rattle.pl_main.specs.Demos.{IsShown, IsShownInPart, HasNoDemo};
 ghost use Rattle.pl_main.specs.Limits.{IsWithinLimits};
 
@@ -8,23 +8,23 @@ ghost use Rattle.pl_main.specs.Limits.{IsWithinLimits};
 /// so do those of the statuses 0, 3 and 6 of a check, and of 0, 3 and 7 of a demonstration. An input within the limits has no cause of 6.
 pub fn statuses_are_told_apart()
     ensures done_not_refused { (turns : ℕ) (input : List ℕ) (left held now other_left other_held other_now : Option (List ℕ))
-        → IsDone turns input left held now → IsNoModel input other_left other_held other_now → ⊥ }
+        → IsDone turns input left held now → IsNoModel line_limit input other_left other_held other_now → ⊥ }
     ensures done_not_past { (turns : ℕ) (input : List ℕ) (left held now other_held other_now : Option (List ℕ))
         → IsDone turns input left held now → IsPastLimit turns input other_held other_now → ⊥ }
     ensures done_not_full { (turns : ℕ) (input : List ℕ) (left held now other_left other_held other_now : Option (List ℕ))
         → IsDone turns input left held now → IsFull turns input other_left other_held other_now → ⊥ }
     ensures refused_not_past { (turns : ℕ) (input : List ℕ) (left held now other_held other_now : Option (List ℕ))
-        → IsNoModel input left held now → IsPastLimit turns input other_held other_now → ⊥ }
+        → IsNoModel line_limit input left held now → IsPastLimit turns input other_held other_now → ⊥ }
     ensures refused_not_full { (turns : ℕ) (input : List ℕ) (left held now other_left other_held other_now : Option (List ℕ))
-        → IsNoModel input left held now → IsFull turns input other_left other_held other_now → ⊥ }
+        → IsNoModel line_limit input left held now → IsFull turns input other_left other_held other_now → ⊥ }
     ensures past_not_full { (turns : ℕ) (input : List ℕ) (held now other_left other_held other_now : Option (List ℕ))
         → IsPastLimit turns input held now → IsFull turns input other_left other_held other_now → ⊥ }
     ensures found_not_refused { (input : List ℕ) (left held now other_left other_held other_now : Option (List ℕ))
-        → IsFound input left held now → IsNoModel input other_left other_held other_now → ⊥ }
+        → IsFound input left held now → IsNoModel line_limit input other_left other_held other_now → ⊥ }
     ensures found_not_past { (input : List ℕ) (left held now other_held other_now : Option (List ℕ))
-        → IsFound input left held now → IsPastHead input other_held other_now → ⊥ }
+        → IsFound input left held now → IsPastHead line_limit input other_held other_now → ⊥ }
     ensures no_model_not_past { (input : List ℕ) (left held now other_held other_now : Option (List ℕ))
-        → IsNoModel input left held now → IsPastHead input other_held other_now → ⊥ }
+        → IsNoModel line_limit input left held now → IsPastHead line_limit input other_held other_now → ⊥ }
     ensures shown_not_refused { (goals : ℕ) (held now other_held other_now : Option (List ℕ))
         → IsShown goals held now → HasNoDemo goals other_held other_now → ⊥ }
     ensures shown_not_full { (goals : ℕ) (held now other_held other_now : Option (List ℕ))
@@ -32,7 +32,7 @@ pub fn statuses_are_told_apart()
     ensures no_demo_not_full { (goals : ℕ) (held now other_held other_now : Option (List ℕ))
         → HasNoDemo goals held now → IsShownInPart goals other_held other_now → ⊥ }
     ensures within { (turns : ℕ) (input : List ℕ) (held now : Option (List ℕ))
-        → IsWithinLimits input → IsPastLimit turns input held now → ⊥ }
+        → IsWithinLimits line_limit input → IsPastLimit turns input held now → ⊥ }
     ensures head_within { (input : List ℕ) (held now : Option (List ℕ))
-        → IsWithinLimits input → IsPastHead input held now → ⊥ }
+        → IsWithinLimits line_limit input → IsPastHead line_limit input held now → ⊥ }
 {}

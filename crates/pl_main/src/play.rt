@@ -1,17 +1,14 @@
-ghost use Rattle.std.specs.Prelude.{◌≡◌, ◌≤◌, None, IsErrOf, IfErr, IfSome, All, length, ◌<◌};
+ghost use Rattle.std.specs.Prelude.{◌≡◌, ◌≤◌, None, IsErrOf, IfErr, IfSome, All, ◌<◌};
 ghost use Rattle.std.specs.Option.{option_copied};
 ghost use Rattle.pl_io.specs.Faults.{Rose};
-ghost use Rattle.pl_io.specs.Sparing.{read_size};
 ghost use Rattle.pl_entry.specs.Bounds.{IsMessageLine};
 ghost use Rattle.pl_main.specs.Tells.{IsReady};
-ghost use Rattle.pl_main.specs.Plays.{place_of, line_in, HaltFor, Answering, Steps, Playing};
+ghost use Rattle.pl_main.specs.Plays.{place_of, line_in, Answering, Steps, Playing};
 
 use crate::answers::tell;
-use crate::halt::Halt;
-use crate::messages::next_message;
-use crate::writes::write_log;
-use pl_io::{Line, LineFault, LineReader, Sink, Source};
+use pl_io::{Line, LineReader, Sink, Source};
 use pl_machine::{Machine, Stop};
+use pl_stream::{Halt, halt_of, next_message, write_log};
 use std::alloc::Global;
 
 /// The bytes of a line.
@@ -60,16 +57,6 @@ fn answer<O: Sink>(
     }
 }
 
-pub fn halt_of(fault: LineFault) -> Halt
-    ensures { HaltFor fault result }
-{
-    match fault {
-        LineFault::Read => Halt::Read,
-        LineFault::Long(_) | LineFault::Total => Halt::Limit,
-        LineFault::Memory => Halt::Memory,
-    }
-}
-
 /// Reads the next message and answers it. Answers whether the run is done.
 #[tactic(auto, using(crate::proofs::Playing::input_fits, crate::proofs::Playing::step_on, crate::proofs::Playing::step_fills, crate::proofs::Playing::step_stops))]
 fn step<S: Source, O: Sink>(
@@ -82,7 +69,6 @@ fn step<S: Source, O: Sink>(
     requires ready { IsReady machine.old }
     requires limit { lines.old.limit ≡ 4096 }
     requires working { lines.old.failed ≡ None }
-    requires few { length lines.old.held < read_size }
     ensures step { Steps machine.old (place_of lines.old (S.left src.old)) (O.held out.old) result machine.new (place_of lines.new (S.left src.new)) (O.held out.new) }
     ensures read { IsErrOf result Halt.Read → Rose (S.faults src.old) (S.faults src.new) }
     ensures write { IsErrOf result Halt.Write → Rose (O.faults out.old) (O.faults out.new) }
@@ -106,7 +92,6 @@ pub fn play<S: Source, O: Sink>(
     requires ready { IsReady machine.old }
     requires limit { lines.old.limit ≡ 4096 }
     requires working { lines.old.failed ≡ None }
-    requires few { length lines.old.held < read_size }
     ensures play { Playing machine.old (place_of lines.old (S.left src.old)) (O.held out.old) result machine.new (place_of lines.new (S.left src.new)) (O.held out.new) }
     ensures read { IsErrOf result Halt.Read → Rose (S.faults src.old) (S.faults src.new) }
     ensures write { IsErrOf result Halt.Write → Rose (O.faults out.old) (O.faults out.new) }

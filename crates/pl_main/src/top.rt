@@ -3,16 +3,16 @@ ghost use Rattle.pl_io.specs.Faults.{Rose};
 ghost use Rattle.pl_main.specs.Words.{command_of};
 ghost use Rattle.pl_main.specs.Limits.{Completes};
 ghost use Rattle.pl_main.specs.Statuses.{IsTask, IsSoloStatus, status_of, usage_line, SaysKnown, IsUnread};
-ghost use Rattle.pl_main.specs.Written.{Adds};
+ghost use Rattle.pl_stream.specs.Written.{Adds};
 
 use crate::check::check;
 use crate::command::{Command, Task};
 use crate::demo::demo;
-use crate::halt::Halt;
 use crate::outcome::Outcome;
 use crate::whole::solo;
 use crate::words::read_words;
 use pl_io::{Sink, Source, put};
+use pl_stream::Halt;
 use std::alloc::Global;
 
 fn status_of(ended: Result<Outcome, Halt>) -> u8

@@ -1,23 +1,19 @@
-ghost use Rattle.std.specs.Prelude.{◌≡◌, ◌≤◌, None, IsErrOf, ◌<◌, length};
+ghost use Rattle.std.specs.Prelude.{◌≡◌, ◌≤◌, None, IsErrOf};
 ghost use Rattle.pl_io.specs.Faults.{Rose};
-ghost use Rattle.pl_io.specs.Sparing.{read_size};
 ghost use Rattle.pl_model.specs.Checked.{IsChecked};
 ghost use Rattle.pl_main.specs.Plays.{place_of};
 ghost use Rattle.pl_main.specs.Runs.{ModelRuns, TextRuns};
 ghost use Rattle.pl_main.specs.Top.{program_options, RanKnown};
 
-use crate::found::Head;
-use crate::halt::Halt;
-use crate::head::read_head;
 use crate::judging::{model_of, refuse};
 use crate::outcome::Outcome;
-use crate::play::{halt_of, play};
-use crate::writes::write_log;
+use crate::play::play;
 use pl_accept::Accepted;
 use pl_facts::Options;
 use pl_io::{LineReader, Sink, Source};
 use pl_machine::Machine;
 use pl_model::Model;
+use pl_stream::{Halt, Head, halt_of, read_head, write_log};
 use std::alloc::Global;
 use std::sync::Arc;
 
@@ -50,7 +46,6 @@ fn run_model<S: Source, O: Sink>(
     requires turns { (1 ≤ turns) × (turns ≤ 1000) }
     requires limit { lines.old.limit ≡ 4096 }
     requires working { lines.old.failed ≡ None }
-    requires few { length lines.old.held < read_size }
     ensures run { ModelRuns turns model (place_of lines.old (S.left src.old)) (O.held out.old) result
         (place_of lines.new (S.left src.new)) (O.held out.new) }
     ensures read { IsErrOf result Halt.Read → Rose (S.faults src.old) (S.faults src.new) }
@@ -79,7 +74,6 @@ fn run_text<S: Source, O: Sink>(
     requires turns { (1 ≤ turns) × (turns ≤ 1000) }
     requires limit { lines.old.limit ≡ 4096 }
     requires working { lines.old.failed ≡ None }
-    requires few { length lines.old.held < read_size }
     ensures run { TextRuns turns kept (place_of lines.old (S.left src.old)) (O.held out.old) result
         (place_of lines.new (S.left src.new)) (O.held out.new) }
     ensures read { IsErrOf result Halt.Read → Rose (S.faults src.old) (S.faults src.new) }

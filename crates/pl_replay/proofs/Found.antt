@@ -1,5 +1,5 @@
 -- What the reading of a line says of the entry that is wanted.
-use Rattle.std.proofs.Common.{◌≡◌, ◌≢◌, ℕ, ◌<◌, ◌≤◌, List, Option, Some, None, Ok, Err, Bool, true, false, nat_eq, if◌then◌else◌, ap, ap₂, refl, subst, sym, arith}
+use Rattle.std.proofs.Common.{◌≡◌, ℕ, List, Some, None, Ok, Err, Bool, true, false, nat_eq, if◌then◌else◌, ap, ap₂, refl, subst, sym, arith}
 use Rattle.std.proofs.lemmas.Bool.{eqb-true, eq-eqb}
 use Rattle.pl_model.specs.declared.whole.Model.{Model}
 use Rattle.pl_facts.specs.declared.options.Options.{Options}
@@ -8,8 +8,7 @@ use Rattle.pl_entry.specs.declared.event.Event.TheVariants as event
 use Rattle.pl_entry.specs.declared.reply.Reply.{Reply}
 use Rattle.pl_entry.specs.declared.reply.Reply.TheVariants as reply
 use Rattle.pl_entry.specs.declared.entry.Entry.{Entry}
-use Rattle.pl_entry.specs.Bounds.{IsNumberOf, IsEventInRange, IsReplyTo, IsJournalEntry}
-use Rattle.pl_render.specs.Lines.{text_of}
+use Rattle.pl_entry.specs.Bounds.{IsNumberOf, IsReplyTo}
 use Rattle.pl_journal.specs.declared.fault.EntryFault.{EntryFault}
 use Rattle.pl_journal.specs.declared.fault.EntryFault.TheVariants as fault
 use Rattle.pl_journal.specs.Journal.{IsLineOf}

@@ -1,5 +1,5 @@
 -- What a machine's answer says of the line.
-use Rattle.std.proofs.Common.{◌≡◌, ℕ, ◌+◌, ◌<◌, ◌≤◌, List, [], ◌∷◌, ◌++◌, length, Option, Some, None, Result, Ok, Err, IfOk, true, false, refl, ◌∙◌, ap, sym, subst, arith}
+use Rattle.std.proofs.Common.{◌≡◌, ℕ, ◌<◌, ◌≤◌, List, length, Option, Some, None, Result, Ok, Err, IfOk, true, false, ◌∙◌, ap, sym, subst}
 use Rattle.pl_model.specs.declared.whole.Model.{Model}
 use Rattle.pl_entry.specs.declared.reply.Reply.{Reply}
 use Rattle.pl_entry.specs.declared.entry.Entry.{Entry}
@@ -8,7 +8,7 @@ use Rattle.pl_machine.specs.declared.stop.Stop.{Stop}
 use Rattle.pl_machine.specs.declared.stop.Stop.TheVariants as stop
 use Rattle.pl_machine.specs.World.{World}
 use Rattle.pl_machine.specs.Step.{is_enabled, reply_of}
-use Rattle.pl_machine.specs.Legal.{IsHistory, options_of, world_of}
+use Rattle.pl_machine.specs.Legal.{IsHistory}
 use Rattle.pl_machine.specs.Taking.{Answers}
 use Rattle.pl_machine.specs.Sound.{State}
 use Rattle.pl_replay.specs.declared.verdict.Verdict.{Verdict}

@@ -1,4 +1,3 @@
-mod Reading
 mod Blanks
 mod Moves
 mod Found

@@ -1,5 +1,4 @@
 -- A move of a journal may be handed to a machine.
-use Rattle.std.proofs.Common.{◌<◌, length}
 use Rattle.pl_model.specs.declared.whole.Model.{Model}
 use Rattle.pl_plan.specs.declared.repair.RepairMove.{RepairMove}
 use Rattle.pl_plan.specs.declared.repair.RepairMove.TheVariants as repair

@@ -1,16 +1,21 @@
 -- What is right and what is wrong of a journal, line by line. Blank lines are none of it.
-use Rattle.std.specs.Prelude.{◌≡◌, ◌≢◌, ℕ, ◌+◌, ◌<◌, ◌≤◌, ◌⊎◌, true, false, List, [], ◌∷◌, ◌++◌, length, Option, Some, None}
+use Rattle.std.specs.Prelude.{◌≡◌, ◌≢◌, ℕ, ◌+◌, ◌<◌, ◌≤◌, ◌⊎◌, true, false, List, [], ◌∷◌, ◌++◌, length, filter, not, Option, Some, None}
 use Rattle.pl_model.specs.declared.whole.Model.{Model}
 use Rattle.pl_facts.specs.declared.options.Options.{Options}
 use Rattle.pl_entry.specs.declared.entry.Entry.{Entry}
 use Rattle.pl_entry.specs.declared.reply.Reply.{Reply}
 use Rattle.pl_render.specs.Lines.{text_of}
 use Rattle.pl_journal.specs.Journal.{IsLineOf}
+use Rattle.pl_machine.specs.Lines.{is_blank_line}
 use Rattle.pl_machine.specs.Step.{is_enabled, reply_of}
 use Rattle.pl_machine.specs.Legal.{Legal, opening, options_of, world_of}
 use Rattle.pl_machine.specs.Sound.{State}
 use Rattle.pl_replay.specs.declared.verdict.Verdict.{Verdict}
 use Rattle.pl_replay.specs.declared.verdict.Verdict.TheVariants as verdict
+
+-- the lines of a journal that are to be entries
+abbrev pub entry_lines : List (List ℕ) → List (List ℕ)
+entry_lines lines = filter (λ line. not (is_blank_line line)) lines
 
 -- the lines of entries without their newlines, numbered from a number on
 abbrev pub lines_from : Model → ℕ → List Entry → List (List ℕ)

@@ -1,4 +1,2 @@
-pub mod Taken
-pub mod Skipping
 pub mod Journals
 pub mod Verifying

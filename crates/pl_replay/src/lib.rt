@@ -3,7 +3,6 @@
 
 mod answering;
 mod judging;
-mod lines;
 mod verdict;
 mod verifying;
 

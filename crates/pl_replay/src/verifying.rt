@@ -1,18 +1,17 @@
-ghost use Rattle.std.specs.Prelude.{◌≡◌, ◌<◌, ◌≤◌, ℕ, List, Option, false, None, Some, IsErrOf, length};
+ghost use Rattle.std.specs.Prelude.{◌≡◌, ◌≤◌, ℕ, List, Option, false, None, Some, IsErrOf};
 ghost use Rattle.std.specs.Arc.{arc_value};
 ghost use Rattle.pl_model.specs.Checked.{IsChecked};
 ghost use Rattle.pl_io.specs.Reader.{Reader};
 ghost use Rattle.pl_io.specs.Faults.{Rose};
 ghost use Rattle.pl_io.specs.Lines.{ahead};
-ghost use Rattle.pl_io.specs.Sparing.{read_size};
 ghost use Rattle.pl_replay.specs.Verifying.{IsReadSoFar, Verifies};
 
 use crate::judging::{entries_of, judge, opening_of};
-use crate::lines::next_entry_line;
 use crate::verdict::Verdict;
 use pl_io::{LineFault, LineReader, Source};
 use pl_machine::Machine;
 use pl_model::Model;
+use pl_stream::next_message;
 use std::alloc::Global;
 use std::sync::Arc;
 
@@ -34,7 +33,6 @@ fn follow<S: Source>(
 ) -> Result<(Verdict, Option<Machine>), LineFault>
     requires unspoiled { machine.spoiled ≡ false }
     requires working { lines.old.failed ≡ None }
-    requires few { length lines.old.held < read_size }
     ensures verdict { (first : Reader) (all : Option (List ℕ)) → IsReadSoFar machine.model machine.log first all lines.old (ahead lines.old.held (S.left src.old)) → Verifies machine.model first all result lines.new (ahead lines.new.held (S.left src.new)) }
     ensures cause { IsErrOf result LineFault.Read → Rose (S.faults src.old) (S.faults src.new) }
     ensures later { S.faults src.old ≤ S.faults src.new }
@@ -42,7 +40,7 @@ fn follow<S: Source>(
     let mut machine = machine;
     'entries: loop {
         let entries = entries_of(&machine);
-        let Some(line) = next_entry_line(lines, src)? else {
+        let Some(line) = next_message(lines, src)? else {
             return Ok(legal(machine, entries));
         };
         if let Some(wrong) = judge(alloc, &mut machine, entries, line.bytes())? {
@@ -60,12 +58,11 @@ pub fn verify<S: Source>(
 ) -> Result<(Verdict, Option<Machine>), LineFault>
     requires checked { IsChecked (arc_value model) }
     requires working { lines.old.failed ≡ None }
-    requires few { length lines.old.held < read_size }
     ensures verdict { Verifies (arc_value model) lines.old (ahead lines.old.held (S.left src.old)) result lines.new (ahead lines.new.held (S.left src.new)) }
     ensures cause { IsErrOf result LineFault.Read → Rose (S.faults src.old) (S.faults src.new) }
     ensures later { S.faults src.old ≤ S.faults src.new }
 {
-    let Some(line) = next_entry_line(lines, src)? else {
+    let Some(line) = next_message(lines, src)? else {
         return Ok((Verdict::NotALine(0), None));
     };
     match opening_of(alloc, model.as_ref(), line.bytes())? {

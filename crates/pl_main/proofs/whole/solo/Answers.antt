@@ -1,10 +1,8 @@
-use Rattle.std.proofs.Common.{ap}
-use Rattle.pl_io.specs.Reader.{Reader}
 use Rattle.pl_main.proofs.Ending.{begun_solo, refused_solo}
 use Rattle.pl_main.proofs.whole.solo.Goals as goal
 
 pub returns-in-Ok-NoBegin-clause-ran : goal.returns-in-Ok-NoBegin-clause-ran
-returns-in-Ok-NoBegin-clause-ran g c = refused_solo _ _ _ _ _ _ _ _ _ _ (ap (λ (r : Reader). r.held) c.in_ok-lines.ensures) (ap (λ (r : Reader). r.room) c.in_ok-lines.ensures) (rw c.in-Ok-NoBegin.field-0-is at c.in-Ok-NoBegin.ensures.head) c.refuse.ensures.text c.refuse.ensures.refused c.refuse.ensures.cause
+returns-in-Ok-NoBegin-clause-ran g c = refused_solo _ _ _ _ _ _ _ _ _ _ c.in_ok-lines.ensures (rw c.in-Ok-NoBegin.field-0-is at c.in-Ok-NoBegin.ensures.head) c.refuse.ensures.text c.refuse.ensures.refused c.refuse.ensures.cause
 
 pub returns-clause-ran : goal.returns-clause-ran
-returns-clause-ran g c = begun_solo _ _ _ _ _ _ _ _ _ _ _ (ap (λ (r : Reader). r.held) c.in_ok-lines.ensures) (ap (λ (r : Reader). r.room) c.in_ok-lines.ensures) (rw c.in-Ok-Text.field-0-is at c.in-Ok-Text.ensures.head) c.run_text.ensures.run
+returns-clause-ran g c = begun_solo _ _ _ _ _ _ _ _ _ _ _ c.in_ok-lines.ensures (rw c.in-Ok-Text.field-0-is at c.in-Ok-Text.ensures.head) c.run_text.ensures.run

@@ -1,7 +1,6 @@
-use Rattle.std.proofs.Common.{◌≡◌, ◌<◌, ◌≤◌, ℕ, List, Option, length, false, None}
+use Rattle.std.proofs.Common.{◌≡◌, ◌≤◌, ℕ, List, Option, false, None}
 use Rattle.pl_io.specs.Lines.{ahead}
 use Rattle.pl_io.specs.Reader.{Reader}
-use Rattle.pl_machine.specs.Legal.{Legal}
 use Rattle.pl_replay.specs.Verifying.{IsReadSoFar}
 use Rattle.pl_replay.proofs.verifying.follow.Given as goal
 
@@ -13,7 +12,6 @@ invariant-entries g l = record {
   unspoiled : l.machine.spoiled ≡ false;
   model : l.machine.model ≡ l.initial.machine.model;
   working : l.lines.failed ≡ None;
-  few : length l.lines.held < 4096;
   later : g.S.Source.faults l.initial.src ≤ g.S.Source.faults l.src;
 }
 

@@ -1,0 +1,6 @@
+pub mod Reading
+pub mod Beginning
+pub mod Skipping
+pub mod Stopping
+pub mod Writing
+pub mod Comparing

@@ -1,0 +1,40 @@
+-- Why no further line is given.
+use Rattle.std.proofs.Common.{◌≡◌, ℕ, List, Option, Some, None, inl, inr, refl}
+use Rattle.pl_io.specs.declared.errors.LineFault.{LineFault}
+use Rattle.pl_io.specs.declared.errors.LineFault.TheVariants as fault
+use Rattle.pl_stream.specs.declared.halt.Halt.{Halt}
+use Rattle.pl_stream.specs.declared.halt.Halt.TheVariants as halt
+use Rattle.pl_stream.specs.Reads.{WhyKnown}
+use Rattle.pl_stream.specs.Stops.{HaltFor, IsStuckKnown, StopsBy}
+
+pub never_full : (f : LineFault) → HaltFor f halt.Full → ⊥
+never_full fault.Read is = let h : halt.Full ≡ halt.Read = is in (cc)
+never_full (fault.Long n) is = let h : halt.Full ≡ halt.Limit = is in (cc)
+never_full fault.Total is = let h : halt.Full ≡ halt.Limit = is in (cc)
+never_full fault.Memory is = let h : halt.Full ≡ halt.Memory = is in (cc)
+
+pub never_writes : (f : LineFault) → HaltFor f halt.Write → ⊥
+never_writes fault.Read is = let h : halt.Write ≡ halt.Read = is in (cc)
+never_writes (fault.Long n) is = let h : halt.Write ≡ halt.Limit = is in (cc)
+never_writes fault.Total is = let h : halt.Write ≡ halt.Limit = is in (cc)
+never_writes fault.Memory is = let h : halt.Write ≡ halt.Memory = is in (cc)
+
+pub only_reads : (f : LineFault) → HaltFor f halt.Read → f ≡ fault.Read
+only_reads fault.Read is = refl
+only_reads (fault.Long n) is = absurd (let h : halt.Read ≡ halt.Limit = is in (cc))
+only_reads fault.Total is = absurd (let h : halt.Read ≡ halt.Limit = is in (cc))
+only_reads fault.Memory is = absurd (let h : halt.Read ≡ halt.Memory = is in (cc))
+
+is_stuck : (limit room : ℕ) (rest : Option (List ℕ)) (f : LineFault) → HaltFor f halt.Limit → WhyKnown limit room rest f → IsStuckKnown limit room rest
+is_stuck limit room None f is why = tt
+is_stuck limit room (Some rest) fault.Read is why = absurd (let h : halt.Limit ≡ halt.Read = is in (cc))
+is_stuck limit room (Some rest) (fault.Long n) is why = inl why
+is_stuck limit room (Some rest) fault.Total is why = inr why
+is_stuck limit room (Some rest) fault.Memory is why = absurd (let h : halt.Limit ≡ halt.Memory = is in (cc))
+
+pub stops_by : (e : Halt) (limit room : ℕ) (rest : Option (List ℕ)) (f : LineFault) → HaltFor f e → WhyKnown limit room rest f → StopsBy e limit room rest
+stops_by halt.Limit limit room rest f is why = is_stuck limit room rest f is why
+stops_by halt.Read limit room rest f is why = tt
+stops_by halt.Write limit room rest f is why = tt
+stops_by halt.Full limit room rest f is why = tt
+stops_by halt.Memory limit room rest f is why = tt

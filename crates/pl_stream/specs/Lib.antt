@@ -1,0 +1,5 @@
+pub mod Reads
+pub mod Heads
+pub mod Waits
+pub mod Stops
+pub mod Written

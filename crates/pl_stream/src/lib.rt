@@ -1,0 +1,18 @@
+//! What is read and written: the lines of an input, one by one, a model's text in front of them, and the lines of entries.
+#![tactic(auto)]
+
+mod found;
+mod halt;
+mod halting;
+mod head;
+mod messages;
+mod reads;
+mod writes;
+
+pub use found::Head;
+pub use halt::Halt;
+pub use halting::halt_of;
+pub use head::read_head;
+pub use messages::next_message;
+pub use reads::next_line;
+pub use writes::{write_entries, write_log};

@@ -1,0 +1,18 @@
+ghost use Rattle.std.specs.Prelude.{◌≡◌, ◌≤◌, None, IsErrOf, ◌<◌, length};
+ghost use Rattle.pl_io.specs.Faults.{Rose};
+ghost use Rattle.pl_io.specs.Lines.{ahead};
+ghost use Rattle.pl_io.specs.Sparing.{read_size};
+ghost use Rattle.pl_stream.specs.Reads.{OneLine};
+
+use pl_io::{Line, LineFault, LineReader, Source};
+
+/// The next line of a reader that has not failed.
+#[tactic(auto, using(crate::proofs::Reading::next_gives))]
+pub fn next_line<S: Source>(lines: &mut LineReader, src: &mut S) -> Result<Option<Line>, LineFault>
+    requires { lines.old.failed ≡ None }
+    ensures line { OneLine lines.old (ahead lines.old.held (S.left src.old)) result lines.new (ahead lines.new.held (S.left src.new)) }
+    ensures cause { IsErrOf result LineFault.Read → Rose (S.faults src.old) (S.faults src.new) }
+    ensures later { S.faults src.old ≤ S.faults src.new }
+{
+    lines.next(src)
+}
