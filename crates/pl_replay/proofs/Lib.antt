@@ -4,3 +4,6 @@ mod Found
 mod Logs
 mod Judged
 mod Steps
+pub mod Lawful
+pub mod Verdicts
+pub mod OneAnswer

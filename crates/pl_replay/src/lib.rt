@@ -3,8 +3,10 @@
 
 mod answering;
 mod judging;
+mod laws;
 mod verdict;
 mod verifying;
 
+pub use laws::{laws_of_answers, laws_of_verdicts};
 pub use verdict::Verdict;
 pub use verifying::verify;
