@@ -11,5 +11,9 @@ mod names;
 mod pushing;
 mod replies;
 
+pub use conflicts::push_conflict;
 pub use entries::render;
 pub use laws::{laws_of_length, laws_of_telling, text_laws};
+pub use names::kind_name;
+pub use pushing::{push_count, push_labelled, push_word};
+pub use replies::push_reply;
