@@ -1,3 +1,4 @@
 pub mod Texts
-pub mod Goals
+pub mod Inputs
 pub mod Lines
+pub mod Sending

@@ -1,1 +1,5 @@
 pub mod Demonstration
+pub mod Lines
+pub mod Reports
+pub mod Sent
+pub mod Verdicts

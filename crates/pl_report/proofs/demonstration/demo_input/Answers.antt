@@ -2,7 +2,7 @@ use Rattle.std.proofs.Common.{◌≡◌, ℕ, arith, List, ◌+◌, ◌++◌, fl
 use Rattle.std.specs.Prelude.{codes}
 use Rattle.pl_io.specs.Lines.{with_newline}
 use Rattle.pl_report.specs.Demonstration.{model_lines, messages_for, demo_text}
-use Rattle.pl_report.proofs.Goals.{text_more, demo_ends}
+use Rattle.pl_report.proofs.Inputs.{text_more, demo_ends}
 use Rattle.pl_report.proofs.demonstration.demo_input.Goals as goal
 
 pub loop-done-preserved : goal.loop-done-preserved
