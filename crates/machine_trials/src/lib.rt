@@ -1,15 +1,9 @@
-//! Tests of the planning machine and of what runs it: calls, rounds, the words of a command, the journal, whole runs.
+//! Tests of the planning machine: its calls, and the lines of its journal.
 #![tactic(auto)]
 
 #[cfg(test)]
 mod calls;
 #[cfg(test)]
-mod demonstrations;
-#[cfg(test)]
 mod entries;
 #[cfg(test)]
 mod reading;
-#[cfg(test)]
-mod runs;
-#[cfg(test)]
-mod words;

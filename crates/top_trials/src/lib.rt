@@ -1,0 +1,9 @@
+//! Tests of the top call and of the program's words: whole runs and demonstrations.
+#![tactic(auto)]
+
+#[cfg(test)]
+mod demonstrations;
+#[cfg(test)]
+mod runs;
+#[cfg(test)]
+mod words;
