@@ -53,7 +53,7 @@ length_going m log s e = omega (arith, length-append (log_items m log) (stop_ite
 
 -- ---- read back
 
-made_entries : (es : List Entry) (s : Bool) → filter_map entry_in (map Made es ++ stop_items s) ≡ es
+pub made_entries : (es : List Entry) (s : Bool) → filter_map entry_in (map Made es ++ stop_items s) ≡ es
 made_entries [] true = refl
 made_entries [] false = refl
 made_entries (e ∷ es) s = ap (λ (xs : List Entry). e ∷ xs) (made_entries es s)

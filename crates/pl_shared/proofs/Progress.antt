@@ -2,7 +2,7 @@
 use Rattle.std.proofs.Common.{◌≡◌, ℕ, suc, ◌+◌, ◌<◌, ◌≤◌, List, [], ◌∷◌, ◌++◌, length, Bool, true, false, Option, Some, None, Result, Ok, Err, refl, sym, ◌∙◌, ap, subst, arith, inl, inr, ◌⊎◌, append_assoc, length-append}
 use Rattle.std.proofs.lemmas.List.{append-nil}
 use Rattle.std.proofs.lemmas.List.Folds.{list_any-append}
-use Rattle.std.specs.Prelude.{◌||◌}
+use Rattle.std.specs.Prelude.{◌||◌, not, ◌&&◌, is_some, if◌then◌else◌, unwrap_or}
 use Rattle.std.specs.List.{All, filter_map}
 use Rattle.std.proofs.lemmas.List.Elements.{All-push, filter_map-append}
 use mathlib.Core.List.{IsPrefix}
@@ -24,7 +24,7 @@ use Rattle.pl_machine.specs.declared.choice.Choice.TheVariants as choice
 use Rattle.pl_machine.specs.World.{World, fresh_world}
 use Rattle.pl_machine.specs.Choices.{exec_choice_of, event_of}
 use Rattle.pl_machine.specs.Step.{reply_of, after_input, after_fix, after_commit, after_dispatch, after}
-use Rattle.pl_machine.specs.Legal.{world_from, options_of, entries_behind, world_of}
+use Rattle.pl_machine.specs.Legal.{Legal, IsOpenedRun, no_options, options_in, world_from, options_of, entries_behind, world_of}
 use Rattle.pl_shared.specs.declared.noted.Noted.{Noted}
 use Rattle.pl_shared.specs.declared.noted.Noted.TheVariants.{Made, Stopped}
 use Rattle.pl_shared.specs.declared.role.Role.{Role}
@@ -35,7 +35,7 @@ use Rattle.pl_shared.specs.Items.{items_of, model_in, is_stop, stop_in, OfWorld,
 use Rattle.pl_shared.specs.Roles.{worker_of, has_event, IsPlanned, IsChosen, IsBy, kind_of, is_entry, is_executed}
 use Rattle.pl_shared.specs.Plans.{PlanPass, IsPlan}
 use Rattle.pl_shared.specs.Turns.{TakesTurn, Makes, Acts, Stops, was_stopped, is_stopped, IsOver, IsFull, Works, WorksUntil, WorksOn}
-use Rattle.pl_shared.proofs.Items.{log_is_some, log_is_short, length_stopped, length_going, entries_in_items}
+use Rattle.pl_shared.proofs.Items.{log_is_some, log_is_short, length_stopped, length_going, entries_in_items, model_in_items}
 
 -- ---- which entries a role makes
 
@@ -63,7 +63,7 @@ by_kind (Planner g) Executive w e by = absurd by
 by_kind Executive (Planner g2) w e by = absurd by
 by_kind Executive Executive w e by = (chosen_kind (exec_choice_of w) e.event by, refl)
 
-kind_same : (r r2 : Role) → worker_of r2 ≡ worker_of r → kind_of r2 ≡ kind_of r
+pub kind_same : (r r2 : Role) → worker_of r2 ≡ worker_of r → kind_of r2 ≡ kind_of r
 kind_same (Planner g) (Planner g2) e = refl
 kind_same (Planner g) Executive e = absurd (omega arith)
 kind_same Executive (Planner g2) e = absurd (omega arith)
@@ -74,7 +74,7 @@ of_world : (P : World → Type 0) (Q : Type 0) (o : Option Model) (es : List Ent
 of_world P Q None es h f = absurd h
 of_world P Q (Some m) es h f = f (world_of m es) h
 
-from_world : (P : World → Type 0) (Q : Type 0) (items : List Noted) → InWorld items P → ((w : World) → P w → Q) → Q
+pub from_world : (P : World → Type 0) (Q : Type 0) (items : List Noted) → InWorld items P → ((w : World) → P w → Q) → Q
 from_world P Q items h f = of_world P Q (model_in items) (entries_in items) h f
 
 -- ---- so far
@@ -183,7 +183,7 @@ or_true true = refl
 or_true false = refl
 
 -- the stop behind a refusal
-until : (start now new : PlanPass) (r r2 : Role) (count : ℕ) → Working start r count now r2 → Stops now new → WorksUntil r start r2 new
+pub until : (start now new : PlanPass) (r r2 : Role) (count : ℕ) → Working start r count now r2 → Stops now new → WorksUntil r start r2 new
 until start now new r r2 count so_far (was_stopped same stopped) = record {
   own = so_far.works.own;
   rest = [];
@@ -237,7 +237,7 @@ run_keeps : (w : World) (es : List Entry) → (world_from w es).options ≡ w.op
 run_keeps w [] = refl
 run_keeps w (e ∷ es) = run_keeps (after w e.event) es ∙ step_keeps w e.event
 
-world_options : (m : Model) (log : List Entry) → (world_of m log).options ≡ options_of log
+pub world_options : (m : Model) (log : List Entry) → (world_of m log).options ≡ options_of log
 unfolding world_of
 world_options m log = run_keeps (fresh_world m (options_of log)) (entries_behind log)
 
@@ -252,7 +252,7 @@ full_of (Some m) es more lt full =
     let long = length-append es more in
     rw same (omega (arith, long, full))
 
-full_on : (xs ys : List Noted) → IsPlan xs → IsPrefix xs ys → model_in ys ≡ model_in xs → IsFull xs → IsFull ys
+pub full_on : (xs ys : List Noted) → IsPlan xs → IsPrefix xs ys → model_in ys ≡ model_in xs → IsFull xs → IsFull ys
 full_on xs ys plan on same full =
     let es = entries_in xs in
     let more = entries_in on.0 in
@@ -262,18 +262,100 @@ full_on xs ys plan on same full =
     let Q : List Entry → Type 0 = λ zs. OfWorld (model_in ys) zs (λ w. w.options.entries ≤ length zs) in
     subst Q all (subst P (sym same) (full_of (model_in xs) es more some full))
 
+-- ---- nothing follows a full log
+
+bounded_of : (m : Model) (o : Option Options) (answer : Reply) (es : List Entry) → IsOpenedRun m o answer es → length es + 1 ≤ (unwrap_or o no_options).entries
+bounded_of m None answer es run = absurd run
+bounded_of m (Some o) answer es run = run.bounded
+
+pub log_is_bounded : (m : Model) (log : List Entry) → Legal m log → length log ≤ (options_of log).entries
+log_is_bounded m [] legal = absurd legal
+log_is_bounded m (first ∷ es) legal = (let le = bounded_of m (options_in first.event) first.reply es legal in omega arith)
+
+none_more : (es more : List Entry) → length (es ++ more) ≤ length es → more ≡ []
+none_more es [] le = refl
+none_more es (e ∷ more) le = absurd (omega (arith, length-append es (e ∷ more), le))
+
+nothing_behind : (m : Model) (es more : List Entry) → Legal m (es ++ more) → 0 < length es → (world_of m es).options.entries ≤ length es → more ≡ []
+nothing_behind m es more legal some full =
+    let same : (options_of (es ++ more)).entries ≡ (world_of m es).options.entries = ap (λ (o : Options). o.entries) (options_on es more some ∙ sym (world_options m es)) in
+    let bound = log_is_bounded m (es ++ more) legal in
+    none_more es more (omega (arith, same, bound, full))
+
+full_in : (m : Model) (o : Option Model) (es : List Entry) → o ≡ Some m → OfWorld o es (λ w. w.options.entries ≤ length es) → (world_of m es).options.entries ≤ length es
+full_in m o es is full =
+    let P : Option Model → Type 0 = λ o. OfWorld o es (λ w. w.options.entries ≤ length es) in
+    subst P is full
+
+pub some_entries : (xs : List Noted) → IsPlan xs → 0 < length (entries_in xs)
+some_entries xs plan = rw (ap entries_in plan.is ∙ entries_in_items plan.model plan.log plan.stopped) (log_is_some plan.model plan.log plan.legal)
+
+-- what goes on from a full log has its entries
+pub full_ends : (xs ys : List Noted) → IsPlan xs → IsPlan ys → IsPrefix xs ys → model_in ys ≡ model_in xs → IsFull xs → entries_in ys ≡ entries_in xs
+full_ends xs ys plan plan2 on same full =
+    let es = entries_in xs in
+    let more = entries_in on.0 in
+    let all : es ++ more ≡ entries_in ys = sym (filter_map-append entry_in xs on.0) ∙ ap entries_in on.1 in
+    let log : entries_in ys ≡ plan2.log = ap entries_in plan2.is ∙ entries_in_items plan2.model plan2.log plan2.stopped in
+    let model : model_in xs ≡ Some plan2.model = sym same ∙ (ap model_in plan2.is ∙ model_in_items plan2.model plan2.log plan2.stopped plan2.legal) in
+    let legal : Legal plan2.model (es ++ more) = subst (λ (zs : List Entry). Legal plan2.model zs) (sym (all ∙ log)) plan2.legal in
+    let none = nothing_behind plan2.model es more legal (some_entries xs plan) (full_in plan2.model (model_in xs) es model full) in
+    sym all ∙ (ap (λ (zs : List Entry). es ++ zs) none ∙ append-nil es)
+
+-- the world is the one after the entries
+pub same_world : (P : World → Type 0) (xs ys : List Noted) → model_in ys ≡ model_in xs → entries_in ys ≡ entries_in xs → InWorld xs P → InWorld ys P
+same_world P xs ys same entries here =
+    let Q : Option Model → Type 0 = λ o. OfWorld o (entries_in xs) P in
+    let R : List Entry → Type 0 = λ zs. OfWorld (model_in ys) zs P in
+    subst R (sym entries) (subst Q (sym same) here)
+
+-- ---- a role has an event in an open round alone
+
+unless_closed : (b d : Bool) (rest : Option Choice) → is_some (if b || d then None else rest) ≡ true → b ≡ false
+unless_closed true d rest is = absurd (cc)
+unless_closed false d rest is = refl
+
+choice_open : (w : World) → is_some (exec_choice_of w) ≡ true → w.closed ≡ false
+unfolding exec_choice_of
+choice_open w is = unless_closed w.closed w.done _ is
+
+open_both : (a b : Bool) → (not a && b) ≡ true → a ≡ false
+open_both true b is = absurd (cc)
+open_both false b is = refl
+
+event_open : (r : Role) (w : World) → has_event r w ≡ true → w.closed ≡ false
+event_open (Planner g) w is = open_both w.closed (not w.rested) is
+event_open Executive w is = choice_open w is
+
+on_world : (P Q : World → Type 0) (o : Option Model) (es : List Entry) → ((w : World) → P w → Q w) → OfWorld o es P → OfWorld o es Q
+on_world P Q None es f h = absurd h
+on_world P Q (Some m) es f h = f (world_of m es) h
+
+pub in_world_on : (P Q : World → Type 0) (xs : List Noted) → ((w : World) → P w → Q w) → InWorld xs P → InWorld xs Q
+in_world_on P Q xs f h = on_world P Q (model_in xs) (entries_in xs) f h
+
+-- an open round whose input has not ended
+abbrev pub IsRunning : World → Type 0
+IsRunning w = (w.closed ≡ false) × (w.done ≡ false)
+
+pub runs_full : (r : Role) (xs ys : List Noted) → IsPlan xs → IsPlan ys → IsPrefix xs ys → model_in ys ≡ model_in xs → IsFull xs → InWorld xs (λ w. (w.done ≡ false) × (has_event r w ≡ true)) → InWorld ys IsRunning
+runs_full r xs ys plan plan2 on same full here =
+    same_world IsRunning xs ys same (full_ends xs ys plan plan2 on same full)
+    (in_world_on (λ w. (w.done ≡ false) × (has_event r w ≡ true)) IsRunning xs (λ w h. (event_open r w h.1, h.0)) here)
+
 -- ---- a refusal, and then the stop
 
-pub worked_until : (start now mid new : PlanPass) (r r2 r3 : Role) (count : ℕ) (s : Stop) → Working start r count now r2 → IsPlan (seen_of mid) → TakesTurn now mid → Acts r2 now (Err s) r3 mid → TakesTurn mid new → Stops mid new
+pub worked_until : (start now mid new : PlanPass) (r r2 r3 : Role) (count : ℕ) (s : Stop) → Working start r count now r2 → IsPlan (seen_of mid) → TakesTurn now mid → Acts r2 now (Err s) r3 mid → IsPlan (seen_of new) → TakesTurn mid new → Stops mid new
     → WorksOn r start (Err s) r3 new
-worked_until start now mid new r r2 r3 count stop.Spoiled so_far plan takes acts takes2 stops =
+worked_until start now mid new r r2 r3 count stop.Spoiled so_far plan takes acts plan2 takes2 stops =
     until start mid new r r3 count (refused start now mid r r2 r3 count so_far takes stop.Spoiled acts) stops
-worked_until start now mid new r r2 r3 count stop.NotNow so_far plan takes acts takes2 stops = absurd acts
-worked_until start now mid new r r2 r3 count stop.LogFull so_far plan takes acts takes2 stops = (
+worked_until start now mid new r r2 r3 count stop.NotNow so_far plan takes acts plan2 takes2 stops = absurd acts
+worked_until start now mid new r r2 r3 count stop.LogFull so_far plan takes acts plan2 takes2 stops = (
   until start mid new r r3 count (refused start now mid r r2 r3 count so_far takes stop.LogFull acts) stops,
   full_on (seen_of mid) (seen_of new) plan takes2.longer takes2.model acts.3,
+  runs_full r2 (seen_of mid) (seen_of new) plan plan2 takes2.longer takes2.model acts.3 acts.1,
 )
-worked_until start now mid new r r2 r3 count stop.Memory so_far plan takes acts takes2 stops =
+worked_until start now mid new r r2 r3 count stop.Memory so_far plan takes acts plan2 takes2 stops =
     until start mid new r r3 count (refused start now mid r r2 r3 count so_far takes stop.Memory acts) stops
 
 pub took_until : (start now mid new : PlanPass) (r r2 r3 : Role) (count : ℕ) (s : Stop) → Working start r count now r2 → TakesTurn now mid → Acts r2 now (Err s) r3 mid → TakesTurn mid new → TakesTurn start new

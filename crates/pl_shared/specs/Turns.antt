@@ -97,10 +97,10 @@ pub record WorksUntil (r : Role) (old : PlanPass) (r2 : Role) (new : PlanPass) :
   pub stopped : stop_in (seen_of new) ≡ true
   pub worker : worker_of r2 ≡ worker_of r
 
--- A count comes only where the plan is over. A refusal stops the plan, and none is NotNow.
+-- A count comes only where the plan is over. A refusal stops the plan, and none is NotNow. Where the log is full the round is open.
 abbrev pub WorksOn : Role → PlanPass → Result ℕ Stop → Role → PlanPass → Type 0
 WorksOn r old (Ok count) r2 new = Works r old count r2 new × IsOver (seen_of new)
 WorksOn r old (Err stop.NotNow) r2 new = ⊥
-WorksOn r old (Err stop.LogFull) r2 new = WorksUntil r old r2 new × IsFull (seen_of new)
+WorksOn r old (Err stop.LogFull) r2 new = WorksUntil r old r2 new × IsFull (seen_of new) × InWorld (seen_of new) (λ w. (w.closed ≡ false) × (w.done ≡ false))
 WorksOn r old (Err stop.Spoiled) r2 new = WorksUntil r old r2 new
 WorksOn r old (Err stop.Memory) r2 new = WorksUntil r old r2 new

@@ -110,6 +110,13 @@ impl SharedPlan {
         acted
     }
 
+    /// Rings where an entry was made.
+    fn tell<R: Wait>(&self, rt: &R, acted: &Result<Acted, Stop>) {
+        if let Ok(Acted::Did(_)) = acted {
+            self.bell.ring(rt);
+        }
+    }
+
     /// Makes the event that the role has, if it has one, in one turn.
     pub fn act<R: Wait>(
         &self,
@@ -124,7 +131,7 @@ impl SharedPlan {
         ensures acts { Acts role.old pass.old result role.new pass.new }
     {
         let acted = self.act_once(rt, pass, role);
-        self.bell.ring(rt);
+        self.tell(rt, &acted);
         acted
     }
 }

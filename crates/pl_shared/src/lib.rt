@@ -16,6 +16,7 @@ mod role;
 mod sharing;
 mod stopping;
 mod turns;
+mod waiting;
 mod working;
 
 pub use held::Held;

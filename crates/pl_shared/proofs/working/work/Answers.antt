@@ -18,4 +18,4 @@ loop-preserved-in-Ok-Did g c = (
 pub returns-in-Err-clause-works : goal.returns-in-Err-clause-works
 returns-in-Err-clause-works g c =
     worked_until c.args.pass.now c.loop.pass c.work_once.new.pass c.stop.new.pass c.args.role.now c.loop.role c.work_once.new.role c.loop.acts c.in-Err.stop c.loop.invariant.1 c.work_once.ensures.own.seen
-    c.work_once.ensures.takes c.in-Err.ensures.acts c.stop.ensures.takes c.stop.ensures.stops
+    c.work_once.ensures.takes c.in-Err.ensures.acts c.stop.ensures.own.seen c.stop.ensures.takes c.stop.ensures.stops
