@@ -19,8 +19,8 @@ use Rattle.pl_stream.specs.Stops.{IsStuck}
 use Rattle.pl_main.specs.Top.{line_limit, total_limit, program_options, IsDone, IsNoModel, no_begin, faulty, WaitsBehind, IsPastLimit, IsFull, IsFound, IsPastHead}
 use Rattle.pl_report.specs.Demonstration.{demo_text}
 use Rattle.pl_main.specs.Demos.{demo_turns, IsShown, IsShownInPart, HasNoDemo, CanShow}
-use Rattle.pl_main.specs.Limits.{IsWithinLimits, CanRun, CanCheck, IsDoneBy, Completes}
-use Rattle.pl_main.specs.Statuses.{SaysRan, SaysChecked, SaysShown, SaysKnown, IsSoloStatus, is_done, is_refused, is_read, is_write, is_limit, is_full, is_memory}
+use Rattle.pl_main.specs.Limits.{IsWithinLimits, CanRun, CanCheck, IsDoneBy}
+use Rattle.pl_main.specs.Statuses.{SaysRan, SaysChecked, SaysShown, IsSoloStatus, is_done, is_refused, is_read, is_write, is_limit, is_full, is_wrong, is_memory}
 use Rattle.pl_stream.proofs.Reading.{gave_lines}
 use Rattle.pl_main.proofs.Playing.{messages_append, not_single}
 use Rattle.pl_stream.proofs.Comparing.{end_is_no_limit, goes_on, all_or_stuck}
@@ -245,6 +245,7 @@ run_completes turns input left held now status says (is_read e) can no_read no_w
 run_completes turns input left held now status says (is_write e) can no_read no_write = absurd (no_write e)
 run_completes turns input left held now status says (is_limit e) can no_read no_write = absurd (can.no_limit held now (says.limit e))
 run_completes turns input left held now status says (is_full e) can no_read no_write = inr (inl e)
+run_completes turns input left held now status says (is_wrong e) can no_read no_write = absurd (says.never_wrong e)
 run_completes turns input left held now status says (is_memory e) can no_read no_write = inr (inr e)
 
 pub check_completes : (input : List ℕ) (left held now : Option (List ℕ)) (status : ℕ) → SaysChecked input left held now status → IsSoloStatus status → CanCheck input
@@ -255,6 +256,7 @@ check_completes input left held now status says (is_read e) can no_read no_write
 check_completes input left held now status says (is_write e) can no_read no_write = absurd (no_write e)
 check_completes input left held now status says (is_limit e) can no_read no_write = absurd (can.no_limit held now (says.limit e))
 check_completes input left held now status says (is_full e) can no_read no_write = absurd (says.never_full e)
+check_completes input left held now status says (is_wrong e) can no_read no_write = absurd (says.never_wrong e)
 check_completes input left held now status says (is_memory e) can no_read no_write = inr e
 
 -- ---- a demonstration
@@ -277,14 +279,5 @@ demo_completes goals held now status says (is_read e) can no_write = absurd (say
 demo_completes goals held now status says (is_write e) can no_write = absurd (no_write e)
 demo_completes goals held now status says (is_limit e) can no_write = absurd (says.never_limit e)
 demo_completes goals held now status says (is_full e) can no_write = inr (inl e)
+demo_completes goals held now status says (is_wrong e) can no_write = absurd (says.never_wrong e)
 demo_completes goals held now status says (is_memory e) can no_write = inr (inr e)
-
--- ---- any job
-
-pub completes : (t : Task) (input : Option (List ℕ)) (left held now : Option (List ℕ)) (status : ℕ) → SaysKnown t input left held now status → IsSoloStatus status → (status ≡ 4 → ⊥) → (status ≡ 5 → ⊥)
-    → Completes t input status
-completes (task.Solo turns) None left held now status says is no_read no_write = tt
-completes task.Check None left held now status says is no_read no_write = tt
-completes (task.Solo turns) (Some input) left held now status says is no_read no_write = λ can. run_completes turns input left held now status says is can no_read no_write
-completes task.Check (Some input) left held now status says is no_read no_write = λ can. check_completes input left held now status says is can no_read no_write
-completes (task.Demo goals) input left held now status says is no_read no_write = λ can. demo_completes goals held now status says is can no_write

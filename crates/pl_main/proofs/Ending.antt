@@ -23,7 +23,7 @@ use Rattle.pl_stream.specs.declared.halt.Halt.{Halt}
 use Rattle.pl_stream.specs.declared.halt.Halt.TheVariants as halt
 use Rattle.pl_main.specs.declared.outcome.Outcome.{Outcome}
 use Rattle.pl_main.specs.declared.outcome.Outcome.TheVariants as outcome
-use Rattle.pl_stream.specs.Reads.{Gave, IsUsedUp, AreBlank}
+use Rattle.pl_stream.specs.Reads.{Gave, GaveKnown, IsUsedUp, AreBlank}
 use Rattle.pl_stream.specs.Stops.{HaltFor, StopsBy}
 use Rattle.pl_stream.specs.Waits.{MessageGives}
 use Rattle.pl_stream.specs.Heads.{IsHead, IsBegun, HasNoBegin, HeadHalts}

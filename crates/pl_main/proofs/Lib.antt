@@ -7,7 +7,10 @@ pub mod Ending
 pub mod Checking
 pub mod Showing
 pub mod Summing
+pub mod Replaying
 pub mod Topping
 pub mod OneInput
 pub mod OneLog
 pub mod Causes
+pub mod Apart
+pub mod Completing

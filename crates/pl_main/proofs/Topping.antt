@@ -14,38 +14,61 @@ use Rattle.pl_stream.specs.declared.halt.Halt.{Halt}
 use Rattle.pl_stream.specs.declared.halt.Halt.TheVariants as halt
 use Rattle.pl_main.specs.declared.outcome.Outcome.{Outcome}
 use Rattle.pl_main.specs.declared.outcome.Outcome.TheVariants as outcome
-use Rattle.pl_main.specs.Statuses.{IsTask, status_of, SaysKnown, IsSoloStatus, is_done, is_refused, is_read, is_write, is_limit, is_full, is_memory}
+use Rattle.pl_main.specs.declared.form.Form.{Form}
+use Rattle.pl_main.specs.declared.form.Form.TheVariants as which
+use Rattle.pl_main.specs.declared.judgement.Judgement.{Judgement}
+use Rattle.pl_main.specs.declared.judgement.Judgement.TheVariants as judged
+use Rattle.pl_main.specs.Replays.{ReadsBack, ReadsBackKnown}
+use Rattle.pl_main.specs.Statuses.{IsTask, status_of, status_of_journal, SaysReadBack, SaysKnown, IsSoloStatus, is_done, is_refused, is_read, is_write, is_limit, is_full, is_wrong, is_memory}
 use Rattle.pl_main.specs.Demos.{Shows}
 use Rattle.pl_main.specs.Top.{RanKnown, ChecksKnown}
 
 pub says_of : (turns : ℕ) (input source_left held now : Option (List ℕ)) (r : Result Outcome Halt) → RanKnown turns input source_left held now r → SaysKnown (task.Solo turns) input source_left held now (status_of r)
 says_of turns None source_left held now r ran = tt
-says_of turns (Some input) source_left held now (Ok outcome.Done) ran = record { done = λ e. ran; refused = λ e. absurd (omega (arith, e)); read_fault = λ e. absurd (omega (arith, e)); limit = λ e. absurd (omega (arith, e)); full = λ e. absurd (omega (arith, e)) }
-says_of turns (Some input) source_left held now (Ok outcome.Refused) ran = record { done = λ e. absurd (omega (arith, e)); refused = λ e. ran; read_fault = λ e. absurd (omega (arith, e)); limit = λ e. absurd (omega (arith, e)); full = λ e. absurd (omega (arith, e)) }
-says_of turns (Some input) source_left held now (Err halt.Limit) ran = record { done = λ e. absurd (omega (arith, e)); refused = λ e. absurd (omega (arith, e)); read_fault = λ e. absurd (omega (arith, e)); limit = λ e. ran; full = λ e. absurd (omega (arith, e)) }
-says_of turns (Some input) source_left held now (Err halt.Full) ran = record { done = λ e. absurd (omega (arith, e)); refused = λ e. absurd (omega (arith, e)); read_fault = λ e. absurd (omega (arith, e)); limit = λ e. absurd (omega (arith, e)); full = λ e. ran }
-says_of turns (Some input) source_left held now (Err halt.Read) ran = record { done = λ e. absurd (omega (arith, e)); refused = λ e. absurd (omega (arith, e)); read_fault = λ e. ran; limit = λ e. absurd (omega (arith, e)); full = λ e. absurd (omega (arith, e)) }
-says_of turns (Some input) source_left held now (Err halt.Write) ran = record { done = λ e. absurd (omega (arith, e)); refused = λ e. absurd (omega (arith, e)); read_fault = λ e. absurd (omega (arith, e)); limit = λ e. absurd (omega (arith, e)); full = λ e. absurd (omega (arith, e)) }
-says_of turns (Some input) source_left held now (Err halt.Memory) ran = record { done = λ e. absurd (omega (arith, e)); refused = λ e. absurd (omega (arith, e)); read_fault = λ e. absurd (omega (arith, e)); limit = λ e. absurd (omega (arith, e)); full = λ e. absurd (omega (arith, e)) }
+says_of turns (Some input) source_left held now (Ok outcome.Done) ran = record { done = λ e. ran; refused = λ e. absurd (omega (arith, e)); read_fault = λ e. absurd (omega (arith, e)); limit = λ e. absurd (omega (arith, e)); full = λ e. absurd (omega (arith, e)); never_wrong = λ e. omega (arith, e) }
+says_of turns (Some input) source_left held now (Ok outcome.Refused) ran = record { done = λ e. absurd (omega (arith, e)); refused = λ e. ran; read_fault = λ e. absurd (omega (arith, e)); limit = λ e. absurd (omega (arith, e)); full = λ e. absurd (omega (arith, e)); never_wrong = λ e. omega (arith, e) }
+says_of turns (Some input) source_left held now (Err halt.Limit) ran = record { done = λ e. absurd (omega (arith, e)); refused = λ e. absurd (omega (arith, e)); read_fault = λ e. absurd (omega (arith, e)); limit = λ e. ran; full = λ e. absurd (omega (arith, e)); never_wrong = λ e. omega (arith, e) }
+says_of turns (Some input) source_left held now (Err halt.Full) ran = record { done = λ e. absurd (omega (arith, e)); refused = λ e. absurd (omega (arith, e)); read_fault = λ e. absurd (omega (arith, e)); limit = λ e. absurd (omega (arith, e)); full = λ e. ran; never_wrong = λ e. omega (arith, e) }
+says_of turns (Some input) source_left held now (Err halt.Read) ran = record { done = λ e. absurd (omega (arith, e)); refused = λ e. absurd (omega (arith, e)); read_fault = λ e. ran; limit = λ e. absurd (omega (arith, e)); full = λ e. absurd (omega (arith, e)); never_wrong = λ e. omega (arith, e) }
+says_of turns (Some input) source_left held now (Err halt.Write) ran = record { done = λ e. absurd (omega (arith, e)); refused = λ e. absurd (omega (arith, e)); read_fault = λ e. absurd (omega (arith, e)); limit = λ e. absurd (omega (arith, e)); full = λ e. absurd (omega (arith, e)); never_wrong = λ e. omega (arith, e) }
+says_of turns (Some input) source_left held now (Err halt.Memory) ran = record { done = λ e. absurd (omega (arith, e)); refused = λ e. absurd (omega (arith, e)); read_fault = λ e. absurd (omega (arith, e)); limit = λ e. absurd (omega (arith, e)); full = λ e. absurd (omega (arith, e)); never_wrong = λ e. omega (arith, e) }
 
 pub says_checked : (input source_left held now : Option (List ℕ)) (r : Result Outcome Halt) → ChecksKnown input source_left held now r → SaysKnown task.Check input source_left held now (status_of r)
 says_checked None source_left held now r ran = tt
-says_checked (Some input) source_left held now (Ok outcome.Done) ran = record { done = λ e. ran; refused = λ e. absurd (omega (arith, e)); read_fault = λ e. absurd (omega (arith, e)); limit = λ e. absurd (omega (arith, e)); never_full = λ e. absurd (omega (arith, e)) }
-says_checked (Some input) source_left held now (Ok outcome.Refused) ran = record { done = λ e. absurd (omega (arith, e)); refused = λ e. ran; read_fault = λ e. absurd (omega (arith, e)); limit = λ e. absurd (omega (arith, e)); never_full = λ e. absurd (omega (arith, e)) }
-says_checked (Some input) source_left held now (Err halt.Limit) ran = record { done = λ e. absurd (omega (arith, e)); refused = λ e. absurd (omega (arith, e)); read_fault = λ e. absurd (omega (arith, e)); limit = λ e. ran; never_full = λ e. absurd (omega (arith, e)) }
-says_checked (Some input) source_left held now (Err halt.Read) ran = record { done = λ e. absurd (omega (arith, e)); refused = λ e. absurd (omega (arith, e)); read_fault = λ e. ran; limit = λ e. absurd (omega (arith, e)); never_full = λ e. absurd (omega (arith, e)) }
-says_checked (Some input) source_left held now (Err halt.Write) ran = record { done = λ e. absurd (omega (arith, e)); refused = λ e. absurd (omega (arith, e)); read_fault = λ e. absurd (omega (arith, e)); limit = λ e. absurd (omega (arith, e)); never_full = λ e. absurd (omega (arith, e)) }
-says_checked (Some input) source_left held now (Err halt.Memory) ran = record { done = λ e. absurd (omega (arith, e)); refused = λ e. absurd (omega (arith, e)); read_fault = λ e. absurd (omega (arith, e)); limit = λ e. absurd (omega (arith, e)); never_full = λ e. absurd (omega (arith, e)) }
+says_checked (Some input) source_left held now (Ok outcome.Done) ran = record { done = λ e. ran; refused = λ e. absurd (omega (arith, e)); read_fault = λ e. absurd (omega (arith, e)); limit = λ e. absurd (omega (arith, e)); never_full = λ e. absurd (omega (arith, e)); never_wrong = λ e. omega (arith, e) }
+says_checked (Some input) source_left held now (Ok outcome.Refused) ran = record { done = λ e. absurd (omega (arith, e)); refused = λ e. ran; read_fault = λ e. absurd (omega (arith, e)); limit = λ e. absurd (omega (arith, e)); never_full = λ e. absurd (omega (arith, e)); never_wrong = λ e. omega (arith, e) }
+says_checked (Some input) source_left held now (Err halt.Limit) ran = record { done = λ e. absurd (omega (arith, e)); refused = λ e. absurd (omega (arith, e)); read_fault = λ e. absurd (omega (arith, e)); limit = λ e. ran; never_full = λ e. absurd (omega (arith, e)); never_wrong = λ e. omega (arith, e) }
+says_checked (Some input) source_left held now (Err halt.Read) ran = record { done = λ e. absurd (omega (arith, e)); refused = λ e. absurd (omega (arith, e)); read_fault = λ e. ran; limit = λ e. absurd (omega (arith, e)); never_full = λ e. absurd (omega (arith, e)); never_wrong = λ e. omega (arith, e) }
+says_checked (Some input) source_left held now (Err halt.Write) ran = record { done = λ e. absurd (omega (arith, e)); refused = λ e. absurd (omega (arith, e)); read_fault = λ e. absurd (omega (arith, e)); limit = λ e. absurd (omega (arith, e)); never_full = λ e. absurd (omega (arith, e)); never_wrong = λ e. omega (arith, e) }
+says_checked (Some input) source_left held now (Err halt.Memory) ran = record { done = λ e. absurd (omega (arith, e)); refused = λ e. absurd (omega (arith, e)); read_fault = λ e. absurd (omega (arith, e)); limit = λ e. absurd (omega (arith, e)); never_full = λ e. absurd (omega (arith, e)); never_wrong = λ e. omega (arith, e) }
 says_checked (Some input) source_left held now (Err halt.Full) ran = absurd ran
 
 pub says_shown : (goals : ℕ) (input source_left held now : Option (List ℕ)) (r : Result Outcome Halt) → Shows goals held now r → SaysKnown (task.Demo goals) input source_left held now (status_of r)
-says_shown goals input source_left held now (Ok outcome.Done) shows = record { done = λ e. shows; refused = λ e. absurd (omega (arith, e)); never_read = λ e. omega (arith, e); short = λ e. absurd (omega (arith, e)); never_limit = λ e. omega (arith, e); full = λ e. absurd (omega (arith, e)); silent = λ e. absurd (omega (arith, e)) }
-says_shown goals input source_left held now (Ok outcome.Refused) shows = record { done = λ e. absurd (omega (arith, e)); refused = λ e. shows; never_read = λ e. omega (arith, e); short = λ e. absurd (omega (arith, e)); never_limit = λ e. omega (arith, e); full = λ e. absurd (omega (arith, e)); silent = λ e. absurd (omega (arith, e)) }
-says_shown goals input source_left held now (Err halt.Full) shows = record { done = λ e. absurd (omega (arith, e)); refused = λ e. absurd (omega (arith, e)); never_read = λ e. omega (arith, e); short = λ e. absurd (omega (arith, e)); never_limit = λ e. omega (arith, e); full = λ e. shows; silent = λ e. absurd (omega (arith, e)) }
-says_shown goals input source_left held now (Err halt.Write) shows = record { done = λ e. absurd (omega (arith, e)); refused = λ e. absurd (omega (arith, e)); never_read = λ e. omega (arith, e); short = λ e. shows; never_limit = λ e. omega (arith, e); full = λ e. absurd (omega (arith, e)); silent = λ e. absurd (omega (arith, e)) }
-says_shown goals input source_left held now (Err halt.Memory) shows = record { done = λ e. absurd (omega (arith, e)); refused = λ e. absurd (omega (arith, e)); never_read = λ e. omega (arith, e); short = λ e. absurd (omega (arith, e)); never_limit = λ e. omega (arith, e); full = λ e. absurd (omega (arith, e)); silent = λ e. shows }
+says_shown goals input source_left held now (Ok outcome.Done) shows = record { done = λ e. shows; refused = λ e. absurd (omega (arith, e)); never_read = λ e. omega (arith, e); short = λ e. absurd (omega (arith, e)); never_limit = λ e. omega (arith, e); full = λ e. absurd (omega (arith, e)); silent = λ e. absurd (omega (arith, e)); never_wrong = λ e. omega (arith, e) }
+says_shown goals input source_left held now (Ok outcome.Refused) shows = record { done = λ e. absurd (omega (arith, e)); refused = λ e. shows; never_read = λ e. omega (arith, e); short = λ e. absurd (omega (arith, e)); never_limit = λ e. omega (arith, e); full = λ e. absurd (omega (arith, e)); silent = λ e. absurd (omega (arith, e)); never_wrong = λ e. omega (arith, e) }
+says_shown goals input source_left held now (Err halt.Full) shows = record { done = λ e. absurd (omega (arith, e)); refused = λ e. absurd (omega (arith, e)); never_read = λ e. omega (arith, e); short = λ e. absurd (omega (arith, e)); never_limit = λ e. omega (arith, e); full = λ e. shows; silent = λ e. absurd (omega (arith, e)); never_wrong = λ e. omega (arith, e) }
+says_shown goals input source_left held now (Err halt.Write) shows = record { done = λ e. absurd (omega (arith, e)); refused = λ e. absurd (omega (arith, e)); never_read = λ e. omega (arith, e); short = λ e. shows; never_limit = λ e. omega (arith, e); full = λ e. absurd (omega (arith, e)); silent = λ e. absurd (omega (arith, e)); never_wrong = λ e. omega (arith, e) }
+says_shown goals input source_left held now (Err halt.Memory) shows = record { done = λ e. absurd (omega (arith, e)); refused = λ e. absurd (omega (arith, e)); never_read = λ e. omega (arith, e); short = λ e. absurd (omega (arith, e)); never_limit = λ e. omega (arith, e); full = λ e. absurd (omega (arith, e)); silent = λ e. shows; never_wrong = λ e. omega (arith, e) }
 says_shown goals input source_left held now (Err halt.Limit) shows = absurd shows
 says_shown goals input source_left held now (Err halt.Read) shows = absurd shows
+
+reads_back : (form : Form) (input : List ℕ) (source_left held now : Option (List ℕ)) (r : Result Judgement Halt) → ReadsBack form input source_left held now r → SaysReadBack form input source_left held now (status_of_journal r)
+reads_back form input source_left held now (Ok judged.Right) read = record { done = λ e. read; refused = λ e. absurd (omega (arith, e)); read_fault = λ e. absurd (omega (arith, e)); short = λ e. absurd (omega (arith, e)); limit = λ e. absurd (omega (arith, e)); never_full = λ e. omega (arith, e); wrong = λ e. absurd (omega (arith, e)); silent = λ e. absurd (omega (arith, e)) }
+reads_back form input source_left held now (Ok judged.Refused) read = record { done = λ e. absurd (omega (arith, e)); refused = λ e. read; read_fault = λ e. absurd (omega (arith, e)); short = λ e. absurd (omega (arith, e)); limit = λ e. absurd (omega (arith, e)); never_full = λ e. omega (arith, e); wrong = λ e. absurd (omega (arith, e)); silent = λ e. absurd (omega (arith, e)) }
+reads_back form input source_left held now (Ok judged.Wrong) read = record { done = λ e. absurd (omega (arith, e)); refused = λ e. absurd (omega (arith, e)); read_fault = λ e. absurd (omega (arith, e)); short = λ e. absurd (omega (arith, e)); limit = λ e. absurd (omega (arith, e)); never_full = λ e. omega (arith, e); wrong = λ e. read; silent = λ e. absurd (omega (arith, e)) }
+reads_back form input source_left held now (Err halt.Read) read = record { done = λ e. absurd (omega (arith, e)); refused = λ e. absurd (omega (arith, e)); read_fault = λ e. read; short = λ e. absurd (omega (arith, e)); limit = λ e. absurd (omega (arith, e)); never_full = λ e. omega (arith, e); wrong = λ e. absurd (omega (arith, e)); silent = λ e. absurd (omega (arith, e)) }
+reads_back form input source_left held now (Err halt.Write) read = record { done = λ e. absurd (omega (arith, e)); refused = λ e. absurd (omega (arith, e)); read_fault = λ e. absurd (omega (arith, e)); short = λ e. read; limit = λ e. absurd (omega (arith, e)); never_full = λ e. omega (arith, e); wrong = λ e. absurd (omega (arith, e)); silent = λ e. absurd (omega (arith, e)) }
+reads_back form input source_left held now (Err halt.Limit) read = record { done = λ e. absurd (omega (arith, e)); refused = λ e. absurd (omega (arith, e)); read_fault = λ e. absurd (omega (arith, e)); short = λ e. absurd (omega (arith, e)); limit = λ e. read; never_full = λ e. omega (arith, e); wrong = λ e. absurd (omega (arith, e)); silent = λ e. absurd (omega (arith, e)) }
+reads_back form input source_left held now (Err halt.Memory) read = record { done = λ e. absurd (omega (arith, e)); refused = λ e. absurd (omega (arith, e)); read_fault = λ e. absurd (omega (arith, e)); short = λ e. absurd (omega (arith, e)); limit = λ e. absurd (omega (arith, e)); never_full = λ e. omega (arith, e); wrong = λ e. absurd (omega (arith, e)); silent = λ e. read }
+reads_back form input source_left held now (Err halt.Full) read = absurd read
+
+pub says_replayed : (input source_left held now : Option (List ℕ)) (r : Result Judgement Halt) → ReadsBackKnown which.Replay input source_left held now r → SaysKnown task.Replay input source_left held now (status_of_journal r)
+says_replayed None source_left held now r read = tt
+says_replayed (Some input) source_left held now r read = reads_back which.Replay input source_left held now r read
+
+pub says_reported : (input source_left held now : Option (List ℕ)) (r : Result Judgement Halt) → ReadsBackKnown which.Report input source_left held now r → SaysKnown task.Report input source_left held now (status_of_journal r)
+says_reported None source_left held now r read = tt
+says_reported (Some input) source_left held now r read = reads_back which.Report input source_left held now r read
 
 pub status_is : (r : Result Outcome Halt) → IsSoloStatus (status_of r)
 status_is (Ok outcome.Done) = is_done refl
@@ -55,6 +78,12 @@ status_is (Err halt.Write) = is_write refl
 status_is (Err halt.Limit) = is_limit refl
 status_is (Err halt.Full) = is_full refl
 status_is (Err halt.Memory) = is_memory refl
+
+pub journal_status_is : (r : Result Judgement Halt) → IsSoloStatus (status_of_journal r)
+journal_status_is (Ok judged.Right) = is_done refl
+journal_status_is (Ok judged.Refused) = is_refused refl
+journal_status_is (Ok judged.Wrong) = is_wrong refl
+journal_status_is (Err e) = status_is (Err e)
 
 -- ---- the words
 
@@ -74,11 +103,17 @@ by_form : (b : Bool) (n : Option ℕ) (t : Task) → (if b then turns_by n else 
 by_form true n t e = by_turns n t e
 by_form false n t e = absurd (let h : None ≡ Some (command.Alone t) = e in (cc))
 
-by_check : (b : Bool) (t : Task) → (if b then Some (command.Alone task.Check) else None) ≡ Some (command.Alone t) → IsTask t
-by_check true t e =
-    let is : task.Check ≡ t = (let h : Some (command.Alone task.Check) ≡ Some (command.Alone t) = e in (cc)) in
-    subst (λ (x : Task). IsTask x) is tt
-by_check false t e = absurd (let h : None ≡ Some (command.Alone t) = e in (cc))
+the_task : (a t : Task) → IsTask a → Some (command.Alone a) ≡ Some (command.Alone t) → IsTask t
+the_task a t is e =
+    let same : a ≡ t = (let h : Some (command.Alone a) ≡ Some (command.Alone t) = e in (cc)) in
+    subst (λ (x : Task). IsTask x) same is
+
+by_single : (a b c : Bool) (t : Task)
+    → (if a then Some (command.Alone task.Check) else if b then Some (command.Alone task.Replay) else if c then Some (command.Alone task.Report) else None) ≡ Some (command.Alone t) → IsTask t
+by_single true b c t e = the_task task.Check t tt e
+by_single false true c t e = the_task task.Replay t tt e
+by_single false false true t e = the_task task.Report t tt e
+by_single false false false t e = absurd (let h : None ≡ Some (command.Alone t) = e in (cc))
 
 by_goal_bounds : (n : ℕ) (a b : Bool) → nat_le 1 n ≡ a → nat_le n 4000 ≡ b → (t : Task) → (if a && b then Some (command.Alone (task.Demo n)) else None) ≡ Some (command.Alone t) → IsTask t
 by_goal_bounds n true true low high t e =
@@ -98,7 +133,7 @@ by_demo false n t e = absurd (let h : None ≡ Some (command.Alone t) = e in (cc
 
 by_words : (ws : List (List ℕ)) (t : Task) → command_in ws ≡ Some (command.Alone t) → IsTask t
 by_words [] t e = absurd (let h : None ≡ Some (command.Alone t) = e in (cc))
-by_words (a ∷ []) t e = by_check (bytes_eq a (codes "check")) t e
+by_words (a ∷ []) t e = by_single (bytes_eq a (codes "check")) (bytes_eq a (codes "replay")) (bytes_eq a (codes "report")) t e
 by_words (a ∷ n ∷ []) t e = by_demo (bytes_eq a (codes "demo")) (number_in n) t e
 by_words (a ∷ b ∷ n ∷ []) t e = by_form (bytes_eq a (codes "run") && bytes_eq b (codes "solo")) (number_in n) t e
 by_words (a ∷ b ∷ n ∷ d ∷ ds) t e = absurd (let h : None ≡ Some (command.Alone t) = e in (cc))

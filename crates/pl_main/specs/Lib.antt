@@ -6,5 +6,6 @@ pub mod Plays
 pub mod Top
 pub mod Runs
 pub mod Demos
+pub mod Replays
 pub mod Limits
 pub mod Statuses

@@ -1,12 +1,16 @@
 -- The inputs whose jobs are done.
-use Rattle.std.specs.Prelude.{◌≡◌, ℕ, ◌≤◌, ◌⊎◌, List, length, All, Option, Some, IfSome}
+use Rattle.std.specs.Prelude.{◌≡◌, ℕ, ◌≤◌, ◌⊎◌, List, [], ◌++◌, length, All, Option, Some, IfSome}
 use Rattle.pl_io.specs.Lines.{lines_of}
 use Rattle.pl_model.specs.declared.whole.Model.{Model}
-use Rattle.pl_machine.specs.Lines.{split_of}
+use Rattle.pl_entry.specs.declared.entry.Entry.{Entry}
+use Rattle.pl_machine.specs.Lines.{lines_behind, split_of}
 use Rattle.pl_accept.specs.Accepting.{IsModelText}
+use Rattle.pl_replay.specs.declared.verdict.Verdict.{Verdict}
+use Rattle.pl_replay.specs.Journals.{entry_lines, IsJournalOf, IsWrongAtLast}
 use Rattle.pl_main.specs.declared.command.Task.{Task}
 use Rattle.pl_main.specs.declared.command.Task.TheVariants as task
 use Rattle.pl_main.specs.Demos.{CanShow}
+use Rattle.pl_main.specs.Replays.{IsPastJournal}
 use Rattle.pl_main.specs.Top.{line_limit, total_limit, IsPastLimit, IsPastHead}
 
 -- Each line is within the line limit, and the input within the total limit.
@@ -30,15 +34,47 @@ pub record CanCheck (input : List ℕ) : Type 0 where
   pub accepted : IsModelText words model
   pub no_limit : (held now : Option (List ℕ)) → IsPastHead line_limit input held now → ⊥
 
+-- The input begins with the text of a model, the lines behind it that are not blank are those of a legal log, and no line passes a limit.
+pub record HasRightJournal (input : List ℕ) : Type 0 where
+  pub words : List ℕ
+  pub model : Model
+  pub log : List Entry
+  pub text : (split_of input).text ≡ Some words
+  pub accepted : IsModelText words model
+  pub journal : IsJournalOf model (entry_lines (lines_behind (lines_of input))) log
+  pub no_limit : (held now : Option (List ℕ)) → IsPastJournal input held now → ⊥
+
+-- Behind the text of a model there is no entry, or one is wrong: the lines up to it, and the verdict. No line that is asked for passes a limit.
+pub record HasWrongJournal (input : List ℕ) : Type 0 where
+  pub words : List ℕ
+  pub model : Model
+  pub front : List (List ℕ)
+  pub more : List (List ℕ)
+  pub verdict : Verdict
+  pub text : (split_of input).text ≡ Some words
+  pub accepted : IsModelText words model
+  pub lines : entry_lines (lines_behind (lines_of input)) ≡ front ++ more
+  pub wrong : ((front ≡ []) × (more ≡ [])) ⊎ IsWrongAtLast model front verdict
+  pub no_limit : (held now : Option (List ℕ)) → IsPastJournal input held now → ⊥
+
 -- The job is done, or memory is wanting, or, for a run, the log is full.
 abbrev pub IsDoneBy : Task → ℕ → Type 0
 IsDoneBy (task.Solo turns) status = (status ≡ 0) ⊎ ((status ≡ 7) ⊎ (status ≡ 9))
 IsDoneBy task.Check status = (status ≡ 0) ⊎ (status ≡ 9)
+IsDoneBy task.Replay status = (status ≡ 0) ⊎ (status ≡ 9)
+IsDoneBy task.Report status = (status ≡ 0) ⊎ (status ≡ 9)
 IsDoneBy (task.Demo goals) status = (status ≡ 0) ⊎ ((status ≡ 7) ⊎ (status ≡ 9))
+
+-- what the journal is decides between 0 and 8, but for want of memory
+pub record Decides (input : List ℕ) (status : ℕ) : Type 0 where
+  pub right : HasRightJournal input → (status ≡ 0) ⊎ (status ≡ 9)
+  pub wrong : HasWrongJournal input → (status ≡ 8) ⊎ (status ≡ 9)
 
 -- a job that can be done is done, where the input's bytes are known, if the task reads them
 abbrev pub Completes : Task → Option (List ℕ) → ℕ → Type 0
 Completes (task.Solo turns) input status =
     IfSome input (λ bytes. CanRun turns bytes → IsDoneBy (task.Solo turns) status)
 Completes task.Check input status = IfSome input (λ bytes. CanCheck bytes → IsDoneBy task.Check status)
+Completes task.Replay input status = IfSome input (λ bytes. Decides bytes status)
+Completes task.Report input status = IfSome input (λ bytes. Decides bytes status)
 Completes (task.Demo goals) input status = CanShow goals → IsDoneBy (task.Demo goals) status

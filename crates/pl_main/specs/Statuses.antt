@@ -6,10 +6,15 @@ use Rattle.pl_stream.specs.declared.halt.Halt.{Halt}
 use Rattle.pl_stream.specs.declared.halt.Halt.TheVariants as halt
 use Rattle.pl_main.specs.declared.outcome.Outcome.{Outcome}
 use Rattle.pl_main.specs.declared.outcome.Outcome.TheVariants as outcome
+use Rattle.pl_main.specs.declared.form.Form.{Form}
+use Rattle.pl_main.specs.declared.form.Form.TheVariants as which
+use Rattle.pl_main.specs.declared.judgement.Judgement.{Judgement}
+use Rattle.pl_main.specs.declared.judgement.Judgement.TheVariants as judged
+use Rattle.pl_main.specs.Replays.{journal_line_limit, IsRightJournal, IsWrongJournal, IsPastJournal, IsJournalFault, IsJournalShort}
 use Rattle.pl_main.specs.Top.{line_limit, IsDone, IsReadFault, IsPastLimit, IsFull, IsFound, IsNoModel, IsHeadFault, IsPastHead}
 use Rattle.pl_main.specs.Demos.{IsShown, IsShownInPart, IsShownShort, HasNoDemo}
 
--- 0 done, 3 the model is refused, 4 a read failed, 5 a write failed, 6 a line or the input is too long, 7 the log is full, 9 memory
+-- 0 done, 3 the model is refused, 4 a read failed, 5 a write failed, 6 a line or the input is too long, 7 the log is full, 8 the journal is wrong, 9 memory
 abbrev pub status_of : Result Outcome Halt → ℕ
 status_of (Ok outcome.Done) = 0
 status_of (Ok outcome.Refused) = 3
@@ -19,9 +24,18 @@ status_of (Err halt.Limit) = 6
 status_of (Err halt.Full) = 7
 status_of (Err halt.Memory) = 9
 
+-- the same where a journal is read, with 8 where it is wrong
+abbrev pub status_of_journal : Result Judgement Halt → ℕ
+status_of_journal (Ok judged.Right) = 0
+status_of_journal (Ok judged.Refused) = 3
+status_of_journal (Ok judged.Wrong) = 8
+status_of_journal (Err e) = status_of (Err e)
+
 abbrev pub IsTask : Task → Type 0
 IsTask (task.Solo turns) = (1 ≤ turns) × (turns ≤ 1000)
 IsTask task.Check = ⊤
+IsTask task.Replay = ⊤
+IsTask task.Report = ⊤
 IsTask (task.Demo goals) = (1 ≤ goals) × (goals ≤ 4000)
 
 -- What the status of a run says where the input's bytes are known. Only what was written needs those of the sink.
@@ -32,6 +46,7 @@ pub record SaysRan (turns : ℕ) (input : List ℕ) (source_left held now : Opti
   pub read_fault : status ≡ 4 → IsReadFault turns input held now
   pub limit : status ≡ 6 → IsPastLimit turns input held now
   pub full : status ≡ 7 → IsFull turns input source_left held now
+  pub never_wrong : status ≡ 8 → ⊥
 
 -- what the status of a check says
 pub record SaysChecked (input : List ℕ) (source_left held now : Option (List ℕ)) (status : ℕ)
@@ -41,6 +56,19 @@ pub record SaysChecked (input : List ℕ) (source_left held now : Option (List �
   pub read_fault : status ≡ 4 → IsHeadFault line_limit input held now
   pub limit : status ≡ 6 → IsPastHead line_limit input held now
   pub never_full : status ≡ 7 → ⊥
+  pub never_wrong : status ≡ 8 → ⊥
+
+-- What the status of a replay says, or of a report.
+pub record SaysReadBack (form : Form) (input : List ℕ) (source_left held now : Option (List ℕ)) (status : ℕ)
+    : Type 0 where
+  pub done : status ≡ 0 → IsRightJournal form input source_left held now
+  pub refused : status ≡ 3 → IsNoModel journal_line_limit input source_left held now
+  pub read_fault : status ≡ 4 → IsJournalFault input held now
+  pub short : status ≡ 5 → IsJournalShort form input source_left held now
+  pub limit : status ≡ 6 → IsPastJournal input held now
+  pub never_full : status ≡ 7 → ⊥
+  pub wrong : status ≡ 8 → IsWrongJournal input source_left held now
+  pub silent : status ≡ 9 → now ≡ held
 
 -- What the status of a demonstration says, which reads nothing: no line of its input is too long, and no read of it fails.
 pub record SaysShown (goals : ℕ) (held now : Option (List ℕ)) (status : ℕ) : Type 0 where
@@ -50,6 +78,7 @@ pub record SaysShown (goals : ℕ) (held now : Option (List ℕ)) (status : ℕ)
   pub short : status ≡ 5 → IsShownShort goals held now
   pub never_limit : status ≡ 6 → ⊥
   pub full : status ≡ 7 → IsShownInPart goals held now
+  pub never_wrong : status ≡ 8 → ⊥
   pub silent : status ≡ 9 → now ≡ held
 
 -- what a status says where the input's bytes are known, if the task reads them
@@ -60,12 +89,20 @@ SaysKnown (task.Solo turns) (Some input) source_left held now status =
 SaysKnown task.Check None source_left held now status = ⊤
 SaysKnown task.Check (Some input) source_left held now status =
     SaysChecked input source_left held now status
+SaysKnown task.Replay None source_left held now status = ⊤
+SaysKnown task.Replay (Some input) source_left held now status =
+    SaysReadBack which.Replay input source_left held now status
+SaysKnown task.Report None source_left held now status = ⊤
+SaysKnown task.Report (Some input) source_left held now status =
+    SaysReadBack which.Report input source_left held now status
 SaysKnown (task.Demo goals) input source_left held now status = SaysShown goals held now status
 
 -- a demonstration leaves the input as it was
 abbrev pub IsUnread : {A : Type 0} → Task → A → A → Type 0
 IsUnread (task.Solo turns) old new = ⊤
 IsUnread task.Check old new = ⊤
+IsUnread task.Replay old new = ⊤
+IsUnread task.Report old new = ⊤
 IsUnread (task.Demo goals) old new = new ≡ old
 
 -- a task of one thread has one of these statuses, and no other
@@ -76,6 +113,7 @@ pub data IsSoloStatus (status : ℕ) : Type 0 where
   is_write : status ≡ 5 → IsSoloStatus status
   is_limit : status ≡ 6 → IsSoloStatus status
   is_full : status ≡ 7 → IsSoloStatus status
+  is_wrong : status ≡ 8 → IsSoloStatus status
   is_memory : status ≡ 9 → IsSoloStatus status
 
 abbrev pub usage_line : List ℕ

@@ -11,6 +11,10 @@ pub enum Task {
     Solo { turns: u32 },
     /// Says whether a model is one, or its first fault.
     Check,
+    /// Says whether a journal is legal, or its first wrong entry.
+    Replay,
+    /// Says what the plan is like behind a legal journal.
+    Report,
     /// Plans a mission of so many goals, from 1 to 4,000, and says how it ended.
     Demo { goals: u32 },
 }

@@ -2,12 +2,15 @@ ghost use Rattle.std.specs.Prelude.{◌≡◌, ◌⊎◌, ℕ, None, Some};
 ghost use Rattle.pl_io.specs.Faults.{Rose};
 ghost use Rattle.pl_main.specs.Words.{command_of};
 ghost use Rattle.pl_main.specs.Limits.{Completes};
-ghost use Rattle.pl_main.specs.Statuses.{IsTask, IsSoloStatus, status_of, usage_line, SaysKnown, IsUnread};
+ghost use Rattle.pl_main.specs.Statuses.{IsTask, IsSoloStatus, status_of, status_of_journal, usage_line, SaysKnown, IsUnread};
 ghost use Rattle.pl_stream.specs.Written.{Adds};
 
 use crate::check::check;
 use crate::command::{Command, Task};
 use crate::demo::demo;
+use crate::form::Form;
+use crate::journals::read_back;
+use crate::judgement::Judgement;
 use crate::outcome::Outcome;
 use crate::whole::solo;
 use crate::words::read_words;
@@ -29,7 +32,18 @@ fn status_of(ended: Result<Outcome, Halt>) -> u8
     }
 }
 
-#[tactic(auto, using(crate::proofs::Topping::says_of, crate::proofs::Topping::says_checked, crate::proofs::Topping::says_shown, crate::proofs::Topping::status_is))]
+fn status_of_journal(ended: Result<Judgement, Halt>) -> u8
+    ensures { result ≡ status_of_journal ended }
+{
+    match ended {
+        Ok(Judgement::Right) => 0,
+        Ok(Judgement::Refused) => 3,
+        Ok(Judgement::Wrong) => 8,
+        Err(halt) => status_of(Err(halt)),
+    }
+}
+
+#[tactic(auto, using(crate::proofs::Topping::says_of, crate::proofs::Topping::says_checked, crate::proofs::Topping::says_shown, crate::proofs::Topping::says_replayed, crate::proofs::Topping::says_reported, crate::proofs::Topping::status_is, crate::proofs::Topping::journal_status_is))]
 fn task_status<I: Source, O: Sink>(alloc: Global, task: &Task, input: &mut I, out: &mut O) -> u8
     requires { IsTask task.now }
     ensures status { IsSoloStatus result }
@@ -42,6 +56,8 @@ fn task_status<I: Source, O: Sink>(alloc: Global, task: &Task, input: &mut I, ou
     match task {
         Task::Solo { turns } => status_of(solo(alloc, *turns, input, out)),
         Task::Check => status_of(check(alloc, input, out)),
+        Task::Replay => status_of_journal(read_back(alloc, Form::Replay, input, out)),
+        Task::Report => status_of_journal(read_back(alloc, Form::Report, input, out)),
         Task::Demo { goals } => status_of(demo(alloc, *goals, out)),
     }
 }

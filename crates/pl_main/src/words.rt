@@ -1,6 +1,6 @@
 ghost use Rattle.std.specs.Prelude.{◌≡◌, map};
 ghost use Rattle.std.specs.String.{string_bytes};
-ghost use Rattle.pl_main.specs.Words.{turns_by, goals_by, command_in, command_of};
+ghost use Rattle.pl_main.specs.Words.{turns_by, goals_by, single_word, command_in, command_of};
 
 use crate::command::{Command, Task};
 use crate::number::read_number;
@@ -16,6 +16,21 @@ fn solo(turns: Option<u64>) -> Option<Command>
     }
 }
 
+/// A task that is one word.
+fn single(word: &[u8]) -> Option<Command>
+    ensures { result ≡ single_word word.now }
+{
+    if word == b"check".as_slice() {
+        Some(Command::Alone(Task::Check))
+    } else if word == b"replay".as_slice() {
+        Some(Command::Alone(Task::Replay))
+    } else if word == b"report".as_slice() {
+        Some(Command::Alone(Task::Report))
+    } else {
+        None
+    }
+}
+
 fn demo(goals: Option<u64>) -> Option<Command>
     ensures { result ≡ goals_by goals }
 {
@@ -27,20 +42,14 @@ fn demo(goals: Option<u64>) -> Option<Command>
     }
 }
 
-/// What the words behind the program's name ask for: `run solo N`, N from 1 to 1,000, `check`, or `demo N`, N from 1 to
-/// 4,000.
+/// What the words behind the program's name ask for: `run solo N`, N from 1 to 1,000, `check`, `replay`, `report`, or
+/// `demo N`, N from 1 to 4,000.
 #[tactic(auto, unfolding(crate::specs::Words::command_of))]
 pub fn read_words(words: &[String]) -> Option<Command>
     ensures { result ≡ command_of words.now }
 {
     match words {
-        [check] => {
-            if check.as_bytes() == b"check".as_slice() {
-                Some(Command::Alone(Task::Check))
-            } else {
-                None
-            }
-        }
+        [word] => single(word.as_bytes()),
         [demo_word, goals] => {
             if demo_word.as_bytes() == b"demo".as_slice() {
                 demo(read_number(goals.as_bytes()))

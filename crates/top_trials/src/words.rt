@@ -1,12 +1,14 @@
 use pl_main::{Command, Task, read_words};
 use std::alloc::AllocError;
 
-/// What the words ask for: the turns of a run, 0 for a check, the goals of a demonstration, nothing where they are no
-/// command.
+/// What the words ask for: the turns of a run, 0 for a check, 1,001 for a replay and 1,002 for a report, the goals of a
+/// demonstration, nothing where they are no command.
 fn number_of(words: &[String]) -> Option<u32> {
     match read_words(words)? {
         Command::Alone(Task::Solo { turns }) => Some(turns),
         Command::Alone(Task::Check) => Some(0),
+        Command::Alone(Task::Replay) => Some(1001),
+        Command::Alone(Task::Report) => Some(1002),
         Command::Alone(Task::Demo { goals }) => Some(goals),
     }
 }
@@ -14,6 +16,10 @@ fn number_of(words: &[String]) -> Option<u32> {
 const WORDS: &str = "check = 0
 Check = none
 check 8 = none
+replay = 1001
+report = 1002
+replay 8 = none
+Report = none
 run solo 8 = 8
 run solo 1 = 1
 run solo 1000 = 1000

@@ -1,4 +1,4 @@
-use Rattle.pl_main.proofs.Causes.{completes}
+use Rattle.pl_main.proofs.Completing.{completes}
 use Rattle.pl_main.proofs.top.run_solo.Goals as goal
 
 pub returns-clause-complete : goal.returns-clause-complete
