@@ -1,12 +1,14 @@
-//! Benchmarks, one for each word: `timelines`, `turns`, `texts`.
+//! Benchmarks, one for each word: `timelines`, `replace`, `turns`, `texts`.
 //! Without a word each makes little and says what it found, with no times.
 #![tactic(auto)]
 
 ghost use Rattle.std.specs.Prelude.{◌≤◌};
 
+mod boards;
 mod capacities;
 mod levels;
 mod places;
+mod replaces;
 mod report;
 mod spans;
 mod states;
@@ -65,16 +67,21 @@ fn main(rt: HostRuntime) -> Result<()> {
             try_states(&rt, rt.alloc(), 1_250)?;
             try_states(&rt, rt.alloc(), 10_000)
         }
+        Some("replace") => {
+            replaces::run(&rt, rt.alloc(), 125, true)?;
+            replaces::run(&rt, rt.alloc(), 1_000, true)
+        }
         Some("turns") => turns::run(&rt, rt.alloc(), 200_000, true),
         Some("texts") => texts::run(&rt, rt.alloc(), 131_072, 4, true),
         Some(_) => {
-            println!(rt; "usage: lundocsef_bench [timelines | turns | texts]")?;
+            println!(rt; "usage: lundocsef_bench [timelines | replace | turns | texts]")?;
             Ok(())
         }
         None => {
             capacities::run(&rt, rt.alloc(), 50, 6, 50, false)?;
             levels::run(&rt, rt.alloc(), 100, 60, 50, false)?;
             states::run(&rt, rt.alloc(), 50, 100, false)?;
+            replaces::run(&rt, rt.alloc(), 5, false)?;
             turns::run(&rt, rt.alloc(), 500, false)?;
             texts::run(&rt, rt.alloc(), 1_000, 1, false)
         }
