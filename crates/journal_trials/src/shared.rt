@@ -1,0 +1,243 @@
+//! The plan that several callers act on, each call of it on one thread.
+ghost use Rattle.std.specs.Prelude.{◌≡◌, ◌==◌, ◌≤◌, [], true, IfOk};
+ghost use Rattle.std.specs.List.{list_any};
+ghost use Rattle.pl_turn.specs.Passes.{crew_of, leads, made_by, joined_by};
+ghost use Rattle.pl_shared.specs.Plans.{BelongsTo};
+
+use crate::models::{JOURNAL, MODEL, model, shared_model};
+use pl_choose::Seeded;
+use pl_entry::Entry;
+use pl_facts::Options;
+use pl_machine::{Machine, Stop};
+use pl_model::Model;
+use pl_render::render;
+use pl_shared::{Acted, Pass, Role, SharedPlan, work};
+use pl_turn::NoGate;
+use std::alloc::{AllocError, Global};
+use std::process::Abort;
+use std::sync::Wait;
+
+/// A plan with nothing planned, and its first pass.
+fn opened(rt: &impl Abort, alloc: Global, entries: u32) -> Result<(SharedPlan, Pass), AllocError>
+    requires some { 1 ≤ entries }
+    requires bounded { entries ≤ 250000 }
+    ensures own { IfOk result (λ made. BelongsTo made.0 made.1) }
+    ensures first { IfOk result (λ made. leads made.1 ≡ true) }
+    ensures alone { IfOk result (λ made. (made_by made.1 ≡ 0) × (joined_by made.1 ≡ [])) }
+{
+    let options = Options {
+        turns: 8,
+        live: 10000,
+        goals: 20000,
+        entries,
+    };
+    let machine = Machine::fresh(alloc, shared_model(rt, alloc)?, options)?;
+    match SharedPlan::new(alloc, machine) {
+        Ok(made) => Ok(made),
+        Err(machine) => {
+            drop(machine);
+            Err(AllocError)
+        }
+    }
+}
+
+fn has_newline(line: &[u8]) -> bool
+    ensures { result ≡ list_any (λ byte. byte == 10) line.now }
+{
+    line.iter().any(|byte| *byte == b'\n')
+}
+
+/// Feeds a message, and compares the answer.
+fn tell<R: Abort + Wait>(
+    rt: &R,
+    plan: &SharedPlan,
+    pass: &mut Pass,
+    line: &[u8],
+    wanted: Result<u32, Stop>,
+)
+    requires { BelongsTo plan.now pass.old }
+    ensures own { BelongsTo plan.now pass.new }
+    ensures crew { crew_of pass.new ≡ crew_of pass.old }
+{
+    assert!(rt; line.len() <= 4096 && !has_newline(line));
+    let fed = plan.feed(rt, pass, Some(line));
+    assert!(rt; fed == wanted);
+}
+
+/// Whether an act was answered by this word: the number of the entry that it made, or why it made none.
+fn is_said(acted: &Result<Acted, Stop>, word: &str) -> bool {
+    match acted {
+        Ok(Acted::Did(number)) => word.parse() == Ok(*number),
+        Ok(Acted::Nothing) => word == "nothing",
+        Ok(Acted::Finished) => word == "finished",
+        Ok(Acted::Stopped) => word == "stopped",
+        Err(_) => false,
+    }
+}
+
+/// Lets a role act as often as there are words, and compares the answers.
+fn acts<R: Abort + Wait>(
+    rt: &R,
+    alloc: Global,
+    plan: &SharedPlan,
+    pass: &mut Pass,
+    role: &mut Role,
+    wanted: &str,
+)
+    requires { BelongsTo plan.now pass.old }
+    ensures own { BelongsTo plan.now pass.new }
+    ensures crew { crew_of pass.new ≡ crew_of pass.old }
+{
+    for word in wanted.split(' ') {
+        let acted = plan.act(rt, alloc, pass, role);
+        assert!(rt; is_said(&acted, word), "{wanted}");
+    }
+}
+
+/// The lines of entries, numbered from 0 on.
+fn text(alloc: Global, model: &Model, entries: &[Entry]) -> Result<Vec<u8>, AllocError> {
+    let mut bytes = Vec::new(alloc);
+    let mut number = 0u32;
+    for entry in entries {
+        bytes.extend_from_slice(render(alloc, model, number, entry)?.as_slice())?;
+        number = number.wrapping_add(1);
+    }
+    Ok(bytes)
+}
+
+/// A round: a message, then what the planner does and what the executive does.
+fn round<R: Abort + Wait>(
+    rt: &R,
+    alloc: Global,
+    plan: &SharedPlan,
+    pass: &mut Pass,
+    planner: &mut Role,
+    line: &[u8],
+    wanted: (u32, &str, &str),
+)
+    requires { BelongsTo plan.now pass.old }
+    ensures own { BelongsTo plan.now pass.new }
+    ensures crew { crew_of pass.new ≡ crew_of pass.old }
+{
+    tell(rt, plan, pass, line, Ok(wanted.0));
+    acts(rt, alloc, plan, pass, planner, wanted.1);
+    acts(rt, alloc, plan, pass, &mut Role::Executive, wanted.2);
+}
+
+/// The worked run.
+fn run<R: Abort + Wait>(rt: &R, alloc: Global, plan: &SharedPlan, pass: &mut Pass)
+    requires { BelongsTo plan.now pass.old }
+    ensures own { BelongsTo plan.now pass.new }
+    ensures crew { crew_of pass.new ≡ crew_of pass.old }
+{
+    let mut planner = Role::Planner(Seeded::new(1));
+    let goal = b"goal 1 obs 10 20 must";
+    let served = (1, "2 3 nothing", "4 5 nothing");
+    round(rt, alloc, plan, pass, &mut planner, goal.as_slice(), served);
+    let sent = (6, "7 nothing", "8 9 10 nothing");
+    round(rt, alloc, plan, pass, &mut planner, b"tick 10", sent);
+    let ended = (11, "finished", "finished");
+    round(rt, alloc, plan, pass, &mut planner, b"end", ended);
+}
+
+/// Compares the journal so far, and what is told beside it.
+fn has_journal<R: Abort + Wait>(
+    rt: &R,
+    alloc: Global,
+    plan: &SharedPlan,
+    pass: &mut Pass,
+) -> Result<bool, AllocError>
+    requires { BelongsTo plan.now pass.old }
+    ensures own { BelongsTo plan.now pass.new }
+    ensures crew { crew_of pass.new ≡ crew_of pass.old }
+{
+    let part = plan.copy_from(rt, alloc, pass, 0)?;
+    let written = text(alloc, &model(rt, alloc, MODEL)?, part.entries.as_slice())?;
+    let told = part.closed && part.done && !part.spoiled && !part.stopped;
+    Ok(told && written.as_slice() == JOURNAL.as_bytes())
+}
+
+#[test]
+fn makes_the_worked_journal(rt: HostRuntime) -> Result<(), AllocError> {
+    let alloc = rt.alloc();
+    let (plan, mut pass) = opened(&rt, alloc, 250000)?;
+    run(&rt, alloc, &plan, &mut pass);
+    assert_eq!(rt; plan.entries(&mut pass), 12);
+    assert!(rt; has_journal(&rt, alloc, &plan, &mut pass)?);
+    assert_eq!(rt; plan.close(pass).log().len(), 12);
+    Ok(())
+}
+
+/// Stops the plan by another pass behind a message.
+fn stop_behind<R: Abort + Wait>(rt: &R, plan: &SharedPlan, feeder: &mut Pass)
+    requires { BelongsTo plan.now feeder.old }
+    ensures own { BelongsTo plan.now feeder.new }
+{
+    tell(rt, plan, feeder, b"tick 3", Ok(1));
+    tell(rt, plan, feeder, b"tick 4", Err(Stop::NotNow));
+    plan.stop(rt, feeder);
+}
+
+/// Whether the plan has so many entries and was stopped within a round.
+fn is_stopped<R: Abort + Wait>(
+    rt: &R,
+    alloc: Global,
+    plan: &SharedPlan,
+    pass: &mut Pass,
+    entries: usize,
+) -> Result<bool, AllocError>
+    requires { BelongsTo plan.now pass.old }
+    ensures own { BelongsTo plan.now pass.new }
+    ensures crew { crew_of pass.new ≡ crew_of pass.old }
+{
+    let part = plan.copy_from(rt, alloc, pass, 0)?;
+    Ok(part.entries.len() == entries && part.stopped && !part.closed && !part.done)
+}
+
+#[test]
+fn is_stopped_by_another_pass(rt: HostRuntime) -> Result<(), AllocError> {
+    let alloc = rt.alloc();
+    let (plan, mut pass) = opened(&rt, alloc, 250000)?;
+    let mut feeder = plan.split(alloc, &mut pass)?;
+    stop_behind(&rt, &plan, &mut feeder);
+    let mut planner = Role::Planner(Seeded::new(1));
+    acts(&rt, alloc, &plan, &mut pass, &mut planner, "stopped");
+    acts(
+        &rt,
+        alloc,
+        &plan,
+        &mut pass,
+        &mut Role::Executive,
+        "stopped",
+    );
+    plan.join(&mut pass, feeder);
+    assert_eq!(rt; plan.entries(&mut pass), 3);
+    assert!(rt; is_stopped(&rt, alloc, &plan, &mut pass, 2)?);
+    assert_eq!(rt; plan.close(pass).log().len(), 2);
+    Ok(())
+}
+
+#[test]
+fn works_until_it_is_over(rt: HostRuntime) -> Result<(), AllocError> {
+    let alloc = rt.alloc();
+    let (plan, mut pass) = opened(&rt, alloc, 250000)?;
+    assert_eq!(rt; plan.feed(&rt, &mut pass, None), Ok(1));
+    let made = work(&rt, alloc, &plan, &NoGate, &mut pass, &mut Role::Executive);
+    assert_eq!(rt; made, Ok(0));
+    assert!(rt; plan.close(pass).done());
+    Ok(())
+}
+
+#[test]
+fn works_until_the_log_is_full(rt: HostRuntime) -> Result<(), AllocError> {
+    let alloc = rt.alloc();
+    let (plan, mut pass) = opened(&rt, alloc, 3)?;
+    tell(&rt, &plan, &mut pass, b"goal 1 obs 10 20 must", Ok(1));
+    let mut planner = Role::Planner(Seeded::new(1));
+    let made = work(&rt, alloc, &plan, &NoGate, &mut pass, &mut planner);
+    assert_eq!(rt; made, Err(Stop::LogFull));
+    assert!(rt; is_stopped(&rt, alloc, &plan, &mut pass, 3)?);
+    tell(&rt, &plan, &mut pass, b"end", Err(Stop::NotNow));
+    assert_eq!(rt; plan.close(pass).log().len(), 3);
+    Ok(())
+}
