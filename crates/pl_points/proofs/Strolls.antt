@@ -1,5 +1,5 @@
 -- What a walk finds from point to point, and what it takes.
-use Rattle.std.proofs.Common.{◌≡◌, ℕ, suc, ◌+◌, ◌*◌, ◌<◌, ◌≤◌, ◌⊎◌, Bool, true, false, ◌&&◌, ◌||◌, List, [], ◌∷◌, refl, ap, sym, ◌∙◌, subst, inl, inr, arith, cond, ltb, leb, ℤ, pos, ◌+ℤ◌, Some, None, Option}
+use Rattle.std.proofs.Common.{◌≡◌, ℕ, suc, ◌+◌, ◌*◌, ◌<◌, ◌≤◌, ◌⊎◌, Bool, true, false, not, ◌&&◌, ◌||◌, List, [], ◌∷◌, refl, ap, sym, ◌∙◌, subst, inl, inr, arith, cond, ltb, leb, ℤ, pos, ◌+ℤ◌, Some, None, Option}
 use Rattle.std.proofs.lemmas.Bool.{cond_both, lt-ltb, le-ltb, ltb-true, ltb-false, leb-true, leb-false, le-leb, lt-leb}
 use Rattle.std.proofs.lemmas.Int.{ints}
 use Rattle.std.proofs.Math.Nat.{mul-le-mul_left}
@@ -70,19 +70,8 @@ after_step out at m (p ∷ ps) (inl e) lt =
     rw f (rw h (omega (arith, same, after_falls out at m ps (omega (arith, lt)))))
 after_step out at m (p ∷ ps) (inr has) lt = omega (arith, one_falls (out p.0) at m p.0 (omega (arith, lt)), after_step out at m ps has lt)
 
-pub spend_look : (s t aat am look search N M : ℕ) (v : Bool) → t + am ≤ s + aat + look → cond v 1 0 + M ≤ N → t + (am + cond v look 0 + search + (look + search) * M) ≤ s + (aat + look + search + (look + search) * N)
-spend_look s t aat am look search N M true cost less = omega (arith, cost, mul-le-mul_left (look + search) less)
-spend_look s t aat am look search N M false cost less = omega (arith, cost, mul-le-mul_left (look + search) less)
-
 pub spend_search : (s t aat am look search N M : ℕ) → t + am ≤ s + aat + search → 1 + M ≤ N → t + (am + look + search + (look + search) * M) ≤ s + (aat + 0 + search + (look + search) * N)
 spend_search s t aat am look search N M cost less = omega (arith, cost, mul-le-mul_left (look + search) less)
-
-pub left_look : (ahead : ℕ → ℕ) (look search s t at m : ℕ) (out : ℕ → Bool) (ps : List Point) → out at ≡ true → HasMoment m ps → at < m → t + ahead m ≤ s + ahead (at + 1) + look → ahead (at + 1) ≤ ahead at
-    → t + walk_left ahead look search out ps m ≤ s + walk_left ahead look search out ps at
-left_look ahead look search s t at m out ps e has lt cost falls =
-    let h : t + (ahead m + cond (out m) look 0 + search + (look + search) * points_after out m ps) ≤ s + (ahead at + look + search + (look + search) * points_after out at ps) = spend_look s t (ahead at) (ahead m) look search (points_after out at ps) (points_after out m ps) (out m) (omega (arith, cost, falls)) (after_step out at m ps has lt) in
-    let same : cond (out at) look 0 ≡ look = ap (λ v. cond v look 0) e in
-    omega (arith, h, same)
 
 pub left_search : (ahead : ℕ → ℕ) (look search s t at m : ℕ) (out : ℕ → Bool) (ps : List Point) → out at ≡ false → out m ≡ true → cond (out m) 1 0 + points_after out m ps ≤ points_after out at ps → t + ahead m ≤ s + ahead (at + 1) + search → ahead (at + 1) ≤ ahead at
     → t + walk_left ahead look search out ps m ≤ s + walk_left ahead look search out ps at
@@ -92,6 +81,17 @@ left_search ahead look search s t at m out ps e f less cost falls =
     let same : cond (out at) look 0 ≡ 0 = ap (λ v. cond v look 0) e in
     let other : cond (out m) look 0 ≡ look = ap (λ v. cond v look 0) f in
     omega (arith, h, same, other)
+
+-- a look to a point outside, and a search from there to one inside
+pub left_stretch : (ahead : ℕ → ℕ) (look search s u t at m n : ℕ) (out : ℕ → Bool) (ps : List Point) → out at ≡ true → out m ≡ true → out n ≡ false → cond (out m) 1 0 + points_after out m ps ≤ points_after out at ps → cond (out n) 1 0 + points_after out n ps ≤ points_after out m ps
+    → u + ahead m ≤ s + ahead (at + 1) + look → t + ahead n ≤ u + ahead (m + 1) + search → ahead (at + 1) ≤ ahead at → ahead (m + 1) ≤ ahead m
+    → t + walk_left ahead look search out ps n ≤ s + walk_left ahead look search out ps at
+left_stretch ahead look search s u t at m n out ps e f h first second one two falls step =
+    let here : cond (out at) look 0 ≡ look = ap (λ v. cond v look 0) e in
+    let gone : cond (out n) look 0 ≡ 0 = ap (λ v. cond v look 0) h in
+    let counts : ◌≡◌ {A = ℕ} (cond (out m) 1 0) 1 = ap (λ v. cond v 1 0) f in
+    let less : 1 + points_after out n ps ≤ points_after out at ps = omega (arith, counts, first, second) in
+    omega (arith, here, gone, one, two, falls, step, mul-le-mul_left (look + search) less)
 
 -- a walk begins with all of it left
 pub left_first : (ahead parts : ℕ → ℕ) (look search s t at count : ℕ) (out : ℕ → Bool) (ps : List Point) → t + ahead at ≤ s + parts count + search → t + walk_left ahead look search out ps at ≤ s + walk_steps parts look search count (points_after out at ps)
@@ -212,3 +212,11 @@ stays_inside least most s at ps rising is here =
 
 pub same_bounds : (L M l m z : ℤ) (o : Bool) → L ≡ l → M ≡ m → is_out l m z ≡ o → is_out L M z ≡ o
 same_bounds L M l m z o low high e = ap (λ x. is_out x M z) low ∙ ap (λ x. is_out l x z) high ∙ e
+
+pub turned_true : (v : Bool) → not v ≡ true → v ≡ false
+turned_true true e = absurd (cc)
+turned_true false e = refl
+
+pub turned_false : (v : Bool) → not v ≡ false → v ≡ true
+turned_false true e = refl
+turned_false false e = absurd (cc)

@@ -1,7 +1,7 @@
-ghost use Rattle.std.specs.Prelude.{◌≡◌, ◌<◌, ◌≤◌, ◌+◌, ◌&&◌, ◌||◌, true, false, ℕ, ℤ, [], ◌∷◌, OnOk};
+ghost use Rattle.std.specs.Prelude.{◌≡◌, ◌<◌, ◌≤◌, ◌+◌, ◌&&◌, ◌||◌, not, true, false, ℕ, ℤ, Bool, [], ◌∷◌, OnOk, if◌then◌else◌};
 ghost use Rattle.pl_points.specs.Sums.{IsSmall};
 ghost use Rattle.pl_points.specs.Points.{sum_to, is_out, ArePoints};
-ghost use Rattle.pl_points.specs.Counting.{walk_left, walk_until, goes_outside};
+ghost use Rattle.pl_points.specs.Counting.{walk_left, walk_until, goes_outside, points_after};
 ghost use Rattle.pl_points.specs.Spans.{AreApart, covers, joined, span, within};
 ghost use Rattle.pl_points.specs.Limits.{is_outside};
 
@@ -47,10 +47,19 @@ fn bounds_of(limit: Limit) -> (i64, i64)
     }
 }
 
-// Up to the next point, where the sum is outside, and the sum there if it lies in the window.
-fn outside_piece<P: Points, L: Ledger>(
+// The least and the most for which what is outside is inside the limit.
+fn bounds_beyond(limit: Limit) -> (i64, i64)
+    ensures { (z : ℤ) → IsSmall z → is_out result.0 result.1 z ≡ not (is_outside limit z) }
+{
+    match limit {
+        Limit::Below(least) => (i64::MIN, least.saturating_sub(1)),
+        Limit::Above(most) => (most.saturating_add(1), i64::MAX),
+    }
+}
+
+// Up to the next point, and the sum there if it lies in the window.
+fn next_piece<P: Points, L: Ledger>(
     points: &P,
-    limit: Limit,
     at: u32,
     sum: i64,
     to: u32,
@@ -58,14 +67,13 @@ fn outside_piece<P: Points, L: Ledger>(
 ) -> (u32, i64)
     requires some { at < to }
     requires sum { sum ≡ sum_to (P.points points.now) at }
-    requires outside { is_outside limit sum ≡ true }
-    requires falls { (a b : ℕ) → a ≤ b → P.ahead points.now b ≤ P.ahead points.now a }
     ensures later { at < result.0 }
     ensures bound { result.0 ≤ to }
-    ensures same { (t : ℕ) → at ≤ t → t < result.0 → is_outside limit (sum_to (P.points points.now) t) ≡ is_outside limit sum }
+    ensures same { (t : ℕ) → at ≤ t → t < result.0 → sum_to (P.points points.now) t ≡ sum }
     ensures next { result.0 < to → result.1 ≡ sum_to (P.points points.now) result.0 }
-    ensures spent { steps.new ≤ steps.old + walk_left (P.ahead points.now) P.look_steps P.search_steps (goes_outside limit (P.points points.now)) (P.points points.now) at }
-    ensures left { result.0 < to → steps.new + walk_left (P.ahead points.now) P.look_steps P.search_steps (goes_outside limit (P.points points.now)) (P.points points.now) result.0 ≤ steps.old + walk_left (P.ahead points.now) P.look_steps P.search_steps (goes_outside limit (P.points points.now)) (P.points points.now) at }
+    ensures fewer { result.0 < to → (out : ℕ → Bool) → (if out result.0 then 1 else 0) + points_after out result.0 (P.points points.now) ≤ points_after out at (P.points points.now) }
+    ensures spent { steps.new ≤ steps.old + P.ahead points.now (at + 1) + P.look_steps }
+    ensures left { result.0 < to → steps.new + P.ahead points.now result.0 ≤ steps.old + P.ahead points.now (at + 1) + P.look_steps }
 {
     match points.first_from(at + 1, steps) {
         Some((moment, delta)) => {
@@ -77,6 +85,64 @@ fn outside_piece<P: Points, L: Ledger>(
         }
         None => (to, 0),
     }
+}
+
+// Up to the next point inside, where the sum is outside.
+fn stretch<P: Points, L: Ledger>(
+    points: &P,
+    limit: Limit,
+    at: u32,
+    sum: i64,
+    to: u32,
+    steps: &mut Steps<L>,
+) -> (u32, i64)
+    requires some { at < to }
+    requires sum { sum ≡ sum_to (P.points points.now) at }
+    requires small { ArePoints (P.points points.now) }
+    requires outside { is_outside limit sum ≡ true }
+    ensures later { at < result.0 }
+    ensures bound { result.0 ≤ to }
+    ensures same { (t : ℕ) → at ≤ t → t < result.0 → is_outside limit (sum_to (P.points points.now) t) ≡ true }
+    ensures next { result.0 < to → result.1 ≡ sum_to (P.points points.now) result.0 }
+    ensures leaves { result.0 < to → is_outside limit (sum_to (P.points points.now) result.0) ≡ false }
+    ensures fewer { result.0 < to → (out : ℕ → Bool) → (if out result.0 then 1 else 0) + points_after out result.0 (P.points points.now) ≤ points_after out at (P.points points.now) }
+    ensures spent { steps.new ≤ steps.old + P.ahead points.now (at + 1) + P.search_steps }
+    ensures left { result.0 < to → steps.new + P.ahead points.now result.0 ≤ steps.old + P.ahead points.now (at + 1) + P.search_steps }
+{
+    let (least, most) = bounds_beyond(limit);
+    calm_piece(points, least, most, at, sum, to, steps)
+}
+
+// Up to the next point, where the sum is outside, or to where it is inside again. A stretch of many
+// points outside is passed over by a search.
+fn outside_piece<P: Points, L: Ledger>(
+    points: &P,
+    limit: Limit,
+    at: u32,
+    sum: i64,
+    to: u32,
+    steps: &mut Steps<L>,
+) -> (u32, i64)
+    requires some { at < to }
+    requires sum { sum ≡ sum_to (P.points points.now) at }
+    requires small { ArePoints (P.points points.now) }
+    requires outside { is_outside limit sum ≡ true }
+    requires falls { (a b : ℕ) → a ≤ b → P.ahead points.now b ≤ P.ahead points.now a }
+    ensures later { at < result.0 }
+    ensures bound { result.0 ≤ to }
+    ensures same { (t : ℕ) → at ≤ t → t < result.0 → is_outside limit (sum_to (P.points points.now) t) ≡ is_outside limit sum }
+    ensures next { result.0 < to → result.1 ≡ sum_to (P.points points.now) result.0 }
+    ensures spent { steps.new ≤ steps.old + walk_left (P.ahead points.now) P.look_steps P.search_steps (goes_outside limit (P.points points.now)) (P.points points.now) at }
+    ensures left { result.0 < to → steps.new + walk_left (P.ahead points.now) P.look_steps P.search_steps (goes_outside limit (P.points points.now)) (P.points points.now) result.0 ≤ steps.old + walk_left (P.ahead points.now) P.look_steps P.search_steps (goes_outside limit (P.points points.now)) (P.points points.now) at }
+{
+    let (moment, after) = next_piece(points, at, sum, to, steps);
+    if moment == to {
+        return (to, 0);
+    }
+    if !is_outside(limit, after) {
+        return (moment, after);
+    }
+    stretch(points, limit, moment, after, to, steps)
 }
 
 // Up to the next point outside, where the sum is inside.

@@ -1,62 +1,17 @@
-use Rattle.std.proofs.Common.{◌≡◌, ◌+◌, true, arith, ap, sym, ◌∙◌, subst, Some, None, ◌+ℤ◌}
-use mir.Val.{to_z, of_z, SFits}
-use mir.Syntax.{w64}
-use Rattle.std.proofs.lemmas.Int.{ints, to_z-of_z}
-use Rattle.pl_points.specs.Points.{sum_to}
+use Rattle.std.proofs.Common.{◌≡◌, ◌+◌, ◌<◌, true, arith, ap, sym, ◌∙◌}
 use Rattle.pl_points.specs.Limits.{is_outside}
 use Rattle.pl_points.specs.Counting.{goes_outside}
-use Rattle.pl_points.proofs.Staying.{Stays, stays}
-use Rattle.pl_points.proofs.Strolls.{first_has, left_look}
+use Rattle.pl_points.proofs.Strolls.{left_stretch}
 use Rattle.pl_points.proofs.pieces.outside_piece.Goals as goal
 
-pub overflow_add-result : goal.overflow_add-result
-overflow_add-result g c =
+pub returns-clause-left : goal.returns-clause-left
+returns-clause-left g c =
     let ps = g.P.Points.points c.args.points.now in
-    let here : Stays ps c.args.at (Some (c.in-Some.moment, c.in-Some.delta)) = subst (λ r. Stays ps c.args.at r) (sym c.in-Some.ensures.first) (stays 0 c.args.at ps c.first_from.ensures.sound.rising) in
-    let one = c.first_from.ensures.sound.small c.args.at in
-    let two = c.first_from.ensures.sound.small c.in-Some.moment in
-    omega (arith, ints, here.2, c.requires.sum, one.0, one.1, two.0, two.1)
-
-pub returns-then-moment-to-clause-later : goal.returns-then-moment-to-clause-later
-returns-then-moment-to-clause-later g c =
-    let ps = g.P.Points.points c.args.points.now in
-    let here : Stays ps c.args.at (Some (c.in-Some.moment, c.in-Some.delta)) = subst (λ r. Stays ps c.args.at r) (sym c.in-Some.ensures.first) (stays 0 c.args.at ps c.first_from.ensures.sound.rising) in
-    here.0
-
-pub returns-then-moment-to-clause-same : goal.returns-then-moment-to-clause-same
-returns-then-moment-to-clause-same g c =
-    let ps = g.P.Points.points c.args.points.now in
-    let here : Stays ps c.args.at (Some (c.in-Some.moment, c.in-Some.delta)) = subst (λ r. Stays ps c.args.at r) (sym c.in-Some.ensures.first) (stays 0 c.args.at ps c.first_from.ensures.sound.rising) in
-    λ t low high. ap (is_outside c.args.limit) (here.1 t low high ∙ sym c.requires.sum)
-
-pub returns-then-moment-to-clause-next : goal.returns-then-moment-to-clause-next
-returns-then-moment-to-clause-next g c =
-    let ps = g.P.Points.points c.args.points.now in
-    let here : Stays ps c.args.at (Some (c.in-Some.moment, c.in-Some.delta)) = subst (λ r. Stays ps c.args.at r) (sym c.in-Some.ensures.first) (stays 0 c.args.at ps c.first_from.ensures.sound.rising) in
-    let one = c.first_from.ensures.sound.small c.args.at in
-    let two = c.first_from.ensures.sound.small c.in-Some.moment in
-    let fits : SFits w64 c.in-Some.delta = omega (arith, ints, here.2, one.0, one.1, two.0, two.1) in
-    let raw : to_z w64 (of_z w64 c.in-Some.delta) ≡ c.in-Some.delta = to_z-of_z w64 c.in-Some.delta fits in
-    let sum : to_z w64 (of_z w64 c.args.sum) +ℤ to_z w64 (of_z w64 c.in-Some.delta) ≡ sum_to ps c.in-Some.moment = omega (arith, ints, raw, here.2, c.requires.sum, to_z-of_z w64 c.args.sum c.ranges.sum) in
-    let whole : SFits w64 (sum_to ps c.in-Some.moment) = omega (arith, ints, two.0, two.1) in
-    λ _. ap (λ z. to_z w64 (of_z w64 z)) sum ∙ to_z-of_z w64 (sum_to ps c.in-Some.moment) whole
-
-pub returns-then-moment-to-clause-left : goal.returns-then-moment-to-clause-left
-returns-then-moment-to-clause-left g c =
-    let ps = g.P.Points.points c.args.points.now in
-    let here : Stays ps c.args.at (Some (c.in-Some.moment, c.in-Some.delta)) = subst (λ r. Stays ps c.args.at r) (sym c.in-Some.ensures.first) (stays 0 c.args.at ps c.first_from.ensures.sound.rising) in
-    let out : goes_outside c.args.limit ps c.args.at ≡ true = ap (is_outside c.args.limit) (sym c.requires.sum) ∙ c.requires.outside in
-    λ _. left_look (g.P.Points.ahead c.args.points.now) g.P.Points.look_steps g.P.Points.search_steps c.args.steps.now c.first_from.new.steps c.args.at c.in-Some.moment (goes_outside c.args.limit ps) ps out
-    (first_has (c.args.at + 1) ps (c.in-Some.moment, c.in-Some.delta) (sym c.in-Some.ensures.first)) here.0 c.in-Some.ensures.cost (c.requires.falls c.args.at (c.args.at + 1) (omega arith))
-
-pub returns-else-moment-to-clause-same : goal.returns-else-moment-to-clause-same
-returns-else-moment-to-clause-same g c =
-    let ps = g.P.Points.points c.args.points.now in
-    let here : Stays ps c.args.at (Some (c.in-Some.moment, c.in-Some.delta)) = subst (λ r. Stays ps c.args.at r) (sym c.in-Some.ensures.first) (stays 0 c.args.at ps c.first_from.ensures.sound.rising) in
-    λ t low high. ap (is_outside c.args.limit) (here.1 t low (omega (arith, high, c.if-moment-to.false)) ∙ sym c.requires.sum)
-
-pub returns-in-None-clause-same : goal.returns-in-None-clause-same
-returns-in-None-clause-same g c =
-    let ps = g.P.Points.points c.args.points.now in
-    let here : Stays ps c.args.at None = subst (λ r. Stays ps c.args.at r) (sym c.in-None.ensures.first) (stays 0 c.args.at ps c.first_from.ensures.sound.rising) in
-    λ t low high. ap (is_outside c.args.limit) (here t low ∙ sym c.requires.sum)
+    let at = c.args.at in
+    let m = c.next_piece-moment.result.0 in
+    let out = goes_outside c.args.limit ps in
+    let lt : m < c.args.to = omega (arith, c.next_piece-moment.ensures.bound, c.if-moment-to.false) in
+    let here : out at ≡ true = ap (is_outside c.args.limit) (sym c.requires.sum) ∙ c.requires.outside in
+    λ last. left_stretch (g.P.Points.ahead c.args.points.now) g.P.Points.look_steps g.P.Points.search_steps c.args.steps.now c.next_piece-moment.new.steps c.stretch.new.steps at m c.stretch.result.0 out ps here
+    (c.stretch.ensures.same m (omega arith) c.stretch.ensures.later) (c.stretch.ensures.leaves last) (c.next_piece-moment.ensures.fewer lt out) (c.stretch.ensures.fewer last out) (c.next_piece-moment.ensures.left lt) (c.stretch.ensures.left last)
+    (c.requires.falls at (at + 1) (omega arith)) (c.requires.falls m (m + 1) (omega arith))

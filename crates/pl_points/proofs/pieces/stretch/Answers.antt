@@ -1,0 +1,43 @@
+use Rattle.std.proofs.Common.{rules, ◌≡◌, ℕ, true, not, ap, sym, ◌∙◌}
+use mir.Val.{to_z, of_z, SFits}
+use mir.Syntax.{w64}
+use Rattle.std.proofs.lemmas.Int.{to_z-of_z}
+use Rattle.pl_points.specs.Points.{sum_to, is_out}
+use Rattle.pl_points.specs.Limits.{is_outside}
+use Rattle.pl_points.proofs.Strolls.{same_bounds, turned_true, turned_false}
+use Rattle.pl_points.proofs.pieces.stretch.Goals as goal
+
+pub calm_piece-requires-clause-inside : goal.calm_piece-requires-clause-inside
+calm_piece-requires-clause-inside g c =
+    let ps = g.P.Points.points c.args.points.now in
+    let at = c.args.at in
+    let L = to_z w64 (of_z w64 c.bounds_beyond-least.result.0) in
+    let M = to_z w64 (of_z w64 c.bounds_beyond-least.result.1) in
+    let fits_low : SFits w64 c.bounds_beyond-least.result.0 = search rules in
+    let fits_high : SFits w64 c.bounds_beyond-least.result.1 = search rules in
+    let same : (t : ℕ) → is_out L M (sum_to ps t) ≡ not (is_outside c.args.limit (sum_to ps t)) = λ t. same_bounds L M c.bounds_beyond-least.result.0 c.bounds_beyond-least.result.1 (sum_to ps t) (not (is_outside c.args.limit (sum_to ps t))) (to_z-of_z w64 c.bounds_beyond-least.result.0 fits_low) (to_z-of_z w64 c.bounds_beyond-least.result.1 fits_high) (c.bounds_beyond-least.ensures (sum_to ps t) (c.requires.small.small t)) in
+    let outside_there : is_outside c.args.limit (sum_to ps at) ≡ true = ap (is_outside c.args.limit) (sym c.requires.sum) ∙ c.requires.outside in
+    let sum : to_z w64 (of_z w64 c.args.sum) ≡ sum_to ps at = to_z-of_z w64 c.args.sum c.ranges.sum ∙ c.requires.sum in
+    ap (is_out L M) sum ∙ same at ∙ ap not outside_there
+
+pub returns-clause-same : goal.returns-clause-same
+returns-clause-same g c =
+    let ps = g.P.Points.points c.args.points.now in
+    let at = c.args.at in
+    let L = to_z w64 (of_z w64 c.bounds_beyond-least.result.0) in
+    let M = to_z w64 (of_z w64 c.bounds_beyond-least.result.1) in
+    let fits_low : SFits w64 c.bounds_beyond-least.result.0 = search rules in
+    let fits_high : SFits w64 c.bounds_beyond-least.result.1 = search rules in
+    let same : (t : ℕ) → is_out L M (sum_to ps t) ≡ not (is_outside c.args.limit (sum_to ps t)) = λ t. same_bounds L M c.bounds_beyond-least.result.0 c.bounds_beyond-least.result.1 (sum_to ps t) (not (is_outside c.args.limit (sum_to ps t))) (to_z-of_z w64 c.bounds_beyond-least.result.0 fits_low) (to_z-of_z w64 c.bounds_beyond-least.result.1 fits_high) (c.bounds_beyond-least.ensures (sum_to ps t) (c.requires.small.small t)) in
+    λ t low high. turned_false (is_outside c.args.limit (sum_to ps t)) (sym (same t) ∙ c.calm_piece.ensures.inside t low high)
+
+pub returns-clause-leaves : goal.returns-clause-leaves
+returns-clause-leaves g c =
+    let ps = g.P.Points.points c.args.points.now in
+    let at = c.args.at in
+    let L = to_z w64 (of_z w64 c.bounds_beyond-least.result.0) in
+    let M = to_z w64 (of_z w64 c.bounds_beyond-least.result.1) in
+    let fits_low : SFits w64 c.bounds_beyond-least.result.0 = search rules in
+    let fits_high : SFits w64 c.bounds_beyond-least.result.1 = search rules in
+    let same : (t : ℕ) → is_out L M (sum_to ps t) ≡ not (is_outside c.args.limit (sum_to ps t)) = λ t. same_bounds L M c.bounds_beyond-least.result.0 c.bounds_beyond-least.result.1 (sum_to ps t) (not (is_outside c.args.limit (sum_to ps t))) (to_z-of_z w64 c.bounds_beyond-least.result.0 fits_low) (to_z-of_z w64 c.bounds_beyond-least.result.1 fits_high) (c.bounds_beyond-least.ensures (sum_to ps t) (c.requires.small.small t)) in
+    λ lt. turned_true (is_outside c.args.limit (sum_to ps c.calm_piece.result.0)) (sym (same c.calm_piece.result.0) ∙ c.calm_piece.ensures.leaves lt)
