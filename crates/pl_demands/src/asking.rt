@@ -4,10 +4,11 @@ ghost use Rattle.pl_model.specs.Values.{value_of, NamesBelow};
 ghost use Rattle.pl_plan.specs.Activities.{activity_of};
 ghost use Rattle.pl_plan.specs.Fitting.{kind_of};
 ghost use Rattle.pl_plan.specs.Firm.{is_within, amount_of, has_amount};
+ghost use Rattle.pl_level.specs.Effects.{effect_of};
 ghost use Rattle.pl_links.specs.Broken.{point_of};
 ghost use Rattle.pl_world.specs.PlanStates.{numbered, reservations_in, row_of, end_at};
 ghost use Rattle.pl_world.specs.Whole.{IsWhole};
-ghost use Rattle.pl_world.specs.Demands.{amount_in, asked_for, demands_until, demands_at, demands_of};
+ghost use Rattle.pl_world.specs.Demands.{amount_in, demand_of, asked_for, demands_until, demands_at, demands_of};
 
 use pl_capacity::Use;
 use pl_level::Effect;
@@ -114,20 +115,14 @@ fn asked_for(
                 amount: amount_in(amount, values),
             }),
         },
-        Reservation::Raise(line, amount, point) => Demand {
-            line: *line,
-            asked: Asked::Effect(Effect {
-                at: moment(*point, a.start, end),
-                delta: amount_in(amount, values),
-            }),
-        },
-        Reservation::Lower(line, amount, point) => Demand {
-            line: *line,
-            asked: Asked::Effect(Effect {
-                at: moment(*point, a.start, end),
-                delta: -amount_in(amount, values),
-            }),
-        },
+        Reservation::Raise(line, amount, point) => {
+            let at = moment(*point, a.start, end);
+            effect_at(*line, at, amount_in(amount, values))
+        }
+        Reservation::Lower(line, amount, point) => {
+            let at = moment(*point, a.start, end);
+            effect_at(*line, at, -amount_in(amount, values))
+        }
         Reservation::Put(line, state, point) => Demand {
             line: *line,
             asked: Asked::Set(Setting {
@@ -147,6 +142,15 @@ fn asked_for(
                 state: *state,
             }),
         },
+    }
+}
+
+fn effect_at(line: u32, at: u32, delta: i64) -> Demand
+    ensures { result ≡ demand_of line (Asked.Effect (effect_of at delta)) }
+{
+    Demand {
+        line,
+        asked: Asked::Effect(Effect { at, delta }),
     }
 }
 
