@@ -17,3 +17,4 @@ pub use asking::{demands, demands_at};
 pub use conflicts::{line_conflicts, timeline_conflicts};
 pub use laws::laws_of_demands;
 pub use moments::{level_at, state_at, use_at};
+pub use outside::{add_bad_steps, add_musts, add_outside};

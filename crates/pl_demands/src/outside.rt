@@ -22,7 +22,7 @@ fn outside(code: Code, line: u32, span: &Span) -> Conflict
 }
 
 /// Appends the conflict of each span.
-pub(crate) fn add_outside(
+pub fn add_outside(
     code: Code,
     line: u32,
     spans: &[Span],
@@ -59,7 +59,7 @@ fn unmet_must(s: &PlanState, must: &BrokenMust) -> Conflict
 }
 
 /// Appends the conflict of each broken must.
-pub(crate) fn add_musts(
+pub fn add_musts(
     s: &PlanState,
     musts: &[BrokenMust],
     out: &mut Vec<Conflict>,
@@ -86,7 +86,7 @@ fn bad_step(s: &PlanState, step: &BadSet) -> Conflict
 }
 
 /// Appends the conflict of each step that is not allowed.
-pub(crate) fn add_bad_steps(
+pub fn add_bad_steps(
     s: &PlanState,
     steps: &[BadSet],
     out: &mut Vec<Conflict>,

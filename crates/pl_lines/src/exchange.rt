@@ -9,8 +9,8 @@ ghost use Rattle.pl_state.specs.Lines.{AreChanges};
 ghost use Rattle.pl_world.specs.Timelines.{outside, unmet_must, bad_step};
 ghost use Rattle.pl_lines.specs.Changed.{IsExchanged};
 
-use crate::outside::{add_bad_steps, add_musts, add_outside};
 use pl_conflict::{Code, Conflict};
+use pl_demands::{add_bad_steps, add_musts, add_outside};
 use pl_level::LevelChange;
 use pl_points::Change;
 use pl_state::StateChange;

@@ -13,7 +13,6 @@ mod line;
 mod lines;
 mod making;
 mod moments;
-mod outside;
 mod reading;
 mod sharing;
 mod states;
