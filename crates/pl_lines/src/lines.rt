@@ -1,5 +1,3 @@
-ghost use Rattle.std.specs.Prelude.{◌≡◌, []};
-
 use crate::line::Line;
 use std::alloc::Global;
 
@@ -17,15 +15,4 @@ impl std::marker::Model for Lines {
     ghost Value = { List Line };
 
     ghost view = { λ l. l.all.items };
-}
-
-impl Lines {
-    pub fn none(alloc: Global) -> Lines
-        ensures { result ≡ [] }
-    {
-        Lines {
-            alloc,
-            all: Vec::new(alloc),
-        }
-    }
 }
