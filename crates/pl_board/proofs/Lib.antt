@@ -1,5 +1,5 @@
 mod Once
 mod Joining
 mod Watching
-mod Committing
+mod Linking
 pub mod Crossing

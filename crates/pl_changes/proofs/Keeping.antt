@@ -16,7 +16,7 @@ use Rattle.pl_world.specs.Links.{links_at}
 use Rattle.pl_world.specs.Timelines.{line_conflicts}
 use Rattle.pl_facts.specs.Bases.{first_bases}
 use Rattle.pl_world.specs.Whole.{IsWhole, IsGoalOf, IsCarried, IsIdBelow}
-use Rattle.pl_changes.specs.Changes.{first_state, with_goal, without_goal, moved_on, told_now, with_next, CanTell}
+use Rattle.pl_changes.specs.Changes.{first_state, with_goal, without_goal, moved_on, told_now, committed_to, with_next, CanTell}
 use Rattle.pl_changes.specs.Replaced.{CanReplace, replaced, next_after, with_plan}
 use Rattle.pl_changes.proofs.Goals.{distinct_with, carried_with, goals_dropped, distinct_dropped, carried_dropped}
 use Rattle.pl_changes.proofs.Telling.{bases_later, bases_told, bases_first}
@@ -84,6 +84,23 @@ whole_told s line value w can = record {
   bases = bases_told s.model s.moment line value s.bases w.bases can;
   present = w.present;
   horizon = w.horizon;
+  ids = w.ids;
+  next = w.next;
+  limit = w.limit;
+  live = w.live;
+}
+
+pub whole_committed : (s : PlanState) (h : ℕ) → IsWhole s → h ≤ s.model.horizon → IsWhole (committed_to h s)
+whole_committed s h w most = record {
+  checked = w.checked;
+  rising = w.rising;
+  fits = w.fits;
+  goals = w.goals;
+  distinct = w.distinct;
+  carried = w.carried;
+  bases = w.bases;
+  present = w.present;
+  horizon = most;
   ids = w.ids;
   next = w.next;
   limit = w.limit;

@@ -1,6 +1,8 @@
 //! Changes of a plan state: what each comes to, and that it leaves the state whole.
 #![tactic(auto)]
 
+mod laws;
 mod replacement;
 
+pub use laws::laws_of_plan_changes;
 pub use replacement::{next_after, replace};

@@ -4,7 +4,7 @@ use Rattle.pl_conflict.specs.declared.conflict.Conflict.{Conflict}
 use Rattle.pl_world.specs.Grants.{touches_before}
 use Rattle.pl_near.proofs.Granted.{committed_same}
 use Rattle.pl_lines.proofs.StandingLater.{lines_committed}
-use Rattle.pl_board.proofs.Committing.{whole_committed}
+use Rattle.pl_changes.proofs.Keeping.{whole_committed}
 use Rattle.pl_board.proofs.watched.WatchedState.commit.Goals as goal
 
 pub returns-then-is_clear-clause-watched : goal.returns-then-is_clear-clause-watched

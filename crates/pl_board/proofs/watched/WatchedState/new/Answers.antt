@@ -1,5 +1,5 @@
 use Rattle.pl_lines.proofs.StandingLater.{lines_first}
-use Rattle.pl_board.proofs.Committing.{kept_none}
+use Rattle.pl_board.proofs.Linking.{kept_none}
 use Rattle.pl_board.proofs.watched.WatchedState.new.Goals as goal
 
 pub returns-clause-watched : goal.returns-clause-watched
