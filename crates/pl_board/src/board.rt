@@ -88,9 +88,10 @@ impl Board {
         Ok(())
     }
 
+    /// Accepts a goal.
     pub fn add_goal(&mut self, goal: Goal) -> Result<(), AllocError>
         requires fresh { self.old.spoiled ≡ false → goal_of goal.number self.old.state.goals ≡ None }
-        requires of_model { IsGoalOf self.old.state.model goal }
+        requires of_model { self.old.spoiled ≡ false → IsGoalOf self.old.state.model goal }
         requires stays { goal.dropped ≡ false }
         ensures ok { OnOk result (self.new ≡ after (with_goal goal self.old.state)) }
         ensures err { OnErr result (self.new.spoiled ≡ true) }
@@ -124,7 +125,7 @@ impl Board {
     /// Moves the present on.
     pub fn tick<L: Ledger>(&mut self, now: u32, steps: &mut Steps<L>) -> Result<(), AllocError>
         requires later { self.old.spoiled ≡ false → self.old.state.moment < now }
-        requires bound { now ≤ self.old.state.model.horizon }
+        requires bound { self.old.spoiled ≡ false → now ≤ self.old.state.model.horizon }
         ensures ok { OnOk result (self.new ≡ after (moved_on now self.old.state)) }
         ensures err { OnErr result (self.new.spoiled ≡ true) }
         ensures after_spoil { self.old.spoiled ≡ true → IsErr result }
@@ -145,7 +146,7 @@ impl Board {
         value: i64,
         steps: &mut Steps<L>,
     ) -> Result<(), AllocError>
-        requires { CanTell value (slice_get self.old.state.model.timelines line) }
+        requires { self.old.spoiled ≡ false → CanTell value (slice_get self.old.state.model.timelines line) }
         ensures ok { OnOk result (self.new ≡ after (told_now line value self.old.state)) }
         ensures err { OnErr result (self.new.spoiled ≡ true) }
         ensures after_spoil { self.old.spoiled ≡ true → IsErr result }
@@ -162,7 +163,7 @@ impl Board {
     /// Commits what starts before `h`.
     pub fn commit(&mut self, h: u32) -> Result<(), AllocError>
         requires least { self.old.spoiled ≡ false → self.old.state.committed ≤ h }
-        requires most { h ≤ self.old.state.model.horizon }
+        requires most { self.old.spoiled ≡ false → h ≤ self.old.state.model.horizon }
         ensures ok { OnOk result (self.new ≡ after (committed_to h self.old.state)) }
         ensures err { OnErr result (self.new.spoiled ≡ true) }
         ensures after_spoil { self.old.spoiled ≡ true → IsErr result }
@@ -215,6 +216,7 @@ impl Board {
         &self.watched
     }
 
+    /// Whether memory was wanting once.
     pub fn spoiled(&self) -> bool
         ensures { result ≡ self.now.spoiled }
     {

@@ -11,18 +11,18 @@ use Rattle.pl_machine.proofs.Repairs.{due_applied, keeps_applied}
 use Rattle.pl_machine.proofs.machine.appending.change_board.Goals as goal
 
 pub add_goal-requires : goal.add_goal-requires
-add_goal-requires c = let can = subst (CanChange c.args.board.now.state) c.in-Accept.is c.requires.can in record { fresh = λ _. can.0; of_model = can.1; stays = can.2 }
+add_goal-requires c = let can = subst (CanChange c.args.board.now.state) c.in-Accept.is c.requires.can in record { fresh = λ _. can.0; of_model = λ _. can.1; stays = can.2 }
 
 pub telemetry-requires : goal.telemetry-requires
 telemetry-requires c =
     let fits : SFits w64 c.in-Tell.value = search rules in
-    rw (to_z-of_z w64 c.in-Tell.value fits) (subst (CanChange c.args.board.now.state) c.in-Tell.is c.requires.can)
+    λ _. rw (to_z-of_z w64 c.in-Tell.value fits) (subst (CanChange c.args.board.now.state) c.in-Tell.is c.requires.can)
 
 pub tick-requires : goal.tick-requires
-tick-requires c = let can = subst (CanChange c.args.board.now.state) c.in-Tick.is c.requires.can in record { later = λ _. can.0; bound = can.1 }
+tick-requires c = let can = subst (CanChange c.args.board.now.state) c.in-Tick.is c.requires.can in record { later = λ _. can.0; bound = λ _. can.1 }
 
 pub commit-requires : goal.commit-requires
-commit-requires c = let can = subst (CanChange c.args.board.now.state) c.in-Commit.is c.requires.can in let bounds = commit_bounds c.args.board.now.state c.in-Commit.h can in record { least = λ _. bounds.0; most = bounds.1 }
+commit-requires c = let can = subst (CanChange c.args.board.now.state) c.in-Commit.is c.requires.can in let bounds = commit_bounds c.args.board.now.state c.in-Commit.h can in record { least = λ _. bounds.0; most = λ _. bounds.1 }
 
 pub make_repair-requires : goal.make_repair-requires
 make_repair-requires c = let can = subst (CanChange c.args.board.now.state) c.in-Repair.is c.requires.can in record { unspoiled = c.requires.unspoiled; proper = can.0; allowed = can.1; next = can.2 }
