@@ -10,24 +10,28 @@ use pl_model::Model;
 use pl_plan::Plan;
 
 impl Board {
+    /// The model that is planned for.
     pub fn model(&self) -> &Model
         ensures { result.now ≡ self.now.state.model }
     {
         self.state().model.get()
     }
 
+    /// What is placed.
     pub fn plan(&self) -> &Plan
         ensures { result.now ≡ self.now.state.plan }
     {
         &self.state().plan
     }
 
+    /// The accepted goals, dropped ones too.
     pub fn goals(&self) -> &Goals
         ensures { result.now ≡ self.now.state.goals }
     {
         &self.state().goals
     }
 
+    /// What was told last of each timeline.
     pub fn bases(&self) -> &Bases
         ensures { result.now ≡ self.now.state.bases }
     {
@@ -56,12 +60,14 @@ impl Board {
         self.state().floor()
     }
 
+    /// The id of the next activity.
     pub fn next_id(&self) -> u32
         ensures { result ≡ self.now.state.next_id }
     {
         self.state().next_id
     }
 
+    /// How many activities may be live.
     pub fn live_limit(&self) -> u32
         ensures { result ≡ self.now.state.live_limit }
     {
