@@ -64,6 +64,7 @@ fn add_until(
     ensures { OnOk result (out.new.items ≡ out.old.items ++ demands_until s.now a.now end) }
 {
     let reservations = reservations_in(s.model.get(), a);
+    out.reserve(reservations.len())?;
     add_demands(a, end, values, reservations, out)?;
     Ok(())
 }
