@@ -1,5 +1,5 @@
 -- What sorting and exchanging leave.
-use Rattle.std.proofs.Common.{◌≡◌, ℕ, ◌+◌, ◌<◌, length, get_or, Bool, true, false, List, [], ◌∷◌, ◌++◌, take, drop, take-append-drop, refl, sym, ap, ◌∙◌, subst}
+use Rattle.std.proofs.Common.{arith, ◌≡◌, ℕ, ◌+◌, ◌<◌, length, get_or, Bool, true, false, List, [], ◌∷◌, ◌++◌, take, drop, take-append-drop, refl, sym, ap, ◌∙◌, subst}
 use Rattle.std.specs.Prelude.{◌||◌, ◌&&◌, not}
 use Rattle.std.specs.declared.cmp.Ordering.{Ordering}
 use Rattle.std.specs.declared.cmp.Ordering.TheVariants.{Less, Equal, Greater}
@@ -207,13 +207,13 @@ unfolding exchanged
 ordered-exchanged ks went came = ordered-sorted (left_by went ks ++ came)
 
 -- What is new is put in, and then taken out what went and did not come.
-pub exchanged_in_steps : (ks went came : List Conflict) → left_by (left_by (sorted came) went) (sorted (ks ++ left_by ks came)) ≡ exchanged ks went came
+pub exchanged_in_steps : (ks went came : List Conflict) → left_by (left_by came went) (sorted (ks ++ left_by ks came)) ≡ exchanged ks went came
 exchanged_in_steps ks went came =
     let fresh : List Conflict = left_by ks came in
-    let leaving : List Conflict = left_by (sorted came) went in
+    let leaving : List Conflict = left_by came went in
     conflict_unique conflict_exact (left_by leaving (sorted (ks ++ fresh))) (exchanged ks went came) (ordered-left leaving (sorted (ks ++ fresh)) (ordered-sorted (ks ++ fresh))) (ordered-exchanged ks went came)
     (λ q. has-left leaving (sorted (ks ++ fresh)) q ∙ ap (λ b. b && not (has q leaving)) (has-sorted (ks ++ fresh) q ∙ has-append ks fresh q ∙ ap (λ b. has q ks || b) (has-left ks came q))
-    ∙ ap (λ b. (has q ks || (has q came && not (has q ks))) && not b) (has-left (sorted came) went q ∙ ap (λ b. has q went && not b) (has-sorted came q))
+    ∙ ap (λ b. (has q ks || (has q came && not (has q ks))) && not b) (has-left came went q)
     ∙ merged (has q ks) (has q went) (has q came) ∙ sym (has-exchanged ks went came q))
   where
     merged : (o w c : Bool) → ((o || (c && not o)) && not (w && not c)) ≡ ((o && not w) || c)
@@ -227,9 +227,27 @@ exchanged_in_steps ks went came =
     merged false false false = refl
 
 -- the same of what each step leaves
-pub exchange_done : (ks went came arriving leaving fresh mid new : List Conflict) → arriving ≡ sorted came → leaving ≡ left_by arriving went → fresh ≡ left_by ks came → mid ≡ sorted (ks ++ fresh) → new ≡ left_by leaving mid → new ≡ exchanged ks went came
-exchange_done ks went came arriving leaving fresh mid new arrive leave come grown shrunk =
-    shrunk ∙ ap (λ x. left_by x mid) (leave ∙ ap (λ x. left_by x went) arrive) ∙ ap (λ x. left_by (left_by (sorted came) went) x) (grown ∙ ap (λ x. sorted (ks ++ x)) come) ∙ exchanged_in_steps ks went came
+pub exchange_done : (ks went came leaving fresh mid new : List Conflict) → leaving ≡ left_by came went → fresh ≡ left_by ks came → mid ≡ sorted (ks ++ fresh) → new ≡ left_by leaving mid → new ≡ exchanged ks went came
+exchange_done ks went came leaving fresh mid new leave come grown shrunk =
+    shrunk ∙ ap (λ x. left_by x mid) leave ∙ ap (λ x. left_by (left_by came went) x) (grown ∙ ap (λ x. sorted (ks ++ x)) come) ∙ exchanged_in_steps ks went came
+
+-- nothing comes
+pub exchange_for_none : (ks went came new : List Conflict) → length came ≡ 0 → new ≡ left_by went ks → AreInOrder new → new ≡ exchanged ks went came
+unfolding exchanged
+exchange_for_none ks went [] new none is ordered = sym (sorted_itself new ordered) ∙ ap sorted (is ∙ sym (append-nil (left_by went ks)))
+exchange_for_none ks went (k ∷ came) new none is ordered = absurd (omega (arith, none))
+
+-- what is left by a list is left by its sorting
+left_alike : (xs ys ks : List Conflict) → ((q : Conflict) → has q xs ≡ has q ys) → left_by xs ks ≡ left_by ys ks
+left_alike xs ys [] same = refl
+left_alike xs ys (k ∷ ks) same = cases (has k ys) refl (left_alike xs ys ks same)
+  where
+    cases : (b : Bool) → has k ys ≡ b → left_by xs ks ≡ left_by ys ks → left_by xs (k ∷ ks) ≡ left_by ys (k ∷ ks)
+    cases true e more = let here : has k xs ≡ true = same k ∙ e in rw (here, e) more
+    cases false e more = let here : has k xs ≡ false = same k ∙ e in rw (here, e) (ap (λ l. k ∷ l) more)
+
+pub left_sorted : (went ks : List Conflict) → left_by (sorted went) ks ≡ left_by went ks
+left_sorted went ks = left_alike (sorted went) went ks (has-sorted went)
 
 -- none of what is new stands in the list
 pub new_is_absent : (ks came : List Conflict) (q : Conflict) → has q (left_by ks came) ≡ true → has q ks ≡ false

@@ -13,6 +13,9 @@ use std::alloc::{AllocError, Global};
 use std::collections::BTreeSet;
 use std::collections::btree_set::Iter;
 
+// So many conflicts are looked through one by one; of more a set is made first.
+const FEW: usize = 8;
+
 /// A set of conflicts, which contracts see as its sorted list.
 #[derive(Drop)]
 pub struct ConflictSet {
@@ -105,8 +108,11 @@ impl ConflictSet {
             ) }
         ensures sorted { IsStrictlySortedBy conflict_cmp self.new }
     {
-        let arriving = ConflictSet::of(self.alloc, came)?;
-        let leaving = arriving.missing(went)?;
+        if came.is_empty() {
+            self.remove_all(went);
+            return Ok(());
+        }
+        let leaving = without(self.alloc, came, went)?;
         let fresh = self.missing(came)?;
         self.insert_all(fresh.as_slice())?;
         self.remove_all(leaving.as_slice());
@@ -174,5 +180,41 @@ impl ConflictSet {
             }
         }
         Ok(())
+    }
+}
+
+// Whether it is one of a few.
+fn is_among(few: &[Conflict], conflict: &Conflict) -> bool
+    ensures { result ≡ has conflict.now few.now }
+{
+    few.iter().any(|other| conflict.cmp(other).is_eq())
+}
+
+// Those that are none of a few.
+fn without_few(
+    alloc: Global,
+    few: &[Conflict],
+    all: &[Conflict],
+) -> Result<Vec<Conflict>, AllocError>
+    ensures { IfOk result (λ left. left.items ≡ left_by few.now all.now) }
+{
+    all.iter()
+        .filter(|conflict| !is_among(few, conflict))
+        .copied()
+        .collect(alloc)
+}
+
+// Those that are none of the others.
+fn without(
+    alloc: Global,
+    others: &[Conflict],
+    all: &[Conflict],
+) -> Result<Vec<Conflict>, AllocError>
+    ensures { IfOk result (λ left. left.items ≡ left_by others.now all.now) }
+{
+    if others.len() <= FEW {
+        without_few(alloc, others, all)
+    } else {
+        ConflictSet::of(alloc, others)?.missing(all)
     }
 }

@@ -8,6 +8,7 @@ pub mod Cuts
 pub mod Strolls
 pub mod Calming
 pub mod Rounds
+pub mod Clearing
 pub mod Maximal
 pub mod Totals
 pub mod Alike

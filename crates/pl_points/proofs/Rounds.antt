@@ -310,6 +310,15 @@ rounded_change a b q s f new change le lt apart fresh says is c = record {
   came = c.came ∙ sym (ap (left_out same_span s) is ∙ rounded_came a b q s f le lt apart fresh says);
 }
 
+-- nothing went and nothing came
+pub unchanged : (s : List Span) (change : Change) → change.went ≡ [] → change.came ≡ [] → IsChange s s change
+unchanged s change went came =
+    let none : left_out same_span s s ≡ [] = left_out_none s s (among_self s) in
+    record {
+      went = went ∙ sym none;
+      came = came ∙ sym none;
+    }
+
 pub both_ok : {T E : Type 0} (A : Type 0) (P Q : T → Type 0) (r : Result T E) → ((x : T) → A → P x → Q x) → OnOk r A → IfOk r P → IfOk r Q
 both_ok A P Q (Ok x) f a h = f x a h
 both_ok A P Q (Err e) f a h = h

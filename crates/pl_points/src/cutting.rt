@@ -1,5 +1,5 @@
-ghost use Rattle.std.specs.Prelude.{◌≡◌, ◌<◌, ◌≤◌, true, suc, length, take, drop, OnOk, IfOk};
-ghost use Rattle.pl_points.specs.Spans.{AreSpans, joined};
+ghost use Rattle.std.specs.Prelude.{◌≡◌, ◌<◌, ◌≤◌, true, false, ℕ, suc, length, take, drop, OnOk, IfOk};
+ghost use Rattle.pl_points.specs.Spans.{AreSpans, covers, joined, within};
 ghost use Rattle.pl_lists.specs.Lists.{front, back};
 ghost use Rattle.pl_points.specs.Mending.{ends_before, ends_by, begins_before, reached, beyond, before, behind, cut_last};
 
@@ -81,6 +81,18 @@ fn reached_count(spans: &[Span], at: u32) -> usize
     } else {
         passed
     }
+}
+
+// Whether none of the spans has a moment of the window.
+pub(crate) fn are_clear(spans: &[Span], window: Span) -> bool
+    requires { AreSpans spans.now }
+    ensures { result ≡ true → (t : ℕ) → within window.from window.to t ≡ true → covers spans.now t ≡ false }
+{
+    let passed = passed_count(spans, window.from);
+    if passed == spans.len() {
+        return true;
+    }
+    window.to <= spans[passed].from
 }
 
 fn cut_end(spans: &mut Vec<Span>, at: u32)

@@ -1,20 +1,22 @@
 //! Maximal spans that are kept by mending them near a change.
-ghost use Rattle.std.specs.Prelude.{◌≡◌, ◌<◌, ◌≤◌, ◌+◌, ◌++◌, ℕ, false, length, take, drop, OnOk, IfOk};
+ghost use Rattle.std.specs.Prelude.{◌≡◌, ◌<◌, ◌≤◌, ◌+◌, ◌++◌, ℕ, false, List, length, take, drop, OnOk, IfOk};
 ghost use Rattle.pl_points.specs.Points.{sum_to, ArePoints};
 ghost use Rattle.pl_points.specs.Spans.{AreSpans, covers};
 ghost use Rattle.pl_points.specs.Limits.{is_outside};
 ghost use Rattle.pl_points.specs.Mending.{mended};
 ghost use Rattle.pl_points.specs.Counting.{walk_steps, walk_until, goes_outside, points_after};
 ghost use Rattle.pl_points.specs.Changes.{IsChange};
+ghost use Rattle.pl_points.specs.declared.span.Span.{Span};
 
 use crate::comparing::compare;
-use crate::cutting::{Touched, keep_before, push_behind, touched_by};
+use crate::cutting::{Touched, are_clear, keep_before, push_behind, touched_by};
 use crate::limit::Limit;
 use crate::mark::Mark;
-use crate::pieces::push_outside;
+use crate::pieces::{calm_mark, push_outside};
 use crate::points::Points;
 use crate::span::{Change, Span};
 use crate::steps::{Ledger, Steps};
+use pl_lists::Items;
 use std::alloc::{AllocError, Global};
 
 // The spans with the window as the points say it, where none lies before the mark.
@@ -64,8 +66,8 @@ fn put_back(
     Ok(change)
 }
 
-/// Mends the spans as `mend`, where it is known that the sum is not outside before the mark.
-pub fn mend_from<P: Points, L: Ledger>(
+// Mends the spans that a window may change.
+fn mend_touched<P: Points, L: Ledger>(
     alloc: Global,
     kept: &mut Vec<Span>,
     points: &P,
@@ -89,6 +91,45 @@ pub fn mend_from<P: Points, L: Ledger>(
     let touched = touched_by(alloc, kept, window)?;
     let fresh = renewed(alloc, &touched.spans, points, limit, window, mark, steps)?;
     put_back(alloc, kept, &touched, fresh)
+}
+
+// Nothing went, and nothing came.
+fn no_change(alloc: Global) -> Change
+    ensures { (spans : List Span) → IsChange spans spans result }
+{
+    Change {
+        went: Items::new(alloc),
+        came: Items::new(alloc),
+    }
+}
+
+/// Mends the spans as `mend`, where it is known that the sum is not outside before the mark.
+pub fn mend_from<P: Points, L: Ledger>(
+    alloc: Global,
+    kept: &mut Vec<Span>,
+    points: &P,
+    limit: Limit,
+    window: Span,
+    mark: Mark,
+    steps: &mut Steps<L>,
+) -> Result<Change, AllocError>
+    requires low { window.from ≤ mark.at }
+    requires bound { mark.at ≤ window.to }
+    requires inside { (t : ℕ) → window.from ≤ t → t < mark.at → is_outside limit (sum_to (P.points points.now) t) ≡ false }
+    requires sum { mark.at < window.to → mark.sum ≡ sum_to (P.points points.now) mark.at }
+    requires sound { ArePoints (P.points points.now) }
+    requires falls { (a b : ℕ) → a ≤ b → P.ahead points.now b ≤ P.ahead points.now a }
+    requires apart { AreSpans kept.old.items }
+    ensures apart { OnOk result (AreSpans kept.new.items) }
+    ensures covers { OnOk result ((t : ℕ) → covers kept.new.items t ≡ mended window.from window.to (λ x. is_outside limit (sum_to (P.points points.now) x)) kept.old.items t) }
+    ensures change { IfOk result (λ c. IsChange kept.old.items kept.new.items c) }
+    ensures cost { steps.new ≤ steps.old + walk_until (P.ahead points.now) P.look_steps P.search_steps (goes_outside limit (P.points points.now)) (P.points points.now) mark.at window.to }
+{
+    let mark = calm_mark(points, limit, mark, window.to, steps);
+    if mark.at == window.to && are_clear(kept, window) {
+        return Ok(no_change(alloc));
+    }
+    mend_touched(alloc, kept, points, limit, window, mark, steps)
 }
 
 /// Mends the spans in the window, as the points say it, and leaves them elsewhere as they were.

@@ -245,3 +245,31 @@ pub(crate) fn push_outside<P: Points, L: Ledger>(
     }
     Ok(())
 }
+
+/// Takes the mark on to where the sum is outside, or to a moment.
+pub(crate) fn calm_mark<P: Points, L: Ledger>(
+    points: &P,
+    limit: Limit,
+    mark: Mark,
+    to: u32,
+    steps: &mut Steps<L>,
+) -> Mark
+    requires some { mark.at ≤ to }
+    requires sum { mark.at < to → mark.sum ≡ sum_to (P.points points.now) mark.at }
+    requires sound { ArePoints (P.points points.now) }
+    requires falls { (a b : ℕ) → a ≤ b → P.ahead points.now b ≤ P.ahead points.now a }
+    ensures low { mark.at ≤ result.at }
+    ensures bound { result.at ≤ to }
+    ensures inside { (t : ℕ) → mark.at ≤ t → t < result.at → is_outside limit (sum_to (P.points points.now) t) ≡ false }
+    ensures sum { result.at < to → result.sum ≡ sum_to (P.points points.now) result.at }
+    ensures cost { steps.new + walk_until (P.ahead points.now) P.look_steps P.search_steps (goes_outside limit (P.points points.now)) (P.points points.now) result.at to ≤ steps.old + walk_until (P.ahead points.now) P.look_steps P.search_steps (goes_outside limit (P.points points.now)) (P.points points.now) mark.at to }
+{
+    if mark.at == to {
+        return mark;
+    }
+    if is_outside(limit, mark.sum) {
+        return mark;
+    }
+    let (at, sum) = inside_piece(points, limit, mark.at, mark.sum, to, steps);
+    Mark { at, sum }
+}

@@ -1,8 +1,17 @@
-use Rattle.std.proofs.Common.{◌≡◌, ◌∙◌, sym, ap}
+use Rattle.std.proofs.Common.{rules, ◌≡◌, ◌∙◌, sym, ap}
 use Rattle.pl_conflict.specs.Order.{has}
 use Rattle.pl_conflict.specs.Sorting.{left_by}
-use Rattle.pl_conflict.proofs.Sorting.{new_is_absent, exchange_done, has-exchanged}
+use Rattle.pl_conflict.proofs.Sorting.{new_is_absent, exchange_done, exchange_for_none, has-exchanged}
 use Rattle.pl_conflict.proofs.set.ConflictSet.exchange.Goals as goal
+
+pub returns-then-is_empty-clause-ok : goal.returns-then-is_empty-clause-ok
+returns-then-is_empty-clause-ok c =
+    exchange_for_none c.args.self.now c.args.went.now c.args.came.now c.remove_all.new.self (search (rules, c.if-is_empty.true, c.is_empty.ensures)) c.remove_all.ensures.after c.remove_all.ensures.sorted
+
+pub returns-then-is_empty-clause-members : goal.returns-then-is_empty-clause-members
+returns-then-is_empty-clause-members c q =
+    ap (has q) (exchange_for_none c.args.self.now c.args.went.now c.args.came.now c.remove_all.new.self (search (rules, c.if-is_empty.true, c.is_empty.ensures)) c.remove_all.ensures.after c.remove_all.ensures.sorted)
+    ∙ has-exchanged c.args.self.now c.args.went.now c.args.came.now q
 
 pub insert_all-requires-clause-absent : goal.insert_all-requires-clause-absent
 insert_all-requires-clause-absent c =
@@ -11,11 +20,11 @@ insert_all-requires-clause-absent c =
 
 pub returns-clause-ok : goal.returns-clause-ok
 returns-clause-ok c =
-    exchange_done c.args.self.now c.args.went.now c.args.came.now _ _ _ _ _ c.in_ok-arriving.ensures (c.as_slice-2.ensures.value ∙ c.in_ok-leaving.ensures) (c.as_slice.ensures.value ∙ c.in_ok-fresh.ensures)
-    c.in_ok-insert_all.ensures.ok c.remove_all.ensures.after
+    exchange_done c.args.self.now c.args.went.now c.args.came.now _ _ _ _ (c.as_slice-2.ensures.value ∙ c.in_ok-leaving.ensures) (c.as_slice.ensures.value ∙ c.in_ok-fresh.ensures)
+    c.in_ok-insert_all.ensures.ok c.remove_all-2.ensures.after
 
 pub returns-clause-members : goal.returns-clause-members
 returns-clause-members c q =
-    ap (has q) (exchange_done c.args.self.now c.args.went.now c.args.came.now _ _ _ _ _ c.in_ok-arriving.ensures (c.as_slice-2.ensures.value ∙ c.in_ok-leaving.ensures) (c.as_slice.ensures.value ∙ c.in_ok-fresh.ensures)
-    c.in_ok-insert_all.ensures.ok c.remove_all.ensures.after)
+    ap (has q) (exchange_done c.args.self.now c.args.went.now c.args.came.now _ _ _ _ (c.as_slice-2.ensures.value ∙ c.in_ok-leaving.ensures) (c.as_slice.ensures.value ∙ c.in_ok-fresh.ensures)
+    c.in_ok-insert_all.ensures.ok c.remove_all-2.ensures.after)
     ∙ has-exchanged c.args.self.now c.args.went.now c.args.came.now q
