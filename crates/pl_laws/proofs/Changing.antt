@@ -50,7 +50,7 @@ pub record Kept (s s2 : PlanState) : Type 0 where
 -- ---- nothing changes
 
 stays_itself : (s : PlanState) → StaysCommitted s s
-stays_itself s = record { committed = omega arith; stands = λ id a here c. here; still = λ id a here c. c; values = λ id a here c. refl }
+stays_itself s = record { committed = omega arith; stands = λ id a here c. here; still = λ id a here c. c; values = λ id a here c. refl; ends = λ id a here c. refl }
 
 standing_itself : (s : PlanState) → KeepsStanding s s
 standing_itself s = record { model = refl; next_id = omega arith; due = ([], sym (append-nil (due_in s))); sendable = λ sendable. sendable }
@@ -64,7 +64,7 @@ more_committed : (start c h : ℕ) → c ≤ h → nat_lt start c ≡ true → n
 more_committed start c h le early = let lt = ltb-true start c early in lt-ltb start h (omega (arith, lt, le))
 
 stays_commit : (s : PlanState) (h : ℕ) → s.committed ≤ h → StaysCommitted s (committed_to h s)
-stays_commit s h le = record { committed = le; stands = λ id a here c. here; still = λ id a here c. more_committed a.start s.committed h le c; values = λ id a here c. refl }
+stays_commit s h le = record { committed = le; stands = λ id a here c. here; still = λ id a here c. more_committed a.start s.committed h le c; values = λ id a here c. refl; ends = λ id a here c. refl }
 
 whole_commit : (s : PlanState) (h : ℕ) → IsWhole s → h ≤ s.model.horizon → IsWhole (committed_to h s)
 whole_commit s h w le = record {
@@ -89,6 +89,7 @@ stays_repair s s2 keeps = record {
   stands = keeps.stands;
   still = λ id a here c. ap (λ (h : ℕ). nat_lt a.start h) keeps.committed ∙ c;
   values = keeps.values;
+  ends = keeps.ends;
 }
 
 whole_by : (s : PlanState) (m : RepairMove) → IsWhole s → s.next_id ≤ 3999999000 → IsOfActivities m → is_proper s m ≡ true → refusal_of s m ≡ None → IsWhole (applied s m)
@@ -106,13 +107,13 @@ whole_applied s (repair.Assign id param value) whole few proper allowed = whole_
 whole_applied s (repair.Drop goal) whole few proper allowed = subst IsWhole (dropped_is s goal) (whole_without_goal s goal whole)
 
 kept_accept : (s : PlanState) (g : Goal) → IsWhole s → goal_of g.number s.goals ≡ None → IsGoalOf s.model g → Kept s (with_goal g s)
-kept_accept s g whole none is = record { whole = whole_with_goal s g whole none is; standing = keeps_accept s g; stays = record { committed = omega arith; stands = λ id a here c. here; still = λ id a here c. c; values = λ id a here c. refl } }
+kept_accept s g whole none is = record { whole = whole_with_goal s g whole none is; standing = keeps_accept s g; stays = record { committed = omega arith; stands = λ id a here c. here; still = λ id a here c. c; values = λ id a here c. refl; ends = λ id a here c. refl } }
 
 kept_tell : (s : PlanState) (line : ℕ) (value : ℤ) → IsWhole s → CanTell value (slice_get s.model.timelines line) → Kept s (told_now line value s)
-kept_tell s line value whole can = record { whole = whole_told s line value whole can; standing = keeps_tell s line value; stays = record { committed = omega arith; stands = λ id a here c. here; still = λ id a here c. c; values = λ id a here c. refl } }
+kept_tell s line value whole can = record { whole = whole_told s line value whole can; standing = keeps_tell s line value; stays = record { committed = omega arith; stands = λ id a here c. here; still = λ id a here c. c; values = λ id a here c. refl; ends = λ id a here c. refl } }
 
 kept_tick : (s : PlanState) (moment : ℕ) → IsWhole s → s.moment < moment → moment ≤ s.model.horizon → Kept s (moved_on moment s)
-kept_tick s moment whole later within = record { whole = whole_moved_on s moment whole later within; standing = keeps_tick s moment whole.rising later; stays = record { committed = omega arith; stands = λ id a here c. here; still = λ id a here c. c; values = λ id a here c. refl } }
+kept_tick s moment whole later within = record { whole = whole_moved_on s moment whole later within; standing = keeps_tick s moment whole.rising later; stays = record { committed = omega arith; stands = λ id a here c. here; still = λ id a here c. c; values = λ id a here c. refl; ends = λ id a here c. refl } }
 
 kept_grant : (s : PlanState) (h : ℕ) → IsWhole s → commit_reply s h ≡ reply.Done → Kept s (committed_to h s)
 kept_grant s h whole done = let bounds = commit_bounds s h done in record { whole = whole_commit s h whole bounds.1; standing = keeps_commit s h whole done; stays = stays_commit s h bounds.0 }

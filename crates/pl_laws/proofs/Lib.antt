@@ -6,4 +6,6 @@ pub mod Changing
 pub mod Running
 pub mod Sent
 pub mod Worlds
+pub mod Spending
 pub mod Budgets
+pub mod PairBudgets

@@ -43,7 +43,7 @@ repairs_keep m checked log k mv answer legal =
 -- ---- a log that goes on
 
 stays_itself : (s : PlanState) → StaysCommitted s s
-stays_itself s = record { committed = omega arith; stands = λ id a here c. here; still = λ id a here c. c; values = λ id a here c. refl }
+stays_itself s = record { committed = omega arith; stands = λ id a here c. here; still = λ id a here c. c; values = λ id a here c. refl; ends = λ id a here c. refl }
 
 stays_through : (s s2 s3 : PlanState) → StaysCommitted s s2 → StaysCommitted s2 s3 → StaysCommitted s s3
 stays_through s s2 s3 one two = record {
@@ -51,6 +51,7 @@ stays_through s s2 s3 one two = record {
   stands = λ id a here c. two.stands id a (one.stands id a here c) (one.still id a here c);
   still = λ id a here c. two.still id a (one.stands id a here c) (one.still id a here c);
   values = λ id a here c. two.values id a (one.stands id a here c) (one.still id a here c) ∙ one.values id a here c;
+  ends = λ id a here c. two.ends id a (one.stands id a here c) (one.still id a here c) ∙ one.ends id a here c;
 }
 
 stays_on : {m : Model} (count : ℕ) (w : World) (es : List Entry) → Stands m count w → count + length es ≤ 250000 → legal_from w es → StaysCommitted w.state (world_from w es).state

@@ -110,3 +110,29 @@ AreCommitsChosen m log = chosen_from (fresh_world m (options_of log)) (entries_b
 -- Beside its opening such a log has ten thousand commands at most, and for each input four entries and as many as a round has turns.
 abbrev pub LengthIsBounded : Model → Type 0
 LengthIsBounded m = (log : List Entry) → Legal m log → AreCommitsChosen m log → length log ≤ 10001 + length (inputs_of log) * ((options_of log).turns + 4)
+
+-- a commit is what the executive chooses, whether or not repair rests
+abbrev pub IsExecutiveChoice : World → Event → Type 0
+IsExecutiveChoice w (event.Opened o) = Unit {0}
+IsExecutiveChoice w (event.Input line) = Unit {0}
+IsExecutiveChoice w (event.Fix k mv) = Unit {0}
+IsExecutiveChoice w event.Rest = Unit {0}
+IsExecutiveChoice w (event.Commit h) = exec_choice_of w ≡ Some (choice.Commit h)
+IsExecutiveChoice w event.Dispatch = Unit {0}
+IsExecutiveChoice w event.Close = Unit {0}
+
+abbrev pub executive_from : World → List Entry → Type 0
+executive_from w [] = Unit {0}
+executive_from w (e ∷ es) = IsExecutiveChoice w e.event × executive_from (after w e.event) es
+
+-- so is each commit of a log, as where an executive acts on a plan that a planner repairs
+abbrev pub AreCommitsOfExecutive : Model → List Entry → Type 0
+AreCommitsOfExecutive m log = executive_from (fresh_world m (options_of log)) (entries_behind log)
+
+-- what is chosen once repair rests is chosen, so each log of one thread is such a log too
+abbrev pub ChosenAreOfExecutive : Model → Type 0
+ChosenAreOfExecutive m = (log : List Entry) → AreCommitsChosen m log → AreCommitsOfExecutive m log
+
+-- Beside its opening such a log has ten thousand commands at most, and for each input five entries and twice as many as a round has turns.
+abbrev pub PairLengthIsBounded : Model → Type 0
+PairLengthIsBounded m = (log : List Entry) → Legal m log → AreCommitsOfExecutive m log → length log ≤ 10001 + length (inputs_of log) * (2 * (options_of log).turns + 5)
