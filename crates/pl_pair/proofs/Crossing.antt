@@ -1,0 +1,89 @@
+-- A plan may be shared among threads, a worker may be handed back from one, and what a worker's thread is handed may be sent to it.
+use mathlib.Core.List.{List, [], ◌∷◌}
+use Prim.Native.Nat.{ℕ}
+use mir.Syntax.{ty_unit, named}
+use base.Fml.{Lft}
+use denote.RattleType.{RattleType}
+use denote.Exit
+use denote.Ref.{ShrRef}
+use denote.Param.{param, arg}
+use denote.Param.Send.{IsSend, IsSync, AllSend, param_send, arg_send, struct_send, struct_sync, recorded_send, recorded_sync, shr_send, sendable}
+use denote.Struct.Declared.{shape}
+use denote.Struct.Field.{rows}
+use denote.Struct.Struct.{Struct}
+use denote.Struct.Tuple.{parts, type_at, TupleAt}
+use Rattle.std.proofs.Crossing.{crosses}
+use Rattle.std.specs.contracts.alloc.Global as Heap
+use Rattle.std.specs.contracts.sync.atomic.AtomicBool
+use Rattle.pl_turn.proofs.lock.TurnLock.TheSendSync as lock
+use Rattle.pl_turn.proofs.pass.Pass.TheSendSync as pass
+use Rattle.pl_turn.specs.contracts.pass.Pass
+use Rattle.pl_machine.proofs.stop.Stop.TheSendSync as stop
+use Rattle.pl_choose.proofs.seeded.Seeded.TheSendSync as seeded
+use Rattle.pl_choose.specs.contracts.seeded.Seeded
+use Rattle.pl_shared.proofs.bell.Bell.TheSendSync as bell
+use Rattle.pl_shared.proofs.role.Role.TheSendSync as role
+use Rattle.pl_shared.proofs.Crossing.{held_send}
+use Rattle.pl_shared.specs.contracts.held.Held
+use Rattle.pl_shared.specs.contracts.noted.Noted
+use Rattle.pl_shared.specs.contracts.plan.SharedPlan
+use Rattle.pl_pair.specs.contracts.worker.Worker
+
+held_whole : IsSend Held.the_row
+held_whole = search (held_send, sendable, crosses) depth 40 fits 6000
+
+plan_fields : IsSync SharedPlan.the_field.row
+plan_fields = struct_sync (shape SharedPlan.the_type) (lock.the_field_sync Held.the_row Noted.the_row _ held_whole, (bell.the_field_sync, tt))
+
+pub plan_sync : IsSync SharedPlan.the_row
+plan_sync = let T = SharedPlan.the_type in recorded_sync (Struct (shape T)) T.D T.to T.to_one plan_fields
+
+pass_fields : IsSend (Pass.the_field Held.the_row Noted.the_row).row
+pass_fields = pass.the_field_send Held.the_row Noted.the_row held_whole
+
+pub pass_send : IsSend (Pass.the_row Held.the_row Noted.the_row)
+pass_send = pass.the_send Held.the_row Noted.the_row held_whole
+
+pub worker_send : IsSend Worker.the_field.row
+worker_send = struct_send (shape Worker.the_type) (pass_fields, (role.the_field_send, (search (stop.the_send, sendable, crosses) depth 40 fits 6000, tt)))
+
+chooser_send : IsSend Seeded.the_row
+chooser_send = seeded.the_send
+
+heap_send : IsSend Heap.the_row
+heap_send = search (sendable, crosses) depth 40 fits 6000
+
+flag_sync : IsSync AtomicBool.the_row
+flag_sync = search (sendable, crosses) depth 40 fits 6000
+
+-- ---- what a thread is handed
+
+captures_send : (Ts : List RattleType) → AllSend Ts → AllSend (rows (parts Ts))
+captures_send [] s = tt
+captures_send (T ∷ Ts) s = (s.0, captures_send Ts s.1)
+
+-- a closure may be sent where each of its captures may
+closure_send : (i : ℕ) (Ts : List RattleType) → AllSend Ts → IsSend (param i (arg ty_unit denote.Exit.no (TupleAt [] Ts)))
+closure_send i Ts s =
+    let T = type_at [] Ts in
+    param_send i (arg ty_unit denote.Exit.no (TupleAt [] Ts)) (arg_send ty_unit denote.Exit.no (TupleAt [] Ts) (recorded_send (Struct (shape T)) T.D T.to T.to_one (struct_send (shape T) (captures_send Ts s))))
+
+module _ (a b c d : Lft) (R G : RattleType) (r : IsSync R) (g : IsSync G) where
+  abbrev pub planner_has : List RattleType
+  planner_has =
+      ShrRef (named 0) a R ∷ Heap.the_row ∷ ShrRef (named 0) b SharedPlan.the_row ∷ ShrRef (named 0) c G ∷ Pass.the_row Held.the_row Noted.the_row ∷ Seeded.the_row ∷ ShrRef (named 0) d AtomicBool.the_row ∷ []
+
+  pub planner_send : IsSend (param 2 (arg ty_unit denote.Exit.no (TupleAt [] planner_has)))
+  planner_send = closure_send 2 planner_has (
+    shr_send (named 0) a R r,
+    (heap_send, (shr_send (named 0) b SharedPlan.the_row plan_sync, (shr_send (named 0) c G g, (pass_send, (chooser_send, (shr_send (named 0) d AtomicBool.the_row flag_sync, tt)))))),
+  )
+
+  abbrev pub executive_has : List RattleType
+  executive_has = ShrRef (named 0) a R ∷ Heap.the_row ∷ ShrRef (named 0) b SharedPlan.the_row ∷ ShrRef (named 0) c G ∷ Pass.the_row Held.the_row Noted.the_row ∷ ShrRef (named 0) d AtomicBool.the_row ∷ []
+
+  pub executive_send : IsSend (param 2 (arg ty_unit denote.Exit.no (TupleAt [] executive_has)))
+  executive_send = closure_send 2 executive_has (
+    shr_send (named 0) a R r,
+    (heap_send, (shr_send (named 0) b SharedPlan.the_row plan_sync, (shr_send (named 0) c G g, (pass_send, (shr_send (named 0) d AtomicBool.the_row flag_sync, tt))))),
+  )

@@ -1,0 +1,400 @@
+-- Round after round, and message after message.
+use Rattle.std.proofs.Common.{◌≡◌, ℕ, suc, ◌+◌, ◌≤◌, ◌<◌, List, [], ◌∷◌, ◌++◌, length, take, drop, filter, Bool, true, false, not, Option, Some, None, IfSome, Result, Ok, Err, inl, inr, ◌⊎◌, refl, sym, ◌∙◌, ap, subst, arith, append_assoc, length-append}
+use Rattle.std.proofs.lemmas.List.{append-nil, take-append-le}
+use Rattle.std.proofs.lemmas.List.Elements.{filter_map-append, filter-append}
+use Rattle.std.proofs.Math.Seq.{take-append-add}
+use mathlib.Core.List.{IsPrefix}
+use Rattle.pl_turn.specs.Passes.{seen_of, mine_of}
+use Rattle.pl_turn.proofs.Histories.{prefix_self, prefix_trans}
+use Rattle.pl_io.specs.declared.errors.LineFault.{LineFault}
+use Rattle.pl_io.specs.declared.errors.LineFault.TheVariants as fault
+use Rattle.pl_io.specs.Faults.{Rose}
+use Rattle.pl_io.specs.Reader.{NumberedLine}
+use Rattle.pl_model.specs.declared.whole.Model.{Model}
+use Rattle.pl_entry.specs.declared.event.Event.TheVariants as event
+use Rattle.pl_entry.specs.declared.entry.Entry.{Entry}
+use Rattle.pl_machine.specs.Lines.{is_blank_line}
+use Rattle.pl_machine.specs.declared.stop.Stop.TheVariants as stop
+use Rattle.pl_render.specs.Lines.{text_from}
+use Rattle.pl_render.proofs.Texts.{text_joined}
+use Rattle.pl_stream.specs.Reads.{Took, IsUsedUp, AreBlank}
+use Rattle.pl_stream.specs.Waits.{MessageGives, GetsMessage, GetsEnd}
+use Rattle.pl_stream.specs.Written.{Adds}
+use Rattle.pl_stream.proofs.Reading.{took_more, used_later}
+use Rattle.pl_stream.proofs.Writing.{some_held, adds_then}
+use Rattle.pl_shared.specs.declared.noted.Noted.{Noted}
+use Rattle.pl_shared.specs.declared.noted.Noted.TheVariants.{Opened, Made, Stopped}
+use Rattle.pl_shared.specs.declared.plan.SharedPlan.{SharedPlan}
+use Rattle.pl_shared.specs.Items.{entry_in, entries_in, stop_in, InWorld}
+use Rattle.pl_shared.specs.Roles.{IsInputOf}
+use Rattle.pl_shared.specs.Plans.{PlanPass, BelongsTo}
+use Rattle.pl_shared.specs.Turns.{TakesTurn, Makes, Stops}
+use Rattle.pl_shared.proofs.Progress.{from_world}
+use Rattle.pl_pair.specs.declared.cut.Cut.{Cut}
+use Rattle.pl_pair.specs.declared.cut.Cut.TheVariants as cut
+use Rattle.pl_pair.specs.declared.rounds.Stage.TheVariants as stage
+use Rattle.pl_pair.specs.Cuts.{cut_by}
+use Rattle.pl_pair.specs.Rounds.{Follows, Looks, IsBetween, AddsFront, lines_behind, RoundEnds}
+use Rattle.std.specs.Prelude.{IsErrOf}
+use Rattle.pl_pair.specs.Asking.{Place, Asks, line_in, HandsIn, HandsOn, HandsNone, Passes, PassesTo}
+use Rattle.pl_pair.specs.Feeds.{spoken, said_in, IsInput, AreInputs, Reads, unasked, asked, EndsUsed, Tells, Writes, WritesAll, StepsOn, StepsOut, StepsCut, in_round, at_message, Steps, Feeding, Waiting, FeedsOut, FeedsUntil, FeedsRefused, FeedsStopped, FeedsPart, FeedsCut, refused, stopped, FeedsAll, FeedsToEnd}
+use Rattle.pl_pair.proofs.Passing.{follows_self, follows_on, entries_longer}
+
+-- ---- lists
+
+pub drop_front : {A : Type 0} (xs ys : List A) → drop (length xs) (xs ++ ys) ≡ ys
+drop_front [] ys = refl
+drop_front (x ∷ xs) ys = drop_front xs ys
+
+some_nil : {A : Type 0} (xs : List A) (x : A) → [] ≡ xs ++ x ∷ [] → ⊥
+some_nil [] x e = cc
+some_nil (y ∷ xs) x e = cc
+
+pub last_is : {A : Type 0} (xs ys : List A) (x y : A) → xs ++ x ∷ [] ≡ ys ++ y ∷ [] → x ≡ y
+last_is [] [] x y e = cc
+last_is [] (z ∷ ys) x y e = absurd (let h : [] ≡ ys ++ y ∷ [] = cc in some_nil ys y h)
+last_is (z ∷ xs) [] x y e = absurd (let h : [] ≡ xs ++ x ∷ [] = cc in some_nil xs x h)
+last_is (z ∷ xs) (w ∷ ys) x y e = (let h : xs ++ x ∷ [] ≡ ys ++ y ∷ [] = cc in last_is xs ys x y h)
+
+-- ---- what is written
+
+-- the entries of a history that goes on
+pub entries_on : (front seen : List Noted) → (on : IsPrefix front seen) → entries_in seen ≡ entries_in front ++ entries_in on.0
+entries_on front seen on = ap entries_in (sym on.1) ∙ filter_map-append entry_in front on.0
+
+text_on : (m : Model) (front seen : List Noted) (from : ℕ) → IsPrefix front seen → from ≡ length (entries_in front) → text_from m 0 (entries_in front) ++ lines_behind m from seen ≡ text_from m 0 (entries_in seen)
+text_on m front seen from on count =
+    let es = entries_in front in
+    let more = entries_in on.0 in
+    let whole = entries_on front seen on in
+    let left : drop from (entries_in seen) ≡ more = ap (λ (k : ℕ). drop k (entries_in seen)) count ∙ ap (λ (xs : List Entry). drop (length es) xs) whole ∙ drop_front es more in
+    let start : from ≡ 0 + length es = omega (arith, count) in
+    ap (λ (xs : List Entry). text_from m 0 es ++ text_from m from xs) left
+    ∙ ap (λ (k : ℕ). text_from m 0 es ++ text_from m k more) start
+    ∙ sym (text_joined m 0 es more)
+    ∙ ap (λ (xs : List Entry). text_from m 0 xs) (sym whole)
+
+wrote_on : (m : Model) (held mid now : Option (List ℕ)) (front seen : List Noted) (from : ℕ) → IsPrefix front seen → from ≡ length (entries_in front) → Adds held mid (text_from m 0 (entries_in front)) → Adds mid now (lines_behind m from seen) → WritesAll m held seen now
+wrote_on m held mid now front seen from on count first second =
+    subst (λ (t : List ℕ). Adds held now t) (text_on m front seen from on count) (adds_then held mid now (text_from m 0 (entries_in front)) (lines_behind m from seen) first second)
+
+-- a front behind what was written
+front_then : (held mid now : Option (List ℕ)) (xs ys : List ℕ) → Adds held mid xs → AddsFront mid now ys → AddsFront held now (xs ++ ys)
+front_then None mid now xs ys first second = tt
+front_then (Some before) mid now xs ys first second =
+    let part = subst (λ (m : Option (List ℕ)). AddsFront m now ys) first second in
+    (length xs + part.0, (let le = part.1 in let long = length-append xs ys in omega arith), part.2 ∙ ap (λ (t : List ℕ). Some t) (append_assoc before xs (take part.0 ys) ∙ ap (λ (t : List ℕ). before ++ t) (sym (take-append-add xs ys part.0))))
+
+wrote_part : (m : Model) (held mid now : Option (List ℕ)) (front seen : List Noted) (from : ℕ) → IsPrefix front seen → from ≡ length (entries_in front) → Adds held mid (text_from m 0 (entries_in front)) → AddsFront mid now (lines_behind m from seen) → AddsFront held now (text_from m 0 (entries_in seen))
+wrote_part m held mid now front seen from on count first second =
+    subst (λ (t : List ℕ). AddsFront held now t) (text_on m front seen from on count) (front_then held mid now (text_from m 0 (entries_in front)) (lines_behind m from seen) first second)
+
+-- all of a front
+pub front_of : (held now : Option (List ℕ)) (xs ys : List ℕ) → Adds held now xs → AddsFront held now (xs ++ ys)
+front_of None now xs ys adds = tt
+front_of (Some before) now xs ys adds =
+    let all : take (length xs + 0) (xs ++ ys) ≡ xs ++ [] = take-append-add xs ys 0 in
+    (length xs + 0, (let long = length-append xs ys in omega arith), adds ∙ ap (λ (t : List ℕ). Some (before ++ t)) (sym (all ∙ append-nil xs)))
+
+-- of what was written before the history went on
+pub wrote_before : (m : Model) (held now : Option (List ℕ)) (front seen : List Noted) → IsPrefix front seen → WritesAll m held front now → AddsFront held now (text_from m 0 (entries_in seen))
+wrote_before m held now front seen on adds =
+    subst (λ (t : List ℕ). AddsFront held now t)
+    (sym (text_joined m 0 (entries_in front) (entries_in on.0)) ∙ ap (λ (xs : List Entry). text_from m 0 xs) (sym (entries_on front seen on)))
+    (front_of held now (text_from m 0 (entries_in front)) (text_from m (0 + length (entries_in front)) (entries_in on.0)) adds)
+
+-- ---- what was told
+
+tells_on : (old mid new : PlanPass) (start place : Place) → Tells old start mid place → Follows mid new → mine_of new ≡ mine_of mid → Tells old start new place
+tells_on old mid new start place tells follows same = record {
+  follows = follows_on old mid new tells.follows follows;
+  lines = tells.lines;
+  inputs = tells.inputs;
+  reads = tells.reads;
+  said = tells.said;
+  used = tells.used;
+  mine = (let P : List (ℕ × Noted) → Type 0 = λ xs. AreInputs tells.inputs xs in subst P (sym same) tells.mine);
+}
+
+reads_on : (start middle place : Place) (xs ys : List (List ℕ)) → Reads start xs middle → Took middle.reader middle.ahead ys place.reader place.ahead → Took start.reader start.ahead (xs ++ ys) place.reader place.ahead
+reads_on start middle place xs ys (unasked none same) took =
+    let P : List (List ℕ) → Type 0 = λ zs. Took start.reader start.ahead (zs ++ ys) place.reader place.ahead in
+    let Q : Place → Type 0 = λ p. Took p.reader p.ahead ys place.reader place.ahead in
+    subst P (sym none) (subst Q same took)
+reads_on start middle place xs ys (asked works first) took = took_more start.reader middle.reader place.reader start.ahead middle.ahead place.ahead xs ys first took
+
+works_on : (start middle : Place) (xs : List (List ℕ)) → Reads start xs middle → middle.reader.failed ≡ None → start.reader.failed ≡ None
+works_on start middle xs (unasked none same) works = sym (ap (λ (p : Place). p.reader.failed) same) ∙ works
+works_on start middle xs (asked works first) works2 = works
+
+used_on : (start middle place : Place) (xs : List (List ℕ)) → Reads start xs middle → IsUsedUp middle.ahead place.ahead → IsUsedUp start.ahead place.ahead
+used_on start middle place xs (unasked none same) used =
+    let Q : Place → Type 0 = λ p. IsUsedUp p.ahead place.ahead in
+    subst Q same used
+used_on start middle place xs (asked works took) used = used_later start.reader.limit start.reader.room start.ahead xs middle.reader.room middle.ahead place.ahead took.gave used
+
+spoken_blank : (lines rest : List (List ℕ)) → AreBlank lines → spoken (lines ++ rest) ≡ spoken rest
+spoken_blank [] rest all = refl
+spoken_blank (x ∷ xs) rest all = rw all.0 (spoken_blank xs rest all.1)
+
+spoken_one : (line : List ℕ) → is_blank_line line ≡ false → spoken (line ∷ []) ≡ line ∷ []
+spoken_one line other = rw other refl
+
+said_more : (inputs : List (Option (List ℕ))) (lines blanks : List (List ℕ)) (line : List ℕ) → said_in inputs ≡ spoken lines → AreBlank blanks → is_blank_line line ≡ false
+    → said_in (inputs ++ Some line ∷ []) ≡ spoken (lines ++ (blanks ++ line ∷ []))
+said_more inputs lines blanks line said blank other =
+    filter_map-append (λ (m : Option (List ℕ)). m) inputs (Some line ∷ [])
+    ∙ ap (λ (ls : List (List ℕ)). ls ++ line ∷ []) said
+    ∙ ap (λ (ls : List (List ℕ)). spoken lines ++ ls) (sym (spoken_blank blanks (line ∷ []) blank ∙ spoken_one line other))
+    ∙ sym (filter-append (λ (l : List ℕ). not (is_blank_line l)) lines (blanks ++ line ∷ []))
+
+said_same : (inputs : List (Option (List ℕ))) (lines blanks : List (List ℕ)) → said_in inputs ≡ spoken lines → AreBlank blanks → said_in (inputs ++ None ∷ []) ≡ spoken (lines ++ blanks)
+said_same inputs lines blanks said blank =
+    filter_map-append (λ (m : Option (List ℕ)). m) inputs (None ∷ [])
+    ∙ append-nil (said_in inputs)
+    ∙ said
+    ∙ sym (append-nil (spoken lines))
+    ∙ ap (λ (ls : List (List ℕ)). spoken lines ++ ls) (sym (ap spoken (sym (append-nil blanks)) ∙ spoken_blank blanks [] blank))
+    ∙ sym (filter-append (λ (l : List ℕ). not (is_blank_line l)) lines blanks)
+
+inputs_push : (inputs : List (Option (List ℕ))) (own : List (ℕ × Noted)) (line : Option (List ℕ)) (x : ℕ × Noted) → AreInputs inputs own → IsInput line x.1 → AreInputs (inputs ++ line ∷ []) (own ++ x ∷ [])
+inputs_push [] [] line x are is = (is, tt)
+inputs_push [] (y ∷ own) line x are is = absurd are
+inputs_push (l ∷ inputs) [] line x are is = absurd are
+inputs_push (l ∷ inputs) (y ∷ own) line x are is = (are.0, inputs_push inputs own line x are.1 is)
+
+-- a message more
+tells_more : (plan : SharedPlan) (old mid new : PlanPass) (start middle place : Place) → Tells old start mid middle → Follows mid new → HandsOn middle mid (Ok tt) place new → Tells old start new place
+tells_more plan old mid new start middle place tells follows step = by_message step.message step.asks step.hands
+  where
+    by_message : (message : Option NumberedLine) → Asks middle (Ok message) place → HandsIn (line_in message) mid (Ok tt) new → Tells old start new place
+    by_message None asks hands =
+        let gets = asks.1 in
+        let makes = hands.1 in
+        let is : makes.entry.event ≡ event.Input None = from_world (λ w. IsInputOf None w makes.entry) (makes.entry.event ≡ event.Input None) (seen_of mid ++ makes.between) makes.by (λ w h. h) in
+        record {
+          follows = follows_on old mid new tells.follows follows;
+          lines = tells.lines ++ gets.lines;
+          inputs = tells.inputs ++ None ∷ [];
+          reads = asked (works_on start middle tells.lines tells.reads asks.0) (reads_on start middle place tells.lines gets.lines tells.reads gets.took);
+          said = said_same tells.inputs tells.lines gets.lines tells.said gets.blank;
+          used = λ front e. used_on start middle place tells.lines tells.reads gets.used_up;
+          mine = (let P : List (ℕ × Noted) → Type 0 = λ xs. AreInputs (tells.inputs ++ None ∷ []) xs in subst P (sym makes.mine) (inputs_push tells.inputs (mine_of mid) None (hands.0, Made makes.entry) tells.mine is));
+        }
+    by_message (Some line) asks hands =
+        let gets = asks.1 in
+        let makes = hands.1 in
+        let is : makes.entry.event ≡ event.Input (Some line.bytes) = from_world (λ w. IsInputOf (Some line.bytes) w makes.entry) (makes.entry.event ≡ event.Input (Some line.bytes)) (seen_of mid ++ makes.between) makes.by (λ w h. h) in
+        record {
+          follows = follows_on old mid new tells.follows follows;
+          lines = tells.lines ++ (gets.lines ++ line.bytes ∷ []);
+          inputs = tells.inputs ++ Some line.bytes ∷ [];
+          reads = asked (works_on start middle tells.lines tells.reads asks.0) (reads_on start middle place tells.lines (gets.lines ++ line.bytes ∷ []) tells.reads gets.took);
+          said = said_more tells.inputs tells.lines gets.lines line.bytes tells.said gets.blank gets.message;
+          used = λ front e. absurd (let h : Some line.bytes ≡ None = last_is tells.inputs front (Some line.bytes) None e in (cc));
+          mine = (let P : List (ℕ × Noted) → Type 0 = λ xs. AreInputs (tells.inputs ++ Some line.bytes ∷ []) xs in subst P (sym makes.mine) (inputs_push tells.inputs (mine_of mid) (Some line.bytes) (hands.0, Made makes.entry) tells.mine is));
+        }
+
+not_full : (f : LineFault) → cut.Full ≡ cut_by f → ⊥
+not_full fault.Read e = cc
+not_full (fault.Long n) e = cc
+not_full fault.Total e = cc
+not_full fault.Memory e = cc
+
+not_stopped : (f : LineFault) → cut.Stopped ≡ cut_by f → ⊥
+not_stopped fault.Read e = cc
+not_stopped (fault.Long n) e = cc
+not_stopped fault.Total e = cc
+not_stopped fault.Memory e = cc
+
+-- ---- the loop
+
+pub feeding_none : (plan : SharedPlan) (m : Model) (pass : PlanPass) (start : Place) (held : Option (List ℕ)) → BelongsTo plan pass → mine_of pass ≡ [] → Feeding plan m pass start held pass start held 0
+feeding_none plan m pass start held own new = record {
+  own = own;
+  tells = record {
+    follows = follows_self pass;
+    lines = [];
+    inputs = [];
+    reads = unasked refl refl;
+    said = refl;
+    used = λ front e. absurd (some_nil front None e);
+    mine = (let P : List (ℕ × Noted) → Type 0 = λ xs. AreInputs [] xs in subst P (sym new) tt);
+  };
+  writes = record { front = []; in_front = (seen_of pass, refl); count = refl; written = some_held held };
+}
+
+module _ (plan : SharedPlan) (m : Model) (old : PlanPass) (start : Place) (held : Option (List ℕ)) (cur : PlanPass) (middle : Place) (mid : Option (List ℕ)) (from : ℕ) (feeding : Feeding plan m old start held cur middle mid from) where
+  on_to : (new : PlanPass) → Looks cur new → IsPrefix feeding.writes.front (seen_of new)
+  on_to new looks = prefix_trans feeding.writes.front (seen_of cur) (seen_of new) feeding.writes.in_front looks.follows.longer
+
+  told_to : (new : PlanPass) → Looks cur new → Tells old start new middle
+  told_to new looks = tells_on old cur new start middle feeding.tells looks.follows looks.mine
+
+  waits : (new : PlanPass) (now : Option (List ℕ)) (next : ℕ) → BelongsTo plan new → Looks cur new → RoundEnds m from mid (Ok (stage.Waits next)) (seen_of new) now → Waiting plan m old start held new middle now
+  waits new now next own looks ends = record {
+    own = own;
+    tells = told_to new looks;
+    written = wrote_on m held mid now feeding.writes.front (seen_of new) from (on_to new looks) feeding.writes.count feeding.writes.written ends.0;
+    between = ends.2;
+  }
+
+  part_to : (new : PlanPass) (now : Option (List ℕ)) → BelongsTo plan new → Looks cur new → AddsFront mid now (lines_behind m from (seen_of new)) → FeedsPart plan m old start held new now
+  part_to new now own looks adds = record {
+    place = middle;
+    own = own;
+    tells = told_to new looks;
+    written = wrote_part m held mid now feeding.writes.front (seen_of new) from (on_to new looks) feeding.writes.count feeding.writes.written adds;
+  }
+
+  -- the lines were written, and a message was handed on
+  pub feeds_on : (new : PlanPass) (place : Place) (now : Option (List ℕ)) (next : ℕ) → BelongsTo plan new → StepsOn plan m from middle cur mid next place new now → Feeding plan m old start held new place now next
+  feeds_on new place now next own step =
+      let waiting = waits step.mid now next step.own step.looks step.ends in
+      record {
+        own = own;
+        tells = tells_more plan old step.mid new start middle place waiting.tells step.follows step.passes;
+        writes = record { front = seen_of step.mid; in_front = step.follows.longer; count = step.ends.1; written = waiting.written };
+      }
+
+  -- the input had ended
+  pub feeds_out : (new : PlanPass) (place : Place) (now : Option (List ℕ)) → BelongsTo plan new → StepsOut m from middle cur mid place new now → FeedsOut plan m old start held new place now
+  feeds_out new place now own step =
+      let P : Place → Type 0 = λ p. Tells old start new p in
+      record {
+        own = own;
+        tells = subst P (sym step.same) (told_to new step.looks);
+        written = wrote_on m held mid now feeding.writes.front (seen_of new) from (on_to new step.looks) feeding.writes.count feeding.writes.written step.ends.0;
+        done = step.ends.1;
+      }
+
+  -- cut short in a round
+  cut_round : (c : Cut) (new : PlanPass) (place : Place) (now : Option (List ℕ)) → BelongsTo plan new → Looks cur new → RoundEnds m from mid (Err c) (seen_of new) now → FeedsAll plan m old start held (Err c) new place now
+  cut_round cut.Read new place now own looks ends = absurd ends
+  cut_round cut.Limit new place now own looks ends = absurd ends
+  cut_round cut.Full new place now own looks ends = absurd ends
+  cut_round cut.Write new place now own looks ends = part_to new now own looks ends
+  cut_round cut.Memory new place now own looks ends = part_to new now own looks ends
+  cut_round cut.Stopped new place now own looks ends =
+      stopped (record {
+        place = middle;
+        own = own;
+        tells = told_to new looks;
+        written = wrote_on m held mid now feeding.writes.front (seen_of new) from (on_to new looks) feeding.writes.count feeding.writes.written ends.0;
+        stopped = ends.1;
+        going = ends.2;
+      })
+
+  module _ (between : PlanPass) (now : Option (List ℕ)) (waiting : Waiting plan m old start held between middle now) (new : PlanPass) (place : Place) (own : BelongsTo plan new) (follows : Follows between new) where
+    part_behind : mine_of new ≡ mine_of between → FeedsPart plan m old start held new now
+    part_behind same = record {
+      place = middle;
+      own = own;
+      tells = tells_on old between new start middle waiting.tells follows same;
+      written = wrote_before m held now (seen_of between) (seen_of new) follows.longer waiting.written;
+    }
+
+    refused_at : (c : Cut) → HandsOn middle between (Err c) place new → FeedsRefused plan m c old start held new now
+    refused_at c step = record { mid = between; middle = middle; place = place; waiting = waiting; own = own; follows = follows; step = step }
+
+    until_at : (c : Cut) → HandsNone middle between c new → FeedsUntil plan m c old start held new now
+    until_at c step = record {
+      place = middle;
+      waiting = (let P : PlanPass → Type 0 = λ p. Waiting plan m old start held p middle now in subst P (sym step.same) waiting);
+      fault = step.fault;
+      asks = step.asks;
+      cut = step.cut;
+    }
+
+    same_mine : (c : Cut) → HandsNone middle between c new → mine_of new ≡ mine_of between
+    same_mine c step = ap (λ (p : PlanPass). mine_of p) step.same
+
+    -- cut short at a message
+    cut_message : (c : Cut) → Passes middle between (Err c) place new → FeedsAll plan m old start held (Err c) new place now
+    cut_message cut.Read (inl step) = absurd step.hands
+    cut_message cut.Read (inr step) = until_at cut.Read step
+    cut_message cut.Limit (inl step) = absurd step.hands
+    cut_message cut.Limit (inr step) = until_at cut.Limit step
+    cut_message cut.Full (inl step) = refused_at cut.Full step
+    cut_message cut.Full (inr step) = absurd (not_full step.fault step.cut)
+    cut_message cut.Stopped (inl step) = refused (refused_at cut.Stopped step)
+    cut_message cut.Stopped (inr step) = absurd (not_stopped step.fault step.cut)
+    cut_message cut.Write (inl step) = absurd step.hands
+    cut_message cut.Write (inr step) = part_behind (same_mine cut.Write step)
+    cut_message cut.Memory (inl step) = part_behind step.hands
+    cut_message cut.Memory (inr step) = part_behind (same_mine cut.Memory step)
+
+  pub feeds_cut : (c : Cut) (new : PlanPass) (place : Place) (now : Option (List ℕ)) → BelongsTo plan new → StepsCut plan m from middle cur mid c place new now → FeedsAll plan m old start held (Err c) new place now
+  feeds_cut c new place now own (in_round looks ends same) = cut_round c new place now own looks ends
+  feeds_cut c new place now own (at_message between next own2 looks ends passes follows) =
+      cut_message between now (waits between now next own2 looks ends) new place own follows c passes
+
+-- ---- what the loop needs of it
+
+pub feeding_within : (plan : SharedPlan) (m : Model) (old new : PlanPass) (start place : Place) (held now : Option (List ℕ)) (next : ℕ) → Feeding plan m old start held new place now next → next ≤ length (entries_in (seen_of new))
+feeding_within plan m old new start place held now next feeding =
+    let le = entries_longer feeding.writes.front (seen_of new) feeding.writes.in_front in
+    let count = feeding.writes.count in
+    omega arith
+
+reads_limit : (start place : Place) (lines : List (List ℕ)) → Reads start lines place → place.reader.limit ≡ start.reader.limit
+reads_limit start place lines (unasked none same) = ap (λ (p : Place). p.reader.limit) same
+reads_limit start place lines (asked works took) = took.limit
+
+pub feeding_limit : (plan : SharedPlan) (m : Model) (old new : PlanPass) (start place : Place) (held now : Option (List ℕ)) (next : ℕ) → Feeding plan m old start held new place now next → start.reader.limit ≤ 4096 → place.reader.limit ≤ 4096
+feeding_limit plan m old new start place held now next feeding le = (let same = reads_limit start place feeding.tells.lines feeding.tells.reads in omega arith)
+
+reads_works : (start place : Place) (lines : List (List ℕ)) → Reads start lines place → start.reader.failed ≡ None → place.reader.failed ≡ None
+reads_works start place lines (unasked none same) works = ap (λ (p : Place). p.reader.failed) same ∙ works
+reads_works start place lines (asked works took) works2 = took.working
+
+pub feeding_works : (plan : SharedPlan) (m : Model) (old new : PlanPass) (start place : Place) (held now : Option (List ℕ)) (next : ℕ) → Feeding plan m old start held new place now next → start.reader.failed ≡ None → place.reader.failed ≡ None
+feeding_works plan m old new start place held now next feeding works = reads_works start place feeding.tells.lines feeding.tells.reads works
+
+-- ---- one round and the next message
+
+pub step_out : (plan : SharedPlan) (m : Model) (from : ℕ) (start : Place) (old new : PlanPass) (held now : Option (List ℕ)) → Looks old new → RoundEnds m from held (Ok stage.Ended) (seen_of new) now → Steps plan m from start old held (Ok None) start new now
+step_out plan m from start old new held now looks ends = record { looks = looks; ends = ends; same = refl }
+
+pub step_round : (plan : SharedPlan) (m : Model) (from : ℕ) (start : Place) (old new : PlanPass) (held now : Option (List ℕ)) (c : Cut) → Looks old new → RoundEnds m from held (Err c) (seen_of new) now → Steps plan m from start old held (Err c) start new now
+step_round plan m from start old new held now c looks ends = in_round looks ends refl
+
+-- a round, and what came of the next message
+pub step_behind : (plan : SharedPlan) (m : Model) (from next : ℕ) (start place : Place) (old mid new : PlanPass) (held now : Option (List ℕ)) (r : Result (Option ℕ) Cut) → BelongsTo plan mid → Looks old mid → RoundEnds m from held (Ok (stage.Waits next)) (seen_of mid) now
+    → PassesTo next start mid r place new → Follows mid new → Steps plan m from start old held r place new now
+step_behind plan m from next start place old mid new held now (Ok (Some n)) own looks ends passes follows =
+    let P : ℕ → Type 0 = λ k. RoundEnds m from held (Ok (stage.Waits k)) (seen_of mid) now in
+    record { mid = mid; own = own; looks = looks; ends = subst P (sym passes.0) ends; passes = passes.1; follows = follows }
+step_behind plan m from next start place old mid new held now (Ok None) own looks ends passes follows = absurd passes
+step_behind plan m from next start place old mid new held now (Err c) own looks ends passes follows = at_message mid next own looks ends passes follows
+
+-- a round ends by no fault of the reader
+pub round_no_read : (m : Model) (from : ℕ) (held now : Option (List ℕ)) (seen : List Noted) (c : Cut) (a b : ℕ) → RoundEnds m from held (Err c) seen now → c ≡ cut.Read → Rose a b
+round_no_read m from held now seen c a b ends is = absurd (let P : Cut → Type 0 = λ k. RoundEnds m from held (Err k) seen now in subst P is ends)
+
+not_write : (f : LineFault) → cut.Write ≡ cut_by f → ⊥
+not_write fault.Read e = cc
+not_write (fault.Long n) e = cc
+not_write fault.Total e = cc
+not_write fault.Memory e = cc
+
+no_write : (next : ℕ) (start place : Place) (old new : PlanPass) → PassesTo next start old (Err cut.Write) place new → ⊥
+no_write next start place old new (inl step) = step.hands
+no_write next start place old new (inr step) = not_write step.fault step.cut
+
+is_no_error : (r : Result (Option ℕ) Cut) (o : Option ℕ) → r ≡ Ok o → r ≡ Err cut.Write → ⊥
+is_no_error r o is e = cc
+
+same_cut : (r : Result (Option ℕ) Cut) (c : Cut) → r ≡ Err c → r ≡ Err cut.Write → c ≡ cut.Write
+same_cut r c is e = cc
+
+-- a message is kept back by no fault of the sink
+pub passes_no_write : (next : ℕ) (start place : Place) (old new : PlanPass) (r : Result (Option ℕ) Cut) (a b : ℕ) → PassesTo next start old r place new → IsErrOf r cut.Write → Rose a b
+passes_no_write next start place old new (Ok o) a b passes is = absurd (is_no_error (Ok o) o refl is)
+passes_no_write next start place old new (Err c) a b passes is = absurd (let P : Cut → Type 0 = λ k. PassesTo next start old (Err k) place new in no_write next start place old new (subst P (same_cut (Err c) c refl is) passes))
+
+-- ---- the stop behind it
+
+pub ends_stopped : (plan : SharedPlan) (m : Model) (c : Cut) (old mid new : PlanPass) (start place : Place) (held now : Option (List ℕ)) → FeedsAll plan m old start held (Err c) mid place now → TakesTurn mid new → Stops mid new
+    → FeedsToEnd plan m old start held (Err c) new place now
+ends_stopped plan m c old mid new start place held now feeds takes stops = record { mid = mid; feeds = feeds; takes = takes; stops = stops }

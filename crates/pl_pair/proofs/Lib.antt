@@ -1,0 +1,10 @@
+pub mod Working
+pub mod Passing
+pub mod Messages
+pub mod Feeding
+pub mod Ends
+pub mod Ending
+pub mod Saying
+pub mod Closing
+pub mod Running
+pub mod Crossing

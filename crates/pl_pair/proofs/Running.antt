@@ -1,0 +1,756 @@
+-- What a run comes to.
+use Rattle.std.proofs.Common.{◌≡◌, ℕ, ◌+◌, ◌≤◌, ◌<◌, List, [], ◌∷◌, ◌++◌, length, map, drop, Bool, true, false, Option, Some, None, IfSome, Result, Ok, Err, slice_get, refl, sym, ◌∙◌, ap, subst, arith, inl, inr, ◌⊎◌, append_assoc, length-append}
+use Rattle.std.specs.Prelude.{◌||◌, if◌then◌else◌}
+use Rattle.std.specs.List.{All}
+use Rattle.std.proofs.lemmas.List.{append-nil, take-append-le}
+use Rattle.std.proofs.lemmas.List.Elements.{All-nil, All-cons, All-head}
+use mathlib.Core.List.{IsPrefix}
+use Rattle.pl_turn.specs.History.{IsEachOnce, StandsIn, times_in}
+use Rattle.pl_turn.specs.Passes.{seen_of, mine_of, crew_of, leads, made_by, joined_by, opening_of}
+use Rattle.pl_turn.proofs.Histories.{prefix_self, prefix_trans, prefix_length}
+use Rattle.pl_io.specs.declared.errors.LineFault.{LineFault}
+use Rattle.pl_io.specs.declared.errors.LineFault.TheVariants as fault
+use Rattle.pl_model.specs.declared.whole.Model.{Model}
+use Rattle.pl_entry.specs.declared.event.Event.{Event}
+use Rattle.pl_entry.specs.declared.entry.Entry.{Entry}
+use Rattle.pl_machine.specs.declared.stop.Stop.{Stop}
+use Rattle.pl_machine.specs.declared.stop.Stop.TheVariants as stop
+use Rattle.pl_machine.specs.World.{World}
+use Rattle.pl_machine.specs.Legal.{Legal, options_of, world_of}
+use Rattle.pl_machine.specs.Lines.{messages_of}
+use Rattle.pl_machine.specs.Finished.{inputs_of}
+use Rattle.pl_machine.specs.Sound.{State}
+use Rattle.pl_io.specs.Lines.{lines_of}
+use Rattle.pl_io.specs.Reader.{NumberedLine}
+use Rattle.pl_stream.proofs.Reading.{took_none, halts_later}
+use Rattle.pl_render.specs.Lines.{text_from, text_of_log}
+use Rattle.pl_render.proofs.Texts.{text_joined}
+use Rattle.pl_stream.specs.Reads.{GaveKnown, Took, WhyKnown, Halts, AreBlank}
+use Rattle.pl_stream.specs.Stops.{IsStuckKnown}
+use Rattle.pl_stream.specs.Waits.{GetsFault}
+use Rattle.pl_stream.specs.Written.{Adds}
+use Rattle.pl_shared.specs.declared.noted.Noted.{Noted}
+use Rattle.pl_shared.specs.declared.noted.Noted.TheVariants.{Opened, Made, Stopped}
+use Rattle.pl_shared.specs.declared.plan.SharedPlan.{SharedPlan}
+use Rattle.pl_shared.specs.Items.{stop_items, items_of, entries_in, model_in, stop_in, InWorld}
+use Rattle.pl_shared.specs.declared.role.Role.{Role}
+use Rattle.pl_shared.specs.declared.role.Role.TheVariants.{Planner, Executive}
+use Rattle.pl_shared.specs.Inside.{can_listen}
+use Rattle.pl_shared.specs.Roles.{worker_of, kind_of, is_entry, is_input, is_repair, is_executed}
+use Rattle.pl_shared.specs.Plans.{PlanPass, IsPlan, BelongsTo}
+use Rattle.pl_shared.specs.Turns.{TakesTurn, IsFull, Stops, was_stopped, is_stopped}
+use Rattle.pl_shared.proofs.Items.{entries_in_items, model_in_items, length_going, made_entries}
+use Rattle.pl_shared.proofs.Progress.{log_is_bounded, world_options, full_ends, full_on, same_world}
+use Rattle.pl_pair.specs.declared.cut.Cut.{Cut}
+use Rattle.pl_pair.specs.declared.cut.Cut.TheVariants as cut
+use Rattle.pl_pair.specs.declared.ended.Ended.{Ended}
+use Rattle.pl_pair.specs.declared.ended.Ended.TheVariants as ended
+use Rattle.pl_pair.specs.declared.worker.Worker.{Worker}
+use Rattle.pl_pair.specs.Cuts.{cut_by}
+use Rattle.pl_pair.specs.Served as serving
+use Rattle.pl_pair.specs.Served.{AreOf, IsStopAtMost, AreOfUntil, IsFullRound, Refused, IsServed, IsWorker}
+use Rattle.pl_pair.specs.Rounds.{Follows, IsBetween, AddsFront}
+use Rattle.pl_pair.specs.Asking.{Place, Faults, now_failed, had_failed, Asks, line_in, HandsOn}
+use Rattle.pl_pair.specs.Feeds.{AreInputs, Reads, unasked, asked, Tells, WritesAll, Waiting, FeedsOut, FeedsUntil, FeedsRefused, FeedsStopped, FeedsPart, FeedsCut, refused, FeedsAll, FeedsAndStops, FeedsToEnd}
+use Rattle.pl_pair.specs.Feeds as fed
+use Rattle.pl_pair.specs.Endings.{is_full, is_other, refusal_of, ended_of}
+use Rattle.pl_pair.specs.Runs.{ClosesAll, History, InMessages, HadLimit, MayFault, WhyNone, Given, WritesLog, RunsOut, RunsUntil, RunsFull, RunEnds, PairRun}
+use Rattle.pl_pair.proofs.Ending.{NoEnds, LastEnds, EndsIf, world_goes, steps_behind, world_behind, run_ends}
+use Rattle.pl_pair.proofs.Saying.{told_on, told_front, told_all, told_lines, told_gave, if_known, asks_begins, messages_on, skip_blanks, none_left}
+use Rattle.pl_pair.proofs.Passing.{took_follows, follows_on, adds_nothing}
+use Rattle.pl_pair.proofs.Feeding.{front_of}
+use Rattle.pl_pair.proofs.Closing.{FeederList, feeder_until, MoreOf, more_of, NoInputs, made_no_inputs, repair_no_input, executed_no_input, inputs_kind, inputs_are, no_further, same_model, Rests, between, over, stopped, world_in, at_front, legal_front, entries_whole, over_none, between_input, stop_none}
+
+-- ---- the text
+
+-- a front of the text of a front of a log
+front_on : (m : Model) (held now : Option (List ℕ)) (xs ys : List Entry) → AddsFront held now (text_from m 0 xs) → AddsFront held now (text_from m 0 (xs ++ ys))
+front_on m None now xs ys adds = tt
+front_on m (Some before) now xs ys adds =
+    let t = text_from m 0 xs in
+    let more = text_from m (0 + length xs) ys in
+    let whole : text_from m 0 (xs ++ ys) ≡ t ++ more = text_joined m 0 xs ys in
+    let P : List ℕ → Type 0 = λ w. AddsFront (Some before) now w in
+    let long = length-append t more in
+    subst P (sym whole) (adds.0, (let le = adds.1 in omega arith), adds.2 ∙ ap (λ (w : List ℕ). Some (before ++ w)) (sym (take-append-le adds.0 t more adds.1)))
+
+-- all of a text is a front of it
+all_front : (m : Model) (held now : Option (List ℕ)) (log : List Entry) → Adds held now (text_from m 0 log) → AddsFront held now (text_from m 0 log)
+all_front m held now log adds = subst (λ (w : List ℕ). AddsFront held now w) (append-nil (text_from m 0 log)) (front_of held now (text_from m 0 log) [] adds)
+
+-- ---- the whole history, of the model that was handed in
+
+pub record Whole (m : Model) (before : List Entry) (first planner executive : PlanPass) : Type 0 where
+  pub log : List Entry
+  pub stop : Bool
+  pub legal : Legal m log
+  pub first_seen : IsPrefix (seen_of first) (items_of m log stop)
+  pub planner_seen : IsPrefix (seen_of planner) (items_of m log stop)
+  pub executive_seen : IsPrefix (seen_of executive) (items_of m log stop)
+  pub stands : All (StandsIn (items_of m log stop)) (mine_of first ∷ mine_of planner ∷ mine_of executive ∷ [])
+  pub owners : IsEachOnce (length before) (length (items_of m log stop)) (λ place. times_in place (mine_of first ∷ mine_of planner ∷ mine_of executive ∷ []))
+
+unwrap : {X : Type 0} (x y : X) → Some x ≡ Some y → x ≡ y
+unwrap x y e = cc
+
+pub whole_of : (m : Model) (before : List Entry) (first planner executive : PlanPass) (machine : State) → model_in (seen_of first) ≡ Some m → opening_of first ≡ length before → ClosesAll first planner executive machine
+    → Whole m before first planner executive
+whole_of m before first planner executive machine model opening closes =
+    let same : machine.model ≡ m = unwrap machine.model m (sym closes.model ∙ model) in
+    let lists = mine_of first ∷ mine_of planner ∷ mine_of executive ∷ [] in
+    let W : Model → Type 0 = λ k. Legal k machine.log × IsPrefix (seen_of first) (items_of k machine.log closes.stopped) × IsPrefix (seen_of planner) (items_of k machine.log closes.stopped)
+    × IsPrefix (seen_of executive) (items_of k machine.log closes.stopped) × All (StandsIn (items_of k machine.log closes.stopped)) lists
+    × IsEachOnce (opening_of first) (length (items_of k machine.log closes.stopped)) (λ place. times_in place lists) in
+    let w : W m = subst W same (closes.legal, closes.first_seen, closes.planner_seen, closes.executive_seen, closes.stands, closes.owners) in
+    record {
+      log = machine.log;
+      stop = closes.stopped;
+      legal = w.0;
+      first_seen = w.1;
+      planner_seen = w.2;
+      executive_seen = w.3;
+      stands = w.4;
+      owners = subst (λ (n : ℕ). IsEachOnce n (length (items_of m machine.log closes.stopped)) (λ place. times_in place lists)) opening w.5;
+    }
+
+-- ---- workers
+
+kind_planner : (w : Worker) → worker_of w.role ≡ 1 → kind_of w.role ≡ is_repair
+kind_planner w is = by_role w.role is
+  where
+    by_role : (r : Role) → worker_of r ≡ 1 → kind_of r ≡ is_repair
+    by_role (Planner g) is = refl
+    by_role Executive is = absurd (omega arith)
+
+kind_executive : (w : Worker) → worker_of w.role ≡ 0 → kind_of w.role ≡ is_executed
+kind_executive w is = by_role w.role is
+  where
+    by_role : (r : Role) → worker_of r ≡ 0 → kind_of r ≡ is_executed
+    by_role (Planner g) is = absurd (omega arith)
+    by_role Executive is = refl
+
+-- what a refusal says of the history that goes on
+refused_on : (met : Option Stop) (seen whole : List Noted) → IsPlan seen → IsPlan whole → IsPrefix seen whole → model_in whole ≡ model_in seen → Refused met seen → Refused met whole
+refused_on None seen whole plan plan2 on same why = tt
+refused_on (Some stop.NotNow) seen whole plan plan2 on same why = absurd why
+refused_on (Some stop.LogFull) seen whole plan plan2 on same why = (
+  full_on seen whole plan on same why.0,
+  same_world (λ w. (w.closed ≡ false) × (w.done ≡ false)) seen whole same (full_ends seen whole plan plan2 on same why.0) why.1,
+)
+refused_on (Some stop.Spoiled) seen whole plan plan2 on same why = tt
+refused_on (Some stop.Memory) seen whole plan plan2 on same why = tt
+
+refused_full : (met : Option Stop) (seen : List Noted) → is_full met ≡ true → Refused met seen → IsFullRound seen
+refused_full None seen is why = absurd (cc)
+refused_full (Some stop.NotNow) seen is why = absurd why
+refused_full (Some stop.LogFull) seen is why = why
+refused_full (Some stop.Spoiled) seen is why = absurd (cc)
+refused_full (Some stop.Memory) seen is why = absurd (cc)
+
+-- ---- the feeder's list
+
+list_same : (inputs : List (Option (List ℕ))) (mid first : PlanPass) → AreInputs inputs (mine_of mid) → mine_of first ≡ mine_of mid → FeederList inputs (mine_of mid) (mine_of first)
+list_same inputs mid first are same = record { rest = []; whole = same ∙ sym (append-nil (mine_of mid)); are = are; behind = inl refl }
+
+list_stop : (inputs : List (Option (List ℕ))) (mid first : PlanPass) → AreInputs inputs (mine_of mid) → Stops mid first → FeederList inputs (mine_of mid) (mine_of first)
+list_stop inputs mid first are (was_stopped same stops) = list_same inputs mid first are same
+list_stop inputs mid first are (is_stopped seen on going is mine) = record { rest = (length seen, Stopped) ∷ []; whole = mine; are = are; behind = inr (length seen, refl) }
+
+-- a pass's own items stand in what it has seen
+own_stands : (plan : SharedPlan) (pass : PlanPass) → BelongsTo plan pass → StandsIn (seen_of pass) (mine_of pass)
+own_stands plan pass own = All-head (StandsIn (seen_of pass)) (mine_of pass) (crew_of pass).joined own.lock.stands
+
+-- ---- one whole history
+
+more_first : (more : List Noted) (of : MoreOf more) (e : Entry) (es : List Entry) → entries_in more ≡ e ∷ es → (rest : List Noted) × (more ≡ Made e ∷ rest)
+more_first more of e es is = by of.entries (of.is) (sym (ap entries_in of.is ∙ made_entries of.entries of.stop) ∙ is)
+  where
+    by : (xs : List Entry) → more ≡ map Made xs ++ stop_items of.stop → xs ≡ e ∷ es → (rest : List Noted) × (more ≡ Made e ∷ rest)
+    by [] at same = absurd (cc)
+    by (x ∷ xs) at same = (map Made xs ++ stop_items of.stop, at ∙ ap (λ (y : Entry). Made y ∷ (map Made xs ++ stop_items of.stop)) (let h : x ∷ xs ≡ e ∷ es = same in (cc)))
+
+-- What was written of a history behind which nothing follows.
+pub record Settled (m : Model) (held now : Option (List ℕ)) (front : List Noted) (own : List (ℕ × Noted)) : Type 0 where
+  pub plan : IsPlan front
+  pub model : model_in front ≡ Some m
+  pub rests : Rests front
+  pub stands : StandsIn front own
+  pub written : WritesAll m held front now
+
+one_full : (a b : Bool) → (a || b) ≡ true → (a ≡ true) ⊎ (b ≡ true)
+one_full true b e = inl refl
+one_full false b e = inr e
+
+-- What is known once the threads are joined, and nothing is said yet of how the feeder ended.
+pub record Joined (m : Model) (before : List Entry) (first : PlanPass) (w1 w2 : Worker) : Type 0 where
+  pub plan : SharedPlan
+  pub whole : Whole m before first w1.pass w2.pass
+  pub legal : Legal m before
+  pub going : (world_of m before).done ≡ false
+  pub opened : IsPrefix (items_of m before false) (seen_of first)
+  pub own : BelongsTo plan first
+  pub one : IsWorker plan 1 w1
+  pub two : IsWorker plan 0 w2
+
+module _ (m : Model) (before : List Entry) (first : PlanPass) (w1 w2 : Worker) (joined : Joined m before first w1 w2) where
+  model_items : model_in (items_of m joined.whole.log joined.whole.stop) ≡ Some m
+  model_items = model_in_items m joined.whole.log joined.whole.stop joined.whole.legal
+
+  plan_items : IsPlan (items_of m joined.whole.log joined.whole.stop)
+  plan_items = record { model = m; log = joined.whole.log; stopped = joined.whole.stop; legal = joined.whole.legal; is = refl }
+
+  model_seen : (seen : List Noted) → IsPlan seen → IsPrefix seen (items_of m joined.whole.log joined.whole.stop) → model_in seen ≡ Some m
+  model_seen seen plan onto = same_model seen (items_of m joined.whole.log joined.whole.stop) m plan onto model_items
+
+  made_one : serving.Made w1.refusal is_repair (mine_of w1.pass)
+  made_one = subst (λ (k : Event → Bool). serving.Made w1.refusal k (mine_of w1.pass)) (kind_planner w1 joined.one.worker) joined.one.served.made
+
+  made_two : serving.Made w2.refusal is_executed (mine_of w2.pass)
+  made_two = subst (λ (k : Event → Bool). serving.Made w2.refusal k (mine_of w2.pass)) (kind_executive w2 joined.two.worker) joined.two.served.made
+
+  none_one : NoInputs (mine_of w1.pass)
+  none_one = made_no_inputs w1.refusal is_repair repair_no_input (mine_of w1.pass) made_one
+
+  none_two : NoInputs (mine_of w2.pass)
+  none_two = made_no_inputs w2.refusal is_executed executed_no_input (mine_of w2.pass) made_two
+
+  why_one : Refused w1.refusal (items_of m joined.whole.log joined.whole.stop)
+  why_one =
+      let model = model_seen (seen_of w1.pass) joined.one.served.own.seen joined.whole.planner_seen in
+      refused_on w1.refusal (seen_of w1.pass) (items_of m joined.whole.log joined.whole.stop) joined.one.served.own.seen plan_items joined.whole.planner_seen (model_items ∙ sym model) joined.one.served.why
+
+  why_two : Refused w2.refusal (items_of m joined.whole.log joined.whole.stop)
+  why_two =
+      let model = model_seen (seen_of w2.pass) joined.two.served.own.seen joined.whole.executive_seen in
+      refused_on w2.refusal (seen_of w2.pass) (items_of m joined.whole.log joined.whole.stop) joined.two.served.own.seen plan_items joined.whole.executive_seen (model_items ∙ sym model) joined.two.served.why
+
+  -- one of the workers met a full log
+  met_full : (is_full w1.refusal || is_full w2.refusal) ≡ true → IsFullRound (items_of m joined.whole.log joined.whole.stop)
+  met_full is = by (one_full (is_full w1.refusal) (is_full w2.refusal) is)
+    where
+      by : (is_full w1.refusal ≡ true) ⊎ (is_full w2.refusal ≡ true) → IsFullRound (items_of m joined.whole.log joined.whole.stop)
+      by (inl e) = refused_full w1.refusal (items_of m joined.whole.log joined.whole.stop) e why_one
+      by (inr e) = refused_full w2.refusal (items_of m joined.whole.log joined.whole.stop) e why_two
+
+  module _ (inputs : List (Option (List ℕ))) (own : List (ℕ × Noted)) (list : FeederList inputs own (mine_of first)) where
+    history : History m before joined.whole.log
+    history = record {
+      stopped = joined.whole.stop;
+      feeder = mine_of first;
+      planner = mine_of w1.pass;
+      executive = mine_of w2.pass;
+      planner_met = w1.refusal;
+      executive_met = w2.refusal;
+      legal = joined.whole.legal;
+      stands = joined.whole.stands;
+      owners = joined.whole.owners;
+      inputs = feeder_until inputs own (mine_of first) list;
+      repairs = made_one;
+      executed = made_two;
+      planner_why = why_one;
+      executive_why = why_two;
+    }
+
+    opening_plan : IsPlan (items_of m before false)
+    opening_plan = record { model = m; log = before; stopped = false; legal = joined.legal; is = refl }
+
+    pub on : IsPrefix (items_of m before false) (items_of m joined.whole.log joined.whole.stop)
+    on = prefix_trans (items_of m before false) (seen_of first) (items_of m joined.whole.log joined.whole.stop) joined.opened joined.whole.first_seen
+
+    pub more : MoreOf on.0
+    more = more_of (items_of m before false) m joined.whole.log joined.whole.stop opening_plan joined.whole.legal on
+
+    abbrev pub entries : List Entry
+    entries = more.entries
+
+    pub begins : joined.whole.log ≡ before ++ entries
+    begins =
+        entries_whole m joined.whole.log joined.whole.stop joined.whole.legal (items_of m before false) opening_plan (model_in_items m before false joined.legal) on
+        ∙ ap (λ (xs : List Entry). xs ++ entries_in on.0) (entries_in_items m before false)
+        ∙ ap (λ (xs : List Entry). before ++ xs) (ap entries_in more.is ∙ made_entries more.entries more.stop)
+
+    pub inputs_same : inputs_of entries ≡ inputs
+    inputs_same =
+        inputs_are (items_of m joined.whole.log joined.whole.stop) inputs own (mine_of first) (mine_of w1.pass) (mine_of w2.pass) list joined.whole.stands none_one none_two (length before) joined.whole.owners
+        (items_of m before false) entries more.stop (sym (length_going m before false refl)) (sym on.1 ∙ ap (λ (xs : List Noted). items_of m before false ++ xs) more.is)
+
+    pub ends_if : EndsIf (world_of m joined.whole.log).done (inputs_of entries)
+    ends_if =
+        let legal : Legal m (before ++ entries) = subst (λ (l : List Entry). Legal m l) begins joined.whole.legal in
+        let world : world_of m joined.whole.log ≡ world_of m (before ++ entries) = ap (λ (l : List Entry). world_of m l) begins in
+        subst (λ (w : World). EndsIf w.done (inputs_of entries)) (sym (world ∙ world_behind m before entries joined.legal))
+        (run_ends (world_of m before) entries (steps_behind m before entries joined.legal legal) (world_goes m before joined.legal) joined.going)
+
+    pub ends_told : EndsIf (world_of m joined.whole.log).done inputs
+    ends_told = subst (λ (is : List (Option (List ℕ))). EndsIf (world_of m joined.whole.log).done is) inputs_same ends_if
+
+    -- ---- nothing follows what was written
+
+    module _ (held now : Option (List ℕ)) (front : List Noted) (settled : Settled m held now front own) (onto : IsPrefix front (items_of m joined.whole.log joined.whole.stop)) (past : length before ≤ length front) where
+      no_entry : (rests : Rests front) (e : Entry) (es : List Entry) → entries_in onto.0 ≡ e ∷ es → ⊥
+      no_entry (over here) e es is = over_none m joined.whole.log joined.whole.stop joined.whole.legal front settled.plan settled.model onto here e es is
+      no_entry (stopped stops) e es is = (let both : e ∷ es ≡ [] = sym is ∙ stop_none m joined.whole.log joined.whole.stop joined.whole.legal front settled.plan settled.model onto stops in cc)
+      no_entry (between here) e es is =
+          let first' = more_first onto.0 (more_of front m joined.whole.log joined.whole.stop settled.plan joined.whole.legal onto) e es is in
+          let whole' : items_of m joined.whole.log joined.whole.stop ≡ front ++ Made e ∷ first'.0 = sym onto.1 ∙ ap (λ (xs : List Noted). front ++ xs) first'.1 in
+          let at : slice_get (items_of m joined.whole.log joined.whole.stop) (length front) ≡ Some (Made e) = ap (λ (xs : List Noted). slice_get xs (length front)) whole' ∙ at_front front first'.0 (Made e) in
+          let long = ap (λ (xs : List Noted). length xs) whole' ∙ length-append front (Made e ∷ first'.0) in
+          no_further (items_of m joined.whole.log joined.whole.stop) inputs own (mine_of first) (mine_of w1.pass) (mine_of w2.pass) list joined.whole.stands none_one none_two (length before) joined.whole.owners
+          front e (length front) settled.stands (omega arith) past (omega (arith, long)) at
+          (between_input m joined.whole.log joined.whole.stop joined.whole.legal front settled.plan settled.model onto here e es is)
+
+      settled_by : (es : List Entry) → entries_in onto.0 ≡ es → joined.whole.log ≡ entries_in front
+      settled_by [] is =
+          entries_whole m joined.whole.log joined.whole.stop joined.whole.legal front settled.plan settled.model onto ∙ ap (λ (xs : List Entry). entries_in front ++ xs) is ∙ append-nil (entries_in front)
+      settled_by (e ∷ es) is = absurd (no_entry settled.rests e es is)
+
+      pub settled_log : joined.whole.log ≡ entries_in front
+      settled_log = settled_by (entries_in onto.0) refl
+
+      pub settled_text : WritesLog m joined.whole.log held now
+      settled_text = subst (λ (l : List Entry). Adds held now (text_from m 0 l)) (sym settled_log) settled.written
+
+      pub settled_world : (P : World → Type 0) → InWorld front P → P (world_of m joined.whole.log)
+      settled_world P here = subst (λ (l : List Entry). P (world_of m l)) (sym settled_log) (world_in P front m settled.model here)
+
+    -- ---- a full log
+
+    full_length : IsFull (items_of m joined.whole.log joined.whole.stop) → length joined.whole.log ≡ (options_of joined.whole.log).entries
+    full_length full =
+        let here = world_in (λ w. w.options.entries ≤ length (entries_in (items_of m joined.whole.log joined.whole.stop))) (items_of m joined.whole.log joined.whole.stop) m (model_in_items m joined.whole.log joined.whole.stop joined.whole.legal) full in
+        let same : entries_in (items_of m joined.whole.log joined.whole.stop) ≡ joined.whole.log = entries_in_items m joined.whole.log joined.whole.stop in
+        let le : (world_of m joined.whole.log).options.entries ≤ length joined.whole.log = subst (λ (l : List Entry). (world_of m l).options.entries ≤ length l) same here in
+        let options : (world_of m joined.whole.log).options.entries ≡ (options_of joined.whole.log).entries = ap (λ o. o.entries) (world_options m joined.whole.log) in
+        let bound = log_is_bounded m joined.whole.log joined.whole.legal in
+        omega (arith, le, options, bound)
+
+    pub full_seen : (seen : List Noted) → IsPlan seen → model_in seen ≡ Some m → IsPrefix seen (items_of m joined.whole.log joined.whole.stop) → IsFull seen → length joined.whole.log ≡ (options_of joined.whole.log).entries
+    full_seen seen plan model onto full =
+        full_length (full_on seen (items_of m joined.whole.log joined.whole.stop) plan onto (model_in_items m joined.whole.log joined.whole.stop joined.whole.legal ∙ sym model) full)
+
+    -- a worker met a full log
+    pub full_round : IsFullRound (items_of m joined.whole.log joined.whole.stop) → (length joined.whole.log ≡ (options_of joined.whole.log).entries) × ((world_of m joined.whole.log).closed ≡ false) × ((world_of m joined.whole.log).done ≡ false)
+    full_round why =
+        let here = world_in (λ w. (w.closed ≡ false) × (w.done ≡ false)) (items_of m joined.whole.log joined.whole.stop) m (model_in_items m joined.whole.log joined.whole.stop joined.whole.legal) why.1 in
+        let at = subst (λ (l : List Entry). ((world_of m l).closed ≡ false) × ((world_of m l).done ≡ false)) (entries_in_items m joined.whole.log joined.whole.stop) here in
+        (full_length why.0, at.0, at.1)
+
+-- ---- the answers
+
+ends_refusal : (b c : Bool) (m : Model) (log behind : List Entry) (start : Place) (held now : Option (List ℕ)) → AddsFront held now (text_from m 0 log) → (b ≡ false → c ≡ true → RunsFull m log behind start held now)
+    → RunEnds (if b then ended.Memory else if c then ended.LogFull else ended.Memory) m log behind start held now
+ends_refusal true c m log behind start held now front full = front
+ends_refusal false true m log behind start held now front full = full refl refl
+ends_refusal false false m log behind start held now front full = front
+
+never_finished : (b c : Bool) → (if b then ended.Memory else if c then ended.LogFull else ended.Memory) ≡ ended.Finished → ⊥
+never_finished true c e = cc
+never_finished false true e = cc
+never_finished false false e = cc
+
+-- a run with what is known of its history
+pair_run : (r : Ended) (start : State) (first : PlanPass) (w1 w2 : Worker) (joined : Joined start.model start.log first w1 w2) (place : Place) (held now : Option (List ℕ)) (old mid : PlanPass) (end : Place)
+    (tells : Tells old place mid end) (list : FeederList tells.inputs (mine_of mid) (mine_of first)) → (r ≡ ended.Finished → AreOf is_input (mine_of first))
+    → RunEnds r start.model joined.whole.log (entries start.model start.log first w1 w2 joined tells.inputs (mine_of mid) list) place held now → PairRun start place held r now
+unfolding history
+pair_run r start first w1 w2 joined place held now old mid end tells list goes ends =
+    let m = start.model in
+    let same = inputs_same m start.log first w1 w2 joined tells.inputs (mine_of mid) list in
+    record {
+      log = joined.whole.log;
+      entries = entries m start.log first w1 w2 joined tells.inputs (mine_of mid) list;
+      begins = begins m start.log first w1 w2 joined tells.inputs (mine_of mid) list;
+      history = history m start.log first w1 w2 joined tells.inputs (mine_of mid) list;
+      feeder_goes = goes;
+      messages = subst (λ (is : List (Option (List ℕ))). InMessages place (λ messages. IsPrefix is messages)) (sym same)
+          (told_front old mid place end tells (world_of m joined.whole.log).done (ends_told m start.log first w1 w2 joined tells.inputs (mine_of mid) list));
+      ends = ends;
+    }
+
+-- ---- no message was read
+
+reads_took : (start place : Place) (lines : List (List ℕ)) → Reads start lines place → place.reader.failed ≡ None → Took start.reader start.ahead lines place.reader place.ahead
+reads_took start place lines (unasked none same) works =
+    let P : List (List ℕ) → Type 0 = λ ls. Took start.reader start.ahead ls place.reader place.ahead in
+    let Q : Place → Type 0 = λ p. Took p.reader p.ahead [] place.reader place.ahead in
+    subst P (sym none) (subst Q same (took_none place.reader place.ahead works))
+reads_took start place lines (asked works took) works2 = took
+
+stuck_by : (f : LineFault) (limit left : ℕ) (rest : Option (List ℕ)) → cut.Limit ≡ cut_by f → WhyKnown limit left rest f → IsStuckKnown limit left rest
+stuck_by fault.Read limit left rest is why = absurd (cc)
+stuck_by (fault.Long n) limit left None is why = tt
+stuck_by (fault.Long n) limit left (Some rest) is why = inl why
+stuck_by fault.Total limit left None is why = tt
+stuck_by fault.Total limit left (Some rest) is why = inr why
+stuck_by fault.Memory limit left rest is why = absurd (cc)
+
+had_limit : (f : LineFault) (o : Option LineFault) → cut.Limit ≡ cut_by f → o ≡ Some f → HadLimit o
+had_limit f o is same = subst HadLimit (sym same) (by f is)
+  where
+    by : (f : LineFault) → cut.Limit ≡ cut_by f → HadLimit (Some f)
+    by fault.Read is = absurd (cc)
+    by (fault.Long n) is = tt
+    by fault.Total is = tt
+    by fault.Memory is = absurd (cc)
+
+had_read : (f : LineFault) (o : Option LineFault) → cut.Read ≡ cut_by f → o ≡ Some f → MayFault o
+had_read f o is same = subst MayFault (sym same) (by f is)
+  where
+    by : (f : LineFault) → cut.Read ≡ cut_by f → MayFault (Some f)
+    by fault.Read is = tt
+    by (fault.Long n) is = absurd (cc)
+    by fault.Total is = absurd (cc)
+    by fault.Memory is = absurd (cc)
+
+-- why no line was given to a reader that worked, and to one that did not
+record Whys (r : Ended) (c : Cut) (place : Place) : Type 0 where
+  works : (f : LineFault) (left : ℕ) (rest : Option (List ℕ)) → c ≡ cut_by f → place.reader.failed ≡ None → WhyKnown place.reader.limit left rest f → WhyNone r place left rest
+  failed : (f : LineFault) (left : ℕ) (rest : Option (List ℕ)) → c ≡ cut_by f → place.reader.failed ≡ Some f → WhyNone r place left rest
+
+read_whys : (place : Place) → Whys ended.ReadFault cut.Read place
+read_whys place = record {
+  works = λ f left rest is ok why. subst MayFault (sym ok) tt;
+  failed = λ f left rest is same. had_read f place.reader.failed is same;
+}
+
+limit_whys : (place : Place) → Whys ended.InputLimit cut.Limit place
+limit_whys place = record {
+  works = λ f left rest is ok why. inl (stuck_by f place.reader.limit left rest is why);
+  failed = λ f left rest is same. inr (had_limit f place.reader.failed is same);
+}
+
+start_works : (start place : Place) (lines : List (List ℕ)) → Reads start lines place → place.reader.failed ≡ None → start.reader.failed ≡ None
+start_works start place lines (unasked none same) works = sym (ap (λ (p : Place). p.reader.failed) same) ∙ works
+start_works start place lines (asked works took) works2 = works
+
+start_failed : (start place : Place) (lines : List (List ℕ)) (f : LineFault) → Reads start lines place → place.reader.failed ≡ Some f → start.reader.failed ≡ Some f
+start_failed start place lines f (unasked none same) failed = sym (ap (λ (p : Place). p.reader.failed) same) ∙ failed
+start_failed start place lines f (asked works took) failed = absurd (let both : None ≡ Some f = sym took.working ∙ failed in (cc))
+
+given_by : (r : Ended) (c : Cut) (old mid : PlanPass) (place end : Place) (tells : Tells old place mid end) (f : LineFault) → Whys r c place → c ≡ cut_by f → NoEnds tells.inputs → Faults end f → Given r place tells.inputs
+given_by r c old mid place end tells f whys is none (now_failed works gets) =
+    let halts = halts_later place.reader end.reader place.ahead end.ahead tells.lines gets.lines f (reads_took place end tells.lines tells.reads works) gets.halts in
+    record {
+      lines = tells.lines ++ gets.lines;
+      left = halts.left;
+      rest = halts.rest;
+      gave = halts.gave;
+      why = whys.works f halts.left halts.rest is (start_works place end tells.lines tells.reads works) halts.why;
+      messages = messages_on tells.lines gets.lines tells.inputs none tells.said
+          ∙ ap (λ (ms : List (Option (List ℕ))). tells.inputs ++ ms) (ap messages_of (sym (append-nil gets.lines)) ∙ skip_blanks gets.lines [] gets.blank ∙ none_left);
+    }
+given_by r c old mid place end tells f whys is none (had_failed failed) = record {
+  lines = tells.lines;
+  left = end.reader.room;
+  rest = end.ahead;
+  gave = told_gave old mid place end tells;
+  why = whys.failed f end.reader.room end.ahead is (start_failed place end tells.lines f tells.reads failed);
+  messages = told_lines old mid place end tells none;
+}
+
+-- ---- how the feeder ended
+
+no_ends : (b : Bool) (inputs : List (Option (List ℕ))) → b ≡ false → EndsIf b inputs → NoEnds inputs
+no_ends true inputs e ends = absurd (cc)
+no_ends false inputs e ends = ends
+
+last_ends : (b : Bool) (inputs : List (Option (List ℕ))) → b ≡ true → EndsIf b inputs → LastEnds inputs
+last_ends true inputs e ends = ends
+last_ends false inputs e ends = absurd (cc)
+
+module _ (start : State) (first : PlanPass) (w1 w2 : Worker) (joined : Joined start.model start.log first w1 w2) (place : Place) (held now : Option (List ℕ)) (old : PlanPass) (seen0 : seen_of old ≡ items_of start.model start.log false) where
+  opening_in : (mid : PlanPass) → Follows old mid → length start.log ≤ length (seen_of mid)
+  opening_in mid follows =
+      let le = prefix_length (seen_of old) (seen_of mid) follows.longer in
+      let same = ap (λ (xs : List Noted). length xs) seen0 ∙ length_going start.model start.log false refl in
+      omega (arith, le, same)
+
+  model_of : (mid : PlanPass) → Follows old mid → model_in (seen_of mid) ≡ Some start.model
+  model_of mid follows = follows.model ∙ (ap model_in seen0 ∙ model_in_items start.model start.log false joined.legal)
+
+  -- the run where a history that was written whole is all
+  module _ (mid : PlanPass) (end : Place) (tells : Tells old place mid end) (plan : SharedPlan) (own : BelongsTo plan mid) (list : FeederList tells.inputs (mine_of mid) (mine_of first)) (to_first : IsPrefix (seen_of mid) (seen_of first)) where
+    onto : IsPrefix (seen_of mid) (items_of start.model joined.whole.log joined.whole.stop)
+    onto = prefix_trans (seen_of mid) (seen_of first) (items_of start.model joined.whole.log joined.whole.stop) to_first joined.whole.first_seen
+
+    abbrev more_entries : List Entry
+    more_entries = entries start.model start.log first w1 w2 joined tells.inputs (mine_of mid) list
+
+    told_same : inputs_of more_entries ≡ tells.inputs
+    told_same = inputs_same start.model start.log first w1 w2 joined tells.inputs (mine_of mid) list
+
+    told_ends : EndsIf (world_of start.model joined.whole.log).done tells.inputs
+    told_ends = ends_told start.model start.log first w1 w2 joined tells.inputs (mine_of mid) list
+
+    -- a front was written
+    part_front : AddsFront held now (text_from start.model 0 (entries_in (seen_of mid))) → AddsFront held now (text_of_log start.model joined.whole.log)
+    part_front adds =
+        let P : List Entry → Type 0 = λ l. AddsFront held now (text_from start.model 0 l) in
+        subst P (sym (entries_whole start.model joined.whole.log joined.whole.stop joined.whole.legal (seen_of mid) own.seen (model_of mid tells.follows) onto))
+        (front_on start.model held now (entries_in (seen_of mid)) (entries_in onto.0) adds)
+
+    module _ (rests : Rests (seen_of mid)) (written : WritesAll start.model held (seen_of mid) now) where
+      settled : Settled start.model held now (seen_of mid) (mine_of mid)
+      settled = record { plan = own.seen; model = model_of mid tells.follows; rests = rests; stands = own_stands plan mid own; written = written }
+
+      log_is : joined.whole.log ≡ entries_in (seen_of mid)
+      log_is = settled_log start.model start.log first w1 w2 joined tells.inputs (mine_of mid) list held now (seen_of mid) settled onto (opening_in mid tells.follows)
+
+      text_is : WritesLog start.model joined.whole.log held now
+      text_is = settled_text start.model start.log first w1 w2 joined tells.inputs (mine_of mid) list held now (seen_of mid) settled onto (opening_in mid tells.follows)
+
+      world_is : (P : World → Type 0) → InWorld (seen_of mid) P → P (world_of start.model joined.whole.log)
+      world_is P here = settled_world start.model start.log first w1 w2 joined tells.inputs (mine_of mid) list held now (seen_of mid) settled onto (opening_in mid tells.follows) P here
+
+      out_ends : InWorld (seen_of mid) (λ w. w.done ≡ true) → RunEnds ended.Finished start.model joined.whole.log more_entries place held now
+      out_ends done =
+          let at = world_is (λ w. w.done ≡ true) done in
+          record {
+            done = at;
+            messages = subst (λ (is : List (Option (List ℕ))). InMessages place (λ messages. is ≡ messages)) (sym told_same) (told_all old mid place end tells (last_ends (world_of start.model joined.whole.log).done tells.inputs at told_ends));
+            written = text_is;
+          }
+
+      until_ends : (r : Ended) (c : Cut) (f : LineFault) → Whys r c place → c ≡ cut_by f → Faults end f → InWorld (seen_of mid) IsBetween → RunsUntil r start.model joined.whole.log more_entries place held now
+      until_ends r c f whys is asks here =
+          let at = world_is IsBetween here in
+          record {
+            between = at;
+            given = subst (λ (is : List (Option (List ℕ))). Given r place is) (sym told_same) (given_by r c old mid place end tells f whys is (no_ends (world_of start.model joined.whole.log).done tells.inputs at.1 told_ends) asks);
+            written = text_is;
+          }
+
+      front_is : AddsFront held now (text_of_log start.model joined.whole.log)
+      front_is = all_front start.model held now joined.whole.log text_is
+
+      -- a worker met a full log
+      worker_full : (world_of start.model joined.whole.log).done ≡ false → (is_full w1.refusal || is_full w2.refusal) ≡ true → RunsFull start.model joined.whole.log more_entries place held now
+      worker_full going is =
+          let at = full_round start.model start.log first w1 w2 joined tells.inputs (mine_of mid) list (met_full start.model start.log first w1 w2 joined is) in
+          record { full = at.0; going = at.2; due = inl at.1; written = text_is }
+
+      -- the next message was read
+      next_read : (world_of start.model joined.whole.log).done ≡ false → (message : Option NumberedLine) (after : Place) → Asks end (Ok message) after
+          → InMessages place (λ messages. (next : Option (List ℕ)) × IsPrefix (inputs_of more_entries ++ next ∷ []) messages)
+      next_read going message after asks =
+          if_known place.ahead (λ bytes. (next : Option (List ℕ)) × IsPrefix (inputs_of more_entries ++ next ∷ []) (messages_of (lines_of bytes))) (λ bytes is.
+          let told = told_on old mid place end tells (no_ends (world_of start.model joined.whole.log).done tells.inputs going told_ends) bytes is in
+          let first' = asks_begins end after message told.0 asks told.1 in
+          let whole' : (inputs_of more_entries ++ line_in message ∷ []) ++ first'.others ≡ messages_of (lines_of bytes) =
+          append_assoc (inputs_of more_entries) (line_in message ∷ []) first'.others
+          ∙ ap (λ (is : List (Option (List ℕ))). is ++ line_in message ∷ first'.others) told_same
+          ∙ ap (λ (ms : List (Option (List ℕ))). tells.inputs ++ ms) (sym first'.is)
+          ∙ sym told.2 in
+          (line_in message, (first'.others, whole')))
+
+-- the feeder's list behind a refusal, which made nothing
+list_behind : (inputs : List (Option (List ℕ))) (before mid first : PlanPass) → AreInputs inputs (mine_of before) → mine_of mid ≡ mine_of before → Stops mid first → FeederList inputs (mine_of before) (mine_of first)
+list_behind inputs before mid first are same stops =
+    let P : List (ℕ × Noted) → Type 0 = λ own. FeederList inputs own (mine_of first) in
+    let Q : List (ℕ × Noted) → Type 0 = λ own. AreInputs inputs own in
+    subst P same (list_stop inputs mid first (subst Q (sym same) are) stops)
+
+module _ (start : State) (first : PlanPass) (w1 w2 : Worker) (joined : Joined start.model start.log first w1 w2) (place : Place) (held now : Option (List ℕ)) (old : PlanPass) (seen0 : seen_of old ≡ items_of start.model start.log false) (plan : SharedPlan) (end : Place) where
+  runs_out : FeedsOut plan start.model old place held first end now → PairRun start place held ended.Finished now
+  runs_out feeds =
+      let list = list_same feeds.tells.inputs first first feeds.tells.mine refl in
+      pair_run ended.Finished start first w1 w2 joined place held now old first end feeds.tells list (λ e. inputs_kind feeds.tells.inputs (mine_of first) feeds.tells.mine)
+      (out_ends start first w1 w2 joined place held now old seen0 first end feeds.tells plan feeds.own list (prefix_self (seen_of first)) (over feeds.done) feeds.written feeds.done)
+
+  module _ (mid : PlanPass) (takes : TakesTurn mid first) (stops : Stops mid first) where
+    runs_until : (r : Ended) (c : Cut) → (r ≡ ended.Finished → ⊥)
+        → ((entries : List Entry) → RunsUntil r start.model joined.whole.log entries place held now → RunEnds r start.model joined.whole.log entries place held now)
+        → Whys r c place → FeedsUntil plan start.model c old place held mid now → PairRun start place held r now
+    runs_until r c never as' whys feeds =
+        let tells = feeds.waiting.tells in
+        let list = list_stop tells.inputs mid first tells.mine stops in
+        pair_run r start first w1 w2 joined place held now old mid feeds.place tells list (λ e. absurd (never e))
+        (as' (more_entries start first w1 w2 joined place held now old seen0 mid feeds.place tells plan feeds.waiting.own list takes.longer)
+        (until_ends start first w1 w2 joined place held now old seen0 mid feeds.place tells plan feeds.waiting.own list takes.longer (between feeds.waiting.between) feeds.waiting.written
+        r c feeds.fault whys feeds.cut feeds.asks feeds.waiting.between))
+
+    runs_part : (r : Ended) → (r ≡ ended.Finished → ⊥)
+        → ((entries : List Entry) → AddsFront held now (text_of_log start.model joined.whole.log) → RunEnds r start.model joined.whole.log entries place held now)
+        → FeedsPart plan start.model old place held mid now → PairRun start place held r now
+    runs_part r never as' feeds =
+        let list = list_stop feeds.tells.inputs mid first feeds.tells.mine stops in
+        pair_run r start first w1 w2 joined place held now old mid feeds.place feeds.tells list (λ e. absurd (never e))
+        (as' (more_entries start first w1 w2 joined place held now old seen0 mid feeds.place feeds.tells plan feeds.own list takes.longer)
+        (part_front start first w1 w2 joined place held now old seen0 mid feeds.place feeds.tells plan feeds.own list takes.longer feeds.written))
+
+    -- the plan refused a message, for a full log or since a worker had stopped it
+    runs_refused : (full : Bool) (c : Cut) (feeds : FeedsRefused plan start.model c old place held mid now) → mine_of mid ≡ mine_of feeds.mid → (full ≡ true → IsFull (seen_of mid)) → PairRun start place held (refusal_of full w1.refusal w2.refusal) now
+    runs_refused full c feeds same is_full' =
+        let tells = feeds.waiting.tells in
+        let list = list_behind tells.inputs feeds.mid mid first tells.mine same stops in
+        let to_first = prefix_trans (seen_of feeds.mid) (seen_of mid) (seen_of first) feeds.follows.longer takes.longer in
+        let rests = between feeds.waiting.between in
+        let at = world_is start first w1 w2 joined place held now old seen0 feeds.mid feeds.middle tells plan feeds.waiting.own list to_first rests feeds.waiting.written IsBetween feeds.waiting.between in
+        let others = is_other w1.refusal || is_other w2.refusal in
+        let workers = is_full w1.refusal || is_full w2.refusal in
+        let more = more_entries start first w1 w2 joined place held now old seen0 feeds.mid feeds.middle tells plan feeds.waiting.own list to_first in
+        pair_run (refusal_of full w1.refusal w2.refusal) start first w1 w2 joined place held now old feeds.mid feeds.middle tells list (λ e. absurd (never_finished others (full || workers) e))
+        (ends_refusal others (full || workers) start.model joined.whole.log more place held now
+        (front_is start first w1 w2 joined place held now old seen0 feeds.mid feeds.middle tells plan feeds.waiting.own list to_first rests feeds.waiting.written)
+        (λ e is. by_full full is is_full'))
+      where
+        by_full : (f : Bool) → (f || (is_full w1.refusal || is_full w2.refusal)) ≡ true → (f ≡ true → IsFull (seen_of mid))
+            → RunsFull start.model joined.whole.log
+            (more_entries start first w1 w2 joined place held now old seen0 feeds.mid feeds.middle feeds.waiting.tells plan feeds.waiting.own (list_behind feeds.waiting.tells.inputs feeds.mid mid first feeds.waiting.tells.mine same stops)
+            (prefix_trans (seen_of feeds.mid) (seen_of mid) (seen_of first) feeds.follows.longer takes.longer)) place held now
+        by_full true is full' =
+            let tells = feeds.waiting.tells in
+            let list = list_behind tells.inputs feeds.mid mid first tells.mine same stops in
+            let to_first = prefix_trans (seen_of feeds.mid) (seen_of mid) (seen_of first) feeds.follows.longer takes.longer in
+            let rests = between feeds.waiting.between in
+            let at = world_is start first w1 w2 joined place held now old seen0 feeds.mid feeds.middle tells plan feeds.waiting.own list to_first rests feeds.waiting.written IsBetween feeds.waiting.between in
+            let follows = follows_on old feeds.mid mid tells.follows feeds.follows in
+            record {
+              full = full_seen start.model start.log first w1 w2 joined tells.inputs (mine_of feeds.mid) list (seen_of mid) feeds.own.seen (model_of start first w1 w2 joined place held now old seen0 mid follows)
+                  (prefix_trans (seen_of mid) (seen_of first) (items_of start.model joined.whole.log joined.whole.stop) takes.longer joined.whole.first_seen) (full' refl);
+              going = at.1;
+              due = inr (at.0, next_read start first w1 w2 joined place held now old seen0 feeds.mid feeds.middle tells plan feeds.waiting.own list to_first rests feeds.waiting.written at.1 feeds.step.message feeds.place feeds.step.asks);
+              written = text_is start first w1 w2 joined place held now old seen0 feeds.mid feeds.middle tells plan feeds.waiting.own list to_first rests feeds.waiting.written;
+            }
+        by_full false is full' =
+            let tells = feeds.waiting.tells in
+            let list = list_behind tells.inputs feeds.mid mid first tells.mine same stops in
+            let to_first = prefix_trans (seen_of feeds.mid) (seen_of mid) (seen_of first) feeds.follows.longer takes.longer in
+            let rests = between feeds.waiting.between in
+            let at = world_is start first w1 w2 joined place held now old seen0 feeds.mid feeds.middle tells plan feeds.waiting.own list to_first rests feeds.waiting.written IsBetween feeds.waiting.between in
+            worker_full start first w1 w2 joined place held now old seen0 feeds.mid feeds.middle tells plan feeds.waiting.own list to_first rests feeds.waiting.written at.1 is
+
+    -- a worker had stopped the plan in an open round
+    runs_stopped : FeedsStopped plan start.model old place held mid now → PairRun start place held (refusal_of false w1.refusal w2.refusal) now
+    runs_stopped feeds =
+        let tells = feeds.tells in
+        let list = list_stop tells.inputs mid first tells.mine stops in
+        let rests = stopped feeds.stopped in
+        let going = world_is start first w1 w2 joined place held now old seen0 mid feeds.place tells plan feeds.own list takes.longer rests feeds.written (λ w. w.done ≡ false) feeds.going in
+        let others = is_other w1.refusal || is_other w2.refusal in
+        let workers = is_full w1.refusal || is_full w2.refusal in
+        pair_run (refusal_of false w1.refusal w2.refusal) start first w1 w2 joined place held now old mid feeds.place tells list (λ e. absurd (never_finished others workers e))
+        (ends_refusal others workers start.model joined.whole.log (more_entries start first w1 w2 joined place held now old seen0 mid feeds.place tells plan feeds.own list takes.longer) place held now
+        (front_is start first w1 w2 joined place held now old seen0 mid feeds.place tells plan feeds.own list takes.longer rests feeds.written)
+        (λ e is. worker_full start first w1 w2 joined place held now old seen0 mid feeds.place tells plan feeds.own list takes.longer rests feeds.written going is))
+
+    runs_cut : FeedsCut plan start.model old place held mid now → PairRun start place held (refusal_of false w1.refusal w2.refusal) now
+    runs_cut (refused feeds) = runs_refused false cut.Stopped feeds feeds.step.hands.0 (λ e. absurd (cc))
+    runs_cut (fed.stopped feeds) = runs_stopped feeds
+
+    runs_err : (c : Cut) → FeedsAll plan start.model old place held (Err c) mid end now → PairRun start place held (ended_of (Err c) w1.refusal w2.refusal) now
+    runs_err cut.Read feeds = runs_until ended.ReadFault cut.Read (λ e. cc) (λ es until. until) (read_whys place) feeds
+    runs_err cut.Limit feeds = runs_until ended.InputLimit cut.Limit (λ e. cc) (λ es until. until) (limit_whys place) feeds
+    runs_err cut.Write feeds = runs_part ended.WriteFault (λ e. cc) (λ es front. front) feeds
+    runs_err cut.Memory feeds = runs_part ended.Memory (λ e. cc) (λ es front. front) feeds
+    runs_err cut.Full feeds = runs_refused true cut.Full feeds feeds.step.hands.0 (λ e. feeds.step.hands.2)
+    runs_err cut.Stopped feeds = runs_cut feeds
+
+  pub runs : (r : Result (Unit {0}) Cut) → FeedsToEnd plan start.model old place held r first end now → PairRun start place held (ended_of r w1.refusal w2.refusal) now
+  runs (Ok u) feeds = runs_out feeds
+  runs (Err c) feeds = runs_err feeds.mid feeds.takes feeds.stops c feeds.feeds
+
+-- ---- want of memory before the threads start
+
+none_own : (place : ℕ) → times_in {I = Noted} place ([] ∷ [] ∷ [] ∷ []) ≡ 0
+none_own place = refl
+
+pub runs_none : (start : State) (place : Place) (held : Option (List ℕ)) → Legal start.model start.log → PairRun start place held ended.Memory held
+runs_none start place held legal =
+    let m = start.model in
+    let items = items_of m start.log false in
+    let long = length_going m start.log false refl in
+    record {
+      log = start.log;
+      entries = [];
+      begins = sym (append-nil start.log);
+      history = record {
+        stopped = false;
+        feeder = [];
+        planner = [];
+        executive = [];
+        planner_met = None;
+        executive_met = None;
+        legal = legal;
+        stands = All-cons (StandsIn items) [] ([] ∷ [] ∷ []) tt (All-cons (StandsIn items) [] ([] ∷ []) tt (All-cons (StandsIn items) [] [] tt (All-nil (StandsIn items))));
+        owners = record { inside = λ n from to. absurd (omega arith); below = λ n lt. none_own n; above = λ n le. none_own n };
+        inputs = record { own = []; rest = []; whole = refl; kinds = All-nil (λ x. is_entry is_input x.1 ≡ true); behind = inl refl };
+        repairs = All-nil (λ x. is_entry is_repair x.1 ≡ true);
+        executed = All-nil (λ x. is_entry is_executed x.1 ≡ true);
+        planner_why = tt;
+        executive_why = tt;
+      };
+      feeder_goes = λ e. absurd (cc);
+      messages = if_known place.ahead (λ bytes. IsPrefix [] (messages_of (lines_of bytes))) (λ bytes is. (messages_of (lines_of bytes), refl));
+      ends = adds_nothing held (text_of_log m start.log);
+    }
+
+pub not_done : (w u : World) → w ≡ record u { state = w.state } → w.done ≡ false → u.done ≡ false
+not_done w u same going = sym (ap (λ (x : World). x.done) same) ∙ going
+
+-- ---- the passes of a run
+
+pub feeds_follows : (plan : SharedPlan) (m : Model) (old new : PlanPass) (place end : Place) (held now : Option (List ℕ)) (r : Result (Unit {0}) Cut) → FeedsToEnd plan m old place held r new end now → Follows old new
+feeds_follows plan m old new place end held now (Ok u) feeds = feeds.tells.follows
+feeds_follows plan m old new place end held now (Err c) feeds = follows_on old feeds.mid new (by c feeds.feeds) (took_follows feeds.mid new feeds.takes)
+  where
+    by_cut : FeedsCut plan m old place held feeds.mid now → Follows old feeds.mid
+    by_cut (refused f) = follows_on old f.mid feeds.mid f.waiting.tells.follows f.follows
+    by_cut (fed.stopped f) = f.tells.follows
+
+    by : (c : Cut) → FeedsAll plan m old place held (Err c) feeds.mid end now → Follows old feeds.mid
+    by cut.Read f = f.waiting.tells.follows
+    by cut.Limit f = f.waiting.tells.follows
+    by cut.Write f = f.tells.follows
+    by cut.Memory f = f.tells.follows
+    by cut.Full f = follows_on old f.mid feeds.mid f.waiting.tells.follows f.follows
+    by cut.Stopped f = by_cut f
+
+-- The plan's first pass, and the same once two were split off.
+pub record Split (start : State) (new p1 p2 : PlanPass) : Type 0 where
+  pub seen : seen_of new ≡ items_of start.model start.log false
+  pub crew : crew_of new ≡ record { leads = true; opening = length (items_of start.model start.log false); made = 0; joined = [] }
+  pub seen1 : seen_of p1 ≡ seen_of new
+  pub crew1 : crew_of p1 ≡ record (crew_of new) { made = made_by new + 1 }
+  pub seen2 : seen_of p2 ≡ seen_of p1
+  pub crew2 : crew_of p2 ≡ record (crew_of p1) { made = made_by p1 + 1 }
+
+module _ (start : State) (new p1 p2 : PlanPass) (split : Split start new p1 p2) where
+  pub split_seen : seen_of p2 ≡ items_of start.model start.log false
+  split_seen = split.seen2 ∙ (split.seen1 ∙ split.seen)
+
+  split_opening : opening_of p2 ≡ length (items_of start.model start.log false)
+  split_opening = ap (λ c. c.opening) split.crew2 ∙ (ap (λ c. c.opening) split.crew1 ∙ ap (λ c. c.opening) split.crew)
+
+  -- what `close` asks of the first pass
+  pub split_crew : (first : PlanPass) → crew_of first ≡ crew_of p2 → (leads first ≡ true) × (made_by first ≡ 2) × (joined_by first ≡ [])
+  split_crew first same =
+      let two : made_by p2 ≡ 2 = ap (λ c. c.made) split.crew2 ∙ ap (λ (n : ℕ). n + 1) (ap (λ c. c.made) split.crew1 ∙ ap (λ (n : ℕ). n + 1) (ap (λ c. c.made) split.crew)) in (
+        ap (λ c. c.leads) same ∙ (ap (λ c. c.leads) split.crew2 ∙ (ap (λ c. c.leads) split.crew1 ∙ ap (λ c. c.leads) split.crew)),
+        ap (λ c. c.made) same ∙ two,
+        ap (λ c. c.joined) same ∙ (ap (λ c. c.joined) split.crew2 ∙ (ap (λ c. c.joined) split.crew1 ∙ ap (λ c. c.joined) split.crew)),
+      )
+
+  pub joined_of : (plan : SharedPlan) (first : PlanPass) (w1 w2 : Worker) (machine : State) → Legal start.model start.log → (world_of start.model start.log).done ≡ false → Follows p2 first → BelongsTo plan first → IsWorker plan 1 w1 → IsWorker plan 0 w2
+      → ClosesAll first w1.pass w2.pass machine → Joined start.model start.log first w1 w2
+  joined_of plan first w1 w2 machine legal going follows own one two closes =
+      let model : model_in (seen_of first) ≡ Some start.model = follows.model ∙ (ap model_in split_seen ∙ model_in_items start.model start.log false legal) in
+      let opening : opening_of first ≡ length start.log = ap (λ c. c.opening) follows.crew ∙ (split_opening ∙ length_going start.model start.log false refl) in
+      record {
+        plan = plan;
+        whole = whole_of start.model start.log first w1.pass w2.pass machine model opening closes;
+        legal = legal;
+        going = going;
+        opened = subst (λ (xs : List Noted). IsPrefix xs (seen_of first)) split_seen follows.longer;
+        own = own;
+        one = one;
+        two = two;
+      }
+
+  -- the whole run
+  pub runs_whole : (plan : SharedPlan) (first : PlanPass) (w1 w2 : Worker) (machine : State) (place end : Place) (held now : Option (List ℕ)) (r : Result (Unit {0}) Cut) (m : Model) → m ≡ start.model → Legal start.model start.log → (world_of start.model start.log).done ≡ false
+      → BelongsTo plan first → IsWorker plan 1 w1 → IsWorker plan 0 w2 → ClosesAll first w1.pass w2.pass machine → FeedsToEnd plan m p2 place held r first end now → PairRun start place held (ended_of r w1.refusal w2.refusal) now
+  runs_whole plan first w1 w2 machine place end held now r m same legal going own one two closes feeds =
+      let feeds' = subst (λ (k : Model). FeedsToEnd plan k p2 place held r first end now) same feeds in
+      let follows = feeds_follows plan start.model p2 first place end held now r feeds' in
+      runs start first w1 w2 (joined_of plan first w1 w2 machine legal going follows own one two closes) place held now p2 split_seen plan end r feeds'

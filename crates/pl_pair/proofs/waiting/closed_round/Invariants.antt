@@ -1,0 +1,12 @@
+use Rattle.pl_shared.specs.Plans.{BelongsTo}
+use Rattle.pl_pair.specs.Workers.{AreHands}
+use Rattle.pl_pair.specs.Rounds.{Looks}
+use Rattle.pl_pair.proofs.waiting.closed_round.Given as goal
+
+-- the round is not over yet
+abbrev pub invariant-loop : goal.invariant-loop
+invariant-loop g l = record {
+  own : BelongsTo l.plan l.pass;
+  hands : AreHands l.plan l.hands;
+  looks : Looks l.initial.pass l.pass;
+}

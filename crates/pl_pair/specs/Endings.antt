@@ -1,0 +1,41 @@
+-- How the run ends, by what the feeder and the workers met.
+use Rattle.std.specs.Prelude.{Bool, true, false, ◌||◌, if◌then◌else◌, Option, Some, None, Result, Ok, Err}
+use Rattle.pl_machine.specs.declared.stop.Stop.{Stop}
+use Rattle.pl_machine.specs.declared.stop.Stop.TheVariants as stop
+use Rattle.pl_pair.specs.declared.cut.Cut.{Cut}
+use Rattle.pl_pair.specs.declared.cut.Cut.TheVariants as cut
+use Rattle.pl_pair.specs.declared.ended.Ended.{Ended}
+use Rattle.pl_pair.specs.declared.ended.Ended.TheVariants as ended
+
+-- whether a worker's refusal was a full log
+abbrev pub is_full : Option Stop → Bool
+is_full None = false
+is_full (Some stop.LogFull) = true
+is_full (Some stop.Spoiled) = false
+is_full (Some stop.NotNow) = false
+is_full (Some stop.Memory) = false
+
+-- whether it was another
+abbrev pub is_other : Option Stop → Bool
+is_other None = false
+is_other (Some stop.LogFull) = false
+is_other (Some stop.Spoiled) = true
+is_other (Some stop.NotNow) = true
+is_other (Some stop.Memory) = true
+
+-- what stopped the plan: a full log only where nobody met another refusal
+abbrev pub refusal_of : Bool → Option Stop → Option Stop → Ended
+refusal_of full planner executive =
+    if is_other planner || is_other executive then ended.Memory
+    else if full || (is_full planner || is_full executive) then ended.LogFull
+    else ended.Memory
+
+-- A fault or a limit that the feeder met comes first, then what stopped the plan.
+abbrev pub ended_of : Result (Unit {0}) Cut → Option Stop → Option Stop → Ended
+ended_of (Ok u) planner executive = ended.Finished
+ended_of (Err cut.Read) planner executive = ended.ReadFault
+ended_of (Err cut.Write) planner executive = ended.WriteFault
+ended_of (Err cut.Limit) planner executive = ended.InputLimit
+ended_of (Err cut.Memory) planner executive = ended.Memory
+ended_of (Err cut.Full) planner executive = refusal_of true planner executive
+ended_of (Err cut.Stopped) planner executive = refusal_of false planner executive

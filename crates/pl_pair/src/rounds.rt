@@ -1,0 +1,64 @@
+//! A round's lines are written once it has closed.
+ghost use Rattle.std.specs.Prelude.{◌≡◌, ◌≤◌, ◌+◌, length, IsErrOf};
+ghost use Rattle.pl_io.specs.Faults.{Rose};
+ghost use Rattle.pl_turn.specs.Passes.{seen_of};
+ghost use Rattle.pl_shared.specs.Items.{entries_in};
+ghost use Rattle.pl_shared.specs.Plans.{BelongsTo};
+ghost use Rattle.pl_pair.specs.Workers.{AreHands};
+ghost use Rattle.pl_pair.specs.Rounds.{Looks, StageOf, RoundEnds};
+
+use crate::cut::Cut;
+use crate::hands::Hands;
+use crate::waiting::closed_round;
+use pl_io::Sink;
+use pl_model::Model;
+use pl_shared::{Part, Pass, SharedPlan};
+use pl_stream::write_entries;
+use std::alloc::Global;
+use std::sync::Wait;
+
+/// Where the run stands behind a round: the number of the next entry, or that the input has ended.
+pub enum Stage {
+    Waits(u32),
+    Ended,
+}
+
+fn stage_of(part: &Part, from: u32) -> Result<Stage, Cut>
+    requires { from + length part.now.entries ≤ 250000 }
+    ensures { StageOf part.now from result }
+{
+    if part.done {
+        return Ok(Stage::Ended);
+    }
+    if part.stopped {
+        return Err(Cut::Stopped);
+    }
+    Ok(Stage::Waits(from + part.entries.as_slice().len() as u32))
+}
+
+/// Waits for the round to close, and writes the lines of the entries from a number on.
+#[tactic(auto, using(crate::proofs::Passing::round_ends, crate::proofs::Passing::round_breaks, crate::proofs::Passing::write_rose, crate::proofs::Passing::adds_nothing, crate::proofs::Passing::within_looks, crate::proofs::Passing::round_short))]
+pub(crate) fn write_round<R: Wait, O: Sink>(
+    rt: &R,
+    alloc: Global,
+    plan: &SharedPlan,
+    model: &Model,
+    pass: &mut Pass,
+    hands: &mut Hands<'_>,
+    from: u32,
+    out: &mut O,
+) -> Result<Stage, Cut>
+    requires own { BelongsTo plan.now pass.old }
+    requires hands { AreHands plan.now hands.old }
+    requires from { from ≤ length (entries_in (seen_of pass.old)) }
+    ensures own { BelongsTo plan.now pass.new }
+    ensures hands { AreHands plan.now hands.new }
+    ensures looks { Looks pass.old pass.new }
+    ensures ends { RoundEnds model.now from (O.held out.old) result (seen_of pass.new) (O.held out.new) }
+    ensures write { IsErrOf result Cut.Write → Rose (O.faults out.old) (O.faults out.new) }
+    ensures later { O.faults out.old ≤ O.faults out.new }
+{
+    let part = closed_round(rt, alloc, plan, pass, hands, from)?;
+    write_entries(alloc, model, from, part.entries.as_slice(), out)?;
+    stage_of(&part, from)
+}
