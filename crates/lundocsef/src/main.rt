@@ -3,6 +3,7 @@
 
 use pl_io::{StdSink, StdSource};
 use pl_main::run;
+use pl_turn::NoGate;
 use std::alloc::{AllocError, Global};
 use std::env::{self, Args};
 use std::io;
@@ -34,7 +35,7 @@ fn main(rt: HostRuntime) -> ExitCode {
         Ok(words) => {
             let mut input = StdSource::new(rt.stdin());
             let mut out = StdSink::new(rt.stdout());
-            run(alloc, words.as_slice(), &mut input, &mut out)
+            run(&rt, alloc, words.as_slice(), &mut input, &mut out, &NoGate)
         }
         Err(_) => NO_MEMORY,
     };

@@ -74,11 +74,11 @@ text_stops turns kept start place held now m halt.Memory text run = tt
 
 -- ---- what was read
 
-record IsSplit (input words : List ℕ) (more : List (List ℕ)) : Type 0 where
-  text : (split_of input).text ≡ Some words
-  messages : (split_of input).messages ≡ messages_of more
+pub record IsSplit (input words : List ℕ) (more : List (List ℕ)) : Type 0 where
+  pub text : (split_of input).text ≡ Some words
+  pub messages : (split_of input).messages ≡ messages_of more
 
-split_is : (input : List ℕ) (heads : List (List ℕ)) (words : List ℕ) (more : List (List ℕ)) → IsHead heads words → lines_of input ≡ heads ++ more → IsSplit input words more
+pub split_is : (input : List ℕ) (heads : List (List ℕ)) (words : List ℕ) (more : List (List ℕ)) → IsHead heads words → lines_of input ≡ heads ++ more → IsSplit input words more
 split_is input heads words more head is =
     let both = head_then heads words more head in
     record { text = ap model_text_of is ∙ both.0; messages = ap (λ (ls : List (List ℕ)). messages_of (lines_behind ls)) is ∙ ap messages_of both.1 }

@@ -8,9 +8,11 @@ pub mod Checking
 pub mod Showing
 pub mod Summing
 pub mod Replaying
+pub mod Pairing
 pub mod Topping
 pub mod OneInput
 pub mod OneLog
 pub mod Causes
 pub mod Apart
+pub mod PairCauses
 pub mod Completing

@@ -5,11 +5,12 @@ use Rattle.std.specs.Str.{bytes_eq}
 use Rattle.std.specs.String.{string_bytes}
 use Rattle.std.specs.declared.string.String.{String}
 use Rattle.std.specs.declared.alloc.Global.{Global}
+use Rattle.pl_main.specs.declared.command.Command.{Command}
 use Rattle.pl_main.specs.declared.command.Command.TheVariants as command
 use Rattle.pl_main.specs.declared.command.Task.{Task}
 use Rattle.pl_main.specs.declared.command.Task.TheVariants as task
 use Rattle.pl_main.specs.Numbers.{number_in}
-use Rattle.pl_main.specs.Words.{turns_by, goals_by, command_in, command_of}
+use Rattle.pl_main.specs.Words.{turns_by, pair_by, goals_by, command_in, command_of}
 use Rattle.pl_stream.specs.declared.halt.Halt.{Halt}
 use Rattle.pl_stream.specs.declared.halt.Halt.TheVariants as halt
 use Rattle.pl_main.specs.declared.outcome.Outcome.{Outcome}
@@ -19,8 +20,9 @@ use Rattle.pl_main.specs.declared.form.Form.TheVariants as which
 use Rattle.pl_main.specs.declared.judgement.Judgement.{Judgement}
 use Rattle.pl_main.specs.declared.judgement.Judgement.TheVariants as judged
 use Rattle.pl_main.specs.Replays.{ReadsBack, ReadsBackKnown}
-use Rattle.pl_main.specs.Statuses.{IsTask, status_of, status_of_journal, SaysReadBack, SaysKnown, IsSoloStatus, is_done, is_refused, is_read, is_write, is_limit, is_full, is_wrong, is_memory}
+use Rattle.pl_main.specs.Statuses.{IsTask, status_of, status_of_journal, SaysReadBack, SaysKnown, SaysPairKnown, IsSoloStatus, is_done, is_refused, is_read, is_write, is_limit, is_full, is_wrong, is_memory}
 use Rattle.pl_main.specs.Demos.{Shows}
+use Rattle.pl_main.specs.Pairs.{PairedKnown}
 use Rattle.pl_main.specs.Top.{RanKnown, ChecksKnown}
 
 pub says_of : (turns : ℕ) (input source_left held now : Option (List ℕ)) (r : Result Outcome Halt) → RanKnown turns input source_left held now r → SaysKnown (task.Solo turns) input source_left held now (status_of r)
@@ -33,14 +35,24 @@ says_of turns (Some input) source_left held now (Err halt.Read) ran = record { d
 says_of turns (Some input) source_left held now (Err halt.Write) ran = record { done = λ e. absurd (omega (arith, e)); refused = λ e. absurd (omega (arith, e)); read_fault = λ e. absurd (omega (arith, e)); limit = λ e. absurd (omega (arith, e)); full = λ e. absurd (omega (arith, e)); never_wrong = λ e. omega (arith, e) }
 says_of turns (Some input) source_left held now (Err halt.Memory) ran = record { done = λ e. absurd (omega (arith, e)); refused = λ e. absurd (omega (arith, e)); read_fault = λ e. absurd (omega (arith, e)); limit = λ e. absurd (omega (arith, e)); full = λ e. absurd (omega (arith, e)); never_wrong = λ e. omega (arith, e) }
 
+pub says_paired : (turns : ℕ) (input source_left held now : Option (List ℕ)) (r : Result Outcome Halt) → PairedKnown turns input source_left held now r → SaysPairKnown turns input source_left held now (status_of r)
+says_paired turns None source_left held now r ran = tt
+says_paired turns (Some input) source_left held now (Ok outcome.Done) ran = record { done = λ e. ran; refused = λ e. absurd (omega (arith, e)); read_fault = λ e. absurd (omega (arith, e)); short = λ e. absurd (omega (arith, e)); limit = λ e. absurd (omega (arith, e)); full = λ e. absurd (omega (arith, e)); never_wrong = λ e. omega (arith, e); memory = λ e. absurd (omega (arith, e)) }
+says_paired turns (Some input) source_left held now (Ok outcome.Refused) ran = record { done = λ e. absurd (omega (arith, e)); refused = λ e. ran; read_fault = λ e. absurd (omega (arith, e)); short = λ e. absurd (omega (arith, e)); limit = λ e. absurd (omega (arith, e)); full = λ e. absurd (omega (arith, e)); never_wrong = λ e. omega (arith, e); memory = λ e. absurd (omega (arith, e)) }
+says_paired turns (Some input) source_left held now (Err halt.Limit) ran = record { done = λ e. absurd (omega (arith, e)); refused = λ e. absurd (omega (arith, e)); read_fault = λ e. absurd (omega (arith, e)); short = λ e. absurd (omega (arith, e)); limit = λ e. ran; full = λ e. absurd (omega (arith, e)); never_wrong = λ e. omega (arith, e); memory = λ e. absurd (omega (arith, e)) }
+says_paired turns (Some input) source_left held now (Err halt.Full) ran = record { done = λ e. absurd (omega (arith, e)); refused = λ e. absurd (omega (arith, e)); read_fault = λ e. absurd (omega (arith, e)); short = λ e. absurd (omega (arith, e)); limit = λ e. absurd (omega (arith, e)); full = λ e. ran; never_wrong = λ e. omega (arith, e); memory = λ e. absurd (omega (arith, e)) }
+says_paired turns (Some input) source_left held now (Err halt.Read) ran = record { done = λ e. absurd (omega (arith, e)); refused = λ e. absurd (omega (arith, e)); read_fault = λ e. ran; short = λ e. absurd (omega (arith, e)); limit = λ e. absurd (omega (arith, e)); full = λ e. absurd (omega (arith, e)); never_wrong = λ e. omega (arith, e); memory = λ e. absurd (omega (arith, e)) }
+says_paired turns (Some input) source_left held now (Err halt.Write) ran = record { done = λ e. absurd (omega (arith, e)); refused = λ e. absurd (omega (arith, e)); read_fault = λ e. absurd (omega (arith, e)); short = λ e. ran; limit = λ e. absurd (omega (arith, e)); full = λ e. absurd (omega (arith, e)); never_wrong = λ e. omega (arith, e); memory = λ e. absurd (omega (arith, e)) }
+says_paired turns (Some input) source_left held now (Err halt.Memory) ran = record { done = λ e. absurd (omega (arith, e)); refused = λ e. absurd (omega (arith, e)); read_fault = λ e. absurd (omega (arith, e)); short = λ e. absurd (omega (arith, e)); limit = λ e. absurd (omega (arith, e)); full = λ e. absurd (omega (arith, e)); never_wrong = λ e. omega (arith, e); memory = λ e. ran }
+
 pub says_checked : (input source_left held now : Option (List ℕ)) (r : Result Outcome Halt) → ChecksKnown input source_left held now r → SaysKnown task.Check input source_left held now (status_of r)
 says_checked None source_left held now r ran = tt
-says_checked (Some input) source_left held now (Ok outcome.Done) ran = record { done = λ e. ran; refused = λ e. absurd (omega (arith, e)); read_fault = λ e. absurd (omega (arith, e)); limit = λ e. absurd (omega (arith, e)); never_full = λ e. absurd (omega (arith, e)); never_wrong = λ e. omega (arith, e) }
-says_checked (Some input) source_left held now (Ok outcome.Refused) ran = record { done = λ e. absurd (omega (arith, e)); refused = λ e. ran; read_fault = λ e. absurd (omega (arith, e)); limit = λ e. absurd (omega (arith, e)); never_full = λ e. absurd (omega (arith, e)); never_wrong = λ e. omega (arith, e) }
-says_checked (Some input) source_left held now (Err halt.Limit) ran = record { done = λ e. absurd (omega (arith, e)); refused = λ e. absurd (omega (arith, e)); read_fault = λ e. absurd (omega (arith, e)); limit = λ e. ran; never_full = λ e. absurd (omega (arith, e)); never_wrong = λ e. omega (arith, e) }
-says_checked (Some input) source_left held now (Err halt.Read) ran = record { done = λ e. absurd (omega (arith, e)); refused = λ e. absurd (omega (arith, e)); read_fault = λ e. ran; limit = λ e. absurd (omega (arith, e)); never_full = λ e. absurd (omega (arith, e)); never_wrong = λ e. omega (arith, e) }
-says_checked (Some input) source_left held now (Err halt.Write) ran = record { done = λ e. absurd (omega (arith, e)); refused = λ e. absurd (omega (arith, e)); read_fault = λ e. absurd (omega (arith, e)); limit = λ e. absurd (omega (arith, e)); never_full = λ e. absurd (omega (arith, e)); never_wrong = λ e. omega (arith, e) }
-says_checked (Some input) source_left held now (Err halt.Memory) ran = record { done = λ e. absurd (omega (arith, e)); refused = λ e. absurd (omega (arith, e)); read_fault = λ e. absurd (omega (arith, e)); limit = λ e. absurd (omega (arith, e)); never_full = λ e. absurd (omega (arith, e)); never_wrong = λ e. omega (arith, e) }
+says_checked (Some input) source_left held now (Ok outcome.Done) ran = record { done = λ e. ran; refused = λ e. absurd (omega (arith, e)); short = λ e. absurd (omega (arith, e)); silent = λ e. absurd (omega (arith, e)); read_fault = λ e. absurd (omega (arith, e)); limit = λ e. absurd (omega (arith, e)); never_full = λ e. absurd (omega (arith, e)); never_wrong = λ e. omega (arith, e) }
+says_checked (Some input) source_left held now (Ok outcome.Refused) ran = record { done = λ e. absurd (omega (arith, e)); refused = λ e. ran; short = λ e. absurd (omega (arith, e)); silent = λ e. absurd (omega (arith, e)); read_fault = λ e. absurd (omega (arith, e)); limit = λ e. absurd (omega (arith, e)); never_full = λ e. absurd (omega (arith, e)); never_wrong = λ e. omega (arith, e) }
+says_checked (Some input) source_left held now (Err halt.Limit) ran = record { done = λ e. absurd (omega (arith, e)); refused = λ e. absurd (omega (arith, e)); short = λ e. absurd (omega (arith, e)); silent = λ e. absurd (omega (arith, e)); read_fault = λ e. absurd (omega (arith, e)); limit = λ e. ran; never_full = λ e. absurd (omega (arith, e)); never_wrong = λ e. omega (arith, e) }
+says_checked (Some input) source_left held now (Err halt.Read) ran = record { done = λ e. absurd (omega (arith, e)); refused = λ e. absurd (omega (arith, e)); short = λ e. absurd (omega (arith, e)); silent = λ e. absurd (omega (arith, e)); read_fault = λ e. ran; limit = λ e. absurd (omega (arith, e)); never_full = λ e. absurd (omega (arith, e)); never_wrong = λ e. omega (arith, e) }
+says_checked (Some input) source_left held now (Err halt.Write) ran = record { done = λ e. absurd (omega (arith, e)); refused = λ e. absurd (omega (arith, e)); short = λ e. ran; silent = λ e. absurd (omega (arith, e)); read_fault = λ e. absurd (omega (arith, e)); limit = λ e. absurd (omega (arith, e)); never_full = λ e. absurd (omega (arith, e)); never_wrong = λ e. omega (arith, e) }
+says_checked (Some input) source_left held now (Err halt.Memory) ran = record { done = λ e. absurd (omega (arith, e)); refused = λ e. absurd (omega (arith, e)); short = λ e. absurd (omega (arith, e)); silent = λ e. ran; read_fault = λ e. absurd (omega (arith, e)); limit = λ e. absurd (omega (arith, e)); never_full = λ e. absurd (omega (arith, e)); never_wrong = λ e. omega (arith, e) }
 says_checked (Some input) source_left held now (Err halt.Full) ran = absurd ran
 
 pub says_shown : (goals : ℕ) (input source_left held now : Option (List ℕ)) (r : Result Outcome Halt) → Shows goals held now r → SaysKnown (task.Demo goals) input source_left held now (status_of r)
@@ -131,13 +143,86 @@ by_demo : (b : Bool) (n : Option ℕ) (t : Task) → (if b then goals_by n else 
 by_demo true n t e = by_goals n t e
 by_demo false n t e = absurd (let h : None ≡ Some (command.Alone t) = e in (cc))
 
+-- a pair is no task of one thread
+no_pair_task : (n s : ℕ) (b : Bool) (t : Task) → (if b then Some (command.Pair n s) else None) ≡ Some (command.Alone t) → IsTask t
+no_pair_task n s true t e = absurd (let h : command.Pair n s ≡ command.Alone t = (let i : Some (command.Pair n s) ≡ Some (command.Alone t) = e in (cc)) in (cc))
+no_pair_task n s false t e = absurd (let h : None ≡ Some (command.Alone t) = e in (cc))
+
+no_pair_by : (n s : Option ℕ) (t : Task) → pair_by n s ≡ Some (command.Alone t) → IsTask t
+no_pair_by None s t e = absurd (let h : None ≡ Some (command.Alone t) = e in (cc))
+no_pair_by (Some n) None t e = absurd (let h : None ≡ Some (command.Alone t) = e in (cc))
+no_pair_by (Some n) (Some s) t e = no_pair_task n s (nat_le 1 n && nat_le n 1000) t e
+
+no_task : (b : Bool) (n s : Option ℕ) (t : Task) → (if b then pair_by n s else None) ≡ Some (command.Alone t) → IsTask t
+no_task true n s t e = no_pair_by n s t e
+no_task false n s t e = absurd (let h : None ≡ Some (command.Alone t) = e in (cc))
+
 by_words : (ws : List (List ℕ)) (t : Task) → command_in ws ≡ Some (command.Alone t) → IsTask t
 by_words [] t e = absurd (let h : None ≡ Some (command.Alone t) = e in (cc))
 by_words (a ∷ []) t e = by_single (bytes_eq a (codes "check")) (bytes_eq a (codes "replay")) (bytes_eq a (codes "report")) t e
 by_words (a ∷ n ∷ []) t e = by_demo (bytes_eq a (codes "demo")) (number_in n) t e
 by_words (a ∷ b ∷ n ∷ []) t e = by_form (bytes_eq a (codes "run") && bytes_eq b (codes "solo")) (number_in n) t e
-by_words (a ∷ b ∷ n ∷ d ∷ ds) t e = absurd (let h : None ≡ Some (command.Alone t) = e in (cc))
+by_words (a ∷ b ∷ n ∷ d ∷ []) t e = no_task (bytes_eq a (codes "run") && bytes_eq b (codes "pair")) (number_in n) (number_in d) t e
+by_words (a ∷ b ∷ n ∷ d ∷ x ∷ xs) t e = absurd (let h : None ≡ Some (command.Alone t) = e in (cc))
 
 pub task_fits : (words : List (String Global)) (t : Task) → command_of words ≡ Some (command.Alone t) → IsTask t
 unfolding command_of
 task_fits words t e = by_words (map string_bytes words) t e
+
+-- ---- the words of a pair
+
+abbrev IsPair : Option Command → ℕ → ℕ → Type 0
+IsPair c turns seed = c ≡ Some (command.Pair turns seed)
+
+alone_no_pair : (t : Task) (turns seed : ℕ) → IsPair (Some (command.Alone t)) turns seed → ⊥
+alone_no_pair t turns seed e = (let h : command.Alone t ≡ command.Pair turns seed = (let i : Some (command.Alone t) ≡ Some (command.Pair turns seed) = e in (cc)) in (cc))
+
+none_no_pair : (turns seed : ℕ) → IsPair None turns seed → ⊥
+none_no_pair turns seed e = (let h : None ≡ Some (command.Pair turns seed) = e in (cc))
+
+if_no_pair : (b : Bool) (c : Option Command) (turns seed : ℕ) → (IsPair c turns seed → ⊥) → IsPair (if b then c else None) turns seed → ⊥
+if_no_pair true c turns seed never e = never e
+if_no_pair false c turns seed never e = none_no_pair turns seed e
+
+single_no_pair : (a b c : Bool) (turns seed : ℕ)
+    → IsPair (if a then Some (command.Alone task.Check) else if b then Some (command.Alone task.Replay) else if c then Some (command.Alone task.Report) else None) turns seed → ⊥
+single_no_pair true b c turns seed e = alone_no_pair task.Check turns seed e
+single_no_pair false true c turns seed e = alone_no_pair task.Replay turns seed e
+single_no_pair false false true turns seed e = alone_no_pair task.Report turns seed e
+single_no_pair false false false turns seed e = none_no_pair turns seed e
+
+goals_no_pair : (n : Option ℕ) (turns seed : ℕ) → IsPair (goals_by n) turns seed → ⊥
+goals_no_pair None turns seed e = none_no_pair turns seed e
+goals_no_pair (Some n) turns seed e = if_no_pair (nat_le 1 n && nat_le n 4000) (Some (command.Alone (task.Demo n))) turns seed (alone_no_pair (task.Demo n) turns seed) e
+
+turns_no_pair : (n : Option ℕ) (turns seed : ℕ) → IsPair (turns_by n) turns seed → ⊥
+turns_no_pair None turns seed e = none_no_pair turns seed e
+turns_no_pair (Some n) turns seed e = if_no_pair (nat_le 1 n && nat_le n 1000) (Some (command.Alone (task.Solo n))) turns seed (alone_no_pair (task.Solo n) turns seed) e
+
+pair_bounds : (n s : ℕ) (a b : Bool) → nat_le 1 n ≡ a → nat_le n 1000 ≡ b → (turns seed : ℕ) → IsPair (if a && b then Some (command.Pair n s) else None) turns seed → (1 ≤ turns) × (turns ≤ 1000)
+pair_bounds n s true true low high turns seed e =
+    let is : n ≡ turns = (let h : command.Pair n s ≡ command.Pair turns seed = (let i : Some (command.Pair n s) ≡ Some (command.Pair turns seed) = e in (cc)) in (cc)) in
+    subst (λ (x : ℕ). (1 ≤ x) × (x ≤ 1000)) is (leb-true 1 n low, leb-true n 1000 high)
+pair_bounds n s true false low high turns seed e = absurd (none_no_pair turns seed e)
+pair_bounds n s false b low high turns seed e = absurd (none_no_pair turns seed e)
+
+pair_fits : (n s : Option ℕ) (turns seed : ℕ) → IsPair (pair_by n s) turns seed → (1 ≤ turns) × (turns ≤ 1000)
+pair_fits None s turns seed e = absurd (none_no_pair turns seed e)
+pair_fits (Some n) None turns seed e = absurd (none_no_pair turns seed e)
+pair_fits (Some n) (Some s) turns seed e = pair_bounds n s (nat_le 1 n) (nat_le n 1000) refl refl turns seed e
+
+pair_in : (b : Bool) (n s : Option ℕ) (turns seed : ℕ) → IsPair (if b then pair_by n s else None) turns seed → (1 ≤ turns) × (turns ≤ 1000)
+pair_in true n s turns seed e = pair_fits n s turns seed e
+pair_in false n s turns seed e = absurd (none_no_pair turns seed e)
+
+pair_words : (ws : List (List ℕ)) (turns seed : ℕ) → IsPair (command_in ws) turns seed → (1 ≤ turns) × (turns ≤ 1000)
+pair_words [] turns seed e = absurd (none_no_pair turns seed e)
+pair_words (a ∷ []) turns seed e = absurd (single_no_pair (bytes_eq a (codes "check")) (bytes_eq a (codes "replay")) (bytes_eq a (codes "report")) turns seed e)
+pair_words (a ∷ n ∷ []) turns seed e = absurd (if_no_pair (bytes_eq a (codes "demo")) (goals_by (number_in n)) turns seed (goals_no_pair (number_in n) turns seed) e)
+pair_words (a ∷ b ∷ n ∷ []) turns seed e = absurd (if_no_pair (bytes_eq a (codes "run") && bytes_eq b (codes "solo")) (turns_by (number_in n)) turns seed (turns_no_pair (number_in n) turns seed) e)
+pair_words (a ∷ b ∷ n ∷ s ∷ []) turns seed e = pair_in (bytes_eq a (codes "run") && bytes_eq b (codes "pair")) (number_in n) (number_in s) turns seed e
+pair_words (a ∷ b ∷ n ∷ s ∷ x ∷ xs) turns seed e = absurd (none_no_pair turns seed e)
+
+pub turns_fit : (words : List (String Global)) (turns seed : ℕ) → command_of words ≡ Some (command.Pair turns seed) → (1 ≤ turns) × (turns ≤ 1000)
+unfolding command_of
+turns_fit words turns seed e = pair_words (map string_bytes words) turns seed e

@@ -7,5 +7,6 @@ pub mod Top
 pub mod Runs
 pub mod Demos
 pub mod Replays
+pub mod Pairs
 pub mod Limits
 pub mod Statuses

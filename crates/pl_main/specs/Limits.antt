@@ -10,6 +10,7 @@ use Rattle.pl_replay.specs.Journals.{entry_lines, IsJournalOf, IsWrongAtLast}
 use Rattle.pl_main.specs.declared.command.Task.{Task}
 use Rattle.pl_main.specs.declared.command.Task.TheVariants as task
 use Rattle.pl_main.specs.Demos.{CanShow}
+use Rattle.pl_main.specs.Pairs.{IsPairPastLimit}
 use Rattle.pl_main.specs.Replays.{IsPastJournal}
 use Rattle.pl_main.specs.Top.{line_limit, total_limit, IsPastLimit, IsPastHead}
 
@@ -25,6 +26,14 @@ pub record CanRun (turns : ℕ) (input : List ℕ) : Type 0 where
   pub text : (split_of input).text ≡ Some words
   pub accepted : IsModelText words model
   pub no_limit : (held now : Option (List ℕ)) → IsPastLimit turns input held now → ⊥
+
+-- The same for a pair.
+pub record CanPair (turns : ℕ) (input : List ℕ) : Type 0 where
+  pub words : List ℕ
+  pub model : Model
+  pub text : (split_of input).text ≡ Some words
+  pub accepted : IsModelText words model
+  pub no_limit : (held now : Option (List ℕ)) → IsPairPastLimit turns input held now → ⊥
 
 -- The same for a check, which runs nothing.
 pub record CanCheck (input : List ℕ) : Type 0 where
@@ -78,3 +87,7 @@ Completes task.Check input status = IfSome input (λ bytes. CanCheck bytes → I
 Completes task.Replay input status = IfSome input (λ bytes. Decides bytes status)
 Completes task.Report input status = IfSome input (λ bytes. Decides bytes status)
 Completes (task.Demo goals) input status = CanShow goals → IsDoneBy (task.Demo goals) status
+
+-- a run of a pair that can be done is done, or memory is wanting, or the log is full
+abbrev pub CompletesPair : ℕ → Option (List ℕ) → ℕ → Type 0
+CompletesPair turns input status = IfSome input (λ bytes. CanPair turns bytes → (status ≡ 0) ⊎ ((status ≡ 7) ⊎ (status ≡ 9)))

@@ -2,6 +2,7 @@
 use Rattle.std.specs.Prelude.{◌≡◌, ℕ, List, [], ◌∷◌, false, Option, Result, Ok, Err, ⊤}
 use Rattle.std.specs.declared.vec.Vec.{Vec}
 use Rattle.std.specs.declared.alloc.Global.{Global}
+use Rattle.pl_io.specs.Writes.{AppendsFront}
 use Rattle.pl_model.specs.declared.whole.Model.{Model}
 use Rattle.pl_machine.specs.Legal.{Legal, opening}
 use Rattle.pl_machine.specs.World.{fresh_world}
@@ -83,11 +84,17 @@ pub record TextPasses (kept : Option (Vec ℕ Global)) (held now : Option (List 
   pub text : IsKeptModel kept model
   pub written : Adds held now (model_ok_line model)
 
+-- A write failed. What went out is a front of the line that was due.
+pub data TextChecksShort (kept : Option (Vec ℕ Global)) (held now : Option (List ℕ)) : Type 0 where
+  of_model : (m : Model) → IsKeptModel kept m → AppendsFront held now (model_ok_line m) → TextChecksShort kept held now
+  of_refusal : (line : List ℕ) → ((words : List ℕ) → Keeps kept words → IsRefusedAs words line) → AppendsFront held now line
+      → TextChecksShort kept held now
+
 abbrev pub TextChecks : Option (Vec ℕ Global) → Option (List ℕ) → Result Outcome Halt → Option (List ℕ) → Type 0
 TextChecks kept held (Ok outcome.Done) now = TextPasses kept held now
 TextChecks kept held (Ok outcome.Refused) now = TextFails kept held now
 TextChecks kept held (Err halt.Limit) now = ⊥
 TextChecks kept held (Err halt.Full) now = ⊥
 TextChecks kept held (Err halt.Read) now = ⊥
-TextChecks kept held (Err halt.Write) now = ⊤
-TextChecks kept held (Err halt.Memory) now = ⊤
+TextChecks kept held (Err halt.Write) now = TextChecksShort kept held now
+TextChecks kept held (Err halt.Memory) now = now ≡ held

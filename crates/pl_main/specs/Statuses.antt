@@ -11,7 +11,8 @@ use Rattle.pl_main.specs.declared.form.Form.TheVariants as which
 use Rattle.pl_main.specs.declared.judgement.Judgement.{Judgement}
 use Rattle.pl_main.specs.declared.judgement.Judgement.TheVariants as judged
 use Rattle.pl_main.specs.Replays.{journal_line_limit, IsRightJournal, IsWrongJournal, IsPastJournal, IsJournalFault, IsJournalShort}
-use Rattle.pl_main.specs.Top.{line_limit, IsDone, IsReadFault, IsPastLimit, IsFull, IsFound, IsNoModel, IsHeadFault, IsPastHead}
+use Rattle.pl_main.specs.Top.{line_limit, IsDone, IsReadFault, IsPastLimit, IsFull, IsFound, IsNoModel, IsHeadFault, IsPastHead, IsCheckShort}
+use Rattle.pl_main.specs.Pairs.{IsPairDone, IsPairReadFault, IsPairPastLimit, IsPairFull, IsPairShort}
 use Rattle.pl_main.specs.Demos.{IsShown, IsShownInPart, IsShownShort, HasNoDemo}
 
 -- 0 done, 3 the model is refused, 4 a read failed, 5 a write failed, 6 a line or the input is too long, 7 the log is full, 8 the journal is wrong, 9 memory
@@ -54,9 +55,11 @@ pub record SaysChecked (input : List ℕ) (source_left held now : Option (List �
   pub done : status ≡ 0 → IsFound input source_left held now
   pub refused : status ≡ 3 → IsNoModel line_limit input source_left held now
   pub read_fault : status ≡ 4 → IsHeadFault line_limit input held now
+  pub short : status ≡ 5 → IsCheckShort input source_left held now
   pub limit : status ≡ 6 → IsPastHead line_limit input held now
   pub never_full : status ≡ 7 → ⊥
   pub never_wrong : status ≡ 8 → ⊥
+  pub silent : status ≡ 9 → now ≡ held
 
 -- What the status of a replay says, or of a report.
 pub record SaysReadBack (form : Form) (input : List ℕ) (source_left held now : Option (List ℕ)) (status : ℕ)
@@ -97,6 +100,22 @@ SaysKnown task.Report (Some input) source_left held now status =
     SaysReadBack which.Report input source_left held now status
 SaysKnown (task.Demo goals) input source_left held now status = SaysShown goals held now status
 
+-- what the status of a run of a pair says, where the input's bytes are known
+pub record SaysPaired (turns : ℕ) (input : List ℕ) (source_left held now : Option (List ℕ)) (status : ℕ)
+    : Type 0 where
+  pub done : status ≡ 0 → IsPairDone turns input held now
+  pub refused : status ≡ 3 → IsNoModel line_limit input source_left held now
+  pub read_fault : status ≡ 4 → IsPairReadFault turns input held now
+  pub short : status ≡ 5 → IsPairShort turns input held now
+  pub limit : status ≡ 6 → IsPairPastLimit turns input held now
+  pub full : status ≡ 7 → IsPairFull turns input held now
+  pub never_wrong : status ≡ 8 → ⊥
+  pub memory : status ≡ 9 → IsPairShort turns input held now
+
+abbrev pub SaysPairKnown : ℕ → (input source_left held now : Option (List ℕ)) → ℕ → Type 0
+SaysPairKnown turns None source_left held now status = ⊤
+SaysPairKnown turns (Some input) source_left held now status = SaysPaired turns input source_left held now status
+
 -- a demonstration leaves the input as it was
 abbrev pub IsUnread : {A : Type 0} → Task → A → A → Type 0
 IsUnread (task.Solo turns) old new = ⊤
@@ -105,7 +124,7 @@ IsUnread task.Replay old new = ⊤
 IsUnread task.Report old new = ⊤
 IsUnread (task.Demo goals) old new = new ≡ old
 
--- a task of one thread has one of these statuses, and no other
+-- a job has one of these statuses, and no other
 pub data IsSoloStatus (status : ℕ) : Type 0 where
   is_done : status ≡ 0 → IsSoloStatus status
   is_refused : status ≡ 3 → IsSoloStatus status

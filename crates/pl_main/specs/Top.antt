@@ -3,6 +3,7 @@ use Rattle.std.specs.Prelude.{◌≡◌, ℕ, ◌<◌, ◌⊎◌, List, [], ◌�
 use Rattle.pl_io.specs.Lines.{ahead}
 use Rattle.pl_io.specs.Reader.{Reader}
 use Rattle.pl_io.specs.Sparing.{read_size}
+use Rattle.pl_io.specs.Writes.{AppendsFront}
 use Rattle.pl_model.specs.declared.whole.Model.{Model}
 use Rattle.pl_facts.specs.declared.options.Options.{Options}
 use Rattle.pl_entry.specs.declared.entry.Entry.{Entry}
@@ -194,6 +195,13 @@ pub record IsHeadFault (limit : ℕ) (input : List ℕ) (held now : Option (List
   pub none : model_text_of lines ≡ None
   pub silent : now ≡ held
 
+-- A write failed. What went out is a front of the line that was due.
+pub data IsCheckShort (input : List ℕ) (source_left held now : Option (List ℕ)) : Type 0 where
+  of_model : (found : IsFound input source_left None None) → AppendsFront held now (model_ok_line found.model)
+      → IsCheckShort input source_left held now
+  of_refusal : (line : List ℕ) → IsNoModel line_limit input source_left (Some []) (Some line)
+      → AppendsFront held now line → IsCheckShort input source_left held now
+
 -- How a check ended, where the input's bytes are known.
 abbrev pub Checks : List ℕ → (source_left held now : Option (List ℕ)) → Result Outcome Halt → Type 0
 Checks input source_left held now (Ok outcome.Done) = IsFound input source_left held now
@@ -201,8 +209,8 @@ Checks input source_left held now (Ok outcome.Refused) = IsNoModel line_limit in
 Checks input source_left held now (Err halt.Limit) = IsPastHead line_limit input held now
 Checks input source_left held now (Err halt.Full) = ⊥
 Checks input source_left held now (Err halt.Read) = IsHeadFault line_limit input held now
-Checks input source_left held now (Err halt.Write) = ⊤
-Checks input source_left held now (Err halt.Memory) = ⊤
+Checks input source_left held now (Err halt.Write) = IsCheckShort input source_left held now
+Checks input source_left held now (Err halt.Memory) = now ≡ held
 
 abbrev pub ChecksKnown : (input source_left held now : Option (List ℕ)) → Result Outcome Halt → Type 0
 ChecksKnown None source_left held now r = ⊤

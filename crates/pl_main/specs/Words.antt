@@ -1,4 +1,4 @@
--- The forms of the command line. So far `run solo N`, `check`, `replay`, `report` and `demo N`.
+-- The forms of the command line: `run solo N`, `run pair N SEED`, `check`, `replay`, `report` and `demo N`.
 use Rattle.std.specs.Prelude.{ℕ, List, [], ◌∷◌, ◌&&◌, nat_le, if◌then◌else◌, Option, Some, None, codes, map}
 use Rattle.std.specs.Str.{bytes_eq}
 use Rattle.std.specs.String.{string_bytes}
@@ -13,6 +13,12 @@ use Rattle.pl_main.specs.Numbers.{number_in}
 abbrev pub turns_by : Option ℕ → Option Command
 turns_by None = None
 turns_by (Some n) = if nat_le 1 n && nat_le n 1000 then Some (command.Alone (task.Solo n)) else None
+
+-- the same with a seed
+abbrev pub pair_by : Option ℕ → Option ℕ → Option Command
+pair_by None seed = None
+pair_by (Some turns) None = None
+pair_by (Some turns) (Some seed) = if nat_le 1 turns && nat_le turns 1000 then Some (command.Pair turns seed) else None
 
 -- the goals of the demonstration, from 1 to 4,000
 abbrev pub goals_by : Option ℕ → Option Command
@@ -31,6 +37,7 @@ abbrev pub command_in : List (List ℕ) → Option Command
 command_in (word ∷ []) = single_word word
 command_in (demo ∷ goals ∷ []) = if bytes_eq demo (codes "demo") then goals_by (number_in goals) else None
 command_in (run ∷ solo ∷ turns ∷ []) = if bytes_eq run (codes "run") && bytes_eq solo (codes "solo") then turns_by (number_in turns) else None
+command_in (run ∷ pair ∷ turns ∷ seed ∷ []) = if bytes_eq run (codes "run") && bytes_eq pair (codes "pair") then pair_by (number_in turns) (number_in seed) else None
 command_in _ = None
 
 -- what the words ask for, where they are one of the forms

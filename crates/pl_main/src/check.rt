@@ -1,5 +1,6 @@
 ghost use Rattle.std.specs.Prelude.{◌≡◌, ◌≤◌, ◌++◌, OnOk, IfOk, IfErr, IsErrOf, decimal};
 ghost use Rattle.pl_io.specs.Faults.{Rose};
+ghost use Rattle.pl_io.specs.Writes.{AppendsFront};
 ghost use Rattle.pl_main.specs.Runs.{TextChecks};
 ghost use Rattle.pl_main.specs.Top.{model_ok_line, ChecksKnown};
 ghost use Rattle.pl_stream.specs.Written.{Adds, WriteStops};
@@ -38,6 +39,8 @@ fn model_ok_line(alloc: Global, model: &Model) -> Result<Vec<u8>, AllocError>
 fn write_ok<O: Sink>(alloc: Global, model: &Model, out: &mut O) -> Result<Outcome, Halt>
     ensures text { OnOk result (Adds (O.held out.old) (O.held out.new) (model_ok_line model.now)) }
     ensures done { IfOk result (λ outcome. outcome ≡ Outcome.Done) }
+    ensures front { IsErrOf result Halt.Write → AppendsFront (O.held out.old) (O.held out.new) (model_ok_line model.now) }
+    ensures silent { IsErrOf result Halt.Memory → O.held out.new ≡ O.held out.old }
     ensures cause { IfErr result (WriteStops (O.faults out.old) (O.faults out.new)) }
     ensures later { O.faults out.old ≤ O.faults out.new }
 {
@@ -46,7 +49,7 @@ fn write_ok<O: Sink>(alloc: Global, model: &Model, out: &mut O) -> Result<Outcom
     Ok(Outcome::Done)
 }
 
-#[tactic(auto, using(crate::proofs::Checking::text_fails, crate::proofs::Checking::text_passes))]
+#[tactic(auto, using(crate::proofs::Checking::text_none, crate::proofs::Checking::text_fails, crate::proofs::Checking::text_passes))]
 fn check_text<O: Sink>(alloc: Global, kept: Option<Vec<u8>>, out: &mut O) -> Result<Outcome, Halt>
     ensures text { TextChecks kept (O.held out.old) result (O.held out.new) }
     ensures cause { IfErr result (WriteStops (O.faults out.old) (O.faults out.new)) }
@@ -59,7 +62,7 @@ fn check_text<O: Sink>(alloc: Global, kept: Option<Vec<u8>>, out: &mut O) -> Res
 }
 
 /// Reads a model up to its `begin` line and writes that it is one, or its first fault.
-#[tactic(auto, using(crate::proofs::Checking::head_checks))]
+#[tactic(auto, using(crate::proofs::Checking::no_reader, crate::proofs::Checking::head_checks))]
 pub fn check<S: Source, O: Sink>(alloc: Global, src: &mut S, out: &mut O) -> Result<Outcome, Halt>
     ensures checks { ChecksKnown (S.left src.old) (S.left src.new) (O.held out.old) (O.held out.new)
         result }

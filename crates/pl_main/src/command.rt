@@ -1,6 +1,9 @@
 /// What the words ask for.
 #[derive(Clone, Copy, Debug, PartialEq, Eq)]
 pub enum Command {
+    /// Plans a mission with a planner and an executive in threads of their own. The repair turns of a round are from 1 to
+    /// 1,000, the seed of the planner's chooser is up to 999,999,999,999,999,999.
+    Pair { turns: u32, seed: u64 },
     Alone(Task),
 }
 

@@ -13,6 +13,7 @@ mod judging;
 mod laws;
 mod number;
 mod outcome;
+mod paired;
 mod play;
 mod sharing;
 mod top;

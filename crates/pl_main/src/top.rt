@@ -1,8 +1,9 @@
-ghost use Rattle.std.specs.Prelude.{◌≡◌, ◌⊎◌, ℕ, None, Some};
+ghost use Rattle.std.specs.Prelude.{◌≡◌, ◌≤◌, ◌⊎◌, ℕ, None, Some};
 ghost use Rattle.pl_io.specs.Faults.{Rose};
+ghost use Rattle.pl_io.specs.Writes.{AppendsFront};
 ghost use Rattle.pl_main.specs.Words.{command_of};
-ghost use Rattle.pl_main.specs.Limits.{Completes};
-ghost use Rattle.pl_main.specs.Statuses.{IsTask, IsSoloStatus, status_of, status_of_journal, usage_line, SaysKnown, IsUnread};
+ghost use Rattle.pl_main.specs.Limits.{Completes, CompletesPair};
+ghost use Rattle.pl_main.specs.Statuses.{IsTask, IsSoloStatus, status_of, status_of_journal, usage_line, SaysKnown, SaysPairKnown, IsUnread};
 ghost use Rattle.pl_stream.specs.Written.{Adds};
 
 use crate::check::check;
@@ -12,11 +13,15 @@ use crate::form::Form;
 use crate::journals::read_back;
 use crate::judgement::Judgement;
 use crate::outcome::Outcome;
+use crate::paired::paired;
 use crate::whole::solo;
 use crate::words::read_words;
 use pl_io::{Sink, Source, put};
 use pl_stream::Halt;
+use pl_turn::Gate;
 use std::alloc::Global;
+use std::sync::Wait;
+use std::thread::Threads;
 
 fn status_of(ended: Result<Outcome, Halt>) -> u8
     ensures { result ≡ status_of ended }
@@ -83,6 +88,7 @@ fn usage<O: Sink>(out: &mut O) -> u8
     ensures status { (result ≡ 2) ⊎ (result ≡ 5) }
     ensures write { result ≡ 5 → Rose (O.faults out.old) (O.faults out.new) }
     ensures text { result ≡ 2 → Adds (O.held out.old) (O.held out.new) usage_line }
+    ensures front { result ≡ 5 → AppendsFront (O.held out.old) (O.held out.new) usage_line }
 {
     match put(
         out,
@@ -93,15 +99,65 @@ fn usage<O: Sink>(out: &mut O) -> u8
     }
 }
 
-/// Does what the words behind the program's name ask for, and answers the program's status.
-#[tactic(auto, using(crate::proofs::Topping::task_fits))]
-pub fn run<I: Source, O: Sink>(alloc: Global, words: &[String], input: &mut I, out: &mut O) -> u8
+#[tactic(auto, using(crate::proofs::Topping::says_paired, crate::proofs::Topping::status_is))]
+fn pair_status<R: Threads + Wait + Sync, I: Source, O: Sink, G: Gate + Sync>(
+    rt: &R,
+    alloc: Global,
+    turns: u32,
+    seed: u64,
+    input: &mut I,
+    out: &mut O,
+    gate: &G,
+) -> u8
+    requires { (1 ≤ turns) × (turns ≤ 1000) }
+    ensures status { IsSoloStatus result }
+    ensures read { result ≡ 4 → Rose (I.faults input.old) (I.faults input.new) }
+    ensures write { result ≡ 5 → Rose (O.faults out.old) (O.faults out.new) }
+    ensures says { SaysPairKnown turns (I.left input.old) (I.left input.new) (O.held out.old) (O.held out.new) result }
+{
+    status_of(paired(rt, alloc, turns, seed, input, out, gate))
+}
+
+/// Does the job of a planner and an executive in threads of their own, and answers its status.
+fn pair<R: Threads + Wait + Sync, I: Source, O: Sink, G: Gate + Sync>(
+    rt: &R,
+    alloc: Global,
+    turns: u32,
+    seed: u64,
+    input: &mut I,
+    out: &mut O,
+    gate: &G,
+) -> u8
+    requires { (1 ≤ turns) × (turns ≤ 1000) }
+    ensures status { IsSoloStatus result }
+    ensures read { result ≡ 4 → Rose (I.faults input.old) (I.faults input.new) }
+    ensures write { result ≡ 5 → Rose (O.faults out.old) (O.faults out.new) }
+    ensures says { SaysPairKnown turns (I.left input.old) (I.left input.new) (O.held out.old) (O.held out.new) result }
+    ensures complete { (Rose (I.faults input.old) (I.faults input.new) → ⊥)
+        → (Rose (O.faults out.old) (O.faults out.new) → ⊥)
+        → CompletesPair turns (I.left input.old) result }
+{
+    pair_status(rt, alloc, turns, seed, input, out, gate)
+}
+
+/// Does what the words behind the program's name ask for, and answers the program's status. `run pair N SEED` alone starts
+/// threads, and waits for them; the gate is called by these, and by nobody else.
+#[tactic(auto, using(crate::proofs::Topping::task_fits, crate::proofs::Topping::turns_fit))]
+pub fn run<R: Threads + Wait + Sync, I: Source, O: Sink, G: Gate + Sync>(
+    rt: &R,
+    alloc: Global,
+    words: &[String],
+    input: &mut I,
+    out: &mut O,
+    gate: &G,
+) -> u8
     ensures usage { result ≡ 2 → command_of words.now ≡ None }
     ensures words { command_of words.now ≡ None → (result ≡ 2) ⊎ (result ≡ 5) }
     ensures unread { command_of words.now ≡ None → input.new ≡ input.old }
     ensures task_unread { (task : Task) → command_of words.now ≡ Some (Command.Alone task)
         → IsUnread task input.old input.new }
     ensures usage_text { result ≡ 2 → Adds (O.held out.old) (O.held out.new) usage_line }
+    ensures usage_front { command_of words.now ≡ None → result ≡ 5 → AppendsFront (O.held out.old) (O.held out.new) usage_line }
     ensures status { (result ≡ 2) ⊎ IsSoloStatus result }
     ensures read { result ≡ 4 → Rose (I.faults input.old) (I.faults input.new) }
     ensures write { result ≡ 5 → Rose (O.faults out.old) (O.faults out.new) }
@@ -111,9 +167,16 @@ pub fn run<I: Source, O: Sink>(alloc: Global, words: &[String], input: &mut I, o
         → (Rose (I.faults input.old) (I.faults input.new) → ⊥)
         → (Rose (O.faults out.old) (O.faults out.new) → ⊥)
         → Completes task (I.left input.old) result }
+    ensures pair { (turns seed : ℕ) → command_of words.now ≡ Some (Command.Pair turns seed)
+        → SaysPairKnown turns (I.left input.old) (I.left input.new) (O.held out.old) (O.held out.new) result }
+    ensures pair_complete { (turns seed : ℕ) → command_of words.now ≡ Some (Command.Pair turns seed)
+        → (Rose (I.faults input.old) (I.faults input.new) → ⊥)
+        → (Rose (O.faults out.old) (O.faults out.new) → ⊥)
+        → CompletesPair turns (I.left input.old) result }
 {
     match read_words(words) {
         None => usage(out),
+        Some(Command::Pair { turns, seed }) => { pair(rt, alloc, turns, seed, input, out, gate) }
         Some(Command::Alone(task)) => run_solo(alloc, &task, input, out),
     }
 }

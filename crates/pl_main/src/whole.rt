@@ -1,8 +1,8 @@
-ghost use Rattle.std.specs.Prelude.{◌≡◌, ◌≤◌, None, IsErrOf};
+ghost use Rattle.std.specs.Prelude.{◌≡◌, ◌≤◌, None, IfOk, IsErrOf};
 ghost use Rattle.pl_io.specs.Faults.{Rose};
 ghost use Rattle.pl_model.specs.Checked.{IsChecked};
 ghost use Rattle.pl_main.specs.Plays.{place_of};
-ghost use Rattle.pl_main.specs.Runs.{ModelRuns, TextRuns};
+ghost use Rattle.pl_main.specs.Runs.{fresh_state, ModelRuns, TextRuns};
 ghost use Rattle.pl_main.specs.Top.{program_options, RanKnown};
 
 use crate::judging::{model_of, refuse};
@@ -14,7 +14,7 @@ use pl_io::{LineReader, Sink, Source};
 use pl_machine::Machine;
 use pl_model::Model;
 use pl_stream::{Halt, Head, halt_of, read_head, write_log};
-use std::alloc::Global;
+use std::alloc::{AllocError, Global};
 use std::sync::Arc;
 
 pub const LINE_LIMIT: u32 = 4096;
@@ -30,6 +30,17 @@ pub fn program_options(turns: u32) -> Options
         goals: 20_000,
         entries: 250_000,
     }
+}
+
+/// A machine over a model, with the limits of the program.
+pub fn open_machine(alloc: Global, turns: u32, model: Model) -> Result<Machine, AllocError>
+    requires checked { IsChecked model }
+    requires turns { (1 ≤ turns) × (turns ≤ 1000) }
+    ensures { IfOk result (λ machine. machine ≡ fresh_state turns model) }
+{
+    let model = Arc::new(alloc, model)?;
+    let machine = Machine::fresh(alloc, model, program_options(turns))?;
+    Ok(machine)
 }
 
 /// Opens a journal over a model and answers the messages.
@@ -51,8 +62,7 @@ fn run_model<S: Source, O: Sink>(
     ensures read { IsErrOf result Halt.Read → Rose (S.faults src.old) (S.faults src.new) }
     ensures write { IsErrOf result Halt.Write → Rose (O.faults out.old) (O.faults out.new) }
 {
-    let model = Arc::new(alloc, model)?;
-    let mut machine = Machine::fresh(alloc, model, program_options(turns))?;
+    let mut machine = open_machine(alloc, turns, model)?;
     write_log(alloc, &machine, 0, out)?;
     let played = play(alloc, &mut machine, lines, src, out);
     let _log = machine.log();

@@ -1,6 +1,6 @@
 ghost use Rattle.std.specs.Prelude.{◌≡◌, map};
 ghost use Rattle.std.specs.String.{string_bytes};
-ghost use Rattle.pl_main.specs.Words.{turns_by, goals_by, single_word, command_in, command_of};
+ghost use Rattle.pl_main.specs.Words.{turns_by, pair_by, goals_by, single_word, command_in, command_of};
 
 use crate::command::{Command, Task};
 use crate::number::read_number;
@@ -12,6 +12,18 @@ fn solo(turns: Option<u64>) -> Option<Command>
         Some(turns) if 1 <= turns && turns <= 1000 => Some(Command::Alone(Task::Solo {
             turns: turns as u32,
         })),
+        _ => None,
+    }
+}
+
+fn pair(turns: Option<u64>, seed: Option<u64>) -> Option<Command>
+    ensures { result ≡ pair_by turns seed }
+{
+    match (turns, seed) {
+        (Some(turns), Some(seed)) if 1 <= turns && turns <= 1000 => Some(Command::Pair {
+            turns: turns as u32,
+            seed,
+        }),
         _ => None,
     }
 }
@@ -42,8 +54,8 @@ fn demo(goals: Option<u64>) -> Option<Command>
     }
 }
 
-/// What the words behind the program's name ask for: `run solo N`, N from 1 to 1,000, `check`, `replay`, `report`, or
-/// `demo N`, N from 1 to 4,000.
+/// What the words behind the program's name ask for: `run solo N`, N from 1 to 1,000, `run pair N SEED`, SEED of at most 18
+/// digits, `check`, `replay`, `report`, or `demo N`, N from 1 to 4,000.
 #[tactic(auto, unfolding(crate::specs::Words::command_of))]
 pub fn read_words(words: &[String]) -> Option<Command>
     ensures { result ≡ command_of words.now }
@@ -60,6 +72,13 @@ pub fn read_words(words: &[String]) -> Option<Command>
         [run, solo_word, turns] => {
             if run.as_bytes() == b"run".as_slice() && solo_word.as_bytes() == b"solo".as_slice() {
                 solo(read_number(turns.as_bytes()))
+            } else {
+                None
+            }
+        }
+        [run, pair_word, turns, seed] => {
+            if run.as_bytes() == b"run".as_slice() && pair_word.as_bytes() == b"pair".as_slice() {
+                pair(read_number(turns.as_bytes()), read_number(seed.as_bytes()))
             } else {
                 None
             }

@@ -2,7 +2,10 @@
 use pl_io::{MemSink, MemSource};
 use pl_main::run;
 use pl_report::demo_input;
+use pl_turn::NoGate;
 use std::alloc::{AllocError, Global};
+use std::sync::Wait;
+use std::thread::Threads;
 
 const INPUT: &str = "horizon 1000000
 lead 100
@@ -23,7 +26,8 @@ end
 const USAGE: &str = "usage: run solo N | run pair N SEED | check | replay | report | demo N\n";
 
 /// Whether these words end with this status over this input and write this text. The writes of these numbers, from 1, fail.
-fn does(
+fn does<R: Threads + Wait + Sync>(
+    rt: &R,
     alloc: Global,
     words: &str,
     input: &[u8],
@@ -37,7 +41,7 @@ fn does(
     }
     let mut source = MemSource::new(alloc, input, &[])?;
     let mut sink = MemSink::new(alloc, 10_000, failing)?;
-    let found = run(alloc, owned.as_slice(), &mut source, &mut sink);
+    let found = run(rt, alloc, owned.as_slice(), &mut source, &mut sink, &NoGate);
     Ok(found == status && sink.bytes() == text.as_bytes())
 }
 
@@ -50,6 +54,7 @@ fn makes_inputs(rt: HostRuntime) -> Result<(), AllocError> {
         let lines = input.as_slice().iter().filter(|byte| **byte == b'\n');
         assert_eq!(rt; lines.count(), 2 * goals as usize + 10);
         let is_model = does(
+            &rt,
             alloc,
             "check",
             input.as_slice(),
@@ -74,7 +79,7 @@ fn shows_summaries(rt: HostRuntime) -> Result<(), AllocError> {
     for line in SUMMARIES.lines() {
         let (words, _) = line.split_once(" entries").unwrap_or((line, ""));
         let text = format!(in alloc; "{line}\n")?;
-        let as_wanted = does(alloc, words, b"", &[], 0, text.as_str())?;
+        let as_wanted = does(&rt, alloc, words, b"", &[], 0, text.as_str())?;
         assert!(rt; as_wanted, "{line}");
     }
     Ok(())
@@ -84,9 +89,9 @@ fn shows_summaries(rt: HostRuntime) -> Result<(), AllocError> {
 fn refuses_other_words(rt: HostRuntime) -> Result<(), AllocError> {
     let alloc = rt.alloc();
     for words in ["run solo 0", "demo 0", "demo 4001", "demo", ""] {
-        let as_wanted = does(alloc, words, b"", &[], 2, USAGE)?;
+        let as_wanted = does(&rt, alloc, words, b"", &[], 2, USAGE)?;
         assert!(rt; as_wanted, "{words}");
     }
-    assert!(rt; does(alloc, "demo 1", b"", &[1], 5, "")?);
+    assert!(rt; does(&rt, alloc, "demo 1", b"", &[1], 5, "")?);
     Ok(())
 }

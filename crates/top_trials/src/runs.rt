@@ -1,6 +1,9 @@
 use pl_io::{MemSink, MemSource};
 use pl_main::run;
+use pl_turn::NoGate;
 use std::alloc::{AllocError, Global};
+use std::sync::Wait;
+use std::thread::Threads;
 
 const TEXT: &str = "horizon 100\nlead 30\nkind obs {\nduration 5\n}\n";
 
@@ -21,18 +24,28 @@ type Failing<'a> = (&'a [u64], &'a [u64]);
 const NONE: Failing<'static> = (&[], &[]);
 
 /// Whether `run solo 8` ends with this status over this input and writes this text.
-fn ends(
+fn ends<R: Threads + Wait + Sync>(
+    rt: &R,
     alloc: Global,
     failing: Failing<'_>,
     input: &[u8],
     status: u8,
     text: &[u8],
 ) -> Result<bool, AllocError> {
-    does(alloc, &["run", "solo", "8"], failing, input, status, text)
+    does(
+        rt,
+        alloc,
+        &["run", "solo", "8"],
+        failing,
+        input,
+        status,
+        text,
+    )
 }
 
 /// The same of any words.
-fn does(
+fn does<R: Threads + Wait + Sync>(
+    rt: &R,
     alloc: Global,
     words: &[&str],
     failing: Failing<'_>,
@@ -46,7 +59,7 @@ fn does(
     }
     let mut source = MemSource::new(alloc, input, failing.0)?;
     let mut sink = MemSink::new(alloc, 10_000, failing.1)?;
-    let found = run(alloc, owned.as_slice(), &mut source, &mut sink);
+    let found = run(rt, alloc, owned.as_slice(), &mut source, &mut sink, &NoGate);
     Ok(found == status && sink.bytes() == text)
 }
 
@@ -69,6 +82,7 @@ fn checks_models(rt: HostRuntime) -> Result<(), AllocError> {
     ];
     for (input, status, text) in table {
         let as_wanted = does(
+            &rt,
             alloc,
             &["check"],
             NONE,
@@ -78,15 +92,36 @@ fn checks_models(rt: HostRuntime) -> Result<(), AllocError> {
         )?;
         assert!(rt; as_wanted, "{input}");
     }
-    assert!(rt; does(alloc, &["check"], (&[1], &[]), MODEL.as_bytes(), 4, b"")?);
-    assert!(rt; does(alloc, &["check"], (&[], &[1]), MODEL.as_bytes(), 5, b"")?);
+    assert!(rt;
+        does(
+            &rt,
+            alloc,
+            &["check"],
+            (&[1], &[]),
+            MODEL.as_bytes(),
+            4,
+            b""
+        )?
+    );
+    assert!(rt;
+        does(
+            &rt,
+            alloc,
+            &["check"],
+            (&[], &[1]),
+            MODEL.as_bytes(),
+            5,
+            b""
+        )?
+    );
     let long = [b'x'; 4097];
-    assert!(rt; does(alloc, &["check"], NONE, long.as_slice(), 6, b"")?);
+    assert!(rt; does(&rt, alloc, &["check"], NONE, long.as_slice(), 6, b"")?);
     Ok(())
 }
 
 /// The same of messages behind a model, and of the lines behind the open entry's.
-fn plays(
+fn plays<R: Threads + Wait + Sync>(
+    rt: &R,
     alloc: Global,
     failing: Failing<'_>,
     messages: &[u8],
@@ -95,7 +130,14 @@ fn plays(
 ) -> Result<bool, AllocError> {
     let input = joined(alloc, MODEL, messages)?;
     let wanted = joined(alloc, OPEN, text)?;
-    ends(alloc, failing, input.as_slice(), status, wanted.as_slice())
+    ends(
+        rt,
+        alloc,
+        failing,
+        input.as_slice(),
+        status,
+        wanted.as_slice(),
+    )
 }
 
 #[test]
@@ -114,7 +156,7 @@ fn refuses_texts(rt: HostRuntime) -> Result<(), AllocError> {
         ),
     ];
     for (input, text) in table {
-        let as_wanted = ends(rt.alloc(), NONE, input.as_bytes(), 3, text.as_bytes())?;
+        let as_wanted = ends(&rt, rt.alloc(), NONE, input.as_bytes(), 3, text.as_bytes())?;
         assert!(rt; as_wanted, "{input}");
     }
     Ok(())
@@ -148,7 +190,7 @@ fn takes_texts_up_to_the_limit(rt: HostRuntime) -> Result<(), AllocError> {
     ];
     for (rest, status, text) in table {
         let input = long_text(alloc, rest)?;
-        let as_wanted = ends(alloc, NONE, input.as_slice(), status, text)?;
+        let as_wanted = ends(&rt, alloc, NONE, input.as_slice(), status, text)?;
         assert!(rt; as_wanted);
     }
     Ok(())
@@ -181,7 +223,7 @@ fn plays_messages(rt: HostRuntime) -> Result<(), AllocError> {
         ),
     ];
     for (messages, text) in table {
-        let as_wanted = plays(rt.alloc(), NONE, messages, 0, text)?;
+        let as_wanted = plays(&rt, rt.alloc(), NONE, messages, 0, text)?;
         assert!(rt; as_wanted);
     }
     Ok(())
@@ -201,7 +243,8 @@ kind scan { duration 10 alternative { slot a shot slot b shot order a end b star
 ";
 
 /// Whether a run of so many turns over a model and messages writes these lines behind the open entry's.
-fn plans(
+fn plans<R: Threads + Wait + Sync>(
+    rt: &R,
     alloc: Global,
     turns: &str,
     model: &str,
@@ -215,6 +258,7 @@ fn plans(
     wanted.extend_from_slice(text.as_bytes())?;
     let words = ["run", "solo", turns];
     does(
+        rt,
         alloc,
         words.as_slice(),
         NONE,
@@ -242,7 +286,7 @@ end
 10 close
 11 in end : end
 ";
-    assert!(rt; plans(rt.alloc(), "8", LEAD, messages, text)?);
+    assert!(rt; plans(&rt, rt.alloc(), "8", LEAD, messages, text)?);
     Ok(())
 }
 
@@ -256,7 +300,7 @@ fn gives_up_what_cannot_be(rt: HostRuntime) -> Result<(), AllocError> {
 5 close
 6 in eof
 ";
-    assert!(rt; plans(alloc, "8", TOO_BIG, "goal 1 big 10 20 may", dropped)?);
+    assert!(rt; plans(&rt, alloc, "8", TOO_BIG, "goal 1 big 10 20 may", dropped)?);
     let spent = "1 in ok : goal 1 big 10 20 must
 2 fix 20 open-goal 1 0 10 20 by add big 10 goal 1 : ok
 3 rest spent
@@ -264,13 +308,13 @@ fn gives_up_what_cannot_be(rt: HostRuntime) -> Result<(), AllocError> {
 5 close
 6 in eof
 ";
-    assert!(rt; plans(alloc, "1", TOO_BIG, "goal 1 big 10 20 must", spent)?);
+    assert!(rt; plans(&rt, alloc, "1", TOO_BIG, "goal 1 big 10 20 must", spent)?);
     let stuck = "1 in ok : tele bat 2
 2 rest stuck
 3 close
 4 in eof
 ";
-    assert!(rt; plans(alloc, "8", LOW, "tele bat 2", stuck)?);
+    assert!(rt; plans(&rt, alloc, "8", LOW, "tele bat 2", stuck)?);
     Ok(())
 }
 
@@ -292,7 +336,7 @@ end
 10 close
 11 in end : end
 ";
-    assert!(rt; plans(rt.alloc(), "1", SCAN, messages, text)?);
+    assert!(rt; plans(&rt, rt.alloc(), "1", SCAN, messages, text)?);
     Ok(())
 }
 
@@ -328,7 +372,7 @@ end
 20 close
 21 in end : end
 ";
-    assert!(rt; plays(rt.alloc(), NONE, messages, 0, text)?);
+    assert!(rt; plays(&rt, rt.alloc(), NONE, messages, 0, text)?);
     Ok(())
 }
 
@@ -376,7 +420,7 @@ end
 23 close
 24 in end : end
 ";
-    assert!(rt; plans(rt.alloc(), "16", CAMERA, messages, text)?);
+    assert!(rt; plans(&rt, rt.alloc(), "16", CAMERA, messages, text)?);
     Ok(())
 }
 
@@ -390,7 +434,7 @@ fn shows_carriage_returns(rt: HostRuntime) -> Result<(), AllocError> {
         OPEN,
         b"1 in ok : goal 1 obs 10 20 must\r\n2 fix 20 open-goal 1 0 10 20 by add obs 10 goal 1 : ok\n3 rest clear\n4 commit 30 : ok\n5 close\n6 in end : end\r\n",
     )?;
-    assert!(rt; ends(alloc, NONE, input, 0, text.as_slice())?);
+    assert!(rt; ends(&rt, alloc, NONE, input, 0, text.as_slice())?);
     Ok(())
 }
 
@@ -409,12 +453,12 @@ fn takes_lines_up_to_the_limit(rt: HostRuntime) -> Result<(), AllocError> {
     let input = long_line(alloc, &blanks[..4090], b"")?;
     let mut text = joined(alloc, "1 in ok : ", input.as_slice())?;
     text.extend_from_slice(b"2 rest clear\n3 commit 33 : ok\n4 close\n5 in eof\n")?;
-    assert!(rt; plays(alloc, NONE, input.as_slice(), 0, text.as_slice())?);
+    assert!(rt; plays(&rt, alloc, NONE, input.as_slice(), 0, text.as_slice())?);
     let input = long_line(alloc, &blanks[..4091], b"end")?;
-    assert!(rt; plays(alloc, NONE, input.as_slice(), 6, b"")?);
+    assert!(rt; plays(&rt, alloc, NONE, input.as_slice(), 6, b"")?);
     let input = long_line(alloc, b"", blanks.as_slice())?;
     let text = b"1 in ok : tick 3\n2 rest clear\n3 commit 33 : ok\n4 close\n";
-    assert!(rt; plays(alloc, NONE, input.as_slice(), 6, text)?);
+    assert!(rt; plays(&rt, alloc, NONE, input.as_slice(), 6, text)?);
     Ok(())
 }
 
@@ -423,10 +467,10 @@ fn stops_at_faults(rt: HostRuntime) -> Result<(), AllocError> {
     let alloc = rt.alloc();
     let messages = b"goal 1 obs 10 20 must\ntick 10\nend\n";
     let input = joined(alloc, MODEL, messages)?;
-    assert!(rt; ends(alloc, (&[1], &[]), input.as_slice(), 4, b"")?);
-    assert!(rt; ends(alloc, (&[], &[1]), input.as_slice(), 5, b"")?);
-    assert!(rt; plays(alloc, (&[], &[2]), messages, 5, b"")?);
+    assert!(rt; ends(&rt, alloc, (&[1], &[]), input.as_slice(), 4, b"")?);
+    assert!(rt; ends(&rt, alloc, (&[], &[1]), input.as_slice(), 5, b"")?);
+    assert!(rt; plays(&rt, alloc, (&[], &[2]), messages, 5, b"")?);
     let text = b"1 in ok : tick 3\n2 rest clear\n3 commit 33 : ok\n4 close\n";
-    assert!(rt; plays(alloc, (&[2], &[]), b"tick 3\n", 4, text)?);
+    assert!(rt; plays(&rt, alloc, (&[2], &[]), b"tick 3\n", 4, text)?);
     Ok(())
 }

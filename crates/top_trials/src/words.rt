@@ -2,14 +2,15 @@ use pl_main::{Command, Task, read_words};
 use std::alloc::AllocError;
 
 /// What the words ask for: the turns of a run, 0 for a check, 1,001 for a replay and 1,002 for a report, the goals of a
-/// demonstration, nothing where they are no command.
-fn number_of(words: &[String]) -> Option<u32> {
+/// demonstration, the turns and the seed of a pair added up, nothing where they are no command.
+fn number_of(words: &[String]) -> Option<u64> {
     match read_words(words)? {
-        Command::Alone(Task::Solo { turns }) => Some(turns),
+        Command::Pair { turns, seed } => seed.checked_add(u64::from(turns)),
+        Command::Alone(Task::Solo { turns }) => Some(u64::from(turns)),
         Command::Alone(Task::Check) => Some(0),
         Command::Alone(Task::Replay) => Some(1001),
         Command::Alone(Task::Report) => Some(1002),
-        Command::Alone(Task::Demo { goals }) => Some(goals),
+        Command::Alone(Task::Demo { goals }) => Some(u64::from(goals)),
     }
 }
 
@@ -31,6 +32,15 @@ run solo +8 = none
 run solo = none
 run solo 8 9 = none
 run pair 8 = none
+run pair 8 7 = 15
+run pair 1000 999999999999999999 = 1000000000000000999
+run pair 1 000000000000000000 = 1
+run pair 8 1000000000000000000 = none
+run pair 0 7 = none
+run pair 1001 7 = none
+run pair 8 -7 = none
+run pair 8 7 9 = none
+run Pair 8 7 = none
 Run solo 8 = none
 demo 1 = 1
 demo 4000 = 4000
