@@ -4,6 +4,8 @@ pub mod Children
 pub mod Listing
 pub mod Checks
 pub mod Keeping
+pub mod Same
+pub mod Among
 pub mod Playing
 pub mod Bounds
 pub mod Small

@@ -1,8 +1,9 @@
--- Moves where they first stand, after some that are kept.
-use Rattle.std.specs.Prelude.{◌-◌, Bool, List, [], ◌∷◌, ◌++◌, filter, take, length, if◌then◌else◌}
+-- Moves where they first stand, after some that are kept, and moves that are worth as much.
+use Rattle.std.specs.Prelude.{◌-◌, ◌==◌, ◌&&◌, Bool, false, List, [], ◌∷◌, ◌++◌, filter, take, length, if◌then◌else◌}
 use Rattle.std.specs.List.{list_any}
 use Rattle.pl_plan.specs.declared.repair.RepairMove.{RepairMove}
-use Rattle.pl_world.specs.Candidates.{same_move}
+use Rattle.pl_plan.specs.declared.repair.RepairMove.TheVariants.{Add}
+use Rattle.pl_world.specs.Candidates.{same_move, same_number}
 
 abbrev pub once_after : List RepairMove → List RepairMove → List RepairMove
 once_after kept [] = []
@@ -11,3 +12,8 @@ once_after kept (m ∷ more) = if list_any (same_move m) kept then once_after ke
 -- what is kept, and what comes of the other moves
 abbrev pub standing : (RepairMove → Bool) → List RepairMove → List RepairMove → List RepairMove
 standing worth kept rest = kept ++ take (256 - length kept) (once_after kept (filter worth rest))
+
+-- whether both add an activity of a kind for a goal
+abbrev pub are_alike : RepairMove → RepairMove → Bool
+are_alike (Add kind start goal) (Add k t g) = (kind == k) && same_number goal g
+are_alike _ _ = false

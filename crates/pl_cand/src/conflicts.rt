@@ -77,8 +77,8 @@ fn for_subject(
     }
 }
 
-// All that is tried, in order.
-fn tried(
+/// All that is tried, in order.
+pub(crate) fn tried(
     alloc: Global,
     s: &PlanState,
     k: &Conflict,

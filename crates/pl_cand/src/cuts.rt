@@ -1,10 +1,11 @@
 //! What is left out of the moves that are tried.
-ghost use Rattle.std.specs.Prelude.{◌≡◌, List, [], ◌∷◌, take, filter, IfOk, OnOk};
+ghost use Rattle.std.specs.Prelude.{◌≡◌, Bool, List, [], ◌∷◌, take, filter, IfOk, IfSome, OnOk};
 ghost use Rattle.std.specs.List.{list_any};
 ghost use Rattle.pl_plan.specs.declared.repair.RepairMove.{RepairMove};
+ghost use Rattle.pl_plan.specs.declared.repair.RepairMove.TheVariants.{Shift};
 ghost use Rattle.pl_world.specs.Whole.{IsWhole};
 ghost use Rattle.pl_world.specs.Candidates.{is_worth, once_from, same_move};
-ghost use Rattle.pl_cand.specs.Cuts.{standing};
+ghost use Rattle.pl_cand.specs.Cuts.{are_alike, standing};
 
 use crate::properness::is_worth;
 use pl_plan::RepairMove;
@@ -12,9 +13,10 @@ use pl_world::PlanState;
 use std::alloc::{AllocError, Global};
 
 /// The most candidates.
-const MOST: usize = 256;
+pub(crate) const MOST: usize = 256;
 
-fn is_same(one: &RepairMove, other: &RepairMove) -> bool
+/// Whether two moves are one.
+pub(crate) fn is_same(one: &RepairMove, other: &RepairMove) -> bool
     ensures { result ≡ same_move one.now other.now }
 {
     match (*one, *other) {
@@ -51,7 +53,28 @@ fn is_same(one: &RepairMove, other: &RepairMove) -> bool
     }
 }
 
-fn contains(kept: &[RepairMove], mv: &RepairMove) -> bool
+// Whether it is a shift of this activity to this start.
+fn is_shift(mv: &RepairMove, id: u32, start: u32) -> bool
+    ensures { result ≡ same_move (Shift id start) mv.now }
+{
+    match *mv {
+        RepairMove::Shift { id: i, start: t } => id == i && start == t,
+        _ => false,
+    }
+}
+
+fn contains_shift(kept: &[RepairMove], id: u32, start: u32) -> bool
+    ensures { result ≡ list_any (same_move (Shift id start)) kept.now }
+{
+    for other in kept {
+        if is_shift(other, id, start) {
+            return true;
+        }
+    }
+    false
+}
+
+fn contains_same(kept: &[RepairMove], mv: &RepairMove) -> bool
     ensures { result ≡ list_any (same_move mv.now) kept.now }
 {
     for other in kept {
@@ -62,16 +85,71 @@ fn contains(kept: &[RepairMove], mv: &RepairMove) -> bool
     false
 }
 
+fn contains(kept: &[RepairMove], mv: &RepairMove) -> bool
+    ensures { result ≡ list_any (same_move mv.now) kept.now }
+{
+    match *mv {
+        RepairMove::Shift { id, start } => contains_shift(kept, id, start),
+        _ => contains_same(kept, mv),
+    }
+}
+
+// A move that was looked at, and whether it makes sense and changes something.
+#[derive(Clone, Copy, Debug)]
+struct Looked {
+    mv: RepairMove,
+    worth: bool,
+}
+
+// Whether both add an activity of a kind for a goal: then both make sense, or neither does.
+fn are_alike(one: &RepairMove, other: &RepairMove) -> bool
+    ensures { result ≡ are_alike one.now other.now }
+{
+    match (*one, *other) {
+        (
+            RepairMove::Add { kind, goal, .. },
+            RepairMove::Add {
+                kind: k,
+                goal: g,
+                ..
+            },
+        ) => kind == k && goal == g,
+        _ => false,
+    }
+}
+
+fn worth_behind(s: &PlanState, last: &Looked, mv: &RepairMove) -> bool
+    requires whole { IsWhole s.now }
+    requires last { last.now.worth ≡ is_worth s.now last.now.mv }
+    ensures { result ≡ is_worth s.now mv.now }
+{
+    if are_alike(&last.mv, mv) {
+        last.worth
+    } else {
+        is_worth(s, mv)
+    }
+}
+
+// Whether a move makes sense and changes something, given the one that was looked at before it.
+fn worth_after(s: &PlanState, last: &Option<Looked>, mv: &RepairMove) -> bool
+    requires whole { IsWhole s.now }
+    requires last { IfSome last.now (λ l. l.worth ≡ is_worth s.now l.mv) }
+    ensures { result ≡ is_worth s.now mv.now }
+{
+    match last {
+        Some(last) => worth_behind(s, last, mv),
+        None => is_worth(s, mv),
+    }
+}
+
 // Puts a move at the end, where it is one of the first 256 that make sense, change something and stand for the first time.
-#[tactic(auto, using(crate::proofs::Keeping::stand_full, crate::proofs::Keeping::stand_worthless, crate::proofs::Keeping::stand_again, crate::proofs::Keeping::stand_new))]
-fn add_if_new(s: &PlanState, mv: &RepairMove, kept: &mut Vec<RepairMove>) -> Result<(), AllocError>
-    requires { IsWhole s.now }
-    ensures { OnOk result ((rest : List RepairMove) → standing (is_worth s.now) kept.old.items (mv.now ∷ rest) ≡ standing (is_worth s.now) kept.new.items rest) }
+fn add_if_new(mv: &RepairMove, worth: bool, kept: &mut Vec<RepairMove>) -> Result<(), AllocError>
+    ensures { OnOk result ((P : RepairMove → Bool) (rest : List RepairMove) → worth ≡ P mv.now → standing P kept.old.items (mv.now ∷ rest) ≡ standing P kept.new.items rest) }
 {
     if kept.len() >= MOST {
         return Ok(());
     }
-    if !is_worth(s, mv) {
+    if !worth {
         return Ok(());
     }
     if contains(kept.as_slice(), mv) {
@@ -91,8 +169,11 @@ pub(crate) fn cut(
     ensures { IfOk result (λ all. all.items ≡ take 256 (once_from [] (filter (is_worth s.now) tried.now))) }
 {
     let mut kept = Vec::new(alloc);
+    let mut last = None;
     for mv in tried {
-        add_if_new(s, mv, &mut kept)?;
+        let worth = worth_after(s, &last, mv);
+        add_if_new(mv, worth, &mut kept)?;
+        last = Some(Looked { mv: *mv, worth });
     }
     Ok(kept)
 }

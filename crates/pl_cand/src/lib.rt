@@ -9,6 +9,7 @@ mod goals;
 mod help;
 mod helping;
 mod links;
+mod membership;
 mod numbers;
 mod properness;
 mod proposal;
@@ -23,5 +24,6 @@ mod users;
 
 pub use chooser::Chooser;
 pub use conflicts::candidates;
+pub use membership::is_candidate;
 pub use numbers::{places, spread};
 pub use proposal::Proposal;

@@ -9,7 +9,7 @@ use Rattle.pl_world.specs.Legal.{left_after}
 use Rattle.pl_choose.specs.Found.{IsOnWay, lower, lowest}
 use Rattle.pl_choose.specs.Picks.{fewest}
 use Rattle.pl_choose.proofs.Finding.{drop_next}
-use Rattle.pl_choose.proofs.Lowest.{first_lowest, lead_ends, lead_on, lowest_split}
+use Rattle.pl_choose.proofs.Lowest.{first_lowest, lead_ends, lead_on, lower_first, lowest_next, lowest_split}
 
 pub all_behind : (P : RepairMove → Type 0) (rest : List RepairMove) (k : ℕ) (d : RepairMove) → k < length rest → All P rest → All P (get_or rest k d ∷ drop (k + 1) rest)
 all_behind P rest k d lt all = subst (λ (ms : List RepairMove). All P ms) (drop_next rest k d lt) (All-drop P k rest all)
@@ -31,6 +31,18 @@ goes_further s first rest d best left k n better new count lt few next is counte
       left_is = counted;
       few = omega (arith, few, room, lt);
       leads = ap (λ m. lowest (left_after s) m (drop (k + 1 + n) rest)) from ∙ lead_on (left_after s) best d rest k n (lowest (left_after s) first rest) lt way.leads;
+    }
+
+-- one more, which leaves no fewer
+pub goes_past : (s : PlanState) (first : RepairMove) (rest : List RepairMove) (d best : RepairMove) (left k : ℕ) → k < length rest → left ≤ left_after s (get_or rest k d) → IsOnWay s first rest best left k → IsOnWay s first rest best left (k + 1)
+goes_past s first rest d best left k lt least way =
+    let x = get_or rest k d in
+    let up : left_after s best ≤ left_after s x = omega (arith, least, way.left_is) in
+    record {
+      left_is = way.left_is;
+      few = omega (arith, lt);
+      leads = ap (λ m. lowest (left_after s) m (drop (k + 1) rest)) (lower_first (left_after s) best x up)
+          ∙ lowest_next (left_after s) best x (drop k rest) (drop (k + 1) rest) (lowest (left_after s) first rest) (drop_next rest k d lt) way.leads;
     }
 
 -- none is left, or the best leaves no conflict

@@ -1,12 +1,13 @@
-ghost use Rattle.std.specs.Prelude.{◌≡◌, ◌<◌, ◌≤◌, ◌∷◌, true, false, All, Some, IfOk, OnOk, OnErr, map, length};
+ghost use Rattle.std.specs.Prelude.{◌≡◌, ◌<◌, ◌≤◌, ◌∷◌, true, false, nat_le, All, Some, IfOk, OnOk, OnErr, map, length};
 ghost use Rattle.pl_world.specs.Legal.{left_after};
+ghost use Rattle.pl_moves.specs.Least.{least_known};
 ghost use Rattle.pl_moves.specs.Runs.{counted};
 ghost use Rattle.pl_choose.specs.Picks.{fewest};
 ghost use Rattle.pl_choose.specs.Found.{IsAllowed, IsOnWay, lower, lowest};
 
 use crate::trial::exact;
 use pl_board::Board;
-use pl_moves::left_after_run;
+use pl_moves::{least_left, left_after_run};
 use pl_plan::RepairMove;
 use pl_points::{Quiet, Steps};
 use std::alloc::{AllocError, Global};
@@ -128,6 +129,42 @@ fn go_on(
     })
 }
 
+// Whether a move is known to leave no fewer conflicts than the best so far.
+fn is_beaten(board: &Board, best: &Best, mv: &RepairMove) -> bool
+    requires { IsAllowed board.now.state mv.now }
+    ensures known { result ≡ nat_le best.now.left (least_known board.now.state mv.now) }
+    ensures left { result ≡ true → best.now.left ≤ left_after board.now.state mv.now }
+{
+    best.left <= least_left(board.state(), mv) as usize
+}
+
+// The same as `go_on`, but passes over a next one that is beaten.
+fn advance(
+    alloc: Global,
+    board: &mut Board,
+    tried: Tried,
+    rest: &[RepairMove],
+) -> Result<Tried, AllocError>
+    requires unspoiled { board.old.spoiled ≡ false }
+    requires next { board.old.state.next_id ≤ 3999999000 }
+    requires allowed { All (IsAllowed board.old.state) rest.now }
+    requires more { tried.count < length rest.now }
+    requires left { tried.best.left ≡ left_after board.old.state tried.best.mv }
+    ensures way { IfOk result (λ t. (first : RepairMove) → IsOnWay board.old.state first rest.now tried.best.mv tried.best.left tried.count
+        → IsOnWay board.old.state first rest.now t.best.mv t.best.left t.count) }
+    ensures further { IfOk result (λ t. tried.count < t.count) }
+    ensures same { OnOk result (board.new ≡ board.old) }
+    ensures err { OnErr result (board.new.spoiled ≡ true) }
+{
+    if is_beaten(board, &tried.best, &rest[tried.count]) {
+        return Ok(Tried {
+            best: tried.best,
+            count: tried.count + 1,
+        });
+    }
+    go_on(alloc, board, tried, rest)
+}
+
 // The first of these that leaves the fewest conflicts. No move leaves fewer than none.
 fn fewest_of(
     alloc: Global,
@@ -144,7 +181,7 @@ fn fewest_of(
 {
     let mut tried = begin(alloc, board, first, rest)?;
     'runs: while tried.count < rest.len() && tried.best.left > 0 {
-        tried = go_on(alloc, board, tried, rest)?;
+        tried = advance(alloc, board, tried, rest)?;
     }
     Ok(tried.best.mv)
 }

@@ -18,3 +18,4 @@ pub mod Drops
 mod OneGoalLess
 pub mod Keeping
 pub mod Flags
+mod Undetailed

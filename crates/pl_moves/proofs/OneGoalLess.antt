@@ -59,7 +59,7 @@ has_number n (x ∷ goals) g e = cases (is_numbered n x) refl (has_number n goal
     cases true f more = let here : Some x ≡ Some g = rw f at e in let is : x ≡ g = cc in ap (is_numbered n) (sym is) ∙ f
     cases false f more = more (rw f at e)
 
-same_itself : (k : Conflict) → same k k ≡ true
+pub same_itself : (k : Conflict) → same k k ≡ true
 same_itself k = tied (conflict_cmp k k) (conflict_total.antisymm k k)
   where
     tied : (r : Ordering) → r ≡ ordering_reverse r → is_eq r ≡ true

@@ -8,3 +8,4 @@ pub mod Undone
 pub mod Runs
 pub mod Outcomes
 pub mod Keeping
+pub mod Least

@@ -8,6 +8,7 @@ mod descent;
 mod dropping;
 mod gone;
 mod laws;
+mod least;
 mod legality;
 mod lookups;
 mod move_fault;
@@ -20,6 +21,7 @@ mod undoing;
 
 pub use application::apply;
 pub use laws::laws_of_repairs;
+pub use least::least_left;
 pub use legality::legal;
 pub use move_fault::MoveFault;
 pub use properness::proper;

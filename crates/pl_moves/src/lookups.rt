@@ -14,13 +14,19 @@ fn kind_in<'m>(model: &'m Model, a: &Activity) -> Option<&'m Kind>
     model.kinds.as_slice().get(a.kind as usize)
 }
 
-pub(crate) fn alternatives_in<'m>(model: &'m Model, a: &Activity) -> &'m [Alternative]
-    ensures { result.now ≡ alternatives_of (kind_of model.now a.now) }
+pub(crate) fn alternatives_of_kind<'m>(model: &'m Model, kind: u32) -> &'m [Alternative]
+    ensures { result.now ≡ alternatives_of (slice_get model.now.kinds kind) }
 {
-    match kind_in(model, a) {
+    match model.kinds.as_slice().get(kind as usize) {
         Some(kind) => kind.alternatives.as_slice(),
         None => &[],
     }
+}
+
+pub(crate) fn alternatives_in<'m>(model: &'m Model, a: &Activity) -> &'m [Alternative]
+    ensures { result.now ≡ alternatives_of (kind_of model.now a.now) }
+{
+    alternatives_of_kind(model, a.kind)
 }
 
 pub(crate) fn param_at<'m>(model: &'m Model, a: &Activity, number: u8) -> Option<&'m Param>

@@ -10,6 +10,7 @@ ghost use Rattle.pl_moves.specs.Runs.{start_of, goes_on, counted, CanBeMade, IsC
 
 use crate::application::make_change;
 use crate::change::moved;
+use crate::least::least_left;
 use crate::trial::{Trial, count_after, trial_of};
 use pl_board::Board;
 use pl_plan::{Activity, RepairMove};
@@ -123,7 +124,7 @@ fn go_on<L: Ledger>(
     }
 }
 
-// Makes the first move, goes on from each to the next as long as it leaves conflicts, and undoes the last one.
+// Makes the first move, goes on from each to the next as long as it leaves more conflicts than it must, and undoes the last one.
 fn count_along<L: Ledger>(
     alloc: Global,
     board: &mut Board,
@@ -144,12 +145,13 @@ fn count_along<L: Ledger>(
     ensures err { OnErr result (board.new.spoiled ≡ true) }
 {
     let next = board.next_id();
+    let enough = least_left(board.state(), first);
     make_change(board, &trial.change, steps)?;
     let alone = board.conflicts().len();
     let mut others = Vec::new(alloc);
     let mut last = alone;
     let mut at = 0;
-    'run: while at < rest.len() && last > 0 {
+    'run: while at < rest.len() && last > enough {
         let to = start_of(&rest[at]);
         go_on(alloc, board, trial, start_of(first), to, steps)?;
         last = note(board, &mut others)?;
@@ -212,7 +214,7 @@ fn count_alone<L: Ledger>(
 }
 
 /// How many conflicts the first move would leave, and then each of those right behind it that place the same at other starts,
-/// up to one that leaves none. They are made one after another, and undone. Want of memory spoils the board.
+/// up to one that leaves no more than it must. They are made one after another, and undone. Want of memory spoils the board.
 pub fn left_after_run<L: Ledger>(
     alloc: Global,
     board: &mut Board,

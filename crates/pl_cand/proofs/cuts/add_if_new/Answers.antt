@@ -1,17 +1,16 @@
-use Rattle.std.proofs.Common.{◌≡◌, ◌<◌, ◌++◌, ◌∷◌, [], length, true, false, rules, arith}
+use Rattle.std.proofs.Common.{◌≡◌, ◌<◌, ◌++◌, ◌∷◌, [], length, true, false, rules, arith, sym, ◌∙◌}
 use Rattle.std.specs.List.{list_any}
 use Rattle.std.proofs.lemmas.Grind.{common_steps}
-use Rattle.pl_world.specs.Candidates.{is_worth, same_move}
+use Rattle.pl_world.specs.Candidates.{same_move}
 use Rattle.pl_cand.proofs.Keeping.{stand_new}
 use Rattle.pl_cand.proofs.cuts.add_if_new.Goals as goal
 
 pub returns : goal.returns
-returns c = λ rest.
-    let s = c.args.s.now in
+returns c = λ P rest is.
     let m = c.args.mv.now in
     let kept = c.args.kept.now.items in
     let room : length kept < 256 = first_of (omega arith, grind (arith, common_steps)) in
-    let worth : is_worth s m ≡ true = first_of (search rules, grind (arith, common_steps)) in
+    let worth : c.args.worth ≡ true = first_of (search rules, grind (arith, common_steps)) in
     let fresh : list_any (same_move m) kept ≡ false = first_of (search rules, grind (arith, common_steps)) in
     let more : c.push.new.self.items ≡ kept ++ m ∷ [] = first_of (search rules, grind (arith, common_steps)) in
-    rw more (stand_new (is_worth s) kept m rest room worth fresh)
+    rw more (stand_new P kept m rest room (sym is ∙ worth) fresh)

@@ -9,5 +9,5 @@ returns c =
     let xs = c.args.tried.now in
     let past : length xs ≤ c.loop-mv.mv-index = first_of (omega arith, search rules) in
     sym (stand_end (is_worth s) c.loop-mv.kept.items (drop c.loop-mv.mv-index xs) (nothing_left xs c.loop-mv.mv-index past))
-    ∙ c.loop-mv.invariant
+    ∙ c.loop-mv.invariant.stand
     ∙ ap (take 256) (sym (once_is (filter (is_worth s) xs)))

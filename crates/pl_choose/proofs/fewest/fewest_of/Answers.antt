@@ -6,8 +6,8 @@ use Rattle.pl_choose.proofs.Leading.{found}
 use Rattle.pl_choose.proofs.fewest.fewest_of.Goals as goal
 use Rattle.pl_choose.proofs.fewest.fewest_of.Goals.{then-runs-test+else-tried-gt0, else-runs-test}
 
-pub go_on-requires-clause-allowed : goal.go_on-requires-clause-allowed
-go_on-requires-clause-allowed c = rw c.runs.invariant.same (All-tail (IsAllowed c.args.board.now.state) c.args.first.now c.args.rest.now c.requires.allowed)
+pub advance-requires-clause-allowed : goal.advance-requires-clause-allowed
+advance-requires-clause-allowed c = rw c.runs.invariant.same (All-tail (IsAllowed c.args.board.now.state) c.args.first.now c.args.rest.now c.requires.allowed)
 
 pub returns-clause-fewest : goal.returns-clause-fewest
 returns-clause-fewest c =

@@ -1,7 +1,7 @@
 use Rattle.std.proofs.Common.{◌≡◌, drop}
 use Rattle.std.specs.List.{list_any}
 use Rattle.pl_world.specs.Candidates.{same_move}
-use Rattle.pl_cand.proofs.cuts.contains.Given as goal
+use Rattle.pl_cand.proofs.cuts.contains_same.Given as goal
 
 -- none so far
 abbrev pub invariant-loop-other : goal.invariant-loop-other

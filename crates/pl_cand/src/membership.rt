@@ -1,0 +1,73 @@
+//! Whether a move is a candidate. It is seldom needed to leave out what stands twice.
+ghost use Rattle.std.specs.Prelude.{◌≡◌, [], take, filter, IfOk, false};
+ghost use Rattle.std.specs.List.{list_any};
+ghost use Rattle.pl_world.specs.Whole.{IsWhole};
+ghost use Rattle.pl_world.specs.Candidates.{candidates_of, is_worth, once_from, same_move};
+
+use crate::conflicts::tried;
+use crate::cuts::{MOST, cut, is_same};
+use crate::properness::is_worth;
+use pl_board::Board;
+use pl_conflict::Conflict;
+use pl_plan::RepairMove;
+use pl_world::PlanState;
+use std::alloc::{AllocError, Global};
+
+/// Whether a move is one of these.
+fn is_among(mv: &RepairMove, moves: &[RepairMove]) -> bool
+    ensures { result ≡ list_any (same_move mv.now) moves.now }
+{
+    moves.iter().any(|other| is_same(mv, other))
+}
+
+#[tactic(auto, using(crate::proofs::Among::all_short))]
+/// The first of the moves, as many as may be candidates.
+fn first(moves: &[RepairMove]) -> &[RepairMove]
+    ensures { result.now ≡ take 256 moves.now }
+{
+    if moves.len() <= MOST {
+        moves
+    } else {
+        &moves[..MOST]
+    }
+}
+
+/// Whether the move stands in what is left of those that are tried.
+fn is_left(
+    alloc: Global,
+    s: &PlanState,
+    moves: &[RepairMove],
+    mv: &RepairMove,
+) -> Result<bool, AllocError>
+    requires { IsWhole s.now }
+    ensures { IfOk result (λ left. left ≡ list_any (same_move mv.now) (take 256 (once_from [] (filter (is_worth s.now) moves.now)))) }
+{
+    if !is_worth(s, mv) {
+        return Ok(false);
+    }
+    if is_among(mv, first(moves)) {
+        return Ok(true);
+    }
+    if moves.len() <= MOST {
+        return Ok(false);
+    }
+    let left = cut(alloc, s, moves)?;
+    Ok(is_among(mv, left.as_slice()))
+}
+
+/// Whether the move is a candidate for the conflict.
+#[tactic(auto, unfolding(pl_world::specs::Candidates::candidates_of))]
+pub fn is_candidate(
+    alloc: Global,
+    board: &Board,
+    k: &Conflict,
+    mv: &RepairMove,
+) -> Result<bool, AllocError>
+    requires { board.now.spoiled ≡ false }
+    ensures { IfOk result (λ is. is ≡ list_any (same_move mv.now) (candidates_of board.now.state k.now)) }
+{
+    let s = board.state();
+    let mut all = Vec::new(alloc);
+    tried(alloc, s, k, &mut all)?;
+    is_left(alloc, s, all.as_slice(), mv)
+}
