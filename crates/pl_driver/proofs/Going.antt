@@ -1,10 +1,8 @@
 -- A round goes on by one entry.
-use Rattle.std.proofs.Common.{◌≡◌, ℕ, ◌<◌, ◌≤◌, List, [], ◌∷◌, ◌++◌, length, Bool, true, false, not, ◌&&◌, Option, Some, None, Ok, Err, Result, refl, sym, ◌∙◌, ap, subst, append_assoc, arith}
-use Rattle.std.specs.Prelude.{is_some, nat_lt, ◌==◌}
-use Rattle.std.proofs.lemmas.Bool.{lt-ltb}
+use Rattle.std.proofs.Common.{◌≡◌, ℕ, List, [], ◌∷◌, ◌++◌, true, false, not, ◌&&◌, Option, Some, None, Ok, Err, refl, sym, ◌∙◌, ap, subst, append_assoc}
+use Rattle.std.specs.Prelude.{is_some}
 use Rattle.std.proofs.lemmas.List.{append-nil}
 use Rattle.std.proofs.lemmas.List.Elements.{filter_map-append}
-use Rattle.pl_conflict.specs.declared.conflict.Conflict.{Conflict}
 use Rattle.pl_plan.specs.declared.repair.RepairMove.{RepairMove}
 use Rattle.pl_entry.specs.declared.event.Event.{Event}
 use Rattle.pl_entry.specs.declared.event.Event.TheVariants as event
@@ -12,56 +10,23 @@ use Rattle.pl_entry.specs.declared.reply.Reply.{Reply}
 use Rattle.pl_entry.specs.declared.reply.Reply.TheVariants as reply
 use Rattle.pl_entry.specs.declared.reply.Reason.{Reason}
 use Rattle.pl_entry.specs.declared.entry.Entry.{Entry}
-use Rattle.pl_world.specs.Conflicts.{conflicts_of}
-use Rattle.pl_world.specs.Legal.{is_stuck}
 use Rattle.pl_machine.specs.declared.choice.Choice.{Choice}
 use Rattle.pl_machine.specs.declared.choice.Choice.TheVariants as choice
 use Rattle.pl_machine.specs.declared.stop.Stop.{Stop}
 use Rattle.pl_machine.specs.declared.stop.Stop.TheVariants as stop
-use Rattle.pl_machine.specs.World.{World, reason_by, reason_of}
+use Rattle.pl_machine.specs.declared.repaired.Repaired.{Repaired}
+use Rattle.pl_machine.specs.declared.repaired.Repaired.TheVariants as repaired
+use Rattle.pl_machine.specs.World.{World}
 use Rattle.pl_machine.specs.Step.{is_enabled, reply_of, after_fix, after_commit, after_dispatch, after}
 use Rattle.pl_machine.specs.Choices.{exec_choice_of, event_of}
 use Rattle.pl_machine.specs.Legal.{world_from}
 use Rattle.pl_machine.specs.Solo.{Picks, IsSoloEvent, solo_from}
 use Rattle.pl_machine.specs.Finished.{inputs_of, input_in}
 use Rattle.pl_machine.specs.Sound.{State}
-use Rattle.pl_machine.specs.Taking.{IsOpen, Takes, Spoils, Answers}
+use Rattle.pl_machine.specs.Taking.{Spoils, Answers}
+use Rattle.pl_machine.specs.Mending.{HasRepaired, RepairsOnce}
 use Rattle.pl_machine.proofs.Runs.{world_from_push}
-use Rattle.pl_driver.specs.Rounds.{SameRun, Goes, Ran, RanTo, Executes, Stepped}
-
--- ---- tests
-
-both : (a b : Bool) → (a && b) ≡ true → (a ≡ true) × (b ≡ true)
-both true b e = (refl, e)
-both false b e = absurd (cc)
-
-none_of : {X : Type 0} (o : Option X) → is_some o ≡ false → o ≡ None
-none_of None e = refl
-none_of (Some x) e = absurd (cc)
-
--- ---- where repair goes on
-
--- a rest that is not enabled in an open round has no reason
-pub no_reason : (w : World) → w.closed ≡ false → w.rested ≡ false → is_enabled w event.Rest ≡ false → reason_of w ≡ None
-no_reason w open_ going e = none_of (reason_of w) (let h : (not w.closed && (not w.rested && is_some (reason_of w))) ≡ false = e in rw (open_, going) at h)
-
-by_reason : (ks : List Conflict) (spent stuck : Bool) → reason_by ks spent stuck ≡ None → (spent ≡ false) × (stuck ≡ false)
-by_reason [] spent stuck e = absurd (cc)
-by_reason (k ∷ ks) true stuck e = absurd (cc)
-by_reason (k ∷ ks) false true e = absurd (cc)
-by_reason (k ∷ ks) false false e = (refl, refl)
-
--- without a reason to rest some conflict has a legal candidate, and turns are left
-pub not_stuck : (w : World) → reason_of w ≡ None → is_stuck w.state ≡ false
-not_stuck w e = (by_reason (conflicts_of w.state) (w.turn == w.options.turns) (is_stuck w.state) e).1
-
-turns_left : (w : World) → reason_of w ≡ None → w.turn ≤ w.options.turns → nat_lt w.turn w.options.turns ≡ true
-turns_left w e most =
-    let other : (w.turn == w.options.turns) ≡ false = (by_reason (conflicts_of w.state) (w.turn == w.options.turns) (is_stuck w.state) e).0 in
-    lt-ltb w.turn w.options.turns (grind (arith, other, most))
-
-pub fix_enabled : (w : World) (k : Conflict) (m : RepairMove) → w.closed ≡ false → w.rested ≡ false → reason_of w ≡ None → w.turn ≤ w.options.turns → is_enabled w (event.Fix k m) ≡ true
-fix_enabled w k m open_ going e most = rw (open_, going) (turns_left w e most)
+use Rattle.pl_driver.specs.Rounds.{Goes, Ran, RanTo, Executes, Stepped}
 
 -- ---- one entry
 
@@ -109,39 +74,20 @@ stopped picks old new c c2 e stop.LogFull on answers same = (answers.0, answers.
 stopped picks old new c c2 e stop.Spoiled on answers same = (answers.0, answers.1, same)
 stopped picks old new c c2 e stop.Memory on answers same = answers
 
--- the same where there is room, whatever the chooser has drawn
-full_or_not : {C : Type 0} (picks : Picks C) (old new : State) (c c2 : C) (e : Event) (s : Stop) → is_enabled old.world e ≡ true → old.spoiled ≡ false → length old.log < old.world.options.entries
-    → Answers old e (Err s) new → Stepped picks old c (Err s) new c2
-full_or_not picks old new c c2 e stop.NotNow on unspoiled room answers = absurd (let h : true ≡ false = sym on ∙ answers.1 in (cc))
-full_or_not picks old new c c2 e stop.LogFull on unspoiled room answers = absurd (let full = answers.2 in omega (arith, room, full))
-full_or_not picks old new c c2 e stop.Spoiled on unspoiled room answers = absurd (let h : true ≡ false = sym answers.0 ∙ unspoiled in (cc))
-full_or_not picks old new c c2 e stop.Memory on unspoiled room answers = answers
+-- ---- one turn of repair
 
--- a repair
-pub fix_goes : {C : Type 0} (picks : Picks C) (old mid new : State) (c c2 : C) (k : Conflict) (m : RepairMove) (r : Reply) → old.world.rested ≡ false → reason_of old.world ≡ None
-    → picks c old.world.state (Some (record { conflict = k; mv = m })) c2 → mid ≡ old → Answers mid (event.Fix k m) (Ok r) new → Goes picks old c new c2
-fix_goes picks old mid new c c2 k m r going reason picked same answers =
-    takes_goes picks old new c c2 (event.Fix k m) r (subst (λ (s : State). Answers s (event.Fix k m) (Ok r) new) same answers) refl (going, reason, picked)
+pub repaired_goes : {C : Type 0} (picks : Picks C) (old new : State) (c c2 : C) (done : Repaired) → old.world.rested ≡ false → HasRepaired picks old c done new c2 → Goes picks old c new c2
+repaired_goes picks old new c c2 (repaired.Fixed p) going did = takes_goes picks old new c c2 (event.Fix p.conflict p.mv) reply.Done (did.3, did.4) refl (going, did.0, did.1)
+repaired_goes picks old new c c2 (repaired.Rested why) going did = takes_goes picks old new c c2 event.Rest (reply.Rested why) (did.1, did.2) refl (going, ap (λ (o : Option Reason). is_some o) did.0, did.3)
 
-pub fix_stops : {C : Type 0} (picks : Picks C) (old mid new : State) (c c2 : C) (k : Conflict) (m : RepairMove) (s : Stop) → old.spoiled ≡ false → old.world.closed ≡ false → old.world.rested ≡ false → reason_of old.world ≡ None
-    → length old.log < old.world.options.entries → old.world.turn ≤ old.world.options.turns → mid ≡ old → Answers mid (event.Fix k m) (Err s) new → Stepped picks old c (Err s) new c2
-fix_stops picks old mid new c c2 k m s unspoiled open_ going reason room most same answers =
-    full_or_not picks old new c c2 (event.Fix k m) s (fix_enabled old.world k m open_ going reason most) unspoiled room (subst (λ (t : State). Answers t (event.Fix k m) (Err s) new) same answers)
+pub repair_stops : {C : Type 0} (picks : Picks C) (old new : State) (c c2 : C) (s : Stop) → old.world.closed ≡ false → old.world.rested ≡ false → RepairsOnce picks old c (Err s) new c2 → Stepped picks old c (Err s) new c2
+repair_stops picks old new c c2 stop.NotNow opened going answers = absurd (let h : (not old.world.closed && not old.world.rested) ≡ false = answers.1 in let k : true ≡ false = rw (opened, going) at h in cc)
+repair_stops picks old new c c2 stop.LogFull opened going answers = (answers.0, answers.2, answers.3, answers.4)
+repair_stops picks old new c c2 stop.Spoiled opened going answers = answers
+repair_stops picks old new c c2 stop.Memory opened going answers = answers
 
--- a rest
-pub rest_goes : {C : Type 0} (picks : Picks C) (old new : State) (c c2 : C) (r : Reply) → old.world.closed ≡ false → old.world.rested ≡ false → Answers old event.Rest (Ok r) new → c2 ≡ c → Goes picks old c new c2
-rest_goes picks old new c c2 r open_ going answers same =
-    let on : (not old.world.closed && (not old.world.rested && is_some (reason_of old.world))) ≡ true = answers.0.enabled in
-    let some : is_some (reason_of old.world) ≡ true = (both (not old.world.rested) (is_some (reason_of old.world)) (both (not old.world.closed) _ on).1).1 in
-    takes_goes picks old new c c2 event.Rest r answers refl (going, some, same)
+-- ---- what the executive chooses
 
-pub rest_stops : {C : Type 0} (picks : Picks C) (old new : State) (c c2 : C) (s : Stop) → old.spoiled ≡ false → length old.log < old.world.options.entries → (s ≡ stop.NotNow → ⊥) → Answers old event.Rest (Err s) new → Stepped picks old c (Err s) new c2
-rest_stops picks old new c c2 stop.NotNow unspoiled room other answers = absurd (other refl)
-rest_stops picks old new c c2 stop.LogFull unspoiled room other answers = absurd (let full = answers.2 in omega (arith, room, full))
-rest_stops picks old new c c2 stop.Spoiled unspoiled room other answers = absurd (let h : true ≡ false = sym answers.0 ∙ unspoiled in (cc))
-rest_stops picks old new c c2 stop.Memory unspoiled room other answers = answers
-
--- what the executive chooses
 chosen_solo : {C : Type 0} (picks : Picks C) (w : World) (c c2 : C) (it : Choice) → w.rested ≡ true → exec_choice_of w ≡ Some it → c2 ≡ c → IsSoloEvent picks w c (event_of it) c2 × (input_in (event_of it) ≡ None)
 chosen_solo picks w c c2 choice.Dispatch rested chosen same = ((rested, chosen, same), refl)
 chosen_solo picks w c c2 (choice.Commit h) rested chosen same = ((rested, chosen, same), refl)

@@ -56,13 +56,6 @@ pub record RanTo {C : Type 0} (picks : Picks C) (old : State) (c : C) (new : Sta
   pub unspoiled : new.spoiled ≡ false
   pub done : new.world.done ≡ old.world.done
 
--- only want of memory stops a proposal, and it spoils the machine
-abbrev pub Stops : State → Stop → State → Type 0
-Stops old stop.Memory new = (old.spoiled ≡ false) × Spoils old new
-Stops old stop.NotNow new = ⊥
-Stops old stop.LogFull new = ⊥
-Stops old stop.Spoiled new = ⊥
-
 -- The event that the executive chooses is asked for.
 pub record Executes (old : State) (answer : Result Reply Stop) (new : State) : Type 0 where
   pub choice : Choice

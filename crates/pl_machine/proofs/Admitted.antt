@@ -1,7 +1,6 @@
 -- Where an event is admitted, and where it is answered by a stop.
 use Rattle.std.proofs.Common.{◌≡◌, Bool, false, Ok, Err, sym, ◌∙◌, subst, refl}
 use Rattle.pl_entry.specs.declared.event.Event.{Event}
-use Rattle.pl_entry.specs.declared.reply.Reply.{Reply}
 use Rattle.pl_machine.specs.declared.stop.Stop.{Stop}
 use Rattle.pl_machine.specs.declared.stop.Stop.TheVariants as stop
 use Rattle.pl_machine.specs.Step.{is_enabled}

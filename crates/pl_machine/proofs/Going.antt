@@ -75,5 +75,5 @@ pub open_goes : (m : Model) (log : List Entry) (w : World) → IsHistory m log w
 open_goes m log w history = subst Goes (sym history.world) (world_goes m log history.legal)
 
 -- also where memory was wanting: the plan state is no part of it
-pub sound_goes : {spoiled : Bool} {m : Model} {log : List Entry} {w : World} {due : List ℕ} {sent : ℕ} → IsSound spoiled m log w due sent → w.closed ≡ false → w.done ≡ false
+pub sound_goes : {spoiled : Bool} {m : Model} {log : List Entry} {w : World} {due : List ℕ} {sent next : ℕ} → IsSound spoiled m log w due sent next → w.closed ≡ false → w.done ≡ false
 sound_goes {spoiled} {m} {log} {w} sound = subst Goes (sym sound.others) (world_goes m log sound.legal)

@@ -1,5 +1,5 @@
 -- What a message that is accepted may change.
-use Rattle.std.proofs.Common.{◌≡◌, ℕ, ◌<◌, ◌≤◌, ◌^◌, ℤ, pos, ◌≤ℤ◌, List, [], ◌∷◌, length, Bool, true, false, ◌||◌, Option, Some, None, IfSome, is_some, zero, suc, min, if◌then◌else◌, nat_lt, nat_le, slice_get, Ok, Err, ap, refl, arith}
+use Rattle.std.proofs.Common.{◌≡◌, ℕ, ◌<◌, ◌^◌, ℤ, pos, ◌≤ℤ◌, List, [], ◌∷◌, length, Bool, true, false, ◌||◌, Option, Some, None, IfSome, is_some, zero, suc, min, if◌then◌else◌, nat_lt, nat_le, slice_get, Ok, Err, ap, refl, arith}
 use Rattle.std.specs.List.{list_any}
 use Rattle.std.proofs.lemmas.Bool.{leb-false, ltb-false}
 use Rattle.std.proofs.lemmas.List.Elements.{All-weaker}

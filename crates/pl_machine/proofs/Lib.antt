@@ -14,5 +14,7 @@ pub mod Crossing
 pub mod Search
 pub mod Granted
 pub mod Commits
+pub mod Mending
 pub mod Starts
 mod Ticking
+pub mod Calm

@@ -1,5 +1,5 @@
 -- What is sent next starts no earlier than what was sent.
-use Rattle.std.proofs.Common.{◌≡◌, ℕ, ◌+◌, ◌<◌, ◌≤◌, ◌⊎◌, inl, inr, List, length, take, Option, Some, None, get_or, Contains, Bool, sym, ◌∙◌, ap, subst, arith}
+use Rattle.std.proofs.Common.{◌≡◌, ℕ, ◌<◌, ◌≤◌, inl, inr, List, length, take, Option, Some, None, get_or, Bool, sym, ◌∙◌, ap, subst, arith}
 use Rattle.std.proofs.lemmas.Grind.{get_or_default_zero}
 use Rattle.std.proofs.lemmas.List.{length-take, get_or-take}
 use Rattle.pl_model.specs.declared.whole.Model.{Model}
@@ -40,8 +40,8 @@ last_by : (w : World) (o : Option Activity) (b : Activity) → o ≡ Some b → 
 last_by w None b is last = absurd (cc)
 last_by w (Some a) b is last = subst (λ (c : Activity). IsLastStart w c.start) (let same : b ≡ a = cc in same) last
 
-pub starts_last : (s : State) {spoiled : Bool} {m : Model} {log : List Entry} {w : World} {due : List ℕ} {sent : ℕ} (answer : Reply)
-    → record { spoiled = spoiled; model = m; log = log; world = w } ≡ s → IsSound spoiled m log w due sent → w.dispatched ≡ take sent due → IsWhole s.world.state → IsOpen s event.Dispatch
+pub starts_last : (s : State) {spoiled : Bool} {m : Model} {log : List Entry} {w : World} {due : List ℕ} {sent next : ℕ} (answer : Reply)
+    → record { spoiled = spoiled; model = m; log = log; world = w } ≡ s → IsSound spoiled m log w due sent next → w.dispatched ≡ take sent due → IsWhole s.world.state → IsOpen s event.Dispatch
     → answer ≡ reply_of s.world event.Dispatch → StartsLast s.world answer
 starts_last s {spoiled} {m} {log} {w} {due} {sent} answer is sound dispatched whole may answers =
     let standing = sound.stands (ap (λ (t : State). t.spoiled) is ∙ may.unspoiled) in

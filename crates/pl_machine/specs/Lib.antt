@@ -14,6 +14,7 @@ pub mod Messages
 pub mod Step
 pub mod Legal
 pub mod Repairs
+pub mod Calm
 pub mod Keeping
 pub mod Changes
 pub mod Sound
@@ -21,4 +22,5 @@ pub mod Taking
 pub mod Sending
 pub mod Choices
 pub mod Solo
+pub mod Mending
 pub mod Finished

@@ -6,13 +6,15 @@ mod choice;
 mod lines;
 mod machine;
 mod ranges;
+mod repaired;
 mod round;
-mod same;
 mod sharing;
+mod starting;
 mod stop;
 
 pub use choice::Choice;
 pub use lines::{is_begin_line, is_blank_line};
 pub use machine::Machine;
+pub use repaired::Repaired;
 pub use sharing::shared_types;
 pub use stop::Stop;

@@ -6,6 +6,7 @@ mod fixing;
 mod listening;
 mod proposing;
 mod reading;
+mod repairing;
 mod resting;
 mod sending;
 
@@ -36,6 +37,8 @@ pub struct Machine {
     // The ids of what is due, in start order, of which so many were sent.
     due: Vec<u32>,
     sent: usize,
+    // No activity starts behind the present and before this moment.
+    next_start: u32,
     round: Round,
     done: bool,
     log: Vec<Entry>,
@@ -53,7 +56,7 @@ impl std::marker::Model for Machine {
 
     ghost view = { λ m. record { spoiled = m.board.spoiled; model = m.model; log = m.log.items; world = record { state = m.board.state; options = m.options; dispatched = take m.sent m.due.items; turn = m.round.turn; rested = m.round.rested; held = m.round.held; closed = m.round.closed; done = m.done } } };
 
-    ghost invariant = { λ m. IsSound m.board.spoiled m.model m.log.items (record { state = m.board.state; options = m.options; dispatched = take m.sent m.due.items; turn = m.round.turn; rested = m.round.rested; held = m.round.held; closed = m.round.closed; done = m.done }) m.due.items m.sent };
+    ghost invariant = { λ m. IsSound m.board.spoiled m.model m.log.items (record { state = m.board.state; options = m.options; dispatched = take m.sent m.due.items; turn = m.round.turn; rested = m.round.rested; held = m.round.held; closed = m.round.closed; done = m.done }) m.due.items m.sent m.next_start };
 }
 
 impl Machine {
@@ -78,6 +81,7 @@ impl Machine {
             options,
             due: Vec::new(alloc),
             sent: 0,
+            next_start: 0,
             round: Round::closed(),
             done: false,
             log,

@@ -4,6 +4,7 @@ ghost use Rattle.pl_world.specs.Moves.{is_proper, refusal_of, applied};
 ghost use Rattle.pl_world.specs.Whole.{IsWhole};
 ghost use Rattle.pl_board.specs.Boards.{after as board_of};
 ghost use Rattle.pl_machine.specs.World.{due_at, due_in};
+ghost use Rattle.pl_machine.specs.Calm.{StartsNone};
 ghost use Rattle.pl_machine.specs.Changes.{changed, is_tick, CanChange, KeepsDue};
 ghost use Rattle.pl_machine.specs.Keeping.{KeepsStanding};
 ghost use Rattle.pl_machine.specs.Step.{reply_of, after};
@@ -12,6 +13,7 @@ ghost use Rattle.pl_machine.specs.Taking.{IsOpen, Spoils, Answers, with_round, w
 use crate::change::Change;
 use crate::machine::Machine;
 use crate::round::Round;
+use crate::starting::{next_after, next_start};
 use crate::stop::Stop;
 use pl_board::Board;
 use pl_entry::{Entry, Event, Reply, due_since};
@@ -136,10 +138,20 @@ fn extend_due(
     Ok(())
 }
 
-/// The same. Where memory is wanting the board is spoiled.
-fn list_due(
+/// When something starts next on a board.
+#[tactic(auto, using(crate::proofs::Calm::starts_at))]
+fn next_start_on(board: &Board) -> u32
+    ensures { StartsNone board.now.state.moment result board.now.state.plan.activities }
+{
+    let state = board.state();
+    next_start(state.moment, state.plan.activities())
+}
+
+/// The same, and when something starts next. Where memory is wanting the board is spoiled.
+fn list_next(
     board: &mut Board,
     due: &mut Vec<u32>,
+    next: &mut u32,
     alloc: Global,
     before: u32,
 ) -> Result<(), AllocError>
@@ -148,16 +160,44 @@ fn list_due(
     requires listed { due.old.items ≡ due_at before board.old.state }
     ensures same { OnOk result (board.new ≡ board.old) }
     ensures due { OnOk result (due.new.items ≡ due_in board.old.state) }
+    ensures calm { OnOk result (StartsNone board.old.state.moment next.new board.old.state.plan.activities) }
     ensures err { OnErr result (due.new.items ≡ due.old.items) }
     ensures spoils { OnErr result (board.new.spoiled ≡ true) }
 {
     match extend_due(board, due, alloc, before) {
-        Ok(()) => Ok(()),
+        Ok(()) => {
+            *next = next_start_on(board);
+            Ok(())
+        }
         Err(fault) => {
             board.spoil();
             Err(fault)
         }
     }
+}
+
+/// The same. Where nothing started since the earlier moment nothing is looked at.
+fn list_due(
+    board: &mut Board,
+    due: &mut Vec<u32>,
+    next: &mut u32,
+    alloc: Global,
+    before: u32,
+) -> Result<(), AllocError>
+    requires unspoiled { board.old.spoiled ≡ false }
+    requires later { before ≤ board.old.state.moment }
+    requires listed { due.old.items ≡ due_at before board.old.state }
+    requires calm { StartsNone before next.old board.old.state.plan.activities }
+    ensures same { OnOk result (board.new ≡ board.old) }
+    ensures due { OnOk result (due.new.items ≡ due_in board.old.state) }
+    ensures calm { OnOk result (StartsNone board.old.state.moment next.new board.old.state.plan.activities) }
+    ensures err { OnErr result (due.new.items ≡ due.old.items) }
+    ensures spoils { OnErr result (board.new.spoiled ≡ true) }
+{
+    if board.state().moment < *next {
+        return Ok(());
+    }
+    list_next(board, due, next, alloc, before)
 }
 
 /// Whether something may come to be due by it.
@@ -170,11 +210,12 @@ fn is_tick(change: &Change) -> bool
     }
 }
 
-/// Makes a change of a board, and keeps the list of what is due, which only a tick changes. Where memory is wanting the board
-/// is spoiled.
+/// Makes a change of a board, and keeps the list of what is due, which only a tick changes, and how long nothing starts. Where memory
+/// is wanting the board is spoiled.
 fn change_due(
     board: &mut Board,
     due: &mut Vec<u32>,
+    next: &mut u32,
     alloc: Global,
     change: Change,
 ) -> Result<(), AllocError>
@@ -182,17 +223,21 @@ fn change_due(
     requires whole { IsWhole board.old.state }
     requires can { CanChange board.old.state change }
     requires listed { due.old.items ≡ due_in board.old.state }
+    requires calm { StartsNone board.old.state.moment next.old board.old.state.plan.activities }
     ensures ok { OnOk result (board.new ≡ board_of (changed change board.old.state)) }
     ensures keeps { OnOk result (KeepsStanding board.old.state board.new.state) }
     ensures due { OnOk result (due.new.items ≡ due_in board.new.state) }
+    ensures calm { OnOk result (StartsNone board.new.state.moment next.new board.new.state.plan.activities) }
     ensures same { OnErr result (due.new.items ≡ due.old.items) }
     ensures err { OnErr result (board.new.spoiled ≡ true) }
 {
     let ticks = is_tick(&change);
     let before = board.state().moment;
+    let kept = next_after(&change, *next);
     change_board(board, alloc, change)?;
+    *next = kept;
     if ticks {
-        list_due(board, due, alloc, before)
+        list_due(board, due, next, alloc, before)
     } else {
         Ok(())
     }
@@ -203,6 +248,7 @@ fn push_change(
     log: &mut Vec<Entry>,
     board: &mut Board,
     due: &mut Vec<u32>,
+    next: &mut u32,
     alloc: Global,
     event: Event,
     change: Change,
@@ -211,10 +257,12 @@ fn push_change(
     requires whole { IsWhole board.old.state }
     requires can { CanChange board.old.state change }
     requires listed { due.old.items ≡ due_in board.old.state }
+    requires calm { StartsNone board.old.state.moment next.old board.old.state.plan.activities }
     ensures ok { OnOk result (log.new.items ≡ log.old.items ++ record { event = event; reply = Reply.Done } ∷ []) }
     ensures changed { OnOk result (board.new ≡ board_of (changed change board.old.state)) }
     ensures keeps { OnOk result (KeepsStanding board.old.state board.new.state) }
     ensures due { OnOk result (due.new.items ≡ due_in board.new.state) }
+    ensures calm { OnOk result (StartsNone board.new.state.moment next.new board.new.state.plan.activities) }
     ensures err { OnErr result (log.new.items ≡ log.old.items) }
     ensures same { OnErr result (due.new.items ≡ due.old.items) }
     ensures spoils { OnErr result (board.new.spoiled ≡ true) }
@@ -223,7 +271,7 @@ fn push_change(
         board.spoil();
         return Err(AllocError);
     }
-    change_due(board, due, alloc, change)?;
+    change_due(board, due, next, alloc, change)?;
     let reply = Reply::Done;
     log.push(Entry { event, reply }).unwrap();
     Ok(())
@@ -274,6 +322,7 @@ impl Machine {
             &mut self.log,
             &mut self.board,
             &mut self.due,
+            &mut self.next_start,
             self.alloc,
             event,
             change,

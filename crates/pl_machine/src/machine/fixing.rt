@@ -12,10 +12,9 @@ use crate::change::Change;
 use crate::machine::Machine;
 use crate::ranges::{known_conflict, known_move, word};
 use crate::round::Round;
-use crate::same::is_among;
 use crate::stop::Stop;
 use pl_board::Board;
-use pl_cand::candidates;
+use pl_cand::is_candidate;
 use pl_conflict::Conflict;
 use pl_entry::{Event, Reply};
 use pl_moves::legal;
@@ -54,12 +53,11 @@ impl Machine {
         requires { self.now.spoiled ≡ false }
         ensures { IfOk result (λ is. is ≡ is_candidate self.now.world.state conflict.now repair.now) }
     {
-        let moves = candidates(self.alloc, &self.board, conflict)?;
-        Ok(is_among(repair, &moves))
+        is_candidate(self.alloc, &self.board, conflict, repair)
     }
 
     /// The plan state, which is whole, and whose ids are few.
-    fn standing(&self) -> &PlanState
+    pub(crate) fn standing(&self) -> &PlanState
         requires { self.now.spoiled ≡ false }
         ensures value { result.now ≡ self.now.world.state }
         ensures whole { IsWhole self.now.world.state }
@@ -86,7 +84,7 @@ impl Machine {
         Ok(legal_reply(&self.board, repair))
     }
 
-    fn repair(&mut self, conflict: Conflict, repair: RepairMove) -> Result<Reply, Stop>
+    pub(crate) fn repair(&mut self, conflict: Conflict, repair: RepairMove) -> Result<Reply, Stop>
         requires open { IsOpen self.old (Event.Fix conflict repair) }
         requires conflict { IsConflictInRange conflict }
         requires repair { IsMoveInRange self.old.model repair }

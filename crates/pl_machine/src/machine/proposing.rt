@@ -1,4 +1,4 @@
-ghost use Rattle.std.specs.Prelude.{IfOk, IfSome};
+ghost use Rattle.std.specs.Prelude.{◌≡◌, IfOk, IfSome, IsErrOf};
 ghost use Rattle.pl_cand.specs.Proposals.{IsProposal};
 ghost use Rattle.pl_machine.specs.Repairs.{IsMoveOf};
 ghost use Rattle.pl_machine.specs.Taking.{Proposes};
@@ -14,6 +14,7 @@ impl Machine {
         ensures picks { IfOk result (λ p. C.picks chooser.old self.old.world.state p chooser.new) }
         ensures legal { IfOk result (IsProposal self.old.world.state) }
         ensures moves { IfOk result (λ p. IfSome p (λ q. IsMoveOf self.old.model q.mv)) }
+        ensures kept { IsErrOf result Stop.Spoiled → chooser.new ≡ chooser.old }
     {
         if self.spoiled() {
             return Err(Stop::Spoiled);

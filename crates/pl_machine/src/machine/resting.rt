@@ -77,7 +77,7 @@ fn is_stuck(alloc: Global, board: &Board) -> Result<bool, AllocError>
 
 impl Machine {
     /// Why repair is to rest, if it is to.
-    fn reason(&self) -> Result<Option<Reason>, AllocError>
+    pub(crate) fn reason(&self) -> Result<Option<Reason>, AllocError>
         requires { self.now.spoiled ≡ false }
         ensures { IfOk result (λ reason. reason ≡ reason_of self.now.world) }
     {
@@ -93,7 +93,7 @@ impl Machine {
         Ok(None)
     }
 
-    fn rest_for(&mut self, reason: Reason) -> Result<Reply, Stop>
+    pub(crate) fn rest_for(&mut self, reason: Reason) -> Result<Reply, Stop>
         requires open { IsOpen self.old Event.Rest }
         requires reason { reason_of self.old.world ≡ Some reason }
         ensures { Answers self.old Event.Rest result self.new }

@@ -1,4 +1,4 @@
-use Rattle.std.proofs.Common.{◌≡◌, ℕ, nat_le, refl, ◌∙◌, ap}
+use Rattle.std.proofs.Common.{ℕ, nat_le, refl, ◌∙◌, ap}
 use Rattle.pl_machine.proofs.Sends.{sent_all, sent_count}
 use Rattle.pl_machine.proofs.machine.Machine.all_sent.Goals as goal
 

@@ -1,4 +1,4 @@
-use Rattle.std.proofs.Common.{◌≡◌, ℕ, nat_lt, refl, ◌∙◌, ap}
+use Rattle.std.proofs.Common.{nat_lt, refl, ◌∙◌, ap}
 use Rattle.pl_machine.proofs.Sends.{left_count}
 use Rattle.pl_machine.proofs.machine.Machine.is_left.Goals as goal
 

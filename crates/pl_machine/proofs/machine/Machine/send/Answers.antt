@@ -1,4 +1,4 @@
-use Rattle.std.proofs.Common.{◌≡◌, ◌<◌, false, length, arith, refl, sym, ◌∙◌, ap, subst}
+use Rattle.std.proofs.Common.{◌≡◌, false, refl, sym, ◌∙◌, ap, subst}
 use Rattle.pl_board.specs.Boards.{Standing}
 use Rattle.pl_world.specs.Whole.{IsWhole}
 use Rattle.pl_machine.specs.Sound.{State}

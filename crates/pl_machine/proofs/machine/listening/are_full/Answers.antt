@@ -1,4 +1,4 @@
-use Rattle.std.proofs.Common.{◌≡◌, ℕ, ◌<◌, ◌^◌, nat_le, length, arith, ◌∙◌, ap}
+use Rattle.std.proofs.Common.{◌<◌, ◌^◌, nat_le, length, arith, ◌∙◌, ap}
 use Rattle.pl_machine.proofs.Inputs.{counted}
 use Rattle.pl_machine.proofs.machine.listening.are_full.Goals as goal
 

@@ -1,4 +1,4 @@
-use Rattle.std.proofs.Common.{◌≡◌, is_some, Option, Some, None, Bor, refl, sym, ◌∙◌, ap}
+use Rattle.std.proofs.Common.{◌≡◌, is_some, Option, Some, None, Bor, refl, ◌∙◌, ap}
 use Rattle.std.specs.Option.{option_copied}
 use Rattle.pl_facts.specs.declared.goal.Goal.{Goal}
 use Rattle.pl_machine.proofs.Inputs.{found_any}

@@ -1,0 +1,193 @@
+-- One turn of repair.
+use Rattle.std.proofs.Common.{◌≡◌, ℕ, zero, suc, ◌<◌, ◌≤◌, List, [], ◌∷◌, length, get_or, Bool, true, false, not, ◌&&◌, ◌||◌, Option, Some, None, Ok, Err, refl, sym, ◌∙◌, ap, subst, eq-eqb, arith}
+use Rattle.std.specs.Prelude.{Contains, is_none, is_some, nat_lt, ◌==◌, filter, if◌then◌else◌}
+use Rattle.std.specs.declared.cmp.Ordering.{Ordering}
+use Rattle.std.specs.declared.cmp.Ordering.TheVariants.{Less, Equal, Greater}
+use Rattle.std.specs.Ordering.{ordering_reverse, is_eq}
+use Rattle.std.specs.Cmp.{int_eq_equiv}
+use Rattle.std.specs.List.{list_any}
+use Rattle.std.proofs.lemmas.Bool.{lt-ltb}
+use Rattle.std.proofs.lemmas.List.Elements.{All-contains, All-contains_itself, All-filter, filter_passes}
+use Rattle.pl_conflict.specs.declared.conflict.Conflict.{Conflict}
+use Rattle.pl_conflict.specs.Order.{conflict_cmp, has}
+use Rattle.pl_conflict.proofs.OrderLaws.{conflict_total}
+use Rattle.pl_plan.specs.declared.repair.RepairMove.{RepairMove}
+use Rattle.pl_plan.specs.declared.repair.RepairMove.TheVariants as repair
+use Rattle.pl_entry.specs.declared.event.Event.{Event}
+use Rattle.pl_entry.specs.declared.event.Event.TheVariants as event
+use Rattle.pl_entry.specs.declared.reply.Reply.{Reply}
+use Rattle.pl_entry.specs.declared.reply.Reply.TheVariants as reply
+use Rattle.pl_entry.specs.declared.reply.Reason.{Reason}
+use Rattle.pl_world.specs.declared.plan_state.PlanState.{PlanState}
+use Rattle.pl_world.specs.declared.refusal.Refusal.{Refusal}
+use Rattle.pl_world.specs.Conflicts.{conflicts_of}
+use Rattle.pl_world.specs.Moves.{refusal_of}
+use Rattle.pl_world.specs.Candidates.{candidates_of, same_move, same_number}
+use Rattle.pl_world.specs.Legal.{is_legal, legal_for, is_stuck}
+use Rattle.pl_cand.specs.declared.proposal.Proposal.{Proposal}
+use Rattle.pl_cand.specs.Proposals.{IsProposal}
+use Rattle.pl_machine.specs.declared.stop.Stop.{Stop}
+use Rattle.pl_machine.specs.declared.stop.Stop.TheVariants as stop
+use Rattle.pl_machine.specs.declared.repaired.Repaired.TheVariants as repaired
+use Rattle.pl_machine.specs.World.{World, reason_by, reason_of}
+use Rattle.pl_machine.specs.Step.{is_candidate, refusal_reply, fix_reply, rest_reply, is_enabled}
+use Rattle.pl_machine.specs.Sound.{State}
+use Rattle.pl_machine.specs.Taking.{IsOpen, Takes, Answers, Admits, Proposes}
+use Rattle.pl_machine.specs.Solo.{Picks}
+use Rattle.pl_machine.specs.declared.change.Change.TheVariants.{Repair}
+use Rattle.pl_machine.specs.Changes.{CanChange}
+use Rattle.pl_machine.proofs.Handed.{can_repair}
+use Rattle.pl_machine.specs.Mending.{is_repairing, Stops, HasRepaired, RepairsOnce}
+
+-- ---- what is among the legal ones is in the list, and legal
+
+or_true : (b : Bool) → (b || true) ≡ true
+or_true true = refl
+or_true false = refl
+
+any_at : {X : Type 0} (p : X → Bool) (xs : List X) (k : ℕ) (x : X) → k < length xs → get_or xs k x ≡ x → p x ≡ true → list_any p xs ≡ true
+any_at p [] k x lt here h = absurd (omega arith)
+any_at p (y ∷ xs) zero x lt here h = ap (λ (b : Bool). b || list_any p xs) (ap p here ∙ h)
+any_at p (y ∷ xs) (suc k) x lt here h = ap (λ (b : Bool). p y || b) (any_at p xs k x (omega arith) here h) ∙ or_true (p y)
+
+contained : {X : Type 0} (p : X → Bool) (xs : List X) (x : X) → Contains xs x → p x ≡ true → list_any p xs ≡ true
+contained p xs x here h = any_at p xs here.0 x here.1 here.2 h
+
+among : {X : Type 0} (p : X → Bool) (xs : List X) (x : X) → Contains (filter p xs) x → Contains xs x
+among p xs x here = All-contains (Contains xs) (filter p xs) x (All-filter p (Contains xs) xs (All-contains_itself xs)) here
+
+passing : {X : Type 0} (p : X → Bool) (xs : List X) (x : X) → Contains (filter p xs) x → p x ≡ true
+passing p xs x here = All-contains (λ y. p y ≡ true) (filter p xs) x (filter_passes p xs) here
+
+-- ---- each is itself
+
+by_reverse : (o : Ordering) → o ≡ ordering_reverse o → is_eq o ≡ true
+by_reverse Less e = absurd (cc)
+by_reverse Equal e = refl
+by_reverse Greater e = absurd (cc)
+
+same_conflict : (k : Conflict) → is_eq (conflict_cmp k k) ≡ true
+same_conflict k = by_reverse (conflict_cmp k k) (conflict_total.antisymm k k)
+
+both_are : (a b : Bool) → a ≡ true → b ≡ true → (a && b) ≡ true
+both_are true b e f = f
+both_are false b e f = absurd (cc)
+
+same_number_self : (n : Option ℕ) → same_number n n ≡ true
+same_number_self None = refl
+same_number_self (Some n) = eq-eqb n n refl
+
+same_move_self : (m : RepairMove) → same_move m m ≡ true
+same_move_self (repair.Add kind start goal) = both_are _ _ (eq-eqb kind kind refl) (both_are _ _ (eq-eqb start start refl) (same_number_self goal))
+same_move_self (repair.Delete id) = eq-eqb id id refl
+same_move_self (repair.Shift id start) = both_are _ _ (eq-eqb id id refl) (eq-eqb start start refl)
+same_move_self (repair.Detail id alternative) = both_are _ _ (eq-eqb id id refl) (eq-eqb alternative alternative refl)
+same_move_self (repair.Abstract id) = eq-eqb id id refl
+same_move_self (repair.Assign id param value) = both_are _ _ (eq-eqb id id refl) (both_are _ _ (eq-eqb param param refl) (int_eq_equiv.refl value))
+same_move_self (repair.Drop number) = eq-eqb number number refl
+
+-- ---- what is proposed is answered by ok
+
+no_refusal : (o : Option Refusal) → is_none o ≡ true → refusal_reply o ≡ reply.Done
+no_refusal None e = refl
+no_refusal (Some r) e = absurd (cc)
+
+made_if : (stands fits : Bool) (r : Reply) → stands ≡ true → fits ≡ true → r ≡ reply.Done → (if not stands then reply.Stale else if not fits then reply.NotFor else r) ≡ reply.Done
+made_if true true r e f g = g
+made_if true false r e f g = absurd (cc)
+made_if false fits r e f g = absurd (cc)
+
+pub proposed_done : (s : PlanState) (p : Proposal) → IsProposal s (Some p) → fix_reply s p.conflict p.mv ≡ reply.Done
+unfolding fix_reply legal_for
+proposed_done s p proposal =
+    let k = p.conflict in
+    let m = p.mv in
+    let candidate : Contains (candidates_of s k) m = among (is_legal s) (candidates_of s k) m proposal.1 in
+    made_if (has k (conflicts_of s)) (is_candidate s k m) (refusal_reply (refusal_of s m))
+    (contained (λ q. is_eq (conflict_cmp k q)) (conflicts_of s) k proposal.0 (same_conflict k))
+    (contained (same_move m) (candidates_of s k) m candidate (same_move_self m))
+    (no_refusal (refusal_of s m) (passing (is_legal s) (candidates_of s k) m proposal.1))
+
+-- ---- where repair goes on
+
+by_reason : (ks : List Conflict) (spent stuck : Bool) → reason_by ks spent stuck ≡ None → (spent ≡ false) × (stuck ≡ false)
+by_reason [] spent stuck e = absurd (cc)
+by_reason (k ∷ ks) true stuck e = absurd (cc)
+by_reason (k ∷ ks) false true e = absurd (cc)
+by_reason (k ∷ ks) false false e = (refl, refl)
+
+-- without a reason to rest some conflict has a legal candidate
+pub not_stuck : (w : World) → reason_of w ≡ None → is_stuck w.state ≡ false
+not_stuck w e = (by_reason (conflicts_of w.state) (w.turn == w.options.turns) (is_stuck w.state) e).1
+
+-- and turns are left
+turns_left : (w : World) → reason_of w ≡ None → w.turn ≤ w.options.turns → nat_lt w.turn w.options.turns ≡ true
+turns_left w e most =
+    let other : (w.turn == w.options.turns) ≡ false = (by_reason (conflicts_of w.state) (w.turn == w.options.turns) (is_stuck w.state) e).0 in
+    lt-ltb w.turn w.options.turns (grind (arith, other, most))
+
+both_last : (a b c : Bool) → (a && b) ≡ true → c ≡ true → (a && (b && c)) ≡ true
+both_last true true c e f = f
+both_last true false c e f = absurd (cc)
+both_last false b c e f = absurd (cc)
+
+fix_enabled : (w : World) (k : Conflict) (m : RepairMove) → is_repairing w ≡ true → reason_of w ≡ None → w.turn ≤ w.options.turns → is_enabled w (event.Fix k m) ≡ true
+fix_enabled w k m going e most = both_last (not w.closed) (not w.rested) (nat_lt w.turn w.options.turns) going (turns_left w e most)
+
+rest_enabled : (w : World) (reason : Reason) → is_repairing w ≡ true → reason_of w ≡ Some reason → is_enabled w event.Rest ≡ true
+rest_enabled w reason going e = both_last (not w.closed) (not w.rested) (is_some (reason_of w)) going (ap (λ (o : Option Reason). is_some o) e)
+
+pub fix_open : (s : State) (k : Conflict) (m : RepairMove) → s.spoiled ≡ false → is_repairing s.world ≡ true → length s.log < s.world.options.entries → reason_of s.world ≡ None → s.world.turn ≤ s.world.options.turns → IsOpen s (event.Fix k m)
+fix_open s k m unspoiled going room e most = record { unspoiled = unspoiled; enabled = fix_enabled s.world k m going e most; room = room }
+
+pub rest_open : (s : State) (reason : Reason) → s.spoiled ≡ false → is_repairing s.world ≡ true → length s.log < s.world.options.entries → reason_of s.world ≡ Some reason → IsOpen s event.Rest
+rest_open s reason unspoiled going room e = record { unspoiled = unspoiled; enabled = rest_enabled s.world reason going e; room = room }
+
+pub can_make : (s : PlanState) (p : Proposal) → IsProposal s (Some p) → s.next_id ≤ 3999999000 → CanChange s (Repair p.mv)
+can_make s p legal few = can_repair s p.conflict p.mv (proposed_done s p legal) few
+
+-- ---- what a turn comes to
+
+-- a proposal that was made
+pub fixed : {C : Type 0} (picks : Picks C) (old mid new : State) (c c2 : C) (p : Proposal) (r : Reply) → reason_of old.world ≡ None → picks c old.world.state (Some p) c2 → IsProposal old.world.state (Some p)
+    → mid ≡ old → Answers mid (event.Fix p.conflict p.mv) (Ok r) new → HasRepaired picks old c (repaired.Fixed p) new c2
+fixed picks old mid new c c2 p r reason picked legal same made =
+    let answers : Answers old (event.Fix p.conflict p.mv) (Ok r) new = subst (λ (s : State). Answers s (event.Fix p.conflict p.mv) (Ok r) new) same made in
+    let done : r ≡ reply.Done = answers.1.step.answers ∙ proposed_done old.world.state p legal in
+    (reason, picked, legal, answers.0, subst (λ (x : Reply). Takes old (event.Fix p.conflict p.mv) x new) done answers.1)
+
+-- a rest
+pub rested : {C : Type 0} (picks : Picks C) (old new : State) (c : C) (reason : Reason) (r : Reply) → reason_of old.world ≡ Some reason → Answers old event.Rest (Ok r) new → HasRepaired picks old c (repaired.Rested reason) new c
+rested picks old new c reason r is answers =
+    let here : r ≡ reply.Rested reason = answers.1.step.answers ∙ ap rest_reply is in
+    (is, answers.0, subst (λ (x : Reply). Takes old event.Rest x new) here answers.1, refl)
+
+-- an event that may be made fails only where memory is wanting
+fails_by : {C : Type 0} (picks : Picks C) (old new : State) (c c2 : C) (e : Event) (s : Stop) → IsOpen old e → Answers old e (Err s) new → RepairsOnce picks old c (Err s) new c2
+fails_by picks old new c c2 e stop.Spoiled may answers = absurd (let h : true ≡ false = sym answers.0 ∙ may.unspoiled in cc)
+fails_by picks old new c c2 e stop.NotNow may answers = absurd (let h : true ≡ false = sym may.enabled ∙ answers.1 in cc)
+fails_by picks old new c c2 e stop.LogFull may answers = absurd (let full = answers.2 in let room = may.room in omega (arith, room, full))
+fails_by picks old new c c2 e stop.Memory may answers = answers
+
+pub fails : {C : Type 0} (picks : Picks C) (old mid new : State) (c c2 : C) (e : Event) (s : Stop) → IsOpen old e → mid ≡ old → Answers mid e (Err s) new → RepairsOnce picks old c (Err s) new c2
+fails picks old mid new c c2 e s may same made = fails_by picks old new c c2 e s may (subst (λ (t : State). Answers t e (Err s) new) same made)
+
+-- nor is there a proposal of an unspoiled machine
+pub proposal_stops : (old new : State) (s : Stop) → old.spoiled ≡ false → Proposes {X = Option Proposal} old (Err s) new → Stops old s new
+proposal_stops old new stop.Spoiled unspoiled proposes = absurd (let h : true ≡ false = sym proposes.0 ∙ unspoiled in cc)
+proposal_stops old new stop.NotNow unspoiled proposes = absurd proposes
+proposal_stops old new stop.LogFull unspoiled proposes = absurd proposes
+proposal_stops old new stop.Memory unspoiled proposes = proposes
+
+pub asked_fails : {C : Type 0} (picks : Picks C) (old new : State) (c c2 : C) (s : Stop) → Stops old s new → RepairsOnce picks old c (Err s) new c2
+asked_fails picks old new c c2 stop.Spoiled stops = absurd stops
+asked_fails picks old new c c2 stop.NotNow stops = absurd stops
+asked_fails picks old new c c2 stop.LogFull stops = absurd stops
+asked_fails picks old new c c2 stop.Memory stops = stops
+
+-- a turn that may not be taken
+pub not_admitted : {C : Type 0} (picks : Picks C) (old : State) (c : C) (s : Stop) → Admits old (is_repairing old.world) (Err s) → RepairsOnce picks old c (Err s) old c
+not_admitted picks old c stop.Spoiled admits = (admits, refl, refl)
+not_admitted picks old c stop.NotNow admits = (admits.0, admits.1, refl, refl)
+not_admitted picks old c stop.LogFull admits = (admits.0, admits.1, admits.2, refl, refl)
+not_admitted picks old c stop.Memory admits = absurd admits

@@ -1,0 +1,39 @@
+-- One turn of repair: what a chooser proposes is made, or repair rests.
+use Rattle.std.specs.Prelude.{◌≡◌, ◌≤◌, length, Bool, true, false, not, ◌&&◌, Some, None, Result, Ok, Err}
+use Rattle.pl_entry.specs.declared.event.Event.TheVariants as event
+use Rattle.pl_entry.specs.declared.reply.Reply.TheVariants as reply
+use Rattle.pl_cand.specs.Proposals.{IsProposal}
+use Rattle.pl_machine.specs.declared.stop.Stop.{Stop}
+use Rattle.pl_machine.specs.declared.stop.Stop.TheVariants as stop
+use Rattle.pl_machine.specs.declared.repaired.Repaired.{Repaired}
+use Rattle.pl_machine.specs.declared.repaired.Repaired.TheVariants as repaired
+use Rattle.pl_machine.specs.World.{World, reason_of}
+use Rattle.pl_machine.specs.Sound.{State}
+use Rattle.pl_machine.specs.Taking.{IsOpen, Takes, Spoils}
+use Rattle.pl_machine.specs.Solo.{Picks}
+
+-- the round is open, and repair does not rest in it
+abbrev pub is_repairing : World → Bool
+is_repairing w = not w.closed && not w.rested
+
+-- only want of memory stops a proposal of an unspoiled machine
+abbrev pub Stops : State → Stop → State → Type 0
+Stops old stop.Memory new = (old.spoiled ≡ false) × Spoils old new
+Stops old stop.NotNow new = ⊥
+Stops old stop.LogFull new = ⊥
+Stops old stop.Spoiled new = ⊥
+
+-- Without a reason to rest the chooser is asked, and its proposal is made. With one repair rests for it, and the chooser is not asked.
+abbrev pub HasRepaired : {C : Type 0} → Picks C → State → C → Repaired → State → C → Type 0
+HasRepaired picks old c (repaired.Fixed p) new c2 = (reason_of old.world ≡ None) × picks c old.world.state (Some p) c2 × IsProposal old.world.state (Some p)
+    × IsOpen old (event.Fix p.conflict p.mv) × Takes old (event.Fix p.conflict p.mv) reply.Done new
+HasRepaired picks old c (repaired.Rested reason) new c2 = (reason_of old.world ≡ Some reason) × IsOpen old event.Rest × Takes old event.Rest (reply.Rested reason) new × (c2 ≡ c)
+
+-- Spoiled, NotNow and LogFull come in this order, exactly by their causes, and change nothing. Only where memory is wanting the chooser
+-- may have drawn more.
+abbrev pub RepairsOnce : {C : Type 0} → Picks C → State → C → Result Repaired Stop → State → C → Type 0
+RepairsOnce picks old c (Ok done) new c2 = HasRepaired picks old c done new c2
+RepairsOnce picks old c (Err stop.Spoiled) new c2 = (old.spoiled ≡ true) × (new ≡ old) × (c2 ≡ c)
+RepairsOnce picks old c (Err stop.NotNow) new c2 = (old.spoiled ≡ false) × (is_repairing old.world ≡ false) × (new ≡ old) × (c2 ≡ c)
+RepairsOnce picks old c (Err stop.LogFull) new c2 = (old.spoiled ≡ false) × (is_repairing old.world ≡ true) × (old.world.options.entries ≤ length old.log) × (new ≡ old) × (c2 ≡ c)
+RepairsOnce picks old c (Err stop.Memory) new c2 = (old.spoiled ≡ false) × Spoils old new
