@@ -64,3 +64,11 @@ pub answered_ok : {E : Type 0} (old new : State) (line : List ℕ) (e : Entry) (
 answered_ok old new line e n r m (Ok w) number is history answers same differs =
     answered old new line e n r w number is history answers (subst (λ (m : Model). Differs m n (record { event = e.event; reply = r }) line w) same differs)
 answered_ok old new line e n r m (Err x) number is history answers same differs = tt
+
+-- behind the answer the line is still that of its entry
+pub still_shows : (old new : State) (line : List ℕ) (e : Entry) (n : ℕ) (r : Reply) (m : Model) → n ≡ length old.log → IsNextLine old.model old.log line e → Answers old e.event (Ok r) new → m ≡ new.model → line ≡ text_of m n e
+still_shows old new line e n r m number is answers same = is.text ∙ ap (λ k. text_of old.model k e) (sym number) ∙ ap (λ (m : Model). text_of m n e) (sym (same ∙ answers.1.model))
+
+-- an entry whose reply is the one that was read has the line
+pub same_line : (m : Model) (n : ℕ) (answered : Entry) (read : Reply) (line : List ℕ) → line ≡ text_of m n (record { event = answered.event; reply = read }) → read ≡ answered.reply → line ≡ text_of m n answered
+same_line m n answered read line is same = is ∙ ap (λ (r : Reply). text_of m n (record { event = answered.event; reply = r })) same

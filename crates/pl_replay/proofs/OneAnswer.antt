@@ -294,12 +294,12 @@ stops_barred m old bytes v machine fault.Total log lines left (Some rest) checke
     absurd (never_barred m old bytes v machine log lines left (Some rest) checked a right shown (record { rest = rest; is = refl; took = took }) (barred old.limit left rest (inr why)))
 stops_barred m old bytes v machine fault.Memory log lines left (Some rest) checked a right shown took why = inr refl
 
-judged_or_stopped : (m : Model) (old : Reader) (bytes : List ℕ) (v : Verdict) (machine : Option State) (f : LineFault) → IsChecked m → IsJudged m old bytes v machine → Stops m old (Some bytes) f → (f ≡ fault.Read) ⊎ (f ≡ fault.Memory)
-judged_or_stopped m old bytes v machine f checked a stops = stops_barred m old bytes v machine f stops.log stops.lines stops.halts.left stops.halts.rest checked a stops.right stops.entries stops.halts.gave stops.halts.why
+judged_or_stopped : (m : Model) (old new : Reader) (bytes : List ℕ) (after : Option (List ℕ)) (v : Verdict) (machine : Option State) (f : LineFault) → IsChecked m → IsJudged m old bytes v machine → Stops m old (Some bytes) f new after → (f ≡ fault.Read) ⊎ (f ≡ fault.Memory)
+judged_or_stopped m old new bytes after v machine f checked a stops = stops_barred m old bytes v machine f stops.log stops.lines stops.halts.left stops.halts.rest checked a stops.right stops.entries stops.halts.gave stops.halts.why
 
-pub faults_of_the_moment : (m : Model) (old new : Reader) (bytes : List ℕ) (after : Option (List ℕ)) (v : Verdict) (machine : Option State) (f : LineFault) → IsChecked m
-    → Verified m old (Some bytes) v machine new after → Stops m old (Some bytes) f → (f ≡ fault.Read) ⊎ (f ≡ fault.Memory)
-faults_of_the_moment m old new bytes after v machine f checked a stops = judged_or_stopped m old bytes v machine f checked (judged_of m old new bytes after v machine a) stops
+pub faults_of_the_moment : (m : Model) (old new last : Reader) (bytes : List ℕ) (after rest : Option (List ℕ)) (v : Verdict) (machine : Option State) (f : LineFault) → IsChecked m
+    → Verified m old (Some bytes) v machine new after → Stops m old (Some bytes) f last rest → (f ≡ fault.Read) ⊎ (f ≡ fault.Memory)
+faults_of_the_moment m old new last bytes after rest v machine f checked a stops = judged_or_stopped m old last bytes rest v machine f checked (judged_of m old new bytes after v machine a) stops
 
 -- ---- what is answered of an input
 
@@ -307,7 +307,7 @@ tells : (m : Model) (old new : Reader) (bytes : List ℕ) (after : Option (List 
     → IsJudged m old bytes v machine → Verifies m old (Some bytes) answer new after → Tells answer v machine
 tells m old new bytes after v machine (Ok judged) checked is answers =
     one_judgement m old bytes judged.0 v judged.1 machine checked (judged_of m old new bytes after judged.0 judged.1 answers) is
-tells m old new bytes after v machine (Err f) checked is answers = judged_or_stopped m old bytes v machine f checked is answers
+tells m old new bytes after v machine (Err f) checked is answers = judged_or_stopped m old new bytes after v machine f checked is answers
 
 pub legal_is_told : (m : Model) (old new : Reader) (bytes : List ℕ) (after : Option (List ℕ)) (log : List Entry) (answer : Result (Verdict × Option State) LineFault) → IsChecked m
     → HoldsLegal m old bytes log → Verifies m old (Some bytes) answer new after → Tells answer (verdict.Legal (length log) (world_of m log).done) (Some (record { spoiled = false; model = m; log = log; world = world_of m log }))

@@ -103,46 +103,46 @@ all_right m state v machine old mid new before middle after model unspoiled so_f
       no_further = tt;
     })
 
-pub stops : (m : Model) (log : List Entry) (f : LineFault) (old mid : Reader) (before middle : Option (List ℕ)) → (log ≡ []) ⊎ Legal m log
-    → IsReadSoFar m log old before mid middle → GetsFault mid middle f → Stops m old before f
-stops m log f old mid before middle right so_far gets = record {
+pub stops : (m : Model) (log : List Entry) (f : LineFault) (old mid new : Reader) (before middle after : Option (List ℕ)) → (log ≡ []) ⊎ Legal m log
+    → IsReadSoFar m log old before mid middle → GetsFault mid middle f new after → Stops m old before f new after
+stops m log f old mid new before middle after right so_far gets = record {
   log = log;
   right = right;
   lines = so_far.lines ++ gets.lines;
-  halts = halts_later old mid before middle so_far.lines gets.lines f so_far.took gets.halts;
+  halts = halts_later old mid new before middle after so_far.lines gets.lines f so_far.took gets.halts;
   entries = none_more m log so_far.lines gets.lines so_far.entries (no_entries gets.lines gets.blank);
 }
 
-pub stops_behind : (m : Model) (state : State) (f : LineFault) (old mid : Reader) (before middle : Option (List ℕ)) → state.model ≡ m → Legal state.model state.log
-    → IsReadSoFar m state.log old before mid middle → GetsFault mid middle f → Stops m old before f
-stops_behind m state f old mid before middle model legal so_far gets =
-    stops m state.log f old mid before middle (inr (subst (λ (m : Model). Legal m state.log) model legal)) so_far gets
+pub stops_behind : (m : Model) (state : State) (f : LineFault) (old mid new : Reader) (before middle after : Option (List ℕ)) → state.model ≡ m → Legal state.model state.log
+    → IsReadSoFar m state.log old before mid middle → GetsFault mid middle f new after → Stops m old before f new after
+stops_behind m state f old mid new before middle after model legal so_far gets =
+    stops m state.log f old mid new before middle after (inr (subst (λ (m : Model). Legal m state.log) model legal)) so_far gets
 
-pub stops_first : (m : Model) (f : LineFault) (old : Reader) (before : Option (List ℕ)) → old.failed ≡ None → GetsFault old before f → Stops m old before f
-stops_first m f old before working gets = stops m [] f old old before before (inl refl) (read_none m old before working) gets
+pub stops_first : (m : Model) (f : LineFault) (old new : Reader) (before after : Option (List ℕ)) → old.failed ≡ None → GetsFault old before f new after → Stops m old before f new after
+stops_first m f old new before after working gets = stops m [] f old old new before before after (inl refl) (read_none m old before working) gets
 
-pub memory_stops : (m : Model) (log : List Entry) (old mid : Reader) (before middle : Option (List ℕ)) → (log ≡ []) ⊎ Legal m log
-    → IsReadSoFar m log old before mid middle → Stops m old before fault.Memory
-memory_stops m log old mid before middle right so_far = record {
+pub memory_stops : (m : Model) (log : List Entry) (old mid new : Reader) (before middle after : Option (List ℕ)) → (log ≡ []) ⊎ Legal m log
+    → IsReadSoFar m log old before mid middle → Stops m old before fault.Memory new after
+memory_stops m log old mid new before middle after right so_far = record {
   log = log;
   right = right;
   lines = so_far.lines;
-  halts = memory_after old mid before middle so_far.lines so_far.took;
+  halts = memory_after old mid new before middle after so_far.lines so_far.took;
   entries = so_far.entries;
 }
 
-pub memory_behind : (m : Model) (state : State) (f : LineFault) (old mid : Reader) (before middle : Option (List ℕ)) → f ≡ fault.Memory → state.model ≡ m → Legal state.model state.log
-    → IsReadSoFar m state.log old before mid middle → Stops m old before f
-memory_behind m state f old mid before middle is model legal so_far =
-    subst (λ (f : LineFault). Stops m old before f) (sym is) (memory_stops m state.log old mid before middle (inr (subst (λ (m : Model). Legal m state.log) model legal)) so_far)
+pub memory_behind : (m : Model) (state : State) (f : LineFault) (old mid new : Reader) (before middle after : Option (List ℕ)) → f ≡ fault.Memory → state.model ≡ m → Legal state.model state.log
+    → IsReadSoFar m state.log old before mid middle → Stops m old before f new after
+memory_behind m state f old mid new before middle after is model legal so_far =
+    subst (λ (f : LineFault). Stops m old before f new after) (sym is) (memory_stops m state.log old mid new before middle after (inr (subst (λ (m : Model). Legal m state.log) model legal)) so_far)
 
-pub memory_first : (m : Model) (f : LineFault) (old : Reader) (before : Option (List ℕ)) → f ≡ fault.Memory → old.failed ≡ None → Stops m old before f
-memory_first m f old before is working =
-    subst (λ (f : LineFault). Stops m old before f) (sym is) (memory_stops m [] old old before before (inl refl) (read_none m old before working))
+pub memory_first : (m : Model) (f : LineFault) (old new : Reader) (before after : Option (List ℕ)) → f ≡ fault.Memory → old.failed ≡ None → Stops m old before f new after
+memory_first m f old new before after is working =
+    subst (λ (f : LineFault). Stops m old before f new after) (sym is) (memory_stops m [] old old new before before after (inl refl) (read_none m old before working))
 
-pub gives_stops : (m : Model) (old new : Reader) (before after : Option (List ℕ)) (r : Result (Verdict × Option State) LineFault) (f : LineFault) → IsErrAnd r (λ given. given ≡ f) → Stops m old before f → Verifies m old before r new after
+pub gives_stops : (m : Model) (old new : Reader) (before after : Option (List ℕ)) (r : Result (Verdict × Option State) LineFault) (f : LineFault) → IsErrAnd r (λ given. given ≡ f) → Stops m old before f new after → Verifies m old before r new after
 gives_stops m old new before after (Ok judged) f is stopped = absurd is
-gives_stops m old new before after (Err given) f is stopped = subst (λ (f : LineFault). Stops m old before f) (sym is) stopped
+gives_stops m old new before after (Err given) f is stopped = subst (λ (f : LineFault). Stops m old before f new after) (sym is) stopped
 
 pub follows_opening : (m : Model) (o : Options) (state : State) (old mid new : Reader) (before middle after : Option (List ℕ)) (line : List ℕ) (r : Result (Verdict × Option State) LineFault)
     → state.model ≡ m → state.log ≡ opening o ∷ [] → old.failed ≡ None → GetsMessage old before line mid middle → IsLineOf m line 0 (opening o)

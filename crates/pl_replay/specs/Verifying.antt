@@ -57,13 +57,13 @@ pub record IsReadSoFar (m : Model) (log : List Entry) (old : Reader) (before : O
   pub entries : entry_lines lines ≡ lines_from m 0 log
 
 -- No line so far was wrong, and the next is not given. A want of memory may also come behind a line.
-pub record Stops (m : Model) (old : Reader) (before : Option (List ℕ)) (f : LineFault) : Type 0 where
+pub record Stops (m : Model) (old : Reader) (before : Option (List ℕ)) (f : LineFault) (new : Reader) (after : Option (List ℕ)) : Type 0 where
   pub log : List Entry
   pub right : (log ≡ []) ⊎ Legal m log
   pub lines : List (List ℕ)
-  pub halts : Halts old before lines f
+  pub halts : Halts old before lines f new after
   pub entries : entry_lines lines ≡ lines_from m 0 log
 
 abbrev pub Verifies : Model → Reader → Option (List ℕ) → Result (Verdict × Option State) LineFault → Reader → Option (List ℕ) → Type 0
 Verifies m old before (Ok judged) new after = Verified m old before judged.0 judged.1 new after
-Verifies m old before (Err f) new after = Stops m old before f
+Verifies m old before (Err f) new after = Stops m old before f new after

@@ -1,12 +1,13 @@
-ghost use Rattle.std.specs.Prelude.{◌≡◌, ◌<◌, ◌^◌, false, nat_eq, if◌then◌else◌, Some, None, length, IfOk};
+ghost use Rattle.std.specs.Prelude.{◌≡◌, ◌<◌, ◌^◌, true, false, nat_eq, if◌then◌else◌, Some, None, length, IfOk};
 ghost use Rattle.pl_model.specs.Checked.{IsChecked};
 ghost use Rattle.pl_entry.specs.declared.entry.Entry.{Entry};
+ghost use Rattle.pl_render.specs.Lines.{text_of};
 ghost use Rattle.pl_machine.specs.Legal.{IsHistory, options_in};
 ghost use Rattle.pl_replay.specs.Journals.{IsNextLine, Opens, ReadsAt, Differs, JudgesLine};
 
 use crate::answering::answer;
 use crate::verdict::Verdict;
-use pl_entry::{Entry, Event};
+use pl_entry::{Entry, Event, Reason, Reply};
 use pl_facts::Options;
 use pl_journal::{EntryFault, has_line, read_entry};
 use pl_machine::{Machine, Stop};
@@ -63,16 +64,35 @@ pub(crate) fn opening_of(
     }
 }
 
-/// What is wrong of a line where the machine's entry is another.
+/// Whether two replies are seen to be one without their texts. Most are.
+fn are_plainly_one(one: &Reply, other: &Reply) -> bool
+    ensures { result ≡ true → one.now ≡ other.now }
+{
+    match (one, other) {
+        (Reply::Done, Reply::Done) => true,
+        (Reply::Rested(Reason::Clear), Reply::Rested(Reason::Clear)) => true,
+        (Reply::Rested(Reason::Spent), Reply::Rested(Reason::Spent)) => true,
+        (Reply::Rested(Reason::Stuck), Reply::Rested(Reason::Stuck)) => true,
+        _ => false,
+    }
+}
+
+/// What is wrong of the line of a reply where the machine's entry is another.
+#[tactic(auto, using(crate::proofs::Judged::same_line))]
 fn difference(
     alloc: Global,
     model: &Model,
     number: u32,
     answered: Entry,
+    read: &Reply,
     line: &[u8],
 ) -> Result<Option<Verdict>, AllocError>
+    requires { line.now ≡ text_of model.now number (record { event = answered.event; reply = read.now }) }
     ensures { IfOk result (λ wrong. Differs model.now number answered line.now wrong) }
 {
+    if are_plainly_one(read, &answered.reply) {
+        return Ok(None);
+    }
     if has_line(alloc, model, number, &answered, line)? {
         Ok(None)
     } else {
@@ -94,11 +114,11 @@ fn compare(
     requires history { IsHistory machine.old.model machine.old.log machine.old.world }
     ensures { IfOk result (λ wrong. JudgesLine machine.old line.now wrong machine.new) }
 {
-    let Entry { event, .. } = entry;
+    let Entry { event, reply: read } = entry;
     match answer(machine, &event) {
         Ok(reply) => {
             let answered = Entry { event, reply };
-            difference(alloc, machine.model(), number, answered, line)
+            difference(alloc, machine.model(), number, answered, &read, line)
         }
         Err(Stop::NotNow) => Ok(Some(Verdict::NotNow(number))),
         Err(Stop::LogFull) => Ok(Some(Verdict::Full(number))),

@@ -21,7 +21,7 @@ pub fn laws_of_verdicts()
     ensures one_log { (m : Model) (lines : List (List ℕ)) (one other : List Entry) → IsChecked m → IsJournalOf m lines one → IsJournalOf m lines other → one ≡ other }
     ensures one_verdict { (m : Model) (lines front more : List (List ℕ)) (v w : Verdict) → IsChecked m → IsWrongAtLast m lines v → IsWrongAtLast m front w → lines ≡ front ++ more → (v ≡ w) × (more ≡ []) }
     ensures one_answer { (m : Model) (old new last : Reader) (bytes : List ℕ) (after rest : Option (List ℕ)) (v w : Verdict) (machine other : Option State) → IsChecked m → Verified m old (Some bytes) v machine new after → Verified m old (Some bytes) w other last rest → (v ≡ w) × (machine ≡ other) }
-    ensures faults_of_the_moment { (m : Model) (old new : Reader) (bytes : List ℕ) (after : Option (List ℕ)) (v : Verdict) (machine : Option State) (f : LineFault) → IsChecked m → Verified m old (Some bytes) v machine new after → Stops m old (Some bytes) f → (f ≡ Read) ⊎ (f ≡ Memory) }
+    ensures faults_of_the_moment { (m : Model) (old new last : Reader) (bytes : List ℕ) (after rest : Option (List ℕ)) (v : Verdict) (machine : Option State) (f : LineFault) → IsChecked m → Verified m old (Some bytes) v machine new after → Stops m old (Some bytes) f last rest → (f ≡ Read) ⊎ (f ≡ Memory) }
 {}
 
 /// Of an input whose bytes are known `verify` answers what they hold: `Legal` exactly where all its lines that are not blank are those of a

@@ -84,9 +84,9 @@ before_ended old mid new before middle after kept so_far ends = record {
   used_up = used_later old.limit old.room before so_far.lines mid.room middle after so_far.took.gave ends.1;
 }
 
-pub before_halted : (old mid : Reader) (before middle : Option (List ℕ)) (kept : Option (Vec ℕ Global)) (f : LineFault) → IsBefore old before kept mid middle → Halts mid middle [] f → HeadHalts old before f
-before_halted old mid before middle kept f so_far halts = record {
+pub before_halted : (old mid new : Reader) (before middle after : Option (List ℕ)) (kept : Option (Vec ℕ Global)) (f : LineFault) → IsBefore old before kept mid middle → Halts mid middle [] f new after → HeadHalts old before f new after
+before_halted old mid new before middle after kept f so_far halts = record {
   lines = so_far.lines ++ [];
-  halts = halts_later old mid before middle so_far.lines [] f so_far.took halts;
+  halts = halts_later old mid new before middle after so_far.lines [] f so_far.took halts;
   none = rw (append-nil so_far.lines) so_far.none;
 }

@@ -1,12 +1,12 @@
 -- Lines that a reader gave, one after another.
-use Rattle.std.proofs.Common.{◌≡◌, ℕ, ◌<◌, List, [], ◌∷◌, ◌++◌, length, take, Bool, true, false, not, ◌&&◌, nat_lt, if◌then◌else◌, Option, Some, None, IfSome, Result, Ok, Err, refl, sym, ◌∙◌, ap, subst}
+use Rattle.std.proofs.Common.{◌≡◌, ℕ, ◌+◌, ◌<◌, List, [], ◌∷◌, ◌++◌, length, take, Bool, true, false, not, ◌&&◌, nat_lt, if◌then◌else◌, Option, Some, None, IfSome, Result, Ok, Err, refl, sym, ◌∙◌, ap, subst, length-append, arith}
 use Rattle.pl_io.specs.declared.errors.LineFault.{LineFault}
 use Rattle.pl_io.specs.declared.errors.LineFault.TheVariants as fault
 use Rattle.pl_io.specs.Lines.{first_line, has_newline, lines_of, after_line, next_of, given, ended, line_too_long, input_too_long}
-use Rattle.pl_io.specs.Reader.{Reader, NumberedLine, Moves, Answers, IsNextLine}
-use Rattle.pl_io.specs.Sparing.{read_size, IsSparing}
+use Rattle.pl_io.specs.Reader.{Reader, NumberedLine, FaultShown, Moves, Answers, IsNextLine}
+use Rattle.pl_io.specs.Sparing.{read_size, shows_next, IsSparing}
 use Rattle.pl_io.proofs.LineLaws.{lines_of_next}
-use Rattle.pl_stream.specs.Reads.{Gave, GaveKnown, Took, WhyKnown, Halts, IsUsedUp, OneLine}
+use Rattle.pl_stream.specs.Reads.{Gave, GaveKnown, Took, WhyKnown, StopsAt, Halts, IsUsedUp, OneLine}
 
 by_tests : (a b : Bool) (line rest : List ℕ) → (if a then line_too_long else (if b then input_too_long else given line rest)) ≡ ended → ⊥
 by_tests true b line rest e = cc
@@ -39,6 +39,20 @@ why_known old new (Some bytes) after (fault.Long n) is = is.0
 why_known old new (Some bytes) after fault.Total is = is
 why_known old new (Some bytes) after fault.Memory is = tt
 
+-- what a fault shows is said of the reader's limits, which it leaves as they were
+shown_now : (old new : Reader) (f : LineFault) → new.limit ≡ old.limit → new.room ≡ old.room → new.number ≡ old.number → FaultShown old new f → FaultShown new new f
+shown_now old new fault.Read limit room number shown = rw (limit, room) shown
+shown_now old new (fault.Long n) limit room number shown = (rw (limit, room) shown.0, rw number shown.1)
+shown_now old new fault.Total limit room number shown = rw (limit, room) shown
+shown_now old new fault.Memory limit room number shown = tt
+
+kept_now : (old new : Reader) (before after : Option (List ℕ)) (f : LineFault) → IfSome before (λ bytes. Answers old new bytes after (Err f)) → f ≡ fault.Read → IfSome before (λ bytes. after ≡ Some bytes)
+kept_now old new None after f is read = tt
+kept_now old new (Some bytes) after fault.Read is read = is
+kept_now old new (Some bytes) after (fault.Long n) is read = absurd (let h : fault.Long n ≡ fault.Read = read in (cc))
+kept_now old new (Some bytes) after fault.Total is read = absurd (let h : fault.Total ≡ fault.Read = read in (cc))
+kept_now old new (Some bytes) after fault.Memory is read = absurd (let h : fault.Memory ≡ fault.Read = read in (cc))
+
 pub gave_none : (limit room : ℕ) (before : Option (List ℕ)) → GaveKnown limit room before [] room before
 gave_none limit room None = tt
 gave_none limit room (Some bytes) = (refl, refl)
@@ -47,7 +61,8 @@ pub next_gives : (old new : Reader) (before after : Option (List ℕ)) (r : Resu
     → Moves old new r → IfSome before (λ bytes. Answers old new bytes after r) → (length old.held < read_size → IsSparing old.limit new.held r)
     → OneLine old before r new after
 next_gives old new before after (Ok (Some line)) working moves answers few = record {
-  took = record { limit = moves.limit; working = moves.still_working; few = few; gave = one_known old new before after line answers };
+  took = record { limit = moves.limit; working = moves.still_working; number = moves.number; few = few; gave = one_known old new before after line answers };
+  numbered = moves.line_number ∙ sym moves.number;
   less = moves.less;
   fits = moves.fits;
   no_newline = moves.no_newline;
@@ -57,13 +72,27 @@ next_gives old new before after (Ok None) working moves answers few =
       record {
         limit = ap (λ (r : Reader). r.limit) moves.0;
         working = ap (λ (r : Reader). r.failed) moves.0 ∙ working;
+        number = omega (arith, ap (λ (r : Reader). r.number) moves.0);
         few = few;
         gave = subst (λ (r : Reader). GaveKnown old.limit old.room before [] r.room after) (sym moves.0) known.0;
       },
       known.1,
     )
 next_gives old new before after (Err f) working moves answers few =
-    record { left = old.room; rest = before; gave = gave_none old.limit old.room before; why = why_known old new before after f answers }
+    record {
+      left = old.room;
+      rest = before;
+      gave = gave_none old.limit old.room before;
+      why = why_known old new before after f answers;
+      stops = λ other. record {
+        failed = moves.failed;
+        limit = moves.limit;
+        room = moves.room;
+        number = omega (arith, moves.number);
+        shown = shown_now old new f moves.limit moves.room moves.number (moves.shown working);
+        kept = kept_now old new before after f answers;
+      };
+    }
 
 -- ---- one piece after another
 
@@ -88,22 +117,37 @@ pub gave_later : (old mid : Reader) (before middle : Option (List ℕ)) (xs ys :
 gave_later old mid before middle xs ys left after first second = known_append old.limit old.room before xs ys mid.room middle left after first.gave (subst (λ n. GaveKnown n mid.room middle ys left after) first.limit second)
 
 pub took_none : (old : Reader) (before : Option (List ℕ)) → old.failed ≡ None → Took old before [] old before
-took_none old before working = record { limit = refl; working = working; few = λ small. small; gave = gave_none old.limit old.room before }
+took_none old before working = record { limit = refl; working = working; number = omega arith; few = λ small. small; gave = gave_none old.limit old.room before }
+
+counted : (a b c : ℕ) (xs ys : List (List ℕ)) → b ≡ a + length xs → c ≡ b + length ys → c ≡ a + length (xs ++ ys)
+counted a b c xs ys first second = let both : length (xs ++ ys) ≡ length xs + length ys = length-append xs ys in omega (arith, first, second, both)
 
 pub took_more : (old mid new : Reader) (before middle after : Option (List ℕ)) (xs ys : List (List ℕ)) → Took old before xs mid middle → Took mid middle ys new after → Took old before (xs ++ ys) new after
 took_more old mid new before middle after xs ys first second = record {
   limit = second.limit ∙ first.limit;
   working = second.working;
+  number = counted old.number mid.number new.number xs ys first.number second.number;
   few = λ small. second.few (first.few small);
   gave = gave_later old mid before middle xs ys new.room after first second.gave;
 }
 
-pub halts_later : (old mid : Reader) (before middle : Option (List ℕ)) (xs ys : List (List ℕ)) (f : LineFault) → Took old before xs mid middle → Halts mid middle ys f → Halts old before (xs ++ ys) f
-halts_later old mid before middle xs ys f first halts = record {
+stops_later : (old mid new : Reader) (before middle after rest : Option (List ℕ)) (xs ys : List (List ℕ)) (left : ℕ) (f : LineFault) → Took old before xs mid middle → StopsAt mid ys left rest f new after → StopsAt old (xs ++ ys) left rest f new after
+stops_later old mid new before middle after rest xs ys left f first stops = record {
+  failed = stops.failed;
+  limit = stops.limit ∙ first.limit;
+  room = stops.room;
+  number = counted old.number mid.number new.number xs ys first.number stops.number;
+  shown = stops.shown;
+  kept = stops.kept;
+}
+
+pub halts_later : (old mid new : Reader) (before middle after : Option (List ℕ)) (xs ys : List (List ℕ)) (f : LineFault) → Took old before xs mid middle → Halts mid middle ys f new after → Halts old before (xs ++ ys) f new after
+halts_later old mid new before middle after xs ys f first halts = record {
   left = halts.left;
   rest = halts.rest;
   gave = gave_later old mid before middle xs ys halts.left halts.rest first halts.gave;
   why = subst (λ n. WhyKnown n halts.left halts.rest f) first.limit halts.why;
+  stops = λ other. stops_later old mid new before middle after halts.rest xs ys halts.left f first (halts.stops other);
 }
 
 -- want of memory says nothing of the bytes
@@ -111,11 +155,11 @@ no_why : (limit left : ℕ) (rest : Option (List ℕ)) → WhyKnown limit left r
 no_why limit left None = tt
 no_why limit left (Some rest) = tt
 
-pub memory_after : (old mid : Reader) (before middle : Option (List ℕ)) (xs : List (List ℕ)) → Took old before xs mid middle → Halts old before xs fault.Memory
-memory_after old mid before middle xs took = record { left = mid.room; rest = middle; gave = took.gave; why = no_why old.limit mid.room middle }
+pub memory_after : (old mid new : Reader) (before middle after : Option (List ℕ)) (xs : List (List ℕ)) → Took old before xs mid middle → Halts old before xs fault.Memory new after
+memory_after old mid new before middle after xs took = record { left = mid.room; rest = middle; gave = took.gave; why = no_why old.limit mid.room middle; stops = λ other. absurd (other refl) }
 
-pub memory_halts : (old : Reader) (before : Option (List ℕ)) → Halts old before [] fault.Memory
-memory_halts old before = record { left = old.room; rest = before; gave = gave_none old.limit old.room before; why = no_why old.limit old.room before }
+pub memory_halts : (old new : Reader) (before after : Option (List ℕ)) → Halts old before [] fault.Memory new after
+memory_halts old new before after = record { left = old.room; rest = before; gave = gave_none old.limit old.room before; why = no_why old.limit old.room before; stops = λ other. absurd (other refl) }
 
 -- ---- the lines of the bytes
 

@@ -42,9 +42,9 @@ skips_end old mid new before middle after skips ends = record {
   used_up = used_later old.limit old.room before skips.lines mid.room middle after skips.took.gave ends.1;
 }
 
-pub skips_fault : (old mid : Reader) (before middle : Option (List ℕ)) (f : LineFault) → Skips old before mid middle → Halts mid middle [] f → GetsFault old before f
-skips_fault old mid before middle f skips halts = record {
+pub skips_fault : (old mid new : Reader) (before middle after : Option (List ℕ)) (f : LineFault) → Skips old before mid middle → Halts mid middle [] f new after → GetsFault old before f new after
+skips_fault old mid new before middle after f skips halts = record {
   lines = skips.lines ++ [];
-  halts = halts_later old mid before middle skips.lines [] f skips.took halts;
+  halts = halts_later old mid new before middle after skips.lines [] f skips.took halts;
   blank = rw (append-nil skips.lines) skips.blank;
 }

@@ -1,11 +1,13 @@
 -- Why no further line is given.
-use Rattle.std.proofs.Common.{◌≡◌, ℕ, List, Option, Some, None, inl, inr, refl}
+use Rattle.std.proofs.Common.{◌≡◌, ℕ, List, Option, Some, None, inl, inr, refl, sym, ◌∙◌, subst, false}
 use Rattle.pl_io.specs.declared.errors.LineFault.{LineFault}
 use Rattle.pl_io.specs.declared.errors.LineFault.TheVariants as fault
+use Rattle.pl_io.specs.Reader.{Reader, FaultShown}
+use Rattle.pl_io.specs.Sparing.{shows_next}
 use Rattle.pl_stream.specs.declared.halt.Halt.{Halt}
 use Rattle.pl_stream.specs.declared.halt.Halt.TheVariants as halt
-use Rattle.pl_stream.specs.Reads.{WhyKnown}
-use Rattle.pl_stream.specs.Stops.{HaltFor, IsStuckKnown, StopsBy}
+use Rattle.pl_stream.specs.Reads.{WhyKnown, Halts}
+use Rattle.pl_stream.specs.Stops.{HaltFor, IsStuckKnown, ReadLeaves, StopsBy}
 
 pub never_full : (f : LineFault) → HaltFor f halt.Full → ⊥
 never_full fault.Read is = let h : halt.Full ≡ halt.Read = is in (cc)
@@ -38,3 +40,13 @@ stops_by halt.Read limit room rest f is why = tt
 stops_by halt.Write limit room rest f is why = tt
 stops_by halt.Full limit room rest f is why = tt
 stops_by halt.Memory limit room rest f is why = tt
+
+pub read_leaves : (old new : Reader) (before after : Option (List ℕ)) (lines : List (List ℕ)) (f : LineFault) → (halts : Halts old before lines f new after) → HaltFor f halt.Read → ReadLeaves old.limit halts.left halts.rest new.held after
+read_leaves old new before after lines f halts is =
+    let read : f ≡ fault.Read = only_reads f is in
+    let stops = halts.stops (λ lacks. let h : fault.Read ≡ fault.Memory = sym read ∙ lacks in (cc)) in
+    let shown : shows_next new.limit new.room new.held ≡ false = subst (λ (g : LineFault). FaultShown new new g) read stops.shown in
+    record {
+      shows = subst (λ n. shows_next n halts.left new.held ≡ false) stops.limit (subst (λ n. shows_next new.limit n new.held ≡ false) stops.room shown);
+      kept = stops.kept read;
+    }

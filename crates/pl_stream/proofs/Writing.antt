@@ -69,6 +69,11 @@ front_behind (Some before) mid new line rest whole front appends =
       part.2 ∙ ap Some (append_assoc before front.text (take part.0 line) ∙ ap (λ (t : List ℕ). before ++ t) (sym taken ∙ ap (λ (w : List ℕ). take (length front.text + part.0) w) front.all)),
     )
 
+-- a front of what is written behind a text
+pub appends_then : (old mid new : Option (List ℕ)) (xs ys : List ℕ) → Adds old mid xs → AppendsFront mid new ys → AppendsFront old new (xs ++ ys)
+appends_then old mid new xs ys adds front =
+    subst (λ (zs : List ℕ). AppendsFront old new (xs ++ zs)) (append-nil ys) (front_behind old mid new ys [] (xs ++ (ys ++ [])) (record { text = xs; adds = adds; all = refl }) front)
+
 next_of_entries : (es : List Entry) (i : ℕ) (e : Entry) → i < length es → e ≡ get_or es i e → drop i es ≡ e ∷ drop (i + 1) es
 next_of_entries es i e less is = drop-cons es i e less ∙ ap (λ (x : Entry). x ∷ drop (suc i) es) (sym is) ∙ ap (λ (k : ℕ). e ∷ drop k es) (sym (add-one i))
 

@@ -52,9 +52,9 @@ pub record HasNoBegin (old : Reader) (before : Option (List ℕ)) (new : Reader)
   pub used_up : IsUsedUp before after
 
 -- The reader stopped before a `begin` line.
-pub record HeadHalts (old : Reader) (before : Option (List ℕ)) (f : LineFault) : Type 0 where
+pub record HeadHalts (old : Reader) (before : Option (List ℕ)) (f : LineFault) (new : Reader) (after : Option (List ℕ)) : Type 0 where
   pub lines : List (List ℕ)
-  pub halts : Halts old before lines f
+  pub halts : Halts old before lines f new after
   pub none : model_text_of lines ≡ None
 
 -- One more line, which isn't `begin`.
@@ -76,7 +76,7 @@ abbrev pub Looks : Reader → Option (List ℕ) → Option (Vec ℕ Global) → 
 Looks old before kept (Ok (found.More more)) new after = LooksOn old before kept more new after
 Looks old before kept (Ok (found.Text whole)) new after = SeesBegin old before kept whole new after
 Looks old before kept (Ok found.NoBegin) new after = Took old before [] new after × IsUsedUp before after
-Looks old before kept (Err f) new after = Halts old before [] f
+Looks old before kept (Err f) new after = Halts old before [] f new after
 
 -- what a line of the text is, beside what was kept
 abbrev pub LooksAt : List ℕ → Option (Vec ℕ Global) → Found → Type 0
@@ -87,4 +87,4 @@ LooksAt line kept found.NoBegin = ⊥
 abbrev pub HeadGives : Reader → Option (List ℕ) → Result Head LineFault → Reader → Option (List ℕ) → Type 0
 HeadGives old before (Ok (head.Text kept)) new after = IsBegun old before kept new after
 HeadGives old before (Ok head.NoBegin) new after = HasNoBegin old before new after
-HeadGives old before (Err f) new after = HeadHalts old before f
+HeadGives old before (Err f) new after = HeadHalts old before f new after

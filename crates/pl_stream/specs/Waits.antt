@@ -31,12 +31,12 @@ pub record GetsEnd (old : Reader) (before : Option (List ℕ)) (new : Reader) (a
   pub used_up : IsUsedUp before after
 
 -- Blank lines, and then a line that is not given.
-pub record GetsFault (old : Reader) (before : Option (List ℕ)) (f : LineFault) : Type 0 where
+pub record GetsFault (old : Reader) (before : Option (List ℕ)) (f : LineFault) (new : Reader) (after : Option (List ℕ)) : Type 0 where
   pub lines : List (List ℕ)
-  pub halts : Halts old before lines f
+  pub halts : Halts old before lines f new after
   pub blank : AreBlank lines
 
 abbrev pub MessageGives : Reader → Option (List ℕ) → Result (Option NumberedLine) LineFault → Reader → Option (List ℕ) → Type 0
 MessageGives old before (Ok (Some line)) new after = GetsMessage old before line.bytes new after
 MessageGives old before (Ok None) new after = GetsEnd old before new after
-MessageGives old before (Err f) new after = GetsFault old before f
+MessageGives old before (Err f) new after = GetsFault old before f new after

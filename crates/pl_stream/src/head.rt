@@ -61,8 +61,8 @@ fn look<S: Source>(
     }
 }
 
-#[tactic(auto, using(crate::proofs::Beginning::before_none, crate::proofs::Beginning::before_on, crate::proofs::Beginning::before_begun, crate::proofs::Beginning::before_ended, crate::proofs::Beginning::before_halted))]
 /// Reads the model's text, up to and with the first `begin` line.
+#[tactic(auto, using(crate::proofs::Beginning::before_none, crate::proofs::Beginning::before_on, crate::proofs::Beginning::before_begun, crate::proofs::Beginning::before_ended, crate::proofs::Beginning::before_halted))]
 pub fn read_head<S: Source>(
     alloc: Global,
     lines: &mut LineReader,

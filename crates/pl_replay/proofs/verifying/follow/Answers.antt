@@ -14,7 +14,7 @@ entries-init g c = record { so_far = λ first all is. is; unspoiled = c.requires
 pub returns-in_err-line-clause-verdict : goal.returns-in_err-line-clause-verdict
 returns-in_err-line-clause-verdict g c = λ first all is.
     gives_stops _ first _ all _ c.from_residual.result c.in_err-line.field-0.0 c.from_residual.ensures.1
-    (stops_behind _ c.entries.machine c.in_err-line.field-0.0 first c.entries.lines all _ c.entries.invariant.model c.entries_of-entries.ensures.history.legal (c.entries.invariant.so_far first all is) c.in_err-line.ensures.message)
+    (stops_behind _ c.entries.machine c.in_err-line.field-0.0 first c.entries.lines c.next_message.new.lines all _ _ c.entries.invariant.model c.entries_of-entries.ensures.history.legal (c.entries.invariant.so_far first all is) c.in_err-line.ensures.message)
 
 pub returns-in_default-clause-verdict : goal.returns-in_default-clause-verdict
 returns-in_default-clause-verdict g c = λ first all is.
@@ -24,7 +24,7 @@ returns-in_default-clause-verdict g c = λ first all is.
 pub returns-in_err-wrong-clause-verdict : goal.returns-in_err-wrong-clause-verdict
 returns-in_err-wrong-clause-verdict g c = λ first all is.
     gives_stops _ first _ all _ c.from_residual-in_err-wrong.result fault.Memory c.from_residual-in_err-wrong.ensures.1
-    (memory_behind _ c.entries.machine fault.Memory first c.entries.lines all _ refl c.entries.invariant.model c.entries_of-entries.ensures.history.legal (c.entries.invariant.so_far first all is))
+    (memory_behind _ c.entries.machine fault.Memory first c.entries.lines c.next_message.new.lines all _ _ refl c.entries.invariant.model c.entries_of-entries.ensures.history.legal (c.entries.invariant.so_far first all is))
 
 pub returns-in-Some-2-clause-verdict : goal.returns-in-Some-2-clause-verdict
 returns-in-Some-2-clause-verdict g c = λ first all is.

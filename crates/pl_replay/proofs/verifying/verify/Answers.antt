@@ -14,7 +14,7 @@ use Rattle.pl_replay.proofs.verifying.verify.Goals as goal
 pub returns-in_err-line-clause-verdict : goal.returns-in_err-line-clause-verdict
 returns-in_err-line-clause-verdict g c =
     gives_stops _ c.args.lines.now _ _ _ c.from_residual.result c.in_err-line.field-0.0 c.from_residual.ensures.1
-    (stops_first _ c.in_err-line.field-0.0 c.args.lines.now _ c.requires.working c.in_err-line.ensures.message)
+    (stops_first _ c.in_err-line.field-0.0 c.args.lines.now c.next_message.new.lines _ _ c.requires.working c.in_err-line.ensures.message)
 
 pub returns-in_default-clause-verdict : goal.returns-in_default-clause-verdict
 returns-in_default-clause-verdict g c = no_lines _ c.args.lines.now c.next_message.new.lines _ _ (rw c.in_default.is at c.in_ok-line.ensures.message)
@@ -22,7 +22,7 @@ returns-in_default-clause-verdict g c = no_lines _ c.args.lines.now c.next_messa
 pub returns-in_err-options-clause-verdict : goal.returns-in_err-options-clause-verdict
 returns-in_err-options-clause-verdict g c =
     gives_stops _ c.args.lines.now _ _ _ c.from_residual-in_err-options.result fault.Memory c.from_residual-in_err-options.ensures.1
-    (memory_first _ fault.Memory c.args.lines.now _ refl c.requires.working)
+    (memory_first _ fault.Memory c.args.lines.now c.next_message.new.lines _ _ refl c.requires.working)
 
 pub fresh-requires-clause-options : goal.fresh-requires-clause-options
 fresh-requires-clause-options g c =
@@ -35,7 +35,7 @@ fresh-requires-clause-options g c =
 pub returns-in_err-fresh-in-Some-2-clause-verdict : goal.returns-in_err-fresh-in-Some-2-clause-verdict
 returns-in_err-fresh-in-Some-2-clause-verdict g c =
     gives_stops _ c.args.lines.now _ _ _ c.from_residual-in_err-fresh-in-Some-2.result fault.Memory c.from_residual-in_err-fresh-in-Some-2.ensures.1
-    (memory_first _ fault.Memory c.args.lines.now _ refl c.requires.working)
+    (memory_first _ fault.Memory c.args.lines.now c.next_message.new.lines _ _ refl c.requires.working)
 
 pub returns-in_ok-fresh-in-Some-2-clause-verdict : goal.returns-in_ok-fresh-in-Some-2-clause-verdict
 returns-in_ok-fresh-in-Some-2-clause-verdict g c =
