@@ -17,6 +17,11 @@ use Rattle.pl_machine.specs.Step.{is_enabled}
 use Rattle.pl_machine.specs.Choices.{exec_choice_of, event_of}
 use Rattle.pl_machine.specs.Sound.{State}
 use Rattle.pl_machine.specs.Taking.{IsOpen, Takes, Spoils, Answers}
+use Rattle.pl_machine.specs.Solo.{Picks}
+use Rattle.pl_machine.specs.declared.repaired.Repaired.{Repaired}
+use Rattle.pl_machine.specs.declared.repaired.Repaired.TheVariants as repaired
+use Rattle.pl_machine.specs.Mending.{HasRepaired, RepairsOnce}
+use Rattle.pl_choose.specs.Picks.{seeded_pick, seeded_after}
 use Rattle.pl_shared.specs.declared.held.Held.{Held}
 use Rattle.pl_shared.specs.declared.role.Role.{Role}
 use Rattle.pl_shared.specs.declared.role.Role.TheVariants.{Planner, Executive}
@@ -24,7 +29,6 @@ use Rattle.pl_shared.specs.declared.role.Acted.{Acted}
 use Rattle.pl_shared.specs.declared.role.Acted.TheVariants as acted
 use Rattle.pl_shared.specs.Roles.{worker_of, has_event, IsChosen, IsPlanned, IsBy, IsInputOf}
 use Rattle.pl_shared.specs.Inside.{Logs, KeepsLog, Spoiled, IsFull, can_listen, FeedsIn, IsGoing, ActsIn}
-use Rattle.pl_shared.specs.Planning.{Fails, IsRepaired, Plans}
 
 and_true : (b : Bool) → (b && true) ≡ b
 and_true true = refl
@@ -111,30 +115,25 @@ execute_none old none unspoiled going running = (record { unspoiled = unspoiled;
 
 -- ---- the planner
 
-pub planned : (old : Held) (m : State) (g g2 : Lcg) (r : Reply) (n : ℕ) → old.machine.world.done ≡ false → old.stopped ≡ false → has_event (Planner g) old.machine.world ≡ true
-    → Plans old.machine g (Ok r) m g2 → n + 1 ≡ length m.log → ActsIn (Planner g) old (Ok (acted.Did n)) (Planner g2) (with_machine m old)
-planned old m g g2 r n going running has plans last =
-    (took_one (IsBy (Planner g) (Planner g2)) old m plans.event r n running plans.may plans.takes last plans.planned, going, has)
+-- what the seeded chooser proposes, and its generator behind it
+abbrev seeded : Picks Lcg
+seeded g w p g2 = (p ≡ seeded_pick w g) × (g2 ≡ seeded_after g)
 
-pub plan_stops : (old : Held) (m : State) (g g2 : Lcg) (s : Stop) → old.machine.spoiled ≡ false → Plans old.machine g (Err s) m g2 → ActsIn (Planner g) old (Err s) (Planner g2) (with_machine m old)
-plan_stops old m g g2 stop.Memory unspoiled fails = (spoils_held old m unspoiled fails, refl)
-plan_stops old m g g2 stop.NotNow unspoiled fails = absurd fails
-plan_stops old m g g2 stop.LogFull unspoiled fails = absurd fails
-plan_stops old m g g2 stop.Spoiled unspoiled fails = absurd fails
+pub planned : (old : Held) (m : State) (g g2 : Lcg) (done : Repaired) (n : ℕ) → old.machine.world.done ≡ false → old.stopped ≡ false → has_event (Planner g) old.machine.world ≡ true
+    → HasRepaired seeded old.machine g done m g2 → n + 1 ≡ length m.log → ActsIn (Planner g) old (Ok (acted.Did n)) (Planner g2) (with_machine m old)
+planned old m g g2 (repaired.Fixed p) n going running has did last =
+    (took_one (IsBy (Planner g) (Planner g2)) old m (event.Fix p.conflict p.mv) reply.Done n running did.3 did.4 last (sym did.1.0, did.1.1, refl), going, has)
+planned old m g g2 (repaired.Rested why) n going running has did last =
+    (took_one (IsBy (Planner g) (Planner g2)) old m event.Rest (reply.Rested why) n running did.1 did.2 last did.3, going, has)
+
+pub plan_stops : (old : Held) (m : State) (g g2 : Lcg) (s : Stop) → old.machine.spoiled ≡ false → old.machine.world.done ≡ false → old.stopped ≡ false → has_event (Planner g) old.machine.world ≡ true
+    → RepairsOnce seeded old.machine g (Err s) m g2 → ActsIn (Planner g) old (Err s) (Planner g2) (with_machine m old)
+plan_stops old m g g2 stop.Spoiled unspoiled going running has answers = (answers.0, same_held old m answers.1, ap (λ (x : Lcg). Planner x) answers.2)
+plan_stops old m g g2 stop.NotNow unspoiled going running has answers = absurd (let h : true ≡ false = sym has ∙ answers.1 in cc)
+plan_stops old m g g2 stop.LogFull unspoiled going running has answers =
+    (record { unspoiled = unspoiled; going = going; running = running }, has, answers.2, same_held old m answers.3, ap (λ (x : Lcg). Planner x) answers.4)
+plan_stops old m g g2 stop.Memory unspoiled going running has answers = (spoils_held old m answers.0 answers.1, refl)
 
 pub plan_none : (old : Held) (g : Lcg) → has_event (Planner g) old.machine.world ≡ false → old.machine.spoiled ≡ false → old.machine.world.done ≡ false → old.stopped ≡ false
     → ActsIn (Planner g) old (Ok acted.Nothing) (Planner g) old
 plan_none old g none unspoiled going running = (record { unspoiled = unspoiled; going = going; running = running }, none, refl, refl)
-
-pub plan_full : (old : Held) (g : Lcg) → has_event (Planner g) old.machine.world ≡ true → old.machine.spoiled ≡ false → old.machine.world.done ≡ false → old.stopped ≡ false → IsFull old.machine
-    → ActsIn (Planner g) old (Err stop.LogFull) (Planner g) old
-plan_full old g has unspoiled going running full = (record { unspoiled = unspoiled; going = going; running = running }, has, full, refl, refl)
-
--- where the planner has an event the round is open and does not rest
-pub opened_by : (w : World) → (not w.closed && not w.rested) ≡ true → (w.closed ≡ false) × (w.rested ≡ false)
-opened_by w e = both_false w.closed w.rested e
-  where
-    both_false : (a b : Bool) → (not a && not b) ≡ true → (a ≡ false) × (b ≡ false)
-    both_false true b e = absurd (cc)
-    both_false false true e = absurd (cc)
-    both_false false false e = (refl, refl)

@@ -1,7 +1,6 @@
 pub mod Items
 pub mod Turning
 pub mod Answering
-pub mod Mending
-pub mod Repairing
+pub mod OwnEntries
 pub mod Progress
 pub mod Crossing

@@ -4,7 +4,7 @@ use Rattle.std.proofs.lemmas.List.{append-nil}
 use Rattle.std.proofs.lemmas.List.Folds.{list_any-append}
 use Rattle.std.specs.Prelude.{◌||◌, not, ◌&&◌, is_some, if◌then◌else◌, unwrap_or}
 use Rattle.std.specs.List.{All, filter_map}
-use Rattle.std.proofs.lemmas.List.Elements.{All-push, filter_map-append}
+use Rattle.std.proofs.lemmas.List.Elements.{All-nil, All-cons, All-push, filter_map-append}
 use mathlib.Core.List.{IsPrefix}
 use Rattle.pl_turn.specs.Passes.{seen_of, mine_of, counted_of, crew_of}
 use Rattle.pl_turn.proofs.Histories.{prefix_self, prefix_trans, prefix_length}
@@ -32,9 +32,11 @@ use Rattle.pl_shared.specs.declared.role.Role.TheVariants.{Planner, Executive}
 use Rattle.pl_shared.specs.declared.role.Acted.{Acted}
 use Rattle.pl_shared.specs.declared.role.Acted.TheVariants as acted
 use Rattle.pl_shared.specs.Items.{items_of, model_in, is_stop, stop_in, OfWorld, InWorld, entry_in, entries_in}
-use Rattle.pl_shared.specs.Roles.{worker_of, has_event, IsPlanned, IsChosen, IsBy, kind_of, is_entry, is_executed}
+use Rattle.pl_shared.specs.Roles.{worker_of, has_event, IsPlanned, IsChosen, IsBy, IsDueBy, kind_of, is_entry, is_executed}
 use Rattle.pl_shared.specs.Plans.{PlanPass, IsPlan}
+use Rattle.pl_shared.specs.Making.{IsMadeAt, MakesAll}
 use Rattle.pl_shared.specs.Turns.{TakesTurn, Makes, Acts, Stops, was_stopped, is_stopped, IsOver, IsFull, Works, WorksUntil, WorksOn}
+use Rattle.pl_shared.proofs.OwnEntries.{makes_all_on, makes_all_push}
 use Rattle.pl_shared.proofs.Items.{log_is_some, log_is_short, length_stopped, length_going, entries_in_items, model_in_items}
 
 -- ---- which entries a role makes
@@ -77,6 +79,23 @@ of_world P Q (Some m) es h f = f (world_of m es) h
 pub from_world : (P : World → Type 0) (Q : Type 0) (items : List Noted) → InWorld items P → ((w : World) → P w → Q) → Q
 from_world P Q items h f = of_world P Q (model_in items) (entries_in items) h f
 
+-- an entry of a role is of its kind
+made_kind : (seen : List Noted) (r r2 : Role) (place : ℕ) (item : Noted) → IsMadeAt r seen place item r2 → (is_entry (kind_of r) item ≡ true) × (worker_of r2 ≡ worker_of r)
+made_kind seen r r2 place item is =
+    let kind = from_world (λ w. IsDueBy r r2 w is.entry) ((kind_of r is.entry.event ≡ true) × (worker_of r2 ≡ worker_of r)) is.before is.by (λ w h. by_kind r r2 w is.entry h.2) in
+    (ap (λ (x : Noted). is_entry (kind_of r) x) is.is ∙ kind.0, kind.1)
+
+pub made_worker : (seen : List Noted) (r r2 : Role) (own : List (ℕ × Noted)) → MakesAll r seen own r2 → worker_of r2 ≡ worker_of r
+made_worker seen r r2 [] all = ap worker_of all
+made_worker seen r r2 (x ∷ own) all = made_worker seen all.0 r2 own all.2 ∙ (made_kind seen r all.0 x.0 x.1 all.1).1
+
+pub made_kinds : (seen : List Noted) (r r2 : Role) (own : List (ℕ × Noted)) → MakesAll r seen own r2 → All (λ x. is_entry (kind_of r) x.1 ≡ true) own
+made_kinds seen r r2 [] all = All-nil (λ x. is_entry (kind_of r) x.1 ≡ true)
+made_kinds seen r r2 (x ∷ own) all =
+    let first = made_kind seen r all.0 x.0 x.1 all.1 in
+    let P : (Event → Bool) → Type 0 = λ k. All (λ y. is_entry k y.1 ≡ true) own in
+    All-cons (λ y. is_entry (kind_of r) y.1 ≡ true) x own first.0 (subst P (kind_same r all.0 first.1) (made_kinds seen all.0 r2 own all.2))
+
 -- ---- so far
 
 plan_length : (m : Model) (log : List Entry) (s : Bool) → length log ≤ 250000 → length (items_of m log s) ≤ 250001
@@ -100,7 +119,7 @@ pub record Working (start : PlanPass) (r : Role) (count : ℕ) (now : PlanPass) 
 
 pub working_none : (start : PlanPass) (r : Role) → Working start r 0 start r
 working_none start r = record {
-  works = record { own = []; mine = sym (append-nil (mine_of start)); counts = refl; kinds = λ k d lt. absurd (omega arith); worker = refl };
+  works = record { own = []; mine = sym (append-nil (mine_of start)); counts = refl; made = refl; kinds = λ k d lt. absurd (omega arith); worker = refl };
   longer = prefix_self (seen_of start);
   model = refl;
   same_counted = refl;
@@ -113,9 +132,16 @@ module _ (start now new : PlanPass) (r r2 r3 : Role) (count : ℕ) (so_far : Wor
   on = prefix_trans (seen_of start) (seen_of now) (seen_of new) so_far.longer takes.longer
 
   -- an act that made nothing
-  keeps_working : mine_of new ≡ mine_of now → worker_of r3 ≡ worker_of r2 → Working start r count new r3
-  keeps_working same worker = record {
-    works = record { own = so_far.works.own; mine = same ∙ so_far.works.mine; counts = so_far.works.counts; kinds = so_far.works.kinds; worker = worker ∙ so_far.works.worker };
+  keeps_working : mine_of new ≡ mine_of now → Working start r count new r2
+  keeps_working same = record {
+    works = record {
+      own = so_far.works.own;
+      mine = same ∙ so_far.works.mine;
+      counts = so_far.works.counts;
+      made = makes_all_on (seen_of now) (seen_of new) r r2 so_far.works.own takes.longer so_far.works.made;
+      kinds = so_far.works.kinds;
+      worker = so_far.works.worker;
+    };
     longer = on;
     model = takes.model ∙ so_far.model;
     same_counted = takes.same_counted ∙ so_far.same_counted;
@@ -135,7 +161,7 @@ module _ (start now new : PlanPass) (r r2 r3 : Role) (count : ℕ) (so_far : Wor
   pub works_on : (n : ℕ) → Acts r2 now (Ok (acted.Did n)) r3 new → Working start r (count + 1) new r3
   works_on n makes =
       let e = makes.entry in
-      let kind = from_world (λ w. (w.done ≡ false) × (has_event r2 w ≡ true) × IsBy r2 r3 w e) ((kind_of r2 e.event ≡ true) × (worker_of r3 ≡ worker_of r2)) (seen_of now ++ makes.between) makes.by
+      let kind = from_world (λ w. IsDueBy r2 r3 w e) ((kind_of r2 e.event ≡ true) × (worker_of r3 ≡ worker_of r2)) (seen_of now ++ makes.between) makes.by
       (λ w h. by_kind r2 r3 w e h.2) in
       let same : kind_of r2 ≡ kind_of r = kind_same r r2 so_far.works.worker in
       let fits : is_entry (kind_of r) (Made e) ≡ true = sym (ap (λ (k : Event → Bool). k e.event) same) ∙ kind.0 in
@@ -149,6 +175,7 @@ module _ (start now new : PlanPass) (r r2 r3 : Role) (count : ℕ) (so_far : Wor
           own = own ++ (n, Made e) ∷ [];
           mine = makes.mine ∙ ap (λ (xs : List (ℕ × Noted)). xs ++ (n, Made e) ∷ []) so_far.works.mine ∙ append_assoc (mine_of start) own ((n, Made e) ∷ []);
           counts = (let counts = so_far.works.counts in let more = length-append own ((n, Made e) ∷ []) in omega arith);
+          made = makes_all_push now new r r2 r3 own n takes.longer so_far.works.made makes;
           kinds = All-push P own (n, Made e) so_far.works.kinds fits;
           worker = kind.1 ∙ so_far.works.worker;
         };
@@ -159,44 +186,47 @@ module _ (start now new : PlanPass) (r r2 r3 : Role) (count : ℕ) (so_far : Wor
         few = omega (arith, long, front, few);
       }
 
-  same_worker : r3 ≡ r2 → worker_of r3 ≡ worker_of r2
-  same_worker e = ap worker_of e
+  -- and left the role as it was
+  idle : mine_of new ≡ mine_of now → r3 ≡ r2 → Working start r count new r3
+  idle same kept = subst (λ (s : Role). Working start r count new s) (sym kept) (keeps_working same)
 
   pub works_idle : Acts r2 now (Ok acted.Nothing) r3 new → Working start r count new r3
-  works_idle acts = keeps_working acts.0 (same_worker acts.3)
+  works_idle acts = idle acts.0 acts.3
 
   pub works_finished : Acts r2 now (Ok acted.Finished) r3 new → WorksOn r start (Ok count) r3 new
-  works_finished acts = ((keeps_working acts.0 (same_worker acts.2)).works, inl acts.1)
+  works_finished acts = ((idle acts.0 acts.2).works, inl acts.1)
 
   pub works_stopped : Acts r2 now (Ok acted.Stopped) r3 new → WorksOn r start (Ok count) r3 new
-  works_stopped acts = ((keeps_working acts.0 (same_worker acts.3)).works, inr acts.2)
+  works_stopped acts = ((idle acts.0 acts.3).works, inr acts.2)
 
   -- a refusal, before the plan is stopped
-  pub refused : (s : Stop) → Acts r2 now (Err s) r3 new → Working start r count new r3
-  refused stop.Spoiled acts = keeps_working acts.0 (same_worker acts.1)
+  pub refused : (s : Stop) → Acts r2 now (Err s) r3 new → Working start r count new r2
+  refused stop.Spoiled acts = keeps_working acts.0
   refused stop.NotNow acts = absurd acts
-  refused stop.LogFull acts = keeps_working acts.0 (same_worker acts.4)
-  refused stop.Memory acts = keeps_working acts.0 acts.1
+  refused stop.LogFull acts = keeps_working acts.0
+  refused stop.Memory acts = keeps_working acts.0
 
 or_true : (b : Bool) → (b || true) ≡ true
 or_true true = refl
 or_true false = refl
 
 -- the stop behind a refusal
-pub until : (start now new : PlanPass) (r r2 : Role) (count : ℕ) → Working start r count now r2 → Stops now new → WorksUntil r start r2 new
-until start now new r r2 count so_far (was_stopped same stopped) = record {
+pub until : (start now new : PlanPass) (r r2 : Role) (count : ℕ) → Working start r count now r2 → IsPrefix (seen_of now) (seen_of new) → Stops now new → WorksUntil r start r2 new
+until start now new r r2 count so_far on (was_stopped same stopped) = record {
   own = so_far.works.own;
   rest = [];
   mine = same ∙ so_far.works.mine ∙ sym (append-nil (mine_of start ++ so_far.works.own));
+  made = makes_all_on (seen_of now) (seen_of new) r r2 so_far.works.own on so_far.works.made;
   kinds = so_far.works.kinds;
   behind = inl refl;
   stopped = stopped;
   worker = so_far.works.worker;
 }
-until start now new r r2 count so_far (is_stopped seen prefix going is mine) = record {
+until start now new r r2 count so_far on (is_stopped seen prefix going is mine) = record {
   own = so_far.works.own;
   rest = (length seen, Stopped) ∷ [];
   mine = mine ∙ ap (λ (xs : List (ℕ × Noted)). xs ++ (length seen, Stopped) ∷ []) so_far.works.mine;
+  made = makes_all_on (seen_of now) (seen_of new) r r2 so_far.works.own on so_far.works.made;
   kinds = so_far.works.kinds;
   behind = inr (length seen, refl);
   stopped = ap stop_in is ∙ list_any-append is_stop seen (Stopped ∷ []) ∙ or_true (stop_in seen);
@@ -334,29 +364,34 @@ on_world P Q (Some m) es f h = f (world_of m es) h
 pub in_world_on : (P Q : World → Type 0) (xs : List Noted) → ((w : World) → P w → Q w) → InWorld xs P → InWorld xs Q
 in_world_on P Q xs f h = on_world P Q (model_in xs) (entries_in xs) f h
 
--- an open round whose input has not ended
-abbrev pub IsRunning : World → Type 0
-IsRunning w = (w.closed ≡ false) × (w.done ≡ false)
+-- an open round in which the role has an event
+abbrev pub IsRunning : Role → World → Type 0
+IsRunning r = λ w. (w.closed ≡ false) × (w.done ≡ false) × (has_event r w ≡ true)
 
-pub runs_full : (r : Role) (xs ys : List Noted) → IsPlan xs → IsPlan ys → IsPrefix xs ys → model_in ys ≡ model_in xs → IsFull xs → InWorld xs (λ w. (w.done ≡ false) × (has_event r w ≡ true)) → InWorld ys IsRunning
+pub runs_full : (r : Role) (xs ys : List Noted) → IsPlan xs → IsPlan ys → IsPrefix xs ys → model_in ys ≡ model_in xs → IsFull xs → InWorld xs (λ w. (w.done ≡ false) × (has_event r w ≡ true)) → InWorld ys (IsRunning r)
 runs_full r xs ys plan plan2 on same full here =
-    same_world IsRunning xs ys same (full_ends xs ys plan plan2 on same full)
-    (in_world_on (λ w. (w.done ≡ false) × (has_event r w ≡ true)) IsRunning xs (λ w h. (event_open r w h.1, h.0)) here)
+    same_world (IsRunning r) xs ys same (full_ends xs ys plan plan2 on same full)
+    (in_world_on (λ w. (w.done ≡ false) × (has_event r w ≡ true)) (IsRunning r) xs (λ w h. (event_open r w h.1, h.0, h.1)) here)
 
 -- ---- a refusal, and then the stop
 
-pub worked_until : (start now mid new : PlanPass) (r r2 r3 : Role) (count : ℕ) (s : Stop) → Working start r count now r2 → IsPlan (seen_of mid) → TakesTurn now mid → Acts r2 now (Err s) r3 mid → IsPlan (seen_of new) → TakesTurn mid new → Stops mid new
-    → WorksOn r start (Err s) r3 new
-worked_until start now mid new r r2 r3 count stop.Spoiled so_far plan takes acts plan2 takes2 stops =
-    until start mid new r r3 count (refused start now mid r r2 r3 count so_far takes stop.Spoiled acts) stops
-worked_until start now mid new r r2 r3 count stop.NotNow so_far plan takes acts plan2 takes2 stops = absurd acts
-worked_until start now mid new r r2 r3 count stop.LogFull so_far plan takes acts plan2 takes2 stops = (
-  until start mid new r r3 count (refused start now mid r r2 r3 count so_far takes stop.LogFull acts) stops,
-  full_on (seen_of mid) (seen_of new) plan takes2.longer takes2.model acts.3,
-  runs_full r2 (seen_of mid) (seen_of new) plan plan2 takes2.longer takes2.model acts.3 acts.1,
-)
-worked_until start now mid new r r2 r3 count stop.Memory so_far plan takes acts plan2 takes2 stops =
-    until start mid new r r3 count (refused start now mid r r2 r3 count so_far takes stop.Memory acts) stops
+module _ (start now mid new : PlanPass) (r r2 r3 : Role) (count : ℕ) where
+  stopped_behind : (s : Stop) → Working start r count now r2 → TakesTurn now mid → Acts r2 now (Err s) r3 mid → TakesTurn mid new → Stops mid new → WorksUntil r start r2 new
+  stopped_behind s so_far takes acts takes2 stops = until start mid new r r2 count (refused start now mid r r2 r3 count so_far takes s acts) takes2.longer stops
 
-pub took_until : (start now mid new : PlanPass) (r r2 r3 : Role) (count : ℕ) (s : Stop) → Working start r count now r2 → TakesTurn now mid → Acts r2 now (Err s) r3 mid → TakesTurn mid new → TakesTurn start new
-took_until start now mid new r r2 r3 count s so_far takes acts takes2 = took_all start mid new r r3 r3 count (refused start now mid r r2 r3 count so_far takes s acts) takes2
+  -- where the refusal left the role as it was
+  same_behind : r3 ≡ r2 → WorksUntil r start r2 new → WorksUntil r start r3 new
+  same_behind kept works = subst (λ (s : Role). WorksUntil r start s new) (sym kept) works
+
+  pub worked_until : (s : Stop) → Working start r count now r2 → IsPlan (seen_of mid) → TakesTurn now mid → Acts r2 now (Err s) r3 mid → IsPlan (seen_of new) → TakesTurn mid new → Stops mid new → WorksOn r start (Err s) r3 new
+  worked_until stop.Spoiled so_far plan takes acts plan2 takes2 stops = same_behind acts.1 (stopped_behind stop.Spoiled so_far takes acts takes2 stops)
+  worked_until stop.NotNow so_far plan takes acts plan2 takes2 stops = absurd acts
+  worked_until stop.LogFull so_far plan takes acts plan2 takes2 stops = (
+    same_behind acts.4 (stopped_behind stop.LogFull so_far takes acts takes2 stops),
+    full_on (seen_of mid) (seen_of new) plan takes2.longer takes2.model acts.3,
+    subst (λ (s : Role). InWorld (seen_of new) (IsRunning s)) (sym acts.4) (runs_full r2 (seen_of mid) (seen_of new) plan plan2 takes2.longer takes2.model acts.3 acts.1),
+  )
+  worked_until stop.Memory so_far plan takes acts plan2 takes2 stops = (r2, stopped_behind stop.Memory so_far takes acts takes2 stops, acts.1 ∙ so_far.works.worker)
+
+  pub took_until : (s : Stop) → Working start r count now r2 → TakesTurn now mid → Acts r2 now (Err s) r3 mid → TakesTurn mid new → TakesTurn start new
+  took_until s so_far takes acts takes2 = took_all start mid new r r2 r3 count (refused start now mid r r2 r3 count so_far takes s acts) takes2

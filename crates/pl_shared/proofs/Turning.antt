@@ -21,7 +21,7 @@ use Rattle.pl_shared.specs.declared.role.Role.{Role}
 use Rattle.pl_shared.specs.declared.role.Acted.{Acted}
 use Rattle.pl_shared.specs.declared.role.Acted.TheVariants as acted
 use Rattle.pl_shared.specs.Items.{items_of, entries_in, model_in, stop_in, InWorld}
-use Rattle.pl_shared.specs.Roles.{has_event, IsBy, IsInputOf, worker_of}
+use Rattle.pl_shared.specs.Roles.{has_event, IsBy, IsDueBy, IsInputOf, worker_of}
 use Rattle.pl_shared.specs.Inside.{items_in, IsSound, IsStepIn, Logs, KeepsLog, Spoiled, can_listen, FeedsIn, IsPart, IsGoing, ActsIn}
 use Rattle.pl_shared.specs.declared.plan.SharedPlan.{SharedPlan}
 use Rattle.pl_shared.specs.Plans.{PlanPass, IsPlan, BelongsTo, Closes}
@@ -190,7 +190,7 @@ module _ (old mid new : PlanPass) (held held2 : Held) (turn : Turn old mid new h
 
   pub did : (r r2 : Role) (a : Result Acted Stop) → ActsIn r held a r2 held2 → Acts r old a r2 new
   did r r2 (Ok (acted.Did n)) acts =
-      made_one (IsBy r r2) (λ w e. (w.done ≡ false) × (has_event r w ≡ true) × IsBy r r2 w e) n (turn.sound.history acts.0.unspoiled) acts.0 (acts.1, acts.2, acts.0.by)
+      made_one (IsBy r r2) (IsDueBy r r2) n (turn.sound.history acts.0.unspoiled) acts.0 (acts.1, acts.2, acts.0.by)
   did r r2 (Ok acted.Nothing) acts =
       let keeps = same_held held held2 acts.2 in (
         made_none keeps,

@@ -11,6 +11,6 @@ pub use Rattle.pl_machine.specs.Taking
 pub mod Items
 pub mod Roles
 pub mod Inside
-pub mod Planning
 pub mod Plans
+pub mod Making
 pub mod Turns

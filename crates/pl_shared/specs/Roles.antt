@@ -44,6 +44,10 @@ IsBy (Planner g) (Planner g2) w e = IsPlanned g w e.event e.reply g2
 IsBy Executive Executive w e = IsChosen (exec_choice_of w) e.event
 IsBy _ _ w e = ⊥
 
+-- the same, before the end of the input, where the role has an event
+abbrev pub IsDueBy : Role → Role → World → Entry → Type 0
+IsDueBy r r2 w e = (w.done ≡ false) × (has_event r w ≡ true) × IsBy r r2 w e
+
 -- an input with this line
 abbrev pub IsInputOf : Option (List ℕ) → World → Entry → Type 0
 IsInputOf line w e = e.event ≡ event.Input line

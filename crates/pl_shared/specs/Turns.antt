@@ -14,9 +14,10 @@ use Rattle.pl_shared.specs.declared.role.Role.{Role}
 use Rattle.pl_shared.specs.declared.role.Acted.{Acted}
 use Rattle.pl_shared.specs.declared.role.Acted.TheVariants as acted
 use Rattle.pl_shared.specs.Items.{entries_in, model_in, stop_in, InWorld}
-use Rattle.pl_shared.specs.Roles.{worker_of, has_event, IsBy, IsInputOf, kind_of, is_entry}
+use Rattle.pl_shared.specs.Roles.{worker_of, has_event, IsDueBy, IsInputOf, kind_of, is_entry}
 use Rattle.pl_shared.specs.Inside.{IsStepIn, can_listen}
 use Rattle.pl_shared.specs.Plans.{PlanPass}
+use Rattle.pl_shared.specs.Making.{MakesAll}
 
 -- What the pass has seen goes on, and is no shorter than any length that it was told.
 pub record TakesTurn (old new : PlanPass) : Type 0 where
@@ -54,7 +55,7 @@ Feeds line old (Err stop.Memory) new = MakesNothing old new
 
 -- Finished, Stopped, Nothing and LogFull come in this order, exactly by their causes.
 abbrev pub Acts : Role → PlanPass → Result Acted Stop → Role → PlanPass → Type 0
-Acts r old (Ok (acted.Did number)) r2 new = Makes (λ w e. (w.done ≡ false) × (has_event r w ≡ true) × IsBy r r2 w e) old new number
+Acts r old (Ok (acted.Did number)) r2 new = Makes (IsDueBy r r2) old new number
 Acts r old (Ok acted.Nothing) r2 new = MakesNothing old new × InWorld (seen_of new) (λ w. (w.done ≡ false) × (has_event r w ≡ false)) × (stop_in (seen_of new) ≡ false) × (r2 ≡ r)
 Acts r old (Ok acted.Finished) r2 new = MakesNothing old new × InWorld (seen_of new) (λ w. w.done ≡ true) × (r2 ≡ r)
 Acts r old (Ok acted.Stopped) r2 new = MakesNothing old new × InWorld (seen_of new) (λ w. w.done ≡ false) × (stop_in (seen_of new) ≡ true) × (r2 ≡ r)
@@ -79,11 +80,12 @@ pub record Copies (from : ℕ) (seen : List Noted) (part : Part) : Type 0 where
 abbrev pub IsOver : List Noted → Type 0
 IsOver seen = InWorld seen (λ w. w.done ≡ true) ⊎ (stop_in seen ≡ true)
 
--- The pass's new own entries, each of the kind of the role.
+-- The pass's new own entries, in order: each is what the role makes in the world before it, and of the kind of the role. `r2` is the role behind them.
 pub record Works (r : Role) (old : PlanPass) (count : ℕ) (r2 : Role) (new : PlanPass) : Type 0 where
   pub own : List (ℕ × Noted)
   pub mine : mine_of new ≡ mine_of old ++ own
   pub counts : length own ≡ count
+  pub made : MakesAll r (seen_of new) own r2
   pub kinds : All (λ x. is_entry (kind_of r) x.1 ≡ true) own
   pub worker : worker_of r2 ≡ worker_of r
 
@@ -92,15 +94,17 @@ pub record WorksUntil (r : Role) (old : PlanPass) (r2 : Role) (new : PlanPass) :
   pub own : List (ℕ × Noted)
   pub rest : List (ℕ × Noted)
   pub mine : mine_of new ≡ (mine_of old ++ own) ++ rest
+  pub made : MakesAll r (seen_of new) own r2
   pub kinds : All (λ x. is_entry (kind_of r) x.1 ≡ true) own
   pub behind : (rest ≡ []) ⊎ ((place : ℕ) × (rest ≡ (place, Stopped) ∷ []))
   pub stopped : stop_in (seen_of new) ≡ true
   pub worker : worker_of r2 ≡ worker_of r
 
--- A count comes only where the plan is over. A refusal stops the plan, and none is NotNow. Where the log is full the round is open.
+-- A count comes only where the plan is over. A refusal stops the plan, and none is NotNow. Where the log is full the round is open, and the role has an event in it. Want of memory alone may leave another role than the one behind the entries:
+-- the chooser may have drawn for an entry that was not made.
 abbrev pub WorksOn : Role → PlanPass → Result ℕ Stop → Role → PlanPass → Type 0
 WorksOn r old (Ok count) r2 new = Works r old count r2 new × IsOver (seen_of new)
 WorksOn r old (Err stop.NotNow) r2 new = ⊥
-WorksOn r old (Err stop.LogFull) r2 new = WorksUntil r old r2 new × IsFull (seen_of new) × InWorld (seen_of new) (λ w. (w.closed ≡ false) × (w.done ≡ false))
+WorksOn r old (Err stop.LogFull) r2 new = WorksUntil r old r2 new × IsFull (seen_of new) × InWorld (seen_of new) (λ w. (w.closed ≡ false) × (w.done ≡ false) × (has_event r2 w ≡ true))
 WorksOn r old (Err stop.Spoiled) r2 new = WorksUntil r old r2 new
-WorksOn r old (Err stop.Memory) r2 new = WorksUntil r old r2 new
+WorksOn r old (Err stop.Memory) r2 new = (last : Role) × WorksUntil r old last new × (worker_of r2 ≡ worker_of r)

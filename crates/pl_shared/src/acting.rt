@@ -1,13 +1,13 @@
-ghost use Rattle.std.specs.Prelude.{◌≡◌, ◌<◌, ◌≤◌, ◌↔◌, ◌&&◌, not, length, false, true, Some, IsTrue};
+ghost use Rattle.std.specs.Prelude.{◌≡◌, ◌&&◌, not, false, true, Some};
 ghost use Rattle.pl_machine.specs.Step.{is_enabled};
 ghost use Rattle.pl_machine.specs.Choices.{exec_choice_of, event_of};
 ghost use Rattle.pl_shared.specs.Inside.{ActsIn};
 ghost use Rattle.pl_shared.specs.Plans.{BelongsTo};
 ghost use Rattle.pl_shared.specs.Turns.{TakesTurn, Acts};
 
+use crate::executing::execute;
 use crate::held::Held;
 use crate::plan::{Pass, SharedPlan};
-use crate::planning::{execute, repair};
 use crate::role::{Acted, Role};
 use pl_choose::Seeded;
 use pl_machine::{Choice, Stop};
@@ -15,14 +15,6 @@ use std::alloc::Global;
 use std::sync::Wait;
 
 impl Held {
-    /// Whether the log may have one more entry.
-    fn has_room(&self) -> bool
-        ensures room { IsTrue result ↔ (length self.now.machine.log < self.now.machine.world.options.entries) }
-        ensures turns { self.now.machine.world.turn ≤ self.now.machine.world.options.turns }
-    {
-        self.machine.log().len() < self.machine.options().entries as usize
-    }
-
     /// Whether the planner has an event.
     fn can_repair(&self) -> bool
         ensures { result ≡ (not self.now.machine.world.closed && not self.now.machine.world.rested) }
@@ -30,7 +22,7 @@ impl Held {
         !self.machine.closed() && !self.machine.resting()
     }
 
-    #[tactic(auto, using(crate::proofs::Answering::planned, crate::proofs::Answering::plan_stops, crate::proofs::Answering::plan_none, crate::proofs::Answering::plan_full, crate::proofs::Answering::opened_by))]
+    #[tactic(auto, using(crate::proofs::Answering::planned, crate::proofs::Answering::plan_stops, crate::proofs::Answering::plan_none))]
     fn plan(&mut self, chooser: &mut Seeded) -> Result<Acted, Stop>
         requires unspoiled { self.old.machine.spoiled ≡ false }
         requires going { self.old.machine.world.done ≡ false }
@@ -40,10 +32,7 @@ impl Held {
         if !self.can_repair() {
             return Ok(Acted::Nothing);
         }
-        if !self.has_room() {
-            return Err(Stop::LogFull);
-        }
-        match repair(&mut self.machine, chooser) {
+        match self.machine.repair_once(chooser) {
             Ok(_) => Ok(Acted::Did(self.last_number())),
             Err(stop) => Err(stop),
         }

@@ -4,6 +4,7 @@
 mod acting;
 mod bell;
 mod copying;
+mod executing;
 mod feeding;
 mod held;
 mod inside;
@@ -11,7 +12,6 @@ mod noted;
 mod part;
 mod passes;
 mod plan;
-mod planning;
 mod role;
 mod sharing;
 mod stopping;

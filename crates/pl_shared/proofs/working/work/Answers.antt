@@ -1,5 +1,5 @@
 use Rattle.std.proofs.Common.{arith}
-use Rattle.pl_shared.proofs.Progress.{plan_short, works_on, worked_until}
+use Rattle.pl_shared.proofs.Progress.{plan_short, works_on, works_idle, worked_until}
 use Rattle.pl_shared.proofs.working.work.Goals as goal
 
 pub overflow_add-acts : goal.overflow_add-acts
@@ -13,6 +13,13 @@ loop-preserved-in-Ok-Did g c = (
   c.work_once.ensures.own,
   works_on c.args.pass.now c.loop.pass c.work_once.new.pass c.args.role.now c.loop.role c.work_once.new.role c.loop.acts c.loop.invariant.1 c.work_once.ensures.takes c.in-Ok-Did.field-0-0
       (rw c.in-Ok-Did.field-0-is at c.in-Ok-Did.ensures.acts),
+)
+
+pub loop-preserved : goal.loop-preserved
+loop-preserved g c = (
+  c.work_once.ensures.own,
+  works_idle c.args.pass.now c.loop.pass c.work_once.new.pass c.args.role.now c.loop.role c.work_once.new.role c.loop.acts c.loop.invariant.1 c.work_once.ensures.takes
+      (rw c.in-Ok-Nothing.field-0-is at c.in-Ok-Nothing.ensures.acts),
 )
 
 pub returns-in-Err-clause-works : goal.returns-in-Err-clause-works
