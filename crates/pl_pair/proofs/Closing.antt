@@ -36,7 +36,7 @@ use Rattle.pl_pair.proofs.Feeding.{drop_front, entries_on}
 
 -- ---- the passes are joined
 
-unwrap : {X : Type 0} (x y : X) → Some x ≡ Some y → x ≡ y
+pub unwrap : {X : Type 0} (x y : X) → Some x ≡ Some y → x ≡ y
 unwrap x y e = cc
 
 -- what was seen has the model of the whole
@@ -158,10 +158,10 @@ not_alone false e h = cc
 
 -- ---- how often a place stands in an own list
 
-abbrev one_at : ℕ → ℕ × Noted → ℕ
+abbrev pub one_at : ℕ → ℕ × Noted → ℕ
 one_at p x = cond (nat_eq x.0 p) 1 0
 
-at_other : (p : ℕ) (x : ℕ × Noted) → x.0 ≢ p → one_at p x ≡ 0
+pub at_other : (p : ℕ) (x : ℕ × Noted) → x.0 ≢ p → one_at p x ≡ 0
 at_other p x ne = ap (λ (b : Bool). cond b 1 0) (ne_eqb x.0 p ne)
 
 -- of entries that are no inputs none stands at an input's place
@@ -279,7 +279,7 @@ stands_lower : (h : List Noted) (low low2 : ℕ) (xs : List (ℕ × Noted)) → 
 stands_lower h low low2 [] le s = tt
 stands_lower h low low2 (x ∷ xs) le s = ((let le2 = s.0 in omega arith), s.1, s.2)
 
-stands_back : (h : List Noted) (low : ℕ) (xs ys : List (ℕ × Noted)) → StandsFrom h low (xs ++ ys) → StandsFrom h 0 ys
+pub stands_back : (h : List Noted) (low : ℕ) (xs ys : List (ℕ × Noted)) → StandsFrom h low (xs ++ ys) → StandsFrom h 0 ys
 stands_back h low [] ys s = stands_lower h 0 low ys (omega arith) s
 stands_back h low (x ∷ xs) ys s = stands_back h (suc x.0) xs ys s.2
 

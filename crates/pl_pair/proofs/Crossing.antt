@@ -6,6 +6,7 @@ use base.Fml.{Lft}
 use denote.RattleType.{RattleType}
 use denote.Exit
 use denote.Ref.{ShrRef}
+use denote.Builtin.{u64}
 use denote.Param.{param, arg}
 use denote.Param.Send.{IsSend, IsSync, AllSend, param_send, arg_send, struct_send, struct_sync, recorded_send, recorded_sync, shr_send, sendable}
 use denote.Struct.Declared.{shape}
@@ -19,10 +20,9 @@ use Rattle.pl_turn.proofs.lock.TurnLock.TheSendSync as lock
 use Rattle.pl_turn.proofs.pass.Pass.TheSendSync as pass
 use Rattle.pl_turn.specs.contracts.pass.Pass
 use Rattle.pl_machine.proofs.stop.Stop.TheSendSync as stop
-use Rattle.pl_choose.proofs.seeded.Seeded.TheSendSync as seeded
-use Rattle.pl_choose.specs.contracts.seeded.Seeded
 use Rattle.pl_shared.proofs.bell.Bell.TheSendSync as bell
 use Rattle.pl_shared.proofs.role.Role.TheSendSync as role
+use Rattle.pl_pair.proofs.duty.Duty.TheSendSync as duty
 use Rattle.pl_shared.proofs.Crossing.{held_send}
 use Rattle.pl_shared.specs.contracts.held.Held
 use Rattle.pl_shared.specs.contracts.noted.Noted
@@ -45,10 +45,10 @@ pub pass_send : IsSend (Pass.the_row Held.the_row Noted.the_row)
 pass_send = pass.the_send Held.the_row Noted.the_row held_whole
 
 pub worker_send : IsSend Worker.the_field.row
-worker_send = struct_send (shape Worker.the_type) (pass_fields, (role.the_field_send, (search (stop.the_send, sendable, crosses) depth 40 fits 6000, tt)))
+worker_send = struct_send (shape Worker.the_type) (pass_fields, (role.the_field_send, (duty.the_field_send, (search (stop.the_send, sendable, crosses) depth 40 fits 6000, tt))))
 
-chooser_send : IsSend Seeded.the_row
-chooser_send = seeded.the_send
+seed_send : IsSend u64
+seed_send = search (sendable, crosses) depth 40 fits 6000
 
 heap_send : IsSend Heap.the_row
 heap_send = search (sendable, crosses) depth 40 fits 6000
@@ -71,12 +71,12 @@ closure_send i Ts s =
 module _ (a b c d : Lft) (R G : RattleType) (r : IsSync R) (g : IsSync G) where
   abbrev pub planner_has : List RattleType
   planner_has =
-      ShrRef (named 0) a R ∷ Heap.the_row ∷ ShrRef (named 0) b SharedPlan.the_row ∷ ShrRef (named 0) c G ∷ Pass.the_row Held.the_row Noted.the_row ∷ Seeded.the_row ∷ ShrRef (named 0) d AtomicBool.the_row ∷ []
+      ShrRef (named 0) a R ∷ Heap.the_row ∷ ShrRef (named 0) b SharedPlan.the_row ∷ ShrRef (named 0) c G ∷ Pass.the_row Held.the_row Noted.the_row ∷ u64 ∷ ShrRef (named 0) d AtomicBool.the_row ∷ []
 
   pub planner_send : IsSend (param 2 (arg ty_unit denote.Exit.no (TupleAt [] planner_has)))
   planner_send = closure_send 2 planner_has (
     shr_send (named 0) a R r,
-    (heap_send, (shr_send (named 0) b SharedPlan.the_row plan_sync, (shr_send (named 0) c G g, (pass_send, (chooser_send, (shr_send (named 0) d AtomicBool.the_row flag_sync, tt)))))),
+    (heap_send, (shr_send (named 0) b SharedPlan.the_row plan_sync, (shr_send (named 0) c G g, (pass_send, (seed_send, (shr_send (named 0) d AtomicBool.the_row flag_sync, tt)))))),
   )
 
   abbrev pub executive_has : List RattleType

@@ -9,6 +9,7 @@ use Rattle.pl_turn.proofs.Histories.{prefix_self, prefix_trans}
 use Rattle.pl_io.specs.declared.errors.LineFault.{LineFault}
 use Rattle.pl_io.specs.declared.errors.LineFault.TheVariants as fault
 use Rattle.pl_io.specs.Faults.{Rose}
+use Rattle.pl_io.specs.Writes.{AppendsFront}
 use Rattle.pl_io.specs.Reader.{NumberedLine}
 use Rattle.pl_model.specs.declared.whole.Model.{Model}
 use Rattle.pl_entry.specs.declared.event.Event.TheVariants as event
@@ -37,7 +38,7 @@ use Rattle.pl_pair.specs.Cuts.{cut_by}
 use Rattle.pl_pair.specs.Rounds.{Follows, Looks, IsBetween, AddsFront, lines_behind, RoundEnds}
 use Rattle.std.specs.Prelude.{IsErrOf}
 use Rattle.pl_pair.specs.Asking.{Place, Asks, line_in, HandsIn, HandsOn, HandsNone, Passes, PassesTo}
-use Rattle.pl_pair.specs.Feeds.{spoken, said_in, IsInput, AreInputs, Reads, unasked, asked, EndsUsed, Tells, Writes, WritesAll, StepsOn, StepsOut, StepsCut, in_round, at_message, Steps, Feeding, Waiting, FeedsOut, FeedsUntil, FeedsRefused, FeedsStopped, FeedsPart, FeedsCut, refused, stopped, FeedsAll, FeedsToEnd}
+use Rattle.pl_pair.specs.Feeds.{spoken, said_in, IsInput, AreInputs, Reads, unasked, asked, EndsUsed, EndsRead, Heard, Tells, Writes, WritesAll, StepsOn, StepsOut, StepsCut, in_round, at_message, Steps, Feeding, Waiting, FeedsOut, FeedsUntil, FeedsRefused, FeedsStopped, FeedsTorn, FeedsPart, FeedsCut, refused, stopped, FeedsAll, FeedsToEnd}
 use Rattle.pl_pair.proofs.Passing.{follows_self, follows_on, entries_longer}
 
 -- ---- lists
@@ -89,6 +90,17 @@ wrote_part : (m : Model) (held mid now : Option (List ℕ)) (front seen : List N
 wrote_part m held mid now front seen from on count first second =
     subst (λ (t : List ℕ). AddsFront held now t) (text_on m front seen from on count) (front_then held mid now (text_from m 0 (entries_in front)) (lines_behind m from seen) first second)
 
+-- the same of a front that isn't all
+torn_then : (held mid now : Option (List ℕ)) (xs ys : List ℕ) → Adds held mid xs → AppendsFront mid now ys → AppendsFront held now (xs ++ ys)
+torn_then None mid now xs ys first second = tt
+torn_then (Some before) mid now xs ys first second =
+    let part = subst (λ (m : Option (List ℕ)). AppendsFront m now ys) first second in
+    (length xs + part.0, (let lt = part.1 in let long = length-append xs ys in omega arith), part.2 ∙ ap (λ (t : List ℕ). Some t) (append_assoc before xs (take part.0 ys) ∙ ap (λ (t : List ℕ). before ++ t) (sym (take-append-add xs ys part.0))))
+
+wrote_torn : (m : Model) (held mid now : Option (List ℕ)) (front seen : List Noted) (from : ℕ) → IsPrefix front seen → from ≡ length (entries_in front) → Adds held mid (text_from m 0 (entries_in front)) → AppendsFront mid now (lines_behind m from seen) → AppendsFront held now (text_from m 0 (entries_in seen))
+wrote_torn m held mid now front seen from on count first second =
+    subst (λ (t : List ℕ). AppendsFront held now t) (text_on m front seen from on count) (torn_then held mid now (text_from m 0 (entries_in front)) (lines_behind m from seen) first second)
+
 -- all of a front
 pub front_of : (held now : Option (List ℕ)) (xs ys : List ℕ) → Adds held now xs → AddsFront held now (xs ++ ys)
 front_of None now xs ys adds = tt
@@ -108,11 +120,8 @@ wrote_before m held now front seen on adds =
 tells_on : (old mid new : PlanPass) (start place : Place) → Tells old start mid place → Follows mid new → mine_of new ≡ mine_of mid → Tells old start new place
 tells_on old mid new start place tells follows same = record {
   follows = follows_on old mid new tells.follows follows;
-  lines = tells.lines;
   inputs = tells.inputs;
-  reads = tells.reads;
-  said = tells.said;
-  used = tells.used;
+  heard = tells.heard;
   mine = (let P : List (ℕ × Noted) → Type 0 = λ xs. AreInputs tells.inputs xs in subst P (sym same) tells.mine);
 }
 
@@ -163,37 +172,44 @@ inputs_push [] (y ∷ own) line x are is = absurd are
 inputs_push (l ∷ inputs) [] line x are is = absurd are
 inputs_push (l ∷ inputs) (y ∷ own) line x are is = (are.0, inputs_push inputs own line x are.1 is)
 
+some_bytes : (x y : List ℕ) → Some x ≡ Some y → x ≡ y
+some_bytes x y e = cc
+
 -- a message more
+pub heard_more : (start middle place : Place) (inputs : List (Option (List ℕ))) (message : Option NumberedLine) → Heard start inputs middle → Asks middle (Ok message) place → Heard start (inputs ++ line_in message ∷ []) place
+heard_more start middle place inputs None heard asks =
+    let gets = asks.1 in
+    record {
+      lines = heard.lines ++ gets.lines;
+      reads = asked (works_on start middle heard.lines heard.reads asks.0) (reads_on start middle place heard.lines gets.lines heard.reads gets.took);
+      said = said_same inputs heard.lines gets.lines heard.said gets.blank;
+      used = λ front e. used_on start middle place heard.lines heard.reads gets.used_up;
+      last = λ front line e. absurd (let h : None ≡ Some line = last_is inputs front None (Some line) e in (cc));
+    }
+heard_more start middle place inputs (Some line) heard asks =
+    let gets = asks.1 in
+    record {
+      lines = heard.lines ++ (gets.lines ++ line.bytes ∷ []);
+      reads = asked (works_on start middle heard.lines heard.reads asks.0) (reads_on start middle place heard.lines (gets.lines ++ line.bytes ∷ []) heard.reads gets.took);
+      said = said_more inputs heard.lines gets.lines line.bytes heard.said gets.blank gets.message;
+      used = λ front e. absurd (let h : Some line.bytes ≡ None = last_is inputs front (Some line.bytes) None e in (cc));
+      last = λ front l e.
+          let same : line.bytes ≡ l = some_bytes line.bytes l (last_is inputs front (Some line.bytes) (Some l) e) in
+          (heard.lines ++ gets.lines, sym (append_assoc heard.lines gets.lines (line.bytes ∷ [])) ∙ ap (λ (x : List ℕ). (heard.lines ++ gets.lines) ++ x ∷ []) same);
+    }
+
+-- and it was handed on
 tells_more : (plan : SharedPlan) (old mid new : PlanPass) (start middle place : Place) → Tells old start mid middle → Follows mid new → HandsOn middle mid (Ok tt) place new → Tells old start new place
-tells_more plan old mid new start middle place tells follows step = by_message step.message step.asks step.hands
-  where
-    by_message : (message : Option NumberedLine) → Asks middle (Ok message) place → HandsIn (line_in message) mid (Ok tt) new → Tells old start new place
-    by_message None asks hands =
-        let gets = asks.1 in
-        let makes = hands.1 in
-        let is : makes.entry.event ≡ event.Input None = from_world (λ w. IsInputOf None w makes.entry) (makes.entry.event ≡ event.Input None) (seen_of mid ++ makes.between) makes.by (λ w h. h) in
-        record {
-          follows = follows_on old mid new tells.follows follows;
-          lines = tells.lines ++ gets.lines;
-          inputs = tells.inputs ++ None ∷ [];
-          reads = asked (works_on start middle tells.lines tells.reads asks.0) (reads_on start middle place tells.lines gets.lines tells.reads gets.took);
-          said = said_same tells.inputs tells.lines gets.lines tells.said gets.blank;
-          used = λ front e. used_on start middle place tells.lines tells.reads gets.used_up;
-          mine = (let P : List (ℕ × Noted) → Type 0 = λ xs. AreInputs (tells.inputs ++ None ∷ []) xs in subst P (sym makes.mine) (inputs_push tells.inputs (mine_of mid) None (hands.0, Made makes.entry) tells.mine is));
-        }
-    by_message (Some line) asks hands =
-        let gets = asks.1 in
-        let makes = hands.1 in
-        let is : makes.entry.event ≡ event.Input (Some line.bytes) = from_world (λ w. IsInputOf (Some line.bytes) w makes.entry) (makes.entry.event ≡ event.Input (Some line.bytes)) (seen_of mid ++ makes.between) makes.by (λ w h. h) in
-        record {
-          follows = follows_on old mid new tells.follows follows;
-          lines = tells.lines ++ (gets.lines ++ line.bytes ∷ []);
-          inputs = tells.inputs ++ Some line.bytes ∷ [];
-          reads = asked (works_on start middle tells.lines tells.reads asks.0) (reads_on start middle place tells.lines (gets.lines ++ line.bytes ∷ []) tells.reads gets.took);
-          said = said_more tells.inputs tells.lines gets.lines line.bytes tells.said gets.blank gets.message;
-          used = λ front e. absurd (let h : Some line.bytes ≡ None = last_is tells.inputs front (Some line.bytes) None e in (cc));
-          mine = (let P : List (ℕ × Noted) → Type 0 = λ xs. AreInputs (tells.inputs ++ Some line.bytes ∷ []) xs in subst P (sym makes.mine) (inputs_push tells.inputs (mine_of mid) (Some line.bytes) (hands.0, Made makes.entry) tells.mine is));
-        }
+tells_more plan old mid new start middle place tells follows step =
+    let line = line_in step.message in
+    let makes = step.hands.1 in
+    let is : makes.entry.event ≡ event.Input line = from_world (λ w. IsInputOf line w makes.entry) (makes.entry.event ≡ event.Input line) (seen_of mid ++ makes.between) makes.by (λ w h. h) in
+    record {
+      follows = follows_on old mid new tells.follows follows;
+      inputs = tells.inputs ++ line ∷ [];
+      heard = heard_more start middle place tells.inputs step.message tells.heard step.asks;
+      mine = (let P : List (ℕ × Noted) → Type 0 = λ xs. AreInputs (tells.inputs ++ line ∷ []) xs in subst P (sym makes.mine) (inputs_push tells.inputs (mine_of mid) line (step.hands.0, Made makes.entry) tells.mine is));
+    }
 
 not_full : (f : LineFault) → cut.Full ≡ cut_by f → ⊥
 not_full fault.Read e = cc
@@ -207,6 +223,12 @@ not_stopped (fault.Long n) e = cc
 not_stopped fault.Total e = cc
 not_stopped fault.Memory e = cc
 
+not_write : (f : LineFault) → cut.Write ≡ cut_by f → ⊥
+not_write fault.Read e = cc
+not_write (fault.Long n) e = cc
+not_write fault.Total e = cc
+not_write fault.Memory e = cc
+
 -- ---- the loop
 
 pub feeding_none : (plan : SharedPlan) (m : Model) (pass : PlanPass) (start : Place) (held : Option (List ℕ)) → BelongsTo plan pass → mine_of pass ≡ [] → Feeding plan m pass start held pass start held 0
@@ -214,11 +236,14 @@ feeding_none plan m pass start held own new = record {
   own = own;
   tells = record {
     follows = follows_self pass;
-    lines = [];
     inputs = [];
-    reads = unasked refl refl;
-    said = refl;
-    used = λ front e. absurd (some_nil front None e);
+    heard = record {
+      lines = [];
+      reads = unasked refl refl;
+      said = refl;
+      used = λ front e. absurd (some_nil front None e);
+      last = λ front line e. absurd (some_nil front (Some line) e);
+    };
     mine = (let P : List (ℕ × Noted) → Type 0 = λ xs. AreInputs [] xs in subst P (sym new) tt);
   };
   writes = record { front = []; in_front = (seen_of pass, refl); count = refl; written = some_held held };
@@ -247,6 +272,14 @@ module _ (plan : SharedPlan) (m : Model) (old : PlanPass) (start : Place) (held 
     written = wrote_part m held mid now feeding.writes.front (seen_of new) from (on_to new looks) feeding.writes.count feeding.writes.written adds;
   }
 
+  torn_to : (new : PlanPass) (now : Option (List ℕ)) → BelongsTo plan new → Looks cur new → AppendsFront mid now (lines_behind m from (seen_of new)) → FeedsTorn plan m old start held new now
+  torn_to new now own looks adds = record {
+    place = middle;
+    own = own;
+    tells = told_to new looks;
+    written = wrote_torn m held mid now feeding.writes.front (seen_of new) from (on_to new looks) feeding.writes.count feeding.writes.written adds;
+  }
+
   -- the lines were written, and a message was handed on
   pub feeds_on : (new : PlanPass) (place : Place) (now : Option (List ℕ)) (next : ℕ) → BelongsTo plan new → StepsOn plan m from middle cur mid next place new now → Feeding plan m old start held new place now next
   feeds_on new place now next own step =
@@ -269,17 +302,17 @@ module _ (plan : SharedPlan) (m : Model) (old : PlanPass) (start : Place) (held 
       }
 
   -- cut short in a round
-  cut_round : (c : Cut) (new : PlanPass) (place : Place) (now : Option (List ℕ)) → BelongsTo plan new → Looks cur new → RoundEnds m from mid (Err c) (seen_of new) now → FeedsAll plan m old start held (Err c) new place now
-  cut_round cut.Read new place now own looks ends = absurd ends
-  cut_round cut.Limit new place now own looks ends = absurd ends
-  cut_round cut.Full new place now own looks ends = absurd ends
-  cut_round cut.Write new place now own looks ends = part_to new now own looks ends
-  cut_round cut.Memory new place now own looks ends = part_to new now own looks ends
-  cut_round cut.Stopped new place now own looks ends =
+  cut_round : (c : Cut) (new : PlanPass) (place : Place) (now : Option (List ℕ)) → BelongsTo plan new → Looks cur new → RoundEnds m from mid (Err c) (seen_of new) now → place ≡ middle → FeedsAll plan m old start held (Err c) new place now
+  cut_round cut.Read new place now own looks ends same = absurd ends
+  cut_round cut.Limit new place now own looks ends same = absurd ends
+  cut_round cut.Full new place now own looks ends same = absurd ends
+  cut_round cut.Write new place now own looks ends same = torn_to new now own looks ends
+  cut_round cut.Memory new place now own looks ends same = part_to new now own looks ends
+  cut_round cut.Stopped new place now own looks ends same =
+      let P : Place → Type 0 = λ p. Tells old start new p in
       stopped (record {
-        place = middle;
         own = own;
-        tells = told_to new looks;
+        tells = subst P (sym same) (told_to new looks);
         written = wrote_on m held mid now feeding.writes.front (seen_of new) from (on_to new looks) feeding.writes.count feeding.writes.written ends.0;
         stopped = ends.1;
         going = ends.2;
@@ -294,19 +327,19 @@ module _ (plan : SharedPlan) (m : Model) (old : PlanPass) (start : Place) (held 
       written = wrote_before m held now (seen_of between) (seen_of new) follows.longer waiting.written;
     }
 
-    refused_at : (c : Cut) → HandsOn middle between (Err c) place new → FeedsRefused plan m c old start held new now
-    refused_at c step = record { mid = between; middle = middle; place = place; waiting = waiting; own = own; follows = follows; step = step }
+    refused_at : (c : Cut) → HandsOn middle between (Err c) place new → FeedsRefused plan m c old start held new place now
+    refused_at c step = record { mid = between; middle = middle; waiting = waiting; own = own; follows = follows; step = step }
 
-    until_at : (c : Cut) → HandsNone middle between c new → FeedsUntil plan m c old start held new now
+    until_at : (c : Cut) → HandsNone middle between c place new → FeedsUntil plan m c old start held new place now
     until_at c step = record {
-      place = middle;
+      middle = middle;
       waiting = (let P : PlanPass → Type 0 = λ p. Waiting plan m old start held p middle now in subst P (sym step.same) waiting);
       fault = step.fault;
       asks = step.asks;
       cut = step.cut;
     }
 
-    same_mine : (c : Cut) → HandsNone middle between c new → mine_of new ≡ mine_of between
+    same_mine : (c : Cut) → HandsNone middle between c place new → mine_of new ≡ mine_of between
     same_mine c step = ap (λ (p : PlanPass). mine_of p) step.same
 
     -- cut short at a message
@@ -320,12 +353,12 @@ module _ (plan : SharedPlan) (m : Model) (old : PlanPass) (start : Place) (held 
     cut_message cut.Stopped (inl step) = refused (refused_at cut.Stopped step)
     cut_message cut.Stopped (inr step) = absurd (not_stopped step.fault step.cut)
     cut_message cut.Write (inl step) = absurd step.hands
-    cut_message cut.Write (inr step) = part_behind (same_mine cut.Write step)
+    cut_message cut.Write (inr step) = absurd (not_write step.fault step.cut)
     cut_message cut.Memory (inl step) = part_behind step.hands
     cut_message cut.Memory (inr step) = part_behind (same_mine cut.Memory step)
 
   pub feeds_cut : (c : Cut) (new : PlanPass) (place : Place) (now : Option (List ℕ)) → BelongsTo plan new → StepsCut plan m from middle cur mid c place new now → FeedsAll plan m old start held (Err c) new place now
-  feeds_cut c new place now own (in_round looks ends same) = cut_round c new place now own looks ends
+  feeds_cut c new place now own (in_round looks ends same) = cut_round c new place now own looks ends same
   feeds_cut c new place now own (at_message between next own2 looks ends passes follows) =
       cut_message between now (waits between now next own2 looks ends) new place own follows c passes
 
@@ -342,14 +375,14 @@ reads_limit start place lines (unasked none same) = ap (λ (p : Place). p.reader
 reads_limit start place lines (asked works took) = took.limit
 
 pub feeding_limit : (plan : SharedPlan) (m : Model) (old new : PlanPass) (start place : Place) (held now : Option (List ℕ)) (next : ℕ) → Feeding plan m old start held new place now next → start.reader.limit ≤ 4096 → place.reader.limit ≤ 4096
-feeding_limit plan m old new start place held now next feeding le = (let same = reads_limit start place feeding.tells.lines feeding.tells.reads in omega arith)
+feeding_limit plan m old new start place held now next feeding le = (let same = reads_limit start place feeding.tells.heard.lines feeding.tells.heard.reads in omega arith)
 
 reads_works : (start place : Place) (lines : List (List ℕ)) → Reads start lines place → start.reader.failed ≡ None → place.reader.failed ≡ None
 reads_works start place lines (unasked none same) works = ap (λ (p : Place). p.reader.failed) same ∙ works
 reads_works start place lines (asked works took) works2 = took.working
 
 pub feeding_works : (plan : SharedPlan) (m : Model) (old new : PlanPass) (start place : Place) (held now : Option (List ℕ)) (next : ℕ) → Feeding plan m old start held new place now next → start.reader.failed ≡ None → place.reader.failed ≡ None
-feeding_works plan m old new start place held now next feeding works = reads_works start place feeding.tells.lines feeding.tells.reads works
+feeding_works plan m old new start place held now next feeding works = reads_works start place feeding.tells.heard.lines feeding.tells.heard.reads works
 
 -- ---- one round and the next message
 
@@ -371,12 +404,6 @@ step_behind plan m from next start place old mid new held now (Err c) own looks 
 -- a round ends by no fault of the reader
 pub round_no_read : (m : Model) (from : ℕ) (held now : Option (List ℕ)) (seen : List Noted) (c : Cut) (a b : ℕ) → RoundEnds m from held (Err c) seen now → c ≡ cut.Read → Rose a b
 round_no_read m from held now seen c a b ends is = absurd (let P : Cut → Type 0 = λ k. RoundEnds m from held (Err k) seen now in subst P is ends)
-
-not_write : (f : LineFault) → cut.Write ≡ cut_by f → ⊥
-not_write fault.Read e = cc
-not_write (fault.Long n) e = cc
-not_write fault.Total e = cc
-not_write fault.Memory e = cc
 
 no_write : (next : ℕ) (start place : Place) (old new : PlanPass) → PassesTo next start old (Err cut.Write) place new → ⊥
 no_write next start place old new (inl step) = step.hands

@@ -6,5 +6,6 @@ pub mod Ends
 pub mod Ending
 pub mod Saying
 pub mod Closing
+pub mod Choosing
 pub mod Running
 pub mod Crossing

@@ -24,11 +24,11 @@ abbrev Spares : Reader → Reader → Result (Option NumberedLine) LineFault →
 Spares old new r = old.failed ≡ None → length old.held < read_size → IsSparing old.limit new.held r
 
 fault_by : {S : Type 0} (old new : Reader) (before after : Option (List ℕ)) (s t : S) (f : LineFault) (o : Option LineFault) → old.failed ≡ o → Exact old new before after (Err f) → Moves old new (Err f) → Spares old new (Err f)
-    → IfSome o (Repeats old new s t (Err f)) → Faults (record { reader = old; ahead = before }) f
+    → IfSome o (Repeats old new s t (Err f)) → Faults (record { reader = old; ahead = before }) f (record { reader = new; ahead = after })
 fault_by old new before after s t f None is exact moves spares repeats =
     now_failed is (record { lines = []; halts = next_gives old new before after (Err f) is moves (exact is) (spares is); blank = tt })
 fault_by old new before after s t f (Some g) is exact moves spares repeats =
-    had_failed (is ∙ ap (λ (h : LineFault). Some h) (sym (err_is f g repeats.answer)))
+    had_failed (is ∙ ap (λ (h : LineFault). Some h) (sym (err_is f g repeats.answer))) repeats.reader
 
 pub first_gives : {S : Type 0} (old new : Reader) (before after : Option (List ℕ)) (s t : S) (r : Result (Option NumberedLine) LineFault) → Exact old new before after r → Moves old new r → Spares old new r
     → IfSome old.failed (Repeats old new s t r) → FirstLine (record { reader = old; ahead = before }) r (record { reader = new; ahead = after })
@@ -74,7 +74,7 @@ behind_blank old mid new before middle after line (Ok None) working got blank ge
 behind_blank old mid new before middle after line (Err f) working got blank gets =
     now_failed working (record {
       lines = line.bytes ∷ gets.lines;
-      halts = halts_later old mid before middle (line.bytes ∷ []) gets.lines f got.took gets.halts;
+      halts = halts_later old mid new before middle after (line.bytes ∷ []) gets.lines f got.took gets.halts;
       blank = (blank, gets.blank);
     })
 

@@ -146,14 +146,17 @@ adds_part : (held now : Option (List ℕ)) (text : List ℕ) → AppendsFront he
 adds_part None now text front = tt
 adds_part (Some before) now text front = (front.0, (let lt = front.1 in omega arith), front.2)
 
+copied_torn : (m : Model) (from : ℕ) (held now : Option (List ℕ)) (seen : List Noted) (part : Part) → Copies from seen part → AppendsFront held now (text_from m from part.entries) → AppendsFront held now (lines_behind m from seen)
+copied_torn m from held now seen part copies front = subst (λ (es : List Entry). AppendsFront held now (text_from m from es)) copies.entries front
+
 copied_front : (m : Model) (from : ℕ) (held now : Option (List ℕ)) (seen : List Noted) (part : Part) → Copies from seen part → AppendsFront held now (text_from m from part.entries) → AddsFront held now (lines_behind m from seen)
 copied_front m from held now seen part copies front =
-    adds_part held now (lines_behind m from seen) (subst (λ (es : List Entry). AppendsFront held now (text_from m from es)) copies.entries front)
+    adds_part held now (lines_behind m from seen) (copied_torn m from held now seen part copies front)
 
 -- a write stopped, or memory was wanting
 pub round_breaks : (m : Model) (from : ℕ) (held now : Option (List ℕ)) (seen : List Noted) (part : Part) (h : Halt) (before after : ℕ) → IsRound from seen part → AppendsFront held now (text_from m from part.entries) → WriteStops before after h
     → RoundEnds m from held (Err (cut_of h)) seen now
-round_breaks m from held now seen part halt.Write before after round front stops = copied_front m from held now seen part round.0 front
+round_breaks m from held now seen part halt.Write before after round front stops = copied_torn m from held now seen part round.0 front
 round_breaks m from held now seen part halt.Memory before after round front stops = copied_front m from held now seen part round.0 front
 round_breaks m from held now seen part halt.Read before after round front stops = absurd stops
 round_breaks m from held now seen part halt.Limit before after round front stops = absurd stops

@@ -21,6 +21,7 @@ use Rattle.pl_machine.specs.Lines.{messages_of}
 use Rattle.pl_machine.specs.Finished.{inputs_of}
 use Rattle.pl_machine.specs.Sound.{State}
 use Rattle.pl_io.specs.Lines.{lines_of}
+use Rattle.pl_io.specs.Writes.{AppendsFront}
 use Rattle.pl_io.specs.Reader.{NumberedLine}
 use Rattle.pl_stream.proofs.Reading.{took_none, halts_later}
 use Rattle.pl_render.specs.Lines.{text_from, text_of_log}
@@ -36,29 +37,35 @@ use Rattle.pl_shared.specs.Items.{stop_items, items_of, entries_in, model_in, st
 use Rattle.pl_shared.specs.declared.role.Role.{Role}
 use Rattle.pl_shared.specs.declared.role.Role.TheVariants.{Planner, Executive}
 use Rattle.pl_shared.specs.Inside.{can_listen}
-use Rattle.pl_shared.specs.Roles.{worker_of, kind_of, is_entry, is_input, is_repair, is_executed}
+use Rattle.pl_shared.specs.Roles.{worker_of, has_event, kind_of, is_entry, is_input, is_repair, is_executed}
 use Rattle.pl_shared.specs.Plans.{PlanPass, IsPlan, BelongsTo}
 use Rattle.pl_shared.specs.Turns.{TakesTurn, IsFull, Stops, was_stopped, is_stopped}
-use Rattle.pl_shared.proofs.Items.{entries_in_items, model_in_items, length_going, made_entries}
+use Rattle.pl_shared.proofs.Items.{log_is_some, entries_in_items, model_in_items, length_going, made_entries}
 use Rattle.pl_shared.proofs.Progress.{log_is_bounded, world_options, full_ends, full_on, same_world}
 use Rattle.pl_pair.specs.declared.cut.Cut.{Cut}
 use Rattle.pl_pair.specs.declared.cut.Cut.TheVariants as cut
 use Rattle.pl_pair.specs.declared.ended.Ended.{Ended}
 use Rattle.pl_pair.specs.declared.ended.Ended.TheVariants as ended
+use Rattle.pl_pair.specs.declared.duty.Duty.{Duty}
+use Rattle.pl_pair.specs.declared.duty.Duty.TheVariants.{Repair, Execute}
 use Rattle.pl_pair.specs.declared.worker.Worker.{Worker}
+use Rattle.pl_pair.specs.Duties.{chooser_of, role_of}
 use Rattle.pl_pair.specs.Cuts.{cut_by}
 use Rattle.pl_pair.specs.Served as serving
-use Rattle.pl_pair.specs.Served.{AreOf, IsStopAtMost, AreOfUntil, IsFullRound, Refused, IsServed, IsWorker}
+use Rattle.pl_pair.specs.Served.{AreOf, IsStopAtMost, AreOfUntil, MakesOwn, IsFullRound, Refused, IsServed, IsWorker}
 use Rattle.pl_pair.specs.Rounds.{Follows, IsBetween, AddsFront}
 use Rattle.pl_pair.specs.Asking.{Place, Faults, now_failed, had_failed, Asks, line_in, HandsOn}
-use Rattle.pl_pair.specs.Feeds.{AreInputs, Reads, unasked, asked, Tells, WritesAll, Waiting, FeedsOut, FeedsUntil, FeedsRefused, FeedsStopped, FeedsPart, FeedsCut, refused, FeedsAll, FeedsAndStops, FeedsToEnd}
+use Rattle.pl_pair.specs.Feeds.{AreInputs, Reads, unasked, asked, Heard, Tells, WritesAll, Waiting, FeedsOut, FeedsUntil, FeedsRefused, FeedsStopped, FeedsTorn, FeedsPart, FeedsCut, refused, FeedsAll, FeedsAndStops, FeedsToEnd}
 use Rattle.pl_pair.specs.Feeds as fed
 use Rattle.pl_pair.specs.Endings.{is_full, is_other, refusal_of, ended_of}
-use Rattle.pl_pair.specs.Runs.{ClosesAll, History, InMessages, HadLimit, MayFault, WhyNone, Given, WritesLog, RunsOut, RunsUntil, RunsFull, RunEnds, PairRun}
-use Rattle.pl_pair.proofs.Ending.{NoEnds, LastEnds, EndsIf, world_goes, steps_behind, world_behind, run_ends}
-use Rattle.pl_pair.proofs.Saying.{told_on, told_front, told_all, told_lines, told_gave, if_known, asks_begins, messages_on, skip_blanks, none_left}
+use Rattle.pl_pair.specs.Runs.{ClosesAll, History, InMessages, HadLimit, MayFault, WhyNone, IsCauseOf, StoppedBy, Given, WritesLog, ReadUpTo, RunsOut, RunsUntil, RunsFull, RunEnds, PairRun}
+use Rattle.pl_pair.proofs.Ending.{NoEnds, LastEnds, EndsIf, Goes, world_goes, steps_behind, world_behind, run_ends}
+use Rattle.pl_pair.proofs.Working.{own_on, own_kinds}
+use Rattle.pl_pair.proofs.Saying.{told_on, told_front, told_all, told_lines, told_gave, up_to_next, up_to_last, if_known, asks_begins, messages_on, skip_blanks, none_left}
 use Rattle.pl_pair.proofs.Passing.{took_follows, follows_on, adds_nothing}
-use Rattle.pl_pair.proofs.Feeding.{front_of}
+use Rattle.pl_pair.proofs.Feeding.{front_of, heard_more}
+use Rattle.pl_pair.specs.Chosen.{AreChosen}
+use Rattle.pl_pair.proofs.Choosing.{are_chosen}
 use Rattle.pl_pair.proofs.Closing.{FeederList, feeder_until, MoreOf, more_of, NoInputs, made_no_inputs, repair_no_input, executed_no_input, inputs_kind, inputs_are, no_further, same_model, Rests, between, over, stopped, world_in, at_front, legal_front, entries_whole, over_none, between_input, stop_none}
 
 -- ---- the text
@@ -73,6 +80,18 @@ front_on m (Some before) now xs ys adds =
     let P : List ℕ → Type 0 = λ w. AddsFront (Some before) now w in
     let long = length-append t more in
     subst P (sym whole) (adds.0, (let le = adds.1 in omega arith), adds.2 ∙ ap (λ (w : List ℕ). Some (before ++ w)) (sym (take-append-le adds.0 t more adds.1)))
+
+-- the same of a front that isn't all
+torn_on : (m : Model) (held now : Option (List ℕ)) (xs ys : List Entry) → AppendsFront held now (text_from m 0 xs) → AppendsFront held now (text_from m 0 (xs ++ ys))
+torn_on m None now xs ys adds = tt
+torn_on m (Some before) now xs ys adds =
+    let t = text_from m 0 xs in
+    let more = text_from m (0 + length xs) ys in
+    let whole : text_from m 0 (xs ++ ys) ≡ t ++ more = text_joined m 0 xs ys in
+    let P : List ℕ → Type 0 = λ w. AppendsFront (Some before) now w in
+    let long = length-append t more in
+    let fits : adds.0 ≤ length t = (let lt = adds.1 in omega arith) in
+    subst P (sym whole) (adds.0, (let lt = adds.1 in omega arith), adds.2 ∙ ap (λ (w : List ℕ). Some (before ++ w)) (sym (take-append-le adds.0 t more fits)))
 
 -- all of a text is a front of it
 all_front : (m : Model) (held now : Option (List ℕ)) (log : List Entry) → Adds held now (text_from m 0 log) → AddsFront held now (text_from m 0 log)
@@ -115,37 +134,23 @@ whole_of m before first planner executive machine model opening closes =
 
 -- ---- workers
 
-kind_planner : (w : Worker) → worker_of w.role ≡ 1 → kind_of w.role ≡ is_repair
-kind_planner w is = by_role w.role is
-  where
-    by_role : (r : Role) → worker_of r ≡ 1 → kind_of r ≡ is_repair
-    by_role (Planner g) is = refl
-    by_role Executive is = absurd (omega arith)
-
-kind_executive : (w : Worker) → worker_of w.role ≡ 0 → kind_of w.role ≡ is_executed
-kind_executive w is = by_role w.role is
-  where
-    by_role : (r : Role) → worker_of r ≡ 0 → kind_of r ≡ is_executed
-    by_role (Planner g) is = absurd (omega arith)
-    by_role Executive is = refl
-
 -- what a refusal says of the history that goes on
-refused_on : (met : Option Stop) (seen whole : List Noted) → IsPlan seen → IsPlan whole → IsPrefix seen whole → model_in whole ≡ model_in seen → Refused met seen → Refused met whole
-refused_on None seen whole plan plan2 on same why = tt
-refused_on (Some stop.NotNow) seen whole plan plan2 on same why = absurd why
-refused_on (Some stop.LogFull) seen whole plan plan2 on same why = (
+refused_on : (met : Option Stop) (r : Role) (seen whole : List Noted) → IsPlan seen → IsPlan whole → IsPrefix seen whole → model_in whole ≡ model_in seen → Refused met r seen → Refused met r whole
+refused_on None r seen whole plan plan2 on same why = tt
+refused_on (Some stop.NotNow) r seen whole plan plan2 on same why = absurd why
+refused_on (Some stop.LogFull) r seen whole plan plan2 on same why = (
   full_on seen whole plan on same why.0,
-  same_world (λ w. (w.closed ≡ false) × (w.done ≡ false)) seen whole same (full_ends seen whole plan plan2 on same why.0) why.1,
+  same_world (λ w. (w.closed ≡ false) × (w.done ≡ false) × (has_event r w ≡ true)) seen whole same (full_ends seen whole plan plan2 on same why.0) why.1,
 )
-refused_on (Some stop.Spoiled) seen whole plan plan2 on same why = tt
-refused_on (Some stop.Memory) seen whole plan plan2 on same why = tt
+refused_on (Some stop.Spoiled) r seen whole plan plan2 on same why = tt
+refused_on (Some stop.Memory) r seen whole plan plan2 on same why = tt
 
-refused_full : (met : Option Stop) (seen : List Noted) → is_full met ≡ true → Refused met seen → IsFullRound seen
-refused_full None seen is why = absurd (cc)
-refused_full (Some stop.NotNow) seen is why = absurd why
-refused_full (Some stop.LogFull) seen is why = why
-refused_full (Some stop.Spoiled) seen is why = absurd (cc)
-refused_full (Some stop.Memory) seen is why = absurd (cc)
+refused_full : (met : Option Stop) (r : Role) (seen : List Noted) → is_full met ≡ true → Refused met r seen → IsFullRound r seen
+refused_full None r seen is why = absurd (cc)
+refused_full (Some stop.NotNow) r seen is why = absurd why
+refused_full (Some stop.LogFull) r seen is why = why
+refused_full (Some stop.Spoiled) r seen is why = absurd (cc)
+refused_full (Some stop.Memory) r seen is why = absurd (cc)
 
 -- ---- the feeder's list
 
@@ -189,8 +194,9 @@ pub record Joined (m : Model) (before : List Entry) (first : PlanPass) (w1 w2 : 
   pub going : (world_of m before).done ≡ false
   pub opened : IsPrefix (items_of m before false) (seen_of first)
   pub own : BelongsTo plan first
-  pub one : IsWorker plan 1 w1
-  pub two : IsWorker plan 0 w2
+  pub seed : ℕ
+  pub one : IsWorker plan (Repair seed) w1
+  pub two : IsWorker plan Execute w2
 
 module _ (m : Model) (before : List Entry) (first : PlanPass) (w1 w2 : Worker) (joined : Joined m before first w1 w2) where
   model_items : model_in (items_of m joined.whole.log joined.whole.stop) ≡ Some m
@@ -202,11 +208,22 @@ module _ (m : Model) (before : List Entry) (first : PlanPass) (w1 w2 : Worker) (
   model_seen : (seen : List Noted) → IsPlan seen → IsPrefix seen (items_of m joined.whole.log joined.whole.stop) → model_in seen ≡ Some m
   model_seen seen plan onto = same_model seen (items_of m joined.whole.log joined.whole.stop) m plan onto model_items
 
+  -- what the workers made, in the whole history
+  all_one : MakesOwn w1.refusal (Planner (chooser_of joined.seed)) (items_of m joined.whole.log joined.whole.stop) (mine_of w1.pass) w1.role
+  all_one =
+      let P : Duty → Type 0 = λ d. MakesOwn w1.refusal (role_of d) (seen_of w1.pass) (mine_of w1.pass) w1.role in
+      own_on w1.refusal (seen_of w1.pass) (items_of m joined.whole.log joined.whole.stop) (Planner (chooser_of joined.seed)) w1.role (mine_of w1.pass) joined.whole.planner_seen (subst P joined.one.hired joined.one.served.made)
+
+  all_two : MakesOwn w2.refusal Executive (items_of m joined.whole.log joined.whole.stop) (mine_of w2.pass) w2.role
+  all_two =
+      let P : Duty → Type 0 = λ d. MakesOwn w2.refusal (role_of d) (seen_of w2.pass) (mine_of w2.pass) w2.role in
+      own_on w2.refusal (seen_of w2.pass) (items_of m joined.whole.log joined.whole.stop) Executive w2.role (mine_of w2.pass) joined.whole.executive_seen (subst P joined.two.hired joined.two.served.made)
+
   made_one : serving.Made w1.refusal is_repair (mine_of w1.pass)
-  made_one = subst (λ (k : Event → Bool). serving.Made w1.refusal k (mine_of w1.pass)) (kind_planner w1 joined.one.worker) joined.one.served.made
+  made_one = own_kinds w1.refusal (items_of m joined.whole.log joined.whole.stop) (Planner (chooser_of joined.seed)) w1.role (mine_of w1.pass) all_one
 
   made_two : serving.Made w2.refusal is_executed (mine_of w2.pass)
-  made_two = subst (λ (k : Event → Bool). serving.Made w2.refusal k (mine_of w2.pass)) (kind_executive w2 joined.two.worker) joined.two.served.made
+  made_two = own_kinds w2.refusal (items_of m joined.whole.log joined.whole.stop) Executive w2.role (mine_of w2.pass) all_two
 
   none_one : NoInputs (mine_of w1.pass)
   none_one = made_no_inputs w1.refusal is_repair repair_no_input (mine_of w1.pass) made_one
@@ -214,31 +231,33 @@ module _ (m : Model) (before : List Entry) (first : PlanPass) (w1 w2 : Worker) (
   none_two : NoInputs (mine_of w2.pass)
   none_two = made_no_inputs w2.refusal is_executed executed_no_input (mine_of w2.pass) made_two
 
-  why_one : Refused w1.refusal (items_of m joined.whole.log joined.whole.stop)
+  why_one : Refused w1.refusal w1.role (items_of m joined.whole.log joined.whole.stop)
   why_one =
       let model = model_seen (seen_of w1.pass) joined.one.served.own.seen joined.whole.planner_seen in
-      refused_on w1.refusal (seen_of w1.pass) (items_of m joined.whole.log joined.whole.stop) joined.one.served.own.seen plan_items joined.whole.planner_seen (model_items ∙ sym model) joined.one.served.why
+      refused_on w1.refusal w1.role (seen_of w1.pass) (items_of m joined.whole.log joined.whole.stop) joined.one.served.own.seen plan_items joined.whole.planner_seen (model_items ∙ sym model) joined.one.served.why
 
-  why_two : Refused w2.refusal (items_of m joined.whole.log joined.whole.stop)
+  why_two : Refused w2.refusal w2.role (items_of m joined.whole.log joined.whole.stop)
   why_two =
       let model = model_seen (seen_of w2.pass) joined.two.served.own.seen joined.whole.executive_seen in
-      refused_on w2.refusal (seen_of w2.pass) (items_of m joined.whole.log joined.whole.stop) joined.two.served.own.seen plan_items joined.whole.executive_seen (model_items ∙ sym model) joined.two.served.why
+      refused_on w2.refusal w2.role (seen_of w2.pass) (items_of m joined.whole.log joined.whole.stop) joined.two.served.own.seen plan_items joined.whole.executive_seen (model_items ∙ sym model) joined.two.served.why
 
   -- one of the workers met a full log
-  met_full : (is_full w1.refusal || is_full w2.refusal) ≡ true → IsFullRound (items_of m joined.whole.log joined.whole.stop)
+  met_full : (is_full w1.refusal || is_full w2.refusal) ≡ true → (r : Role) × IsFullRound r (items_of m joined.whole.log joined.whole.stop)
   met_full is = by (one_full (is_full w1.refusal) (is_full w2.refusal) is)
     where
-      by : (is_full w1.refusal ≡ true) ⊎ (is_full w2.refusal ≡ true) → IsFullRound (items_of m joined.whole.log joined.whole.stop)
-      by (inl e) = refused_full w1.refusal (items_of m joined.whole.log joined.whole.stop) e why_one
-      by (inr e) = refused_full w2.refusal (items_of m joined.whole.log joined.whole.stop) e why_two
+      by : (is_full w1.refusal ≡ true) ⊎ (is_full w2.refusal ≡ true) → (r : Role) × IsFullRound r (items_of m joined.whole.log joined.whole.stop)
+      by (inl e) = (w1.role, refused_full w1.refusal w1.role (items_of m joined.whole.log joined.whole.stop) e why_one)
+      by (inr e) = (w2.role, refused_full w2.refusal w2.role (items_of m joined.whole.log joined.whole.stop) e why_two)
 
   module _ (inputs : List (Option (List ℕ))) (own : List (ℕ × Noted)) (list : FeederList inputs own (mine_of first)) where
-    history : History m before joined.whole.log
+    history : History joined.seed m before joined.whole.log
     history = record {
       stopped = joined.whole.stop;
       feeder = mine_of first;
       planner = mine_of w1.pass;
       executive = mine_of w2.pass;
+      planner_last = w1.role;
+      executive_last = w2.role;
       planner_met = w1.refusal;
       executive_met = w2.refusal;
       legal = joined.whole.legal;
@@ -247,6 +266,8 @@ module _ (m : Model) (before : List Entry) (first : PlanPass) (w1 w2 : Worker) (
       inputs = feeder_until inputs own (mine_of first) list;
       repairs = made_one;
       executed = made_two;
+      planner_made = all_one;
+      executive_made = all_two;
       planner_why = why_one;
       executive_why = why_two;
     }
@@ -268,6 +289,11 @@ module _ (m : Model) (before : List Entry) (first : PlanPass) (w1 w2 : Worker) (
         entries_whole m joined.whole.log joined.whole.stop joined.whole.legal (items_of m before false) opening_plan (model_in_items m before false joined.legal) on
         ∙ ap (λ (xs : List Entry). xs ++ entries_in on.0) (entries_in_items m before false)
         ∙ ap (λ (xs : List Entry). before ++ xs) (ap entries_in more.is ∙ made_entries more.entries more.stop)
+
+    pub chosen : AreChosen m before entries
+    chosen =
+        are_chosen m joined.whole.log joined.whole.stop (mine_of first) (mine_of w1.pass) (mine_of w2.pass) (length before) joined.whole.stands joined.whole.owners (feeder_until inputs own (mine_of first) list)
+        w1.refusal made_one w2.refusal w2.role all_two before entries (log_is_some m before joined.legal) (omega arith) begins
 
     pub inputs_same : inputs_of entries ≡ inputs
     inputs_same =
@@ -329,19 +355,25 @@ module _ (m : Model) (before : List Entry) (first : PlanPass) (w1 w2 : Worker) (
         full_length (full_on seen (items_of m joined.whole.log joined.whole.stop) plan onto (model_in_items m joined.whole.log joined.whole.stop joined.whole.legal ∙ sym model) full)
 
     -- a worker met a full log
-    pub full_round : IsFullRound (items_of m joined.whole.log joined.whole.stop) → (length joined.whole.log ≡ (options_of joined.whole.log).entries) × ((world_of m joined.whole.log).closed ≡ false) × ((world_of m joined.whole.log).done ≡ false)
-    full_round why =
-        let here = world_in (λ w. (w.closed ≡ false) × (w.done ≡ false)) (items_of m joined.whole.log joined.whole.stop) m (model_in_items m joined.whole.log joined.whole.stop joined.whole.legal) why.1 in
-        let at = subst (λ (l : List Entry). ((world_of m l).closed ≡ false) × ((world_of m l).done ≡ false)) (entries_in_items m joined.whole.log joined.whole.stop) here in
+    pub full_round : (r : Role) → IsFullRound r (items_of m joined.whole.log joined.whole.stop) → (length joined.whole.log ≡ (options_of joined.whole.log).entries) × ((world_of m joined.whole.log).closed ≡ false) × ((world_of m joined.whole.log).done ≡ false)
+    full_round r why =
+        let P : World → Type 0 = λ w. (w.closed ≡ false) × (w.done ≡ false) × (has_event r w ≡ true) in
+        let here = world_in P (items_of m joined.whole.log joined.whole.stop) m (model_in_items m joined.whole.log joined.whole.stop joined.whole.legal) why.1 in
+        let at = subst (λ (l : List Entry). P (world_of m l)) (entries_in_items m joined.whole.log joined.whole.stop) here in
         (full_length why.0, at.0, at.1)
 
 -- ---- the answers
 
-ends_refusal : (b c : Bool) (m : Model) (log behind : List Entry) (start : Place) (held now : Option (List ℕ)) → AddsFront held now (text_from m 0 log) → (b ≡ false → c ≡ true → RunsFull m log behind start held now)
-    → RunEnds (if b then ended.Memory else if c then ended.LogFull else ended.Memory) m log behind start held now
-ends_refusal true c m log behind start held now front full = front
-ends_refusal false true m log behind start held now front full = full refl refl
-ends_refusal false false m log behind start held now front full = front
+ends_refusal : (b c : Bool) (m : Model) (log more : List Entry) (start behind : Place) (held now : Option (List ℕ)) → AddsFront held now (text_from m 0 log) → (b ≡ false → c ≡ true → RunsFull m log more start held behind now)
+    → RunEnds (if b then ended.Memory else if c then ended.LogFull else ended.Memory) m log more start held behind now
+ends_refusal true c m log more start behind held now front full = front
+ends_refusal false true m log more start behind held now front full = full refl refl
+ends_refusal false false m log more start behind held now front full = front
+
+-- a full log is the answer only where nobody met another refusal
+no_other : (b c : Bool) → (if b then ended.Memory else if c then ended.LogFull else ended.Memory) ≡ ended.LogFull → b ≡ false
+no_other true c e = absurd (cc)
+no_other false c e = refl
 
 never_finished : (b c : Bool) → (if b then ended.Memory else if c then ended.LogFull else ended.Memory) ≡ ended.Finished → ⊥
 never_finished true c e = cc
@@ -349,11 +381,11 @@ never_finished false true e = cc
 never_finished false false e = cc
 
 -- a run with what is known of its history
-pair_run : (r : Ended) (start : State) (first : PlanPass) (w1 w2 : Worker) (joined : Joined start.model start.log first w1 w2) (place : Place) (held now : Option (List ℕ)) (old mid : PlanPass) (end : Place)
-    (tells : Tells old place mid end) (list : FeederList tells.inputs (mine_of mid) (mine_of first)) → (r ≡ ended.Finished → AreOf is_input (mine_of first))
-    → RunEnds r start.model joined.whole.log (entries start.model start.log first w1 w2 joined tells.inputs (mine_of mid) list) place held now → PairRun start place held r now
+pair_run : (r : Ended) (start : State) (first : PlanPass) (w1 w2 : Worker) (joined : Joined start.model start.log first w1 w2) (place : Place) (held now : Option (List ℕ)) (old mid : PlanPass) (end behind : Place)
+    (tells : Tells old place mid end) (list : FeederList tells.inputs (mine_of mid) (mine_of first)) → (r ≡ ended.Finished → AreOf is_input (mine_of first)) → (r ≡ ended.LogFull → (is_other w1.refusal || is_other w2.refusal) ≡ false)
+    → RunEnds r start.model joined.whole.log (entries start.model start.log first w1 w2 joined tells.inputs (mine_of mid) list) place held behind now → PairRun joined.seed start place held r behind now
 unfolding history
-pair_run r start first w1 w2 joined place held now old mid end tells list goes ends =
+pair_run r start first w1 w2 joined place held now old mid end behind tells list goes refuses ends =
     let m = start.model in
     let same = inputs_same m start.log first w1 w2 joined tells.inputs (mine_of mid) list in
     record {
@@ -361,7 +393,9 @@ pair_run r start first w1 w2 joined place held now old mid end tells list goes e
       entries = entries m start.log first w1 w2 joined tells.inputs (mine_of mid) list;
       begins = begins m start.log first w1 w2 joined tells.inputs (mine_of mid) list;
       history = history m start.log first w1 w2 joined tells.inputs (mine_of mid) list;
+      chosen = chosen m start.log first w1 w2 joined tells.inputs (mine_of mid) list;
       feeder_goes = goes;
+      refused = refuses;
       messages = subst (λ (is : List (Option (List ℕ))). InMessages place (λ messages. IsPrefix is messages)) (sym same)
           (told_front old mid place end tells (world_of m joined.whole.log).done (ends_told m start.log first w1 w2 joined tells.inputs (mine_of mid) list));
       ends = ends;
@@ -406,17 +440,35 @@ had_read f o is same = subst MayFault (sym same) (by f is)
 record Whys (r : Ended) (c : Cut) (place : Place) : Type 0 where
   works : (f : LineFault) (left : ℕ) (rest : Option (List ℕ)) → c ≡ cut_by f → place.reader.failed ≡ None → WhyKnown place.reader.limit left rest f → WhyNone r place left rest
   failed : (f : LineFault) (left : ℕ) (rest : Option (List ℕ)) → c ≡ cut_by f → place.reader.failed ≡ Some f → WhyNone r place left rest
+  cause : (f : LineFault) → c ≡ cut_by f → IsCauseOf r f
+  lacks : (f : LineFault) → c ≡ cut_by f → f ≡ fault.Memory → ⊥
+
+read_cause : (f : LineFault) → cut.Read ≡ cut_by f → IsCauseOf ended.ReadFault f
+read_cause fault.Read is = tt
+read_cause (fault.Long n) is = absurd (cc)
+read_cause fault.Total is = absurd (cc)
+read_cause fault.Memory is = absurd (cc)
+
+limit_cause : (f : LineFault) → cut.Limit ≡ cut_by f → IsCauseOf ended.InputLimit f
+limit_cause fault.Read is = absurd (cc)
+limit_cause (fault.Long n) is = tt
+limit_cause fault.Total is = tt
+limit_cause fault.Memory is = absurd (cc)
 
 read_whys : (place : Place) → Whys ended.ReadFault cut.Read place
 read_whys place = record {
   works = λ f left rest is ok why. subst MayFault (sym ok) tt;
   failed = λ f left rest is same. had_read f place.reader.failed is same;
+  cause = read_cause;
+  lacks = λ f is memory. (let h : cut.Read ≡ cut.Memory = is ∙ ap cut_by memory in (cc));
 }
 
 limit_whys : (place : Place) → Whys ended.InputLimit cut.Limit place
 limit_whys place = record {
   works = λ f left rest is ok why. inl (stuck_by f place.reader.limit left rest is why);
   failed = λ f left rest is same. inr (had_limit f place.reader.failed is same);
+  cause = limit_cause;
+  lacks = λ f is memory. (let h : cut.Limit ≡ cut.Memory = is ∙ ap cut_by memory in (cc));
 }
 
 start_works : (start place : Place) (lines : List (List ℕ)) → Reads start lines place → place.reader.failed ≡ None → start.reader.failed ≡ None
@@ -427,26 +479,41 @@ start_failed : (start place : Place) (lines : List (List ℕ)) (f : LineFault) �
 start_failed start place lines f (unasked none same) failed = sym (ap (λ (p : Place). p.reader.failed) same) ∙ failed
 start_failed start place lines f (asked works took) failed = absurd (let both : None ≡ Some f = sym took.working ∙ failed in (cc))
 
-given_by : (r : Ended) (c : Cut) (old mid : PlanPass) (place end : Place) (tells : Tells old place mid end) (f : LineFault) → Whys r c place → c ≡ cut_by f → NoEnds tells.inputs → Faults end f → Given r place tells.inputs
-given_by r c old mid place end tells f whys is none (now_failed works gets) =
-    let halts = halts_later place.reader end.reader place.ahead end.ahead tells.lines gets.lines f (reads_took place end tells.lines tells.reads works) gets.halts in
+-- a reader that failed before gave no line
+start_still : (start place : Place) (lines : List (List ℕ)) (f : LineFault) → Reads start lines place → start.reader.failed ≡ Some f → place ≡ start
+start_still start place lines f (unasked none same) failed = same
+start_still start place lines f (asked works took) failed = absurd (let both : None ≡ Some f = sym works ∙ failed in (cc))
+
+not_both : (o : Option LineFault) (f : LineFault) → o ≡ None → o ≡ Some f → ⊥
+not_both o f none some = (let both : None ≡ Some f = sym none ∙ some in (cc))
+
+given_by : (r : Ended) (c : Cut) (old mid : PlanPass) (place end behind : Place) (tells : Tells old place mid end) (f : LineFault) → Whys r c place → c ≡ cut_by f → NoEnds tells.inputs → Faults end f behind → Given r place tells.inputs behind
+given_by r c old mid place end behind tells f whys is none (now_failed works gets) =
+    let halts = halts_later place.reader end.reader behind.reader place.ahead end.ahead behind.ahead tells.heard.lines gets.lines f (reads_took place end tells.heard.lines tells.heard.reads works) gets.halts in
+    let started = start_works place end tells.heard.lines tells.heard.reads works in
     record {
-      lines = tells.lines ++ gets.lines;
+      lines = tells.heard.lines ++ gets.lines;
       left = halts.left;
       rest = halts.rest;
       gave = halts.gave;
-      why = whys.works f halts.left halts.rest is (start_works place end tells.lines tells.reads works) halts.why;
-      messages = messages_on tells.lines gets.lines tells.inputs none tells.said
+      why = whys.works f halts.left halts.rest is started halts.why;
+      messages = messages_on tells.heard.lines gets.lines tells.inputs none tells.heard.said
           ∙ ap (λ (ms : List (Option (List ℕ))). tells.inputs ++ ms) (ap messages_of (sym (append-nil gets.lines)) ∙ skip_blanks gets.lines [] gets.blank ∙ none_left);
+      stopped = λ ok. record { reason = f; cause = whys.cause f is; stops = halts.stops (whys.lacks f is) };
+      still = λ g failed. absurd (not_both place.reader.failed g started failed);
     }
-given_by r c old mid place end tells f whys is none (had_failed failed) = record {
-  lines = tells.lines;
-  left = end.reader.room;
-  rest = end.ahead;
-  gave = told_gave old mid place end tells;
-  why = whys.failed f end.reader.room end.ahead is (start_failed place end tells.lines f tells.reads failed);
-  messages = told_lines old mid place end tells none;
-}
+given_by r c old mid place end behind tells f whys is none (had_failed failed still) =
+    let started = start_failed place end tells.heard.lines f tells.heard.reads failed in
+    record {
+      lines = tells.heard.lines;
+      left = end.reader.room;
+      rest = end.ahead;
+      gave = told_gave old mid place end tells;
+      why = whys.failed f end.reader.room end.ahead is started;
+      messages = told_lines old mid place end tells none;
+      stopped = λ ok. absurd (not_both place.reader.failed f ok started);
+      still = λ g failed. still ∙ ap (λ (p : Place). p.reader) (start_still place end tells.heard.lines g tells.heard.reads failed);
+    }
 
 -- ---- how the feeder ended
 
@@ -457,6 +524,11 @@ no_ends false inputs e ends = ends
 last_ends : (b : Bool) (inputs : List (Option (List ℕ))) → b ≡ true → EndsIf b inputs → LastEnds inputs
 last_ends true inputs e ends = ends
 last_ends false inputs e ends = absurd (cc)
+
+-- a round that is open has no end of the input behind it
+closed_by : (w : World) (closed : Bool) → w.closed ≡ closed → Goes w → w.done ≡ true → closed ≡ true
+closed_by w true is goes done = refl
+closed_by w false is goes done = absurd (let both : true ≡ false = sym done ∙ goes is in cc)
 
 module _ (start : State) (first : PlanPass) (w1 w2 : Worker) (joined : Joined start.model start.log first w1 w2) (place : Place) (held now : Option (List ℕ)) (old : PlanPass) (seen0 : seen_of old ≡ items_of start.model start.log false) where
   opening_in : (mid : PlanPass) → Follows old mid → length start.log ≤ length (seen_of mid)
@@ -489,6 +561,12 @@ module _ (start : State) (first : PlanPass) (w1 w2 : Worker) (joined : Joined st
         subst P (sym (entries_whole start.model joined.whole.log joined.whole.stop joined.whole.legal (seen_of mid) own.seen (model_of mid tells.follows) onto))
         (front_on start.model held now (entries_in (seen_of mid)) (entries_in onto.0) adds)
 
+    part_torn : AppendsFront held now (text_from start.model 0 (entries_in (seen_of mid))) → AppendsFront held now (text_of_log start.model joined.whole.log)
+    part_torn adds =
+        let P : List Entry → Type 0 = λ l. AppendsFront held now (text_from start.model 0 l) in
+        subst P (sym (entries_whole start.model joined.whole.log joined.whole.stop joined.whole.legal (seen_of mid) own.seen (model_of mid tells.follows) onto))
+        (torn_on start.model held now (entries_in (seen_of mid)) (entries_in onto.0) adds)
+
     module _ (rests : Rests (seen_of mid)) (written : WritesAll start.model held (seen_of mid) now) where
       settled : Settled start.model held now (seen_of mid) (mine_of mid)
       settled = record { plan = own.seen; model = model_of mid tells.follows; rests = rests; stands = own_stands plan mid own; written = written }
@@ -502,38 +580,56 @@ module _ (start : State) (first : PlanPass) (w1 w2 : Worker) (joined : Joined st
       world_is : (P : World → Type 0) → InWorld (seen_of mid) P → P (world_of start.model joined.whole.log)
       world_is P here = settled_world start.model start.log first w1 w2 joined tells.inputs (mine_of mid) list held now (seen_of mid) settled onto (opening_in mid tells.follows) P here
 
-      out_ends : InWorld (seen_of mid) (λ w. w.done ≡ true) → RunEnds ended.Finished start.model joined.whole.log more_entries place held now
+      out_ends : InWorld (seen_of mid) (λ w. w.done ≡ true) → RunEnds ended.Finished start.model joined.whole.log more_entries place held end now
       out_ends done =
           let at = world_is (λ w. w.done ≡ true) done in
+          let ends = last_ends (world_of start.model joined.whole.log).done tells.inputs at told_ends in
+          let heard = subst (λ (is : List (Option (List ℕ))). Heard place is end) ends.is tells.heard in
           record {
             done = at;
-            messages = subst (λ (is : List (Option (List ℕ))). InMessages place (λ messages. is ≡ messages)) (sym told_same) (told_all old mid place end tells (last_ends (world_of start.model joined.whole.log).done tells.inputs at told_ends));
+            closed = closed_by (world_of start.model joined.whole.log) (world_of start.model joined.whole.log).closed refl (world_goes start.model joined.whole.log joined.whole.legal) at;
+            messages = subst (λ (is : List (Option (List ℕ))). InMessages place (λ messages. is ≡ messages)) (sym told_same) (told_all old mid place end tells ends);
+            read = subst (λ (is : List (Option (List ℕ))). ReadUpTo place is end) (sym (told_same ∙ ends.is)) (up_to_last place end ends.front ends.last heard ends.none);
             written = text_is;
           }
 
-      until_ends : (r : Ended) (c : Cut) (f : LineFault) → Whys r c place → c ≡ cut_by f → Faults end f → InWorld (seen_of mid) IsBetween → RunsUntil r start.model joined.whole.log more_entries place held now
-      until_ends r c f whys is asks here =
+      until_ends : (r : Ended) (c : Cut) (f : LineFault) (behind : Place) → Whys r c place → c ≡ cut_by f → Faults end f behind → InWorld (seen_of mid) IsBetween → RunsUntil r start.model joined.whole.log more_entries place held behind now
+      until_ends r c f behind whys is asks here =
           let at = world_is IsBetween here in
           record {
             between = at;
-            given = subst (λ (is : List (Option (List ℕ))). Given r place is) (sym told_same) (given_by r c old mid place end tells f whys is (no_ends (world_of start.model joined.whole.log).done tells.inputs at.1 told_ends) asks);
+            given = subst (λ (is : List (Option (List ℕ))). Given r place is behind) (sym told_same) (given_by r c old mid place end behind tells f whys is (no_ends (world_of start.model joined.whole.log).done tells.inputs at.1 told_ends) asks);
             written = text_is;
           }
 
       front_is : AddsFront held now (text_of_log start.model joined.whole.log)
       front_is = all_front start.model held now joined.whole.log text_is
 
-      -- a worker met a full log
-      worker_full : (world_of start.model joined.whole.log).done ≡ false → (is_full w1.refusal || is_full w2.refusal) ≡ true → RunsFull start.model joined.whole.log more_entries place held now
+      -- a worker met a full log, in an open round
+      worker_open : (is_full w1.refusal || is_full w2.refusal) ≡ true → (world_of start.model joined.whole.log).closed ≡ false
+      worker_open is =
+          let met = met_full start.model start.log first w1 w2 joined is in
+          (full_round start.model start.log first w1 w2 joined tells.inputs (mine_of mid) list met.0 met.1).1
+
+      worker_full : (world_of start.model joined.whole.log).done ≡ false → (is_full w1.refusal || is_full w2.refusal) ≡ true → RunsFull start.model joined.whole.log more_entries place held end now
       worker_full going is =
-          let at = full_round start.model start.log first w1 w2 joined tells.inputs (mine_of mid) list (met_full start.model start.log first w1 w2 joined is) in
-          record { full = at.0; going = at.2; due = inl at.1; written = text_is }
+          let met = met_full start.model start.log first w1 w2 joined is in
+          let at = full_round start.model start.log first w1 w2 joined tells.inputs (mine_of mid) list met.0 met.1 in
+          record {
+            full = at.0;
+            going = at.2;
+            pending = [];
+            read = subst (λ (is : List (Option (List ℕ))). ReadUpTo place is end) (sym (append-nil (inputs_of more_entries) ∙ told_same))
+                (up_to_next place end tells.inputs tells.heard (no_ends (world_of start.model joined.whole.log).done tells.inputs going told_ends));
+            due = inl (at.1, refl);
+            written = text_is;
+          }
 
       -- the next message was read
       next_read : (world_of start.model joined.whole.log).done ≡ false → (message : Option NumberedLine) (after : Place) → Asks end (Ok message) after
-          → InMessages place (λ messages. (next : Option (List ℕ)) × IsPrefix (inputs_of more_entries ++ next ∷ []) messages)
+          → InMessages place (λ messages. IsPrefix (inputs_of more_entries ++ line_in message ∷ []) messages)
       next_read going message after asks =
-          if_known place.ahead (λ bytes. (next : Option (List ℕ)) × IsPrefix (inputs_of more_entries ++ next ∷ []) (messages_of (lines_of bytes))) (λ bytes is.
+          if_known place.ahead (λ bytes. IsPrefix (inputs_of more_entries ++ line_in message ∷ []) (messages_of (lines_of bytes))) (λ bytes is.
           let told = told_on old mid place end tells (no_ends (world_of start.model joined.whole.log).done tells.inputs going told_ends) bytes is in
           let first' = asks_begins end after message told.0 asks told.1 in
           let whole' : (inputs_of more_entries ++ line_in message ∷ []) ++ first'.others ≡ messages_of (lines_of bytes) =
@@ -541,7 +637,12 @@ module _ (start : State) (first : PlanPass) (w1 w2 : Worker) (joined : Joined st
           ∙ ap (λ (is : List (Option (List ℕ))). is ++ line_in message ∷ first'.others) told_same
           ∙ ap (λ (ms : List (Option (List ℕ))). tells.inputs ++ ms) (sym first'.is)
           ∙ sym told.2 in
-          (line_in message, (first'.others, whole')))
+          (first'.others, whole'))
+
+      read_next : (world_of start.model joined.whole.log).done ≡ false → (message : Option NumberedLine) (after : Place) → Asks end (Ok message) after → ReadUpTo place (inputs_of more_entries ++ line_in message ∷ []) after
+      read_next going message after asks =
+          subst (λ (is : List (Option (List ℕ))). ReadUpTo place (is ++ line_in message ∷ []) after) (sym told_same)
+          (up_to_last place after tells.inputs (line_in message) (heard_more place end after tells.inputs message tells.heard asks) (no_ends (world_of start.model joined.whole.log).done tells.inputs going told_ends))
 
 -- the feeder's list behind a refusal, which made nothing
 list_behind : (inputs : List (Option (List ℕ))) (before mid first : PlanPass) → AreInputs inputs (mine_of before) → mine_of mid ≡ mine_of before → Stops mid first → FeederList inputs (mine_of before) (mine_of first)
@@ -551,35 +652,40 @@ list_behind inputs before mid first are same stops =
     subst P same (list_stop inputs mid first (subst Q (sym same) are) stops)
 
 module _ (start : State) (first : PlanPass) (w1 w2 : Worker) (joined : Joined start.model start.log first w1 w2) (place : Place) (held now : Option (List ℕ)) (old : PlanPass) (seen0 : seen_of old ≡ items_of start.model start.log false) (plan : SharedPlan) (end : Place) where
-  runs_out : FeedsOut plan start.model old place held first end now → PairRun start place held ended.Finished now
+  runs_out : FeedsOut plan start.model old place held first end now → PairRun joined.seed start place held ended.Finished end now
   runs_out feeds =
       let list = list_same feeds.tells.inputs first first feeds.tells.mine refl in
-      pair_run ended.Finished start first w1 w2 joined place held now old first end feeds.tells list (λ e. inputs_kind feeds.tells.inputs (mine_of first) feeds.tells.mine)
+      pair_run ended.Finished start first w1 w2 joined place held now old first end end feeds.tells list (λ e. inputs_kind feeds.tells.inputs (mine_of first) feeds.tells.mine) (λ e. absurd (cc))
       (out_ends start first w1 w2 joined place held now old seen0 first end feeds.tells plan feeds.own list (prefix_self (seen_of first)) (over feeds.done) feeds.written feeds.done)
 
   module _ (mid : PlanPass) (takes : TakesTurn mid first) (stops : Stops mid first) where
-    runs_until : (r : Ended) (c : Cut) → (r ≡ ended.Finished → ⊥)
-        → ((entries : List Entry) → RunsUntil r start.model joined.whole.log entries place held now → RunEnds r start.model joined.whole.log entries place held now)
-        → Whys r c place → FeedsUntil plan start.model c old place held mid now → PairRun start place held r now
-    runs_until r c never as' whys feeds =
+    runs_until : (r : Ended) (c : Cut) → (r ≡ ended.Finished → ⊥) → (r ≡ ended.LogFull → ⊥)
+        → ((entries : List Entry) → RunsUntil r start.model joined.whole.log entries place held end now → RunEnds r start.model joined.whole.log entries place held end now)
+        → Whys r c place → FeedsUntil plan start.model c old place held mid end now → PairRun joined.seed start place held r end now
+    runs_until r c never never_full as' whys feeds =
         let tells = feeds.waiting.tells in
         let list = list_stop tells.inputs mid first tells.mine stops in
-        pair_run r start first w1 w2 joined place held now old mid feeds.place tells list (λ e. absurd (never e))
-        (as' (more_entries start first w1 w2 joined place held now old seen0 mid feeds.place tells plan feeds.waiting.own list takes.longer)
-        (until_ends start first w1 w2 joined place held now old seen0 mid feeds.place tells plan feeds.waiting.own list takes.longer (between feeds.waiting.between) feeds.waiting.written
-        r c feeds.fault whys feeds.cut feeds.asks feeds.waiting.between))
+        pair_run r start first w1 w2 joined place held now old mid feeds.middle end tells list (λ e. absurd (never e)) (λ e. absurd (never_full e))
+        (as' (more_entries start first w1 w2 joined place held now old seen0 mid feeds.middle tells plan feeds.waiting.own list takes.longer)
+        (until_ends start first w1 w2 joined place held now old seen0 mid feeds.middle tells plan feeds.waiting.own list takes.longer (between feeds.waiting.between) feeds.waiting.written
+        r c feeds.fault end whys feeds.cut feeds.asks feeds.waiting.between))
 
-    runs_part : (r : Ended) → (r ≡ ended.Finished → ⊥)
-        → ((entries : List Entry) → AddsFront held now (text_of_log start.model joined.whole.log) → RunEnds r start.model joined.whole.log entries place held now)
-        → FeedsPart plan start.model old place held mid now → PairRun start place held r now
-    runs_part r never as' feeds =
+    -- memory was wanting
+    runs_part : FeedsPart plan start.model old place held mid now → PairRun joined.seed start place held ended.Memory end now
+    runs_part feeds =
         let list = list_stop feeds.tells.inputs mid first feeds.tells.mine stops in
-        pair_run r start first w1 w2 joined place held now old mid feeds.place feeds.tells list (λ e. absurd (never e))
-        (as' (more_entries start first w1 w2 joined place held now old seen0 mid feeds.place feeds.tells plan feeds.own list takes.longer)
-        (part_front start first w1 w2 joined place held now old seen0 mid feeds.place feeds.tells plan feeds.own list takes.longer feeds.written))
+        pair_run ended.Memory start first w1 w2 joined place held now old mid feeds.place end feeds.tells list (λ e. absurd (cc)) (λ e. absurd (cc))
+        (part_front start first w1 w2 joined place held now old seen0 mid feeds.place feeds.tells plan feeds.own list takes.longer feeds.written)
+
+    -- a write failed
+    runs_torn : FeedsTorn plan start.model old place held mid now → PairRun joined.seed start place held ended.WriteFault end now
+    runs_torn feeds =
+        let list = list_stop feeds.tells.inputs mid first feeds.tells.mine stops in
+        pair_run ended.WriteFault start first w1 w2 joined place held now old mid feeds.place end feeds.tells list (λ e. absurd (cc)) (λ e. absurd (cc))
+        (part_torn start first w1 w2 joined place held now old seen0 mid feeds.place feeds.tells plan feeds.own list takes.longer feeds.written)
 
     -- the plan refused a message, for a full log or since a worker had stopped it
-    runs_refused : (full : Bool) (c : Cut) (feeds : FeedsRefused plan start.model c old place held mid now) → mine_of mid ≡ mine_of feeds.mid → (full ≡ true → IsFull (seen_of mid)) → PairRun start place held (refusal_of full w1.refusal w2.refusal) now
+    runs_refused : (full : Bool) (c : Cut) (feeds : FeedsRefused plan start.model c old place held mid end now) → mine_of mid ≡ mine_of feeds.mid → (full ≡ true → IsFull (seen_of mid)) → PairRun joined.seed start place held (refusal_of full w1.refusal w2.refusal) end now
     runs_refused full c feeds same is_full' =
         let tells = feeds.waiting.tells in
         let list = list_behind tells.inputs feeds.mid mid first tells.mine same stops in
@@ -589,15 +695,15 @@ module _ (start : State) (first : PlanPass) (w1 w2 : Worker) (joined : Joined st
         let others = is_other w1.refusal || is_other w2.refusal in
         let workers = is_full w1.refusal || is_full w2.refusal in
         let more = more_entries start first w1 w2 joined place held now old seen0 feeds.mid feeds.middle tells plan feeds.waiting.own list to_first in
-        pair_run (refusal_of full w1.refusal w2.refusal) start first w1 w2 joined place held now old feeds.mid feeds.middle tells list (λ e. absurd (never_finished others (full || workers) e))
-        (ends_refusal others (full || workers) start.model joined.whole.log more place held now
+        pair_run (refusal_of full w1.refusal w2.refusal) start first w1 w2 joined place held now old feeds.mid feeds.middle end tells list (λ e. absurd (never_finished others (full || workers) e)) (λ e. no_other others (full || workers) e)
+        (ends_refusal others (full || workers) start.model joined.whole.log more place end held now
         (front_is start first w1 w2 joined place held now old seen0 feeds.mid feeds.middle tells plan feeds.waiting.own list to_first rests feeds.waiting.written)
         (λ e is. by_full full is is_full'))
       where
         by_full : (f : Bool) → (f || (is_full w1.refusal || is_full w2.refusal)) ≡ true → (f ≡ true → IsFull (seen_of mid))
             → RunsFull start.model joined.whole.log
             (more_entries start first w1 w2 joined place held now old seen0 feeds.mid feeds.middle feeds.waiting.tells plan feeds.waiting.own (list_behind feeds.waiting.tells.inputs feeds.mid mid first feeds.waiting.tells.mine same stops)
-            (prefix_trans (seen_of feeds.mid) (seen_of mid) (seen_of first) feeds.follows.longer takes.longer)) place held now
+            (prefix_trans (seen_of feeds.mid) (seen_of mid) (seen_of first) feeds.follows.longer takes.longer)) place held end now
         by_full true is full' =
             let tells = feeds.waiting.tells in
             let list = list_behind tells.inputs feeds.mid mid first tells.mine same stops in
@@ -609,7 +715,9 @@ module _ (start : State) (first : PlanPass) (w1 w2 : Worker) (joined : Joined st
               full = full_seen start.model start.log first w1 w2 joined tells.inputs (mine_of feeds.mid) list (seen_of mid) feeds.own.seen (model_of start first w1 w2 joined place held now old seen0 mid follows)
                   (prefix_trans (seen_of mid) (seen_of first) (items_of start.model joined.whole.log joined.whole.stop) takes.longer joined.whole.first_seen) (full' refl);
               going = at.1;
-              due = inr (at.0, next_read start first w1 w2 joined place held now old seen0 feeds.mid feeds.middle tells plan feeds.waiting.own list to_first rests feeds.waiting.written at.1 feeds.step.message feeds.place feeds.step.asks);
+              pending = line_in feeds.step.message ∷ [];
+              read = read_next start first w1 w2 joined place held now old seen0 feeds.mid feeds.middle tells plan feeds.waiting.own list to_first rests feeds.waiting.written at.1 feeds.step.message end feeds.step.asks;
+              due = inr (at.0, (line_in feeds.step.message, (refl, next_read start first w1 w2 joined place held now old seen0 feeds.mid feeds.middle tells plan feeds.waiting.own list to_first rests feeds.waiting.written at.1 feeds.step.message end feeds.step.asks)));
               written = text_is start first w1 w2 joined place held now old seen0 feeds.mid feeds.middle tells plan feeds.waiting.own list to_first rests feeds.waiting.written;
             }
         by_full false is full' =
@@ -618,35 +726,35 @@ module _ (start : State) (first : PlanPass) (w1 w2 : Worker) (joined : Joined st
             let to_first = prefix_trans (seen_of feeds.mid) (seen_of mid) (seen_of first) feeds.follows.longer takes.longer in
             let rests = between feeds.waiting.between in
             let at = world_is start first w1 w2 joined place held now old seen0 feeds.mid feeds.middle tells plan feeds.waiting.own list to_first rests feeds.waiting.written IsBetween feeds.waiting.between in
-            worker_full start first w1 w2 joined place held now old seen0 feeds.mid feeds.middle tells plan feeds.waiting.own list to_first rests feeds.waiting.written at.1 is
+            absurd (let both : true ≡ false = sym at.0 ∙ worker_open start first w1 w2 joined place held now old seen0 feeds.mid feeds.middle tells plan feeds.waiting.own list to_first rests feeds.waiting.written is in cc)
 
     -- a worker had stopped the plan in an open round
-    runs_stopped : FeedsStopped plan start.model old place held mid now → PairRun start place held (refusal_of false w1.refusal w2.refusal) now
+    runs_stopped : FeedsStopped plan start.model old place held mid end now → PairRun joined.seed start place held (refusal_of false w1.refusal w2.refusal) end now
     runs_stopped feeds =
         let tells = feeds.tells in
         let list = list_stop tells.inputs mid first tells.mine stops in
         let rests = stopped feeds.stopped in
-        let going = world_is start first w1 w2 joined place held now old seen0 mid feeds.place tells plan feeds.own list takes.longer rests feeds.written (λ w. w.done ≡ false) feeds.going in
+        let going = world_is start first w1 w2 joined place held now old seen0 mid end tells plan feeds.own list takes.longer rests feeds.written (λ w. w.done ≡ false) feeds.going in
         let others = is_other w1.refusal || is_other w2.refusal in
         let workers = is_full w1.refusal || is_full w2.refusal in
-        pair_run (refusal_of false w1.refusal w2.refusal) start first w1 w2 joined place held now old mid feeds.place tells list (λ e. absurd (never_finished others workers e))
-        (ends_refusal others workers start.model joined.whole.log (more_entries start first w1 w2 joined place held now old seen0 mid feeds.place tells plan feeds.own list takes.longer) place held now
-        (front_is start first w1 w2 joined place held now old seen0 mid feeds.place tells plan feeds.own list takes.longer rests feeds.written)
-        (λ e is. worker_full start first w1 w2 joined place held now old seen0 mid feeds.place tells plan feeds.own list takes.longer rests feeds.written going is))
+        pair_run (refusal_of false w1.refusal w2.refusal) start first w1 w2 joined place held now old mid end end tells list (λ e. absurd (never_finished others workers e)) (λ e. no_other others workers e)
+        (ends_refusal others workers start.model joined.whole.log (more_entries start first w1 w2 joined place held now old seen0 mid end tells plan feeds.own list takes.longer) place end held now
+        (front_is start first w1 w2 joined place held now old seen0 mid end tells plan feeds.own list takes.longer rests feeds.written)
+        (λ e is. worker_full start first w1 w2 joined place held now old seen0 mid end tells plan feeds.own list takes.longer rests feeds.written going is))
 
-    runs_cut : FeedsCut plan start.model old place held mid now → PairRun start place held (refusal_of false w1.refusal w2.refusal) now
+    runs_cut : FeedsCut plan start.model old place held mid end now → PairRun joined.seed start place held (refusal_of false w1.refusal w2.refusal) end now
     runs_cut (refused feeds) = runs_refused false cut.Stopped feeds feeds.step.hands.0 (λ e. absurd (cc))
     runs_cut (fed.stopped feeds) = runs_stopped feeds
 
-    runs_err : (c : Cut) → FeedsAll plan start.model old place held (Err c) mid end now → PairRun start place held (ended_of (Err c) w1.refusal w2.refusal) now
-    runs_err cut.Read feeds = runs_until ended.ReadFault cut.Read (λ e. cc) (λ es until. until) (read_whys place) feeds
-    runs_err cut.Limit feeds = runs_until ended.InputLimit cut.Limit (λ e. cc) (λ es until. until) (limit_whys place) feeds
-    runs_err cut.Write feeds = runs_part ended.WriteFault (λ e. cc) (λ es front. front) feeds
-    runs_err cut.Memory feeds = runs_part ended.Memory (λ e. cc) (λ es front. front) feeds
+    runs_err : (c : Cut) → FeedsAll plan start.model old place held (Err c) mid end now → PairRun joined.seed start place held (ended_of (Err c) w1.refusal w2.refusal) end now
+    runs_err cut.Read feeds = runs_until ended.ReadFault cut.Read (λ e. cc) (λ e. cc) (λ es until. until) (read_whys place) feeds
+    runs_err cut.Limit feeds = runs_until ended.InputLimit cut.Limit (λ e. cc) (λ e. cc) (λ es until. until) (limit_whys place) feeds
+    runs_err cut.Write feeds = runs_torn feeds
+    runs_err cut.Memory feeds = runs_part feeds
     runs_err cut.Full feeds = runs_refused true cut.Full feeds feeds.step.hands.0 (λ e. feeds.step.hands.2)
     runs_err cut.Stopped feeds = runs_cut feeds
 
-  pub runs : (r : Result (Unit {0}) Cut) → FeedsToEnd plan start.model old place held r first end now → PairRun start place held (ended_of r w1.refusal w2.refusal) now
+  pub runs : (r : Result (Unit {0}) Cut) → FeedsToEnd plan start.model old place held r first end now → PairRun joined.seed start place held (ended_of r w1.refusal w2.refusal) end now
   runs (Ok u) feeds = runs_out feeds
   runs (Err c) feeds = runs_err feeds.mid feeds.takes feeds.stops c feeds.feeds
 
@@ -655,8 +763,8 @@ module _ (start : State) (first : PlanPass) (w1 w2 : Worker) (joined : Joined st
 none_own : (place : ℕ) → times_in {I = Noted} place ([] ∷ [] ∷ [] ∷ []) ≡ 0
 none_own place = refl
 
-pub runs_none : (start : State) (place : Place) (held : Option (List ℕ)) → Legal start.model start.log → PairRun start place held ended.Memory held
-runs_none start place held legal =
+pub runs_none : (seed : ℕ) (start : State) (place behind : Place) (held : Option (List ℕ)) → Legal start.model start.log → PairRun seed start place held ended.Memory behind held
+runs_none seed start place behind held legal =
     let m = start.model in
     let items = items_of m start.log false in
     let long = length_going m start.log false refl in
@@ -669,6 +777,8 @@ runs_none start place held legal =
         feeder = [];
         planner = [];
         executive = [];
+        planner_last = Planner (chooser_of seed);
+        executive_last = Executive;
         planner_met = None;
         executive_met = None;
         legal = legal;
@@ -677,10 +787,14 @@ runs_none start place held legal =
         inputs = record { own = []; rest = []; whole = refl; kinds = All-nil (λ x. is_entry is_input x.1 ≡ true); behind = inl refl };
         repairs = All-nil (λ x. is_entry is_repair x.1 ≡ true);
         executed = All-nil (λ x. is_entry is_executed x.1 ≡ true);
+        planner_made = refl;
+        executive_made = refl;
         planner_why = tt;
         executive_why = tt;
       };
+      chosen = tt;
       feeder_goes = λ e. absurd (cc);
+      refused = λ e. absurd (cc);
       messages = if_known place.ahead (λ bytes. IsPrefix [] (messages_of (lines_of bytes))) (λ bytes is. (messages_of (lines_of bytes), refl));
       ends = adds_nothing held (text_of_log m start.log);
     }
@@ -694,7 +808,7 @@ pub feeds_follows : (plan : SharedPlan) (m : Model) (old new : PlanPass) (place 
 feeds_follows plan m old new place end held now (Ok u) feeds = feeds.tells.follows
 feeds_follows plan m old new place end held now (Err c) feeds = follows_on old feeds.mid new (by c feeds.feeds) (took_follows feeds.mid new feeds.takes)
   where
-    by_cut : FeedsCut plan m old place held feeds.mid now → Follows old feeds.mid
+    by_cut : FeedsCut plan m old place held feeds.mid end now → Follows old feeds.mid
     by_cut (refused f) = follows_on old f.mid feeds.mid f.waiting.tells.follows f.follows
     by_cut (fed.stopped f) = f.tells.follows
 
@@ -719,7 +833,7 @@ module _ (start : State) (new p1 p2 : PlanPass) (split : Split start new p1 p2) 
   pub split_seen : seen_of p2 ≡ items_of start.model start.log false
   split_seen = split.seen2 ∙ (split.seen1 ∙ split.seen)
 
-  split_opening : opening_of p2 ≡ length (items_of start.model start.log false)
+  pub split_opening : opening_of p2 ≡ length (items_of start.model start.log false)
   split_opening = ap (λ c. c.opening) split.crew2 ∙ (ap (λ c. c.opening) split.crew1 ∙ ap (λ c. c.opening) split.crew)
 
   -- what `close` asks of the first pass
@@ -731,9 +845,9 @@ module _ (start : State) (new p1 p2 : PlanPass) (split : Split start new p1 p2) 
         ap (λ c. c.joined) same ∙ (ap (λ c. c.joined) split.crew2 ∙ (ap (λ c. c.joined) split.crew1 ∙ ap (λ c. c.joined) split.crew)),
       )
 
-  pub joined_of : (plan : SharedPlan) (first : PlanPass) (w1 w2 : Worker) (machine : State) → Legal start.model start.log → (world_of start.model start.log).done ≡ false → Follows p2 first → BelongsTo plan first → IsWorker plan 1 w1 → IsWorker plan 0 w2
+  abbrev pub joined_of : (plan : SharedPlan) (seed : ℕ) (first : PlanPass) (w1 w2 : Worker) (machine : State) → Legal start.model start.log → (world_of start.model start.log).done ≡ false → Follows p2 first → BelongsTo plan first → IsWorker plan (Repair seed) w1 → IsWorker plan Execute w2
       → ClosesAll first w1.pass w2.pass machine → Joined start.model start.log first w1 w2
-  joined_of plan first w1 w2 machine legal going follows own one two closes =
+  joined_of plan seed first w1 w2 machine legal going follows own one two closes =
       let model : model_in (seen_of first) ≡ Some start.model = follows.model ∙ (ap model_in split_seen ∙ model_in_items start.model start.log false legal) in
       let opening : opening_of first ≡ length start.log = ap (λ c. c.opening) follows.crew ∙ (split_opening ∙ length_going start.model start.log false refl) in
       record {
@@ -743,14 +857,15 @@ module _ (start : State) (new p1 p2 : PlanPass) (split : Split start new p1 p2) 
         going = going;
         opened = subst (λ (xs : List Noted). IsPrefix xs (seen_of first)) split_seen follows.longer;
         own = own;
+        seed = seed;
         one = one;
         two = two;
       }
 
   -- the whole run
-  pub runs_whole : (plan : SharedPlan) (first : PlanPass) (w1 w2 : Worker) (machine : State) (place end : Place) (held now : Option (List ℕ)) (r : Result (Unit {0}) Cut) (m : Model) → m ≡ start.model → Legal start.model start.log → (world_of start.model start.log).done ≡ false
-      → BelongsTo plan first → IsWorker plan 1 w1 → IsWorker plan 0 w2 → ClosesAll first w1.pass w2.pass machine → FeedsToEnd plan m p2 place held r first end now → PairRun start place held (ended_of r w1.refusal w2.refusal) now
-  runs_whole plan first w1 w2 machine place end held now r m same legal going own one two closes feeds =
+  pub runs_whole : (plan : SharedPlan) (seed : ℕ) (first : PlanPass) (w1 w2 : Worker) (machine : State) (place end : Place) (held now : Option (List ℕ)) (r : Result (Unit {0}) Cut) (m : Model) → m ≡ start.model → Legal start.model start.log → (world_of start.model start.log).done ≡ false
+      → BelongsTo plan first → IsWorker plan (Repair seed) w1 → IsWorker plan Execute w2 → ClosesAll first w1.pass w2.pass machine → FeedsToEnd plan m p2 place held r first end now → PairRun seed start place held (ended_of r w1.refusal w2.refusal) end now
+  runs_whole plan seed first w1 w2 machine place end held now r m same legal going own one two closes feeds =
       let feeds' = subst (λ (k : Model). FeedsToEnd plan k p2 place held r first end now) same feeds in
       let follows = feeds_follows plan start.model p2 first place end held now r feeds' in
-      runs start first w1 w2 (joined_of plan first w1 w2 machine legal going follows own one two closes) place held now p2 split_seen plan end r feeds'
+      runs start first w1 w2 (joined_of plan seed first w1 w2 machine legal going follows own one two closes) place held now p2 split_seen plan end r feeds'

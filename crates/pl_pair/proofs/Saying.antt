@@ -1,18 +1,19 @@
 -- The messages of lines, and the inputs that were made of them.
-use Rattle.std.proofs.Common.{◌≡◌, ℕ, List, [], ◌∷◌, ◌++◌, Bool, true, false, not, filter, Option, Some, None, IfSome, Ok, refl, sym, ◌∙◌, ap, subst, append_assoc}
+use Rattle.std.proofs.Common.{◌≡◌, ℕ, ◌<◌, List, [], ◌∷◌, ◌++◌, length, Bool, true, false, not, filter, Option, Some, None, IfSome, Ok, refl, sym, ◌∙◌, ap, subst, append_assoc}
 use Rattle.std.proofs.lemmas.List.{append-nil}
 use Rattle.std.proofs.lemmas.List.Elements.{filter_map-append}
 use mathlib.Core.List.{IsPrefix}
 use Rattle.pl_io.specs.Lines.{lines_of}
 use Rattle.pl_io.specs.Reader.{NumberedLine}
+use Rattle.pl_io.specs.Sparing.{read_size}
 use Rattle.pl_machine.specs.Lines.{is_blank_line, is_line_of, end_word, messages_from, messages_of}
 use Rattle.pl_stream.specs.Reads.{GaveKnown, Took, IsUsedUp, AreBlank}
 use Rattle.pl_stream.specs.Waits.{MessageGives}
 use Rattle.pl_stream.proofs.Reading.{gave_none, IsKnown, known, gave_lines}
 use Rattle.pl_shared.specs.Plans.{PlanPass}
 use Rattle.pl_pair.specs.Asking.{Place, Asks, line_in}
-use Rattle.pl_pair.specs.Feeds.{spoken, said_in, Reads, unasked, asked, EndsUsed, Tells}
-use Rattle.pl_pair.specs.Runs.{InMessages}
+use Rattle.pl_pair.specs.Feeds.{spoken, said_in, Reads, unasked, asked, EndsUsed, EndsRead, Heard, Tells}
+use Rattle.pl_pair.specs.Runs.{InMessages, ReadUpTo}
 use Rattle.pl_pair.proofs.Ending.{is_ending, NoEnds, LastEnds, EndsIf}
 
 -- ---- one line
@@ -148,8 +149,8 @@ module _ (old new : PlanPass) (start place : Place) (tells : Tells old start new
   -- inputs that do not end the run are followed by the messages of what is left
   pub told_on : NoEnds tells.inputs → (bytes : List ℕ) → start.ahead ≡ Some bytes → (rest : List ℕ) × (place.ahead ≡ Some rest) × (messages_of (lines_of bytes) ≡ tells.inputs ++ messages_of (lines_of rest))
   told_on none bytes is =
-      let read = has_read start place tells.lines bytes tells.reads is in
-      (read.rest, read.is, ap messages_of read.lines_are ∙ messages_on tells.lines (lines_of read.rest) tells.inputs none tells.said)
+      let read = has_read start place tells.heard.lines bytes tells.heard.reads is in
+      (read.rest, read.is, ap messages_of read.lines_are ∙ messages_on tells.heard.lines (lines_of read.rest) tells.inputs none tells.heard.said)
 
   used_rest : (bytes rest : List ℕ) → start.ahead ≡ Some bytes → place.ahead ≡ Some rest → IsUsedUp start.ahead place.ahead → rest ≡ []
   used_rest bytes rest is at used =
@@ -161,17 +162,17 @@ module _ (old new : PlanPass) (start place : Place) (tells : Tells old start new
   told_out : (ends : LastEnds tells.inputs) → (bytes : List ℕ) → start.ahead ≡ Some bytes → tells.inputs ≡ messages_of (lines_of bytes)
   told_out ends bytes is = by_last ends.last ends.is ends.ends
     where
-      read : HasRead bytes tells.lines place.ahead
-      read = has_read start place tells.lines bytes tells.reads is
+      read : HasRead bytes tells.heard.lines place.ahead
+      read = has_read start place tells.heard.lines bytes tells.heard.reads is
 
       by_last : (last : Option (List ℕ)) → tells.inputs ≡ ends.front ++ last ∷ [] → is_ending last ≡ true → tells.inputs ≡ messages_of (lines_of bytes)
       by_last None inputs ending =
-          let said : said_in ends.front ≡ spoken tells.lines = sym (append-nil (said_in ends.front)) ∙ sym (filter_map-append (λ (m : Option (List ℕ)). m) ends.front (None ∷ [])) ∙ ap said_in (sym inputs) ∙ tells.said in
-          let none : read.rest ≡ [] = used_rest bytes read.rest is read.is (tells.used ends.front inputs) in
-          inputs ∙ ap (λ (ms : List (Option (List ℕ))). ends.front ++ ms) (sym (ap messages_of (ap lines_of none) ∙ none_left)) ∙ sym (messages_on tells.lines (lines_of read.rest) ends.front ends.none said) ∙ ap messages_of (sym read.lines_are)
+          let said : said_in ends.front ≡ spoken tells.heard.lines = sym (append-nil (said_in ends.front)) ∙ sym (filter_map-append (λ (m : Option (List ℕ)). m) ends.front (None ∷ [])) ∙ ap said_in (sym inputs) ∙ tells.heard.said in
+          let none : read.rest ≡ [] = used_rest bytes read.rest is read.is (tells.heard.used ends.front inputs) in
+          inputs ∙ ap (λ (ms : List (Option (List ℕ))). ends.front ++ ms) (sym (ap messages_of (ap lines_of none) ∙ none_left)) ∙ sym (messages_on tells.heard.lines (lines_of read.rest) ends.front ends.none said) ∙ ap messages_of (sym read.lines_are)
       by_last (Some line) inputs ending =
-          let said : said_in ends.front ++ line ∷ [] ≡ spoken tells.lines = sym (filter_map-append (λ (m : Option (List ℕ)). m) ends.front (Some line ∷ [])) ∙ ap said_in (sym inputs) ∙ tells.said in
-          inputs ∙ sym (messages_to tells.lines (lines_of read.rest) line ending ends.front ends.none said) ∙ ap messages_of (sym read.lines_are)
+          let said : said_in ends.front ++ line ∷ [] ≡ spoken tells.heard.lines = sym (filter_map-append (λ (m : Option (List ℕ)). m) ends.front (Some line ∷ [])) ∙ ap said_in (sym inputs) ∙ tells.heard.said in
+          inputs ∙ sym (messages_to tells.heard.lines (lines_of read.rest) line ending ends.front ends.none said) ∙ ap messages_of (sym read.lines_are)
 
   -- in any case the inputs are a front of the messages
   pub told_front : (b : Bool) → EndsIf b tells.inputs → InMessages start (λ messages. IsPrefix tells.inputs messages)
@@ -184,11 +185,53 @@ module _ (old new : PlanPass) (start place : Place) (tells : Tells old start new
   told_all ends = if_known start.ahead (λ bytes. tells.inputs ≡ messages_of (lines_of bytes)) (λ bytes is. told_out ends bytes is)
 
   -- the lines that were given are those of the inputs
-  pub told_lines : NoEnds tells.inputs → messages_of tells.lines ≡ tells.inputs ++ None ∷ []
-  told_lines none = ap messages_of (sym (append-nil tells.lines)) ∙ messages_on tells.lines [] tells.inputs none tells.said ∙ ap (λ (ms : List (Option (List ℕ))). tells.inputs ++ ms) none_left
+  pub told_lines : NoEnds tells.inputs → messages_of tells.heard.lines ≡ tells.inputs ++ None ∷ []
+  told_lines none = ap messages_of (sym (append-nil tells.heard.lines)) ∙ messages_on tells.heard.lines [] tells.inputs none tells.heard.said ∙ ap (λ (ms : List (Option (List ℕ))). tells.inputs ++ ms) none_left
 
-  pub told_gave : GaveKnown start.reader.limit start.reader.room start.ahead tells.lines place.reader.room place.ahead
-  told_gave = reads_gave start place tells.lines tells.reads
+  pub told_gave : GaveKnown start.reader.limit start.reader.room start.ahead tells.heard.lines place.reader.room place.ahead
+  told_gave = reads_gave start place tells.heard.lines tells.heard.reads
+
+-- ---- how far was read
+
+reads_few : (start place : Place) (lines : List (List ℕ)) → Reads start lines place → length start.reader.held < read_size → length place.reader.held < read_size
+reads_few start place lines (unasked none same) few = subst (λ (p : Place). length p.reader.held < read_size) (sym same) few
+reads_few start place lines (asked works took) few = took.few few
+
+up_to : (start place : Place) (inputs more : List (Option (List ℕ))) (heard : Heard start inputs place) → messages_of heard.lines ≡ inputs ++ more → ReadUpTo start inputs place
+up_to start place inputs more heard said = record {
+  lines = heard.lines;
+  more = more;
+  gave = reads_gave start place heard.lines heard.reads;
+  few = reads_few start place heard.lines heard.reads;
+  said = said;
+  no_further = heard.last;
+  used_up = heard.used;
+}
+
+-- messages that do not end the run
+pub up_to_next : (start place : Place) (inputs : List (Option (List ℕ))) → Heard start inputs place → NoEnds inputs → ReadUpTo start inputs place
+up_to_next start place inputs heard none =
+    up_to start place inputs (None ∷ []) heard
+    (ap messages_of (sym (append-nil heard.lines)) ∙ messages_on heard.lines [] inputs none heard.said ∙ ap (λ (ms : List (Option (List ℕ))). inputs ++ ms) none_left)
+
+no_ends_push : (front : List (Option (List ℕ))) (last : Option (List ℕ)) → NoEnds front → is_ending last ≡ false → NoEnds (front ++ last ∷ [])
+no_ends_push [] last none other = (other, tt)
+no_ends_push (i ∷ front) last none other = (none.0, no_ends_push front last none.1 other)
+
+-- and one behind them
+pub up_to_last : (start place : Place) (front : List (Option (List ℕ))) (last : Option (List ℕ)) → Heard start (front ++ last ∷ []) place → NoEnds front → ReadUpTo start (front ++ last ∷ []) place
+up_to_last start place front None heard none =
+    let said : said_in front ≡ spoken heard.lines = sym (append-nil (said_in front)) ∙ sym (filter_map-append (λ (m : Option (List ℕ)). m) front (None ∷ [])) ∙ heard.said in
+    up_to start place (front ++ None ∷ []) [] heard
+    (ap messages_of (sym (append-nil heard.lines)) ∙ messages_on heard.lines [] front none said ∙ ap (λ (ms : List (Option (List ℕ))). front ++ ms) none_left ∙ sym (append-nil (front ++ None ∷ [])))
+up_to_last start place front (Some line) heard none = by (is_line_of end_word line) refl
+  where
+    said : said_in front ++ line ∷ [] ≡ spoken heard.lines
+    said = sym (filter_map-append (λ (m : Option (List ℕ)). m) front (Some line ∷ [])) ∙ heard.said
+
+    by : (b : Bool) → is_line_of end_word line ≡ b → ReadUpTo start (front ++ Some line ∷ []) place
+    by true ends = up_to start place (front ++ Some line ∷ []) [] heard (ap messages_of (sym (append-nil heard.lines)) ∙ messages_to heard.lines [] line ends front none said ∙ sym (append-nil (front ++ Some line ∷ [])))
+    by false other = up_to_next start place (front ++ Some line ∷ []) heard (no_ends_push front (Some line) none other)
 
 -- ---- the next message
 

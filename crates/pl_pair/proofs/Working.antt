@@ -1,8 +1,7 @@
 -- What a worker hands back.
-use Rattle.std.proofs.Common.{◌≡◌, ℕ, List, [], ◌++◌, Bool, true, Option, Some, None, Ok, Err, refl, sym, ◌∙◌, ap, subst}
-use Rattle.std.specs.List.{All}
-use Rattle.std.proofs.lemmas.List.Elements.{All-nil, All-append}
-use Rattle.pl_turn.specs.Passes.{mine_of}
+use Rattle.std.proofs.Common.{◌≡◌, ℕ, ◌+◌, List, [], ◌++◌, Bool, Option, Some, None, Ok, Err, refl, sym, ◌∙◌, ap, subst}
+use mathlib.Core.List.{IsPrefix}
+use Rattle.pl_turn.specs.Passes.{seen_of, mine_of}
 use Rattle.pl_entry.specs.declared.event.Event.{Event}
 use Rattle.pl_machine.specs.declared.stop.Stop.{Stop}
 use Rattle.pl_machine.specs.declared.stop.Stop.TheVariants as stop
@@ -11,123 +10,142 @@ use Rattle.pl_shared.specs.declared.plan.SharedPlan.{SharedPlan}
 use Rattle.pl_shared.specs.declared.role.Role.{Role}
 use Rattle.pl_shared.specs.declared.role.Acted.{Acted}
 use Rattle.pl_shared.specs.declared.role.Acted.TheVariants as acted
-use Rattle.pl_shared.specs.Roles.{worker_of, kind_of, is_entry}
+use Rattle.pl_shared.specs.Roles.{worker_of, kind_of}
 use Rattle.pl_shared.specs.Plans.{PlanPass, BelongsTo}
-use Rattle.pl_shared.specs.Turns.{TakesTurn, Acts, Stops, WorksUntil, WorksOn}
-use Rattle.pl_shared.proofs.Progress.{working_none, works_on, kind_same, worked_until}
+use Rattle.pl_shared.specs.Making.{MakesAll}
+use Rattle.pl_shared.specs.Turns.{TakesTurn, Acts, Stops, Works, WorksUntil, WorksOn}
+use Rattle.pl_shared.proofs.OwnEntries.{makes_all_on, makes_all_append}
+use Rattle.pl_shared.proofs.Progress.{working_none, works_on, works_idle, works_finished, works_stopped, worked_until, took_until, made_worker, made_kinds}
+use Rattle.pl_pair.specs.declared.duty.Duty.{Duty}
 use Rattle.pl_pair.specs.declared.worker.Worker.{Worker}
-use Rattle.pl_pair.specs.declared.hands.Hand.{Hand}
-use Rattle.pl_pair.specs.declared.hands.Hand.TheVariants.{Away, Here}
+use Rattle.pl_pair.specs.Duties.{role_of}
 use Rattle.pl_pair.specs.Served as serving
-use Rattle.pl_pair.specs.Served.{AreOf, AreOfUntil, IsServed, IsWorker}
-use Rattle.pl_pair.specs.Workers.{IsHand, MayAct}
+use Rattle.pl_pair.specs.Served.{MakesUntil, MakesOwn, IsServed, IsWorker}
 
-module _ (role role2 : Role) where
-  kinds_as : (own : List (ℕ × Noted)) → worker_of role2 ≡ worker_of role → AreOf (kind_of role) own → AreOf (kind_of role2) own
-  kinds_as own same kinds = let P : (Event → Bool) → Type 0 = λ k. AreOf k own in subst P (sym (kind_same role role2 same)) kinds
+-- more of a worker that made these items so far
+module _ (plan : SharedPlan) (duty : Duty) (pass pass2 : PlanPass) (role role2 : Role) (before : MakesAll (role_of duty) (seen_of pass) (mine_of pass) role) (takes : TakesTurn pass pass2) (own : BelongsTo plan pass2) where
+  start_on : MakesAll (role_of duty) (seen_of pass2) (mine_of pass) role
+  start_on = makes_all_on (seen_of pass) (seen_of pass2) (role_of duty) role (mine_of pass) takes.longer before
+
+  more_made : (last : Role) (more : List (ℕ × Noted)) → MakesAll role (seen_of pass2) more last → MakesAll (role_of duty) (seen_of pass2) (mine_of pass ++ more) last
+  more_made last more made = makes_all_append (seen_of pass2) (role_of duty) role last (mine_of pass) more start_on made
 
   -- own items, and a stop behind them at most
-  made_until : (pass pass2 : PlanPass) → WorksUntil role pass role2 pass2 → AreOf (kind_of role) (mine_of pass) → AreOfUntil (kind_of role2) (mine_of pass2)
-  made_until pass pass2 works before = record {
+  makes_until : (last : Role) → WorksUntil role pass last pass2 → MakesUntil (role_of duty) (seen_of pass2) (mine_of pass2)
+  makes_until last works = record {
     own = mine_of pass ++ works.own;
     rest = works.rest;
     whole = works.mine;
-    kinds = kinds_as (mine_of pass ++ works.own) works.worker (All-append (λ x. is_entry (kind_of role) x.1 ≡ true) (mine_of pass) works.own before works.kinds);
+    last = last;
+    made = more_made last works.own works.made;
     behind = works.behind;
   }
 
-  -- a refusal, behind own entries
-  refuses : (plan : SharedPlan) (pass pass2 : PlanPass) (s : Stop) → AreOf (kind_of role) (mine_of pass) → BelongsTo plan pass2 → WorksOn role pass (Err s) role2 pass2 → IsWorker plan (worker_of role) (record { pass = pass2; role = role2; refusal = Some s })
-  refuses plan pass pass2 stop.NotNow before own works = absurd works
-  refuses plan pass pass2 stop.LogFull before own works = record {
-    served = record { own = own; made = made_until pass pass2 works.0 before; why = (works.1, works.2) };
-    worker = works.0.worker;
-  }
-  refuses plan pass pass2 stop.Spoiled before own works = record {
-    served = record { own = own; made = made_until pass pass2 works before; why = tt };
-    worker = works.worker;
-  }
-  refuses plan pass pass2 stop.Memory before own works = record {
-    served = record { own = own; made = made_until pass pass2 works before; why = tt };
-    worker = works.worker;
-  }
+  same_number : worker_of role2 ≡ worker_of role → worker_of role2 ≡ worker_of (role_of duty)
+  same_number same = same ∙ made_worker (seen_of pass) (role_of duty) role (mine_of pass) before
 
-no_items : (test : Event → Bool) (mine : List (ℕ × Noted)) → mine ≡ [] → AreOf test mine
-no_items test mine none = let P : List (ℕ × Noted) → Type 0 = λ xs. AreOf test xs in subst P (sym none) (All-nil (λ x. is_entry test x.1 ≡ true))
+  -- a refusal
+  refuses : (s : Stop) → WorksOn role pass (Err s) role2 pass2 → IsServed plan (record { pass = pass2; role = role2; duty = duty; refusal = Some s })
+  refuses stop.NotNow works = absurd works
+  refuses stop.LogFull works = record { own = own; made = makes_until role2 works.0; worker = same_number works.0.worker; why = (works.1, works.2) }
+  refuses stop.Spoiled works = record { own = own; made = makes_until role2 works; worker = same_number works.worker; why = tt }
+  refuses stop.Memory works = record { own = own; made = makes_until works.0 works.1; worker = same_number works.2; why = tt }
+
+  -- none
+  goes_on : (count : ℕ) → Works role pass count role2 pass2 → MakesAll (role_of duty) (seen_of pass2) (mine_of pass2) role2
+  goes_on count works =
+      let P : List (ℕ × Noted) → Type 0 = λ l. MakesAll (role_of duty) (seen_of pass2) l role2 in
+      subst P (sym works.mine) (more_made role2 works.own works.made)
+
+-- a worker that made nothing
+begins : (duty : Duty) (pass : PlanPass) (role : Role) → role ≡ role_of duty → mine_of pass ≡ [] → MakesAll (role_of duty) (seen_of pass) (mine_of pass) role
+begins duty pass role is new =
+    let P : List (ℕ × Noted) → Type 0 = λ l. MakesAll (role_of duty) (seen_of pass) l role in
+    subst P (sym new) is
 
 -- a worker whose start was refused
-pub served_none : (plan : SharedPlan) (pass : PlanPass) (role : Role) → BelongsTo plan pass → mine_of pass ≡ [] → IsWorker plan (worker_of role) (record { pass = pass; role = role; refusal = None })
-served_none plan pass role own new = record {
-  served = record { own = own; made = no_items (kind_of role) (mine_of pass) new; why = tt };
-  worker = refl;
+pub served_none : (plan : SharedPlan) (pass : PlanPass) (role : Role) (duty : Duty) → BelongsTo plan pass → mine_of pass ≡ [] → role ≡ role_of duty → IsWorker plan duty (record { pass = pass; role = role; duty = duty; refusal = None })
+served_none plan pass role duty own new is = record {
+  served = record { own = own; made = begins duty pass role is new; worker = ap worker_of is; why = tt };
+  hired = refl;
 }
 
 -- a worker whose plan was over
-pub served_on : (plan : SharedPlan) (pass pass2 : PlanPass) (role role2 : Role) (count : ℕ) → mine_of pass ≡ [] → BelongsTo plan pass2 → WorksOn role pass (Ok count) role2 pass2
-    → IsWorker plan (worker_of role) (record { pass = pass2; role = role2; refusal = None })
-served_on plan pass pass2 role role2 count new own works =
-    let w = works.0 in
-    let P : List (ℕ × Noted) → Type 0 = λ xs. AreOf (kind_of role2) xs in
+pub served_on : (plan : SharedPlan) (pass pass2 : PlanPass) (role role2 : Role) (duty : Duty) (count : ℕ) → mine_of pass ≡ [] → role ≡ role_of duty → TakesTurn pass pass2 → BelongsTo plan pass2 → WorksOn role pass (Ok count) role2 pass2
+    → IsWorker plan duty (record { pass = pass2; role = role2; duty = duty; refusal = None })
+served_on plan pass pass2 role role2 duty count new is takes own works =
+    let before = begins duty pass role is new in
     record {
       served = record {
         own = own;
-        made = subst P (sym (w.mine ∙ ap (λ (xs : List (ℕ × Noted)). xs ++ w.own) new)) (kinds_as role role2 w.own w.worker w.kinds);
+        made = goes_on plan duty pass pass2 role role2 before takes own count works.0;
+        worker = same_number plan duty pass pass2 role role2 before takes own works.0.worker;
         why = tt;
       };
-      worker = w.worker;
+      hired = refl;
     }
 
 -- a worker that met a refusal
-pub served_until : (plan : SharedPlan) (pass pass2 : PlanPass) (role role2 : Role) (s : Stop) → mine_of pass ≡ [] → BelongsTo plan pass2 → WorksOn role pass (Err s) role2 pass2
-    → IsWorker plan (worker_of role) (record { pass = pass2; role = role2; refusal = Some s })
-served_until plan pass pass2 role role2 s new own works = refuses role role2 plan pass pass2 s (no_items (kind_of role) (mine_of pass) new) own works
+pub served_until : (plan : SharedPlan) (pass pass2 : PlanPass) (role role2 : Role) (duty : Duty) (s : Stop) → mine_of pass ≡ [] → role ≡ role_of duty → TakesTurn pass pass2 → BelongsTo plan pass2 → WorksOn role pass (Err s) role2 pass2
+    → IsWorker plan duty (record { pass = pass2; role = role2; duty = duty; refusal = Some s })
+served_until plan pass pass2 role role2 duty s new is takes own works = record {
+  served = refuses plan duty pass pass2 role role2 (begins duty pass role is new) takes own s works;
+  hired = refl;
+}
+
+-- the same worker, by another name of its duty
+pub hired_as : (plan : SharedPlan) (duty duty2 : Duty) (w : Worker) → IsWorker plan duty w → duty ≡ duty2 → IsWorker plan duty2 w
+hired_as plan duty duty2 w is same = record { served = is.served; hired = is.hired ∙ same }
 
 -- ---- one act
 
-made_none : (o : Option Stop) (test : Event → Bool) (mine : List (ℕ × Noted)) → o ≡ None → serving.Made o test mine → AreOf test mine
-made_none None test mine e made = made
-made_none (Some s) test mine e made = absurd (cc)
+made_none : (o : Option Stop) (r r2 : Role) (seen : List Noted) (mine : List (ℕ × Noted)) → o ≡ None → MakesOwn o r seen mine r2 → MakesAll r seen mine r2
+made_none None r r2 seen mine e made = made
+made_none (Some s) r r2 seen mine e made = absurd (cc)
 
 -- what holds of a worker without a refusal
-served_as : (plan : SharedPlan) (pass : PlanPass) (role : Role) (o : Option Stop) → o ≡ None → BelongsTo plan pass → AreOf (kind_of role) (mine_of pass) → IsServed plan (record { pass = pass; role = role; refusal = o })
-served_as plan pass role None e own made = record { own = own; made = made; why = tt }
-served_as plan pass role (Some s) e own made = absurd (cc)
+served_as : (plan : SharedPlan) (duty : Duty) (pass : PlanPass) (role : Role) (o : Option Stop) → o ≡ None → BelongsTo plan pass → MakesAll (role_of duty) (seen_of pass) (mine_of pass) role
+    → IsServed plan (record { pass = pass; role = role; duty = duty; refusal = o })
+served_as plan duty pass role None e own made = record { own = own; made = made; worker = made_worker (seen_of pass) (role_of duty) role (mine_of pass) made; why = tt }
+served_as plan duty pass role (Some s) e own made = absurd (cc)
 
-kept_kinds : (role role2 : Role) (mine mine2 : List (ℕ × Noted)) → mine2 ≡ mine → role2 ≡ role → AreOf (kind_of role) mine → AreOf (kind_of role2) mine2
-kept_kinds role role2 mine mine2 same as' kinds =
-    let P : List (ℕ × Noted) → Type 0 = λ xs. AreOf (kind_of role) xs in
-    kinds_as role role2 mine2 (ap worker_of as') (subst P (sym same) kinds)
-
-acted_kinds : (pass pass2 : PlanPass) (role role2 : Role) (a : Acted) → TakesTurn pass pass2 → Acts role pass (Ok a) role2 pass2 → AreOf (kind_of role) (mine_of pass) → AreOf (kind_of role2) (mine_of pass2) × (worker_of role2 ≡ worker_of role)
-acted_kinds pass pass2 role role2 (acted.Did n) takes acts kinds =
-    let w = (works_on pass pass pass2 role role role2 0 (working_none pass role) takes n acts).works in
-    let P : List (ℕ × Noted) → Type 0 = λ xs. AreOf (kind_of role2) xs in (
-      subst P (sym w.mine) (kinds_as role role2 (mine_of pass ++ w.own) w.worker (All-append (λ x. is_entry (kind_of role) x.1 ≡ true) (mine_of pass) w.own kinds w.kinds)),
-      w.worker,
-    )
-acted_kinds pass pass2 role role2 acted.Nothing takes acts kinds = (kept_kinds role role2 (mine_of pass) (mine_of pass2) acts.0 acts.3 kinds, ap worker_of acts.3)
-acted_kinds pass pass2 role role2 acted.Finished takes acts kinds = (kept_kinds role role2 (mine_of pass) (mine_of pass2) acts.0 acts.2 kinds, ap worker_of acts.2)
-acted_kinds pass pass2 role role2 acted.Stopped takes acts kinds = (kept_kinds role role2 (mine_of pass) (mine_of pass2) acts.0 acts.3 kinds, ap worker_of acts.3)
+acted_works : (pass pass2 : PlanPass) (role role2 : Role) (a : Acted) → TakesTurn pass pass2 → Acts role pass (Ok a) role2 pass2 → (count : ℕ) × Works role pass count role2 pass2
+acted_works pass pass2 role role2 (acted.Did n) takes acts = (0 + 1, (works_on pass pass pass2 role role role2 0 (working_none pass role) takes n acts).works)
+acted_works pass pass2 role role2 acted.Nothing takes acts = (0, (works_idle pass pass pass2 role role role2 0 (working_none pass role) takes acts).works)
+acted_works pass pass2 role role2 acted.Finished takes acts = (0, (works_finished pass pass pass2 role role role2 0 (working_none pass role) takes acts).0)
+acted_works pass pass2 role role2 acted.Stopped takes acts = (0, (works_stopped pass pass pass2 role role role2 0 (working_none pass role) takes acts).0)
 
 -- an act that met no refusal
 pub acts_on : (plan : SharedPlan) (w : Worker) (pass2 : PlanPass) (role2 : Role) (a : Acted) → IsServed plan w → w.refusal ≡ None → BelongsTo plan pass2 → TakesTurn w.pass pass2 → Acts w.role w.pass (Ok a) role2 pass2
-    → IsServed plan (record { pass = pass2; role = role2; refusal = w.refusal }) × (worker_of role2 ≡ worker_of w.role)
+    → IsServed plan (record { pass = pass2; role = role2; duty = w.duty; refusal = w.refusal })
 acts_on plan w pass2 role2 a served going own takes acts =
-    let kinds = acted_kinds w.pass pass2 w.role role2 a takes acts (made_none w.refusal (kind_of w.role) (mine_of w.pass) going served.made) in
-    (served_as plan pass2 role2 w.refusal going own kinds.0, kinds.1)
+    let before = made_none w.refusal (role_of w.duty) w.role (seen_of w.pass) (mine_of w.pass) going served.made in
+    let works = acted_works w.pass pass2 w.role role2 a takes acts in
+    served_as plan w.duty pass2 role2 w.refusal going own (goes_on plan w.duty w.pass pass2 w.role role2 before takes own works.0 works.1)
 
 -- an act that met one, and the stop behind it
 pub acts_until : (plan : SharedPlan) (w : Worker) (mid new : PlanPass) (role2 : Role) (s : Stop) → IsServed plan w → w.refusal ≡ None → BelongsTo plan mid → TakesTurn w.pass mid → Acts w.role w.pass (Err s) role2 mid
-    → BelongsTo plan new → TakesTurn mid new → Stops mid new → IsWorker plan (worker_of w.role) (record { pass = new; role = role2; refusal = Some s })
+    → BelongsTo plan new → TakesTurn mid new → Stops mid new → IsServed plan (record { pass = new; role = role2; duty = w.duty; refusal = Some s })
 acts_until plan w mid new role2 s served going own takes acts own2 takes2 stops =
-    refuses w.role role2 plan w.pass new s (made_none w.refusal (kind_of w.role) (mine_of w.pass) going served.made) own2
-    (worked_until w.pass w.pass mid new w.role w.role role2 0 s (working_none w.pass w.role) own.seen takes acts own2.seen takes2 stops)
+    let none = working_none w.pass w.role in
+    let before = made_none w.refusal (role_of w.duty) w.role (seen_of w.pass) (mine_of w.pass) going served.made in
+    let all = took_until w.pass w.pass mid new w.role w.role role2 0 s none takes acts takes2 in
+    refuses plan w.duty w.pass new w.role role2 before all own2 s (worked_until w.pass w.pass mid new w.role w.role role2 0 s none own.seen takes acts own2.seen takes2 stops)
 
--- ---- the feeder's hold
+-- ---- the history goes on
 
-pub may_act : (plan : SharedPlan) (number : ℕ) (h : Hand) → IsHand plan number h → MayAct plan h
-may_act plan number (Away child) is = tt
-may_act plan number (Here w) is = is.served
+pub own_on : (met : Option Stop) (xs ys : List Noted) (r r2 : Role) (mine : List (ℕ × Noted)) → IsPrefix xs ys → MakesOwn met r xs mine r2 → MakesOwn met r ys mine r2
+own_on None xs ys r r2 mine on made = makes_all_on xs ys r r2 mine on made
+own_on (Some s) xs ys r r2 mine on made = record {
+  own = made.own;
+  rest = made.rest;
+  whole = made.whole;
+  last = made.last;
+  made = makes_all_on xs ys r made.last made.own on made.made;
+  behind = made.behind;
+}
 
-pub still_worker : (plan : SharedPlan) (number : ℕ) (w w2 : Worker) → IsServed plan w2 → worker_of w2.role ≡ worker_of w.role → IsWorker plan number w → IsWorker plan number w2
-still_worker plan number w w2 served same is = record { served = served; worker = same ∙ is.worker }
+-- own items of a worker are of its kind
+pub own_kinds : (met : Option Stop) (seen : List Noted) (r r2 : Role) (mine : List (ℕ × Noted)) → MakesOwn met r seen mine r2 → serving.Made met (kind_of r) mine
+own_kinds None seen r r2 mine made = made_kinds seen r r2 mine made
+own_kinds (Some s) seen r r2 mine made = record { own = made.own; rest = made.rest; whole = made.whole; kinds = made_kinds seen r made.last made.own made.made; behind = made.behind }

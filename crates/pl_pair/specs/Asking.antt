@@ -21,20 +21,20 @@ pub record Place : Type 0 where
 abbrev pub place_of : Reader → Option (List ℕ) → Place
 place_of r left = record { reader = r; ahead = ahead r.held left }
 
--- A reader that failed before answers the same fault.
-pub data Faults (old : Place) (f : LineFault) : Type 0 where
-  now_failed : old.reader.failed ≡ None → GetsFault old.reader old.ahead f → Faults old f
-  had_failed : old.reader.failed ≡ Some f → Faults old f
+-- A reader that failed before answers the same fault, and stays as it was.
+pub data Faults (old : Place) (f : LineFault) (new : Place) : Type 0 where
+  now_failed : old.reader.failed ≡ None → GetsFault old.reader old.ahead f new.reader new.ahead → Faults old f new
+  had_failed : old.reader.failed ≡ Some f → new.reader ≡ old.reader → Faults old f new
 
 -- the next line, or the end of the input, or the fault that keeps it back
 abbrev pub FirstLine : Place → Result (Option NumberedLine) LineFault → Place → Type 0
 FirstLine old (Ok line) new = (old.reader.failed ≡ None) × OneLine old.reader old.ahead (Ok line) new.reader new.ahead
-FirstLine old (Err f) new = Faults old f
+FirstLine old (Err f) new = Faults old f new
 
 -- the same of the next message
 abbrev pub Asks : Place → Result (Option NumberedLine) LineFault → Place → Type 0
 Asks old (Ok message) new = (old.reader.failed ≡ None) × MessageGives old.reader old.ahead (Ok message) new.reader new.ahead
-Asks old (Err f) new = Faults old f
+Asks old (Err f) new = Faults old f new
 
 abbrev pub line_in : Option NumberedLine → Option (List ℕ)
 line_in None = None
@@ -57,9 +57,9 @@ pub record HandsOn (start : Place) (old : PlanPass) (r : Result (Unit {0}) Cut) 
   pub hands : HandsIn (line_in message) old r new
 
 -- No message was read.
-pub record HandsNone (start : Place) (old : PlanPass) (c : Cut) (new : PlanPass) : Type 0 where
+pub record HandsNone (start : Place) (old : PlanPass) (c : Cut) (place : Place) (new : PlanPass) : Type 0 where
   pub fault : LineFault
-  pub asks : Faults start fault
+  pub asks : Faults start fault place
   pub cut : c ≡ cut_by fault
   pub same : new ≡ old
 
@@ -67,9 +67,9 @@ pub record HandsNone (start : Place) (old : PlanPass) (c : Cut) (new : PlanPass)
 abbrev pub PassesTo : ℕ → Place → PlanPass → Result (Option ℕ) Cut → Place → PlanPass → Type 0
 PassesTo next start old (Ok (Some n)) place new = (n ≡ next) × HandsOn start old (Ok tt) place new
 PassesTo next start old (Ok None) place new = ⊥
-PassesTo next start old (Err c) place new = HandsOn start old (Err c) place new ⊎ HandsNone start old c new
+PassesTo next start old (Err c) place new = HandsOn start old (Err c) place new ⊎ HandsNone start old c place new
 
 -- the next message was read and handed to the plan, or it was not read
 abbrev pub Passes : Place → PlanPass → Result (Unit {0}) Cut → Place → PlanPass → Type 0
 Passes start old (Ok u) place new = HandsOn start old (Ok u) place new
-Passes start old (Err c) place new = HandsOn start old (Err c) place new ⊎ HandsNone start old c new
+Passes start old (Err c) place new = HandsOn start old (Err c) place new ⊎ HandsNone start old c place new

@@ -4,6 +4,7 @@ use Rattle.std.specs.List.{filter_map}
 use mathlib.Core.List.{IsPrefix}
 use Rattle.pl_turn.specs.Passes.{seen_of, mine_of}
 use Rattle.pl_io.specs.declared.errors.LineFault.{LineFault}
+use Rattle.pl_io.specs.Writes.{AppendsFront}
 use Rattle.pl_model.specs.declared.whole.Model.{Model}
 use Rattle.pl_entry.specs.declared.event.Event.TheVariants as event
 use Rattle.pl_entry.specs.declared.entry.Entry.{Entry}
@@ -58,14 +59,23 @@ pub data Reads (start : Place) (lines : List (List ℕ)) (place : Place) : Type 
 abbrev pub EndsUsed : Place → List (Option (List ℕ)) → Place → Type 0
 EndsUsed start inputs place = (front : List (Option (List ℕ))) → inputs ≡ front ++ None ∷ [] → IsUsedUp start.ahead place.ahead
 
--- Messages were read, and each was handed to the plan, as the pass's own entry.
-pub record Tells (old : PlanPass) (start : Place) (new : PlanPass) (place : Place) : Type 0 where
-  pub follows : Follows old new
+-- where the last input is a line, it is the last that was read
+abbrev pub EndsRead : List (Option (List ℕ)) → List (List ℕ) → Type 0
+EndsRead inputs lines = (front : List (Option (List ℕ))) (line : List ℕ) → inputs ≡ front ++ Some line ∷ [] → (before : List (List ℕ)) × (lines ≡ before ++ line ∷ [])
+
+-- These messages were read, and no line behind the last.
+pub record Heard (start : Place) (inputs : List (Option (List ℕ))) (place : Place) : Type 0 where
   pub lines : List (List ℕ)
-  pub inputs : List (Option (List ℕ))
   pub reads : Reads start lines place
   pub said : said_in inputs ≡ spoken lines
   pub used : EndsUsed start inputs place
+  pub last : EndsRead inputs lines
+
+-- Messages were read, and each was handed to the plan, as the pass's own entry.
+pub record Tells (old : PlanPass) (start : Place) (new : PlanPass) (place : Place) : Type 0 where
+  pub follows : Follows old new
+  pub inputs : List (Option (List ℕ))
+  pub heard : Heard start inputs place
   pub mine : AreInputs inputs (mine_of new)
 
 -- ---- lines
@@ -132,51 +142,56 @@ pub record FeedsOut (plan : SharedPlan) (m : Model) (old : PlanPass) (start : Pl
   pub done : InWorld (seen_of new) (λ w. w.done ≡ true)
 
 -- No message is read, for this reason, while the round is closed.
-pub record FeedsUntil (plan : SharedPlan) (m : Model) (c : Cut) (old : PlanPass) (start : Place) (held : Option (List ℕ)) (new : PlanPass) (now : Option (List ℕ)) : Type 0 where
-  pub place : Place
-  pub waiting : Waiting plan m old start held new place now
+pub record FeedsUntil (plan : SharedPlan) (m : Model) (c : Cut) (old : PlanPass) (start : Place) (held : Option (List ℕ)) (new : PlanPass) (place : Place) (now : Option (List ℕ)) : Type 0 where
+  pub middle : Place
+  pub waiting : Waiting plan m old start held new middle now
   pub fault : LineFault
-  pub asks : Faults place fault
+  pub asks : Faults middle fault place
   pub cut : c ≡ cut_by fault
 
 -- A message was read in a closed round, and the plan refused it.
-pub record FeedsRefused (plan : SharedPlan) (m : Model) (c : Cut) (old : PlanPass) (start : Place) (held : Option (List ℕ)) (new : PlanPass) (now : Option (List ℕ)) : Type 0 where
+pub record FeedsRefused (plan : SharedPlan) (m : Model) (c : Cut) (old : PlanPass) (start : Place) (held : Option (List ℕ)) (new : PlanPass) (place : Place) (now : Option (List ℕ)) : Type 0 where
   pub mid : PlanPass
   pub middle : Place
-  pub place : Place
   pub waiting : Waiting plan m old start held mid middle now
   pub own : BelongsTo plan new
   pub follows : Follows mid new
   pub step : HandsOn middle mid (Err c) place new
 
 -- A worker stopped the plan in an open round, and all was written.
-pub record FeedsStopped (plan : SharedPlan) (m : Model) (old : PlanPass) (start : Place) (held : Option (List ℕ)) (new : PlanPass) (now : Option (List ℕ)) : Type 0 where
-  pub place : Place
+pub record FeedsStopped (plan : SharedPlan) (m : Model) (old : PlanPass) (start : Place) (held : Option (List ℕ)) (new : PlanPass) (place : Place) (now : Option (List ℕ)) : Type 0 where
   pub own : BelongsTo plan new
   pub tells : Tells old start new place
   pub written : WritesAll m held (seen_of new) now
   pub stopped : stop_in (seen_of new) ≡ true
   pub going : InWorld (seen_of new) (λ w. w.done ≡ false)
 
--- A write failed or memory was wanting: a front of what was seen was written.
+-- A write failed: a front of what was seen was written, and not all of it.
+pub record FeedsTorn (plan : SharedPlan) (m : Model) (old : PlanPass) (start : Place) (held : Option (List ℕ)) (new : PlanPass) (now : Option (List ℕ)) : Type 0 where
+  pub place : Place
+  pub own : BelongsTo plan new
+  pub tells : Tells old start new place
+  pub written : AppendsFront held now (text_from m 0 (entries_in (seen_of new)))
+
+-- Memory was wanting: a front of what was seen was written.
 pub record FeedsPart (plan : SharedPlan) (m : Model) (old : PlanPass) (start : Place) (held : Option (List ℕ)) (new : PlanPass) (now : Option (List ℕ)) : Type 0 where
   pub place : Place
   pub own : BelongsTo plan new
   pub tells : Tells old start new place
   pub written : AddsFront held now (text_from m 0 (entries_in (seen_of new)))
 
-pub data FeedsCut (plan : SharedPlan) (m : Model) (old : PlanPass) (start : Place) (held : Option (List ℕ)) (new : PlanPass) (now : Option (List ℕ)) : Type 0 where
-  refused : FeedsRefused plan m cut.Stopped old start held new now → FeedsCut plan m old start held new now
-  stopped : FeedsStopped plan m old start held new now → FeedsCut plan m old start held new now
+pub data FeedsCut (plan : SharedPlan) (m : Model) (old : PlanPass) (start : Place) (held : Option (List ℕ)) (new : PlanPass) (place : Place) (now : Option (List ℕ)) : Type 0 where
+  refused : FeedsRefused plan m cut.Stopped old start held new place now → FeedsCut plan m old start held new place now
+  stopped : FeedsStopped plan m old start held new place now → FeedsCut plan m old start held new place now
 
 -- what the feeder did, by how it ended
 abbrev pub FeedsAll : SharedPlan → Model → PlanPass → Place → Option (List ℕ) → Result (Unit {0}) Cut → PlanPass → Place → Option (List ℕ) → Type 0
 FeedsAll plan m old start held (Ok u) new place now = FeedsOut plan m old start held new place now
-FeedsAll plan m old start held (Err cut.Read) new place now = FeedsUntil plan m cut.Read old start held new now
-FeedsAll plan m old start held (Err cut.Limit) new place now = FeedsUntil plan m cut.Limit old start held new now
-FeedsAll plan m old start held (Err cut.Full) new place now = FeedsRefused plan m cut.Full old start held new now
-FeedsAll plan m old start held (Err cut.Stopped) new place now = FeedsCut plan m old start held new now
-FeedsAll plan m old start held (Err cut.Write) new place now = FeedsPart plan m old start held new now
+FeedsAll plan m old start held (Err cut.Read) new place now = FeedsUntil plan m cut.Read old start held new place now
+FeedsAll plan m old start held (Err cut.Limit) new place now = FeedsUntil plan m cut.Limit old start held new place now
+FeedsAll plan m old start held (Err cut.Full) new place now = FeedsRefused plan m cut.Full old start held new place now
+FeedsAll plan m old start held (Err cut.Stopped) new place now = FeedsCut plan m old start held new place now
+FeedsAll plan m old start held (Err cut.Write) new place now = FeedsTorn plan m old start held new now
 FeedsAll plan m old start held (Err cut.Memory) new place now = FeedsPart plan m old start held new now
 
 -- The same, and then the plan was stopped.

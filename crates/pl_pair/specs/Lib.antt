@@ -1,3 +1,4 @@
+pub mod Duties
 pub mod Served
 pub mod Workers
 pub mod Cuts
@@ -5,4 +6,5 @@ pub mod Rounds
 pub mod Asking
 pub mod Feeds
 pub mod Endings
+pub mod Chosen
 pub mod Runs

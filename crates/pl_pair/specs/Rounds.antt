@@ -2,6 +2,7 @@
 use Rattle.std.specs.Prelude.{◌≡◌, ◌+◌, ◌≤◌, ℕ, List, [], ◌++◌, length, take, drop, Bool, true, false, ◌||◌, Option, Some, IfSome, Result, Ok, Err}
 use mathlib.Core.List.{IsPrefix}
 use Rattle.pl_io.specs.Faults.{Rose}
+use Rattle.pl_io.specs.Writes.{AppendsFront}
 use Rattle.pl_turn.specs.Passes.{seen_of, mine_of, crew_of}
 use Rattle.pl_model.specs.declared.whole.Model.{Model}
 use Rattle.pl_entry.specs.declared.entry.Entry.{Entry}
@@ -61,7 +62,7 @@ abbrev pub RoundEnds : Model → ℕ → Option (List ℕ) → Result Stage Cut 
 RoundEnds m from held (Ok stage.Ended) seen now = Adds held now (lines_behind m from seen) × InWorld seen (λ w. w.done ≡ true)
 RoundEnds m from held (Ok (stage.Waits next)) seen now = Adds held now (lines_behind m from seen) × (next ≡ length (entries_in seen)) × InWorld seen IsBetween
 RoundEnds m from held (Err cut.Stopped) seen now = Adds held now (lines_behind m from seen) × (stop_in seen ≡ true) × InWorld seen (λ w. w.done ≡ false)
-RoundEnds m from held (Err cut.Write) seen now = AddsFront held now (lines_behind m from seen)
+RoundEnds m from held (Err cut.Write) seen now = AppendsFront held now (lines_behind m from seen)
 RoundEnds m from held (Err cut.Memory) seen now = AddsFront held now (lines_behind m from seen)
 RoundEnds m from held (Err cut.Read) seen now = ⊥
 RoundEnds m from held (Err cut.Limit) seen now = ⊥

@@ -1,5 +1,5 @@
 -- What a run of a pair comes to.
-use Rattle.std.specs.Prelude.{◌≡◌, ◌≤◌, ℕ, List, [], ◌∷◌, ◌++◌, length, Bool, true, false, Option, Some, None, IfSome, ◌⊎◌, ⊤}
+use Rattle.std.specs.Prelude.{◌≡◌, ◌≤◌, ◌<◌, ◌||◌, ℕ, List, [], ◌∷◌, ◌++◌, length, Bool, true, false, Option, Some, None, IfSome, ◌⊎◌, ⊤}
 use Rattle.std.specs.List.{All}
 use mathlib.Core.List.{IsPrefix}
 use Rattle.pl_turn.specs.History.{IsEachOnce, StandsIn, times_in}
@@ -7,6 +7,8 @@ use Rattle.pl_turn.specs.Passes.{seen_of, mine_of, opening_of}
 use Rattle.pl_io.specs.declared.errors.LineFault.{LineFault}
 use Rattle.pl_io.specs.declared.errors.LineFault.TheVariants as fault
 use Rattle.pl_io.specs.Lines.{lines_of}
+use Rattle.pl_io.specs.Sparing.{read_size}
+use Rattle.pl_io.specs.Writes.{AppendsFront}
 use Rattle.pl_model.specs.declared.whole.Model.{Model}
 use Rattle.pl_entry.specs.declared.entry.Entry.{Entry}
 use Rattle.pl_machine.specs.declared.stop.Stop.{Stop}
@@ -16,18 +18,24 @@ use Rattle.pl_machine.specs.Lines.{messages_of}
 use Rattle.pl_machine.specs.Finished.{inputs_of}
 use Rattle.pl_machine.specs.Sound.{State}
 use Rattle.pl_render.specs.Lines.{text_of_log}
-use Rattle.pl_stream.specs.Reads.{GaveKnown}
+use Rattle.pl_stream.specs.Reads.{GaveKnown, StopsAt}
 use Rattle.pl_stream.specs.Stops.{IsStuckKnown}
 use Rattle.pl_stream.specs.Written.{Adds}
 use Rattle.pl_shared.specs.declared.noted.Noted.{Noted}
 use Rattle.pl_shared.specs.Items.{items_of, model_in}
 use Rattle.pl_shared.specs.Roles.{is_input, is_repair, is_executed}
+use Rattle.pl_shared.specs.declared.role.Role.{Role}
+use Rattle.pl_shared.specs.declared.role.Role.TheVariants.{Planner, Executive}
 use Rattle.pl_shared.specs.Plans.{PlanPass}
 use Rattle.pl_pair.specs.declared.ended.Ended.{Ended}
 use Rattle.pl_pair.specs.declared.ended.Ended.TheVariants as ended
-use Rattle.pl_pair.specs.Served.{AreOf, AreOfUntil, Made, Refused}
+use Rattle.pl_pair.specs.Duties.{chooser_of}
+use Rattle.pl_pair.specs.Served.{AreOf, AreOfUntil, Made, MakesOwn, Refused}
 use Rattle.pl_pair.specs.Rounds.{IsBetween, AddsFront}
+use Rattle.pl_pair.specs.Endings.{is_other}
+use Rattle.pl_pair.specs.Chosen.{AreChosen}
 use Rattle.pl_pair.specs.Asking.{Place}
+use Rattle.pl_pair.specs.Feeds.{EndsUsed, EndsRead}
 
 -- The machine has the whole history, which begins with what each of three passes has seen, and each place past the opening stands in one own list of theirs.
 pub record ClosesAll (first planner executive : PlanPass) (machine : State) : Type 0 where
@@ -43,12 +51,14 @@ pub record ClosesAll (first planner executive : PlanPass) (machine : State) : Ty
 -- ---- the history
 
 -- The history in the lock goes on from the entries that were handed in, and has one owner for each further entry: inputs are the feeder's, fixes and rests the planner's,
--- commits, dispatches and closes the executive's. The stop, where there is one, is the own item of the feeder, or of a worker that met a refusal.
-pub record History (m : Model) (before log : List Entry) : Type 0 where
+-- commits, dispatches and closes the executive's. Each own entry of the planner is what its chooser, made from the seed and passed on from entry to entry, proposes in the world before it, or a rest, and each of the executive's what it chooses there. The stop, where there is one, is the own item of the feeder, or of a worker that met a refusal.
+pub record History (seed : ℕ) (m : Model) (before log : List Entry) : Type 0 where
   pub stopped : Bool
   pub feeder : List (ℕ × Noted)
   pub planner : List (ℕ × Noted)
   pub executive : List (ℕ × Noted)
+  pub planner_last : Role
+  pub executive_last : Role
   pub planner_met : Option Stop
   pub executive_met : Option Stop
   pub legal : Legal m log
@@ -57,8 +67,10 @@ pub record History (m : Model) (before log : List Entry) : Type 0 where
   pub inputs : AreOfUntil is_input feeder
   pub repairs : Made planner_met is_repair planner
   pub executed : Made executive_met is_executed executive
-  pub planner_why : Refused planner_met (items_of m log stopped)
-  pub executive_why : Refused executive_met (items_of m log stopped)
+  pub planner_made : MakesOwn planner_met (Planner (chooser_of seed)) (items_of m log stopped) planner planner_last
+  pub executive_made : MakesOwn executive_met Executive (items_of m log stopped) executive executive_last
+  pub planner_why : Refused planner_met planner_last (items_of m log stopped)
+  pub executive_why : Refused executive_met executive_last (items_of m log stopped)
 
 -- ---- the messages
 
@@ -91,14 +103,42 @@ WhyNone ended.WriteFault place left rest = ⊥
 WhyNone ended.LogFull place left rest = ⊥
 WhyNone ended.Memory place left rest = ⊥
 
--- These lines were given, and their messages are these inputs, none of which ends the run.
-pub record Given (r : Ended) (place : Place) (inputs : List (Option (List ℕ))) : Type 0 where
+-- which faults of a reader end the run so
+abbrev pub IsCauseOf : Ended → LineFault → Type 0
+IsCauseOf ended.ReadFault fault.Read = ⊤
+IsCauseOf ended.InputLimit (fault.Long n) = ⊤
+IsCauseOf ended.InputLimit fault.Total = ⊤
+IsCauseOf _ _ = ⊥
+
+-- What such a fault leaves of the reader: it answers the fault from now on.
+pub record StoppedBy (r : Ended) (place : Place) (lines : List (List ℕ)) (left : ℕ) (rest : Option (List ℕ)) (behind : Place) : Type 0 where
+  pub reason : LineFault
+  pub cause : IsCauseOf r reason
+  pub stops : StopsAt place.reader lines left rest reason behind.reader behind.ahead
+
+-- These lines were given, and their messages are these inputs, none of which ends the run. Then the reader met a fault, or it had failed before, and is as it was.
+pub record Given (r : Ended) (place : Place) (inputs : List (Option (List ℕ))) (behind : Place) : Type 0 where
   pub lines : List (List ℕ)
   pub left : ℕ
   pub rest : Option (List ℕ)
   pub gave : GaveKnown place.reader.limit place.reader.room place.ahead lines left rest
   pub why : WhyNone r place left rest
   pub messages : messages_of lines ≡ inputs ++ None ∷ []
+  pub stopped : place.reader.failed ≡ None → StoppedBy r place lines left rest behind
+  pub still : (f : LineFault) → place.reader.failed ≡ Some f → behind.reader ≡ place.reader
+
+-- ---- how far the input was read
+
+-- The lines that were asked for, each within the reader's limits: their messages are these. Where the last message is a line, it is the last that was asked for; where it is the end of the
+-- input, all bytes were used up. The reader holds fewer bytes than one read asks for, if it did before.
+pub record ReadUpTo (place : Place) (messages : List (Option (List ℕ))) (behind : Place) : Type 0 where
+  pub lines : List (List ℕ)
+  pub more : List (Option (List ℕ))
+  pub gave : GaveKnown place.reader.limit place.reader.room place.ahead lines behind.reader.room behind.ahead
+  pub few : length place.reader.held < read_size → length behind.reader.held < read_size
+  pub said : messages_of lines ≡ messages ++ more
+  pub no_further : EndsRead messages lines
+  pub used_up : EndsUsed place messages behind
 
 -- ---- how it ended
 
@@ -106,39 +146,49 @@ pub record Given (r : Ended) (place : Place) (inputs : List (Option (List ℕ)))
 abbrev pub WritesLog : Model → List Entry → Option (List ℕ) → Option (List ℕ) → Type 0
 WritesLog m log held now = Adds held now (text_of_log m log)
 
--- The input has ended: the further inputs are all messages, each once and in order.
-pub record RunsOut (m : Model) (log entries : List Entry) (place : Place) (held now : Option (List ℕ)) : Type 0 where
+-- The input has ended, and the last round is closed: the further inputs are all messages, each once and in order. No line was asked for behind the last.
+pub record RunsOut (m : Model) (log entries : List Entry) (place : Place) (held : Option (List ℕ)) (behind : Place) (now : Option (List ℕ)) : Type 0 where
   pub done : (world_of m log).done ≡ true
+  pub closed : (world_of m log).closed ≡ true
   pub messages : InMessages place (λ messages. inputs_of entries ≡ messages)
+  pub read : ReadUpTo place (inputs_of entries) behind
   pub written : WritesLog m log held now
 
 -- No further message was read, between two rounds.
-pub record RunsUntil (r : Ended) (m : Model) (log entries : List Entry) (place : Place) (held now : Option (List ℕ)) : Type 0 where
+pub record RunsUntil (r : Ended) (m : Model) (log entries : List Entry) (place : Place) (held : Option (List ℕ)) (behind : Place) (now : Option (List ℕ)) : Type 0 where
   pub between : IsBetween (world_of m log)
-  pub given : Given r place (inputs_of entries)
+  pub given : Given r place (inputs_of entries) behind
   pub written : WritesLog m log held now
 
--- The log has as many entries as it may have, and one more is due: the round is open, or it is closed and the next message was read.
-pub record RunsFull (m : Model) (log entries : List Entry) (place : Place) (held now : Option (List ℕ)) : Type 0 where
+-- one message, which is the next behind these inputs
+abbrev pub IsNext : Place → (inputs pending : List (Option (List ℕ))) → Type 0
+IsNext place inputs pending = (next : Option (List ℕ)) × ((pending ≡ next ∷ []) × InMessages place (λ messages. IsPrefix (inputs ++ next ∷ []) messages))
+
+-- The log has as many entries as it may have, and one more is due: the round is open, and no further message was read, or it is closed and the next message was read.
+pub record RunsFull (m : Model) (log entries : List Entry) (place : Place) (held : Option (List ℕ)) (behind : Place) (now : Option (List ℕ)) : Type 0 where
   pub full : length log ≡ (options_of log).entries
   pub going : (world_of m log).done ≡ false
-  pub due : ((world_of m log).closed ≡ false) ⊎ (((world_of m log).closed ≡ true) × InMessages place (λ messages. (next : Option (List ℕ)) × IsPrefix (inputs_of entries ++ next ∷ []) messages))
+  pub pending : List (Option (List ℕ))
+  pub read : ReadUpTo place (inputs_of entries ++ pending) behind
+  pub due : (((world_of m log).closed ≡ false) × (pending ≡ [])) ⊎ (((world_of m log).closed ≡ true) × IsNext place (inputs_of entries) pending)
   pub written : WritesLog m log held now
 
-abbrev pub RunEnds : Ended → Model → List Entry → List Entry → Place → Option (List ℕ) → Option (List ℕ) → Type 0
-RunEnds ended.Finished m log entries place held now = RunsOut m log entries place held now
-RunEnds ended.ReadFault m log entries place held now = RunsUntil ended.ReadFault m log entries place held now
-RunEnds ended.InputLimit m log entries place held now = RunsUntil ended.InputLimit m log entries place held now
-RunEnds ended.LogFull m log entries place held now = RunsFull m log entries place held now
-RunEnds ended.WriteFault m log entries place held now = AddsFront held now (text_of_log m log)
-RunEnds ended.Memory m log entries place held now = AddsFront held now (text_of_log m log)
+abbrev pub RunEnds : Ended → Model → List Entry → List Entry → Place → Option (List ℕ) → Place → Option (List ℕ) → Type 0
+RunEnds ended.Finished m log entries place held behind now = RunsOut m log entries place held behind now
+RunEnds ended.ReadFault m log entries place held behind now = RunsUntil ended.ReadFault m log entries place held behind now
+RunEnds ended.InputLimit m log entries place held behind now = RunsUntil ended.InputLimit m log entries place held behind now
+RunEnds ended.LogFull m log entries place held behind now = RunsFull m log entries place held behind now
+RunEnds ended.WriteFault m log entries place held behind now = AppendsFront held now (text_of_log m log)
+RunEnds ended.Memory m log entries place held behind now = AddsFront held now (text_of_log m log)
 
--- A run: one history, its further inputs a front of the messages, and what its answer says.
-pub record PairRun (start : State) (place : Place) (held : Option (List ℕ)) (r : Ended) (now : Option (List ℕ)) : Type 0 where
+-- A run: one history, its further inputs a front of the messages, and what its answer says. The feeder stops the plan where it met a fault, a limit or a refusal: which of them, that is the answer. It is `LogFull` only where no worker met another refusal.
+pub record PairRun (seed : ℕ) (start : State) (place : Place) (held : Option (List ℕ)) (r : Ended) (behind : Place) (now : Option (List ℕ)) : Type 0 where
   pub log : List Entry
   pub entries : List Entry
   pub begins : log ≡ start.log ++ entries
-  pub history : History start.model start.log log
+  pub history : History seed start.model start.log log
+  pub chosen : AreChosen start.model start.log entries
   pub feeder_goes : r ≡ ended.Finished → AreOf is_input history.feeder
+  pub refused : r ≡ ended.LogFull → (is_other history.planner_met || is_other history.executive_met) ≡ false
   pub messages : InMessages place (λ messages. IsPrefix (inputs_of entries) messages)
-  pub ends : RunEnds r start.model log entries place held now
+  pub ends : RunEnds r start.model log entries place held behind now

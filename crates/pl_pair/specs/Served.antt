@@ -9,11 +9,15 @@ use Rattle.pl_machine.specs.World.{World}
 use Rattle.pl_shared.specs.declared.noted.Noted.{Noted}
 use Rattle.pl_shared.specs.declared.noted.Noted.TheVariants.{Stopped}
 use Rattle.pl_shared.specs.declared.plan.SharedPlan.{SharedPlan}
+use Rattle.pl_shared.specs.declared.role.Role.{Role}
 use Rattle.pl_shared.specs.Items.{InWorld, stop_in}
-use Rattle.pl_shared.specs.Roles.{worker_of, kind_of, is_entry}
+use Rattle.pl_shared.specs.Roles.{worker_of, has_event, kind_of, is_entry}
 use Rattle.pl_shared.specs.Plans.{BelongsTo}
+use Rattle.pl_shared.specs.Making.{MakesAll}
 use Rattle.pl_shared.specs.Turns.{IsFull}
+use Rattle.pl_pair.specs.declared.duty.Duty.{Duty}
 use Rattle.pl_pair.specs.declared.worker.Worker.{Worker}
+use Rattle.pl_pair.specs.Duties.{role_of}
 
 -- Own items, each an entry of this kind.
 abbrev pub AreOf : (Event → Bool) → List (ℕ × Noted) → Type 0
@@ -36,25 +40,40 @@ abbrev pub Made : Option Stop → (Event → Bool) → List (ℕ × Noted) → T
 Made None test mine = AreOf test mine
 Made (Some s) test mine = AreOfUntil test mine
 
--- as many entries as may be, in an open round
-abbrev pub IsFullRound : List Noted → Type 0
-IsFullRound seen = IsFull seen × InWorld seen (λ w. (w.closed ≡ false) × (w.done ≡ false))
+-- Own items, each the entry that a worker makes that began with this role, in the world before it, and a stop behind them where there is one. `last` is its role behind them.
+pub record MakesUntil (r : Role) (seen : List Noted) (mine : List (ℕ × Noted)) : Type 0 where
+  pub own : List (ℕ × Noted)
+  pub rest : List (ℕ × Noted)
+  pub whole : mine ≡ own ++ rest
+  pub last : Role
+  pub made : MakesAll r seen own last
+  pub behind : IsStopAtMost rest
 
--- why a worker stopped the plan
-abbrev pub Refused : Option Stop → List Noted → Type 0
-Refused None seen = ⊤
-Refused (Some stop.NotNow) seen = ⊥
-Refused (Some stop.LogFull) seen = IsFullRound seen
-Refused (Some stop.Spoiled) seen = ⊤
-Refused (Some stop.Memory) seen = ⊤
+-- what a worker made that began with the role `r`, entry by entry: only one that met a refusal has stopped the plan, and one that met none has come to the role `r2`
+abbrev pub MakesOwn : Option Stop → Role → List Noted → List (ℕ × Noted) → Role → Type 0
+MakesOwn None r seen mine r2 = MakesAll r seen mine r2
+MakesOwn (Some s) r seen mine r2 = MakesUntil r seen mine
 
--- A worker of the plan and what it did: entries of its own kind.
+-- as many entries as may be, in an open round in which the role has an event
+abbrev pub IsFullRound : Role → List Noted → Type 0
+IsFullRound r seen = IsFull seen × InWorld seen (λ w. (w.closed ≡ false) × (w.done ≡ false) × (has_event r w ≡ true))
+
+-- why a worker of this role stopped the plan
+abbrev pub Refused : Option Stop → Role → List Noted → Type 0
+Refused None r seen = ⊤
+Refused (Some stop.NotNow) r seen = ⊥
+Refused (Some stop.LogFull) r seen = IsFullRound r seen
+Refused (Some stop.Spoiled) r seen = ⊤
+Refused (Some stop.Memory) r seen = ⊤
+
+-- A worker of the plan and what it did, from the role on that it was hired for.
 pub record IsServed (plan : SharedPlan) (w : Worker) : Type 0 where
   pub own : BelongsTo plan w.pass
-  pub made : Made w.refusal (kind_of w.role) (mine_of w.pass)
-  pub why : Refused w.refusal (seen_of w.pass)
+  pub made : MakesOwn w.refusal (role_of w.duty) (seen_of w.pass) (mine_of w.pass) w.role
+  pub worker : worker_of w.role ≡ worker_of (role_of w.duty)
+  pub why : Refused w.refusal w.role (seen_of w.pass)
 
--- The worker with this number.
-pub record IsWorker (plan : SharedPlan) (number : ℕ) (w : Worker) : Type 0 where
+-- The worker that was hired for this.
+pub record IsWorker (plan : SharedPlan) (duty : Duty) (w : Worker) : Type 0 where
   pub served : IsServed plan w
-  pub worker : worker_of w.role ≡ number
+  pub hired : w.duty ≡ duty

@@ -4,7 +4,7 @@ ghost use Rattle.pl_io.specs.Faults.{Rose};
 ghost use Rattle.pl_turn.specs.Passes.{seen_of, mine_of};
 ghost use Rattle.pl_shared.specs.Items.{entries_in};
 ghost use Rattle.pl_shared.specs.Plans.{BelongsTo};
-ghost use Rattle.pl_pair.specs.Workers.{AreHands};
+ghost use Rattle.pl_pair.specs.Workers.{AreHands, SameDuties};
 ghost use Rattle.pl_pair.specs.Asking.{place_of, PassesTo};
 ghost use Rattle.pl_pair.specs.Rounds.{Follows};
 ghost use Rattle.pl_pair.specs.Feeds.{Steps, FeedsAll, FeedsToEnd};
@@ -62,6 +62,7 @@ fn step<R: Wait, S: Source, O: Sink>(
     requires limit { lines.old.limit ≤ 4096 }
     ensures own { BelongsTo plan.now pass.new }
     ensures hands { AreHands plan.now hands.new }
+    ensures duties { SameDuties hands.old hands.new }
     ensures steps { Steps plan.now model.now from (place_of lines.old (S.left src.old)) pass.old (O.held out.old) result
         (place_of lines.new (S.left src.new)) pass.new (O.held out.new) }
     ensures read { IsErrOf result Cut.Read → lines.old.failed ≡ None → Rose (S.faults src.old) (S.faults src.new) }
@@ -93,6 +94,7 @@ fn feed_all<R: Wait, S: Source, O: Sink>(
     requires limit { lines.old.limit ≤ 4096 }
     ensures own { BelongsTo plan.now pass.new }
     ensures hands { AreHands plan.now hands.new }
+    ensures duties { SameDuties hands.old hands.new }
     ensures feeds { FeedsAll plan.now model.now pass.old (place_of lines.old (S.left src.old)) (O.held out.old) result pass.new
         (place_of lines.new (S.left src.new)) (O.held out.new) }
     ensures read { IsErrOf result Cut.Read → lines.old.failed ≡ None → Rose (S.faults src.old) (S.faults src.new) }
@@ -128,6 +130,7 @@ pub(crate) fn feed_or_stop<R: Wait, S: Source, O: Sink>(
     requires limit { lines.old.limit ≤ 4096 }
     ensures own { BelongsTo plan.now pass.new }
     ensures hands { AreHands plan.now hands.new }
+    ensures duties { SameDuties hands.old hands.new }
     ensures feeds { FeedsToEnd plan.now model.now pass.old (place_of lines.old (S.left src.old)) (O.held out.old) result pass.new
         (place_of lines.new (S.left src.new)) (O.held out.new) }
     ensures read { IsErrOf result Cut.Read → lines.old.failed ≡ None → Rose (S.faults src.old) (S.faults src.new) }

@@ -1,4 +1,5 @@
 //! The two workers, wherever they are.
+use crate::duty::Duty;
 use crate::worker::Worker;
 use pl_shared::SharedPlan;
 use std::alloc::Global;
@@ -9,13 +10,13 @@ use std::thread::{Promise, PromisedHandle, Threads};
 #[derive(Drop)]
 pub struct Hired<'p> {
     pub plan: &'p SharedPlan,
-    pub worker: u8,
+    pub duty: Duty,
 }
 
 impl<'p> Promise<Worker> for Hired<'p> {
     ghost use Rattle.pl_pair.specs.Served.{IsWorker};
 
-    ghost kept_by = { λ p r. IsWorker p.plan.now p.worker r };
+    ghost kept_by = { λ p r. IsWorker p.plan.now p.duty r };
 }
 
 /// A worker in a thread of its own, or one whose start was refused.
@@ -26,16 +27,16 @@ pub enum Hand<'p> {
 }
 
 impl<'p> Hand<'p> {
-    ghost use Rattle.std.specs.Prelude.{ℕ};
+    ghost use Rattle.std.specs.Prelude.{◌≡◌};
     ghost use Rattle.pl_shared.specs.declared.plan.SharedPlan.{SharedPlan};
-    ghost use Rattle.pl_pair.specs.Served.{IsWorker};
-    ghost use Rattle.pl_pair.specs.Workers.{IsHand, MayAct};
+    ghost use Rattle.pl_pair.specs.Served.{IsServed};
+    ghost use Rattle.pl_pair.specs.Workers.{IsHand, duty_of};
 
     /// Acts for a worker that has no thread. Answers whether an entry was made.
-    #[tactic(auto, using(crate::proofs::Working::still_worker))]
     fn act<R: Wait>(&mut self, rt: &R, alloc: Global, plan: &SharedPlan) -> bool
-        requires { MayAct plan.now self.old }
-        ensures { (number : ℕ) → IsHand plan.now number self.old → IsHand plan.now number self.new }
+        requires { IsHand plan.now self.old }
+        ensures hand { IsHand plan.now self.new }
+        ensures duty { duty_of self.new ≡ duty_of self.old }
     {
         match self {
             Hand::Away(_) => false,
@@ -45,7 +46,8 @@ impl<'p> Hand<'p> {
 
     /// The worker, once its thread has ended.
     pub(crate) fn joined<R: Threads>(self, rt: &R) -> Worker
-        ensures { (plan : SharedPlan) (number : ℕ) → IsHand plan number self.entry → IsWorker plan number result }
+        ensures served { (plan : SharedPlan) → IsHand plan self.entry → IsServed plan result }
+        ensures duty { result.duty ≡ duty_of self.entry }
     {
         match self {
             Hand::Away(child) => child.join(rt),
@@ -62,13 +64,13 @@ pub struct Hands<'p> {
 }
 
 impl<'p> Hands<'p> {
-    ghost use Rattle.pl_pair.specs.Workers.{AreHands};
+    ghost use Rattle.pl_pair.specs.Workers.{AreHands, SameDuties};
 
     /// Acts for the workers that have no thread. Answers whether an entry was made.
-    #[tactic(auto, using(crate::proofs::Working::may_act))]
     pub(crate) fn act<R: Wait>(&mut self, rt: &R, alloc: Global, plan: &SharedPlan) -> bool
         requires { AreHands plan.now self.old }
-        ensures { AreHands plan.now self.new }
+        ensures hands { AreHands plan.now self.new }
+        ensures duties { SameDuties self.old self.new }
     {
         let repaired = self.planner.act(rt, alloc, plan);
         let executed = self.executive.act(rt, alloc, plan);

@@ -3,6 +3,7 @@
 
 mod asking;
 mod cut;
+mod duty;
 mod ended;
 mod endings;
 mod feeder;

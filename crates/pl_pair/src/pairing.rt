@@ -5,18 +5,18 @@ ghost use Rattle.pl_io.specs.Faults.{Rose};
 ghost use Rattle.pl_turn.specs.Passes.{mine_of};
 ghost use Rattle.pl_shared.specs.Plans.{BelongsTo};
 ghost use Rattle.pl_pair.specs.Served.{IsWorker};
-ghost use Rattle.pl_pair.specs.Workers.{AreHands};
+ghost use Rattle.pl_pair.specs.Workers.{AreHands, duty_of};
 ghost use Rattle.pl_pair.specs.Asking.{place_of};
 ghost use Rattle.pl_pair.specs.Feeds.{FeedsToEnd};
 
 use crate::cut::Cut;
+use crate::duty::Duty;
 use crate::feeder::feed_or_stop;
 use crate::hands::{Hand, Hands, Hired};
 use crate::worker::{Worker, serve_unless};
-use pl_choose::Seeded;
 use pl_io::{LineReader, Sink, Source};
 use pl_model::Model;
-use pl_shared::{Pass, Role, SharedPlan};
+use pl_shared::{Pass, SharedPlan};
 use pl_turn::Gate;
 use std::alloc::Global;
 use std::sync::Wait;
@@ -51,8 +51,8 @@ fn feed_and_join<R: Threads + Wait, S: Source, O: Sink>(
     ensures own { BelongsTo plan.now result.pass }
     ensures feeds { FeedsToEnd plan.now model.now pass (place_of lines.old (S.left src.old)) (O.held out.old) result.fed result.pass
         (place_of lines.new (S.left src.new)) (O.held out.new) }
-    ensures planner { IsWorker plan.now 1 result.planner }
-    ensures executive { IsWorker plan.now 0 result.executive }
+    ensures planner { IsWorker plan.now (duty_of hands.entry.planner) result.planner }
+    ensures executive { IsWorker plan.now (duty_of hands.entry.executive) result.executive }
     ensures read { IsErrOf result.fed Cut.Read → lines.old.failed ≡ None → Rose (S.faults src.old) (S.faults src.new) }
     ensures write { IsErrOf result.fed Cut.Write → Rose (O.faults out.old) (O.faults out.new) }
 {
@@ -87,7 +87,7 @@ pub(crate) fn run_workers<R: Threads + Wait + Sync, S: Source, O: Sink, G: Gate 
     pass: Pass,
     one: Pass,
     two: Pass,
-    chooser: Seeded,
+    seed: u64,
     lines: &mut LineReader,
     src: &mut S,
     out: &mut O,
@@ -99,8 +99,8 @@ pub(crate) fn run_workers<R: Threads + Wait + Sync, S: Source, O: Sink, G: Gate 
     ensures own { BelongsTo plan.now result.pass }
     ensures feeds { FeedsToEnd plan.now model.now pass (place_of lines.old (S.left src.old)) (O.held out.old) result.fed result.pass
         (place_of lines.new (S.left src.new)) (O.held out.new) }
-    ensures planner { IsWorker plan.now 1 result.planner }
-    ensures executive { IsWorker plan.now 0 result.executive }
+    ensures planner { IsWorker plan.now (Duty.Repair seed) result.planner }
+    ensures executive { IsWorker plan.now Duty.Execute result.executive }
     ensures read { IsErrOf result.fed Cut.Read → lines.old.failed ≡ None → Rose (S.faults src.old) (S.faults src.new) }
     ensures write { IsErrOf result.fed Cut.Write → Rose (O.faults out.old) (O.faults out.new) }
 {
@@ -117,34 +117,30 @@ pub(crate) fn run_workers<R: Threads + Wait + Sync, S: Source, O: Sink, G: Gate 
             ensures feeds { FeedsToEnd plan.entry.now model.entry.now pass (place_of lines.entry.now (S.left src.entry.now)) (O.held out.entry.now) result.3.fed
                 result.3.pass (place_of result.0.now (S.left result.1.now)) (O.held result.2.now) }
             ensures back { (result.0.ghost_name ≡ lines.entry.ghost_name) × (result.1.ghost_name ≡ src.entry.ghost_name) × (result.2.ghost_name ≡ out.entry.ghost_name) }
-            ensures planner { IsWorker plan.entry.now 1 result.3.planner }
-            ensures executive { IsWorker plan.entry.now 0 result.3.executive }
+            ensures planner { IsWorker plan.entry.now (Duty.Repair seed) result.3.planner }
+            ensures executive { IsWorker plan.entry.now Duty.Execute result.3.executive }
             ensures read { IsErrOf result.3.fed Cut.Read → lines.entry.now.failed ≡ None → Rose (S.faults src.entry.now) (S.faults result.1.now) }
             ensures write { IsErrOf result.3.fed Cut.Write → Rose (O.faults out.entry.now) (O.faults result.2.now) }
         {
             let planner = scope.spawn_with(
-                Hired { plan, worker: 1 },
+                Hired {
+                    plan,
+                    duty: Duty::Repair(seed),
+                },
                 move || -> Worker
                     requires { BelongsTo plan.now one × (mine_of one ≡ []) }
-                    ensures { IsWorker plan.entry.now 1 result }
-                {
-                    serve_unless(
-                        rt,
-                        alloc,
-                        plan,
-                        gate,
-                        one,
-                        Role::Planner(chooser),
-                        refused_one,
-                    )
-                },
+                    ensures { IsWorker plan.entry.now (Duty.Repair seed) result }
+                { serve_unless(rt, alloc, plan, gate, one, Duty::Repair(seed), refused_one) },
             );
             let executive = scope.spawn_with(
-                Hired { plan, worker: 0 },
+                Hired {
+                    plan,
+                    duty: Duty::Execute,
+                },
                 move || -> Worker
                     requires { BelongsTo plan.now two × (mine_of two ≡ []) }
-                    ensures { IsWorker plan.entry.now 0 result }
-                { serve_unless(rt, alloc, plan, gate, two, Role::Executive, refused_two) },
+                    ensures { IsWorker plan.entry.now Duty.Execute result }
+                { serve_unless(rt, alloc, plan, gate, two, Duty::Execute, refused_two) },
             );
             let planner = match planner {
                 Ok(child) => Hand::Away(child),

@@ -10,7 +10,6 @@ ghost use Rattle.pl_pair.specs.Runs.{ClosesAll, PairRun};
 use crate::ended::Ended;
 use crate::endings::ended;
 use crate::pairing::{Ran, run_workers};
-use pl_choose::Seeded;
 use pl_io::{LineReader, Sink, Source};
 use pl_lists::Copied;
 use pl_machine::Machine;
@@ -42,7 +41,7 @@ fn run_over<R: Threads + Wait + Sync, S: Source, O: Sink, G: Gate + Sync>(
     alloc: Global,
     machine: Machine,
     model: &Model,
-    chooser: Seeded,
+    seed: u64,
     gate: &G,
     lines: &mut LineReader,
     src: &mut S,
@@ -52,7 +51,8 @@ fn run_over<R: Threads + Wait + Sync, S: Source, O: Sink, G: Gate + Sync>(
     requires going { (world_of machine.model machine.log).done ≡ false }
     requires model { model.now ≡ machine.model }
     requires limit { lines.old.limit ≤ 4096 }
-    ensures run { PairRun machine (place_of lines.old (S.left src.old)) (O.held out.old) result (O.held out.new) }
+    ensures run { PairRun seed machine (place_of lines.old (S.left src.old)) (O.held out.old) result
+        (place_of lines.new (S.left src.new)) (O.held out.new) }
     ensures read { result ≡ Ended.ReadFault → lines.old.failed ≡ None → Rose (S.faults src.old) (S.faults src.new) }
     ensures write { result ≡ Ended.WriteFault → Rose (O.faults out.old) (O.faults out.new) }
 {
@@ -62,7 +62,7 @@ fn run_over<R: Threads + Wait + Sync, S: Source, O: Sink, G: Gate + Sync>(
     let one = plan.split(alloc, &mut pass).unwrap();
     let two = plan.split(alloc, &mut pass).unwrap();
     let ran = run_workers(
-        rt, alloc, &plan, gate, model, pass, one, two, chooser, lines, src, out,
+        rt, alloc, &plan, gate, model, pass, one, two, seed, lines, src, out,
     );
     let Ran {
         pass,
@@ -90,23 +90,14 @@ pub fn run_pair<R: Threads + Wait + Sync, I: Source, O: Sink, G: Gate + Sync>(
 ) -> Ended
     requires going { machine.world.done ≡ false }
     requires limit { lines.old.limit ≤ 4096 }
-    ensures run { PairRun machine (place_of lines.old (I.left src.old)) (O.held out.old) result (O.held out.new) }
+    ensures run { PairRun seed machine (place_of lines.old (I.left src.old)) (O.held out.old) result
+        (place_of lines.new (I.left src.new)) (O.held out.new) }
     ensures read { result ≡ Ended.ReadFault → (lines.old.failed ≡ None) → Rose (I.faults src.old) (I.faults src.new) }
     ensures write { result ≡ Ended.WriteFault → Rose (O.faults out.old) (O.faults out.new) }
 {
     let _log = machine.log();
     match machine.model().copy(alloc) {
-        Ok(model) => run_over(
-            rt,
-            alloc,
-            machine,
-            &model,
-            Seeded::new(seed),
-            gate,
-            lines,
-            src,
-            out,
-        ),
+        Ok(model) => run_over(rt, alloc, machine, &model, seed, gate, lines, src, out),
         Err(_) => Ended::Memory,
     }
 }

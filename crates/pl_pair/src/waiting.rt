@@ -3,7 +3,7 @@ ghost use Rattle.std.specs.Prelude.{◌≡◌, ◌≤◌, ◌||◌, length, IfOk
 ghost use Rattle.pl_turn.specs.Passes.{seen_of};
 ghost use Rattle.pl_shared.specs.Items.{entries_in};
 ghost use Rattle.pl_shared.specs.Plans.{BelongsTo};
-ghost use Rattle.pl_pair.specs.Workers.{AreHands};
+ghost use Rattle.pl_pair.specs.Workers.{AreHands, SameDuties};
 ghost use Rattle.pl_pair.specs.Rounds.{Looks, IsRound};
 
 use crate::hands::Hands;
@@ -32,6 +32,7 @@ fn wait_closed<R: Wait>(
     requires from { from ≤ length (entries_in (seen_of pass.old)) }
     ensures own { BelongsTo plan.now pass.new }
     ensures hands { AreHands plan.now hands.new }
+    ensures duties { SameDuties hands.old hands.new }
     ensures looks { Looks pass.old pass.new }
 {
     let mut seen = from;
@@ -64,6 +65,7 @@ pub(crate) fn closed_round<R: Wait>(
     requires from { from ≤ length (entries_in (seen_of pass.old)) }
     ensures own { BelongsTo plan.now pass.new }
     ensures hands { AreHands plan.now hands.new }
+    ensures duties { SameDuties hands.old hands.new }
     ensures looks { Looks pass.old pass.new }
     ensures round { IfOk result (IsRound from (seen_of pass.new)) }
 {

@@ -1,10 +1,10 @@
 //! A worker of a pair, in a thread of its own or in the feeder's.
 ghost use Rattle.std.specs.Prelude.{◌≡◌, []};
 ghost use Rattle.pl_turn.specs.Passes.{mine_of};
-ghost use Rattle.pl_shared.specs.Roles.{worker_of};
 ghost use Rattle.pl_shared.specs.Plans.{BelongsTo};
 ghost use Rattle.pl_pair.specs.Served.{IsServed, IsWorker};
 
+use crate::duty::Duty;
 use pl_machine::Stop;
 use pl_shared::{Acted, Pass, Role, SharedPlan, work};
 use pl_turn::Gate;
@@ -12,11 +12,12 @@ use std::alloc::Global;
 use std::sync::Wait;
 use std::sync::atomic::{AtomicBool, Ordering};
 
-/// What a worker hands back: its pass, its role, and the refusal that it met, for which it stopped the plan.
+/// What a worker hands back: its pass, its role, what it was hired for, and the refusal that it met, for which it stopped the plan.
 #[derive(Drop)]
 pub struct Worker {
     pub pass: Pass,
     pub role: Role,
+    pub duty: Duty,
     pub refusal: Option<Stop>,
 }
 
@@ -28,21 +29,24 @@ fn serve<R: Wait, G: Gate>(
     plan: &SharedPlan,
     gate: &G,
     mut pass: Pass,
-    mut role: Role,
+    duty: Duty,
 ) -> Worker
     requires own { BelongsTo plan.now pass }
     requires new { mine_of pass ≡ [] }
-    ensures { IsWorker plan.now (worker_of role) result }
+    ensures { IsWorker plan.now duty result }
 {
+    let mut role = duty.role();
     match work(rt, alloc, plan, gate, &mut pass, &mut role) {
         Ok(_) => Worker {
             pass,
             role,
+            duty,
             refusal: None,
         },
         Err(stop) => Worker {
             pass,
             role,
+            duty,
             refusal: Some(stop),
         },
     }
@@ -56,21 +60,22 @@ pub(crate) fn serve_unless<R: Wait, G: Gate>(
     plan: &SharedPlan,
     gate: &G,
     pass: Pass,
-    role: Role,
+    duty: Duty,
     refused: &AtomicBool,
 ) -> Worker
     requires own { BelongsTo plan.now pass }
     requires new { mine_of pass ≡ [] }
-    ensures { IsWorker plan.now (worker_of role) result }
+    ensures { IsWorker plan.now duty result }
 {
     if refused.load(Ordering::SeqCst) {
         return Worker {
             pass,
-            role,
+            role: duty.role(),
+            duty,
             refusal: None,
         };
     }
-    serve(rt, alloc, plan, gate, pass, role)
+    serve(rt, alloc, plan, gate, pass, duty)
 }
 
 impl Worker {
@@ -80,7 +85,7 @@ impl Worker {
         requires served { IsServed plan.now self.old }
         requires going { self.old.refusal ≡ None }
         ensures served { IsServed plan.now self.new }
-        ensures worker { worker_of self.new.role ≡ worker_of self.old.role }
+        ensures duty { self.new.duty ≡ self.old.duty }
     {
         match plan.act(rt, alloc, &mut self.pass, &mut self.role) {
             Ok(Acted::Did(_)) => true,
@@ -97,7 +102,7 @@ impl Worker {
     pub(crate) fn act<R: Wait>(&mut self, rt: &R, alloc: Global, plan: &SharedPlan) -> bool
         requires { IsServed plan.now self.old }
         ensures served { IsServed plan.now self.new }
-        ensures worker { worker_of self.new.role ≡ worker_of self.old.role }
+        ensures duty { self.new.duty ≡ self.old.duty }
     {
         match self.refusal {
             Some(_) => false,

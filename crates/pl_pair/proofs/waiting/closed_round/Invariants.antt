@@ -1,5 +1,5 @@
 use Rattle.pl_shared.specs.Plans.{BelongsTo}
-use Rattle.pl_pair.specs.Workers.{AreHands}
+use Rattle.pl_pair.specs.Workers.{AreHands, SameDuties}
 use Rattle.pl_pair.specs.Rounds.{Looks}
 use Rattle.pl_pair.proofs.waiting.closed_round.Given as goal
 
@@ -8,5 +8,6 @@ abbrev pub invariant-loop : goal.invariant-loop
 invariant-loop g l = record {
   own : BelongsTo l.plan l.pass;
   hands : AreHands l.plan l.hands;
+  duties : SameDuties l.initial.hands l.hands;
   looks : Looks l.initial.pass l.pass;
 }

@@ -1,0 +1,223 @@
+-- Each commit, dispatch and close of a history is what the executive chooses there.
+use Rattle.std.proofs.Common.{◌≡◌, ◌≢◌, ℕ, suc, ◌+◌, ◌≤◌, ◌<◌, List, [], ◌∷◌, ◌++◌, length, map, cond, nat_eq, Bool, true, false, Option, Some, None, slice_get, refl, sym, ◌∙◌, ap, subst, arith, inl, inr, ◌⊎◌, append_assoc, eqb-true, length-append}
+use Rattle.std.specs.List.{All}
+use Rattle.std.proofs.lemmas.List.{append-nil}
+use Rattle.std.proofs.lemmas.List.Sums.{sum_by-cons, sum_by-append}
+use Rattle.std.proofs.lemmas.List.Elements.{All-nil, All-cons, All-head, All-tail, All-append}
+use Rattle.pl_turn.specs.History.{IsEachOnce, StandsFrom, StandsIn, times_at, times_in}
+use Rattle.pl_model.specs.declared.whole.Model.{Model}
+use Rattle.pl_entry.specs.declared.event.Event.{Event}
+use Rattle.pl_entry.specs.declared.event.Event.TheVariants as event
+use Rattle.pl_entry.specs.declared.entry.Entry.{Entry}
+use Rattle.pl_machine.specs.declared.stop.Stop.{Stop}
+use Rattle.pl_machine.specs.World.{World}
+use Rattle.pl_machine.specs.Choices.{exec_choice_of}
+use Rattle.pl_machine.specs.Legal.{world_of}
+use Rattle.pl_shared.specs.declared.noted.Noted.{Noted}
+use Rattle.pl_shared.specs.declared.noted.Noted.TheVariants.{Opened, Made, Stopped}
+use Rattle.pl_shared.specs.declared.role.Role.{Role}
+use Rattle.pl_shared.specs.declared.role.Role.TheVariants.{Planner, Executive}
+use Rattle.pl_shared.specs.Items.{stop_items, items_of, entries_in, model_in, InWorld}
+use Rattle.pl_shared.specs.Roles.{worker_of, is_input, is_repair, is_executed, is_entry, IsChosen, IsBy, IsDueBy}
+use Rattle.pl_shared.specs.Making.{IsMadeAt, MakesAll}
+use Rattle.pl_shared.proofs.Items.{entries_in_items, length_going}
+use Rattle.pl_shared.proofs.Progress.{made_worker}
+use Rattle.pl_pair.specs.Served as serving
+use Rattle.pl_pair.specs.Served.{AreOf, IsStopAtMost, AreOfUntil, MakesUntil, MakesOwn}
+use Rattle.pl_pair.specs.Chosen.{AreChosen}
+use Rattle.pl_pair.proofs.Closing.{one_at, at_other, stands_back, world_in, at_front, unwrap}
+
+-- ---- who does not make it
+
+abbrev NoneExecuted : List (ℕ × Noted) → Type 0
+NoneExecuted own = All (λ x. is_entry is_executed x.1 ≡ false) own
+
+repair_apart : (v : Event) → is_repair v ≡ true → is_executed v ≡ false
+repair_apart (event.Opened o) e = refl
+repair_apart (event.Input line) e = refl
+repair_apart (event.Fix k m) e = refl
+repair_apart event.Rest e = refl
+repair_apart (event.Commit h) e = absurd (cc)
+repair_apart event.Dispatch e = absurd (cc)
+repair_apart event.Close e = absurd (cc)
+
+input_apart : (v : Event) → is_input v ≡ true → is_executed v ≡ false
+input_apart (event.Opened o) e = refl
+input_apart (event.Input line) e = refl
+input_apart (event.Fix k m) e = refl
+input_apart event.Rest e = refl
+input_apart (event.Commit h) e = absurd (cc)
+input_apart event.Dispatch e = absurd (cc)
+input_apart event.Close e = absurd (cc)
+
+item_apart : (test : Event → Bool) → ((v : Event) → test v ≡ true → is_executed v ≡ false) → (x : Noted) → is_entry test x ≡ true → is_entry is_executed x ≡ false
+item_apart test apart (Opened m e) is = refl
+item_apart test apart (Made e) is = apart e.event is
+item_apart test apart Stopped is = refl
+
+own_apart : (test : Event → Bool) → ((v : Event) → test v ≡ true → is_executed v ≡ false) → (own : List (ℕ × Noted)) → AreOf test own → NoneExecuted own
+own_apart test apart [] are = All-nil (λ x. is_entry is_executed x.1 ≡ false)
+own_apart test apart (x ∷ xs) are =
+    All-cons (λ y. is_entry is_executed y.1 ≡ false) x xs (item_apart test apart x.1 (All-head (λ y. is_entry test y.1 ≡ true) x xs are)) (own_apart test apart xs (All-tail (λ y. is_entry test y.1 ≡ true) x xs are))
+
+stop_apart : (rest : List (ℕ × Noted)) → IsStopAtMost rest → NoneExecuted rest
+stop_apart rest (inl none) = subst NoneExecuted (sym none) (All-nil (λ x. is_entry is_executed x.1 ≡ false))
+stop_apart rest (inr one) = subst NoneExecuted (sym one.1) (All-cons (λ x. is_entry is_executed x.1 ≡ false) (one.0, Stopped) [] refl (All-nil (λ x. is_entry is_executed x.1 ≡ false)))
+
+until_apart : (test : Event → Bool) → ((v : Event) → test v ≡ true → is_executed v ≡ false) → (mine : List (ℕ × Noted)) → AreOfUntil test mine → NoneExecuted mine
+until_apart test apart mine made =
+    subst NoneExecuted (sym made.whole) (All-append (λ x. is_entry is_executed x.1 ≡ false) made.own made.rest (own_apart test apart made.own made.kinds) (stop_apart made.rest made.behind))
+
+made_apart : (met : Option Stop) (test : Event → Bool) → ((v : Event) → test v ≡ true → is_executed v ≡ false) → (mine : List (ℕ × Noted)) → serving.Made met test mine → NoneExecuted mine
+made_apart None test apart mine made = own_apart test apart mine made
+made_apart (Some s) test apart mine made = until_apart test apart mine made
+
+-- of other entries none stands at its place
+times_apart : (h : List Noted) (low p : ℕ) (e : Noted) (own : List (ℕ × Noted)) → StandsFrom h low own → NoneExecuted own → slice_get h p ≡ Some e → is_entry is_executed e ≡ true → times_at p own ≡ 0
+times_apart h low p e [] s fails at passes = refl
+times_apart h low p e (x ∷ xs) s fails at passes =
+    let here : x.0 ≢ p = λ same.
+    (let got : Some x.1 ≡ Some e = sym s.1 ∙ (ap (λ (k : ℕ). slice_get h k) same ∙ at) in
+    let is : x.1 ≡ e = unwrap x.1 e got in
+    let both : true ≡ false = sym passes ∙ (ap (is_entry is_executed) (sym is) ∙ All-head (λ y. is_entry is_executed y.1 ≡ false) x xs fails) in absurd (cc both)) in
+    let none = at_other p x here in
+    let rest = times_apart h (suc x.0) p e xs s.2 (All-tail (λ y. is_entry is_executed y.1 ≡ false) x xs fails) at passes in omega (arith, sum_by-cons (one_at p) x xs)
+
+-- ---- who makes it
+
+-- what stands at the place in the executive's list
+pub record MadeHere (items : List Noted) (p : ℕ) : Type 0 where
+  pub role : Role
+  pub role2 : Role
+  pub item : Noted
+  pub executive : worker_of role ≡ 0
+  pub made : IsMadeAt role items p item role2
+
+made_first : (items : List Noted) (p : ℕ) (r r2 : Role) (x : ℕ × Noted) (own : List (ℕ × Noted)) → worker_of r ≡ 0 → IsMadeAt r items x.0 x.1 r2 → (times_at p own ≡ 1 → MadeHere items p) → times_at p (x ∷ own) ≡ 1
+    → (b : Bool) → nat_eq x.0 p ≡ b → MadeHere items p
+made_first items p r r2 x own number made rest times true e =
+    let same : x.0 ≡ p = eqb-true x.0 p e in
+    record { role = r; role2 = r2; item = x.1; executive = number; made = subst (λ (k : ℕ). IsMadeAt r items k x.1 r2) same made }
+made_first items p r r2 x own number made rest times false e =
+    let none : one_at p x ≡ 0 = ap (λ (b : Bool). cond b 1 0) e in
+    rest (omega (arith, times, none, sum_by-cons (one_at p) x own))
+
+made_here : (items : List Noted) (p : ℕ) (r r2 : Role) (own : List (ℕ × Noted)) → worker_of r ≡ 0 → MakesAll r items own r2 → times_at p own ≡ 1 → MadeHere items p
+made_here items p r r2 [] number all times = absurd (let h : 0 ≡ 1 = times in omega arith)
+made_here items p r r2 (x ∷ own) number all times =
+    let one : MakesAll r items (x ∷ []) all.0 = (all.0, all.1, refl) in
+    made_first items p r all.0 x own number all.1 (λ t. made_here items p all.0 r2 own (made_worker items r all.0 (x ∷ []) one ∙ number) all.2 t) times (nat_eq x.0 p) refl
+
+-- the executive's list, and a stop behind it at most
+makes_split : (met : Option Stop) (items : List Noted) (mine : List (ℕ × Noted)) (last : Role) → MakesOwn met Executive items mine last → MakesUntil Executive items mine
+makes_split None items mine last made = record { own = mine; rest = []; whole = sym (append-nil mine); last = last; made = made; behind = inl refl }
+makes_split (Some s) items mine last made = made
+
+due_chosen : (r r2 : Role) (w : World) (e : Entry) → worker_of r ≡ 0 → IsDueBy r r2 w e → IsChosen (exec_choice_of w) e.event
+due_chosen (Planner g) r2 w e number due = absurd (omega arith)
+due_chosen Executive (Planner g2) w e number due = absurd due.2
+due_chosen Executive Executive w e number due = due.2
+
+-- ---- the items of a log, taken apart behind a front of it
+
+same_front : (xs ys us vs : List Noted) → length xs ≡ length us → xs ++ ys ≡ us ++ vs → xs ≡ us
+same_front [] ys [] vs long e = refl
+same_front [] ys (u ∷ us) vs long e = absurd (omega arith)
+same_front (x ∷ xs) ys [] vs long e = absurd (omega arith)
+same_front (x ∷ xs) ys (u ∷ us) vs long e =
+    let head : x ≡ u = (let h : x ∷ (xs ++ ys) ≡ u ∷ (us ++ vs) = e in (cc)) in
+    let rest : xs ++ ys ≡ us ++ vs = (let h : x ∷ (xs ++ ys) ≡ u ∷ (us ++ vs) = e in (cc)) in
+    let shorter : length xs ≡ length us = (let l : suc (length xs) ≡ suc (length us) = long in omega arith) in
+    ap (λ (z : Noted). z ∷ xs) head ∙ ap (λ (zs : List Noted). u ∷ zs) (same_front xs ys us vs shorter rest)
+
+made_split : (log es : List Entry) (e : Entry) (s : Bool) → map Made (log ++ e ∷ es) ++ stop_items s ≡ (map Made log ++ []) ++ Made e ∷ (map Made es ++ stop_items s)
+made_split [] es e s = refl
+made_split (x ∷ log) es e s = ap (λ (zs : List Noted). Made x ∷ zs) (made_split log es e s)
+
+items_split : (m : Model) (log es : List Entry) (e : Entry) (s : Bool) → 0 < length log → items_of m (log ++ e ∷ es) s ≡ items_of m log false ++ Made e ∷ (map Made es ++ stop_items s)
+unfolding items_of
+items_split m [] es e s some = absurd (omega arith)
+items_split m (first ∷ log) es e s some = ap (λ (zs : List Noted). Opened m first ∷ zs) (made_split log es e s)
+
+model_some : (m : Model) (log : List Entry) (s : Bool) → 0 < length log → model_in (items_of m log s) ≡ Some m
+unfolding items_of
+model_some m [] s some = absurd (omega arith)
+model_some m (first ∷ log) s some = refl
+
+made_same : (a b : Entry) → Some (Made a) ≡ Some (Made b) → a ≡ b
+made_same a b e = cc
+
+module _ (m : Model) (whole : List Entry) (stop : Bool) (feeder planner executive : List (ℕ × Noted)) (opening : ℕ) (stands : All (StandsIn (items_of m whole stop)) (feeder ∷ planner ∷ executive ∷ []))
+    (owners : IsEachOnce opening (length (items_of m whole stop)) (λ place. times_in place (feeder ∷ planner ∷ executive ∷ []))) (inputs : AreOfUntil is_input feeder) (met : Option Stop) (repairs : serving.Made met is_repair planner)
+    (met2 : Option Stop) (last : Role) (makes : MakesOwn met2 Executive (items_of m whole stop) executive last) where
+  feeder_stands : StandsIn (items_of m whole stop) feeder
+  feeder_stands = All-head (StandsIn (items_of m whole stop)) feeder (planner ∷ executive ∷ []) stands
+
+  behind_stands : All (StandsIn (items_of m whole stop)) (planner ∷ executive ∷ [])
+  behind_stands = All-tail (StandsIn (items_of m whole stop)) feeder (planner ∷ executive ∷ []) stands
+
+  planner_stands : StandsIn (items_of m whole stop) planner
+  planner_stands = All-head (StandsIn (items_of m whole stop)) planner (executive ∷ []) behind_stands
+
+  executive_stands : StandsIn (items_of m whole stop) executive
+  executive_stands = All-head (StandsIn (items_of m whole stop)) executive [] (All-tail (StandsIn (items_of m whole stop)) planner (executive ∷ []) behind_stands)
+
+  -- it is the executive's
+  executive_here : (p : ℕ) (e : Entry) → opening ≤ p → p < length (items_of m whole stop) → slice_get (items_of m whole stop) p ≡ Some (Made e) → is_executed e.event ≡ true → MadeHere (items_of m whole stop) p
+  executive_here p e past within at is =
+      let items = items_of m whole stop in
+      let split = makes_split met2 items executive last makes in
+      let rest_stands : StandsIn items split.rest = stands_back items 0 split.own split.rest (subst (λ (l : List (ℕ × Noted)). StandsIn items l) split.whole executive_stands) in
+      let a = times_apart items 0 p (Made e) feeder feeder_stands (until_apart is_input input_apart feeder inputs) at is in
+      let b = times_apart items 0 p (Made e) planner planner_stands (made_apart met is_repair repair_apart planner repairs) at is in
+      let c = times_apart items 0 p (Made e) split.rest rest_stands (stop_apart split.rest split.behind) at is in
+      let one = owners.inside p past within in
+      let x = sum_by-cons (times_at p) feeder (planner ∷ executive ∷ []) in
+      let y = sum_by-cons (times_at p) planner (executive ∷ []) in
+      let z = sum_by-cons (times_at p) executive [] in
+      let sum : times_at p executive ≡ times_at p split.own + times_at p split.rest = ap (λ (l : List (ℕ × Noted)). times_at p l) split.whole ∙ sum_by-append (one_at p) split.own split.rest in
+      made_here items p Executive split.last split.own refl split.made (omega (arith, a, b, c, one, x, y, z, sum))
+
+  module _ (log es : List Entry) (e : Entry) (some : 0 < length log) (past : opening ≤ length log) (is : whole ≡ log ++ e ∷ es) where
+    parts : items_of m whole stop ≡ items_of m log false ++ Made e ∷ (map Made es ++ stop_items stop)
+    parts = ap (λ (l : List Entry). items_of m l stop) is ∙ items_split m log es e stop some
+
+    front_length : length (items_of m log false) ≡ length log
+    front_length = length_going m log false refl
+
+    here : slice_get (items_of m whole stop) (length log) ≡ Some (Made e)
+    here =
+        ap (λ (xs : List Noted). slice_get xs (length log)) parts
+        ∙ ap (λ (k : ℕ). slice_get (items_of m log false ++ Made e ∷ (map Made es ++ stop_items stop)) k) (sym front_length)
+        ∙ at_front (items_of m log false) (map Made es ++ stop_items stop) (Made e)
+
+    within : length log < length (items_of m whole stop)
+    within =
+        let long = ap (λ (xs : List Noted). length xs) parts ∙ length-append (items_of m log false) (Made e ∷ (map Made es ++ stop_items stop)) in
+        let front_long = front_length in
+        omega (arith, long, front_long)
+
+    -- what was made there was made behind the log
+    chosen_by : MadeHere (items_of m whole stop) (length log) → IsChosen (exec_choice_of (world_of m log)) e.event
+    chosen_by made =
+        let is' = made.made in
+        let both : is'.before ++ Made is'.entry ∷ is'.behind ≡ items_of m log false ++ Made e ∷ (map Made es ++ stop_items stop) = sym is'.whole ∙ parts in
+        let before : is'.before ≡ items_of m log false = same_front is'.before (Made is'.entry ∷ is'.behind) (items_of m log false) (Made e ∷ (map Made es ++ stop_items stop)) (sym is'.stands ∙ sym front_length) both in
+        let at : slice_get (items_of m whole stop) (length log) ≡ Some (Made is'.entry) =
+        ap (λ (xs : List Noted). slice_get xs (length log)) is'.whole ∙ ap (λ (k : ℕ). slice_get (is'.before ++ Made is'.entry ∷ is'.behind) k) is'.stands ∙ at_front is'.before is'.behind (Made is'.entry) in
+        let same : is'.entry ≡ e = made_same is'.entry e (sym at ∙ here) in
+        let P : World → Type 0 = λ w. IsDueBy made.role made.role2 w is'.entry in
+        let by : InWorld (items_of m log false) P = subst (λ (xs : List Noted). InWorld xs P) before is'.by in
+        let at_world : P (world_of m (entries_in (items_of m log false))) = world_in P (items_of m log false) m (model_some m log false some) by in
+        let due : P (world_of m log) = subst (λ (l : List Entry). P (world_of m l)) (entries_in_items m log false) at_world in
+        let chosen = due_chosen made.role made.role2 (world_of m log) is'.entry made.executive due in
+        subst (λ (x : Entry). IsChosen (exec_choice_of (world_of m log)) x.event) same chosen
+
+    chosen_here : is_executed e.event ≡ true → IsChosen (exec_choice_of (world_of m log)) e.event
+    chosen_here executed = chosen_by (executive_here (length log) e past within here executed)
+
+  pub are_chosen : (log es : List Entry) → 0 < length log → opening ≤ length log → whole ≡ log ++ es → AreChosen m log es
+  are_chosen log [] some past is = tt
+  are_chosen log (e ∷ es) some past is =
+      let long = length-append log (e ∷ []) in
+      (chosen_here log es e some past is, are_chosen (log ++ e ∷ []) es (omega (arith, long)) (omega (arith, long, past)) (is ∙ sym (append_assoc log (e ∷ []) es)))

@@ -1,0 +1,26 @@
+//! What a worker is hired for.
+ghost use Rattle.std.specs.Prelude.{◌≡◌};
+ghost use Rattle.pl_pair.specs.Duties.{role_of};
+
+use pl_choose::Seeded;
+use pl_shared::Role;
+
+/// What a worker is hired for: to repair, with a chooser of this seed, or to execute.
+#[derive(Clone, Copy)]
+pub enum Duty {
+    Repair(u64),
+    Execute,
+}
+
+impl Duty {
+    /// The role to begin with.
+    #[tactic(auto, unfolding(crate::specs::Duties::chooser_of))]
+    pub(crate) fn role(self) -> Role
+        ensures { result ≡ role_of self }
+    {
+        match self {
+            Duty::Repair(seed) => Role::Planner(Seeded::new(seed)),
+            Duty::Execute => Role::Executive,
+        }
+    }
+}
