@@ -123,7 +123,7 @@ are_before ys zs messages more inputs behind all no_end = by_end (messages_end y
 
 -- ---- a run that is done and a limit
 
-done_before : (input : List ℕ) (ys zs : Lines) (messages more inputs : List Message) (rest : List ℕ) → messages ≡ messages_of (ys ++ lines_of rest) → messages_of ys ≡ messages ++ more → messages_of (ys ++ zs) ≡ inputs ++ None ∷ []
+pub done_before : (input : List ℕ) (ys zs : Lines) (messages more inputs : List Message) (rest : List ℕ) → messages ≡ messages_of (ys ++ lines_of rest) → messages_of ys ≡ messages ++ more → messages_of (ys ++ zs) ≡ inputs ++ None ∷ []
     → ((front : List Message) → messages ≡ front ++ None ∷ [] → ⊥) → ⊥
 done_before input ys zs messages more inputs rest whole behind all no_end = by_end (messages_end ys)
   where

@@ -103,15 +103,15 @@ refused_checks old new left source_left held now r is head adds refused short fa
 
 -- ---- where the reader stops
 
-pub past_head : (limit : ℕ) (input : List ℕ) (held : Option (List ℕ)) (f : LineFault) → HeadHalts (fresh_reader limit) (Some input) f → HaltFor f halt.Limit → IsPastHead limit input held held
-past_head limit input held f head is =
-    let s = head_stopped limit input f halt.Limit head is in
+pub past_head : (limit : ℕ) (new : Reader) (input : List ℕ) (source_left held : Option (List ℕ)) (f : LineFault) → HeadHalts (fresh_reader limit) (Some input) f new (ahead new.held source_left) → HaltFor f halt.Limit → IsPastHead limit input held held
+past_head limit new input source_left held f head is =
+    let s = head_stopped limit new input source_left f halt.Limit head is in
     record { lines = s.lines; left = s.left; rest = s.rest; gave = s.gave; why = s.why; none = s.none; silent = refl }
 
-pub head_fault : (limit : ℕ) (input : List ℕ) (held : Option (List ℕ)) (f : LineFault) → HeadHalts (fresh_reader limit) (Some input) f → HaltFor f halt.Read → IsHeadFault limit input held held
-head_fault limit input held f head is =
-    let s = head_stopped limit input f halt.Read head is in
-    record { lines = s.lines; left = s.left; rest = s.rest; gave = s.gave; none = s.none; silent = refl }
+pub head_fault : (limit : ℕ) (new : Reader) (input : List ℕ) (source_left held : Option (List ℕ)) (f : LineFault) → HeadHalts (fresh_reader limit) (Some input) f new (ahead new.held source_left) → HaltFor f halt.Read → IsHeadFault limit input source_left held held
+head_fault limit new input source_left held f head is =
+    let s = head_stopped limit new input source_left f halt.Read head is in
+    record { lines = s.lines; left = s.left; rest = s.rest; gave = s.gave; source = s.source refl; none = s.none; silent = refl }
 
 -- reading meets no fault of writing
 no_write : (f : LineFault) → HaltFor f halt.Write → ⊥
@@ -120,16 +120,16 @@ no_write (fault.Long n) is = (let h : halt.Write ≡ halt.Limit = is in (cc))
 no_write fault.Total is = (let h : halt.Write ≡ halt.Limit = is in (cc))
 no_write fault.Memory is = (let h : halt.Write ≡ halt.Memory = is in (cc))
 
-head_ran : (input source_left held : Option (List ℕ)) (f : LineFault) (e : Halt) → HeadHalts (fresh_reader line_limit) input f → HaltFor f e → ChecksKnown input source_left held held (Err e)
-head_ran None source_left held f e head is = tt
-head_ran (Some input) source_left held f halt.Limit head is = past_head line_limit input held f head is
-head_ran (Some input) source_left held f halt.Full head is = absurd (never_full f is)
-head_ran (Some input) source_left held f halt.Read head is = head_fault line_limit input held f head is
-head_ran (Some input) source_left held f halt.Write head is = absurd (no_write f is)
-head_ran (Some input) source_left held f halt.Memory head is = refl
+head_ran : (new : Reader) (input source_left held : Option (List ℕ)) (f : LineFault) (e : Halt) → HeadHalts (fresh_reader line_limit) input f new (ahead new.held source_left) → HaltFor f e → ChecksKnown input source_left held held (Err e)
+head_ran new None source_left held f e head is = tt
+head_ran new (Some input) source_left held f halt.Limit head is = past_head line_limit new input source_left held f head is
+head_ran new (Some input) source_left held f halt.Full head is = absurd (never_full f is)
+head_ran new (Some input) source_left held f halt.Read head is = head_fault line_limit new input source_left held f head is
+head_ran new (Some input) source_left held f halt.Write head is = absurd (no_write f is)
+head_ran new (Some input) source_left held f halt.Memory head is = refl
 
-pub head_checks : (old : Reader) (left source_left held : Option (List ℕ)) (f : LineFault) (e : Halt) → old ≡ fresh_reader line_limit → HeadHalts old (ahead old.held left) f → HaltFor f e → ChecksKnown left source_left held held (Err e)
-head_checks old left source_left held f e is head halts = head_ran left source_left held f e (fresh_halts line_limit old left f is head) halts
+pub head_checks : (old new : Reader) (left source_left held : Option (List ℕ)) (f : LineFault) (e : Halt) → old ≡ fresh_reader line_limit → HeadHalts old (ahead old.held left) f new (ahead new.held source_left) → HaltFor f e → ChecksKnown left source_left held held (Err e)
+head_checks old new left source_left held f e is head halts = head_ran new left source_left held f e (fresh_halts line_limit old new left (ahead new.held source_left) f is head) halts
 
 -- memory was wanting before anything was read
 pub no_reader : (input source_left held : Option (List ℕ)) → ChecksKnown input source_left held held (Err halt.Memory)

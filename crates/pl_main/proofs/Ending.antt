@@ -1,5 +1,5 @@
 -- The end of a run over an input: from its head, and from what was played.
-use Rattle.std.proofs.Common.{◌≡◌, ℕ, ◌<◌, ◌≤◌, List, [], ◌∷◌, ◌++◌, length, drop, OnOk, IfOk, IfErr, Bool, true, false, Option, Some, None, ◌⊎◌, inl, inr, Result, Ok, Err, refl, sym, ◌∙◌, ap, subst, append_assoc, arith}
+use Rattle.std.proofs.Common.{◌≡◌, ℕ, ◌<◌, ◌≤◌, List, [], ◌∷◌, ◌++◌, length, drop, OnOk, OnErr, IfOk, IfErr, Bool, true, false, Option, Some, None, ◌⊎◌, inl, inr, Result, Ok, Err, refl, sym, ◌∙◌, ap, subst, append_assoc, arith}
 use Rattle.std.proofs.lemmas.List.{append-nil}
 use Rattle.std.specs.declared.vec.Vec.{Vec}
 use Rattle.std.specs.declared.alloc.Global.{Global}
@@ -7,6 +7,7 @@ use Rattle.pl_io.specs.declared.errors.LineFault.{LineFault}
 use Rattle.pl_io.specs.Lines.{ahead, lines_of}
 use Rattle.pl_io.specs.Reader.{Reader, NumberedLine}
 use Rattle.pl_io.specs.Sparing.{read_size}
+use Rattle.pl_io.specs.Writes.{AppendsFront}
 use Rattle.pl_model.specs.declared.whole.Model.{Model}
 use Rattle.pl_entry.specs.declared.entry.Entry.{Entry}
 use Rattle.pl_machine.specs.Lines.{is_blank_line, is_line_of, end_word, model_text_of, lines_behind, messages_of, split_of}
@@ -24,16 +25,16 @@ use Rattle.pl_stream.specs.declared.halt.Halt.TheVariants as halt
 use Rattle.pl_main.specs.declared.outcome.Outcome.{Outcome}
 use Rattle.pl_main.specs.declared.outcome.Outcome.TheVariants as outcome
 use Rattle.pl_stream.specs.Reads.{Gave, GaveKnown, IsUsedUp, AreBlank}
-use Rattle.pl_stream.specs.Stops.{HaltFor, StopsBy}
+use Rattle.pl_stream.specs.Stops.{HaltFor, ReadLeaves, StopsBy}
 use Rattle.pl_stream.specs.Waits.{MessageGives}
 use Rattle.pl_stream.specs.Heads.{IsHead, IsBegun, HasNoBegin, HeadHalts}
 use Rattle.pl_main.specs.Tells.{FillsUp, at_once, within}
 use Rattle.pl_stream.specs.Written.{Adds, WriteStops}
 use Rattle.pl_main.specs.Plays.{Place, place_of, Plays, EndsWith, by_end, by_line, EndsAll, PlaysOut, PlayHalts, PlayFills, Playing, line_in}
-use Rattle.pl_main.specs.Runs.{fresh_state, ModelRuns, AcceptsKept, IsKeptModel, TextRuns}
-use Rattle.pl_main.specs.Top.{RanKnown, IsReadTo, program_options, line_limit, total_limit, fresh_reader, IsDone, HasHead, no_begin_line, IsNoModel, no_begin, faulty, WaitsBehind, IsReadFault, IsPastLimit, HasRead, IsFull}
+use Rattle.pl_main.specs.Runs.{fresh_state, unopened, in_opening, in_play, ModelRuns, AcceptsKept, IsKeptModel, unjudged, in_fault, in_run, TextRuns}
+use Rattle.pl_main.specs.Top.{RanKnown, IsReadTo, ShowsNoLine, program_options, line_limit, total_limit, fresh_reader, IsDone, HasHead, no_begin_line, IsNoModel, no_begin, faulty, WaitsBehind, IsReadFault, IsPastLimit, HasRead, IsFull}
 use Rattle.pl_stream.proofs.Reading.{gave_append, gave_lines, known}
-use Rattle.pl_stream.proofs.Stopping.{never_full, stops_by}
+use Rattle.pl_stream.proofs.Stopping.{never_full, read_leaves, stops_by}
 use Rattle.pl_stream.proofs.Beginning.{head_then}
 use Rattle.pl_stream.proofs.Writing.{adds_then, log_is_short}
 use Rattle.pl_main.proofs.Playing.{blanks_first, message_first, end_first, none_left, not_single, messages_append, inputs_append, joined}
@@ -45,20 +46,36 @@ pub run_stops : (turns : ℕ) (m : Model) (start place : Place) (held opened now
 run_stops turns m start place held opened now halt.Limit new first playing legal = record { opened = opened; new = new; first = first; playing = playing; legal = legal }
 run_stops turns m start place held opened now halt.Full new first playing legal = record { opened = opened; new = new; first = first; playing = playing; legal = legal }
 run_stops turns m start place held opened now halt.Read new first playing legal = record { opened = opened; new = new; first = first; playing = playing; legal = legal }
-run_stops turns m start place held opened now halt.Write new first playing legal = tt
-run_stops turns m start place held opened now halt.Memory new first playing legal = tt
+run_stops turns m start place held opened now halt.Write new first playing legal = in_play (record { opened = opened; new = new; first = first; playing = playing; legal = legal })
+run_stops turns m start place held opened now halt.Memory new first playing legal = in_play (record { opened = opened; new = new; first = first; playing = playing; legal = legal })
+
+-- memory was wanting for the machine
+pub run_unopened : (turns : ℕ) (m : Model) (start : Place) (held : Option (List ℕ)) → ModelRuns turns m start held (Err halt.Memory) start held
+run_unopened turns m start held = unopened refl refl
+
+-- the open entry's line was not written whole
+pub run_unwritten : (turns : ℕ) (m : Model) (start : Place) (held now : Option (List ℕ)) (e : Halt) (faults later : ℕ) → Legal m (opening (program_options turns) ∷ []) → AppendsFront held now (text_from m 0 (opening (program_options turns) ∷ []))
+    → WriteStops faults later e → ModelRuns turns m start held (Err e) start now
+run_unwritten turns m start held now halt.Write faults later legal front cause = in_opening legal front
+run_unwritten turns m start held now halt.Memory faults later legal front cause = in_opening legal front
+run_unwritten turns m start held now halt.Read faults later legal front cause = absurd cause
+run_unwritten turns m start held now halt.Limit faults later legal front cause = absurd cause
+run_unwritten turns m start held now halt.Full faults later legal front cause = absurd cause
 
 -- ---- a run over a text
 
-pub text_refused : (turns : ℕ) (kept : Option (Vec ℕ Global)) (start : Place) (held now : Option (List ℕ)) (line : List ℕ) (r : Result Outcome Halt) (faults later : ℕ)
-    → AcceptsKept kept (accepted.Refused line) → OnOk r (Adds held now line) → IfOk r (λ o. o ≡ outcome.Refused) → IfErr r (WriteStops faults later) → TextRuns turns kept start held r start now
-text_refused turns kept start held now line (Ok outcome.Refused) faults later text adds refused cause = (record { line = line; refused = text; written = adds }, refl)
-text_refused turns kept start held now line (Ok outcome.Done) faults later text adds refused cause = absurd (let h : outcome.Done ≡ outcome.Refused = refused in (cc))
-text_refused turns kept start held now line (Err halt.Limit) faults later text adds refused cause = absurd cause
-text_refused turns kept start held now line (Err halt.Full) faults later text adds refused cause = absurd cause
-text_refused turns kept start held now line (Err halt.Read) faults later text adds refused cause = absurd cause
-text_refused turns kept start held now line (Err halt.Write) faults later text adds refused cause = tt
-text_refused turns kept start held now line (Err halt.Memory) faults later text adds refused cause = tt
+pub text_unjudged : (turns : ℕ) (kept : Option (Vec ℕ Global)) (start : Place) (held : Option (List ℕ)) → TextRuns turns kept start held (Err halt.Memory) start held
+text_unjudged turns kept start held = unjudged refl refl
+
+pub text_refused : (turns : ℕ) (kept : Option (Vec ℕ Global)) (start : Place) (held now : Option (List ℕ)) (line : List ℕ) (r : Result Outcome Halt)
+    → AcceptsKept kept (accepted.Refused line) → OnOk r (Adds held now line) → IfOk r (λ o. o ≡ outcome.Refused) → OnErr r (AppendsFront held now line) → IfErr r (λ e. e ≡ halt.Write) → TextRuns turns kept start held r start now
+text_refused turns kept start held now line (Ok outcome.Refused) text adds refused front fails = (record { line = line; refused = text; written = adds }, refl)
+text_refused turns kept start held now line (Ok outcome.Done) text adds refused front fails = absurd (let h : outcome.Done ≡ outcome.Refused = refused in (cc))
+text_refused turns kept start held now line (Err halt.Write) text adds refused front fails = in_fault refl (record { line = line; refused = text; written = tt }) front refl
+text_refused turns kept start held now line (Err halt.Limit) text adds refused front fails = absurd (let h : halt.Limit ≡ halt.Write = fails in (cc))
+text_refused turns kept start held now line (Err halt.Full) text adds refused front fails = absurd (let h : halt.Full ≡ halt.Write = fails in (cc))
+text_refused turns kept start held now line (Err halt.Read) text adds refused front fails = absurd (let h : halt.Read ≡ halt.Write = fails in (cc))
+text_refused turns kept start held now line (Err halt.Memory) text adds refused front fails = absurd (let h : halt.Memory ≡ halt.Write = fails in (cc))
 
 pub text_ran : (turns : ℕ) (kept : Option (Vec ℕ Global)) (start place : Place) (held now : Option (List ℕ)) (m : Model)
     → AcceptsKept kept (accepted.Model m) → ModelRuns turns m start held (Ok tt) place now → TextRuns turns kept start held (Ok outcome.Done) place now
@@ -69,8 +86,8 @@ pub text_stops : (turns : ℕ) (kept : Option (Vec ℕ Global)) (start place : P
 text_stops turns kept start place held now m halt.Limit text run = record { model = m; text = text; run = run }
 text_stops turns kept start place held now m halt.Full text run = record { model = m; text = text; run = run }
 text_stops turns kept start place held now m halt.Read text run = record { model = m; text = text; run = run }
-text_stops turns kept start place held now m halt.Write text run = tt
-text_stops turns kept start place held now m halt.Memory text run = tt
+text_stops turns kept start place held now m halt.Write text run = in_run m text run
+text_stops turns kept start place held now m halt.Memory text run = in_run m text run
 
 -- ---- what was read
 
@@ -85,13 +102,13 @@ split_is input heads words more head is =
 
 -- ---- what was logged
 
-record IsLogged (turns : ℕ) (m : Model) (new : State) (held now : Option (List ℕ)) (entries : List Entry) : Type 0 where
-  legal : Legal m (opening (program_options turns) ∷ entries)
-  solo : Solo m (opening (program_options turns) ∷ entries)
-  world : new.world ≡ world_of m (opening (program_options turns) ∷ entries)
-  text : Adds held now (text_of_log m (opening (program_options turns) ∷ entries))
+pub record IsLogged (turns : ℕ) (m : Model) (new : State) (held now : Option (List ℕ)) (entries : List Entry) : Type 0 where
+  pub legal : Legal m (opening (program_options turns) ∷ entries)
+  pub solo : Solo m (opening (program_options turns) ∷ entries)
+  pub world : new.world ≡ world_of m (opening (program_options turns) ∷ entries)
+  pub text : Adds held now (text_of_log m (opening (program_options turns) ∷ entries))
 
-logged : (turns : ℕ) (m : Model) (new : State) (held opened now : Option (List ℕ)) (entries : List Entry)
+pub logged : (turns : ℕ) (m : Model) (new : State) (held opened now : Option (List ℕ)) (entries : List Entry)
     → Legal new.model new.log → SameRun (fresh_state turns m) new → new.log ≡ opening (program_options turns) ∷ entries
     → solo_from (fresh_world m (program_options turns)) entries → new.world ≡ world_from (fresh_world m (program_options turns)) entries
     → Adds held opened (text_from m 0 (opening (program_options turns) ∷ [])) → Adds opened now (text_from m 1 entries) → IsLogged turns m new held now entries
@@ -110,20 +127,20 @@ last_is [] ys x y e = (not_single x y ys e).1
 last_is (z ∷ xs) [] x y e = absurd (let h : z ∷ xs ≡ [] = (not_single y x (z ∷ xs) (sym e)).0 in (cc))
 last_is (z ∷ xs) (w ∷ ys) x y e = last_is xs ys x y (let h : z ∷ (xs ++ x ∷ []) ≡ w ∷ (ys ++ y ∷ []) = e in (cc))
 
-ends_all : (rest : List ℕ) (lines : List (List ℕ)) (inputs : List (Option (List ℕ))) → EndsWith rest lines inputs → messages_of (lines ++ lines_of rest) ≡ inputs
+pub ends_all : (rest : List ℕ) (lines : List (List ℕ)) (inputs : List (Option (List ℕ))) → EndsWith rest lines inputs → messages_of (lines ++ lines_of rest) ≡ inputs
 ends_all rest lines inputs (by_end front last none is) = ap (λ (r : List ℕ). messages_of (lines ++ lines_of r)) none ∙ ap messages_of (append-nil lines) ∙ is
 ends_all rest lines inputs (by_line front line before last is all) = all (lines_of rest)
 
-ends_read : (rest : List ℕ) (lines : List (List ℕ)) (inputs : List (Option (List ℕ))) → EndsWith rest lines inputs → messages_of lines ≡ inputs
+pub ends_read : (rest : List ℕ) (lines : List (List ℕ)) (inputs : List (Option (List ℕ))) → EndsWith rest lines inputs → messages_of lines ≡ inputs
 ends_read rest lines inputs (by_end front last none is) = is
 ends_read rest lines inputs (by_line front line before last is all) = ap messages_of (sym (append-nil lines)) ∙ all []
 
-ends_used_up : (rest : List ℕ) (lines : List (List ℕ)) (inputs front : List (Option (List ℕ))) → EndsWith rest lines inputs → inputs ≡ front ++ None ∷ [] → rest ≡ []
+pub ends_used_up : (rest : List ℕ) (lines : List (List ℕ)) (inputs front : List (Option (List ℕ))) → EndsWith rest lines inputs → inputs ≡ front ++ None ∷ [] → rest ≡ []
 ends_used_up rest lines inputs front (by_end ahead_of last none is) e = none
 ends_used_up rest lines inputs front (by_line before line so_far last is all) e = absurd (let h : Some line ≡ None = last_is before front (Some line) None (sym last ∙ e) in (cc))
 
 -- the last line that was read is the last message, where that is a line
-ends_last : (rest : List ℕ) (lines : List (List ℕ)) (inputs front : List (Option (List ℕ))) (line : List ℕ) → EndsWith rest lines inputs → inputs ≡ front ++ Some line ∷ []
+pub ends_last : (rest : List ℕ) (lines : List (List ℕ)) (inputs front : List (Option (List ℕ))) (line : List ℕ) → EndsWith rest lines inputs → inputs ≡ front ++ Some line ∷ []
     → (before : List (List ℕ)) × (lines ≡ before ++ line ∷ [])
 ends_last rest lines inputs front line (by_end ahead_of last none is) e = absurd (let h : None ≡ Some line = last_is ahead_of front None (Some line) (sym last ∙ e) in (cc))
 ends_last rest lines inputs front line (by_line ahead_of found before last is all) e =
@@ -131,7 +148,7 @@ ends_last rest lines inputs front line (by_line ahead_of found before last is al
     (before, is ∙ ap (λ (l : List ℕ). before ++ l ∷ []) same)
 
 -- lines in front of lines that end with this one
-ends_behind : (xs ys before : List (List ℕ)) (line : List ℕ) → ys ≡ before ++ line ∷ [] → (front : List (List ℕ)) × (xs ++ ys ≡ front ++ line ∷ [])
+pub ends_behind : (xs ys before : List (List ℕ)) (line : List ℕ) → ys ≡ before ++ line ∷ [] → (front : List (List ℕ)) × (xs ++ ys ≡ front ++ line ∷ [])
 ends_behind xs ys before line is = (xs ++ before, ap (λ (ls : List (List ℕ)). xs ++ ls) is ∙ sym (append_assoc xs before (line ∷ [])))
 
 -- the reader behind the model's text
@@ -140,10 +157,10 @@ pub record BeginsAt (place : Place) : Type 0 where
   pub few : length place.reader.held < read_size
 
 -- what a source has left behind a reader
-read_to : (place : Place) (source_left : Option (List ℕ)) (rest : List ℕ) → length place.reader.held < read_size → ahead place.reader.held source_left ≡ place.ahead → place.ahead ≡ Some rest → IsReadTo rest source_left
+pub read_to : (place : Place) (source_left : Option (List ℕ)) (rest : List ℕ) → length place.reader.held < read_size → ahead place.reader.held source_left ≡ place.ahead → place.ahead ≡ Some rest → IsReadTo rest source_left
 read_to place source_left rest few behind is = record { came = place.reader.held; few = few; behind = behind ∙ is }
 
-abbrev done_ends : (turns : ℕ) (input words heads_rest : List ℕ) (heads : List (List ℕ)) (m : Model) (start place : Place) (source_left held opened now : Option (List ℕ)) (new : State)
+abbrev pub done_ends : (turns : ℕ) (input words heads_rest : List ℕ) (heads : List (List ℕ)) (m : Model) (start place : Place) (source_left held opened now : Option (List ℕ)) (new : State)
     → IsHead heads words → Gave line_limit total_limit input heads start.reader.room heads_rest → start.ahead ≡ Some heads_rest → BeginsAt start → IsModelText words m
     → Adds held opened (text_from m 0 (opening (program_options turns) ∷ [])) → PlaysOut (fresh_state turns m) start opened new place now → Legal new.model new.log → ahead place.reader.held source_left ≡ place.ahead → IsDone turns input source_left held now
 done_ends turns input words heads_rest heads m start place source_left held opened now new head gave is_ahead begins accepted first plays legal behind =
@@ -181,25 +198,31 @@ done_ends turns input words heads_rest heads m start place source_left held open
       written = l.text;
     }
 
+-- what a failed read leaves, where the bytes are known
+pub shows_none : (limit left : ℕ) (told : Option (List ℕ)) (rest held : List ℕ) (after source_left : Option (List ℕ)) → ReadLeaves limit left told held after → told ≡ Some rest → ahead held source_left ≡ after → ShowsNoLine limit left rest source_left
+shows_none limit left None rest held after source_left leaves is behind = absurd (let h : None ≡ Some rest = is in (cc))
+shows_none limit left (Some bytes) rest held after source_left leaves is behind = record { came = held; shows = leaves.shows; behind = behind ∙ leaves.kept ∙ is }
+
 -- the lines behind which no line was given
-record IsStopped (e : Halt) (turns : ℕ) (input : List ℕ) (held now : Option (List ℕ)) : Type 0 where
-  lines : List (List ℕ)
-  left : ℕ
-  rest : List ℕ
-  gave : Gave line_limit total_limit input lines left rest
-  why : StopsBy e line_limit left (Some rest)
-  asked : ((model_text_of lines ≡ None) × (now ≡ held)) ⊎ WaitsBehind turns lines held now
+pub record IsStopped (e : Halt) (turns : ℕ) (input : List ℕ) (source_left held now : Option (List ℕ)) : Type 0 where
+  pub lines : List (List ℕ)
+  pub left : ℕ
+  pub rest : List ℕ
+  pub gave : Gave line_limit total_limit input lines left rest
+  pub why : StopsBy e line_limit left (Some rest)
+  pub source : e ≡ halt.Read → ShowsNoLine line_limit left rest source_left
+  pub asked : ((model_text_of lines ≡ None) × (now ≡ held)) ⊎ WaitsBehind turns lines held now
 
-past_limit : (turns : ℕ) (input : List ℕ) (held now : Option (List ℕ)) → IsStopped halt.Limit turns input held now → IsPastLimit turns input held now
-past_limit turns input held now s = record { lines = s.lines; left = s.left; rest = s.rest; gave = s.gave; why = s.why; asked = s.asked }
+pub past_limit : (turns : ℕ) (input : List ℕ) (source_left held now : Option (List ℕ)) → IsStopped halt.Limit turns input source_left held now → IsPastLimit turns input held now
+past_limit turns input source_left held now s = record { lines = s.lines; left = s.left; rest = s.rest; gave = s.gave; why = s.why; asked = s.asked }
 
-read_fault : (turns : ℕ) (input : List ℕ) (held now : Option (List ℕ)) → IsStopped halt.Read turns input held now → IsReadFault turns input held now
-read_fault turns input held now s = record { lines = s.lines; left = s.left; rest = s.rest; gave = s.gave; asked = s.asked }
+pub read_fault : (turns : ℕ) (input : List ℕ) (source_left held now : Option (List ℕ)) → IsStopped halt.Read turns input source_left held now → IsReadFault turns input source_left held now
+read_fault turns input source_left held now s = record { lines = s.lines; left = s.left; rest = s.rest; gave = s.gave; source = s.source refl; asked = s.asked }
 
-stopped_ends : (e : Halt) (turns : ℕ) (input words heads_rest : List ℕ) (heads : List (List ℕ)) (m : Model) (start : Place) (held opened now : Option (List ℕ)) (new : State)
+pub stopped_ends : (e : Halt) (turns : ℕ) (input words heads_rest : List ℕ) (heads : List (List ℕ)) (m : Model) (start place : Place) (source_left held opened now : Option (List ℕ)) (new : State)
     → IsHead heads words → Gave line_limit total_limit input heads start.reader.room heads_rest → start.ahead ≡ Some heads_rest → BeginsAt start → IsModelText words m
-    → Adds held opened (text_from m 0 (opening (program_options turns) ∷ [])) → PlayHalts e (fresh_state turns m) start opened new now → Legal new.model new.log → IsStopped e turns input held now
-stopped_ends e turns input words heads_rest heads m start held opened now new head gave is_ahead begins accepted first plays legal =
+    → Adds held opened (text_from m 0 (opening (program_options turns) ∷ [])) → PlayHalts e (fresh_state turns m) start opened new place now → Legal new.model new.log → ahead place.reader.held source_left ≡ place.ahead → IsStopped e turns input source_left held now
+stopped_ends e turns input words heads_rest heads m start place source_left held opened now new head gave is_ahead begins accepted first plays legal behind =
     let k = known start.reader.limit start.reader.room line_limit start.reader.room start.ahead heads_rest plays.lines plays.left plays.rest begins.limit refl is_ahead plays.gave in
     let both = head_then heads words plays.lines head in
     let l = logged turns m new held opened now plays.entries legal plays.same plays.log plays.solo plays.world first plays.written in
@@ -209,6 +232,9 @@ stopped_ends e turns input words heads_rest heads m start held opened now new he
       rest = k.rest;
       gave = gave_append line_limit total_limit input heads plays.lines start.reader.room heads_rest plays.left k.rest gave k.gave;
       why = subst (λ (r : Option (List ℕ)). StopsBy e line_limit plays.left r) k.is (subst (λ n. StopsBy e n plays.left plays.rest) begins.limit plays.why);
+      source = λ read.
+          shows_none line_limit plays.left plays.rest k.rest place.reader.held place.ahead source_left
+          (subst (λ n. ReadLeaves n plays.left plays.rest place.reader.held place.ahead) begins.limit (plays.leaves read)) k.is behind;
       asked = inr record {
         model = m;
         log = opening (program_options turns) ∷ plays.entries;
@@ -228,9 +254,9 @@ stopped_ends e turns input words heads_rest heads m start held opened now new he
 -- ---- the message behind those that were answered
 
 -- messages of which this is the first
-record BeginsWith (next : Option (List ℕ)) (all : List (Option (List ℕ))) : Type 0 where
-  more : List (Option (List ℕ))
-  is : all ≡ next ∷ more
+pub record BeginsWith (next : Option (List ℕ)) (all : List (Option (List ℕ))) : Type 0 where
+  pub more : List (Option (List ℕ))
+  pub is : all ≡ next ∷ more
 
 first_message : (line : List ℕ) (lines : List (List ℕ)) → is_blank_line line ≡ false → (b : Bool) → is_line_of end_word line ≡ b → BeginsWith (Some line) (messages_of (line ∷ lines))
 first_message line lines message true ends = record { more = []; is = end_first line lines message ends }
@@ -240,19 +266,19 @@ behind_blanks : (blanks lines : List (List ℕ)) (next : Option (List ℕ)) → 
 behind_blanks blanks lines next blank begins = record { more = begins.more; is = blanks_first blanks lines blank ∙ begins.is }
 
 -- the lines in which the next message was found
-record GotNext (next : Option (List ℕ)) (room : ℕ) (bytes : List ℕ) (behind : Place) : Type 0 where
-  lines : List (List ℕ)
-  left : ℕ
-  rest : List ℕ
-  gave : Gave line_limit room bytes lines left rest
-  read : BeginsWith next (messages_of lines)
-  all : BeginsWith next (messages_of (lines ++ lines_of rest))
-  used_up : next ≡ None → rest ≡ []
-  last : (line : List ℕ) → next ≡ Some line → (before : List (List ℕ)) × (lines ≡ before ++ line ∷ [])
-  few : length behind.reader.held < read_size
-  is : behind.ahead ≡ Some rest
+pub record GotNext (next : Option (List ℕ)) (room : ℕ) (bytes : List ℕ) (behind : Place) : Type 0 where
+  pub lines : List (List ℕ)
+  pub left : ℕ
+  pub rest : List ℕ
+  pub gave : Gave line_limit room bytes lines left rest
+  pub read : BeginsWith next (messages_of lines)
+  pub all : BeginsWith next (messages_of (lines ++ lines_of rest))
+  pub used_up : next ≡ None → rest ≡ []
+  pub last : (line : List ℕ) → next ≡ Some line → (before : List (List ℕ)) × (lines ≡ before ++ line ∷ [])
+  pub few : length behind.reader.held < read_size
+  pub is : behind.ahead ≡ Some rest
 
-got_next : (before behind : Place) (bytes : List ℕ) (message : Option NumberedLine) → BeginsAt before → before.ahead ≡ Some bytes → MessageGives before.reader before.ahead (Ok message) behind.reader behind.ahead → GotNext (line_in message) before.reader.room bytes behind
+pub got_next : (before behind : Place) (bytes : List ℕ) (message : Option NumberedLine) → BeginsAt before → before.ahead ≡ Some bytes → MessageGives before.reader before.ahead (Ok message) behind.reader behind.ahead → GotNext (line_in message) before.reader.room bytes behind
 got_next before behind bytes (Some line) starts is_ahead gets =
     let k = known before.reader.limit before.reader.room line_limit before.reader.room before.ahead bytes (gets.lines ++ line.bytes ∷ []) behind.reader.room behind.ahead starts.limit refl is_ahead gets.took.gave in
     record {
@@ -333,7 +359,7 @@ between : (n : ℕ) → n ≤ 250000 → 250000 ≤ n → n ≡ 250000
 between n low high = omega (arith, low, high)
 
 -- the lines with a next message behind those that were played
-has_read : (input words : List ℕ) (heads lines : List (List ℕ)) (room mid : ℕ) (heads_rest bytes : List ℕ) (before : List (Option (List ℕ))) (next : Option (List ℕ)) (place : Place) (source_left : Option (List ℕ))
+pub has_read : (input words : List ℕ) (heads lines : List (List ℕ)) (room mid : ℕ) (heads_rest bytes : List ℕ) (before : List (Option (List ℕ))) (next : Option (List ℕ)) (place : Place) (source_left : Option (List ℕ))
     → IsHead heads words → Gave line_limit total_limit input heads room heads_rest → Gave line_limit room heads_rest lines mid bytes → messages_of lines ≡ before ++ None ∷ [] → GotNext next mid bytes place
     → ahead place.reader.held source_left ≡ place.ahead → HasRead words (before ++ next ∷ []) input source_left
 has_read input words heads lines room mid heads_rest bytes before next place source_left head gave gave2 so_far got behind =
@@ -354,6 +380,15 @@ has_read input words heads lines room mid heads_rest bytes before next place sou
       source = read_to place source_left got.rest got.few behind got.is;
     }
 
+-- all messages of the input, where these lines of it were played and the next message was found behind them
+pub all_messages : (input words : List ℕ) (heads lines : List (List ℕ)) (room mid : ℕ) (heads_rest bytes : List ℕ) (before : List (Option (List ℕ))) (next : Option (List ℕ)) (place : Place)
+    → IsHead heads words → Gave line_limit total_limit input heads room heads_rest → Gave line_limit room heads_rest lines mid bytes → messages_of lines ≡ before ++ None ∷ [] → (got : GotNext next mid bytes place)
+    → (split_of input).messages ≡ before ++ next ∷ got.all.more
+all_messages input words heads lines room mid heads_rest bytes before next place head gave gave2 so_far got =
+    (split_is input heads words (lines_of heads_rest) head (gave_lines line_limit total_limit input heads room heads_rest gave)).messages
+    ∙ ap messages_of (gave_lines line_limit room heads_rest lines mid bytes gave2 ∙ ap (λ (ls : List (List ℕ)). lines ++ ls) (gave_lines line_limit mid bytes got.lines got.left got.rest got.gave))
+    ∙ messages_append lines (got.lines ++ lines_of got.rest) before so_far ∙ ap (λ (ns : List (Option (List ℕ))). before ++ ns) got.all.is
+
 -- what is unanswered behind a log that is full, and why an entry is due
 record LeavesMore (m : Model) (log : List Entry) (words input : List ℕ) (source_left : Option (List ℕ)) : Type 0 where
   unanswered : List (Option (List ℕ))
@@ -368,9 +403,7 @@ leaves_more : (m : Model) (log : List Entry) (input : List ℕ) (heads lines : L
 leaves_more m log input heads lines words room mid heads_rest bytes before next place source_left head gave gave2 so_far got behind due = by_due due
   where
     whole : (split_of input).messages ≡ before ++ next ∷ got.all.more
-    whole = (split_is input heads words (lines_of heads_rest) head (gave_lines line_limit total_limit input heads room heads_rest gave)).messages
-        ∙ ap messages_of (gave_lines line_limit room heads_rest lines mid bytes gave2 ∙ ap (λ (ls : List (List ℕ)). lines ++ ls) (gave_lines line_limit mid bytes got.lines got.left got.rest got.gave))
-        ∙ messages_append lines (got.lines ++ lines_of got.rest) before so_far ∙ ap (λ (ns : List (Option (List ℕ))). before ++ ns) got.all.is
+    whole = all_messages input words heads lines room mid heads_rest bytes before next place head gave gave2 so_far got
 
     read : HasRead words (before ++ next ∷ []) input source_left
     read = has_read input words heads lines room mid heads_rest bytes before next place source_left head gave gave2 so_far got behind
@@ -391,7 +424,7 @@ leaves_more m log input heads lines words room mid heads_rest bytes before next 
       due = inr (both.0, (next, refl));
     }
 
-full_ends : (turns : ℕ) (input words heads_rest : List ℕ) (heads : List (List ℕ)) (m : Model) (start place : Place) (source_left held opened now : Option (List ℕ)) (new : State)
+pub full_ends : (turns : ℕ) (input words heads_rest : List ℕ) (heads : List (List ℕ)) (m : Model) (start place : Place) (source_left held opened now : Option (List ℕ)) (new : State)
     → IsHead heads words → Gave line_limit total_limit input heads start.reader.room heads_rest → start.ahead ≡ Some heads_rest → BeginsAt start → IsModelText words m
     → Adds held opened (text_from m 0 (opening (program_options turns) ∷ [])) → PlayFills (fresh_state turns m) start opened new place now → Legal new.model new.log → ahead place.reader.held source_left ≡ place.ahead → IsFull turns input source_left held now
 full_ends turns input words heads_rest heads m start place source_left held opened now new head gave is_ahead begins accepted first plays legal behind =
@@ -440,7 +473,7 @@ begins_at limit kept new input after source_left begun behind =
     }
 
 -- the reader behind a text that begins
-behind_text : (kept : Option (Vec ℕ Global)) (start : Place) (input : Option (List ℕ)) → IsBegun (fresh_reader line_limit) input kept start.reader start.ahead → BeginsAt start
+pub behind_text : (kept : Option (Vec ℕ Global)) (start : Place) (input : Option (List ℕ)) → IsBegun (fresh_reader line_limit) input kept start.reader start.ahead → BeginsAt start
 behind_text kept start input begun = record { limit = begun.took.limit; few = begun.took.few (omega arith) }
 
 -- a run that is done, with the log and the world that its machine is left with
@@ -461,34 +494,6 @@ done_with turns kept start place input source_left m new begun text plays legal 
       world = l.world;
     }
 
-begun_known : (turns : ℕ) (kept : Option (Vec ℕ Global)) (start place : Place) (input : List ℕ) (source_left held now : Option (List ℕ)) (r : Result Outcome Halt)
-    → IsBegun (fresh_reader line_limit) (Some input) kept start.reader start.ahead → TextRuns turns kept start held r place now → ahead place.reader.held source_left ≡ place.ahead
-    → RanKnown turns (Some input) source_left held now r
-begun_known turns kept start place input source_left held now (Ok outcome.Done) begun run behind =
-    let k = known line_limit total_limit line_limit total_limit (Some input) input begun.lines start.reader.room start.ahead refl refl refl begun.took.gave in
-    done_ends turns input begun.words k.rest begun.lines run.model start place source_left held run.run.opened now run.run.new begun.head k.gave k.is (behind_text kept start (Some input) begun) (run.text begun.words begun.keeps) run.run.first run.run.playing run.run.legal behind
-begun_known turns kept start place input source_left held now (Ok outcome.Refused) begun run behind =
-    let same = subst (λ (p : Place). ahead p.reader.held source_left ≡ p.ahead) run.1 behind in
-    let begins = begins_at line_limit kept start.reader input start.ahead source_left begun same in
-    faulty begun.words run.0.line begins (run.0.refused begun.words begun.keeps) run.0.written
-begun_known turns kept start place input source_left held now (Err halt.Limit) begun run behind =
-    let k = known line_limit total_limit line_limit total_limit (Some input) input begun.lines start.reader.room start.ahead refl refl refl begun.took.gave in
-    past_limit turns input held now (stopped_ends halt.Limit turns input begun.words k.rest begun.lines run.model start held run.run.opened now run.run.new begun.head k.gave k.is (behind_text kept start (Some input) begun) (run.text begun.words begun.keeps) run.run.first run.run.playing run.run.legal)
-begun_known turns kept start place input source_left held now (Err halt.Read) begun run behind =
-    let k = known line_limit total_limit line_limit total_limit (Some input) input begun.lines start.reader.room start.ahead refl refl refl begun.took.gave in
-    read_fault turns input held now (stopped_ends halt.Read turns input begun.words k.rest begun.lines run.model start held run.run.opened now run.run.new begun.head k.gave k.is (behind_text kept start (Some input) begun) (run.text begun.words begun.keeps) run.run.first run.run.playing run.run.legal)
-begun_known turns kept start place input source_left held now (Err halt.Full) begun run behind =
-    let k = known line_limit total_limit line_limit total_limit (Some input) input begun.lines start.reader.room start.ahead refl refl refl begun.took.gave in
-    full_ends turns input begun.words k.rest begun.lines run.model start place source_left held run.run.opened now run.run.new begun.head k.gave k.is (behind_text kept start (Some input) begun) (run.text begun.words begun.keeps) run.run.first run.run.playing run.run.legal behind
-begun_known turns kept start place input source_left held now (Err halt.Write) begun run behind = tt
-begun_known turns kept start place input source_left held now (Err halt.Memory) begun run behind = tt
-
-begun_ran : (turns : ℕ) (kept : Option (Vec ℕ Global)) (start place : Place) (input source_left held now : Option (List ℕ)) (r : Result Outcome Halt)
-    → IsBegun (fresh_reader line_limit) input kept start.reader start.ahead → TextRuns turns kept start held r place now → ahead place.reader.held source_left ≡ place.ahead
-    → RanKnown turns input source_left held now r
-begun_ran turns kept start place None source_left held now r begun run behind = tt
-begun_ran turns kept start place (Some input) source_left held now r begun run behind = begun_known turns kept start place input source_left held now r begun run behind
-
 -- ---- the end of a run whose text has no `begin`
 
 pub begins_nowhere : (limit : ℕ) (new : Reader) (input : List ℕ) (after source_left held now : Option (List ℕ)) → HasNoBegin (fresh_reader limit) (Some input) new after → ahead new.held source_left ≡ after
@@ -499,43 +504,20 @@ begins_nowhere limit new input after source_left held now head behind adds =
     no_begin head.lines new.room (subst (λ (r : List ℕ). Gave limit total_limit input head.lines new.room r) none k.gave) (ap model_text_of (gave_lines limit total_limit input head.lines new.room k.rest k.gave ∙ ap (λ (r : List ℕ). head.lines ++ lines_of r) none ∙ append-nil head.lines) ∙ head.none)
     record { came = new.held; few = head.took.few (omega arith); behind = behind ∙ head.used_up } adds
 
-no_begin_ran : (turns : ℕ) (new : Reader) (input after source_left held now : Option (List ℕ)) → HasNoBegin (fresh_reader line_limit) input new after → ahead new.held source_left ≡ after → Adds held now no_begin_line
-    → RanKnown turns input source_left held now (Ok outcome.Refused)
-no_begin_ran turns new None after source_left held now head behind adds = tt
-no_begin_ran turns new (Some input) after source_left held now head behind adds = begins_nowhere line_limit new input after source_left held now head behind adds
-
--- the refusal's line may fail to be written
-refused_ran : (turns : ℕ) (new : Reader) (input after source_left held now : Option (List ℕ)) (r : Result Outcome Halt) (faults later : ℕ)
-    → HasNoBegin (fresh_reader line_limit) input new after → ahead new.held source_left ≡ after → OnOk r (Adds held now no_begin_line) → IfOk r (λ o. o ≡ outcome.Refused) → IfErr r (WriteStops faults later) → RanKnown turns input source_left held now r
-refused_ran turns new input after source_left held now (Ok outcome.Refused) faults later head behind adds refused cause = no_begin_ran turns new input after source_left held now head behind adds
-refused_ran turns new input after source_left held now (Ok outcome.Done) faults later head behind adds refused cause = absurd (let h : outcome.Done ≡ outcome.Refused = refused in (cc))
-refused_ran turns new input after source_left held now (Err halt.Limit) faults later head behind adds refused cause = absurd cause
-refused_ran turns new input after source_left held now (Err halt.Full) faults later head behind adds refused cause = absurd cause
-refused_ran turns new input after source_left held now (Err halt.Read) faults later head behind adds refused cause = absurd cause
-refused_ran turns new input after source_left held now (Err halt.Write) faults later head behind adds refused cause = free_write input
-  where
-    free_write : (bytes : Option (List ℕ)) → RanKnown turns bytes source_left held now (Err halt.Write)
-    free_write None = tt
-    free_write (Some bytes) = tt
-refused_ran turns new input after source_left held now (Err halt.Memory) faults later head behind adds refused cause = free_memory input
-  where
-    free_memory : (bytes : Option (List ℕ)) → RanKnown turns bytes source_left held now (Err halt.Memory)
-    free_memory None = tt
-    free_memory (Some bytes) = tt
-
 -- ---- the end of a run that stops before `begin`
 
 -- the lines before `begin` behind which no line was given
-pub record IsHeadStopped (e : Halt) (limit : ℕ) (input : List ℕ) : Type 0 where
+pub record IsHeadStopped (e : Halt) (limit : ℕ) (input : List ℕ) (source_left : Option (List ℕ)) : Type 0 where
   pub lines : List (List ℕ)
   pub left : ℕ
   pub rest : List ℕ
   pub gave : Gave limit total_limit input lines left rest
   pub why : StopsBy e limit left (Some rest)
+  pub source : e ≡ halt.Read → ShowsNoLine limit left rest source_left
   pub none : model_text_of lines ≡ None
 
-pub head_stopped : (limit : ℕ) (input : List ℕ) (f : LineFault) (e : Halt) → HeadHalts (fresh_reader limit) (Some input) f → HaltFor f e → IsHeadStopped e limit input
-head_stopped limit input f e head is =
+pub head_stopped : (limit : ℕ) (new : Reader) (input : List ℕ) (source_left : Option (List ℕ)) (f : LineFault) (e : Halt) → HeadHalts (fresh_reader limit) (Some input) f new (ahead new.held source_left) → HaltFor f e → IsHeadStopped e limit input source_left
+head_stopped limit new input source_left f e head is =
     let halts = head.halts in
     let k = known limit total_limit limit total_limit (Some input) input head.lines halts.left halts.rest refl refl refl halts.gave in
     record {
@@ -544,20 +526,11 @@ head_stopped limit input f e head is =
       rest = k.rest;
       gave = k.gave;
       why = subst (λ (r : Option (List ℕ)). StopsBy e limit halts.left r) k.is (stops_by e limit halts.left halts.rest f is halts.why);
+      source = λ read.
+          shows_none limit halts.left halts.rest k.rest new.held (ahead new.held source_left) source_left
+          (read_leaves (fresh_reader limit) new (Some input) (ahead new.held source_left) head.lines f halts (subst (λ (h : Halt). HaltFor f h) read is)) k.is refl;
       none = head.none;
     }
-
-head_ran : (turns : ℕ) (input source_left held : Option (List ℕ)) (f : LineFault) (e : Halt) → HeadHalts (fresh_reader line_limit) input f → HaltFor f e → RanKnown turns input source_left held held (Err e)
-head_ran turns None source_left held f e head is = tt
-head_ran turns (Some input) source_left held f halt.Limit head is =
-    let s = head_stopped line_limit input f halt.Limit head is in
-    record { lines = s.lines; left = s.left; rest = s.rest; gave = s.gave; why = s.why; asked = inl (s.none, refl) }
-head_ran turns (Some input) source_left held f halt.Full head is = absurd (never_full f is)
-head_ran turns (Some input) source_left held f halt.Read head is =
-    let s = head_stopped line_limit input f halt.Read head is in
-    record { lines = s.lines; left = s.left; rest = s.rest; gave = s.gave; asked = inl (s.none, refl) }
-head_ran turns (Some input) source_left held f halt.Write head is = tt
-head_ran turns (Some input) source_left held f halt.Memory head is = tt
 
 -- ---- from the reader that a task begins with
 
@@ -573,19 +546,6 @@ pub fresh_nowhere : (limit : ℕ) (old new : Reader) (left after : Option (List 
 fresh_nowhere limit old new left after is head =
     subst (λ (b : Option (List ℕ)). HasNoBegin (fresh_reader limit) b new after) (none_ahead left) (subst (λ (r : Reader). HasNoBegin r (ahead r.held left) new after) is head)
 
-pub fresh_halts : (limit : ℕ) (old : Reader) (left : Option (List ℕ)) (f : LineFault) → old ≡ fresh_reader limit → HeadHalts old (ahead old.held left) f → HeadHalts (fresh_reader limit) left f
-fresh_halts limit old left f is head =
-    subst (λ (b : Option (List ℕ)). HeadHalts (fresh_reader limit) b f) (none_ahead left) (subst (λ (r : Reader). HeadHalts r (ahead r.held left) f) is head)
-
-pub refused_solo : (turns : ℕ) (old new : Reader) (left source_left held now : Option (List ℕ)) (r : Result Outcome Halt) (faults later : ℕ) → old ≡ fresh_reader line_limit
-    → HasNoBegin old (ahead old.held left) new (ahead new.held source_left) → OnOk r (Adds held now no_begin_line) → IfOk r (λ o. o ≡ outcome.Refused) → IfErr r (WriteStops faults later) → RanKnown turns left source_left held now r
-refused_solo turns old new left source_left held now r faults later is head adds refused cause =
-    refused_ran turns new left (ahead new.held source_left) source_left held now r faults later (fresh_nowhere line_limit old new left (ahead new.held source_left) is head) refl adds refused cause
-
-pub begun_solo : (turns : ℕ) (old : Reader) (kept : Option (Vec ℕ Global)) (new last : Reader) (left after source_left held now : Option (List ℕ)) (r : Result Outcome Halt) → old ≡ fresh_reader line_limit
-    → IsBegun old (ahead old.held left) kept new (ahead new.held after) → TextRuns turns kept (place_of new after) held r (place_of last source_left) now → RanKnown turns left source_left held now r
-begun_solo turns old kept new last left after source_left held now r is begun run =
-    begun_ran turns kept (place_of new after) (place_of last source_left) left source_left held now r (fresh_begun line_limit old kept new left (ahead new.held after) is begun) run refl
-
-pub head_solo : (turns : ℕ) (old : Reader) (left source_left held : Option (List ℕ)) (f : LineFault) (e : Halt) → old ≡ fresh_reader line_limit → HeadHalts old (ahead old.held left) f → HaltFor f e → RanKnown turns left source_left held held (Err e)
-head_solo turns old left source_left held f e is head halts = head_ran turns left source_left held f e (fresh_halts line_limit old left f is head) halts
+pub fresh_halts : (limit : ℕ) (old new : Reader) (left after : Option (List ℕ)) (f : LineFault) → old ≡ fresh_reader limit → HeadHalts old (ahead old.held left) f new after → HeadHalts (fresh_reader limit) left f new after
+fresh_halts limit old new left after f is head =
+    subst (λ (b : Option (List ℕ)). HeadHalts (fresh_reader limit) b f new after) (none_ahead left) (subst (λ (r : Reader). HeadHalts r (ahead r.held left) f new after) is head)

@@ -4,6 +4,8 @@ pub mod Leasts
 pub mod Telling
 pub mod Playing
 pub mod Ending
+pub mod Breaking
+pub mod Running
 pub mod Checking
 pub mod Showing
 pub mod Summing

@@ -1,16 +1,17 @@
 -- Message after message.
-use Rattle.std.proofs.Common.{◌≡◌, ℕ, ◌+◌, ◌<◌, ◌≤◌, List, [], ◌∷◌, ◌++◌, length, drop, Bool, true, false, All, Option, Some, None, IfSome, inl, inr, Ok, Err, refl, sym, ◌∙◌, ap, subst, append_assoc, length-append}
+use Rattle.std.proofs.Common.{◌≡◌, ℕ, ◌+◌, ◌<◌, ◌≤◌, List, [], ◌∷◌, ◌++◌, length, drop, Bool, true, false, All, Option, Some, None, IfSome, ◌⊎◌, inl, inr, Result, Ok, Err, refl, sym, ◌∙◌, ap, subst, append_assoc, length-append}
 use Rattle.std.proofs.lemmas.List.{append-nil}
 use Rattle.std.proofs.lemmas.List.Elements.{filter_map-append}
 use Rattle.pl_io.specs.declared.errors.LineFault.{LineFault}
 use Rattle.pl_io.specs.Reader.{NumberedLine}
+use Rattle.pl_io.specs.Writes.{AppendsFront}
 use Rattle.pl_model.specs.declared.whole.Model.{Model}
 use Rattle.pl_entry.specs.declared.entry.Entry.{Entry}
 use Rattle.pl_machine.specs.Lines.{is_blank_line, is_line_of, end_word, messages_from, messages_of}
 use Rattle.pl_machine.specs.World.{World}
 use Rattle.pl_machine.specs.Step.{after}
 use Rattle.pl_entry.specs.Bounds.{IsMessageLine}
-use Rattle.pl_machine.specs.Legal.{world_from}
+use Rattle.pl_machine.specs.Legal.{Legal, world_from}
 use Rattle.pl_main.specs.Solo.{solo_from}
 use Rattle.pl_machine.specs.Finished.{inputs_of, input_in}
 use Rattle.pl_machine.specs.Sound.{State}
@@ -20,14 +21,14 @@ use Rattle.pl_render.proofs.Texts.{text_joined}
 use Rattle.pl_stream.specs.declared.halt.Halt.{Halt}
 use Rattle.pl_stream.specs.declared.halt.Halt.TheVariants as halt
 use Rattle.pl_stream.specs.Reads.{GaveKnown, IsUsedUp, AreBlank}
-use Rattle.pl_stream.specs.Stops.{HaltFor, StopsBy}
+use Rattle.pl_stream.specs.Stops.{HaltFor, ReadLeaves, StopsBy}
 use Rattle.pl_stream.specs.Waits.{GetsFault, MessageGives}
-use Rattle.pl_main.specs.Tells.{IsReady, Told}
-use Rattle.pl_stream.specs.Written.{Adds}
-use Rattle.pl_main.specs.Plays.{Place, Plays, EndsAll, by_end, by_line, PlaysOut, PlayHalts, Answered, Filled, line_in, StepsOn, StepFills, StepHalts, PlayFills, Steps, Playing}
+use Rattle.pl_main.specs.Tells.{IsReady, Told, FillsUp, at_once, within}
+use Rattle.pl_stream.specs.Written.{Adds, WriteStops}
+use Rattle.pl_main.specs.Plays.{Place, Plays, EndsAll, by_end, by_line, PlaysOut, PlayHalts, Answered, Filled, AnsweredInPart, Unanswered, untold, told_in_part, Answering, line_in, StepsOn, StepFills, StepHalts, StepsInPart, StepLacks, unread, unheard, unwritten, PlayFills, PlaysInPart, PlayLacks, Steps, Playing}
 use Rattle.pl_stream.proofs.Reading.{took_none, took_more, gave_later}
-use Rattle.pl_stream.proofs.Stopping.{never_full, stops_by}
-use Rattle.pl_stream.proofs.Writing.{some_held, adds_then}
+use Rattle.pl_stream.proofs.Stopping.{never_full, never_writes, read_leaves, stops_by}
+use Rattle.pl_stream.proofs.Writing.{some_held, adds_then, appends_then}
 
 pub input_fits : (start place : Place) (message : Option NumberedLine) (line : Option (List ℕ)) → start.reader.limit ≡ 4096 → line ≡ line_in message → IfSome line (λ bytes. All (λ byte. byte < 256) bytes)
     → MessageGives start.reader start.ahead (Ok message) place.reader place.ahead → IfSome line IsMessageLine
@@ -38,6 +39,32 @@ input_fits start place (Some message) (Some line) limit is bytes gets =
     let same : line ≡ message.bytes = (let h : Some line ≡ Some message.bytes = is in (cc)) in
     record { short = rw same (subst (λ n. length message.bytes ≤ n) limit gets.fits); bytes = bytes; one_line = rw same gets.no_newline }
 
+-- ---- a message whose lines were not written whole
+
+filled_model : (old new : State) (input : Option (List ℕ)) → FillsUp old input new → new.model ≡ old.model
+filled_model old new input (at_once full is) = ap (λ (s : State). s.model) is
+filled_model old new input (within told) = told.same.model
+
+cut_off : (old new : State) (input held now : Option (List ℕ)) (e : Halt) (faults later : ℕ) → Told old input new ⊎ FillsUp old input new → AppendsFront held now (text_from old.model (length old.log) (drop (length old.log) new.log)) → WriteStops faults later e → Answering old input held (Err e) new now
+cut_off old new input held now halt.Write faults later told front cause = record { told = told; written = front }
+cut_off old new input held now halt.Memory faults later told front cause = told_in_part (record { told = told; written = front })
+cut_off old new input held now halt.Read faults later told front cause = absurd cause
+cut_off old new input held now halt.Limit faults later told front cause = absurd cause
+cut_off old new input held now halt.Full faults later told front cause = absurd cause
+
+pub told_cut : (old new : State) (input held now : Option (List ℕ)) (e : Halt) (from faults later : ℕ) → Told old input new → from ≡ length old.log → AppendsFront held now (text_from new.model from (drop from new.log)) → WriteStops faults later e → Answering old input held (Err e) new now
+told_cut old new input held now e from faults later told is front cause =
+    cut_off old new input held now e faults later (inl told) (subst (λ (m : Model). AppendsFront held now (text_from m (length old.log) (drop (length old.log) new.log))) told.same.model (subst (λ n. AppendsFront held now (text_from new.model n (drop n new.log))) is front)) cause
+
+pub filled_cut : (old new : State) (input held now : Option (List ℕ)) (e : Halt) (from faults later : ℕ) → FillsUp old input new → from ≡ length old.log → AppendsFront held now (text_from new.model from (drop from new.log)) → WriteStops faults later e → Answering old input held (Err e) new now
+filled_cut old new input held now e from faults later fills is front cause =
+    cut_off old new input held now e faults later (inr fills) (subst (λ (m : Model). AppendsFront held now (text_from m (length old.log) (drop (length old.log) new.log))) (filled_model old new input fills) (subst (λ n. AppendsFront held now (text_from new.model n (drop n new.log))) is front)) cause
+
+pub not_told : (old new : State) (input held : Option (List ℕ)) → Legal old.model old.log → Answering old input held (Err halt.Memory) new held
+not_told old new input held legal = untold legal refl
+
+-- ---- a message that is read, and then answered
+
 pub step_on : (old new : State) (start place : Place) (held now : Option (List ℕ)) (message : Option NumberedLine) → MessageGives start.reader start.ahead (Ok message) place.reader place.ahead
     → Answered old (line_in message) held new now → StepsOn old start held new place now
 step_on old new start place held now message gets answered = record { message = message; gets = gets; told = answered.told; written = answered.written }
@@ -46,12 +73,26 @@ pub step_fills : (old new : State) (start place : Place) (held now : Option (Lis
     → Filled old (line_in message) held new now → StepFills old start held new place now
 step_fills old new start place held now message gets filled = record { message = message; gets = gets; fills = filled.fills; written = filled.written }
 
-pub step_stops : (old : State) (start place : Place) (held : Option (List ℕ)) (f : LineFault) (e : Halt) → GetsFault start.reader start.ahead f → HaltFor f e → Steps old start held (Err e) old place held
+step_by : (old new : State) (start place : Place) (held now : Option (List ℕ)) (message : Option NumberedLine) (r : Result Bool Halt) → MessageGives start.reader start.ahead (Ok message) place.reader place.ahead
+    → Answering old (line_in message) held r new now → Steps old start held r new place now
+step_by old new start place held now message (Ok done) gets answers = (step_on old new start place held now message gets answers.0, answers.1)
+step_by old new start place held now message (Err halt.Full) gets answers = step_fills old new start place held now message gets answers
+step_by old new start place held now message (Err halt.Limit) gets answers = absurd answers
+step_by old new start place held now message (Err halt.Read) gets answers = absurd answers
+step_by old new start place held now message (Err halt.Write) gets answers = record { message = message; gets = gets; answered = answers }
+step_by old new start place held now message (Err halt.Memory) gets (untold legal silent) = unheard legal silent
+step_by old new start place held now message (Err halt.Memory) gets (told_in_part answered) = unwritten (record { message = message; gets = gets; answered = answered })
+
+pub step_answers : (old new : State) (start place : Place) (held now line : Option (List ℕ)) (message : Option NumberedLine) (r : Result Bool Halt) → MessageGives start.reader start.ahead (Ok message) place.reader place.ahead
+    → line ≡ line_in message → Answering old line held r new now → Steps old start held r new place now
+step_answers old new start place held now line message r gets is answers = step_by old new start place held now message r gets (subst (λ (l : Option (List ℕ)). Answering old l held r new now) is answers)
+
+pub step_stops : (old : State) (start place : Place) (held : Option (List ℕ)) (f : LineFault) (e : Halt) → GetsFault start.reader start.ahead f place.reader place.ahead → HaltFor f e → Steps old start held (Err e) old place held
 step_stops old start place held f halt.Limit gets is = record { reason = f; fault = gets; halts = is; same = refl; written = refl }
 step_stops old start place held f halt.Read gets is = record { reason = f; fault = gets; halts = is; same = refl; written = refl }
 step_stops old start place held f halt.Full gets is = absurd (never_full f is)
-step_stops old start place held f halt.Write gets is = tt
-step_stops old start place held f halt.Memory gets is = tt
+step_stops old start place held f halt.Write gets is = absurd (never_writes f is)
+step_stops old start place held f halt.Memory gets is = unread refl refl
 
 -- ---- messages of lines
 
@@ -160,6 +201,17 @@ joined old mid new held written now before added log solo world same text log2 s
       text = subst (λ (t : List ℕ). Adds held now t) (sym (text_append old.model (length old.log) before added)) (adds_then held written now (text_from old.model (length old.log) before) (text_from old.model (length old.log + length before) added) text (subst (λ (t : List ℕ). Adds written now t) added_text text2));
     }
 
+-- a front of the lines of a message's entries, behind those before it
+pub joined_front : (old mid new : State) (held written now : Option (List ℕ)) (before added : List Entry) → mid.log ≡ old.log ++ before → SameRun old mid → Adds held written (text_from old.model (length old.log) before) → new.log ≡ mid.log ++ added
+    → AppendsFront written now (text_from mid.model (length mid.log) (drop (length mid.log) new.log)) → AppendsFront held now (text_from old.model (length old.log) (before ++ added))
+joined_front old mid new held written now before added log same text log2 front =
+    let fresh : drop (length mid.log) new.log ≡ added = ap (λ (l : List Entry). drop (length mid.log) l) log2 ∙ drop_front mid.log added in
+    let place : length mid.log ≡ length old.log + length before = ap (λ (l : List Entry). length l) log ∙ length-append old.log before in
+    let added_text : text_from mid.model (length mid.log) (drop (length mid.log) new.log) ≡ text_from old.model (length old.log + length before) added =
+    ap (λ (l : List Entry). text_from mid.model (length mid.log) l) fresh ∙ ap (λ (n : ℕ). text_from mid.model n added) place ∙ ap (λ (m : Model). text_from m (length old.log + length before) added) same.model in
+    subst (λ (t : List ℕ). AppendsFront held now t) (sym (text_append old.model (length old.log) before added))
+    (appends_then held written now (text_from old.model (length old.log) before) (text_from old.model (length old.log + length before) added) text (subst (λ (t : List ℕ). AppendsFront written now t) added_text front))
+
 -- the messages of a line that doesn't end the run
 message_goes : (lines blanks : List (List ℕ)) (line : List ℕ) (ms : List (Option (List ℕ))) → messages_of lines ≡ ms ++ None ∷ [] → AreBlank blanks → is_blank_line line ≡ false → is_line_of end_word line ≡ false
     → messages_of (lines ++ (blanks ++ line ∷ [])) ≡ (ms ++ Some line ∷ []) ++ None ∷ []
@@ -258,8 +310,8 @@ plays_out old mid new start middle place held written now plays step done = by_m
           written = j.text;
         }
 
-pub plays_halt : (e : Halt) (old mid new : State) (start middle : Place) (held written now : Option (List ℕ)) → Plays old start held mid middle written → StepHalts e mid middle written new now → PlayHalts e old start held new now
-plays_halt e old mid new start middle held written now plays step =
+pub plays_halt : (e : Halt) (old mid new : State) (start middle place : Place) (held written now : Option (List ℕ)) → Plays old start held mid middle written → StepHalts e mid middle written new place now → PlayHalts e old start held new place now
+plays_halt e old mid new start middle place held written now plays step =
     let halts = step.fault.halts in
     record {
       lines = plays.lines ++ step.fault.lines;
@@ -268,6 +320,9 @@ plays_halt e old mid new start middle held written now plays step =
       rest = halts.rest;
       gave = gave_later start.reader middle.reader start.ahead middle.ahead plays.lines step.fault.lines halts.left halts.rest plays.took halts.gave;
       why = subst (λ n. StopsBy e n halts.left halts.rest) plays.took.limit (stops_by e middle.reader.limit halts.left halts.rest step.reason step.halts halts.why);
+      leaves = λ read.
+          subst (λ n. ReadLeaves n halts.left halts.rest place.reader.held place.ahead) plays.took.limit
+          (read_leaves middle.reader place.reader middle.ahead place.ahead step.fault.lines step.reason halts (subst (λ (h : Halt). HaltFor step.reason h) read step.halts));
       log = ap (λ (t : State). t.log) step.same ∙ plays.log;
       solo = plays.solo;
       world = ap (λ (t : State). t.world) step.same ∙ plays.world;
@@ -282,8 +337,8 @@ pub plays_fill : (old mid new : State) (start middle place : Place) (held writte
 plays_fill old mid new start middle place held written now plays step = record { waiting = mid; middle = middle; written = written; plays = plays; step = step }
 
 pub plays_stop : (old mid new : State) (start middle place : Place) (held written now : Option (List ℕ)) (e : Halt) → Plays old start held mid middle written → Steps mid middle written (Err e) new place now → Playing old start held (Err e) new place now
-plays_stop old mid new start middle place held written now halt.Read plays step = plays_halt halt.Read old mid new start middle held written now plays step
-plays_stop old mid new start middle place held written now halt.Write plays step = tt
-plays_stop old mid new start middle place held written now halt.Limit plays step = plays_halt halt.Limit old mid new start middle held written now plays step
+plays_stop old mid new start middle place held written now halt.Read plays step = plays_halt halt.Read old mid new start middle place held written now plays step
+plays_stop old mid new start middle place held written now halt.Write plays step = record { waiting = mid; middle = middle; written = written; plays = plays; step = step }
+plays_stop old mid new start middle place held written now halt.Limit plays step = plays_halt halt.Limit old mid new start middle place held written now plays step
 plays_stop old mid new start middle place held written now halt.Full plays step = plays_fill old mid new start middle place held written now plays step
-plays_stop old mid new start middle place held written now halt.Memory plays step = tt
+plays_stop old mid new start middle place held written now halt.Memory plays step = record { waiting = mid; middle = middle; written = written; plays = plays; step = step }

@@ -20,12 +20,12 @@ use Rattle.pl_accept.specs.Accepting.{IsModelText}
 use Rattle.pl_stream.specs.declared.halt.Halt.{Halt}
 use Rattle.pl_stream.specs.declared.halt.Halt.TheVariants as halt
 use Rattle.pl_stream.specs.Reads.{Gave, Took, IsUsedUp}
-use Rattle.pl_stream.specs.Stops.{HaltFor, StopsBy}
+use Rattle.pl_stream.specs.Stops.{HaltFor, ReadLeaves, StopsBy}
 use Rattle.pl_stream.specs.Heads.{IsBegun, HasNoBegin, HeadHalts}
 use Rattle.pl_stream.specs.Written.{Adds}
 use Rattle.pl_stream.proofs.Reading.{gave_append, known, IsKnown}
 use Rattle.pl_stream.proofs.Beginning.{head_then}
-use Rattle.pl_stream.proofs.Stopping.{never_full, never_writes, stops_by}
+use Rattle.pl_stream.proofs.Stopping.{never_full, never_writes, read_leaves, stops_by}
 use Rattle.pl_replay.specs.declared.verdict.Verdict.{Verdict}
 use Rattle.pl_replay.specs.declared.verdict.Verdict.TheVariants as verdict
 use Rattle.pl_replay.specs.Journals.{entry_lines, lines_from, IsJournalOf, IsWrongAtLast}
@@ -36,9 +36,9 @@ use Rattle.pl_main.specs.declared.judgement.Judgement.{Judgement}
 use Rattle.pl_main.specs.declared.judgement.Judgement.TheVariants as judged
 use Rattle.pl_main.specs.Plays.{Place, place_of}
 use Rattle.pl_main.specs.Runs.{AcceptsKept, IsKeptModel, TextFails}
-use Rattle.pl_main.specs.Top.{total_limit, fresh_reader, no_begin_line, IsReadTo, IsNoModel, faulty}
+use Rattle.pl_main.specs.Top.{total_limit, fresh_reader, no_begin_line, IsReadTo, ShowsNoLine, IsNoModel, faulty}
 use Rattle.pl_main.specs.Replays.{journal_line_limit, state_of, text_of_form, HasTaken, IsRightJournal, IsWrong, no_entry, wrong_last, IsWrongJournal, IsRightSoFar, IsPastJournal, IsJournalFault, IsJournalShort, of_right, of_wrong, of_refusal, ReadsBack, ReadsBackKnown, WritesAs, WritesJudged, RightBehind, WrongBehind, StopsBehind, ShortBehind, right_cut, wrong_cut, ModelReads, TextRead, TextCut, journal_cut, refusal_cut, TextReads}
-use Rattle.pl_main.proofs.Ending.{begins_at, begins_nowhere, head_stopped, fresh_begun, fresh_nowhere, fresh_halts}
+use Rattle.pl_main.proofs.Ending.{begins_at, begins_nowhere, shows_none, head_stopped, fresh_begun, fresh_nowhere, fresh_halts}
 
 -- ---- what is written
 
@@ -112,7 +112,7 @@ pub machine_verdict : (m : Model) (old new : Reader) (before after : Option (Lis
 machine_verdict m old new before after v None verified = tt
 machine_verdict m old new before after v (Some s) verified = verified.judged.verdict
 
-pub journal_stops : (form : Form) (m : Model) (start place : Place) (held : Option (List ℕ)) (f : LineFault) (e : Halt) → Stops m start.reader start.ahead f → HaltFor f e → ModelReads form m start held (Err e) place held
+pub journal_stops : (form : Form) (m : Model) (start place : Place) (held : Option (List ℕ)) (f : LineFault) (e : Halt) → Stops m start.reader start.ahead f place.reader place.ahead → HaltFor f e → ModelReads form m start held (Err e) place held
 journal_stops form m start place held f halt.Limit stops is = record { reason = f; stops = stops; halts = is; silent = refl }
 journal_stops form m start place held f halt.Read stops is = record { reason = f; stops = stops; halts = is; silent = refl }
 journal_stops form m start place held f halt.Full stops is = absurd (never_full f is)
@@ -226,17 +226,19 @@ wrong_whole kept start place input source_left held now m begun text wrong behin
     }
 
 -- a line that is not given behind those of a journal
-record IsJournalStopped (e : Halt) (input : List ℕ) : Type 0 where
+record IsJournalStopped (e : Halt) (input : List ℕ) (source_left : Option (List ℕ)) : Type 0 where
   lines : List (List ℕ)
   left : ℕ
   rest : List ℕ
   gave : Gave journal_line_limit total_limit input lines left rest
   why : StopsBy e journal_line_limit left (Some rest)
+  source : e ≡ halt.Read → ShowsNoLine journal_line_limit left rest source_left
   asked : (model_text_of lines ≡ None) ⊎ IsRightSoFar lines
 
-stopped_whole : (e : Halt) (kept : Option (Vec ℕ Global)) (start : Place) (input : List ℕ) (m : Model) (f : LineFault)
-    → IsBegun (fresh_reader journal_line_limit) (Some input) kept start.reader start.ahead → IsKeptModel kept m → Stops m start.reader start.ahead f → HaltFor f e → IsJournalStopped e input
-stopped_whole e kept start input m f begun text stops is =
+stopped_whole : (e : Halt) (kept : Option (Vec ℕ Global)) (start place : Place) (input : List ℕ) (source_left : Option (List ℕ)) (m : Model) (f : LineFault)
+    → IsBegun (fresh_reader journal_line_limit) (Some input) kept start.reader start.ahead → IsKeptModel kept m → Stops m start.reader start.ahead f place.reader place.ahead → HaltFor f e → ahead place.reader.held source_left ≡ place.ahead
+    → IsJournalStopped e input source_left
+stopped_whole e kept start place input source_left m f begun text stops is behind =
     let halts = stops.halts in
     let k = start_known kept start input begun in
     let l = known start.reader.limit start.reader.room journal_line_limit start.reader.room start.ahead k.rest stops.lines halts.left halts.rest begun.took.limit refl k.is halts.gave in
@@ -247,6 +249,10 @@ stopped_whole e kept start input m f begun text stops is =
       rest = l.rest;
       gave = gave_append journal_line_limit total_limit input begun.lines stops.lines start.reader.room k.rest halts.left l.rest k.gave l.gave;
       why = subst (λ (r : Option (List ℕ)). StopsBy e journal_line_limit halts.left r) l.is (subst (λ n. StopsBy e n halts.left halts.rest) begun.took.limit (stops_by e start.reader.limit halts.left halts.rest f is halts.why));
+      source = λ read.
+          (let leaves = read_leaves start.reader place.reader start.ahead place.ahead stops.lines f halts (subst (λ (h : Halt). HaltFor f h) read is) in
+          shows_none journal_line_limit halts.left halts.rest l.rest place.reader.held place.ahead source_left
+          (subst (λ n. ReadLeaves n halts.left halts.rest place.reader.held place.ahead) begun.took.limit leaves) l.is behind);
       asked = inr (record {
         model = m;
         log = stops.log;
@@ -286,12 +292,12 @@ begun_known form kept start place input source_left held now (Ok judged.Wrong) b
 begun_known form kept start place input source_left held now (Ok judged.Refused) begun text behind =
     refused_whole kept start place input source_left held now begun (record { line = text.0.line; refused = text.0.refused; written = no_text text.0.line }) text.0.written text.1 behind
 begun_known form kept start place input source_left held now (Err halt.Limit) begun text behind =
-    let s = stopped_whole halt.Limit kept start input text.model text.reads.reason begun text.text text.reads.stops text.reads.halts in
+    let s = stopped_whole halt.Limit kept start place input source_left text.model text.reads.reason begun text.text text.reads.stops text.reads.halts behind in
     record { lines = s.lines; left = s.left; rest = s.rest; gave = s.gave; why = s.why; asked = s.asked; silent = text.reads.silent }
 begun_known form kept start place input source_left held now (Err halt.Full) begun text behind = absurd text
 begun_known form kept start place input source_left held now (Err halt.Read) begun text behind =
-    let s = stopped_whole halt.Read kept start input text.model text.reads.reason begun text.text text.reads.stops text.reads.halts in
-    record { lines = s.lines; left = s.left; rest = s.rest; gave = s.gave; asked = s.asked; silent = text.reads.silent }
+    let s = stopped_whole halt.Read kept start place input source_left text.model text.reads.reason begun text.text text.reads.stops text.reads.halts behind in
+    record { lines = s.lines; left = s.left; rest = s.rest; gave = s.gave; source = s.source refl; asked = s.asked; silent = text.reads.silent }
 begun_known form kept start place input source_left held now (Err halt.Write) begun text behind = cut_whole form kept start place input source_left held now begun text behind
 begun_known form kept start place input source_left held now (Err halt.Memory) begun text behind = text
 
@@ -332,20 +338,22 @@ refused_reads form old new left source_left held now r is head writes =
 
 -- ---- where the reader stops
 
-head_known : (form : Form) (input : List ℕ) (source_left held : Option (List ℕ)) (f : LineFault) (e : Halt) → HeadHalts (fresh_reader journal_line_limit) (Some input) f → HaltFor f e → ReadsBack form input source_left held held (Err e)
-head_known form input source_left held f halt.Limit head is =
-    let s = head_stopped journal_line_limit input f halt.Limit head is in
+head_known : (form : Form) (new : Reader) (input : List ℕ) (source_left held : Option (List ℕ)) (f : LineFault) (e : Halt) → HeadHalts (fresh_reader journal_line_limit) (Some input) f new (ahead new.held source_left) → HaltFor f e
+    → ReadsBack form input source_left held held (Err e)
+head_known form new input source_left held f halt.Limit head is =
+    let s = head_stopped journal_line_limit new input source_left f halt.Limit head is in
     record { lines = s.lines; left = s.left; rest = s.rest; gave = s.gave; why = s.why; asked = inl s.none; silent = refl }
-head_known form input source_left held f halt.Full head is = absurd (never_full f is)
-head_known form input source_left held f halt.Read head is =
-    let s = head_stopped journal_line_limit input f halt.Read head is in
-    record { lines = s.lines; left = s.left; rest = s.rest; gave = s.gave; asked = inl s.none; silent = refl }
-head_known form input source_left held f halt.Write head is = absurd (never_writes f is)
-head_known form input source_left held f halt.Memory head is = refl
+head_known form new input source_left held f halt.Full head is = absurd (never_full f is)
+head_known form new input source_left held f halt.Read head is =
+    let s = head_stopped journal_line_limit new input source_left f halt.Read head is in
+    record { lines = s.lines; left = s.left; rest = s.rest; gave = s.gave; source = s.source refl; asked = inl s.none; silent = refl }
+head_known form new input source_left held f halt.Write head is = absurd (never_writes f is)
+head_known form new input source_left held f halt.Memory head is = refl
 
-head_ran : (form : Form) (input source_left held : Option (List ℕ)) (f : LineFault) (e : Halt) → HeadHalts (fresh_reader journal_line_limit) input f → HaltFor f e → ReadsBackKnown form input source_left held held (Err e)
-head_ran form None source_left held f e head is = tt
-head_ran form (Some input) source_left held f e head is = head_known form input source_left held f e head is
+head_ran : (form : Form) (new : Reader) (input source_left held : Option (List ℕ)) (f : LineFault) (e : Halt) → HeadHalts (fresh_reader journal_line_limit) input f new (ahead new.held source_left) → HaltFor f e → ReadsBackKnown form input source_left held held (Err e)
+head_ran form new None source_left held f e head is = tt
+head_ran form new (Some input) source_left held f e head is = head_known form new input source_left held f e head is
 
-pub head_reads : (form : Form) (old : Reader) (left source_left held : Option (List ℕ)) (f : LineFault) (e : Halt) → old ≡ fresh_reader journal_line_limit → HeadHalts old (ahead old.held left) f → HaltFor f e → ReadsBackKnown form left source_left held held (Err e)
-head_reads form old left source_left held f e is head halts = head_ran form left source_left held f e (fresh_halts journal_line_limit old left f is head) halts
+pub head_reads : (form : Form) (old new : Reader) (left source_left held : Option (List ℕ)) (f : LineFault) (e : Halt) → old ≡ fresh_reader journal_line_limit → HeadHalts old (ahead old.held left) f new (ahead new.held source_left) → HaltFor f e
+    → ReadsBackKnown form left source_left held held (Err e)
+head_reads form old new left source_left held f e is head halts = head_ran form new left source_left held f e (fresh_halts journal_line_limit old new left (ahead new.held source_left) f is head) halts

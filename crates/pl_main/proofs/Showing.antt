@@ -29,7 +29,8 @@ use Rattle.pl_main.specs.Limits.{IsWithinLimits}
 use Rattle.pl_stream.specs.Written.{Adds}
 use Rattle.pl_main.specs.Demos.{demo_turns, summary_line, IsShownShort, of_summary, of_refusal, Shows, IsPlayed, DemoPlays, ModelShown, ModelShows, TextShort, of_model, of_line, TextShows}
 use Rattle.pl_stream.proofs.Stopping.{never_full, never_writes, only_reads}
-use Rattle.pl_main.proofs.Ending.{fresh_begun, IsDoneWith, done_with, begun_solo, refused_solo, head_solo}
+use Rattle.pl_main.proofs.Ending.{fresh_begun, IsDoneWith, done_with}
+use Rattle.pl_main.proofs.Running.{begun_solo, refused_solo, head_solo}
 use Rattle.pl_main.proofs.Causes.{run_within}
 
 -- ---- the demonstration's input
@@ -159,10 +160,10 @@ begun_shows goals text old kept new last after left held now r few is is_fresh b
 no_begin_then : (goals : ℕ) (old new : Reader) (left held now : Option (List ℕ)) (r : Result Outcome Halt) → old ≡ fresh_reader line_limit
     → HasNoBegin old (ahead old.held (Input goals)) new (ahead new.held left) → OnOk r (Adds held now no_begin_line) → IfOk r (λ o. o ≡ outcome.Refused) → OnErr r (AppendsFront held now no_begin_line) → IfErr r (λ e. e ≡ halt.Write) → Shows goals held now r
 no_begin_then goals old new left held now (Ok outcome.Refused) is_fresh head adds refused front fails =
-    record { left = left; refused = refused_solo demo_turns old new (Input goals) left held now (Ok outcome.Refused) 0 0 is_fresh head adds refl tt }
+    record { left = left; refused = refused_solo demo_turns old new (Input goals) left held now (Ok outcome.Refused) is_fresh head adds refl tt tt }
 no_begin_then goals old new left held now (Ok outcome.Done) is_fresh head adds refused front fails = absurd (let h : outcome.Done ≡ outcome.Refused = refused in (cc))
 no_begin_then goals old new left held now (Err halt.Write) is_fresh head adds refused front fails =
-    of_refusal left no_begin_line (refused_solo demo_turns old new (Input goals) left (Some []) (Some no_begin_line) (Ok outcome.Refused) 0 0 is_fresh head refl refl tt) front
+    of_refusal left no_begin_line (refused_solo demo_turns old new (Input goals) left (Some []) (Some no_begin_line) (Ok outcome.Refused) is_fresh head refl refl tt tt) front
 no_begin_then goals old new left held now (Err halt.Limit) is_fresh head adds refused front fails = absurd (let h : halt.Limit ≡ halt.Write = fails in (cc))
 no_begin_then goals old new left held now (Err halt.Full) is_fresh head adds refused front fails = absurd (let h : halt.Full ≡ halt.Write = fails in (cc))
 no_begin_then goals old new left held now (Err halt.Read) is_fresh head adds refused front fails = absurd (let h : halt.Read ≡ halt.Write = fails in (cc))
@@ -178,16 +179,16 @@ no_begin_shows goals text old new left held now r is is_fresh head adds refused 
 never_reads : (f : LineFault) → HaltFor f halt.Read → (f ≡ fault.Read → ⊥) → ⊥
 never_reads f is no_read = no_read (only_reads f is)
 
-head_then : (goals : ℕ) (old : Reader) (held : Option (List ℕ)) (f : LineFault) (e : Halt) → goals ≤ 4000 → old ≡ fresh_reader line_limit
-    → HeadHalts old (ahead old.held (Input goals)) f → HaltFor f e → (f ≡ fault.Read → ⊥) → Shows goals held held (Err e)
-head_then goals old held f halt.Limit few is_fresh head is no_read =
-    run_within demo_turns (demo_text goals) None None (demo_within goals few) (head_solo demo_turns old (Input goals) None None f halt.Limit is_fresh head is)
-head_then goals old held f halt.Full few is_fresh head is no_read = absurd (never_full f is)
-head_then goals old held f halt.Read few is_fresh head is no_read = absurd (never_reads f is no_read)
-head_then goals old held f halt.Write few is_fresh head is no_read = absurd (never_writes f is)
-head_then goals old held f halt.Memory few is_fresh head is no_read = refl
+head_then : (goals : ℕ) (old new : Reader) (left held : Option (List ℕ)) (f : LineFault) (e : Halt) → goals ≤ 4000 → old ≡ fresh_reader line_limit
+    → HeadHalts old (ahead old.held (Input goals)) f new (ahead new.held left) → HaltFor f e → (f ≡ fault.Read → ⊥) → Shows goals held held (Err e)
+head_then goals old new left held f halt.Limit few is_fresh head is no_read =
+    run_within demo_turns (demo_text goals) None None (demo_within goals few) (head_solo demo_turns old new (Input goals) left None f halt.Limit is_fresh head is)
+head_then goals old new left held f halt.Full few is_fresh head is no_read = absurd (never_full f is)
+head_then goals old new left held f halt.Read few is_fresh head is no_read = absurd (never_reads f is no_read)
+head_then goals old new left held f halt.Write few is_fresh head is no_read = absurd (never_writes f is)
+head_then goals old new left held f halt.Memory few is_fresh head is no_read = refl
 
-pub head_shows : (goals : ℕ) (text : List ℕ) (old : Reader) (held : Option (List ℕ)) (f : LineFault) (e : Halt) → goals ≤ 4000 → text ≡ demo_text goals → old ≡ fresh_reader line_limit
-    → HeadHalts old (ahead old.held (Some text)) f → HaltFor f e → (f ≡ fault.Read → ⊥) → Shows goals held held (Err e)
-head_shows goals text old held f e few is_text is_fresh head is no_read =
-    head_then goals old held f e few is_fresh (subst (λ (t : List ℕ). HeadHalts old (ahead old.held (Some t)) f) is_text head) is no_read
+pub head_shows : (goals : ℕ) (text : List ℕ) (old new : Reader) (left held : Option (List ℕ)) (f : LineFault) (e : Halt) → goals ≤ 4000 → text ≡ demo_text goals → old ≡ fresh_reader line_limit
+    → HeadHalts old (ahead old.held (Some text)) f new (ahead new.held left) → HaltFor f e → (f ≡ fault.Read → ⊥) → Shows goals held held (Err e)
+head_shows goals text old new left held f e few is_text is_fresh head is no_read =
+    head_then goals old new left held f e few is_fresh (subst (λ (t : List ℕ). HeadHalts old (ahead old.held (Some t)) f new (ahead new.held left)) is_text head) is no_read

@@ -27,23 +27,23 @@ use Rattle.pl_main.specs.Top.{RanKnown, ChecksKnown}
 
 pub says_of : (turns : ℕ) (input source_left held now : Option (List ℕ)) (r : Result Outcome Halt) → RanKnown turns input source_left held now r → SaysKnown (task.Solo turns) input source_left held now (status_of r)
 says_of turns None source_left held now r ran = tt
-says_of turns (Some input) source_left held now (Ok outcome.Done) ran = record { done = λ e. ran; refused = λ e. absurd (omega (arith, e)); read_fault = λ e. absurd (omega (arith, e)); limit = λ e. absurd (omega (arith, e)); full = λ e. absurd (omega (arith, e)); never_wrong = λ e. omega (arith, e) }
-says_of turns (Some input) source_left held now (Ok outcome.Refused) ran = record { done = λ e. absurd (omega (arith, e)); refused = λ e. ran; read_fault = λ e. absurd (omega (arith, e)); limit = λ e. absurd (omega (arith, e)); full = λ e. absurd (omega (arith, e)); never_wrong = λ e. omega (arith, e) }
-says_of turns (Some input) source_left held now (Err halt.Limit) ran = record { done = λ e. absurd (omega (arith, e)); refused = λ e. absurd (omega (arith, e)); read_fault = λ e. absurd (omega (arith, e)); limit = λ e. ran; full = λ e. absurd (omega (arith, e)); never_wrong = λ e. omega (arith, e) }
-says_of turns (Some input) source_left held now (Err halt.Full) ran = record { done = λ e. absurd (omega (arith, e)); refused = λ e. absurd (omega (arith, e)); read_fault = λ e. absurd (omega (arith, e)); limit = λ e. absurd (omega (arith, e)); full = λ e. ran; never_wrong = λ e. omega (arith, e) }
-says_of turns (Some input) source_left held now (Err halt.Read) ran = record { done = λ e. absurd (omega (arith, e)); refused = λ e. absurd (omega (arith, e)); read_fault = λ e. ran; limit = λ e. absurd (omega (arith, e)); full = λ e. absurd (omega (arith, e)); never_wrong = λ e. omega (arith, e) }
-says_of turns (Some input) source_left held now (Err halt.Write) ran = record { done = λ e. absurd (omega (arith, e)); refused = λ e. absurd (omega (arith, e)); read_fault = λ e. absurd (omega (arith, e)); limit = λ e. absurd (omega (arith, e)); full = λ e. absurd (omega (arith, e)); never_wrong = λ e. omega (arith, e) }
-says_of turns (Some input) source_left held now (Err halt.Memory) ran = record { done = λ e. absurd (omega (arith, e)); refused = λ e. absurd (omega (arith, e)); read_fault = λ e. absurd (omega (arith, e)); limit = λ e. absurd (omega (arith, e)); full = λ e. absurd (omega (arith, e)); never_wrong = λ e. omega (arith, e) }
+says_of turns (Some input) source_left held now (Ok outcome.Done) ran = record { done = λ e. ran; refused = λ e. absurd (omega (arith, e)); read_fault = λ e. absurd (omega (arith, e)); short = λ e. absurd (omega (arith, e)); limit = λ e. absurd (omega (arith, e)); full = λ e. absurd (omega (arith, e)); never_wrong = λ e. omega (arith, e); memory = λ e. absurd (omega (arith, e)) }
+says_of turns (Some input) source_left held now (Ok outcome.Refused) ran = record { done = λ e. absurd (omega (arith, e)); refused = λ e. ran; read_fault = λ e. absurd (omega (arith, e)); short = λ e. absurd (omega (arith, e)); limit = λ e. absurd (omega (arith, e)); full = λ e. absurd (omega (arith, e)); never_wrong = λ e. omega (arith, e); memory = λ e. absurd (omega (arith, e)) }
+says_of turns (Some input) source_left held now (Err halt.Limit) ran = record { done = λ e. absurd (omega (arith, e)); refused = λ e. absurd (omega (arith, e)); read_fault = λ e. absurd (omega (arith, e)); short = λ e. absurd (omega (arith, e)); limit = λ e. ran; full = λ e. absurd (omega (arith, e)); never_wrong = λ e. omega (arith, e); memory = λ e. absurd (omega (arith, e)) }
+says_of turns (Some input) source_left held now (Err halt.Full) ran = record { done = λ e. absurd (omega (arith, e)); refused = λ e. absurd (omega (arith, e)); read_fault = λ e. absurd (omega (arith, e)); short = λ e. absurd (omega (arith, e)); limit = λ e. absurd (omega (arith, e)); full = λ e. ran; never_wrong = λ e. omega (arith, e); memory = λ e. absurd (omega (arith, e)) }
+says_of turns (Some input) source_left held now (Err halt.Read) ran = record { done = λ e. absurd (omega (arith, e)); refused = λ e. absurd (omega (arith, e)); read_fault = λ e. ran; short = λ e. absurd (omega (arith, e)); limit = λ e. absurd (omega (arith, e)); full = λ e. absurd (omega (arith, e)); never_wrong = λ e. omega (arith, e); memory = λ e. absurd (omega (arith, e)) }
+says_of turns (Some input) source_left held now (Err halt.Write) ran = record { done = λ e. absurd (omega (arith, e)); refused = λ e. absurd (omega (arith, e)); read_fault = λ e. absurd (omega (arith, e)); short = λ e. ran; limit = λ e. absurd (omega (arith, e)); full = λ e. absurd (omega (arith, e)); never_wrong = λ e. omega (arith, e); memory = λ e. absurd (omega (arith, e)) }
+says_of turns (Some input) source_left held now (Err halt.Memory) ran = record { done = λ e. absurd (omega (arith, e)); refused = λ e. absurd (omega (arith, e)); read_fault = λ e. absurd (omega (arith, e)); short = λ e. absurd (omega (arith, e)); limit = λ e. absurd (omega (arith, e)); full = λ e. absurd (omega (arith, e)); never_wrong = λ e. omega (arith, e); memory = λ e. ran }
 
-pub says_paired : (turns : ℕ) (input source_left held now : Option (List ℕ)) (r : Result Outcome Halt) → PairedKnown turns input source_left held now r → SaysPairKnown turns input source_left held now (status_of r)
-says_paired turns None source_left held now r ran = tt
-says_paired turns (Some input) source_left held now (Ok outcome.Done) ran = record { done = λ e. ran; refused = λ e. absurd (omega (arith, e)); read_fault = λ e. absurd (omega (arith, e)); short = λ e. absurd (omega (arith, e)); limit = λ e. absurd (omega (arith, e)); full = λ e. absurd (omega (arith, e)); never_wrong = λ e. omega (arith, e); memory = λ e. absurd (omega (arith, e)) }
-says_paired turns (Some input) source_left held now (Ok outcome.Refused) ran = record { done = λ e. absurd (omega (arith, e)); refused = λ e. ran; read_fault = λ e. absurd (omega (arith, e)); short = λ e. absurd (omega (arith, e)); limit = λ e. absurd (omega (arith, e)); full = λ e. absurd (omega (arith, e)); never_wrong = λ e. omega (arith, e); memory = λ e. absurd (omega (arith, e)) }
-says_paired turns (Some input) source_left held now (Err halt.Limit) ran = record { done = λ e. absurd (omega (arith, e)); refused = λ e. absurd (omega (arith, e)); read_fault = λ e. absurd (omega (arith, e)); short = λ e. absurd (omega (arith, e)); limit = λ e. ran; full = λ e. absurd (omega (arith, e)); never_wrong = λ e. omega (arith, e); memory = λ e. absurd (omega (arith, e)) }
-says_paired turns (Some input) source_left held now (Err halt.Full) ran = record { done = λ e. absurd (omega (arith, e)); refused = λ e. absurd (omega (arith, e)); read_fault = λ e. absurd (omega (arith, e)); short = λ e. absurd (omega (arith, e)); limit = λ e. absurd (omega (arith, e)); full = λ e. ran; never_wrong = λ e. omega (arith, e); memory = λ e. absurd (omega (arith, e)) }
-says_paired turns (Some input) source_left held now (Err halt.Read) ran = record { done = λ e. absurd (omega (arith, e)); refused = λ e. absurd (omega (arith, e)); read_fault = λ e. ran; short = λ e. absurd (omega (arith, e)); limit = λ e. absurd (omega (arith, e)); full = λ e. absurd (omega (arith, e)); never_wrong = λ e. omega (arith, e); memory = λ e. absurd (omega (arith, e)) }
-says_paired turns (Some input) source_left held now (Err halt.Write) ran = record { done = λ e. absurd (omega (arith, e)); refused = λ e. absurd (omega (arith, e)); read_fault = λ e. absurd (omega (arith, e)); short = λ e. ran; limit = λ e. absurd (omega (arith, e)); full = λ e. absurd (omega (arith, e)); never_wrong = λ e. omega (arith, e); memory = λ e. absurd (omega (arith, e)) }
-says_paired turns (Some input) source_left held now (Err halt.Memory) ran = record { done = λ e. absurd (omega (arith, e)); refused = λ e. absurd (omega (arith, e)); read_fault = λ e. absurd (omega (arith, e)); short = λ e. absurd (omega (arith, e)); limit = λ e. absurd (omega (arith, e)); full = λ e. absurd (omega (arith, e)); never_wrong = λ e. omega (arith, e); memory = λ e. ran }
+pub says_paired : (turns seed : ℕ) (input source_left held now : Option (List ℕ)) (r : Result Outcome Halt) → PairedKnown turns seed input source_left held now r → SaysPairKnown turns seed input source_left held now (status_of r)
+says_paired turns seed None source_left held now r ran = tt
+says_paired turns seed (Some input) source_left held now (Ok outcome.Done) ran = record { done = λ e. ran; refused = λ e. absurd (omega (arith, e)); read_fault = λ e. absurd (omega (arith, e)); short = λ e. absurd (omega (arith, e)); limit = λ e. absurd (omega (arith, e)); full = λ e. absurd (omega (arith, e)); never_wrong = λ e. omega (arith, e); memory = λ e. absurd (omega (arith, e)) }
+says_paired turns seed (Some input) source_left held now (Ok outcome.Refused) ran = record { done = λ e. absurd (omega (arith, e)); refused = λ e. ran; read_fault = λ e. absurd (omega (arith, e)); short = λ e. absurd (omega (arith, e)); limit = λ e. absurd (omega (arith, e)); full = λ e. absurd (omega (arith, e)); never_wrong = λ e. omega (arith, e); memory = λ e. absurd (omega (arith, e)) }
+says_paired turns seed (Some input) source_left held now (Err halt.Limit) ran = record { done = λ e. absurd (omega (arith, e)); refused = λ e. absurd (omega (arith, e)); read_fault = λ e. absurd (omega (arith, e)); short = λ e. absurd (omega (arith, e)); limit = λ e. ran; full = λ e. absurd (omega (arith, e)); never_wrong = λ e. omega (arith, e); memory = λ e. absurd (omega (arith, e)) }
+says_paired turns seed (Some input) source_left held now (Err halt.Full) ran = record { done = λ e. absurd (omega (arith, e)); refused = λ e. absurd (omega (arith, e)); read_fault = λ e. absurd (omega (arith, e)); short = λ e. absurd (omega (arith, e)); limit = λ e. absurd (omega (arith, e)); full = λ e. ran; never_wrong = λ e. omega (arith, e); memory = λ e. absurd (omega (arith, e)) }
+says_paired turns seed (Some input) source_left held now (Err halt.Read) ran = record { done = λ e. absurd (omega (arith, e)); refused = λ e. absurd (omega (arith, e)); read_fault = λ e. ran; short = λ e. absurd (omega (arith, e)); limit = λ e. absurd (omega (arith, e)); full = λ e. absurd (omega (arith, e)); never_wrong = λ e. omega (arith, e); memory = λ e. absurd (omega (arith, e)) }
+says_paired turns seed (Some input) source_left held now (Err halt.Write) ran = record { done = λ e. absurd (omega (arith, e)); refused = λ e. absurd (omega (arith, e)); read_fault = λ e. absurd (omega (arith, e)); short = λ e. ran; limit = λ e. absurd (omega (arith, e)); full = λ e. absurd (omega (arith, e)); never_wrong = λ e. omega (arith, e); memory = λ e. absurd (omega (arith, e)) }
+says_paired turns seed (Some input) source_left held now (Err halt.Memory) ran = record { done = λ e. absurd (omega (arith, e)); refused = λ e. absurd (omega (arith, e)); read_fault = λ e. absurd (omega (arith, e)); short = λ e. absurd (omega (arith, e)); limit = λ e. absurd (omega (arith, e)); full = λ e. absurd (omega (arith, e)); never_wrong = λ e. omega (arith, e); memory = λ e. ran }
 
 pub says_checked : (input source_left held now : Option (List ℕ)) (r : Result Outcome Halt) → ChecksKnown input source_left held now r → SaysKnown task.Check input source_left held now (status_of r)
 says_checked None source_left held now r ran = tt

@@ -28,12 +28,12 @@ pub record CanRun (turns : ℕ) (input : List ℕ) : Type 0 where
   pub no_limit : (held now : Option (List ℕ)) → IsPastLimit turns input held now → ⊥
 
 -- The same for a pair.
-pub record CanPair (turns : ℕ) (input : List ℕ) : Type 0 where
+pub record CanPair (turns seed : ℕ) (input : List ℕ) : Type 0 where
   pub words : List ℕ
   pub model : Model
   pub text : (split_of input).text ≡ Some words
   pub accepted : IsModelText words model
-  pub no_limit : (held now : Option (List ℕ)) → IsPairPastLimit turns input held now → ⊥
+  pub no_limit : (held now : Option (List ℕ)) → IsPairPastLimit turns seed input held now → ⊥
 
 -- The same for a check, which runs nothing.
 pub record CanCheck (input : List ℕ) : Type 0 where
@@ -89,5 +89,5 @@ Completes task.Report input status = IfSome input (λ bytes. Decides bytes statu
 Completes (task.Demo goals) input status = CanShow goals → IsDoneBy (task.Demo goals) status
 
 -- a run of a pair that can be done is done, or memory is wanting, or the log is full
-abbrev pub CompletesPair : ℕ → Option (List ℕ) → ℕ → Type 0
-CompletesPair turns input status = IfSome input (λ bytes. CanPair turns bytes → (status ≡ 0) ⊎ ((status ≡ 7) ⊎ (status ≡ 9)))
+abbrev pub CompletesPair : (turns seed : ℕ) → Option (List ℕ) → ℕ → Type 0
+CompletesPair turns seed input status = IfSome input (λ bytes. CanPair turns seed bytes → (status ≡ 0) ⊎ ((status ≡ 7) ⊎ (status ≡ 9)))

@@ -1,12 +1,13 @@
 -- The messages of a run and what is written for them.
-use Rattle.std.specs.Prelude.{◌≡◌, ℕ, ◌<◌, List, [], ◌∷◌, ◌++◌, length, drop, Bool, true, false, Option, Some, None, IfSome, Result, Ok, Err, ⊤}
+use Rattle.std.specs.Prelude.{◌≡◌, ℕ, ◌<◌, List, [], ◌∷◌, ◌++◌, length, drop, Bool, true, false, Option, Some, None, IfSome, ◌⊎◌, Result, Ok, Err, ⊤}
 use Rattle.pl_io.specs.Lines.{ahead}
 use Rattle.pl_io.specs.Reader.{Reader, NumberedLine}
 use Rattle.pl_io.specs.Sparing.{read_size}
+use Rattle.pl_io.specs.Writes.{AppendsFront}
 use Rattle.pl_io.specs.declared.errors.LineFault.{LineFault}
 use Rattle.pl_entry.specs.declared.entry.Entry.{Entry}
 use Rattle.pl_machine.specs.Lines.{messages_of}
-use Rattle.pl_machine.specs.Legal.{world_from}
+use Rattle.pl_machine.specs.Legal.{Legal, world_from}
 use Rattle.pl_main.specs.Solo.{solo_from}
 use Rattle.pl_machine.specs.Finished.{inputs_of}
 use Rattle.pl_machine.specs.Sound.{State}
@@ -16,7 +17,7 @@ use Rattle.pl_stream.specs.declared.halt.Halt.{Halt}
 use Rattle.pl_stream.specs.declared.halt.Halt.TheVariants as halt
 use Rattle.pl_stream.specs.Reads.{GaveKnown, Took}
 use Rattle.pl_main.specs.Tells.{IsReady, Told, FillsUp}
-use Rattle.pl_stream.specs.Stops.{HaltFor, StopsBy}
+use Rattle.pl_stream.specs.Stops.{HaltFor, ReadLeaves, StopsBy}
 use Rattle.pl_stream.specs.Waits.{MessageGives, GetsFault}
 use Rattle.pl_stream.specs.Written.{Adds}
 
@@ -70,13 +71,14 @@ pub record PlaysOut (old : State) (start : Place) (held : Option (List ℕ)) (ne
   pub written : Adds held now (text_from old.model (length old.log) entries)
 
 -- The next line is not given, while the machine waits for a message.
-pub record PlayHalts (e : Halt) (old : State) (start : Place) (held : Option (List ℕ)) (new : State) (now : Option (List ℕ)) : Type 0 where
+pub record PlayHalts (e : Halt) (old : State) (start : Place) (held : Option (List ℕ)) (new : State) (place : Place) (now : Option (List ℕ)) : Type 0 where
   pub lines : List (List ℕ)
   pub entries : List Entry
   pub left : ℕ
   pub rest : Option (List ℕ)
   pub gave : GaveKnown start.reader.limit start.reader.room start.ahead lines left rest
   pub why : StopsBy e start.reader.limit left rest
+  pub leaves : e ≡ halt.Read → ReadLeaves start.reader.limit left rest place.reader.held place.ahead
   pub log : new.log ≡ old.log ++ entries
   pub solo : solo_from old.world entries
   pub world : new.world ≡ world_from old.world entries
@@ -95,13 +97,23 @@ pub record Filled (old : State) (input : Option (List ℕ)) (held : Option (List
   pub fills : FillsUp old input new
   pub written : Adds held now (text_from old.model (length old.log) (drop (length old.log) new.log))
 
+-- A front of the lines of the message's entries was written.
+pub record AnsweredInPart (old : State) (input : Option (List ℕ)) (held : Option (List ℕ)) (new : State) (now : Option (List ℕ)) : Type 0 where
+  pub told : Told old input new ⊎ FillsUp old input new
+  pub written : AppendsFront held now (text_from old.model (length old.log) (drop (length old.log) new.log))
+
+-- Memory was wanting: for the message or its round, and then nothing of it was written, or for a line of its entries.
+pub data Unanswered (old : State) (input : Option (List ℕ)) (held : Option (List ℕ)) (new : State) (now : Option (List ℕ)) : Type 0 where
+  untold : Legal old.model old.log → now ≡ held → Unanswered old input held new now
+  told_in_part : AnsweredInPart old input held new now → Unanswered old input held new now
+
 abbrev pub Answering : State → Option (List ℕ) → Option (List ℕ) → Result Bool Halt → State → Option (List ℕ) → Type 0
 Answering old input held (Ok done) new now = Answered old input held new now × (done ≡ new.world.done)
 Answering old input held (Err halt.Full) new now = Filled old input held new now
 Answering old input held (Err halt.Limit) new now = ⊥
 Answering old input held (Err halt.Read) new now = ⊥
-Answering old input held (Err halt.Write) new now = ⊤
-Answering old input held (Err halt.Memory) new now = ⊤
+Answering old input held (Err halt.Write) new now = AnsweredInPart old input held new now
+Answering old input held (Err halt.Memory) new now = Unanswered old input held new now
 
 abbrev pub line_in : Option NumberedLine → Option (List ℕ)
 line_in None = None
@@ -122,20 +134,32 @@ pub record StepFills (old : State) (start : Place) (held : Option (List ℕ)) (n
   pub written : Adds held now (text_from old.model (length old.log) (drop (length old.log) new.log))
 
 -- The next line is not given.
-pub record StepHalts (e : Halt) (old : State) (start : Place) (held : Option (List ℕ)) (new : State) (now : Option (List ℕ)) : Type 0 where
+pub record StepHalts (e : Halt) (old : State) (start : Place) (held : Option (List ℕ)) (new : State) (place : Place) (now : Option (List ℕ)) : Type 0 where
   pub reason : LineFault
-  pub fault : GetsFault start.reader start.ahead reason
+  pub fault : GetsFault start.reader start.ahead reason place.reader place.ahead
   pub halts : HaltFor reason e
   pub same : new ≡ old
   pub written : now ≡ held
 
+-- A front of a message's lines was written.
+pub record StepsInPart (old : State) (start : Place) (held : Option (List ℕ)) (new : State) (place : Place) (now : Option (List ℕ)) : Type 0 where
+  pub message : Option NumberedLine
+  pub gets : MessageGives start.reader start.ahead (Ok message) place.reader place.ahead
+  pub answered : AnsweredInPart old (line_in message) held new now
+
+-- Memory was wanting: for a line, for a message or its round, or for a line of the message's entries.
+pub data StepLacks (old : State) (start : Place) (held : Option (List ℕ)) (new : State) (place : Place) (now : Option (List ℕ)) : Type 0 where
+  unread : new ≡ old → now ≡ held → StepLacks old start held new place now
+  unheard : Legal old.model old.log → now ≡ held → StepLacks old start held new place now
+  unwritten : StepsInPart old start held new place now → StepLacks old start held new place now
+
 abbrev pub Steps : State → Place → Option (List ℕ) → Result Bool Halt → State → Place → Option (List ℕ) → Type 0
 Steps old start held (Ok done) new place now = StepsOn old start held new place now × (done ≡ new.world.done)
-Steps old start held (Err halt.Limit) new place now = StepHalts halt.Limit old start held new now
+Steps old start held (Err halt.Limit) new place now = StepHalts halt.Limit old start held new place now
 Steps old start held (Err halt.Full) new place now = StepFills old start held new place now
-Steps old start held (Err halt.Read) new place now = StepHalts halt.Read old start held new now
-Steps old start held (Err halt.Write) new place now = ⊤
-Steps old start held (Err halt.Memory) new place now = ⊤
+Steps old start held (Err halt.Read) new place now = StepHalts halt.Read old start held new place now
+Steps old start held (Err halt.Write) new place now = StepsInPart old start held new place now
+Steps old start held (Err halt.Memory) new place now = StepLacks old start held new place now
 
 -- The log got full.
 pub record PlayFills (old : State) (start : Place) (held : Option (List ℕ)) (new : State) (place : Place)
@@ -146,10 +170,28 @@ pub record PlayFills (old : State) (start : Place) (held : Option (List ℕ)) (n
   pub plays : Plays old start held waiting middle written
   pub step : StepFills waiting middle written new place now
 
+-- A front of a message's lines was written behind those before it.
+pub record PlaysInPart (old : State) (start : Place) (held : Option (List ℕ)) (new : State) (place : Place)
+    (now : Option (List ℕ)) : Type 0 where
+  pub waiting : State
+  pub middle : Place
+  pub written : Option (List ℕ)
+  pub plays : Plays old start held waiting middle written
+  pub step : StepsInPart waiting middle written new place now
+
+-- Memory was wanting behind these messages.
+pub record PlayLacks (old : State) (start : Place) (held : Option (List ℕ)) (new : State) (place : Place)
+    (now : Option (List ℕ)) : Type 0 where
+  pub waiting : State
+  pub middle : Place
+  pub written : Option (List ℕ)
+  pub plays : Plays old start held waiting middle written
+  pub step : StepLacks waiting middle written new place now
+
 abbrev pub Playing : State → Place → Option (List ℕ) → Result (Unit {0}) Halt → State → Place → Option (List ℕ) → Type 0
 Playing old start held (Ok u) new place now = PlaysOut old start held new place now
-Playing old start held (Err halt.Limit) new place now = PlayHalts halt.Limit old start held new now
+Playing old start held (Err halt.Limit) new place now = PlayHalts halt.Limit old start held new place now
 Playing old start held (Err halt.Full) new place now = PlayFills old start held new place now
-Playing old start held (Err halt.Read) new place now = PlayHalts halt.Read old start held new now
-Playing old start held (Err halt.Write) new place now = ⊤
-Playing old start held (Err halt.Memory) new place now = ⊤
+Playing old start held (Err halt.Read) new place now = PlayHalts halt.Read old start held new place now
+Playing old start held (Err halt.Write) new place now = PlaysInPart old start held new place now
+Playing old start held (Err halt.Memory) new place now = PlayLacks old start held new place now

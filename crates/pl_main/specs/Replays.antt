@@ -27,7 +27,7 @@ use Rattle.pl_main.specs.declared.judgement.Judgement.{Judgement}
 use Rattle.pl_main.specs.declared.judgement.Judgement.TheVariants as judged
 use Rattle.pl_main.specs.Plays.{Place}
 use Rattle.pl_main.specs.Runs.{IsKeptModel, TextFails}
-use Rattle.pl_main.specs.Top.{total_limit, IsReadTo, IsNoModel}
+use Rattle.pl_main.specs.Top.{total_limit, IsReadTo, ShowsNoLine, IsNoModel}
 
 -- the most bytes of a line, where a journal is read
 abbrev pub journal_line_limit : ℕ
@@ -100,12 +100,13 @@ pub record IsPastJournal (input : List ℕ) (held now : Option (List ℕ)) : Typ
   pub asked : (model_text_of lines ≡ None) ⊎ IsRightSoFar lines
   pub silent : now ≡ held
 
--- A read failed: behind these lines, as above. Nothing was written.
-pub record IsJournalFault (input : List ℕ) (held now : Option (List ℕ)) : Type 0 where
+-- A read failed: behind these lines, as above. The source had shown no further one. Nothing was written.
+pub record IsJournalFault (input : List ℕ) (source_left held now : Option (List ℕ)) : Type 0 where
   pub lines : List (List ℕ)
   pub left : ℕ
   pub rest : List ℕ
   pub gave : Gave journal_line_limit total_limit input lines left rest
+  pub source : ShowsNoLine journal_line_limit left rest source_left
   pub asked : (model_text_of lines ≡ None) ⊎ IsRightSoFar lines
   pub silent : now ≡ held
 
@@ -125,7 +126,7 @@ ReadsBack form input source_left held now (Ok judged.Wrong) = IsWrongJournal inp
 ReadsBack form input source_left held now (Ok judged.Refused) = IsNoModel journal_line_limit input source_left held now
 ReadsBack form input source_left held now (Err halt.Limit) = IsPastJournal input held now
 ReadsBack form input source_left held now (Err halt.Full) = ⊥
-ReadsBack form input source_left held now (Err halt.Read) = IsJournalFault input held now
+ReadsBack form input source_left held now (Err halt.Read) = IsJournalFault input source_left held now
 ReadsBack form input source_left held now (Err halt.Write) = IsJournalShort form input source_left held now
 ReadsBack form input source_left held now (Err halt.Memory) = now ≡ held
 
@@ -168,9 +169,9 @@ pub record WrongBehind (m : Model) (start : Place) (held : Option (List ℕ)) (p
   pub written : Adds held now (verdict_line m verdict)
 
 -- The next line is not given.
-pub record StopsBehind (e : Halt) (m : Model) (start : Place) (held now : Option (List ℕ)) : Type 0 where
+pub record StopsBehind (e : Halt) (m : Model) (start : Place) (held : Option (List ℕ)) (place : Place) (now : Option (List ℕ)) : Type 0 where
   pub reason : LineFault
-  pub stops : Stops m start.reader start.ahead reason
+  pub stops : Stops m start.reader start.ahead reason place.reader place.ahead
   pub halts : HaltFor reason e
   pub silent : now ≡ held
 
@@ -183,9 +184,9 @@ abbrev pub ModelReads : Form → Model → Place → Option (List ℕ) → Resul
 ModelReads form m start held (Ok judged.Right) place now = RightBehind form m start held place now
 ModelReads form m start held (Ok judged.Wrong) place now = WrongBehind m start held place now
 ModelReads form m start held (Ok judged.Refused) place now = ⊥
-ModelReads form m start held (Err halt.Limit) place now = StopsBehind halt.Limit m start held now
+ModelReads form m start held (Err halt.Limit) place now = StopsBehind halt.Limit m start held place now
 ModelReads form m start held (Err halt.Full) place now = ⊥
-ModelReads form m start held (Err halt.Read) place now = StopsBehind halt.Read m start held now
+ModelReads form m start held (Err halt.Read) place now = StopsBehind halt.Read m start held place now
 ModelReads form m start held (Err halt.Write) place now = ShortBehind form m start held place now
 ModelReads form m start held (Err halt.Memory) place now = now ≡ held
 

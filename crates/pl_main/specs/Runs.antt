@@ -1,5 +1,5 @@
 -- A run over a model, and over the text of one.
-use Rattle.std.specs.Prelude.{◌≡◌, ℕ, List, [], ◌∷◌, false, Option, Result, Ok, Err, ⊤}
+use Rattle.std.specs.Prelude.{◌≡◌, ℕ, List, [], ◌∷◌, false, Option, None, Result, Ok, Err}
 use Rattle.std.specs.declared.vec.Vec.{Vec}
 use Rattle.std.specs.declared.alloc.Global.{Global}
 use Rattle.pl_io.specs.Writes.{AppendsFront}
@@ -31,6 +31,15 @@ pub record ModelRun (turns : ℕ) (model : Model) (start : Place) (held : Option
   pub playing : Playing (fresh_state turns model) start opened r new place now
   pub legal : Legal new.model new.log
 
+-- A run over a model that was cut short: memory was wanting before its journal, or a front of the open entry's line was
+-- written, or it came so far.
+pub data ModelBreaks (e : Halt) (turns : ℕ) (model : Model) (start : Place) (held : Option (List ℕ)) (place : Place)
+    (now : Option (List ℕ)) : Type 0 where
+  unopened : e ≡ halt.Memory → now ≡ held → ModelBreaks e turns model start held place now
+  in_opening : Legal model (opening (program_options turns) ∷ [])
+      → AppendsFront held now (text_from model 0 (opening (program_options turns) ∷ [])) → ModelBreaks e turns model start held place now
+  in_play : ModelRun turns model start held (Err e) place now → ModelBreaks e turns model start held place now
+
 abbrev pub ModelRuns : ℕ → Model → Place → Option (List ℕ) → Result (Unit {0}) Halt → Place
     → Option (List ℕ) → Type 0
 ModelRuns turns model start held (Ok u) place now = ModelRun turns model start held (Ok u) place now
@@ -40,8 +49,10 @@ ModelRuns turns model start held (Err halt.Full) place now =
     ModelRun turns model start held (Err halt.Full) place now
 ModelRuns turns model start held (Err halt.Read) place now =
     ModelRun turns model start held (Err halt.Read) place now
-ModelRuns turns model start held (Err halt.Write) place now = ⊤
-ModelRuns turns model start held (Err halt.Memory) place now = ⊤
+ModelRuns turns model start held (Err halt.Write) place now =
+    ModelBreaks halt.Write turns model start held place now
+ModelRuns turns model start held (Err halt.Memory) place now =
+    ModelBreaks halt.Memory turns model start held place now
 
 -- what the text that is kept is
 abbrev pub AcceptsKept : Option (Vec ℕ Global) → Accepted → Type 0
@@ -62,6 +73,16 @@ pub record TextFails (kept : Option (Vec ℕ Global)) (held now : Option (List �
   pub refused : (words : List ℕ) → Keeps kept words → IsRefusedAs words line
   pub written : Adds held now line
 
+-- A run over a text that was cut short: memory was wanting to judge the text, or a front of the line that refuses it was
+-- written, or the run over its model was cut short.
+pub data TextBreaks (e : Halt) (turns : ℕ) (kept : Option (Vec ℕ Global)) (start : Place) (held : Option (List ℕ))
+    (place : Place) (now : Option (List ℕ)) : Type 0 where
+  unjudged : e ≡ halt.Memory → now ≡ held → TextBreaks e turns kept start held place now
+  in_fault : e ≡ halt.Write → (fails : TextFails kept None None) → AppendsFront held now fails.line → place ≡ start
+      → TextBreaks e turns kept start held place now
+  in_run : (model : Model) → IsKeptModel kept model → ModelBreaks e turns model start held place now
+      → TextBreaks e turns kept start held place now
+
 -- Behind a text that is refused no line is asked for.
 abbrev pub TextRuns : ℕ → Option (Vec ℕ Global) → Place → Option (List ℕ) → Result Outcome Halt → Place
     → Option (List ℕ) → Type 0
@@ -75,8 +96,9 @@ TextRuns turns kept start held (Err halt.Full) place now =
     TextRun turns kept start held (Err halt.Full) place now
 TextRuns turns kept start held (Err halt.Read) place now =
     TextRun turns kept start held (Err halt.Read) place now
-TextRuns turns kept start held (Err halt.Write) place now = ⊤
-TextRuns turns kept start held (Err halt.Memory) place now = ⊤
+TextRuns turns kept start held (Err halt.Write) place now = TextBreaks halt.Write turns kept start held place now
+TextRuns turns kept start held (Err halt.Memory) place now =
+    TextBreaks halt.Memory turns kept start held place now
 
 -- The text is a model's, and this was written.
 pub record TextPasses (kept : Option (Vec ℕ Global)) (held now : Option (List ℕ)) : Type 0 where

@@ -11,8 +11,8 @@ use Rattle.pl_main.specs.declared.form.Form.TheVariants as which
 use Rattle.pl_main.specs.declared.judgement.Judgement.{Judgement}
 use Rattle.pl_main.specs.declared.judgement.Judgement.TheVariants as judged
 use Rattle.pl_main.specs.Replays.{journal_line_limit, IsRightJournal, IsWrongJournal, IsPastJournal, IsJournalFault, IsJournalShort}
-use Rattle.pl_main.specs.Top.{line_limit, IsDone, IsReadFault, IsPastLimit, IsFull, IsFound, IsNoModel, IsHeadFault, IsPastHead, IsCheckShort}
-use Rattle.pl_main.specs.Pairs.{IsPairDone, IsPairReadFault, IsPairPastLimit, IsPairFull, IsPairShort}
+use Rattle.pl_main.specs.Top.{line_limit, IsDone, IsReadFault, IsPastLimit, IsFull, IsShort, IsOutOfMemory, IsFound, IsNoModel, IsHeadFault, IsPastHead, IsCheckShort}
+use Rattle.pl_main.specs.Pairs.{IsPairDone, IsPairReadFault, IsPairPastLimit, IsPairFull, IsPairTorn, IsPairShort}
 use Rattle.pl_main.specs.Demos.{IsShown, IsShownInPart, IsShownShort, HasNoDemo}
 
 -- 0 done, 3 the model is refused, 4 a read failed, 5 a write failed, 6 a line or the input is too long, 7 the log is full, 8 the journal is wrong, 9 memory
@@ -44,17 +44,19 @@ pub record SaysRan (turns : ℕ) (input : List ℕ) (source_left held now : Opti
     : Type 0 where
   pub done : status ≡ 0 → IsDone turns input source_left held now
   pub refused : status ≡ 3 → IsNoModel line_limit input source_left held now
-  pub read_fault : status ≡ 4 → IsReadFault turns input held now
+  pub read_fault : status ≡ 4 → IsReadFault turns input source_left held now
+  pub short : status ≡ 5 → IsShort turns input source_left held now
   pub limit : status ≡ 6 → IsPastLimit turns input held now
   pub full : status ≡ 7 → IsFull turns input source_left held now
   pub never_wrong : status ≡ 8 → ⊥
+  pub memory : status ≡ 9 → IsOutOfMemory turns input held now
 
 -- what the status of a check says
 pub record SaysChecked (input : List ℕ) (source_left held now : Option (List ℕ)) (status : ℕ)
     : Type 0 where
   pub done : status ≡ 0 → IsFound input source_left held now
   pub refused : status ≡ 3 → IsNoModel line_limit input source_left held now
-  pub read_fault : status ≡ 4 → IsHeadFault line_limit input held now
+  pub read_fault : status ≡ 4 → IsHeadFault line_limit input source_left held now
   pub short : status ≡ 5 → IsCheckShort input source_left held now
   pub limit : status ≡ 6 → IsPastHead line_limit input held now
   pub never_full : status ≡ 7 → ⊥
@@ -66,7 +68,7 @@ pub record SaysReadBack (form : Form) (input : List ℕ) (source_left held now :
     : Type 0 where
   pub done : status ≡ 0 → IsRightJournal form input source_left held now
   pub refused : status ≡ 3 → IsNoModel journal_line_limit input source_left held now
-  pub read_fault : status ≡ 4 → IsJournalFault input held now
+  pub read_fault : status ≡ 4 → IsJournalFault input source_left held now
   pub short : status ≡ 5 → IsJournalShort form input source_left held now
   pub limit : status ≡ 6 → IsPastJournal input held now
   pub never_full : status ≡ 7 → ⊥
@@ -101,20 +103,20 @@ SaysKnown task.Report (Some input) source_left held now status =
 SaysKnown (task.Demo goals) input source_left held now status = SaysShown goals held now status
 
 -- what the status of a run of a pair says, where the input's bytes are known
-pub record SaysPaired (turns : ℕ) (input : List ℕ) (source_left held now : Option (List ℕ)) (status : ℕ)
+pub record SaysPaired (turns seed : ℕ) (input : List ℕ) (source_left held now : Option (List ℕ)) (status : ℕ)
     : Type 0 where
-  pub done : status ≡ 0 → IsPairDone turns input held now
+  pub done : status ≡ 0 → IsPairDone turns seed input source_left held now
   pub refused : status ≡ 3 → IsNoModel line_limit input source_left held now
-  pub read_fault : status ≡ 4 → IsPairReadFault turns input held now
-  pub short : status ≡ 5 → IsPairShort turns input held now
-  pub limit : status ≡ 6 → IsPairPastLimit turns input held now
-  pub full : status ≡ 7 → IsPairFull turns input held now
+  pub read_fault : status ≡ 4 → IsPairReadFault turns seed input source_left held now
+  pub short : status ≡ 5 → IsPairTorn turns seed input source_left held now
+  pub limit : status ≡ 6 → IsPairPastLimit turns seed input held now
+  pub full : status ≡ 7 → IsPairFull turns seed input source_left held now
   pub never_wrong : status ≡ 8 → ⊥
-  pub memory : status ≡ 9 → IsPairShort turns input held now
+  pub memory : status ≡ 9 → IsPairShort turns seed input held now
 
-abbrev pub SaysPairKnown : ℕ → (input source_left held now : Option (List ℕ)) → ℕ → Type 0
-SaysPairKnown turns None source_left held now status = ⊤
-SaysPairKnown turns (Some input) source_left held now status = SaysPaired turns input source_left held now status
+abbrev pub SaysPairKnown : (turns seed : ℕ) → (input source_left held now : Option (List ℕ)) → ℕ → Type 0
+SaysPairKnown turns seed None source_left held now status = ⊤
+SaysPairKnown turns seed (Some input) source_left held now status = SaysPaired turns seed input source_left held now status
 
 -- a demonstration leaves the input as it was
 abbrev pub IsUnread : {A : Type 0} → Task → A → A → Type 0

@@ -2,7 +2,7 @@
 use Rattle.std.specs.Prelude.{◌≡◌, ℕ, ◌<◌, ◌⊎◌, List, [], ◌∷◌, ◌++◌, length, true, false, Option, Some, None, Result, Ok, Err, codes, decimal, ⊤}
 use Rattle.pl_io.specs.Lines.{ahead}
 use Rattle.pl_io.specs.Reader.{Reader}
-use Rattle.pl_io.specs.Sparing.{read_size}
+use Rattle.pl_io.specs.Sparing.{read_size, shows_next}
 use Rattle.pl_io.specs.Writes.{AppendsFront}
 use Rattle.pl_model.specs.declared.whole.Model.{Model}
 use Rattle.pl_facts.specs.declared.options.Options.{Options}
@@ -41,6 +41,13 @@ fresh_reader limit = record { held = []; limit = limit; room = total_limit; numb
 pub record IsReadTo (rest : List ℕ) (source_left : Option (List ℕ)) : Type 0 where
   pub came : List ℕ
   pub few : length came < read_size
+  pub behind : ahead came source_left ≡ Some rest
+
+-- The bytes that came behind the lines that were given show no further line: none ends among them, and no limit is passed.
+-- They stand before those that the source has left.
+pub record ShowsNoLine (limit left : ℕ) (rest : List ℕ) (source_left : Option (List ℕ)) : Type 0 where
+  pub came : List ℕ
+  pub shows : shows_next limit left came ≡ false
   pub behind : ahead came source_left ≡ Some rest
 
 -- The lines that were asked for, each within the limits: the text of a model up to a `begin` line, and behind it these
@@ -120,12 +127,14 @@ pub record IsPastLimit (turns : ℕ) (input : List ℕ) (held now : Option (List
   pub why : IsStuck line_limit left rest
   pub asked : ((model_text_of lines ≡ None) × (now ≡ held)) ⊎ WaitsBehind turns lines held now
 
--- A read failed: behind these lines, while the model's text was read or a message was due.
-pub record IsReadFault (turns : ℕ) (input : List ℕ) (held now : Option (List ℕ)) : Type 0 where
+-- A read failed: behind these lines, while the model's text was read or a message was due. The source had shown no further
+-- one.
+pub record IsReadFault (turns : ℕ) (input : List ℕ) (source_left held now : Option (List ℕ)) : Type 0 where
   pub lines : List (List ℕ)
   pub left : ℕ
   pub rest : List ℕ
   pub gave : Gave line_limit total_limit input lines left rest
+  pub source : ShowsNoLine line_limit left rest source_left
   pub asked : ((model_text_of lines ≡ None) × (now ≡ held)) ⊎ WaitsBehind turns lines held now
 
 -- The log answers the messages up to a place. It has as many entries as it may, and one more is due: within a round, and
@@ -149,15 +158,51 @@ pub record IsFull (turns : ℕ) (input : List ℕ) (source_left held now : Optio
       ⊎ (((world_of model log).closed ≡ true) × ((next : Option (List ℕ)) × (pending ≡ next ∷ [])))
   pub written : Adds held now (text_of_log model log)
 
+-- A legal solo log of the program over the input's model, whose inputs are the first messages of the input. The lines that
+-- were taken for it are within the limits.
+pub record HasBegun (turns : ℕ) (input : List ℕ) : Type 0 where
+  pub model : Model
+  pub log : List Entry
+  pub words : List ℕ
+  pub text : (split_of input).text ≡ Some words
+  pub accepted : IsModelText words model
+  pub legal : Legal model log
+  pub solo : Solo model log
+  pub options : options_of log ≡ program_options turns
+  pub lines : List (List ℕ)
+  pub left : ℕ
+  pub rest : List ℕ
+  pub gave : Gave line_limit total_limit input lines left rest
+  pub head : model_text_of lines ≡ Some words
+  pub more : List (Option (List ℕ))
+  pub behind : messages_of (lines_behind lines) ≡ inputs_of log ++ more
+  pub unanswered : List (Option (List ℕ))
+  pub messages : (split_of input).messages ≡ inputs_of log ++ unanswered
+
+-- A write failed. What went out is a front of such a log's journal, or of the line that refuses the model.
+pub data IsShort (turns : ℕ) (input : List ℕ) (source_left held now : Option (List ℕ)) : Type 0 where
+  in_journal : (run : HasBegun turns input) → AppendsFront held now (text_of_log run.model run.log)
+      → IsShort turns input source_left held now
+  in_refusal : (line : List ℕ) → IsNoModel line_limit input source_left (Some []) (Some line)
+      → AppendsFront held now line → IsShort turns input source_left held now
+
+-- Memory was wanting. Nothing went out, or a front of such a log's journal, or all of it where the run isn't done.
+pub data IsOutOfMemory (turns : ℕ) (input : List ℕ) (held now : Option (List ℕ)) : Type 0 where
+  nothing : now ≡ held → IsOutOfMemory turns input held now
+  in_entry : (run : HasBegun turns input) → AppendsFront held now (text_of_log run.model run.log)
+      → IsOutOfMemory turns input held now
+  behind_entry : (run : HasBegun turns input) → (world_of run.model run.log).done ≡ false
+      → Adds held now (text_of_log run.model run.log) → IsOutOfMemory turns input held now
+
 -- How a run ended, where the input's bytes are known.
 abbrev pub Ran : ℕ → List ℕ → (source_left held now : Option (List ℕ)) → Result Outcome Halt → Type 0
 Ran turns input source_left held now (Ok outcome.Done) = IsDone turns input source_left held now
 Ran turns input source_left held now (Ok outcome.Refused) = IsNoModel line_limit input source_left held now
 Ran turns input source_left held now (Err halt.Limit) = IsPastLimit turns input held now
 Ran turns input source_left held now (Err halt.Full) = IsFull turns input source_left held now
-Ran turns input source_left held now (Err halt.Read) = IsReadFault turns input held now
-Ran turns input source_left held now (Err halt.Write) = ⊤
-Ran turns input source_left held now (Err halt.Memory) = ⊤
+Ran turns input source_left held now (Err halt.Read) = IsReadFault turns input source_left held now
+Ran turns input source_left held now (Err halt.Write) = IsShort turns input source_left held now
+Ran turns input source_left held now (Err halt.Memory) = IsOutOfMemory turns input held now
 
 abbrev pub RanKnown : ℕ → (input source_left held now : Option (List ℕ)) → Result Outcome Halt → Type 0
 RanKnown turns None source_left held now r = ⊤
@@ -186,12 +231,13 @@ pub record IsPastHead (limit : ℕ) (input : List ℕ) (held now : Option (List 
   pub none : model_text_of lines ≡ None
   pub silent : now ≡ held
 
--- A read failed while the model's text was read.
-pub record IsHeadFault (limit : ℕ) (input : List ℕ) (held now : Option (List ℕ)) : Type 0 where
+-- A read failed while the model's text was read. The source had shown no further line.
+pub record IsHeadFault (limit : ℕ) (input : List ℕ) (source_left held now : Option (List ℕ)) : Type 0 where
   pub lines : List (List ℕ)
   pub left : ℕ
   pub rest : List ℕ
   pub gave : Gave limit total_limit input lines left rest
+  pub source : ShowsNoLine limit left rest source_left
   pub none : model_text_of lines ≡ None
   pub silent : now ≡ held
 
@@ -208,7 +254,7 @@ Checks input source_left held now (Ok outcome.Done) = IsFound input source_left 
 Checks input source_left held now (Ok outcome.Refused) = IsNoModel line_limit input source_left held now
 Checks input source_left held now (Err halt.Limit) = IsPastHead line_limit input held now
 Checks input source_left held now (Err halt.Full) = ⊥
-Checks input source_left held now (Err halt.Read) = IsHeadFault line_limit input held now
+Checks input source_left held now (Err halt.Read) = IsHeadFault line_limit input source_left held now
 Checks input source_left held now (Err halt.Write) = IsCheckShort input source_left held now
 Checks input source_left held now (Err halt.Memory) = now ≡ held
 

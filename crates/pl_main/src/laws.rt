@@ -9,7 +9,7 @@ ghost use Rattle.pl_main.specs.Limits.{IsWithinLimits};
 
 /// The causes of the statuses 0, 3, 6 and 7 of a run stand one at a time, whatever was written, and
 /// so do those of the statuses 0, 3 and 6 of a check, of 0, 3, 6 and 8 of a replay or a report, and of 0, 3 and 7 of a
-/// demonstration. Of a pair that of 3 stands apart from those of 0, 6 and 7. An input within the limits has no cause of 6.
+/// demonstration. Of a pair that of 3 stands apart from those of 0, 6 and 7, and those of 0 and 6 from one another. An input within the limits has no cause of 6.
 pub fn statuses_are_told_apart()
     ensures done_not_refused { (turns : ℕ) (input : List ℕ) (left held now other_left other_held other_now : Option (List ℕ))
         → IsDone turns input left held now → IsNoModel line_limit input other_left other_held other_now → ⊥ }
@@ -35,12 +35,14 @@ pub fn statuses_are_told_apart()
         → IsShown goals held now → IsShownInPart goals other_held other_now → ⊥ }
     ensures no_demo_not_full { (goals : ℕ) (held now other_held other_now : Option (List ℕ))
         → HasNoDemo goals held now → IsShownInPart goals other_held other_now → ⊥ }
-    ensures pair_done_not_refused { (turns : ℕ) (input : List ℕ) (held now other_left other_held other_now : Option (List ℕ))
-        → IsPairDone turns input held now → IsNoModel line_limit input other_left other_held other_now → ⊥ }
-    ensures pair_refused_not_past { (turns : ℕ) (input : List ℕ) (left held now other_held other_now : Option (List ℕ))
-        → IsNoModel line_limit input left held now → IsPairPastLimit turns input other_held other_now → ⊥ }
-    ensures pair_refused_not_full { (turns : ℕ) (input : List ℕ) (left held now other_held other_now : Option (List ℕ))
-        → IsNoModel line_limit input left held now → IsPairFull turns input other_held other_now → ⊥ }
+    ensures pair_done_not_refused { (turns seed : ℕ) (input : List ℕ) (left held now other_left other_held other_now : Option (List ℕ))
+        → IsPairDone turns seed input left held now → IsNoModel line_limit input other_left other_held other_now → ⊥ }
+    ensures pair_done_not_past { (turns seed : ℕ) (input : List ℕ) (left held now other_held other_now : Option (List ℕ))
+        → IsPairDone turns seed input left held now → IsPairPastLimit turns seed input other_held other_now → ⊥ }
+    ensures pair_refused_not_past { (turns seed : ℕ) (input : List ℕ) (left held now other_held other_now : Option (List ℕ))
+        → IsNoModel line_limit input left held now → IsPairPastLimit turns seed input other_held other_now → ⊥ }
+    ensures pair_refused_not_full { (turns seed : ℕ) (input : List ℕ) (left held now other_left other_held other_now : Option (List ℕ))
+        → IsNoModel line_limit input left held now → IsPairFull turns seed input other_left other_held other_now → ⊥ }
     ensures right_not_wrong { (form : Form) (input : List ℕ) (left held now other_left other_held other_now : Option (List ℕ))
         → IsRightJournal form input left held now → IsWrongJournal input other_left other_held other_now → ⊥ }
     ensures right_not_refused { (form : Form) (input : List ℕ) (left held now other_left other_held other_now : Option (List ℕ))
@@ -55,8 +57,8 @@ pub fn statuses_are_told_apart()
         → IsNoModel journal_line_limit input left held now → IsPastJournal input other_held other_now → ⊥ }
     ensures within { (turns : ℕ) (input : List ℕ) (held now : Option (List ℕ))
         → IsWithinLimits line_limit input → IsPastLimit turns input held now → ⊥ }
-    ensures pair_within { (turns : ℕ) (input : List ℕ) (held now : Option (List ℕ))
-        → IsWithinLimits line_limit input → IsPairPastLimit turns input held now → ⊥ }
+    ensures pair_within { (turns seed : ℕ) (input : List ℕ) (held now : Option (List ℕ))
+        → IsWithinLimits line_limit input → IsPairPastLimit turns seed input held now → ⊥ }
     ensures head_within { (input : List ℕ) (held now : Option (List ℕ))
         → IsWithinLimits line_limit input → IsPastHead line_limit input held now → ⊥ }
     ensures journal_within { (input : List ℕ) (held now : Option (List ℕ))

@@ -51,7 +51,8 @@ fn run_model<R: Threads + Wait + Sync, S: Source, O: Sink, G: Gate + Sync>(
     requires turns { (1 ≤ turns) × (turns ≤ 1000) }
     requires limit { lines.old.limit ≡ 4096 }
     requires working { lines.old.failed ≡ None }
-    ensures run { PairRun (fresh_state turns model) (place_of lines.old (S.left src.old)) (O.held out.old) result (O.held out.new) }
+    ensures run { PairRun seed (fresh_state turns model) (place_of lines.old (S.left src.old)) (O.held out.old) result
+        (place_of lines.new (S.left src.new)) (O.held out.new) }
     ensures read { result ≡ Ended.ReadFault → Rose (S.faults src.old) (S.faults src.new) }
     ensures write { result ≡ Ended.WriteFault → Rose (O.faults out.old) (O.faults out.new) }
 {
@@ -76,7 +77,7 @@ fn run_text<R: Threads + Wait + Sync, S: Source, O: Sink, G: Gate + Sync>(
     requires turns { (1 ≤ turns) × (turns ≤ 1000) }
     requires limit { lines.old.limit ≡ 4096 }
     requires working { lines.old.failed ≡ None }
-    ensures run { PairTextRuns turns kept (place_of lines.old (S.left src.old)) (O.held out.old) result
+    ensures run { PairTextRuns turns seed kept (place_of lines.old (S.left src.old)) (O.held out.old) result
         (place_of lines.new (S.left src.new)) (O.held out.new) }
     ensures read { IsErrOf result Halt.Read → Rose (S.faults src.old) (S.faults src.new) }
     ensures write { IsErrOf result Halt.Write → Rose (O.faults out.old) (O.faults out.new) }
@@ -102,7 +103,7 @@ pub fn paired<R: Threads + Wait + Sync, S: Source, O: Sink, G: Gate + Sync>(
     gate: &G,
 ) -> Result<Outcome, Halt>
     requires turns { (1 ≤ turns) × (turns ≤ 1000) }
-    ensures ran { PairedKnown turns (S.left src.old) (S.left src.new) (O.held out.old) (O.held out.new)
+    ensures ran { PairedKnown turns seed (S.left src.old) (S.left src.new) (O.held out.old) (O.held out.new)
         result }
     ensures read { IsErrOf result Halt.Read → Rose (S.faults src.old) (S.faults src.new) }
     ensures write { IsErrOf result Halt.Write → Rose (O.faults out.old) (O.faults out.new) }

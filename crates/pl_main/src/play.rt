@@ -31,6 +31,7 @@ fn line_in(message: &Option<Line>) -> Option<&[u8]>
 }
 
 /// Answers a message and writes the lines of its entries. Answers whether the run is done.
+#[tactic(auto, using(crate::proofs::Playing::told_cut, crate::proofs::Playing::filled_cut, crate::proofs::Playing::not_told))]
 fn answer<O: Sink>(
     alloc: Global,
     machine: &mut Machine,
@@ -58,7 +59,7 @@ fn answer<O: Sink>(
 }
 
 /// Reads the next message and answers it. Answers whether the run is done.
-#[tactic(auto, using(crate::proofs::Playing::input_fits, crate::proofs::Playing::step_on, crate::proofs::Playing::step_fills, crate::proofs::Playing::step_stops))]
+#[tactic(auto, using(crate::proofs::Playing::input_fits, crate::proofs::Playing::step_answers, crate::proofs::Playing::step_stops))]
 fn step<S: Source, O: Sink>(
     alloc: Global,
     machine: &mut Machine,

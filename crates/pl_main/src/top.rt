@@ -113,7 +113,7 @@ fn pair_status<R: Threads + Wait + Sync, I: Source, O: Sink, G: Gate + Sync>(
     ensures status { IsSoloStatus result }
     ensures read { result ≡ 4 → Rose (I.faults input.old) (I.faults input.new) }
     ensures write { result ≡ 5 → Rose (O.faults out.old) (O.faults out.new) }
-    ensures says { SaysPairKnown turns (I.left input.old) (I.left input.new) (O.held out.old) (O.held out.new) result }
+    ensures says { SaysPairKnown turns seed (I.left input.old) (I.left input.new) (O.held out.old) (O.held out.new) result }
 {
     status_of(paired(rt, alloc, turns, seed, input, out, gate))
 }
@@ -132,10 +132,10 @@ fn pair<R: Threads + Wait + Sync, I: Source, O: Sink, G: Gate + Sync>(
     ensures status { IsSoloStatus result }
     ensures read { result ≡ 4 → Rose (I.faults input.old) (I.faults input.new) }
     ensures write { result ≡ 5 → Rose (O.faults out.old) (O.faults out.new) }
-    ensures says { SaysPairKnown turns (I.left input.old) (I.left input.new) (O.held out.old) (O.held out.new) result }
+    ensures says { SaysPairKnown turns seed (I.left input.old) (I.left input.new) (O.held out.old) (O.held out.new) result }
     ensures complete { (Rose (I.faults input.old) (I.faults input.new) → ⊥)
         → (Rose (O.faults out.old) (O.faults out.new) → ⊥)
-        → CompletesPair turns (I.left input.old) result }
+        → CompletesPair turns seed (I.left input.old) result }
 {
     pair_status(rt, alloc, turns, seed, input, out, gate)
 }
@@ -168,11 +168,11 @@ pub fn run<R: Threads + Wait + Sync, I: Source, O: Sink, G: Gate + Sync>(
         → (Rose (O.faults out.old) (O.faults out.new) → ⊥)
         → Completes task (I.left input.old) result }
     ensures pair { (turns seed : ℕ) → command_of words.now ≡ Some (Command.Pair turns seed)
-        → SaysPairKnown turns (I.left input.old) (I.left input.new) (O.held out.old) (O.held out.new) result }
+        → SaysPairKnown turns seed (I.left input.old) (I.left input.new) (O.held out.old) (O.held out.new) result }
     ensures pair_complete { (turns seed : ℕ) → command_of words.now ≡ Some (Command.Pair turns seed)
         → (Rose (I.faults input.old) (I.faults input.new) → ⊥)
         → (Rose (O.faults out.old) (O.faults out.new) → ⊥)
-        → CompletesPair turns (I.left input.old) result }
+        → CompletesPair turns seed (I.left input.old) result }
 {
     match read_words(words) {
         None => usage(out),

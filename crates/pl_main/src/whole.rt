@@ -44,7 +44,7 @@ pub fn open_machine(alloc: Global, turns: u32, model: Model) -> Result<Machine, 
 }
 
 /// Opens a journal over a model and answers the messages.
-#[tactic(auto, using(crate::proofs::Ending::run_stops))]
+#[tactic(auto, using(crate::proofs::Ending::run_stops, crate::proofs::Ending::run_unopened, crate::proofs::Ending::run_unwritten))]
 fn run_model<S: Source, O: Sink>(
     alloc: Global,
     turns: u32,
@@ -72,7 +72,7 @@ fn run_model<S: Source, O: Sink>(
     }
 }
 
-#[tactic(auto, using(crate::proofs::Ending::text_refused, crate::proofs::Ending::text_ran, crate::proofs::Ending::text_stops))]
+#[tactic(auto, using(crate::proofs::Ending::text_unjudged, crate::proofs::Ending::text_refused, crate::proofs::Ending::text_ran, crate::proofs::Ending::text_stops))]
 fn run_text<S: Source, O: Sink>(
     alloc: Global,
     turns: u32,
@@ -99,7 +99,7 @@ fn run_text<S: Source, O: Sink>(
 }
 
 /// Reads a model and its messages, and writes the journal.
-#[tactic(auto, using(crate::proofs::Ending::head_solo))]
+#[tactic(auto, using(crate::proofs::Running::no_reader, crate::proofs::Running::head_solo))]
 pub fn solo<S: Source, O: Sink>(
     alloc: Global,
     turns: u32,

@@ -1,4 +1,4 @@
-//! Laws of whole runs of one thread, as contracts of functions that do nothing.
+//! Laws of whole runs, as contracts of functions that do nothing.
 #![tactic(auto)]
 
 mod lengths;

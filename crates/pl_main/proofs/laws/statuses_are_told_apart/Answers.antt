@@ -1,7 +1,7 @@
 use Rattle.pl_main.specs.Top.{line_limit}
 use Rattle.pl_main.proofs.Causes.{done_not_refused, done_not_past, done_not_full, refused_not_past, refused_not_full, past_not_full, found_not_refused, found_not_past, no_model_not_past, shown_not_refused, shown_not_full, no_demo_not_full, run_within, head_within}
 use Rattle.pl_main.proofs.Apart.{right_not_wrong, right_not_refused, right_not_past, wrong_not_refused, wrong_not_past, no_journal_not_past, journal_within}
-use Rattle.pl_main.proofs.PairCauses.{pair_done_not_refused, pair_refused_not_past, pair_refused_not_full, pair_within}
+use Rattle.pl_main.proofs.PairCauses.{pair_done_not_refused, pair_done_not_past, pair_refused_not_past, pair_refused_not_full, pair_within}
 use Rattle.pl_main.proofs.laws.statuses_are_told_apart.Goals as goal
 
 pub returns-clause-done_not_refused : goal.returns-clause-done_not_refused
@@ -69,6 +69,9 @@ returns-clause-journal_within c = journal_within
 
 pub returns-clause-pair_done_not_refused : goal.returns-clause-pair_done_not_refused
 returns-clause-pair_done_not_refused c = pair_done_not_refused
+
+pub returns-clause-pair_done_not_past : goal.returns-clause-pair_done_not_past
+returns-clause-pair_done_not_past c = pair_done_not_past
 
 pub returns-clause-pair_refused_not_past : goal.returns-clause-pair_refused_not_past
 returns-clause-pair_refused_not_past c = pair_refused_not_past
