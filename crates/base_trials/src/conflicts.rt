@@ -1,5 +1,6 @@
 use pl_conflict::{Code, Conflict, ConflictSet};
-use std::alloc::{AllocError, Global};
+use std::alloc::Global;
+use std::process::Abort;
 
 fn conflict(from: u32, code: Code, subject: u32) -> Conflict {
     Conflict {
@@ -12,44 +13,95 @@ fn conflict(from: u32, code: Code, subject: u32) -> Conflict {
     }
 }
 
-#[test]
-fn a_set_is_its_sorted_list(rt: HostRuntime) -> Result<(), AllocError> {
-    let late = conflict(20, Code::Late, 1);
-    let open = conflict(20, Code::OpenGoal, 9);
-    let early = conflict(3, Code::BadStep, 4);
-    let mut set = ConflictSet::new(rt.alloc());
-    assert!(rt; set.first().is_none() && set.is_empty());
-    assert!(rt; set.insert(late)? && set.insert(open)? && set.insert(early)?);
-    assert!(rt; !set.insert(open)?);
-    assert!(rt; set.len() == 3 && set.has(&late) && set.first() == Some(early));
-    assert!(rt; set.list(rt.alloc())?.as_slice() == [early, open, late].as_slice());
-    assert!(rt; set.remove(&early) && !set.remove(&early));
-    assert!(rt; set.first() == Some(open) && set.len() == 2);
-    Ok(())
+/// An early conflict, e, and two of a later moment: an open goal, o, and one that is late, l.
+fn named(letter: u8) -> Conflict {
+    match letter {
+        b'e' => conflict(3, Code::BadStep, 4),
+        b'o' => conflict(20, Code::OpenGoal, 9),
+        _ => conflict(20, Code::Late, 1),
+    }
 }
 
-// The conflicts that a walk over the set shows.
-fn walked(alloc: Global, set: &ConflictSet) -> Result<Vec<Conflict>, AllocError> {
+fn list(rt: &impl Abort, alloc: Global, letters: &str) -> Vec<Conflict> {
+    let mut all = Vec::new(alloc);
+    for letter in letters.as_bytes() {
+        all.push(named(*letter)).expect(rt, "memory");
+    }
+    all
+}
+
+/// The conflicts that a walk over the set shows.
+fn walked(rt: &impl Abort, alloc: Global, set: &ConflictSet) -> Vec<Conflict> {
     let mut all = Vec::new(alloc);
     for conflict in set.iter() {
-        all.push(*conflict)?;
+        all.push(*conflict).expect(rt, "memory");
     }
-    Ok(all)
+    all
 }
 
-// What is not there may go, what is there may come, and what goes and comes is there.
+/// Asserts that the set has these, in this order.
+fn assert_has(rt: &impl Abort, alloc: Global, set: &ConflictSet, letters: &str) {
+    let wanted = list(rt, alloc, letters);
+    let listed = set.list(alloc).expect(rt, "memory");
+    assert!(rt; listed.as_slice() == wanted.as_slice(), "{letters}");
+    assert!(rt; walked(rt, alloc, set).as_slice() == wanted.as_slice());
+    assert!(rt; set.first() == wanted.first().copied() && set.len() as usize == wanted.len());
+    assert!(rt; set.is_empty() == wanted.is_empty());
+}
+
+/// Puts one in or takes one out, and answers whether it was new or was there.
+fn changed(rt: &impl Abort, set: &mut ConflictSet, step: u8, letter: u8) -> bool {
+    match step {
+        b'+' => set.insert(named(letter)).expect(rt, "memory"),
+        _ => set.remove(&named(letter)),
+    }
+}
+
+/// What is put in or taken out, whether that changes the set, and what it has then.
+const STEPS: &str = "+l 1 l
++o 1 ol
++e 1 eol
++o 0 eol
+-e 1 ol
+-e 0 ol";
+
 #[test]
-fn a_set_is_exchanged(rt: HostRuntime) -> Result<(), AllocError> {
+fn a_set_is_its_sorted_list(rt: HostRuntime) {
+    let mut set = ConflictSet::new(rt.alloc());
+    assert_has(&rt, rt.alloc(), &set, "");
+    for row in STEPS.lines() {
+        let (step, rest) = row.split_once(' ').unwrap_or((row, ""));
+        let (changes, wanted) = rest.split_once(' ').unwrap_or((rest, ""));
+        match step.as_bytes() {
+            [step, letter] => {
+                assert!(rt;
+                    changed(&rt, &mut set, *step, *letter) == (changes == "1"),
+                    "{row}"
+                );
+            }
+            _ => panic!(rt; "no step: {row}"),
+        }
+        assert_has(&rt, rt.alloc(), &set, wanted);
+    }
+    assert!(rt; set.has(&named(b'l')) && !set.has(&named(b'e')));
+}
+
+/// What goes, what comes, and what the set has then. What is not there may go, what is there may come, and what goes and comes
+/// is there.
+const EXCHANGES: &str = "o/lel/el
+el/ol/ol
+olo//";
+
+#[test]
+fn a_set_is_exchanged(rt: HostRuntime) {
     let alloc = rt.alloc();
-    let early = conflict(3, Code::BadStep, 4);
-    let open = conflict(20, Code::OpenGoal, 9);
-    let late = conflict(20, Code::Late, 1);
     let mut set = ConflictSet::new(alloc);
-    set.exchange(&[open], &[late, early, late])?;
-    assert!(rt; walked(alloc, &set)?.as_slice() == [early, late].as_slice());
-    set.exchange(&[early, late], &[open, late])?;
-    assert!(rt; walked(alloc, &set)?.as_slice() == [open, late].as_slice());
-    set.exchange(&[open, late, open], &[])?;
-    assert!(rt; walked(alloc, &set)?.is_empty());
-    Ok(())
+    for row in EXCHANGES.lines() {
+        let (went, rest) = row.split_once('/').unwrap_or((row, ""));
+        let (came, wanted) = rest.split_once('/').unwrap_or((rest, ""));
+        let went = list(&rt, alloc, went);
+        let came = list(&rt, alloc, came);
+        set.exchange(&went, &came).expect(&rt, "memory");
+        assert_has(&rt, alloc, &set, wanted);
+    }
 }

@@ -1,87 +1,92 @@
-use pl_text::{TextFault, Token, TokenKind, Word, is_name, push_number, tokens, word_of};
+use pl_text::{TextFault, Word, is_name, push_number, tokens, word_of};
 use std::alloc::{AllocError, Global};
+use std::process::Abort;
 
-fn fault(alloc: Global, text: &[u8]) -> Option<TextFault> {
-    if text.len() > 1_000_000 {
-        return None;
+/// The tokens of a text as a list is printed, or its first fault.
+fn said(rt: &impl Abort, alloc: Global, text: &[u8]) -> Result<String, AllocError> {
+    assert!(rt; text.len() <= 1_000_000);
+    match tokens(alloc, text) {
+        Ok(found) => format!(in alloc; "{:?}", found.as_slice()),
+        Err(TextFault::Memory) => Err(AllocError),
+        Err(fault) => fault.to_string(alloc),
     }
-    tokens(alloc, text).err()
 }
 
-fn token(kind: TokenKind, from: u32, to: u32) -> Token {
-    Token { kind, from, to }
+fn assert_said(rt: &impl Abort, alloc: Global, text: &[u8], wanted: &str) {
+    let said = said(rt, alloc, text).expect(rt, "memory");
+    assert!(rt; said.as_str() == wanted, "{said}");
 }
+
+const THREE: &str =
+    "[Token { kind: Name, from: 0, to: 2 }, Token { kind: Symbol(61), from: 3, to: 4 }, Token { kind: Number(7), from: 5, to: 8 }]";
+
+const FIVE: &str =
+    "[Token { kind: Symbol(45), from: 0, to: 1 }, Token { kind: Number(5), from: 1, to: 2 }, Token { kind: Name, from: 2, to: 4 }, Token { kind: Symbol(123), from: 4, to: 5 }, Token { kind: Number(999999999999999999), from: 12, to: 30 }]";
 
 #[test]
-fn reads_tokens(rt: HostRuntime) -> Result<(), TextFault> {
+fn reads_tokens(rt: HostRuntime) {
     let alloc = rt.alloc();
-    let found = tokens(alloc, b"a1 = 007")?;
-    let wanted = [
-        token(TokenKind::Name, 0, 2),
-        token(TokenKind::Symbol(b'='), 3, 4),
-        token(TokenKind::Number(7), 5, 8),
-    ];
-    assert_eq!(rt; found.as_slice(), wanted.as_slice());
-
-    let found = tokens(alloc, b"-5x_{# $ 9\n\t999999999999999999#")?;
-    let wanted = [
-        token(TokenKind::Symbol(b'-'), 0, 1),
-        token(TokenKind::Number(5), 1, 2),
-        token(TokenKind::Name, 2, 4),
-        token(TokenKind::Symbol(b'{'), 4, 5),
-        token(TokenKind::Number(999_999_999_999_999_999), 12, 30),
-    ];
-    assert_eq!(rt; found.as_slice(), wanted.as_slice());
-    assert!(rt; tokens(alloc, b" \r\n# only this")?.is_empty());
-    Ok(())
+    assert_said(&rt, alloc, b"a1 = 007", THREE);
+    let text = b"-5x_{# $ 9\n\t999999999999999999#";
+    assert_said(&rt, alloc, text.as_slice(), FIVE);
+    assert_said(&rt, alloc, b" \r\n# only this", "[]");
 }
+
+/// Texts, each with its first fault.
+const FAULTS: &str = "1234567890123456789 => bad number at 0
+a $ 1234567890123456789 => bad byte at 2
+0 abcdefghijklmnopqrstuvwxyz0123456 $ => bad name at 2";
+
+/// Texts without a fault.
+const SOUND: &str = "123456789012345678
+abcdefghijklmnopqrstuvwxyz012345";
 
 #[test]
 fn first_faults(rt: HostRuntime) {
     let alloc = rt.alloc();
-    let name: &[u8] = b"abcdefghijklmnopqrstuvwxyz012345";
-    let long: &[u8] = b"0 abcdefghijklmnopqrstuvwxyz0123456 $";
-    let table: [(&[u8], Option<TextFault>); 7] = [
-        (b"1234567890123456789", Some(TextFault::BadNumber(0))),
-        (b"123456789012345678", None),
-        (b"a $ 1234567890123456789", Some(TextFault::BadByte(2))),
-        (b"# $\n_", Some(TextFault::BadByte(4))),
-        (name, None),
-        (long, Some(TextFault::BadName(2))),
-        (b"a\x80", Some(TextFault::BadByte(1))),
-    ];
-    for (text, wanted) in table.iter() {
-        assert_eq!(&rt; fault(alloc, text), *wanted);
+    for row in FAULTS.lines() {
+        let (text, fault) = row.split_once(" => ").unwrap_or((row, ""));
+        assert_said(&rt, alloc, text.as_bytes(), fault);
+    }
+    assert_said(&rt, alloc, b"# $\n_", "bad byte at 4");
+    assert_said(&rt, alloc, b"a\x80", "bad byte at 1");
+    for text in SOUND.lines() {
+        assert!(rt; text.len() <= 1_000_000);
+        assert!(rt; tokens(alloc, text.as_bytes()).is_ok());
     }
 }
 
+/// Words, and whether each is a name.
+const NAMES: &str = "cam yes
+Level_2 yes
+level no
+begin no
+goal yes
+2x no
+ no
+abcdefghijklmnopqrstuvwxyz0123456 no";
+
 #[test]
-fn names_and_words(rt: HostRuntime) {
-    let table: [(&[u8], bool); 9] = [
-        (b"cam", true),
-        (b"Level_2", true),
-        (b"level", false),
-        (b"begin", false),
-        (b"goal", true),
-        (b"2x", false),
-        (b"a b", false),
-        (b"", false),
-        (b"abcdefghijklmnopqrstuvwxyz0123456", false),
-    ];
-    for (text, wanted) in table.iter() {
-        assert_eq!(&rt; is_name(text), *wanted);
+fn names(rt: HostRuntime) {
+    for row in NAMES.lines() {
+        let (text, wanted) = row.split_once(' ').unwrap_or((row, ""));
+        assert!(rt; is_name(text.as_bytes()) == (wanted == "yes"), "{row}");
     }
-    assert_eq!(&rt; word_of(b"alternative"), Some(Word::Alternative));
-    assert_eq!(&rt; word_of(b"alternatives"), None);
-    assert_eq!(&rt; Word::Min.text(), "min");
+    assert!(rt; !is_name(b"a b"));
 }
 
 #[test]
-fn writes_numbers(rt: HostRuntime) -> Result<(), AllocError> {
+fn words(rt: HostRuntime) {
+    assert!(rt; word_of(b"alternative") == Some(Word::Alternative));
+    assert!(rt; word_of(b"alternatives").is_none());
+    assert!(rt; Word::Min.text() == "min");
+}
+
+#[test]
+fn writes_numbers(rt: HostRuntime) {
     let mut out = Vec::new(rt.alloc());
-    push_number(&mut out, 40)?;
-    push_number(&mut out, -7)?;
-    push_number(&mut out, 0)?;
-    assert_eq!(rt; out.as_slice(), b"40-70".as_slice());
-    Ok(())
+    for number in [40, -7, 0] {
+        push_number(&mut out, number).expect(&rt, "memory");
+    }
+    assert!(rt; out.as_slice() == b"40-70".as_slice());
 }

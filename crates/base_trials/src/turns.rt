@@ -4,12 +4,12 @@ ghost use Rattle.pl_turn.specs.Passes.{IsPassOf, seen_of, mine_of, counted_of, i
 
 use pl_turn::{Gate, Logged, NoGate, Pass, TurnLock, crosses};
 use std::alloc::{AllocError, Global};
+use std::process::Abort;
 use std::sync::Wait;
-use std::test::Fail;
 use std::thread::{Threads, join};
 
 /// A note says who made it, and as the how-manyeth of its own.
-#[derive(Clone, Copy, Debug, PartialEq, Eq, Drop)]
+#[derive(Clone, Copy, PartialEq, Eq, Drop)]
 struct Note {
     worker: u8,
     number: u32,
@@ -98,14 +98,10 @@ fn two_passes<R: Wait>(rt: &R, alloc: Global) -> Result<(u64, Notes), AllocError
 }
 
 #[test]
-fn two_passes_stand_in_one_list(rt: HostRuntime) -> Result<(), Fail> {
-    let (count, notes) = two_passes(&rt, rt.alloc())?;
-    assert_eq!(rt; count, 2);
-    assert_eq!(rt;
-        notes.items.as_slice(),
-        [note_of(1, 0), note_of(2, 0)].as_slice()
-    );
-    Ok(())
+fn two_passes_stand_in_one_list(rt: HostRuntime) {
+    let (count, notes) = two_passes(&rt, rt.alloc()).expect(&rt, "memory");
+    assert!(rt; count == 2);
+    assert!(rt; notes.items.as_slice() == [note_of(1, 0), note_of(2, 0)].as_slice());
 }
 
 const TURNS: u32 = 10_000;
@@ -191,20 +187,25 @@ fn four_workers<R: Threads + Wait + Sync>(rt: &R, alloc: Global) -> Result<Notes
     Ok(lock.close(first))
 }
 
-// Each worker's notes stand in the order in which it made them, each once, and none is missing.
-#[test]
-fn four_threads_lose_no_entry(rt: HostRuntime) -> Result<(), Fail> {
-    let notes = four_workers(&rt, rt.alloc())?;
-    let mut next = [0u32; 4];
-    for note in &notes.items {
-        assert!(rt;
-            note.worker < 4 && next[note.worker as usize] == note.number,
-            "{note:?}"
-        );
-        next[note.worker as usize] = note.number.wrapping_add(1);
+// Asserts that this worker's notes stand in the order in which it made them, each once, and none is missing.
+fn assert_in_order(rt: &impl Abort, notes: &[Note], worker: u8) {
+    let mut next = 0u32;
+    for note in notes {
+        if note.worker == worker {
+            assert!(rt; note.number == next, "{worker}");
+            next = next.wrapping_add(1);
+        }
     }
-    assert_eq!(rt; next, [TURNS; 4]);
-    Ok(())
+    assert!(rt; next == TURNS, "{worker}");
+}
+
+#[test]
+fn four_threads_lose_no_entry(rt: HostRuntime) {
+    let notes = four_workers(&rt, rt.alloc()).expect(&rt, "memory");
+    assert!(rt; notes.items.len() == 4 * TURNS as usize);
+    for worker in 0..4 {
+        assert_in_order(&rt, &notes.items, worker);
+    }
 }
 
 #[test]

@@ -1,5 +1,5 @@
 //! Changes of a board, each by its public call.
-ghost use Rattle.std.specs.Prelude.{◌≡◌, ◌<◌, false, true, length, slice_get};
+ghost use Rattle.std.specs.Prelude.{◌≡◌, ◌<◌, pos, false, true, length, slice_get};
 ghost use Rattle.pl_model.specs.Checked.{params_of};
 ghost use Rattle.pl_changes.specs.Changes.{CanTell};
 ghost use Rattle.pl_world.specs.Whole.{IsGoalOf};
@@ -9,34 +9,37 @@ use pl_board::Board;
 use pl_facts::Goal;
 use pl_lists::Items;
 use pl_model::{Model, Timeline};
-use pl_moves::{MoveFault, apply, proper};
+use pl_moves::{apply, proper};
 use pl_plan::RepairMove;
-use pl_points::{Quiet, Steps};
-use std::alloc::{AllocError, Global};
+use pl_points::{Ledger, Quiet, Steps};
+use std::alloc::Global;
 use std::process::Abort;
 
-fn can_tell(model: &Model, line: u32, value: i64) -> bool
-    ensures { result ≡ true → CanTell value (slice_get model.now.timelines line) }
+fn can_tell(model: &Model, line: u32, value: u32) -> bool
+    ensures { result ≡ true → CanTell (pos value) (slice_get model.now.timelines line) }
 {
     match model.timelines.as_slice().get(line as usize) {
-        Some(Timeline::Level { .. }) => 0 <= value && value <= 1_000_000_000_000,
+        Some(Timeline::Level { .. }) => true,
+        Some(Timeline::States { states, .. }) => (value as usize) < states.as_slice().len(),
         _ => false,
     }
 }
 
-fn tick(rt: &impl Abort, board: &mut Board, now: u32) -> Result<(), AllocError> {
+fn tick(rt: &impl Abort, board: &mut Board, now: u32) {
     assert!(rt; board.now() < now && now <= board.model().horizon);
-    board.tick(now, &mut Steps::new(Quiet))
+    let ticked = board.tick(now, &mut Steps::new(Quiet));
+    ticked.expect(rt, "memory");
 }
 
-fn commit(rt: &impl Abort, board: &mut Board, h: u32) -> Result<(), AllocError> {
+fn commit(rt: &impl Abort, board: &mut Board, h: u32) {
     assert!(rt; board.committed() <= h && h <= board.model().horizon);
-    board.commit(h)
+    board.commit(h).expect(rt, "memory");
 }
 
-fn tell(rt: &impl Abort, board: &mut Board, line: u32, value: i64) -> Result<(), AllocError> {
+fn tell(rt: &impl Abort, board: &mut Board, line: u32, value: u32) {
     assert!(rt; can_tell(board.model(), line, value));
-    board.telemetry(line, value, &mut Steps::new(Quiet))
+    let told = board.telemetry(line, i64::from(value), &mut Steps::new(Quiet));
+    told.expect(rt, "memory");
 }
 
 /// Whether there is a first kind, and it has no parameters.
@@ -76,49 +79,36 @@ fn goal(
     }
 }
 
-fn ask(
-    rt: &impl Abort,
-    alloc: Global,
-    board: &mut Board,
-    number: u32,
-    window: (u32, u32),
-    must: bool,
-) -> Result<(), AllocError> {
-    assert!(rt; board.goals().get(number).is_none());
-    let goal = goal(rt, alloc, board.model(), number, window, must);
-    board.add_goal(goal)
+/// Asks for a goal of the first kind: its number, its window, and its word.
+fn ask(rt: &impl Abort, alloc: Global, board: &mut Board, line: &str) {
+    let mut rest = line;
+    let name = number(&mut rest);
+    let window = (number(&mut rest), number(&mut rest));
+    assert!(rt; board.goals().get(name).is_none());
+    let goal = goal(rt, alloc, board.model(), name, window, rest == "must");
+    board.add_goal(goal).expect(rt, "memory");
 }
 
-fn make(
+/// Makes a move, which is proper.
+pub fn make<L: Ledger>(
     rt: &impl Abort,
     alloc: Global,
     board: &mut Board,
     mv: &RepairMove,
-) -> Result<(), MoveFault> {
+    steps: &mut Steps<L>,
+) {
     assert!(rt; !board.spoiled() && board.next_id() <= 3_999_999_000 && proper(board, mv));
-    apply(alloc, board, mv, &mut Steps::new(Quiet))
+    apply(alloc, board, mv, steps).expect(rt, "a legal move");
 }
 
 /// Makes the change of a line: `tick`, `commit`, `tele`, `goal` with its number, its window and its word, or a move.
-pub fn change(
-    rt: &impl Abort,
-    alloc: Global,
-    board: &mut Board,
-    line: &str,
-) -> Result<(), MoveFault> {
+pub fn change(rt: &impl Abort, alloc: Global, board: &mut Board, line: &str) {
     let mut rest = line;
     match word(&mut rest) {
-        "tick" => Ok(tick(rt, board, number(&mut rest))?),
-        "commit" => Ok(commit(rt, board, number(&mut rest))?),
-        "tele" => {
-            let timeline = number(&mut rest);
-            Ok(tell(rt, board, timeline, i64::from(number(&mut rest)))?)
-        }
-        "goal" => {
-            let name = number(&mut rest);
-            let window = (number(&mut rest), number(&mut rest));
-            Ok(ask(rt, alloc, board, name, window, rest == "must")?)
-        }
-        _ => make(rt, alloc, board, &repair(line)),
+        "tick" => tick(rt, board, number(&mut rest)),
+        "commit" => commit(rt, board, number(&mut rest)),
+        "tele" => tell(rt, board, number(&mut rest), number(&mut rest)),
+        "goal" => ask(rt, alloc, board, rest),
+        _ => make(rt, alloc, board, &repair(line), &mut Steps::new(Quiet)),
     }
 }

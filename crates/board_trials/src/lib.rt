@@ -6,7 +6,7 @@ mod boards;
 #[cfg(test)]
 mod changes;
 #[cfg(test)]
-mod messages;
+mod counted;
 #[cfg(test)]
 mod reading;
 #[cfg(test)]

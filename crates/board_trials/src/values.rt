@@ -5,8 +5,9 @@ ghost use Rattle.pl_demands.specs.Based.{IsStateLine};
 
 use crate::reading::{conflict, number, word};
 use pl_board::Board;
+use pl_conflict::Conflict;
 use pl_model::{Model, Timeline};
-use std::alloc::{AllocError, Global};
+use std::alloc::Global;
 use std::process::Abort;
 
 fn is_capacity(model: &Model, line: u32) -> bool
@@ -76,28 +77,23 @@ fn value(rt: &impl Abort, board: &Board, line: &str) -> i64 {
 pub fn assert_values(rt: &impl Abort, board: &Board, values: &str) {
     for line in values.lines() {
         let (asked, wanted) = line.split_once(" = ").unwrap_or((line, ""));
-        assert_eq!(rt;
-            Some(value(rt, board, asked)),
-            wanted.parse().ok(),
-            "{line}"
-        );
+        let found = value(rt, board, asked);
+        assert!(rt; wanted.parse() == Ok(found), "{line}: {found}");
     }
 }
 
-/// Asserts that these are the conflicts, one a line, in their order.
-pub fn assert_conflicts(
-    rt: &impl Abort,
-    alloc: Global,
-    board: &Board,
-    conflicts: &str,
-) -> Result<(), AllocError> {
-    let mut wanted = Vec::new(alloc);
-    for line in conflicts.lines() {
-        wanted.push(conflict(line))?;
+/// The conflicts of a text, one a line.
+fn conflicts_in(rt: &impl Abort, alloc: Global, text: &str) -> Vec<Conflict> {
+    let mut all = Vec::new(alloc);
+    for line in text.lines() {
+        all.push(conflict(line)).expect(rt, "memory");
     }
-    assert_eq!(rt;
-        board.conflicts().list(alloc)?.as_slice(),
-        wanted.as_slice()
-    );
-    Ok(())
+    all
+}
+
+/// Asserts that these are the conflicts, one a line, in their order.
+pub fn assert_conflicts(rt: &impl Abort, alloc: Global, board: &Board, conflicts: &str) {
+    let wanted = conflicts_in(rt, alloc, conflicts);
+    let found = board.conflicts().list(alloc).expect(rt, "memory");
+    assert!(rt; found.as_slice() == wanted.as_slice(), "{found:?}");
 }

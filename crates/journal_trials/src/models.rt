@@ -1,11 +1,10 @@
 //! The models of the tests, and the journal of a worked run.
-ghost use Rattle.std.specs.Prelude.{IfOk};
 ghost use Rattle.std.specs.Arc.{arc_value};
 ghost use Rattle.pl_model.specs.Checked.{IsChecked};
 
 use pl_accept::{Accepted, accept};
 use pl_model::Model;
-use std::alloc::{AllocError, Global};
+use std::alloc::Global;
 use std::process::Abort;
 use std::sync::Arc;
 
@@ -28,19 +27,18 @@ pub const JOURNAL: &str = "0 open turns 8 live 10000 goals 20000 entries 250000
 ";
 
 /// The model of a text.
-pub fn model(rt: &impl Abort, alloc: Global, text: &str) -> Result<Model, AllocError>
-    ensures { IfOk result IsChecked }
+pub fn model(rt: &impl Abort, alloc: Global, text: &str) -> Model
+    ensures { IsChecked result }
 {
-    match accept(alloc, text.as_bytes())? {
-        Accepted::Model(model) => Ok(model),
+    match accept(alloc, text.as_bytes()).expect(rt, "memory") {
+        Accepted::Model(model) => model,
         Accepted::Refused(_) => panic!(rt; "no model: {text}"),
     }
 }
 
 /// The worked run's model, shared.
-pub fn shared_model(rt: &impl Abort, alloc: Global) -> Result<Arc<Model>, AllocError>
-    ensures { IfOk result (λ shared. IsChecked (arc_value shared)) }
+pub fn shared_model(rt: &impl Abort, alloc: Global) -> Arc<Model>
+    ensures { IsChecked (arc_value result) }
 {
-    let shared = Arc::new(alloc, model(rt, alloc, MODEL)?)?;
-    Ok(shared)
+    Arc::new(alloc, model(rt, alloc, MODEL)).expect(rt, "memory")
 }

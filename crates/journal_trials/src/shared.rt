@@ -31,7 +31,7 @@ fn opened(rt: &impl Abort, alloc: Global, entries: u32) -> Result<(SharedPlan, P
         goals: 20000,
         entries,
     };
-    let machine = Machine::fresh(alloc, shared_model(rt, alloc)?, options)?;
+    let machine = Machine::fresh(alloc, shared_model(rt, alloc), options)?;
     match SharedPlan::new(alloc, machine) {
         Ok(made) => Ok(made),
         Err(machine) => {
@@ -95,14 +95,15 @@ fn acts<R: Abort + Wait>(
 }
 
 /// The lines of entries, numbered from 0 on.
-fn text(alloc: Global, model: &Model, entries: &[Entry]) -> Result<Vec<u8>, AllocError> {
+fn text(rt: &impl Abort, alloc: Global, model: &Model, entries: &[Entry]) -> Vec<u8> {
     let mut bytes = Vec::new(alloc);
     let mut number = 0u32;
     for entry in entries {
-        bytes.extend_from_slice(render(alloc, model, number, entry)?.as_slice())?;
+        let line = render(alloc, model, number, entry).expect(rt, "memory");
+        bytes.extend_from_slice(&line).expect(rt, "memory");
         number = number.wrapping_add(1);
     }
-    Ok(bytes)
+    bytes
 }
 
 /// A round: a message, then what the planner does and what the executive does.
@@ -141,31 +142,25 @@ fn run<R: Abort + Wait>(rt: &R, alloc: Global, plan: &SharedPlan, pass: &mut Pas
 }
 
 /// Compares the journal so far, and what is told beside it.
-fn has_journal<R: Abort + Wait>(
-    rt: &R,
-    alloc: Global,
-    plan: &SharedPlan,
-    pass: &mut Pass,
-) -> Result<bool, AllocError>
+fn has_journal<R: Abort + Wait>(rt: &R, alloc: Global, plan: &SharedPlan, pass: &mut Pass) -> bool
     requires { BelongsTo plan.now pass.old }
     ensures own { BelongsTo plan.now pass.new }
     ensures crew { crew_of pass.new ≡ crew_of pass.old }
 {
-    let part = plan.copy_from(rt, alloc, pass, 0)?;
-    let written = text(alloc, &model(rt, alloc, MODEL)?, part.entries.as_slice())?;
+    let part = plan.copy_from(rt, alloc, pass, 0).expect(rt, "memory");
+    let written = text(rt, alloc, &model(rt, alloc, MODEL), part.entries.as_slice());
     let told = part.closed && part.done && !part.spoiled && !part.stopped;
-    Ok(told && written.as_slice() == JOURNAL.as_bytes())
+    told && written.as_slice() == JOURNAL.as_bytes()
 }
 
 #[test]
-fn makes_the_worked_journal(rt: HostRuntime) -> Result<(), AllocError> {
+fn makes_the_worked_journal(rt: HostRuntime) {
     let alloc = rt.alloc();
-    let (plan, mut pass) = opened(&rt, alloc, 250000)?;
+    let (plan, mut pass) = opened(&rt, alloc, 250000).expect(&rt, "memory");
     run(&rt, alloc, &plan, &mut pass);
-    assert_eq!(rt; plan.entries(&mut pass), 12);
-    assert!(rt; has_journal(&rt, alloc, &plan, &mut pass)?);
-    assert_eq!(rt; plan.close(pass).log().len(), 12);
-    Ok(())
+    assert!(rt; plan.entries(&mut pass) == 12);
+    assert!(rt; has_journal(&rt, alloc, &plan, &mut pass));
+    assert!(rt; plan.close(pass).log().len() == 12);
 }
 
 /// Stops the plan by another pass behind a message.
@@ -185,59 +180,58 @@ fn is_stopped<R: Abort + Wait>(
     plan: &SharedPlan,
     pass: &mut Pass,
     entries: usize,
-) -> Result<bool, AllocError>
+) -> bool
     requires { BelongsTo plan.now pass.old }
     ensures own { BelongsTo plan.now pass.new }
     ensures crew { crew_of pass.new ≡ crew_of pass.old }
 {
-    let part = plan.copy_from(rt, alloc, pass, 0)?;
-    Ok(part.entries.len() == entries && part.stopped && !part.closed && !part.done)
+    let part = plan.copy_from(rt, alloc, pass, 0).expect(rt, "memory");
+    part.entries.len() == entries && part.stopped && !part.closed && !part.done
 }
 
-#[test]
-fn is_stopped_by_another_pass(rt: HostRuntime) -> Result<(), AllocError> {
-    let alloc = rt.alloc();
-    let (plan, mut pass) = opened(&rt, alloc, 250000)?;
-    let mut feeder = plan.split(alloc, &mut pass)?;
-    stop_behind(&rt, &plan, &mut feeder);
+/// Lets both workers act once on a plan that was stopped.
+fn both_stop<R: Abort + Wait>(rt: &R, alloc: Global, plan: &SharedPlan, pass: &mut Pass)
+    requires { BelongsTo plan.now pass.old }
+    ensures own { BelongsTo plan.now pass.new }
+    ensures crew { crew_of pass.new ≡ crew_of pass.old }
+{
     let mut planner = Role::Planner(Seeded::new(1));
-    acts(&rt, alloc, &plan, &mut pass, &mut planner, "stopped");
-    acts(
-        &rt,
-        alloc,
-        &plan,
-        &mut pass,
-        &mut Role::Executive,
-        "stopped",
-    );
+    acts(rt, alloc, plan, pass, &mut planner, "stopped");
+    acts(rt, alloc, plan, pass, &mut Role::Executive, "stopped");
+}
+
+#[test]
+fn is_stopped_by_another_pass(rt: HostRuntime) {
+    let alloc = rt.alloc();
+    let (plan, mut pass) = opened(&rt, alloc, 250000).expect(&rt, "memory");
+    let mut feeder = plan.split(alloc, &mut pass).expect(&rt, "memory");
+    stop_behind(&rt, &plan, &mut feeder);
+    both_stop(&rt, alloc, &plan, &mut pass);
     plan.join(&mut pass, feeder);
-    assert_eq!(rt; plan.entries(&mut pass), 3);
-    assert!(rt; is_stopped(&rt, alloc, &plan, &mut pass, 2)?);
-    assert_eq!(rt; plan.close(pass).log().len(), 2);
-    Ok(())
+    assert!(rt; plan.entries(&mut pass) == 3);
+    assert!(rt; is_stopped(&rt, alloc, &plan, &mut pass, 2));
+    assert!(rt; plan.close(pass).log().len() == 2);
 }
 
 #[test]
-fn works_until_it_is_over(rt: HostRuntime) -> Result<(), AllocError> {
+fn works_until_it_is_over(rt: HostRuntime) {
     let alloc = rt.alloc();
-    let (plan, mut pass) = opened(&rt, alloc, 250000)?;
-    assert_eq!(rt; plan.feed(&rt, &mut pass, None), Ok(1));
+    let (plan, mut pass) = opened(&rt, alloc, 250000).expect(&rt, "memory");
+    assert!(rt; plan.feed(&rt, &mut pass, None) == Ok(1));
     let made = work(&rt, alloc, &plan, &NoGate, &mut pass, &mut Role::Executive);
-    assert_eq!(rt; made, Ok(0));
+    assert!(rt; made == Ok(0));
     assert!(rt; plan.close(pass).done());
-    Ok(())
 }
 
 #[test]
-fn works_until_the_log_is_full(rt: HostRuntime) -> Result<(), AllocError> {
+fn works_until_the_log_is_full(rt: HostRuntime) {
     let alloc = rt.alloc();
-    let (plan, mut pass) = opened(&rt, alloc, 3)?;
+    let (plan, mut pass) = opened(&rt, alloc, 3).expect(&rt, "memory");
     tell(&rt, &plan, &mut pass, b"goal 1 obs 10 20 must", Ok(1));
     let mut planner = Role::Planner(Seeded::new(1));
     let made = work(&rt, alloc, &plan, &NoGate, &mut pass, &mut planner);
-    assert_eq!(rt; made, Err(Stop::LogFull));
-    assert!(rt; is_stopped(&rt, alloc, &plan, &mut pass, 3)?);
+    assert!(rt; made == Err(Stop::LogFull));
+    assert!(rt; is_stopped(&rt, alloc, &plan, &mut pass, 3));
     tell(&rt, &plan, &mut pass, b"end", Err(Stop::NotNow));
-    assert_eq!(rt; plan.close(pass).log().len(), 3);
-    Ok(())
+    assert!(rt; plan.close(pass).log().len() == 3);
 }

@@ -1,41 +1,10 @@
 //! Journals verified, each with its verdict.
 use crate::models::{JOURNAL, shared_model};
-use pl_entry::{Reason, Reply};
 use pl_io::{LineFault, LineReader, MemSource};
 use pl_machine::Machine;
 use pl_replay::{Verdict, verify};
-use std::alloc::{AllocError, Global};
+use std::alloc::Global;
 use std::process::Abort;
-
-fn reply_words(reply: &Reply) -> &'static str {
-    match reply {
-        Reply::BadLine => "reply is bad-line",
-        Reply::Stale => "reply is stale",
-        Reply::Rested(Reason::Clear) => "reply is clear",
-        Reply::CommitBehind => "reply is behind",
-        Reply::CommitBeyond => "reply is beyond",
-        Reply::Sent { .. } => "reply is a command",
-        _ => "another reply",
-    }
-}
-
-/// The number and the words of a verdict.
-fn words(verdict: &Verdict) -> (u32, &'static str) {
-    match verdict {
-        Verdict::Legal {
-            entries,
-            done: true,
-        } => (*entries, "finished"),
-        Verdict::Legal {
-            entries,
-            done: false,
-        } => (*entries, "unfinished"),
-        Verdict::NotALine(number) => (*number, "not a line"),
-        Verdict::NotNow(number) => (*number, "not now"),
-        Verdict::Full(number) => (*number, "log full"),
-        Verdict::OtherReply(number, reply) => (*number, reply_words(reply)),
-    }
-}
 
 /// What a journal is. These reads of it fail, numbered from 1.
 fn verified(
@@ -45,140 +14,112 @@ fn verified(
     total: u64,
     failing: &[u64],
 ) -> Result<(Verdict, Option<Machine>), LineFault> {
-    let model = shared_model(rt, alloc)?;
+    let model = shared_model(rt, alloc);
     let mut lines = LineReader::new(alloc, 4160, total)?;
     let mut source = MemSource::new(alloc, journal, failing)?;
     verify(alloc, model, &mut lines, &mut source)
 }
 
-/// Compares the verdict on a journal. A machine comes with a legal one alone.
-fn judge(
-    rt: &impl Abort,
-    alloc: Global,
-    journal: &[u8],
-    number: u32,
-    wanted: &str,
-) -> Result<(), LineFault> {
-    let (verdict, machine) = verified(rt, alloc, journal, 1_073_741_824, &[])?;
-    let (found, told) = words(&verdict);
-    assert!(rt;
-        found == number && told == wanted,
-        "{number} {wanted}: {found} {told}"
-    );
-    match machine {
-        Some(machine) => {
-            assert!(rt; machine.log().len() == number as usize && !machine.spoiled());
-            assert!(rt; machine.done() == (wanted == "finished"));
-        }
-        None => assert!(rt; wanted != "finished" && wanted != "unfinished"),
+/// Whether a machine comes with a legal journal alone, and is where the journal ends.
+fn is_fitting(verdict: &Verdict, machine: &Option<Machine>) -> bool {
+    match verdict {
+        Verdict::Legal { entries, done } => match machine {
+            Some(machine) => {
+                machine.log().len() == *entries as usize
+                    && !machine.spoiled()
+                    && machine.done() == *done
+            }
+            None => false,
+        },
+        _ => machine.is_none(),
     }
-    Ok(())
+}
+
+/// Compares how the verdict on a journal begins, as it is printed.
+fn judge(rt: &impl Abort, alloc: Global, journal: &[u8], wanted: &str) {
+    let found = verified(rt, alloc, journal, 1_073_741_824, &[]);
+    let (verdict, machine) = found.expect(rt, "a verdict");
+    let text = format!(in alloc; "{verdict:?}").expect(rt, "memory");
+    assert!(rt; text.starts_with(wanted), "{wanted}: {text}");
+    assert!(rt; is_fitting(&verdict, &machine), "{wanted}");
+}
+
+/// The text with a newline for each `;`.
+fn lines(rt: &impl Abort, alloc: Global, text: &str) -> String {
+    text.replace(alloc, ";", "\n").expect(rt, "memory")
 }
 
 /// The worked journal with another text in place of one.
-fn changed(alloc: Global, from: &str, to: &str) -> Result<Vec<u8>, AllocError> {
+fn changed(rt: &impl Abort, alloc: Global, from: &str, to: &str) -> Vec<u8> {
     let (front, rest) = JOURNAL.split_once(from).unwrap_or(("no such text", ""));
-    let mut journal = Vec::from_slice(alloc, front.as_bytes())?;
-    journal.extend_from_slice(to.as_bytes())?;
-    journal.extend_from_slice(rest.as_bytes())?;
-    Ok(journal)
+    let text = format!(in alloc; "{front}{to}{rest}").expect(rt, "memory");
+    text.into_bytes()
 }
 
-/// The worked journal with a change, the number and the words of the verdict.
-type Change<'a> = (&'a str, &'a str, u32, &'a str);
-
-fn judge_changes(rt: &impl Abort, alloc: Global, table: &[Change<'_>]) -> Result<(), LineFault> {
-    for (from, to, number, wanted) in table {
-        let journal = changed(alloc, from, to)?;
-        judge(rt, alloc, journal.as_slice(), *number, wanted)?;
+/// Judges the worked journal with changes. A row has a text, what stands in its place, and the verdict; `;` is a newline.
+fn judge_changes(rt: &impl Abort, alloc: Global, table: &str) {
+    for row in table.lines() {
+        let (from, rest) = row.split_once(" => ").unwrap_or((row, ""));
+        let (to, wanted) = rest.split_once(" => ").unwrap_or((rest, ""));
+        let from = lines(rt, alloc, from);
+        let to = lines(rt, alloc, to);
+        let journal = changed(rt, alloc, from.as_str(), to.as_str());
+        judge(rt, alloc, &journal, wanted);
     }
-    Ok(())
 }
 
-#[test]
-fn names_the_first_wrong_entry(rt: HostRuntime) -> Result<(), LineFault> {
-    judge_changes(
-        &rt,
-        rt.alloc(),
-        &[
-            ("turns 8", "turns 0", 0, "not a line"),
-            ("entries 250000", "entries 3", 3, "log full"),
-            ("2 fix", "3 fix", 2, "not a line"),
-            ("open-goal 1", "open-goal 2", 2, "reply is stale"),
-            ("rest clear", "rest spent", 3, "reply is clear"),
-            ("commit 30", "commit 101", 4, "reply is beyond"),
-        ],
-    )
-}
+const ENTRIES: &str = "turns 8 => turns 0 => NotALine(0)
+entries 250000 => entries 3 => Full(3)
+2 fix => 3 fix => NotALine(2)
+open-goal 1 => open-goal 2 => OtherReply(2, Stale)
+rest clear => rest spent => OtherReply(3, Rested(Clear))
+commit 30 => commit 101 => OtherReply(4, CommitBeyond)";
 
 #[test]
-fn judges_by_the_plan(rt: HostRuntime) -> Result<(), LineFault> {
-    judge_changes(
-        &rt,
-        rt.alloc(),
-        &[
-            ("0 open", "0 open", 12, "finished"),
-            ("commit 30", "commit 31", 12, "finished"),
-            ("commit 30", "commit 100", 9, "reply is behind"),
-            (
-                "8 dispatch 1 obs 10\n9 commit 40 : ok\n10 close\n11",
-                "8 commit 40 : ok\n9 close\n10",
-                9,
-                "not now",
-            ),
-            ("1 obs 10\n9", "1 obs 11\n9", 8, "reply is a command"),
-            ("end : end", "end : fin", 11, "reply is bad-line"),
-        ],
-    )
+fn names_the_first_wrong_entry(rt: HostRuntime) {
+    judge_changes(&rt, rt.alloc(), ENTRIES);
 }
 
-#[test]
-fn takes_lines_as_they_are_written(rt: HostRuntime) -> Result<(), LineFault> {
-    judge_changes(
-        &rt,
-        rt.alloc(),
-        &[
-            ("3 rest", "\n \t\n # no entry\n3 rest", 12, "finished"),
-            ("3 rest clear", "3 rest clear\r", 3, "not a line"),
-            ("3 rest clear", "3 rest clear # so far", 3, "not a line"),
-            (
-                "1 in",
-                "0 open turns 8 live 1 goals 1 entries 1\n1 in",
-                1,
-                "not a line",
-            ),
-            ("11 in end : end\n", "11 in end : end", 12, "finished"),
-            ("11 in end : end\n", "11 in e", 11, "not a line"),
-        ],
-    )
-}
+const PLANS: &str = "0 open => 0 open => Legal { entries: 12, done: true }
+commit 30 => commit 31 => Legal { entries: 12, done: true }
+commit 30 => commit 100 => OtherReply(9, CommitBehind)
+8 dispatch 1 obs 10;9 commit 40 : ok;10 close;11 => 8 commit 40 : ok;9 close;10 => NotNow(9)
+1 obs 10;9 => 1 obs 11;9 => OtherReply(8, Sent {
+end : end => end : fin => OtherReply(11, BadLine)";
 
 #[test]
-fn judges_short_journals(rt: HostRuntime) -> Result<(), LineFault> {
-    let table = [
-        ("", 0, "not a line"),
-        ("\n# nothing\n", 0, "not a line"),
-        ("0 open turns 8 live 1 goals 1 entries 2\n", 1, "unfinished"),
-        (
-            "0 open turns 8 live 1 goals 1 entries 2\n1 in eof\n",
-            2,
-            "finished",
-        ),
-        (
-            "0 open turns 8 live 1 goals 1 entries 2\n1 in ok : tick 3\n2 rest clear\n",
-            2,
-            "log full",
-        ),
-        (
-            "0 open turns 8 live 1 goals 1 entries 2\n1 in eof\n2 in eof\n",
-            2,
-            "not now",
-        ),
-    ];
-    for (journal, number, wanted) in table {
-        judge(&rt, rt.alloc(), journal.as_bytes(), number, wanted)?;
+fn judges_by_the_plan(rt: HostRuntime) {
+    judge_changes(&rt, rt.alloc(), PLANS);
+}
+
+const WRITTEN: &str = "3 rest => ; \t; # no entry;3 rest => Legal { entries: 12, done: true }
+3 rest clear => 3 rest clear\r => NotALine(3)
+3 rest clear => 3 rest clear # so far => NotALine(3)
+1 in => 0 open turns 8 live 1 goals 1 entries 1;1 in => NotALine(1)
+11 in end : end; => 11 in end : end => Legal { entries: 12, done: true }
+11 in end : end; => 11 in e => NotALine(11)";
+
+#[test]
+fn takes_lines_as_they_are_written(rt: HostRuntime) {
+    judge_changes(&rt, rt.alloc(), WRITTEN);
+}
+
+/// Journals, each with its verdict; `;` is a newline.
+const SHORT: &str = " => NotALine(0)
+;# nothing; => NotALine(0)
+0 open turns 8 live 1 goals 1 entries 2; => Legal { entries: 1, done: false }
+0 open turns 8 live 1 goals 1 entries 2;1 in eof; => Legal { entries: 2, done: true }
+0 open turns 8 live 1 goals 1 entries 2;1 in ok : tick 3;2 rest clear; => Full(2)
+0 open turns 8 live 1 goals 1 entries 2;1 in eof;2 in eof; => NotNow(2)";
+
+#[test]
+fn judges_short_journals(rt: HostRuntime) {
+    let alloc = rt.alloc();
+    for row in SHORT.lines() {
+        let (journal, wanted) = row.split_once(" => ").unwrap_or((row, ""));
+        let journal = lines(&rt, alloc, journal);
+        judge(&rt, alloc, journal.as_bytes(), wanted);
     }
-    Ok(())
 }
 
 /// The fault that is told in place of a verdict.
@@ -196,34 +137,32 @@ fn fault_of(
 }
 
 #[test]
-fn tells_faults_of_the_input(rt: HostRuntime) -> Result<(), AllocError> {
-    let alloc = rt.alloc();
+fn tells_lines_that_are_too_long(rt: HostRuntime) {
     let line = [b'x'; 4161];
-    let long = fault_of(&rt, alloc, line.as_slice(), 10_000, &[]);
-    assert_eq!(rt; long, Some(LineFault::Long(1)));
-    let journal = JOURNAL.as_bytes();
-    assert_eq!(rt;
-        fault_of(&rt, alloc, journal, 100, &[]),
-        Some(LineFault::Total)
-    );
-    assert_eq!(rt;
-        fault_of(&rt, alloc, journal, 10_000, &[1]),
-        Some(LineFault::Read)
-    );
-    assert_eq!(rt; fault_of(&rt, alloc, journal, 10_000, &[9]), None);
-    Ok(())
+    let found = fault_of(&rt, rt.alloc(), line.as_slice(), 10_000, &[]);
+    assert!(rt; found == Some(LineFault::Long(1)));
 }
 
 #[test]
-fn reads_nothing_behind_a_wrong_entry(rt: HostRuntime) -> Result<(), LineFault> {
+fn tells_faults_of_the_input(rt: HostRuntime) {
     let alloc = rt.alloc();
-    let model = shared_model(&rt, alloc)?;
-    let mut lines = LineReader::new(alloc, 4160, 10_000)?;
-    let journal = changed(alloc, "2 fix", "2 mend")?;
-    let mut source = MemSource::new(alloc, journal.as_slice(), &[])?;
-    let (verdict, machine) = verify(alloc, model, &mut lines, &mut source)?;
-    assert!(rt; words(&verdict) == (2, "not a line") && machine.is_none());
-    let next = lines.next(&mut source)?;
-    assert!(rt; next.is_some_and(|line| line.bytes() == b"3 rest clear".as_slice()));
-    Ok(())
+    let journal = JOURNAL.as_bytes();
+    assert!(rt; fault_of(&rt, alloc, journal, 100, &[]) == Some(LineFault::Total));
+    assert!(rt; fault_of(&rt, alloc, journal, 10_000, &[1]) == Some(LineFault::Read));
+    assert!(rt; fault_of(&rt, alloc, journal, 10_000, &[9]).is_none());
+}
+
+#[test]
+fn reads_nothing_behind_a_wrong_entry(rt: HostRuntime) {
+    let alloc = rt.alloc();
+    let model = shared_model(&rt, alloc);
+    let mut lines = LineReader::new(alloc, 4160, 10_000).expect(&rt, "memory");
+    let journal = changed(&rt, alloc, "2 fix", "2 mend");
+    let mut source = MemSource::new(alloc, &journal, &[]).expect(&rt, "memory");
+    let found = verify(alloc, model, &mut lines, &mut source);
+    let (verdict, machine) = found.expect(&rt, "a verdict");
+    assert!(rt; matches!(verdict, Verdict::NotALine(2)) && machine.is_none());
+    let next = lines.next(&mut source).expect(&rt, "no fault");
+    let line = next.expect(&rt, "a line");
+    assert!(rt; line.bytes() == b"3 rest clear".as_slice());
 }

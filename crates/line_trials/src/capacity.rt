@@ -8,6 +8,7 @@ use pl_capacity::{Capacity, Use};
 use pl_points::{Change, Points, Quiet, Span, Steps};
 use rand_pcg::Pcg32;
 use std::alloc::{AllocError, Global};
+use std::process::Abort;
 
 const MOST: i64 = 4;
 
@@ -32,18 +33,21 @@ fn place_of(uses: &[Use], found: Use) -> Option<usize>
 }
 
 fn add<P: Points>(
+    rt: &impl Abort,
     line: &mut Capacity<P>,
     uses: &mut Vec<Use>,
     added: Use,
-) -> Result<Change, AllocError>
+) -> Change
     requires is_use { IsUse added }
     requires tied { line.old.uses ≡ uses.old.items }
     requires few { length uses.old.items ≤ 319999 }
-    ensures { OnOk result (line.new ≡ record line.old { uses = uses.new.items }) }
+    ensures { line.new ≡ record line.old { uses = uses.new.items } }
 {
-    let change = line.add(added.from, added.to, added.amount, &mut Steps::new(Quiet))?;
-    uses.push(added)?;
-    Ok(change)
+    let change = line
+        .add(added.from, added.to, added.amount, &mut Steps::new(Quiet))
+        .expect(rt, "memory");
+    uses.push(added).expect(rt, "memory");
+    change
 }
 
 fn remove<P: Points>(
@@ -75,14 +79,14 @@ fn used(uses: &[Use], t: u32) -> i64 {
     sum
 }
 
-fn spans_of(alloc: Global, uses: &[Use], moment: u32) -> Result<Vec<Span>, AllocError> {
+fn spans_of(rt: &impl Abort, alloc: Global, uses: &[Use], moment: u32) -> Vec<Span> {
     let mut spans = Vec::new(alloc);
     for t in moment..HORIZON {
         if used(uses, t) > MOST {
-            grow(&mut spans, t)?;
+            grow(rt, &mut spans, t);
         }
     }
-    Ok(spans)
+    spans
 }
 
 fn tells<P: Points>(line: &Capacity<P>, uses: &[Use], moment: u32) -> bool
@@ -96,6 +100,14 @@ fn tells<P: Points>(line: &Capacity<P>, uses: &[Use], moment: u32) -> bool
         }
     }
     true
+}
+
+/// Whether the timeline has these spans, and tells the sums.
+fn has<P: Points>(line: &Capacity<P>, uses: &[Use], moment: u32, spans: &[Span]) -> bool
+    requires moment { line.now.moment ≡ moment }
+    requires horizon { line.now.horizon ≡ 20 }
+{
+    line.spans() == spans && tells(line, uses, moment)
 }
 
 fn any_use(words: &mut Pcg32) -> Use
@@ -112,98 +124,107 @@ fn any_use(words: &mut Pcg32) -> Use
 
 // One change of any kind, or None where the drawn one asks for what does not stand.
 fn change<P: Points>(
+    rt: &impl Abort,
     line: &mut Capacity<P>,
     uses: &mut Vec<Use>,
     moment: &mut u32,
     words: &mut Pcg32,
-) -> Result<Option<Change>, AllocError>
+) -> Option<Change>
     requires tied { line.old.uses ≡ uses.old.items }
     requires moment { line.old.moment ≡ moment.old }
     requires in_time { moment.old ≤ 20 }
     requires horizon { line.old.horizon ≡ 20 }
-    ensures tied { OnOk result (line.new.uses ≡ uses.new.items) }
-    ensures moment { OnOk result (line.new.moment ≡ moment.new) }
-    ensures in_time { OnOk result (moment.new ≤ 20) }
-    ensures horizon { OnOk result (line.new.horizon ≡ 20) }
+    ensures tied { line.new.uses ≡ uses.new.items }
+    ensures moment { line.new.moment ≡ moment.new }
+    ensures in_time { moment.new ≤ 20 }
+    ensures horizon { line.new.horizon ≡ 20 }
 {
     match below(words, 5) {
-        0 => go_on(line, moment, words),
-        1 => give_back(line, uses, words),
-        _ => take_more(line, uses, words),
+        0 => go_on(rt, line, moment, words),
+        1 => give_back(rt, line, uses, words),
+        _ => take_more(rt, line, uses, words),
     }
 }
 
 fn go_on<P: Points>(
+    rt: &impl Abort,
     line: &mut Capacity<P>,
     moment: &mut u32,
     words: &mut Pcg32,
-) -> Result<Option<Change>, AllocError>
+) -> Option<Change>
     requires moment { line.old.moment ≡ moment.old }
     requires in_time { moment.old ≤ 20 }
     requires horizon { line.old.horizon ≡ 20 }
-    ensures tied { OnOk result (line.new.uses ≡ line.old.uses) }
-    ensures moment { OnOk result (line.new.moment ≡ moment.new) }
-    ensures in_time { OnOk result (moment.new ≤ 20) }
-    ensures horizon { OnOk result (line.new.horizon ≡ 20) }
+    ensures tied { line.new.uses ≡ line.old.uses }
+    ensures moment { line.new.moment ≡ moment.new }
+    ensures in_time { moment.new ≤ 20 }
+    ensures horizon { line.new.horizon ≡ 20 }
 {
     let now = (*moment + below(words, 3)).min(HORIZON);
-    let change = line.advance(now, &mut Steps::new(Quiet))?;
+    let change = line
+        .advance(now, &mut Steps::new(Quiet))
+        .expect(rt, "memory");
     *moment = now;
-    Ok(Some(change))
+    Some(change)
 }
 
 fn give_back<P: Points>(
+    rt: &impl Abort,
     line: &mut Capacity<P>,
     uses: &mut Vec<Use>,
     words: &mut Pcg32,
-) -> Result<Option<Change>, AllocError>
+) -> Option<Change>
     requires tied { line.old.uses ≡ uses.old.items }
-    ensures tied { OnOk result (line.new ≡ record line.old { uses = uses.new.items }) }
+    ensures tied { line.new ≡ record line.old { uses = uses.new.items } }
 {
     let index = below(words, 6);
     match uses.get(index as usize) {
-        None => Ok(None),
+        None => None,
         Some(found) => {
             let gone = *found;
-            give_back_one(line, uses, gone)
+            give_back_one(rt, line, uses, gone)
         }
     }
 }
 
 fn give_back_one<P: Points>(
+    rt: &impl Abort,
     line: &mut Capacity<P>,
     uses: &mut Vec<Use>,
     gone: Use,
-) -> Result<Option<Change>, AllocError>
+) -> Option<Change>
     requires tied { line.old.uses ≡ uses.old.items }
-    ensures tied { OnOk result (line.new ≡ record line.old { uses = uses.new.items }) }
+    ensures tied { line.new ≡ record line.old { uses = uses.new.items } }
 {
     match place_of(uses, gone) {
-        None => Ok(None),
+        None => None,
         Some(place) => {
-            let change = remove(line, uses, place, gone.from, gone.to, gone.amount)?;
-            Ok(Some(change))
+            let change = remove(line, uses, place, gone.from, gone.to, gone.amount).expect(
+                rt, "memory",
+            );
+            Some(change)
         }
     }
 }
 
 fn take_more<P: Points>(
+    rt: &impl Abort,
     line: &mut Capacity<P>,
     uses: &mut Vec<Use>,
     words: &mut Pcg32,
-) -> Result<Option<Change>, AllocError>
+) -> Option<Change>
     requires tied { line.old.uses ≡ uses.old.items }
-    ensures tied { OnOk result (line.new ≡ record line.old { uses = uses.new.items }) }
+    ensures tied { line.new ≡ record line.old { uses = uses.new.items } }
 {
     if uses.len() > 1000 {
-        return Ok(None);
+        return None;
     }
-    let change = add(line, uses, any_use(words))?;
-    Ok(Some(change))
+    let change = add(rt, line, uses, any_use(words));
+    Some(change)
 }
 
-/// Whether all of a sequence of changes, over the points, is as the plain definition has it.
-pub fn agrees<P: Points>(alloc: Global, seed: u64, points: P) -> Result<bool, AllocError>
+/// Asserts that all of a sequence of changes, over the points, is as the plain definition has it.
+pub fn agrees<P: Points>(rt: &impl Abort, alloc: Global, seed: u64, points: P)
     requires { P.points points ≡ [] }
 {
     let mut line = Capacity::new(alloc, HORIZON, MOST, points);
@@ -212,17 +233,12 @@ pub fn agrees<P: Points>(alloc: Global, seed: u64, points: P) -> Result<bool, Al
     let mut plain = Vec::new(alloc);
     for turn in 0..CHANGES {
         let mut words = Pcg32::new(seed, u64::from(turn));
-        let answer = change(&mut line, &mut uses, &mut moment, &mut words)?;
-        let after = spans_of(alloc, &uses, moment)?;
-        if !is_answer(&answer, &plain, &after) || line.spans() != after.as_slice() {
-            return Ok(false);
-        }
-        if !tells(&line, &uses, moment) {
-            return Ok(false);
-        }
+        let answer = change(rt, &mut line, &mut uses, &mut moment, &mut words);
+        let after = spans_of(rt, alloc, &uses, moment);
+        assert!(rt; has(&line, &uses, moment, &after), "seed {seed}");
+        assert!(rt; is_answer(&answer, &plain, &after), "seed {seed}");
         plain = after;
     }
-    Ok(true)
 }
 
 fn is_answer(answer: &Option<Change>, old: &[Span], new: &[Span]) -> bool {

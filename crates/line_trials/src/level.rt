@@ -8,6 +8,7 @@ use pl_level::{Effect, Level, LevelChange};
 use pl_points::{Points, Quiet, Span, Steps};
 use rand_pcg::Pcg32;
 use std::alloc::{AllocError, Global};
+use std::process::Abort;
 
 const LEAST: i64 = 2;
 
@@ -22,6 +23,13 @@ struct Plain {
     value: i64,
 }
 
+// The spans below the least and above the most.
+#[derive(Drop)]
+struct Outside {
+    low: Vec<Span>,
+    high: Vec<Span>,
+}
+
 impl Plain {
     fn at(&self, t: u32) -> i64 {
         let mut level = self.value;
@@ -33,24 +41,30 @@ impl Plain {
         level
     }
 
-    fn low(&self, alloc: Global) -> Result<Vec<Span>, AllocError> {
+    fn low(&self, rt: &impl Abort, alloc: Global) -> Vec<Span> {
         let mut spans = Vec::new(alloc);
         for t in self.moment..HORIZON {
             if self.at(t) < LEAST {
-                grow(&mut spans, t)?;
+                grow(rt, &mut spans, t);
             }
         }
-        Ok(spans)
+        spans
     }
 
-    fn high(&self, alloc: Global) -> Result<Vec<Span>, AllocError> {
+    fn high(&self, rt: &impl Abort, alloc: Global) -> Vec<Span> {
         let mut spans = Vec::new(alloc);
         for t in self.moment..HORIZON {
             if self.at(t) > MOST {
-                grow(&mut spans, t)?;
+                grow(rt, &mut spans, t);
             }
         }
-        Ok(spans)
+        spans
+    }
+
+    fn outside(&self, rt: &impl Abort, alloc: Global) -> Outside {
+        let low = self.low(rt, alloc);
+        let high = self.high(rt, alloc);
+        Outside { low, high }
     }
 }
 
@@ -84,58 +98,65 @@ fn any_effect(words: &mut Pcg32) -> Effect
 }
 
 fn go_on<P: Points>(
+    rt: &impl Abort,
     line: &mut Level<P>,
     plain: &mut Plain,
     words: &mut Pcg32,
-) -> Result<Option<LevelChange>, AllocError>
+) -> Option<LevelChange>
     requires tied { line.old.effects ≡ plain.old.effects.items }
     requires moment { line.old.moment ≡ plain.old.moment }
     requires in_time { plain.old.moment ≤ 20 }
     requires horizon { line.old.horizon ≡ 20 }
-    ensures tied { OnOk result (line.new.effects ≡ plain.new.effects.items) }
-    ensures moment { OnOk result (line.new.moment ≡ plain.new.moment) }
-    ensures in_time { OnOk result (plain.new.moment ≤ 20) }
-    ensures horizon { OnOk result (line.new.horizon ≡ 20) }
+    ensures tied { line.new.effects ≡ plain.new.effects.items }
+    ensures moment { line.new.moment ≡ plain.new.moment }
+    ensures in_time { plain.new.moment ≤ 20 }
+    ensures horizon { line.new.horizon ≡ 20 }
 {
     let now = (plain.moment + below(words, 3)).min(HORIZON);
-    let change = line.advance(now, &mut Steps::new(Quiet))?;
+    let change = line
+        .advance(now, &mut Steps::new(Quiet))
+        .expect(rt, "memory");
     plain.moment = now;
-    Ok(Some(change))
+    Some(change)
 }
 
 fn set_base<P: Points>(
+    rt: &impl Abort,
     line: &mut Level<P>,
     plain: &mut Plain,
     words: &mut Pcg32,
-) -> Result<Option<LevelChange>, AllocError>
-    ensures line { OnOk result (line.new.effects ≡ line.old.effects) }
-    ensures moment { OnOk result (line.new.moment ≡ line.old.moment) }
-    ensures horizon { OnOk result (line.new.horizon ≡ line.old.horizon) }
-    ensures plain { OnOk result (plain.new.effects.items ≡ plain.old.effects.items) }
-    ensures now { OnOk result (plain.new.moment ≡ plain.old.moment) }
+) -> Option<LevelChange>
+    ensures line { line.new.effects ≡ line.old.effects }
+    ensures moment { line.new.moment ≡ line.old.moment }
+    ensures horizon { line.new.horizon ≡ line.old.horizon }
+    ensures plain { plain.new.effects.items ≡ plain.old.effects.items }
+    ensures now { plain.new.moment ≡ plain.old.moment }
 {
     let value = i64::from(below(words, 9));
-    let change = line.rebase(value, &mut Steps::new(Quiet))?;
+    let change = line
+        .rebase(value, &mut Steps::new(Quiet))
+        .expect(rt, "memory");
     plain.base = plain.moment;
     plain.value = value;
-    Ok(Some(change))
+    Some(change)
 }
 
 fn give_back<P: Points>(
+    rt: &impl Abort,
     line: &mut Level<P>,
     plain: &mut Plain,
     words: &mut Pcg32,
-) -> Result<Option<LevelChange>, AllocError>
+) -> Option<LevelChange>
     requires tied { line.old.effects ≡ plain.old.effects.items }
-    ensures tied { OnOk result (line.new ≡ record line.old { effects = plain.new.effects.items }) }
-    ensures now { OnOk result (plain.new.moment ≡ plain.old.moment) }
+    ensures tied { line.new ≡ record line.old { effects = plain.new.effects.items } }
+    ensures now { plain.new.moment ≡ plain.old.moment }
 {
     let index = below(words, 6);
     match plain.effects.get(index as usize) {
-        None => Ok(None),
+        None => None,
         Some(found) => {
             let gone = *found;
-            give_back_one(line, plain, gone)
+            give_back_one(rt, line, plain, gone)
         }
     }
 }
@@ -160,61 +181,66 @@ fn remove<P: Points>(
 }
 
 fn give_back_one<P: Points>(
+    rt: &impl Abort,
     line: &mut Level<P>,
     plain: &mut Plain,
     gone: Effect,
-) -> Result<Option<LevelChange>, AllocError>
+) -> Option<LevelChange>
     requires tied { line.old.effects ≡ plain.old.effects.items }
-    ensures tied { OnOk result (line.new ≡ record line.old { effects = plain.new.effects.items }) }
-    ensures now { OnOk result (plain.new.moment ≡ plain.old.moment) }
+    ensures tied { line.new ≡ record line.old { effects = plain.new.effects.items } }
+    ensures now { plain.new.moment ≡ plain.old.moment }
 {
     match place_of(&plain.effects, gone) {
-        None => Ok(None),
+        None => None,
         Some(place) => {
-            let change = remove(line, plain, place, gone.at, gone.delta)?;
-            Ok(Some(change))
+            let change = remove(line, plain, place, gone.at, gone.delta).expect(rt, "memory");
+            Some(change)
         }
     }
 }
 
 fn take_more<P: Points>(
+    rt: &impl Abort,
     line: &mut Level<P>,
     plain: &mut Plain,
     words: &mut Pcg32,
-) -> Result<Option<LevelChange>, AllocError>
+) -> Option<LevelChange>
     requires tied { line.old.effects ≡ plain.old.effects.items }
-    ensures tied { OnOk result (line.new ≡ record line.old { effects = plain.new.effects.items }) }
-    ensures now { OnOk result (plain.new.moment ≡ plain.old.moment) }
+    ensures tied { line.new ≡ record line.old { effects = plain.new.effects.items } }
+    ensures now { plain.new.moment ≡ plain.old.moment }
 {
     if plain.effects.len() > 1000 {
-        return Ok(None);
+        return None;
     }
     let added = any_effect(words);
-    let change = line.add(added.at, added.delta, &mut Steps::new(Quiet))?;
-    plain.effects.push(added)?;
-    Ok(Some(change))
+    let change = line
+        .add(added.at, added.delta, &mut Steps::new(Quiet))
+        .expect(rt, "memory");
+    plain.effects.push(added).expect(rt, "memory");
+    Some(change)
 }
 
 // One change of any kind, or None where the drawn one asks for what does not stand.
 fn change<P: Points>(
+    rt: &impl Abort,
     line: &mut Level<P>,
     plain: &mut Plain,
     words: &mut Pcg32,
-) -> Result<Option<LevelChange>, AllocError>
+) -> Option<LevelChange>
     requires tied { line.old.effects ≡ plain.old.effects.items }
     requires moment { line.old.moment ≡ plain.old.moment }
     requires in_time { plain.old.moment ≤ 20 }
     requires horizon { line.old.horizon ≡ 20 }
-    ensures tied { OnOk result (line.new.effects ≡ plain.new.effects.items) }
-    ensures moment { OnOk result (line.new.moment ≡ plain.new.moment) }
-    ensures in_time { OnOk result (plain.new.moment ≤ 20) }
-    ensures horizon { OnOk result (line.new.horizon ≡ 20) }
+    ensures tied { line.new.effects ≡ plain.new.effects.items }
+    ensures moment { line.new.moment ≡ plain.new.moment }
+    ensures in_time { plain.new.moment ≤ 20 }
+    ensures horizon { line.new.horizon ≡ 20 }
 {
     match below(words, 7) {
-        0 => go_on(line, plain, words),
-        1 => set_base(line, plain, words),
-        2 | 3 => give_back(line, plain, words),
-        _ => take_more(line, plain, words),
+        0 => go_on(rt, line, plain, words),
+        1 => set_base(rt, line, plain, words),
+        2 | 3 => give_back(rt, line, plain, words),
+        _ => take_more(rt, line, plain, words),
     }
 }
 
@@ -231,27 +257,32 @@ fn tells<P: Points>(line: &Level<P>, plain: &Plain) -> bool
     true
 }
 
-fn is_answer(
-    answer: &Option<LevelChange>,
-    low: &[Span],
-    high: &[Span],
-    low_after: &[Span],
-    high_after: &[Span],
-) -> bool {
+fn is_answer(answer: &Option<LevelChange>, old: &Outside, new: &Outside) -> bool {
     match answer {
-        None => low == low_after && high == high_after,
+        None => old.low.as_slice() == new.low.as_slice()
+            && old.high.as_slice() == new.high.as_slice(),
         Some(change) => {
-            is_change(&change.low, low, low_after) && is_change(&change.high, high, high_after)
+            is_change(&change.low, &old.low, &new.low)
+                && is_change(&change.high, &old.high, &new.high)
         }
     }
 }
 
-/// Whether all of a sequence of changes, over the points, is as the plain definition has it.
-pub fn agrees<P: Points>(alloc: Global, seed: u64, points: P) -> Result<bool, AllocError>
+/// Whether the timeline has these spans, and tells the levels.
+fn has<P: Points>(line: &Level<P>, plain: &Plain, outside: &Outside) -> bool
+    requires moment { line.now.moment ≡ plain.now.moment }
+    requires horizon { line.now.horizon ≡ 20 }
+{
+    line.low_spans() == outside.low.as_slice()
+        && line.high_spans() == outside.high.as_slice()
+        && tells(line, plain)
+}
+
+/// Asserts that all of a sequence of changes, over the points, is as the plain definition has it.
+pub fn agrees<P: Points>(rt: &impl Abort, alloc: Global, seed: u64, points: P)
     requires { P.points points ≡ [] }
 {
-    let mut words = Pcg32::new(seed, 100);
-    let start = i64::from(below(&mut words, 9));
+    let start = i64::from(below(&mut Pcg32::new(seed, 100), 9));
     let mut line = Level::new(alloc, HORIZON, LEAST, MOST, start, points);
     let mut plain = Plain {
         effects: Vec::new(alloc),
@@ -259,27 +290,14 @@ pub fn agrees<P: Points>(alloc: Global, seed: u64, points: P) -> Result<bool, Al
         base: 0,
         value: start,
     };
-    let mut low = plain.low(alloc)?;
-    let mut high = plain.high(alloc)?;
-    if line.low_spans() != low.as_slice() || line.high_spans() != high.as_slice() {
-        return Ok(false);
-    }
+    let mut outside = plain.outside(rt, alloc);
+    assert!(rt; has(&line, &plain, &outside), "seed {seed}");
     for turn in 0..CHANGES {
         let mut words = Pcg32::new(seed, u64::from(turn));
-        let answer = change(&mut line, &mut plain, &mut words)?;
-        let low_after = plain.low(alloc)?;
-        let high_after = plain.high(alloc)?;
-        if !is_answer(&answer, &low, &high, &low_after, &high_after) {
-            return Ok(false);
-        }
-        if line.low_spans() != low_after.as_slice() || line.high_spans() != high_after.as_slice() {
-            return Ok(false);
-        }
-        if !tells(&line, &plain) {
-            return Ok(false);
-        }
-        low = low_after;
-        high = high_after;
+        let answer = change(rt, &mut line, &mut plain, &mut words);
+        let after = plain.outside(rt, alloc);
+        assert!(rt; has(&line, &plain, &after), "seed {seed}");
+        assert!(rt; is_answer(&answer, &outside, &after), "seed {seed}");
+        outside = after;
     }
-    Ok(true)
 }

@@ -1,12 +1,13 @@
-ghost use Rattle.std.specs.Prelude.{◌≡◌, ◌<◌, ◌≤◌, ◌≤ℤ◌, ◌^◌, pos, neg_ℤ, true, false, [], ◌∷◌, ◌++◌, length, OnOk, IfOk};
+ghost use Rattle.std.specs.Prelude.{◌≡◌, ◌<◌, ◌≤◌, ◌≤ℤ◌, ◌^◌, pos, neg_ℤ, true, false, [], ◌∷◌, ◌++◌, length};
 ghost use Rattle.pl_points.specs.Standing.{without, stands};
 ghost use Rattle.pl_level.specs.Effects.{IsEffect, IsValue, effect_of, same_effect};
 
+use crate::capacities::is_one;
 use pl_level::{Effect, Level, LevelChange};
-use pl_lists::{Copied, Items};
-use pl_points::{PlainPoints, Quiet, Span, Steps};
+use pl_lists::Copied;
+use pl_points::{PlainPoints, Quiet, Steps};
 use std::alloc::{AllocError, Global};
-use std::test::Fail;
+use std::process::Abort;
 
 fn started(alloc: Global, horizon: u32, least: i64, most: i64, start: i64) -> Level<PlainPoints>
     requires least { IsValue least }
@@ -18,38 +19,38 @@ fn started(alloc: Global, horizon: u32, least: i64, most: i64, start: i64) -> Le
     Level::new(alloc, horizon, least, most, start, PlainPoints::new(alloc))
 }
 
-fn add(level: &mut Level<PlainPoints>, at: u32, delta: i64) -> Result<LevelChange, AllocError>
+fn add(rt: &impl Abort, level: &mut Level<PlainPoints>, at: u32, delta: i64) -> LevelChange
     requires is_effect { IsEffect (effect_of at delta) }
     requires few { length level.old.effects ≤ 319999 }
-    ensures { OnOk result (level.new ≡ record level.old { effects = level.old.effects ++ effect_of at delta ∷ [] }) }
+    ensures { level.new ≡ record level.old { effects = level.old.effects ++ effect_of at delta ∷ [] } }
 {
-    let change = level.add(at, delta, &mut Steps::new(Quiet))?;
-    Ok(change)
+    let change = level.add(at, delta, &mut Steps::new(Quiet));
+    change.expect(rt, "memory")
 }
 
-fn remove(level: &mut Level<PlainPoints>, at: u32, delta: i64) -> Result<LevelChange, AllocError>
+fn remove(rt: &impl Abort, level: &mut Level<PlainPoints>, at: u32, delta: i64) -> LevelChange
     requires { stands same_effect (effect_of at delta) level.old.effects ≡ true }
-    ensures { OnOk result (level.new ≡ record level.old { effects = without same_effect (effect_of at delta) level.old.effects }) }
+    ensures { level.new ≡ record level.old { effects = without same_effect (effect_of at delta) level.old.effects } }
 {
-    let change = level.remove(at, delta, &mut Steps::new(Quiet))?;
-    Ok(change)
+    let change = level.remove(at, delta, &mut Steps::new(Quiet));
+    change.expect(rt, "memory")
 }
 
-fn advance(level: &mut Level<PlainPoints>, now: u32) -> Result<LevelChange, AllocError>
+fn advance(rt: &impl Abort, level: &mut Level<PlainPoints>, now: u32) -> LevelChange
     requires later { level.old.moment ≤ now }
     requires bound { now ≤ level.old.horizon }
-    ensures { OnOk result (level.new ≡ record level.old { moment = now }) }
+    ensures { level.new ≡ record level.old { moment = now } }
 {
-    let change = level.advance(now, &mut Steps::new(Quiet))?;
-    Ok(change)
+    let change = level.advance(now, &mut Steps::new(Quiet));
+    change.expect(rt, "memory")
 }
 
-fn rebase(level: &mut Level<PlainPoints>, value: i64) -> Result<LevelChange, AllocError>
+fn rebase(rt: &impl Abort, level: &mut Level<PlainPoints>, value: i64) -> LevelChange
     requires { IsValue value }
-    ensures { OnOk result (level.new ≡ record level.old { base = level.old.moment; value = value }) }
+    ensures { level.new ≡ record level.old { base = level.old.moment; value = value } }
 {
-    let change = level.rebase(value, &mut Steps::new(Quiet))?;
-    Ok(change)
+    let change = level.rebase(value, &mut Steps::new(Quiet));
+    change.expect(rt, "memory")
 }
 
 fn at(level: &Level<PlainPoints>, t: u32) -> i64
@@ -59,77 +60,75 @@ fn at(level: &Level<PlainPoints>, t: u32) -> i64
     level.at(t, &mut Steps::new(Quiet))
 }
 
-// Whether the level has these spans below its least and these above its most.
-fn has(level: &Level<PlainPoints>, low: &[Span], high: &[Span]) -> bool {
-    !level.spoiled() && level.low_spans() == low && level.high_spans() == high
+// Whether the level stays within its limits.
+fn has_none(level: &Level<PlainPoints>) -> bool {
+    !level.spoiled() && level.low_spans().is_empty() && level.high_spans().is_empty()
 }
 
-fn are(spans: &Items<Span>, wanted: &[Span]) -> bool {
-    spans.as_slice() == wanted
-}
-
-fn span(from: u32, to: u32) -> Span {
-    Span { from, to }
+// Whether the level is below its least in this span alone, and never above its most.
+fn has_low(level: &Level<PlainPoints>, from: u32, to: u32) -> bool {
+    !level.spoiled() && is_one(level.low_spans(), from, to) && level.high_spans().is_empty()
 }
 
 #[test]
-fn an_effect_at_the_horizon(rt: HostRuntime) -> Result<(), Fail> {
+fn an_effect_at_the_horizon(rt: HostRuntime) {
     let mut battery = started(rt.alloc(), 100, 0, 100, 20);
-    let late = add(&mut battery, 100, -30)?;
-    assert!(rt; are(&late.low.came, &[]) && are(&late.high.came, &[]));
-    assert!(rt; at(&battery, 99) == 20 && has(&battery, &[], &[]));
-    Ok(())
+    let late = add(&rt, &mut battery, 100, -30);
+    assert!(rt; late.low.came.is_empty() && late.high.came.is_empty());
+    assert!(rt; at(&battery, 99) == 20 && has_none(&battery));
 }
 
 // At the moment 50, with an effect there and one a moment later.
-fn drained(alloc: Global) -> Result<Level<PlainPoints>, AllocError>
-    ensures { IfOk result (λ l. l ≡ record { spoiled = false; horizon = 100; least = pos 35; most = pos 100; moment = 50; base = 0; value = pos 70; effects = effect_of 50 (neg_ℤ (pos 10)) ∷ effect_of 51 (neg_ℤ (pos 10)) ∷ [] }) }
+fn drained(rt: &impl Abort, alloc: Global) -> Level<PlainPoints>
+    ensures { result ≡ record { spoiled = false; horizon = 100; least = pos 35; most = pos 100; moment = 50; base = 0; value = pos 70; effects = effect_of 50 (neg_ℤ (pos 10)) ∷ effect_of 51 (neg_ℤ (pos 10)) ∷ [] } }
 {
     let mut tank = started(alloc, 100, 35, 100, 70);
-    add(&mut tank, 50, -10)?;
-    add(&mut tank, 51, -10)?;
-    advance(&mut tank, 50)?;
-    Ok(tank)
+    add(rt, &mut tank, 50, -10);
+    add(rt, &mut tank, 51, -10);
+    advance(rt, &mut tank, 50);
+    tank
 }
 
 // What is at the base's moment counts no more, what is one later does.
 #[test]
-fn a_base_set_at_50(rt: HostRuntime) -> Result<(), Fail> {
-    let mut tank = drained(rt.alloc())?;
+fn a_base_set_at_50(rt: HostRuntime) {
+    let mut tank = drained(&rt, rt.alloc());
     assert!(rt; at(&tank, 50) == 60 && at(&tank, 51) == 50);
-    let based = rebase(&mut tank, 40)?;
+    let based = rebase(&rt, &mut tank, 40);
     assert!(rt; at(&tank, 50) == 40 && at(&tank, 51) == 30);
-    assert!(rt; are(&based.low.came, &[span(51, 100)]));
-    assert!(rt; has(&tank, &[span(51, 100)], &[]));
-    Ok(())
+    assert!(rt; is_one(based.low.came.as_slice(), 51, 100));
+    assert!(rt; has_low(&tank, 51, 100));
 }
 
 #[test]
-fn an_effect_that_goes(rt: HostRuntime) -> Result<(), Fail> {
-    let mut tank = drained(rt.alloc())?;
-    let copy = tank.copy(rt.alloc())?;
-    remove(&mut tank, 51, -10)?;
+fn an_effect_that_goes(rt: HostRuntime) {
+    let mut tank = drained(&rt, rt.alloc());
+    let copy = tank.copy(rt.alloc()).expect(&rt, "memory");
+    remove(&rt, &mut tank, 51, -10);
     assert!(rt; at(&tank, 51) == 60 && at(&copy, 51) == 50);
-    Ok(())
 }
 
 #[test]
-fn a_start_outside_its_limits(rt: HostRuntime) -> Result<(), Fail> {
+fn a_start_outside_its_limits(rt: HostRuntime) {
     let least = started(rt.alloc(), 100, 5, 9, 5);
-    assert!(rt; has(&least, &[], &[]));
+    assert!(rt; has_none(&least));
     let mut low = started(rt.alloc(), 100, 5, 9, 4);
-    assert!(rt; has(&low, &[span(0, 100)], &[]));
-    let raised = add(&mut low, 10, 6)?;
-    assert!(rt; are(&raised.low.came, &[span(0, 10)]) && are(&raised.high.came, &[span(10, 100)]));
-    assert!(rt; has(&low, &[span(0, 10)], &[span(10, 100)]));
-    let copy = raised.copy(rt.alloc())?;
-    assert!(rt; are(&copy.low.went, &[span(0, 100)]));
-    Ok(())
+    assert!(rt; has_low(&low, 0, 100));
+    let raised = add(&rt, &mut low, 10, 6);
+    assert!(rt;
+        is_one(raised.low.came.as_slice(), 0, 10) && is_one(raised.high.came.as_slice(), 10, 100)
+    );
+    assert!(rt;
+        !low.spoiled() && is_one(low.low_spans(), 0, 10) && is_one(low.high_spans(), 10, 100)
+    );
+    let copy = raised.copy(rt.alloc()).expect(&rt, "memory");
+    assert!(rt; is_one(copy.low.went.as_slice(), 0, 100));
 }
 
 #[test]
-fn an_effect_and_its_copy(rt: HostRuntime) -> Result<(), Fail> {
-    let copy = Effect { at: 3, delta: -4 }.copy(rt.alloc())?;
+fn an_effect_and_its_copy(rt: HostRuntime) {
+    let copy = Effect { at: 3, delta: -4 }
+        .copy(rt.alloc())
+        .expect(&rt, "memory");
     assert!(rt; copy.at == 3 && copy.delta == -4);
-    Ok(())
 }

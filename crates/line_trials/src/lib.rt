@@ -5,9 +5,13 @@
 #[cfg(test)]
 mod blocks;
 #[cfg(test)]
+mod bounded;
+#[cfg(test)]
 mod capacities;
 #[cfg(test)]
 mod capacity;
+#[cfg(test)]
+mod counting;
 #[cfg(test)]
 mod level;
 #[cfg(test)]

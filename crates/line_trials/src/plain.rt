@@ -4,7 +4,7 @@ ghost use Rattle.std.specs.Prelude.{◌<◌};
 use pl_points::{Change, Span};
 use rand_core::utils::NextWord;
 use rand_pcg::Pcg32;
-use std::alloc::AllocError;
+use std::process::Abort;
 
 pub(crate) const HORIZON: u32 = 20;
 
@@ -18,25 +18,26 @@ pub(crate) fn below(words: &mut Pcg32, bound: u32) -> u32
 }
 
 /// Puts one more moment behind the spans.
-pub(crate) fn grow(spans: &mut Vec<Span>, t: u32) -> Result<(), AllocError> {
+pub(crate) fn grow(rt: &impl Abort, spans: &mut Vec<Span>, t: u32) {
     let to = t.saturating_add(1);
     match spans.pop() {
         None => {
-            spans.push(Span { from: t, to })?;
+            spans.push(Span { from: t, to }).expect(rt, "memory");
         }
         Some(last) => {
             if last.to == t {
-                spans.push(Span {
-                    from: last.from,
-                    to,
-                })?;
+                spans
+                    .push(Span {
+                        from: last.from,
+                        to,
+                    })
+                    .expect(rt, "memory");
             } else {
-                spans.push(last)?;
-                spans.push(Span { from: t, to })?;
+                spans.push(last).expect(rt, "memory");
+                spans.push(Span { from: t, to }).expect(rt, "memory");
             }
         }
     }
-    Ok(())
 }
 
 // Whether the items are those of the list that are not among the others.

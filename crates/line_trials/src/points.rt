@@ -1,57 +1,72 @@
+//! Two points: 12 more at 10, 6 less at 15.
+ghost use Rattle.std.specs.Prelude.{◌≡◌, [], ◌∷◌, pos, negsuc};
+
+use crate::counting::Counting;
 use pl_lists::{Copied, Items};
 use pl_points::{Change, Ledger, PlainPoints, Points, Quiet, Span, Steps};
-use std::test::Fail;
+use std::process::Abort;
 
-/// Counts at run time.
-#[derive(Drop)]
-struct Counting {
-    ticks: u64,
+/// Puts the two points where none is, the first in two parts.
+pub(crate) fn fill<P: Points, L: Ledger>(rt: &impl Abort, points: &mut P, steps: &mut Steps<L>)
+    requires { P.points points.old ≡ [] }
+    ensures { P.points points.new ≡ (10, pos 12) ∷ (15, negsuc 5) ∷ [] }
+{
+    points.add(10, 6, steps).expect(rt, "memory");
+    points.add(15, -6, steps).expect(rt, "memory");
+    points.add(10, 6, steps).expect(rt, "memory");
 }
 
-impl Ledger for Counting {
-    ghost use Rattle.std.specs.Prelude.{◌-◌, ◌^◌, nat_eq, min};
+/// Whether the two points are there, and no third.
+pub(crate) fn has_both<P: Points, L: Ledger>(points: &P, steps: &mut Steps<L>) -> bool {
+    points.first_from(0, steps) == Some((10, 12))
+        && points.first_from(11, steps) == Some((15, -6))
+        && points.first_from(16, steps) == None
+}
 
-    ghost told = { λ c count. nat_eq c.ticks (min count (2 ^ 64 - 1)) };
+/// Whether they add up.
+pub(crate) fn adds_up<P: Points, L: Ledger>(points: &P, steps: &mut Steps<L>) -> bool {
+    points.sum_to(9, steps) == 0 && points.sum_to(12, steps) == 12 && points.sum_to(15, steps) == 6
+}
 
-    fn tick(&mut self) {
-        self.ticks = self.ticks.saturating_add(1);
-    }
+/// Whether it finds where the sum is outside 0 to 10, and that it is not behind the second point.
+pub(crate) fn finds_outside<P: Points, L: Ledger>(points: &P, steps: &mut Steps<L>) -> bool
+    requires { P.points points.now ≡ (10, pos 12) ∷ (15, negsuc 5) ∷ [] }
+{
+    points.first_outside(0, 0, 0, 10, steps) == Some((10, 12))
+        && points.first_outside(11, 12, 0, 10, steps) == None
 }
 
 #[test]
-fn points_merge_and_cancel(rt: HostRuntime) -> Result<(), Fail> {
+fn points_merge(rt: HostRuntime) {
     let mut steps = Steps::new(Counting { ticks: 0 });
     let mut points = PlainPoints::new(rt.alloc());
-    points.add(10, 6, &mut steps)?;
-    points.add(15, -6, &mut steps)?;
-    points.add(10, 6, &mut steps)?;
-    assert!(rt; points.len() == 2);
-    assert!(rt; points.first_from(0, &mut steps) == Some((10, 12)));
-    assert!(rt; points.first_from(11, &mut steps) == Some((15, -6)));
-    assert!(rt; points.first_from(16, &mut steps) == None);
-    assert!(rt; points.sum_to(9, &mut steps) == 0);
-    assert!(rt; points.sum_to(12, &mut steps) == 12);
-    assert!(rt; points.sum_to(15, &mut steps) == 6);
+    fill(&rt, &mut points, &mut steps);
+    assert!(rt; has_both(&points, &mut steps) && adds_up(&points, &mut steps));
     // Nine calls, and one step more for each point that was added up.
-    assert!(rt; steps.ledger().ticks == 12);
-
-    let again = points.copy(rt.alloc())?;
-    points.add(15, 6, &mut steps)?;
-    assert!(rt; points.len() == 1 && again.len() == 2);
-    assert!(rt; points.sum_to(20, &mut Steps::new(Quiet)) == 12);
-    Ok(())
+    assert!(rt; steps.ledger().ticks == 12 && points.len() == 2);
+    assert!(rt; finds_outside(&points, &mut steps));
 }
 
 #[test]
-fn a_change_and_its_copy(rt: HostRuntime) -> Result<(), Fail> {
+fn points_cancel(rt: HostRuntime) {
+    let mut steps = Steps::new(Quiet);
+    let mut points = PlainPoints::new(rt.alloc());
+    fill(&rt, &mut points, &mut steps);
+    let again = points.copy(rt.alloc()).expect(&rt, "memory");
+    points.add(15, 6, &mut steps).expect(&rt, "memory");
+    assert!(rt; points.len() == 1 && again.len() == 2);
+    assert!(rt; points.sum_to(20, &mut steps) == 12);
+}
+
+#[test]
+fn a_change_and_its_copy(rt: HostRuntime) {
     let mut went = Items::new(rt.alloc());
-    went.push(Span { from: 3, to: 5 })?;
+    went.push(Span { from: 3, to: 5 }).expect(&rt, "memory");
     let change = Change {
         went,
         came: Items::new(rt.alloc()),
     };
-    let copy = change.copy(rt.alloc())?;
+    let copy = change.copy(rt.alloc()).expect(&rt, "memory");
     assert!(rt; copy.went.as_slice() == [Span { from: 3, to: 5 }].as_slice());
     assert!(rt; copy.came.is_empty());
-    Ok(())
 }

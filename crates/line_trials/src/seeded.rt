@@ -1,62 +1,40 @@
 use crate::{capacity, level, state};
 use pl_blocks::BlockPoints;
 use pl_points::PlainPoints;
-use std::test::Fail;
 
 const SEQUENCES: u64 = 200;
 
 #[test]
-fn capacities(rt: HostRuntime) -> Result<(), Fail> {
+fn capacities(rt: HostRuntime) {
     for seed in 0..SEQUENCES {
-        let points = PlainPoints::new(rt.alloc());
-        assert!(rt;
-            capacity::agrees(rt.alloc(), seed, points)?,
-            "with seed {seed}"
-        );
+        capacity::agrees(&rt, rt.alloc(), seed, PlainPoints::new(rt.alloc()));
     }
-    Ok(())
 }
 
 #[test]
-fn capacities_over_blocks(rt: HostRuntime) -> Result<(), Fail> {
+fn capacities_over_blocks(rt: HostRuntime) {
     for seed in 0..SEQUENCES {
-        let points = BlockPoints::new(rt.alloc());
-        assert!(rt;
-            capacity::agrees(rt.alloc(), seed, points)?,
-            "with seed {seed}"
-        );
+        capacity::agrees(&rt, rt.alloc(), seed, BlockPoints::new(rt.alloc()));
     }
-    Ok(())
 }
 
 #[test]
-fn levels(rt: HostRuntime) -> Result<(), Fail> {
+fn levels(rt: HostRuntime) {
     for seed in 0..SEQUENCES {
-        let points = PlainPoints::new(rt.alloc());
-        assert!(rt;
-            level::agrees(rt.alloc(), seed, points)?,
-            "with seed {seed}"
-        );
+        level::agrees(&rt, rt.alloc(), seed, PlainPoints::new(rt.alloc()));
     }
-    Ok(())
 }
 
 #[test]
-fn levels_over_blocks(rt: HostRuntime) -> Result<(), Fail> {
+fn levels_over_blocks(rt: HostRuntime) {
     for seed in 0..SEQUENCES {
-        let points = BlockPoints::new(rt.alloc());
-        assert!(rt;
-            level::agrees(rt.alloc(), seed, points)?,
-            "with seed {seed}"
-        );
+        level::agrees(&rt, rt.alloc(), seed, BlockPoints::new(rt.alloc()));
     }
-    Ok(())
 }
 
 #[test]
-fn states(rt: HostRuntime) -> Result<(), Fail> {
+fn states(rt: HostRuntime) {
     for seed in 0..SEQUENCES {
-        assert!(rt; state::agrees(rt.alloc(), seed)?, "with seed {seed}");
+        state::agrees(&rt, rt.alloc(), seed);
     }
-    Ok(())
 }

@@ -1,11 +1,12 @@
 //! A state, its sets and its musts.
-ghost use Rattle.std.specs.Prelude.{◌≡◌, ◌≤◌, OnOk};
+ghost use Rattle.std.specs.Prelude.{◌≡◌, ◌≤◌};
 
 use crate::plain::{CHANGES, HORIZON, are_left_out, below, grow};
 use pl_points::Span;
 use pl_state::{BadSet, BrokenMust, Must, Setting, StateChange, StateLine};
 use rand_pcg::Pcg32;
 use std::alloc::{AllocError, Global};
+use std::process::Abort;
 
 const IDS: u32 = 5;
 
@@ -67,123 +68,132 @@ impl Plain {
 
     fn push_broken(
         &self,
+        rt: &impl Abort,
         alloc: Global,
         must: Must,
         broken: &mut Vec<BrokenMust>,
-    ) -> Result<(), AllocError> {
+    ) {
         let mut spans: Vec<Span> = Vec::new(alloc);
         for t in self.moment..HORIZON {
             if must.from <= t && t < must.to && self.at(t) != must.state {
-                grow(&mut spans, t)?;
+                grow(rt, &mut spans, t);
             }
         }
         for span in &spans {
-            broken.push(BrokenMust {
-                id: must.id,
-                index: must.index,
-                from: span.from,
-                to: span.to,
-            })?;
+            broken
+                .push(BrokenMust {
+                    id: must.id,
+                    index: must.index,
+                    from: span.from,
+                    to: span.to,
+                })
+                .expect(rt, "memory");
         }
-        Ok(())
     }
 
-    fn broken(&self, alloc: Global) -> Result<Vec<BrokenMust>, AllocError> {
+    fn broken(&self, rt: &impl Abort, alloc: Global) -> Vec<BrokenMust> {
         let mut broken = Vec::new(alloc);
         for id in 0..IDS {
             for index in 0..INDICES {
                 if let Some(must) = self.must_of(id, index) {
-                    self.push_broken(alloc, must, &mut broken)?;
+                    self.push_broken(rt, alloc, must, &mut broken);
                 }
             }
         }
-        Ok(broken)
+        broken
     }
 
-    fn push_bad(&self, at: u32, any: bool, bad: &mut Vec<BadSet>) -> Result<(), AllocError> {
+    fn push_bad(&self, rt: &impl Abort, at: u32, any: bool, bad: &mut Vec<BadSet>) {
         let mut state = self.at(at.saturating_sub(1));
         for id in 0..IDS {
             for index in 0..INDICES {
                 if let Some(set) = self.set_at(at, id, index) {
                     if !any && state != set.state && !STEPS.contains(&(state, set.state)) {
-                        bad.push(BadSet { at, id, index })?;
+                        bad.push(BadSet { at, id, index }).expect(rt, "memory");
                     }
                     state = set.state;
                 }
             }
         }
-        Ok(())
     }
 
-    fn bad(&self, alloc: Global, any: bool) -> Result<Vec<BadSet>, AllocError> {
+    fn bad(&self, rt: &impl Abort, alloc: Global, any: bool) -> Vec<BadSet> {
         let mut bad = Vec::new(alloc);
         for at in self.moment..HORIZON {
             if self.base < at {
-                self.push_bad(at, any, &mut bad)?;
+                self.push_bad(rt, at, any, &mut bad);
             }
         }
-        Ok(bad)
+        bad
     }
 
-    fn told(&self, alloc: Global, any: bool) -> Result<Told, AllocError> {
-        let broken = self.broken(alloc)?;
-        let bad = self.bad(alloc, any)?;
-        Ok(Told { broken, bad })
+    fn told(&self, rt: &impl Abort, alloc: Global, any: bool) -> Told {
+        let broken = self.broken(rt, alloc);
+        let bad = self.bad(rt, alloc, any);
+        Told { broken, bad }
     }
 }
 
 fn put(
+    rt: &impl Abort,
     line: &mut StateLine,
     plain: &mut Plain,
     words: &mut Pcg32,
-) -> Result<Option<StateChange>, AllocError>
-    ensures moment { OnOk result (line.new.moment ≡ line.old.moment) }
-    ensures horizon { OnOk result (line.new.horizon ≡ line.old.horizon) }
-    ensures now { OnOk result (plain.new.moment ≡ plain.old.moment) }
+) -> Option<StateChange>
+    ensures moment { line.new.moment ≡ line.old.moment }
+    ensures horizon { line.new.horizon ≡ line.old.horizon }
+    ensures now { plain.new.moment ≡ plain.old.moment }
 {
     let at = 1 + below(words, 21);
     let id = below(words, IDS);
     let index = below(words, INDICES);
     let state = below(words, STATES);
     if plain.set_at(at, id, index).is_some() {
-        return Ok(None);
+        return None;
     }
-    let change = line.put(at, id, index, state)?;
-    plain.sets.push(Setting {
-        at,
-        id,
-        index,
-        state,
-    })?;
-    Ok(Some(change))
+    let change = line.put(at, id, index, state).expect(rt, "memory");
+    plain
+        .sets
+        .push(Setting {
+            at,
+            id,
+            index,
+            state,
+        })
+        .expect(rt, "memory");
+    Some(change)
 }
 
 fn take(
+    rt: &impl Abort,
     line: &mut StateLine,
     plain: &mut Plain,
     words: &mut Pcg32,
-) -> Result<Option<StateChange>, AllocError>
-    ensures moment { OnOk result (line.new.moment ≡ line.old.moment) }
-    ensures horizon { OnOk result (line.new.horizon ≡ line.old.horizon) }
-    ensures now { OnOk result (plain.new.moment ≡ plain.old.moment) }
+) -> Option<StateChange>
+    ensures moment { line.new.moment ≡ line.old.moment }
+    ensures horizon { line.new.horizon ≡ line.old.horizon }
+    ensures now { plain.new.moment ≡ plain.old.moment }
 {
     let place = below(words, 7) as usize;
     if place >= plain.sets.len() {
-        return Ok(None);
+        return None;
     }
     let set = plain.sets.remove(place);
-    let change = line.take(set.at, set.id, set.index, set.state)?;
-    Ok(Some(change))
+    let change = line
+        .take(set.at, set.id, set.index, set.state)
+        .expect(rt, "memory");
+    Some(change)
 }
 
 fn need(
+    rt: &impl Abort,
     line: &mut StateLine,
     plain: &mut Plain,
     words: &mut Pcg32,
-) -> Result<Option<StateChange>, AllocError>
-    ensures moment { OnOk result (line.new.moment ≡ line.old.moment) }
-    ensures horizon { OnOk result (line.new.horizon ≡ line.old.horizon) }
-    ensures now { OnOk result (plain.new.moment ≡ plain.old.moment) }
+) -> Option<StateChange>
+    ensures moment { line.new.moment ≡ line.old.moment }
+    ensures horizon { line.new.horizon ≡ line.old.horizon }
+    ensures now { plain.new.moment ≡ plain.old.moment }
 {
     let from = below(words, 21);
     let to = from + below(words, 9);
@@ -191,91 +201,100 @@ fn need(
     let index = below(words, INDICES);
     let state = below(words, STATES);
     if plain.must_of(id, index).is_some() {
-        return Ok(None);
+        return None;
     }
-    let change = line.need(from, to, id, index, state)?;
-    plain.musts.push(Must {
-        from,
-        to,
-        id,
-        index,
-        state,
-    })?;
-    Ok(Some(change))
+    let change = line.need(from, to, id, index, state).expect(rt, "memory");
+    plain
+        .musts
+        .push(Must {
+            from,
+            to,
+            id,
+            index,
+            state,
+        })
+        .expect(rt, "memory");
+    Some(change)
 }
 
 fn free(
+    rt: &impl Abort,
     line: &mut StateLine,
     plain: &mut Plain,
     words: &mut Pcg32,
-) -> Result<Option<StateChange>, AllocError>
-    ensures moment { OnOk result (line.new.moment ≡ line.old.moment) }
-    ensures horizon { OnOk result (line.new.horizon ≡ line.old.horizon) }
-    ensures now { OnOk result (plain.new.moment ≡ plain.old.moment) }
+) -> Option<StateChange>
+    ensures moment { line.new.moment ≡ line.old.moment }
+    ensures horizon { line.new.horizon ≡ line.old.horizon }
+    ensures now { plain.new.moment ≡ plain.old.moment }
 {
     let place = below(words, 5) as usize;
     if place >= plain.musts.len() {
-        return Ok(None);
+        return None;
     }
     let must = plain.musts.remove(place);
-    let change = line.free(must.from, must.to, must.id, must.index, must.state)?;
-    Ok(Some(change))
+    let change = line
+        .free(must.from, must.to, must.id, must.index, must.state)
+        .expect(rt, "memory");
+    Some(change)
 }
 
 fn set_base(
+    rt: &impl Abort,
     line: &mut StateLine,
     plain: &mut Plain,
     words: &mut Pcg32,
-) -> Result<Option<StateChange>, AllocError>
-    ensures moment { OnOk result (line.new.moment ≡ line.old.moment) }
-    ensures horizon { OnOk result (line.new.horizon ≡ line.old.horizon) }
-    ensures now { OnOk result (plain.new.moment ≡ plain.old.moment) }
+) -> Option<StateChange>
+    ensures moment { line.new.moment ≡ line.old.moment }
+    ensures horizon { line.new.horizon ≡ line.old.horizon }
+    ensures now { plain.new.moment ≡ plain.old.moment }
 {
     let state = below(words, STATES);
-    let change = line.rebase(state)?;
+    let change = line.rebase(state).expect(rt, "memory");
     plain.base = plain.moment;
     plain.value = state;
-    Ok(Some(change))
+    Some(change)
 }
 
 fn go_on(
+    rt: &impl Abort,
     line: &mut StateLine,
     plain: &mut Plain,
     words: &mut Pcg32,
-) -> Result<Option<StateChange>, AllocError>
+) -> Option<StateChange>
     requires moment { line.old.moment ≡ plain.old.moment }
     requires in_time { plain.old.moment ≤ 20 }
     requires horizon { line.old.horizon ≡ 20 }
-    ensures moment { OnOk result (line.new.moment ≡ plain.new.moment) }
-    ensures in_time { OnOk result (plain.new.moment ≤ 20) }
-    ensures horizon { OnOk result (line.new.horizon ≡ 20) }
+    ensures moment { line.new.moment ≡ plain.new.moment }
+    ensures in_time { plain.new.moment ≤ 20 }
+    ensures horizon { line.new.horizon ≡ 20 }
 {
     let now = (plain.moment + below(words, 3)).min(HORIZON);
-    let change = line.advance(now)?;
+    let change = line.advance(now).expect(rt, "memory");
     plain.moment = now;
-    Ok(Some(change))
+    Some(change)
 }
 
 // One change of any kind, or None where the drawn one asks for what does not stand or stands already.
 fn change(
+    rt: &impl Abort,
     line: &mut StateLine,
     plain: &mut Plain,
     words: &mut Pcg32,
-) -> Result<Option<StateChange>, AllocError>
+) -> Option<StateChange>
     requires moment { line.old.moment ≡ plain.old.moment }
     requires in_time { plain.old.moment ≤ 20 }
     requires horizon { line.old.horizon ≡ 20 }
-    ensures moment { OnOk result (line.new.moment ≡ plain.new.moment) }
-    ensures in_time { OnOk result (plain.new.moment ≤ 20) }
-    ensures horizon { OnOk result (line.new.horizon ≡ 20) }
+    ensures moment { line.new.moment ≡ plain.new.moment }
+    ensures in_time { plain.new.moment ≤ 20 }
+    ensures horizon { line.new.horizon ≡ 20 }
 {
     match below(words, 11) {
-        0 => go_on(line, plain, words),
-        1 => set_base(line, plain, words),
-        2 => take(line, plain, words),
-        3 => free(line, plain, words),
-        4 | 5 | 6 => need(line, plain, words),
-        _ => put(line, plain, words),
+        0 => go_on(rt, line, plain, words),
+        1 => set_base(rt, line, plain, words),
+        2 => take(rt, line, plain, words),
+        3 => free(rt, line, plain, words),
+        4 | 5 | 6 => need(rt, line, plain, words),
+        _ => put(rt, line, plain, words),
     }
 }
 
@@ -291,25 +310,38 @@ fn tells(line: &StateLine, plain: &Plain) -> bool
     true
 }
 
+fn is_change(change: &StateChange, old: &Told, new: &Told) -> bool {
+    are_left_out(change.musts_went.as_slice(), &old.broken, &new.broken)
+        && are_left_out(change.musts_came.as_slice(), &new.broken, &old.broken)
+        && are_left_out(change.steps_went.as_slice(), &old.bad, &new.bad)
+        && are_left_out(change.steps_came.as_slice(), &new.bad, &old.bad)
+}
+
 fn is_answer(answer: &Option<StateChange>, old: &Told, new: &Told) -> bool {
     match answer {
+        Some(change) => is_change(change, old, new),
         None => old.broken.as_slice() == new.broken.as_slice()
             && old.bad.as_slice() == new.bad.as_slice(),
-        Some(change) => {
-            are_left_out(change.musts_went.as_slice(), &old.broken, &new.broken)
-                && are_left_out(change.musts_came.as_slice(), &new.broken, &old.broken)
-                && are_left_out(change.steps_went.as_slice(), &old.bad, &new.bad)
-                && are_left_out(change.steps_came.as_slice(), &new.bad, &old.bad)
-        }
     }
 }
 
-/// Whether all of a sequence of changes is as the plain definition has it.
-pub fn agrees(alloc: Global, seed: u64) -> Result<bool, AllocError> {
+/// Whether the timeline tells this, and the states.
+fn has(line: &StateLine, plain: &Plain, told: &Told) -> bool
+    requires moment { line.now.moment ≡ plain.now.moment }
+    requires horizon { line.now.horizon ≡ 20 }
+{
+    line.broken_musts() == told.broken.as_slice()
+        && line.bad_steps() == told.bad.as_slice()
+        && tells(line, plain)
+}
+
+/// Asserts that all of a sequence of changes is as the plain definition has it.
+pub fn agrees(rt: &impl Abort, alloc: Global, seed: u64) {
     let mut words = Pcg32::new(seed, 100);
     let any = below(&mut words, 4) == 0;
     let start = below(&mut words, STATES);
-    let mut line = StateLine::new(alloc, HORIZON, STATES, start, any, STEPS.as_slice())?;
+    let steps = STEPS.as_slice();
+    let mut line = StateLine::new(alloc, HORIZON, STATES, start, any, steps).expect(rt, "memory");
     let mut plain = Plain {
         sets: Vec::new(alloc),
         musts: Vec::new(alloc),
@@ -317,23 +349,13 @@ pub fn agrees(alloc: Global, seed: u64) -> Result<bool, AllocError> {
         base: 0,
         value: start,
     };
-    let mut told = plain.told(alloc, any)?;
+    let mut told = plain.told(rt, alloc, any);
     for turn in 0..CHANGES {
         let mut words = Pcg32::new(seed, u64::from(turn));
-        let answer = change(&mut line, &mut plain, &mut words)?;
-        let after = plain.told(alloc, any)?;
-        if !is_answer(&answer, &told, &after) {
-            return Ok(false);
-        }
-        if line.broken_musts() != after.broken.as_slice()
-            || line.bad_steps() != after.bad.as_slice()
-        {
-            return Ok(false);
-        }
-        if !tells(&line, &plain) {
-            return Ok(false);
-        }
+        let answer = change(rt, &mut line, &mut plain, &mut words);
+        let after = plain.told(rt, alloc, any);
+        assert!(rt; has(&line, &plain, &after), "seed {seed}");
+        assert!(rt; is_answer(&answer, &told, &after), "seed {seed}");
         told = after;
     }
-    Ok(true)
 }

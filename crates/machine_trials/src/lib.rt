@@ -1,9 +1,7 @@
-//! Tests of the planning machine: its calls, and the lines of its journal.
+//! Tests of the planning machine's calls.
 #![tactic(auto)]
 
 #[cfg(test)]
 mod calls;
-#[cfg(test)]
-mod entries;
 #[cfg(test)]
 mod reading;

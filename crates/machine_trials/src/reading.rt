@@ -1,18 +1,17 @@
 //! What the tests read of their tables' texts.
-ghost use Rattle.std.specs.Prelude.{IfOk};
 ghost use Rattle.pl_model.specs.Checked.{IsChecked};
 
 use pl_accept::{Accepted, accept};
 use pl_model::Model;
-use std::alloc::{AllocError, Global};
+use std::alloc::Global;
 use std::process::Abort;
 
 /// The model of a text.
-pub fn model(rt: &impl Abort, alloc: Global, text: &str) -> Result<Model, AllocError>
-    ensures { IfOk result IsChecked }
+pub fn model(rt: &impl Abort, alloc: Global, text: &str) -> Model
+    ensures { IsChecked result }
 {
-    match accept(alloc, text.as_bytes())? {
-        Accepted::Model(model) => Ok(model),
+    match accept(alloc, text.as_bytes()).expect(rt, "memory") {
+        Accepted::Model(model) => model,
         Accepted::Refused(_) => panic!(rt; "no model: {text}"),
     }
 }

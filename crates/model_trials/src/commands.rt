@@ -3,7 +3,7 @@ ghost use Rattle.pl_plan.specs.Fitting.{Fits};
 ghost use Rattle.model_trials.specs.Samples.{HasTwoKinds, root, four};
 
 use crate::plans::parameters;
-use crate::reading::model;
+use crate::reading::{model, number, word};
 use pl_conflict::{Code, Conflict};
 use pl_entry::{Entry, Event, Reply, best, due, target};
 use pl_lists::{Copied, Items};
@@ -52,33 +52,41 @@ fn plan(alloc: Global) -> Result<Plan, AllocError>
 }
 
 #[tactic(auto, using(crate::proofs::Fitting::four_fit))]
-fn sample(rt: &impl Abort, alloc: Global) -> Result<(Model, Plan), AllocError>
-    ensures { IfOk result (λ s. Fits s.0 s.1.activities) }
+fn sample(rt: &impl Abort, alloc: Global) -> (Model, Plan)
+    ensures { Fits result.0 result.1.activities }
 {
-    let model = model(rt, alloc, MODEL)?;
+    let model = model(rt, alloc, MODEL);
     assert!(rt; has_two_kinds(&model));
-    let plan = plan(alloc)?;
-    Ok((model, plan))
+    let plan = plan(alloc).expect(rt, "memory");
+    (model, plan)
+}
+
+/// Moments, how far is committed, and what is due.
+const DUE: &str = "50 100 [3, 1, 4]
+40 41 [3, 1, 4]
+50 40 [3]
+39 100 [3]
+9 100 []";
+
+/// Whether what a row says is due.
+fn is_due(rt: &impl Abort, alloc: Global, model: &Model, plan: &Plan, row: &str) -> bool
+    requires { Fits model.now plan.now.activities }
+{
+    let mut rest = row;
+    let now = number(&mut rest);
+    let committed = number(&mut rest);
+    let ids = due(alloc, model, plan, now, committed).expect(rt, "memory");
+    let text = format!(in alloc; "{ids:?}").expect(rt, "memory");
+    text.as_str() == rest
 }
 
 #[test]
-fn due_activities_in_start_order(rt: HostRuntime) -> Result<(), AllocError> {
+fn due_activities_in_start_order(rt: HostRuntime) {
     let alloc = rt.alloc();
-    let (model, plan) = sample(&rt, alloc)?;
-    let table: [(u32, u32, &[u32]); 5] = [
-        (50, 100, &[3, 1, 4]),
-        (40, 41, &[3, 1, 4]),
-        (50, 40, &[3]),
-        (39, 100, &[3]),
-        (9, 100, &[]),
-    ];
-    for (now, committed, ids) in table {
-        assert!(rt;
-            due(alloc, &model, &plan, now, committed)?.as_slice() == ids,
-            "at {now}"
-        );
+    let (model, plan) = sample(&rt, alloc);
+    for row in DUE.lines() {
+        assert!(rt; is_due(&rt, alloc, &model, &plan, row), "{row}");
     }
-    Ok(())
 }
 
 fn conflict(from: u32) -> Conflict {
@@ -92,28 +100,30 @@ fn conflict(from: u32) -> Conflict {
     }
 }
 
-#[test]
-fn how_far_to_commit(rt: HostRuntime) -> Result<(), AllocError> {
-    let model = model(&rt, rt.alloc(), MODEL)?;
-    for (now, first, furthest) in [
-        (0, None, 30),
-        (0, Some(20), 20),
-        (0, Some(60), 30),
-        (80, None, 100),
-    ] {
-        assert!(rt; best(&model, now, first.map(|from| conflict(from))) == furthest);
-    }
-    assert!(rt; target(&model, 69) == 99 && target(&model, 100) == 100);
-    Ok(())
-}
+/// Moments, where the first conflict is, and how far to commit.
+const FURTHEST: &str = "0 none 30
+0 20 20
+0 60 30
+80 none 100";
 
 #[test]
-fn entries_are_copied(rt: HostRuntime) -> Result<(), AllocError> {
-    let alloc = rt.alloc();
+fn how_far_to_commit(rt: HostRuntime) {
+    let model = model(&rt, rt.alloc(), MODEL);
+    for row in FURTHEST.lines() {
+        let mut rest = row;
+        let now = number(&mut rest);
+        let first = word(&mut rest).parse().ok().map(conflict);
+        assert!(rt; best(&model, now, first) == number(&mut rest), "{row}");
+    }
+    assert!(rt; target(&model, 69) == 99 && target(&model, 100) == 100);
+}
+
+/// A command with two values.
+fn sent(rt: &impl Abort, alloc: Global) -> Entry {
     let mut values = Items::new(alloc);
-    values.push(Some(7))?;
-    values.push(None)?;
-    let sent = Entry {
+    values.push(Some(7)).expect(rt, "memory");
+    values.push(None).expect(rt, "memory");
+    Entry {
         event: Event::Dispatch,
         reply: Reply::Sent {
             id: 3,
@@ -121,12 +131,16 @@ fn entries_are_copied(rt: HostRuntime) -> Result<(), AllocError> {
             start: 10,
             values,
         },
-    };
-    let copy = sent.copy(alloc)?;
+    }
+}
+
+#[test]
+fn entries_are_copied(rt: HostRuntime) {
+    let alloc = rt.alloc();
+    let copy = sent(&rt, alloc).copy(alloc).expect(&rt, "memory");
     assert!(rt; matches!(&copy.event, Event::Dispatch));
     match &copy.reply {
         Reply::Sent { values, .. } => assert!(rt; values.as_slice() == [Some(7), None].as_slice()),
         _ => panic!(rt; "another reply"),
     }
-    Ok(())
 }

@@ -1,129 +1,45 @@
-ghost use Rattle.std.specs.Prelude.{◌≤◌, length, IfOk, All};
+ghost use Rattle.std.specs.Prelude.{◌≡◌, true};
 ghost use Rattle.pl_msg.specs.Limits.{IsNumbered, HasFewStates};
 
-use pl_facts::Goal;
-use pl_lists::{Copied, Items};
-use pl_model::{Expr, Kind, Model, Name, Origin, Param, Timeline};
-use pl_msg::{Message, MsgFault, read_message};
+use crate::reading::model;
+use pl_lists::Copied;
+use pl_model::{Model, Timeline};
+use pl_msg::{MsgFault, read_message};
 use std::alloc::{AllocError, Global};
+use std::process::Abort;
 
-fn name(alloc: Global, text: &[u8]) -> Result<Name, AllocError> {
-    Ok(Items::from_vec(text.to_vec(alloc)?))
-}
+/// A capacity `cam`, a level `bat` and a state timeline `mode`; a kind `scan` without parameters, and a kind `obs` with `frames`
+/// from 1 to 10, `sum` that depends on it, and `gain` from 1 to 5.
+const MODEL: &str =
+    "horizon 100 lead 30 capacity cam 5 level bat 3 9 5 state mode { off on } start off any
+kind scan { duration 5 }
+kind obs { param frames 1 10 param sum 1 99 = frames param gain 1 5 default 2 duration 5 }";
 
-fn param(alloc: Global, text: &[u8], high: i64, origin: Origin) -> Result<Param, AllocError> {
-    Ok(Param {
-        name: name(alloc, text)?,
-        low: 1,
-        high,
-        origin,
-    })
-}
-
-fn kind(alloc: Global, text: &[u8], params: Items<Param>) -> Result<Kind, AllocError> {
-    Ok(Kind {
-        name: name(alloc, text)?,
-        params,
-        duration: Expr::Num(5),
-        least_duration: 5,
-        reservations: Items::new(alloc),
-        links: Items::new(alloc),
-        alternatives: Items::new(alloc),
-    })
-}
-
-/// A kind `scan` without parameters, and a kind `obs` with `frames` from 1 to 10, `sum` that depends on it, and `gain`
-/// from 1 to 5.
-fn kinds(alloc: Global) -> Result<Items<Kind>, AllocError>
-    ensures { IfOk result (λ kinds. length kinds ≤ 2) }
+fn has_few_states(timeline: &Timeline) -> bool
+    ensures { result ≡ true → HasFewStates timeline.now }
 {
-    let mut params = Items::new(alloc);
-    params.push(param(alloc, b"frames", 10, Origin::Free(None))?)?;
-    params.push(param(alloc, b"sum", 99, Origin::Dependent(Expr::Param(0)))?)?;
-    params.push(param(alloc, b"gain", 5, Origin::Free(Some(2)))?)?;
-    let mut kinds = Items::new(alloc);
-    kinds.push(kind(alloc, b"scan", Items::new(alloc))?)?;
-    kinds.push(kind(alloc, b"obs", params)?)?;
-    Ok(kinds)
+    match timeline {
+        Timeline::States { states, .. } => states.len() <= 32,
+        _ => true,
+    }
 }
 
-fn states(alloc: Global) -> Result<Items<Name>, AllocError>
-    ensures { IfOk result (λ states. length states ≤ 2) }
+/// Whether there are three timelines and few kinds.
+fn is_small(model: &Model) -> bool
+    ensures { result ≡ true → IsNumbered model.now }
 {
-    let mut states = Items::new(alloc);
-    states.push(name(alloc, b"off")?)?;
-    states.push(name(alloc, b"on")?)?;
-    Ok(states)
-}
-
-fn modes(alloc: Global) -> Result<Timeline, AllocError>
-    ensures { IfOk result HasFewStates }
-{
-    Ok(Timeline::States {
-        name: name(alloc, b"mode")?,
-        states: states(alloc)?,
-        start: 0,
-        any: true,
-        steps: Items::new(alloc),
-    })
-}
-
-/// A capacity `cam`, a level `bat` and a state timeline `mode`.
-fn timelines(alloc: Global) -> Result<Items<Timeline>, AllocError>
-    ensures few { IfOk result (λ lines. length lines ≤ 3) }
-    ensures states { IfOk result (All HasFewStates) }
-{
-    let mut timelines = Items::new(alloc);
-    timelines.push(Timeline::Capacity {
-        name: name(alloc, b"cam")?,
-        most: 5,
-    })?;
-    timelines.push(Timeline::Level {
-        name: name(alloc, b"bat")?,
-        least: 3,
-        most: 9,
-        start: 5,
-    })?;
-    timelines.push(modes(alloc)?)?;
-    Ok(timelines)
-}
-
-fn model(alloc: Global) -> Result<Model, AllocError>
-    ensures { IfOk result IsNumbered }
-{
-    Ok(Model {
-        horizon: 100,
-        lead: 30,
-        timelines: timelines(alloc)?,
-        kinds: kinds(alloc)?,
-    })
-}
-
-fn goal_text(alloc: Global, goal: &Goal) -> Result<String, AllocError> {
-    let mut text = format!(in alloc;
-        "goal {} {} {} {} {}",
-        goal.number, goal.kind, goal.earliest, goal.latest, goal.must
-    )?;
-    for place in goal.presets.as_slice() {
-        match place {
-            Some(value) => text.push_str(format!(in alloc; " {value}")?.as_str())?,
-            None => text.push_str(" -")?,
+    match model.timelines.as_slice() {
+        [cam, bat, mode] => {
+            model.kinds.len() <= 256
+                && has_few_states(cam)
+                && has_few_states(bat)
+                && has_few_states(mode)
         }
-    }
-    Ok(text)
-}
-
-fn message_text(alloc: Global, message: &Message) -> Result<String, AllocError> {
-    match message {
-        Message::Goal(goal) => goal_text(alloc, goal),
-        Message::TeleLevel(line, value) => format!(in alloc; "level {line} {value}"),
-        Message::TeleState(line, state) => format!(in alloc; "state {line} {state}"),
-        Message::Tick(moment) => format!(in alloc; "tick {moment}"),
-        Message::End => String::from_str(alloc, "end"),
+        _ => false,
     }
 }
 
-/// What is read of a line, in words, and again of a copy.
+/// What is read of a line and again of a copy, as it is printed, or the fault.
 fn read(alloc: Global, line: &str, model: &Model) -> Result<String, AllocError>
     requires { IsNumbered model.now }
 {
@@ -131,74 +47,71 @@ fn read(alloc: Global, line: &str, model: &Model) -> Result<String, AllocError>
         return String::from_str(alloc, "long");
     }
     match read_message(alloc, line.as_bytes(), model) {
-        Ok(message) => message_text(alloc, &message.copy(alloc)?),
+        Ok(message) => format!(in alloc; "{:?}", message.copy(alloc)?),
         Err(MsgFault::Memory) => Err(AllocError),
         Err(fault) => fault.to_string(alloc),
     }
 }
 
-#[test]
-fn goals(rt: HostRuntime) -> Result<(), AllocError> {
-    let alloc = rt.alloc();
-    let model = model(alloc)?;
-    let table = [
-        ("goal 3 obs 2 5 may", "goal 3 1 2 5 false - - -"),
-        ("goal 3 pic 1 2 may", "unknown name"),
-        ("goal 3 obs 5 2 may", "out of range"),
-        ("goal 3 obs 5", "bad line"),
-        ("\tgoal 007 scan 0 99 must # comment", "goal 7 0 0 99 true"),
-        (
-            "goal 1000000000 obs 2 2 may gain=5 frames = 1",
-            "goal 1000000000 1 2 2 false 1 - 5",
-        ),
-        ("goal 1 obs 2 5 may frames=8 frames=8", "bad line"),
-        ("goal 1 obs 2 5 may frames=8 pic=", "bad line"),
-        ("goal 1 obs 2 5 may frames=gain", "bad line"),
-        ("goal 1 obs 2 5 may sum=8", "unknown name"),
-        ("goal 1 obs 2 5 may frames=8 pic=8", "unknown name"),
-        ("goal 1 obs 2 5 may frames=0", "out of range"),
-        ("goal 1 obs 2 5 may gain=6", "out of range"),
-        ("goal 0 obs 2 5 may", "out of range"),
-        ("goal 1000000001 obs 2 5 may", "out of range"),
-        ("goal 1 obs 2 100 may", "out of range"),
-        ("goal 1 start 1 2 must", "bad line"),
-        ("goal 1 obs 2 5 end", "bad line"),
-        ("goal 0 pic 5 2 may frames=99 $", "bad line"),
-        ("goal 0 pic 5 2 may frames=99", "unknown name"),
-    ];
-    for (line, wanted) in table {
-        assert_eq!(rt; read(alloc, line, &model)?.as_str(), wanted);
+/// Reads each line of a table, which stands before what is read of it.
+fn assert_read(rt: &impl Abort, alloc: Global, table: &str) {
+    let model = model(rt, alloc, MODEL);
+    assert!(rt; is_small(&model));
+    for row in table.lines() {
+        let (line, wanted) = row.split_once(" => ").unwrap_or((row, ""));
+        let found = read(alloc, line, &model).expect(rt, "memory");
+        assert!(rt; found.as_str() == wanted, "{line}");
     }
-    Ok(())
 }
 
+const GOALS: &str =
+    "goal 3 obs 2 5 may => Goal(Goal { number: 3, kind: 1, earliest: 2, latest: 5, must: false, presets: Items { items: [None, None, None] }, dropped: false })
+goal 3 pic 1 2 may => unknown name
+goal 3 obs 5 2 may => out of range
+goal 3 obs 5 => bad line
+\tgoal 007 scan 0 99 must # comment => Goal(Goal { number: 7, kind: 0, earliest: 0, latest: 99, must: true, presets: Items { items: [] }, dropped: false })
+goal 1000000000 obs 2 2 may gain=5 frames = 1 => Goal(Goal { number: 1000000000, kind: 1, earliest: 2, latest: 2, must: false, presets: Items { items: [Some(1), None, Some(5)] }, dropped: false })
+goal 1 obs 2 5 may frames=8 frames=8 => bad line
+goal 1 obs 2 5 may frames=8 pic= => bad line
+goal 1 obs 2 5 may frames=gain => bad line
+goal 1 obs 2 5 may sum=8 => unknown name
+goal 1 obs 2 5 may frames=8 pic=8 => unknown name
+goal 1 obs 2 5 may frames=0 => out of range
+goal 1 obs 2 5 may gain=6 => out of range
+goal 0 obs 2 5 may => out of range
+goal 1000000001 obs 2 5 may => out of range
+goal 1 obs 2 100 may => out of range
+goal 1 start 1 2 must => bad line
+goal 1 obs 2 5 end => bad line
+goal 0 pic 5 2 may frames=99 $ => bad line
+goal 0 pic 5 2 may frames=99 => unknown name";
+
 #[test]
-fn others(rt: HostRuntime) -> Result<(), AllocError> {
-    let alloc = rt.alloc();
-    let model = model(alloc)?;
-    let table = [
-        ("tele bat 1000000000000", "level 1 1000000000000"),
-        ("tele bat 1000000000001", "out of range"),
-        ("tele bat on", "out of range"),
-        ("tele mode on", "state 2 1"),
-        ("tele mode 1", "unknown name"),
-        ("tele mode warm", "unknown name"),
-        ("tele mode any", "bad line"),
-        ("tele cam 1", "unknown name"),
-        ("tele level 1", "bad line"),
-        ("tele bat", "bad line"),
-        ("tele bat =", "bad line"),
-        ("tele bat - 1", "bad line"),
-        ("tick 999999999999999999", "tick 999999999999999999"),
-        ("tick 1000000000000000000", "bad line"),
-        ("tick now", "bad line"),
-        ("end", "end"),
-        ("end end", "bad line"),
-        ("halt", "bad line"),
-        ("", "bad line"),
-    ];
-    for (line, wanted) in table {
-        assert_eq!(rt; read(alloc, line, &model)?.as_str(), wanted);
-    }
-    Ok(())
+fn goals(rt: HostRuntime) {
+    assert_read(&rt, rt.alloc(), GOALS);
+}
+
+const OTHERS: &str = "tele bat 1000000000000 => TeleLevel(1, 1000000000000)
+tele bat 1000000000001 => out of range
+tele bat on => out of range
+tele mode on => TeleState(2, 1)
+tele mode 1 => unknown name
+tele mode warm => unknown name
+tele mode any => bad line
+tele cam 1 => unknown name
+tele level 1 => bad line
+tele bat => bad line
+tele bat = => bad line
+tele bat - 1 => bad line
+tick 999999999999999999 => Tick(999999999999999999)
+tick 1000000000000000000 => bad line
+tick now => bad line
+end => End
+end end => bad line
+halt => bad line
+ => bad line";
+
+#[test]
+fn others(rt: HostRuntime) {
+    assert_read(&rt, rt.alloc(), OTHERS);
 }

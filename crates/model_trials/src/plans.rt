@@ -2,8 +2,9 @@ ghost use Rattle.std.specs.Prelude.{◌≡◌, None, ◌∷◌, [], true, length
 ghost use Rattle.pl_model.specs.Checked.{IsChecked};
 ghost use Rattle.pl_plan.specs.Fitting.{Fits, alternatives_of};
 ghost use Rattle.pl_plan.specs.Trees.{IsRooted};
-ghost use Rattle.model_trials.specs.Samples.{parameters, slots_in, IsOneSlot, HasKinds, sample};
+ghost use Rattle.model_trials.specs.Samples.{parameters, slots_in, IsOneSlot, HasKinds, parent, child, sample};
 
+use crate::reading::{number, word};
 use pl_check::check;
 use pl_lists::{Copied, Items};
 use pl_model::{Model, Slot};
@@ -11,7 +12,6 @@ use pl_plan::{Activity, Plan, RepairMove};
 use pl_syntax::read_model;
 use std::alloc::{AllocError, Global};
 use std::process::Abort;
-use std::test::Fail;
 
 pub fn parameters(model: &Model, kind: usize) -> usize
     ensures { result ≡ parameters model.now kind }
@@ -65,6 +65,20 @@ fn has_kinds(model: &Model) -> bool
         && has_one_slot(model, 0, 1)
 }
 
+fn activity(id: u32, kind: u32, start: u32, set: Items<Option<i64>>) -> Activity
+    ensures { result ≡ record { id = id; kind = kind; start = start; parent = None; goal = None; detail = None; set = set } }
+{
+    Activity {
+        id,
+        kind,
+        start,
+        parent: None,
+        goal: None,
+        detail: None,
+        set,
+    }
+}
+
 fn one(alloc: Global, value: Option<i64>) -> Result<Items<Option<i64>>, AllocError>
     ensures { IfOk result (λ l. l ≡ value ∷ []) }
 {
@@ -85,18 +99,22 @@ fn two(
     Ok(all)
 }
 
-fn activity(id: u32, kind: u32, start: u32, set: Items<Option<i64>>) -> Activity
-    ensures { result ≡ record { id = id; kind = kind; start = start; parent = None; goal = None; detail = None; set = set } }
+/// 1 at 40, which has a child.
+fn parent(alloc: Global) -> Result<Activity, AllocError>
+    ensures { IfOk result (λ a. a ≡ parent) }
 {
-    Activity {
-        id,
-        kind,
-        start,
-        parent: None,
-        goal: None,
-        detail: None,
-        set,
-    }
+    let mut parent = activity(1, 0, 40, one(alloc, Some(7))?);
+    parent.detail = Some(0);
+    Ok(parent)
+}
+
+/// Its child 2 at 25.
+fn child(alloc: Global) -> Result<Activity, AllocError>
+    ensures { IfOk result (λ a. a ≡ child) }
+{
+    let mut child = activity(2, 1, 25, one(alloc, None)?);
+    child.parent = Some((1, 0));
+    Ok(child)
 }
 
 const MODEL: &str = "horizon 100 lead 30
@@ -105,14 +123,18 @@ kind shot { param m 1 10 duration m }
 kind twice { param n 1 10 param m 1 10 = n * 2 duration 5 }";
 
 /// A checked model over which the plan may stand.
-fn model(rt: &impl Abort, alloc: Global) -> Result<Model, Fail>
-    ensures checked { IfOk result IsChecked }
-    ensures kinds { IfOk result HasKinds }
+fn model(rt: &impl Abort, alloc: Global) -> Model
+    ensures checked { IsChecked result }
+    ensures kinds { HasKinds result }
 {
-    let ast = read_model(alloc, MODEL.as_bytes())?;
-    let model = check(alloc, &ast)?;
+    let Ok(ast) = read_model(alloc, MODEL.as_bytes()) else {
+        panic!(rt; "no tree");
+    };
+    let Ok(model) = check(alloc, &ast) else {
+        panic!(rt; "no model");
+    };
     assert!(rt; has_kinds(&model));
-    Ok(model)
+    model
 }
 
 /// A parent 1 at 40 with its child 2 at 25, and 3.
@@ -121,68 +143,128 @@ fn plan(alloc: Global) -> Result<Plan, AllocError>
 {
     let mut plan = Plan::new(alloc);
     plan.put(activity(3, 2, 10, two(alloc, Some(8), None)?))?;
-    let mut parent = activity(1, 0, 40, one(alloc, Some(7))?);
-    parent.detail = Some(0);
-    plan.put(parent)?;
-    let mut child = activity(2, 1, 25, one(alloc, None)?);
-    child.parent = Some((1, 0));
-    plan.put(child)?;
+    plan.put(parent(alloc)?)?;
+    plan.put(child(alloc)?)?;
     Ok(plan)
 }
 
 /// A checked model and a plan that fits it.
 #[tactic(auto, using(crate::proofs::Fitting::sample_fits))]
-fn sample(rt: &impl Abort, alloc: Global) -> Result<(Model, Plan), Fail>
-    ensures checked { IfOk result (λ s. IsChecked s.0) }
-    ensures kinds { IfOk result (λ s. HasKinds s.0) }
-    ensures fits { IfOk result (λ s. Fits s.0 s.1.activities) }
-    ensures plan { IfOk result (λ s. s.1.activities ≡ sample) }
+fn sample(rt: &impl Abort, alloc: Global) -> (Model, Plan)
+    ensures checked { IsChecked result.0 }
+    ensures kinds { HasKinds result.0 }
+    ensures fits { Fits result.0 result.1.activities }
+    ensures plan { result.1.activities ≡ sample }
 {
-    let model = model(rt, alloc)?;
-    let plan = plan(alloc)?;
-    Ok((model, plan))
+    let model = model(rt, alloc);
+    let plan = plan(alloc).expect(rt, "memory");
+    (model, plan)
+}
+
+/// What is told of each activity: its values, whether it is firm, and its end. The second value of 3 is twice its first and so
+/// above its high; the value of 2 is bound to that of its parent.
+const TOLD: &str = "1 [Some(7)] true Some(45)
+2 [Some(7)] true Some(32)
+3 [Some(8), Some(16)] false None";
+
+/// Whether this is told of a live activity.
+fn is_told(rt: &impl Abort, alloc: Global, model: &Model, plan: &Plan, row: &str) -> bool
+    requires checked { IsChecked model.now }
+    requires fits { Fits model.now plan.now.activities }
+{
+    let mut rest = row;
+    let id = number(&mut rest);
+    assert!(rt; plan.get(id).is_some());
+    let values = plan.values(alloc, model, id).expect(rt, "memory");
+    let (firm, end) = (plan.firm(model, id), plan.end(model, id));
+    let text = format!(in alloc; "{:?} {firm} {end:?}", values.as_slice()).expect(rt, "memory");
+    text.as_str() == rest
 }
 
 #[test]
-fn values_firmness_and_ends(rt: HostRuntime) -> Result<(), Fail> {
-    let (model, plan) = sample(&rt, rt.alloc())?;
-    // the second parameter of 3 is twice its first, 8, and so above its high
-    assert!(rt; plan.value(&model, 3, 0) == Some(8) && plan.value(&model, 3, 1) == Some(16));
-    assert!(rt; plan.values(rt.alloc(), &model, 3)?.as_slice() == [Some(8), Some(16)].as_slice());
-    assert!(rt; !plan.firm(&model, 3) && plan.end(&model, 3) == None);
-    // the child's parameter is bound to that of its parent
-    assert!(rt; plan.value(&model, 1, 0) == Some(7) && plan.value(&model, 2, 0) == Some(7));
-    assert!(rt; plan.firm(&model, 1) && plan.end(&model, 1) == Some(45));
-    assert!(rt; plan.firm(&model, 2) && plan.end(&model, 2) == Some(32));
-    Ok(())
-}
-
-#[test]
-fn trees(rt: HostRuntime) -> Result<(), AllocError> {
-    let alloc = rt.alloc();
-    let plan = plan(alloc)?;
-    assert!(rt; plan.children(alloc, 1)?.as_slice() == [2].as_slice());
-    assert!(rt; plan.children(alloc, 3)?.is_empty());
-    assert!(rt; plan.subtree(alloc, 1)?.as_slice() == [1, 2].as_slice());
-    assert!(rt; plan.subtree(alloc, 2)?.as_slice() == [2].as_slice());
-    assert!(rt; plan.root(2) == 1 && plan.root(3) == 3);
-    Ok(())
-}
-
-#[test]
-fn activities_by_id(rt: HostRuntime) -> Result<(), AllocError> {
-    let alloc = rt.alloc();
-    let mut plan = plan(alloc)?;
-    let copy = plan.copy(alloc)?;
-    assert!(rt; plan.len() == 3);
-    for (place, id) in [(0, Some(1)), (1, Some(2)), (2, Some(3)), (3, None)] {
-        assert!(rt; plan.nth(place).map(|a| a.id) == id);
+fn values_firmness_and_ends(rt: HostRuntime) {
+    let (model, plan) = sample(&rt, rt.alloc());
+    for row in TOLD.lines() {
+        assert!(rt; is_told(&rt, rt.alloc(), &model, &plan, row), "{row}");
     }
-    assert!(rt; plan.take(2).map(|a| a.start) == Some(25));
-    assert!(rt; plan.take(2).is_none() && plan.get(2).is_none() && plan.len() == 2);
-    assert!(rt; plan.get(3).map(|a| a.start) == Some(10));
-    assert!(rt; copy.get(2).map(|a| a.start) == Some(25));
+}
+
+#[test]
+fn values_one_by_one(rt: HostRuntime) {
+    let (model, plan) = sample(&rt, rt.alloc());
+    assert!(rt; plan.value(&model, 3, 0) == Some(8) && plan.value(&model, 3, 1) == Some(16));
+    assert!(rt; plan.value(&model, 1, 0) == Some(7) && plan.value(&model, 2, 0) == Some(7));
+}
+
+/// The children of each activity, all below it and itself, and its root.
+const TREES: &str = "1 [2] [1, 2] 1
+2 [] [2] 1
+3 [] [3] 3";
+
+/// Whether a live activity stands so in its tree.
+fn is_in_tree(rt: &impl Abort, alloc: Global, plan: &Plan, row: &str) -> bool
+    requires { IsRooted plan.now.activities }
+{
+    let mut rest = row;
+    let id = number(&mut rest);
+    assert!(rt; plan.get(id).is_some());
+    let children = plan.children(alloc, id).expect(rt, "memory");
+    let subtree = plan.subtree(alloc, id).expect(rt, "memory");
+    let root = plan.root(id);
+    let text = format!(in alloc; "{children:?} {subtree:?} {root}").expect(rt, "memory");
+    text.as_str() == rest
+}
+
+#[test]
+fn trees(rt: HostRuntime) {
+    let plan = plan(rt.alloc()).expect(&rt, "memory");
+    for row in TREES.lines() {
+        assert!(rt; is_in_tree(&rt, rt.alloc(), &plan, row), "{row}");
+    }
+}
+
+/// What a call answers.
+fn answer(plan: &mut Plan, call: &str) -> Option<u32> {
+    let mut rest = call;
+    let name = word(&mut rest);
+    let number = number(&mut rest);
+    match name {
+        "id-at" => Some(plan.nth(number)?.id),
+        "start-of" => Some(plan.get(number)?.start),
+        "take" => Some(plan.take(number)?.start),
+        _ => Some(plan.len()),
+    }
+}
+
+/// Makes the calls of a script one after the other. Each line has a call and its answer.
+fn assert_answers(rt: &impl Abort, plan: &mut Plan, script: &str) {
+    for line in script.lines() {
+        let (call, wanted) = line.split_once(" = ").unwrap_or((line, ""));
+        assert!(rt; answer(plan, call) == wanted.parse().ok(), "{line}");
+    }
+}
+
+const CALLS: &str = "len = 3
+id-at 0 = 1
+id-at 1 = 2
+id-at 2 = 3
+id-at 3 = none
+take 2 = 25
+take 2 = none
+start-of 2 = none
+len = 2
+start-of 3 = 10";
+
+#[test]
+fn activities_by_id(rt: HostRuntime) {
+    let mut plan = plan(rt.alloc()).expect(&rt, "memory");
+    let mut copy = plan.copy(rt.alloc()).expect(&rt, "memory");
+    assert_answers(&rt, &mut plan, CALLS);
+    assert_answers(&rt, &mut copy, "start-of 2 = 25");
+}
+
+#[test]
+fn moves_are_copied(rt: HostRuntime) {
     let repair = RepairMove::Shift { id: 2, start: 45 };
-    assert!(rt; repair.copy(alloc)? == repair);
-    Ok(())
+    assert!(rt; repair.copy(rt.alloc()).expect(&rt, "memory") == repair);
 }

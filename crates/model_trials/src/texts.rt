@@ -1,9 +1,10 @@
 use pl_accept::{Accepted, accept, too_long};
 use pl_check::check;
 use pl_lists::Copied;
+use pl_model::Model;
 use pl_syntax::{read_model, write_model};
 use std::alloc::{AllocError, Global};
-use std::test::Fail;
+use std::process::Abort;
 
 /// Whether the text is refused for this fault, or is a model's where the fault is empty.
 fn is_judged(alloc: Global, text: &[u8], fault: &str) -> Result<bool, AllocError> {
@@ -24,35 +25,43 @@ fn is_read(alloc: Global, text: &[u8], fault: &str) -> Result<bool, AllocError> 
     }
 }
 
+/// Texts, each with its first fault of the grammar, if it has one.
+const GRAMMAR: &str = "horizon 100 lead 30 kind obs { duration 5 }
+horizon 100 lead 30 kind abcdefghijklmnopqrstuvwxyzabcdefg => bad name at 25
+horizon 1000000000000000000 lead 1 => bad number at 8
+$ => bad byte at 0
+horizon 100 kind => unexpected at 12
+ => unexpected at 0
+horizon 100 # lead 3 => unexpected at 20
+horizon lead $ => bad byte at 13
+horizon 9 lead 3 kind kind { duration 5 } => unexpected at 22
+horizon 9 lead 3 state s { a } start a any step a a => unexpected at 43";
+
+/// Asserts that the text is judged so, and accepted or refused accordingly.
+fn assert_fault(rt: &impl Abort, alloc: Global, text: &str, fault: &str) {
+    let is_read = is_read(alloc, text.as_bytes(), fault).expect(rt, "memory");
+    assert!(rt; is_read, "read: {text}");
+    assert_judged(rt, alloc, text, fault);
+}
+
+fn assert_judged(rt: &impl Abort, alloc: Global, text: &str, fault: &str) {
+    let is_judged = is_judged(alloc, text.as_bytes(), fault).expect(rt, "memory");
+    assert!(rt; is_judged, "judged: {text}");
+}
+
 #[test]
-fn first_faults_of_the_grammar(rt: HostRuntime) -> Result<(), AllocError> {
-    let alloc = rt.alloc();
-    let table = [
-        ("horizon 100 lead 30 kind obs { duration 5 }", ""),
-        (
-            "horizon 100 lead 30 kind abcdefghijklmnopqrstuvwxyzabcdefg",
-            "bad name at 25",
-        ),
-        ("horizon 1000000000000000000 lead 1", "bad number at 8"),
-        ("$", "bad byte at 0"),
-        ("horizon 100 kind", "unexpected at 12"),
-        ("", "unexpected at 0"),
-        ("horizon 100 # lead 3", "unexpected at 20"),
-        ("horizon lead $", "bad byte at 13"),
-        (
-            "horizon 9 lead 3 kind kind { duration 5 }",
-            "unexpected at 22",
-        ),
-        (
-            "horizon 9 lead 3 state s { a } start a any step a a",
-            "unexpected at 43",
-        ),
-    ];
-    for (text, fault) in table {
-        assert!(rt; is_read(alloc, text.as_bytes(), fault)?, "{text}");
-        assert!(rt; is_judged(alloc, text.as_bytes(), fault)?, "{text}");
+fn first_faults_of_the_grammar(rt: HostRuntime) {
+    for row in GRAMMAR.lines() {
+        let (text, fault) = row.split_once(" => ").unwrap_or((row, ""));
+        assert_fault(&rt, rt.alloc(), text, fault);
     }
-    Ok(())
+}
+
+/// Takes the next field of a row off; ` | ` stands between two.
+fn field<'a>(rest: &mut &'a str) -> &'a str {
+    let (first, more) = rest.split_once(" | ").unwrap_or((*rest, ""));
+    *rest = more;
+    first
 }
 
 /// A kind whose duration is `front` so many times, `middle`, and `back` as often.
@@ -68,206 +77,167 @@ fn nested(
     format!(in alloc; "horizon 100 lead 30 kind a {{ duration {front}{middle}{back} }}")
 }
 
+/// What stands in front, in the middle and behind, how often, and the fault, if there is one.
+const DEPTHS: &str = "( | 5 | ) | 32
+( | 5 | ) | 33 | too deep at 70
+1+ | 1 |  | 31
+1+ | 1 |  | 32 | too deep at 101
+( | min(1, 2) | ) | 31
+( | min(1, 2) | ) | 32 | too deep at 70";
+
 #[test]
-fn depths(rt: HostRuntime) -> Result<(), AllocError> {
+fn depths(rt: HostRuntime) {
     let alloc = rt.alloc();
-    let table = [
-        ("(", "5", ")", 32, ""),
-        ("(", "5", ")", 33, "too deep at 70"),
-        ("1+", "1", "", 31, ""),
-        ("1+", "1", "", 32, "too deep at 101"),
-        ("(", "min(1, 2)", ")", 31, ""),
-        ("(", "min(1, 2)", ")", 32, "too deep at 70"),
-    ];
-    for (front, middle, back, times, fault) in table {
-        let text = nested(alloc, front, middle, back, times)?;
-        assert!(rt; is_read(alloc, text.as_bytes(), fault)?, "{text}");
-        assert!(rt; is_judged(alloc, text.as_bytes(), fault)?, "{text}");
+    for row in DEPTHS.lines() {
+        let mut rest = row;
+        let (front, middle, back) = (field(&mut rest), field(&mut rest), field(&mut rest));
+        let times = field(&mut rest).parse().unwrap_or(0);
+        let text = nested(alloc, front, middle, back, times).expect(&rt, "memory");
+        assert_fault(&rt, alloc, text.as_str(), rest);
     }
-    Ok(())
+}
+
+/// A model's text of 1,048,576 bytes, which is as long as it may be.
+fn longest(alloc: Global) -> Result<String, AllocError> {
+    let model = "horizon 100\nlead 30\nkind obs {\nduration 5\n}\n";
+    let blanks = "\n".repeat(alloc, 1_048_576 - model.len())?;
+    format!(in alloc; "{blanks}{model}")
 }
 
 #[test]
-fn lengths(rt: HostRuntime) -> Result<(), AllocError> {
+fn lengths(rt: HostRuntime) {
     let alloc = rt.alloc();
-    let model = "horizon 100\nlead 30\nkind obs {\nduration 5\n}\n";
-    let blanks = "\n".repeat(alloc, 1_048_576 - model.len())?;
-    let mut text = format!(in alloc; "{blanks}{model}")?;
-    assert_eq!(rt; text.len(), 1_048_576);
-    assert!(rt; is_read(alloc, text.as_bytes(), "")? && is_judged(alloc, text.as_bytes(), "")?);
-    text.push('\n')?;
-    assert!(rt; is_read(alloc, text.as_bytes(), "too long")?);
-    assert!(rt; is_judged(alloc, text.as_bytes(), "too long")?);
-    match too_long(alloc)? {
+    let mut text = longest(alloc).expect(&rt, "memory");
+    assert!(rt; text.len() == 1_048_576);
+    assert_fault(&rt, alloc, text.as_str(), "");
+    text.push('\n').expect(&rt, "memory");
+    assert_fault(&rt, alloc, text.as_str(), "too long");
+}
+
+#[test]
+fn says_what_is_too_long(rt: HostRuntime) {
+    match too_long(rt.alloc()).expect(&rt, "memory") {
         Accepted::Model(_) => panic!(rt; "no text is too long"),
         Accepted::Refused(line) => assert!(rt; line.as_slice() == b"model: too long\n".as_slice()),
     }
-    Ok(())
 }
+
+/// Texts that the grammar takes, each with its first failed check.
+const CHECKS: &str = "horizon 1 lead 1 => out of range: horizon
+horizon 100 lead 101 => out of range: lead
+horizon 100 lead 30 kind a { duration 101 } => out of range: duration
+horizon 100 lead 30 kind a { duration 2000000000 } => out of range: literal
+horizon 100 lead 30 kind a { duration 5 } kind a { duration 5 } => name twice: a
+horizon 100 lead 30 kind a { param n 1 9 duration 5 alternative { slot s b ( n = n ) } } kind b { param m 0 9 duration m } => unknown name: n
+horizon 100 lead 30 kind a { duration 5 use cam 1 } => unknown name: cam
+horizon 100 lead 30 kind a { param x 1 9 = y param y 1 9 = x duration 5 } => circular: kind a, parameter x
+horizon 100 lead 30 kind a { duration 5 alternative { slot s a } } => recursive: kind a
+horizon 100 lead 30 kind x { duration 5 } kind scan { duration 20 alternative { slot a x slot b x order a end b start 0 10 order b end a start 0 10 } } => no schedule: kind scan, alternative 0";
 
 #[test]
-fn first_failed_checks(rt: HostRuntime) -> Result<(), AllocError> {
-    let table = [
-        ("horizon 1 lead 1", "out of range: horizon"),
-        ("horizon 100 lead 101", "out of range: lead"),
-        (
-            "horizon 100 lead 30 kind a { duration 101 }",
-            "out of range: duration",
-        ),
-        (
-            "horizon 100 lead 30 kind a { duration 2000000000 }",
-            "out of range: literal",
-        ),
-        (
-            "horizon 100 lead 30 kind a { duration 5 } kind a { duration 5 }",
-            "name twice: a",
-        ),
-        (
-            "horizon 100 lead 30 kind a { param n 1 9 duration 5 alternative { slot s b ( n = n ) } } kind b { param m 0 9 duration m }",
-            "unknown name: n",
-        ),
-        (
-            "horizon 100 lead 30 kind a { duration 5 use cam 1 }",
-            "unknown name: cam",
-        ),
-        (
-            "horizon 100 lead 30 kind a { param x 1 9 = y param y 1 9 = x duration 5 }",
-            "circular: kind a, parameter x",
-        ),
-        (
-            "horizon 100 lead 30 kind a { duration 5 alternative { slot s a } }",
-            "recursive: kind a",
-        ),
-        (
-            "horizon 100 lead 30 kind x { duration 5 } kind scan { duration 20 alternative { slot a x slot b x order a end b start 0 10 order b end a start 0 10 } }",
-            "no schedule: kind scan, alternative 0",
-        ),
-    ];
-    for (text, fault) in table {
-        assert!(rt; is_judged(rt.alloc(), text.as_bytes(), fault)?, "{text}");
+fn first_failed_checks(rt: HostRuntime) {
+    for row in CHECKS.lines() {
+        let (text, fault) = row.split_once(" => ").unwrap_or((row, ""));
+        assert_judged(&rt, rt.alloc(), text, fault);
     }
-    Ok(())
 }
 
-/// A model's text with a piece so many times, in each its number in the place of its `#`.
+/// A piece so many times, in each its number in the place of its `#`, and a blank behind each.
+fn pieces(alloc: Global, piece: &str, times: u32) -> Result<String, AllocError> {
+    let mut text = String::new(alloc);
+    for number in 0..times {
+        let digits = format!(in alloc; "{number}")?;
+        text.push_str(piece.replace(alloc, "#", digits.as_str())?.as_str())?;
+        text.push(' ')?;
+    }
+    Ok(text)
+}
+
+/// A model's text with a piece so many times.
 fn repeated(
     alloc: Global,
     (front, piece, back): (&str, &str, &str),
     times: u32,
 ) -> Result<String, AllocError> {
-    let mut text = format!(in alloc; "horizon 100 lead 30 {front}")?;
-    for number in 0..times {
-        let digits = format!(in alloc; "{number}")?;
-        text.push_str(piece.replace(alloc, "#", digits.as_str())?.as_str())?;
-    }
-    text.push_str(back)?;
-    Ok(text)
+    let pieces = pieces(alloc, piece, times)?;
+    format!(in alloc; "horizon 100 lead 30 {front} {pieces}{back}")
+}
+
+/// What stands before a piece, the piece, what stands behind it, how many of it there may be, and of what.
+const COUNTS: &str = " | kind k# { duration 5 } |  | 256 | too many: kinds
+ | capacity c# 5 |  | 256 | too many: timelines
+state s { | a# | } start a0 any | 32 | too many: states
+kind a { | param p# 1 9 | duration 5 } | 16 | too many: params
+capacity c 9 kind k { duration 5 | use c 1 | } | 32 | too many: reservations
+kind k { duration 5 | link start k end 0 9 | } | 16 | too many: links
+kind x { duration 1 } kind k { duration 5 | alternative { slot a x } | } | 8 | too many: alternatives
+kind x { duration 1 } kind k { duration 5 alternative { | slot a# x | } } | 16 | too many: slots
+kind x { duration 1 } kind k { duration 5 alternative { slot a x | order parent start a start 0 9 | } } | 64 | too many: orders";
+
+/// Asserts that a model's text with a piece so many times has this fault, or is accepted where the fault is empty.
+fn assert_repeated(
+    rt: &impl Abort,
+    alloc: Global,
+    parts: (&str, &str, &str),
+    times: u32,
+    fault: &str,
+) {
+    let text = repeated(alloc, parts, times).expect(rt, "memory");
+    assert_judged(rt, alloc, text.as_str(), fault);
 }
 
 // so many are taken, and one more is one too many
 #[test]
-fn counts_at_their_limits(rt: HostRuntime) -> Result<(), AllocError> {
+fn counts_at_their_limits(rt: HostRuntime) {
     let alloc = rt.alloc();
-    let table = [
-        ("kind a { ", "param p# 1 9 ", "duration 5 }", 16, "params"),
-        ("", "kind k# { duration 5 } ", "", 256, "kinds"),
-        ("", "capacity c# 5 ", "", 256, "timelines"),
-        ("state s { ", "a# ", "} start a0 any", 32, "states"),
-        (
-            "capacity c 9 kind k { duration 5 ",
-            "use c 1 ",
-            "}",
-            32,
-            "reservations",
-        ),
-        (
-            "kind k { duration 5 ",
-            "link start k end 0 9 ",
-            "}",
-            16,
-            "links",
-        ),
-        (
-            "kind x { duration 1 } kind k { duration 5 ",
-            "alternative { slot a x } ",
-            "}",
-            8,
-            "alternatives",
-        ),
-        (
-            "kind x { duration 1 } kind k { duration 5 alternative { ",
-            "slot a# x ",
-            "} }",
-            16,
-            "slots",
-        ),
-        (
-            "kind x { duration 1 } kind k { duration 5 alternative { slot a x ",
-            "order parent start a start 0 9 ",
-            "} }",
-            64,
-            "orders",
-        ),
-    ];
-    for (front, piece, back, most, what) in table {
-        let taken = repeated(alloc, (front, piece, back), most)?;
-        assert!(rt; is_judged(alloc, taken.as_bytes(), "")?, "{what}");
-        let more = repeated(alloc, (front, piece, back), most + 1)?;
-        let fault = format!(in alloc; "too many: {what}")?;
-        assert!(rt;
-            is_judged(alloc, more.as_bytes(), fault.as_str())?,
-            "{what}"
-        );
+    for row in COUNTS.lines() {
+        let mut rest = row;
+        let parts = (field(&mut rest), field(&mut rest), field(&mut rest));
+        let most: u32 = field(&mut rest).parse().unwrap_or(0);
+        assert_repeated(&rt, alloc, parts, most, "");
+        assert_repeated(&rt, alloc, parts, most.saturating_add(1), rest);
     }
-    Ok(())
 }
+
+/// What stands in front of an expression, and behind it.
+const PLACES: &str = "kind k { duration | }
+kind k { param p 0 99 = | duration 5 }
+capacity c 9 kind k { duration 5 use c | }
+kind x { param q 0 99 duration 1 } kind k { duration 5 alternative { slot a x ( q = | ) } }";
 
 // an expression has an odd number of nodes: 63 are taken, and 65 are too many
 #[test]
-fn nodes_at_their_limit(rt: HostRuntime) -> Result<(), AllocError> {
+fn nodes_at_their_limit(rt: HostRuntime) {
     let alloc = rt.alloc();
-    let table = [
-        ("kind k { duration ", " }"),
-        ("kind k { param p 0 99 = ", " duration 5 }"),
-        ("capacity c 9 kind k { duration 5 use c ", " }"),
-        (
-            "kind x { param q 0 99 duration 1 } kind k { duration 5 alternative { slot a x ( q = ",
-            " ) } }",
-        ),
-    ];
-    for (front, back) in table {
-        let taken = format!(in alloc; "1+1{back}")?;
-        let taken = repeated(alloc, (front, "1*1+", taken.as_str()), 15)?;
-        assert!(rt; is_judged(alloc, taken.as_bytes(), "")?, "{front}");
-        let more = format!(in alloc; "1{back}")?;
-        let more = repeated(alloc, (front, "1*1+", more.as_str()), 16)?;
-        assert!(rt;
-            is_judged(alloc, more.as_bytes(), "too many: nodes")?,
-            "{front}"
-        );
+    for row in PLACES.lines() {
+        let (front, back) = row.split_once(" | ").unwrap_or((row, ""));
+        let last = format!(in alloc; "1+1 {back}").expect(&rt, "memory");
+        assert_repeated(&rt, alloc, (front, "1*1+", last.as_str()), 15, "");
+        let last = format!(in alloc; "1 {back}").expect(&rt, "memory");
+        let fault = "too many: nodes";
+        assert_repeated(&rt, alloc, (front, "1*1+", last.as_str()), 16, fault);
     }
-    Ok(())
 }
 
 /// The canonical text of what the text says.
-fn rewritten(alloc: Global, text: &str) -> Result<Vec<u8>, Fail> {
-    let ast = read_model(alloc, text.as_bytes())?;
-    Ok(write_model(alloc, &ast.copy(alloc)?)?)
+fn rewritten(rt: &impl Abort, alloc: Global, text: &str) -> Vec<u8> {
+    let ast = read_model(alloc, text.as_bytes()).expect(rt, "a text");
+    let copy = ast.copy(alloc).expect(rt, "memory");
+    write_model(alloc, &copy).expect(rt, "memory")
 }
 
-#[test]
-fn writes_what_it_read(rt: HostRuntime) -> Result<(), Fail> {
-    let alloc = rt.alloc();
-    let text = "horizon 0100 lead 30 # M1\nkind obs { duration (5) }";
-    let written = "horizon 100\nlead 30\nkind obs {\nduration 5\n}\n";
-    assert_eq!(rt; rewritten(alloc, text)?.as_slice(), written.as_bytes());
+fn assert_rewritten(rt: &impl Abort, alloc: Global, text: &str, wanted: &str) {
+    let written = rewritten(rt, alloc, text);
+    assert!(rt; written.as_slice() == wanted.as_bytes(), "{text}");
+}
 
-    let text = "horizon 100 lead 30 capacity cam 10 level bat 0 1000 500
+const TEXT: &str = "horizon 100 lead 30 capacity cam 10 level bat 0 1000 500
 state mode { off on } start off step off on step on off state lamp { a } start a any
 kind shot { param n 1 9 param m 1 9 = n*2+1 param k 0 3 default 2 duration 4 use cam 6-n-1 raise bat min(n,3) at start
 lower bat max(n, (m)) at end set mode on at start must mode on link start shot end -3 - 0 }
 kind scan { duration 10 alternative { slot a shot slot b shot (n = 2, k = 1) order parent start a end 0 3 order a end b start -1 3 } }";
-    let written = "horizon 100
+
+const WRITTEN: &str = "horizon 100
 lead 30
 capacity cam 10
 level bat 0 1000 500
@@ -295,27 +265,33 @@ order a end b start - 1 3
 }
 }
 ";
-    assert_eq!(rt; rewritten(alloc, text)?.as_slice(), written.as_bytes());
-    assert_eq!(rt; rewritten(alloc, written)?.as_slice(), written.as_bytes());
-    Ok(())
+
+#[test]
+fn writes_what_it_read(rt: HostRuntime) {
+    let alloc = rt.alloc();
+    let text = "horizon 0100 lead 30 # a comment\nkind obs { duration (5) }";
+    let written = "horizon 100\nlead 30\nkind obs {\nduration 5\n}\n";
+    assert_rewritten(&rt, alloc, text, written);
+    assert_rewritten(&rt, alloc, TEXT, WRITTEN);
+    assert_rewritten(&rt, alloc, WRITTEN, WRITTEN);
+}
+
+const SCAN: &str =
+    "horizon 100 lead 30 kind shot { duration 5 } kind scan { duration 10 alternative { slot a shot slot b shot order a end b start 0 3 } }";
+
+/// The model of the text above, by the grammar and the checks alone.
+fn scan(rt: &impl Abort, alloc: Global) -> Model {
+    let ast = read_model(alloc, SCAN.as_bytes()).expect(rt, "a text");
+    check(alloc, &ast).expect(rt, "a model")
 }
 
 #[test]
-fn offsets_are_the_least(rt: HostRuntime) -> Result<(), Fail> {
-    let alloc = rt.alloc();
-    let ast = read_model(
-        alloc,
-        b"horizon 100 lead 30 kind shot { duration 5 } kind scan { duration 10 alternative { slot a shot slot b shot order a end b start 0 3 } }",
-    )?;
-    let model = match check(alloc, &ast) {
-        Ok(model) => model,
-        Err(_) => return Err("refused".into()),
-    };
-    assert_eq!(rt; model.kinds.len(), 2);
+fn offsets_are_the_least(rt: HostRuntime) {
+    let model = scan(&rt, rt.alloc());
     let kinds = model.kinds.as_slice();
-    assert_eq!(rt; kinds[1].alternatives.len(), 1);
+    assert!(rt; kinds.len() == 2);
+    assert!(rt; kinds[0].least_duration == 5);
     let alternatives = kinds[1].alternatives.as_slice();
-    assert_eq!(rt; alternatives[0].offsets.as_slice(), [0, 5].as_slice());
-    assert_eq!(rt; kinds[0].least_duration, 5);
-    Ok(())
+    assert!(rt; alternatives.len() == 1);
+    assert!(rt; alternatives[0].offsets.as_slice() == [0, 5].as_slice());
 }

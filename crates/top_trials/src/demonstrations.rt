@@ -1,11 +1,6 @@
 //! The demonstration: its input, its one line, and its statuses.
-use pl_io::{MemSink, MemSource};
-use pl_main::run;
+use crate::running::{NONE, assert_does};
 use pl_report::demo_input;
-use pl_turn::NoGate;
-use std::alloc::{AllocError, Global};
-use std::sync::Wait;
-use std::thread::Threads;
 
 const INPUT: &str = "horizon 1000000
 lead 100
@@ -25,46 +20,31 @@ end
 
 const USAGE: &str = "usage: run solo N | run pair N SEED | check | replay | report | demo N\n";
 
-/// Whether these words end with this status over this input and write this text. The writes of these numbers, from 1, fail.
-fn does<R: Threads + Wait + Sync>(
-    rt: &R,
-    alloc: Global,
-    words: &str,
-    input: &[u8],
-    failing: &[u64],
-    status: u8,
-    text: &str,
-) -> Result<bool, AllocError> {
-    let mut owned = Vec::new(alloc);
-    for word in words.split_whitespace() {
-        owned.push(String::from_str(alloc, word)?)?;
+#[test]
+fn makes_the_worked_input(rt: HostRuntime) {
+    let input = demo_input(rt.alloc(), 2).expect(&rt, "memory");
+    assert!(rt; input.as_slice() == INPUT.as_bytes());
+}
+
+fn count_newlines(bytes: &[u8]) -> usize {
+    let mut count = 0usize;
+    for byte in bytes {
+        if *byte == b'\n' {
+            count = count.wrapping_add(1);
+        }
     }
-    let mut source = MemSource::new(alloc, input, &[])?;
-    let mut sink = MemSink::new(alloc, 10_000, failing)?;
-    let found = run(rt, alloc, owned.as_slice(), &mut source, &mut sink, &NoGate);
-    Ok(found == status && sink.bytes() == text.as_bytes())
+    count
 }
 
 #[test]
-fn makes_inputs(rt: HostRuntime) -> Result<(), AllocError> {
+fn makes_inputs(rt: HostRuntime) {
     let alloc = rt.alloc();
-    assert_eq!(rt; demo_input(alloc, 2)?.as_slice(), INPUT.as_bytes());
+    let said = b"model ok: timelines 2 kinds 4\n";
     for goals in [1, 2, 7, 64] {
-        let input = demo_input(alloc, goals)?;
-        let lines = input.as_slice().iter().filter(|byte| **byte == b'\n');
-        assert_eq!(rt; lines.count(), 2 * goals as usize + 10);
-        let is_model = does(
-            &rt,
-            alloc,
-            "check",
-            input.as_slice(),
-            &[],
-            0,
-            "model ok: timelines 2 kinds 4\n",
-        )?;
-        assert!(rt; is_model, "{goals}");
+        let input = demo_input(alloc, goals).expect(&rt, "memory");
+        assert!(rt; count_newlines(input.as_slice()) == 2 * goals as usize + 10);
+        assert_does(&rt, alloc, "check", NONE, input.as_slice(), 0, said);
     }
-    Ok(())
 }
 
 const SUMMARIES: &str = "demo 1 entries 11 activities 1 dispatched 0 conflicts 0
@@ -74,24 +54,23 @@ demo 10 entries 88 activities 20 dispatched 0 conflicts 0
 demo 30 entries 287 activities 60 dispatched 29 conflicts 0";
 
 #[test]
-fn shows_summaries(rt: HostRuntime) -> Result<(), AllocError> {
+fn shows_summaries(rt: HostRuntime) {
     let alloc = rt.alloc();
     for line in SUMMARIES.lines() {
         let (words, _) = line.split_once(" entries").unwrap_or((line, ""));
-        let text = format!(in alloc; "{line}\n")?;
-        let as_wanted = does(&rt, alloc, words, b"", &[], 0, text.as_str())?;
-        assert!(rt; as_wanted, "{line}");
+        let text = format!(in alloc; "{line}\n").expect(&rt, "memory");
+        assert_does(&rt, alloc, words, NONE, b"", 0, text.as_bytes());
     }
-    Ok(())
 }
 
 #[test]
-fn refuses_other_words(rt: HostRuntime) -> Result<(), AllocError> {
-    let alloc = rt.alloc();
+fn refuses_other_words(rt: HostRuntime) {
     for words in ["run solo 0", "demo 0", "demo 4001", "demo", ""] {
-        let as_wanted = does(&rt, alloc, words, b"", &[], 2, USAGE)?;
-        assert!(rt; as_wanted, "{words}");
+        assert_does(&rt, rt.alloc(), words, NONE, b"", 2, USAGE.as_bytes());
     }
-    assert!(rt; does(&rt, alloc, "demo 1", b"", &[1], 5, "")?);
-    Ok(())
+}
+
+#[test]
+fn stops_at_a_failed_write(rt: HostRuntime) {
+    assert_does(&rt, rt.alloc(), "demo 1", (&[], &[1]), b"", 5, b"");
 }

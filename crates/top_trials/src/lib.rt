@@ -4,6 +4,10 @@
 #[cfg(test)]
 mod demonstrations;
 #[cfg(test)]
+mod journals;
+#[cfg(test)]
+mod running;
+#[cfg(test)]
 mod runs;
 #[cfg(test)]
 mod words;

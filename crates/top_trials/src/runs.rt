@@ -1,7 +1,6 @@
-use pl_io::{MemSink, MemSource};
-use pl_main::run;
-use pl_turn::NoGate;
-use std::alloc::{AllocError, Global};
+use crate::running::{Failing, NONE, assert_does, joined, lines};
+use std::alloc::Global;
+use std::process::Abort;
 use std::sync::Wait;
 use std::thread::Threads;
 
@@ -11,222 +10,143 @@ const MODEL: &str = "horizon 100\nlead 30\nkind obs {\nduration 5\n}\nbegin\n";
 
 const OPEN: &str = "0 open turns 8 live 10000 goals 20000 entries 250000\n";
 
-fn joined(alloc: Global, front: &str, rest: &[u8]) -> Result<Vec<u8>, AllocError> {
-    let mut bytes = Vec::new(alloc);
-    bytes.extend_from_slice(front.as_bytes())?;
-    bytes.extend_from_slice(rest)?;
-    Ok(bytes)
-}
-
-/// What fails: the reads and the writes of these numbers, from 1.
-type Failing<'a> = (&'a [u64], &'a [u64]);
-
-const NONE: Failing<'static> = (&[], &[]);
-
-/// Whether `run solo 8` ends with this status over this input and writes this text.
-fn ends<R: Threads + Wait + Sync>(
+/// Asserts that `run solo 8` ends with this status over this input and writes this text.
+fn assert_ends<R: Abort + Threads + Wait + Sync>(
     rt: &R,
     alloc: Global,
     failing: Failing<'_>,
     input: &[u8],
     status: u8,
     text: &[u8],
-) -> Result<bool, AllocError> {
-    does(
-        rt,
-        alloc,
-        &["run", "solo", "8"],
-        failing,
-        input,
-        status,
-        text,
-    )
+) {
+    assert_does(rt, alloc, "run solo 8", failing, input, status, text);
 }
 
-/// The same of any words.
-fn does<R: Threads + Wait + Sync>(
-    rt: &R,
-    alloc: Global,
-    words: &[&str],
-    failing: Failing<'_>,
-    input: &[u8],
-    status: u8,
-    text: &[u8],
-) -> Result<bool, AllocError> {
-    let mut owned = Vec::new(alloc);
-    for word in words {
-        owned.push(String::from_str(alloc, word)?)?;
-    }
-    let mut source = MemSource::new(alloc, input, failing.0)?;
-    let mut sink = MemSink::new(alloc, 10_000, failing.1)?;
-    let found = run(rt, alloc, owned.as_slice(), &mut source, &mut sink, &NoGate);
-    Ok(found == status && sink.bytes() == text)
+/// Inputs of `check`, the status, and the line that is written; `;` is a newline.
+const CHECKED: &str =
+    "horizon 100;lead 30;kind obs {;duration 5;};begin; => 0 => model ok: timelines 0 kinds 1
+horizon 9 lead 3 capacity c 5 level l 0 9 5 kind a { duration 5 use c 2 };begin; => 0 => model ok: timelines 2 kinds 1
+horizon 100;lead 30;kind obs {;duration 5;}; => 3 => model: no begin
+horizon 9 lead 3 kind a { duration b };begin; => 3 => model: unknown name: b";
+
+/// Asserts a row of these.
+fn assert_checked<R: Abort + Threads + Wait + Sync>(rt: &R, alloc: Global, row: &str) {
+    let (input, rest) = row.split_once(" => ").unwrap_or((row, ""));
+    let (status, line) = rest.split_once(" => ").unwrap_or((rest, ""));
+    let input = lines(rt, alloc, input);
+    let status = status.parse().unwrap_or(0);
+    let text = format!(in alloc; "{line}\n").expect(rt, "memory");
+    let (input, text) = (input.as_bytes(), text.as_bytes());
+    assert_does(rt, alloc, "check", NONE, input, status, text);
 }
 
 #[test]
-fn checks_models(rt: HostRuntime) -> Result<(), AllocError> {
-    let alloc = rt.alloc();
-    let table = [
-        (MODEL, 0, "model ok: timelines 0 kinds 1\n"),
-        (
-            "horizon 9 lead 3 capacity c 5 level l 0 9 5 kind a { duration 5 use c 2 }\nbegin\n",
-            0,
-            "model ok: timelines 2 kinds 1\n",
-        ),
-        (TEXT, 3, "model: no begin\n"),
-        (
-            "horizon 9 lead 3 kind a { duration b }\nbegin\n",
-            3,
-            "model: unknown name: b\n",
-        ),
-    ];
-    for (input, status, text) in table {
-        let as_wanted = does(
-            &rt,
-            alloc,
-            &["check"],
-            NONE,
-            input.as_bytes(),
-            status,
-            text.as_bytes(),
-        )?;
-        assert!(rt; as_wanted, "{input}");
+fn checks_models(rt: HostRuntime) {
+    for row in CHECKED.lines() {
+        assert_checked(&rt, rt.alloc(), row);
     }
-    assert!(rt;
-        does(
-            &rt,
-            alloc,
-            &["check"],
-            (&[1], &[]),
-            MODEL.as_bytes(),
-            4,
-            b""
-        )?
-    );
-    assert!(rt;
-        does(
-            &rt,
-            alloc,
-            &["check"],
-            (&[], &[1]),
-            MODEL.as_bytes(),
-            5,
-            b""
-        )?
-    );
+}
+
+#[test]
+fn checks_stop_at_faults(rt: HostRuntime) {
+    let (alloc, model) = (rt.alloc(), MODEL.as_bytes());
+    assert_does(&rt, alloc, "check", (&[1], &[]), model, 4, b"");
+    assert_does(&rt, alloc, "check", (&[], &[1]), model, 5, b"");
     let long = [b'x'; 4097];
-    assert!(rt; does(&rt, alloc, &["check"], NONE, long.as_slice(), 6, b"")?);
-    Ok(())
+    assert_does(&rt, alloc, "check", NONE, long.as_slice(), 6, b"");
 }
 
 /// The same of messages behind a model, and of the lines behind the open entry's.
-fn plays<R: Threads + Wait + Sync>(
+fn assert_plays<R: Abort + Threads + Wait + Sync>(
     rt: &R,
     alloc: Global,
     failing: Failing<'_>,
     messages: &[u8],
     status: u8,
     text: &[u8],
-) -> Result<bool, AllocError> {
-    let input = joined(alloc, MODEL, messages)?;
-    let wanted = joined(alloc, OPEN, text)?;
-    ends(
-        rt,
-        alloc,
-        failing,
-        input.as_slice(),
-        status,
-        wanted.as_slice(),
-    )
+) {
+    let input = joined(rt, alloc, MODEL, messages);
+    let wanted = joined(rt, alloc, OPEN, text);
+    assert_ends(rt, alloc, failing, &input, status, &wanted);
 }
 
+/// Inputs, each with the fault of its model; `;` is a newline.
+const REFUSED: &str = " => no begin
+horizon 100;lead 30;end; => no begin
+begin;end; => unexpected at 0
+horizon 9;lead 3;kind a { duration 5 };kind a { duration 5 };begin; => name twice: a
+horizon 9;lead 3;kind a { duration 0 };begin; => out of range: duration";
+
 #[test]
-fn refuses_texts(rt: HostRuntime) -> Result<(), AllocError> {
-    let table = [
-        ("", "model: no begin\n"),
-        ("horizon 100\nlead 30\nend\n", "model: no begin\n"),
-        ("begin\nend\n", "model: unexpected at 0\n"),
-        (
-            "horizon 9\nlead 3\nkind a { duration 5 }\nkind a { duration 5 }\nbegin\n",
-            "model: name twice: a\n",
-        ),
-        (
-            "horizon 9\nlead 3\nkind a { duration 0 }\nbegin\n",
-            "model: out of range: duration\n",
-        ),
-    ];
-    for (input, text) in table {
-        let as_wanted = ends(&rt, rt.alloc(), NONE, input.as_bytes(), 3, text.as_bytes())?;
-        assert!(rt; as_wanted, "{input}");
+fn refuses_texts(rt: HostRuntime) {
+    let alloc = rt.alloc();
+    for row in REFUSED.lines() {
+        let (input, fault) = row.split_once(" => ").unwrap_or((row, ""));
+        let input = lines(&rt, alloc, input);
+        let text = format!(in alloc; "model: {fault}\n").expect(&rt, "memory");
+        assert_ends(&rt, alloc, NONE, input.as_bytes(), 3, text.as_bytes());
     }
-    Ok(())
 }
 
 /// A model's text of 1,048,576 bytes, which is as long as it may be, and these bytes.
-fn long_text(alloc: Global, rest: &[u8]) -> Result<Vec<u8>, AllocError> {
+fn long_text(rt: &impl Abort, alloc: Global, rest: &[u8]) -> Vec<u8> {
     let mut line = [b' '; 1024];
     line[1023] = b'\n';
-    let mut text = joined(alloc, TEXT, &line[44..])?;
+    let mut text = joined(rt, alloc, TEXT, &line[44..]);
     for _ in 0..1023 {
-        text.extend_from_slice(line.as_slice())?;
+        text.extend_from_slice(line.as_slice()).expect(rt, "memory");
     }
-    text.extend_from_slice(rest)?;
-    Ok(text)
+    text.extend_from_slice(rest).expect(rt, "memory");
+    text
+}
+
+/// Asserts what `run solo 8` makes of the longest model's text and these bytes.
+fn assert_long<R: Abort + Threads + Wait + Sync>(
+    rt: &R,
+    alloc: Global,
+    rest: &[u8],
+    status: u8,
+    text: &[u8],
+) {
+    let input = long_text(rt, alloc, rest);
+    assert_ends(rt, alloc, NONE, &input, status, text);
 }
 
 #[test]
-fn takes_texts_up_to_the_limit(rt: HostRuntime) -> Result<(), AllocError> {
+fn takes_texts_up_to_the_limit(rt: HostRuntime) {
     let alloc = rt.alloc();
-    assert_eq!(rt; long_text(alloc, b"")?.len(), 1_048_576);
-    let done = joined(alloc, OPEN, b"1 in end : end\n")?;
-    let table = [
-        (b"begin\nend\n".as_slice(), 0, done.as_slice()),
-        (
-            b"\nbegin\nend\n".as_slice(),
-            3,
-            b"model: too long\n".as_slice(),
-        ),
-        (b"\n".as_slice(), 3, b"model: no begin\n".as_slice()),
-    ];
-    for (rest, status, text) in table {
-        let input = long_text(alloc, rest)?;
-        let as_wanted = ends(&rt, alloc, NONE, input.as_slice(), status, text)?;
-        assert!(rt; as_wanted);
+    assert!(rt; long_text(&rt, alloc, b"").len() == 1_048_576);
+    let done = joined(&rt, alloc, OPEN, b"1 in end : end\n");
+    assert_long(&rt, alloc, b"begin\nend\n", 0, &done);
+    assert_long(&rt, alloc, b"\nbegin\nend\n", 3, b"model: too long\n");
+    assert_long(&rt, alloc, b"\n", 3, b"model: no begin\n");
+}
+
+/// Messages, and the lines behind the open entry's; `;` is a newline.
+const PLAYED: &str = " => 1 in eof;
+tick 3 => 1 in ok : tick 3;2 rest clear;3 commit 33 : ok;4 close;5 in eof;
+end;rubbish; => 1 in end : end;
+goal 1 obs 10 20 must => 1 in ok : goal 1 obs 10 20 must;2 fix 20 open-goal 1 0 10 20 by add obs 10 goal 1 : ok;3 rest clear;4 commit 30 : ok;5 close;6 in eof;
+goal 1 obs 10 20 must;tick 10;end; => 1 in ok : goal 1 obs 10 20 must;2 fix 20 open-goal 1 0 10 20 by add obs 10 goal 1 : ok;3 rest clear;4 commit 30 : ok;5 close;6 in ok : tick 10;7 rest clear;8 dispatch 1 obs 10;9 commit 40 : ok;10 close;11 in end : end;
+; \t# a comment;end => 1 in end : end;";
+
+#[test]
+fn plays_messages(rt: HostRuntime) {
+    let alloc = rt.alloc();
+    for row in PLAYED.lines() {
+        let (messages, text) = row.split_once(" => ").unwrap_or((row, ""));
+        let messages = lines(&rt, alloc, messages);
+        let text = lines(&rt, alloc, text);
+        assert_plays(&rt, alloc, NONE, messages.as_bytes(), 0, text.as_bytes());
     }
-    Ok(())
 }
 
 #[test]
-fn plays_messages(rt: HostRuntime) -> Result<(), AllocError> {
-    let table = [
-        (b"".as_slice(), b"1 in eof\n".as_slice()),
-        (
-            b"tick 3".as_slice(),
-            b"1 in ok : tick 3\n2 rest clear\n3 commit 33 : ok\n4 close\n5 in eof\n".as_slice(),
-        ),
-        (b"end\nrubbish\n".as_slice(), b"1 in end : end\n".as_slice()),
-        (
-            b"goal 1 obs 10 20 must".as_slice(),
-            b"1 in ok : goal 1 obs 10 20 must\n2 fix 20 open-goal 1 0 10 20 by add obs 10 goal 1 : ok\n3 rest clear\n4 commit 30 : ok\n5 close\n6 in eof\n".as_slice(),
-        ),
-        (
-            b"goal 1 obs 10 20 must\ntick 10\nend\n".as_slice(),
-            b"1 in ok : goal 1 obs 10 20 must\n2 fix 20 open-goal 1 0 10 20 by add obs 10 goal 1 : ok\n3 rest clear\n4 commit 30 : ok\n5 close\n6 in ok : tick 10\n7 rest clear\n8 dispatch 1 obs 10\n9 commit 40 : ok\n10 close\n11 in end : end\n".as_slice(),
-        ),
-        (
-            b"\n \t# a comment\nend".as_slice(),
-            b"1 in end : end\n".as_slice(),
-        ),
-        (
-            b"goal \xff\nend\n".as_slice(),
-            b"1 in bad-line : goal \xff\n2 rest clear\n3 commit 30 : ok\n4 close\n5 in end : end\n".as_slice(),
-        ),
-    ];
-    for (messages, text) in table {
-        let as_wanted = plays(&rt, rt.alloc(), NONE, messages, 0, text)?;
-        assert!(rt; as_wanted);
-    }
-    Ok(())
+fn plays_a_message_that_is_no_text(rt: HostRuntime) {
+    let messages = b"goal \xff\nend\n";
+    let text =
+        b"1 in bad-line : goal \xff\n2 rest clear\n3 commit 30 : ok\n4 close\n5 in end : end\n";
+    assert_plays(&rt, rt.alloc(), NONE, messages, 0, text);
 }
 
 const LEAD: &str = "horizon 100 lead 5 kind obs { duration 5 }
@@ -242,34 +162,25 @@ const SCAN: &str = "horizon 100 lead 30 kind shot { duration 5 }
 kind scan { duration 10 alternative { slot a shot slot b shot order a end b start 0 3 } }
 ";
 
-/// Whether a run of so many turns over a model and messages writes these lines behind the open entry's.
-fn plans<R: Threads + Wait + Sync>(
+/// Asserts that a run of so many turns over a model and messages writes these lines behind the open entry's.
+fn assert_plans<R: Abort + Threads + Wait + Sync>(
     rt: &R,
     alloc: Global,
-    turns: &str,
+    turns: u32,
     model: &str,
     messages: &str,
     text: &str,
-) -> Result<bool, AllocError> {
-    let mut input = joined(alloc, model, b"begin\n")?;
-    input.extend_from_slice(messages.as_bytes())?;
-    let mut wanted = joined(alloc, "0 open turns ", turns.as_bytes())?;
-    wanted.extend_from_slice(b" live 10000 goals 20000 entries 250000\n")?;
-    wanted.extend_from_slice(text.as_bytes())?;
-    let words = ["run", "solo", turns];
-    does(
-        rt,
-        alloc,
-        words.as_slice(),
-        NONE,
-        input.as_slice(),
-        0,
-        wanted.as_slice(),
-    )
+) {
+    let words = format!(in alloc; "run solo {turns}").expect(rt, "memory");
+    let input = format!(in alloc; "{model}begin\n{messages}").expect(rt, "memory");
+    let open = "live 10000 goals 20000 entries 250000";
+    let wanted = format!(in alloc; "0 open turns {turns} {open}\n{text}").expect(rt, "memory");
+    let (input, wanted) = (input.as_bytes(), wanted.as_bytes());
+    assert_does(rt, alloc, words.as_str(), NONE, input, 0, wanted);
 }
 
 #[test]
-fn repairs_what_comes_late(rt: HostRuntime) -> Result<(), AllocError> {
+fn repairs_what_comes_late(rt: HostRuntime) {
     let messages = "goal 1 obs 10 20 must
 tick 10
 end
@@ -286,12 +197,11 @@ end
 10 close
 11 in end : end
 ";
-    assert!(rt; plans(&rt, rt.alloc(), "8", LEAD, messages, text)?);
-    Ok(())
+    assert_plans(&rt, rt.alloc(), 8, LEAD, messages, text);
 }
 
 #[test]
-fn gives_up_what_cannot_be(rt: HostRuntime) -> Result<(), AllocError> {
+fn gives_up_what_cannot_be(rt: HostRuntime) {
     let alloc = rt.alloc();
     let dropped = "1 in ok : goal 1 big 10 20 may
 2 fix 20 open-goal 1 0 10 20 by drop 1 : ok
@@ -300,7 +210,7 @@ fn gives_up_what_cannot_be(rt: HostRuntime) -> Result<(), AllocError> {
 5 close
 6 in eof
 ";
-    assert!(rt; plans(&rt, alloc, "8", TOO_BIG, "goal 1 big 10 20 may", dropped)?);
+    assert_plans(&rt, alloc, 8, TOO_BIG, "goal 1 big 10 20 may", dropped);
     let spent = "1 in ok : goal 1 big 10 20 must
 2 fix 20 open-goal 1 0 10 20 by add big 10 goal 1 : ok
 3 rest spent
@@ -308,18 +218,17 @@ fn gives_up_what_cannot_be(rt: HostRuntime) -> Result<(), AllocError> {
 5 close
 6 in eof
 ";
-    assert!(rt; plans(&rt, alloc, "1", TOO_BIG, "goal 1 big 10 20 must", spent)?);
+    assert_plans(&rt, alloc, 1, TOO_BIG, "goal 1 big 10 20 must", spent);
     let stuck = "1 in ok : tele bat 2
 2 rest stuck
 3 close
 4 in eof
 ";
-    assert!(rt; plans(&rt, alloc, "8", LOW, "tele bat 2", stuck)?);
-    Ok(())
+    assert_plans(&rt, alloc, 8, LOW, "tele bat 2", stuck);
 }
 
 #[test]
-fn details_a_scan(rt: HostRuntime) -> Result<(), AllocError> {
+fn details_a_scan(rt: HostRuntime) {
     let messages = "goal 1 scan 10 20 must
 tick 5
 end
@@ -336,12 +245,11 @@ end
 10 close
 11 in end : end
 ";
-    assert!(rt; plans(&rt, rt.alloc(), "1", SCAN, messages, text)?);
-    Ok(())
+    assert_plans(&rt, rt.alloc(), 1, SCAN, messages, text);
 }
 
 #[test]
-fn refuses_messages(rt: HostRuntime) -> Result<(), AllocError> {
+fn refuses_messages(rt: HostRuntime) {
     let messages = b"tick 5
 tick 5
 goal 1 obs 40 50 must
@@ -372,8 +280,7 @@ end
 20 close
 21 in end : end
 ";
-    assert!(rt; plays(&rt, rt.alloc(), NONE, messages, 0, text)?);
-    Ok(())
+    assert_plays(&rt, rt.alloc(), NONE, messages, 0, text);
 }
 
 const CAMERA: &str = "horizon 2000
@@ -387,7 +294,7 @@ kind downlink { duration 30 use antenna 1 lower memory 8 at end }
 ";
 
 #[test]
-fn plans_a_camera(rt: HostRuntime) -> Result<(), AllocError> {
+fn plans_a_camera(rt: HostRuntime) {
     let messages = "goal 7 image 200 260 must frames=8
 tick 100
 tick 130
@@ -420,57 +327,57 @@ end
 23 close
 24 in end : end
 ";
-    assert!(rt; plans(&rt, rt.alloc(), "16", CAMERA, messages, text)?);
-    Ok(())
+    assert_plans(&rt, rt.alloc(), 16, CAMERA, messages, text);
 }
 
 #[test]
-fn shows_carriage_returns(rt: HostRuntime) -> Result<(), AllocError> {
+fn shows_carriage_returns(rt: HostRuntime) {
     let alloc = rt.alloc();
     let input =
         b"horizon 100\r\nlead 30\r\nkind obs {\r\nduration 5\r\n}\r\nbegin\r\ngoal 1 obs 10 20 must\r\n\r\nend\r\n";
     let text = joined(
+        &rt,
         alloc,
         OPEN,
         b"1 in ok : goal 1 obs 10 20 must\r\n2 fix 20 open-goal 1 0 10 20 by add obs 10 goal 1 : ok\n3 rest clear\n4 commit 30 : ok\n5 close\n6 in end : end\r\n",
-    )?;
-    assert!(rt; ends(&rt, alloc, NONE, input, 0, text.as_slice())?);
-    Ok(())
+    );
+    assert_ends(&rt, alloc, NONE, input, 0, &text);
 }
 
-/// A message `tick 3` with blanks behind it, and a last line without a newline.
-fn long_line(alloc: Global, blanks: &[u8], last: &[u8]) -> Result<Vec<u8>, AllocError> {
-    let mut bytes = joined(alloc, "tick 3", blanks)?;
-    bytes.push(b'\n')?;
-    bytes.extend_from_slice(last)?;
-    Ok(bytes)
+/// A message `tick 3` with so many blanks behind it, and a last line without a newline.
+fn long_line(rt: &impl Abort, alloc: Global, blanks: usize, last: &str) -> String {
+    let blanks = " ".repeat(alloc, blanks).expect(rt, "memory");
+    format!(in alloc; "tick 3{blanks}\n{last}").expect(rt, "memory")
 }
 
 #[test]
-fn takes_lines_up_to_the_limit(rt: HostRuntime) -> Result<(), AllocError> {
+fn takes_lines_up_to_the_limit(rt: HostRuntime) {
     let alloc = rt.alloc();
-    let blanks = [b' '; 4097];
-    let input = long_line(alloc, &blanks[..4090], b"")?;
-    let mut text = joined(alloc, "1 in ok : ", input.as_slice())?;
-    text.extend_from_slice(b"2 rest clear\n3 commit 33 : ok\n4 close\n5 in eof\n")?;
-    assert!(rt; plays(&rt, alloc, NONE, input.as_slice(), 0, text.as_slice())?);
-    let input = long_line(alloc, &blanks[..4091], b"end")?;
-    assert!(rt; plays(&rt, alloc, NONE, input.as_slice(), 6, b"")?);
-    let input = long_line(alloc, b"", blanks.as_slice())?;
-    let text = b"1 in ok : tick 3\n2 rest clear\n3 commit 33 : ok\n4 close\n";
-    assert!(rt; plays(&rt, alloc, NONE, input.as_slice(), 6, text)?);
-    Ok(())
+    let input = long_line(&rt, alloc, 4090, "");
+    let rest = "2 rest clear\n3 commit 33 : ok\n4 close\n5 in eof\n";
+    let text = format!(in alloc; "1 in ok : {input}{rest}").expect(&rt, "memory");
+    assert_plays(&rt, alloc, NONE, input.as_bytes(), 0, text.as_bytes());
 }
 
 #[test]
-fn stops_at_faults(rt: HostRuntime) -> Result<(), AllocError> {
+fn stops_at_longer_lines(rt: HostRuntime) {
+    let alloc = rt.alloc();
+    let input = long_line(&rt, alloc, 4091, "end");
+    assert_plays(&rt, alloc, NONE, input.as_bytes(), 6, b"");
+    let blanks = " ".repeat(alloc, 4097).expect(&rt, "memory");
+    let input = long_line(&rt, alloc, 0, blanks.as_str());
+    let text = b"1 in ok : tick 3\n2 rest clear\n3 commit 33 : ok\n4 close\n";
+    assert_plays(&rt, alloc, NONE, input.as_bytes(), 6, text);
+}
+
+#[test]
+fn stops_at_faults(rt: HostRuntime) {
     let alloc = rt.alloc();
     let messages = b"goal 1 obs 10 20 must\ntick 10\nend\n";
-    let input = joined(alloc, MODEL, messages)?;
-    assert!(rt; ends(&rt, alloc, (&[1], &[]), input.as_slice(), 4, b"")?);
-    assert!(rt; ends(&rt, alloc, (&[], &[1]), input.as_slice(), 5, b"")?);
-    assert!(rt; plays(&rt, alloc, (&[], &[2]), messages, 5, b"")?);
+    let input = joined(&rt, alloc, MODEL, messages);
+    assert_ends(&rt, alloc, (&[1], &[]), &input, 4, b"");
+    assert_ends(&rt, alloc, (&[], &[1]), &input, 5, b"");
+    assert_plays(&rt, alloc, (&[], &[2]), messages, 5, b"");
     let text = b"1 in ok : tick 3\n2 rest clear\n3 commit 33 : ok\n4 close\n";
-    assert!(rt; plays(&rt, alloc, (&[2], &[]), b"tick 3\n", 4, text)?);
-    Ok(())
+    assert_plays(&rt, alloc, (&[2], &[]), b"tick 3\n", 4, text);
 }

@@ -1,5 +1,5 @@
+use crate::running::words_of;
 use pl_main::{Command, Task, read_words};
-use std::alloc::AllocError;
 
 /// What the words ask for: the turns of a run, 0 for a check, 1,001 for a replay and 1,002 for a report, the goals of a
 /// demonstration, the turns and the seed of a pair added up, nothing where they are no command.
@@ -51,16 +51,11 @@ demo 1 2 = none
 demo one = none";
 
 #[test]
-fn reads_words(rt: HostRuntime) -> Result<(), AllocError> {
-    let alloc = rt.alloc();
+fn reads_words(rt: HostRuntime) {
     for line in WORDS.lines() {
         let (text, wanted) = line.split_once(" = ").unwrap_or((line, ""));
-        let mut words = Vec::new(alloc);
-        for word in text.split(' ') {
-            words.push(String::from_str(alloc, word)?)?;
-        }
-        assert_eq!(rt; number_of(words.as_slice()), wanted.parse().ok(), "{line}");
+        let words = words_of(&rt, rt.alloc(), text);
+        assert!(rt; number_of(&words) == wanted.parse().ok(), "{line}");
     }
-    assert_eq!(rt; number_of(&[]), None);
-    Ok(())
+    assert!(rt; number_of(&[]).is_none());
 }

@@ -1,5 +1,5 @@
 use Rattle.pl_stn.specs.Nets.{IsWellFormed}
 use Rattle.base_trials.proofs.networks.net.Given as goal
 
-abbrev pub invariant-loop-from : goal.invariant-loop-from
-invariant-loop-from g l = IsWellFormed l.net
+abbrev pub invariant-loop-word : goal.invariant-loop-word
+invariant-loop-word g l = IsWellFormed l.net

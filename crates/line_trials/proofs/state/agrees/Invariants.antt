@@ -3,7 +3,7 @@ use Rattle.std.proofs.Common.{◌≡◌, ◌≤◌}
 use Rattle.line_trials.proofs.state.agrees.Given as goal
 
 abbrev pub invariant-loop-turn : goal.invariant-loop-turn
-invariant-loop-turn l = record {
+invariant-loop-turn g l = record {
   moment : l.line.moment ≡ l.plain.moment;
   in_time : l.plain.moment ≤ 20;
   horizon : l.line.horizon ≡ 20;
