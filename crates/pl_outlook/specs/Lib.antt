@@ -1,0 +1,15 @@
+pub mod Risings
+pub mod Pulls
+pub mod Moved
+pub mod Counts
+pub mod Sides
+pub mod Asked
+pub mod Askings
+pub mod Plain
+pub mod Bounds
+pub mod Known
+pub mod Standing
+pub mod Afterwards
+pub mod Tallies
+pub mod Looks
+pub mod Ties
