@@ -9,3 +9,4 @@ pub mod Among
 pub mod Playing
 pub mod Bounds
 pub mod Small
+pub mod Search

@@ -1,9 +1,11 @@
-ghost use Rattle.std.specs.Prelude.{◌≡◌, ◌≤◌, IfOk, OnOk, OnErr, true, false, Option};
+ghost use Rattle.std.specs.Prelude.{◌≡◌, ◌≤◌, IfOk, IfSome, OnOk, OnErr, true, false, Option, ◌⊎◌};
 ghost use Rattle.pl_world.specs.declared.plan_state.PlanState.{PlanState};
+ghost use Rattle.pl_world.specs.Legal.{is_stuck};
 ghost use Rattle.pl_cand.specs.declared.proposal.Proposal.{Proposal};
 ghost use Rattle.pl_cand.specs.Proposals.{IsProposal};
 
 use crate::proposal::Proposal;
+use crate::stuck::is_stuck;
 use pl_board::Board;
 use std::alloc::{AllocError, Global};
 
@@ -12,6 +14,9 @@ pub trait Chooser: Drop {
     // The chooser before, the plan state, what is proposed, and the chooser after.
     ghost picks: { Self → PlanState → Option Proposal → Self → Type 0 };
 
+    // The chooser before, and what it is once it chose, whatever came of that.
+    ghost drawn: { Self → Self → Type 0 };
+
     /// The next repair, or none where no conflict has a legal candidate. The plan state stays. Want of memory spoils the board.
     fn propose(&mut self, alloc: Global, board: &mut Board) -> Result<Option<Proposal>, AllocError>
         requires unspoiled { board.old.spoiled ≡ false }
@@ -19,5 +24,32 @@ pub trait Chooser: Drop {
         ensures picks { IfOk result (λ p. picks self.old board.old.state p self.new) }
         ensures legal { IfOk result (IsProposal board.old.state) }
         ensures same { OnOk result (board.new ≡ board.old) }
-        ensures err { OnErr result (board.new.spoiled ≡ true) };
+        ensures err { OnErr result (board.new.spoiled ≡ true) }
+        ensures drawn { drawn self.old self.new };
+
+    /// The next repair as `propose` gives it. Where no conflict has a legal candidate there is none, and the chooser stays as it is. As
+    /// provided it looks for one first, and then asks `propose`, which looks again.
+    fn next_repair(
+        &mut self,
+        alloc: Global,
+        board: &mut Board,
+    ) -> Result<Option<Proposal>, AllocError>
+        requires unspoiled { board.old.spoiled ≡ false }
+        requires next_id { board.old.state.next_id ≤ 3999999000 }
+        ensures picks { IfOk result (λ p. IfSome p (λ q. picks self.old board.old.state (Some q) self.new)) }
+        ensures kept { IfOk result (λ p. p ≡ None → self.new ≡ self.old) }
+        ensures legal { IfOk result (IsProposal board.old.state) }
+        ensures same { OnOk result (board.new ≡ board.old) }
+        ensures err { OnErr result (board.new.spoiled ≡ true) }
+        ensures drawn { (self.new ≡ self.old) ⊎ ((is_stuck board.old.state ≡ false) × drawn self.old self.new) }
+    {
+        match is_stuck(alloc, board) {
+            Ok(true) => Ok(None),
+            Ok(false) => self.propose(alloc, board),
+            Err(fault) => {
+                board.spoil();
+                Err(fault)
+            }
+        }
+    }
 }

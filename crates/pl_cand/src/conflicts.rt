@@ -96,6 +96,9 @@ pub(crate) fn tried(
     }
 }
 
+// Room for the starts of one activity, and one more.
+const ROOM: usize = 17;
+
 /// The moves that are tried for a conflict, in order: 256 at most, each proper, none twice.
 #[tactic(auto, unfolding(pl_world::specs::Candidates::candidates_of))]
 pub fn candidates(alloc: Global, board: &Board, k: &Conflict) -> Result<Vec<RepairMove>, AllocError>
@@ -103,7 +106,7 @@ pub fn candidates(alloc: Global, board: &Board, k: &Conflict) -> Result<Vec<Repa
     ensures { IfOk result (λ all. all.items ≡ candidates_of board.now.state k.now) }
 {
     let s = board.state();
-    let mut all = Vec::new(alloc);
+    let mut all = Vec::with_capacity(alloc, ROOM)?;
     tried(alloc, s, k, &mut all)?;
     cut(alloc, s, all.as_slice())
 }

@@ -168,7 +168,7 @@ pub(crate) fn cut(
     requires { IsWhole s.now }
     ensures { IfOk result (λ all. all.items ≡ take 256 (once_from [] (filter (is_worth s.now) tried.now))) }
 {
-    let mut kept = Vec::new(alloc);
+    let mut kept = Vec::with_capacity(alloc, tried.len().min(MOST))?;
     let mut last = None;
     for mv in tried {
         let worth = worth_after(s, &last, mv);

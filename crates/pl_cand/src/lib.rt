@@ -19,6 +19,7 @@ mod role;
 mod slots;
 mod starts;
 mod strides;
+mod stuck;
 mod timelines;
 mod users;
 
@@ -27,3 +28,4 @@ pub use conflicts::candidates;
 pub use membership::is_candidate;
 pub use numbers::{places, spread};
 pub use proposal::Proposal;
+pub use stuck::is_stuck;

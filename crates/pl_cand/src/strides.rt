@@ -25,7 +25,7 @@ fn steps(alloc: Global, low: i64, high: i64, step: u64, most: u32) -> Result<Vec
     requires step { step ≤ 1000000000000 }
     ensures { IfOk result (λ all. all.items ≡ steps_from most low high step) }
 {
-    let mut all = Vec::new(alloc);
+    let mut all = Vec::with_capacity(alloc, most as usize)?;
     let mut next = low;
     let mut left = most;
     while left > 0 {

@@ -1,4 +1,4 @@
 pub mod Lowest
-pub mod Leading
+pub mod Trying
 pub mod Finding
 pub mod Proposing

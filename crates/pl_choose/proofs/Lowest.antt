@@ -1,11 +1,9 @@
 -- The first of some elements with the lowest number.
-use Rattle.std.proofs.Common.{◌≡◌, ℕ, zero, suc, ◌+◌, ◌≤◌, ◌<◌, Bool, true, false, cond, List, [], ◌∷◌, length, get_or, take, drop, refl, sym, ap, subst, ◌∙◌, arith, drop-drop, inl, inr}
-use Rattle.std.specs.Prelude.{◌⊎◌, find, nat_le, nat_lt, ◌&&◌, Option, Some}
+use Rattle.std.proofs.Common.{◌≡◌, ℕ, ◌≤◌, ◌<◌, Bool, true, false, cond, List, [], ◌∷◌, refl, sym, ◌∙◌, arith}
+use Rattle.std.specs.Prelude.{find, nat_le, nat_lt, ◌&&◌, Option, Some}
 use Rattle.std.specs.List.{list_all}
-use Rattle.std.proofs.lemmas.Bool.{ltb-true, ltb-false, leb-true, le-leb, lt-leb, lt-ltb, le-ltb}
-use Rattle.std.proofs.lemmas.List.{drop_all}
-use Rattle.pl_choose.specs.Found.{lower, lowest}
-use Rattle.pl_choose.proofs.Finding.{drop_next}
+use Rattle.std.proofs.lemmas.Bool.{ltb-true, ltb-false, leb-true, le-leb, lt-leb}
+use Rattle.pl_choose.specs.Found.{lowest}
 
 -- its number is no higher than any of theirs
 abbrev pub is_lowest : {X : Type 0} → (X → ℕ) → List X → X → Bool
@@ -78,41 +76,3 @@ step f x y more false e second first =
 pub first_lowest : {X : Type 0} (f : X → ℕ) (x : X) (xs : List X) → find (is_lowest f (x ∷ xs)) (x ∷ xs) ≡ Some (lowest f x xs)
 first_lowest f x [] = let e : nat_le (f x) (f x) ≡ true = le-leb (f x) (f x) (omega arith) in rw e refl
 first_lowest f x (y ∷ more) = step f x y more (nat_lt (f y) (f x)) refl (first_lowest f y more) (first_lowest f x more)
-
--- ---- steps of a walk over the others
-
-pub lower_second : {X : Type 0} (f : X → ℕ) (x y : X) → f y < f x → y ≡ lower f x y
-lower_second f x y lt = let e : nat_lt (f y) (f x) ≡ true = lt-ltb (f y) (f x) lt in rw e refl
-
-pub lower_first : {X : Type 0} (f : X → ℕ) (x y : X) → f x ≤ f y → x ≡ lower f x y
-lower_first f x y le = let e : nat_lt (f y) (f x) ≡ false = le-ltb (f y) (f x) le in rw e refl
-
-pub lowest_next : {X : Type 0} (f : X → ℕ) (best x : X) (xs ys : List X) (w : X) → xs ≡ x ∷ ys → lowest f best xs ≡ w → lowest f (lower f best x) ys ≡ w
-lowest_next {X = X} f best x xs ys w is e =
-    let P : List X → Type 0 = λ zs. lowest f best zs ≡ w in
-    subst P is e
-
-pub lowest_split : {X : Type 0} (f : X → ℕ) (best : X) (n : ℕ) (xs : List X) → lowest f best xs ≡ lowest f (lowest f best (take n xs)) (drop n xs)
-lowest_split f best zero xs = refl
-lowest_split f best (suc n) [] = refl
-lowest_split f best (suc n) (x ∷ xs) = lowest_split f (lower f best x) n xs
-
--- one more, and so many behind it
-pub lead_on : {X : Type 0} (f : X → ℕ) (best d : X) (rest : List X) (k n : ℕ) (w : X) → k < length rest → lowest f best (drop k rest) ≡ w → lowest f (lowest f (lower f best (get_or rest k d)) (take n (drop (k + 1) rest))) (drop (k + 1 + n) rest) ≡ w
-lead_on {X = X} f best d rest k n w lt e =
-    let one : lowest f (lower f best (get_or rest k d)) (drop (k + 1) rest) ≡ w = lowest_next f best (get_or rest k d) (drop k rest) (drop (k + 1) rest) w (drop_next rest k d lt) e in
-    let P : List X → Type 0 = λ zs. lowest f (lowest f (lower f best (get_or rest k d)) (take n (drop (k + 1) rest))) zs ≡ w in
-    subst P (drop-drop n (k + 1) rest) (sym (lowest_split f (lower f best (get_or rest k d)) n (drop (k + 1) rest)) ∙ one)
-
-none_lower : {X : Type 0} (f : X → ℕ) (best : X) (xs : List X) → f best ≡ 0 → lowest f best xs ≡ best
-none_lower f best [] least = refl
-none_lower f best (x ∷ xs) least =
-    let up : f best ≤ f x = omega (arith, least) in
-    ap (λ b. lowest f b xs) (sym (lower_first f best x up)) ∙ none_lower f best xs least
-
--- none is left, or none leaves fewer
-pub lead_ends : {X : Type 0} (f : X → ℕ) (best : X) (rest : List X) (k : ℕ) (w : X) → lowest f best (drop k rest) ≡ w → (length rest ≤ k) ⊎ (f best ≡ 0) → best ≡ w
-lead_ends {X = X} f best rest k w e (inl over) =
-    let P : List X → Type 0 = λ zs. lowest f best zs ≡ w in
-    subst P (drop_all k rest over) e
-lead_ends f best rest k w e (inr least) = sym (none_lower f best (drop k rest) least) ∙ e

@@ -1,6 +1,6 @@
 -- What is proposed may be proposed.
 use Rattle.std.proofs.Common.{◌≡◌, ℕ, true, false, List, ◌∷◌, [], length, refl, sym, subst, ap, ◌∙◌}
-use Rattle.std.specs.Prelude.{find, filter, All, Contains, not, ◌==◌, ◌%◌, is_none, is_some, Option, Some, None, option_and_then}
+use Rattle.std.specs.Prelude.{find, filter, All, Contains, not, ◌==◌, ◌%◌, is_none, is_some, Option, Some, None, IfSome, option_and_then}
 use Rattle.std.specs.List.{list_any}
 use Rattle.std.proofs.lemmas.List.Elements.{All-nil, All-cons, All-head, All-tail, All-filter, filter_passes}
 use Rattle.std.specs.Option.{option_map}
@@ -12,11 +12,13 @@ use Rattle.pl_world.specs.Candidates.{candidates_of}
 use Rattle.pl_world.specs.Legal.{is_legal, has_repair, legal_for, left_after, repairable, is_stuck}
 use Rattle.pl_world.specs.Moves.{refusal_of}
 use Rattle.pl_world.proofs.Sifting.{proper}
+use Rattle.pl_cand.specs.declared.proposal.Proposal.{Proposal}
 use Rattle.pl_cand.specs.Proposals.{IsProposal}
 use Rattle.pl_choose.specs.declared.draw.Draw.{Draw}
 use Rattle.pl_choose.specs.declared.draw.Draw.TheVariants.{AsLeast, AtRandom}
-use Rattle.pl_choose.specs.Found.{IsProper, IsAllowed}
-use Rattle.pl_choose.specs.Picks.{proposal, leaves_fewest, fewest, least_pick, picked_by, random_pick, pick_by}
+use Rattle.pl_choose.specs.declared.repairs.Repairs.{Repairs}
+use Rattle.pl_choose.specs.Found.{IsProper, IsAllowed, AreFirst}
+use Rattle.pl_choose.specs.Picks.{proposal, leaves_fewest, fewest, fewest_for, least_pick, picked_by, random_pick, pick_by}
 use Rattle.pl_choose.specs.Found.{lowest}
 use Rattle.pl_choose.proofs.Lowest.{first_lowest}
 use Rattle.pl_choose.proofs.Finding.{HasFirst, nonempty, any_is, any_find, find_passing, filter_contains, filter_passing, get_contains, picked_some}
@@ -74,6 +76,32 @@ random_is_proposal s word other = made s (λ c. picked_by other (legal_for s c))
 pub drawn_is_proposal : (s : PlanState) (d : Draw) → IsProposal s (pick_by s d)
 drawn_is_proposal s AsLeast = least_is_proposal s
 drawn_is_proposal s (AtRandom conflict repair) = random_is_proposal s conflict repair
+
+-- ---- where the first conflict that has a legal candidate was looked for
+
+pub first_is_least : (s : PlanState) (r : Repairs) → AreFirst s (Some r) → fewest_for s r.conflict ≡ least_pick s
+unfolding least_pick
+first_is_least s r first = sym (ap (option_and_then (fewest_for s)) first.0)
+
+pub none_is_stuck : (s : PlanState) → AreFirst s None → IsProposal s None
+unfolding is_stuck
+none_is_stuck s none = ap not (any_find (has_repair s) (conflicts_of s) ∙ ap is_some none)
+
+pub some_is_not_stuck : (s : PlanState) (r : Repairs) → AreFirst s (Some r) → is_stuck s ≡ false
+unfolding is_stuck
+some_is_not_stuck s r first = ap not (any_find (has_repair s) (conflicts_of s) ∙ ap is_some first.0)
+
+-- where there is one something is proposed
+pub something : (s : PlanState) (r : Repairs) (p : Option Proposal) → AreFirst s (Some r) → IsProposal s p → p ≡ None → ⊥
+something s r p first legal none =
+    let P : Option Proposal → Type 0 = λ o. IsProposal s o in
+    let stuck : is_stuck s ≡ true = subst P none legal in
+    let h : true ≡ false = sym stuck ∙ some_is_not_stuck s r first in
+    cc
+
+pub if_some : (P : Option Proposal → Type 0) (p : Option Proposal) → P p → IfSome p (λ q. P (Some q))
+if_some P None h = tt
+if_some P (Some q) h = h
 
 -- ---- what a list of legal candidates tells
 

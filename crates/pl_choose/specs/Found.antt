@@ -1,11 +1,11 @@
 -- What is found on the way to a proposal.
-use Rattle.std.specs.Prelude.{◌≡◌, ℕ, ◌≤◌, nat_lt, cond, true, false, find, List, [], ◌∷◌, drop, length, Option, Some, None}
+use Rattle.std.specs.Prelude.{◌≡◌, ℕ, nat_lt, cond, true, false, find, List, [], ◌∷◌, Option, Some, None}
 use Rattle.pl_conflict.specs.declared.conflict.Conflict.{Conflict}
 use Rattle.pl_plan.specs.declared.repair.RepairMove.{RepairMove}
 use Rattle.pl_world.specs.declared.plan_state.PlanState.{PlanState}
 use Rattle.pl_world.specs.Conflicts.{conflicts_of}
 use Rattle.pl_world.specs.Moves.{is_proper}
-use Rattle.pl_world.specs.Legal.{has_repair, left_after, legal_for}
+use Rattle.pl_world.specs.Legal.{has_repair, legal_for}
 use Rattle.pl_moves.specs.Runs.{CanBeMade}
 use Rattle.pl_choose.specs.declared.repairs.Repairs.{Repairs}
 
@@ -36,9 +36,3 @@ lower f x y = cond (nat_lt (f y) (f x)) y x
 abbrev pub lowest : {X : Type 0} → (X → ℕ) → X → List X → X
 lowest f x [] = x
 lowest f x (y ∷ more) = lowest f (lower f x y) more
-
--- The best of the first move and so many of the others: with those that are left, it leads to the best of all.
-pub record IsOnWay (s : PlanState) (first : RepairMove) (rest : List RepairMove) (best : RepairMove) (left : ℕ) (count : ℕ) : Type 0 where
-  pub left_is : left ≡ left_after s best
-  pub few : count ≤ length rest
-  pub leads : lowest (left_after s) best (drop count rest) ≡ lowest (left_after s) first rest

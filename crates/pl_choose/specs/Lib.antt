@@ -1,2 +1,3 @@
 pub mod Picks
 pub mod Found
+pub mod Tried

@@ -15,7 +15,8 @@ use std::alloc::{AllocError, Global};
 #[derive(Clone, Copy, Debug, Drop)]
 pub struct Least;
 
-fn propose_fewest(
+/// The best of the legal candidates of one conflict.
+pub(crate) fn propose_fewest(
     alloc: Global,
     board: &mut Board,
     repairs: &Repairs,
@@ -62,7 +63,17 @@ impl Chooser for Least {
 
     ghost picks = { λ before s p now. p ≡ least_pick s };
 
+    ghost drawn = { λ before now. now ≡ before };
+
     fn propose(
+        &mut self,
+        alloc: Global,
+        board: &mut Board,
+    ) -> Result<Option<Proposal>, AllocError> {
+        propose_least(alloc, board)
+    }
+
+    fn next_repair(
         &mut self,
         alloc: Global,
         board: &mut Board,

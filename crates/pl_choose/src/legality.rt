@@ -43,7 +43,7 @@ fn legal_among(
     requires proper { All (IsProper board.now.state) tried.now }
     ensures { IfOk result (λ all. all.items ≡ filter (is_legal board.now.state) tried.now) }
 {
-    let mut all = Vec::new(alloc);
+    let mut all = Vec::with_capacity(alloc, tried.len())?;
     for mv in tried {
         add_if_legal(board, mv, &mut all)?;
     }

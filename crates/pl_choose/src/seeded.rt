@@ -1,12 +1,15 @@
-ghost use Rattle.std.specs.Prelude.{◌≡◌, ◌≤◌, true, false, IfOk, OnOk, OnErr};
+ghost use Rattle.std.specs.Prelude.{◌≡◌, ◌≤◌, true, false, Some, IfOk, OnOk, OnErr};
 ghost use Rattle.rand_pcg.specs.Lcg.{started, increment_of};
 ghost use Rattle.rand_pcg.specs.Pcg.{multiplier_64};
 ghost use Rattle.pl_cand.specs.Proposals.{IsProposal};
+ghost use Rattle.pl_choose.specs.Found.{AreFirst};
 ghost use Rattle.pl_choose.specs.Picks.{word_of, after_word, is_random, draw_of, pick_by, random_pick, seeded_pick, seeded_after};
 
 use crate::draw::Draw;
-use crate::least::propose_least;
+use crate::least::{propose_fewest, propose_least};
 use crate::picking::pick;
+use crate::repairs::Repairs;
+use crate::search::first_repairs;
 use pl_board::Board;
 use pl_cand::{Chooser, Proposal};
 use rand_core::utils::NextWord;
@@ -60,6 +63,26 @@ impl Seeded {
         let repair = self.word();
         Draw::AtRandom { conflict, repair }
     }
+
+    /// Draws, and chooses where the first conflict that has a legal candidate is known.
+    #[tactic(auto, unfolding(crate::specs::Picks::seeded_pick))]
+    fn choose(
+        &mut self,
+        alloc: Global,
+        board: &mut Board,
+        first: &Repairs,
+    ) -> Result<Option<Proposal>, AllocError>
+        requires unspoiled { board.old.spoiled ≡ false }
+        requires next_id { board.old.state.next_id ≤ 3999999000 }
+        requires first { AreFirst board.old.state (Some first.now) }
+        ensures picks { IfOk result (λ p. p ≡ seeded_pick board.old.state self.old) }
+        ensures after { self.new ≡ seeded_after self.old }
+        ensures same { OnOk result (board.new ≡ board.old) }
+        ensures err { OnErr result (board.new.spoiled ≡ true) }
+    {
+        let draw = self.draw();
+        propose_from(alloc, board, draw, first)
+    }
 }
 
 #[tactic(auto, unfolding(crate::specs::Picks::is_random))]
@@ -102,11 +125,34 @@ fn propose_by(alloc: Global, board: &mut Board, draw: Draw) -> Result<Option<Pro
     }
 }
 
+// As `propose_by`, where the first conflict that has a legal candidate is known.
+#[tactic(auto, using(crate::proofs::Proposing::first_is_least))]
+fn propose_from(
+    alloc: Global,
+    board: &mut Board,
+    draw: Draw,
+    first: &Repairs,
+) -> Result<Option<Proposal>, AllocError>
+    requires unspoiled { board.old.spoiled ≡ false }
+    requires next_id { board.old.state.next_id ≤ 3999999000 }
+    requires first { AreFirst board.old.state (Some first.now) }
+    ensures picks { IfOk result (λ p. p ≡ pick_by board.old.state draw) }
+    ensures same { OnOk result (board.new ≡ board.old) }
+    ensures err { OnErr result (board.new.spoiled ≡ true) }
+{
+    match draw {
+        Draw::AsLeast => propose_fewest(alloc, board, first),
+        Draw::AtRandom { conflict, repair } => propose_at_random(alloc, board, conflict, repair),
+    }
+}
+
 impl Chooser for Seeded {
     ghost use Rattle.std.specs.Prelude.{◌≡◌};
     ghost use Rattle.pl_choose.specs.Picks.{seeded_pick, seeded_after};
 
     ghost picks = { λ before s p now. (p ≡ seeded_pick s before) × (now ≡ seeded_after before) };
+
+    ghost drawn = { λ before now. now ≡ seeded_after before };
 
     /// The words are drawn before the plan is looked at, so they are drawn whatever the answer.
     #[tactic(auto, unfolding(crate::specs::Picks::seeded_pick))]
@@ -121,5 +167,21 @@ impl Chooser for Seeded {
     {
         let draw = self.draw();
         propose_by(alloc, board, draw)
+    }
+
+    /// No word is drawn before a conflict is found that has a legal candidate.
+    fn next_repair(
+        &mut self,
+        alloc: Global,
+        board: &mut Board,
+    ) -> Result<Option<Proposal>, AllocError> {
+        match first_repairs(alloc, board) {
+            Ok(Some(first)) => self.choose(alloc, board, &first),
+            Ok(None) => Ok(None),
+            Err(fault) => {
+                board.spoil();
+                Err(fault)
+            }
+        }
     }
 }

@@ -1,4 +1,4 @@
-ghost use Rattle.std.specs.Prelude.{◌≡◌, ◌≤◌, true, false, min, IfOk, OnOk, OnErr};
+ghost use Rattle.std.specs.Prelude.{◌≡◌, ◌≤◌, ◌<◌, ◌^◌, true, false, min, IfOk, OnOk, OnErr};
 ghost use Rattle.pl_world.specs.Legal.{left_after};
 ghost use Rattle.pl_moves.specs.Runs.{counted};
 ghost use Rattle.pl_choose.specs.Found.{IsAllowed};
@@ -15,7 +15,8 @@ fn count_on_copy(alloc: Global, board: &Board, mv: &RepairMove) -> Result<usize,
     requires unspoiled { board.now.spoiled ≡ false }
     requires allowed { IsAllowed board.now.state mv.now }
     requires next { board.now.state.next_id ≤ 3999999000 }
-    ensures { IfOk result (λ n. n ≡ left_after board.now.state mv.now) }
+    ensures count { IfOk result (λ n. n ≡ left_after board.now.state mv.now) }
+    ensures small { IfOk result (λ n. n < 2 ^ 63) }
 {
     let mut trial = board.copy(alloc)?;
     match apply(alloc, &mut trial, mv, &mut Steps::new(Quiet)) {
@@ -32,6 +33,7 @@ fn count_or_spoil(alloc: Global, board: &mut Board, mv: &RepairMove) -> Result<u
     requires allowed { IsAllowed board.old.state mv.now }
     requires next { board.old.state.next_id ≤ 3999999000 }
     ensures count { IfOk result (λ n. n ≡ left_after board.old.state mv.now) }
+    ensures small { IfOk result (λ n. n < 2 ^ 63) }
     ensures same { OnOk result (board.new ≡ board.old) }
     ensures err { OnErr result (board.new.spoiled ≡ true) }
 {
@@ -57,6 +59,7 @@ pub(crate) fn exact(
     requires next { board.old.state.next_id ≤ 3999999000 }
     requires count { count ≡ counted board.old.state mv.now }
     ensures count { IfOk result (λ n. n ≡ left_after board.old.state mv.now) }
+    ensures small { IfOk result (λ n. n < 2 ^ 63) }
     ensures same { OnOk result (board.new ≡ board.old) }
     ensures err { OnErr result (board.new.spoiled ≡ true) }
 {

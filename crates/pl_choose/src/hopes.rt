@@ -1,0 +1,83 @@
+//! The moves that may be better than the best so far.
+ghost use Rattle.std.specs.Prelude.{◌≡◌, ◌∷◌, ◌++◌, [], true, All, IfOk, OnOk, OnErr, length};
+ghost use Rattle.pl_choose.specs.Tried.{below, AreHopes};
+ghost use Rattle.pl_choose.specs.Found.{IsAllowed};
+ghost use Rattle.pl_outlook.specs.Bounds.{AreLeast};
+
+use crate::best::Best;
+use pl_board::Board;
+use pl_plan::RepairMove;
+use std::alloc::{AllocError, Global};
+
+/// Some moves, and for each a number of conflicts that it leaves at least.
+#[derive(Drop)]
+pub(crate) struct Hopes {
+    pub(crate) moves: Vec<RepairMove>,
+    pub(crate) bounds: Vec<u32>,
+}
+
+impl Hopes {
+    fn new(alloc: Global) -> Hopes
+        ensures moves { result.moves.items ≡ [] }
+        ensures bounds { result.bounds.items ≡ [] }
+    {
+        Hopes {
+            moves: Vec::new(alloc),
+            bounds: Vec::new(alloc),
+        }
+    }
+
+    // Keeps a move that is not known to leave so many conflicts or more.
+    fn add_if_hopeful(&mut self, mv: &RepairMove, bound: u32, left: usize) -> Result<(), AllocError>
+        ensures moves { OnOk result (self.new.moves.items ≡ self.old.moves.items ++ below left (bound ∷ []) (mv.now ∷ [])) }
+        ensures bounds { OnOk result (self.new.bounds.items ≡ self.old.bounds.items ++ below left (bound ∷ []) (bound ∷ [])) }
+    {
+        if bound as usize >= left {
+            return Ok(());
+        }
+        self.moves.push(*mv)?;
+        self.bounds.push(bound)?;
+        Ok(())
+    }
+
+    // Those of some moves that are not known to leave so many conflicts or more.
+    fn sift(
+        alloc: Global,
+        moves: &[RepairMove],
+        bounds: &[u32],
+        left: usize,
+    ) -> Result<Hopes, AllocError>
+        requires { length bounds.now ≡ length moves.now }
+        ensures moves { IfOk result (λ h. h.moves.items ≡ below left bounds.now moves.now) }
+        ensures bounds { IfOk result (λ h. h.bounds.items ≡ below left bounds.now bounds.now) }
+    {
+        let mut hopes = Hopes::new(alloc);
+        for (place, mv) in moves.iter().enumerate() {
+            hopes.add_if_hopeful(mv, bounds[place], left)?;
+        }
+        Ok(hopes)
+    }
+}
+
+/// Those of some moves that may be better than the best so far, given for each a number of conflicts that it leaves at least.
+pub(crate) fn hopes_of(
+    alloc: Global,
+    board: &mut Board,
+    best: Best,
+    moves: &[RepairMove],
+    bounds: &[u32],
+) -> Result<Hopes, AllocError>
+    requires allowed { All (IsAllowed board.old.state) moves.now }
+    requires least { AreLeast board.old.state moves.now bounds.now }
+    ensures hopes { IfOk result (λ h. AreHopes board.old.state best moves.now h.moves.items h.bounds.items) }
+    ensures same { OnOk result (board.new ≡ board.old) }
+    ensures err { OnErr result (board.new.spoiled ≡ true) }
+{
+    match Hopes::sift(alloc, moves, bounds, best.left) {
+        Ok(hopes) => Ok(hopes),
+        Err(fault) => {
+            board.spoil();
+            Err(fault)
+        }
+    }
+}
