@@ -1,5 +1,5 @@
 -- A round goes on by one entry.
-use Rattle.std.proofs.Common.{◌≡◌, ℕ, List, [], ◌∷◌, ◌++◌, true, false, not, ◌&&◌, Option, Some, None, Ok, Err, refl, sym, ◌∙◌, ap, subst, append_assoc}
+use Rattle.std.proofs.Common.{◌≡◌, ℕ, List, [], ◌∷◌, ◌++◌, true, false, not, ◌&&◌, Option, Some, None, Ok, Err, refl, sym, ◌∙◌, ap, subst, inl, append_assoc}
 use Rattle.std.specs.Prelude.{is_some}
 use Rattle.std.proofs.lemmas.List.{append-nil}
 use Rattle.std.proofs.lemmas.List.Elements.{filter_map-append}
@@ -20,11 +20,11 @@ use Rattle.pl_machine.specs.World.{World}
 use Rattle.pl_machine.specs.Step.{is_enabled, reply_of, after_fix, after_commit, after_dispatch, after}
 use Rattle.pl_machine.specs.Choices.{exec_choice_of, event_of}
 use Rattle.pl_machine.specs.Legal.{world_from}
-use Rattle.pl_machine.specs.Solo.{Picks, IsSoloEvent, solo_from}
+use Rattle.pl_machine.specs.Solo.{Picks, Drawn, IsSoloEvent, solo_from}
 use Rattle.pl_machine.specs.Finished.{inputs_of, input_in}
 use Rattle.pl_machine.specs.Sound.{State}
 use Rattle.pl_machine.specs.Taking.{Spoils, Answers}
-use Rattle.pl_machine.specs.Mending.{HasRepaired, RepairsOnce}
+use Rattle.pl_machine.specs.Mending.{IsAskedAtMost, HasRepaired, RepairsOnce}
 use Rattle.pl_machine.proofs.Runs.{world_from_push}
 use Rattle.pl_driver.specs.Rounds.{Goes, Ran, RanTo, Executes, Stepped}
 
@@ -68,11 +68,11 @@ takes_goes picks old new c c2 e r takes none solo = record {
 
 -- ---- what is answered to an event that is enabled
 
-pub stopped : {C : Type 0} (picks : Picks C) (old new : State) (c c2 : C) (e : Event) (s : Stop) → is_enabled old.world e ≡ true → Answers old e (Err s) new → c2 ≡ c → Stepped picks old c (Err s) new c2
-stopped picks old new c c2 e stop.NotNow on answers same = absurd (let h : true ≡ false = sym on ∙ answers.1 in (cc))
-stopped picks old new c c2 e stop.LogFull on answers same = (answers.0, answers.2, answers.3, same)
-stopped picks old new c c2 e stop.Spoiled on answers same = (answers.0, answers.1, same)
-stopped picks old new c c2 e stop.Memory on answers same = answers
+pub stopped : {C : Type 0} (picks : Picks C) (drawn : Drawn C) (old new : State) (c c2 : C) (e : Event) (s : Stop) → is_enabled old.world e ≡ true → Answers old e (Err s) new → c2 ≡ c → Stepped picks drawn old c (Err s) new c2
+stopped picks drawn old new c c2 e stop.NotNow on answers same = absurd (let h : true ≡ false = sym on ∙ answers.1 in (cc))
+stopped picks drawn old new c c2 e stop.LogFull on answers same = (answers.0, answers.2, answers.3, same)
+stopped picks drawn old new c c2 e stop.Spoiled on answers same = (answers.0, answers.1, same)
+stopped picks drawn old new c c2 e stop.Memory on answers same = (answers.0, answers.1, inl same)
 
 -- ---- one turn of repair
 
@@ -80,11 +80,11 @@ pub repaired_goes : {C : Type 0} (picks : Picks C) (old new : State) (c c2 : C) 
 repaired_goes picks old new c c2 (repaired.Fixed p) going did = takes_goes picks old new c c2 (event.Fix p.conflict p.mv) reply.Done (did.3, did.4) refl (going, did.0, did.1)
 repaired_goes picks old new c c2 (repaired.Rested why) going did = takes_goes picks old new c c2 event.Rest (reply.Rested why) (did.1, did.2) refl (going, ap (λ (o : Option Reason). is_some o) did.0, did.3)
 
-pub repair_stops : {C : Type 0} (picks : Picks C) (old new : State) (c c2 : C) (s : Stop) → old.world.closed ≡ false → old.world.rested ≡ false → RepairsOnce picks old c (Err s) new c2 → Stepped picks old c (Err s) new c2
-repair_stops picks old new c c2 stop.NotNow opened going answers = absurd (let h : (not old.world.closed && not old.world.rested) ≡ false = answers.1 in let k : true ≡ false = rw (opened, going) at h in cc)
-repair_stops picks old new c c2 stop.LogFull opened going answers = (answers.0, answers.2, answers.3, answers.4)
-repair_stops picks old new c c2 stop.Spoiled opened going answers = answers
-repair_stops picks old new c c2 stop.Memory opened going answers = answers
+pub repair_stops : {C : Type 0} (picks : Picks C) (drawn : Drawn C) (old new : State) (c c2 : C) (s : Stop) → old.world.closed ≡ false → old.world.rested ≡ false → RepairsOnce picks drawn old c (Err s) new c2 → Stepped picks drawn old c (Err s) new c2
+repair_stops picks drawn old new c c2 stop.NotNow opened going answers = absurd (let h : (not old.world.closed && not old.world.rested) ≡ false = answers.1 in let k : true ≡ false = rw (opened, going) at h in cc)
+repair_stops picks drawn old new c c2 stop.LogFull opened going answers = (answers.0, answers.2, answers.3, answers.4)
+repair_stops picks drawn old new c c2 stop.Spoiled opened going answers = answers
+repair_stops picks drawn old new c c2 stop.Memory opened going answers = answers
 
 -- ---- what the executive chooses
 
@@ -98,8 +98,8 @@ executes_goes picks old new c c2 r rested does same =
     let solo = chosen_solo picks old.world c c2 does.choice rested does.chosen same in
     takes_goes picks old new c c2 (event_of does.choice) r does.answers solo.1 solo.0
 
-pub executes_stops : {C : Type 0} (picks : Picks C) (old new : State) (c c2 : C) (s : Stop) → Executes old (Err s) new → c2 ≡ c → Stepped picks old c (Err s) new c2
-executes_stops picks old new c c2 s does same = stopped picks old new c c2 (event_of does.choice) s does.enabled does.answers same
+pub executes_stops : {C : Type 0} (picks : Picks C) (drawn : Drawn C) (old new : State) (c c2 : C) (s : Stop) → Executes old (Err s) new → c2 ≡ c → Stepped picks drawn old c (Err s) new c2
+executes_stops picks drawn old new c c2 s does same = stopped picks drawn old new c c2 (event_of does.choice) s does.enabled does.answers same
 
 -- ---- one more entry behind others
 
@@ -139,8 +139,8 @@ ran_none picks s c unspoiled = record {
   done = refl;
 }
 
-pub ran_spoils : {C : Type 0} (picks : Picks C) (old mid new : State) (c c2 : C) → RanTo picks old c mid c2 → (mid.spoiled ≡ false) × Spoils mid new → Ran picks old c new
-ran_spoils picks old mid new c c2 ran (unspoiled, spoils) = record {
+pub ran_spoils : {C : Type 0} (picks : Picks C) (drawn : Drawn C) (old mid new : State) (c c2 c3 : C) → RanTo picks old c mid c2 → (mid.spoiled ≡ false) × Spoils mid new × IsAskedAtMost drawn mid.world c2 c3 → Ran picks drawn old c new c3
+ran_spoils picks drawn old mid new c c2 c3 ran (unspoiled, spoils, asked) = record {
   entries = ran.entries;
   chooser = c2;
   ready = ran.ready;
@@ -150,4 +150,5 @@ ran_spoils picks old mid new c c2 ran (unspoiled, spoils) = record {
   same = record { model = spoils.model ∙ ran.same.model; options = ap (λ (w : World). w.options) spoils.world ∙ ran.same.options };
   world = spoils.world ∙ ap (λ (w : World). record w { state = new.world.state }) ran.world;
   spoiled = spoils.spoiled;
+  asked = subst (λ (w : World). IsAskedAtMost drawn w c2 c3) ran.world asked;
 }

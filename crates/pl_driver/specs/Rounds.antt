@@ -9,7 +9,8 @@ use Rattle.pl_machine.specs.Step.{is_enabled, after}
 use Rattle.pl_machine.specs.Legal.{world_from}
 use Rattle.pl_machine.specs.Choices.{exec_choice_of, event_of}
 use Rattle.pl_machine.specs.Taking.{Spoils, Answers}
-use Rattle.pl_machine.specs.Solo.{Picks, IsSoloEvent, solo_from}
+use Rattle.pl_machine.specs.Solo.{Picks, Drawn, IsSoloEvent, solo_from}
+use Rattle.pl_machine.specs.Mending.{IsAskedAtMost}
 use Rattle.pl_machine.specs.Finished.{inputs_of, input_in}
 use Rattle.pl_machine.specs.Sound.{State}
 
@@ -31,9 +32,9 @@ pub record Goes {C : Type 0} (picks : Picks C) (old : State) (c : C) (new : Stat
   pub room : length old.log < old.world.options.entries
 
 -- More entries: none of them an input, each with the event that the world before it and the chooser fix. Then memory was wanting:
--- the machine is spoiled, and but for the plan state its world is the one after them. What the chooser has drawn behind the last of
--- them is not said.
-pub record Ran {C : Type 0} (picks : Picks C) (old : State) (c : C) (new : State) : Type 0 where
+-- the machine is spoiled, and but for the plan state its world is the one after them. Behind the last of them the chooser was asked
+-- once at most.
+pub record Ran {C : Type 0} (picks : Picks C) (drawn : Drawn C) (old : State) (c : C) (new : State) (c2 : C) : Type 0 where
   pub entries : List Entry
   pub chooser : C
   pub ready : old.spoiled ≡ false
@@ -43,6 +44,7 @@ pub record Ran {C : Type 0} (picks : Picks C) (old : State) (c : C) (new : State
   pub same : SameRun old new
   pub world : new.world ≡ record (world_from old.world entries) { state = new.world.state }
   pub spoiled : new.spoiled ≡ true
+  pub asked : IsAskedAtMost drawn (world_from old.world entries) chooser c2
 
 -- The same, with the chooser after them, and the machine stands for the world after them.
 pub record RanTo {C : Type 0} (picks : Picks C) (old : State) (c : C) (new : State) (c2 : C) : Type 0 where
@@ -63,17 +65,17 @@ pub record Executes (old : State) (answer : Result Reply Stop) (new : State) : T
   pub enabled : is_enabled old.world (event_of choice) ≡ true
   pub answers : Answers old (event_of choice) answer new
 
-abbrev pub Stepped : {C : Type 0} → Picks C → State → C → Result (Unit {0}) Stop → State → C → Type 0
-Stepped picks old c (Ok u) new c2 = Goes picks old c new c2
-Stepped picks old c (Err stop.NotNow) new c2 = ⊥
-Stepped picks old c (Err stop.LogFull) new c2 = (old.spoiled ≡ false) × (old.world.options.entries ≤ length old.log) × (new ≡ old) × (c2 ≡ c)
-Stepped picks old c (Err stop.Spoiled) new c2 = (old.spoiled ≡ true) × (new ≡ old) × (c2 ≡ c)
-Stepped picks old c (Err stop.Memory) new c2 = (old.spoiled ≡ false) × Spoils old new
+abbrev pub Stepped : {C : Type 0} → Picks C → Drawn C → State → C → Result (Unit {0}) Stop → State → C → Type 0
+Stepped picks drawn old c (Ok u) new c2 = Goes picks old c new c2
+Stepped picks drawn old c (Err stop.NotNow) new c2 = ⊥
+Stepped picks drawn old c (Err stop.LogFull) new c2 = (old.spoiled ≡ false) × (old.world.options.entries ≤ length old.log) × (new ≡ old) × (c2 ≡ c)
+Stepped picks drawn old c (Err stop.Spoiled) new c2 = (old.spoiled ≡ true) × (new ≡ old) × (c2 ≡ c)
+Stepped picks drawn old c (Err stop.Memory) new c2 = (old.spoiled ≡ false) × Spoils old new × IsAskedAtMost drawn old.world c c2
 
--- What a round does, up to its close or until it stops. Only where memory is wanting the chooser may have drawn more.
-abbrev pub Rounds : {C : Type 0} → Picks C → State → C → Result (Unit {0}) Stop → State → C → Type 0
-Rounds picks old c (Ok u) new c2 = RanTo picks old c new c2 × (new.world.closed ≡ true)
-Rounds picks old c (Err stop.NotNow) new c2 = ⊥
-Rounds picks old c (Err stop.LogFull) new c2 = RanTo picks old c new c2 × (new.world.closed ≡ false) × (old.world.options.entries ≤ length new.log)
-Rounds picks old c (Err stop.Spoiled) new c2 = (old.spoiled ≡ true) × (new ≡ old) × (c2 ≡ c)
-Rounds picks old c (Err stop.Memory) new c2 = Ran picks old c new
+-- What a round does, up to its close or until it stops. Only where memory is wanting the chooser may have been asked for what was not made.
+abbrev pub Rounds : {C : Type 0} → Picks C → Drawn C → State → C → Result (Unit {0}) Stop → State → C → Type 0
+Rounds picks drawn old c (Ok u) new c2 = RanTo picks old c new c2 × (new.world.closed ≡ true)
+Rounds picks drawn old c (Err stop.NotNow) new c2 = ⊥
+Rounds picks drawn old c (Err stop.LogFull) new c2 = RanTo picks old c new c2 × (new.world.closed ≡ false) × (old.world.options.entries ≤ length new.log)
+Rounds picks drawn old c (Err stop.Spoiled) new c2 = (old.spoiled ≡ true) × (new ≡ old) × (c2 ≡ c)
+Rounds picks drawn old c (Err stop.Memory) new c2 = Ran picks drawn old c new c2

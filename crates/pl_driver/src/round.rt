@@ -14,7 +14,7 @@ fn repair<C: Chooser>(machine: &mut Machine, chooser: &mut C) -> Result<(), Stop
     requires unspoiled { machine.old.spoiled ≡ false }
     requires open { machine.old.world.closed ≡ false }
     requires going { machine.old.world.rested ≡ false }
-    ensures { Stepped C.picks machine.old chooser.old result machine.new chooser.new }
+    ensures { Stepped C.picks C.drawn machine.old chooser.old result machine.new chooser.new }
 {
     machine.repair_once(chooser)?;
     Ok(())
@@ -55,7 +55,7 @@ fn step<C: Chooser>(machine: &mut Machine, chooser: &mut C) -> Result<(), Stop>
     requires unspoiled { machine.old.spoiled ≡ false }
     requires open { machine.old.world.closed ≡ false }
     requires going { machine.old.world.done ≡ false }
-    ensures { Stepped C.picks machine.old chooser.old result machine.new chooser.new }
+    ensures { Stepped C.picks C.drawn machine.old chooser.old result machine.new chooser.new }
 {
     if machine.resting() {
         execute(machine)?;
@@ -73,7 +73,7 @@ pub fn solo_round<C: Chooser>(
     chooser: &mut C,
 ) -> Result<(), Stop>
     requires { machine.old.world.closed ≡ false }
-    ensures { Rounds C.picks machine.old chooser.old result machine.new chooser.new }
+    ensures { Rounds C.picks C.drawn machine.old chooser.old result machine.new chooser.new }
 {
     if machine.spoiled() {
         return Err(Stop::Spoiled);

@@ -2,4 +2,4 @@ pub mod Steps
 pub mod DueLaws
 pub mod BestLaws
 pub mod Growth
-mod DueOn
+pub mod DueOn

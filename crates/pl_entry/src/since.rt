@@ -1,8 +1,8 @@
-ghost use Rattle.std.specs.Prelude.{◌≡◌, ◌<◌, ◌≤◌, ◌++◌, length, IfOk, OnOk, if◌then◌else◌};
+ghost use Rattle.std.specs.Prelude.{◌≡◌, ◌<◌, ◌≤◌, ◌++◌, All, length, IfOk, OnOk, if◌then◌else◌};
 ghost use Rattle.std.specs.BTreeSet.{insert_key};
 ghost use Rattle.pl_plan.specs.Activities.{AreRising};
 ghost use Rattle.pl_plan.specs.Fitting.{Fits};
-ghost use Rattle.pl_entry.specs.Due.{is_due_since, start_of, start_cmp, starts_since, due_of};
+ghost use Rattle.pl_entry.specs.Due.{is_due_since, start_of, start_cmp, starts_since, due_since, due_of};
 
 use crate::sending::{ids_in, is_due};
 use pl_model::Model;
@@ -30,20 +30,36 @@ fn add_if_due(
 fn starts_since(
     alloc: Global,
     model: &Model,
-    plan: &Plan,
+    activities: &[Activity],
     before: u32,
     now: u32,
     c: u32,
 ) -> Result<BTreeSet<(u32, u32)>, AllocError>
-    requires { Fits model.now plan.now.activities }
-    ensures starts { IfOk result (λ starts. starts.keys ≡ starts_since model.now plan.now.activities before now c) }
-    ensures rising { AreRising plan.now.activities }
+    requires { All (λ a. a.kind < length model.now.kinds) activities.now }
+    ensures { IfOk result (λ starts. starts.keys ≡ starts_since model.now activities.now before now c) }
 {
     let mut starts = BTreeSet::new(alloc);
-    for activity in plan.activities() {
+    for activity in activities {
         add_if_due(&mut starts, model, activity, before, now, c)?;
     }
     Ok(starts)
+}
+
+/// The ids of those of the activities that come to be due as the present moves on from `before`, in the order of `due`.
+#[tactic(auto, unfolding(crate::specs::Due::due_since))]
+pub fn due_since_among(
+    alloc: Global,
+    model: &Model,
+    activities: &[Activity],
+    before: u32,
+    now: u32,
+    c: u32,
+) -> Result<Vec<u32>, AllocError>
+    requires { All (λ a. a.kind < length model.now.kinds) activities.now }
+    ensures { IfOk result (λ ids. ids.items ≡ due_since model.now activities.now before now c) }
+{
+    let starts = starts_since(alloc, model, activities, before, now, c)?;
+    ids_in(alloc, &starts)
 }
 
 /// The ids of the activities that come to be due as the present moves on from `before`, in the order of `due`: behind those that
@@ -60,6 +76,5 @@ pub fn due_since(
     requires later { before ≤ now }
     ensures { IfOk result (λ ids. due_of model.now plan.now.activities now c ≡ due_of model.now plan.now.activities before c ++ ids.items) }
 {
-    let starts = starts_since(alloc, model, plan, before, now, c)?;
-    ids_in(alloc, &starts)
+    due_since_among(alloc, model, plan.activities(), before, now, c)
 }

@@ -8,12 +8,12 @@ use Rattle.pl_plan.specs.declared.activity.Activity.{Activity}
 use Rattle.pl_plan.specs.Fitting.{kind_of, alternatives_of}
 use Rattle.pl_entry.specs.Due.{is_due, start_of, with_starts, due_of}
 use Rattle.pl_world.specs.declared.plan_state.PlanState.{PlanState}
-use Rattle.pl_board.specs.Boards.{Standing, after}
 use Rattle.pl_machine.specs.World.{due_in, due_at}
+use Rattle.pl_machine.specs.declared.ahead.Ahead.{Ahead}
 use Rattle.pl_machine.specs.declared.change.Change.{Change}
 use Rattle.pl_machine.specs.declared.change.Change.TheVariants.{Accept, Tell, Tick, Commit, Repair}
 use Rattle.pl_machine.specs.Changes.{changed, is_tick}
-use Rattle.pl_machine.specs.Calm.{StartsNone, nearer, next_start, next_after}
+use Rattle.pl_machine.specs.Calm.{StartsNone, nearer, next_start, ahead_after}
 
 -- ---- changes
 
@@ -22,24 +22,13 @@ always moment [] = All-nil (λ (a : Activity). (a.start ≤ moment) ⊎ (0 ≤ a
 always moment (a ∷ more) = All-cons (λ (a : Activity). (a.start ≤ moment) ⊎ (0 ≤ a.start)) a more (inr (omega arith)) (always moment more)
 
 -- a change that leaves the present
-calm_still : (s : PlanState) (change : Change) (next : ℕ) → is_tick change ≡ false → StartsNone s.moment next s.plan.activities → StartsNone (changed change s).moment (next_after change next) (changed change s).plan.activities
-calm_still s (Accept goal) next still calm = calm
-calm_still s (Tell line value) next still calm = calm
-calm_still s (Tick moment) next still calm = absurd (cc)
-calm_still s (Commit h) next still calm = calm
-calm_still s (Repair m) next still calm = always (changed (Repair m) s).moment (changed (Repair m) s).plan.activities
-
-pub calm_on : (s : PlanState) (change : Change) (next next2 : ℕ) (b : Standing) → b ≡ after (changed change s) → next2 ≡ next_after change next → is_tick change ≡ false
-    → StartsNone s.moment next s.plan.activities → StartsNone b.state.moment next2 b.state.plan.activities
-calm_on s change next next2 b made is still calm = rw (made, is) (calm_still s change next still calm)
-
--- a tick leaves what starts behind the earlier moment
-pub calm_ticks : (s : PlanState) (change : Change) (next : ℕ) → is_tick change ≡ true → StartsNone s.moment next s.plan.activities → StartsNone s.moment (next_after change next) (changed change s).plan.activities
-calm_ticks s (Accept goal) next ticks calm = absurd (cc)
-calm_ticks s (Tell line value) next ticks calm = absurd (cc)
-calm_ticks s (Tick moment) next ticks calm = calm
-calm_ticks s (Commit h) next ticks calm = absurd (cc)
-calm_ticks s (Repair m) next ticks calm = absurd (cc)
+pub calm_still : (s : PlanState) (change : Change) (ahead : Ahead) → is_tick change ≡ false → StartsNone s.moment ahead.next_start s.plan.activities
+    → StartsNone (changed change s).moment (ahead_after change ahead).next_start (changed change s).plan.activities
+calm_still s (Accept goal) ahead still calm = calm
+calm_still s (Tell line value) ahead still calm = calm
+calm_still s (Tick moment) ahead still calm = absurd (cc)
+calm_still s (Commit h) ahead still calm = calm
+calm_still s (Repair m) ahead still calm = always (changed (Repair m) s).moment (changed (Repair m) s).plan.activities
 
 -- ---- as the present moves on
 
@@ -96,7 +85,7 @@ next_low moment next (a ∷ more) =
     let near = (nearer_low moment next a.start (ltb moment a.start) (ltb a.start next) refl refl).1 in
     omega (arith, rest, near)
 
-next_calm : (moment next : ℕ) (xs : List Activity) → StartsNone moment (next_start moment next xs) xs
+pub next_calm : (moment next : ℕ) (xs : List Activity) → StartsNone moment (next_start moment next xs) xs
 next_calm moment next [] = All-nil (λ (a : Activity). (a.start ≤ moment) ⊎ (next ≤ a.start))
 next_calm moment next (a ∷ more) =
     All-cons (λ (x : Activity). (x.start ≤ moment) ⊎ (next_start moment (nearer moment next a.start) more ≤ x.start)) a more
@@ -105,6 +94,3 @@ next_calm moment next (a ∷ more) =
     by : (a.start ≤ moment) ⊎ (nearer moment next a.start ≤ a.start) → next_start moment (nearer moment next a.start) more ≤ nearer moment next a.start → (a.start ≤ moment) ⊎ (next_start moment (nearer moment next a.start) more ≤ a.start)
     by (inl early) low = inl early
     by (inr near) low = inr (omega (arith, near, low))
-
-pub starts_at : (moment next : ℕ) (xs : List Activity) (first : ℕ) → first ≡ next_start moment next xs → StartsNone moment first xs
-starts_at moment next xs first is = rw is (next_calm moment next xs)

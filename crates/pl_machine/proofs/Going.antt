@@ -9,6 +9,7 @@ use Rattle.pl_entry.specs.declared.reply.Reply.{Reply}
 use Rattle.pl_entry.specs.declared.reply.Reply.TheVariants as reply
 use Rattle.pl_entry.specs.declared.entry.Entry.{Entry}
 use Rattle.pl_model.specs.declared.whole.Model.{Model}
+use Rattle.pl_machine.specs.declared.ahead.Ahead.{Ahead}
 use Rattle.pl_machine.specs.World.{World, fresh_world}
 use Rattle.pl_machine.specs.Step.{is_enabled, reply_of, after_input, after_fix, after_commit, after_dispatch, after}
 use Rattle.pl_machine.specs.Sound.{IsSound}
@@ -75,5 +76,5 @@ pub open_goes : (m : Model) (log : List Entry) (w : World) → IsHistory m log w
 open_goes m log w history = subst Goes (sym history.world) (world_goes m log history.legal)
 
 -- also where memory was wanting: the plan state is no part of it
-pub sound_goes : {spoiled : Bool} {m : Model} {log : List Entry} {w : World} {due : List ℕ} {sent next : ℕ} → IsSound spoiled m log w due sent next → w.closed ≡ false → w.done ≡ false
+pub sound_goes : {spoiled : Bool} {m : Model} {log : List Entry} {w : World} {due : List ℕ} {sent : ℕ} {ahead : Ahead} → IsSound spoiled m log w due sent ahead → w.closed ≡ false → w.done ≡ false
 sound_goes {spoiled} {m} {log} {w} sound = subst Goes (sym sound.others) (world_goes m log sound.legal)

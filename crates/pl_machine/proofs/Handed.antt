@@ -97,7 +97,7 @@ turn_left w k m enabled = let less = ltb-true w.turn w.options.turns (last_of (n
 
 -- ---- what is committed stays
 
-keeps_itself : (s : PlanState) → KeepsCommitted s s
+pub keeps_itself : (s : PlanState) → KeepsCommitted s s
 keeps_itself s = record { model = refl; moment = refl; committed = refl; bases = refl; live_limit = refl; stands = λ id a here c. here; values = λ id a here c. refl; ends = λ id a here c. refl; no_other = λ id a here c. here }
 
 fix_keeps : (w : World) (k : Conflict) (m : RepairMove) (r : Reply) → IsWhole w.state → fix_reply w.state k m ≡ r → KeepsCommitted w.state (after_fix w m r).state

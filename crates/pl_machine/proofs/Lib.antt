@@ -11,10 +11,11 @@ pub mod Handed
 pub mod Proposed
 pub mod Closes
 pub mod Crossing
-pub mod Search
 pub mod Granted
 pub mod Commits
+pub mod Resting
 pub mod Mending
 pub mod Starts
 mod Ticking
 pub mod Calm
+mod Settled

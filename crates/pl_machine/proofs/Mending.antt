@@ -1,5 +1,5 @@
 -- One turn of repair.
-use Rattle.std.proofs.Common.{◌≡◌, ℕ, zero, suc, ◌<◌, ◌≤◌, List, [], ◌∷◌, length, get_or, Bool, true, false, not, ◌&&◌, ◌||◌, Option, Some, None, Ok, Err, refl, sym, ◌∙◌, ap, subst, eq-eqb, arith}
+use Rattle.std.proofs.Common.{◌≡◌, ℕ, zero, suc, ◌<◌, ◌≤◌, List, [], ◌∷◌, length, get_or, Bool, true, false, not, ◌&&◌, ◌||◌, Option, Some, None, Ok, Err, refl, sym, ◌∙◌, ap, subst, ◌⊎◌, inl, inr, eq-eqb, arith}
 use Rattle.std.specs.Prelude.{Contains, is_none, is_some, nat_lt, ◌==◌, filter, if◌then◌else◌}
 use Rattle.std.specs.declared.cmp.Ordering.{Ordering}
 use Rattle.std.specs.declared.cmp.Ordering.TheVariants.{Less, Equal, Greater}
@@ -23,21 +23,23 @@ use Rattle.pl_world.specs.declared.refusal.Refusal.{Refusal}
 use Rattle.pl_world.specs.Conflicts.{conflicts_of}
 use Rattle.pl_world.specs.Moves.{refusal_of}
 use Rattle.pl_world.specs.Candidates.{candidates_of, same_move, same_number}
-use Rattle.pl_world.specs.Legal.{is_legal, legal_for, is_stuck}
+use Rattle.pl_world.specs.Legal.{is_legal, has_repair, legal_for, is_stuck}
+use Rattle.pl_moves.specs.Keeping.{KeepsCommitted}
 use Rattle.pl_cand.specs.declared.proposal.Proposal.{Proposal}
 use Rattle.pl_cand.specs.Proposals.{IsProposal}
 use Rattle.pl_machine.specs.declared.stop.Stop.{Stop}
 use Rattle.pl_machine.specs.declared.stop.Stop.TheVariants as stop
 use Rattle.pl_machine.specs.declared.repaired.Repaired.TheVariants as repaired
-use Rattle.pl_machine.specs.World.{World, reason_by, reason_of}
+use Rattle.pl_machine.specs.World.{World, reason_by, plain_reason_of, reason_of}
 use Rattle.pl_machine.specs.Step.{is_candidate, refusal_reply, fix_reply, rest_reply, is_enabled}
 use Rattle.pl_machine.specs.Sound.{State}
 use Rattle.pl_machine.specs.Taking.{IsOpen, Takes, Answers, Admits, Proposes}
-use Rattle.pl_machine.specs.Solo.{Picks}
+use Rattle.pl_machine.specs.Solo.{Picks, Drawn}
 use Rattle.pl_machine.specs.declared.change.Change.TheVariants.{Repair}
 use Rattle.pl_machine.specs.Changes.{CanChange}
-use Rattle.pl_machine.proofs.Handed.{can_repair}
-use Rattle.pl_machine.specs.Mending.{is_repairing, Stops, HasRepaired, RepairsOnce}
+use Rattle.pl_machine.proofs.Handed.{can_repair, keeps_itself}
+use Rattle.pl_machine.proofs.Resting.{goes_on}
+use Rattle.pl_machine.specs.Mending.{is_repairing, IsAskedAtMost, Stops, HasRepaired, RepairsOnce}
 
 -- ---- what is among the legal ones is in the list, and legal
 
@@ -116,11 +118,16 @@ by_reason (k ∷ ks) true stuck e = absurd (cc)
 by_reason (k ∷ ks) false true e = absurd (cc)
 by_reason (k ∷ ks) false false e = (refl, refl)
 
--- without a reason to rest some conflict has a legal candidate
-pub not_stuck : (w : World) → reason_of w ≡ None → is_stuck w.state ≡ false
-not_stuck w e = (by_reason (conflicts_of w.state) (w.turn == w.options.turns) (is_stuck w.state) e).1
+-- what is proposed shows that some conflict has a legal candidate
+proposed_repair : (s : PlanState) (k : Conflict) (m : RepairMove) → Contains (legal_for s k) m → has_repair s k ≡ true
+unfolding legal_for
+proposed_repair s k m legal = contained (is_legal s) (candidates_of s k) m (among (is_legal s) (candidates_of s k) m legal) (passing (is_legal s) (candidates_of s k) m legal)
 
--- and turns are left
+pub not_stuck : (s : PlanState) (p : Proposal) → IsProposal s (Some p) → is_stuck s ≡ false
+unfolding is_stuck
+not_stuck s p proposal = ap not (contained (has_repair s) (conflicts_of s) p.conflict proposal.0 (proposed_repair s p.conflict p.mv proposal.1))
+
+-- without a reason to rest turns are left
 turns_left : (w : World) → reason_of w ≡ None → w.turn ≤ w.options.turns → nat_lt w.turn w.options.turns ≡ true
 turns_left w e most =
     let other : (w.turn == w.options.turns) ≡ false = (by_reason (conflicts_of w.state) (w.turn == w.options.turns) (is_stuck w.state) e).0 in
@@ -156,21 +163,45 @@ fixed picks old mid new c c2 p r reason picked legal same made =
     let done : r ≡ reply.Done = answers.1.step.answers ∙ proposed_done old.world.state p legal in
     (reason, picked, legal, answers.0, subst (λ (x : Reply). Takes old (event.Fix p.conflict p.mv) x new) done answers.1)
 
+-- a rest behind a chooser that proposed nothing
+pub rested_on : {C : Type 0} (picks : Picks C) (old mid new : State) (c c2 : C) (reason : Reason) (r : Reply) → reason_of old.world ≡ Some reason → mid ≡ old → Answers mid event.Rest (Ok r) new → c2 ≡ c → HasRepaired picks old c (repaired.Rested reason) new c2
+rested_on picks old mid new c c2 reason r is same answers kept =
+    let answered : Answers old event.Rest (Ok r) new = subst (λ (s : State). Answers s event.Rest (Ok r) new) same answers in
+    let here : r ≡ reply.Rested reason = answered.1.step.answers ∙ ap rest_reply is in
+    (is, answered.0, subst (λ (x : Reply). Takes old event.Rest x new) here answered.1, kept)
+
 -- a rest
 pub rested : {C : Type 0} (picks : Picks C) (old new : State) (c : C) (reason : Reason) (r : Reply) → reason_of old.world ≡ Some reason → Answers old event.Rest (Ok r) new → HasRepaired picks old c (repaired.Rested reason) new c
-rested picks old new c reason r is answers =
-    let here : r ≡ reply.Rested reason = answers.1.step.answers ∙ ap rest_reply is in
-    (is, answers.0, subst (λ (x : Reply). Takes old event.Rest x new) here answers.1, refl)
+rested picks old new c reason r is answers = rested_on picks old old new c c reason r is refl answers refl
+
+-- a rest leaves the plan state
+pub rest_keeps : (old new : State) (r : Reply) → Answers old event.Rest (Ok r) new → KeepsCommitted old.world.state new.world.state
+rest_keeps old new r answers = subst (λ (w : World). KeepsCommitted old.world.state w.state) (sym answers.1.step.leaves) (keeps_itself old.world.state)
 
 -- an event that may be made fails only where memory is wanting
-fails_by : {C : Type 0} (picks : Picks C) (old new : State) (c c2 : C) (e : Event) (s : Stop) → IsOpen old e → Answers old e (Err s) new → RepairsOnce picks old c (Err s) new c2
-fails_by picks old new c c2 e stop.Spoiled may answers = absurd (let h : true ≡ false = sym answers.0 ∙ may.unspoiled in cc)
-fails_by picks old new c c2 e stop.NotNow may answers = absurd (let h : true ≡ false = sym may.enabled ∙ answers.1 in cc)
-fails_by picks old new c c2 e stop.LogFull may answers = absurd (let full = answers.2 in let room = may.room in omega (arith, room, full))
-fails_by picks old new c c2 e stop.Memory may answers = answers
+fails_by : {C : Type 0} (picks : Picks C) (drawn : Drawn C) (old new : State) (c c2 : C) (e : Event) (s : Stop) → IsOpen old e → IsAskedAtMost drawn old.world c c2 → Answers old e (Err s) new → RepairsOnce picks drawn old c (Err s) new c2
+fails_by picks drawn old new c c2 e stop.Spoiled may asked answers = absurd (let h : true ≡ false = sym answers.0 ∙ may.unspoiled in cc)
+fails_by picks drawn old new c c2 e stop.NotNow may asked answers = absurd (let h : true ≡ false = sym may.enabled ∙ answers.1 in cc)
+fails_by picks drawn old new c c2 e stop.LogFull may asked answers = absurd (let full = answers.2 in let room = may.room in omega (arith, room, full))
+fails_by picks drawn old new c c2 e stop.Memory may asked answers = (answers.0, answers.1, asked)
 
-pub fails : {C : Type 0} (picks : Picks C) (old mid new : State) (c c2 : C) (e : Event) (s : Stop) → IsOpen old e → mid ≡ old → Answers mid e (Err s) new → RepairsOnce picks old c (Err s) new c2
-fails picks old mid new c c2 e s may same made = fails_by picks old new c c2 e s may (subst (λ (t : State). Answers t e (Err s) new) same made)
+-- a rest
+pub rest_fails : {C : Type 0} (picks : Picks C) (drawn : Drawn C) (old new : State) (c : C) (s : Stop) → IsOpen old event.Rest → Answers old event.Rest (Err s) new → RepairsOnce picks drawn old c (Err s) new c
+rest_fails picks drawn old new c s may made = fails_by picks drawn old new c c event.Rest s may (inl refl) made
+
+-- it chose, if some conflict has a legal candidate
+abbrev MayChoose : {C : Type 0} → Drawn C → PlanState → C → C → Type 0
+MayChoose drawn s c c2 = (c2 ≡ c) ⊎ ((is_stuck s ≡ false) × drawn c c2)
+
+asked : {C : Type 0} (drawn : Drawn C) (w : World) (c c2 : C) → is_repairing w ≡ true → plain_reason_of w ≡ None → MayChoose drawn w.state c c2 → IsAskedAtMost drawn w c c2
+asked drawn w c c2 going plain (inl same) = inl same
+asked drawn w c c2 going plain (inr chose) = inr (going, goes_on w plain chose.0, chose.1)
+
+-- what comes behind a proposal
+pub made_fails : {C : Type 0} (picks : Picks C) (drawn : Drawn C) (old mid new : State) (c c2 : C) (e : Event) (s : Stop) → IsOpen old e → mid ≡ old → Answers mid e (Err s) new → is_repairing old.world ≡ true → plain_reason_of old.world ≡ None
+    → MayChoose drawn old.world.state c c2 → RepairsOnce picks drawn old c (Err s) new c2
+made_fails picks drawn old mid new c c2 e s may same made going plain chose =
+    fails_by picks drawn old new c c2 e s may (asked drawn old.world c c2 going plain chose) (subst (λ (t : State). Answers t e (Err s) new) same made)
 
 -- nor is there a proposal of an unspoiled machine
 pub proposal_stops : (old new : State) (s : Stop) → old.spoiled ≡ false → Proposes {X = Option Proposal} old (Err s) new → Stops old s new
@@ -179,15 +210,16 @@ proposal_stops old new stop.NotNow unspoiled proposes = absurd proposes
 proposal_stops old new stop.LogFull unspoiled proposes = absurd proposes
 proposal_stops old new stop.Memory unspoiled proposes = proposes
 
-pub asked_fails : {C : Type 0} (picks : Picks C) (old new : State) (c c2 : C) (s : Stop) → Stops old s new → RepairsOnce picks old c (Err s) new c2
-asked_fails picks old new c c2 stop.Spoiled stops = absurd stops
-asked_fails picks old new c c2 stop.NotNow stops = absurd stops
-asked_fails picks old new c c2 stop.LogFull stops = absurd stops
-asked_fails picks old new c c2 stop.Memory stops = stops
+pub asked_fails : {C : Type 0} (picks : Picks C) (drawn : Drawn C) (old new : State) (c c2 : C) (s : Stop) → Stops old s new → is_repairing old.world ≡ true → plain_reason_of old.world ≡ None → MayChoose drawn old.world.state c c2
+    → RepairsOnce picks drawn old c (Err s) new c2
+asked_fails picks drawn old new c c2 stop.Spoiled stops going plain chose = absurd stops
+asked_fails picks drawn old new c c2 stop.NotNow stops going plain chose = absurd stops
+asked_fails picks drawn old new c c2 stop.LogFull stops going plain chose = absurd stops
+asked_fails picks drawn old new c c2 stop.Memory stops going plain chose = (stops.0, stops.1, asked drawn old.world c c2 going plain chose)
 
 -- a turn that may not be taken
-pub not_admitted : {C : Type 0} (picks : Picks C) (old : State) (c : C) (s : Stop) → Admits old (is_repairing old.world) (Err s) → RepairsOnce picks old c (Err s) old c
-not_admitted picks old c stop.Spoiled admits = (admits, refl, refl)
-not_admitted picks old c stop.NotNow admits = (admits.0, admits.1, refl, refl)
-not_admitted picks old c stop.LogFull admits = (admits.0, admits.1, admits.2, refl, refl)
-not_admitted picks old c stop.Memory admits = absurd admits
+pub not_admitted : {C : Type 0} (picks : Picks C) (drawn : Drawn C) (old : State) (c : C) (s : Stop) → Admits old (is_repairing old.world) (Err s) → RepairsOnce picks drawn old c (Err s) old c
+not_admitted picks drawn old c stop.Spoiled admits = (admits, refl, refl)
+not_admitted picks drawn old c stop.NotNow admits = (admits.0, admits.1, refl, refl)
+not_admitted picks drawn old c stop.LogFull admits = (admits.0, admits.1, admits.2, refl, refl)
+not_admitted picks drawn old c stop.Memory admits = absurd admits

@@ -16,6 +16,10 @@ use Rattle.pl_machine.specs.Legal.{options_of, entries_behind}
 abbrev pub Picks : Type 0 → Type 1
 Picks C = C → PlanState → Option Proposal → C → Type 0
 
+-- what it is once it chose, whatever came of that: the chooser before, and the chooser after
+abbrev pub Drawn : Type 0 → Type 1
+Drawn C = C → C → Type 0
+
 -- An input is free. Where repair goes on the chooser is asked. It is not asked where repair is to rest, nor by the executive.
 abbrev pub IsSoloEvent : {C : Type 0} → Picks C → World → C → Event → C → Type 0
 IsSoloEvent picks w c (event.Opened o) c2 = ⊥

@@ -43,6 +43,10 @@ reason_by (k ∷ ks) true stuck = Some reason.Spent
 reason_by (k ∷ ks) false true = Some reason.Stuck
 reason_by (k ∷ ks) false false = None
 
+-- why repair is to rest, if that is told without a look at candidates
+abbrev pub plain_reason_of : World → Option Reason
+plain_reason_of w = reason_by (conflicts_of w.state) (w.turn == w.options.turns) false
+
 -- Why repair is to rest, if it is to: no conflict is left, else the turns are spent, else no candidate of any conflict is legal.
 abbrev pub reason_of : World → Option Reason
 reason_of w = reason_by (conflicts_of w.state) (w.turn == w.options.turns) (is_stuck w.state)

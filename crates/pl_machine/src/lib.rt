@@ -1,6 +1,7 @@
 //! The planning machine: one event at a time, each logged with its reply.
 #![tactic(auto)]
 
+mod ahead;
 mod change;
 mod choice;
 mod lines;

@@ -17,6 +17,7 @@ ghost use Rattle.pl_entry.specs.Bounds.{AreOptions};
 ghost use Rattle.pl_machine.specs.World.{fresh_world};
 ghost use Rattle.pl_machine.specs.Legal.{opening};
 
+use crate::ahead::Ahead;
 use crate::round::Round;
 use pl_board::Board;
 use pl_entry::{Entry, Event, Reply};
@@ -37,8 +38,7 @@ pub struct Machine {
     // The ids of what is due, in start order, of which so many were sent.
     due: Vec<u32>,
     sent: usize,
-    // No activity starts behind the present and before this moment.
-    next_start: u32,
+    ahead: Ahead,
     round: Round,
     done: bool,
     log: Vec<Entry>,
@@ -56,7 +56,7 @@ impl std::marker::Model for Machine {
 
     ghost view = { λ m. record { spoiled = m.board.spoiled; model = m.model; log = m.log.items; world = record { state = m.board.state; options = m.options; dispatched = take m.sent m.due.items; turn = m.round.turn; rested = m.round.rested; held = m.round.held; closed = m.round.closed; done = m.done } } };
 
-    ghost invariant = { λ m. IsSound m.board.spoiled m.model m.log.items (record { state = m.board.state; options = m.options; dispatched = take m.sent m.due.items; turn = m.round.turn; rested = m.round.rested; held = m.round.held; closed = m.round.closed; done = m.done }) m.due.items m.sent m.next_start };
+    ghost invariant = { λ m. IsSound m.board.spoiled m.model m.log.items (record { state = m.board.state; options = m.options; dispatched = take m.sent m.due.items; turn = m.round.turn; rested = m.round.rested; held = m.round.held; closed = m.round.closed; done = m.done }) m.due.items m.sent m.ahead };
 }
 
 impl Machine {
@@ -81,7 +81,10 @@ impl Machine {
             options,
             due: Vec::new(alloc),
             sent: 0,
-            next_start: 0,
+            ahead: Ahead {
+                next_start: 0,
+                settled: 0,
+            },
             round: Round::closed(),
             done: false,
             log,

@@ -1,7 +1,8 @@
-//! When something starts next.
+//! When something starts next, and what has started for good.
 ghost use Rattle.std.specs.Prelude.{◌≡◌};
-ghost use Rattle.pl_machine.specs.Calm.{nearer, next_start, next_after};
+ghost use Rattle.pl_machine.specs.Calm.{nearer, next_start, is_settled, AreSettled, ahead_after};
 
+use crate::ahead::Ahead;
 use crate::change::Change;
 use pl_plan::Activity;
 
@@ -27,12 +28,33 @@ pub(crate) fn next_start(moment: u32, activities: &[Activity]) -> u32
     next
 }
 
-/// How long nothing starts behind a change, where nothing started so long before it.
-pub(crate) fn next_after(change: &Change, next: u32) -> u32
-    ensures { result ≡ next_after change.now next }
+fn is_settled(moment: u32, c: u32, activity: &Activity) -> bool
+    ensures { result ≡ is_settled moment c activity.now }
+{
+    activity.start <= moment && activity.start < c
+}
+
+/// How many activities at the front have started and are committed.
+pub(crate) fn settled_front(moment: u32, c: u32, activities: &[Activity]) -> usize
+    ensures { AreSettled moment c result activities.now }
+{
+    for (place, activity) in activities.iter().enumerate() {
+        if !is_settled(moment, c, activity) {
+            return place;
+        }
+    }
+    activities.len()
+}
+
+/// How far ahead a plan was looked at behind a change of it.
+pub(crate) fn ahead_after(change: &Change, ahead: Ahead) -> Ahead
+    ensures { result ≡ ahead_after change.now ahead }
 {
     match change {
-        Change::Repair(_) => 0,
-        _ => next,
+        Change::Repair(_) => Ahead {
+            next_start: 0,
+            ..ahead
+        },
+        _ => ahead,
     }
 }

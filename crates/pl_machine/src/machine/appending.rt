@@ -1,25 +1,26 @@
-ghost use Rattle.std.specs.Prelude.{◌≡◌, ◌≤◌, [], ◌∷◌, ◌++◌, false, true, None, IfOk, OnOk, OnErr};
+ghost use Rattle.std.specs.Prelude.{◌≡◌, ◌<◌, ◌^◌, ◌≤◌, [], ◌∷◌, ◌++◌, false, true, length, drop, None, IfOk, OnOk, OnErr};
 ghost use Rattle.pl_entry.specs.Bounds.{IsEventInRange, IsReplyTo};
 ghost use Rattle.pl_world.specs.Moves.{is_proper, refusal_of, applied};
 ghost use Rattle.pl_world.specs.Whole.{IsWhole};
 ghost use Rattle.pl_board.specs.Boards.{after as board_of};
 ghost use Rattle.pl_machine.specs.World.{due_at, due_in};
-ghost use Rattle.pl_machine.specs.Calm.{StartsNone};
+ghost use Rattle.pl_machine.specs.Calm.{AreSettled, IsAheadAt, IsAhead};
 ghost use Rattle.pl_machine.specs.Changes.{changed, is_tick, CanChange, KeepsDue};
 ghost use Rattle.pl_machine.specs.Keeping.{KeepsStanding};
 ghost use Rattle.pl_machine.specs.Step.{reply_of, after};
 ghost use Rattle.pl_machine.specs.Taking.{IsOpen, Spoils, Answers, with_round, with_state};
 
+use crate::ahead::Ahead;
 use crate::change::Change;
 use crate::machine::Machine;
 use crate::round::Round;
-use crate::starting::{next_after, next_start};
+use crate::starting::{ahead_after, next_start, settled_front};
 use crate::stop::Stop;
 use pl_board::Board;
-use pl_entry::{Entry, Event, Reply, due_since};
+use pl_entry::{Entry, Event, Reply, due_since_among};
 use pl_lists::Copied;
 use pl_moves::apply;
-use pl_plan::RepairMove;
+use pl_plan::{Activity, RepairMove};
 use pl_points::{Ledger, Quiet, Steps};
 use std::alloc::{AllocError, Global};
 
@@ -103,17 +104,32 @@ fn change_board(board: &mut Board, alloc: Global, change: Change) -> Result<(), 
     }
 }
 
-/// The ids of what has come to be due on a board since an earlier moment, in start order.
-fn due_since_on(board: &Board, alloc: Global, before: u32) -> Result<Vec<u32>, AllocError>
+/// The activities of a board behind so many at the front.
+fn behind(board: &Board, settled: usize) -> &[Activity]
+    requires { settled ≤ length board.now.state.plan.activities }
+    ensures rest { result.now ≡ drop settled board.now.state.plan.activities }
+    ensures few { length board.now.state.plan.activities < 2 ^ 32 }
+{
+    &board.state().plan.activities()[settled..]
+}
+
+/// The ids of what has come to be due on a board since an earlier moment, in start order. What was settled then is passed over.
+fn due_since_on(
+    board: &Board,
+    alloc: Global,
+    before: u32,
+    settled: usize,
+) -> Result<Vec<u32>, AllocError>
     requires unspoiled { board.now.spoiled ≡ false }
     requires later { before ≤ board.now.state.moment }
+    requires settled { AreSettled before board.now.state.committed settled board.now.state.plan.activities }
     ensures { IfOk result (λ more. due_in board.now.state ≡ due_at before board.now.state ++ more.items) }
 {
     let state = board.state();
-    due_since(
+    due_since_among(
         alloc,
         state.model.get(),
-        &state.plan,
+        behind(board, settled),
         before,
         state.moment,
         state.committed,
@@ -126,47 +142,57 @@ fn extend_due(
     due: &mut Vec<u32>,
     alloc: Global,
     before: u32,
+    settled: usize,
 ) -> Result<(), AllocError>
     requires unspoiled { board.now.spoiled ≡ false }
     requires later { before ≤ board.now.state.moment }
+    requires settled { AreSettled before board.now.state.committed settled board.now.state.plan.activities }
     requires listed { due.old.items ≡ due_at before board.now.state }
     ensures ok { OnOk result (due.new.items ≡ due_in board.now.state) }
     ensures err { OnErr result (due.new.items ≡ due.old.items) }
 {
-    let more = due_since_on(board, alloc, before)?;
+    let more = due_since_on(board, alloc, before, settled)?;
     due.extend_from_slice(&more)?;
     Ok(())
 }
 
-/// When something starts next on a board.
-#[tactic(auto, using(crate::proofs::Calm::starts_at))]
-fn next_start_on(board: &Board) -> u32
-    ensures { StartsNone board.now.state.moment result board.now.state.plan.activities }
+/// How far ahead a board is looked at, given how far it was at an earlier moment.
+fn ahead_on(board: &Board, before: u32, ahead: Ahead) -> Ahead
+    requires later { before ≤ board.now.state.moment }
+    requires ahead { IsAheadAt before board.now.state ahead }
+    ensures { IsAhead board.now.state result }
 {
     let state = board.state();
-    next_start(state.moment, state.plan.activities())
+    let rest = behind(board, ahead.settled);
+    let next_start = next_start(state.moment, rest);
+    let more = settled_front(state.moment, state.committed, rest);
+    Ahead {
+        next_start,
+        settled: ahead.settled + more,
+    }
 }
 
-/// The same, and when something starts next. Where memory is wanting the board is spoiled.
+/// The same, and looks ahead. Where memory is wanting the board is spoiled.
 fn list_next(
     board: &mut Board,
     due: &mut Vec<u32>,
-    next: &mut u32,
+    ahead: &mut Ahead,
     alloc: Global,
     before: u32,
 ) -> Result<(), AllocError>
     requires unspoiled { board.old.spoiled ≡ false }
     requires later { before ≤ board.old.state.moment }
     requires listed { due.old.items ≡ due_at before board.old.state }
+    requires ahead { IsAheadAt before board.old.state ahead.old }
     ensures same { OnOk result (board.new ≡ board.old) }
     ensures due { OnOk result (due.new.items ≡ due_in board.old.state) }
-    ensures calm { OnOk result (StartsNone board.old.state.moment next.new board.old.state.plan.activities) }
+    ensures ahead { OnOk result (IsAhead board.old.state ahead.new) }
     ensures err { OnErr result (due.new.items ≡ due.old.items) }
     ensures spoils { OnErr result (board.new.spoiled ≡ true) }
 {
-    match extend_due(board, due, alloc, before) {
+    match extend_due(board, due, alloc, before, ahead.settled) {
         Ok(()) => {
-            *next = next_start_on(board);
+            *ahead = ahead_on(board, before, *ahead);
             Ok(())
         }
         Err(fault) => {
@@ -180,24 +206,24 @@ fn list_next(
 fn list_due(
     board: &mut Board,
     due: &mut Vec<u32>,
-    next: &mut u32,
+    ahead: &mut Ahead,
     alloc: Global,
     before: u32,
 ) -> Result<(), AllocError>
     requires unspoiled { board.old.spoiled ≡ false }
     requires later { before ≤ board.old.state.moment }
     requires listed { due.old.items ≡ due_at before board.old.state }
-    requires calm { StartsNone before next.old board.old.state.plan.activities }
+    requires ahead { IsAheadAt before board.old.state ahead.old }
     ensures same { OnOk result (board.new ≡ board.old) }
     ensures due { OnOk result (due.new.items ≡ due_in board.old.state) }
-    ensures calm { OnOk result (StartsNone board.old.state.moment next.new board.old.state.plan.activities) }
+    ensures ahead { OnOk result (IsAhead board.old.state ahead.new) }
     ensures err { OnErr result (due.new.items ≡ due.old.items) }
     ensures spoils { OnErr result (board.new.spoiled ≡ true) }
 {
-    if board.state().moment < *next {
+    if board.state().moment < ahead.next_start {
         return Ok(());
     }
-    list_next(board, due, next, alloc, before)
+    list_next(board, due, ahead, alloc, before)
 }
 
 /// Whether something may come to be due by it.
@@ -210,12 +236,12 @@ fn is_tick(change: &Change) -> bool
     }
 }
 
-/// Makes a change of a board, and keeps the list of what is due, which only a tick changes, and how long nothing starts. Where memory
+/// Makes a change of a board, and keeps the list of what is due, which only a tick changes, and how far ahead was looked. Where memory
 /// is wanting the board is spoiled.
 fn change_due(
     board: &mut Board,
     due: &mut Vec<u32>,
-    next: &mut u32,
+    ahead: &mut Ahead,
     alloc: Global,
     change: Change,
 ) -> Result<(), AllocError>
@@ -223,21 +249,21 @@ fn change_due(
     requires whole { IsWhole board.old.state }
     requires can { CanChange board.old.state change }
     requires listed { due.old.items ≡ due_in board.old.state }
-    requires calm { StartsNone board.old.state.moment next.old board.old.state.plan.activities }
+    requires ahead { IsAhead board.old.state ahead.old }
     ensures ok { OnOk result (board.new ≡ board_of (changed change board.old.state)) }
     ensures keeps { OnOk result (KeepsStanding board.old.state board.new.state) }
     ensures due { OnOk result (due.new.items ≡ due_in board.new.state) }
-    ensures calm { OnOk result (StartsNone board.new.state.moment next.new board.new.state.plan.activities) }
+    ensures ahead { OnOk result (IsAhead board.new.state ahead.new) }
     ensures same { OnErr result (due.new.items ≡ due.old.items) }
     ensures err { OnErr result (board.new.spoiled ≡ true) }
 {
     let ticks = is_tick(&change);
     let before = board.state().moment;
-    let kept = next_after(&change, *next);
+    let kept = ahead_after(&change, *ahead);
     change_board(board, alloc, change)?;
-    *next = kept;
+    *ahead = kept;
     if ticks {
-        list_due(board, due, next, alloc, before)
+        list_due(board, due, ahead, alloc, before)
     } else {
         Ok(())
     }
@@ -248,7 +274,7 @@ fn push_change(
     log: &mut Vec<Entry>,
     board: &mut Board,
     due: &mut Vec<u32>,
-    next: &mut u32,
+    ahead: &mut Ahead,
     alloc: Global,
     event: Event,
     change: Change,
@@ -257,12 +283,12 @@ fn push_change(
     requires whole { IsWhole board.old.state }
     requires can { CanChange board.old.state change }
     requires listed { due.old.items ≡ due_in board.old.state }
-    requires calm { StartsNone board.old.state.moment next.old board.old.state.plan.activities }
+    requires ahead { IsAhead board.old.state ahead.old }
     ensures ok { OnOk result (log.new.items ≡ log.old.items ++ record { event = event; reply = Reply.Done } ∷ []) }
     ensures changed { OnOk result (board.new ≡ board_of (changed change board.old.state)) }
     ensures keeps { OnOk result (KeepsStanding board.old.state board.new.state) }
     ensures due { OnOk result (due.new.items ≡ due_in board.new.state) }
-    ensures calm { OnOk result (StartsNone board.new.state.moment next.new board.new.state.plan.activities) }
+    ensures ahead { OnOk result (IsAhead board.new.state ahead.new) }
     ensures err { OnErr result (log.new.items ≡ log.old.items) }
     ensures same { OnErr result (due.new.items ≡ due.old.items) }
     ensures spoils { OnErr result (board.new.spoiled ≡ true) }
@@ -271,7 +297,7 @@ fn push_change(
         board.spoil();
         return Err(AllocError);
     }
-    change_due(board, due, next, alloc, change)?;
+    change_due(board, due, ahead, alloc, change)?;
     let reply = Reply::Done;
     log.push(Entry { event, reply }).unwrap();
     Ok(())
@@ -322,7 +348,7 @@ impl Machine {
             &mut self.log,
             &mut self.board,
             &mut self.due,
-            &mut self.next_start,
+            &mut self.ahead,
             self.alloc,
             event,
             change,

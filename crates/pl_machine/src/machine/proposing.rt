@@ -1,4 +1,4 @@
-ghost use Rattle.std.specs.Prelude.{◌≡◌, IfOk, IfSome, IsErrOf};
+ghost use Rattle.std.specs.Prelude.{◌≡◌, false, IfOk, IfSome, IsErrOf};
 ghost use Rattle.pl_cand.specs.Proposals.{IsProposal};
 ghost use Rattle.pl_machine.specs.Repairs.{IsMoveOf};
 ghost use Rattle.pl_machine.specs.Taking.{Proposes};
@@ -15,6 +15,7 @@ impl Machine {
         ensures legal { IfOk result (IsProposal self.old.world.state) }
         ensures moves { IfOk result (λ p. IfSome p (λ q. IsMoveOf self.old.model q.mv)) }
         ensures kept { IsErrOf result Stop.Spoiled → chooser.new ≡ chooser.old }
+        ensures drawn { self.old.spoiled ≡ false → C.drawn chooser.old chooser.new }
     {
         if self.spoiled() {
             return Err(Stop::Spoiled);

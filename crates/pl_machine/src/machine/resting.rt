@@ -1,96 +1,45 @@
-ghost use Rattle.std.specs.Prelude.{◌≡◌, IfOk, All, true, false};
-ghost use Rattle.std.specs.List.{list_any};
-ghost use Rattle.pl_world.specs.Moves.{is_proper};
-ghost use Rattle.pl_world.specs.Conflicts.{conflicts_of};
-ghost use Rattle.pl_world.specs.Legal.{is_legal, has_repair, is_stuck};
-ghost use Rattle.pl_machine.specs.World.{reason_of};
+ghost use Rattle.std.specs.Prelude.{◌≡◌, IfOk, false};
+ghost use Rattle.pl_machine.specs.World.{plain_reason_of, reason_of};
 ghost use Rattle.pl_machine.specs.Taking.{IsOpen, Answers};
 
 use crate::machine::Machine;
 use crate::round::Round;
 use crate::stop::Stop;
-use pl_board::Board;
-use pl_cand::candidates;
-use pl_conflict::Conflict;
+use pl_cand::is_stuck;
 use pl_entry::{Event, Reason, Reply};
-use pl_moves::legal;
-use pl_plan::RepairMove;
-use std::alloc::{AllocError, Global};
-
-/// Whether a proper move is legal.
-fn is_legal(board: &Board, repair: &RepairMove) -> bool
-    requires unspoiled { board.now.spoiled ≡ false }
-    requires proper { is_proper board.now.state repair.now ≡ true }
-    ensures { result ≡ is_legal board.now.state repair.now }
-{
-    match legal(board, repair) {
-        Ok(()) => true,
-        Err(_) => false,
-    }
-}
-
-/// Whether one of the moves is legal.
-fn any_legal(board: &Board, moves: &[RepairMove]) -> bool
-    requires unspoiled { board.now.spoiled ≡ false }
-    requires proper { All (λ m. is_proper board.now.state m ≡ true) moves.now }
-    ensures { result ≡ list_any (is_legal board.now.state) moves.now }
-{
-    for repair in moves {
-        if is_legal(board, repair) {
-            return true;
-        }
-    }
-    false
-}
-
-/// Whether a conflict has a legal candidate.
-fn has_repair(alloc: Global, board: &Board, conflict: &Conflict) -> Result<bool, AllocError>
-    requires { board.now.spoiled ≡ false }
-    ensures { IfOk result (λ has. has ≡ has_repair board.now.state conflict.now) }
-{
-    let moves = candidates(alloc, board, conflict)?;
-    Ok(any_legal(board, moves.as_slice()))
-}
-
-/// Whether one of the conflicts that stand has a legal candidate.
-fn any_repair(alloc: Global, board: &Board) -> Result<bool, AllocError>
-    requires { board.now.spoiled ≡ false }
-    ensures { IfOk result (λ any. any ≡ list_any (has_repair board.now.state) (conflicts_of board.now.state)) }
-{
-    for conflict in board.conflicts().iter() {
-        if has_repair(alloc, board, conflict)? {
-            return Ok(true);
-        }
-    }
-    Ok(false)
-}
-
-/// Whether no conflict has a legal candidate.
-#[tactic(auto, unfolding(pl_world::specs::Legal::is_stuck))]
-fn is_stuck(alloc: Global, board: &Board) -> Result<bool, AllocError>
-    requires { board.now.spoiled ≡ false }
-    ensures { IfOk result (λ stuck. stuck ≡ is_stuck board.now.state) }
-{
-    let any = any_repair(alloc, board)?;
-    Ok(!any)
-}
+use std::alloc::AllocError;
 
 impl Machine {
+    /// Why repair is to rest, if that is told without a look at candidates: no conflict is left, or the turns are spent.
+    pub(crate) fn plain_reason(&self) -> Option<Reason>
+        requires { self.now.spoiled ≡ false }
+        ensures { result ≡ plain_reason_of self.now.world }
+    {
+        if self.board.conflicts().is_empty() {
+            return Some(Reason::Clear);
+        }
+        if self.round.turn == self.options.turns {
+            return Some(Reason::Spent);
+        }
+        None
+    }
+
     /// Why repair is to rest, if it is to.
-    pub(crate) fn reason(&self) -> Result<Option<Reason>, AllocError>
+    #[tactic(auto, using(crate::proofs::Resting::plain_rests, crate::proofs::Resting::stuck_rests, crate::proofs::Resting::goes_on))]
+    fn reason(&self) -> Result<Option<Reason>, AllocError>
         requires { self.now.spoiled ≡ false }
         ensures { IfOk result (λ reason. reason ≡ reason_of self.now.world) }
     {
-        if self.board.conflicts().is_empty() {
-            return Ok(Some(Reason::Clear));
+        match self.plain_reason() {
+            Some(reason) => Ok(Some(reason)),
+            None => {
+                if is_stuck(self.alloc, &self.board)? {
+                    Ok(Some(Reason::Stuck))
+                } else {
+                    Ok(None)
+                }
+            }
         }
-        if self.round.turn == self.options.turns {
-            return Ok(Some(Reason::Spent));
-        }
-        if is_stuck(self.alloc, &self.board)? {
-            return Ok(Some(Reason::Stuck));
-        }
-        Ok(None)
     }
 
     pub(crate) fn rest_for(&mut self, reason: Reason) -> Result<Reply, Stop>

@@ -8,7 +8,7 @@ use Rattle.pl_entry.proofs.since.starts_since.Goals as goal
 pub loop-activity-preserved : goal.loop-activity-preserved
 loop-activity-preserved c =
     let p = is_due_since c.args.model.now c.args.before c.args.now c.args.c in
-    let xs = c.activities-activity-items.result.now in
+    let xs = c.args.activities.now in
     let k = c.loop-activity.activity-index in
     let a = c.activity-item.result in
     let here : slice_get xs k ≡ Some a = slice_get-get_or xs k a c.loop-activity-test.true ∙ ap Some (sym c.activity-item.is) in

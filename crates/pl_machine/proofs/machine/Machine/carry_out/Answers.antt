@@ -12,7 +12,7 @@ push_change-requires c = record {
   whole = subst (λ (t : State). IsWhole t.world.state) (sym c.self.view_is) c.requires.whole;
   can = subst (λ (t : State). CanChange t.world.state c.args.change) (sym c.self.view_is) c.requires.can;
   listed = (c.self.invariant.stands (ap (λ (t : State). t.spoiled) c.self.view_is ∙ c.requires.open.unspoiled)).listed;
-  calm = (c.self.invariant.stands (ap (λ (t : State). t.spoiled) c.self.view_is ∙ c.requires.open.unspoiled)).calm;
+  ahead = (c.self.invariant.stands (ap (λ (t : State). t.spoiled) c.self.view_is ∙ c.requires.open.unspoiled)).looked;
 }
 
 pub invariant_of-self : goal.invariant_of-self
@@ -22,7 +22,7 @@ pub invariant_of-self-2 : goal.invariant_of-self-2
 invariant_of-self-2 c =
     rw c.in_ok-push_change.ensures.ok
     (sound_carried c.args.self.now _ c.args.round _ _ _ c.args.change c.args.event c.self.view_is c.self.invariant refl c.requires.open c.requires.event c.requires.reply c.requires.answers
-    c.in_ok-push_change.ensures.keeps c.in_ok-push_change.ensures.due c.in_ok-push_change.ensures.calm (ap (λ (b : Standing). b.state) c.in_ok-push_change.ensures.changed) c.requires.leaves c.requires.turn)
+    c.in_ok-push_change.ensures.keeps c.in_ok-push_change.ensures.due c.in_ok-push_change.ensures.ahead (ap (λ (b : Standing). b.state) c.in_ok-push_change.ensures.changed) c.requires.leaves c.requires.turn)
 
 pub returns : goal.returns
 returns c =
