@@ -21,7 +21,9 @@ use Rattle.pl_stream.specs.Reads.{Gave}
 use Rattle.pl_stream.specs.Heads.{IsHead, IsBegun}
 use Rattle.pl_stream.specs.Written.{Adds}
 use Rattle.pl_main.specs.Tells.{Told, FillsUp, at_once, within}
-use Rattle.pl_main.specs.Plays.{Place, Plays, line_in, unread, unheard, unwritten, StepLacks, PlaysInPart}
+use Rattle.pl_stream.specs.Places.{Place}
+use Rattle.pl_stream.specs.Waits.{line_in}
+use Rattle.pl_main.specs.Plays.{Plays, unread, unheard, unwritten, StepLacks, PlaysInPart}
 use Rattle.pl_main.specs.Runs.{fresh_state, unopened, in_opening, in_play, IsKeptModel, unjudged, in_fault, in_run, TextBreaks}
 use Rattle.pl_main.specs.Top.{program_options, line_limit, total_limit, fresh_reader, faulty, HasBegun, IsShort, in_journal, in_refusal, IsOutOfMemory, nothing, in_entry, behind_entry}
 use Rattle.pl_stream.proofs.Reading.{gave_append, gave_lines, known}

@@ -29,15 +29,15 @@ use Rattle.pl_stream.specs.Written.{Adds, WriteStops}
 use Rattle.pl_stream.proofs.Reading.{known, gave_append, gave_lines}
 use Rattle.pl_pair.specs.declared.ended.Ended.{Ended}
 use Rattle.pl_pair.specs.declared.ended.Ended.TheVariants as ended
-use Rattle.pl_pair.specs.Asking.{Place, place_of}
+use Rattle.pl_stream.specs.Places.{Place, place_of}
 use Rattle.pl_pair.specs.Rounds.{AddsFront}
-use Rattle.pl_pair.specs.Runs.{InMessages, HadLimit, WhyNone, IsCauseOf, StoppedBy, Given, ReadUpTo, RunsUntil, RunEnds, PairRun}
+use Rattle.pl_pair.specs.Runs.{InMessages, HadLimit, WhyNone, IsCauseOf, StoppedBy, Given, ReadUpTo, RunsUntil, ReadsShort, all_handed, one_behind, one_unread, RunEnds, PairRun}
 use Rattle.pl_pair.proofs.Running.{runs_none}
 use Rattle.pl_main.specs.declared.outcome.Outcome.{Outcome}
 use Rattle.pl_main.specs.declared.outcome.Outcome.TheVariants as outcome
 use Rattle.pl_main.specs.Runs.{fresh_state, AcceptsKept, IsKeptModel}
 use Rattle.pl_main.specs.Top.{line_limit, total_limit, program_options, fresh_reader, no_begin_line, HasRead, ShowsNoLine, IsNoModel, no_begin, faulty}
-use Rattle.pl_main.specs.Pairs.{IsPaired, HasText, IsPairDone, PairWaitsBehind, IsPairPastLimit, IsPairReadFault, IsPairFull, IsPairTorn, torn_refusal, torn_run, IsPairShort, silent, of_run, Paired, PairedKnown, outcome_of, PairTextRun, TextFailsTorn, PairTextTorn, in_refusal, in_writing, PairTextShort, at_once, in_run, PairTextRuns}
+use Rattle.pl_main.specs.Pairs.{IsPaired, IsPairDone, PairWaitsBehind, IsPairPastLimit, IsPairReadFault, IsPairFull, HasPairBegun, IsPairTorn, torn_refusal, torn_run, WasGiven, ReadsInPart, to_last, to_next, at_next, IsPairShort, silent, of_run, Paired, PairedKnown, outcome_of, PairTextRun, TextFailsTorn, PairTextTorn, in_refusal, in_writing, PairTextShort, at_once, in_run, PairTextRuns}
 use Rattle.pl_main.proofs.OneInput.{split_text}
 use Rattle.pl_stream.proofs.Stopping.{never_full, never_writes}
 use Rattle.pl_stream.proofs.Beginning.{head_then}
@@ -45,9 +45,9 @@ use Rattle.pl_main.proofs.Ending.{IsSplit, split_is, begins_at, begins_nowhere, 
 
 -- ---- a machine that was not opened
 
-pub none_opened : (turns seed : ℕ) (m : Model) (place behind : Place) (held : Option (List ℕ)) → IsChecked m → (1 ≤ turns) × (turns ≤ 1000) → PairRun seed (fresh_state turns m) place held ended.Memory behind held
-none_opened turns seed m place behind held checked bounds =
-    runs_none seed (fresh_state turns m) place behind held
+pub none_opened : (turns seed : ℕ) (m : Model) (place : Place) (held : Option (List ℕ)) → IsChecked m → (1 ≤ turns) × (turns ≤ 1000) → PairRun seed (fresh_state turns m) place held ended.Memory place held
+none_opened turns seed m place held checked bounds =
+    runs_none seed (fresh_state turns m) place held
     record {
       answers = refl;
       options = record { turns = (bounds.0, bounds.1); live = (omega arith, omega arith); goals = (omega arith, omega arith); entries = (omega arith, omega arith) };
@@ -104,7 +104,6 @@ was_write ended.Memory is = absurd (let h : halt.Memory ≡ halt.Write = (let i 
 
 -- the messages that a pair was handed are those of the input
 record IsBehind (input words : List ℕ) (place : Place) : Type 0 where
-  begins : HasText input words
   heads : List (List ℕ)
   rest : List ℕ
   limit : place.reader.limit ≡ line_limit
@@ -121,7 +120,6 @@ is_behind kept place input begun =
     let k = known line_limit total_limit line_limit total_limit (Some input) input begun.lines place.reader.room place.ahead refl refl refl begun.took.gave in
     let split = split_is input begun.lines begun.words (lines_of k.rest) begun.head (gave_lines line_limit total_limit input begun.lines place.reader.room k.rest k.gave) in
     record {
-      begins = record { lines = begun.lines; left = place.reader.room; rest = k.rest; gave = k.gave; head = begun.head.text; last = begun.head.behind; text = split.text };
       heads = begun.lines;
       rest = k.rest;
       limit = begun.took.limit;
@@ -176,6 +174,21 @@ read_of input words place last messages source_left behind same read =
           (let used : last.ahead ≡ Some [] = subst (λ (b : Option (List ℕ)). IsUsedUp b last.ahead) behind.is (read.used_up front e) in
           let h : Some k.rest ≡ Some [] = sym k.is ∙ used in (cc));
       source = record { came = last.reader.held; few = read.few behind.few; behind = same ∙ k.is };
+    }
+
+-- the lines that were given
+given_of : (input words : List ℕ) (place last : Place) (messages : List (Option (List ℕ))) → IsBehind input words place → ReadUpTo place messages last → WasGiven words messages input
+given_of input words place last messages behind read =
+    let k = known place.reader.limit place.reader.room line_limit place.reader.room place.ahead behind.rest read.lines last.reader.room last.ahead behind.limit refl behind.is read.gave in
+    let both = behind.both read.lines in
+    record {
+      lines = behind.heads ++ read.lines;
+      left = last.reader.room;
+      rest = k.rest;
+      gave = gave_append line_limit total_limit input behind.heads read.lines place.reader.room behind.rest last.reader.room k.rest behind.gave k.gave;
+      head = both.0;
+      more = read.more;
+      behind = ap messages_of both.1 ∙ read.said;
     }
 
 ends_done : (turns seed : ℕ) (input words : List ℕ) (place last : Place) (m : Model) (source_left held now : Option (List ℕ)) → IsBehind input words place → IsModelText words m → ahead last.reader.held source_left ≡ last.ahead
@@ -315,6 +328,44 @@ front_read turns seed input words place last m held e now behind run =
     let front = in_messages place behind.rest (λ messages. IsPrefix (inputs_of run.log) messages) behind.is (inputs_front place (inputs_of run.log) (inputs_of run.entries) o.inputs run.messages) in
     (front.0, front.1 ∙ sym behind.messages)
 
+-- a run that was cut short
+module _ (turns seed : ℕ) (input words : List ℕ) (place last : Place) (m : Model) (held : Option (List ℕ)) (e : Ended) (now : Option (List ℕ)) (behind : IsBehind input words place) (run : PairRun seed (fresh_state turns m) place held e last now) where
+  log_front : IsPrefix (inputs_of run.log) (split_of input).messages
+  log_front = front_read turns seed input words place last m held e now behind run
+
+  log_inputs : inputs_of run.entries ≡ inputs_of run.log
+  log_inputs =
+      let o = opened turns seed m place held e last now run in
+      sym o.inputs
+
+  abbrev has_begun : IsModelText words m → HasPairBegun turns seed input
+  has_begun accepted = record {
+    model = m;
+    log = run.log;
+    words = words;
+    text = behind.text;
+    accepted = accepted;
+    paired = (opened turns seed m place held e last now run).paired;
+    unanswered = log_front.0;
+    messages = sym log_front.1;
+  }
+
+  module _ (source_left : Option (List ℕ)) (same : ahead last.reader.held source_left ≡ last.ahead) where
+    log_read : ReadUpTo place (inputs_of run.entries) last → HasRead words (inputs_of run.log) input source_left
+    log_read read = subst (λ (is : List (Option (List ℕ))). HasRead words is input source_left) log_inputs (read_of input words place last (inputs_of run.entries) source_left behind same read)
+
+    part_read : ReadsShort place (inputs_of run.entries) last → ReadsInPart words (inputs_of run.log) log_front.0 input source_left
+    part_read (all_handed read) = to_last (log_read read)
+    part_read (one_behind next read is_next) =
+        let on = in_messages place behind.rest (λ messages. IsPrefix (inputs_of run.entries ++ next ∷ []) messages) behind.is is_next in
+        let P : List (Option (List ℕ)) → Type 0 = λ is. IsPrefix (is ++ next ∷ []) (messages_of (lines_of behind.rest)) in
+        let Q : List (Option (List ℕ)) → Type 0 = λ is. HasRead words (is ++ next ∷ []) input source_left in
+        let on_log = subst P log_inputs on in
+        to_next next on_log.0 (next_behind (inputs_of run.log) log_front.0 on_log.0 next (log_front.1 ∙ behind.messages ∙ sym on_log.1))
+        (subst Q log_inputs (read_of input words place last (inputs_of run.entries ++ next ∷ []) source_left behind same read))
+    part_read (one_unread middle read faults) =
+        at_next (subst (λ (is : List (Option (List ℕ))). WasGiven words is input) log_inputs (given_of input words place middle (inputs_of run.entries) behind read))
+
 torn_of : (turns seed : ℕ) (kept : Option (Vec ℕ Global)) (start place : Place) (input : List ℕ) (source_left held now : Option (List ℕ)) → IsBegun (fresh_reader line_limit) (Some input) kept start.reader start.ahead
     → PairTextTorn turns seed kept start held place now → ahead place.reader.held source_left ≡ place.ahead → IsPairTorn turns seed input source_left held now
 torn_of turns seed kept start place input source_left held now begun (in_refusal fails at) behind =
@@ -322,16 +373,16 @@ torn_of turns seed kept start place input source_left held now begun (in_refusal
     torn_refusal fails.line (faulty begun.words fails.line (begins_at line_limit kept start.reader input start.ahead source_left begun same) (fails.refused begun.words begun.keeps) refl) fails.written
 torn_of turns seed kept start place input source_left held now begun (in_writing ran) behind =
     let before = is_behind kept start input begun in
-    let o = opened turns seed ran.model start held ended.WriteFault place now ran.run in
-    torn_run begun.words ran.model ran.run.log before.begins (ran.text begun.words begun.keeps) o.paired (front_read turns seed input begun.words start place ran.model held ended.WriteFault now before ran.run) ran.run.ends
+    torn_run (has_begun turns seed input begun.words start place ran.model held ended.WriteFault now before ran.run (ran.text begun.words begun.keeps))
+    (log_read turns seed input begun.words start place ran.model held ended.WriteFault now before ran.run source_left behind ran.run.ends.read) ran.run.ends.written
 
-short_of : (turns seed : ℕ) (kept : Option (Vec ℕ Global)) (start place : Place) (input : List ℕ) (held now : Option (List ℕ)) → IsBegun (fresh_reader line_limit) (Some input) kept start.reader start.ahead
-    → PairTextShort turns seed kept start held place now → IsPairShort turns seed input held now
-short_of turns seed kept start place input held now begun (at_once same) = silent same
-short_of turns seed kept start place input held now begun (in_run ran) =
+short_of : (turns seed : ℕ) (kept : Option (Vec ℕ Global)) (start place : Place) (input : List ℕ) (source_left held now : Option (List ℕ)) → IsBegun (fresh_reader line_limit) (Some input) kept start.reader start.ahead
+    → PairTextShort turns seed kept start held place now → ahead place.reader.held source_left ≡ place.ahead → IsPairShort turns seed input source_left held now
+short_of turns seed kept start place input source_left held now begun (at_once same) behind = silent same
+short_of turns seed kept start place input source_left held now begun (in_run ran) behind =
     let before = is_behind kept start input begun in
-    let o = opened turns seed ran.model start held ended.Memory place now ran.run in
-    of_run begun.words ran.model ran.run.log before.begins (ran.text begun.words begun.keeps) o.paired (front_read turns seed input begun.words start place ran.model held ended.Memory now before ran.run) ran.run.ends
+    of_run (has_begun turns seed input begun.words start place ran.model held ended.Memory now before ran.run (ran.text begun.words begun.keeps))
+    (part_read turns seed input begun.words start place ran.model held ended.Memory now before ran.run source_left behind ran.run.ends.read) ran.run.ends.written
 
 begun_known : (turns seed : ℕ) (kept : Option (Vec ℕ Global)) (start place : Place) (input : List ℕ) (source_left held now : Option (List ℕ)) (r : Result Outcome Halt)
     → IsBegun (fresh_reader line_limit) (Some input) kept start.reader start.ahead → PairTextRuns turns seed kept start held r place now → ahead place.reader.held source_left ≡ place.ahead → PairedKnown turns seed (Some input) source_left held now r
@@ -349,7 +400,7 @@ begun_known turns seed kept start place input source_left held now (Err halt.Rea
 begun_known turns seed kept start place input source_left held now (Err halt.Full) begun ran behind =
     ends_full turns seed input begun.words start place ran.model source_left held now (is_behind kept start input begun) (ran.text begun.words begun.keeps) behind ran.run
 begun_known turns seed kept start place input source_left held now (Err halt.Write) begun ran behind = torn_of turns seed kept start place input source_left held now begun ran behind
-begun_known turns seed kept start place input source_left held now (Err halt.Memory) begun ran behind = short_of turns seed kept start place input held now begun ran
+begun_known turns seed kept start place input source_left held now (Err halt.Memory) begun ran behind = short_of turns seed kept start place input source_left held now begun ran behind
 
 begun_ran : (turns seed : ℕ) (kept : Option (Vec ℕ Global)) (start place : Place) (input source_left held now : Option (List ℕ)) (r : Result Outcome Halt)
     → IsBegun (fresh_reader line_limit) input kept start.reader start.ahead → PairTextRuns turns seed kept start held r place now → ahead place.reader.held source_left ≡ place.ahead → PairedKnown turns seed input source_left held now r

@@ -22,10 +22,11 @@ use Rattle.pl_stream.specs.declared.halt.Halt.{Halt}
 use Rattle.pl_stream.specs.declared.halt.Halt.TheVariants as halt
 use Rattle.pl_stream.specs.Reads.{GaveKnown, IsUsedUp, AreBlank}
 use Rattle.pl_stream.specs.Stops.{HaltFor, ReadLeaves, StopsBy}
-use Rattle.pl_stream.specs.Waits.{GetsFault, MessageGives}
+use Rattle.pl_stream.specs.Waits.{GetsFault, MessageGives, line_in}
 use Rattle.pl_main.specs.Tells.{IsReady, Told, FillsUp, at_once, within}
 use Rattle.pl_stream.specs.Written.{Adds, WriteStops}
-use Rattle.pl_main.specs.Plays.{Place, Plays, EndsAll, by_end, by_line, PlaysOut, PlayHalts, Answered, Filled, AnsweredInPart, Unanswered, untold, told_in_part, Answering, line_in, StepsOn, StepFills, StepHalts, StepsInPart, StepLacks, unread, unheard, unwritten, PlayFills, PlaysInPart, PlayLacks, Steps, Playing}
+use Rattle.pl_stream.specs.Places.{Place}
+use Rattle.pl_main.specs.Plays.{Plays, EndsAll, by_end, by_line, PlaysOut, PlayHalts, Answered, Filled, AnsweredInPart, Unanswered, untold, told_in_part, Answering, StepsOn, StepFills, StepHalts, StepsInPart, StepLacks, unread, unheard, unwritten, PlayFills, PlaysInPart, PlayLacks, Steps, Playing}
 use Rattle.pl_stream.proofs.Reading.{took_none, took_more, gave_later}
 use Rattle.pl_stream.proofs.Stopping.{never_full, never_writes, read_leaves, stops_by}
 use Rattle.pl_stream.proofs.Writing.{some_held, adds_then, appends_then}

@@ -34,7 +34,7 @@ use Rattle.pl_report.specs.Verdicts.{verdict_line}
 use Rattle.pl_main.specs.declared.form.Form.{Form}
 use Rattle.pl_main.specs.declared.judgement.Judgement.{Judgement}
 use Rattle.pl_main.specs.declared.judgement.Judgement.TheVariants as judged
-use Rattle.pl_main.specs.Plays.{Place, place_of}
+use Rattle.pl_stream.specs.Places.{Place, place_of}
 use Rattle.pl_main.specs.Runs.{AcceptsKept, IsKeptModel, TextFails}
 use Rattle.pl_main.specs.Top.{total_limit, fresh_reader, no_begin_line, IsReadTo, ShowsNoLine, IsNoModel, faulty}
 use Rattle.pl_main.specs.Replays.{journal_line_limit, state_of, text_of_form, HasTaken, IsRightJournal, IsWrong, no_entry, wrong_last, IsWrongJournal, IsRightSoFar, IsPastJournal, IsJournalFault, IsJournalShort, of_right, of_wrong, of_refusal, ReadsBack, ReadsBackKnown, WritesAs, WritesJudged, RightBehind, WrongBehind, StopsBehind, ShortBehind, right_cut, wrong_cut, ModelReads, TextRead, TextCut, journal_cut, refusal_cut, TextReads}

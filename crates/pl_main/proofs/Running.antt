@@ -13,7 +13,7 @@ use Rattle.pl_main.specs.declared.outcome.Outcome.TheVariants as outcome
 use Rattle.pl_stream.specs.Stops.{HaltFor}
 use Rattle.pl_stream.specs.Heads.{IsBegun, HasNoBegin, HeadHalts}
 use Rattle.pl_stream.specs.Written.{Adds}
-use Rattle.pl_main.specs.Plays.{Place, place_of}
+use Rattle.pl_stream.specs.Places.{Place, place_of}
 use Rattle.pl_main.specs.Runs.{TextRuns}
 use Rattle.pl_main.specs.Top.{Ran, RanKnown, line_limit, total_limit, fresh_reader, no_begin_line, faulty, in_refusal, nothing}
 use Rattle.pl_stream.proofs.Reading.{known}

@@ -22,7 +22,8 @@ use Rattle.pl_main.specs.declared.outcome.Outcome.{Outcome}
 use Rattle.pl_main.specs.declared.outcome.Outcome.TheVariants as outcome
 use Rattle.pl_stream.specs.Stops.{HaltFor}
 use Rattle.pl_stream.specs.Heads.{IsBegun, HasNoBegin, HeadHalts}
-use Rattle.pl_main.specs.Plays.{Place, place_of, Playing}
+use Rattle.pl_stream.specs.Places.{Place, place_of}
+use Rattle.pl_main.specs.Plays.{Playing}
 use Rattle.pl_main.specs.Runs.{fresh_state, AcceptsKept, IsKeptModel}
 use Rattle.pl_main.specs.Top.{line_limit, fresh_reader, no_begin_line}
 use Rattle.pl_main.specs.Limits.{IsWithinLimits}

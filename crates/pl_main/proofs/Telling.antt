@@ -15,7 +15,7 @@ use Rattle.pl_machine.specs.Finished.{inputs_of}
 use Rattle.pl_machine.specs.Sound.{State}
 use Rattle.pl_machine.specs.Taking.{Takes}
 use Rattle.pl_machine.specs.Legal.{world_from}
-use Rattle.pl_machine.specs.Solo.{Picks}
+use Rattle.pl_machine.specs.Solo.{Picks, Drawn}
 use Rattle.pl_driver.specs.Rounds.{RanTo, Rounds}
 use Rattle.pl_main.specs.Solo.{IsSoloEvent, solo_from}
 use Rattle.pl_main.specs.Tells.{is_last, Hears, Told, FillsUp, at_once, within, Telling}
@@ -106,12 +106,12 @@ told_in_part picks old mid new c c2 input least hears going ran open_round full 
     })
 
 -- a message, and then its round
-pub tells : {C : Type 0} (picks : Picks C) (old mid new : State) (c c2 : C) (input : Option (List ℕ)) (r : Result (Unit {0}) Stop) → Hears old input mid → mid.world.done ≡ false → Rounds picks mid c r new c2 → TakesLeast picks → Telling old input r new
-tells picks old mid new c c2 input (Ok u) hears going rounds least = told_round picks old mid new c c2 input least hears going rounds.0 rounds.1
-tells picks old mid new c c2 input (Err stop.NotNow) hears going rounds least = absurd rounds
-tells picks old mid new c c2 input (Err stop.LogFull) hears going rounds least = told_in_part picks old mid new c c2 input least hears going rounds.0 rounds.1 rounds.2
-tells picks old mid new c c2 input (Err stop.Spoiled) hears going rounds least = absurd (let h : true ≡ false = sym rounds.0 ∙ hears.unspoiled in (cc))
-tells picks old mid new c c2 input (Err stop.Memory) hears going rounds least = tt
+pub tells : {C : Type 0} (picks : Picks C) (drawn : Drawn C) (old mid new : State) (c c2 : C) (input : Option (List ℕ)) (r : Result (Unit {0}) Stop) → Hears old input mid → mid.world.done ≡ false → Rounds picks drawn mid c r new c2 → TakesLeast picks → Telling old input r new
+tells picks drawn old mid new c c2 input (Ok u) hears going rounds least = told_round picks old mid new c c2 input least hears going rounds.0 rounds.1
+tells picks drawn old mid new c c2 input (Err stop.NotNow) hears going rounds least = absurd rounds
+tells picks drawn old mid new c c2 input (Err stop.LogFull) hears going rounds least = told_in_part picks old mid new c c2 input least hears going rounds.0 rounds.1 rounds.2
+tells picks drawn old mid new c c2 input (Err stop.Spoiled) hears going rounds least = absurd (let h : true ≡ false = sym rounds.0 ∙ hears.unspoiled in (cc))
+tells picks drawn old mid new c c2 input (Err stop.Memory) hears going rounds least = tt
 
 pub told_at_once : (old new : State) (input : Option (List ℕ)) → old.world.options.entries ≤ length old.log → new ≡ old → FillsUp old input new
 told_at_once old new input full same = at_once full same

@@ -91,6 +91,24 @@ status_is (Err halt.Limit) = is_limit refl
 status_is (Err halt.Full) = is_full refl
 status_is (Err halt.Memory) = is_memory refl
 
+pub read_failed : (r : Result Outcome Halt) → status_of r ≡ 4 → r ≡ Err halt.Read
+read_failed (Ok outcome.Done) e = absurd (omega (arith, e))
+read_failed (Ok outcome.Refused) e = absurd (omega (arith, e))
+read_failed (Err halt.Read) e = refl
+read_failed (Err halt.Write) e = absurd (omega (arith, e))
+read_failed (Err halt.Limit) e = absurd (omega (arith, e))
+read_failed (Err halt.Full) e = absurd (omega (arith, e))
+read_failed (Err halt.Memory) e = absurd (omega (arith, e))
+
+pub write_failed : (r : Result Outcome Halt) → status_of r ≡ 5 → r ≡ Err halt.Write
+write_failed (Ok outcome.Done) e = absurd (omega (arith, e))
+write_failed (Ok outcome.Refused) e = absurd (omega (arith, e))
+write_failed (Err halt.Read) e = absurd (omega (arith, e))
+write_failed (Err halt.Write) e = refl
+write_failed (Err halt.Limit) e = absurd (omega (arith, e))
+write_failed (Err halt.Full) e = absurd (omega (arith, e))
+write_failed (Err halt.Memory) e = absurd (omega (arith, e))
+
 pub journal_status_is : (r : Result Judgement Halt) → IsSoloStatus (status_of_journal r)
 journal_status_is (Ok judged.Right) = is_done refl
 journal_status_is (Ok judged.Refused) = is_refused refl

@@ -16,7 +16,8 @@ use Rattle.pl_stream.specs.declared.halt.Halt.{Halt}
 use Rattle.pl_stream.specs.declared.halt.Halt.TheVariants as halt
 use Rattle.pl_main.specs.declared.outcome.Outcome.{Outcome}
 use Rattle.pl_main.specs.declared.outcome.Outcome.TheVariants as outcome
-use Rattle.pl_main.specs.Plays.{Place, PlaysOut}
+use Rattle.pl_stream.specs.Places.{Place}
+use Rattle.pl_main.specs.Plays.{PlaysOut}
 use Rattle.pl_main.specs.Runs.{fresh_state, ModelRun, IsKeptModel, TextFails}
 use Rattle.pl_main.specs.Top.{line_limit, IsDone, IsNoModel, IsFull}
 use Rattle.pl_stream.specs.Written.{Adds}

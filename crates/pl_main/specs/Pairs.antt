@@ -1,6 +1,5 @@
 -- What the top call promises of `run pair N SEED`.
 use Rattle.std.specs.Prelude.{◌≡◌, ℕ, ◌⊎◌, List, [], ◌∷◌, ◌++◌, length, true, false, Option, Some, None, Result, Ok, Err, ⊤}
-use mathlib.Core.List.{IsPrefix}
 use Rattle.std.specs.declared.vec.Vec.{Vec}
 use Rattle.std.specs.declared.alloc.Global.{Global}
 use Rattle.pl_io.specs.Writes.{AppendsFront}
@@ -20,7 +19,7 @@ use Rattle.pl_stream.specs.Written.{Adds}
 use Rattle.pl_shared.specs.Roles.{is_input}
 use Rattle.pl_pair.specs.declared.ended.Ended.{Ended}
 use Rattle.pl_pair.specs.declared.ended.Ended.TheVariants as ended
-use Rattle.pl_pair.specs.Asking.{Place}
+use Rattle.pl_stream.specs.Places.{Place}
 use Rattle.pl_pair.specs.Rounds.{AddsFront}
 use Rattle.pl_pair.specs.Served.{AreOf}
 use Rattle.pl_pair.specs.Chosen.{AreChosen}
@@ -37,16 +36,6 @@ pub record IsPaired (turns seed : ℕ) (m : Model) (log : List Entry) : Type 0 w
   pub opened : log ≡ opening (program_options turns) ∷ entries
   pub history : History seed m (opening (program_options turns) ∷ []) log
   pub chosen : AreChosen m (opening (program_options turns) ∷ []) entries
-
--- The input begins with this text and a `begin` line, and each line up to it is within the limits.
-pub record HasText (input words : List ℕ) : Type 0 where
-  pub lines : List (List ℕ)
-  pub left : ℕ
-  pub rest : List ℕ
-  pub gave : Gave line_limit total_limit input lines left rest
-  pub head : model_text_of lines ≡ Some words
-  pub last : lines_behind lines ≡ []
-  pub text : (split_of input).text ≡ Some words
 
 -- The run is done: what was written is the journal of a finished log of the input.
 pub record IsPairDone (turns seed : ℕ) (input : List ℕ) (source_left held now : Option (List ℕ)) : Type 0 where
@@ -111,17 +100,42 @@ pub record IsPairFull (turns seed : ℕ) (input : List ℕ) (source_left held no
       ⊎ (((world_of model log).closed ≡ true) × ((next : Option (List ℕ)) × ((pending ≡ next ∷ []) × ((more : List (Option (List ℕ))) × (unanswered ≡ next ∷ more)))))
   pub written : Adds held now (text_of_log model log)
 
--- A write failed. What went out is a front of the line that refuses the model, or of the text of a log over the model whose inputs are a front of the messages, and not all of it.
+-- Such a log over the input's model, whose inputs are the first messages of the input.
+pub record HasPairBegun (turns seed : ℕ) (input : List ℕ) : Type 0 where
+  pub model : Model
+  pub log : List Entry
+  pub words : List ℕ
+  pub text : (split_of input).text ≡ Some words
+  pub accepted : IsModelText words model
+  pub paired : IsPaired turns seed model log
+  pub unanswered : List (Option (List ℕ))
+  pub messages : (split_of input).messages ≡ inputs_of log ++ unanswered
+
+-- A write failed. What went out is a front of the line that refuses the model, or of such a log's journal, and not all of it. Of a run the last line that was asked for is the last message of the log.
 pub data IsPairTorn (turns seed : ℕ) (input : List ℕ) (source_left held now : Option (List ℕ)) : Type 0 where
   torn_refusal : (line : List ℕ) → IsNoModel line_limit input source_left (Some []) (Some line) → AppendsFront held now line → IsPairTorn turns seed input source_left held now
-  torn_run : (words : List ℕ) (model : Model) (log : List Entry) → HasText input words → IsModelText words model
-      → IsPaired turns seed model log → IsPrefix (inputs_of log) (split_of input).messages → AppendsFront held now (text_of_log model log) → IsPairTorn turns seed input source_left held now
+  torn_run : (run : HasPairBegun turns seed input) → HasRead run.words (inputs_of run.log) input source_left → AppendsFront held now (text_of_log run.model run.log) → IsPairTorn turns seed input source_left held now
 
--- Memory was wanting: nothing went out, or a front of the text of such a log.
-pub data IsPairShort (turns seed : ℕ) (input : List ℕ) (held now : Option (List ℕ)) : Type 0 where
-  silent : now ≡ held → IsPairShort turns seed input held now
-  of_run : (words : List ℕ) (model : Model) (log : List Entry) → HasText input words → IsModelText words model
-      → IsPaired turns seed model log → IsPrefix (inputs_of log) (split_of input).messages → AddsFront held now (text_of_log model log) → IsPairShort turns seed input held now
+-- The lines that were given, each within the limits: the text of a model up to a `begin` line, and behind it these messages.
+pub record WasGiven (words : List ℕ) (messages : List (Option (List ℕ))) (input : List ℕ) : Type 0 where
+  pub lines : List (List ℕ)
+  pub left : ℕ
+  pub rest : List ℕ
+  pub gave : Gave line_limit total_limit input lines left rest
+  pub head : model_text_of lines ≡ Some words
+  pub more : List (Option (List ℕ))
+  pub behind : messages_of (lines_behind lines) ≡ messages ++ more
+
+-- How far was read where memory was wanting: the last line that was asked for is the last of these messages, or the one behind it. Or memory was wanting to read that one, and then nothing is said of what the source has left.
+pub data ReadsInPart (words : List ℕ) (messages unanswered : List (Option (List ℕ))) (input : List ℕ) (source_left : Option (List ℕ)) : Type 0 where
+  to_last : HasRead words messages input source_left → ReadsInPart words messages unanswered input source_left
+  to_next : (next : Option (List ℕ)) (more : List (Option (List ℕ))) → unanswered ≡ next ∷ more → HasRead words (messages ++ next ∷ []) input source_left → ReadsInPart words messages unanswered input source_left
+  at_next : WasGiven words messages input → ReadsInPart words messages unanswered input source_left
+
+-- Memory was wanting: nothing went out, or a front of such a log's journal.
+pub data IsPairShort (turns seed : ℕ) (input : List ℕ) (source_left held now : Option (List ℕ)) : Type 0 where
+  silent : now ≡ held → IsPairShort turns seed input source_left held now
+  of_run : (run : HasPairBegun turns seed input) → ReadsInPart run.words (inputs_of run.log) run.unanswered input source_left → AddsFront held now (text_of_log run.model run.log) → IsPairShort turns seed input source_left held now
 
 -- how a run of a pair ended, where the input's bytes are known
 abbrev pub Paired : (turns seed : ℕ) → List ℕ → (source_left held now : Option (List ℕ)) → Result Outcome Halt → Type 0
@@ -131,7 +145,7 @@ Paired turns seed input source_left held now (Err halt.Limit) = IsPairPastLimit 
 Paired turns seed input source_left held now (Err halt.Full) = IsPairFull turns seed input source_left held now
 Paired turns seed input source_left held now (Err halt.Read) = IsPairReadFault turns seed input source_left held now
 Paired turns seed input source_left held now (Err halt.Write) = IsPairTorn turns seed input source_left held now
-Paired turns seed input source_left held now (Err halt.Memory) = IsPairShort turns seed input held now
+Paired turns seed input source_left held now (Err halt.Memory) = IsPairShort turns seed input source_left held now
 
 abbrev pub PairedKnown : (turns seed : ℕ) → (input source_left held now : Option (List ℕ)) → Result Outcome Halt → Type 0
 PairedKnown turns seed None source_left held now r = ⊤

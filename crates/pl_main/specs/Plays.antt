@@ -1,7 +1,6 @@
 -- The messages of a run and what is written for them.
 use Rattle.std.specs.Prelude.{◌≡◌, ℕ, ◌<◌, List, [], ◌∷◌, ◌++◌, length, drop, Bool, true, false, Option, Some, None, IfSome, ◌⊎◌, Result, Ok, Err, ⊤}
-use Rattle.pl_io.specs.Lines.{ahead}
-use Rattle.pl_io.specs.Reader.{Reader, NumberedLine}
+use Rattle.pl_io.specs.Reader.{NumberedLine}
 use Rattle.pl_io.specs.Sparing.{read_size}
 use Rattle.pl_io.specs.Writes.{AppendsFront}
 use Rattle.pl_io.specs.declared.errors.LineFault.{LineFault}
@@ -18,16 +17,9 @@ use Rattle.pl_stream.specs.declared.halt.Halt.TheVariants as halt
 use Rattle.pl_stream.specs.Reads.{GaveKnown, Took}
 use Rattle.pl_main.specs.Tells.{IsReady, Told, FillsUp}
 use Rattle.pl_stream.specs.Stops.{HaltFor, ReadLeaves, StopsBy}
-use Rattle.pl_stream.specs.Waits.{MessageGives, GetsFault}
+use Rattle.pl_stream.specs.Waits.{MessageGives, GetsFault, line_in}
+use Rattle.pl_stream.specs.Places.{Place}
 use Rattle.pl_stream.specs.Written.{Adds}
-
--- a reader with the bytes that are ahead of it
-pub record Place : Type 0 where
-  pub reader : Reader
-  pub ahead : Option (List ℕ)
-
-abbrev pub place_of : Reader → Option (List ℕ) → Place
-place_of r left = record { reader = r; ahead = ahead r.held left }
 
 -- Lines were taken, their messages are the inputs of these entries, and the entries' lines were written.
 pub record Plays (old : State) (start : Place) (held : Option (List ℕ)) (new : State) (place : Place) (now : Option (List ℕ)) : Type 0 where
@@ -114,10 +106,6 @@ Answering old input held (Err halt.Limit) new now = ⊥
 Answering old input held (Err halt.Read) new now = ⊥
 Answering old input held (Err halt.Write) new now = AnsweredInPart old input held new now
 Answering old input held (Err halt.Memory) new now = Unanswered old input held new now
-
-abbrev pub line_in : Option NumberedLine → Option (List ℕ)
-line_in None = None
-line_in (Some line) = Some line.bytes
 
 -- A message was answered, and its entries' lines were written.
 pub record StepsOn (old : State) (start : Place) (held : Option (List ℕ)) (new : State) (place : Place) (now : Option (List ℕ)) : Type 0 where

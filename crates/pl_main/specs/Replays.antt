@@ -25,7 +25,7 @@ use Rattle.pl_main.specs.declared.form.Form.{Form}
 use Rattle.pl_main.specs.declared.form.Form.TheVariants as which
 use Rattle.pl_main.specs.declared.judgement.Judgement.{Judgement}
 use Rattle.pl_main.specs.declared.judgement.Judgement.TheVariants as judged
-use Rattle.pl_main.specs.Plays.{Place}
+use Rattle.pl_stream.specs.Places.{Place}
 use Rattle.pl_main.specs.Runs.{IsKeptModel, TextFails}
 use Rattle.pl_main.specs.Top.{total_limit, IsReadTo, ShowsNoLine, IsNoModel}
 

@@ -16,7 +16,8 @@ use Rattle.pl_main.specs.declared.outcome.Outcome.{Outcome}
 use Rattle.pl_main.specs.declared.outcome.Outcome.TheVariants as outcome
 use Rattle.pl_stream.specs.Heads.{Keeps}
 use Rattle.pl_stream.specs.Written.{Adds}
-use Rattle.pl_main.specs.Plays.{Place, Playing}
+use Rattle.pl_stream.specs.Places.{Place}
+use Rattle.pl_main.specs.Plays.{Playing}
 use Rattle.pl_main.specs.Top.{program_options, model_ok_line}
 
 abbrev pub fresh_state : ℕ → Model → State

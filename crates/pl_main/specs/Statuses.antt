@@ -112,7 +112,7 @@ pub record SaysPaired (turns seed : ℕ) (input : List ℕ) (source_left held no
   pub limit : status ≡ 6 → IsPairPastLimit turns seed input held now
   pub full : status ≡ 7 → IsPairFull turns seed input source_left held now
   pub never_wrong : status ≡ 8 → ⊥
-  pub memory : status ≡ 9 → IsPairShort turns seed input held now
+  pub memory : status ≡ 9 → IsPairShort turns seed input source_left held now
 
 abbrev pub SaysPairKnown : (turns seed : ℕ) → (input source_left held now : Option (List ℕ)) → ℕ → Type 0
 SaysPairKnown turns seed None source_left held now status = ⊤

@@ -1,7 +1,7 @@
 ghost use Rattle.std.specs.Prelude.{◌≡◌, None, IsErrOf};
 ghost use Rattle.pl_io.specs.Faults.{Rose};
 ghost use Rattle.pl_model.specs.Checked.{IsChecked};
-ghost use Rattle.pl_main.specs.Plays.{place_of};
+ghost use Rattle.pl_stream.specs.Places.{place_of};
 ghost use Rattle.pl_main.specs.Replays.{ModelReads, TextReads, ReadsBackKnown};
 
 use crate::form::Form;

@@ -2,7 +2,7 @@
 ghost use Rattle.std.specs.Prelude.{◌≡◌, ◌≤◌, None, IsErrOf};
 ghost use Rattle.pl_io.specs.Faults.{Rose};
 ghost use Rattle.pl_model.specs.Checked.{IsChecked};
-ghost use Rattle.pl_pair.specs.Asking.{place_of};
+ghost use Rattle.pl_stream.specs.Places.{place_of};
 ghost use Rattle.pl_pair.specs.Runs.{PairRun};
 ghost use Rattle.pl_main.specs.Runs.{fresh_state};
 ghost use Rattle.pl_main.specs.Pairs.{outcome_of, PairTextRuns, PairedKnown};

@@ -1,34 +1,16 @@
-ghost use Rattle.std.specs.Prelude.{◌≡◌, ◌≤◌, None, IsErrOf, IfErr, IfSome, All, ◌<◌};
+ghost use Rattle.std.specs.Prelude.{◌≡◌, ◌≤◌, None, IsErrOf, IfSome};
 ghost use Rattle.std.specs.Option.{option_copied};
 ghost use Rattle.pl_io.specs.Faults.{Rose};
 ghost use Rattle.pl_entry.specs.Bounds.{IsMessageLine};
 ghost use Rattle.pl_main.specs.Tells.{IsReady};
-ghost use Rattle.pl_main.specs.Plays.{place_of, line_in, Answering, Steps, Playing};
+ghost use Rattle.pl_stream.specs.Places.{place_of};
+ghost use Rattle.pl_main.specs.Plays.{Answering, Steps, Playing};
 
 use crate::answers::tell;
-use pl_io::{Line, LineReader, Sink, Source};
+use pl_io::{LineReader, Sink, Source};
 use pl_machine::{Machine, Stop};
-use pl_stream::{Halt, halt_of, next_message, write_log};
+use pl_stream::{Halt, halt_of, line_in, next_message, write_log};
 use std::alloc::Global;
-
-/// The bytes of a line.
-fn bytes_of(line: &Line) -> &[u8]
-    ensures same { result.now ≡ line.now.bytes }
-    ensures bytes { All (λ byte. byte < 256) result.now }
-{
-    let bytes = line.bytes();
-    bytes
-}
-
-fn line_in(message: &Option<Line>) -> Option<&[u8]>
-    ensures same { option_copied result ≡ line_in message.now }
-    ensures bytes { IfSome (option_copied result) (λ bytes. All (λ byte. byte < 256) bytes) }
-{
-    match message {
-        None => None,
-        Some(line) => Some(bytes_of(line)),
-    }
-}
 
 /// Answers a message and writes the lines of its entries. Answers whether the run is done.
 #[tactic(auto, using(crate::proofs::Playing::told_cut, crate::proofs::Playing::filled_cut, crate::proofs::Playing::not_told))]

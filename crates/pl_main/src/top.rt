@@ -99,26 +99,8 @@ fn usage<O: Sink>(out: &mut O) -> u8
     }
 }
 
-#[tactic(auto, using(crate::proofs::Topping::says_paired, crate::proofs::Topping::status_is))]
-fn pair_status<R: Threads + Wait + Sync, I: Source, O: Sink, G: Gate + Sync>(
-    rt: &R,
-    alloc: Global,
-    turns: u32,
-    seed: u64,
-    input: &mut I,
-    out: &mut O,
-    gate: &G,
-) -> u8
-    requires { (1 ≤ turns) × (turns ≤ 1000) }
-    ensures status { IsSoloStatus result }
-    ensures read { result ≡ 4 → Rose (I.faults input.old) (I.faults input.new) }
-    ensures write { result ≡ 5 → Rose (O.faults out.old) (O.faults out.new) }
-    ensures says { SaysPairKnown turns seed (I.left input.old) (I.left input.new) (O.held out.old) (O.held out.new) result }
-{
-    status_of(paired(rt, alloc, turns, seed, input, out, gate))
-}
-
 /// Does the job of a planner and an executive in threads of their own, and answers its status.
+#[tactic(auto, using(crate::proofs::Topping::says_paired, crate::proofs::Topping::status_is))]
 fn pair<R: Threads + Wait + Sync, I: Source, O: Sink, G: Gate + Sync>(
     rt: &R,
     alloc: Global,
@@ -137,7 +119,7 @@ fn pair<R: Threads + Wait + Sync, I: Source, O: Sink, G: Gate + Sync>(
         → (Rose (O.faults out.old) (O.faults out.new) → ⊥)
         → CompletesPair turns seed (I.left input.old) result }
 {
-    pair_status(rt, alloc, turns, seed, input, out, gate)
+    status_of(paired(rt, alloc, turns, seed, input, out, gate))
 }
 
 /// Does what the words behind the program's name ask for, and answers the program's status. `run pair N SEED` alone starts

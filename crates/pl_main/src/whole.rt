@@ -1,7 +1,7 @@
 ghost use Rattle.std.specs.Prelude.{◌≡◌, ◌≤◌, None, IfOk, IsErrOf};
 ghost use Rattle.pl_io.specs.Faults.{Rose};
 ghost use Rattle.pl_model.specs.Checked.{IsChecked};
-ghost use Rattle.pl_main.specs.Plays.{place_of};
+ghost use Rattle.pl_stream.specs.Places.{place_of};
 ghost use Rattle.pl_main.specs.Runs.{fresh_state, ModelRuns, TextRuns};
 ghost use Rattle.pl_main.specs.Top.{program_options, RanKnown};
 

@@ -19,7 +19,7 @@ use Rattle.pl_machine.specs.declared.stop.Stop.TheVariants as stop
 use Rattle.pl_render.specs.Lines.{text_from}
 use Rattle.pl_render.proofs.Texts.{text_joined}
 use Rattle.pl_stream.specs.Reads.{Took, IsUsedUp, AreBlank}
-use Rattle.pl_stream.specs.Waits.{MessageGives, GetsMessage, GetsEnd}
+use Rattle.pl_stream.specs.Waits.{MessageGives, GetsMessage, GetsEnd, line_in}
 use Rattle.pl_stream.specs.Written.{Adds}
 use Rattle.pl_stream.proofs.Reading.{took_more, used_later}
 use Rattle.pl_stream.proofs.Writing.{some_held, adds_then}
@@ -37,8 +37,9 @@ use Rattle.pl_pair.specs.declared.rounds.Stage.TheVariants as stage
 use Rattle.pl_pair.specs.Cuts.{cut_by}
 use Rattle.pl_pair.specs.Rounds.{Follows, Looks, IsBetween, AddsFront, lines_behind, RoundEnds}
 use Rattle.std.specs.Prelude.{IsErrOf}
-use Rattle.pl_pair.specs.Asking.{Place, Asks, line_in, HandsIn, HandsOn, HandsNone, Passes, PassesTo}
-use Rattle.pl_pair.specs.Feeds.{spoken, said_in, IsInput, AreInputs, Reads, unasked, asked, EndsUsed, EndsRead, Heard, Tells, Writes, WritesAll, StepsOn, StepsOut, StepsCut, in_round, at_message, Steps, Feeding, Waiting, FeedsOut, FeedsUntil, FeedsRefused, FeedsStopped, FeedsTorn, FeedsPart, FeedsCut, refused, stopped, FeedsAll, FeedsToEnd}
+use Rattle.pl_stream.specs.Places.{Place}
+use Rattle.pl_pair.specs.Asking.{Asks, HandsIn, HandsOn, HandsNone, Passes, PassesTo}
+use Rattle.pl_pair.specs.Feeds.{spoken, said_in, IsInput, AreInputs, Reads, unasked, asked, EndsUsed, EndsRead, Heard, Tells, Writes, WritesAll, StepsOn, StepsOut, StepsCut, in_round, at_message, Steps, Feeding, Waiting, FeedsOut, FeedsUntil, FeedsRefused, FeedsStopped, FeedsTorn, FeedsPart, FeedsShort, for_lines, for_message, for_reader, FeedsCut, refused, stopped, FeedsAll, FeedsToEnd}
 use Rattle.pl_pair.proofs.Passing.{follows_self, follows_on, entries_longer}
 
 -- ---- lists
@@ -107,13 +108,6 @@ front_of None now xs ys adds = tt
 front_of (Some before) now xs ys adds =
     let all : take (length xs + 0) (xs ++ ys) ≡ xs ++ [] = take-append-add xs ys 0 in
     (length xs + 0, (let long = length-append xs ys in omega arith), adds ∙ ap (λ (t : List ℕ). Some (before ++ t)) (sym (all ∙ append-nil xs)))
-
--- of what was written before the history went on
-pub wrote_before : (m : Model) (held now : Option (List ℕ)) (front seen : List Noted) → IsPrefix front seen → WritesAll m held front now → AddsFront held now (text_from m 0 (entries_in seen))
-wrote_before m held now front seen on adds =
-    subst (λ (t : List ℕ). AddsFront held now t)
-    (sym (text_joined m 0 (entries_in front) (entries_in on.0)) ∙ ap (λ (xs : List Entry). text_from m 0 xs) (sym (entries_on front seen on)))
-    (front_of held now (text_from m 0 (entries_in front)) (text_from m (0 + length (entries_in front)) (entries_in on.0)) adds)
 
 -- ---- what was told
 
@@ -231,19 +225,23 @@ not_write fault.Memory e = cc
 
 -- ---- the loop
 
+-- nothing was read
+pub heard_none : (start : Place) → Heard start [] start
+heard_none start = record {
+  lines = [];
+  reads = unasked refl refl;
+  said = refl;
+  used = λ front e. absurd (some_nil front None e);
+  last = λ front line e. absurd (some_nil front (Some line) e);
+}
+
 pub feeding_none : (plan : SharedPlan) (m : Model) (pass : PlanPass) (start : Place) (held : Option (List ℕ)) → BelongsTo plan pass → mine_of pass ≡ [] → Feeding plan m pass start held pass start held 0
 feeding_none plan m pass start held own new = record {
   own = own;
   tells = record {
     follows = follows_self pass;
     inputs = [];
-    heard = record {
-      lines = [];
-      reads = unasked refl refl;
-      said = refl;
-      used = λ front e. absurd (some_nil front None e);
-      last = λ front line e. absurd (some_nil front (Some line) e);
-    };
+    heard = heard_none start;
     mine = (let P : List (ℕ × Noted) → Type 0 = λ xs. AreInputs [] xs in subst P (sym new) tt);
   };
   writes = record { front = []; in_front = (seen_of pass, refl); count = refl; written = some_held held };
@@ -264,21 +262,23 @@ module _ (plan : SharedPlan) (m : Model) (old : PlanPass) (start : Place) (held 
     between = ends.2;
   }
 
-  part_to : (new : PlanPass) (now : Option (List ℕ)) → BelongsTo plan new → Looks cur new → AddsFront mid now (lines_behind m from (seen_of new)) → FeedsPart plan m old start held new now
-  part_to new now own looks adds = record {
-    place = middle;
-    own = own;
-    tells = told_to new looks;
-    written = wrote_part m held mid now feeding.writes.front (seen_of new) from (on_to new looks) feeding.writes.count feeding.writes.written adds;
-  }
+  part_to : (new : PlanPass) (place : Place) (now : Option (List ℕ)) → BelongsTo plan new → Looks cur new → AddsFront mid now (lines_behind m from (seen_of new)) → place ≡ middle → FeedsPart plan m old start held new place now
+  part_to new place now own looks adds same =
+      let P : Place → Type 0 = λ p. Tells old start new p in
+      record {
+        own = own;
+        tells = subst P (sym same) (told_to new looks);
+        written = wrote_part m held mid now feeding.writes.front (seen_of new) from (on_to new looks) feeding.writes.count feeding.writes.written adds;
+      }
 
-  torn_to : (new : PlanPass) (now : Option (List ℕ)) → BelongsTo plan new → Looks cur new → AppendsFront mid now (lines_behind m from (seen_of new)) → FeedsTorn plan m old start held new now
-  torn_to new now own looks adds = record {
-    place = middle;
-    own = own;
-    tells = told_to new looks;
-    written = wrote_torn m held mid now feeding.writes.front (seen_of new) from (on_to new looks) feeding.writes.count feeding.writes.written adds;
-  }
+  torn_to : (new : PlanPass) (place : Place) (now : Option (List ℕ)) → BelongsTo plan new → Looks cur new → AppendsFront mid now (lines_behind m from (seen_of new)) → place ≡ middle → FeedsTorn plan m old start held new place now
+  torn_to new place now own looks adds same =
+      let P : Place → Type 0 = λ p. Tells old start new p in
+      record {
+        own = own;
+        tells = subst P (sym same) (told_to new looks);
+        written = wrote_torn m held mid now feeding.writes.front (seen_of new) from (on_to new looks) feeding.writes.count feeding.writes.written adds;
+      }
 
   -- the lines were written, and a message was handed on
   pub feeds_on : (new : PlanPass) (place : Place) (now : Option (List ℕ)) (next : ℕ) → BelongsTo plan new → StepsOn plan m from middle cur mid next place new now → Feeding plan m old start held new place now next
@@ -306,8 +306,8 @@ module _ (plan : SharedPlan) (m : Model) (old : PlanPass) (start : Place) (held 
   cut_round cut.Read new place now own looks ends same = absurd ends
   cut_round cut.Limit new place now own looks ends same = absurd ends
   cut_round cut.Full new place now own looks ends same = absurd ends
-  cut_round cut.Write new place now own looks ends same = torn_to new now own looks ends
-  cut_round cut.Memory new place now own looks ends same = part_to new now own looks ends
+  cut_round cut.Write new place now own looks ends same = torn_to new place now own looks ends same
+  cut_round cut.Memory new place now own looks ends same = for_lines (part_to new place now own looks ends same)
   cut_round cut.Stopped new place now own looks ends same =
       let P : Place → Type 0 = λ p. Tells old start new p in
       stopped (record {
@@ -319,14 +319,6 @@ module _ (plan : SharedPlan) (m : Model) (old : PlanPass) (start : Place) (held 
       })
 
   module _ (between : PlanPass) (now : Option (List ℕ)) (waiting : Waiting plan m old start held between middle now) (new : PlanPass) (place : Place) (own : BelongsTo plan new) (follows : Follows between new) where
-    part_behind : mine_of new ≡ mine_of between → FeedsPart plan m old start held new now
-    part_behind same = record {
-      place = middle;
-      own = own;
-      tells = tells_on old between new start middle waiting.tells follows same;
-      written = wrote_before m held now (seen_of between) (seen_of new) follows.longer waiting.written;
-    }
-
     refused_at : (c : Cut) → HandsOn middle between (Err c) place new → FeedsRefused plan m c old start held new place now
     refused_at c step = record { mid = between; middle = middle; waiting = waiting; own = own; follows = follows; step = step }
 
@@ -338,9 +330,6 @@ module _ (plan : SharedPlan) (m : Model) (old : PlanPass) (start : Place) (held 
       asks = step.asks;
       cut = step.cut;
     }
-
-    same_mine : (c : Cut) → HandsNone middle between c place new → mine_of new ≡ mine_of between
-    same_mine c step = ap (λ (p : PlanPass). mine_of p) step.same
 
     -- cut short at a message
     cut_message : (c : Cut) → Passes middle between (Err c) place new → FeedsAll plan m old start held (Err c) new place now
@@ -354,8 +343,8 @@ module _ (plan : SharedPlan) (m : Model) (old : PlanPass) (start : Place) (held 
     cut_message cut.Stopped (inr step) = absurd (not_stopped step.fault step.cut)
     cut_message cut.Write (inl step) = absurd step.hands
     cut_message cut.Write (inr step) = absurd (not_write step.fault step.cut)
-    cut_message cut.Memory (inl step) = part_behind step.hands
-    cut_message cut.Memory (inr step) = part_behind (same_mine cut.Memory step)
+    cut_message cut.Memory (inl step) = for_message (refused_at cut.Memory step)
+    cut_message cut.Memory (inr step) = for_reader (until_at cut.Memory step)
 
   pub feeds_cut : (c : Cut) (new : PlanPass) (place : Place) (now : Option (List ℕ)) → BelongsTo plan new → StepsCut plan m from middle cur mid c place new now → FeedsAll plan m old start held (Err c) new place now
   feeds_cut c new place now own (in_round looks ends same) = cut_round c new place now own looks ends same

@@ -28,7 +28,7 @@ use Rattle.pl_render.specs.Lines.{text_from, text_of_log}
 use Rattle.pl_render.proofs.Texts.{text_joined}
 use Rattle.pl_stream.specs.Reads.{GaveKnown, Took, WhyKnown, Halts, AreBlank}
 use Rattle.pl_stream.specs.Stops.{IsStuckKnown}
-use Rattle.pl_stream.specs.Waits.{GetsFault}
+use Rattle.pl_stream.specs.Waits.{GetsFault, line_in}
 use Rattle.pl_stream.specs.Written.{Adds}
 use Rattle.pl_shared.specs.declared.noted.Noted.{Noted}
 use Rattle.pl_shared.specs.declared.noted.Noted.TheVariants.{Opened, Made, Stopped}
@@ -54,16 +54,17 @@ use Rattle.pl_pair.specs.Cuts.{cut_by}
 use Rattle.pl_pair.specs.Served as serving
 use Rattle.pl_pair.specs.Served.{AreOf, IsStopAtMost, AreOfUntil, MakesOwn, IsFullRound, Refused, IsServed, IsWorker}
 use Rattle.pl_pair.specs.Rounds.{Follows, IsBetween, AddsFront}
-use Rattle.pl_pair.specs.Asking.{Place, Faults, now_failed, had_failed, Asks, line_in, HandsOn}
-use Rattle.pl_pair.specs.Feeds.{AreInputs, Reads, unasked, asked, Heard, Tells, WritesAll, Waiting, FeedsOut, FeedsUntil, FeedsRefused, FeedsStopped, FeedsTorn, FeedsPart, FeedsCut, refused, FeedsAll, FeedsAndStops, FeedsToEnd}
+use Rattle.pl_stream.specs.Places.{Place}
+use Rattle.pl_pair.specs.Asking.{Faults, now_failed, had_failed, Asks, HandsOn}
+use Rattle.pl_pair.specs.Feeds.{AreInputs, Reads, unasked, asked, Heard, Tells, WritesAll, Waiting, FeedsOut, FeedsUntil, FeedsRefused, FeedsStopped, FeedsTorn, FeedsPart, FeedsShort, for_lines, for_message, for_reader, FeedsCut, refused, FeedsAll, FeedsAndStops, FeedsToEnd}
 use Rattle.pl_pair.specs.Feeds as fed
 use Rattle.pl_pair.specs.Endings.{is_full, is_other, refusal_of, ended_of}
-use Rattle.pl_pair.specs.Runs.{ClosesAll, History, InMessages, HadLimit, MayFault, WhyNone, IsCauseOf, StoppedBy, Given, WritesLog, ReadUpTo, RunsOut, RunsUntil, RunsFull, RunEnds, PairRun}
+use Rattle.pl_pair.specs.Runs.{ClosesAll, History, InMessages, HadLimit, MayFault, WhyNone, IsCauseOf, StoppedBy, Given, WritesLog, ReadUpTo, RunsOut, RunsUntil, RunsFull, RunsTorn, ReadsShort, all_handed, one_behind, one_unread, RunsShort, RunEnds, PairRun}
 use Rattle.pl_pair.proofs.Ending.{NoEnds, LastEnds, EndsIf, Goes, world_goes, steps_behind, world_behind, run_ends}
 use Rattle.pl_pair.proofs.Working.{own_on, own_kinds}
-use Rattle.pl_pair.proofs.Saying.{told_on, told_front, told_all, told_lines, told_gave, up_to_next, up_to_last, if_known, asks_begins, messages_on, skip_blanks, none_left}
+use Rattle.pl_pair.proofs.Saying.{told_on, told_front, told_all, told_lines, told_gave, up_to_next, up_to_last, up_to_told, if_known, asks_begins, messages_on, skip_blanks, none_left}
 use Rattle.pl_pair.proofs.Passing.{took_follows, follows_on, adds_nothing}
-use Rattle.pl_pair.proofs.Feeding.{front_of, heard_more}
+use Rattle.pl_pair.proofs.Feeding.{front_of, heard_none, heard_more}
 use Rattle.pl_pair.specs.Chosen.{AreChosen}
 use Rattle.pl_pair.proofs.Choosing.{are_chosen}
 use Rattle.pl_pair.proofs.Closing.{FeederList, feeder_until, MoreOf, more_of, NoInputs, made_no_inputs, repair_no_input, executed_no_input, inputs_kind, inputs_are, no_further, same_model, Rests, between, over, stopped, world_in, at_front, legal_front, entries_whole, over_none, between_input, stop_none}
@@ -268,6 +269,8 @@ module _ (m : Model) (before : List Entry) (first : PlanPass) (w1 w2 : Worker) (
       executed = made_two;
       planner_made = all_one;
       executive_made = all_two;
+      planner_is = joined.one.served.worker ∙ ap (λ (d : Duty). worker_of (role_of d)) joined.one.hired;
+      executive_is = joined.two.served.worker ∙ ap (λ (d : Duty). worker_of (role_of d)) joined.two.hired;
       planner_why = why_one;
       executive_why = why_two;
     }
@@ -364,11 +367,11 @@ module _ (m : Model) (before : List Entry) (first : PlanPass) (w1 w2 : Worker) (
 
 -- ---- the answers
 
-ends_refusal : (b c : Bool) (m : Model) (log more : List Entry) (start behind : Place) (held now : Option (List ℕ)) → AddsFront held now (text_from m 0 log) → (b ≡ false → c ≡ true → RunsFull m log more start held behind now)
+ends_refusal : (b c : Bool) (m : Model) (log more : List Entry) (start behind : Place) (held now : Option (List ℕ)) → RunsShort m log more start held behind now → (b ≡ false → c ≡ true → RunsFull m log more start held behind now)
     → RunEnds (if b then ended.Memory else if c then ended.LogFull else ended.Memory) m log more start held behind now
-ends_refusal true c m log more start behind held now front full = front
-ends_refusal false true m log more start behind held now front full = full refl refl
-ends_refusal false false m log more start behind held now front full = front
+ends_refusal true c m log more start behind held now short full = short
+ends_refusal false true m log more start behind held now short full = full refl refl
+ends_refusal false false m log more start behind held now short full = short
 
 -- a full log is the answer only where nobody met another refusal
 no_other : (b c : Bool) → (if b then ended.Memory else if c then ended.LogFull else ended.Memory) ≡ ended.LogFull → b ≡ false
@@ -471,6 +474,13 @@ limit_whys place = record {
   lacks = λ f is memory. (let h : cut.Limit ≡ cut.Memory = is ∙ ap cut_by memory in (cc));
 }
 
+-- a reader that lacks memory
+memory_by : (f : LineFault) → cut.Memory ≡ cut_by f → f ≡ fault.Memory
+memory_by fault.Read is = absurd (cc)
+memory_by (fault.Long n) is = absurd (cc)
+memory_by fault.Total is = absurd (cc)
+memory_by fault.Memory is = refl
+
 start_works : (start place : Place) (lines : List (List ℕ)) → Reads start lines place → place.reader.failed ≡ None → start.reader.failed ≡ None
 start_works start place lines (unasked none same) works = sym (ap (λ (p : Place). p.reader.failed) same) ∙ works
 start_works start place lines (asked works took) works2 = works
@@ -554,6 +564,10 @@ module _ (start : State) (first : PlanPass) (w1 w2 : Worker) (joined : Joined st
     told_ends : EndsIf (world_of start.model joined.whole.log).done tells.inputs
     told_ends = ends_told start.model start.log first w1 w2 joined tells.inputs (mine_of mid) list
 
+    -- how far was read, whether the input has ended or not
+    told_read : ReadUpTo place (inputs_of more_entries) end
+    told_read = subst (λ (is : List (Option (List ℕ))). ReadUpTo place is end) (sym told_same) (up_to_told (world_of start.model joined.whole.log).done place end tells.inputs tells.heard told_ends)
+
     -- a front was written
     part_front : AddsFront held now (text_from start.model 0 (entries_in (seen_of mid))) → AddsFront held now (text_of_log start.model joined.whole.log)
     part_front adds =
@@ -584,12 +598,11 @@ module _ (start : State) (first : PlanPass) (w1 w2 : Worker) (joined : Joined st
       out_ends done =
           let at = world_is (λ w. w.done ≡ true) done in
           let ends = last_ends (world_of start.model joined.whole.log).done tells.inputs at told_ends in
-          let heard = subst (λ (is : List (Option (List ℕ))). Heard place is end) ends.is tells.heard in
           record {
             done = at;
             closed = closed_by (world_of start.model joined.whole.log) (world_of start.model joined.whole.log).closed refl (world_goes start.model joined.whole.log joined.whole.legal) at;
             messages = subst (λ (is : List (Option (List ℕ))). InMessages place (λ messages. is ≡ messages)) (sym told_same) (told_all old mid place end tells ends);
-            read = subst (λ (is : List (Option (List ℕ))). ReadUpTo place is end) (sym (told_same ∙ ends.is)) (up_to_last place end ends.front ends.last heard ends.none);
+            read = told_read;
             written = text_is;
           }
 
@@ -611,16 +624,15 @@ module _ (start : State) (first : PlanPass) (w1 w2 : Worker) (joined : Joined st
           let met = met_full start.model start.log first w1 w2 joined is in
           (full_round start.model start.log first w1 w2 joined tells.inputs (mine_of mid) list met.0 met.1).1
 
-      worker_full : (world_of start.model joined.whole.log).done ≡ false → (is_full w1.refusal || is_full w2.refusal) ≡ true → RunsFull start.model joined.whole.log more_entries place held end now
-      worker_full going is =
+      worker_full : (is_full w1.refusal || is_full w2.refusal) ≡ true → RunsFull start.model joined.whole.log more_entries place held end now
+      worker_full is =
           let met = met_full start.model start.log first w1 w2 joined is in
           let at = full_round start.model start.log first w1 w2 joined tells.inputs (mine_of mid) list met.0 met.1 in
           record {
             full = at.0;
             going = at.2;
             pending = [];
-            read = subst (λ (is : List (Option (List ℕ))). ReadUpTo place is end) (sym (append-nil (inputs_of more_entries) ∙ told_same))
-                (up_to_next place end tells.inputs tells.heard (no_ends (world_of start.model joined.whole.log).done tells.inputs going told_ends));
+            read = subst (λ (is : List (Option (List ℕ))). ReadUpTo place is end) (sym (append-nil (inputs_of more_entries))) told_read;
             due = inl (at.1, refl);
             written = text_is;
           }
@@ -670,19 +682,67 @@ module _ (start : State) (first : PlanPass) (w1 w2 : Worker) (joined : Joined st
         (until_ends start first w1 w2 joined place held now old seen0 mid feeds.middle tells plan feeds.waiting.own list takes.longer (between feeds.waiting.between) feeds.waiting.written
         r c feeds.fault end whys feeds.cut feeds.asks feeds.waiting.between))
 
-    -- memory was wanting
-    runs_part : FeedsPart plan start.model old place held mid now → PairRun joined.seed start place held ended.Memory end now
-    runs_part feeds =
-        let list = list_stop feeds.tells.inputs mid first feeds.tells.mine stops in
-        pair_run ended.Memory start first w1 w2 joined place held now old mid feeds.place end feeds.tells list (λ e. absurd (cc)) (λ e. absurd (cc))
-        (part_front start first w1 w2 joined place held now old seen0 mid feeds.place feeds.tells plan feeds.own list takes.longer feeds.written)
-
     -- a write failed
-    runs_torn : FeedsTorn plan start.model old place held mid now → PairRun joined.seed start place held ended.WriteFault end now
+    runs_torn : FeedsTorn plan start.model old place held mid end now → PairRun joined.seed start place held ended.WriteFault end now
     runs_torn feeds =
         let list = list_stop feeds.tells.inputs mid first feeds.tells.mine stops in
-        pair_run ended.WriteFault start first w1 w2 joined place held now old mid feeds.place end feeds.tells list (λ e. absurd (cc)) (λ e. absurd (cc))
-        (part_torn start first w1 w2 joined place held now old seen0 mid feeds.place feeds.tells plan feeds.own list takes.longer feeds.written)
+        pair_run ended.WriteFault start first w1 w2 joined place held now old mid end end feeds.tells list (λ e. absurd (cc)) (λ e. absurd (cc))
+        (record {
+          read = told_read start first w1 w2 joined place held now old seen0 mid end feeds.tells plan feeds.own list takes.longer;
+          written = part_torn start first w1 w2 joined place held now old seen0 mid end feeds.tells plan feeds.own list takes.longer feeds.written;
+        })
+
+    -- memory was wanting for the lines of a round
+    runs_part : FeedsPart plan start.model old place held mid end now → PairRun joined.seed start place held ended.Memory end now
+    runs_part feeds =
+        let list = list_stop feeds.tells.inputs mid first feeds.tells.mine stops in
+        pair_run ended.Memory start first w1 w2 joined place held now old mid end end feeds.tells list (λ e. absurd (cc)) (λ e. absurd (cc))
+        (record {
+          read = all_handed (told_read start first w1 w2 joined place held now old seen0 mid end feeds.tells plan feeds.own list takes.longer);
+          written = part_front start first w1 w2 joined place held now old seen0 mid end feeds.tells plan feeds.own list takes.longer feeds.written;
+        })
+
+    -- to read a message
+    runs_unread : FeedsUntil plan start.model cut.Memory old place held mid end now → PairRun joined.seed start place held ended.Memory end now
+    runs_unread feeds =
+        let tells = feeds.waiting.tells in
+        let list = list_stop tells.inputs mid first tells.mine stops in
+        let P : LineFault → Type 0 = λ f. Faults feeds.middle f end in
+        pair_run ended.Memory start first w1 w2 joined place held now old mid feeds.middle end tells list (λ e. absurd (cc)) (λ e. absurd (cc))
+        (record {
+          read = one_unread feeds.middle (told_read start first w1 w2 joined place held now old seen0 mid feeds.middle tells plan feeds.waiting.own list takes.longer) (subst P (memory_by feeds.fault feeds.cut) feeds.asks);
+          written = front_is start first w1 w2 joined place held now old seen0 mid feeds.middle tells plan feeds.waiting.own list takes.longer (between feeds.waiting.between) feeds.waiting.written;
+        })
+
+    -- a message was read that the plan did not take
+    short_refused : (c : Cut) (feeds : FeedsRefused plan start.model c old place held mid end now) (same : mine_of mid ≡ mine_of feeds.mid)
+        → RunsShort start.model joined.whole.log
+        (more_entries start first w1 w2 joined place held now old seen0 feeds.mid feeds.middle feeds.waiting.tells plan feeds.waiting.own (list_behind feeds.waiting.tells.inputs feeds.mid mid first feeds.waiting.tells.mine same stops)
+        (prefix_trans (seen_of feeds.mid) (seen_of mid) (seen_of first) feeds.follows.longer takes.longer)) place held end now
+    short_refused c feeds same =
+        let tells = feeds.waiting.tells in
+        let list = list_behind tells.inputs feeds.mid mid first tells.mine same stops in
+        let to_first = prefix_trans (seen_of feeds.mid) (seen_of mid) (seen_of first) feeds.follows.longer takes.longer in
+        let rests = between feeds.waiting.between in
+        let at = world_is start first w1 w2 joined place held now old seen0 feeds.mid feeds.middle tells plan feeds.waiting.own list to_first rests feeds.waiting.written IsBetween feeds.waiting.between in
+        record {
+          read = one_behind (line_in feeds.step.message)
+              (read_next start first w1 w2 joined place held now old seen0 feeds.mid feeds.middle tells plan feeds.waiting.own list to_first rests feeds.waiting.written at.1 feeds.step.message end feeds.step.asks)
+              (next_read start first w1 w2 joined place held now old seen0 feeds.mid feeds.middle tells plan feeds.waiting.own list to_first rests feeds.waiting.written at.1 feeds.step.message end feeds.step.asks);
+          written = front_is start first w1 w2 joined place held now old seen0 feeds.mid feeds.middle tells plan feeds.waiting.own list to_first rests feeds.waiting.written;
+        }
+
+    -- to hand a message on
+    runs_untaken : FeedsRefused plan start.model cut.Memory old place held mid end now → PairRun joined.seed start place held ended.Memory end now
+    runs_untaken feeds =
+        let tells = feeds.waiting.tells in
+        let list = list_behind tells.inputs feeds.mid mid first tells.mine feeds.step.hands stops in
+        pair_run ended.Memory start first w1 w2 joined place held now old feeds.mid feeds.middle end tells list (λ e. absurd (cc)) (λ e. absurd (cc)) (short_refused cut.Memory feeds feeds.step.hands)
+
+    runs_short : FeedsShort plan start.model old place held mid end now → PairRun joined.seed start place held ended.Memory end now
+    runs_short (for_lines feeds) = runs_part feeds
+    runs_short (for_message feeds) = runs_untaken feeds
+    runs_short (for_reader feeds) = runs_unread feeds
 
     -- the plan refused a message, for a full log or since a worker had stopped it
     runs_refused : (full : Bool) (c : Cut) (feeds : FeedsRefused plan start.model c old place held mid end now) → mine_of mid ≡ mine_of feeds.mid → (full ≡ true → IsFull (seen_of mid)) → PairRun joined.seed start place held (refusal_of full w1.refusal w2.refusal) end now
@@ -690,15 +750,11 @@ module _ (start : State) (first : PlanPass) (w1 w2 : Worker) (joined : Joined st
         let tells = feeds.waiting.tells in
         let list = list_behind tells.inputs feeds.mid mid first tells.mine same stops in
         let to_first = prefix_trans (seen_of feeds.mid) (seen_of mid) (seen_of first) feeds.follows.longer takes.longer in
-        let rests = between feeds.waiting.between in
-        let at = world_is start first w1 w2 joined place held now old seen0 feeds.mid feeds.middle tells plan feeds.waiting.own list to_first rests feeds.waiting.written IsBetween feeds.waiting.between in
         let others = is_other w1.refusal || is_other w2.refusal in
         let workers = is_full w1.refusal || is_full w2.refusal in
         let more = more_entries start first w1 w2 joined place held now old seen0 feeds.mid feeds.middle tells plan feeds.waiting.own list to_first in
         pair_run (refusal_of full w1.refusal w2.refusal) start first w1 w2 joined place held now old feeds.mid feeds.middle end tells list (λ e. absurd (never_finished others (full || workers) e)) (λ e. no_other others (full || workers) e)
-        (ends_refusal others (full || workers) start.model joined.whole.log more place end held now
-        (front_is start first w1 w2 joined place held now old seen0 feeds.mid feeds.middle tells plan feeds.waiting.own list to_first rests feeds.waiting.written)
-        (λ e is. by_full full is is_full'))
+        (ends_refusal others (full || workers) start.model joined.whole.log more place end held now (short_refused c feeds same) (λ e is. by_full full is is_full'))
       where
         by_full : (f : Bool) → (f || (is_full w1.refusal || is_full w2.refusal)) ≡ true → (f ≡ true → IsFull (seen_of mid))
             → RunsFull start.model joined.whole.log
@@ -734,13 +790,15 @@ module _ (start : State) (first : PlanPass) (w1 w2 : Worker) (joined : Joined st
         let tells = feeds.tells in
         let list = list_stop tells.inputs mid first tells.mine stops in
         let rests = stopped feeds.stopped in
-        let going = world_is start first w1 w2 joined place held now old seen0 mid end tells plan feeds.own list takes.longer rests feeds.written (λ w. w.done ≡ false) feeds.going in
         let others = is_other w1.refusal || is_other w2.refusal in
         let workers = is_full w1.refusal || is_full w2.refusal in
         pair_run (refusal_of false w1.refusal w2.refusal) start first w1 w2 joined place held now old mid end end tells list (λ e. absurd (never_finished others workers e)) (λ e. no_other others workers e)
         (ends_refusal others workers start.model joined.whole.log (more_entries start first w1 w2 joined place held now old seen0 mid end tells plan feeds.own list takes.longer) place end held now
-        (front_is start first w1 w2 joined place held now old seen0 mid end tells plan feeds.own list takes.longer rests feeds.written)
-        (λ e is. worker_full start first w1 w2 joined place held now old seen0 mid end tells plan feeds.own list takes.longer rests feeds.written going is))
+        (record {
+          read = all_handed (told_read start first w1 w2 joined place held now old seen0 mid end tells plan feeds.own list takes.longer);
+          written = front_is start first w1 w2 joined place held now old seen0 mid end tells plan feeds.own list takes.longer rests feeds.written;
+        })
+        (λ e is. worker_full start first w1 w2 joined place held now old seen0 mid end tells plan feeds.own list takes.longer rests feeds.written is))
 
     runs_cut : FeedsCut plan start.model old place held mid end now → PairRun joined.seed start place held (refusal_of false w1.refusal w2.refusal) end now
     runs_cut (refused feeds) = runs_refused false cut.Stopped feeds feeds.step.hands.0 (λ e. absurd (cc))
@@ -750,7 +808,7 @@ module _ (start : State) (first : PlanPass) (w1 w2 : Worker) (joined : Joined st
     runs_err cut.Read feeds = runs_until ended.ReadFault cut.Read (λ e. cc) (λ e. cc) (λ es until. until) (read_whys place) feeds
     runs_err cut.Limit feeds = runs_until ended.InputLimit cut.Limit (λ e. cc) (λ e. cc) (λ es until. until) (limit_whys place) feeds
     runs_err cut.Write feeds = runs_torn feeds
-    runs_err cut.Memory feeds = runs_part feeds
+    runs_err cut.Memory feeds = runs_short feeds
     runs_err cut.Full feeds = runs_refused true cut.Full feeds feeds.step.hands.0 (λ e. feeds.step.hands.2)
     runs_err cut.Stopped feeds = runs_cut feeds
 
@@ -763,8 +821,8 @@ module _ (start : State) (first : PlanPass) (w1 w2 : Worker) (joined : Joined st
 none_own : (place : ℕ) → times_in {I = Noted} place ([] ∷ [] ∷ [] ∷ []) ≡ 0
 none_own place = refl
 
-pub runs_none : (seed : ℕ) (start : State) (place behind : Place) (held : Option (List ℕ)) → Legal start.model start.log → PairRun seed start place held ended.Memory behind held
-runs_none seed start place behind held legal =
+pub runs_none : (seed : ℕ) (start : State) (place : Place) (held : Option (List ℕ)) → Legal start.model start.log → PairRun seed start place held ended.Memory place held
+runs_none seed start place held legal =
     let m = start.model in
     let items = items_of m start.log false in
     let long = length_going m start.log false refl in
@@ -789,6 +847,8 @@ runs_none seed start place behind held legal =
         executed = All-nil (λ x. is_entry is_executed x.1 ≡ true);
         planner_made = refl;
         executive_made = refl;
+        planner_is = refl;
+        executive_is = refl;
         planner_why = tt;
         executive_why = tt;
       };
@@ -796,7 +856,7 @@ runs_none seed start place behind held legal =
       feeder_goes = λ e. absurd (cc);
       refused = λ e. absurd (cc);
       messages = if_known place.ahead (λ bytes. IsPrefix [] (messages_of (lines_of bytes))) (λ bytes is. (messages_of (lines_of bytes), refl));
-      ends = adds_nothing held (text_of_log m start.log);
+      ends = record { read = all_handed (up_to_next place place [] (heard_none place) tt); written = adds_nothing held (text_of_log m start.log) };
     }
 
 pub not_done : (w u : World) → w ≡ record u { state = w.state } → w.done ≡ false → u.done ≡ false
@@ -812,11 +872,16 @@ feeds_follows plan m old new place end held now (Err c) feeds = follows_on old f
     by_cut (refused f) = follows_on old f.mid feeds.mid f.waiting.tells.follows f.follows
     by_cut (fed.stopped f) = f.tells.follows
 
+    by_short : FeedsShort plan m old place held feeds.mid end now → Follows old feeds.mid
+    by_short (for_lines f) = f.tells.follows
+    by_short (for_message f) = follows_on old f.mid feeds.mid f.waiting.tells.follows f.follows
+    by_short (for_reader f) = f.waiting.tells.follows
+
     by : (c : Cut) → FeedsAll plan m old place held (Err c) feeds.mid end now → Follows old feeds.mid
     by cut.Read f = f.waiting.tells.follows
     by cut.Limit f = f.waiting.tells.follows
     by cut.Write f = f.tells.follows
-    by cut.Memory f = f.tells.follows
+    by cut.Memory f = by_short f
     by cut.Full f = follows_on old f.mid feeds.mid f.waiting.tells.follows f.follows
     by cut.Stopped f = by_cut f
 

@@ -8,10 +8,11 @@ use Rattle.pl_io.specs.Reader.{NumberedLine}
 use Rattle.pl_io.specs.Sparing.{read_size}
 use Rattle.pl_machine.specs.Lines.{is_blank_line, is_line_of, end_word, messages_from, messages_of}
 use Rattle.pl_stream.specs.Reads.{GaveKnown, Took, IsUsedUp, AreBlank}
-use Rattle.pl_stream.specs.Waits.{MessageGives}
+use Rattle.pl_stream.specs.Waits.{MessageGives, line_in}
 use Rattle.pl_stream.proofs.Reading.{gave_none, IsKnown, known, gave_lines}
 use Rattle.pl_shared.specs.Plans.{PlanPass}
-use Rattle.pl_pair.specs.Asking.{Place, Asks, line_in}
+use Rattle.pl_stream.specs.Places.{Place}
+use Rattle.pl_pair.specs.Asking.{Asks}
 use Rattle.pl_pair.specs.Feeds.{spoken, said_in, Reads, unasked, asked, EndsUsed, EndsRead, Heard, Tells}
 use Rattle.pl_pair.specs.Runs.{InMessages, ReadUpTo}
 use Rattle.pl_pair.proofs.Ending.{is_ending, NoEnds, LastEnds, EndsIf}
@@ -232,6 +233,14 @@ up_to_last start place front (Some line) heard none = by (is_line_of end_word li
     by : (b : Bool) → is_line_of end_word line ≡ b → ReadUpTo start (front ++ Some line ∷ []) place
     by true ends = up_to start place (front ++ Some line ∷ []) [] heard (ap messages_of (sym (append-nil heard.lines)) ∙ messages_to heard.lines [] line ends front none said ∙ sym (append-nil (front ++ Some line ∷ [])))
     by false other = up_to_next start place (front ++ Some line ∷ []) heard (no_ends_push front (Some line) none other)
+
+-- whether the last of them ends the run or not
+pub up_to_told : (b : Bool) (start place : Place) (inputs : List (Option (List ℕ))) → Heard start inputs place → EndsIf b inputs → ReadUpTo start inputs place
+up_to_told false start place inputs heard none = up_to_next start place inputs heard none
+up_to_told true start place inputs heard ends =
+    let P : List (Option (List ℕ)) → Type 0 = λ is. Heard start is place in
+    let Q : List (Option (List ℕ)) → Type 0 = λ is. ReadUpTo start is place in
+    subst Q (sym ends.is) (up_to_last start place ends.front ends.last (subst P ends.is heard) ends.none)
 
 -- ---- the next message
 

@@ -15,7 +15,7 @@ use Rattle.pl_shared.specs.Plans.{PlanPass, BelongsTo}
 use Rattle.pl_shared.specs.Making.{MakesAll}
 use Rattle.pl_shared.specs.Turns.{TakesTurn, Acts, Stops, Works, WorksUntil, WorksOn}
 use Rattle.pl_shared.proofs.OwnEntries.{makes_all_on, makes_all_append}
-use Rattle.pl_shared.proofs.Progress.{working_none, works_on, works_idle, works_finished, works_stopped, worked_until, took_until, made_worker, made_kinds}
+use Rattle.pl_shared.proofs.Progress.{working_none, works_on, works_idle, works_finished, works_stopped, worked_until, took_until, made_worker, made_kinds, was_asked_worker}
 use Rattle.pl_pair.specs.declared.duty.Duty.{Duty}
 use Rattle.pl_pair.specs.declared.worker.Worker.{Worker}
 use Rattle.pl_pair.specs.Duties.{role_of}
@@ -49,7 +49,7 @@ module _ (plan : SharedPlan) (duty : Duty) (pass pass2 : PlanPass) (role role2 :
   refuses stop.NotNow works = absurd works
   refuses stop.LogFull works = record { own = own; made = makes_until role2 works.0; worker = same_number works.0.worker; why = (works.1, works.2) }
   refuses stop.Spoiled works = record { own = own; made = makes_until role2 works; worker = same_number works.worker; why = tt }
-  refuses stop.Memory works = record { own = own; made = makes_until works.0 works.1; worker = same_number works.2; why = tt }
+  refuses stop.Memory works = record { own = own; made = makes_until works.0 works.1; worker = same_number (was_asked_worker works.0 role2 works.1.own (seen_of pass2) works.2 ∙ works.1.worker); why = tt }
 
   -- none
   goes_on : (count : ℕ) → Works role pass count role2 pass2 → MakesAll (role_of duty) (seen_of pass2) (mine_of pass2) role2

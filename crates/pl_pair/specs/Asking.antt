@@ -1,25 +1,17 @@
 -- The next message goes to the plan.
 use Rattle.std.specs.Prelude.{◌≡◌, ℕ, List, Option, Some, None, Result, Ok, Err, ◌⊎◌}
 use Rattle.pl_io.specs.declared.errors.LineFault.{LineFault}
-use Rattle.pl_io.specs.Lines.{ahead}
-use Rattle.pl_io.specs.Reader.{Reader, NumberedLine}
+use Rattle.pl_io.specs.Reader.{NumberedLine}
 use Rattle.pl_machine.specs.declared.stop.Stop.TheVariants as stop
 use Rattle.pl_stream.specs.Reads.{OneLine}
-use Rattle.pl_stream.specs.Waits.{MessageGives, GetsFault}
+use Rattle.pl_stream.specs.Waits.{MessageGives, GetsFault, line_in}
+use Rattle.pl_stream.specs.Places.{Place}
 use Rattle.pl_shared.specs.Roles.{IsInputOf}
 use Rattle.pl_shared.specs.Plans.{PlanPass}
 use Rattle.pl_shared.specs.Turns.{Makes, MakesNothing, Feeds}
 use Rattle.pl_pair.specs.declared.cut.Cut.{Cut}
 use Rattle.pl_pair.specs.declared.cut.Cut.TheVariants as cut
 use Rattle.pl_pair.specs.Cuts.{cut_by}
-
--- a reader with the bytes that are ahead of it
-pub record Place : Type 0 where
-  pub reader : Reader
-  pub ahead : Option (List ℕ)
-
-abbrev pub place_of : Reader → Option (List ℕ) → Place
-place_of r left = record { reader = r; ahead = ahead r.held left }
 
 -- A reader that failed before answers the same fault, and stays as it was.
 pub data Faults (old : Place) (f : LineFault) (new : Place) : Type 0 where
@@ -35,10 +27,6 @@ FirstLine old (Err f) new = Faults old f new
 abbrev pub Asks : Place → Result (Option NumberedLine) LineFault → Place → Type 0
 Asks old (Ok message) new = (old.reader.failed ≡ None) × MessageGives old.reader old.ahead (Ok message) new.reader new.ahead
 Asks old (Err f) new = Faults old f new
-
-abbrev pub line_in : Option NumberedLine → Option (List ℕ)
-line_in None = None
-line_in (Some line) = Some line.bytes
 
 -- what came of handing a message to the plan
 abbrev pub HandsIn : Option (List ℕ) → PlanPass → Result (Unit {0}) Cut → PlanPass → Type 0

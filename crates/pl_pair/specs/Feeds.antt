@@ -25,7 +25,8 @@ use Rattle.pl_pair.specs.declared.cut.Cut.TheVariants as cut
 use Rattle.pl_pair.specs.Cuts.{cut_by}
 use Rattle.pl_pair.specs.declared.rounds.Stage.TheVariants as stage
 use Rattle.pl_pair.specs.Rounds.{Follows, Looks, IsBetween, AddsFront, RoundEnds}
-use Rattle.pl_pair.specs.Asking.{Place, Faults, HandsOn, Passes}
+use Rattle.pl_stream.specs.Places.{Place}
+use Rattle.pl_pair.specs.Asking.{Faults, HandsOn, Passes}
 
 -- ---- messages
 
@@ -166,19 +167,23 @@ pub record FeedsStopped (plan : SharedPlan) (m : Model) (old : PlanPass) (start 
   pub stopped : stop_in (seen_of new) ≡ true
   pub going : InWorld (seen_of new) (λ w. w.done ≡ false)
 
--- A write failed: a front of what was seen was written, and not all of it.
-pub record FeedsTorn (plan : SharedPlan) (m : Model) (old : PlanPass) (start : Place) (held : Option (List ℕ)) (new : PlanPass) (now : Option (List ℕ)) : Type 0 where
-  pub place : Place
+-- A write failed: a front of what was seen was written, and not all of it. No message was read behind those that were handed on.
+pub record FeedsTorn (plan : SharedPlan) (m : Model) (old : PlanPass) (start : Place) (held : Option (List ℕ)) (new : PlanPass) (place : Place) (now : Option (List ℕ)) : Type 0 where
   pub own : BelongsTo plan new
   pub tells : Tells old start new place
   pub written : AppendsFront held now (text_from m 0 (entries_in (seen_of new)))
 
--- Memory was wanting: a front of what was seen was written.
-pub record FeedsPart (plan : SharedPlan) (m : Model) (old : PlanPass) (start : Place) (held : Option (List ℕ)) (new : PlanPass) (now : Option (List ℕ)) : Type 0 where
-  pub place : Place
+-- Memory was wanting for the lines of a round: a front of what was seen was written. No message was read behind those that were handed on.
+pub record FeedsPart (plan : SharedPlan) (m : Model) (old : PlanPass) (start : Place) (held : Option (List ℕ)) (new : PlanPass) (place : Place) (now : Option (List ℕ)) : Type 0 where
   pub own : BelongsTo plan new
   pub tells : Tells old start new place
   pub written : AddsFront held now (text_from m 0 (entries_in (seen_of new)))
+
+-- Memory was wanting for the lines of a round, to hand a message on, or to read one.
+pub data FeedsShort (plan : SharedPlan) (m : Model) (old : PlanPass) (start : Place) (held : Option (List ℕ)) (new : PlanPass) (place : Place) (now : Option (List ℕ)) : Type 0 where
+  for_lines : FeedsPart plan m old start held new place now → FeedsShort plan m old start held new place now
+  for_message : FeedsRefused plan m cut.Memory old start held new place now → FeedsShort plan m old start held new place now
+  for_reader : FeedsUntil plan m cut.Memory old start held new place now → FeedsShort plan m old start held new place now
 
 pub data FeedsCut (plan : SharedPlan) (m : Model) (old : PlanPass) (start : Place) (held : Option (List ℕ)) (new : PlanPass) (place : Place) (now : Option (List ℕ)) : Type 0 where
   refused : FeedsRefused plan m cut.Stopped old start held new place now → FeedsCut plan m old start held new place now
@@ -191,8 +196,8 @@ FeedsAll plan m old start held (Err cut.Read) new place now = FeedsUntil plan m 
 FeedsAll plan m old start held (Err cut.Limit) new place now = FeedsUntil plan m cut.Limit old start held new place now
 FeedsAll plan m old start held (Err cut.Full) new place now = FeedsRefused plan m cut.Full old start held new place now
 FeedsAll plan m old start held (Err cut.Stopped) new place now = FeedsCut plan m old start held new place now
-FeedsAll plan m old start held (Err cut.Write) new place now = FeedsTorn plan m old start held new now
-FeedsAll plan m old start held (Err cut.Memory) new place now = FeedsPart plan m old start held new now
+FeedsAll plan m old start held (Err cut.Write) new place now = FeedsTorn plan m old start held new place now
+FeedsAll plan m old start held (Err cut.Memory) new place now = FeedsShort plan m old start held new place now
 
 -- The same, and then the plan was stopped.
 pub record FeedsAndStops (plan : SharedPlan) (m : Model) (c : Cut) (old : PlanPass) (start : Place) (held : Option (List ℕ)) (new : PlanPass) (place : Place) (now : Option (List ℕ)) : Type 0 where

@@ -23,7 +23,7 @@ use Rattle.pl_stream.specs.Stops.{IsStuckKnown}
 use Rattle.pl_stream.specs.Written.{Adds}
 use Rattle.pl_shared.specs.declared.noted.Noted.{Noted}
 use Rattle.pl_shared.specs.Items.{items_of, model_in}
-use Rattle.pl_shared.specs.Roles.{is_input, is_repair, is_executed}
+use Rattle.pl_shared.specs.Roles.{worker_of, is_input, is_repair, is_executed}
 use Rattle.pl_shared.specs.declared.role.Role.{Role}
 use Rattle.pl_shared.specs.declared.role.Role.TheVariants.{Planner, Executive}
 use Rattle.pl_shared.specs.Plans.{PlanPass}
@@ -34,7 +34,8 @@ use Rattle.pl_pair.specs.Served.{AreOf, AreOfUntil, Made, MakesOwn, Refused}
 use Rattle.pl_pair.specs.Rounds.{IsBetween, AddsFront}
 use Rattle.pl_pair.specs.Endings.{is_other}
 use Rattle.pl_pair.specs.Chosen.{AreChosen}
-use Rattle.pl_pair.specs.Asking.{Place}
+use Rattle.pl_stream.specs.Places.{Place}
+use Rattle.pl_pair.specs.Asking.{Faults}
 use Rattle.pl_pair.specs.Feeds.{EndsUsed, EndsRead}
 
 -- The machine has the whole history, which begins with what each of three passes has seen, and each place past the opening stands in one own list of theirs.
@@ -51,7 +52,7 @@ pub record ClosesAll (first planner executive : PlanPass) (machine : State) : Ty
 -- ---- the history
 
 -- The history in the lock goes on from the entries that were handed in, and has one owner for each further entry: inputs are the feeder's, fixes and rests the planner's,
--- commits, dispatches and closes the executive's. Each own entry of the planner is what its chooser, made from the seed and passed on from entry to entry, proposes in the world before it, or a rest, and each of the executive's what it chooses there. The stop, where there is one, is the own item of the feeder, or of a worker that met a refusal.
+-- commits, dispatches and closes the executive's. Each own entry of the planner is what its chooser, made from the seed and passed on from entry to entry, proposes in the world before it, or a rest, and each of the executive's what it chooses there. The stop, where there is one, is the own item of the feeder, or of a worker that met a refusal. A worker that met a full log had an event of its own kind in the open round.
 pub record History (seed : ℕ) (m : Model) (before log : List Entry) : Type 0 where
   pub stopped : Bool
   pub feeder : List (ℕ × Noted)
@@ -69,6 +70,8 @@ pub record History (seed : ℕ) (m : Model) (before log : List Entry) : Type 0 w
   pub executed : Made executive_met is_executed executive
   pub planner_made : MakesOwn planner_met (Planner (chooser_of seed)) (items_of m log stopped) planner planner_last
   pub executive_made : MakesOwn executive_met Executive (items_of m log stopped) executive executive_last
+  pub planner_is : worker_of planner_last ≡ 1
+  pub executive_is : worker_of executive_last ≡ 0
   pub planner_why : Refused planner_met planner_last (items_of m log stopped)
   pub executive_why : Refused executive_met executive_last (items_of m log stopped)
 
@@ -173,13 +176,29 @@ pub record RunsFull (m : Model) (log entries : List Entry) (place : Place) (held
   pub due : (((world_of m log).closed ≡ false) × (pending ≡ [])) ⊎ (((world_of m log).closed ≡ true) × IsNext place (inputs_of entries) pending)
   pub written : WritesLog m log held now
 
+-- A write failed: a front of the text of the whole log was written, and not all of it. No line was asked for behind the last input.
+pub record RunsTorn (m : Model) (log entries : List Entry) (place : Place) (held : Option (List ℕ)) (behind : Place) (now : Option (List ℕ)) : Type 0 where
+  pub read : ReadUpTo place (inputs_of entries) behind
+  pub written : AppendsFront held now (text_of_log m log)
+
+-- How far was read where memory was wanting: up to the last of these inputs, or up to the message behind it, which was read and is no input. Or memory was wanting to read that message, and of the reader that is behind it no more is said.
+pub data ReadsShort (place : Place) (inputs : List (Option (List ℕ))) (behind : Place) : Type 0 where
+  all_handed : ReadUpTo place inputs behind → ReadsShort place inputs behind
+  one_behind : (next : Option (List ℕ)) → ReadUpTo place (inputs ++ next ∷ []) behind → InMessages place (λ messages. IsPrefix (inputs ++ next ∷ []) messages) → ReadsShort place inputs behind
+  one_unread : (middle : Place) → ReadUpTo place inputs middle → Faults middle fault.Memory behind → ReadsShort place inputs behind
+
+-- Memory was wanting: a front of the text of the whole log was written.
+pub record RunsShort (m : Model) (log entries : List Entry) (place : Place) (held : Option (List ℕ)) (behind : Place) (now : Option (List ℕ)) : Type 0 where
+  pub read : ReadsShort place (inputs_of entries) behind
+  pub written : AddsFront held now (text_of_log m log)
+
 abbrev pub RunEnds : Ended → Model → List Entry → List Entry → Place → Option (List ℕ) → Place → Option (List ℕ) → Type 0
 RunEnds ended.Finished m log entries place held behind now = RunsOut m log entries place held behind now
 RunEnds ended.ReadFault m log entries place held behind now = RunsUntil ended.ReadFault m log entries place held behind now
 RunEnds ended.InputLimit m log entries place held behind now = RunsUntil ended.InputLimit m log entries place held behind now
 RunEnds ended.LogFull m log entries place held behind now = RunsFull m log entries place held behind now
-RunEnds ended.WriteFault m log entries place held behind now = AppendsFront held now (text_of_log m log)
-RunEnds ended.Memory m log entries place held behind now = AddsFront held now (text_of_log m log)
+RunEnds ended.WriteFault m log entries place held behind now = RunsTorn m log entries place held behind now
+RunEnds ended.Memory m log entries place held behind now = RunsShort m log entries place held behind now
 
 -- A run: one history, its further inputs a front of the messages, and what its answer says. The feeder stops the plan where it met a fault, a limit or a refusal: which of them, that is the answer. It is `LogFull` only where no worker met another refusal.
 pub record PairRun (seed : ℕ) (start : State) (place : Place) (held : Option (List ℕ)) (r : Ended) (behind : Place) (now : Option (List ℕ)) : Type 0 where

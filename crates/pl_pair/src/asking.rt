@@ -1,18 +1,19 @@
 //! The next message goes to the plan.
-ghost use Rattle.std.specs.Prelude.{◌≡◌, ◌≤◌, ◌<◌, None, IfSome, All, IsErrOf};
+ghost use Rattle.std.specs.Prelude.{◌≡◌, ◌≤◌, None, IfSome, IsErrOf};
 ghost use Rattle.std.specs.Option.{option_copied};
 ghost use Rattle.pl_io.specs.Faults.{Rose};
 ghost use Rattle.pl_entry.specs.Bounds.{IsMessageLine};
 ghost use Rattle.pl_shared.specs.Plans.{BelongsTo};
 ghost use Rattle.pl_pair.specs.Cuts.{cut_by};
-ghost use Rattle.pl_pair.specs.Asking.{place_of, FirstLine, Asks, line_in, HandsIn, Passes};
+ghost use Rattle.pl_stream.specs.Places.{place_of};
+ghost use Rattle.pl_pair.specs.Asking.{FirstLine, Asks, HandsIn, Passes};
 ghost use Rattle.pl_pair.specs.Rounds.{Follows};
 
 use crate::cut::Cut;
 use pl_io::{Line, LineFault, LineReader, Source};
 use pl_machine::{Stop, is_blank_line};
 use pl_shared::{Pass, SharedPlan};
-use pl_stream::next_message;
+use pl_stream::{line_in, next_message};
 use std::sync::Wait;
 
 /// The next line, or the fault that the reader met, now or before.
@@ -39,25 +40,6 @@ fn take_message<S: Source>(lines: &mut LineReader, src: &mut S) -> Result<Option
         return next_message(lines, src);
     }
     Ok(Some(line))
-}
-
-/// The bytes of a line.
-fn bytes_of(line: &Line) -> &[u8]
-    ensures same { result.now ≡ line.now.bytes }
-    ensures bytes { All (λ byte. byte < 256) result.now }
-{
-    let bytes = line.bytes();
-    bytes
-}
-
-fn line_in(message: &Option<Line>) -> Option<&[u8]>
-    ensures same { option_copied result ≡ line_in message.now }
-    ensures bytes { IfSome (option_copied result) (λ bytes. All (λ byte. byte < 256) bytes) }
-{
-    match message {
-        None => None,
-        Some(line) => Some(bytes_of(line)),
-    }
 }
 
 #[tactic(auto, using(crate::proofs::Passing::took_follows))]

@@ -1,8 +1,6 @@
 -- What the machine's answers come to inside a turn.
-use Rattle.std.proofs.Common.{◌≡◌, ℕ, ◌+◌, ◌<◌, ◌≤◌, List, [], ◌∷◌, ◌++◌, length, Bool, true, false, Option, Some, None, IsSome, Result, Ok, Err, refl, sym, ◌∙◌, ap, subst, arith, length-append}
+use Rattle.std.proofs.Common.{◌≡◌, ℕ, ◌+◌, List, [], ◌∷◌, length, Bool, true, false, Option, Some, None, Ok, Err, refl, sym, ◌∙◌, ap, subst, inl, inr, arith, length-append}
 use Rattle.std.specs.Prelude.{not, ◌&&◌, is_some}
-use Rattle.pl_conflict.specs.declared.conflict.Conflict.{Conflict}
-use Rattle.pl_plan.specs.declared.repair.RepairMove.{RepairMove}
 use Rattle.pl_entry.specs.declared.event.Event.{Event}
 use Rattle.pl_entry.specs.declared.event.Event.TheVariants as event
 use Rattle.pl_entry.specs.declared.reply.Reply.{Reply}
@@ -17,18 +15,17 @@ use Rattle.pl_machine.specs.Step.{is_enabled}
 use Rattle.pl_machine.specs.Choices.{exec_choice_of, event_of}
 use Rattle.pl_machine.specs.Sound.{State}
 use Rattle.pl_machine.specs.Taking.{IsOpen, Takes, Spoils, Answers}
-use Rattle.pl_machine.specs.Solo.{Picks}
+use Rattle.pl_machine.specs.Solo.{Picks, Drawn}
 use Rattle.pl_machine.specs.declared.repaired.Repaired.{Repaired}
 use Rattle.pl_machine.specs.declared.repaired.Repaired.TheVariants as repaired
+use Rattle.pl_machine.specs.Mending as mending
 use Rattle.pl_machine.specs.Mending.{HasRepaired, RepairsOnce}
 use Rattle.pl_choose.specs.Picks.{seeded_pick, seeded_after}
 use Rattle.pl_shared.specs.declared.held.Held.{Held}
-use Rattle.pl_shared.specs.declared.role.Role.{Role}
 use Rattle.pl_shared.specs.declared.role.Role.TheVariants.{Planner, Executive}
-use Rattle.pl_shared.specs.declared.role.Acted.{Acted}
 use Rattle.pl_shared.specs.declared.role.Acted.TheVariants as acted
-use Rattle.pl_shared.specs.Roles.{worker_of, has_event, IsChosen, IsPlanned, IsBy, IsInputOf}
-use Rattle.pl_shared.specs.Inside.{Logs, KeepsLog, Spoiled, IsFull, can_listen, FeedsIn, IsGoing, ActsIn}
+use Rattle.pl_shared.specs.Roles.{has_event, IsChosen, IsBy, IsAskedAtMost, IsInputOf}
+use Rattle.pl_shared.specs.Inside.{Logs, Spoiled, can_listen, FeedsIn, ActsIn}
 
 and_true : (b : Bool) → (b && true) ≡ b
 and_true true = refl
@@ -119,6 +116,13 @@ execute_none old none unspoiled going running = (record { unspoiled = unspoiled;
 abbrev seeded : Picks Lcg
 seeded g w p g2 = (p ≡ seeded_pick w g) × (g2 ≡ seeded_after g)
 
+abbrev words_drawn : Drawn Lcg
+words_drawn g g2 = g2 ≡ seeded_after g
+
+asked_role : (w : World) (g g2 : Lcg) → mending.IsAskedAtMost words_drawn w g g2 → IsAskedAtMost (Planner g) w (Planner g2)
+asked_role w g g2 (inl same) = inl (ap (λ (x : Lcg). Planner x) same)
+asked_role w g g2 (inr asked) = inr (asked.0, asked.1, ap (λ (x : Lcg). Planner x) asked.2)
+
 pub planned : (old : Held) (m : State) (g g2 : Lcg) (done : Repaired) (n : ℕ) → old.machine.world.done ≡ false → old.stopped ≡ false → has_event (Planner g) old.machine.world ≡ true
     → HasRepaired seeded old.machine g done m g2 → n + 1 ≡ length m.log → ActsIn (Planner g) old (Ok (acted.Did n)) (Planner g2) (with_machine m old)
 planned old m g g2 (repaired.Fixed p) n going running has did last =
@@ -127,12 +131,12 @@ planned old m g g2 (repaired.Rested why) n going running has did last =
     (took_one (IsBy (Planner g) (Planner g2)) old m event.Rest (reply.Rested why) n running did.1 did.2 last did.3, going, has)
 
 pub plan_stops : (old : Held) (m : State) (g g2 : Lcg) (s : Stop) → old.machine.spoiled ≡ false → old.machine.world.done ≡ false → old.stopped ≡ false → has_event (Planner g) old.machine.world ≡ true
-    → RepairsOnce seeded old.machine g (Err s) m g2 → ActsIn (Planner g) old (Err s) (Planner g2) (with_machine m old)
+    → RepairsOnce seeded words_drawn old.machine g (Err s) m g2 → ActsIn (Planner g) old (Err s) (Planner g2) (with_machine m old)
 plan_stops old m g g2 stop.Spoiled unspoiled going running has answers = (answers.0, same_held old m answers.1, ap (λ (x : Lcg). Planner x) answers.2)
 plan_stops old m g g2 stop.NotNow unspoiled going running has answers = absurd (let h : true ≡ false = sym has ∙ answers.1 in cc)
 plan_stops old m g g2 stop.LogFull unspoiled going running has answers =
     (record { unspoiled = unspoiled; going = going; running = running }, has, answers.2, same_held old m answers.3, ap (λ (x : Lcg). Planner x) answers.4)
-plan_stops old m g g2 stop.Memory unspoiled going running has answers = (spoils_held old m answers.0 answers.1, refl)
+plan_stops old m g g2 stop.Memory unspoiled going running has answers = (spoils_held old m answers.0 answers.1, asked_role old.machine.world g g2 answers.2)
 
 pub plan_none : (old : Held) (g : Lcg) → has_event (Planner g) old.machine.world ≡ false → old.machine.spoiled ≡ false → old.machine.world.done ≡ false → old.stopped ≡ false
     → ActsIn (Planner g) old (Ok acted.Nothing) (Planner g) old

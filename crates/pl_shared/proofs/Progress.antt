@@ -1,9 +1,9 @@
 -- What a worker made so far.
-use Rattle.std.proofs.Common.{◌≡◌, ℕ, suc, ◌+◌, ◌<◌, ◌≤◌, List, [], ◌∷◌, ◌++◌, length, Bool, true, false, Option, Some, None, Result, Ok, Err, refl, sym, ◌∙◌, ap, subst, arith, inl, inr, ◌⊎◌, append_assoc, length-append}
+use Rattle.std.proofs.Common.{◌≡◌, ℕ, ◌+◌, ◌<◌, ◌≤◌, List, [], ◌∷◌, ◌++◌, length, Bool, true, false, Option, Some, None, Ok, Err, refl, sym, ◌∙◌, ap, subst, arith, inl, inr, append_assoc, length-append}
 use Rattle.std.proofs.lemmas.List.{append-nil}
 use Rattle.std.proofs.lemmas.List.Folds.{list_any-append}
 use Rattle.std.specs.Prelude.{◌||◌, not, ◌&&◌, is_some, if◌then◌else◌, unwrap_or}
-use Rattle.std.specs.List.{All, filter_map}
+use Rattle.std.specs.List.{All}
 use Rattle.std.proofs.lemmas.List.Elements.{All-nil, All-cons, All-push, filter_map-append}
 use mathlib.Core.List.{IsPrefix}
 use Rattle.pl_turn.specs.Passes.{seen_of, mine_of, counted_of, crew_of}
@@ -29,13 +29,12 @@ use Rattle.pl_shared.specs.declared.noted.Noted.{Noted}
 use Rattle.pl_shared.specs.declared.noted.Noted.TheVariants.{Made, Stopped}
 use Rattle.pl_shared.specs.declared.role.Role.{Role}
 use Rattle.pl_shared.specs.declared.role.Role.TheVariants.{Planner, Executive}
-use Rattle.pl_shared.specs.declared.role.Acted.{Acted}
 use Rattle.pl_shared.specs.declared.role.Acted.TheVariants as acted
 use Rattle.pl_shared.specs.Items.{items_of, model_in, is_stop, stop_in, OfWorld, InWorld, entry_in, entries_in}
-use Rattle.pl_shared.specs.Roles.{worker_of, has_event, IsPlanned, IsChosen, IsBy, IsDueBy, kind_of, is_entry, is_executed}
+use Rattle.pl_shared.specs.Roles.{worker_of, has_event, IsPlanned, IsChosen, IsBy, IsDueBy, IsAskedAtMost, kind_of, is_entry, is_executed}
 use Rattle.pl_shared.specs.Plans.{PlanPass, IsPlan}
 use Rattle.pl_shared.specs.Making.{IsMadeAt, MakesAll}
-use Rattle.pl_shared.specs.Turns.{TakesTurn, Makes, Acts, Stops, was_stopped, is_stopped, IsOver, IsFull, Works, WorksUntil, WorksOn}
+use Rattle.pl_shared.specs.Turns.{TakesTurn, Acts, Stops, was_stopped, is_stopped, IsFull, Works, WorksUntil, WasAskedAtMost, WorksOn}
 use Rattle.pl_shared.proofs.OwnEntries.{makes_all_on, makes_all_push}
 use Rattle.pl_shared.proofs.Items.{log_is_some, log_is_short, length_stopped, length_going, entries_in_items, model_in_items}
 
@@ -78,6 +77,26 @@ of_world P Q (Some m) es h f = f (world_of m es) h
 
 pub from_world : (P : World → Type 0) (Q : Type 0) (items : List Noted) → InWorld items P → ((w : World) → P w → Q) → Q
 from_world P Q items h f = of_world P Q (model_in items) (entries_in items) h f
+
+-- a role whose chooser was asked is one of the same worker
+asked_worker : (r r2 : Role) (w : World) → IsAskedAtMost r w r2 → worker_of r2 ≡ worker_of r
+asked_worker (Planner g) r2 w (inl same) = ap worker_of same
+asked_worker (Planner g) r2 w (inr asked) = ap worker_of asked.2
+asked_worker Executive r2 w same = ap worker_of same
+
+pub was_asked_worker : (r r2 : Role) (own : List (ℕ × Noted)) (seen : List Noted) → WasAskedAtMost r own seen r2 → worker_of r2 ≡ worker_of r
+was_asked_worker r r2 own seen was = from_world (λ w. IsAskedAtMost r w r2) (worker_of r2 ≡ worker_of r) was.before was.asked (λ w h. asked_worker r r2 w h)
+
+-- what was made has its place in what was seen
+place_within : (r r2 : Role) (seen : List Noted) (place : ℕ) (item : Noted) → IsMadeAt r seen place item r2 → place < length seen
+place_within r r2 seen place item is =
+    let long : length seen ≡ length is.before + length (Made is.entry ∷ is.behind) = ap length is.whole ∙ length-append is.before (Made is.entry ∷ is.behind) in
+    let stands = is.stands in
+    omega (arith, long, stands)
+
+made_within : (r r2 : Role) (seen : List Noted) (own : List (ℕ × Noted)) → MakesAll r seen own r2 → All (λ x. x.0 < length seen) own
+made_within r r2 seen [] all = All-nil (λ x. x.0 < length seen)
+made_within r r2 seen (x ∷ own) all = All-cons (λ x. x.0 < length seen) x own (place_within r all.0 seen x.0 x.1 all.1) (made_within all.0 r2 seen own all.2)
 
 -- an entry of a role is of its kind
 made_kind : (seen : List Noted) (r r2 : Role) (place : ℕ) (item : Noted) → IsMadeAt r seen place item r2 → (is_entry (kind_of r) item ≡ true) × (worker_of r2 ≡ worker_of r)
@@ -210,28 +229,35 @@ or_true : (b : Bool) → (b || true) ≡ true
 or_true true = refl
 or_true false = refl
 
--- the stop behind a refusal
-pub until : (start now new : PlanPass) (r r2 : Role) (count : ℕ) → Working start r count now r2 → IsPrefix (seen_of now) (seen_of new) → Stops now new → WorksUntil r start r2 new
-until start now new r r2 count so_far on (was_stopped same stopped) = record {
-  own = so_far.works.own;
-  rest = [];
-  mine = same ∙ so_far.works.mine ∙ sym (append-nil (mine_of start ++ so_far.works.own));
-  made = makes_all_on (seen_of now) (seen_of new) r r2 so_far.works.own on so_far.works.made;
-  kinds = so_far.works.kinds;
-  behind = inl refl;
-  stopped = stopped;
-  worker = so_far.works.worker;
-}
-until start now new r r2 count so_far on (is_stopped seen prefix going is mine) = record {
-  own = so_far.works.own;
-  rest = (length seen, Stopped) ∷ [];
-  mine = mine ∙ ap (λ (xs : List (ℕ × Noted)). xs ++ (length seen, Stopped) ∷ []) so_far.works.mine;
-  made = makes_all_on (seen_of now) (seen_of new) r r2 so_far.works.own on so_far.works.made;
-  kinds = so_far.works.kinds;
-  behind = inr (length seen, refl);
-  stopped = ap stop_in is ∙ list_any-append is_stop seen (Stopped ∷ []) ∙ or_true (stop_in seen);
-  worker = so_far.works.worker;
-}
+-- the stop behind a refusal, and the same own entries
+abbrev Until : (start new : PlanPass) (r r2 : Role) → List (ℕ × Noted) → Type 0
+Until start new r r2 own = (works : WorksUntil r start r2 new) × (works.own ≡ own)
+
+until : (start now new : PlanPass) (r r2 : Role) (count : ℕ) → (so_far : Working start r count now r2) → IsPrefix (seen_of now) (seen_of new) → Stops now new → Until start new r r2 so_far.works.own
+until start now new r r2 count so_far on (was_stopped same stopped) =
+    let works : WorksUntil r start r2 new = record {
+      own = so_far.works.own;
+      rest = [];
+      mine = same ∙ so_far.works.mine ∙ sym (append-nil (mine_of start ++ so_far.works.own));
+      made = makes_all_on (seen_of now) (seen_of new) r r2 so_far.works.own on so_far.works.made;
+      kinds = so_far.works.kinds;
+      behind = inl refl;
+      stopped = stopped;
+      worker = so_far.works.worker;
+    } in
+    (works, refl)
+until start now new r r2 count so_far on (is_stopped seen prefix going is mine) =
+    let works : WorksUntil r start r2 new = record {
+      own = so_far.works.own;
+      rest = (length seen, Stopped) ∷ [];
+      mine = mine ∙ ap (λ (xs : List (ℕ × Noted)). xs ++ (length seen, Stopped) ∷ []) so_far.works.mine;
+      made = makes_all_on (seen_of now) (seen_of new) r r2 so_far.works.own on so_far.works.made;
+      kinds = so_far.works.kinds;
+      behind = inr (length seen, refl);
+      stopped = ap stop_in is ∙ list_any-append is_stop seen (Stopped ∷ []) ∙ or_true (stop_in seen);
+      worker = so_far.works.worker;
+    } in
+    (works, refl)
 
 -- ---- a full log
 
@@ -377,7 +403,16 @@ runs_full r xs ys plan plan2 on same full here =
 
 module _ (start now mid new : PlanPass) (r r2 r3 : Role) (count : ℕ) where
   stopped_behind : (s : Stop) → Working start r count now r2 → TakesTurn now mid → Acts r2 now (Err s) r3 mid → TakesTurn mid new → Stops mid new → WorksUntil r start r2 new
-  stopped_behind s so_far takes acts takes2 stops = until start mid new r r2 count (refused start now mid r r2 r3 count so_far takes s acts) takes2.longer stops
+  stopped_behind s so_far takes acts takes2 stops = (until start mid new r r2 count (refused start now mid r r2 r3 count so_far takes s acts) takes2.longer stops).0
+
+  -- what the chooser is where memory was wanting
+  asked_behind : Working start r count now r2 → TakesTurn now mid → Acts r2 now (Err stop.Memory) r3 mid → TakesTurn mid new → Stops mid new → (works : WorksUntil r start r2 new) × WasAskedAtMost r2 works.own (seen_of new) r3
+  asked_behind so_far takes acts takes2 stops =
+      let still : Working start r count mid r2 = refused start now mid r r2 r3 count so_far takes stop.Memory acts in
+      let all : Until start new r r2 still.works.own = until start mid new r r2 count still takes2.longer stops in
+      let P : List (ℕ × Noted) → Type 0 = λ own. All (λ x. x.0 < length (seen_of mid)) own in
+      let within : P still.works.own = made_within r r2 (seen_of mid) still.works.own still.works.made in
+      (all.0, record { before = seen_of mid; front = takes2.longer; behind = subst P (sym all.1) within; asked = acts.1 })
 
   -- where the refusal left the role as it was
   same_behind : r3 ≡ r2 → WorksUntil r start r2 new → WorksUntil r start r3 new
@@ -391,7 +426,7 @@ module _ (start now mid new : PlanPass) (r r2 r3 : Role) (count : ℕ) where
     full_on (seen_of mid) (seen_of new) plan takes2.longer takes2.model acts.3,
     subst (λ (s : Role). InWorld (seen_of new) (IsRunning s)) (sym acts.4) (runs_full r2 (seen_of mid) (seen_of new) plan plan2 takes2.longer takes2.model acts.3 acts.1),
   )
-  worked_until stop.Memory so_far plan takes acts plan2 takes2 stops = (r2, stopped_behind stop.Memory so_far takes acts takes2 stops, acts.1 ∙ so_far.works.worker)
+  worked_until stop.Memory so_far plan takes acts plan2 takes2 stops = let asked = asked_behind so_far takes acts takes2 stops in (r2, asked.0, asked.1)
 
   pub took_until : (s : Stop) → Working start r count now r2 → TakesTurn now mid → Acts r2 now (Err s) r3 mid → TakesTurn mid new → TakesTurn start new
   took_until s so_far takes acts takes2 = took_all start mid new r r2 r3 count (refused start now mid r r2 r3 count so_far takes s acts) takes2

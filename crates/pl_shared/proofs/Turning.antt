@@ -1,5 +1,5 @@
 -- From what is done inside a turn to what the pass knows behind it.
-use Rattle.std.proofs.Common.{◌≡◌, ℕ, ◌+◌, ◌≤◌, List, [], ◌∷◌, ◌++◌, length, drop, Bool, true, false, Option, Some, None, Result, Ok, Err, IfOk, refl, sym, ◌∙◌, ap, subst, arith, inl, inr, ◌⊎◌}
+use Rattle.std.proofs.Common.{◌≡◌, ℕ, ◌≤◌, List, [], ◌∷◌, ◌++◌, length, drop, Bool, true, false, Option, Some, Result, Ok, Err, IfOk, refl, sym, ◌∙◌, ap, subst, arith, inl, inr}
 use mathlib.Core.List.{IsPrefix}
 use Rattle.std.specs.Prelude.{nat_lt, cond}
 use Rattle.std.specs.List.{All}
@@ -21,8 +21,8 @@ use Rattle.pl_shared.specs.declared.role.Role.{Role}
 use Rattle.pl_shared.specs.declared.role.Acted.{Acted}
 use Rattle.pl_shared.specs.declared.role.Acted.TheVariants as acted
 use Rattle.pl_shared.specs.Items.{items_of, entries_in, model_in, stop_in, InWorld}
-use Rattle.pl_shared.specs.Roles.{has_event, IsBy, IsDueBy, IsInputOf, worker_of}
-use Rattle.pl_shared.specs.Inside.{items_in, IsSound, IsStepIn, Logs, KeepsLog, Spoiled, can_listen, FeedsIn, IsPart, IsGoing, ActsIn}
+use Rattle.pl_shared.specs.Roles.{has_event, IsBy, IsDueBy, IsAskedAtMost, IsInputOf}
+use Rattle.pl_shared.specs.Inside.{items_in, IsSound, IsStepIn, Logs, KeepsLog, can_listen, FeedsIn, IsPart, ActsIn}
 use Rattle.pl_shared.specs.declared.plan.SharedPlan.{SharedPlan}
 use Rattle.pl_shared.specs.Plans.{PlanPass, IsPlan, BelongsTo, Closes}
 use Rattle.pl_shared.specs.Turns.{TakesTurn, Makes, MakesNothing, IsFull, Feeds, Acts, Stops, was_stopped, is_stopped, Copies}
@@ -212,7 +212,7 @@ module _ (old mid new : PlanPass) (held held2 : Held) (turn : Turn old mid new h
         full_in keeps acts.0.unspoiled acts.2,
         acts.4,
       )
-  did r r2 (Err stop.Memory) acts = (made_none acts.0.1, acts.1)
+  did r r2 (Err stop.Memory) acts = (made_none acts.0.1, stands_in acts.0.1 (λ w. IsAskedAtMost r w r2) acts.0.0 acts.1)
 
   copied : (from : ℕ) (part : Part) → held2 ≡ held → IsPart from held part → Copies from (seen_of new) part
   copied from part same is =

@@ -1,7 +1,6 @@
 -- What is done to the plan inside a turn.
 use Rattle.std.specs.Prelude.{◌≡◌, ◌≤◌, ℕ, List, [], ◌∷◌, ◌++◌, length, drop, Bool, true, false, not, ◌&&◌, Option, Result, Ok, Err}
 use Rattle.pl_entry.specs.declared.entry.Entry.{Entry}
-use Rattle.pl_entry.specs.declared.event.Event.{Event}
 use Rattle.pl_machine.specs.declared.stop.Stop.{Stop}
 use Rattle.pl_machine.specs.declared.stop.Stop.TheVariants as stop
 use Rattle.pl_machine.specs.World.{World}
@@ -15,7 +14,7 @@ use Rattle.pl_shared.specs.declared.role.Acted.{Acted}
 use Rattle.pl_shared.specs.declared.role.Acted.TheVariants as acted
 use Rattle.pl_shared.specs.declared.part.Part.{Part}
 use Rattle.pl_shared.specs.Items.{items_of}
-use Rattle.pl_shared.specs.Roles.{worker_of, has_event, IsBy, IsInputOf}
+use Rattle.pl_shared.specs.Roles.{has_event, IsBy, IsAskedAtMost, IsInputOf}
 
 abbrev pub items_in : Held → List Noted
 items_in h = items_of h.machine.model h.machine.log h.stopped
@@ -81,7 +80,7 @@ pub record IsGoing (h : Held) : Type 0 where
   pub going : h.machine.world.done ≡ false
   pub running : h.stopped ≡ false
 
--- Each answer comes exactly by its cause, in this order: Spoiled, Finished, Stopped, Nothing, LogFull. All of them but the entry and want of memory change nothing.
+-- Each answer comes exactly by its cause, in this order: Spoiled, Finished, Stopped, Nothing, LogFull. All of them but the entry and want of memory change nothing; want of memory spoils the machine, and the chooser may have been asked.
 abbrev pub ActsIn : Role → Held → Result Acted Stop → Role → Held → Type 0
 ActsIn r old (Ok (acted.Did number)) r2 new = Logs (IsBy r r2) old new number × (old.machine.world.done ≡ false) × (has_event r old.machine.world ≡ true)
 ActsIn r old (Ok acted.Nothing) r2 new = IsGoing old × (has_event r old.machine.world ≡ false) × (new ≡ old) × (r2 ≡ r)
@@ -90,4 +89,4 @@ ActsIn r old (Ok acted.Stopped) r2 new = (old.machine.spoiled ≡ false) × (old
 ActsIn r old (Err stop.Spoiled) r2 new = (old.machine.spoiled ≡ true) × (new ≡ old) × (r2 ≡ r)
 ActsIn r old (Err stop.NotNow) r2 new = ⊥
 ActsIn r old (Err stop.LogFull) r2 new = IsGoing old × (has_event r old.machine.world ≡ true) × IsFull old.machine × (new ≡ old) × (r2 ≡ r)
-ActsIn r old (Err stop.Memory) r2 new = Spoiled old new × (worker_of r2 ≡ worker_of r)
+ActsIn r old (Err stop.Memory) r2 new = Spoiled old new × IsAskedAtMost r old.machine.world r2

@@ -1,5 +1,5 @@
 -- Passes of a plan, and what they have seen.
-use Rattle.std.specs.Prelude.{◌≡◌, ℕ, ◌≤◌, List, length, Bool, false, Some}
+use Rattle.std.specs.Prelude.{◌≡◌, ◌≤◌, List, length, Bool, false, Some}
 use Rattle.std.specs.List.{All}
 use mathlib.Core.List.{IsPrefix}
 use Rattle.pl_turn.specs.declared.pass.Pass.{Pass}

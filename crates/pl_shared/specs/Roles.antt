@@ -1,7 +1,5 @@
 -- Which entries a role makes.
-use Rattle.std.specs.Prelude.{◌≡◌, ℕ, List, Bool, true, false, not, ◌&&◌, Option, Some, None, is_some}
-use Rattle.pl_conflict.specs.declared.conflict.Conflict.{Conflict}
-use Rattle.pl_plan.specs.declared.repair.RepairMove.{RepairMove}
+use Rattle.std.specs.Prelude.{◌≡◌, ℕ, List, Bool, true, false, not, ◌&&◌, Option, Some, None, is_some, ◌⊎◌}
 use Rattle.pl_entry.specs.declared.event.Event.{Event}
 use Rattle.pl_entry.specs.declared.event.Event.TheVariants as event
 use Rattle.pl_entry.specs.declared.reply.Reply.{Reply}
@@ -10,7 +8,7 @@ use Rattle.pl_entry.specs.declared.entry.Entry.{Entry}
 use Rattle.rand_pcg.specs.Lcg.{Lcg}
 use Rattle.pl_choose.specs.Picks.{seeded_pick, seeded_after}
 use Rattle.pl_machine.specs.declared.choice.Choice.{Choice}
-use Rattle.pl_machine.specs.World.{World}
+use Rattle.pl_machine.specs.World.{World, reason_of}
 use Rattle.pl_machine.specs.Choices.{exec_choice_of, event_of}
 use Rattle.pl_shared.specs.declared.role.Role.{Role}
 use Rattle.pl_shared.specs.declared.role.Role.TheVariants.{Planner, Executive}
@@ -47,6 +45,11 @@ IsBy _ _ w e = ⊥
 -- the same, before the end of the input, where the role has an event
 abbrev pub IsDueBy : Role → Role → World → Entry → Type 0
 IsDueBy r r2 w e = (w.done ≡ false) × (has_event r w ≡ true) × IsBy r r2 w e
+
+-- Its chooser is as it was, or it was asked once, where repair goes on, and has drawn its words.
+abbrev pub IsAskedAtMost : Role → World → Role → Type 0
+IsAskedAtMost (Planner g) w r2 = (r2 ≡ Planner g) ⊎ ((has_event (Planner g) w ≡ true) × (reason_of w ≡ None) × (r2 ≡ Planner (seeded_after g)))
+IsAskedAtMost Executive w r2 = r2 ≡ Executive
 
 -- an input with this line
 abbrev pub IsInputOf : Option (List ℕ) → World → Entry → Type 0

@@ -1,5 +1,5 @@
 -- What the calls that take a turn do.
-use Rattle.std.specs.Prelude.{◌≡◌, ◌≤◌, ℕ, List, [], ◌∷◌, ◌++◌, length, drop, Bool, true, false, Option, Result, Ok, Err, ◌⊎◌}
+use Rattle.std.specs.Prelude.{◌≡◌, ◌<◌, ◌≤◌, ℕ, List, [], ◌∷◌, ◌++◌, length, drop, true, false, Option, Result, Ok, Err, ◌⊎◌}
 use Rattle.std.specs.List.{All}
 use mathlib.Core.List.{IsPrefix}
 use Rattle.pl_turn.specs.Passes.{seen_of, mine_of, counted_of, crew_of}
@@ -14,7 +14,7 @@ use Rattle.pl_shared.specs.declared.role.Role.{Role}
 use Rattle.pl_shared.specs.declared.role.Acted.{Acted}
 use Rattle.pl_shared.specs.declared.role.Acted.TheVariants as acted
 use Rattle.pl_shared.specs.Items.{entries_in, model_in, stop_in, InWorld}
-use Rattle.pl_shared.specs.Roles.{worker_of, has_event, IsDueBy, IsInputOf, kind_of, is_entry}
+use Rattle.pl_shared.specs.Roles.{worker_of, has_event, IsDueBy, IsAskedAtMost, IsInputOf, kind_of, is_entry}
 use Rattle.pl_shared.specs.Inside.{IsStepIn, can_listen}
 use Rattle.pl_shared.specs.Plans.{PlanPass}
 use Rattle.pl_shared.specs.Making.{MakesAll}
@@ -53,7 +53,7 @@ Feeds line old (Err stop.LogFull) new = MakesNothing old new × InWorld (seen_of
 Feeds line old (Err stop.Spoiled) new = MakesNothing old new
 Feeds line old (Err stop.Memory) new = MakesNothing old new
 
--- Finished, Stopped, Nothing and LogFull come in this order, exactly by their causes.
+-- Finished, Stopped, Nothing and LogFull come in this order, exactly by their causes. Where memory is wanting the chooser may have been asked.
 abbrev pub Acts : Role → PlanPass → Result Acted Stop → Role → PlanPass → Type 0
 Acts r old (Ok (acted.Did number)) r2 new = Makes (IsDueBy r r2) old new number
 Acts r old (Ok acted.Nothing) r2 new = MakesNothing old new × InWorld (seen_of new) (λ w. (w.done ≡ false) × (has_event r w ≡ false)) × (stop_in (seen_of new) ≡ false) × (r2 ≡ r)
@@ -62,7 +62,7 @@ Acts r old (Ok acted.Stopped) r2 new = MakesNothing old new × InWorld (seen_of 
 Acts r old (Err stop.Spoiled) r2 new = MakesNothing old new × (r2 ≡ r)
 Acts r old (Err stop.NotNow) r2 new = ⊥
 Acts r old (Err stop.LogFull) r2 new = MakesNothing old new × InWorld (seen_of new) (λ w. (w.done ≡ false) × (has_event r w ≡ true)) × (stop_in (seen_of new) ≡ false) × IsFull (seen_of new) × (r2 ≡ r)
-Acts r old (Err stop.Memory) r2 new = MakesNothing old new × (worker_of r2 ≡ worker_of r)
+Acts r old (Err stop.Memory) r2 new = MakesNothing old new × InWorld (seen_of new) (λ w. IsAskedAtMost r w r2)
 
 -- The plan is stopped. Where it was not yet, the stop is the pass's newest own item, and the last that it has seen.
 pub data Stops (old new : PlanPass) : Type 0 where
@@ -100,11 +100,18 @@ pub record WorksUntil (r : Role) (old : PlanPass) (r2 : Role) (new : PlanPass) :
   pub stopped : stop_in (seen_of new) ≡ true
   pub worker : worker_of r2 ≡ worker_of r
 
+-- In the world after some of what was seen, among it all of these own items, the chooser of the role was asked once at most.
+pub record WasAskedAtMost (r : Role) (own : List (ℕ × Noted)) (seen : List Noted) (r2 : Role) : Type 0 where
+  pub before : List Noted
+  pub front : IsPrefix before seen
+  pub behind : All (λ x. x.0 < length before) own
+  pub asked : InWorld before (λ w. IsAskedAtMost r w r2)
+
 -- A count comes only where the plan is over. A refusal stops the plan, and none is NotNow. Where the log is full the round is open, and the role has an event in it. Want of memory alone may leave another role than the one behind the entries:
--- the chooser may have drawn for an entry that was not made.
+-- the chooser may have been asked for an entry that was not made.
 abbrev pub WorksOn : Role → PlanPass → Result ℕ Stop → Role → PlanPass → Type 0
 WorksOn r old (Ok count) r2 new = Works r old count r2 new × IsOver (seen_of new)
 WorksOn r old (Err stop.NotNow) r2 new = ⊥
 WorksOn r old (Err stop.LogFull) r2 new = WorksUntil r old r2 new × IsFull (seen_of new) × InWorld (seen_of new) (λ w. (w.closed ≡ false) × (w.done ≡ false) × (has_event r2 w ≡ true))
 WorksOn r old (Err stop.Spoiled) r2 new = WorksUntil r old r2 new
-WorksOn r old (Err stop.Memory) r2 new = (last : Role) × WorksUntil r old last new × (worker_of r2 ≡ worker_of r)
+WorksOn r old (Err stop.Memory) r2 new = (last : Role) × (works : WorksUntil r old last new) × WasAskedAtMost last works.own (seen_of new) r2

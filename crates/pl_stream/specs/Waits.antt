@@ -40,3 +40,8 @@ abbrev pub MessageGives : Reader → Option (List ℕ) → Result (Option Number
 MessageGives old before (Ok (Some line)) new after = GetsMessage old before line.bytes new after
 MessageGives old before (Ok None) new after = GetsEnd old before new after
 MessageGives old before (Err f) new after = GetsFault old before f new after
+
+-- a message, or none at the end of the input
+abbrev pub line_in : Option NumberedLine → Option (List ℕ)
+line_in None = None
+line_in (Some line) = Some line.bytes

@@ -1,4 +1,4 @@
-use Rattle.pl_shared.proofs.Turning.{grows_acted, Turn, took_turn, did}
+use Rattle.pl_shared.proofs.Turning.{grows_acted, took_turn, did}
 use Rattle.pl_shared.proofs.plan.SharedPlan.act_once.Goals as goal
 
 pub leave-requires-clause-grows : goal.leave-requires-clause-grows

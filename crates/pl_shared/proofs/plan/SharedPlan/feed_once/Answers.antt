@@ -1,4 +1,4 @@
-use Rattle.pl_shared.proofs.Turning.{grows_fed, Turn, took_turn, fed}
+use Rattle.pl_shared.proofs.Turning.{grows_fed, took_turn, fed}
 use Rattle.pl_shared.proofs.plan.SharedPlan.feed_once.Goals as goal
 
 pub leave-requires-clause-grows : goal.leave-requires-clause-grows
