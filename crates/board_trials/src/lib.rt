@@ -8,6 +8,8 @@ mod changes;
 #[cfg(test)]
 mod counted;
 #[cfg(test)]
+mod outlook;
+#[cfg(test)]
 mod reading;
 #[cfg(test)]
 mod repairs;
