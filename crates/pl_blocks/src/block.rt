@@ -106,7 +106,8 @@ impl Block {
         requires { IsNear delta }
         ensures { IfOk result (λ v. v.items ≡ merged at delta self.now) }
     {
-        let mut points = Vec::from_slice(alloc, self.points())?;
+        let mut points = Vec::with_capacity(alloc, self.points().len() + 1)?;
+        points.extend_from_slice(self.points())?;
         merge(&mut points, at, delta)?;
         Ok(points)
     }

@@ -13,6 +13,7 @@ use Rattle.pl_state.specs.contracts.musts.Musts
 use Rattle.pl_board.specs.contracts.board.Board
 use Rattle.pl_conflict.specs.contracts.set.ConflictSet
 use Rattle.pl_links.specs.contracts.links.Links
+use Rattle.pl_values.specs.contracts.evaluations.Evaluations
 use Rattle.pl_world.specs.contracts.plan_state.PlanState
 use Rattle.pl_world.proofs.Crossing.{state_parts}
 
@@ -60,6 +61,12 @@ lines_send = search (state_line_send, state_line_sync, told_send, told_sync, sen
 pub lines_sync : IsSync Lines.the_field.row
 lines_sync = search (state_line_send, state_line_sync, told_send, told_sync, sendable, crosses) depth 150 fits 40000
 
+pub evaluations_send : IsSend Evaluations.the_field.row
+evaluations_send = search (maps.crosses, over.crosses, sendable, crosses) depth 40 fits 6000
+
+pub evaluations_sync : IsSync Evaluations.the_field.row
+evaluations_sync = search (maps.crosses, over.crosses, sendable, crosses) depth 40 fits 6000
+
 pub links_send : IsSend Links.the_field.row
 links_send = search (maps.crosses, over.crosses, sendable, crosses) depth 40 fits 6000
 
@@ -77,6 +84,8 @@ pub ruleset watched_parts = (
   set_sync,
   lines_send,
   lines_sync,
+  evaluations_send,
+  evaluations_sync,
   links_send,
   links_sync,
   plan_state_send,

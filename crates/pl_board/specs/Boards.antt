@@ -6,15 +6,17 @@ use Rattle.pl_world.specs.declared.plan_state.PlanState.{PlanState}
 use Rattle.pl_world.specs.Whole.{IsWhole}
 use Rattle.pl_world.specs.Links.{placed_in}
 use Rattle.pl_world.specs.Conflicts.{conflicts_of}
+use Rattle.pl_values.specs.Kept.{AreOf}
 use Rattle.pl_board.specs.declared.watched.WatchedState.{WatchedState}
 
 pub record Standing : Type 0 where
   pub spoiled : Bool
   pub state : PlanState
 
--- a whole plan state: its timelines hold what its activities ask for, the store has them all, and the conflicts are all that is wrong
+-- a whole plan state: what its activities come to is kept, its timelines hold what they ask for, the store has them all, and the conflicts are all that is wrong
 pub record IsWatched (w : WatchedState) : Type 0 where
   pub whole : IsWhole w.state
+  pub values : AreOf w.state w.values
   pub timelines : AreLinesOf w.state w.lines
   pub store : w.links ≡ kept_of w.state.model (placed_in w.state)
   pub found : w.conflicts ≡ conflicts_of w.state

@@ -3,6 +3,7 @@
 
 mod asking;
 mod board;
+mod links;
 mod reading;
 mod sharing;
 mod watched;

@@ -8,6 +8,7 @@ ghost use Rattle.pl_facts.specs.Goals.{goal_of};
 ghost use Rattle.pl_world.specs.Whole.{IsWhole, IsGoalOf};
 ghost use Rattle.pl_changes.specs.Changes.{with_goal, without_goal, moved_on, told_now, committed_to, CanTell, IsOpenIn};
 ghost use Rattle.pl_changes.specs.Replaced.{CanReplace, with_plan};
+ghost use Rattle.pl_values.specs.Kept.{AreOf};
 ghost use Rattle.pl_board.specs.Boards.{IsWatched};
 
 use crate::asking::{asked_by, asked_of};
@@ -19,16 +20,18 @@ use pl_lines::Lines;
 use pl_linked::Mended;
 use pl_links::Links;
 use pl_lists::Copied;
-use pl_near::{Touched, each_once, near, passed_by, touched_by};
+use pl_near::{Touched, each_once, near_kept, passed_by, touched_by};
 use pl_plan::Activity;
 use pl_points::{Ledger, Steps};
+use pl_values::Evaluations;
 use pl_world::PlanState;
 use std::alloc::{AllocError, Global};
 
-/// A plan state with its timelines, the store of its links, and all that is wrong with it.
+/// A plan state with what its activities come to, its timelines, the store of its links, and all that is wrong with it.
 #[derive(Drop)]
 pub(crate) struct WatchedState {
     pub(crate) state: PlanState,
+    pub(crate) values: Evaluations,
     pub(crate) lines: Lines,
     pub(crate) links: Links,
     pub(crate) conflicts: ConflictSet,
@@ -47,6 +50,7 @@ impl WatchedState {
         let conflicts = detect(alloc, &state, &[])?;
         Ok(WatchedState {
             state,
+            values: Evaluations::new(alloc),
             lines,
             links: Links::new(alloc),
             conflicts,
@@ -55,11 +59,18 @@ impl WatchedState {
 
     // What is wrong with goals and activities that a change touches.
     fn wrong_near(&self, alloc: Global, touched: &Touched) -> Result<Vec<Conflict>, AllocError>
-        requires { IsWhole self.now.state }
+        requires whole { IsWhole self.now.state }
+        requires values { AreOf self.now.state self.now.values }
         ensures { IfOk result (λ all. all.items ≡ near self.now.state touched.now.numbers.items touched.now.ids.items) }
     {
         let mut all = Vec::new(alloc);
-        near(alloc, &self.state, &touched.numbers, &touched.ids, &mut all)?;
+        near_kept(
+            &self.state,
+            &self.values,
+            &touched.numbers,
+            &touched.ids,
+            &mut all,
+        )?;
         Ok(all)
     }
 
@@ -71,7 +82,8 @@ impl WatchedState {
         went: &[Conflict],
         mended: &Mended,
     ) -> Result<(), AllocError>
-        requires { IsWhole self.old.state }
+        requires whole { IsWhole self.old.state }
+        requires values { AreOf self.old.state self.old.values }
         ensures same { OnOk result (self.new ≡ record self.old { conflicts = self.new.conflicts }) }
         ensures conflicts { OnOk result (self.new.conflicts ≡ exchanged self.old.conflicts (went.now ++ mended.now.went.items)
             (near self.old.state touched.now.numbers.items touched.now.ids.items ++ mended.now.came.items)) }
@@ -99,11 +111,12 @@ impl WatchedState {
         let gone = once(alloc, gone)?;
         let touched = touched_by(alloc, &self.state, &gone, placed)?;
         let went = self.wrong_near(alloc, &touched)?;
-        let given = asked_by(alloc, &self.state, &gone)?;
+        let given = asked_by(alloc, &self.state, &self.values, &gone)?;
         self.lines
             .give_back(&self.state, &given, &mut self.conflicts, steps)?;
         let mended = pl_linked::replace(alloc, &mut self.state, &mut self.links, &gone, placed)?;
-        let taken = asked_of(alloc, &self.state, placed)?;
+        self.values.replace(alloc, &self.state, &gone, placed)?;
+        let taken = asked_of(alloc, &self.state, &self.values, placed)?;
         self.lines
             .take_on(&self.state, &taken, &mut self.conflicts, steps)?;
         self.turn(alloc, &touched, &went, &mended)?;
@@ -253,6 +266,7 @@ impl Copied for WatchedState {
     fn copy(&self, alloc: Global) -> Result<WatchedState, AllocError> {
         Ok(WatchedState {
             state: self.state.copy(alloc)?,
+            values: self.values.copy(alloc)?,
             lines: self.lines.copy(alloc)?,
             links: self.links.copy(alloc)?,
             conflicts: copy_of(alloc, &self.conflicts)?,

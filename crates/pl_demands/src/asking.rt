@@ -13,13 +13,32 @@ ghost use Rattle.pl_world.specs.Demands.{amount_in, demand_of, asked_for, demand
 use pl_capacity::Use;
 use pl_level::Effect;
 use pl_model::{Expr, Model, Point, Reservation, eval};
-use pl_plan::Activity;
+use pl_plan::{Activity, Evaluated};
 use pl_state::{Must, Setting};
 use pl_world::{Asked, Demand, PlanState};
 use std::alloc::{AllocError, Global};
 
 #[tactic(auto, unfolding(pl_world::specs::Demands::demands_at))]
-/// Appends what an activity asks for, by reservation: nothing where it is not firm.
+/// Appends what an activity asks for by what it comes to, by reservation: nothing where it is not firm.
+pub fn demands_with(
+    s: &PlanState,
+    a: &Activity,
+    evaluated: &Evaluated,
+    out: &mut Vec<Demand>,
+) -> Result<(), AllocError>
+    requires whole { IsWhole s.now }
+    requires live { activity_of a.now.id s.now.plan.activities ≡ Some a.now }
+    requires values { evaluated.now.values ≡ row_of s.now a.now }
+    requires end { evaluated.now.end ≡ end_at s.now a.now }
+    ensures { OnOk result (out.new.items ≡ out.old.items ++ demands_at s.now a.now) }
+{
+    match evaluated.end {
+        Some(end) => add_until(s, a, end, evaluated.values.as_slice(), out),
+        None => Ok(()),
+    }
+}
+
+/// The same of an activity that is evaluated first.
 pub fn demands_at(
     alloc: Global,
     s: &PlanState,
@@ -31,10 +50,8 @@ pub fn demands_at(
     ensures { OnOk result (out.new.items ≡ out.old.items ++ demands_at s.now a.now) }
 {
     let evaluated = s.plan.evaluate(alloc, s.model.get(), a.id)?;
-    match evaluated.end {
-        Some(end) => add_until(s, a, end, evaluated.values.as_slice(), out),
-        None => Ok(()),
-    }
+    demands_with(s, a, &evaluated, out)?;
+    Ok(())
 }
 
 /// What all activities ask for, by id and then by reservation.

@@ -13,7 +13,7 @@ mod outside;
 mod states;
 mod sums;
 
-pub use asking::{demands, demands_at};
+pub use asking::{demands, demands_at, demands_with};
 pub use conflicts::{line_conflicts, timeline_conflicts};
 pub use laws::laws_of_demands;
 pub use moments::{level_at, state_at, use_at};

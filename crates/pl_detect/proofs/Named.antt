@@ -1,6 +1,6 @@
 -- What the expressions of a checked model name.
 use Rattle.std.proofs.Common.{◌≡◌, ℕ, zero, suc, ◌<◌, List, [], ◌∷◌, length, get_or, Option, None, Some, IfSome, refl, sym, ap, ◌∙◌, subst}
-use Rattle.std.specs.Prelude.{All, slice_get, option_and_then}
+use Rattle.std.specs.Prelude.{All, IsSome, slice_get, option_and_then}
 use Rattle.std.proofs.lemmas.List.Elements.{All-nil, All-head, All-tail, All-weaker}
 use Rattle.pl_model.specs.declared.alternatives.Slot.{Slot}
 use Rattle.pl_model.specs.declared.alternatives.Alternative.{Alternative}
@@ -12,11 +12,15 @@ use Rattle.pl_model.specs.Checked.{IsChecked, IsBinding, IsCheckedSlot, IsChecke
 use Rattle.pl_plan.specs.declared.activity.Activity.{Activity}
 use Rattle.pl_plan.specs.Activities.{activity_of}
 use Rattle.pl_plan.specs.Fitting.{kind_of, alternatives_of, slots_of, chosen_slots_of}
-use Rattle.pl_plan.specs.Values.{Row, BindsBelow, bindings_in, bindings_at}
+use Rattle.pl_plan.specs.Values.{Row, BindsBelow, bindings_in, bindings_at, values_of}
 use Rattle.pl_plan.specs.Firm.{amount_of}
 use Rattle.pl_world.specs.declared.plan_state.PlanState.{PlanState}
-use Rattle.pl_world.specs.Activities.{bindings_of}
+use Rattle.pl_world.specs.PlanStates.{row_of}
+use Rattle.pl_world.specs.Whole.{IsWhole}
+use Rattle.pl_world.specs.Activities.{bindings_of, row_above}
 use Rattle.pl_plan.proofs.FirmSteps.{checked_kind, amounts_named}
+use Rattle.pl_plan.proofs.ValueLaws.{values_solve}
+use Rattle.pl_detect.proofs.Found.{parent_live}
 
 slot_named : (model : Model) (n : ℕ) (slots : List Slot) → All (IsCheckedSlot model n) slots → (i : ℕ) → All (BindsBelow n) (bindings_in (slice_get slots i))
 slot_named model n [] all i = All-nil (BindsBelow n)
@@ -58,3 +62,22 @@ row_named s checked a p is model same row len =
     let enough : length row ≡ length (params_of (option_and_then (kind_of s.model) (activity_of p.0 xs))) = len ∙ ap (λ (m : Model). length (params_of (option_and_then (kind_of m) (activity_of p.0 xs)))) same in
     let named : All (BindsBelow (length row)) (bindings_at s.model xs (Some p)) = subst (λ n. All (BindsBelow n) (bindings_at s.model xs (Some p))) (sym enough) (bindings_named s.model checked xs p) in
     subst (λ o. All (BindsBelow (length row)) (bindings_at s.model xs o)) (sym is) named
+
+-- the values above a live activity have names enough for what its slot binds
+pub named_above : (s : PlanState) → IsWhole s → (a : Activity) → activity_of a.id s.plan.activities ≡ Some a → All (BindsBelow (length (row_above s a.parent))) (bindings_of s a)
+named_above s whole a live = by a.parent refl
+  where
+    by : (o : Option (ℕ × ℕ)) → a.parent ≡ o → All (BindsBelow (length (row_above s o))) (bindings_of s a)
+    by None e = subst (λ o. All (BindsBelow 0) (bindings_at s.model s.plan.activities o)) (sym e) (All-nil (BindsBelow 0))
+    by (Some p) e = found (activity_of p.0 s.plan.activities) refl (parent_live s whole a live p e)
+      where
+        found : (o : Option Activity) → activity_of p.0 s.plan.activities ≡ o → IsSome o → All (BindsBelow (length (values_of s.model s.plan.activities p.0))) (bindings_of s a)
+        found None f some = absurd (cc)
+        found (Some b) f some =
+            row_named s whole.checked a p e s.model refl (values_of s.model s.plan.activities p.0)
+            ((values_solve s.model s.plan.activities whole.checked whole.fits.rooted).places p.0 b f ∙ ap (λ o. length (params_of (option_and_then (kind_of s.model) o))) (sym f))
+
+-- it has a value for each parameter of its kind
+pub row_counted : (s : PlanState) → IsWhole s → (a : Activity) → activity_of a.id s.plan.activities ≡ Some a → (k : Kind) → kind_of s.model a ≡ Some k → (row : Row) → row ≡ row_of s a → length row ≡ length k.params
+row_counted s whole a live k kind row is =
+    ap length is ∙ (values_solve s.model s.plan.activities whole.checked whole.fits.rooted).places a.id a live ∙ ap (λ o. length (params_of o)) kind

@@ -14,7 +14,7 @@ use crate::parameters::{add_bad_params, add_unset};
 use crate::valuation::{evaluate, kind_at, row_above};
 use pl_conflict::{Code, Conflict};
 use pl_model::Kind;
-use pl_plan::Activity;
+use pl_plan::{Activity, Evaluated};
 use pl_world::PlanState;
 use std::alloc::{AllocError, Global};
 
@@ -73,8 +73,37 @@ fn add_overrun(
     }
 }
 
-/// Appends what is wrong with one live activity: late, without a value, with bad values, not
-/// detailed, or past the horizon. With a committed one nothing is.
+/// Appends what is wrong with one live activity, by what it comes to and by the values above it: late, without a
+/// value, with bad values, not detailed, or past the horizon. With a committed one nothing is.
+#[tactic(auto, unfolding(pl_world::specs::Activities::wrong_at))]
+pub fn wrong_with(
+    s: &PlanState,
+    a: &Activity,
+    own: &Evaluated,
+    above: &[Option<i64>],
+    out: &mut Vec<Conflict>,
+) -> Result<(), AllocError>
+    requires whole { IsWhole s.now }
+    requires live { activity_of a.now.id s.now.plan.activities ≡ Some a.now }
+    requires values { own.now.values ≡ row_of s.now a.now }
+    requires end { own.now.end ≡ end_at s.now a.now }
+    requires above { above.now ≡ row_above s.now a.now.parent }
+    ensures { OnOk result (out.new.items ≡ out.old.items ++ wrong_at s.now a.now) }
+{
+    if a.start < s.committed {
+        return Ok(());
+    }
+    let kind = kind_at(s, a);
+    let values = own.values.as_slice();
+    add_when(out, a.start <= s.moment, at_start(a, Code::Late, 0, 0))?;
+    add_unset(s, a, kind, values, out)?;
+    add_bad_values(s, a, kind, above, values, out)?;
+    add_undetailed(s, a, kind, out)?;
+    add_overrun(s, a, own.end, out)?;
+    Ok(())
+}
+
+/// The same of an activity that is evaluated first, where it is not committed.
 #[tactic(auto, unfolding(pl_world::specs::Activities::wrong_at))]
 pub fn wrong_at(
     alloc: Global,
@@ -89,14 +118,9 @@ pub fn wrong_at(
     if a.start < s.committed {
         return Ok(());
     }
-    let kind = kind_at(s, a);
     let own = evaluate(alloc, s, a)?;
     let above = row_above(alloc, s, a)?;
-    add_when(out, a.start <= s.moment, at_start(a, Code::Late, 0, 0))?;
-    add_unset(s, a, kind, own.values.as_slice(), out)?;
-    add_bad_values(s, a, kind, above.as_slice(), own.values.as_slice(), out)?;
-    add_undetailed(s, a, kind, out)?;
-    add_overrun(s, a, own.end, out)?;
+    wrong_with(s, a, &own, above.as_slice(), out)?;
     Ok(())
 }
 

@@ -13,7 +13,7 @@ mod placing;
 mod slots;
 mod valuation;
 
-pub use activities::{activity_conflicts, wrong_at};
+pub use activities::{activity_conflicts, wrong_at, wrong_with};
 pub use detection::{detect, detect_with, plan_conflicts};
 pub use goals::{goal_conflicts, off_at, open_at};
 pub use links::{add_all_broken, add_broken, add_conflict_of, link_conflicts};

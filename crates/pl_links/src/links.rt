@@ -1,9 +1,10 @@
 ghost use Rattle.std.specs.Prelude.{◌≡◌, ◌+◌, [], OnOk, OnErr, IfOk, IfErr, filter, is_some};
+ghost use Rattle.std.specs.List.{list_any};
 ghost use Rattle.std.specs.Map.Iter.{ShowsInOrder, deref};
 ghost use Rattle.pl_links.specs.declared.broken.Broken.{Broken};
 ghost use Rattle.pl_links.specs.Items.{AreRising, AreApart, IsPlaced, CanBePlaced};
 ghost use Rattle.pl_links.specs.Items.{with_item, without, item_of};
-ghost use Rattle.pl_links.specs.Broken.{broken_of};
+ghost use Rattle.pl_links.specs.Broken.{broken_of, is_partner};
 ghost use Rattle.pl_links.specs.Kept.{IsFor, kept_of};
 ghost use Rattle.pl_links.specs.Sets.{has, is_of, first_of};
 ghost use Rattle.pl_links.specs.Changes.{Tells};
@@ -14,7 +15,7 @@ use crate::mending::mend;
 use crate::placed::Placed;
 use crate::store::Store;
 use pl_lists::Copied;
-use pl_model::Model;
+use pl_model::{Link, Model};
 use std::alloc::{AllocError, Global};
 use std::collections::BTreeSet;
 use std::collections::btree_set::Range;
@@ -134,6 +135,21 @@ impl Links {
         ensures { result ≡ is_some (item_of id self.now.items) }
     {
         self.store.item(id).is_some()
+    }
+
+    /// The placed activity of this id.
+    pub fn item(&self, id: u32) -> Option<Placed>
+        ensures { result ≡ item_of id self.now.items }
+    {
+        self.store.item(id)
+    }
+
+    /// Whether an activity, which need not be placed, has a partner for its link among the placed
+    /// ones. They are not walked through.
+    pub fn has_partner(&self, own: &Placed, link: &Link) -> bool
+        ensures { result ≡ list_any (is_partner link.now own.now) self.now.items }
+    {
+        self.store.has_partner(None, own, link)
     }
 
     /// Whether a link has no partner, or an order is not met.

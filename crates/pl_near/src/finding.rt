@@ -49,7 +49,11 @@ fn add_wrong_of(
     }
 }
 
-fn add_open(s: &PlanState, numbers: &[u32], out: &mut Vec<Conflict>) -> Result<(), AllocError>
+pub(crate) fn add_open(
+    s: &PlanState,
+    numbers: &[u32],
+    out: &mut Vec<Conflict>,
+) -> Result<(), AllocError>
     requires { IsWhole s.now }
     ensures { OnOk result (out.new.items ≡ out.old.items ++ flat_map (open_of s.now) numbers.now) }
 {
@@ -59,7 +63,7 @@ fn add_open(s: &PlanState, numbers: &[u32], out: &mut Vec<Conflict>) -> Result<(
     Ok(())
 }
 
-fn add_off(s: &PlanState, ids: &[u32], out: &mut Vec<Conflict>) -> Result<(), AllocError>
+pub(crate) fn add_off(s: &PlanState, ids: &[u32], out: &mut Vec<Conflict>) -> Result<(), AllocError>
     ensures { OnOk result (out.new.items ≡ out.old.items ++ flat_map (off_of s.now) ids.now) }
 {
     for id in ids {

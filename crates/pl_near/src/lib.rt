@@ -3,11 +3,13 @@
 #![tactic(auto)]
 
 mod finding;
+mod kept;
 mod laws;
 mod passed;
 mod touched;
 
 pub use finding::near;
+pub use kept::near_kept;
 pub use laws::{
     laws_of_commits, laws_of_goal_changes, laws_of_moments, laws_of_nearness, laws_of_replacements,
 };

@@ -107,7 +107,8 @@ fn numbers_touched(
 fn ids_changed(alloc: Global, gone: &[u32], placed: &[Activity]) -> Result<Vec<u32>, AllocError>
     ensures { IfOk result (λ ids. ids.items ≡ touched gone.now placed.now) }
 {
-    let mut ids = gone.to_vec(alloc)?;
+    let mut ids = Vec::with_capacity(alloc, gone.len() + placed.len())?;
+    ids.extend_from_slice(gone)?;
     for a in placed {
         ids.push(a.id)?;
     }

@@ -12,6 +12,7 @@ invariant_of-self c =
           let kept = c.self.invariant.watched e in
           record {
             whole = whole_with_next w.state c.args.id kept.whole least.0 least.1 most;
+            values = kept.values;
             timelines = lines_next w.state c.args.id w.lines kept.timelines;
             store = kept.store;
             found = rw (conflicts_next w.state c.args.id) kept.found;

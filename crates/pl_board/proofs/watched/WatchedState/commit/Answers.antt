@@ -13,6 +13,7 @@ returns-then-is_clear-clause-watched c =
     let is = c.requires.watched.found in
     record {
       whole = whole_committed s c.args.h c.requires.watched.whole c.requires.most;
+      values = c.requires.watched.values;
       timelines = lines_committed s c.args.h c.args.self.now.lines c.requires.watched.timelines;
       store = c.requires.watched.store;
       found = is ∙ sym (committed_same s c.args.h c.requires.least (subst (All (λ (k : Conflict). touches_before c.args.h k ≡ false)) is (c.is_clear_before-is_clear.ensures c.if-is_clear.true)));
@@ -23,6 +24,7 @@ returns-clause-watched c =
     let s = c.args.self.now.state in
     record {
       whole = whole_committed s c.args.h c.requires.watched.whole c.requires.most;
+      values = c.requires.watched.values;
       timelines = lines_committed s c.args.h c.args.self.now.lines c.requires.watched.timelines;
       store = c.requires.watched.store;
       found = c.in_ok-self.ensures;

@@ -8,8 +8,8 @@ use Rattle.pl_board.specs.declared.watched.WatchedState.{WatchedState}
 use Rattle.pl_board.proofs.Watching.{stands_goal}
 use Rattle.pl_board.proofs.watched.WatchedState.drop_goal.Goals as goal
 
-pub turn-requires : goal.turn-requires
-turn-requires c = rw c.drop_goal.ensures (whole_without_goal c.args.self.now.state c.args.number c.requires.watched.whole)
+pub turn-requires-clause-whole : goal.turn-requires-clause-whole
+turn-requires-clause-whole c = rw c.drop_goal.ensures (whole_without_goal c.args.self.now.state c.args.number c.requires.watched.whole)
 
 pub returns-clause-watched : goal.returns-clause-watched
 returns-clause-watched c =
@@ -22,12 +22,14 @@ returns-clause-watched c =
     let same = c.in_ok-turn.ensures.same in
     let is_state : c.turn.new.self.state ≡ t = ap (λ (v : WatchedState). v.state) same ∙ is_t in
     let is_lines : c.turn.new.self.lines ≡ w.lines = ap (λ (v : WatchedState). v.lines) same in
+    let is_values : c.turn.new.self.values ≡ w.values = ap (λ (v : WatchedState). v.values) same in
     let is_links : c.turn.new.self.links ≡ w.links = ap (λ (v : WatchedState). v.links) same in
     let found = stands_goal s t (record s { goals = c.drop_goal.new.self }) w.lines w.conflicts c.turn.new.self.conflicts c.args.number c.in_ok-touched.touched.numbers.items c.in_ok-touched.touched.ids.items c.deref.result.now c.no_links.result.went.items c.no_links.result.came.items
     c.requires.watched.whole c.requires.watched.timelines c.requires.watched.found is_t whole_t are_t (told_without_goal s c.args.number w.lines w.conflicts) (follows_no_goal s c.args.number) (keeps_without_goal s c.args.number)
     c.in_ok-touched.ensures.numbers c.in_ok-touched.ensures.ids (c.deref.ensures.value ∙ c.in_ok-went.ensures) c.no_links.ensures.went c.no_links.ensures.came c.in_ok-turn.ensures.conflicts in
     record {
       whole = rw is_state whole_t;
+      values = rw (is_state, is_values) c.requires.watched.values;
       timelines = rw (is_state, is_lines) are_t;
       store = rw (is_state, is_links) c.requires.watched.store;
       found = rw is_state found;

@@ -43,4 +43,4 @@ returns-clause-watched g c =
     let are_t : AreLinesOf t full = rw moved (lines_rebased s c.args.line c.args.value w.lines c.requires.watched.whole c.requires.watched.timelines c.requires.can) in
     let found : c.rebase.new.set ≡ conflicts_of t = stands_told s t w.lines full w.conflicts c.rebase.new.set c.requires.watched.whole c.requires.watched.timelines c.requires.watched.found whole_t are_t c.in_ok-rebase.ensures.mended
     (told_told s c.args.line c.args.value full c.rebase.new.set) (follows_told s c.args.line c.args.value) (keeps_told s c.args.line c.args.value) in
-    rw is_bases (record { whole = whole_t; timelines = are_t; store = c.requires.watched.store; found = found })
+    rw is_bases (record { whole = whole_t; values = c.requires.watched.values; timelines = are_t; store = c.requires.watched.store; found = found })

@@ -26,8 +26,8 @@ advance-requires-clause-named g c = are_named c.args.self.now.state c.args.self.
 pub pass-requires : goal.pass-requires
 pass-requires g c = whole_moved_on c.args.self.now.state c.args.now c.requires.watched.whole c.requires.later c.requires.bound
 
-pub turn-requires : goal.turn-requires
-turn-requires g c = whole_moved_on c.args.self.now.state c.args.now c.requires.watched.whole c.requires.later c.requires.bound
+pub turn-requires-clause-whole : goal.turn-requires-clause-whole
+turn-requires-clause-whole g c = whole_moved_on c.args.self.now.state c.args.now c.requires.watched.whole c.requires.later c.requires.bound
 
 pub returns-clause-watched : goal.returns-clause-watched
 returns-clause-watched g c =
@@ -48,9 +48,11 @@ returns-clause-watched g c =
     let same = c.in_ok-turn.ensures.same in
     let is_state : c.turn.new.self.state ≡ t = ap (λ (v : WatchedState). v.state) same in
     let is_lines : c.turn.new.self.lines ≡ full = ap (λ (v : WatchedState). v.lines) same in
+    let is_values : c.turn.new.self.values ≡ w.values = ap (λ (v : WatchedState). v.values) same in
     let is_links : c.turn.new.self.links ≡ w.links = ap (λ (v : WatchedState). v.links) same in
     record {
       whole = rw is_state whole_t;
+      values = rw (is_state, is_values) c.requires.watched.values;
       timelines = rw (is_state, is_lines) are_t;
       store = rw (is_state, is_links) c.requires.watched.store;
       found = rw is_state found;
