@@ -9,6 +9,7 @@ mod Trying
 mod Kin
 mod Onward
 mod Along
+pub mod Enough
 mod Cuts
 mod Remade
 mod Grown

@@ -6,6 +6,7 @@ pub mod Sides
 pub mod Changes
 pub mod Undone
 pub mod Runs
+pub mod Attempts
 pub mod Outcomes
 pub mod Keeping
 pub mod Least

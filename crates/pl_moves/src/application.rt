@@ -52,8 +52,8 @@ fn replace_by<L: Ledger>(
     }
 }
 
-// Makes a move that is not refused.
-pub(crate) fn make<L: Ledger>(
+/// Makes a proper move that nothing refuses. Want of memory spoils the board.
+pub fn make<L: Ledger>(
     alloc: Global,
     board: &mut Board,
     mv: &RepairMove,

@@ -24,7 +24,7 @@ pub(crate) struct Change {
 fn single(alloc: Global, a: Activity) -> Result<Vec<Activity>, AllocError>
     ensures { IfOk result (λ all. all.items ≡ a ∷ []) }
 {
-    let mut all = Vec::new(alloc);
+    let mut all = Vec::with_capacity(alloc, 1)?;
     all.push(a)?;
     Ok(all)
 }
@@ -116,7 +116,7 @@ fn shift_all(
     requires near { to ≤ 10000000 }
     ensures { IfOk result (λ all. all.items ≡ map (moved top.now.start to) (picked s.now.plan.activities ids.now)) }
 {
-    let mut all = Vec::new(alloc);
+    let mut all = Vec::with_capacity(alloc, ids.len())?;
     for id in ids {
         add_moved(alloc, s, *id, top, to, &mut all)?;
     }
@@ -174,7 +174,7 @@ fn assign_all(
     requires whole { IsWhole s.now }
     ensures { IfOk result (λ all. all.items ≡ map (assigned top number value) (picked s.now.plan.activities ids.now)) }
 {
-    let mut all = Vec::new(alloc);
+    let mut all = Vec::with_capacity(alloc, ids.len())?;
     for id in ids {
         add_assigned(alloc, s, *id, top, number, value, &mut all)?;
     }

@@ -50,8 +50,8 @@ fn presets(
     }
 }
 
-/// A root with the next id.
-pub(crate) fn root_for(
+/// The root that a move adds: it has the next id.
+pub fn root_for(
     alloc: Global,
     s: &PlanState,
     kind: u32,

@@ -2,6 +2,7 @@ ghost use Rattle.std.specs.Prelude.{◌≡◌, false, true, length, find, ◌≤
 ghost use Rattle.std.specs.Option.{option_map};
 ghost use Rattle.pl_plan.specs.Trees.{IsRooted, id_of};
 ghost use Rattle.pl_world.specs.PlanStates.{found, is_committed};
+ghost use Rattle.pl_world.specs.Legal.{is_legal};
 ghost use Rattle.pl_world.specs.Whole.{IsWhole};
 ghost use Rattle.pl_world.specs.Moves.{children_for, count_of_new, holds, is_changed, is_full, is_locked, is_proper, refusal_of};
 ghost use Rattle.pl_moves.specs.Changes.{IsNamedLive, gone_by};
@@ -177,5 +178,17 @@ pub fn legal(board: &Board, mv: &RepairMove) -> Result<(), Refusal>
     match refusal(board.alloc(), board.state(), mv) {
         Some(reason) => Err(reason),
         None => Ok(()),
+    }
+}
+
+/// Whether a proper move may be made.
+pub fn is_legal(board: &Board, mv: &RepairMove) -> bool
+    requires unspoiled { board.now.spoiled ≡ false }
+    requires proper { is_proper board.now.state mv.now ≡ true }
+    ensures { result ≡ is_legal board.now.state mv.now }
+{
+    match legal(board, mv) {
+        Ok(()) => true,
+        Err(_) => false,
     }
 }

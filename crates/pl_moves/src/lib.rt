@@ -2,8 +2,11 @@
 #![tactic(auto)]
 
 mod application;
+mod attempting;
+mod attempts;
 mod change;
 mod children;
+mod counting;
 mod descent;
 mod dropping;
 mod gone;
@@ -19,11 +22,14 @@ mod starts;
 mod trial;
 mod undoing;
 
-pub use application::apply;
+pub use application::{apply, make};
+pub use attempting::attempt;
+pub use attempts::Attempt;
+pub use children::root_for;
+pub use counting::left_after;
 pub use laws::laws_of_repairs;
 pub use least::least_left;
-pub use legality::legal;
+pub use legality::{is_legal, legal};
 pub use move_fault::MoveFault;
 pub use properness::proper;
-pub use runs::{RunCounts, left_after_run};
-pub use trial::left_after;
+pub use runs::{RunCounts, goes_on, left_after_run, start_of};

@@ -10,8 +10,9 @@ ghost use Rattle.pl_moves.specs.Runs.{start_of, goes_on, counted, CanBeMade, IsC
 
 use crate::application::make_change;
 use crate::change::moved;
+use crate::counting::count_after;
 use crate::least::least_left;
-use crate::trial::{Trial, count_after, trial_of};
+use crate::trial::{Trial, trial_of};
 use pl_board::Board;
 use pl_plan::{Activity, RepairMove};
 use pl_points::{Ledger, Steps};
@@ -24,8 +25,8 @@ pub struct RunCounts {
     pub others: Vec<u32>,
 }
 
-// The start that a move gives to what it places; 0 for one that gives none.
-fn start_of(mv: &RepairMove) -> u32
+/// The start that a move gives to what it places; 0 for one that gives none.
+pub fn start_of(mv: &RepairMove) -> u32
     ensures { result ≡ start_of mv.now }
 {
     match *mv {
@@ -35,8 +36,8 @@ fn start_of(mv: &RepairMove) -> u32
     }
 }
 
-// Whether it places what the first one does, at another start perhaps.
-fn goes_on(first: &RepairMove, mv: &RepairMove) -> bool
+/// Whether it places what the first one does, at another start perhaps.
+pub fn goes_on(first: &RepairMove, mv: &RepairMove) -> bool
     ensures { result ≡ goes_on first.now mv.now }
 {
     match (*first, *mv) {
@@ -75,7 +76,7 @@ fn moved_all(
     requires { All (λ a. a.start + to < 2 ^ 32) placed.now }
     ensures { IfOk result (λ all. all.items ≡ map (moved from to) placed.now) }
 {
-    let mut all = Vec::new(alloc);
+    let mut all = Vec::with_capacity(alloc, placed.len())?;
     for a in placed {
         all.push(moved(alloc, a, from, to)?)?;
     }
@@ -124,13 +125,15 @@ fn go_on<L: Ledger>(
     }
 }
 
-// Makes the first move, goes on from each to the next as long as it leaves more conflicts than it must, and undoes the last one.
+// Makes the first move, goes on from each to the next as long as it leaves more conflicts than it must and than are enough, and
+// undoes the last one.
 fn count_along<L: Ledger>(
     alloc: Global,
     board: &mut Board,
     first: &RepairMove,
     rest: &[RepairMove],
     trial: &Trial,
+    enough: u32,
     steps: &mut Steps<L>,
 ) -> Result<RunCounts, AllocError>
     requires unspoiled { board.old.spoiled ≡ false }
@@ -145,13 +148,13 @@ fn count_along<L: Ledger>(
     ensures err { OnErr result (board.new.spoiled ≡ true) }
 {
     let next = board.next_id();
-    let enough = least_left(board.state(), first);
+    let fewest = least_left(board.state(), first).max(enough);
     make_change(board, &trial.change, steps)?;
     let alone = board.conflicts().len();
     let mut others = Vec::new(alloc);
     let mut last = alone;
     let mut at = 0;
-    'run: while at < rest.len() && last > enough {
+    'run: while at < rest.len() && last > fewest {
         let to = start_of(&rest[at]);
         go_on(alloc, board, trial, start_of(first), to, steps)?;
         last = note(board, &mut others)?;
@@ -171,6 +174,7 @@ fn count_run<L: Ledger>(
     board: &mut Board,
     first: &RepairMove,
     rest: &[RepairMove],
+    enough: u32,
     steps: &mut Steps<L>,
 ) -> Result<RunCounts, AllocError>
     requires unspoiled { board.old.spoiled ≡ false }
@@ -183,7 +187,7 @@ fn count_run<L: Ledger>(
 {
     let run = &rest[..run_length(first, rest)];
     match trial_of(alloc, board.state(), first) {
-        Ok(trial) => count_along(alloc, board, first, run, &trial, steps),
+        Ok(trial) => count_along(alloc, board, first, run, &trial, enough, steps),
         Err(fault) => {
             board.spoil();
             Err(fault)
@@ -214,12 +218,14 @@ fn count_alone<L: Ledger>(
 }
 
 /// How many conflicts the first move would leave, and then each of those right behind it that place the same at other starts,
-/// up to one that leaves no more than it must. They are made one after another, and undone. Want of memory spoils the board.
+/// up to one that leaves no more than it must, or than are enough. They are made one after another, and undone. Want of memory
+/// spoils the board.
 pub fn left_after_run<L: Ledger>(
     alloc: Global,
     board: &mut Board,
     first: &RepairMove,
     rest: &[RepairMove],
+    enough: u32,
     steps: &mut Steps<L>,
 ) -> Result<RunCounts, AllocError>
     requires unspoiled { board.old.spoiled ≡ false }
@@ -231,6 +237,6 @@ pub fn left_after_run<L: Ledger>(
 {
     match *first {
         RepairMove::Drop { .. } => count_alone(alloc, board, first, steps),
-        _ => count_run(alloc, board, first, rest, steps),
+        _ => count_run(alloc, board, first, rest, enough, steps),
     }
 }

@@ -31,7 +31,7 @@ fn add_live(alloc: Global, plan: &Plan, id: u32, all: &mut Vec<Activity>) -> Res
 fn picked(alloc: Global, plan: &Plan, ids: &[u32]) -> Result<Vec<Activity>, AllocError>
     ensures { IfOk result (λ all. all.items ≡ picked plan.now.activities ids.now) }
 {
-    let mut all = Vec::new(alloc);
+    let mut all = Vec::with_capacity(alloc, ids.len())?;
     for id in ids {
         add_live(alloc, plan, *id, &mut all)?;
     }

@@ -1,5 +1,5 @@
 -- Links of one activity that find no partner: each is a conflict, and no two are the same.
-use Rattle.std.proofs.Common.{◌≡◌, ℕ, zero, suc, ◌+◌, ◌<◌, ◌≤◌, Bool, true, false, cond, eqb, List, [], ◌∷◌, ◌++◌, length, Option, Some, None, refl, sym, ap, ◌∙◌, subst, arith, max}
+use Rattle.std.proofs.Common.{◌≡◌, ℕ, zero, suc, ◌+◌, ◌<◌, ◌≤◌, Bool, true, false, cond, eqb, List, [], ◌∷◌, ◌++◌, filter, length, Option, Some, None, refl, sym, ap, ◌∙◌, subst, arith, max}
 use Rattle.std.specs.Prelude.{◌||◌, slice_get}
 use Rattle.std.specs.List.{flat_map}
 use Rattle.std.proofs.lemmas.Bool.{eqb-true, eqb-false}
@@ -21,8 +21,6 @@ use Rattle.pl_world.specs.PlanStates.{found, of_found, is_ahead}
 use Rattle.pl_world.specs.Links.{placed_of, placed_in, lone, conflict_of, links_at, linked_of, link_conflicts}
 use Rattle.pl_world.proofs.Standing.{links_by_subject}
 use Rattle.pl_outlook.specs.Counts.{AreApart}
-use Rattle.pl_outlook.specs.Ties.{is_lone, count_of_lone}
-use Rattle.pl_outlook.specs.declared.ties.Tie.{Tie}
 use Rattle.pl_outlook.proofs.Counted.{itself, true_or_not}
 
 -- ---- one that is broken is a conflict
@@ -90,50 +88,50 @@ module _ (t : PlanState) (a : Activity) (ahead : is_ahead t a ≡ true) where
       ∙ (ap (λ (o : Option Activity). has (lone a j) (of_found (links_at t) o)) live
       ∙ below (links_of t.model own) (orders_of t.model own) (max (length (links_of t.model own)) (length (orders_of t.model own))) j l (omega (arith, lt)) is lacks)
 
--- ---- those of some ties
+-- ---- those of some links
 
-module _ (a : Activity) (start : ℕ) where
-  abbrev pub lones_from : ℕ → List Tie → List Conflict
+module _ (a : Activity) (is_lone : Link → Bool) where
+  abbrev pub lones_from : ℕ → List Link → List Conflict
   lones_from i [] = []
-  lones_from i (t ∷ ts) = cond (is_lone start t) (lone a i ∷ lones_from (suc i) ts) (lones_from (suc i) ts)
+  lones_from i (l ∷ ls) = cond (is_lone l) (lone a i ∷ lones_from (suc i) ls) (lones_from (suc i) ls)
 
-  pub as_many : (i : ℕ) (ts : List Tie) → length (lones_from i ts) ≡ count_of_lone start ts
+  pub as_many : (i : ℕ) (ls : List Link) → length (lones_from i ls) ≡ length (filter is_lone ls)
   as_many i [] = refl
-  as_many i (t ∷ ts) = by (is_lone start t) (as_many (suc i) ts)
+  as_many i (l ∷ ls) = by (is_lone l) (as_many (suc i) ls)
     where
-      by : (b : Bool) → length (lones_from (suc i) ts) ≡ count_of_lone start ts → length (cond b (lone a i ∷ lones_from (suc i) ts) (lones_from (suc i) ts)) ≡ cond b (suc (count_of_lone start ts)) (count_of_lone start ts)
+      by : (b : Bool) → length (lones_from (suc i) ls) ≡ length (filter is_lone ls) → length (cond b (lone a i ∷ lones_from (suc i) ls) (lones_from (suc i) ls)) ≡ length (cond b (l ∷ filter is_lone ls) (filter is_lone ls))
       by true more = ap (λ (n : ℕ). suc n) more
       by false more = more
 
   -- each stands that is so
-  pub each_from : (P : Conflict → Type 0) (i : ℕ) (ts : List Tie) → ((j : ℕ) (t : Tie) → slice_get ts j ≡ Some t → is_lone start t ≡ true → P (lone a (i + j))) → (q : Conflict) → has q (lones_from i ts) ≡ true → P q
+  pub each_from : (P : Conflict → Type 0) (i : ℕ) (ls : List Link) → ((j : ℕ) (l : Link) → slice_get ls j ≡ Some l → is_lone l ≡ true → P (lone a (i + j))) → (q : Conflict) → has q (lones_from i ls) ≡ true → P q
   each_from P i [] all q e = absurd (cc)
-  each_from P i (t ∷ ts) all q e = by (is_lone start t) refl e (each_from P (suc i) ts later q)
+  each_from P i (l ∷ ls) all q e = by (is_lone l) refl e (each_from P (suc i) ls later q)
     where
-      later : (j : ℕ) (u : Tie) → slice_get ts j ≡ Some u → is_lone start u ≡ true → P (lone a (suc i + j))
-      later j u is lonely = let same_place : i + suc j ≡ suc i + j = omega arith in subst (λ (n : ℕ). P (lone a n)) same_place (all (suc j) u is lonely)
+      later : (j : ℕ) (k : Link) → slice_get ls j ≡ Some k → is_lone k ≡ true → P (lone a (suc i + j))
+      later j k is lonely = let same_place : i + suc j ≡ suc i + j = omega arith in subst (λ (n : ℕ). P (lone a n)) same_place (all (suc j) k is lonely)
 
-      first : is_lone start t ≡ true → P (lone a i)
-      first lonely = let place : i + 0 ≡ i = omega arith in subst (λ (n : ℕ). P (lone a n)) place (all 0 t refl lonely)
+      first : is_lone l ≡ true → P (lone a i)
+      first lonely = let place : i + 0 ≡ i = omega arith in subst (λ (n : ℕ). P (lone a n)) place (all 0 l refl lonely)
 
-      by : (b : Bool) → is_lone start t ≡ b → has q (cond b (lone a i ∷ lones_from (suc i) ts) (lones_from (suc i) ts)) ≡ true → (has q (lones_from (suc i) ts) ≡ true → P q) → P q
+      by : (b : Bool) → is_lone l ≡ b → has q (cond b (lone a i ∷ lones_from (suc i) ls) (lones_from (suc i) ls)) ≡ true → (has q (lones_from (suc i) ls) ≡ true → P q) → P q
       by true lonely h more = here (same q (lone a i)) refl h
         where
-          here : (c : Bool) → same q (lone a i) ≡ c → (c || has q (lones_from (suc i) ts)) ≡ true → P q
+          here : (c : Bool) → same q (lone a i) ≡ c → (c || has q (lones_from (suc i) ls)) ≡ true → P q
           here true is h2 = subst P (sym (same_is q (lone a i) is)) (first lonely)
           here false is h2 = more h2
       by false lonely h more = more h
 
-  later_ones : (i : ℕ) (ts : List Tie) (q : Conflict) → has q (lones_from i ts) ≡ true → i ≤ q.detail
-  later_ones i ts q e = each_from (λ (k : Conflict). i ≤ k.detail) i ts (λ j t is lonely. omega arith) q e
+  later_ones : (i : ℕ) (ls : List Link) (q : Conflict) → has q (lones_from i ls) ≡ true → i ≤ q.detail
+  later_ones i ls q e = each_from (λ (k : Conflict). i ≤ k.detail) i ls (λ j l is lonely. omega arith) q e
 
-  pub lones_differ : (i : ℕ) (ts : List Tie) → AreApart (lones_from i ts)
+  pub lones_differ : (i : ℕ) (ls : List Link) → AreApart (lones_from i ls)
   lones_differ i [] = tt
-  lones_differ i (t ∷ ts) = by (is_lone start t) (lones_differ (suc i) ts)
+  lones_differ i (l ∷ ls) = by (is_lone l) (lones_differ (suc i) ls)
     where
-      none : has (lone a i) (lones_from (suc i) ts) ≡ false
-      none = true_or_not (has (lone a i) (lones_from (suc i) ts)) (λ e. absurd (let low : suc i ≤ i = later_ones (suc i) ts (lone a i) e in omega (arith, low)))
+      none : has (lone a i) (lones_from (suc i) ls) ≡ false
+      none = true_or_not (has (lone a i) (lones_from (suc i) ls)) (λ e. absurd (let low : suc i ≤ i = later_ones (suc i) ls (lone a i) e in omega (arith, low)))
 
-      by : (b : Bool) → AreApart (lones_from (suc i) ts) → AreApart (cond b (lone a i ∷ lones_from (suc i) ts) (lones_from (suc i) ts))
+      by : (b : Bool) → AreApart (lones_from (suc i) ls) → AreApart (cond b (lone a i ∷ lones_from (suc i) ls) (lones_from (suc i) ls))
       by true rest = (none, rest)
       by false rest = rest

@@ -1,20 +1,18 @@
 -- A shift of an activity from which no other descends: no other one changes, and its links that find no partner are conflicts then.
-use Rattle.std.proofs.Common.{◌≡◌, ℕ, zero, suc, ◌+◌, ◌-◌, ◌<◌, ◌≤◌, max, Bool, true, false, cond, eqb, List, [], ◌∷◌, ◌++◌, map, filter, length, get_or, take, add-one, Option, Some, None, refl, sym, ap, ◌∙◌, subst, arith, inl, inr, leb}
+use Rattle.std.proofs.Common.{◌≡◌, ℕ, zero, ◌+◌, ◌-◌, ◌≤◌, Bool, true, false, cond, eqb, List, [], ◌∷◌, map, filter, length, Option, Some, None, refl, sym, ap, ◌∙◌, subst, arith, leb}
 use Rattle.std.specs.Prelude.{◌&&◌, ◌||◌, not, All, is_some, slice_get}
-use Rattle.std.specs.List.{list_any, flat_map, AllZip}
-use Rattle.std.specs.Option.{option_map, option_to_list}
+use Rattle.std.specs.List.{list_any}
+use Rattle.std.specs.Option.{option_map}
 use Rattle.std.proofs.lemmas.Bool.{eq-eqb, eqb-true, eqb-false, leb-true}
-use Rattle.std.proofs.Math.Seq.{take-suc}
+use Rattle.std.proofs.lemmas.Option.{slice_get_within}
 use Rattle.std.proofs.lemmas.List.Elements.{All-nil, All-cons, All-head, All-tail}
 use Rattle.std.proofs.lemmas.List.Kept.{IsStrictlySortedBy-filter}
 use Rattle.pl_conflict.specs.declared.conflict.Conflict.{Conflict}
 use Rattle.pl_conflict.specs.Order.{conflict_cmp, has}
 use Rattle.pl_lists.proofs.Tests.{or_true}
-use Rattle.pl_model.specs.declared.reservations.Point.{Point}
-use Rattle.pl_model.specs.declared.reservations.Point.TheVariants.{Start, End}
 use Rattle.pl_model.specs.declared.links.Link.{Link}
 use Rattle.pl_links.specs.declared.placed.Placed.{Placed}
-use Rattle.pl_links.specs.Broken.{point_of, moment_of, is_apart, are_apart, is_partner, lacks_partner, links_of}
+use Rattle.pl_links.specs.Broken.{moment_of, are_apart, is_partner, lacks_partner, links_of}
 use Rattle.pl_plan.specs.declared.activity.Activity.{Activity}
 use Rattle.pl_plan.specs.declared.repair.RepairMove.{RepairMove}
 use Rattle.pl_plan.specs.declared.repair.RepairMove.TheVariants.{Shift}
@@ -44,8 +42,7 @@ use Rattle.pl_changes.specs.Replaced.{with_plan}
 use Rattle.pl_changes.proofs.Keeping.{whole_replaced}
 use Rattle.pl_moves.specs.Runs.{CanBeMade}
 use Rattle.pl_outlook.specs.Moved.{moved_to}
-use Rattle.pl_outlook.specs.Ties.{partner_at, partners_of, IsTie, AreTiesOf, is_lone, count_of_lone, is_link, is_link_part, count_of_links}
-use Rattle.pl_outlook.specs.declared.ties.Tie.{Tie}
+use Rattle.pl_outlook.specs.Ties.{placed_at, count_of_lone, lone_then, is_link, is_link_part, count_of_links}
 use Rattle.pl_outlook.proofs.Counted.{held_are_few}
 use Rattle.pl_outlook.proofs.Lonely.{lone_stands, lones_from, as_many, each_from, lones_differ}
 use Rattle.pl_outlook.proofs.Moving.{end_is}
@@ -53,14 +50,6 @@ use Rattle.pl_outlook.proofs.Parts.{has_kept}
 use Rattle.pl_outlook.proofs.Shifting.{activities_then, found_then, rows_same, is_id, may_replace, by_replacing}
 
 -- ---- lists
-
-any_append : {X : Type 0} (p : X → Bool) (xs ys : List X) → list_any p (xs ++ ys) ≡ false → (list_any p xs ≡ false) × (list_any p ys ≡ false)
-any_append p [] ys e = (refl, e)
-any_append p (x ∷ xs) ys e = by (p x) refl e (any_append p xs ys)
-  where
-    by : (b : Bool) → p x ≡ b → (b || list_any p (xs ++ ys)) ≡ false → (list_any p (xs ++ ys) ≡ false → (list_any p xs ≡ false) × (list_any p ys ≡ false)) → ((p x || list_any p xs) ≡ false) × (list_any p ys ≡ false)
-    by true is h more = absurd (cc)
-    by false is h more = let rest = more h in (rw is rest.0, rest.1)
 
 singles : (p : ℕ → Bool) (id : ℕ) (ys : List Activity) → All (λ (i : ℕ). i ≡ id) (filter p (map id_of ys)) → All (λ (y : Activity). p y.id ≡ true → y.id ≡ id) ys
 singles p id [] all = All-nil (λ (y : Activity). p y.id ≡ true → y.id ≡ id)
@@ -85,27 +74,6 @@ late p change n (y ∷ ys) all = by (p y) refl (late p change n ys)
     by false e more =
         let rest : All (λ (x : Activity). n ≤ x.start) (map change (filter p ys)) = rw e at all in
         All-cons (λ (z : Activity). p z ≡ true → n ≤ (change z).start) y ys (λ h. absurd (let bad : false ≡ true = sym e ∙ h in cc)) (more rest)
-
-abbrev Linked : (Link → Tie → Type 0) → List Link → ℕ → Tie → Type 0
-Linked R ls j t = (l : Link) × (slice_get ls j ≡ Some l) × (j < length ls) × R l t
-
-zip_at : (R : Link → Tie → Type 0) (ls : List Link) (ts : List Tie) → AllZip R ls ts → (j : ℕ) (t : Tie) → slice_get ts j ≡ Some t → Linked R ls j t
-zip_at R [] [] all j t is = absurd (cc)
-zip_at R [] (u ∷ ts) all j t is = absurd all
-zip_at R (l ∷ ls) [] all j t is = absurd all
-zip_at R (l ∷ ls) (u ∷ ts) all zero t is = let same : u ≡ t = cc in (l, refl, omega arith, subst (λ (x : Tie). R l x) same all.0)
-zip_at R (l ∷ ls) (u ∷ ts) all (suc j) t is = let rest = zip_at R ls ts all.1 j t is in (rest.0, rest.1, (let lt : j < length ls = rest.2 in omega (arith, lt)), rest.3)
-
-pub zip_push : (R : Link → Tie → Type 0) (ls : List Link) (ts : List Tie) (l : Link) (t : Tie) → AllZip R ls ts → R l t → AllZip R (ls ++ l ∷ []) (ts ++ t ∷ [])
-zip_push R [] [] l t all last = (last, tt)
-zip_push R [] (u ∷ ts) l t all last = absurd all
-zip_push R (k ∷ ls) [] l t all last = absurd all
-zip_push R (k ∷ ls) (u ∷ ts) l t all last = (all.0, zip_push R ls ts l t all.1 last)
-
-pub zip_more : (R : Link → Tie → Type 0) (ls : List Link) (ts : List Tie) (i : ℕ) (d : Link) (t : Tie) → i < length ls → AllZip R (take i ls) ts → R (get_or ls i d) t → AllZip R (take (i + 1) ls) (ts ++ t ∷ [])
-zip_more R ls ts i d t lt all last =
-    let longer : take (i + 1) ls ≡ take i ls ++ get_or ls i d ∷ [] = rw (add-one i) (take-suc ls i d lt) in
-    subst (λ (ks : List Link). AllZip R ks (ts ++ t ∷ [])) (sym longer) (zip_push R (take i ls) ts (get_or ls i d) t all last)
 
 -- ---- one from which no other descends
 
@@ -213,18 +181,12 @@ module _ (s : PlanState) (whole : IsWhole s) (next : s.next_id ≤ 3999999000) (
   start_is : own.start ≡ to
   start_is = omega arith
 
-  end_own : (d : ℕ) → end_at s top ≡ Some (top.start + d) → end_at t own ≡ Some (to + d)
-  end_own d firm =
-      let later : moved_to top.start to (top.start + d) ≡ to + d = omega arith in
-      end_is top.start to s (subtree_of id xs) (moved_with s to (found s id)) top (ap (found s) own_id ∙ here) live_then (sym (rows top.id)) (omega arith)
-      ∙ (ap (option_map (moved_to top.start to)) firm ∙ ap (λ (n : ℕ). Some n) later)
-
-  moment_own : (d : ℕ) → end_at s top ≡ Some (top.start + d) → (p : Point) → moment_of p (placed_of t own) ≡ Some (to + point_of p 0 d)
-  moment_own d firm p = ap (option_map (λ (end : ℕ). point_of p own.start end)) (end_own d firm) ∙ by p
-    where
-      by : (p : Point) → Some (point_of p own.start (to + d)) ≡ Some (to + point_of p 0 d)
-      by Start = (let at : own.start ≡ to + 0 = omega arith in ap (λ (n : ℕ). Some n) at)
-      by End = refl
+  -- moved to that start it is placed as after the shift
+  placed_own : placed_at to (placed_of s top) ≡ placed_of t own
+  placed_own =
+      let firm : end_at t own ≡ option_map (moved_to top.start to) (end_at s top) = end_is top.start to s (subtree_of id xs) (moved_with s to (found s id)) top (ap (found s) own_id ∙ here) live_then (sym (rows top.id)) (omega arith) in
+      ap (λ (n : ℕ). record (placed_of s top) { start = n; end = option_map (moved_to top.start to) (end_at s top) }) (sym start_is)
+      ∙ ap (λ (o : Option ℕ). record (placed_of s top) { start = own.start; end = o }) (sym firm)
 
   ahead : is_ahead t own ≡ true
   ahead =
@@ -244,58 +206,36 @@ module _ (s : PlanState) (whole : IsWhole s) (next : s.next_id ≤ 3999999000) (
 
   -- ---- the others
 
-  module _ (l : Link) (x : ℕ) (mine : moment_of l.mine (placed_of t own) ≡ Some x) where
-    apart_not : (k : Bool) (m : Option ℕ) → list_any (is_apart l.low l.high x) (cond k (option_to_list m) []) ≡ false → (k && are_apart l.low l.high (Some x) m) ≡ false
-    apart_not false m e = refl
-    apart_not true None e = refl
-    apart_not true (Some n) e = by (is_apart l.low l.high x n) e
+  module _ (l : Link) where
+    no_more : (y : Activity) → found s y.id ≡ Some y → (under y ≡ true → y.id ≡ id) → is_partner l (placed_of t own) (placed_of t (one y)) ≡ is_partner l (placed_of t own) (placed_of s y)
+    no_more y live only = by (eqb y.id id) refl
       where
-        by : (b : Bool) → (b || false) ≡ false → b ≡ false
-        by true h = absurd (cc)
-        by false h = refl
-
-    no_single : (y : Activity) → found s y.id ≡ Some y → (under y ≡ true → y.id ≡ id) → list_any (is_apart l.low l.high x) (partner_at s id l y) ≡ false → is_partner l (placed_of t own) (placed_of t (one y)) ≡ false
-    no_single y live only none = by (eqb y.id id) refl
-      where
-        by : (b : Bool) → eqb y.id id ≡ b → is_partner l (placed_of t own) (placed_of t (one y)) ≡ false
+        by : (b : Bool) → eqb y.id id ≡ b → is_partner l (placed_of t own) (placed_of t (one y)) ≡ is_partner l (placed_of t own) (placed_of s y)
         by true e =
-            let the_same : eqb (one y).id top.id ≡ true = ap (λ (n : ℕ). eqb n top.id) (one_id y) ∙ (ap (λ (n : ℕ). eqb y.id n) own_id ∙ e) in
-            ap (λ (c : Bool). not c && ((eqb (one y).kind l.kind) && are_apart l.low l.high (moment_of l.mine (placed_of t own)) (moment_of l.theirs (placed_of t (one y))))) the_same
+            let before : eqb y.id top.id ≡ true = ap (λ (n : ℕ). eqb y.id n) own_id ∙ e in
+            let after : eqb (one y).id top.id ≡ true = ap (λ (n : ℕ). eqb n top.id) (one_id y) ∙ before in
+            ap (λ (c : Bool). not c && ((eqb (one y).kind l.kind) && are_apart l.low l.high (moment_of l.mine (placed_of t own)) (moment_of l.theirs (placed_of t (one y))))) after
+            ∙ sym (ap (λ (c : Bool). not c && ((eqb y.kind l.kind) && are_apart l.low l.high (moment_of l.mine (placed_of t own)) (moment_of l.theirs (placed_of s y)))) before)
         by false e =
             let other : y.id ≡ id → ⊥ = eqb-false y.id id e in
             let same : one y ≡ y = same_one y only other in
-            let placed : placed_of t (one y) ≡ placed_of s y = ap (placed_of t) same ∙ placed_same y live same in
-            let apart : list_any (is_apart l.low l.high x) (cond (eqb y.kind l.kind) (option_to_list (moment_of l.theirs (placed_of s y))) []) ≡ false = sym (ap (λ (c : Bool). list_any (is_apart l.low l.high x) (cond (not c && eqb y.kind l.kind) (option_to_list (moment_of l.theirs (placed_of s y))) [])) e) ∙ none in
-            ap (is_partner l (placed_of t own)) placed
-            ∙ (ap (λ (c : Bool). not c && ((eqb y.kind l.kind) && are_apart l.low l.high (moment_of l.mine (placed_of t own)) (moment_of l.theirs (placed_of s y)))) (ap (eqb y.id) own_id ∙ e)
-            ∙ (ap (λ (o : Option ℕ). (eqb y.kind l.kind) && are_apart l.low l.high o (moment_of l.theirs (placed_of s y))) mine
-            ∙ apart_not (eqb y.kind l.kind) (moment_of l.theirs (placed_of s y)) apart))
+            ap (is_partner l (placed_of t own)) (ap (placed_of t) same ∙ placed_same y live same)
 
-    no_partner : (zs : List Activity) → All (λ (y : Activity). found s y.id ≡ Some y) zs → All (λ (y : Activity). under y ≡ true → y.id ≡ id) zs → list_any (is_apart l.low l.high x) (flat_map (partner_at s id l) zs) ≡ false
-        → list_any (is_partner l (placed_of t own)) (map (placed_of t) (map one zs)) ≡ false
-    no_partner [] live only none = refl
-    no_partner (y ∷ zs) live only none =
-        let both = any_append (is_apart l.low l.high x) (partner_at s id l y) (flat_map (partner_at s id l) zs) none in
-        rw (
-          no_single y (All-head (λ (z : Activity). found s z.id ≡ Some z) y zs live) (All-head (λ (z : Activity). under z ≡ true → z.id ≡ id) y zs only) both.0,
-          no_partner zs (All-tail (λ (z : Activity). found s z.id ≡ Some z) y zs live) (All-tail (λ (z : Activity). under z ≡ true → z.id ≡ id) y zs only) both.1,
-        ) refl
+    same_partners : (zs : List Activity) → All (λ (y : Activity). found s y.id ≡ Some y) zs → All (λ (y : Activity). under y ≡ true → y.id ≡ id) zs
+        → list_any (is_partner l (placed_of t own)) (map (placed_of t) (map one zs)) ≡ list_any (is_partner l (placed_of t own)) (map (placed_of s) zs)
+    same_partners [] live only = refl
+    same_partners (y ∷ zs) live only =
+        ap (λ (b : Bool). b || list_any (is_partner l (placed_of t own)) (map (placed_of t) (map one zs))) (no_more y (All-head (λ (z : Activity). found s z.id ≡ Some z) y zs live) (All-head (λ (z : Activity). under z ≡ true → z.id ≡ id) y zs only))
+        ∙ ap (λ (b : Bool). is_partner l (placed_of t own) (placed_of s y) || b) (same_partners zs (All-tail (λ (z : Activity). found s z.id ≡ Some z) y zs live) (All-tail (λ (z : Activity). under z ≡ true → z.id ≡ id) y zs only))
 
   -- ---- its links
 
-  is_not : (b : Bool) → not b ≡ true → b ≡ false
-  is_not true e = absurd (cc)
-  is_not false e = refl
-
-  lacks : (d : ℕ) → end_at s top ≡ Some (top.start + d) → (l : Link) (tie : Tie) → IsTie s top.id d l tie → is_lone to tie ≡ true → lacks_partner (placed_in t) (placed_of t own) l ≡ true
-  lacks d firm l tie is lonely =
-      let x = to + point_of l.mine 0 d in
-      let none : list_any (is_apart tie.low tie.high (to + tie.after)) tie.partners.items ≡ false = is_not (list_any (is_apart tie.low tie.high (to + tie.after)) tie.partners.items) lonely in
-      let off : list_any (is_apart l.low l.high x) (partners_of s id l) ≡ false = subst (λ (n : ℕ). list_any (is_apart l.low l.high x) (partners_of s n l) ≡ false) own_id (rw (is.low, is.high, is.after, is.partners) at none) in
-      let nobody : list_any (is_partner l (placed_of t own)) (placed_in t) ≡ false =
-      ap (λ (zs : List Activity). list_any (is_partner l (placed_of t own)) (map (placed_of t) zs)) acts
-      ∙ no_partner l x (moment_own d firm l.mine) xs (each_found xs whole.rising) only_it off in
-      ap (λ (o : Option ℕ). is_some o && not (list_any (is_partner l (placed_of t own)) (placed_in t))) (end_own d firm) ∙ ap (λ (b : Bool). not b) nobody
+  lacks : (l : Link) → lacks_partner (placed_in s) (placed_at to (placed_of s top)) l ≡ true → lacks_partner (placed_in t) (placed_of t own) l ≡ true
+  lacks l lonely =
+      let before : lacks_partner (placed_in s) (placed_of t own) l ≡ true = subst (λ (p : Placed). lacks_partner (placed_in s) p l ≡ true) placed_own lonely in
+      let same : list_any (is_partner l (placed_of t own)) (placed_in t) ≡ list_any (is_partner l (placed_of t own)) (placed_in s) =
+      ap (λ (zs : List Activity). list_any (is_partner l (placed_of t own)) (map (placed_of t) zs)) acts ∙ same_partners l xs (each_found xs whole.rising) only_it in
+      ap (λ (b : Bool). is_some (end_at t own) && not b) same ∙ before
 
   -- ---- together
 
@@ -309,19 +249,34 @@ module _ (s : PlanState) (whole : IsWhole s) (next : s.next_id ≤ 3999999000) (
       ∙ rw (or_true (has q (activity_conflicts t)), or_true (has q (goal_conflicts t))) refl in
       has_kept is_link (conflicts_of t) q (ap (λ (p : Part). is_link_part p) (of_links_alone t q e)) stands
 
-  lone_few : (d : ℕ) → end_at s top ≡ Some (top.start + d) → (ties : List Tie) → AllZip (IsTie s top.id d) (links_of s.model (placed_of s top)) ties → count_of_lone to ties ≤ count_of_links t
-  lone_few d firm ties all =
-      let few : length (lones_from own to 0 ties) ≤ length (filter is_link (conflicts_of t)) =
-      held_are_few (lones_from own to 0 ties) (filter is_link (conflicts_of t)) (lones_differ own to 0 ties) (IsStrictlySortedBy-filter conflict_cmp is_link (conflicts_of t) (ordered t)) (each_from own to (λ (q : Conflict). has q (filter is_link (conflicts_of t)) ≡ true) 0 ties each) in
-      omega (arith, few, as_many own to 0 ties)
+  abbrev is_lone : Link → Bool
+  is_lone l = lacks_partner (placed_in s) (placed_at to (placed_of s top)) l
+
+  abbrev links : List Link
+  links = links_of s.model (placed_of s top)
+
+  lone_few : count_of_lone s to (placed_of s top) ≤ count_of_links t
+  lone_few =
+      let few : length (lones_from own is_lone 0 links) ≤ length (filter is_link (conflicts_of t)) =
+      held_are_few (lones_from own is_lone 0 links) (filter is_link (conflicts_of t)) (lones_differ own is_lone 0 links) (IsStrictlySortedBy-filter conflict_cmp is_link (conflicts_of t) (ordered t)) (each_from own is_lone (λ (q : Conflict). has q (filter is_link (conflicts_of t)) ≡ true) 0 links each) in
+      subst (λ (n : ℕ). n ≤ count_of_links t) (as_many own is_lone 0 links) few
     where
-      each : (j : ℕ) (tie : Tie) → slice_get ties j ≡ Some tie → is_lone to tie ≡ true → has (lone own (0 + j)) (filter is_link (conflicts_of t)) ≡ true
-      each j tie is lonely =
-          let at = zip_at (IsTie s top.id d) (links_of s.model (placed_of s top)) ties all j tie is in
+      each : (j : ℕ) (l : Link) → slice_get links j ≡ Some l → is_lone l ≡ true → has (lone own (0 + j)) (filter is_link (conflicts_of t)) ≡ true
+      each j l is lonely =
           let zero : 0 + j ≡ j = omega arith in
           subst (λ (n : ℕ). has (lone own n) (filter is_link (conflicts_of t)) ≡ true) (sym zero)
-          (among_links (lone own j) (lone_stands t own ahead whole_then.rising live_then j at.0 at.2 at.1 (lacks d firm at.0 tie at.3 lonely)))
+          (among_links (lone own j) (lone_stands t own ahead whole_then.rising live_then j l (slice_get_within links j l is) is (lacks l lonely)))
 
-  pub few_ties : (ties : List Tie) → AreTiesOf s top ties → count_of_lone to ties ≤ count_of_links (applied s (Shift id to))
-  few_ties ties (inl none) = let empty : count_of_lone to ties ≡ 0 = ap (count_of_lone to) none in omega (arith, empty)
-  few_ties ties (inr some) = subst (λ (w : PlanState). count_of_lone to ties ≤ count_of_links w) (by_replacing s whole next id to top here can).is (lone_few some.0 some.1 ties some.2)
+  pub few_lone : (alone : Option Placed) → alone ≡ option_map (placed_of s) (found s id) → lone_then s to alone ≤ count_of_links (applied s (Shift id to))
+  few_lone alone is =
+      let own_is : alone ≡ Some (placed_of s top) = is ∙ ap (option_map (placed_of s)) here in
+      let few : lone_then s to alone ≤ count_of_links t = subst (λ (o : Option Placed). lone_then s to o ≤ count_of_links t) (sym own_is) lone_few in
+      subst (λ (w : PlanState). lone_then s to alone ≤ count_of_links w) (by_replacing s whole next id to top here can).is few
+
+pub few_alone : (s : PlanState) → IsWhole s → s.next_id ≤ 3999999000 → (id to : ℕ) → CanBeMade s (Shift id to) → length (subtree_of id s.plan.activities) ≡ 1 → (alone : Option Placed) → alone ≡ option_map (placed_of s) (found s id)
+    → lone_then s to alone ≤ count_of_links (applied s (Shift id to))
+few_alone s whole next id to can one alone is = by (found s id) refl
+  where
+    by : (o : Option Activity) → found s id ≡ o → lone_then s to alone ≤ count_of_links (applied s (Shift id to))
+    by None none = let nothing : alone ≡ None = is ∙ ap (option_map (placed_of s)) none in let zero : lone_then s to alone ≡ 0 = ap (lone_then s to) nothing in omega (arith, zero)
+    by (Some top) here = few_lone s whole next id to top here can (leaf_by_length s whole id top here one) alone is

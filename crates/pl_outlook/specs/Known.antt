@@ -7,12 +7,12 @@ use Rattle.pl_moves.specs.Changes.{gone_by, placed_by}
 use Rattle.pl_moves.specs.Runs.{CanBeMade, start_of}
 use Rattle.pl_outlook.specs.Asked.{IsAlike, IsAskedBy}
 use Rattle.pl_outlook.specs.Plain.{count_of_plain}
-use Rattle.pl_outlook.specs.Ties.{count_of_lone, count_of_links}
+use Rattle.pl_outlook.specs.Ties.{lone_then, count_of_links}
 use Rattle.pl_outlook.specs.declared.known.Known.{Known}
 
--- Of each move alike that can be made: how many conflicts of goals and activities it leaves at least, links that are conflicts where
--- they find no partner, and what it asks for, if that is known.
+-- Of each move alike that can be made: how many conflicts of goals and activities it leaves at least, an activity whose links are
+-- conflicts where they find no partner at the move's start, and what it asks for, if that is known.
 pub record IsKnownOf (s : PlanState) (k : Known) : Type 0 where
   pub steady : (m : RepairMove) → CanBeMade s m → IsAlike k.first m → k.steady ≤ count_of_plain (applied s m)
-  pub ties : (m : RepairMove) → CanBeMade s m → IsAlike k.first m → count_of_lone (start_of m) k.ties.items ≤ count_of_links (applied s m)
+  pub alone : (m : RepairMove) → CanBeMade s m → IsAlike k.first m → lone_then s (start_of m) k.alone ≤ count_of_links (applied s m)
   pub asking : IfSome k.asking (λ a. (m : RepairMove) → CanBeMade s m → IsAlike k.first m → IsAskedBy s (gone_by s m) (placed_by s m) a (start_of m))

@@ -14,7 +14,7 @@ ghost use Rattle.pl_outlook.specs.Asked.{IsAlike, IsAskedBy};
 ghost use Rattle.pl_outlook.specs.Askings.{IsAskingOf};
 
 use crate::alone::demands_alone;
-use crate::roots::root_for;
+use crate::roots::goalless_root;
 use pl_board::Board;
 use pl_demands::demands_at;
 use pl_plan::RepairMove;
@@ -111,7 +111,7 @@ fn added(
     requires allowed { CanBeMade s.now (Add kind start goal) }
     ensures { IfOk result (IsAskingOf s.now (Add kind start goal)) }
 {
-    let root = root_for(alloc, s, kind, start, goal)?;
+    let root = goalless_root(alloc, s, kind, start, goal)?;
     let coming = demands_alone(alloc, s, root)?;
     Ok(Asking {
         going: Vec::new(alloc),

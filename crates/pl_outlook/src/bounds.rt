@@ -4,7 +4,7 @@ ghost use Rattle.pl_world.specs.Moves.{applied};
 ghost use Rattle.pl_world.specs.Legal.{left_after};
 ghost use Rattle.pl_world.specs.declared.plan_state.PlanState.{PlanState};
 ghost use Rattle.pl_moves.specs.Changes.{IsOfActivities};
-ghost use Rattle.pl_moves.specs.Runs.{CanBeMade, start_of};
+ghost use Rattle.pl_moves.specs.Runs.{CanBeMade};
 ghost use Rattle.pl_outlook.specs.Asked.{IsAlike};
 ghost use Rattle.pl_outlook.specs.Bounds.{AreLeast};
 ghost use Rattle.pl_outlook.specs.Known.{IsKnownOf};
@@ -16,26 +16,15 @@ use crate::bounding::past_after;
 use crate::known::{Known, known_then};
 use crate::outside::{Outside, outsides};
 use crate::standing::standing_of;
-use crate::ties::lone_among;
+use crate::ties::lone_then;
 use pl_board::Board;
 use pl_conflict::ConflictSet;
-use pl_moves::least_left;
+use pl_moves::{least_left, start_of};
 use pl_plan::RepairMove;
 use std::alloc::{AllocError, Global};
 
 // With more conflicts than this for each move none of them is looked at.
 const CONFLICTS_A_MOVE: usize = 64;
-
-// The start that a move gives to what it places; 0 for one that gives none.
-fn start_of(mv: &RepairMove) -> u32
-    ensures { result ≡ start_of mv.now }
-{
-    match *mv {
-        RepairMove::Add { start, .. } => start,
-        RepairMove::Shift { start, .. } => start,
-        _ => 0,
-    }
-}
 
 // How often timelines are past limits then, as far as it is known what the move asks for.
 fn past_by(board: &Board, outsides: &[Outside], known: &Known, mv: &RepairMove) -> u32
@@ -84,7 +73,7 @@ fn least_by(board: &Board, outsides: &[Outside], known: &Known, mv: &RepairMove)
     ensures { result ≤ left_after board.now.state mv.now }
 {
     let others = others_by(board, outsides, known, mv);
-    let lone = lone_among(known.ties.as_slice(), start_of(mv));
+    let lone = lone_then(board, known.alone, start_of(mv));
     let least = known.steady.saturating_add(lone).saturating_add(others);
     least.max(least_left(board.state(), mv))
 }
@@ -100,7 +89,7 @@ fn least_alone(alloc: Global, board: &Board, moves: &[RepairMove]) -> Result<Vec
     requires allowed { All (CanBeMade board.now.state) moves.now }
     ensures { IfOk result (λ ns. AreLeast board.now.state moves.now ns.items) }
 {
-    let mut bounds = Vec::new(alloc);
+    let mut bounds = Vec::with_capacity(alloc, moves.len())?;
     'moves: for mv in moves {
         bounds.push(least_left(board.state(), mv))?;
     }
@@ -115,7 +104,7 @@ fn known_of_each(alloc: Global, board: &Board, moves: &[RepairMove]) -> Result<V
 {
     let standing = standing_of(board);
     let past = outsides(alloc, board)?;
-    let mut bounds = Vec::new(alloc);
+    let mut bounds = Vec::with_capacity(alloc, moves.len())?;
     let mut before = None;
     'moves: for mv in moves {
         let known = known_then(alloc, board, &standing, before, mv)?;

@@ -1,6 +1,6 @@
 //! What is known of moves that place the same activities at other starts.
 ghost use Rattle.std.specs.Prelude.{◌≡◌, ◌≤◌, false, IfOk, IfSome};
-ghost use Rattle.pl_moves.specs.Runs.{CanBeMade, goes_on};
+ghost use Rattle.pl_moves.specs.Runs.{CanBeMade};
 ghost use Rattle.pl_outlook.specs.Asked.{IsAlike};
 ghost use Rattle.pl_outlook.specs.Known.{IsKnownOf};
 ghost use Rattle.pl_outlook.specs.Standing.{IsStandingOf};
@@ -8,38 +8,21 @@ ghost use Rattle.pl_outlook.specs.Standing.{IsStandingOf};
 use crate::asking::{Asking, asking_of};
 use crate::standing::Standing;
 use crate::steady::steady_of;
-use crate::ties::Tie;
-use crate::tying::ties_of;
+use crate::tying::alone_in;
 use pl_board::Board;
+use pl_links::Placed;
+use pl_moves::goes_on;
 use pl_plan::RepairMove;
 use std::alloc::{AllocError, Global};
 
-/// Of a move, and of those that go on with it: how many conflicts of goals and activities each leaves at least, links of what it
-/// moves, and what it asks for.
+/// Of a move, and of those that go on with it: how many conflicts of goals and activities each leaves at least, the activity that it
+/// moves alone, and what it asks for.
 #[derive(Drop)]
 pub(crate) struct Known {
     pub(crate) first: RepairMove,
     pub(crate) steady: u32,
-    pub(crate) ties: Vec<Tie>,
+    pub(crate) alone: Option<Placed>,
     pub(crate) asking: Option<Asking>,
-}
-
-// Whether it places what the first one does, at another start perhaps.
-fn goes_on(first: &RepairMove, mv: &RepairMove) -> bool
-    ensures { result ≡ goes_on first.now mv.now }
-{
-    match (*first, *mv) {
-        (
-            RepairMove::Add { kind, goal, .. },
-            RepairMove::Add {
-                kind: k,
-                goal: g,
-                ..
-            },
-        ) => kind == k && goal == g,
-        (RepairMove::Shift { id, .. }, RepairMove::Shift { id: i, .. }) => id == i,
-        _ => false,
-    }
 }
 
 fn known_of(
@@ -56,12 +39,12 @@ fn known_of(
     ensures alike { IfOk result (λ k. IsAlike k.first mv.now) }
 {
     let steady = steady_of(alloc, board, standing, mv)?;
-    let ties = ties_of(alloc, board, mv)?;
+    let alone = alone_in(alloc, board, mv)?;
     let asking = asking_of(alloc, board, mv)?;
     Ok(Known {
         first: *mv,
         steady,
-        ties,
+        alone,
         asking,
     })
 }

@@ -1,45 +1,74 @@
 //! How many temporal links of an activity find no partner where it is placed.
-ghost use Rattle.std.specs.Prelude.{◌≡◌, ◌≤◌, ◌+◌};
-ghost use Rattle.pl_links.specs.Broken.{is_apart};
-ghost use Rattle.pl_outlook.specs.Ties.{is_lone, count_of_lone};
+ghost use Rattle.std.specs.Prelude.{◌≡◌, ◌≤◌, false, filter, length, IfSome};
+ghost use Rattle.pl_links.specs.Broken.{lacks_partner, links_of};
+ghost use Rattle.pl_world.specs.Links.{placed_in};
+ghost use Rattle.pl_outlook.specs.Ties.{placed_at, count_of_lone, lone_then};
 
-/// A link of an activity: its own point is `after` its start, and a partner is from `low` to `high` behind that.
-#[derive(Debug, Drop)]
-pub(crate) struct Tie {
-    pub(crate) after: u32,
-    pub(crate) low: i64,
-    pub(crate) high: i64,
-    pub(crate) partners: Vec<u32>,
-}
+use pl_board::Board;
+use pl_links::Placed;
+use pl_model::{Link, Model};
 
-fn is_met(tie: &Tie, start: u32, partner: u32) -> bool
-    ensures { result ≡ is_apart tie.now.low tie.now.high (start + tie.now.after) partner }
+fn links_of<'m>(model: &'m Model, own: &Placed) -> &'m [Link]
+    ensures { result.now ≡ links_of model.now own.now }
 {
-    let distance = i64::from(partner) - (i64::from(start) + i64::from(tie.after));
-    tie.low <= distance && distance <= tie.high
-}
-
-fn is_lone(tie: &Tie, start: u32) -> bool
-    ensures { result ≡ is_lone start tie.now }
-{
-    let partners = tie.partners.as_slice();
-    for partner in partners {
-        if is_met(tie, start, *partner) {
-            return false;
-        }
+    match model.kinds.as_slice().get(own.kind as usize) {
+        Some(kind) => kind.links.as_slice(),
+        None => &[],
     }
-    true
 }
 
-/// How many of them find no partner, where the activity starts then.
-pub(crate) fn lone_among(ties: &[Tie], start: u32) -> u32
-    ensures { result ≤ count_of_lone start ties.now }
+fn lacks_partner(board: &Board, own: &Placed, link: &Link) -> bool
+    requires { board.now.spoiled ≡ false }
+    ensures { result ≡ lacks_partner (placed_in board.now.state) own.now link.now }
 {
+    own.end.is_some() && !board.has_partner(own, link)
+}
+
+fn lone_of(board: &Board, own: &Placed) -> u32
+    requires { board.now.spoiled ≡ false }
+    ensures { result ≤ length (filter (lacks_partner (placed_in board.now.state) own.now) (links_of board.now.state.model own.now)) }
+{
+    let links = links_of(board.model(), own);
     let mut count: u32 = 0;
-    for tie in ties {
-        if is_lone(tie, start) {
+    for link in links {
+        if lacks_partner(board, own, link) {
             count = count.saturating_add(1);
         }
     }
     count
+}
+
+// The activity as it stands at another start, if it is firm and has an end there.
+fn placed_at(own: &Placed, start: u32) -> Option<Placed>
+    ensures { IfSome result (λ p. p ≡ placed_at start own.now) }
+{
+    let duration = own.end?.checked_sub(own.start)?;
+    let end = start.checked_add(duration)?;
+    Some(Placed {
+        start,
+        end: Some(end),
+        ..*own
+    })
+}
+
+// How many of its links find no partner, where the activity starts then.
+fn lone_at(board: &Board, own: &Placed, start: u32) -> u32
+    requires { board.now.spoiled ≡ false }
+    ensures { result ≤ count_of_lone board.now.state start own.now }
+{
+    match placed_at(own, start) {
+        Some(placed) => lone_of(board, &placed),
+        None => 0,
+    }
+}
+
+/// How many links of an activity that is moved alone, if there is one, find no partner where it starts then.
+pub(crate) fn lone_then(board: &Board, alone: Option<Placed>, start: u32) -> u32
+    requires { board.now.spoiled ≡ false }
+    ensures { result ≤ lone_then board.now.state start alone }
+{
+    match alone {
+        Some(own) => lone_at(board, &own, start),
+        None => 0,
+    }
 }

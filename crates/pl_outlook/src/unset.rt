@@ -7,7 +7,7 @@ ghost use Rattle.pl_world.specs.Whole.{IsWhole};
 ghost use Rattle.pl_outlook.specs.Standing.{is_unset_one, IsUnsetThen};
 
 use crate::alone::only;
-use crate::roots::root_for;
+use crate::roots::goalless_root;
 use pl_conflict::{Code, Conflict};
 use pl_near::near;
 use pl_world::PlanState;
@@ -38,7 +38,7 @@ pub(crate) fn is_unset_then(
     requires allowed { CanBeMade s.now (Add kind start goal) }
     ensures { IfOk result (λ is_so. IsTrue is_so → IsUnsetThen s.now kind goal) }
 {
-    let root = root_for(alloc, s, kind, start, goal)?;
+    let root = goalless_root(alloc, s, kind, start, goal)?;
     let alone = only(alloc, s, root)?;
     let mut wrong = Vec::new(alloc);
     near(alloc, &alone, &[], &[s.next_id], &mut wrong)?;
