@@ -10,3 +10,4 @@ pub mod Playing
 pub mod Bounds
 pub mod Small
 pub mod Search
+pub mod Proposed

@@ -2,8 +2,9 @@ ghost use Rattle.std.specs.Prelude.{◌≡◌, ◌≤◌, IfOk, IfSome, OnOk, On
 ghost use Rattle.pl_world.specs.declared.plan_state.PlanState.{PlanState};
 ghost use Rattle.pl_world.specs.Legal.{is_stuck};
 ghost use Rattle.pl_cand.specs.declared.proposal.Proposal.{Proposal};
-ghost use Rattle.pl_cand.specs.Proposals.{IsProposal};
+ghost use Rattle.pl_cand.specs.Proposals.{IsProposal, mended};
 
+use crate::making::make_proposed;
 use crate::proposal::Proposal;
 use crate::stuck::is_stuck;
 use pl_board::Board;
@@ -27,25 +28,24 @@ pub trait Chooser: Drop {
         ensures err { OnErr result (board.new.spoiled ≡ true) }
         ensures drawn { drawn self.old self.new };
 
-    /// The next repair as `propose` gives it. Where no conflict has a legal candidate there is none, and the chooser stays as it is. As
-    /// provided it looks for one first, and then asks `propose`, which looks again.
-    fn next_repair(
-        &mut self,
-        alloc: Global,
-        board: &mut Board,
-    ) -> Result<Option<Proposal>, AllocError>
+    /// Makes the next repair, the one that `propose` gives, and tells it. Where no conflict has a legal candidate there is none, and
+    /// board and chooser stay as they are. As provided it looks for one first, asks `propose`, and makes what that proposes.
+    fn mend(&mut self, alloc: Global, board: &mut Board) -> Result<Option<Proposal>, AllocError>
         requires unspoiled { board.old.spoiled ≡ false }
         requires next_id { board.old.state.next_id ≤ 3999999000 }
         ensures picks { IfOk result (λ p. IfSome p (λ q. picks self.old board.old.state (Some q) self.new)) }
         ensures kept { IfOk result (λ p. p ≡ None → self.new ≡ self.old) }
         ensures legal { IfOk result (IsProposal board.old.state) }
-        ensures same { OnOk result (board.new ≡ board.old) }
+        ensures made { IfOk result (λ p. board.new ≡ mended p board.old) }
         ensures err { OnErr result (board.new.spoiled ≡ true) }
         ensures drawn { (self.new ≡ self.old) ⊎ ((is_stuck board.old.state ≡ false) × drawn self.old self.new) }
     {
         match is_stuck(alloc, board) {
             Ok(true) => Ok(None),
-            Ok(false) => self.propose(alloc, board),
+            Ok(false) => {
+                let proposed = self.propose(alloc, board)?;
+                make_proposed(alloc, board, proposed)
+            }
             Err(fault) => {
                 board.spoil();
                 Err(fault)

@@ -9,6 +9,7 @@ mod goals;
 mod help;
 mod helping;
 mod links;
+mod making;
 mod membership;
 mod numbers;
 mod properness;
@@ -25,6 +26,7 @@ mod users;
 
 pub use chooser::Chooser;
 pub use conflicts::candidates;
+pub use making::make;
 pub use membership::is_candidate;
 pub use numbers::{places, spread};
 pub use proposal::Proposal;

@@ -8,21 +8,9 @@ ghost use Rattle.pl_world.specs.Legal.{is_legal, has_repair, is_stuck};
 use crate::conflicts::candidates;
 use pl_board::Board;
 use pl_conflict::Conflict;
-use pl_moves::legal;
+use pl_moves::is_legal;
 use pl_plan::RepairMove;
 use std::alloc::{AllocError, Global};
-
-// Whether a proper move is legal.
-fn is_legal(board: &Board, repair: &RepairMove) -> bool
-    requires unspoiled { board.now.spoiled ≡ false }
-    requires proper { is_proper board.now.state repair.now ≡ true }
-    ensures { result ≡ is_legal board.now.state repair.now }
-{
-    match legal(board, repair) {
-        Ok(()) => true,
-        Err(_) => false,
-    }
-}
 
 // Whether one of the moves is legal.
 fn any_legal(board: &Board, moves: &[RepairMove]) -> bool

@@ -1,4 +1,5 @@
 pub mod Lowest
 pub mod Trying
+pub mod Aims
 pub mod Finding
 pub mod Proposing

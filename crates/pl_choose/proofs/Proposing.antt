@@ -91,6 +91,16 @@ pub some_is_not_stuck : (s : PlanState) (r : Repairs) → AreFirst s (Some r) �
 unfolding is_stuck
 some_is_not_stuck s r first = ap not (any_find (has_repair s) (conflicts_of s) ∙ ap is_some first.0)
 
+pub picks_least : (s : PlanState) (r : Repairs) (m : RepairMove) → AreFirst s (Some r) → fewest s r.moves.items ≡ Some m → Some (proposal r.conflict m) ≡ least_pick s
+picks_least s r m first is =
+    let P : List RepairMove → Type 0 = λ ms. fewest s ms ≡ Some m in
+    sym (ap (option_map (proposal r.conflict)) (subst P first.1 is)) ∙ first_is_least s r first
+
+pub picks_none : (s : PlanState) (r : Repairs) → AreFirst s (Some r) → fewest s r.moves.items ≡ None → None ≡ least_pick s
+picks_none s r first is =
+    let P : List RepairMove → Type 0 = λ ms. fewest s ms ≡ None in
+    sym (ap (option_map (proposal r.conflict)) (subst P first.1 is)) ∙ first_is_least s r first
+
 -- where there is one something is proposed
 pub something : (s : PlanState) (r : Repairs) (p : Option Proposal) → AreFirst s (Some r) → IsProposal s p → p ≡ None → ⊥
 something s r p first legal none =

@@ -209,7 +209,7 @@ from_first f x (y ∷ more) = by (nat_lt (f y) (f x)) (from_first f x more) (fro
     by false first second = first
 
 -- one of them is tried alone, and the others against it
-in_place : (f : RepairMove → ℕ) (ms : List RepairMove) (k : ℕ) (d : RepairMove) (b front : Best) → k < length ms → front ≡ best_of f b (take k ms) → best_of f (better_of front (get_or ms k d) (f (get_or ms k d))) (drop (k + 1) ms) ≡ best_of f b ms
+pub in_place : (f : RepairMove → ℕ) (ms : List RepairMove) (k : ℕ) (d : RepairMove) (b front : Best) → k < length ms → front ≡ best_of f b (take k ms) → best_of f (better_of front (get_or ms k d) (f (get_or ms k d))) (drop (k + 1) ms) ≡ best_of f b ms
 in_place f ms k d b front lt one =
     let P : List RepairMove → Type 0 = λ zs. best_of f front zs ≡ best_of f b ms in
     let whole : best_of f front (drop k ms) ≡ best_of f b ms = ap (λ c. best_of f c (drop k ms)) one ∙ sym (best_of_both f b (take k ms) (drop k ms)) ∙ ap (λ zs. best_of f b zs) (take-append-drop k ms) in
@@ -233,7 +233,7 @@ aimed f ms k d left b front last lt is one other =
     subst Q is other ∙ in_place f ms k d (above b aim (f aim)) front lt (subst P is one) ∙ from_aim f b ms k d lt
 
 -- none of them is better
-none_better : (f : RepairMove → ℕ) (b : Best) (ms : List RepairMove) → All (λ m. b.left ≤ f m) ms → best_of f b ms ≡ b
+pub none_better : (f : RepairMove → ℕ) (b : Best) (ms : List RepairMove) → All (λ m. b.left ≤ f m) ms → best_of f b ms ≡ b
 none_better f b [] all = refl
 none_better f b (m ∷ ms) all = ap (λ c. best_of f c ms) (worse b m (f m) (All-head (λ m. b.left ≤ f m) m ms all)) ∙ none_better f b ms (All-tail (λ m. b.left ≤ f m) m ms all)
 

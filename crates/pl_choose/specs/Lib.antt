@@ -1,3 +1,7 @@
 pub mod Picks
 pub mod Found
 pub mod Tried
+pub mod Alone
+pub mod Picked
+pub mod Started
+pub mod Aimed

@@ -1,13 +1,16 @@
-ghost use Rattle.std.specs.Prelude.{◌≡◌, ◌≤◌, true, false, IfOk, OnOk, OnErr, IsTrue};
-ghost use Rattle.pl_world.specs.Legal.{legal_for};
+ghost use Rattle.std.specs.Prelude.{◌≡◌, ◌≤◌, true, false, Some, IfOk, OnErr};
 ghost use Rattle.pl_cand.specs.Proposals.{IsProposal};
-ghost use Rattle.pl_choose.specs.Picks.{least_pick, fewest_for};
+ghost use Rattle.pl_choose.specs.Found.{AreFirst};
+ghost use Rattle.pl_choose.specs.Picked.{behind};
+ghost use Rattle.pl_choose.specs.Picks.{least_pick};
 
 use crate::fewest::fewest;
+use crate::picked::Picked;
+use crate::purpose::Purpose;
 use crate::repairs::Repairs;
 use crate::search::first_repairs;
 use pl_board::Board;
-use pl_cand::{Chooser, Proposal};
+use pl_cand::{Chooser, Proposal, make};
 use std::alloc::{AllocError, Global};
 
 /// Takes the first conflict that has a legal candidate, and of these the one that leaves the fewest conflicts, the first among
@@ -15,40 +18,64 @@ use std::alloc::{AllocError, Global};
 #[derive(Clone, Copy, Debug, Drop)]
 pub struct Least;
 
-/// The best of the legal candidates of one conflict.
-pub(crate) fn propose_fewest(
+/// Tells what is chosen, and makes it where that is what it was looked for.
+pub(crate) fn settle(
     alloc: Global,
     board: &mut Board,
-    repairs: &Repairs,
+    proposal: Proposal,
+    purpose: Purpose,
 ) -> Result<Option<Proposal>, AllocError>
     requires unspoiled { board.old.spoiled ≡ false }
     requires next_id { board.old.state.next_id ≤ 3999999000 }
-    requires legal { repairs.now.moves.items ≡ legal_for board.old.state repairs.now.conflict }
-    ensures picks { IfOk result (λ p. p ≡ fewest_for board.old.state repairs.now.conflict) }
-    ensures same { OnOk result (board.new ≡ board.old) }
+    requires legal { IsProposal board.old.state (Some proposal) }
+    ensures told { IfOk result (λ p. p ≡ Some proposal) }
+    ensures board { IfOk result (λ p. board.new ≡ behind purpose p board.old) }
     ensures err { OnErr result (board.new.spoiled ≡ true) }
 {
-    match fewest(alloc, board, repairs.moves.as_slice())? {
-        Some(mv) => Ok(Some(Proposal {
-            conflict: repairs.conflict,
-            mv,
-        })),
+    match purpose {
+        Purpose::Propose => Ok(Some(proposal)),
+        Purpose::Mend => {
+            make(alloc, board, &proposal)?;
+            Ok(Some(proposal))
+        }
+    }
+}
+
+/// The best of the legal candidates of the first conflict that has one.
+pub(crate) fn choose_fewest(
+    alloc: Global,
+    board: &mut Board,
+    repairs: &Repairs,
+    purpose: Purpose,
+) -> Result<Option<Proposal>, AllocError>
+    requires unspoiled { board.old.spoiled ≡ false }
+    requires next_id { board.old.state.next_id ≤ 3999999000 }
+    requires first { AreFirst board.old.state (Some repairs.now) }
+    ensures picks { IfOk result (λ p. p ≡ least_pick board.old.state) }
+    ensures board { IfOk result (λ p. board.new ≡ behind purpose p board.old) }
+    ensures err { OnErr result (board.new.spoiled ≡ true) }
+{
+    let conflict = repairs.conflict;
+    match fewest(alloc, board, repairs.moves.as_slice(), purpose)? {
+        Some(Picked::Made(mv)) => Ok(Some(Proposal { conflict, mv })),
+        Some(Picked::Found(mv)) => settle(alloc, board, Proposal { conflict, mv }, purpose),
         None => Ok(None),
     }
 }
 
-pub(crate) fn propose_least(
+pub(crate) fn choose_least(
     alloc: Global,
     board: &mut Board,
+    purpose: Purpose,
 ) -> Result<Option<Proposal>, AllocError>
     requires unspoiled { board.old.spoiled ≡ false }
     requires next_id { board.old.state.next_id ≤ 3999999000 }
     ensures picks { IfOk result (λ p. p ≡ least_pick board.old.state) }
-    ensures same { OnOk result (board.new ≡ board.old) }
+    ensures board { IfOk result (λ p. board.new ≡ behind purpose p board.old) }
     ensures err { OnErr result (board.new.spoiled ≡ true) }
 {
     match first_repairs(alloc, board) {
-        Ok(Some(repairs)) => propose_fewest(alloc, board, &repairs),
+        Ok(Some(repairs)) => choose_fewest(alloc, board, &repairs, purpose),
         Ok(None) => Ok(None),
         Err(fault) => {
             board.spoil();
@@ -70,14 +97,10 @@ impl Chooser for Least {
         alloc: Global,
         board: &mut Board,
     ) -> Result<Option<Proposal>, AllocError> {
-        propose_least(alloc, board)
+        choose_least(alloc, board, Purpose::Propose)
     }
 
-    fn next_repair(
-        &mut self,
-        alloc: Global,
-        board: &mut Board,
-    ) -> Result<Option<Proposal>, AllocError> {
-        propose_least(alloc, board)
+    fn mend(&mut self, alloc: Global, board: &mut Board) -> Result<Option<Proposal>, AllocError> {
+        choose_least(alloc, board, Purpose::Mend)
     }
 }

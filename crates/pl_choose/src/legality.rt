@@ -6,20 +6,9 @@ ghost use Rattle.pl_choose.specs.Found.{IsProper};
 use pl_board::Board;
 use pl_cand::candidates;
 use pl_conflict::Conflict;
-use pl_moves::legal;
+use pl_moves::is_legal;
 use pl_plan::RepairMove;
 use std::alloc::{AllocError, Global};
-
-fn is_legal(board: &Board, mv: &RepairMove) -> bool
-    requires unspoiled { board.now.spoiled ≡ false }
-    requires proper { is_proper board.now.state mv.now ≡ true }
-    ensures { result ≡ is_legal board.now.state mv.now }
-{
-    match legal(board, mv) {
-        Ok(()) => true,
-        Err(_) => false,
-    }
-}
 
 fn add_if_legal(board: &Board, mv: &RepairMove, all: &mut Vec<RepairMove>) -> Result<(), AllocError>
     requires unspoiled { board.now.spoiled ≡ false }

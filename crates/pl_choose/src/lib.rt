@@ -1,13 +1,18 @@
 //! Choosers of the next repair.
 #![tactic(auto)]
 
+mod aiming;
+mod alone;
 mod best;
+mod bounded;
 mod draw;
 mod fewest;
 mod hopes;
 mod least;
 mod legality;
+mod picked;
 mod picking;
+mod purpose;
 mod repairs;
 mod search;
 mod seeded;

@@ -1,13 +1,15 @@
 ghost use Rattle.std.specs.Prelude.{◌≡◌, ◌≤◌, true, false, Some, IfOk, OnOk, OnErr};
 ghost use Rattle.rand_pcg.specs.Lcg.{started, increment_of};
 ghost use Rattle.rand_pcg.specs.Pcg.{multiplier_64};
-ghost use Rattle.pl_cand.specs.Proposals.{IsProposal};
+ghost use Rattle.pl_cand.specs.Proposals.{IsProposal, mended};
 ghost use Rattle.pl_choose.specs.Found.{AreFirst};
+ghost use Rattle.pl_choose.specs.Picked.{behind};
 ghost use Rattle.pl_choose.specs.Picks.{word_of, after_word, is_random, draw_of, pick_by, random_pick, seeded_pick, seeded_after};
 
 use crate::draw::Draw;
-use crate::least::{propose_fewest, propose_least};
+use crate::least::{choose_fewest, choose_least, settle};
 use crate::picking::pick;
+use crate::purpose::Purpose;
 use crate::repairs::Repairs;
 use crate::search::first_repairs;
 use pl_board::Board;
@@ -64,9 +66,9 @@ impl Seeded {
         Draw::AtRandom { conflict, repair }
     }
 
-    /// Draws, and chooses where the first conflict that has a legal candidate is known.
+    /// Draws, and makes the repair, where the first conflict that has a legal candidate is known.
     #[tactic(auto, unfolding(crate::specs::Picks::seeded_pick))]
-    fn choose(
+    fn mend_from(
         &mut self,
         alloc: Global,
         board: &mut Board,
@@ -76,12 +78,12 @@ impl Seeded {
         requires next_id { board.old.state.next_id ≤ 3999999000 }
         requires first { AreFirst board.old.state (Some first.now) }
         ensures picks { IfOk result (λ p. p ≡ seeded_pick board.old.state self.old) }
+        ensures made { IfOk result (λ p. board.new ≡ mended p board.old) }
         ensures after { self.new ≡ seeded_after self.old }
-        ensures same { OnOk result (board.new ≡ board.old) }
         ensures err { OnErr result (board.new.spoiled ≡ true) }
     {
         let draw = self.draw();
-        propose_from(alloc, board, draw, first)
+        mend_by(alloc, board, draw, first)
     }
 }
 
@@ -92,22 +94,48 @@ fn is_random(word: u32) -> bool
     word % 8 == 0
 }
 
-fn propose_at_random(
+// The candidate that two words pick, and what it was looked for.
+fn choose_at_random(
     alloc: Global,
     board: &mut Board,
     conflict: u32,
     repair: u32,
+    purpose: Purpose,
 ) -> Result<Option<Proposal>, AllocError>
-    requires { board.old.spoiled ≡ false }
+    requires unspoiled { board.old.spoiled ≡ false }
+    requires next_id { board.old.state.next_id ≤ 3999999000 }
     ensures picks { IfOk result (λ p. p ≡ random_pick board.old.state conflict repair) }
-    ensures same { OnOk result (board.new ≡ board.old) }
+    ensures board { IfOk result (λ p. board.new ≡ behind purpose p board.old) }
     ensures err { OnErr result (board.new.spoiled ≡ true) }
 {
     match pick(alloc, board, conflict, repair) {
-        Ok(proposal) => Ok(proposal),
+        Ok(Some(proposal)) => settle(alloc, board, proposal, purpose),
+        Ok(None) => Ok(None),
         Err(fault) => {
             board.spoil();
             Err(fault)
+        }
+    }
+}
+
+// Makes the repair, where the first conflict that has a legal candidate is known.
+fn mend_by(
+    alloc: Global,
+    board: &mut Board,
+    draw: Draw,
+    first: &Repairs,
+) -> Result<Option<Proposal>, AllocError>
+    requires unspoiled { board.old.spoiled ≡ false }
+    requires next_id { board.old.state.next_id ≤ 3999999000 }
+    requires first { AreFirst board.old.state (Some first.now) }
+    ensures picks { IfOk result (λ p. p ≡ pick_by board.old.state draw) }
+    ensures made { IfOk result (λ p. board.new ≡ mended p board.old) }
+    ensures err { OnErr result (board.new.spoiled ≡ true) }
+{
+    match draw {
+        Draw::AsLeast => choose_fewest(alloc, board, first, Purpose::Mend),
+        Draw::AtRandom { conflict, repair } => {
+            choose_at_random(alloc, board, conflict, repair, Purpose::Mend)
         }
     }
 }
@@ -120,29 +148,10 @@ fn propose_by(alloc: Global, board: &mut Board, draw: Draw) -> Result<Option<Pro
     ensures err { OnErr result (board.new.spoiled ≡ true) }
 {
     match draw {
-        Draw::AsLeast => propose_least(alloc, board),
-        Draw::AtRandom { conflict, repair } => propose_at_random(alloc, board, conflict, repair),
-    }
-}
-
-// As `propose_by`, where the first conflict that has a legal candidate is known.
-#[tactic(auto, using(crate::proofs::Proposing::first_is_least))]
-fn propose_from(
-    alloc: Global,
-    board: &mut Board,
-    draw: Draw,
-    first: &Repairs,
-) -> Result<Option<Proposal>, AllocError>
-    requires unspoiled { board.old.spoiled ≡ false }
-    requires next_id { board.old.state.next_id ≤ 3999999000 }
-    requires first { AreFirst board.old.state (Some first.now) }
-    ensures picks { IfOk result (λ p. p ≡ pick_by board.old.state draw) }
-    ensures same { OnOk result (board.new ≡ board.old) }
-    ensures err { OnErr result (board.new.spoiled ≡ true) }
-{
-    match draw {
-        Draw::AsLeast => propose_fewest(alloc, board, first),
-        Draw::AtRandom { conflict, repair } => propose_at_random(alloc, board, conflict, repair),
+        Draw::AsLeast => choose_least(alloc, board, Purpose::Propose),
+        Draw::AtRandom { conflict, repair } => {
+            choose_at_random(alloc, board, conflict, repair, Purpose::Propose)
+        }
     }
 }
 
@@ -170,13 +179,9 @@ impl Chooser for Seeded {
     }
 
     /// No word is drawn before a conflict is found that has a legal candidate.
-    fn next_repair(
-        &mut self,
-        alloc: Global,
-        board: &mut Board,
-    ) -> Result<Option<Proposal>, AllocError> {
+    fn mend(&mut self, alloc: Global, board: &mut Board) -> Result<Option<Proposal>, AllocError> {
         match first_repairs(alloc, board) {
-            Ok(Some(first)) => self.choose(alloc, board, &first),
+            Ok(Some(first)) => self.mend_from(alloc, board, &first),
             Ok(None) => Ok(None),
             Err(fault) => {
                 board.spoil();

@@ -1,4 +1,4 @@
-ghost use Rattle.std.specs.Prelude.{◌≡◌, ◌≤◌, ◌<◌, ◌^◌, true, false, min, IfOk, OnOk, OnErr};
+ghost use Rattle.std.specs.Prelude.{◌≡◌, ◌≤◌, ◌<◌, ◌^◌, true, false, IfOk, OnOk, OnErr};
 ghost use Rattle.pl_world.specs.Legal.{left_after};
 ghost use Rattle.pl_moves.specs.Runs.{counted};
 ghost use Rattle.pl_choose.specs.Found.{IsAllowed};

@@ -54,7 +54,7 @@ fn best_among(
     Ok(best)
 }
 
-// Tries the first of some moves, and with it those that go on with it.
+// Tries the first of some moves, and with it those that go on with it, up to one that is better.
 fn try_run(
     alloc: Global,
     board: &mut Board,
@@ -73,7 +73,8 @@ fn try_run(
 {
     let first = &moves[0];
     let rest = &moves[1..];
-    let counts = left_after_run(alloc, board, first, rest, &mut Steps::new(Quiet))?;
+    let enough = best.left.saturating_sub(1).min(u32::MAX as usize) as u32;
+    let counts = left_after_run(alloc, board, first, rest, enough, &mut Steps::new(Quiet))?;
     let left = exact(alloc, board, first, counts.first)?;
     let best = better(best, first, left);
     let others = counts.others.len();

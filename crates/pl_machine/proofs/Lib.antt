@@ -19,3 +19,4 @@ pub mod Starts
 mod Ticking
 pub mod Calm
 mod Settled
+mod Mended

@@ -33,13 +33,11 @@ use Rattle.pl_machine.specs.declared.repaired.Repaired.TheVariants as repaired
 use Rattle.pl_machine.specs.World.{World, reason_by, plain_reason_of, reason_of}
 use Rattle.pl_machine.specs.Step.{is_candidate, refusal_reply, fix_reply, rest_reply, is_enabled}
 use Rattle.pl_machine.specs.Sound.{State}
-use Rattle.pl_machine.specs.Taking.{IsOpen, Takes, Answers, Admits, Proposes}
+use Rattle.pl_machine.specs.Taking.{IsOpen, Takes, Answers, Admits}
 use Rattle.pl_machine.specs.Solo.{Picks, Drawn}
-use Rattle.pl_machine.specs.declared.change.Change.TheVariants.{Repair}
-use Rattle.pl_machine.specs.Changes.{CanChange}
-use Rattle.pl_machine.proofs.Handed.{can_repair, keeps_itself}
+use Rattle.pl_machine.proofs.Handed.{keeps_itself}
 use Rattle.pl_machine.proofs.Resting.{goes_on}
-use Rattle.pl_machine.specs.Mending.{is_repairing, IsAskedAtMost, Stops, HasRepaired, RepairsOnce}
+use Rattle.pl_machine.specs.Mending.{is_repairing, HasMended, IsAskedAtMost, Stops, HasRepaired, RepairsOnce}
 
 -- ---- what is among the legal ones is in the list, and legal
 
@@ -150,18 +148,11 @@ fix_open s k m unspoiled going room e most = record { unspoiled = unspoiled; ena
 pub rest_open : (s : State) (reason : Reason) → s.spoiled ≡ false → is_repairing s.world ≡ true → length s.log < s.world.options.entries → reason_of s.world ≡ Some reason → IsOpen s event.Rest
 rest_open s reason unspoiled going room e = record { unspoiled = unspoiled; enabled = rest_enabled s.world reason going e; room = room }
 
-pub can_make : (s : PlanState) (p : Proposal) → IsProposal s (Some p) → s.next_id ≤ 3999999000 → CanChange s (Repair p.mv)
-can_make s p legal few = can_repair s p.conflict p.mv (proposed_done s p legal) few
-
 -- ---- what a turn comes to
 
--- a proposal that was made
-pub fixed : {C : Type 0} (picks : Picks C) (old mid new : State) (c c2 : C) (p : Proposal) (r : Reply) → reason_of old.world ≡ None → picks c old.world.state (Some p) c2 → IsProposal old.world.state (Some p)
-    → mid ≡ old → Answers mid (event.Fix p.conflict p.mv) (Ok r) new → HasRepaired picks old c (repaired.Fixed p) new c2
-fixed picks old mid new c c2 p r reason picked legal same made =
-    let answers : Answers old (event.Fix p.conflict p.mv) (Ok r) new = subst (λ (s : State). Answers s (event.Fix p.conflict p.mv) (Ok r) new) same made in
-    let done : r ≡ reply.Done = answers.1.step.answers ∙ proposed_done old.world.state p legal in
-    (reason, picked, legal, answers.0, subst (λ (x : Reply). Takes old (event.Fix p.conflict p.mv) x new) done answers.1)
+-- a repair that was made
+pub fixed : {C : Type 0} (picks : Picks C) (old new : State) (c c2 : C) (p : Proposal) → plain_reason_of old.world ≡ None → HasMended picks old c (Some p) new c2 → HasRepaired picks old c (repaired.Fixed p) new c2
+fixed picks old new c c2 p plain made = (goes_on old.world plain (not_stuck old.world.state p made.1), made.0, made.1, made.2, made.3)
 
 -- a rest behind a chooser that proposed nothing
 pub rested_on : {C : Type 0} (picks : Picks C) (old mid new : State) (c c2 : C) (reason : Reason) (r : Reply) → reason_of old.world ≡ Some reason → mid ≡ old → Answers mid event.Rest (Ok r) new → c2 ≡ c → HasRepaired picks old c (repaired.Rested reason) new c2
@@ -203,13 +194,7 @@ pub made_fails : {C : Type 0} (picks : Picks C) (drawn : Drawn C) (old mid new :
 made_fails picks drawn old mid new c c2 e s may same made going plain chose =
     fails_by picks drawn old new c c2 e s may (asked drawn old.world c c2 going plain chose) (subst (λ (t : State). Answers t e (Err s) new) same made)
 
--- nor is there a proposal of an unspoiled machine
-pub proposal_stops : (old new : State) (s : Stop) → old.spoiled ≡ false → Proposes {X = Option Proposal} old (Err s) new → Stops old s new
-proposal_stops old new stop.Spoiled unspoiled proposes = absurd (let h : true ≡ false = sym proposes.0 ∙ unspoiled in cc)
-proposal_stops old new stop.NotNow unspoiled proposes = absurd proposes
-proposal_stops old new stop.LogFull unspoiled proposes = absurd proposes
-proposal_stops old new stop.Memory unspoiled proposes = proposes
-
+-- memory was wanting while it chose
 pub asked_fails : {C : Type 0} (picks : Picks C) (drawn : Drawn C) (old new : State) (c c2 : C) (s : Stop) → Stops old s new → is_repairing old.world ≡ true → plain_reason_of old.world ≡ None → MayChoose drawn old.world.state c c2
     → RepairsOnce picks drawn old c (Err s) new c2
 asked_fails picks drawn old new c c2 stop.Spoiled stops going plain chose = absurd stops

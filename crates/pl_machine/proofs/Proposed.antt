@@ -3,14 +3,13 @@ use Rattle.std.proofs.Common.{◌≡◌, ℕ, ℤ, ◌≤ℤ◌, Bool, true, ◌
 use Rattle.std.specs.Prelude.{slice_get, nat_lt, int_le}
 use Rattle.std.proofs.lemmas.Bool.{ltb-true}
 use Rattle.std.proofs.lemmas.Int.{ints}
-use Rattle.std.proofs.lemmas.List.Elements.{All-get_or, All-filter, All-contains}
+use Rattle.std.proofs.lemmas.List.Elements.{All-get_or}
 use Rattle.std.proofs.lemmas.Option.{slice_get_within, get_or_from_slice_get}
 use Rattle.pl_lists.proofs.Tests.{both_true}
 use Rattle.pl_model.specs.declared.parameters.Param.{Param}
 use Rattle.pl_model.specs.declared.kinds.Kind.{Kind}
 use Rattle.pl_model.specs.declared.whole.Model.{Model}
 use Rattle.pl_model.specs.Checked.{IsAmount, IsChecked, IsCheckedKind, IsCheckedParam, params_of}
-use Rattle.pl_conflict.specs.declared.conflict.Conflict.{Conflict}
 use Rattle.pl_plan.specs.declared.activity.Activity.{Activity}
 use Rattle.pl_plan.specs.declared.repair.RepairMove.{RepairMove}
 use Rattle.pl_plan.specs.declared.repair.RepairMove.TheVariants as repair
@@ -20,11 +19,9 @@ use Rattle.pl_world.specs.declared.plan_state.PlanState.{PlanState}
 use Rattle.pl_world.specs.PlanStates.{found}
 use Rattle.pl_world.specs.Activities.{bindings_of}
 use Rattle.pl_world.specs.Moves.{is_free, is_wanted, holds, takes_value, is_proper}
-use Rattle.pl_world.specs.Candidates.{candidates_of}
-use Rattle.pl_world.specs.Legal.{is_legal, legal_for}
-use Rattle.pl_world.proofs.Sifting.{proper}
 use Rattle.pl_cand.specs.declared.proposal.Proposal.{Proposal}
 use Rattle.pl_cand.specs.Proposals.{IsProposal}
+use Rattle.pl_cand.proofs.Proposed.{proposed_proper}
 use Rattle.pl_machine.specs.Repairs.{IsMoveOf}
 
 got : {X : Type 0} (P : X → Type 0) (xs : List X) (i : ℕ) (x : X) → All P xs → slice_get xs i ≡ Some x → P x
@@ -66,11 +63,7 @@ proper_move s (repair.Abstract id) checked e = tt
 proper_move s (repair.Assign id param value) checked e = assigned s param value (found s id) checked e
 proper_move s (repair.Drop goal) checked e = tt
 
-legal_proper : (s : PlanState) (k : Conflict) → All (λ m. is_proper s m ≡ true) (legal_for s k)
-unfolding legal_for
-legal_proper s k = All-filter (is_legal s) (λ m. is_proper s m ≡ true) (candidates_of s k) (proper s k)
-
 pub proposed_move : (m : Model) (s : PlanState) (p : Option Proposal) → IsChecked m → s.model ≡ m → IsProposal s p → IfSome p (λ q. IsMoveOf m q.mv)
 proposed_move m s None checked is proposal = tt
 proposed_move m s (Some p) checked is proposal =
-    subst (λ (n : Model). IsMoveOf n p.mv) is (proper_move s p.mv (subst IsChecked (sym is) checked) (All-contains (λ x. is_proper s x ≡ true) (legal_for s p.conflict) p.mv (legal_proper s p.conflict) proposal.1))
+    subst (λ (n : Model). IsMoveOf n p.mv) is (proper_move s p.mv (subst IsChecked (sym is) checked) (proposed_proper s p proposal))

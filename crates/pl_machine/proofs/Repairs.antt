@@ -12,10 +12,6 @@ use Rattle.pl_entry.specs.Due.{AreDue, due_of}
 use Rattle.pl_entry.proofs.DueLaws.{due_meets, due_only}
 use Rattle.pl_world.specs.declared.plan_state.PlanState.{PlanState}
 use Rattle.pl_world.specs.PlanStates.{found, is_committed}
-use Rattle.pl_board.specs.Boards.{Standing}
-use Rattle.pl_moves.specs.declared.move_fault.MoveFault.{MoveFault}
-use Rattle.pl_moves.specs.declared.move_fault.MoveFault.TheVariants.{Refused, Memory}
-use Rattle.pl_moves.specs.Outcomes.{Fails}
 use Rattle.pl_machine.specs.World.{due_in}
 use Rattle.pl_world.specs.Moves.{is_proper, refusal_of, applied}
 use Rattle.pl_world.specs.Whole.{IsWhole}
@@ -79,8 +75,3 @@ due_applied s m whole proper allowed =
 
 pub keeps_applied : (s : PlanState) (m : RepairMove) → IsWhole s → is_proper s m ≡ true → refusal_of s m ≡ None → KeepsStanding s (applied s m)
 keeps_applied s m whole proper allowed = keeps_repair s (applied s m) whole.rising (gives s m whole proper allowed) (keeps s m whole proper allowed)
-
--- of a move that is not refused a fault is want of memory
-pub fails_spoils : (m : RepairMove) (f : MoveFault) (before now : Standing) → refusal_of before.state m ≡ None → Fails m f before now → now.spoiled ≡ true
-fails_spoils m (Refused r) before now allowed fails = absurd (let none : Some r ≡ None = sym fails.0 ∙ allowed in cc)
-fails_spoils m Memory before now allowed fails = fails.1

@@ -216,7 +216,7 @@ same_settled (Tick moment) ahead = refl
 same_settled (Commit h) ahead = refl
 same_settled (Repair m) ahead = refl
 
-ahead_still : (s : PlanState) (change : Change) (ahead : Ahead) → is_tick change ≡ false → IsWhole s → CanChange s change → IsAhead s ahead → IsAhead (changed change s) (ahead_after change ahead)
+pub ahead_still : (s : PlanState) (change : Change) (ahead : Ahead) → is_tick change ≡ false → IsWhole s → CanChange s change → IsAhead s ahead → IsAhead (changed change s) (ahead_after change ahead)
 ahead_still s change ahead still whole can looked = record {
   calm = calm_still s change ahead still looked.calm;
   settled = rw (same_settled change ahead) (settled_still s change ahead.settled still whole can looked.settled);

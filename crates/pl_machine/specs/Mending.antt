@@ -1,8 +1,14 @@
 -- One turn of repair: what a chooser proposes is made, or repair rests.
-use Rattle.std.specs.Prelude.{◌≡◌, ◌≤◌, length, Bool, true, false, not, ◌&&◌, Some, None, Result, Ok, Err, ◌⊎◌}
+use Rattle.std.specs.Prelude.{◌≡◌, ◌≤◌, List, [], ◌∷◌, ◌++◌, length, Bool, true, false, not, ◌&&◌, Option, Some, None, Result, Ok, Err, ◌⊎◌}
 use Rattle.pl_entry.specs.declared.event.Event.TheVariants as event
 use Rattle.pl_entry.specs.declared.reply.Reply.TheVariants as reply
+use Rattle.pl_entry.specs.declared.entry.Entry.{Entry}
+use Rattle.pl_world.specs.Legal.{is_stuck}
+use Rattle.pl_cand.specs.declared.proposal.Proposal.{Proposal}
 use Rattle.pl_cand.specs.Proposals.{IsProposal}
+use Rattle.pl_machine.specs.declared.ahead.Ahead.{Ahead}
+use Rattle.pl_machine.specs.declared.change.Change.TheVariants.{Repair}
+use Rattle.pl_machine.specs.Calm.{ahead_after}
 use Rattle.pl_machine.specs.declared.stop.Stop.{Stop}
 use Rattle.pl_machine.specs.declared.stop.Stop.TheVariants as stop
 use Rattle.pl_machine.specs.declared.repaired.Repaired.{Repaired}
@@ -16,12 +22,28 @@ use Rattle.pl_machine.specs.Solo.{Picks, Drawn}
 abbrev pub is_repairing : World → Bool
 is_repairing w = not w.closed && not w.rested
 
--- only want of memory stops a proposal of an unspoiled machine
+-- only want of memory stops the repair that a chooser makes on an unspoiled machine
 abbrev pub Stops : State → Stop → State → Type 0
 Stops old stop.Memory new = (old.spoiled ≡ false) × Spoils old new
 Stops old stop.NotNow new = ⊥
 Stops old stop.LogFull new = ⊥
 Stops old stop.Spoiled new = ⊥
+
+-- a log behind a repair that was made, if one was
+abbrev pub logged : Option Proposal → List Entry → List Entry
+logged None log = log
+logged (Some p) log = log ++ record { event = event.Fix p.conflict p.mv; reply = reply.Done } ∷ []
+
+-- how far ahead a plan was looked at behind it
+abbrev pub ahead_behind : Option Proposal → Ahead → Ahead
+ahead_behind None ahead = ahead
+ahead_behind (Some p) ahead = ahead_after (Repair p.mv) ahead
+
+-- A chooser made the next repair, and the log has it. Where no conflict has a legal candidate there is none, and all is as it was.
+abbrev pub HasMended : {C : Type 0} → Picks C → State → C → Option Proposal → State → C → Type 0
+HasMended picks old c None new c2 = (is_stuck old.world.state ≡ true) × (new ≡ old) × (c2 ≡ c)
+HasMended picks old c (Some p) new c2 = picks c old.world.state (Some p) c2 × IsProposal old.world.state (Some p) × IsOpen old (event.Fix p.conflict p.mv)
+    × Takes old (event.Fix p.conflict p.mv) reply.Done new
 
 -- The chooser is as it was, or it was asked once, where repair goes on.
 abbrev pub IsAskedAtMost : {C : Type 0} → Drawn C → World → C → C → Type 0

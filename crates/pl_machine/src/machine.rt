@@ -4,6 +4,7 @@ mod closing;
 mod committing;
 mod fixing;
 mod listening;
+mod mending;
 mod proposing;
 mod reading;
 mod repairing;

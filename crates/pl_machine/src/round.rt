@@ -1,4 +1,4 @@
-ghost use Rattle.std.specs.Prelude.{◌≡◌, true, false};
+ghost use Rattle.std.specs.Prelude.{◌≡◌, ◌<◌, ◌+◌, true, false};
 
 /// Where a round stands.
 #[derive(Clone, Copy, Debug, PartialEq, Eq)]
@@ -34,6 +34,18 @@ impl Round {
             rested: false,
             held: false,
             closed: false,
+        }
+    }
+
+    /// The same round behind a repair.
+    pub(crate) fn repaired(self) -> Round
+        requires { self.turn < 4294967295 }
+        ensures { result ≡ record self { turn = self.turn + 1; held = false } }
+    {
+        Round {
+            turn: self.turn + 1,
+            held: false,
+            ..self
         }
     }
 }

@@ -1,6 +1,5 @@
-ghost use Rattle.std.specs.Prelude.{◌≡◌, ◌<◌, ◌^◌, ◌≤◌, [], ◌∷◌, ◌++◌, false, true, length, drop, None, IfOk, OnOk, OnErr};
+ghost use Rattle.std.specs.Prelude.{◌≡◌, ◌<◌, ◌^◌, ◌≤◌, [], ◌∷◌, ◌++◌, false, true, length, drop, vec_len, vec_capacity, IfOk, OnOk, OnErr};
 ghost use Rattle.pl_entry.specs.Bounds.{IsEventInRange, IsReplyTo};
-ghost use Rattle.pl_world.specs.Moves.{is_proper, refusal_of, applied};
 ghost use Rattle.pl_world.specs.Whole.{IsWhole};
 ghost use Rattle.pl_board.specs.Boards.{after as board_of};
 ghost use Rattle.pl_machine.specs.World.{due_at, due_in};
@@ -19,9 +18,9 @@ use crate::stop::Stop;
 use pl_board::Board;
 use pl_entry::{Entry, Event, Reply, due_since_among};
 use pl_lists::Copied;
-use pl_moves::apply;
-use pl_plan::{Activity, RepairMove};
-use pl_points::{Ledger, Quiet, Steps};
+use pl_moves::make;
+use pl_plan::Activity;
+use pl_points::{Quiet, Steps};
 use std::alloc::{AllocError, Global};
 
 /// Appends an entry to a log, and gives the reply back.
@@ -63,25 +62,29 @@ pub(crate) fn push_entry(
     }
 }
 
-/// Makes a repair that is not refused.
-#[tactic(auto, using(crate::proofs::Repairs::fails_spoils))]
-fn make_repair<L: Ledger>(
-    board: &mut Board,
-    alloc: Global,
-    repair: &RepairMove,
-    steps: &mut Steps<L>,
-) -> Result<(), AllocError>
-    requires unspoiled { board.old.spoiled ≡ false }
-    requires proper { is_proper board.old.state repair.now ≡ true }
-    requires allowed { refusal_of board.old.state repair.now ≡ None }
-    requires next { board.old.state.next_id ≤ 3999999000 }
-    ensures ok { OnOk result (board.new ≡ board_of (applied board.old.state repair.now)) }
-    ensures err { OnErr result (board.new.spoiled ≡ true) }
+/// Reserves the place of one more entry. Where memory is wanting the board is spoiled.
+pub(crate) fn reserve_entry(log: &mut Vec<Entry>, board: &mut Board) -> Result<(), AllocError>
+    ensures same { log.new.items ≡ log.old.items }
+    ensures place { OnOk result (vec_len log.new < vec_capacity log.new) }
+    ensures stays { OnOk result (board.new ≡ board.old) }
+    ensures spoils { OnErr result (board.new.spoiled ≡ true) }
 {
-    match apply(alloc, board, repair, steps) {
+    match log.reserve(1) {
         Ok(()) => Ok(()),
-        Err(_) => Err(AllocError),
+        Err(fault) => {
+            board.spoil();
+            Err(fault)
+        }
     }
+}
+
+/// Appends the entry of an event that was carried out, in the place that was reserved for it.
+pub(crate) fn push_done(log: &mut Vec<Entry>, event: Event)
+    requires { vec_len log.old < vec_capacity log.old }
+    ensures { log.new.items ≡ log.old.items ++ record { event = event; reply = Reply.Done } ∷ [] }
+{
+    let reply = Reply::Done;
+    log.push(Entry { event, reply }).unwrap();
 }
 
 /// Makes a change of a board.
@@ -100,7 +103,7 @@ fn change_board(board: &mut Board, alloc: Global, change: Change) -> Result<(), 
         Change::Tell(line, value) => board.telemetry(line, value, &mut steps),
         Change::Tick(moment) => board.tick(moment, &mut steps),
         Change::Commit(h) => board.commit(h),
-        Change::Repair(repair) => make_repair(board, alloc, &repair, &mut steps),
+        Change::Repair(repair) => make(alloc, board, &repair, &mut steps),
     }
 }
 
@@ -293,13 +296,9 @@ fn push_change(
     ensures same { OnErr result (due.new.items ≡ due.old.items) }
     ensures spoils { OnErr result (board.new.spoiled ≡ true) }
 {
-    if log.reserve(1).is_err() {
-        board.spoil();
-        return Err(AllocError);
-    }
+    reserve_entry(log, board)?;
     change_due(board, due, ahead, alloc, change)?;
-    let reply = Reply::Done;
-    log.push(Entry { event, reply }).unwrap();
+    push_done(log, event);
     Ok(())
 }
 

@@ -84,7 +84,7 @@ impl Machine {
         Ok(legal_reply(&self.board, repair))
     }
 
-    pub(crate) fn repair(&mut self, conflict: Conflict, repair: RepairMove) -> Result<Reply, Stop>
+    fn repair(&mut self, conflict: Conflict, repair: RepairMove) -> Result<Reply, Stop>
         requires open { IsOpen self.old (Event.Fix conflict repair) }
         requires conflict { IsConflictInRange conflict }
         requires repair { IsMoveInRange self.old.model repair }
@@ -93,11 +93,7 @@ impl Machine {
         requires done { fix_reply self.old.world.state conflict repair ≡ Reply.Done }
         ensures { Answers self.old (Event.Fix conflict repair) result self.new }
     {
-        let round = Round {
-            turn: self.round.turn + 1,
-            held: false,
-            ..self.round
-        };
+        let round = self.round.repaired();
         self.carry_out(Event::Fix(conflict, repair), Change::Repair(repair), round)
     }
 

@@ -11,4 +11,4 @@ returns-clause-legal c =
     let s = c.args.board.now.state in
     let P : Option Proposal → Type 0 = λ p. p ≡ least_pick s in
     let Q : Option Proposal → Type 0 = λ p. IsProposal s p in
-    IfOk-weaker c.propose_least.result P Q (λ p is. subst Q (sym is) (least_is_proposal s)) c.propose_least.ensures.picks
+    IfOk-weaker c.choose_least.result P Q (λ p is. subst Q (sym is) (least_is_proposal s)) c.choose_least.ensures.picks

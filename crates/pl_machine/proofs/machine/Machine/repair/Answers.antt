@@ -7,14 +7,17 @@ use Rattle.pl_machine.specs.Sound.{State}
 use Rattle.pl_machine.proofs.Handed.{turn_left}
 use Rattle.pl_machine.proofs.machine.Machine.repair.Goals as goal
 
-pub overflow_add-round : goal.overflow_add-round
-overflow_add-round c = omega (arith, c.self.invariant.turn, c.self.invariant.limits.turns.1)
+pub repaired-round-requires : goal.repaired-round-requires
+repaired-round-requires c = omega (arith, c.self.invariant.turn, c.self.invariant.limits.turns.1)
 
 pub carry_out-requires-clause-leaves : goal.carry_out-requires-clause-leaves
 carry_out-requires-clause-leaves c =
     let m = c.args.repair in
-    subst (λ (t : State). with_round (record c.self.inside.round { turn = c.self.inside.round.turn + 1; held = false }) (with_state (applied t.world.state m) t.world) ≡ after_fix t.world m reply.Done) c.self.view_is refl
-    ∙ ap (after_fix c.args.self.now.world m) (sym c.requires.done)
+    rw c.repaired-round.ensures
+    (subst (λ (t : State). with_round (record c.self.inside.round { turn = c.self.inside.round.turn + 1; held = false }) (with_state (applied t.world.state m) t.world) ≡ after_fix t.world m reply.Done) c.self.view_is refl
+    ∙ ap (after_fix c.args.self.now.world m) (sym c.requires.done))
 
 pub carry_out-requires-clause-turn : goal.carry_out-requires-clause-turn
-carry_out-requires-clause-turn c = subst (λ (t : State). t.world.turn + 1 ≤ c.args.self.now.world.options.turns → c.self.inside.round.turn + 1 ≤ c.args.self.now.world.options.turns) c.self.view_is (λ le. le) (turn_left c.args.self.now.world c.args.conflict c.args.repair c.requires.open.enabled)
+carry_out-requires-clause-turn c =
+    rw c.repaired-round.ensures
+    (subst (λ (t : State). t.world.turn + 1 ≤ c.args.self.now.world.options.turns → c.self.inside.round.turn + 1 ≤ c.args.self.now.world.options.turns) c.self.view_is (λ le. le) (turn_left c.args.self.now.world c.args.conflict c.args.repair c.requires.open.enabled))

@@ -24,8 +24,8 @@ tick-requires c = let can = subst (CanChange c.args.board.now.state) c.in-Tick.i
 pub commit-requires : goal.commit-requires
 commit-requires c = let can = subst (CanChange c.args.board.now.state) c.in-Commit.is c.requires.can in let bounds = commit_bounds c.args.board.now.state c.in-Commit.h can in record { least = λ _. bounds.0; most = λ _. bounds.1 }
 
-pub make_repair-requires : goal.make_repair-requires
-make_repair-requires c = let can = subst (CanChange c.args.board.now.state) c.in-Repair.is c.requires.can in record { unspoiled = c.requires.unspoiled; proper = can.0; allowed = can.1; next = can.2 }
+pub make-requires : goal.make-requires
+make-requires c = let can = subst (CanChange c.args.board.now.state) c.in-Repair.is c.requires.can in record { unspoiled = c.requires.unspoiled; proper = can.0; allowed = can.1; next = can.2 }
 
 pub returns-in-Accept-clause-keeps : goal.returns-in-Accept-clause-keeps
 returns-in-Accept-clause-keeps c = keeps_on _ _ (with_goal c.in-Accept.goal c.args.board.now.state) _ (keeps_accept c.args.board.now.state c.in-Accept.goal) c.add_goal.ensures.ok
@@ -48,7 +48,7 @@ returns-in-Commit-clause-keeps c =
 pub returns-in-Repair-clause-keeps : goal.returns-in-Repair-clause-keeps
 returns-in-Repair-clause-keeps c =
     let can = subst (CanChange c.args.board.now.state) c.in-Repair.is c.requires.can in
-    keeps_on _ _ (applied c.args.board.now.state c.in-Repair.repair) _ (keeps_applied c.args.board.now.state c.in-Repair.repair c.requires.whole can.0 can.1) c.make_repair.ensures.ok
+    keeps_on _ _ (applied c.args.board.now.state c.in-Repair.repair) _ (keeps_applied c.args.board.now.state c.in-Repair.repair c.requires.whole can.0 can.1) c.make.ensures.ok
 
 pub returns-in-Accept-clause-due : goal.returns-in-Accept-clause-due
 returns-in-Accept-clause-due c = due_on _ c.args.change c.args.board.now.state (with_goal c.in-Accept.goal c.args.board.now.state) _ (λ _. refl) c.add_goal.ensures.ok
@@ -69,4 +69,4 @@ returns-in-Commit-clause-due c =
 pub returns-in-Repair-clause-due : goal.returns-in-Repair-clause-due
 returns-in-Repair-clause-due c =
     let can = subst (CanChange c.args.board.now.state) c.in-Repair.is c.requires.can in
-    due_on _ c.args.change c.args.board.now.state (applied c.args.board.now.state c.in-Repair.repair) _ (λ _. due_applied c.args.board.now.state c.in-Repair.repair c.requires.whole can.0 can.1) c.make_repair.ensures.ok
+    due_on _ c.args.change c.args.board.now.state (applied c.args.board.now.state c.in-Repair.repair) _ (λ _. due_applied c.args.board.now.state c.in-Repair.repair c.requires.whole can.0 can.1) c.make.ensures.ok

@@ -1,0 +1,18 @@
+-- A move that is tried alone, and stays made where it leaves few enough conflicts.
+use Rattle.std.specs.Prelude.{◌≡◌, ℕ, ◌≤◌, ◌<◌, ◌^◌, Option, Some, None}
+use Rattle.pl_plan.specs.declared.repair.RepairMove.{RepairMove}
+use Rattle.pl_world.specs.Moves.{applied}
+use Rattle.pl_world.specs.Legal.{left_after}
+use Rattle.pl_board.specs.Boards.{Standing, after}
+use Rattle.pl_choose.specs.declared.alone.Alone.{Alone}
+use Rattle.pl_choose.specs.declared.alone.Alone.TheVariants.{Made, Undone}
+
+-- nothing is few enough where there is no such number
+abbrev pub AreEnough : Option ℕ → ℕ → Type 0
+AreEnough None left = ⊥
+AreEnough (Some most) left = left ≤ most
+
+-- the move, how many conflicts are enough, the board before, what came of it, and the board then
+abbrev pub IsTriedAlone : RepairMove → Option ℕ → Standing → Alone → Standing → Type 0
+IsTriedAlone m enough before Made now = AreEnough enough (left_after before.state m) × (now ≡ after (applied before.state m))
+IsTriedAlone m enough before (Undone left) now = (left ≡ left_after before.state m) × (left < 2 ^ 63) × (now ≡ before)

@@ -1,0 +1,133 @@
+//! The aim: that one of some moves which by what is known of them may leave the fewest conflicts. It is tried before the others, so
+//! that none is tried that is known to leave more than it.
+ghost use Rattle.std.specs.Prelude.{◌≡◌, ◌≤◌, ◌<◌, ◌+◌, ◌^◌, true, false, All, IfOk, IfSome, OnErr, take, drop, length};
+ghost use Rattle.pl_world.specs.Legal.{left_after};
+ghost use Rattle.pl_outlook.specs.Bounds.{AreLeast};
+ghost use Rattle.pl_choose.specs.Aimed.{IsAimed};
+ghost use Rattle.pl_choose.specs.Found.{IsAllowed};
+ghost use Rattle.pl_choose.specs.Tried.{above, best_of};
+ghost use Rattle.pl_choose.specs.Picked.{IsPicked};
+
+use crate::alone::{Alone, try_alone};
+use crate::best::Best;
+use crate::bounded::{best_by_bounds, lowest_of, lowest_place};
+use crate::hopes::hopes_of;
+use crate::picked::Picked;
+use crate::purpose::{Purpose, enough_for};
+use crate::tries::{Tried, better};
+use pl_board::Board;
+use pl_plan::RepairMove;
+use std::alloc::{AllocError, Global};
+
+/// What comes of the aim.
+#[derive(Clone, Copy, Debug)]
+pub(crate) enum Aimed {
+    /// It is the best of all, and stays made.
+    Made(RepairMove),
+    /// It and those before it are tried.
+    Passed(Tried),
+}
+
+// What those are tried against that stand before the aim: one that leaves no more than the aim is better than it.
+fn above(best: Best, aim: &RepairMove, left: usize) -> Best
+    requires { left < 2 ^ 63 }
+    ensures { result ≡ above best aim.now left }
+{
+    if left < best.left {
+        return Best {
+            mv: *aim,
+            left: left + 1,
+        };
+    }
+    best
+}
+
+// How few conflicts are enough for the move at a place to be the best: fewer than the best so far leaves and than those before it
+// leave at least, and no more than those behind it leave at least.
+fn enough_at(best: Best, bounds: &[u32], at: usize) -> Option<u32>
+    requires { at < length bounds.now }
+    ensures best { IfSome result (λ n. n < best.left) }
+    ensures before { IfSome result (λ n. All (λ bound. n < bound) (take at bounds.now)) }
+    ensures others { IfSome result (λ n. All (λ bound. n ≤ bound) (drop (at + 1) bounds.now)) }
+{
+    let so_far = best.left.min(u32::MAX as usize) as u32;
+    let before = lowest_of(so_far, &bounds[..at]);
+    match before.checked_sub(1) {
+        Some(fewer) => Some(lowest_of(fewer, &bounds[at + 1..])),
+        None => None,
+    }
+}
+
+// Tries the aim, and where it is not known to be the best of all then those before it.
+fn try_aim(
+    alloc: Global,
+    board: &mut Board,
+    best: Best,
+    moves: &[RepairMove],
+    bounds: &[u32],
+    purpose: Purpose,
+) -> Result<Aimed, AllocError>
+    requires unspoiled { board.old.spoiled ≡ false }
+    requires next { board.old.state.next_id ≤ 3999999000 }
+    requires allowed { All (IsAllowed board.old.state) moves.now }
+    requires least { AreLeast board.old.state moves.now bounds.now }
+    requires count { length bounds.now ≡ length moves.now }
+    requires some { 0 < length moves.now }
+    ensures aimed { IfOk result (λ a. IsAimed purpose best moves.now board.old a board.new) }
+    ensures err { OnErr result (board.new.spoiled ≡ true) }
+{
+    let at = lowest_place(bounds);
+    let aim = moves[at];
+    let enough = enough_for(purpose, enough_at(best, bounds, at));
+    match try_alone(alloc, board, &aim, enough)? {
+        Alone::Made => Ok(Aimed::Made(aim)),
+        Alone::Undone { left } => {
+            let first = above(best, &aim, left);
+            let before = best_by_bounds(alloc, board, first, &moves[..at], &bounds[..at])?;
+            Ok(Aimed::Passed(Tried {
+                best: better(before, &aim, left),
+                count: at + 1,
+            }))
+        }
+    }
+}
+
+/// The best of one and some others in turn, given for each of these a number of conflicts that it leaves at least. An aim is tried
+/// so often first.
+pub(crate) fn pick_by_aims(
+    alloc: Global,
+    board: &mut Board,
+    best: Best,
+    moves: &[RepairMove],
+    bounds: &[u32],
+    purpose: Purpose,
+    aims: u32,
+) -> Result<Picked, AllocError>
+    requires unspoiled { board.old.spoiled ≡ false }
+    requires next { board.old.state.next_id ≤ 3999999000 }
+    requires allowed { All (IsAllowed board.old.state) moves.now }
+    requires least { AreLeast board.old.state moves.now bounds.now }
+    ensures picked { IfOk result (λ p. IsPicked purpose (λ m. m ≡ (best_of (left_after board.old.state) best moves.now).mv) board.old p board.new) }
+    ensures err { OnErr result (board.new.spoiled ≡ true) }
+{
+    let hopes = hopes_of(alloc, board, best, moves, bounds)?;
+    if hopes.moves.is_empty() {
+        return Ok(Picked::Found(best.mv));
+    }
+    if aims == 0 {
+        let best = best_by_bounds(alloc, board, best, &hopes.moves, &hopes.bounds)?;
+        return Ok(Picked::Found(best.mv));
+    }
+    match try_aim(alloc, board, best, &hopes.moves, &hopes.bounds, purpose)? {
+        Aimed::Made(mv) => Ok(Picked::Made(mv)),
+        Aimed::Passed(tried) => pick_by_aims(
+            alloc,
+            board,
+            tried.best,
+            &hopes.moves[tried.count..],
+            &hopes.bounds[tried.count..],
+            purpose,
+            aims - 1,
+        ),
+    }
+}

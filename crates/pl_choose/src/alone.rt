@@ -1,0 +1,42 @@
+//! A move that is tried alone.
+ghost use Rattle.std.specs.Prelude.{◌≡◌, ◌≤◌, true, false, IfOk, OnErr};
+ghost use Rattle.pl_choose.specs.Alone.{IsTriedAlone};
+ghost use Rattle.pl_choose.specs.Found.{IsAllowed};
+
+use crate::trial::exact;
+use pl_board::Board;
+use pl_moves::{Attempt, attempt};
+use pl_plan::RepairMove;
+use pl_points::{Quiet, Steps};
+use std::alloc::{AllocError, Global};
+
+/// What comes of it.
+#[derive(Clone, Copy, Debug)]
+pub(crate) enum Alone {
+    /// It leaves few enough conflicts, and stays made.
+    Made,
+    /// It leaves so many, and is undone.
+    Undone { left: usize },
+}
+
+/// Tries a move. Where it leaves no more conflicts than are enough it stays made. Want of memory spoils the board.
+pub(crate) fn try_alone(
+    alloc: Global,
+    board: &mut Board,
+    mv: &RepairMove,
+    enough: Option<u32>,
+) -> Result<Alone, AllocError>
+    requires unspoiled { board.old.spoiled ≡ false }
+    requires next { board.old.state.next_id ≤ 3999999000 }
+    requires allowed { IsAllowed board.old.state mv.now }
+    ensures tried { IfOk result (λ a. IsTriedAlone mv.now enough board.old a board.new) }
+    ensures err { OnErr result (board.new.spoiled ≡ true) }
+{
+    match attempt(alloc, board, mv, enough, &mut Steps::new(Quiet))? {
+        Attempt::Made => Ok(Alone::Made),
+        Attempt::Undone { left } => {
+            let left = exact(alloc, board, mv, left)?;
+            Ok(Alone::Undone { left })
+        }
+    }
+}
