@@ -3,7 +3,7 @@ use crate::reading::{conflict, repair};
 use crate::values::{assert_conflicts, assert_values};
 use pl_board::Board;
 use pl_cand::{candidates, places, spread};
-use pl_moves::{legal, proper};
+use pl_moves::{is_legal, legal, proper};
 use pl_plan::{Evaluated, RepairMove};
 use pl_world::Refusal;
 use std::alloc::Global;
@@ -12,7 +12,9 @@ use std::process::Abort;
 /// Why a proper move is refused.
 fn refusal(rt: &impl Abort, board: &Board, mv: &RepairMove) -> Option<Refusal> {
     assert!(rt; !board.spoiled() && proper(board, mv));
-    legal(board, mv).err()
+    let refused = legal(board, mv).err();
+    assert!(rt; is_legal(board, mv) == refused.is_none());
+    refused
 }
 
 fn copied(rt: &impl Abort, alloc: Global, board: &Board) -> Board {

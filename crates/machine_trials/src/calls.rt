@@ -4,8 +4,8 @@ ghost use Rattle.std.specs.List.{list_any};
 ghost use Rattle.pl_entry.specs.Bounds.{AreOptions};
 
 use crate::reading::{model, number, word};
-use pl_cand::{Chooser, Proposal, is_stuck};
-use pl_choose::{Least, Seeded};
+use pl_cand::is_stuck;
+use pl_choose::Least;
 use pl_conflict::{Code, Conflict};
 use pl_entry::{Entry, Reply};
 use pl_facts::Options;
@@ -17,21 +17,21 @@ use std::sync::Arc;
 
 const MODEL: &str = "horizon 100 lead 30 kind obs { duration 5 }";
 
-const BOUNDS: Options = Options {
+pub(crate) const BOUNDS: Options = Options {
     turns: 8,
     live: 10000,
     goals: 20000,
     entries: 250000,
 };
 
-fn fresh(rt: &impl Abort, alloc: Global, options: Options) -> Machine
+pub(crate) fn fresh(rt: &impl Abort, alloc: Global, options: Options) -> Machine
     requires { AreOptions options }
 {
     let model = Arc::new(alloc, model(rt, alloc, MODEL)).expect(rt, "memory");
     Machine::fresh(alloc, model, options).expect(rt, "memory")
 }
 
-fn open_goal(number: u32, earliest: u32, latest: u32) -> Conflict {
+pub(crate) fn open_goal(number: u32, earliest: u32, latest: u32) -> Conflict {
     Conflict {
         from: latest,
         code: Code::OpenGoal,
@@ -233,7 +233,7 @@ fn has_nothing_to_do_at_first(rt: HostRuntime) {
 }
 
 /// A machine with one open goal.
-fn asked(rt: &impl Abort, alloc: Global) -> Machine {
+pub(crate) fn asked(rt: &impl Abort, alloc: Global) -> Machine {
     let mut machine = fresh(rt, alloc, BOUNDS);
     play(rt, alloc, &mut machine, "goal 1 obs 10 20 must = Ok(Done)");
     machine
@@ -261,34 +261,6 @@ fn proposes_an_activity_for_a_goal(rt: HostRuntime) {
     assert!(rt; proposal.mv == add);
 }
 
-/// The next repair by a chooser, on a copy of a machine's board.
-fn next_repair<C: Chooser>(
-    rt: &impl Abort,
-    alloc: Global,
-    machine: &Machine,
-    chooser: &mut C,
-) -> Option<Proposal> {
-    let board = machine.board();
-    assert!(rt; !board.spoiled());
-    let mut copy = board.copy(alloc).expect(rt, "memory");
-    assert!(rt; !copy.spoiled() && copy.next_id() <= 3_999_999_000);
-    chooser.next_repair(alloc, &mut copy).expect(rt, "memory")
-}
-
-#[test]
-fn finds_the_next_repair(rt: HostRuntime) {
-    let alloc = rt.alloc();
-    let machine = asked(&rt, alloc);
-    let next = next_repair(&rt, alloc, &machine, &mut Least).expect(&rt, "a repair");
-    let add = RepairMove::Add {
-        kind: 0,
-        start: 10,
-        goal: Some(1),
-    };
-    assert!(rt; next.conflict == open_goal(1, 10, 20));
-    assert!(rt; next.mv == add);
-}
-
 #[test]
 fn tells_whether_it_is_stuck(rt: HostRuntime) {
     let alloc = rt.alloc();
@@ -296,15 +268,6 @@ fn tells_whether_it_is_stuck(rt: HostRuntime) {
     let board = machine.board();
     assert!(rt; !board.spoiled());
     assert!(rt; !is_stuck(alloc, board).expect(&rt, "memory"));
-}
-
-#[test]
-fn finds_no_repair_where_nothing_is_wrong(rt: HostRuntime) {
-    let alloc = rt.alloc();
-    let machine = fresh(&rt, alloc, BOUNDS);
-    assert!(rt; next_repair(&rt, alloc, &machine, &mut Least).is_none());
-    let mut seeded = Seeded::new(7);
-    assert!(rt; next_repair(&rt, alloc, &machine, &mut seeded).is_none());
 }
 
 #[test]
