@@ -114,8 +114,14 @@ impl WatchedState {
         let given = asked_by(alloc, &self.state, &self.values, &gone)?;
         self.lines
             .give_back(&self.state, &given, &mut self.conflicts, steps)?;
-        let mended = pl_linked::replace(alloc, &mut self.state, &mut self.links, &gone, placed)?;
-        self.values.replace(alloc, &self.state, &gone, placed)?;
+        let mended = pl_linked::replace(
+            alloc,
+            &mut self.state,
+            &mut self.values,
+            &mut self.links,
+            &gone,
+            placed,
+        )?;
         let taken = asked_of(alloc, &self.state, &self.values, placed)?;
         self.lines
             .take_on(&self.state, &taken, &mut self.conflicts, steps)?;

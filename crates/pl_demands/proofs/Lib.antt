@@ -2,3 +2,4 @@ pub mod Bounded
 pub mod Later
 pub mod Grounds
 pub mod Resting
+pub mod Giving

@@ -2,3 +2,4 @@ pub mod Bounds
 pub mod Based
 pub mod Fresh
 pub mod Latest
+pub mod Amounts

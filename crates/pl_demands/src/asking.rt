@@ -1,18 +1,18 @@
 //! What activities ask of timelines.
-ghost use Rattle.std.specs.Prelude.{◌≡◌, ◌++◌, ◌≤◌, ◌≤ℤ◌, pos, true, length, map, OnOk, IfOk, IfSome, Some, All};
-ghost use Rattle.pl_model.specs.Values.{value_of, NamesBelow};
+ghost use Rattle.std.specs.Prelude.{◌≡◌, ◌++◌, ◌≤◌, ◌≤ℤ◌, pos, true, length, map, unwrap_or, OnOk, IfOk, Some};
 ghost use Rattle.pl_plan.specs.Activities.{activity_of};
 ghost use Rattle.pl_plan.specs.Fitting.{kind_of};
-ghost use Rattle.pl_plan.specs.Firm.{is_within, amount_of, has_amount};
+ghost use Rattle.pl_plan.specs.Firm.{is_within};
 ghost use Rattle.pl_level.specs.Effects.{effect_of};
 ghost use Rattle.pl_links.specs.Broken.{point_of};
-ghost use Rattle.pl_world.specs.PlanStates.{numbered, reservations_in, row_of, end_at};
+ghost use Rattle.pl_world.specs.PlanStates.{numbered, reservations_in, amounts_at, end_at};
 ghost use Rattle.pl_world.specs.Whole.{IsWhole};
-ghost use Rattle.pl_world.specs.Demands.{amount_in, demand_of, asked_for, demands_until, demands_at, demands_of};
+ghost use Rattle.pl_world.specs.Demands.{demand_of, demands_until, demands_at, demands_of};
+ghost use Rattle.pl_demands.specs.Amounts.{is_given, AreGiven, asked_with, asked_by};
 
 use pl_capacity::Use;
 use pl_level::Effect;
-use pl_model::{Expr, Model, Point, Reservation, eval};
+use pl_model::{Model, Point, Reservation};
 use pl_plan::{Activity, Evaluated};
 use pl_state::{Must, Setting};
 use pl_world::{Asked, Demand, PlanState};
@@ -28,12 +28,12 @@ pub fn demands_with(
 ) -> Result<(), AllocError>
     requires whole { IsWhole s.now }
     requires live { activity_of a.now.id s.now.plan.activities ≡ Some a.now }
-    requires values { evaluated.now.values ≡ row_of s.now a.now }
+    requires amounts { evaluated.now.amounts ≡ amounts_at s.now a.now }
     requires end { evaluated.now.end ≡ end_at s.now a.now }
     ensures { OnOk result (out.new.items ≡ out.old.items ++ demands_at s.now a.now) }
 {
     match evaluated.end {
-        Some(end) => add_until(s, a, end, evaluated.values.as_slice(), out),
+        Some(end) => add_until(s, a, end, evaluated.amounts.as_slice(), out),
         None => Ok(()),
     }
 }
@@ -71,18 +71,18 @@ fn add_until(
     s: &PlanState,
     a: &Activity,
     end: u32,
-    values: &[Option<i64>],
+    amounts: &[Option<i64>],
     out: &mut Vec<Demand>,
 ) -> Result<(), AllocError>
     requires whole { IsWhole s.now }
     requires live { activity_of a.now.id s.now.plan.activities ≡ Some a.now }
     requires end { end_at s.now a.now ≡ Some end }
-    requires values { values.now ≡ row_of s.now a.now }
+    requires amounts { amounts.now ≡ amounts_at s.now a.now }
     ensures { OnOk result (out.new.items ≡ out.old.items ++ demands_until s.now a.now end) }
 {
     let reservations = reservations_in(s.model.get(), a);
     out.reserve(reservations.len())?;
-    add_demands(a, end, values, reservations, out)?;
+    add_demands(a, end, amounts, reservations, out)?;
     Ok(())
 }
 
@@ -98,48 +98,47 @@ fn reservations_in<'m>(model: &'m Model, a: &Activity) -> &'m [Reservation]
 fn add_demands(
     a: &Activity,
     end: u32,
-    values: &[Option<i64>],
+    amounts: &[Option<i64>],
     reservations: &[Reservation],
     out: &mut Vec<Demand>,
 ) -> Result<(), AllocError>
     requires few { length reservations.now ≤ 32 }
-    requires amounts { All (λ r. has_amount values.now r ≡ true) reservations.now }
-    requires names { All (λ r. IfSome (amount_of r) (NamesBelow (length values.now))) reservations.now }
-    ensures { OnOk result (out.new.items ≡ out.old.items ++ map (asked_for a.now.id a.now.start end values.now) (numbered 0 reservations.now)) }
+    requires amounts { AreGiven amounts.now reservations.now }
+    ensures { OnOk result (out.new.items ≡ out.old.items ++ map (asked_by a.now.id a.now.start end amounts.now) (numbered 0 reservations.now)) }
 {
     for (number, reservation) in reservations.iter().enumerate() {
-        out.push(asked_for(a, end, values, number as u32, reservation))?;
+        let amount = amounts[number];
+        out.push(asked_with(a, end, amount, number as u32, reservation))?;
     }
     Ok(())
 }
 
-fn asked_for(
+fn asked_with(
     a: &Activity,
     end: u32,
-    values: &[Option<i64>],
+    amount: Option<i64>,
     number: u32,
     reservation: &Reservation,
 ) -> Demand
-    requires amount { has_amount values.now reservation.now ≡ true }
-    requires names { IfSome (amount_of reservation.now) (NamesBelow (length values.now)) }
-    ensures { result ≡ asked_for a.now.id a.now.start end values.now (number, reservation.now) }
+    requires { is_given amount reservation.now ≡ true }
+    ensures { result ≡ asked_with a.now.id a.now.start end amount (number, reservation.now) }
 {
     match reservation {
-        Reservation::Take(line, amount) => Demand {
+        Reservation::Take(line, _) => Demand {
             line: *line,
             asked: Asked::Use(Use {
                 from: a.start,
                 to: end,
-                amount: amount_in(amount, values),
+                amount: given(amount),
             }),
         },
-        Reservation::Raise(line, amount, point) => {
+        Reservation::Raise(line, _, point) => {
             let at = moment(*point, a.start, end);
-            effect_at(*line, at, amount_in(amount, values))
+            effect_at(*line, at, given(amount))
         }
-        Reservation::Lower(line, amount, point) => {
+        Reservation::Lower(line, _, point) => {
             let at = moment(*point, a.start, end);
-            effect_at(*line, at, -amount_in(amount, values))
+            effect_at(*line, at, -given(amount))
         }
         Reservation::Put(line, state, point) => Demand {
             line: *line,
@@ -181,14 +180,14 @@ fn moment(point: Point, start: u32, end: u32) -> u32
     }
 }
 
-fn amount_in(amount: &Expr, values: &[Option<i64>]) -> i64
-    requires within { is_within (pos 0) (pos 1000000000) (value_of amount.now values.now) ≡ true }
-    requires names { NamesBelow (length values.now) amount.now }
-    ensures value { result ≡ amount_in values.now amount.now }
+// The amount that was asked for.
+fn given(amount: Option<i64>) -> i64
+    requires { is_within (pos 0) (pos 1000000000) amount ≡ true }
+    ensures value { result ≡ unwrap_or amount (pos 0) }
     ensures least { pos 0 ≤ℤ result }
     ensures most { result ≤ℤ pos 1000000000 }
 {
-    match eval(amount, values) {
+    match amount {
         Some(value) => value,
         None => unreachable!(),
     }

@@ -1,5 +1,5 @@
 -- Activities of a plan that come into a store one after another.
-use Rattle.std.specs.Prelude.{◌≡◌, List, [], ◌∷◌, Some}
+use Rattle.std.specs.Prelude.{◌≡◌, ℕ, List, [], ◌∷◌, Option, Some}
 use Rattle.std.specs.List.{fold}
 use Rattle.pl_plan.specs.declared.activity.Activity.{Activity}
 use Rattle.pl_plan.specs.Activities.{activity_of}
@@ -7,6 +7,10 @@ use Rattle.pl_links.specs.declared.placed.Placed.{Placed}
 use Rattle.pl_links.specs.Items.{CanBePlaced, with_item}
 use Rattle.pl_world.specs.declared.plan_state.PlanState.{PlanState}
 use Rattle.pl_world.specs.Links.{placed_of}
+
+-- an activity with this end
+abbrev pub placed_with : Activity → Option ℕ → Placed
+placed_with a end = record { id = a.id; kind = a.kind; start = a.start; end = end; parent = a.parent; detail = a.detail }
 
 -- with these, each with its end
 abbrev pub all_with : PlanState → List Activity → List Placed → List Placed

@@ -1,4 +1,4 @@
-//! A plan and its store go on together.
+//! A plan, what its activities come to, and its store go on together.
 ghost use Rattle.std.specs.Prelude.{◌≡◌, ◌++◌, false, OnOk, OnErr, IfOk, filter};
 ghost use Rattle.std.specs.List.{flat_map};
 ghost use Rattle.pl_detect.specs.Broken.{broken_conflict};
@@ -8,6 +8,7 @@ ghost use Rattle.pl_links.specs.Sets.{has};
 ghost use Rattle.pl_world.specs.Links.{placed_in};
 ghost use Rattle.pl_world.specs.Whole.{IsWhole};
 ghost use Rattle.pl_changes.specs.Replaced.{CanReplace, with_plan};
+ghost use Rattle.pl_values.specs.Kept.{AreOf};
 ghost use Rattle.pl_linked.specs.Mended.{MendsLinks};
 ghost use Rattle.pl_linked.specs.Near.{broken_near};
 
@@ -16,52 +17,38 @@ use crate::mended::Mended;
 use crate::near::near;
 use crate::placing::place_all;
 use crate::taking::take_all;
-use pl_changes::next_after;
 use pl_conflict::Conflict;
 use pl_detect::add_all_broken;
 use pl_links::{Broken, Links};
 use pl_plan::Activity;
+use pl_values::Evaluations;
 use pl_world::PlanState;
 use std::alloc::{AllocError, Global};
-
-// The activities of the plan alone.
-fn replace_activities(
-    alloc: Global,
-    s: &mut PlanState,
-    gone: &[u32],
-    placed: &[Activity],
-) -> Result<(), AllocError>
-    requires whole { IsWhole s.old }
-    requires can { CanReplace s.old gone.now placed.now }
-    ensures ok { OnOk result (s.new ≡ with_plan gone.now placed.now s.old) }
-    ensures err { OnErr result (s.new ≡ record s.old { plan = s.new.plan }) }
-{
-    pl_changes::replace(alloc, &mut s.plan, gone, placed)?;
-    s.next_id = next_after(s.next_id, placed);
-    Ok(())
-}
 
 // Tells what may be broken or mended by it.
 fn replace_placed(
     alloc: Global,
     s: &mut PlanState,
+    values: &mut Evaluations,
     links: &mut Links,
     gone: &[u32],
     placed: &[Activity],
 ) -> Result<Vec<Broken>, AllocError>
     requires whole { IsWhole s.old }
     requires can { CanReplace s.old gone.now placed.now }
+    requires values { AreOf s.old values.old }
     requires kept { links.old ≡ kept_of s.old.model (placed_in s.old) }
     ensures ok { OnOk result (s.new ≡ with_plan gone.now placed.now s.old) }
     ensures whole { OnOk result (IsWhole s.new) }
+    ensures values { OnOk result (AreOf s.new values.new) }
     ensures kept { OnOk result (links.new ≡ kept_of s.new.model (placed_in s.new)) }
     ensures told { IfOk result (λ told. (b : Broken) → has b told.items ≡ false → has b links.new.broken ≡ has b links.old.broken) }
     ensures err { OnErr result (s.new ≡ record s.old { plan = s.new.plan; next_id = s.new.next_id }) }
 {
     let mut told = Vec::new(alloc);
     take_all(s.model.get(), links, gone, &mut told)?;
-    replace_activities(alloc, s, gone, placed)?;
-    place_all(s, links, placed, &mut told)?;
+    pl_values::replace(alloc, s, values, gone, placed)?;
+    place_all(s, values, links, placed, &mut told)?;
     Ok(told)
 }
 
@@ -82,19 +69,22 @@ fn coming(
     conflicts_of(alloc, s, all.as_slice())
 }
 
-/// Takes the activities of `gone` out of a plan and its store, puts those of `placed` in, and answers which conflicts of
-/// links and orders went and came. After want of memory the plan and the store may be changed in part.
+/// Takes the activities of `gone` out of a plan and its store, puts those of `placed` in, keeps what they come to, and answers
+/// which conflicts of links and orders went and came. After want of memory all three may be changed in part.
 pub fn replace(
     alloc: Global,
     s: &mut PlanState,
+    values: &mut Evaluations,
     links: &mut Links,
     gone: &[u32],
     placed: &[Activity],
 ) -> Result<Mended, AllocError>
     requires whole { IsWhole s.old }
     requires can { CanReplace s.old gone.now placed.now }
+    requires values { AreOf s.old values.old }
     requires kept { links.old ≡ kept_of s.old.model (placed_in s.old) }
     ensures ok { OnOk result (s.new ≡ with_plan gone.now placed.now s.old) }
+    ensures values { OnOk result (AreOf s.new values.new) }
     ensures kept { OnOk result (links.new ≡ kept_of s.new.model (placed_in s.new)) }
     ensures mended { IfOk result (λ m. MendsLinks s.old s.new m.went.items m.came.items) }
     ensures err { OnErr result (s.new ≡ record s.old { plan = s.new.plan; next_id = s.new.next_id }) }
@@ -102,7 +92,7 @@ pub fn replace(
     let ids = near(alloc, s, gone, placed)?;
     let before = broken_near(alloc, links, ids.as_slice())?;
     let mut went = conflicts_of(alloc, s, before.as_slice())?;
-    let told = replace_placed(alloc, s, links, gone, placed)?;
+    let told = replace_placed(alloc, s, values, links, gone, placed)?;
     add_all_broken(alloc, s, told.as_slice(), &mut went)?;
     let came = coming(alloc, s, links, ids.as_slice(), told.as_slice())?;
     Ok(Mended { went, came })

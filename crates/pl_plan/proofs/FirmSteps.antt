@@ -14,7 +14,7 @@ use Rattle.pl_plan.specs.declared.activity.Activity.{Activity}
 use Rattle.pl_plan.specs.Activities.{activity_of}
 use Rattle.pl_plan.specs.Fitting.{kind_of}
 use Rattle.pl_plan.specs.Values.{Row, values_of}
-use Rattle.pl_plan.specs.Firm.{amount_of, is_firm_with, is_firm_of, is_firm, end_with, end_in, end_of}
+use Rattle.pl_plan.specs.Firm.{amount_of, amounts_with, amounts_in, amounts_of, is_firm_with, is_firm_of, is_firm, end_with, end_in, end_of}
 
 pub checked_kind : (model : Model) → IsChecked model → (i : ℕ) (k : Kind) → slice_get model.kinds i ≡ Some k → IsCheckedKind model k
 checked_kind model checked i k is = subst (IsCheckedKind model) (get_or_from_slice_get model.kinds i k k is) (checked.kinds i k (slice_get_within model.kinds i k is))
@@ -41,6 +41,10 @@ module _ (model : Model) (xs : List Activity) (id : ℕ) (a : Activity) (k : Kin
   unfolding end_of
   end_is = ap (end_with model.horizon k a.start) values
       ∙ sym (ap (λ o. end_in model o (values_of model xs id)) here ∙ ap (option_and_then (λ j. end_with model.horizon j a.start (values_of model xs id))) kind)
+
+  pub amounts_are : amounts_with row k.reservations ≡ amounts_of model xs id
+  unfolding amounts_of
+  amounts_are = ap (λ v. amounts_with v k.reservations) values ∙ sym (ap (λ o. amounts_in o (values_of model xs id)) (ap (option_and_then (kind_of model)) here ∙ kind))
 
 -- an answer that is none exactly where a test fails
 pub is_there : (o : Option ℕ) (b : Bool) → IsNone o ↔ (b ≡ false) → is_some o ≡ b

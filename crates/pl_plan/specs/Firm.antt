@@ -1,5 +1,5 @@
 -- When an activity is firm, and when it ends.
-use Rattle.std.specs.Prelude.{ℕ, suc, ◌+◌, nat_le, ℤ, pos, negsuc, int_le, Bool, true, false, ◌&&◌, List, [], ◌∷◌, slice_index_or, Option, Some, None, is_some, option_and_then, if◌then◌else◌}
+use Rattle.std.specs.Prelude.{ℕ, suc, ◌+◌, nat_le, ℤ, pos, negsuc, int_le, Bool, true, false, ◌&&◌, List, [], ◌∷◌, map, slice_index_or, Option, Some, None, is_some, option_and_then, if◌then◌else◌}
 use Rattle.std.specs.Option.{option_map}
 use Rattle.std.specs.List.{list_all}
 use Rattle.pl_model.specs.declared.expressions.Expr.{Expr}
@@ -38,6 +38,22 @@ is_amount values (Some e) = is_within (pos 0) (pos 1000000000) (value_of e value
 
 abbrev pub has_amount : Row → Reservation → Bool
 has_amount values r = is_amount values (amount_of r)
+
+-- what the amount comes to: none where none is asked for, or where its expression has no value
+abbrev pub amount_with : Row → Reservation → Option ℤ
+amount_with values r = option_and_then (λ e. value_of e values) (amount_of r)
+
+-- one place a reservation
+abbrev pub amounts_with : Row → List Reservation → Row
+amounts_with values reservations = map (amount_with values) reservations
+
+abbrev pub amounts_in : Option Kind → Row → Row
+amounts_in None values = []
+amounts_in (Some k) values = amounts_with values k.reservations
+
+-- the amounts of the reservations of the activity of this id
+unfoldable pub amounts_of : Model → List Activity → ℕ → Row
+amounts_of model activities id = amounts_in (option_and_then (kind_of model) (activity_of id activities)) (values_of model activities id)
 
 -- a duration in moments, where there is one from 1 to the horizon
 abbrev pub moments_in : ℕ → Option ℤ → Option ℕ

@@ -75,7 +75,7 @@ fn are_in_range(params: &[Param], values: &[Option<i64>]) -> bool
     true
 }
 
-fn amount_of(reservation: &Reservation) -> Option<&Expr>
+pub(crate) fn amount_of(reservation: &Reservation) -> Option<&Expr>
     ensures { option_copied result ≡ amount_of reservation.now }
 {
     match reservation {

@@ -2,6 +2,7 @@
 #![tactic(auto)]
 
 mod activity;
+mod amounts;
 mod evaluated;
 mod families;
 mod firmness;

@@ -9,7 +9,7 @@ use Rattle.pl_plan.specs.declared.evaluated.Evaluated.{Evaluated}
 use Rattle.pl_plan.specs.Activities.{activity_of}
 use Rattle.pl_plan.specs.Trees.{id_of}
 use Rattle.pl_plan.specs.Values.{values_of}
-use Rattle.pl_plan.specs.Firm.{end_of}
+use Rattle.pl_plan.specs.Firm.{amounts_of, end_of}
 use Rattle.pl_world.specs.declared.plan_state.PlanState.{PlanState}
 use Rattle.pl_world.specs.PlanStates.{among}
 use Rattle.pl_world.specs.Whole.{IsWhole}
@@ -64,6 +64,10 @@ module _ (s : PlanState) (gone : List ℕ) (more : List Activity) (whole : IsWho
   unfolding end_of
   same_end id in_place away = rw (same_there id in_place away, can.kept id (not_both id gone (map id_of more) in_place away)) refl
 
+  same_amounts : (id : ℕ) → among id gone ≡ false → among id (map id_of more) ≡ false → amounts_of s.model now id ≡ amounts_of s.model s.plan.activities id
+  unfolding amounts_of
+  same_amounts id in_place away = rw (same_there id in_place away, can.kept id (not_both id gone (map id_of more) in_place away)) refl
+
   -- what stays comes to the same
   stays : (id : ℕ) → among id gone ≡ false → among id (map id_of more) ≡ false → come_to s.model now id ≡ come_to s.model s.plan.activities id
   stays id in_place away = rw (same_there id in_place away) (by (activity_of id s.plan.activities) refl)
@@ -72,10 +76,11 @@ module _ (s : PlanState) (gone : List ℕ) (more : List Activity) (whole : IsWho
       by None e = refl
       by (Some a) e =
           let is : a.id ≡ id = found_id id s.plan.activities a e in
-          ap (λ n. Some (record { values = values_of s.model now n; end = end_of s.model now n })) is
-          ∙ ap (λ row. Some (record { values = row; end = end_of s.model now id })) (can.kept id (not_both id gone (map id_of more) in_place away))
-          ∙ ap (λ end. Some (record { values = values_of s.model s.plan.activities id; end = end })) (same_end id in_place away)
-          ∙ ap (λ n. Some (record { values = values_of s.model s.plan.activities n; end = end_of s.model s.plan.activities n })) (sym is)
+          ap (λ n. Some (record { values = values_of s.model now n; amounts = amounts_of s.model now n; end = end_of s.model now n })) is
+          ∙ ap (λ row. Some (record { values = row; amounts = amounts_of s.model now id; end = end_of s.model now id })) (can.kept id (not_both id gone (map id_of more) in_place away))
+          ∙ ap (λ row. Some (record { values = values_of s.model s.plan.activities id; amounts = row; end = end_of s.model now id })) (same_amounts id in_place away)
+          ∙ ap (λ end. Some (record { values = values_of s.model s.plan.activities id; amounts = amounts_of s.model s.plan.activities id; end = end })) (same_end id in_place away)
+          ∙ ap (λ n. Some (record { values = values_of s.model s.plan.activities n; amounts = amounts_of s.model s.plan.activities n; end = end_of s.model s.plan.activities n })) (sym is)
 
   -- by what is kept of those that come, of those that go alone, and of the others
   kept_after : (old new : List (ℕ × Evaluated)) → AreOf s old

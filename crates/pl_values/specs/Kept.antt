@@ -9,7 +9,7 @@ use Rattle.pl_plan.specs.declared.activity.Activity.{Activity}
 use Rattle.pl_plan.specs.declared.evaluated.Evaluated.{Evaluated}
 use Rattle.pl_plan.specs.Activities.{activity_of}
 use Rattle.pl_plan.specs.Values.{values_of}
-use Rattle.pl_plan.specs.Firm.{end_of}
+use Rattle.pl_plan.specs.Firm.{amounts_of, end_of}
 use Rattle.pl_world.specs.declared.plan_state.PlanState.{PlanState}
 use Rattle.pl_world.specs.Whole.{IsWhole}
 use Rattle.pl_changes.specs.Replaced.{CanReplace, with_plan}
@@ -18,9 +18,9 @@ use Rattle.pl_changes.specs.Replaced.{CanReplace, with_plan}
 abbrev pub kept_at : ℕ → List (ℕ × Evaluated) → Option Evaluated
 kept_at id kept = lookup (is_at (nat_cmp id)) kept
 
--- the values of an activity's parameters, and its end
+-- the values of an activity's parameters, the amounts of its reservations, and its end
 abbrev pub comes_to : Model → List Activity → Activity → Evaluated
-comes_to model activities a = record { values = values_of model activities a.id; end = end_of model activities a.id }
+comes_to model activities a = record { values = values_of model activities a.id; amounts = amounts_of model activities a.id; end = end_of model activities a.id }
 
 -- the same of the activity of this id, and nothing where there is none
 abbrev pub come_to : Model → List Activity → ℕ → Option Evaluated

@@ -1,7 +1,8 @@
 ghost use Rattle.std.specs.Prelude.{◌≡◌, ◌==◌, ℕ, [], None, Some, OnOk, if◌then◌else◌};
-ghost use Rattle.std.specs.Option.{option_copied};
+ghost use Rattle.std.specs.Option.{option_copied, option_map};
 ghost use Rattle.pl_world.specs.declared.plan_state.PlanState.{PlanState};
 ghost use Rattle.pl_values.specs.Kept.{kept_at, come_to, AreOf};
+ghost use Rattle.pl_values.specs.Shifted.{moved};
 
 use pl_lists::Copied;
 use pl_plan::Evaluated;
@@ -21,6 +22,14 @@ impl std::marker::Model for Evaluations {
     ghost Value = { List (ℕ × Evaluated) };
 
     ghost view = { λ e. e.by_id.entries };
+}
+
+fn move_along(evaluated: &mut Evaluated, from: u32, to: u32)
+    ensures { evaluated.new ≡ moved from to evaluated.old }
+{
+    if let Some(end) = evaluated.end {
+        evaluated.end = Some(to.saturating_add(end.saturating_sub(from)));
+    }
 }
 
 impl Evaluations {
@@ -54,6 +63,15 @@ impl Evaluations {
         ensures { (q : ℕ) → kept_at q self.new ≡ (if id == q then None else kept_at q self.old) }
     {
         self.by_id.remove(&id);
+    }
+
+    /// Moves the end that is kept under the id along with the start.
+    pub(crate) fn move_end(&mut self, id: u32, from: u32, to: u32)
+        ensures { (q : ℕ) → kept_at q self.new ≡ (if id == q then option_map (moved from to) (kept_at q self.old) else kept_at q self.old) }
+    {
+        if let Some(evaluated) = self.by_id.get_mut(&id) {
+            move_along(evaluated, from, to);
+        }
     }
 }
 

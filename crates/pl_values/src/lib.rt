@@ -3,7 +3,10 @@
 
 mod evaluations;
 mod mending;
+mod replacement;
 mod sharing;
+mod shifting;
 
 pub use evaluations::Evaluations;
+pub use replacement::replace;
 pub use sharing::shared_types;

@@ -49,7 +49,7 @@ impl Evaluations {
 
     /// After activities went and others came: keeps what these come to in the state that stands now,
     /// and of those that went alone nothing. What is kept of all others stays.
-    pub fn replace(
+    pub(crate) fn replace(
         &mut self,
         alloc: Global,
         s: &PlanState,

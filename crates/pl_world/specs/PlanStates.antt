@@ -11,7 +11,7 @@ use Rattle.pl_plan.specs.Activities.{activity_of}
 use Rattle.pl_plan.specs.Fitting.{kind_of}
 use Rattle.pl_plan.specs.Serving.{served_in, is_served}
 use Rattle.pl_plan.specs.Values.{Row, values_of}
-use Rattle.pl_plan.specs.Firm.{end_of}
+use Rattle.pl_plan.specs.Firm.{amounts_of, end_of}
 
 -- the least start that a repair may give
 abbrev pub floor_of : PlanState → ℕ
@@ -31,6 +31,10 @@ found s id = activity_of id s.plan.activities
 
 abbrev pub row_of : PlanState → Activity → Row
 row_of s a = values_of s.model s.plan.activities a.id
+
+-- the amounts of its reservations, one place each
+abbrev pub amounts_at : PlanState → Activity → Row
+amounts_at s a = amounts_of s.model s.plan.activities a.id
 
 -- its start and its duration together, where it is firm
 abbrev pub end_at : PlanState → Activity → Option ℕ

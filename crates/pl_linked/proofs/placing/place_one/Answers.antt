@@ -1,10 +1,12 @@
-use Rattle.std.proofs.Common.{subst, sym, List}
-use Rattle.pl_links.specs.declared.broken.Broken.{Broken}
-use Rattle.pl_linked.specs.Telling.{TellsAll}
-use Rattle.pl_linked.proofs.Telling.{tells_changes}
+use Rattle.std.proofs.Common.{ap}
+use Rattle.pl_plan.specs.declared.evaluated.Evaluated.{Evaluated}
+use Rattle.pl_values.proofs.Reading.{kept_is, none_kept}
 use Rattle.pl_linked.proofs.placing.place_one.Goals as goal
 
-pub returns-clause-told : goal.returns-clause-told
-returns-clause-told c =
-    subst (λ (xs : List Broken). TellsAll c.args.told.now.items xs c.args.links.now.broken c.place_telling.new.self.broken) (sym c.in_ok-add_changes.ensures)
-    (tells_changes c.args.told.now.items c.args.links.now.broken c.place_telling.new.self.broken c.in_ok-changes.changes c.in_ok-changes.ensures.changes)
+pub place_with-requires-clause-end : goal.place_with-requires-clause-end
+place_with-requires-clause-end c =
+    let s = c.args.s.now in
+    ap (λ (e : Evaluated). e.end) (kept_is s.model s.plan.activities c.args.a.now c.requires.live c.in-Some.evaluated.now (c.in-Some.ensures.of_state s c.requires.values))
+
+pub unreachable-requires : goal.unreachable-requires
+unreachable-requires c = let s = c.args.s.now in none_kept s.model s.plan.activities c.args.a.now c.requires.live (c.in-None.ensures.of_state s c.requires.values)

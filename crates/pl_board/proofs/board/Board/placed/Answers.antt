@@ -1,4 +1,4 @@
-use Rattle.std.proofs.Common.{◌≡◌, ◌∙◌, ap}
+use Rattle.std.proofs.Common.{◌∙◌, ap}
 use Rattle.pl_links.specs.Items.{item_of}
 use Rattle.pl_links.specs.Kept.{Kept}
 use Rattle.pl_world.specs.declared.plan_state.PlanState.{PlanState}

@@ -46,21 +46,6 @@ give_back-requires-clause-named g c = are_named c.args.self.now.state c.args.sel
 pub replace-requires-clause-can : goal.replace-requires-clause-can
 replace-requires-clause-can g c = rw c.deref-4.ensures.value (can_once c.args.self.now.state c.args.gone.now c.in_ok-gone.gone.items c.args.placed.now c.requires.watched.whole c.in_ok-gone.ensures.same c.requires.can)
 
-pub replace-requires-2-clause-whole : goal.replace-requires-2-clause-whole
-replace-requires-2-clause-whole g c =
-    let s = c.args.self.now.state in
-    let once = c.in_ok-gone.gone.items in
-    let is : c.replace.new.s ≡ with_plan once c.args.placed.now s = c.in_ok-mended.ensures.ok ∙ ap (λ ids. with_plan ids c.args.placed.now s) c.deref-4.ensures.value in
-    rw is (whole_replaced s once c.args.placed.now c.requires.watched.whole (can_once s c.args.gone.now once c.args.placed.now c.requires.watched.whole c.in_ok-gone.ensures.same c.requires.can))
-
-pub replace-requires-2-clause-live : goal.replace-requires-2-clause-live
-replace-requires-2-clause-live g c =
-    let s = c.args.self.now.state in
-    let once = c.in_ok-gone.gone.items in
-    let is : c.replace.new.s ≡ with_plan once c.args.placed.now s = c.in_ok-mended.ensures.ok ∙ ap (λ ids. with_plan ids c.args.placed.now s) c.deref-4.ensures.value in
-    subst (λ (u : PlanState). All (λ (a : Activity). activity_of a.id u.plan.activities ≡ Some a) c.args.placed.now) (sym is)
-    (found_placed s once c.args.placed.now c.requires.watched.whole (can_once s c.args.gone.now once c.args.placed.now c.requires.watched.whole c.in_ok-gone.ensures.same c.requires.can))
-
 pub asked_of-requires-clause-whole : goal.asked_of-requires-clause-whole
 asked_of-requires-clause-whole g c =
     let s = c.args.self.now.state in
@@ -76,15 +61,6 @@ asked_of-requires-clause-live g c =
     subst (λ (u : PlanState). All (λ (a : Activity). activity_of a.id u.plan.activities ≡ Some a) c.args.placed.now) (sym is)
     (found_placed s once c.args.placed.now c.requires.watched.whole (can_once s c.args.gone.now once c.args.placed.now c.requires.watched.whole c.in_ok-gone.ensures.same c.requires.can))
 
-pub asked_of-requires-clause-values : goal.asked_of-requires-clause-values
-asked_of-requires-clause-values g c =
-    let s = c.args.self.now.state in
-    let once = c.in_ok-gone.gone.items in
-    let more = c.args.placed.now in
-    let t = c.replace.new.s in
-    let is : t ≡ with_plan once more s = c.in_ok-mended.ensures.ok ∙ ap (λ ids. with_plan ids more s) c.deref-4.ensures.value in
-    c.in_ok-replace.ensures s c.requires.watched.whole (rw c.deref-5.ensures.value (can_once s c.args.gone.now once more c.requires.watched.whole c.in_ok-gone.ensures.same c.requires.can)) (is ∙ ap (λ ids. with_plan ids more s) (sym c.deref-5.ensures.value)) c.requires.watched.values
-
 pub take_on-requires-clause-asked : goal.take_on-requires-clause-asked
 take_on-requires-clause-asked g c =
     let s = c.args.self.now.state in
@@ -95,7 +71,7 @@ take_on-requires-clause-asked g c =
     let can = can_once s c.args.gone.now once more c.requires.watched.whole c.in_ok-gone.ensures.same c.requires.can in
     let left : IsMoved c.args.self.now.lines rest (less (gone_from s once)) = subst (λ (ds : List Demand). IsMoved c.args.self.now.lines rest (less ds)) given c.in_ok-give_back.ensures.moved in
     let is : c.replace.new.s ≡ with_plan once more s = c.in_ok-mended.ensures.ok ∙ ap (λ ids. with_plan ids more s) c.deref-4.ensures.value in
-    let taken : c.deref-6.result.now ≡ coming_to c.replace.new.s more = c.deref-6.ensures.value ∙ c.in_ok-taken.ensures in
+    let taken : c.deref-5.result.now ≡ coming_to c.replace.new.s more = c.deref-5.ensures.value ∙ c.in_ok-taken.ensures in
     subst (λ (ds : List Demand). All (CanAsk c.replace.new.s rest) ds) (sym taken)
     (subst (λ (u : PlanState). All (CanAsk u rest) (coming_to u more)) (sym is) (come_askable s once more c.requires.watched.whole can (once_rising once c.in_ok-gone.ensures.rising) c.args.self.now.lines rest c.requires.watched.timelines left))
 
@@ -109,7 +85,7 @@ take_on-requires-clause-room g c =
     let can = can_once s c.args.gone.now once more c.requires.watched.whole c.in_ok-gone.ensures.same c.requires.can in
     let left : IsMoved c.args.self.now.lines rest (less (gone_from s once)) = subst (λ (ds : List Demand). IsMoved c.args.self.now.lines rest (less ds)) given c.in_ok-give_back.ensures.moved in
     let is : c.replace.new.s ≡ with_plan once more s = c.in_ok-mended.ensures.ok ∙ ap (λ ids. with_plan ids more s) c.deref-4.ensures.value in
-    let taken : c.deref-6.result.now ≡ coming_to c.replace.new.s more = c.deref-6.ensures.value ∙ c.in_ok-taken.ensures in
+    let taken : c.deref-5.result.now ≡ coming_to c.replace.new.s more = c.deref-5.ensures.value ∙ c.in_ok-taken.ensures in
     subst (λ (ds : List Demand). HaveRoom rest ds) (sym taken)
     (subst (λ (u : PlanState). HaveRoom rest (coming_to u more)) (sym is) (rest_room s once more c.requires.watched.whole can (once_rising once c.in_ok-gone.ensures.rising) c.args.self.now.lines rest c.requires.watched.timelines left))
 
@@ -132,15 +108,6 @@ turn-requires-clause-whole g c =
     let is : c.replace.new.s ≡ with_plan once c.args.placed.now s = c.in_ok-mended.ensures.ok ∙ ap (λ ids. with_plan ids c.args.placed.now s) c.deref-4.ensures.value in
     rw is (whole_replaced s once c.args.placed.now c.requires.watched.whole (can_once s c.args.gone.now once c.args.placed.now c.requires.watched.whole c.in_ok-gone.ensures.same c.requires.can))
 
-pub turn-requires-clause-values : goal.turn-requires-clause-values
-turn-requires-clause-values g c =
-    let s = c.args.self.now.state in
-    let once = c.in_ok-gone.gone.items in
-    let more = c.args.placed.now in
-    let t = c.replace.new.s in
-    let is : t ≡ with_plan once more s = c.in_ok-mended.ensures.ok ∙ ap (λ ids. with_plan ids more s) c.deref-4.ensures.value in
-    c.in_ok-replace.ensures s c.requires.watched.whole (rw c.deref-5.ensures.value (can_once s c.args.gone.now once more c.requires.watched.whole c.in_ok-gone.ensures.same c.requires.can)) (is ∙ ap (λ ids. with_plan ids more s) (sym c.deref-5.ensures.value)) c.requires.watched.values
-
 pub returns-clause-state : goal.returns-clause-state
 returns-clause-state g c =
     let s = c.args.self.now.state in
@@ -161,20 +128,20 @@ returns-clause-watched g c =
     let given : c.deref-3.result.now ≡ gone_from s once = c.deref-3.ensures.value ∙ c.in_ok-given.ensures ∙ ap (gone_from s) c.deref-2.ensures.value in
     let left : IsMoved w.lines rest (less (gone_from s once)) = subst (λ (ds : List Demand). IsMoved w.lines rest (less ds)) given c.in_ok-give_back.ensures.moved in
     let is : t ≡ with_plan once more s = c.in_ok-mended.ensures.ok ∙ ap (λ ids. with_plan ids more s) c.deref-4.ensures.value in
-    let taken : c.deref-6.result.now ≡ coming_to t more = c.deref-6.ensures.value ∙ c.in_ok-taken.ensures in
+    let taken : c.deref-5.result.now ≡ coming_to t more = c.deref-5.ensures.value ∙ c.in_ok-taken.ensures in
     let held : IsMoved rest full (asked_at (coming_to t more)) = subst (λ (ds : List Demand). IsMoved rest full (asked_at ds)) taken c.in_ok-take_on.ensures.moved in
     let numbers : HoldSame c.in_ok-touched.touched.numbers.items (touched_goals s once more) = subst (λ (ids : List ℕ). HoldSame c.in_ok-touched.touched.numbers.items (touched_goals s ids more)) c.deref.ensures.value c.in_ok-touched.ensures.numbers in
     let ids : HoldSame c.in_ok-touched.touched.ids.items (touched_ids s once more) = subst (λ (l : List ℕ). HoldSame c.in_ok-touched.touched.ids.items (touched_ids s l more)) c.deref.ensures.value c.in_ok-touched.ensures.ids in
     let exchange : c.turn.new.self.conflicts ≡ exchanged c.take_on.new.set (near s c.in_ok-touched.touched.numbers.items c.in_ok-touched.touched.ids.items ++ c.in_ok-mended.mended.went.items) (near t c.in_ok-touched.touched.numbers.items c.in_ok-touched.touched.ids.items ++ c.in_ok-mended.mended.came.items) =
-    c.in_ok-turn.ensures.conflicts ∙ ap (λ l. exchanged c.take_on.new.set (l ++ c.in_ok-mended.mended.went.items) (near t c.in_ok-touched.touched.numbers.items c.in_ok-touched.touched.ids.items ++ c.in_ok-mended.mended.came.items)) (c.deref-7.ensures.value ∙ c.in_ok-went.ensures) in
+    c.in_ok-turn.ensures.conflicts ∙ ap (λ l. exchanged c.take_on.new.set (l ++ c.in_ok-mended.mended.went.items) (near t c.in_ok-touched.touched.numbers.items c.in_ok-touched.touched.ids.items ++ c.in_ok-mended.mended.came.items)) (c.deref-6.ensures.value ∙ c.in_ok-went.ensures) in
     let stands = stands_replaced s w.lines w.conflicts c.args.gone.now once more c.requires.watched.whole c.requires.watched.timelines c.requires.watched.found c.requires.can c.in_ok-gone.ensures.same c.in_ok-gone.ensures.rising
     t rest full c.give_back.new.set c.take_on.new.set c.turn.new.self.conflicts c.in_ok-touched.touched.numbers.items c.in_ok-touched.touched.ids.items c.in_ok-mended.mended.went.items c.in_ok-mended.mended.came.items
     is c.in_ok-give_back.ensures.mended left c.in_ok-take_on.ensures.mended held numbers ids c.in_ok-mended.ensures.mended exchange in
-    let kept : AreOf t c.replace-2.new.self = c.in_ok-replace.ensures s c.requires.watched.whole (rw c.deref-5.ensures.value (can_once s c.args.gone.now once more c.requires.watched.whole c.in_ok-gone.ensures.same c.requires.can)) (is ∙ ap (λ ids. with_plan ids more s) (sym c.deref-5.ensures.value)) c.requires.watched.values in
+    let kept : AreOf t c.replace.new.values = c.in_ok-mended.ensures.values in
     let same = c.in_ok-turn.ensures.same in
     let is_state : c.turn.new.self.state ≡ t = ap (λ (v : WatchedState). v.state) same in
     let is_lines : c.turn.new.self.lines ≡ full = ap (λ (v : WatchedState). v.lines) same in
-    let is_values : c.turn.new.self.values ≡ c.replace-2.new.self = ap (λ (v : WatchedState). v.values) same in
+    let is_values : c.turn.new.self.values ≡ c.replace.new.values = ap (λ (v : WatchedState). v.values) same in
     let is_links : c.turn.new.self.links ≡ c.replace.new.links = ap (λ (v : WatchedState). v.links) same in
     record {
       whole = rw is_state stands.whole;

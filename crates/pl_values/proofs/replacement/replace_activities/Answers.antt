@@ -1,5 +1,5 @@
 use Rattle.pl_changes.proofs.Putting.{puttable}
-use Rattle.pl_linked.proofs.replacement.replace_activities.Goals as goal
+use Rattle.pl_values.proofs.replacement.replace_activities.Goals as goal
 
 pub replace-requires : goal.replace-requires
 replace-requires c = record {
