@@ -3,3 +3,4 @@ pub mod Named
 pub mod Stored
 pub mod Children
 pub mod BrokenConflicts
+pub mod FirmOnes

@@ -6,7 +6,7 @@ ghost use Rattle.pl_plan.specs.Fitting.{alternatives_of, kind_of};
 ghost use Rattle.pl_plan.specs.Values.{BindsBelow};
 ghost use Rattle.pl_world.specs.Whole.{IsWhole};
 ghost use Rattle.pl_world.specs.PlanStates.{end_at, row_of};
-ghost use Rattle.pl_world.specs.Activities.{activity_conflicts, bad_values_at, bindings_of, overrun_at, row_above, undetailed_at, wrong_at};
+ghost use Rattle.pl_world.specs.Activities.{activity_conflicts, bad_values_at, bindings_of, overrun_at, row_above, undetailed_at, unset_at, wrong_at};
 
 use crate::amounts::{add_bad_amounts, add_bad_duration};
 use crate::filing::{add_when, at_start};
@@ -37,6 +37,33 @@ fn add_bad_values(
     add_bad_params(s, a, kind, above, own, out)?;
     add_bad_duration(s, a, kind, own, out)?;
     add_bad_amounts(s, a, kind, own, out)?;
+    Ok(())
+}
+
+// What its values leave undone. A firm activity has them all, in range.
+fn add_of_values(
+    s: &PlanState,
+    a: &Activity,
+    kind: &Kind,
+    own: &Evaluated,
+    above: &[Option<i64>],
+    out: &mut Vec<Conflict>,
+) -> Result<(), AllocError>
+    requires whole { IsWhole s.now }
+    requires live { activity_of a.now.id s.now.plan.activities ≡ Some a.now }
+    requires kind { kind_of s.now.model a.now ≡ Some kind.now }
+    requires checked { IsCheckedKind s.now.model kind.now }
+    requires values { own.now.values ≡ row_of s.now a.now }
+    requires end { own.now.end ≡ end_at s.now a.now }
+    requires above { above.now ≡ row_above s.now a.now.parent }
+    ensures { OnOk result (out.new.items ≡ out.old.items ++ unset_at s.now a.now ++ bad_values_at s.now a.now) }
+{
+    if own.end.is_some() {
+        return Ok(());
+    }
+    let values = own.values.as_slice();
+    add_unset(s, a, kind, values, out)?;
+    add_bad_values(s, a, kind, above, values, out)?;
     Ok(())
 }
 
@@ -94,10 +121,8 @@ pub fn wrong_with(
         return Ok(());
     }
     let kind = kind_at(s, a);
-    let values = own.values.as_slice();
     add_when(out, a.start <= s.moment, at_start(a, Code::Late, 0, 0))?;
-    add_unset(s, a, kind, values, out)?;
-    add_bad_values(s, a, kind, above, values, out)?;
+    add_of_values(s, a, kind, own, above, out)?;
     add_undetailed(s, a, kind, out)?;
     add_overrun(s, a, own.end, out)?;
     Ok(())
