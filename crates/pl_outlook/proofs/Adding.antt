@@ -60,7 +60,7 @@ module _ (s : PlanState) (whole : IsWhole s) (next : s.next_id ≤ 3999999000) (
   pub may_replace : CanReplace s [] (root ∷ [])
   may_replace = can_replace s whole next (Add kind start goal) by_replacing
 
-  activities_then : then_.plan.activities ≡ xs ++ root ∷ []
+  pub activities_then : then_.plan.activities ≡ xs ++ root ∷ []
   unfolding applied
   activities_then = ap (λ (w : PlanState). w.plan.activities) by_replacing.is
 

@@ -28,7 +28,9 @@ pub mod Following
 pub mod Under
 pub mod Made
 pub mod Restarted
+pub mod Placing
 pub mod Shifted
+pub mod Assigned
 pub mod Reopened
 pub mod Lacking
 pub mod Staying

@@ -1,24 +1,22 @@
 -- Links of one activity that find no partner: each is a conflict, and no two are the same.
-use Rattle.std.proofs.Common.{◌≡◌, ℕ, zero, suc, ◌+◌, ◌<◌, ◌≤◌, Bool, true, false, cond, eqb, List, [], ◌∷◌, ◌++◌, filter, length, Option, Some, None, refl, sym, ap, ◌∙◌, subst, arith, max}
+use Rattle.std.proofs.Common.{◌≡◌, ℕ, zero, suc, ◌+◌, ◌<◌, ◌≤◌, Bool, true, false, cond, eqb, List, [], ◌∷◌, ◌++◌, filter, length, Option, Some, refl, sym, ap, ◌∙◌, subst, arith, max}
 use Rattle.std.specs.Prelude.{◌||◌, slice_get}
 use Rattle.std.specs.List.{flat_map}
 use Rattle.std.proofs.lemmas.Bool.{eqb-true, eqb-false}
-use Rattle.pl_lists.proofs.Tests.{or_true}
 use Rattle.pl_conflict.specs.declared.conflict.Conflict.{Conflict}
-use Rattle.pl_conflict.specs.declared.conflict.Code.TheVariants.{Temporal}
 use Rattle.pl_conflict.specs.Order.{has}
 use Rattle.pl_conflict.proofs.Sorting.{same, same_is, has-append}
 use Rattle.pl_model.specs.declared.links.Link.{Link}
 use Rattle.pl_model.specs.declared.alternatives.Order.{Order}
 use Rattle.pl_links.specs.declared.placed.Placed.{Placed}
 use Rattle.pl_links.specs.declared.broken.Broken.{Broken}
-use Rattle.pl_links.specs.Broken.{when, lacks_partner, is_link_broken, is_order_broken, broken_at, broken_below, broken_by, links_of, orders_of}
+use Rattle.pl_links.specs.Broken.{when, lacks_partner, is_link_broken, is_order_broken, broken_at, broken_below, links_of, orders_of}
 use Rattle.pl_plan.specs.declared.activity.Activity.{Activity}
 use Rattle.pl_plan.specs.Activities.{AreRising}
 use Rattle.pl_world.specs.declared.plan_state.PlanState.{PlanState}
 use Rattle.pl_world.specs.PlanStates as states
 use Rattle.pl_world.specs.PlanStates.{found, of_found, is_ahead}
-use Rattle.pl_world.specs.Links.{placed_of, placed_in, lone, conflict_of, links_at, linked_of, link_conflicts}
+use Rattle.pl_world.specs.Links.{placed_of, placed_in, lone, conflict_of, links_at, link_conflicts}
 use Rattle.pl_world.proofs.Standing.{links_by_subject}
 use Rattle.pl_outlook.specs.Counts.{AreApart}
 use Rattle.pl_outlook.proofs.Counted.{itself, true_or_not}

@@ -1,5 +1,5 @@
 -- A shift of an activity from which no other descends: no other one changes, and its links that find no partner are conflicts then.
-use Rattle.std.proofs.Common.{◌≡◌, ℕ, zero, ◌+◌, ◌-◌, ◌≤◌, Bool, true, false, cond, eqb, List, [], ◌∷◌, map, filter, length, Option, Some, None, refl, sym, ap, ◌∙◌, subst, arith, leb}
+use Rattle.std.proofs.Common.{◌≡◌, ℕ, ◌+◌, ◌≤◌, Bool, true, false, cond, eqb, List, [], ◌∷◌, map, filter, length, Option, Some, None, refl, sym, ap, ◌∙◌, subst, arith, leb}
 use Rattle.std.specs.Prelude.{◌&&◌, ◌||◌, not, All, is_some, slice_get}
 use Rattle.std.specs.List.{list_any}
 use Rattle.std.specs.Option.{option_map}
@@ -14,12 +14,11 @@ use Rattle.pl_model.specs.declared.links.Link.{Link}
 use Rattle.pl_links.specs.declared.placed.Placed.{Placed}
 use Rattle.pl_links.specs.Broken.{moment_of, are_apart, is_partner, lacks_partner, links_of}
 use Rattle.pl_plan.specs.declared.activity.Activity.{Activity}
-use Rattle.pl_plan.specs.declared.repair.RepairMove.{RepairMove}
 use Rattle.pl_plan.specs.declared.repair.RepairMove.TheVariants.{Shift}
-use Rattle.pl_plan.specs.Activities.{AreRising, activity_of}
+use Rattle.pl_plan.specs.Activities.{activity_of}
 use Rattle.pl_plan.specs.Firm.{end_in, end_of}
 use Rattle.pl_plan.specs.Fitting.{FitsAlone}
-use Rattle.pl_plan.specs.Trees.{descends, id_of, subtree_of, Descends}
+use Rattle.pl_plan.specs.Trees.{descends, id_of, subtree_of}
 use Rattle.pl_plan.specs.Trees.Descends.{itself}
 use Rattle.pl_plan.specs.Values.{Row, values_of}
 use Rattle.pl_plan.proofs.Climbs.{all_at}
@@ -32,8 +31,8 @@ use Rattle.pl_world.specs.Activities.{activity_conflicts}
 use Rattle.pl_world.specs.Legal.{MayBeMade}
 use Rattle.pl_world.specs.Links.{placed_of, placed_in, lone, link_conflicts}
 use Rattle.pl_world.specs.Moves.{applied, moved, moved_with}
-use Rattle.pl_world.specs.Parts.{Part, part_of}
-use Rattle.pl_world.specs.PlanStates.{found, end_at, row_of, is_ahead, is_committed, floor_of}
+use Rattle.pl_world.specs.Parts.{Part}
+use Rattle.pl_world.specs.PlanStates.{found, end_at, is_ahead, is_committed, floor_of}
 use Rattle.pl_world.specs.Timelines.{timeline_conflicts}
 use Rattle.pl_world.specs.Whole.{IsWhole}
 use Rattle.pl_world.proofs.Refusing.{may}

@@ -1,5 +1,5 @@
 -- How many conflicts of goals and activities a move leaves at least.
-use Rattle.std.proofs.Common.{◌≡◌, ℕ, suc, ◌+◌, ◌-◌, ◌≤◌, eqb, Bool, true, false, cond, List, [], ◌∷◌, filter, length, Option, Some, None, refl, sym, ap, ◌∙◌, subst, inl, inr, arith}
+use Rattle.std.proofs.Common.{◌≡◌, ℕ, ℤ, suc, ◌+◌, ◌-◌, ◌≤◌, eqb, Bool, true, false, cond, List, [], ◌∷◌, filter, length, Option, Some, None, refl, sym, ap, ◌∙◌, subst, inl, inr, arith}
 use Rattle.std.specs.Prelude.{◌||◌, slice_get}
 use Rattle.std.specs.Option.{option_to_list}
 use Rattle.std.proofs.lemmas.Bool.{eqb-true}
@@ -29,6 +29,7 @@ use Rattle.pl_outlook.specs.Counts.{AreApart}
 use Rattle.pl_outlook.specs.Plain.{is_plain, is_plain_part, count_of_plain}
 use Rattle.pl_outlook.specs.Standing.{HasUnset, IsKnown, IsLeftByNew, IsOpenWithout, IsStandingOf, IsUnsetThen}
 use Rattle.pl_outlook.specs.declared.standing.Standing.{Standing}
+use Rattle.pl_outlook.proofs.Assigned.{assign_left}
 use Rattle.pl_outlook.proofs.Differing.{has_passing}
 use Rattle.pl_outlook.proofs.Following.{all_but_wrong, is_kept, kept_stays, near_new, none_wrong_new}
 use Rattle.pl_outlook.proofs.Made.{follows, whole_then}
@@ -73,6 +74,10 @@ alike_add kind start goal m (inr e) = on_add kind start goal m e
 pub alike_shift : (id start : ℕ) (m : RepairMove) → IsAlike (Shift id start) m → (t : ℕ) × (m ≡ Shift id t)
 alike_shift id start m (inl e) = (start, e)
 alike_shift id start m (inr e) = on_shift id start m e
+
+pub alike_assign : (id param : ℕ) (value : ℤ) (m : RepairMove) → IsAlike (Assign id param value) m → m ≡ Assign id param value
+alike_assign id param value m (inl e) = e
+alike_assign id param value m (inr e) = absurd (cc)
 
 pub alike_delete : (id : ℕ) (m : RepairMove) → IsAlike (Delete id) m → m ≡ Delete id
 alike_delete id m (inl e) = e
@@ -228,5 +233,10 @@ steady_left s whole next o of (Shift id start) n known m can alike =
     subst (λ (k : RepairMove). n ≤ count_of_plain (applied s k)) (sym on.1) (omega (arith, known, most, left))
 steady_left s whole next o of (Detail id alternative) n known m can alike = omega (arith, known)
 steady_left s whole next o of (Abstract id) n known m can alike = omega (arith, known)
-steady_left s whole next o of (Assign id param value) n known m can alike = omega (arith, known)
+steady_left s whole next o of (Assign id param value) n known m can alike =
+    let is = alike_assign id param value m alike in
+    let now : CanBeMade s (Assign id param value) = subst (λ (k : RepairMove). CanBeMade s k) is can in
+    let left = assign_left s whole next id param value now in
+    let most = of.valueless in
+    subst (λ (k : RepairMove). n ≤ count_of_plain (applied s k)) (sym is) (omega (arith, known, most, left))
 steady_left s whole next o of (Drop number) n known m can alike = omega (arith, known)

@@ -7,7 +7,7 @@ use Rattle.pl_conflict.specs.Codes.{code_number}
 use Rattle.pl_conflict.specs.Order.{has}
 use Rattle.pl_conflict.specs.declared.conflict.Code.TheVariants as code
 use Rattle.pl_plan.specs.declared.repair.RepairMove.{RepairMove}
-use Rattle.pl_plan.specs.declared.repair.RepairMove.TheVariants.{Add, Delete, Shift}
+use Rattle.pl_plan.specs.declared.repair.RepairMove.TheVariants.{Add, Delete, Shift, Assign}
 use Rattle.pl_moves.specs.Least.{least_known}
 use Rattle.pl_moves.specs.Runs.{CanBeMade}
 use Rattle.pl_world.specs.declared.plan_state.PlanState.{PlanState}
@@ -35,10 +35,24 @@ is_unmoved_one q = is_unmoved q.code
 abbrev pub count_of_unmoved : PlanState → ℕ
 count_of_unmoved s = length (filter is_unmoved_one (conflicts_of s))
 
+-- an assignment changes neither which goals are open nor which alternatives are chosen
+abbrev pub is_valueless : Code → Bool
+is_valueless code.OpenGoal = true
+is_valueless code.Undetailed = true
+is_valueless _ = false
+
+abbrev pub is_valueless_one : Conflict → Bool
+is_valueless_one q = is_valueless q.code
+
+-- how many of them stand
+abbrev pub count_of_valueless : PlanState → ℕ
+count_of_valueless s = length (filter is_valueless_one (conflicts_of s))
+
 -- no more than stand
 pub record IsStandingOf (s : PlanState) (o : Standing) : Type 0 where
   pub plain : o.wrong ≤ count_of_plain s
   pub unmoved : o.unmoved ≤ count_of_unmoved s
+  pub valueless : o.valueless ≤ count_of_valueless s
 
 -- the goal that the activity of this id serves
 pub record IsServedBy (s : PlanState) (id : ℕ) (g : Goal) : Type 0 where
@@ -77,9 +91,11 @@ pub record IsLeftByNew (s : PlanState) (wrong kind start : ℕ) (goal : Option �
   pub when_unset : unset ≡ true → IsUnsetThen s kind goal
   pub few : n ≤ ((wrong - length (option_to_list goal)) + least_known s (Add kind start goal)) + (if unset then 1 else 0)
 
--- What is known of a move. A shift leaves as many open goals, and as many that are wrong with activities but for their starts.
+-- What is known of a move. A shift leaves as many open goals, and as many that are wrong with activities but for their starts. An
+-- assignment leaves the open goals, and the activities that lack an alternative.
 abbrev pub IsKnown : PlanState → Standing → RepairMove → ℕ → Type 0
 IsKnown s o (Add kind start goal) n = IsLeftByNew s o.wrong kind start goal n
 IsKnown s o (Delete id) n = n ≤ count_of_plain (applied s (Delete id))
 IsKnown s o (Shift id start) n = n ≤ o.unmoved
+IsKnown s o (Assign id param value) n = n ≤ o.valueless
 IsKnown s o _ n = n ≤ 0

@@ -2,16 +2,18 @@
 ghost use Rattle.std.specs.Prelude.{◌≡◌, ◌≤◌, ◌+◌, false, filter, length, if◌then◌else◌};
 ghost use Rattle.pl_world.specs.Parts.{part_of};
 ghost use Rattle.pl_outlook.specs.Plain.{is_plain, is_plain_part};
-ghost use Rattle.pl_outlook.specs.Standing.{is_unmoved, is_unmoved_one, IsStandingOf};
+ghost use Rattle.pl_outlook.specs.Standing.{is_unmoved, is_unmoved_one, is_valueless, is_valueless_one, IsStandingOf};
 
 use pl_board::Board;
 use pl_conflict::{Code, Conflict, ConflictSet};
 
-/// How many conflicts of goals and of activities there are, and how many of them a shift leaves as they are but for their moments.
+/// How many conflicts of goals and of activities there are, how many of them a shift leaves as they are but for their moments, and how
+/// many hang on no value, so that an assignment leaves them.
 #[derive(Clone, Copy, Debug)]
 pub(crate) struct Standing {
     pub(crate) wrong: u32,
     pub(crate) unmoved: u32,
+    pub(crate) valueless: u32,
 }
 
 // Whether a shift leaves as many conflicts of this code.
@@ -22,6 +24,13 @@ fn is_unmoved(code: Code) -> bool
         code,
         Code::OpenGoal | Code::Unset | Code::BadValue | Code::Undetailed
     )
+}
+
+// Whether an assignment leaves a conflict of this code.
+fn is_valueless(code: Code) -> bool
+    ensures { result ≡ is_valueless code }
+{
+    matches!(code, Code::OpenGoal | Code::Undetailed)
 }
 
 // Whether a conflict of this code is of a goal or of an activity.
@@ -56,10 +65,12 @@ impl Standing {
     fn with(self, conflict: &Conflict) -> Standing
         ensures wrong { result.wrong ≤ self.wrong + (if is_plain conflict.now then 1 else 0) }
         ensures unmoved { result.unmoved ≤ self.unmoved + (if is_unmoved conflict.now.code then 1 else 0) }
+        ensures valueless { result.valueless ≤ self.valueless + (if is_valueless conflict.now.code then 1 else 0) }
     {
         Standing {
             wrong: count_if(is_plain(conflict.code), self.wrong),
             unmoved: count_if(is_unmoved(conflict.code), self.unmoved),
+            valueless: count_if(is_valueless(conflict.code), self.valueless),
         }
     }
 }
@@ -67,10 +78,12 @@ impl Standing {
 fn counted(conflicts: &ConflictSet) -> Standing
     ensures wrong { result.wrong ≤ length (filter is_plain conflicts.now) }
     ensures unmoved { result.unmoved ≤ length (filter is_unmoved_one conflicts.now) }
+    ensures valueless { result.valueless ≤ length (filter is_valueless_one conflicts.now) }
 {
     let mut standing = Standing {
         wrong: 0,
         unmoved: 0,
+        valueless: 0,
     };
     for conflict in conflicts.iter() {
         standing = standing.with(conflict);

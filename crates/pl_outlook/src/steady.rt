@@ -109,6 +109,7 @@ fn left_by(
         }
         RepairMove::Delete { id } => left_by_deletion(alloc, s, standing.wrong, id),
         RepairMove::Shift { .. } => Ok(standing.unmoved),
+        RepairMove::Assign { .. } => Ok(standing.valueless),
         _ => Ok(0),
     }
 }

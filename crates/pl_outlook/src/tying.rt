@@ -1,16 +1,20 @@
-//! The activity that a shift moves alone.
+//! The activity that a move places alone.
 ghost use Rattle.std.specs.Prelude.{◌≡◌, ◌≤◌, ℕ, false, IfOk};
 ghost use Rattle.pl_moves.specs.Runs.{CanBeMade, start_of};
 ghost use Rattle.pl_plan.specs.Activities.{IsLive};
 ghost use Rattle.pl_plan.specs.declared.repair.RepairMove.{RepairMove};
-ghost use Rattle.pl_plan.specs.declared.repair.RepairMove.TheVariants.{Shift};
+ghost use Rattle.pl_plan.specs.declared.repair.RepairMove.TheVariants.{Add, Shift};
 ghost use Rattle.pl_world.specs.Moves.{applied};
+ghost use Rattle.pl_world.specs.Whole.{IsWhole};
 ghost use Rattle.pl_outlook.specs.Asked.{IsAlike};
-ghost use Rattle.pl_outlook.specs.Ties.{lone_then, count_of_links};
+ghost use Rattle.pl_outlook.specs.Ties.{count_of_lone, lone_then, count_of_links};
 
+use crate::alone::only;
+use crate::roots::goalless_root;
 use pl_board::Board;
 use pl_links::Placed;
 use pl_plan::RepairMove;
+use pl_world::PlanState;
 use std::alloc::{AllocError, Global};
 
 // None where others descend from it.
@@ -28,8 +32,33 @@ fn moved_alone(alloc: Global, board: &Board, id: u32) -> Result<Option<Placed>, 
     Ok(board.placed(id))
 }
 
-/// What a shift moves, with its end, where that is one activity alone: of its links that find no partner at the start that a move
-/// gives, each is a conflict then.
+// The root that a move adds, with its end: seen in a plan of its own.
+fn added_alone(
+    alloc: Global,
+    s: &PlanState,
+    kind: u32,
+    start: u32,
+    goal: Option<u32>,
+) -> Result<Placed, AllocError>
+    requires whole { IsWhole s.now }
+    requires next { s.now.next_id ≤ 3999999000 }
+    requires allowed { CanBeMade s.now (Add kind start goal) }
+    ensures { IfOk result (λ own. (to : ℕ) → CanBeMade s.now (Add kind to goal) → count_of_lone s.now to own ≤ count_of_links (applied s.now (Add kind to goal))) }
+{
+    let root = goalless_root(alloc, s, kind, start, goal)?;
+    let alone = only(alloc, s, root)?;
+    Ok(Placed {
+        id: s.next_id,
+        kind,
+        start,
+        end: alone.plan.end(alone.model.get(), s.next_id),
+        parent: None,
+        detail: None,
+    })
+}
+
+/// What a shift moves, with its end, where that is one activity alone, or the root that a move adds: of its links that find no
+/// partner at the start that a move gives, each is a conflict then.
 pub(crate) fn alone_in(
     alloc: Global,
     board: &Board,
@@ -44,6 +73,10 @@ pub(crate) fn alone_in(
         RepairMove::Shift { id, .. } => {
             let own = moved_alone(alloc, board, id)?;
             Ok(own)
+        }
+        RepairMove::Add { kind, start, goal } => {
+            let own = added_alone(alloc, board.state(), kind, start, goal)?;
+            Ok(Some(own))
         }
         _ => Ok(None),
     }
