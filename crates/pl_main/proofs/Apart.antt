@@ -1,5 +1,5 @@
 -- No input has the causes of two statuses of a replay or a report.
-use Rattle.std.proofs.Common.{◌≡◌, ℕ, ◌+◌, ◌⊎◌, inl, inr, List, [], ◌∷◌, ◌++◌, length, not, Option, Some, None, refl, sym, ◌∙◌, ap, subst, append_assoc}
+use Rattle.std.proofs.Common.{◌≡◌, ℕ, ◌+◌, ◌⊎◌, inl, inr, List, [], ◌∷◌, ◌++◌, not, Option, Some, None, refl, sym, ◌∙◌, ap, subst}
 use Rattle.std.proofs.lemmas.List.{append-nil}
 use Rattle.std.proofs.lemmas.List.Elements.{filter-append}
 use Rattle.pl_io.specs.Lines.{lines_of}
@@ -10,7 +10,6 @@ use Rattle.pl_machine.specs.Legal.{Legal}
 use Rattle.pl_render.specs.Lines.{text_of}
 use Rattle.pl_accept.specs.Accepting.{IsModelText}
 use Rattle.pl_accept.proofs.Apart.{one_model, checked_model}
-use Rattle.pl_stream.specs.Reads.{Gave}
 use Rattle.pl_stream.proofs.Reading.{gave_lines}
 use Rattle.pl_stream.proofs.Comparing.{GoesOn, goes_on, all_or_stuck}
 use Rattle.pl_replay.specs.declared.verdict.Verdict.{Verdict}

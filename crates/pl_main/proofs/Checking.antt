@@ -1,5 +1,5 @@
 -- The end of a check.
-use Rattle.std.proofs.Common.{◌≡◌, ℕ, List, [], ◌++◌, OnOk, OnErr, IfOk, IfErr, IsErrOf, Option, Some, None, Result, Ok, Err, refl, subst, append_assoc}
+use Rattle.std.proofs.Common.{◌≡◌, ℕ, List, [], ◌++◌, OnOk, OnErr, IfOk, IfErr, IsErrOf, Option, Some, None, Result, Ok, Err, refl, append_assoc}
 use Rattle.std.specs.declared.vec.Vec.{Vec}
 use Rattle.std.specs.declared.alloc.Global.{Global}
 use Rattle.pl_io.specs.declared.errors.LineFault.{LineFault}

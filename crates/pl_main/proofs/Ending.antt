@@ -24,18 +24,18 @@ use Rattle.pl_stream.specs.declared.halt.Halt.{Halt}
 use Rattle.pl_stream.specs.declared.halt.Halt.TheVariants as halt
 use Rattle.pl_main.specs.declared.outcome.Outcome.{Outcome}
 use Rattle.pl_main.specs.declared.outcome.Outcome.TheVariants as outcome
-use Rattle.pl_stream.specs.Reads.{Gave, GaveKnown, IsUsedUp, AreBlank}
+use Rattle.pl_stream.specs.Reads.{Gave, IsUsedUp, AreBlank}
 use Rattle.pl_stream.specs.Stops.{HaltFor, ReadLeaves, StopsBy}
 use Rattle.pl_stream.specs.Waits.{MessageGives, line_in}
 use Rattle.pl_stream.specs.Heads.{IsHead, IsBegun, HasNoBegin, HeadHalts}
 use Rattle.pl_main.specs.Tells.{FillsUp, at_once, within}
 use Rattle.pl_stream.specs.Written.{Adds, WriteStops}
-use Rattle.pl_stream.specs.Places.{Place, place_of}
+use Rattle.pl_stream.specs.Places.{Place}
 use Rattle.pl_main.specs.Plays.{Plays, EndsWith, by_end, by_line, EndsAll, PlaysOut, PlayHalts, PlayFills, Playing}
 use Rattle.pl_main.specs.Runs.{fresh_state, unopened, in_opening, in_play, ModelRuns, AcceptsKept, IsKeptModel, unjudged, in_fault, in_run, TextRuns}
-use Rattle.pl_main.specs.Top.{RanKnown, IsReadTo, ShowsNoLine, program_options, line_limit, total_limit, fresh_reader, IsDone, HasHead, no_begin_line, IsNoModel, no_begin, faulty, WaitsBehind, IsReadFault, IsPastLimit, HasRead, IsFull}
+use Rattle.pl_main.specs.Top.{IsReadTo, ShowsNoLine, program_options, line_limit, total_limit, fresh_reader, IsDone, HasHead, no_begin_line, IsNoModel, no_begin, WaitsBehind, IsReadFault, IsPastLimit, HasRead, IsFull}
 use Rattle.pl_stream.proofs.Reading.{gave_append, gave_lines, known}
-use Rattle.pl_stream.proofs.Stopping.{never_full, read_leaves, stops_by}
+use Rattle.pl_stream.proofs.Stopping.{read_leaves, stops_by}
 use Rattle.pl_stream.proofs.Beginning.{head_then}
 use Rattle.pl_stream.proofs.Writing.{adds_then, log_is_short}
 use Rattle.pl_main.proofs.Playing.{blanks_first, message_first, end_first, none_left, not_single, messages_append, inputs_append, joined}

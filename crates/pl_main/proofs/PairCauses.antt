@@ -1,11 +1,11 @@
 -- No input has the causes of two statuses of a pair, and a run of one that can be done is done.
-use Rattle.std.proofs.Common.{◌≡◌, ℕ, ◌⊎◌, inl, inr, List, [], ◌∷◌, ◌++◌, Option, Some, None, sym, ◌∙◌, ap}
+use Rattle.std.proofs.Common.{◌≡◌, ℕ, inl, inr, List, [], ◌∷◌, ◌++◌, Option, Some, None, sym, ◌∙◌, ap}
 use Rattle.pl_machine.specs.Lines.{lines_behind, messages_of}
 use Rattle.pl_machine.specs.Finished.{inputs_of}
 use Rattle.pl_stream.proofs.Comparing.{goes_on, all_or_stuck}
 use Rattle.pl_main.specs.Top.{line_limit, total_limit, IsNoModel}
 use Rattle.pl_main.specs.Pairs.{IsPairDone, IsPairPastLimit, IsPairFull}
-use Rattle.pl_main.specs.Limits.{IsWithinLimits, CanPair, CompletesPair}
+use Rattle.pl_main.specs.Limits.{IsWithinLimits, CompletesPair}
 use Rattle.pl_main.specs.Statuses.{SaysPairKnown, IsSoloStatus, is_done, is_refused, is_read, is_write, is_limit, is_full, is_wrong, is_memory}
 use Rattle.pl_main.proofs.OneInput.{behind_goes_on, split_text, split_messages}
 use Rattle.pl_main.proofs.Causes.{no_model_of, text_then_limit, no_text, head_not_past, done_before, is_within}

@@ -1,10 +1,8 @@
 -- The end of a run of a pair over an input: from its head, and from what the pair did.
-use Rattle.std.proofs.Common.{◌≡◌, ℕ, ◌<◌, ◌≤◌, List, [], ◌∷◌, ◌++◌, length, take, false, OnOk, OnErr, IfOk, IfErr, Option, Some, None, ◌⊎◌, inl, inr, Result, Ok, Err, refl, sym, ◌∙◌, ap, subst, append_assoc, arith}
-use Rattle.std.proofs.lemmas.List.{append-nil}
+use Rattle.std.proofs.Common.{◌≡◌, ℕ, ◌<◌, ◌≤◌, List, [], ◌∷◌, ◌++◌, length, false, OnOk, OnErr, IfOk, IfErr, Option, Some, None, inl, inr, Result, Ok, Err, refl, sym, ◌∙◌, ap, subst, append_assoc, arith}
 use mathlib.Core.List.{IsPrefix}
 use Rattle.std.specs.declared.vec.Vec.{Vec}
 use Rattle.std.specs.declared.alloc.Global.{Global}
-use Rattle.std.specs.declared.alloc.AllocError.{AllocError}
 use Rattle.pl_io.specs.declared.errors.LineFault.{LineFault}
 use Rattle.pl_io.specs.declared.errors.LineFault.TheVariants as fault
 use Rattle.pl_io.specs.Lines.{ahead, lines_of}
@@ -16,7 +14,6 @@ use Rattle.pl_model.specs.Checked.{IsChecked}
 use Rattle.pl_entry.specs.declared.entry.Entry.{Entry}
 use Rattle.pl_machine.specs.Lines.{lines_behind, messages_of, split_of, model_text_of}
 use Rattle.pl_machine.specs.Legal.{options_of}
-use Rattle.pl_render.specs.Lines.{text_of_log}
 use Rattle.pl_machine.specs.Finished.{inputs_of}
 use Rattle.pl_accept.specs.declared.accepting.Accepted.TheVariants as accepted
 use Rattle.pl_accept.specs.Accepting.{IsModelText}
@@ -24,24 +21,22 @@ use Rattle.pl_stream.specs.declared.halt.Halt.{Halt}
 use Rattle.pl_stream.specs.declared.halt.Halt.TheVariants as halt
 use Rattle.pl_stream.specs.Heads.{IsBegun, HasNoBegin, HeadHalts}
 use Rattle.pl_stream.specs.Reads.{Gave, IsUsedUp, StopsAt}
-use Rattle.pl_stream.specs.Stops.{HaltFor, IsStuck, IsStuckKnown, ReadLeaves}
-use Rattle.pl_stream.specs.Written.{Adds, WriteStops}
+use Rattle.pl_stream.specs.Stops.{HaltFor, IsStuck, ReadLeaves}
+use Rattle.pl_stream.specs.Written.{Adds}
 use Rattle.pl_stream.proofs.Reading.{known, gave_append, gave_lines}
 use Rattle.pl_pair.specs.declared.ended.Ended.{Ended}
 use Rattle.pl_pair.specs.declared.ended.Ended.TheVariants as ended
 use Rattle.pl_stream.specs.Places.{Place, place_of}
-use Rattle.pl_pair.specs.Rounds.{AddsFront}
-use Rattle.pl_pair.specs.Runs.{InMessages, HadLimit, WhyNone, IsCauseOf, StoppedBy, Given, ReadUpTo, RunsUntil, ReadsShort, all_handed, one_behind, one_unread, RunEnds, PairRun}
+use Rattle.pl_pair.specs.Runs.{InMessages, HadLimit, WhyNone, IsCauseOf, StoppedBy, ReadUpTo, RunsUntil, ReadsShort, all_handed, one_behind, one_unread, PairRun}
 use Rattle.pl_pair.proofs.Running.{runs_none}
 use Rattle.pl_main.specs.declared.outcome.Outcome.{Outcome}
 use Rattle.pl_main.specs.declared.outcome.Outcome.TheVariants as outcome
-use Rattle.pl_main.specs.Runs.{fresh_state, AcceptsKept, IsKeptModel}
-use Rattle.pl_main.specs.Top.{line_limit, total_limit, program_options, fresh_reader, no_begin_line, HasRead, ShowsNoLine, IsNoModel, no_begin, faulty}
-use Rattle.pl_main.specs.Pairs.{IsPaired, IsPairDone, PairWaitsBehind, IsPairPastLimit, IsPairReadFault, IsPairFull, HasPairBegun, IsPairTorn, torn_refusal, torn_run, WasGiven, ReadsInPart, to_last, to_next, at_next, IsPairShort, silent, of_run, Paired, PairedKnown, outcome_of, PairTextRun, TextFailsTorn, PairTextTorn, in_refusal, in_writing, PairTextShort, at_once, in_run, PairTextRuns}
-use Rattle.pl_main.proofs.OneInput.{split_text}
+use Rattle.pl_main.specs.Runs.{fresh_state, AcceptsKept}
+use Rattle.pl_main.specs.Top.{line_limit, total_limit, fresh_reader, no_begin_line, HasRead, ShowsNoLine, faulty}
+use Rattle.pl_main.specs.Pairs.{IsPaired, IsPairDone, PairWaitsBehind, IsPairFull, HasPairBegun, IsPairTorn, torn_refusal, torn_run, WasGiven, ReadsInPart, to_last, to_next, at_next, IsPairShort, silent, of_run, Paired, PairedKnown, outcome_of, PairTextTorn, in_refusal, in_writing, PairTextShort, at_once, in_run, PairTextRuns}
 use Rattle.pl_stream.proofs.Stopping.{never_full, never_writes}
 use Rattle.pl_stream.proofs.Beginning.{head_then}
-use Rattle.pl_main.proofs.Ending.{IsSplit, split_is, begins_at, begins_nowhere, IsHeadStopped, head_stopped, shows_none, fresh_begun, fresh_nowhere, fresh_halts}
+use Rattle.pl_main.proofs.Ending.{split_is, begins_at, begins_nowhere, head_stopped, shows_none, fresh_begun, fresh_nowhere, fresh_halts}
 
 -- ---- a machine that was not opened
 

@@ -26,7 +26,7 @@ use Rattle.pl_stream.specs.Waits.{GetsFault, MessageGives, line_in}
 use Rattle.pl_main.specs.Tells.{IsReady, Told, FillsUp, at_once, within}
 use Rattle.pl_stream.specs.Written.{Adds, WriteStops}
 use Rattle.pl_stream.specs.Places.{Place}
-use Rattle.pl_main.specs.Plays.{Plays, EndsAll, by_end, by_line, PlaysOut, PlayHalts, Answered, Filled, AnsweredInPart, Unanswered, untold, told_in_part, Answering, StepsOn, StepFills, StepHalts, StepsInPart, StepLacks, unread, unheard, unwritten, PlayFills, PlaysInPart, PlayLacks, Steps, Playing}
+use Rattle.pl_main.specs.Plays.{Plays, EndsAll, by_end, by_line, PlaysOut, PlayHalts, Answered, Filled, untold, told_in_part, Answering, StepsOn, StepFills, StepHalts, unread, unheard, unwritten, PlayFills, Steps, Playing}
 use Rattle.pl_stream.proofs.Reading.{took_none, took_more, gave_later}
 use Rattle.pl_stream.proofs.Stopping.{never_full, never_writes, read_leaves, stops_by}
 use Rattle.pl_stream.proofs.Writing.{some_held, adds_then, appends_then}

@@ -1,22 +1,18 @@
 -- The end of a reading of a journal.
-use Rattle.std.proofs.Common.{◌≡◌, ℕ, ◌⊎◌, inl, inr, List, [], ◌∷◌, ◌++◌, length, Bool, true, false, Option, Some, None, IfSome, Result, Ok, Err, refl, sym, ◌∙◌, ap, subst, append_assoc, arith}
-use Rattle.std.proofs.lemmas.List.{append-nil}
+use Rattle.std.proofs.Common.{◌≡◌, ℕ, ◌⊎◌, inl, inr, List, [], ◌∷◌, ◌++◌, length, Bool, false, Option, Some, None, IfSome, Result, Ok, Err, refl, sym, ◌∙◌, ap, subst, arith}
 use Rattle.std.specs.declared.vec.Vec.{Vec}
 use Rattle.std.specs.declared.alloc.Global.{Global}
 use Rattle.pl_io.specs.declared.errors.LineFault.{LineFault}
 use Rattle.pl_io.specs.declared.errors.LineFault.TheVariants as fault
-use Rattle.pl_io.specs.Lines.{ahead, lines_of}
+use Rattle.pl_io.specs.Lines.{ahead}
 use Rattle.pl_io.specs.Reader.{Reader}
-use Rattle.pl_io.specs.Sparing.{read_size}
 use Rattle.pl_io.specs.Writes.{AppendsFront}
 use Rattle.pl_model.specs.declared.whole.Model.{Model}
-use Rattle.pl_entry.specs.declared.entry.Entry.{Entry}
-use Rattle.pl_machine.specs.Lines.{model_text_of, lines_behind}
+use Rattle.pl_machine.specs.Lines.{model_text_of}
 use Rattle.pl_machine.specs.World.{World}
 use Rattle.pl_machine.specs.Legal.{Legal, world_of}
 use Rattle.pl_machine.specs.Sound.{State}
 use Rattle.pl_accept.specs.declared.accepting.Accepted.TheVariants as accepted
-use Rattle.pl_accept.specs.Accepting.{IsModelText}
 use Rattle.pl_stream.specs.declared.halt.Halt.{Halt}
 use Rattle.pl_stream.specs.declared.halt.Halt.TheVariants as halt
 use Rattle.pl_stream.specs.Reads.{Gave, Took, IsUsedUp}
@@ -28,16 +24,16 @@ use Rattle.pl_stream.proofs.Beginning.{head_then}
 use Rattle.pl_stream.proofs.Stopping.{never_full, never_writes, read_leaves, stops_by}
 use Rattle.pl_replay.specs.declared.verdict.Verdict.{Verdict}
 use Rattle.pl_replay.specs.declared.verdict.Verdict.TheVariants as verdict
-use Rattle.pl_replay.specs.Journals.{entry_lines, lines_from, IsJournalOf, IsWrongAtLast}
-use Rattle.pl_replay.specs.Verifying.{EndsInEntry, IsNoJournal, IsLegalJournal, Judges, Verified, Stops, Verifies}
+use Rattle.pl_replay.specs.Journals.{entry_lines, lines_from, IsWrongAtLast}
+use Rattle.pl_replay.specs.Verifying.{EndsInEntry, IsNoJournal, IsLegalJournal, Verified, Stops}
 use Rattle.pl_report.specs.Verdicts.{verdict_line}
 use Rattle.pl_main.specs.declared.form.Form.{Form}
 use Rattle.pl_main.specs.declared.judgement.Judgement.{Judgement}
 use Rattle.pl_main.specs.declared.judgement.Judgement.TheVariants as judged
 use Rattle.pl_stream.specs.Places.{Place, place_of}
 use Rattle.pl_main.specs.Runs.{AcceptsKept, IsKeptModel, TextFails}
-use Rattle.pl_main.specs.Top.{total_limit, fresh_reader, no_begin_line, IsReadTo, ShowsNoLine, IsNoModel, faulty}
-use Rattle.pl_main.specs.Replays.{journal_line_limit, state_of, text_of_form, HasTaken, IsRightJournal, IsWrong, no_entry, wrong_last, IsWrongJournal, IsRightSoFar, IsPastJournal, IsJournalFault, IsJournalShort, of_right, of_wrong, of_refusal, ReadsBack, ReadsBackKnown, WritesAs, WritesJudged, RightBehind, WrongBehind, StopsBehind, ShortBehind, right_cut, wrong_cut, ModelReads, TextRead, TextCut, journal_cut, refusal_cut, TextReads}
+use Rattle.pl_main.specs.Top.{total_limit, fresh_reader, no_begin_line, ShowsNoLine, IsNoModel, faulty}
+use Rattle.pl_main.specs.Replays.{journal_line_limit, state_of, text_of_form, HasTaken, IsRightJournal, IsWrong, no_entry, wrong_last, IsWrongJournal, IsRightSoFar, IsJournalShort, of_right, of_wrong, of_refusal, ReadsBack, ReadsBackKnown, WritesAs, WritesJudged, RightBehind, WrongBehind, ShortBehind, right_cut, wrong_cut, ModelReads, TextCut, journal_cut, refusal_cut, TextReads}
 use Rattle.pl_main.proofs.Ending.{begins_at, begins_nowhere, shows_none, head_stopped, fresh_begun, fresh_nowhere, fresh_halts}
 
 -- ---- what is written

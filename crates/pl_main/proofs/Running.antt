@@ -1,5 +1,5 @@
 -- A whole run, from the reader that it begins with.
-use Rattle.std.proofs.Common.{◌≡◌, ℕ, List, [], ◌∷◌, OnOk, OnErr, IfOk, IfErr, Option, Some, None, inl, Result, Ok, Err, refl, subst}
+use Rattle.std.proofs.Common.{◌≡◌, ℕ, List, [], OnOk, OnErr, IfOk, IfErr, Option, Some, None, inl, Result, Ok, Err, refl, subst}
 use Rattle.std.specs.declared.vec.Vec.{Vec}
 use Rattle.std.specs.declared.alloc.Global.{Global}
 use Rattle.pl_io.specs.declared.errors.LineFault.{LineFault}

@@ -1,6 +1,5 @@
-ghost use Rattle.std.specs.Prelude.{◌≡◌, map};
-ghost use Rattle.std.specs.String.{string_bytes};
-ghost use Rattle.pl_main.specs.Words.{turns_by, pair_by, goals_by, single_word, command_in, command_of};
+ghost use Rattle.std.specs.Prelude.{◌≡◌};
+ghost use Rattle.pl_main.specs.Words.{turns_by, pair_by, goals_by, single_word, command_of};
 
 use crate::command::{Command, Task};
 use crate::number::read_number;

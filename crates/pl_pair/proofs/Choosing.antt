@@ -1,5 +1,5 @@
 -- Each commit, dispatch and close of a history is what the executive chooses there.
-use Rattle.std.proofs.Common.{◌≡◌, ◌≢◌, ℕ, suc, ◌+◌, ◌≤◌, ◌<◌, List, [], ◌∷◌, ◌++◌, length, map, cond, nat_eq, Bool, true, false, Option, Some, None, slice_get, refl, sym, ◌∙◌, ap, subst, arith, inl, inr, ◌⊎◌, append_assoc, eqb-true, length-append}
+use Rattle.std.proofs.Common.{◌≡◌, ◌≢◌, ℕ, suc, ◌+◌, ◌≤◌, ◌<◌, List, [], ◌∷◌, ◌++◌, length, map, cond, nat_eq, Bool, true, false, Option, Some, None, slice_get, refl, sym, ◌∙◌, ap, subst, arith, inl, inr, append_assoc, eqb-true, length-append}
 use Rattle.std.specs.List.{All}
 use Rattle.std.proofs.lemmas.List.{append-nil}
 use Rattle.std.proofs.lemmas.List.Sums.{sum_by-cons, sum_by-append}
@@ -18,7 +18,7 @@ use Rattle.pl_shared.specs.declared.noted.Noted.TheVariants.{Opened, Made, Stopp
 use Rattle.pl_shared.specs.declared.role.Role.{Role}
 use Rattle.pl_shared.specs.declared.role.Role.TheVariants.{Planner, Executive}
 use Rattle.pl_shared.specs.Items.{stop_items, items_of, entries_in, model_in, InWorld}
-use Rattle.pl_shared.specs.Roles.{worker_of, is_input, is_repair, is_executed, is_entry, IsChosen, IsBy, IsDueBy}
+use Rattle.pl_shared.specs.Roles.{worker_of, is_input, is_repair, is_executed, is_entry, IsChosen, IsDueBy}
 use Rattle.pl_shared.specs.Making.{IsMadeAt, MakesAll}
 use Rattle.pl_shared.proofs.Items.{entries_in_items, length_going}
 use Rattle.pl_shared.proofs.Progress.{made_worker}

@@ -1,5 +1,5 @@
 -- What the whole history says of the three own lists.
-use Rattle.std.proofs.Common.{◌≡◌, ◌≢◌, ℕ, zero, suc, ◌+◌, ◌≤◌, ◌<◌, List, [], ◌∷◌, ◌++◌, length, map, drop, filter, cond, nat_eq, Bool, true, false, not, Option, Some, None, slice_get, refl, sym, ◌∙◌, ap, subst, arith, inl, inr, ◌⊎◌, eq-eqb, ne_eqb, length-append}
+use Rattle.std.proofs.Common.{◌≡◌, ◌≢◌, ℕ, suc, ◌+◌, ◌≤◌, ◌<◌, List, [], ◌∷◌, ◌++◌, length, map, drop, filter, cond, nat_eq, Bool, true, false, not, Option, Some, None, slice_get, refl, sym, ◌∙◌, ap, subst, arith, inl, inr, ne_eqb}
 use Rattle.std.specs.Prelude.{◌&&◌}
 use Rattle.std.specs.List.{All, filter_map, list_any}
 use Rattle.std.proofs.lemmas.List.Sums.{sum_by-cons, sum_by-append}
@@ -22,16 +22,16 @@ use Rattle.pl_machine.specs.Finished.{input_in, inputs_of}
 use Rattle.pl_machine.specs.Sound.{State}
 use Rattle.pl_shared.specs.declared.noted.Noted.{Noted}
 use Rattle.pl_shared.specs.declared.noted.Noted.TheVariants.{Opened, Made, Stopped}
-use Rattle.pl_shared.specs.Items.{stop_items, items_of, entry_in, entries_in, model_in, is_stop, stop_in, OfWorld, InWorld}
+use Rattle.pl_shared.specs.Items.{stop_items, items_of, entries_in, model_in, is_stop, stop_in, OfWorld, InWorld}
 use Rattle.pl_shared.specs.Roles.{is_input, is_repair, is_executed, is_entry}
 use Rattle.pl_shared.specs.Plans.{PlanPass, IsPlan, Closes}
-use Rattle.pl_shared.proofs.Items.{made_entries, entries_in_items, stop_in_items, model_in_items, model_in_prefix}
+use Rattle.pl_shared.proofs.Items.{entries_in_items, model_in_items, model_in_prefix}
 use Rattle.pl_pair.specs.Served as serving
 use Rattle.pl_pair.specs.Served.{AreOf, IsStopAtMost, AreOfUntil}
 use Rattle.pl_pair.specs.Rounds.{IsBetween}
 use Rattle.pl_pair.specs.Feeds.{IsInput, AreInputs}
 use Rattle.pl_pair.specs.Runs.{ClosesAll}
-use Rattle.pl_pair.proofs.Ending.{Goes, world_goes, enabled_going, steps_behind}
+use Rattle.pl_pair.proofs.Ending.{world_goes, enabled_going, steps_behind}
 use Rattle.pl_pair.proofs.Feeding.{drop_front, entries_on}
 
 -- ---- the passes are joined

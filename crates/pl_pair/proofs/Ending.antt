@@ -1,5 +1,5 @@
 -- The input ends with the last entry of a log, where it ends.
-use Rattle.std.proofs.Common.{◌≡◌, ℕ, ◌+◌, ◌≤◌, List, [], ◌∷◌, ◌++◌, length, Bool, true, false, Option, Some, None, unwrap_or, refl, sym, ◌∙◌, ap, subst}
+use Rattle.std.proofs.Common.{◌≡◌, ℕ, ◌+◌, List, [], ◌∷◌, ◌++◌, Bool, true, false, Option, Some, None, unwrap_or, refl, sym, ◌∙◌, ap}
 use Rattle.std.specs.Prelude.{not, ◌&&◌}
 use Rattle.pl_facts.specs.declared.options.Options.{Options}
 use Rattle.pl_model.specs.declared.whole.Model.{Model}
@@ -13,7 +13,7 @@ use Rattle.pl_machine.specs.Lines.{is_line_of, end_word}
 use Rattle.pl_machine.specs.Messages.{line_reply}
 use Rattle.pl_machine.specs.World.{World, fresh_world}
 use Rattle.pl_machine.specs.Step.{is_enabled, reply_of, after_input, after_fix, after_commit, after_dispatch, after}
-use Rattle.pl_machine.specs.Legal.{MayFollow, legal_from, world_from, no_options, options_in, IsOpenedRun, Legal, options_of, entries_behind, world_of}
+use Rattle.pl_machine.specs.Legal.{legal_from, world_from, no_options, options_in, IsOpenedRun, Legal, world_of}
 use Rattle.pl_machine.specs.Finished.{inputs_of}
 use Rattle.pl_pair.proofs.Ends.{is_ended, line_ends}
 

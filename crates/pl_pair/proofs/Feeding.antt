@@ -1,11 +1,11 @@
 -- Round after round, and message after message.
-use Rattle.std.proofs.Common.{◌≡◌, ℕ, suc, ◌+◌, ◌≤◌, ◌<◌, List, [], ◌∷◌, ◌++◌, length, take, drop, filter, Bool, true, false, not, Option, Some, None, IfSome, Result, Ok, Err, inl, inr, ◌⊎◌, refl, sym, ◌∙◌, ap, subst, arith, append_assoc, length-append}
-use Rattle.std.proofs.lemmas.List.{append-nil, take-append-le}
+use Rattle.std.proofs.Common.{◌≡◌, ℕ, ◌+◌, ◌≤◌, List, [], ◌∷◌, ◌++◌, length, take, drop, false, not, Option, Some, None, Result, Ok, Err, inl, inr, refl, sym, ◌∙◌, ap, subst, arith, append_assoc, length-append}
+use Rattle.std.proofs.lemmas.List.{append-nil}
 use Rattle.std.proofs.lemmas.List.Elements.{filter_map-append, filter-append}
 use Rattle.std.proofs.Math.Seq.{take-append-add}
 use mathlib.Core.List.{IsPrefix}
 use Rattle.pl_turn.specs.Passes.{seen_of, mine_of}
-use Rattle.pl_turn.proofs.Histories.{prefix_self, prefix_trans}
+use Rattle.pl_turn.proofs.Histories.{prefix_trans}
 use Rattle.pl_io.specs.declared.errors.LineFault.{LineFault}
 use Rattle.pl_io.specs.declared.errors.LineFault.TheVariants as fault
 use Rattle.pl_io.specs.Faults.{Rose}
@@ -19,27 +19,27 @@ use Rattle.pl_machine.specs.declared.stop.Stop.TheVariants as stop
 use Rattle.pl_render.specs.Lines.{text_from}
 use Rattle.pl_render.proofs.Texts.{text_joined}
 use Rattle.pl_stream.specs.Reads.{Took, IsUsedUp, AreBlank}
-use Rattle.pl_stream.specs.Waits.{MessageGives, GetsMessage, GetsEnd, line_in}
+use Rattle.pl_stream.specs.Waits.{line_in}
 use Rattle.pl_stream.specs.Written.{Adds}
 use Rattle.pl_stream.proofs.Reading.{took_more, used_later}
 use Rattle.pl_stream.proofs.Writing.{some_held, adds_then}
 use Rattle.pl_shared.specs.declared.noted.Noted.{Noted}
-use Rattle.pl_shared.specs.declared.noted.Noted.TheVariants.{Opened, Made, Stopped}
+use Rattle.pl_shared.specs.declared.noted.Noted.TheVariants.{Made, Stopped}
 use Rattle.pl_shared.specs.declared.plan.SharedPlan.{SharedPlan}
-use Rattle.pl_shared.specs.Items.{entry_in, entries_in, stop_in, InWorld}
+use Rattle.pl_shared.specs.Items.{entry_in, entries_in}
 use Rattle.pl_shared.specs.Roles.{IsInputOf}
 use Rattle.pl_shared.specs.Plans.{PlanPass, BelongsTo}
-use Rattle.pl_shared.specs.Turns.{TakesTurn, Makes, Stops}
+use Rattle.pl_shared.specs.Turns.{TakesTurn, Stops}
 use Rattle.pl_shared.proofs.Progress.{from_world}
 use Rattle.pl_pair.specs.declared.cut.Cut.{Cut}
 use Rattle.pl_pair.specs.declared.cut.Cut.TheVariants as cut
 use Rattle.pl_pair.specs.declared.rounds.Stage.TheVariants as stage
 use Rattle.pl_pair.specs.Cuts.{cut_by}
-use Rattle.pl_pair.specs.Rounds.{Follows, Looks, IsBetween, AddsFront, lines_behind, RoundEnds}
+use Rattle.pl_pair.specs.Rounds.{Follows, Looks, AddsFront, lines_behind, RoundEnds}
 use Rattle.std.specs.Prelude.{IsErrOf}
 use Rattle.pl_stream.specs.Places.{Place}
-use Rattle.pl_pair.specs.Asking.{Asks, HandsIn, HandsOn, HandsNone, Passes, PassesTo}
-use Rattle.pl_pair.specs.Feeds.{spoken, said_in, IsInput, AreInputs, Reads, unasked, asked, EndsUsed, EndsRead, Heard, Tells, Writes, WritesAll, StepsOn, StepsOut, StepsCut, in_round, at_message, Steps, Feeding, Waiting, FeedsOut, FeedsUntil, FeedsRefused, FeedsStopped, FeedsTorn, FeedsPart, FeedsShort, for_lines, for_message, for_reader, FeedsCut, refused, stopped, FeedsAll, FeedsToEnd}
+use Rattle.pl_pair.specs.Asking.{Asks, HandsOn, HandsNone, Passes, PassesTo}
+use Rattle.pl_pair.specs.Feeds.{spoken, said_in, IsInput, AreInputs, Reads, unasked, asked, Heard, Tells, WritesAll, StepsOn, StepsOut, StepsCut, in_round, at_message, Steps, Feeding, Waiting, FeedsOut, FeedsUntil, FeedsRefused, FeedsTorn, FeedsPart, for_lines, for_message, for_reader, refused, stopped, FeedsAll, FeedsToEnd}
 use Rattle.pl_pair.proofs.Passing.{follows_self, follows_on, entries_longer}
 
 -- ---- lists

@@ -1,5 +1,5 @@
 -- The history goes on between two looks of the feeder.
-use Rattle.std.proofs.Common.{◌≡◌, ℕ, suc, ◌+◌, ◌≤◌, ◌<◌, List, [], ◌∷◌, ◌++◌, length, take, drop, Bool, true, false, Option, Some, None, IfSome, Result, Ok, Err, refl, sym, ◌∙◌, ap, subst, arith, length-append, length-drop}
+use Rattle.std.proofs.Common.{◌≡◌, ℕ, ◌+◌, ◌≤◌, List, [], ◌∷◌, length, Bool, true, false, Option, Some, None, Result, Ok, Err, refl, sym, ◌∙◌, ap, subst, arith, length-append, length-drop}
 use Rattle.std.specs.Prelude.{◌||◌}
 use Rattle.std.proofs.lemmas.List.{append-nil}
 use Rattle.std.proofs.lemmas.List.Elements.{filter_map-append}
@@ -10,7 +10,6 @@ use Rattle.pl_io.specs.Faults.{Rose}
 use Rattle.pl_io.specs.Writes.{AppendsFront}
 use Rattle.pl_model.specs.declared.whole.Model.{Model}
 use Rattle.pl_entry.specs.declared.entry.Entry.{Entry}
-use Rattle.pl_machine.specs.World.{World}
 use Rattle.pl_render.specs.Lines.{text_from}
 use Rattle.pl_stream.specs.declared.halt.Halt.{Halt}
 use Rattle.pl_stream.specs.declared.halt.Halt.TheVariants as halt
@@ -18,7 +17,7 @@ use Rattle.pl_stream.specs.Written.{Adds, WriteStops}
 use Rattle.pl_shared.specs.declared.noted.Noted.{Noted}
 use Rattle.pl_shared.specs.declared.noted.Noted.TheVariants.{Opened, Made, Stopped}
 use Rattle.pl_shared.specs.declared.part.Part.{Part}
-use Rattle.pl_shared.specs.Items.{entry_in, entries_in, stop_in, InWorld}
+use Rattle.pl_shared.specs.Items.{entry_in, entries_in}
 use Rattle.pl_shared.specs.declared.plan.SharedPlan.{SharedPlan}
 use Rattle.pl_shared.specs.Plans.{PlanPass, IsPlan, BelongsTo}
 use Rattle.pl_shared.specs.Turns.{TakesTurn, Copies}

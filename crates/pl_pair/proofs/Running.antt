@@ -1,5 +1,5 @@
 -- What a run comes to.
-use Rattle.std.proofs.Common.{◌≡◌, ℕ, ◌+◌, ◌≤◌, ◌<◌, List, [], ◌∷◌, ◌++◌, length, map, drop, Bool, true, false, Option, Some, None, IfSome, Result, Ok, Err, slice_get, refl, sym, ◌∙◌, ap, subst, arith, inl, inr, ◌⊎◌, append_assoc, length-append}
+use Rattle.std.proofs.Common.{◌≡◌, ℕ, ◌+◌, ◌≤◌, List, [], ◌∷◌, ◌++◌, length, map, Bool, true, false, Option, Some, None, Result, Ok, Err, slice_get, refl, sym, ◌∙◌, ap, subst, arith, inl, inr, ◌⊎◌, append_assoc, length-append}
 use Rattle.std.specs.Prelude.{◌||◌, if◌then◌else◌}
 use Rattle.std.specs.List.{All}
 use Rattle.std.proofs.lemmas.List.{append-nil, take-append-le}
@@ -11,7 +11,6 @@ use Rattle.pl_turn.proofs.Histories.{prefix_self, prefix_trans, prefix_length}
 use Rattle.pl_io.specs.declared.errors.LineFault.{LineFault}
 use Rattle.pl_io.specs.declared.errors.LineFault.TheVariants as fault
 use Rattle.pl_model.specs.declared.whole.Model.{Model}
-use Rattle.pl_entry.specs.declared.event.Event.{Event}
 use Rattle.pl_entry.specs.declared.entry.Entry.{Entry}
 use Rattle.pl_machine.specs.declared.stop.Stop.{Stop}
 use Rattle.pl_machine.specs.declared.stop.Stop.TheVariants as stop
@@ -26,18 +25,17 @@ use Rattle.pl_io.specs.Reader.{NumberedLine}
 use Rattle.pl_stream.proofs.Reading.{took_none, halts_later}
 use Rattle.pl_render.specs.Lines.{text_from, text_of_log}
 use Rattle.pl_render.proofs.Texts.{text_joined}
-use Rattle.pl_stream.specs.Reads.{GaveKnown, Took, WhyKnown, Halts, AreBlank}
+use Rattle.pl_stream.specs.Reads.{Took, WhyKnown}
 use Rattle.pl_stream.specs.Stops.{IsStuckKnown}
-use Rattle.pl_stream.specs.Waits.{GetsFault, line_in}
+use Rattle.pl_stream.specs.Waits.{line_in}
 use Rattle.pl_stream.specs.Written.{Adds}
 use Rattle.pl_shared.specs.declared.noted.Noted.{Noted}
-use Rattle.pl_shared.specs.declared.noted.Noted.TheVariants.{Opened, Made, Stopped}
+use Rattle.pl_shared.specs.declared.noted.Noted.TheVariants.{Made, Stopped}
 use Rattle.pl_shared.specs.declared.plan.SharedPlan.{SharedPlan}
-use Rattle.pl_shared.specs.Items.{stop_items, items_of, entries_in, model_in, stop_in, InWorld}
+use Rattle.pl_shared.specs.Items.{stop_items, items_of, entries_in, model_in, InWorld}
 use Rattle.pl_shared.specs.declared.role.Role.{Role}
 use Rattle.pl_shared.specs.declared.role.Role.TheVariants.{Planner, Executive}
-use Rattle.pl_shared.specs.Inside.{can_listen}
-use Rattle.pl_shared.specs.Roles.{worker_of, has_event, kind_of, is_entry, is_input, is_repair, is_executed}
+use Rattle.pl_shared.specs.Roles.{worker_of, has_event, is_entry, is_input, is_repair, is_executed}
 use Rattle.pl_shared.specs.Plans.{PlanPass, IsPlan, BelongsTo}
 use Rattle.pl_shared.specs.Turns.{TakesTurn, IsFull, Stops, was_stopped, is_stopped}
 use Rattle.pl_shared.proofs.Items.{log_is_some, entries_in_items, model_in_items, length_going, made_entries}
@@ -52,14 +50,14 @@ use Rattle.pl_pair.specs.declared.worker.Worker.{Worker}
 use Rattle.pl_pair.specs.Duties.{chooser_of, role_of}
 use Rattle.pl_pair.specs.Cuts.{cut_by}
 use Rattle.pl_pair.specs.Served as serving
-use Rattle.pl_pair.specs.Served.{AreOf, IsStopAtMost, AreOfUntil, MakesOwn, IsFullRound, Refused, IsServed, IsWorker}
+use Rattle.pl_pair.specs.Served.{AreOf, MakesOwn, IsFullRound, Refused, IsWorker}
 use Rattle.pl_pair.specs.Rounds.{Follows, IsBetween, AddsFront}
 use Rattle.pl_stream.specs.Places.{Place}
-use Rattle.pl_pair.specs.Asking.{Faults, now_failed, had_failed, Asks, HandsOn}
-use Rattle.pl_pair.specs.Feeds.{AreInputs, Reads, unasked, asked, Heard, Tells, WritesAll, Waiting, FeedsOut, FeedsUntil, FeedsRefused, FeedsStopped, FeedsTorn, FeedsPart, FeedsShort, for_lines, for_message, for_reader, FeedsCut, refused, FeedsAll, FeedsAndStops, FeedsToEnd}
+use Rattle.pl_pair.specs.Asking.{Faults, now_failed, had_failed, Asks}
+use Rattle.pl_pair.specs.Feeds.{AreInputs, Reads, unasked, asked, Tells, WritesAll, FeedsOut, FeedsUntil, FeedsRefused, FeedsStopped, FeedsTorn, FeedsPart, FeedsShort, for_lines, for_message, for_reader, FeedsCut, refused, FeedsAll, FeedsToEnd}
 use Rattle.pl_pair.specs.Feeds as fed
 use Rattle.pl_pair.specs.Endings.{is_full, is_other, refusal_of, ended_of}
-use Rattle.pl_pair.specs.Runs.{ClosesAll, History, InMessages, HadLimit, MayFault, WhyNone, IsCauseOf, StoppedBy, Given, WritesLog, ReadUpTo, RunsOut, RunsUntil, RunsFull, RunsTorn, ReadsShort, all_handed, one_behind, one_unread, RunsShort, RunEnds, PairRun}
+use Rattle.pl_pair.specs.Runs.{ClosesAll, History, InMessages, HadLimit, MayFault, WhyNone, IsCauseOf, Given, WritesLog, ReadUpTo, RunsUntil, RunsFull, all_handed, one_behind, one_unread, RunsShort, RunEnds, PairRun}
 use Rattle.pl_pair.proofs.Ending.{NoEnds, LastEnds, EndsIf, Goes, world_goes, steps_behind, world_behind, run_ends}
 use Rattle.pl_pair.proofs.Working.{own_on, own_kinds}
 use Rattle.pl_pair.proofs.Saying.{told_on, told_front, told_all, told_lines, told_gave, up_to_next, up_to_last, up_to_told, if_known, asks_begins, messages_on, skip_blanks, none_left}
@@ -67,7 +65,7 @@ use Rattle.pl_pair.proofs.Passing.{took_follows, follows_on, adds_nothing}
 use Rattle.pl_pair.proofs.Feeding.{front_of, heard_none, heard_more}
 use Rattle.pl_pair.specs.Chosen.{AreChosen}
 use Rattle.pl_pair.proofs.Choosing.{are_chosen}
-use Rattle.pl_pair.proofs.Closing.{FeederList, feeder_until, MoreOf, more_of, NoInputs, made_no_inputs, repair_no_input, executed_no_input, inputs_kind, inputs_are, no_further, same_model, Rests, between, over, stopped, world_in, at_front, legal_front, entries_whole, over_none, between_input, stop_none}
+use Rattle.pl_pair.proofs.Closing.{FeederList, feeder_until, MoreOf, more_of, NoInputs, made_no_inputs, repair_no_input, executed_no_input, inputs_kind, inputs_are, no_further, same_model, Rests, between, over, stopped, world_in, at_front, entries_whole, over_none, between_input, stop_none}
 
 -- ---- the text
 

@@ -1,19 +1,19 @@
 -- The messages of lines, and the inputs that were made of them.
-use Rattle.std.proofs.Common.{◌≡◌, ℕ, ◌<◌, List, [], ◌∷◌, ◌++◌, length, Bool, true, false, not, filter, Option, Some, None, IfSome, Ok, refl, sym, ◌∙◌, ap, subst, append_assoc}
+use Rattle.std.proofs.Common.{◌≡◌, ℕ, ◌<◌, List, [], ◌∷◌, ◌++◌, length, Bool, true, false, not, Option, Some, None, IfSome, Ok, refl, sym, ◌∙◌, ap, subst, append_assoc}
 use Rattle.std.proofs.lemmas.List.{append-nil}
 use Rattle.std.proofs.lemmas.List.Elements.{filter_map-append}
 use mathlib.Core.List.{IsPrefix}
 use Rattle.pl_io.specs.Lines.{lines_of}
 use Rattle.pl_io.specs.Reader.{NumberedLine}
 use Rattle.pl_io.specs.Sparing.{read_size}
-use Rattle.pl_machine.specs.Lines.{is_blank_line, is_line_of, end_word, messages_from, messages_of}
-use Rattle.pl_stream.specs.Reads.{GaveKnown, Took, IsUsedUp, AreBlank}
-use Rattle.pl_stream.specs.Waits.{MessageGives, line_in}
-use Rattle.pl_stream.proofs.Reading.{gave_none, IsKnown, known, gave_lines}
+use Rattle.pl_machine.specs.Lines.{is_blank_line, is_line_of, end_word, messages_of}
+use Rattle.pl_stream.specs.Reads.{GaveKnown, IsUsedUp, AreBlank}
+use Rattle.pl_stream.specs.Waits.{line_in}
+use Rattle.pl_stream.proofs.Reading.{gave_none, known, gave_lines}
 use Rattle.pl_shared.specs.Plans.{PlanPass}
 use Rattle.pl_stream.specs.Places.{Place}
 use Rattle.pl_pair.specs.Asking.{Asks}
-use Rattle.pl_pair.specs.Feeds.{spoken, said_in, Reads, unasked, asked, EndsUsed, EndsRead, Heard, Tells}
+use Rattle.pl_pair.specs.Feeds.{spoken, said_in, Reads, unasked, asked, Heard, Tells}
 use Rattle.pl_pair.specs.Runs.{InMessages, ReadUpTo}
 use Rattle.pl_pair.proofs.Ending.{is_ending, NoEnds, LastEnds, EndsIf}
 

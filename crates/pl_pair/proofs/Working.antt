@@ -1,8 +1,7 @@
 -- What a worker hands back.
-use Rattle.std.proofs.Common.{◌≡◌, ℕ, ◌+◌, List, [], ◌++◌, Bool, Option, Some, None, Ok, Err, refl, sym, ◌∙◌, ap, subst}
+use Rattle.std.proofs.Common.{◌≡◌, ℕ, ◌+◌, List, [], ◌++◌, Option, Some, None, Ok, Err, refl, sym, ◌∙◌, ap, subst}
 use mathlib.Core.List.{IsPrefix}
 use Rattle.pl_turn.specs.Passes.{seen_of, mine_of}
-use Rattle.pl_entry.specs.declared.event.Event.{Event}
 use Rattle.pl_machine.specs.declared.stop.Stop.{Stop}
 use Rattle.pl_machine.specs.declared.stop.Stop.TheVariants as stop
 use Rattle.pl_shared.specs.declared.noted.Noted.{Noted}

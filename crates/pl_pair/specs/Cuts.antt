@@ -1,5 +1,4 @@
 -- Why the feeder goes no further.
-use Rattle.std.specs.Prelude.{◌≡◌, ℕ, ⊤}
 use Rattle.pl_stream.specs.declared.halt.Halt.{Halt}
 use Rattle.pl_stream.specs.declared.halt.Halt.TheVariants as halt
 use Rattle.pl_io.specs.declared.errors.LineFault.{LineFault}

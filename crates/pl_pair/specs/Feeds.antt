@@ -7,8 +7,6 @@ use Rattle.pl_io.specs.declared.errors.LineFault.{LineFault}
 use Rattle.pl_io.specs.Writes.{AppendsFront}
 use Rattle.pl_model.specs.declared.whole.Model.{Model}
 use Rattle.pl_entry.specs.declared.event.Event.TheVariants as event
-use Rattle.pl_entry.specs.declared.entry.Entry.{Entry}
-use Rattle.pl_machine.specs.World.{World}
 use Rattle.pl_machine.specs.Lines.{is_blank_line}
 use Rattle.pl_machine.specs.declared.stop.Stop.TheVariants as stop
 use Rattle.pl_render.specs.Lines.{text_from}
@@ -19,7 +17,7 @@ use Rattle.pl_shared.specs.declared.noted.Noted.TheVariants.{Opened, Made, Stopp
 use Rattle.pl_shared.specs.declared.plan.SharedPlan.{SharedPlan}
 use Rattle.pl_shared.specs.Items.{entries_in, stop_in, InWorld}
 use Rattle.pl_shared.specs.Plans.{PlanPass, BelongsTo}
-use Rattle.pl_shared.specs.Turns.{TakesTurn, Feeds, Stops}
+use Rattle.pl_shared.specs.Turns.{TakesTurn, Stops}
 use Rattle.pl_pair.specs.declared.cut.Cut.{Cut}
 use Rattle.pl_pair.specs.declared.cut.Cut.TheVariants as cut
 use Rattle.pl_pair.specs.Cuts.{cut_by}

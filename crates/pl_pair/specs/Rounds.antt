@@ -1,11 +1,9 @@
 -- What the feeder does between two messages: it waits for the round to close, and writes its lines.
-use Rattle.std.specs.Prelude.{◌≡◌, ◌+◌, ◌≤◌, ℕ, List, [], ◌++◌, length, take, drop, Bool, true, false, ◌||◌, Option, Some, IfSome, Result, Ok, Err}
+use Rattle.std.specs.Prelude.{◌≡◌, ◌+◌, ◌≤◌, ℕ, List, ◌++◌, length, take, drop, true, false, ◌||◌, Option, Some, IfSome, Result, Ok, Err}
 use mathlib.Core.List.{IsPrefix}
-use Rattle.pl_io.specs.Faults.{Rose}
 use Rattle.pl_io.specs.Writes.{AppendsFront}
 use Rattle.pl_turn.specs.Passes.{seen_of, mine_of, crew_of}
 use Rattle.pl_model.specs.declared.whole.Model.{Model}
-use Rattle.pl_entry.specs.declared.entry.Entry.{Entry}
 use Rattle.pl_machine.specs.World.{World}
 use Rattle.pl_render.specs.Lines.{text_from}
 use Rattle.pl_stream.specs.Written.{Adds}

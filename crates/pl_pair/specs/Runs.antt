@@ -1,5 +1,5 @@
 -- What a run of a pair comes to.
-use Rattle.std.specs.Prelude.{◌≡◌, ◌≤◌, ◌<◌, ◌||◌, ℕ, List, [], ◌∷◌, ◌++◌, length, Bool, true, false, Option, Some, None, IfSome, ◌⊎◌, ⊤}
+use Rattle.std.specs.Prelude.{◌≡◌, ◌<◌, ◌||◌, ℕ, List, [], ◌∷◌, ◌++◌, length, Bool, true, false, Option, Some, None, IfSome, ◌⊎◌, ⊤}
 use Rattle.std.specs.List.{All}
 use mathlib.Core.List.{IsPrefix}
 use Rattle.pl_turn.specs.History.{IsEachOnce, StandsIn, times_in}
@@ -12,7 +12,6 @@ use Rattle.pl_io.specs.Writes.{AppendsFront}
 use Rattle.pl_model.specs.declared.whole.Model.{Model}
 use Rattle.pl_entry.specs.declared.entry.Entry.{Entry}
 use Rattle.pl_machine.specs.declared.stop.Stop.{Stop}
-use Rattle.pl_machine.specs.World.{World}
 use Rattle.pl_machine.specs.Legal.{Legal, options_of, world_of}
 use Rattle.pl_machine.specs.Lines.{messages_of}
 use Rattle.pl_machine.specs.Finished.{inputs_of}

@@ -1,5 +1,5 @@
 //! A round's lines are written once it has closed.
-ghost use Rattle.std.specs.Prelude.{◌≡◌, ◌≤◌, ◌+◌, length, IsErrOf};
+ghost use Rattle.std.specs.Prelude.{◌≤◌, ◌+◌, length, IsErrOf};
 ghost use Rattle.pl_io.specs.Faults.{Rose};
 ghost use Rattle.pl_turn.specs.Passes.{seen_of};
 ghost use Rattle.pl_shared.specs.Items.{entries_in};

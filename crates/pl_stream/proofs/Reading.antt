@@ -4,7 +4,7 @@ use Rattle.pl_io.specs.declared.errors.LineFault.{LineFault}
 use Rattle.pl_io.specs.declared.errors.LineFault.TheVariants as fault
 use Rattle.pl_io.specs.Lines.{first_line, has_newline, lines_of, after_line, next_of, given, ended, line_too_long, input_too_long}
 use Rattle.pl_io.specs.Reader.{Reader, NumberedLine, FaultShown, Moves, Answers, IsNextLine}
-use Rattle.pl_io.specs.Sparing.{read_size, shows_next, IsSparing}
+use Rattle.pl_io.specs.Sparing.{read_size, IsSparing}
 use Rattle.pl_io.proofs.LineLaws.{lines_of_next}
 use Rattle.pl_stream.specs.Reads.{Gave, GaveKnown, Took, WhyKnown, StopsAt, Halts, IsUsedUp, OneLine}
 

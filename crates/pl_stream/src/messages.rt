@@ -1,7 +1,6 @@
-ghost use Rattle.std.specs.Prelude.{◌≡◌, ◌≤◌, None, Some, IfOk, IfErr, IfSome, IsErrOf, ◌<◌, length};
+ghost use Rattle.std.specs.Prelude.{◌≡◌, ◌≤◌, None, Some, IfOk, IfErr, IfSome, IsErrOf, ◌<◌};
 ghost use Rattle.pl_io.specs.Faults.{Rose};
 ghost use Rattle.pl_io.specs.Lines.{ahead};
-ghost use Rattle.pl_io.specs.Sparing.{read_size};
 ghost use Rattle.pl_stream.specs.Waits.{MessageGives};
 
 use crate::reads::next_line;

@@ -1,7 +1,6 @@
-ghost use Rattle.std.specs.Prelude.{◌≡◌, ◌≤◌, None, Some, IfErr, IsErrOf, ◌<◌, length};
+ghost use Rattle.std.specs.Prelude.{◌≡◌, ◌≤◌, None, Some, IfErr, IsErrOf, ◌<◌};
 ghost use Rattle.pl_io.specs.Faults.{Rose};
 ghost use Rattle.pl_io.specs.Lines.{ahead};
-ghost use Rattle.pl_io.specs.Sparing.{read_size};
 ghost use Rattle.pl_stream.specs.Reads.{OneLine};
 
 use pl_io::{Line, LineFault, LineReader, Source};

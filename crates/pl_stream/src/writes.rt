@@ -1,4 +1,4 @@
-ghost use Rattle.std.specs.Prelude.{◌≡◌, ◌≤◌, ◌+◌, ◌<◌, OnOk, OnErr, IfErr, length, drop};
+ghost use Rattle.std.specs.Prelude.{◌≤◌, ◌+◌, ◌<◌, OnOk, OnErr, IfErr, length, drop};
 ghost use Rattle.pl_io.specs.Writes.{AppendsFront};
 ghost use Rattle.pl_render.specs.Lines.{line_of, text_from};
 ghost use Rattle.pl_stream.specs.Written.{Adds, WriteStops};
