@@ -1,3 +1,4 @@
+use crate::asserting::holds;
 use pl_conflict::{Code, Conflict, ConflictSet};
 use std::alloc::Global;
 use std::process::Abort;
@@ -43,10 +44,12 @@ fn walked(rt: &impl Abort, alloc: Global, set: &ConflictSet) -> Vec<Conflict> {
 fn assert_has(rt: &impl Abort, alloc: Global, set: &ConflictSet, letters: &str) {
     let wanted = list(rt, alloc, letters);
     let listed = set.list(alloc).expect(rt, "memory");
-    assert!(rt; listed.as_slice() == wanted.as_slice(), "{letters}");
-    assert!(rt; walked(rt, alloc, set).as_slice() == wanted.as_slice());
-    assert!(rt; set.first() == wanted.first().copied() && set.len() as usize == wanted.len());
-    assert!(rt; set.is_empty() == wanted.is_empty());
+    let walked = walked(rt, alloc, set);
+    holds(rt, letters, listed.as_slice() == wanted.as_slice());
+    holds(rt, letters, walked.as_slice() == wanted.as_slice());
+    holds(rt, letters, set.first() == wanted.first().copied());
+    holds(rt, letters, set.len() as usize == wanted.len());
+    holds(rt, letters, set.is_empty() == wanted.is_empty());
 }
 
 /// Puts one in or takes one out, and answers whether it was new or was there.
@@ -74,16 +77,15 @@ fn a_set_is_its_sorted_list(rt: HostRuntime) {
         let (changes, wanted) = rest.split_once(' ').unwrap_or((rest, ""));
         match step.as_bytes() {
             [step, letter] => {
-                assert!(rt;
-                    changed(&rt, &mut set, *step, *letter) == (changes == "1"),
-                    "{row}"
-                );
+                let changed = changed(&rt, &mut set, *step, *letter);
+                holds(&rt, row, changed == (changes == "1"));
             }
             _ => panic!(rt; "no step: {row}"),
         }
         assert_has(&rt, rt.alloc(), &set, wanted);
     }
-    assert!(rt; set.has(&named(b'l')) && !set.has(&named(b'e')));
+    holds(&rt, "the late one", set.has(&named(b'l')));
+    holds(&rt, "no early one", !set.has(&named(b'e')));
 }
 
 /// What goes, what comes, and what the set has then. What is not there may go, what is there may come, and what goes and comes

@@ -1,5 +1,6 @@
 ghost use Rattle.std.specs.Prelude.{ℕ, ◌≡◌, List, Option, None};
 
+use crate::asserting::holds;
 use pl_io::{
     Failed, LineFault, LineReader, MemSink, MemSource, Sink, Source, StdSink, StdSource, SureSink,
     SureSource, put,
@@ -41,7 +42,7 @@ fn read_on<S: Source>(
     for number in 1..10u64 {
         match reader.next(src) {
             Ok(Some(line)) => {
-                assert!(rt; line.number == number);
+                holds(rt, "its number", line.number == number);
                 text.extend_from_slice(line.bytes()).expect(rt, "memory");
                 text.push(b'\n').expect(rt, "memory");
             }
@@ -63,9 +64,11 @@ fn assert_reads<S: Source>(
 ) {
     let mut reader = LineReader::new(alloc, limits.0, limits.1).expect(rt, "memory");
     let (text, found) = read_on(rt, alloc, &mut reader, src);
-    assert!(rt; text.as_slice() == lines && found == fault);
+    holds(rt, "the lines", text.as_slice() == lines);
+    holds(rt, "the fault", found == fault);
     let (text, found) = read_on(rt, alloc, &mut reader, src);
-    assert!(rt; text.is_empty() && found == fault);
+    holds(rt, "no line then", text.is_empty());
+    holds(rt, "the same fault then", found == fault);
 }
 
 /// Takes the first word off; nothing is left where there is no space.
@@ -151,17 +154,19 @@ fn a_read_that_fails(rt: HostRuntime) {
 fn a_write_that_fails(rt: HostRuntime) {
     let mut second = MemSink::new(rt.alloc(), 9, &[2]).expect(&rt, "memory");
     put(&mut second, b"abc").expect(&rt, "the first write");
-    assert!(rt; put(&mut second, b"def") == Err(Failed));
-    assert!(rt; second.bytes() == b"abc".as_slice());
+    let failed = put(&mut second, b"def");
+    holds(&rt, "the second write", failed == Err(Failed));
+    holds(&rt, "the first bytes", second.bytes() == b"abc".as_slice());
     put(&mut second, b"ghi").expect(&rt, "the third write");
-    assert!(rt; second.bytes() == b"abcghi".as_slice());
+    holds(&rt, "all bytes", second.bytes() == b"abcghi".as_slice());
 }
 
 #[test]
 fn a_sink_with_little_room(rt: HostRuntime) {
     let mut small = MemSink::new(rt.alloc(), 3, &[]).expect(&rt, "memory");
-    assert!(rt; put(&mut small, b"abcd") == Err(Failed));
-    assert!(rt; small.bytes() == b"abc".as_slice());
+    let failed = put(&mut small, b"abcd");
+    holds(&rt, "a write of too much", failed == Err(Failed));
+    holds(&rt, "what has room", small.bytes() == b"abc".as_slice());
     put(&mut small, b"").expect(&rt, "a write of nothing");
 }
 
@@ -169,7 +174,7 @@ fn a_sink_with_little_room(rt: HostRuntime) {
 fn a_sink_that_counts(rt: HostRuntime) {
     let mut sure = SureSink::new(rt.alloc()).expect(&rt, "memory");
     put(&mut sure, b"abcde").expect(&rt, "a write");
-    assert!(rt; sure.taken() == 5);
+    holds(&rt, "how many", sure.taken() == 5);
 }
 
 #[test]
@@ -185,5 +190,5 @@ fn a_sink_over_memory(rt: HostRuntime) {
     let mut sink = StdSink::new(&mut text);
     put(&mut sink, b"ab").expect(&rt, "the first write");
     put(&mut sink, b"c").expect(&rt, "the second write");
-    assert!(rt; text.as_slice() == b"abc".as_slice());
+    holds(&rt, "the bytes", text.as_slice() == b"abc".as_slice());
 }

@@ -1,3 +1,4 @@
+use crate::asserting::holds;
 use pl_lists::{Boxed, Copied, Items};
 use std::alloc::Global;
 use std::process::Abort;
@@ -15,17 +16,21 @@ fn a_list_and_its_copy(rt: HostRuntime) {
     let alloc = rt.alloc();
     let mut name = bytes(&rt, alloc, b"cam");
     let copy = name.copy(alloc).expect(&rt, "memory");
-    assert!(rt; name.pop() == Some(b'm'));
-    assert!(rt; name.as_slice() == b"ca".as_slice());
-    assert!(rt; copy.as_slice() == b"cam".as_slice());
-    assert!(rt; copy.len() == 3 && !copy.is_empty());
-    assert!(rt; name.into_vec().as_slice() == b"ca".as_slice());
+    let last = name.pop();
+    holds(&rt, "the last", last == Some(b'm'));
+    holds(&rt, "the others", name.as_slice() == b"ca".as_slice());
+    holds(&rt, "the copy", copy.as_slice() == b"cam".as_slice());
+    holds(&rt, "its length", copy.len() == 3);
+    holds(&rt, "it is not empty", !copy.is_empty());
+    let others = name.into_vec();
+    holds(&rt, "as a vector", others.as_slice() == b"ca".as_slice());
 }
 
 #[test]
 fn a_list_of_nothing(rt: HostRuntime) {
     let mut none: Items<u8> = Items::from_vec(Vec::new(rt.alloc()));
-    assert!(rt; none.is_empty() && none.pop().is_none());
+    holds(&rt, "it is empty", none.is_empty());
+    holds(&rt, "no last", none.pop().is_none());
 }
 
 /// A number, and another or none.
@@ -43,13 +48,17 @@ fn a_boxed_list(rt: HostRuntime) {
     let alloc = rt.alloc();
     let boxed = Boxed::new(alloc, pairs(&rt, alloc)).expect(&rt, "memory");
     let again = boxed.copy(alloc).expect(&rt, "memory");
-    assert!(rt; again.get().as_slice() == [(7, Some(-3)), (8, None)].as_slice());
-    assert!(rt; again.into_inner().len() == 2);
+    let text = format!(in alloc; "{:?}", again.get().as_slice()).expect(&rt, "memory");
+    let is = text.as_str() == "[(7, Some(-3)), (8, None)]";
+    holds(&rt, "the pairs", is);
+    holds(&rt, "two", again.into_inner().len() == 2);
 }
 
 #[test]
 fn plain_values_are_copied(rt: HostRuntime) {
     let alloc = rt.alloc();
-    assert!(rt; true.copy(alloc).expect(&rt, "memory"));
-    assert!(rt; 5u64.copy(alloc).expect(&rt, "memory") == 5);
+    let yes = true.copy(alloc).expect(&rt, "memory");
+    holds(&rt, "a truth value", yes);
+    let five = 5u64.copy(alloc).expect(&rt, "memory");
+    holds(&rt, "a number", five == 5);
 }

@@ -1,6 +1,7 @@
 ghost use Rattle.std.specs.Prelude.{◌<◌, ◌≤◌};
 ghost use Rattle.pl_stn.specs.Nets.{IsWellFormed};
 
+use crate::asserting::holds;
 use pl_lists::Copied;
 use pl_stn::{Edge, Net, Verdict, solve};
 use std::alloc::{AllocError, Global};
@@ -26,9 +27,11 @@ fn net(rt: &impl Abort, alloc: Global, points: u32, edges: &str) -> Net
     let mut net = Net::new(alloc, points).expect(rt, "memory");
     for word in edges.split_whitespace() {
         let edge = edge(word);
-        assert!(rt; net.edges.len() < 1_000_000);
-        assert!(rt; edge.from < net.points && edge.to < net.points);
-        assert!(rt; -100_000_000 <= edge.most && edge.most <= 100_000_000);
+        holds(rt, "few edges", net.edges.len() < 1_000_000);
+        holds(rt, word, edge.from < net.points);
+        holds(rt, word, edge.to < net.points);
+        holds(rt, word, -100_000_000 <= edge.most);
+        holds(rt, word, edge.most <= 100_000_000);
         net.add(edge).expect(rt, "memory");
     }
     net
@@ -36,7 +39,8 @@ fn net(rt: &impl Abort, alloc: Global, points: u32, edges: &str) -> Net
 
 /// What is found for a net and again for its copy: the least times, or the edges of a negative cycle.
 fn found(rt: &impl Abort, alloc: Global, points: u32, edges: &str) -> Result<String, AllocError> {
-    assert!(rt; 0 < points && points <= 20001);
+    holds(rt, "a point", 0 < points);
+    holds(rt, "few points", points <= 20001);
     let net = net(rt, alloc, points, edges);
     match solve(alloc, &net.copy(alloc)?)?.copy(alloc)? {
         Verdict::Times(times) => format!(in alloc; "times {:?}", times.as_slice()),

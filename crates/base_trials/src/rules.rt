@@ -1,3 +1,4 @@
+use crate::asserting::holds;
 use pl_lists::Items;
 use pl_rules::{Symbol, Token};
 use pl_text::Word;
@@ -5,21 +6,25 @@ use pl_text::Word;
 #[test]
 fn tells_words(rt: HostRuntime) {
     let word = Token::Word(Word::Use);
-    assert!(rt; word.is_word(Word::Use));
-    assert!(rt; !word.is_word(Word::Set) && !word.is_symbol(Symbol::Plus));
+    holds(&rt, "the word", word.is_word(Word::Use));
+    holds(&rt, "another word", !word.is_word(Word::Set));
+    holds(&rt, "no symbol", !word.is_symbol(Symbol::Plus));
 }
 
 #[test]
 fn tells_symbols(rt: HostRuntime) {
     let symbol = Token::Symbol(Symbol::Minus);
-    assert!(rt; symbol.is_symbol(Symbol::Minus));
-    assert!(rt; !symbol.is_symbol(Symbol::Plus) && !symbol.is_word(Word::Use));
+    holds(&rt, "the symbol", symbol.is_symbol(Symbol::Minus));
+    holds(&rt, "another symbol", !symbol.is_symbol(Symbol::Plus));
+    holds(&rt, "no word", !symbol.is_word(Word::Use));
 }
 
 #[test]
 fn tells_names_and_numbers(rt: HostRuntime) {
     let name = Token::Name(Items::new(rt.alloc()));
-    assert!(rt; !name.is_word(Word::Use) && !Token::Number(7).is_symbol(Symbol::Plus));
+    holds(&rt, "a name", !name.is_word(Word::Use));
+    let number = Token::Number(7);
+    holds(&rt, "a number", !number.is_symbol(Symbol::Plus));
 }
 
 /// The byte of the symbol of a byte.
@@ -30,7 +35,7 @@ fn again(byte: u8) -> Option<u8> {
 #[test]
 fn symbols_have_bytes(rt: HostRuntime) {
     for byte in b"{}(),=+-*" {
-        assert!(rt; again(*byte) == Some(*byte));
+        holds(&rt, "the same byte", again(*byte) == Some(*byte));
     }
-    assert!(rt; again(b';').is_none());
+    holds(&rt, "no symbol", again(b';').is_none());
 }

@@ -1,10 +1,11 @@
+use crate::asserting::holds;
 use pl_text::{TextFault, Word, is_name, push_number, tokens, word_of};
 use std::alloc::{AllocError, Global};
 use std::process::Abort;
 
 /// The tokens of a text as a list is printed, or its first fault.
 fn said(rt: &impl Abort, alloc: Global, text: &[u8]) -> Result<String, AllocError> {
-    assert!(rt; text.len() <= 1_000_000);
+    holds(rt, "a short text", text.len() <= 1_000_000);
     match tokens(alloc, text) {
         Ok(found) => format!(in alloc; "{:?}", found.as_slice()),
         Err(TextFault::Memory) => Err(AllocError),
@@ -51,8 +52,8 @@ fn first_faults(rt: HostRuntime) {
     assert_said(&rt, alloc, b"# $\n_", "bad byte at 4");
     assert_said(&rt, alloc, b"a\x80", "bad byte at 1");
     for text in SOUND.lines() {
-        assert!(rt; text.len() <= 1_000_000);
-        assert!(rt; tokens(alloc, text.as_bytes()).is_ok());
+        holds(&rt, "a short text", text.len() <= 1_000_000);
+        holds(&rt, text, tokens(alloc, text.as_bytes()).is_ok());
     }
 }
 
@@ -70,16 +71,17 @@ abcdefghijklmnopqrstuvwxyz0123456 no";
 fn names(rt: HostRuntime) {
     for row in NAMES.lines() {
         let (text, wanted) = row.split_once(' ').unwrap_or((row, ""));
-        assert!(rt; is_name(text.as_bytes()) == (wanted == "yes"), "{row}");
+        holds(&rt, row, is_name(text.as_bytes()) == (wanted == "yes"));
     }
-    assert!(rt; !is_name(b"a b"));
+    holds(&rt, "a b", !is_name(b"a b"));
 }
 
 #[test]
 fn words(rt: HostRuntime) {
-    assert!(rt; word_of(b"alternative") == Some(Word::Alternative));
-    assert!(rt; word_of(b"alternatives").is_none());
-    assert!(rt; Word::Min.text() == "min");
+    let found = word_of(b"alternative");
+    holds(&rt, "a word", found == Some(Word::Alternative));
+    holds(&rt, "no word", word_of(b"alternatives").is_none());
+    holds(&rt, "its text", Word::Min.text() == "min");
 }
 
 #[test]
@@ -88,5 +90,5 @@ fn writes_numbers(rt: HostRuntime) {
     for number in [40, -7, 0] {
         push_number(&mut out, number).expect(&rt, "memory");
     }
-    assert!(rt; out.as_slice() == b"40-70".as_slice());
+    holds(&rt, "the text", out.as_slice() == b"40-70".as_slice());
 }

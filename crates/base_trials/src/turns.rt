@@ -2,6 +2,7 @@ ghost use Rattle.std.specs.Prelude.{◌≡◌, ℕ, ◌<◌, ◌++◌, ◌∷◌
 ghost use mathlib.Core.List.{IsPrefix};
 ghost use Rattle.pl_turn.specs.Passes.{IsPassOf, seen_of, mine_of, counted_of, in_turn, crew_of, leads};
 
+use crate::asserting::holds;
 use pl_turn::{Gate, Logged, NoGate, Pass, TurnLock, crosses};
 use std::alloc::{AllocError, Global};
 use std::process::Abort;
@@ -100,8 +101,13 @@ fn two_passes<R: Wait>(rt: &R, alloc: Global) -> Result<(u64, Notes), AllocError
 #[test]
 fn two_passes_stand_in_one_list(rt: HostRuntime) {
     let (count, notes) = two_passes(&rt, rt.alloc()).expect(&rt, "memory");
-    assert!(rt; count == 2);
-    assert!(rt; notes.items.as_slice() == [note_of(1, 0), note_of(2, 0)].as_slice());
+    holds(&rt, "two entries", count == 2);
+    let wanted = [note_of(1, 0), note_of(2, 0)];
+    holds(
+        &rt,
+        "the notes",
+        notes.items.as_slice() == wanted.as_slice(),
+    );
 }
 
 const TURNS: u32 = 10_000;
@@ -192,17 +198,18 @@ fn assert_in_order(rt: &impl Abort, notes: &[Note], worker: u8) {
     let mut next = 0u32;
     for note in notes {
         if note.worker == worker {
-            assert!(rt; note.number == next, "{worker}");
+            holds(rt, "each in its order", note.number == next);
             next = next.wrapping_add(1);
         }
     }
-    assert!(rt; next == TURNS, "{worker}");
+    holds(rt, "none is missing", next == TURNS);
 }
 
 #[test]
 fn four_threads_lose_no_entry(rt: HostRuntime) {
     let notes = four_workers(&rt, rt.alloc()).expect(&rt, "memory");
-    assert!(rt; notes.items.len() == 4 * TURNS as usize);
+    let count = notes.items.len();
+    holds(&rt, "all notes", count == 4 * TURNS as usize);
     for worker in 0..4 {
         assert_in_order(&rt, &notes.items, worker);
     }

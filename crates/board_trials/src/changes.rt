@@ -1,9 +1,11 @@
 //! Changes of a board, each by its public call.
-ghost use Rattle.std.specs.Prelude.{◌≡◌, ◌<◌, pos, false, true, length, slice_get};
+ghost use Rattle.std.specs.Prelude.{◌≡◌, ◌<◌, ◌≤◌, pos, false, true, length, slice_get};
 ghost use Rattle.pl_model.specs.Checked.{params_of};
 ghost use Rattle.pl_changes.specs.Changes.{CanTell};
 ghost use Rattle.pl_world.specs.Whole.{IsGoalOf};
+ghost use Rattle.pl_world.specs.Moves.{is_proper};
 
+use crate::asserting::holds;
 use crate::reading::{number, repair, word};
 use pl_board::Board;
 use pl_facts::Goal;
@@ -26,18 +28,24 @@ fn can_tell(model: &Model, line: u32, value: u32) -> bool
 }
 
 fn tick(rt: &impl Abort, board: &mut Board, now: u32) {
-    assert!(rt; board.now() < now && now <= board.model().horizon);
+    holds(rt, "a later moment", board.now() < now);
+    holds(rt, "one within the horizon", now <= board.model().horizon);
     let ticked = board.tick(now, &mut Steps::new(Quiet));
     ticked.expect(rt, "memory");
 }
 
 fn commit(rt: &impl Abort, board: &mut Board, h: u32) {
-    assert!(rt; board.committed() <= h && h <= board.model().horizon);
+    holds(rt, "a later commit", board.committed() <= h);
+    holds(rt, "one within the horizon", h <= board.model().horizon);
     board.commit(h).expect(rt, "memory");
 }
 
 fn tell(rt: &impl Abort, board: &mut Board, line: u32, value: u32) {
-    assert!(rt; can_tell(board.model(), line, value));
+    holds(
+        rt,
+        "a value that can be told",
+        can_tell(board.model(), line, value),
+    );
     let told = board.telemetry(line, i64::from(value), &mut Steps::new(Quiet));
     told.expect(rt, "memory");
 }
@@ -67,7 +75,9 @@ fn goal(
     ensures number { result.number ≡ number }
 {
     let (earliest, latest) = window;
-    assert!(rt; earliest <= latest && latest < model.horizon && is_plain(model));
+    holds(rt, "a window", earliest <= latest);
+    holds(rt, "one within the horizon", latest < model.horizon);
+    holds(rt, "a kind without parameters", is_plain(model));
     Goal {
         number,
         kind: 0,
@@ -84,9 +94,20 @@ fn ask(rt: &impl Abort, alloc: Global, board: &mut Board, line: &str) {
     let mut rest = line;
     let name = number(&mut rest);
     let window = (number(&mut rest), number(&mut rest));
-    assert!(rt; board.goals().get(name).is_none());
+    holds(rt, "a new number", board.goals().get(name).is_none());
     let goal = goal(rt, alloc, board.model(), name, window, rest == "must");
     board.add_goal(goal).expect(rt, "memory");
+}
+
+/// Asserts that a move may be tried on a board: it is proper.
+pub fn assert_can_move(rt: &impl Abort, board: &Board, mv: &RepairMove)
+    ensures unspoiled { board.now.spoiled ≡ false }
+    ensures next { board.now.state.next_id ≤ 3999999000 }
+    ensures proper { is_proper board.now.state mv.now ≡ true }
+{
+    holds(rt, "enough memory", !board.spoiled());
+    holds(rt, "ids that are left", board.next_id() <= 3_999_999_000);
+    holds(rt, "a proper move", proper(board, mv));
 }
 
 /// Makes a move, which is proper.
@@ -97,7 +118,7 @@ pub fn make<L: Ledger>(
     mv: &RepairMove,
     steps: &mut Steps<L>,
 ) {
-    assert!(rt; !board.spoiled() && board.next_id() <= 3_999_999_000 && proper(board, mv));
+    assert_can_move(rt, board, mv);
     apply(alloc, board, mv, steps).expect(rt, "a legal move");
 }
 

@@ -1,4 +1,5 @@
 //! How many steps one change of a large board takes.
+use crate::asserting::holds;
 use crate::boards::empty;
 use crate::changes::make;
 use pl_board::Board;
@@ -52,5 +53,5 @@ fn one_activity_more_of_ten_thousand(rt: HostRuntime) {
     let mut steps = Steps::new(Counting { ticks: 0 });
     place(&rt, alloc, &mut board, 5, &mut steps);
     let ticks = steps.ledger().ticks;
-    assert!(rt; 2 <= ticks && ticks <= 6_023);
+    holds(&rt, "few steps", 2 <= ticks && ticks <= 6_023);
 }

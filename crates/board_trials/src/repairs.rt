@@ -1,3 +1,4 @@
+use crate::asserting::{assert_is, assert_printed, holds};
 use crate::boards::changed;
 use crate::reading::{conflict, repair};
 use crate::values::{assert_conflicts, assert_values};
@@ -11,14 +12,19 @@ use std::process::Abort;
 
 /// Why a proper move is refused.
 fn refusal(rt: &impl Abort, board: &Board, mv: &RepairMove) -> Option<Refusal> {
-    assert!(rt; !board.spoiled() && proper(board, mv));
+    holds(rt, "enough memory", !board.spoiled());
+    holds(rt, "a proper move", proper(board, mv));
     let refused = legal(board, mv).err();
-    assert!(rt; is_legal(board, mv) == refused.is_none());
+    holds(
+        rt,
+        "the same told",
+        is_legal(board, mv) == refused.is_none(),
+    );
     refused
 }
 
 fn copied(rt: &impl Abort, alloc: Global, board: &Board) -> Board {
-    assert!(rt; !board.spoiled());
+    holds(rt, "enough memory", !board.spoiled());
     board.copy(alloc).expect(rt, "memory")
 }
 
@@ -31,7 +37,7 @@ const COMMITTED: &str = "add 1 40\ndetail 1 0\nshift 2 25\ncommit 30";
 fn locks_what_is_committed(rt: HostRuntime) {
     let board = changed(&rt, rt.alloc(), SCAN, COMMITTED);
     let refused = refusal(&rt, &board, &repair("shift 1 45"));
-    assert!(rt; refused == Some(Refusal::Locked(2)));
+    holds(&rt, "locked", refused == Some(Refusal::Locked(2)));
 }
 
 #[test]
@@ -48,9 +54,9 @@ kind k { param n 1 10 param m 1 10 = n * 2 duration 5 use cam 6 }";
 
 /// What a live activity comes to.
 fn evaluated(rt: &impl Abort, alloc: Global, board: &Board, id: u32) -> Evaluated {
-    assert!(rt; !board.spoiled());
+    holds(rt, "enough memory", !board.spoiled());
     let s = board.state();
-    assert!(rt; s.plan.get(id).is_some());
+    holds(rt, "it is live", s.plan.get(id).is_some());
     let found = s.plan.evaluate(alloc, s.model.get(), id);
     found.expect(rt, "memory")
 }
@@ -60,8 +66,9 @@ fn uses_nothing_where_a_value_is_bad(rt: HostRuntime) {
     let alloc = rt.alloc();
     let board = changed(&rt, alloc, TWICE, "add 0 10\nassign 1 0 8");
     let found = evaluated(&rt, alloc, &board, 1);
-    assert!(rt; found.values.as_slice() == [Some(8), Some(16)].as_slice());
-    assert!(rt; found.end.is_none());
+    let printed = format!(in alloc; "{:?}", found.values.as_slice());
+    assert_printed(&rt, printed, "[Some(8), Some(16)]");
+    holds(&rt, "no end", found.end.is_none());
     assert_values(&rt, &board, "use 0 10 = 0");
     assert_conflicts(&rt, alloc, &board, "10 bad-value 1 1 0 0");
 }
@@ -85,10 +92,10 @@ fn adds(rt: &impl Abort, alloc: Global) -> Vec<RepairMove> {
 /// Asserts which moves are tried while the goal is open.
 fn assert_tried(rt: &impl Abort, alloc: Global, goal: &str, wanted: &[RepairMove]) {
     let board = changed(rt, alloc, SEEN, goal);
-    assert!(rt; !board.spoiled());
+    holds(rt, "enough memory", !board.spoiled());
     let open = conflict("20 open-goal 1 0 10 20");
     let moves = candidates(alloc, &board, &open).expect(rt, "memory");
-    assert!(rt; moves.as_slice() == wanted);
+    holds(rt, goal, moves.as_slice() == wanted);
 }
 
 #[test]
@@ -103,14 +110,9 @@ fn tries_each_start_of_a_window(rt: HostRuntime) {
 
 /// The starts that are tried for a live activity.
 fn starts(rt: &impl Abort, alloc: Global, board: &Board, id: u32) -> Vec<u32> {
-    assert!(rt; !board.spoiled() && board.plan().get(id).is_some());
+    holds(rt, "enough memory", !board.spoiled());
+    holds(rt, "it is live", board.plan().get(id).is_some());
     places(alloc, board, id).expect(rt, "memory")
-}
-
-/// Asserts that a list is printed so.
-fn assert_is(rt: &impl Abort, alloc: Global, list: &[u32], wanted: &str) {
-    let text = format!(in alloc; "{list:?}").expect(rt, "memory");
-    assert!(rt; text.as_str() == wanted, "{text}");
 }
 
 #[test]

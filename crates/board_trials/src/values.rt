@@ -3,6 +3,7 @@ ghost use Rattle.std.specs.Prelude.{◌≡◌, ◌≤◌, ◌<◌, false, true, 
 ghost use Rattle.pl_model.specs.Checked.{IsCapacityLine, IsLevelLine};
 ghost use Rattle.pl_demands.specs.Based.{IsStateLine};
 
+use crate::asserting::holds;
 use crate::reading::{conflict, number, word};
 use pl_board::Board;
 use pl_conflict::Conflict;
@@ -46,17 +47,20 @@ fn is_ahead(board: &Board, t: u32) -> bool
 }
 
 fn use_at(rt: &impl Abort, board: &Board, line: u32, t: u32) -> i64 {
-    assert!(rt; is_ahead(board, t) && is_capacity(board.model(), line));
+    holds(rt, "a moment ahead", is_ahead(board, t));
+    holds(rt, "a capacity", is_capacity(board.model(), line));
     board.use_at(line, t)
 }
 
 fn level_at(rt: &impl Abort, board: &Board, line: u32, t: u32) -> i64 {
-    assert!(rt; is_ahead(board, t) && is_level(board.model(), line));
+    holds(rt, "a moment ahead", is_ahead(board, t));
+    holds(rt, "a level", is_level(board.model(), line));
     board.level_at(line, t)
 }
 
 fn state_at(rt: &impl Abort, board: &Board, line: u32, t: u32) -> i64 {
-    assert!(rt; is_ahead(board, t) && is_state(board.model(), line));
+    holds(rt, "a moment ahead", is_ahead(board, t));
+    holds(rt, "a state timeline", is_state(board.model(), line));
     i64::from(board.state_at(line, t))
 }
 

@@ -1,9 +1,10 @@
 //! The plan that several callers act on, each call of it on one thread.
-ghost use Rattle.std.specs.Prelude.{◌≡◌, ◌==◌, ◌≤◌, [], true, IfOk};
+ghost use Rattle.std.specs.Prelude.{◌≡◌, ◌==◌, ◌≤◌, [], true, IfOk, length};
 ghost use Rattle.std.specs.List.{list_any};
 ghost use Rattle.pl_turn.specs.Passes.{crew_of, leads, made_by, joined_by};
 ghost use Rattle.pl_shared.specs.Plans.{BelongsTo};
 
+use crate::asserting::holds;
 use crate::models::{JOURNAL, MODEL, model, shared_model};
 use pl_choose::Seeded;
 use pl_entry::Entry;
@@ -59,9 +60,10 @@ fn tell<R: Abort + Wait>(
     ensures own { BelongsTo plan.now pass.new }
     ensures crew { crew_of pass.new ≡ crew_of pass.old }
 {
-    assert!(rt; line.len() <= 4096 && !has_newline(line));
+    holds(rt, "few bytes", line.len() <= 4096);
+    holds(rt, "one line", !has_newline(line));
     let fed = plan.feed(rt, pass, Some(line));
-    assert!(rt; fed == wanted);
+    holds(rt, "what is answered", fed == wanted);
 }
 
 /// Whether an act was answered by this word: the number of the entry that it made, or why it made none.
@@ -90,7 +92,7 @@ fn acts<R: Abort + Wait>(
 {
     for word in wanted.split(' ') {
         let acted = plan.act(rt, alloc, pass, role);
-        assert!(rt; is_said(&acted, word), "{wanted}");
+        holds(rt, wanted, is_said(&acted, word));
     }
 }
 
@@ -153,14 +155,25 @@ fn has_journal<R: Abort + Wait>(rt: &R, alloc: Global, plan: &SharedPlan, pass: 
     told && written.as_slice() == JOURNAL.as_bytes()
 }
 
+/// The machine under a plan has so many entries.
+fn has_logged(rt: &impl Abort, plan: SharedPlan, pass: Pass, entries: usize)
+    requires own { BelongsTo plan pass }
+    requires first { leads pass ≡ true }
+    requires all_joined { made_by pass ≡ length (joined_by pass) }
+{
+    let machine = plan.close(pass);
+    holds(rt, "its log", machine.log().len() == entries);
+}
+
 #[test]
 fn makes_the_worked_journal(rt: HostRuntime) {
     let alloc = rt.alloc();
     let (plan, mut pass) = opened(&rt, alloc, 250000).expect(&rt, "memory");
     run(&rt, alloc, &plan, &mut pass);
-    assert!(rt; plan.entries(&mut pass) == 12);
-    assert!(rt; has_journal(&rt, alloc, &plan, &mut pass));
-    assert!(rt; plan.close(pass).log().len() == 12);
+    holds(&rt, "twelve entries", plan.entries(&mut pass) == 12);
+    let has_journal = has_journal(&rt, alloc, &plan, &mut pass);
+    holds(&rt, "the worked journal", has_journal);
+    has_logged(&rt, plan, pass, 12);
 }
 
 /// Stops the plan by another pass behind a message.
@@ -208,19 +221,21 @@ fn is_stopped_by_another_pass(rt: HostRuntime) {
     stop_behind(&rt, &plan, &mut feeder);
     both_stop(&rt, alloc, &plan, &mut pass);
     plan.join(&mut pass, feeder);
-    assert!(rt; plan.entries(&mut pass) == 3);
-    assert!(rt; is_stopped(&rt, alloc, &plan, &mut pass, 2));
-    assert!(rt; plan.close(pass).log().len() == 2);
+    holds(&rt, "three entries", plan.entries(&mut pass) == 3);
+    let is_stopped = is_stopped(&rt, alloc, &plan, &mut pass, 2);
+    holds(&rt, "it is stopped", is_stopped);
+    has_logged(&rt, plan, pass, 2);
 }
 
 #[test]
 fn works_until_it_is_over(rt: HostRuntime) {
     let alloc = rt.alloc();
     let (plan, mut pass) = opened(&rt, alloc, 250000).expect(&rt, "memory");
-    assert!(rt; plan.feed(&rt, &mut pass, None) == Ok(1));
+    let fed = plan.feed(&rt, &mut pass, None);
+    holds(&rt, "the end is taken", fed == Ok(1));
     let made = work(&rt, alloc, &plan, &NoGate, &mut pass, &mut Role::Executive);
-    assert!(rt; made == Ok(0));
-    assert!(rt; plan.close(pass).done());
+    holds(&rt, "nothing to do", made == Ok(0));
+    holds(&rt, "it is done", plan.close(pass).done());
 }
 
 #[test]
@@ -230,8 +245,9 @@ fn works_until_the_log_is_full(rt: HostRuntime) {
     tell(&rt, &plan, &mut pass, b"goal 1 obs 10 20 must", Ok(1));
     let mut planner = Role::Planner(Seeded::new(1));
     let made = work(&rt, alloc, &plan, &NoGate, &mut pass, &mut planner);
-    assert!(rt; made == Err(Stop::LogFull));
-    assert!(rt; is_stopped(&rt, alloc, &plan, &mut pass, 3));
+    holds(&rt, "a full log", made == Err(Stop::LogFull));
+    let is_stopped = is_stopped(&rt, alloc, &plan, &mut pass, 3);
+    holds(&rt, "it is stopped", is_stopped);
     tell(&rt, &plan, &mut pass, b"end", Err(Stop::NotNow));
-    assert!(rt; plan.close(pass).log().len() == 3);
+    has_logged(&rt, plan, pass, 3);
 }

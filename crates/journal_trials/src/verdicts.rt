@@ -1,4 +1,5 @@
 //! Journals verified, each with its verdict.
+use crate::asserting::holds;
 use crate::models::{JOURNAL, shared_model};
 use pl_io::{LineFault, LineReader, MemSource};
 use pl_machine::Machine;
@@ -41,7 +42,7 @@ fn judge(rt: &impl Abort, alloc: Global, journal: &[u8], wanted: &str) {
     let (verdict, machine) = found.expect(rt, "a verdict");
     let text = format!(in alloc; "{verdict:?}").expect(rt, "memory");
     assert!(rt; text.starts_with(wanted), "{wanted}: {text}");
-    assert!(rt; is_fitting(&verdict, &machine), "{wanted}");
+    holds(rt, wanted, is_fitting(&verdict, &machine));
 }
 
 /// The text with a newline for each `;`.
@@ -140,16 +141,19 @@ fn fault_of(
 fn tells_lines_that_are_too_long(rt: HostRuntime) {
     let line = [b'x'; 4161];
     let found = fault_of(&rt, rt.alloc(), line.as_slice(), 10_000, &[]);
-    assert!(rt; found == Some(LineFault::Long(1)));
+    holds(&rt, "a long line", found == Some(LineFault::Long(1)));
 }
 
 #[test]
 fn tells_faults_of_the_input(rt: HostRuntime) {
     let alloc = rt.alloc();
     let journal = JOURNAL.as_bytes();
-    assert!(rt; fault_of(&rt, alloc, journal, 100, &[]) == Some(LineFault::Total));
-    assert!(rt; fault_of(&rt, alloc, journal, 10_000, &[1]) == Some(LineFault::Read));
-    assert!(rt; fault_of(&rt, alloc, journal, 10_000, &[9]).is_none());
+    let found = fault_of(&rt, alloc, journal, 100, &[]);
+    holds(&rt, "a long input", found == Some(LineFault::Total));
+    let found = fault_of(&rt, alloc, journal, 10_000, &[1]);
+    holds(&rt, "a read that fails", found == Some(LineFault::Read));
+    let found = fault_of(&rt, alloc, journal, 10_000, &[9]);
+    holds(&rt, "no fault", found.is_none());
 }
 
 #[test]
@@ -161,8 +165,13 @@ fn reads_nothing_behind_a_wrong_entry(rt: HostRuntime) {
     let mut source = MemSource::new(alloc, &journal, &[]).expect(&rt, "memory");
     let found = verify(alloc, model, &mut lines, &mut source);
     let (verdict, machine) = found.expect(&rt, "a verdict");
-    assert!(rt; matches!(verdict, Verdict::NotALine(2)) && machine.is_none());
+    holds(&rt, "no line", matches!(verdict, Verdict::NotALine(2)));
+    holds(&rt, "no machine", machine.is_none());
     let next = lines.next(&mut source).expect(&rt, "no fault");
     let line = next.expect(&rt, "a line");
-    assert!(rt; line.bytes() == b"3 rest clear".as_slice());
+    holds(
+        &rt,
+        "the next line",
+        line.bytes() == b"3 rest clear".as_slice(),
+    );
 }

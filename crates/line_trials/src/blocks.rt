@@ -1,3 +1,4 @@
+use crate::asserting::holds;
 use crate::counting::Counting;
 use crate::points::{adds_up, fill, finds_outside, has_both};
 use pl_blocks::BlockPoints;
@@ -9,8 +10,10 @@ fn blocks_say_what_plain_points_say(rt: HostRuntime) {
     let mut points = BlockPoints::new(rt.alloc());
     let mut steps = Steps::new(Counting { ticks: 0 });
     fill(&rt, &mut points, &mut steps);
-    assert!(rt; has_both(&points, &mut steps) && adds_up(&points, &mut steps));
-    assert!(rt; finds_outside(&points, &mut steps) && points.len() == 2);
+    holds(&rt, "both", has_both(&points, &mut steps));
+    holds(&rt, "their sums", adds_up(&points, &mut steps));
+    holds(&rt, "what is outside", finds_outside(&points, &mut steps));
+    holds(&rt, "no third", points.len() == 2);
 }
 
 #[test]
@@ -25,5 +28,5 @@ fn one_use_more_of_ten_thousand(rt: HostRuntime) {
     let mut steps = Steps::new(Counting { ticks: 0 });
     capacity.add(5, 6, 1, &mut steps).expect(&rt, "memory");
     let ticks = steps.ledger().ticks;
-    assert!(rt; 2 <= ticks && ticks <= 6_024);
+    holds(&rt, "few steps", 2 <= ticks && ticks <= 6_024);
 }

@@ -3,6 +3,7 @@ ghost use Rattle.std.specs.Prelude.{◌≡◌, ◌≤◌, pos, neg_ℤ, true, fa
 ghost use Rattle.pl_capacity.specs.Uses.{IsUse, use_of};
 ghost use Rattle.pl_level.specs.Effects.{IsEffect, effect_of};
 
+use crate::asserting::holds;
 use crate::capacities::is_one;
 use pl_blocks::BlockPoints;
 use pl_capacity::Capacity;
@@ -39,11 +40,13 @@ fn overlapped(rt: &impl Abort, alloc: Global) -> Capacity<BlockPoints>
 #[test]
 fn a_use_comes_and_goes(rt: HostRuntime) {
     let mut camera = overlapped(&rt, rt.alloc());
-    assert!(rt; is_one(camera.spans(), 10, 15));
+    holds(&rt, "the span", is_one(camera.spans(), 10, 15));
     let gone = pl_capacity::remove_bounded(&mut camera, 5, 15, 6, &mut Steps::new(Quiet));
     let gone = gone.expect(&rt, "memory");
-    assert!(rt; is_one(gone.went.as_slice(), 10, 15) && gone.came.is_empty());
-    assert!(rt; camera.spans().is_empty() && !camera.spoiled());
+    holds(&rt, "what went", is_one(gone.went.as_slice(), 10, 15));
+    holds(&rt, "nothing that came", gone.came.is_empty());
+    holds(&rt, "no span", camera.spans().is_empty());
+    holds(&rt, "enough memory", !camera.spoiled());
 }
 
 fn add_effect(rt: &impl Abort, battery: &mut Level<BlockPoints>, at: u32, delta: i64) -> LevelChange
@@ -68,10 +71,12 @@ fn drained(rt: &impl Abort, alloc: Global) -> Level<BlockPoints>
 #[test]
 fn an_effect_comes_and_goes(rt: HostRuntime) {
     let mut battery = drained(&rt, rt.alloc());
-    assert!(rt; is_one(battery.low_spans(), 40, 60) && battery.high_spans().is_empty());
+    holds(&rt, "the span", is_one(battery.low_spans(), 40, 60));
+    holds(&rt, "never high", battery.high_spans().is_empty());
     let gone = pl_level::remove_bounded(&mut battery, 60, 30, &mut Steps::new(Quiet));
     let gone = gone.expect(&rt, "memory");
-    assert!(rt; is_one(gone.low.went.as_slice(), 40, 60));
-    assert!(rt; is_one(gone.low.came.as_slice(), 40, 100));
-    assert!(rt; is_one(battery.low_spans(), 40, 100) && !battery.spoiled());
+    holds(&rt, "what went", is_one(gone.low.went.as_slice(), 40, 60));
+    holds(&rt, "what came", is_one(gone.low.came.as_slice(), 40, 100));
+    holds(&rt, "the span then", is_one(battery.low_spans(), 40, 100));
+    holds(&rt, "enough memory", !battery.spoiled());
 }

@@ -2,6 +2,7 @@ ghost use Rattle.std.specs.Prelude.{◌≡◌, ◌<◌, ◌≤◌, ◌≤ℤ◌,
 ghost use Rattle.pl_points.specs.Standing.{without, stands};
 ghost use Rattle.pl_capacity.specs.Uses.{IsUse, use_of, same_use};
 
+use crate::asserting::{holds, is_copied};
 use pl_capacity::{Capacity, Use};
 use pl_lists::Copied;
 use pl_points::{Change, PlainPoints, Quiet, Span, Steps};
@@ -91,9 +92,11 @@ fn overlapped(rt: &impl Abort, alloc: Global) -> Capacity<PlainPoints>
 #[test]
 fn two_uses_that_overlap(rt: HostRuntime) {
     let camera = overlapped(&rt, rt.alloc());
-    assert!(rt; has_one(&camera, 10, 15));
-    assert!(rt; at(&camera, 9) == 6 && at(&camera, 10) == 12);
-    assert!(rt; at(&camera, 15) == 6 && at(&camera, 20) == 0);
+    holds(&rt, "the span", has_one(&camera, 10, 15));
+    holds(&rt, "at 9", at(&camera, 9) == 6);
+    holds(&rt, "at 10", at(&camera, 10) == 12);
+    holds(&rt, "at 15", at(&camera, 15) == 6);
+    holds(&rt, "at 20", at(&camera, 20) == 0);
 }
 
 #[test]
@@ -101,10 +104,13 @@ fn a_use_that_goes(rt: HostRuntime) {
     let mut camera = overlapped(&rt, rt.alloc());
     let copy = camera.copy(rt.alloc()).expect(&rt, "memory");
     let later = advance(&rt, &mut camera, 12);
-    assert!(rt; is_one(later.went.as_slice(), 10, 15) && is_one(later.came.as_slice(), 12, 15));
+    holds(&rt, "what went", is_one(later.went.as_slice(), 10, 15));
+    holds(&rt, "what came", is_one(later.came.as_slice(), 12, 15));
     let gone = remove(&rt, &mut camera, 5, 15, 6);
-    assert!(rt; is_one(gone.went.as_slice(), 12, 15) && gone.came.is_empty());
-    assert!(rt; has_none(&camera) && has_one(&copy, 10, 15));
+    holds(&rt, "what is gone", is_one(gone.went.as_slice(), 12, 15));
+    holds(&rt, "nothing that came", gone.came.is_empty());
+    holds(&rt, "no span", has_none(&camera));
+    holds(&rt, "the copy", has_one(&copy, 10, 15));
 }
 
 #[test]
@@ -112,7 +118,7 @@ fn uses_that_adjoin(rt: HostRuntime) {
     let mut apart = started(rt.alloc(), 100, 10);
     add(&rt, &mut apart, 5, 15, 6);
     add(&rt, &mut apart, 15, 25, 6);
-    assert!(rt; has_none(&apart));
+    holds(&rt, "no span", has_none(&apart));
 }
 
 #[test]
@@ -121,18 +127,14 @@ fn spans_that_adjoin(rt: HostRuntime) {
     add(&rt, &mut one, 10, 30, 6);
     add(&rt, &mut one, 10, 20, 6);
     let last = add(&rt, &mut one, 20, 30, 6);
-    assert!(rt; has_one(&one, 10, 30));
-    assert!(rt; is_one(last.went.as_slice(), 10, 20) && is_one(last.came.as_slice(), 10, 30));
+    holds(&rt, "one span", has_one(&one, 10, 30));
+    holds(&rt, "what went", is_one(last.went.as_slice(), 10, 20));
+    holds(&rt, "what came", is_one(last.came.as_slice(), 10, 30));
 }
 
 #[test]
 fn a_use_and_its_copy(rt: HostRuntime) {
-    let copy = Use {
-        from: 1,
-        to: 2,
-        amount: 3,
-    }
-    .copy(rt.alloc())
-    .expect(&rt, "memory");
-    assert!(rt; copy.to == 2 && copy.amount == 3);
+    let (from, to, amount) = (1, 2, 3);
+    let one = Use { from, to, amount };
+    holds(&rt, "the copy", is_copied(&rt, rt.alloc(), &one));
 }

@@ -3,6 +3,7 @@ ghost use Rattle.std.specs.Prelude.{◌≡◌, ◌<◌, ◌≤◌, [], ◌++◌,
 ghost use Rattle.pl_points.specs.Standing.{without, stands};
 ghost use Rattle.pl_capacity.specs.Uses.{IsUse, same_use, use_of};
 
+use crate::asserting::holds_for;
 use crate::plain::{CHANGES, HORIZON, below, grow, is_change};
 use pl_capacity::{Capacity, Use};
 use pl_points::{Change, Points, Quiet, Span, Steps};
@@ -223,6 +224,34 @@ fn take_more<P: Points>(
     Some(change)
 }
 
+// Makes one change, and asserts that the timeline tells then what the plain definition tells: the spans, which it gives.
+fn step<P: Points>(
+    rt: &impl Abort,
+    alloc: Global,
+    line: &mut Capacity<P>,
+    uses: &mut Vec<Use>,
+    moment: &mut u32,
+    before: &[Span],
+    seed: u64,
+    turn: u32,
+) -> Vec<Span>
+    requires tied { line.old.uses ≡ uses.old.items }
+    requires moment { line.old.moment ≡ moment.old }
+    requires in_time { moment.old ≤ 20 }
+    requires horizon { line.old.horizon ≡ 20 }
+    ensures tied { line.new.uses ≡ uses.new.items }
+    ensures moment { line.new.moment ≡ moment.new }
+    ensures in_time { moment.new ≤ 20 }
+    ensures horizon { line.new.horizon ≡ 20 }
+{
+    let mut words = Pcg32::new(seed, u64::from(turn));
+    let answer = change(rt, line, uses, moment, &mut words);
+    let after = spans_of(rt, alloc, uses, *moment);
+    holds_for(rt, seed, has(line, uses, *moment, &after));
+    holds_for(rt, seed, is_answer(&answer, before, &after));
+    after
+}
+
 /// Asserts that all of a sequence of changes, over the points, is as the plain definition has it.
 pub fn agrees<P: Points>(rt: &impl Abort, alloc: Global, seed: u64, points: P)
     requires { P.points points ≡ [] }
@@ -232,12 +261,16 @@ pub fn agrees<P: Points>(rt: &impl Abort, alloc: Global, seed: u64, points: P)
     let mut moment = 0;
     let mut plain = Vec::new(alloc);
     for turn in 0..CHANGES {
-        let mut words = Pcg32::new(seed, u64::from(turn));
-        let answer = change(rt, &mut line, &mut uses, &mut moment, &mut words);
-        let after = spans_of(rt, alloc, &uses, moment);
-        assert!(rt; has(&line, &uses, moment, &after), "seed {seed}");
-        assert!(rt; is_answer(&answer, &plain, &after), "seed {seed}");
-        plain = after;
+        plain = step(
+            rt,
+            alloc,
+            &mut line,
+            &mut uses,
+            &mut moment,
+            &plain,
+            seed,
+            turn,
+        );
     }
 }
 

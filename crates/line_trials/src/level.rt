@@ -3,6 +3,7 @@ ghost use Rattle.std.specs.Prelude.{◌≡◌, ◌<◌, ◌≤◌, [], ◌++◌,
 ghost use Rattle.pl_points.specs.Standing.{without, stands};
 ghost use Rattle.pl_level.specs.Effects.{IsEffect, same_effect, effect_of};
 
+use crate::asserting::holds_for;
 use crate::plain::{CHANGES, HORIZON, below, grow, is_change};
 use pl_level::{Effect, Level, LevelChange};
 use pl_points::{Points, Quiet, Span, Steps};
@@ -41,29 +42,18 @@ impl Plain {
         level
     }
 
-    fn low(&self, rt: &impl Abort, alloc: Global) -> Vec<Span> {
-        let mut spans = Vec::new(alloc);
-        for t in self.moment..HORIZON {
-            if self.at(t) < LEAST {
-                grow(rt, &mut spans, t);
-            }
-        }
-        spans
-    }
-
-    fn high(&self, rt: &impl Abort, alloc: Global) -> Vec<Span> {
-        let mut spans = Vec::new(alloc);
-        for t in self.moment..HORIZON {
-            if self.at(t) > MOST {
-                grow(rt, &mut spans, t);
-            }
-        }
-        spans
-    }
-
     fn outside(&self, rt: &impl Abort, alloc: Global) -> Outside {
-        let low = self.low(rt, alloc);
-        let high = self.high(rt, alloc);
+        let mut low = Vec::new(alloc);
+        let mut high = Vec::new(alloc);
+        for t in self.moment..HORIZON {
+            let level = self.at(t);
+            if level < LEAST {
+                grow(rt, &mut low, t);
+            }
+            if level > MOST {
+                grow(rt, &mut high, t);
+            }
+        }
         Outside { low, high }
     }
 }
@@ -278,6 +268,33 @@ fn has<P: Points>(line: &Level<P>, plain: &Plain, outside: &Outside) -> bool
         && tells(line, plain)
 }
 
+// Makes one change, and asserts that the timeline tells then what the plain definition tells: the spans, which it gives.
+fn step<P: Points>(
+    rt: &impl Abort,
+    alloc: Global,
+    line: &mut Level<P>,
+    plain: &mut Plain,
+    before: &Outside,
+    seed: u64,
+    turn: u32,
+) -> Outside
+    requires tied { line.old.effects ≡ plain.old.effects.items }
+    requires moment { line.old.moment ≡ plain.old.moment }
+    requires in_time { plain.old.moment ≤ 20 }
+    requires horizon { line.old.horizon ≡ 20 }
+    ensures tied { line.new.effects ≡ plain.new.effects.items }
+    ensures moment { line.new.moment ≡ plain.new.moment }
+    ensures in_time { plain.new.moment ≤ 20 }
+    ensures horizon { line.new.horizon ≡ 20 }
+{
+    let mut words = Pcg32::new(seed, u64::from(turn));
+    let answer = change(rt, line, plain, &mut words);
+    let after = plain.outside(rt, alloc);
+    holds_for(rt, seed, has(line, plain, &after));
+    holds_for(rt, seed, is_answer(&answer, before, &after));
+    after
+}
+
 /// Asserts that all of a sequence of changes, over the points, is as the plain definition has it.
 pub fn agrees<P: Points>(rt: &impl Abort, alloc: Global, seed: u64, points: P)
     requires { P.points points ≡ [] }
@@ -291,13 +308,8 @@ pub fn agrees<P: Points>(rt: &impl Abort, alloc: Global, seed: u64, points: P)
         value: start,
     };
     let mut outside = plain.outside(rt, alloc);
-    assert!(rt; has(&line, &plain, &outside), "seed {seed}");
+    holds_for(rt, seed, has(&line, &plain, &outside));
     for turn in 0..CHANGES {
-        let mut words = Pcg32::new(seed, u64::from(turn));
-        let answer = change(rt, &mut line, &mut plain, &mut words);
-        let after = plain.outside(rt, alloc);
-        assert!(rt; has(&line, &plain, &after), "seed {seed}");
-        assert!(rt; is_answer(&answer, &outside, &after), "seed {seed}");
-        outside = after;
+        outside = step(rt, alloc, &mut line, &mut plain, &outside, seed, turn);
     }
 }

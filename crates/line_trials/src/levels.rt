@@ -2,6 +2,7 @@ ghost use Rattle.std.specs.Prelude.{◌≡◌, ◌<◌, ◌≤◌, ◌≤ℤ◌,
 ghost use Rattle.pl_points.specs.Standing.{without, stands};
 ghost use Rattle.pl_level.specs.Effects.{IsEffect, IsValue, effect_of, same_effect};
 
+use crate::asserting::{holds, is_copied};
 use crate::capacities::is_one;
 use pl_level::{Effect, Level, LevelChange};
 use pl_lists::Copied;
@@ -74,8 +75,10 @@ fn has_low(level: &Level<PlainPoints>, from: u32, to: u32) -> bool {
 fn an_effect_at_the_horizon(rt: HostRuntime) {
     let mut battery = started(rt.alloc(), 100, 0, 100, 20);
     let late = add(&rt, &mut battery, 100, -30);
-    assert!(rt; late.low.came.is_empty() && late.high.came.is_empty());
-    assert!(rt; at(&battery, 99) == 20 && has_none(&battery));
+    holds(&rt, "nothing low", late.low.came.is_empty());
+    holds(&rt, "nothing high", late.high.came.is_empty());
+    holds(&rt, "at 99", at(&battery, 99) == 20);
+    holds(&rt, "no span", has_none(&battery));
 }
 
 // At the moment 50, with an effect there and one a moment later.
@@ -93,11 +96,13 @@ fn drained(rt: &impl Abort, alloc: Global) -> Level<PlainPoints>
 #[test]
 fn a_base_set_at_50(rt: HostRuntime) {
     let mut tank = drained(&rt, rt.alloc());
-    assert!(rt; at(&tank, 50) == 60 && at(&tank, 51) == 50);
+    holds(&rt, "at 50", at(&tank, 50) == 60);
+    holds(&rt, "at 51", at(&tank, 51) == 50);
     let based = rebase(&rt, &mut tank, 40);
-    assert!(rt; at(&tank, 50) == 40 && at(&tank, 51) == 30);
-    assert!(rt; is_one(based.low.came.as_slice(), 51, 100));
-    assert!(rt; has_low(&tank, 51, 100));
+    holds(&rt, "at 50 then", at(&tank, 50) == 40);
+    holds(&rt, "at 51 then", at(&tank, 51) == 30);
+    holds(&rt, "what came", is_one(based.low.came.as_slice(), 51, 100));
+    holds(&rt, "the span", has_low(&tank, 51, 100));
 }
 
 #[test]
@@ -105,30 +110,36 @@ fn an_effect_that_goes(rt: HostRuntime) {
     let mut tank = drained(&rt, rt.alloc());
     let copy = tank.copy(rt.alloc()).expect(&rt, "memory");
     remove(&rt, &mut tank, 51, -10);
-    assert!(rt; at(&tank, 51) == 60 && at(&copy, 51) == 50);
+    holds(&rt, "at 51", at(&tank, 51) == 60);
+    holds(&rt, "at 51 in the copy", at(&copy, 51) == 50);
+}
+
+#[test]
+fn a_start_at_its_least(rt: HostRuntime) {
+    let least = started(rt.alloc(), 100, 5, 9, 5);
+    holds(&rt, "no span", has_none(&least));
 }
 
 #[test]
 fn a_start_outside_its_limits(rt: HostRuntime) {
-    let least = started(rt.alloc(), 100, 5, 9, 5);
-    assert!(rt; has_none(&least));
     let mut low = started(rt.alloc(), 100, 5, 9, 4);
-    assert!(rt; has_low(&low, 0, 100));
+    holds(&rt, "always low", has_low(&low, 0, 100));
     let raised = add(&rt, &mut low, 10, 6);
-    assert!(rt;
-        is_one(raised.low.came.as_slice(), 0, 10) && is_one(raised.high.came.as_slice(), 10, 100)
+    holds(&rt, "low before", is_one(raised.low.came.as_slice(), 0, 10));
+    holds(
+        &rt,
+        "high after",
+        is_one(raised.high.came.as_slice(), 10, 100),
     );
-    assert!(rt;
-        !low.spoiled() && is_one(low.low_spans(), 0, 10) && is_one(low.high_spans(), 10, 100)
-    );
+    holds(&rt, "enough memory", !low.spoiled());
+    holds(&rt, "low spans", is_one(low.low_spans(), 0, 10));
+    holds(&rt, "high spans", is_one(low.high_spans(), 10, 100));
     let copy = raised.copy(rt.alloc()).expect(&rt, "memory");
-    assert!(rt; is_one(copy.low.went.as_slice(), 0, 100));
+    holds(&rt, "the copy", is_one(copy.low.went.as_slice(), 0, 100));
 }
 
 #[test]
 fn an_effect_and_its_copy(rt: HostRuntime) {
-    let copy = Effect { at: 3, delta: -4 }
-        .copy(rt.alloc())
-        .expect(&rt, "memory");
-    assert!(rt; copy.at == 3 && copy.delta == -4);
+    let effect = Effect { at: 3, delta: -4 };
+    holds(&rt, "the copy", is_copied(&rt, rt.alloc(), &effect));
 }

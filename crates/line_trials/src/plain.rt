@@ -1,5 +1,5 @@
 //! What the three tests share: the words of the generator, and spans and changes worked out plainly.
-ghost use Rattle.std.specs.Prelude.{◌<◌};
+ghost use Rattle.std.specs.Prelude.{◌≡◌, ◌<◌, ◌++◌, ◌∷◌, []};
 
 use pl_points::{Change, Span};
 use rand_core::utils::NextWord;
@@ -17,24 +17,24 @@ pub(crate) fn below(words: &mut Pcg32, bound: u32) -> u32
     words.next_word() % bound
 }
 
+pub(crate) fn push<T>(rt: &impl Abort, items: &mut Vec<T>, item: T)
+    ensures { items.new.items ≡ items.old.items ++ item ∷ [] }
+{
+    items.push(item).expect(rt, "memory");
+}
+
 /// Puts one more moment behind the spans.
 pub(crate) fn grow(rt: &impl Abort, spans: &mut Vec<Span>, t: u32) {
-    let to = t.saturating_add(1);
+    let (from, to) = (t, t.saturating_add(1));
     match spans.pop() {
-        None => {
-            spans.push(Span { from: t, to }).expect(rt, "memory");
-        }
+        None => push(rt, spans, Span { from, to }),
         Some(last) => {
             if last.to == t {
-                spans
-                    .push(Span {
-                        from: last.from,
-                        to,
-                    })
-                    .expect(rt, "memory");
+                let from = last.from;
+                push(rt, spans, Span { from, to });
             } else {
-                spans.push(last).expect(rt, "memory");
-                spans.push(Span { from: t, to }).expect(rt, "memory");
+                push(rt, spans, last);
+                push(rt, spans, Span { from, to });
             }
         }
     }

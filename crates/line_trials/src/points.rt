@@ -1,6 +1,8 @@
 //! Two points: 12 more at 10, 6 less at 15.
 ghost use Rattle.std.specs.Prelude.{◌≡◌, [], ◌∷◌, pos, negsuc};
 
+use crate::asserting::holds;
+use crate::capacities::is_one;
 use crate::counting::Counting;
 use pl_lists::{Copied, Items};
 use pl_points::{Change, Ledger, PlainPoints, Points, Quiet, Span, Steps};
@@ -41,10 +43,12 @@ fn points_merge(rt: HostRuntime) {
     let mut steps = Steps::new(Counting { ticks: 0 });
     let mut points = PlainPoints::new(rt.alloc());
     fill(&rt, &mut points, &mut steps);
-    assert!(rt; has_both(&points, &mut steps) && adds_up(&points, &mut steps));
+    holds(&rt, "both", has_both(&points, &mut steps));
+    holds(&rt, "their sums", adds_up(&points, &mut steps));
     // Nine calls, and one step more for each point that was added up.
-    assert!(rt; steps.ledger().ticks == 12 && points.len() == 2);
-    assert!(rt; finds_outside(&points, &mut steps));
+    holds(&rt, "the steps", steps.ledger().ticks == 12);
+    holds(&rt, "no third", points.len() == 2);
+    holds(&rt, "what is outside", finds_outside(&points, &mut steps));
 }
 
 #[test]
@@ -54,8 +58,9 @@ fn points_cancel(rt: HostRuntime) {
     fill(&rt, &mut points, &mut steps);
     let again = points.copy(rt.alloc()).expect(&rt, "memory");
     points.add(15, 6, &mut steps).expect(&rt, "memory");
-    assert!(rt; points.len() == 1 && again.len() == 2);
-    assert!(rt; points.sum_to(20, &mut steps) == 12);
+    holds(&rt, "one", points.len() == 1);
+    holds(&rt, "both in the copy", again.len() == 2);
+    holds(&rt, "the sum", points.sum_to(20, &mut steps) == 12);
 }
 
 #[test]
@@ -67,6 +72,6 @@ fn a_change_and_its_copy(rt: HostRuntime) {
         came: Items::new(rt.alloc()),
     };
     let copy = change.copy(rt.alloc()).expect(&rt, "memory");
-    assert!(rt; copy.went.as_slice() == [Span { from: 3, to: 5 }].as_slice());
-    assert!(rt; copy.came.is_empty());
+    holds(&rt, "what went", is_one(copy.went.as_slice(), 3, 5));
+    holds(&rt, "nothing that came", copy.came.is_empty());
 }

@@ -1,7 +1,8 @@
 //! A state, its sets and its musts.
 ghost use Rattle.std.specs.Prelude.{◌≡◌, ◌≤◌};
 
-use crate::plain::{CHANGES, HORIZON, are_left_out, below, grow};
+use crate::asserting::holds_for;
+use crate::plain::{CHANGES, HORIZON, are_left_out, below, grow, push};
 use pl_points::Span;
 use pl_state::{BadSet, BrokenMust, Must, Setting, StateChange, StateLine};
 use rand_pcg::Pcg32;
@@ -15,6 +16,19 @@ const INDICES: u32 = 3;
 const STATES: u32 = 3;
 
 const STEPS: [(u32, u32); 3] = [(0, 1), (1, 2), (2, 0)];
+
+fn is_allowed(from: u32, to: u32) -> bool {
+    from == to || STEPS.contains(&(from, to))
+}
+
+fn broken_in(must: Must, span: Span) -> BrokenMust {
+    BrokenMust {
+        id: must.id,
+        index: must.index,
+        from: span.from,
+        to: span.to,
+    }
+}
 
 // What a state timeline is worked out from. No two sets of one moment, and no two musts, have the same id and index.
 #[derive(Drop)]
@@ -80,14 +94,7 @@ impl Plain {
             }
         }
         for span in &spans {
-            broken
-                .push(BrokenMust {
-                    id: must.id,
-                    index: must.index,
-                    from: span.from,
-                    to: span.to,
-                })
-                .expect(rt, "memory");
+            push(rt, broken, broken_in(must, *span));
         }
     }
 
@@ -108,8 +115,8 @@ impl Plain {
         for id in 0..IDS {
             for index in 0..INDICES {
                 if let Some(set) = self.set_at(at, id, index) {
-                    if !any && state != set.state && !STEPS.contains(&(state, set.state)) {
-                        bad.push(BadSet { at, id, index }).expect(rt, "memory");
+                    if !any && !is_allowed(state, set.state) {
+                        push(rt, bad, BadSet { at, id, index });
                     }
                     state = set.state;
                 }
@@ -152,15 +159,13 @@ fn put(
         return None;
     }
     let change = line.put(at, id, index, state).expect(rt, "memory");
-    plain
-        .sets
-        .push(Setting {
-            at,
-            id,
-            index,
-            state,
-        })
-        .expect(rt, "memory");
+    let set = Setting {
+        at,
+        id,
+        index,
+        state,
+    };
+    push(rt, &mut plain.sets, set);
     Some(change)
 }
 
@@ -204,16 +209,14 @@ fn need(
         return None;
     }
     let change = line.need(from, to, id, index, state).expect(rt, "memory");
-    plain
-        .musts
-        .push(Must {
-            from,
-            to,
-            id,
-            index,
-            state,
-        })
-        .expect(rt, "memory");
+    let must = Must {
+        from,
+        to,
+        id,
+        index,
+        state,
+    };
+    push(rt, &mut plain.musts, must);
     Some(change)
 }
 
@@ -335,13 +338,46 @@ fn has(line: &StateLine, plain: &Plain, told: &Told) -> bool
         && tells(line, plain)
 }
 
+// Makes one change, and asserts that the timeline tells then what the plain definition tells, which it gives.
+fn step(
+    rt: &impl Abort,
+    alloc: Global,
+    line: &mut StateLine,
+    plain: &mut Plain,
+    before: &Told,
+    any: bool,
+    seed: u64,
+    turn: u32,
+) -> Told
+    requires moment { line.old.moment ≡ plain.old.moment }
+    requires in_time { plain.old.moment ≤ 20 }
+    requires horizon { line.old.horizon ≡ 20 }
+    ensures moment { line.new.moment ≡ plain.new.moment }
+    ensures in_time { plain.new.moment ≤ 20 }
+    ensures horizon { line.new.horizon ≡ 20 }
+{
+    let mut words = Pcg32::new(seed, u64::from(turn));
+    let answer = change(rt, line, plain, &mut words);
+    let after = plain.told(rt, alloc, any);
+    holds_for(rt, seed, has(line, plain, &after));
+    holds_for(rt, seed, is_answer(&answer, before, &after));
+    after
+}
+
+fn started(rt: &impl Abort, alloc: Global, start: u32, any: bool) -> StateLine
+    ensures moment { result.moment ≡ 0 }
+    ensures horizon { result.horizon ≡ 20 }
+{
+    let line = StateLine::new(alloc, HORIZON, STATES, start, any, STEPS.as_slice());
+    line.expect(rt, "memory")
+}
+
 /// Asserts that all of a sequence of changes is as the plain definition has it.
 pub fn agrees(rt: &impl Abort, alloc: Global, seed: u64) {
     let mut words = Pcg32::new(seed, 100);
     let any = below(&mut words, 4) == 0;
     let start = below(&mut words, STATES);
-    let steps = STEPS.as_slice();
-    let mut line = StateLine::new(alloc, HORIZON, STATES, start, any, steps).expect(rt, "memory");
+    let mut line = started(rt, alloc, start, any);
     let mut plain = Plain {
         sets: Vec::new(alloc),
         musts: Vec::new(alloc),
@@ -351,11 +387,6 @@ pub fn agrees(rt: &impl Abort, alloc: Global, seed: u64) {
     };
     let mut told = plain.told(rt, alloc, any);
     for turn in 0..CHANGES {
-        let mut words = Pcg32::new(seed, u64::from(turn));
-        let answer = change(rt, &mut line, &mut plain, &mut words);
-        let after = plain.told(rt, alloc, any);
-        assert!(rt; has(&line, &plain, &after), "seed {seed}");
-        assert!(rt; is_answer(&answer, &told, &after), "seed {seed}");
-        told = after;
+        told = step(rt, alloc, &mut line, &mut plain, &told, any, seed, turn);
     }
 }

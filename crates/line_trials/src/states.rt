@@ -1,5 +1,7 @@
-ghost use Rattle.std.specs.Prelude.{◌≡◌, ◌<◌, ◌≤◌, IfOk};
+//! Scripts of calls of a state timeline, each with its answer.
+ghost use Rattle.std.specs.Prelude.{◌≡◌, ◌<◌, ◌≤◌, OnOk};
 
+use crate::asserting::{holds, is_copied};
 use pl_lists::Copied;
 use pl_state::{BadSet, BrokenMust, Must, Setting, StateChange, StateLine};
 use std::alloc::{AllocError, Global};
@@ -8,124 +10,194 @@ use std::process::Abort;
 const STEPS: [(u32, u32); 3] = [(0, 1), (1, 2), (2, 0)];
 
 // States off, warm and on, with the horizon 100; off at first.
-fn camera(alloc: Global) -> Result<StateLine, AllocError>
-    ensures horizon { IfOk result (λ l. l.horizon ≡ 100) }
-    ensures moment { IfOk result (λ l. l.moment ≡ 0) }
-{
-    let line = StateLine::new(alloc, 100, 3, 0, false, STEPS.as_slice())?;
-    Ok(line)
-}
-
-fn put(rt: &impl Abort, line: &mut StateLine, at: u32, id: u32, state: u32) -> StateChange
-    requires { 1 ≤ at }
-    ensures horizon { line.new.horizon ≡ line.old.horizon }
-    ensures moment { line.new.moment ≡ line.old.moment }
-{
-    let change = line.put(at, id, 0, state);
-    change.expect(rt, "memory")
-}
-
-fn at(line: &StateLine, t: u32) -> u32
-    requires now { line.now.moment ≤ t }
-    requires before_horizon { t < line.now.horizon }
-{
-    line.at(t)
-}
-
-fn bad(at: u32, id: u32) -> BadSet {
-    BadSet { at, id, index: 0 }
-}
-
-fn broken(from: u32, to: u32) -> BrokenMust {
-    BrokenMust {
-        id: 5,
-        index: 1,
-        from,
-        to,
-    }
-}
-
-fn has(line: &StateLine, musts: &[BrokenMust], steps: &[BadSet]) -> bool {
-    !line.spoiled() && line.broken_musts() == musts && line.bad_steps() == steps
-}
-
-#[test]
-fn two_sets_at_one_moment(rt: HostRuntime) {
-    let mut right = camera(rt.alloc()).expect(&rt, "memory");
-    put(&rt, &mut right, 10, 7, 2);
-    put(&rt, &mut right, 10, 3, 1);
-    assert!(rt; at(&right, 9) == 0 && at(&right, 10) == 2);
-    assert!(rt; has(&right, &[], &[]));
-}
-
-#[test]
-fn two_sets_the_other_way(rt: HostRuntime) {
-    let mut wrong = camera(rt.alloc()).expect(&rt, "memory");
-    put(&rt, &mut wrong, 10, 3, 2);
-    let change = put(&rt, &mut wrong, 10, 7, 1);
-    assert!(rt; at(&wrong, 10) == 1);
-    assert!(rt; has(&wrong, &[], &[bad(10, 3), bad(10, 7)]));
-    assert!(rt; change.steps_came.as_slice() == [bad(10, 7)].as_slice());
-    let copy = change.copy(rt.alloc()).expect(&rt, "memory");
-    assert!(rt; copy.steps_went.is_empty() && copy.musts_went.is_empty());
-    let gone = wrong.take(10, 3, 0, 2).expect(&rt, "memory");
-    assert!(rt; has(&wrong, &[], &[]) && gone.steps_went.len() == 2);
-}
-
-// A must from 20 up to 40 whose state comes at 25.
-fn late(rt: &impl Abort, alloc: Global) -> StateLine
+fn camera(rt: &impl Abort, alloc: Global) -> StateLine
     ensures horizon { result.horizon ≡ 100 }
     ensures moment { result.moment ≡ 0 }
 {
-    let mut line = camera(alloc).expect(rt, "memory");
-    line.need(20, 40, 5, 1, 1).expect(rt, "memory");
-    put(rt, &mut line, 25, 2, 1);
-    line
+    let line = StateLine::new(alloc, 100, 3, 0, false, STEPS.as_slice());
+    line.expect(rt, "memory")
 }
+
+// Takes the first word off; nothing is left where there is no space.
+fn word<'a>(rest: &mut &'a str) -> &'a str {
+    let (first, more) = rest.split_once(' ').unwrap_or((*rest, ""));
+    *rest = more;
+    first
+}
+
+// Takes a number off, 0 where the first word is none.
+fn number(rest: &mut &str) -> u32 {
+    word(rest).parse().unwrap_or(0)
+}
+
+// Puts a set: its moment, its id and its state.
+fn put(rt: &impl Abort, line: &mut StateLine, rest: &mut &str) -> Result<StateChange, AllocError>
+    ensures horizon { OnOk result (line.new.horizon ≡ line.old.horizon) }
+    ensures moment { OnOk result (line.new.moment ≡ line.old.moment) }
+{
+    let at = number(rest);
+    holds(rt, "a moment", 1 <= at);
+    line.put(at, number(rest), 0, number(rest))
+}
+
+// Makes a change: a set comes or goes, a must of 5 comes or goes, or the base is told.
+fn change(
+    rt: &impl Abort,
+    line: &mut StateLine,
+    name: &str,
+    rest: &mut &str,
+) -> Result<StateChange, AllocError>
+    ensures horizon { OnOk result (line.new.horizon ≡ line.old.horizon) }
+    ensures moment { OnOk result (line.new.moment ≡ line.old.moment) }
+{
+    match name {
+        "put" => put(rt, line, rest),
+        "take" => line.take(number(rest), number(rest), 0, number(rest)),
+        "need" => line.need(number(rest), number(rest), 5, 1, number(rest)),
+        "free" => line.free(number(rest), number(rest), 5, 1, number(rest)),
+        _ => line.rebase(number(rest)),
+    }
+}
+
+fn at(rt: &impl Abort, line: &StateLine, moment: u32, t: u32) -> u32
+    requires horizon { line.now.horizon ≡ 100 }
+    requires moment { line.now.moment ≡ moment }
+{
+    holds(rt, "a moment ahead", moment <= t && t < 100);
+    line.at(t)
+}
+
+// What a call answers: a state, what is wrong, or a change.
+fn answer(
+    rt: &impl Abort,
+    alloc: Global,
+    line: &mut StateLine,
+    moment: u32,
+    call: &str,
+) -> Result<String, AllocError>
+    requires horizon { line.old.horizon ≡ 100 }
+    requires moment { line.old.moment ≡ moment }
+    ensures horizon { OnOk result (line.new.horizon ≡ 100) }
+    ensures moment { OnOk result (line.new.moment ≡ moment) }
+{
+    let mut rest = call;
+    match word(&mut rest) {
+        "at" => format!(in alloc; "{}", at(rt, line, moment, number(&mut rest))),
+        "wrong" => format!(in alloc; "{:?} {:?}", line.broken_musts(), line.bad_steps()),
+        name => {
+            let change = change(rt, line, name, &mut rest)?;
+            format!(in alloc; "{:?}", change.copy(alloc)?)
+        }
+    }
+}
+
+// Makes the calls of a script one after the other. Each line has a call and how its answer begins, as it is printed.
+fn play(rt: &impl Abort, alloc: Global, line: &mut StateLine, moment: u32, script: &str)
+    requires horizon { line.old.horizon ≡ 100 }
+    requires moment { line.old.moment ≡ moment }
+    ensures horizon { line.new.horizon ≡ 100 }
+    ensures moment { line.new.moment ≡ moment }
+{
+    for row in script.lines() {
+        let (call, wanted) = row.split_once(" = ").unwrap_or((row, ""));
+        let text = answer(rt, alloc, line, moment, call).expect(rt, "memory");
+        assert!(rt; text.starts_with(wanted), "{row}: {text}");
+    }
+    holds(rt, "enough memory", !line.spoiled());
+}
+
+const LOW_ID_FIRST: &str = "put 10 7 2
+put 10 3 1
+at 9 = 0
+at 10 = 2
+wrong = [] []";
+
+#[test]
+fn two_sets_at_one_moment(rt: HostRuntime) {
+    let mut line = camera(&rt, rt.alloc());
+    play(&rt, rt.alloc(), &mut line, 0, LOW_ID_FIRST);
+}
+
+const LOW_ID_LAST: &str = "put 10 3 2
+put 10 7 1 = StateChange { musts_went: Items { items: [] }, musts_came: Items { items: [] }, steps_went: Items { items: [] }, steps_came: Items { items: [BadSet { at: 10, id: 7, index: 0 }] } }
+at 10 = 1
+wrong = [] [BadSet { at: 10, id: 3, index: 0 }, BadSet { at: 10, id: 7, index: 0 }]
+take 10 3 2 = StateChange { musts_went: Items { items: [] }, musts_came: Items { items: [] }, steps_went: Items { items: [BadSet { at: 10, id: 3, index: 0 }, BadSet { at: 10, id: 7, index: 0 }] }, steps_came: Items { items: [] } }
+wrong = [] []";
+
+#[test]
+fn two_sets_the_other_way(rt: HostRuntime) {
+    let mut line = camera(&rt, rt.alloc());
+    play(&rt, rt.alloc(), &mut line, 0, LOW_ID_LAST);
+}
+
+// A must from 20 up to 40 whose state comes at 25.
+const LATE: &str = "need 20 40 1
+put 25 2 1
+wrong = [BrokenMust { id: 5, index: 1, from: 20, to: 25 }] []";
+
+const TAKEN: &str =
+    "take 25 2 1 = StateChange { musts_went: Items { items: [BrokenMust { id: 5, index: 1, from: 20, to: 25 }] }, musts_came: Items { items: [BrokenMust { id: 5, index: 1, from: 20, to: 40 }] }, steps_went";
+
+const BROKEN: &str = "wrong = [BrokenMust { id: 5, index: 1, from: 20, to: 40 }] []";
 
 #[test]
 fn a_must(rt: HostRuntime) {
-    let mut line = late(&rt, rt.alloc());
-    assert!(rt; has(&line, &[broken(20, 25)], &[]));
-    let gone = line.take(25, 2, 0, 1).expect(&rt, "memory");
-    assert!(rt; gone.musts_went.as_slice() == [broken(20, 25)].as_slice());
-    assert!(rt; gone.musts_came.as_slice() == [broken(20, 40)].as_slice());
-    let copy = line.copy(rt.alloc()).expect(&rt, "memory");
-    line.free(20, 40, 5, 1, 1).expect(&rt, "memory");
-    assert!(rt; has(&line, &[], &[]) && has(&copy, &[broken(20, 40)], &[]));
+    let alloc = rt.alloc();
+    let mut line = camera(&rt, alloc);
+    play(&rt, alloc, &mut line, 0, LATE);
+    play(&rt, alloc, &mut line, 0, TAKEN);
+    let mut copy = line.copy(alloc).expect(&rt, "memory");
+    play(&rt, alloc, &mut line, 0, "free 20 40 1\nwrong = [] []");
+    play(&rt, alloc, &mut copy, 0, BROKEN);
 }
+
+const AT_22: &str = "wrong = [BrokenMust { id: 5, index: 1, from: 22, to: 25 }] []
+rebase 1
+wrong = [] []
+at 22 = 1";
 
 #[test]
 fn a_must_and_the_base(rt: HostRuntime) {
-    let mut line = late(&rt, rt.alloc());
+    let alloc = rt.alloc();
+    let mut line = camera(&rt, alloc);
+    play(&rt, alloc, &mut line, 0, LATE);
     line.advance(22).expect(&rt, "memory");
-    assert!(rt; has(&line, &[broken(22, 25)], &[]));
-    line.rebase(1).expect(&rt, "memory");
-    assert!(rt; has(&line, &[], &[]) && at(&line, 22) == 1);
+    play(&rt, alloc, &mut line, 22, AT_22);
 }
 
 #[test]
-fn copies(rt: HostRuntime) {
+fn a_set_and_a_must_are_copied(rt: HostRuntime) {
+    let (at, id, index, state) = (1, 2, 3, 0);
     let set = Setting {
-        at: 1,
-        id: 2,
-        index: 3,
-        state: 0,
-    }
-    .copy(rt.alloc())
-    .expect(&rt, "memory");
+        at,
+        id,
+        index,
+        state,
+    };
+    holds(&rt, "a set", is_copied(&rt, rt.alloc(), &set));
+    let (from, to) = (1, 2);
     let must = Must {
-        from: 1,
-        to: 2,
-        id: 3,
-        index: 4,
-        state: 0,
-    }
-    .copy(rt.alloc())
-    .expect(&rt, "memory");
-    assert!(rt; set.at == 1 && must.to == 2);
-    assert!(rt;
-        bad(1, 2).copy(rt.alloc()).expect(&rt, "memory").id == 2
-            && broken(3, 40).copy(rt.alloc()).expect(&rt, "memory").to == 40
-    );
+        from,
+        to,
+        id,
+        index,
+        state,
+    };
+    holds(&rt, "a must", is_copied(&rt, rt.alloc(), &must));
+}
+
+#[test]
+fn what_is_wrong_is_copied(rt: HostRuntime) {
+    let (at, id, index) = (1, 2, 0);
+    let bad = BadSet { at, id, index };
+    holds(&rt, "a bad step", is_copied(&rt, rt.alloc(), &bad));
+    let (from, to) = (3, 40);
+    let broken = BrokenMust {
+        id,
+        index,
+        from,
+        to,
+    };
+    holds(&rt, "a broken must", is_copied(&rt, rt.alloc(), &broken));
 }

@@ -3,6 +3,7 @@ ghost use Rattle.std.specs.Prelude.{◌≡◌, ◌==◌};
 ghost use Rattle.std.specs.List.{list_any};
 ghost use Rattle.pl_entry.specs.Bounds.{AreOptions};
 
+use crate::asserting::holds;
 use crate::reading::{model, number, word};
 use pl_cand::is_stuck;
 use pl_choose::Least;
@@ -11,7 +12,7 @@ use pl_entry::{Entry, Reply};
 use pl_facts::Options;
 use pl_machine::{Choice, Machine, Stop, is_begin_line};
 use pl_plan::RepairMove;
-use std::alloc::Global;
+use std::alloc::{AllocError, Global};
 use std::process::Abort;
 use std::sync::Arc;
 
@@ -49,7 +50,8 @@ fn has_newline(line: &[u8]) -> bool
 }
 
 fn tell(rt: &impl Abort, machine: &mut Machine, line: &[u8]) -> Result<Reply, Stop> {
-    assert!(rt; line.len() <= 4096 && !has_newline(line));
+    holds(rt, "few bytes", line.len() <= 4096);
+    holds(rt, "one line", !has_newline(line));
     machine.input(Some(line))
 }
 
@@ -60,7 +62,7 @@ fn fix(
     conflict: Conflict,
     start: u32,
 ) -> Result<Reply, Stop> {
-    assert!(rt; machine.model().kinds.len() > 0);
+    holds(rt, "a kind", machine.model().kinds.len() > 0);
     let goal = Some(conflict.subject);
     machine.fix(
         &conflict,
@@ -87,14 +89,70 @@ fn make(rt: &impl Abort, machine: &mut Machine, call: &str) -> Result<Reply, Sto
     }
 }
 
+fn choice(rt: &impl Abort, machine: &Machine) -> Option<Choice> {
+    holds(rt, "enough memory", !machine.spoiled());
+    machine.exec_choice()
+}
+
+fn stuck(rt: &impl Abort, alloc: Global, machine: &Machine) -> Result<bool, AllocError> {
+    let board = machine.board();
+    holds(rt, "enough memory", !board.spoiled());
+    is_stuck(alloc, board)
+}
+
+/// The places of the entries that send a command.
+fn sent_at(alloc: Global, log: &[Entry]) -> Result<Vec<usize>, AllocError> {
+    let mut places = Vec::new(alloc);
+    for (place, entry) in log.iter().enumerate() {
+        if matches!(&entry.reply, Reply::Sent { .. }) {
+            places.push(place)?;
+        }
+    }
+    Ok(places)
+}
+
+fn logged(alloc: Global, machine: &Machine) -> Result<String, AllocError> {
+    let sent = sent_at(alloc, machine.log())?;
+    let count = machine.log().len();
+    format!(in alloc;
+        "{count}, sent at {sent:?}, closed {}, done {}",
+        machine.closed(),
+        machine.done()
+    )
+}
+
+/// What is printed of a question's answer, or of the reply to a call or a message.
+fn said(
+    rt: &impl Abort,
+    alloc: Global,
+    machine: &mut Machine,
+    call: &str,
+) -> Result<String, AllocError> {
+    match call {
+        "choice" => format!(in alloc; "{:?}", choice(rt, machine)),
+        "propose" => format!(in alloc; "{:?}", machine.propose(&mut Least)),
+        "stuck" => format!(in alloc; "{}", stuck(rt, alloc, machine)?),
+        "log" => logged(alloc, machine),
+        _ => format!(in alloc; "{:?}", make(rt, machine, call)),
+    }
+}
+
 /// Makes the calls of a script one after the other. Each line has a call and how its reply begins, as it is printed.
 fn play(rt: &impl Abort, alloc: Global, machine: &mut Machine, script: &str) {
     for line in script.lines() {
         let (call, wanted) = line.split_once(" = ").unwrap_or((line, ""));
-        let reply = make(rt, machine, call);
-        let text = format!(in alloc; "{reply:?}").expect(rt, "memory");
+        let text = said(rt, alloc, machine, call).expect(rt, "memory");
         assert!(rt; text.starts_with(wanted), "{line}: {text}");
     }
+}
+
+/// Plays two scripts, one behind the other, from the first call on.
+fn assert_plays(rt: &impl Abort, alloc: Global, options: Options, first: &str, then: &str)
+    requires { AreOptions options }
+{
+    let mut machine = fresh(rt, alloc, options);
+    play(rt, alloc, &mut machine, first);
+    play(rt, alloc, &mut machine, then);
 }
 
 const COMMITTED: &str = "goal 1 obs 10 20 must = Ok(Done)
@@ -102,23 +160,13 @@ add-for-1 10 = Ok(Done)
 rest = Ok(Rested(Clear))
 commit 30 = Ok(Done)";
 
-/// Plays a script behind the first commit.
-fn play_on(rt: &impl Abort, alloc: Global, options: Options, script: &str) -> Machine
-    requires { AreOptions options }
-{
-    let mut machine = fresh(rt, alloc, options);
-    play(rt, alloc, &mut machine, COMMITTED);
-    play(rt, alloc, &mut machine, script);
-    machine
-}
-
 const CAUSES: &str = "commit 30 = Ok(CommitBehind)
 commit 101 = Ok(CommitBeyond)
 commit 100 = Ok(Done)";
 
 #[test]
 fn tells_why_a_commit_is_refused(rt: HostRuntime) {
-    play_on(&rt, rt.alloc(), BOUNDS, CAUSES);
+    assert_plays(&rt, rt.alloc(), BOUNDS, COMMITTED, CAUSES);
 }
 
 const FULL_PLAN: Options = Options {
@@ -137,7 +185,7 @@ rest = Ok(Rested(Stuck))";
 
 #[test]
 fn is_stuck_where_the_plan_is_full(rt: HostRuntime) {
-    play_on(&rt, rt.alloc(), FULL_PLAN, STUCK);
+    assert_plays(&rt, rt.alloc(), FULL_PLAN, COMMITTED, STUCK);
 }
 
 const ONE_GOAL: Options = Options {
@@ -152,7 +200,7 @@ goal 2 obs 40 50 must = Ok(TooManyGoals)";
 
 #[test]
 fn takes_so_many_goals(rt: HostRuntime) {
-    play_on(&rt, rt.alloc(), ONE_GOAL, REFUSED);
+    assert_plays(&rt, rt.alloc(), ONE_GOAL, COMMITTED, REFUSED);
 }
 
 const CLOSED: &str = "rest = Err(NotNow)
@@ -163,8 +211,7 @@ add-for-1 10 = Err(NotNow)";
 
 #[test]
 fn waits_for_a_message(rt: HostRuntime) {
-    let mut machine = fresh(&rt, rt.alloc(), BOUNDS);
-    play(&rt, rt.alloc(), &mut machine, CLOSED);
+    assert_plays(&rt, rt.alloc(), BOUNDS, CLOSED, "");
 }
 
 const TWO_ENTRIES: Options = Options {
@@ -176,9 +223,8 @@ const TWO_ENTRIES: Options = Options {
 
 #[test]
 fn stops_where_the_log_is_full(rt: HostRuntime) {
-    let mut machine = fresh(&rt, rt.alloc(), TWO_ENTRIES);
     let full = "tick 3 = Ok(Done)\nrest = Err(LogFull)";
-    play(&rt, rt.alloc(), &mut machine, full);
+    assert_plays(&rt, rt.alloc(), TWO_ENTRIES, full, "");
 }
 
 const HELD: &str = "goal 1 obs 10 20 must = Ok(Done)
@@ -187,8 +233,7 @@ commit 21 = Ok(Held(Conflict { from: 20, code: OpenGoal, subject: 1, detail: 0, 
 
 #[test]
 fn holds_a_commit_for_its_conflict(rt: HostRuntime) {
-    let mut machine = fresh(&rt, rt.alloc(), BOUNDS);
-    play(&rt, rt.alloc(), &mut machine, HELD);
+    assert_plays(&rt, rt.alloc(), BOUNDS, HELD, "");
 }
 
 const BEHIND: &str = "close = Ok(Done)
@@ -204,75 +249,43 @@ tick 10 = Ok(TickBack)
 rest = Ok(Rested(Clear))
 close = Ok(Done)
 end = Ok(Ended)
-eof = Err(NotNow)";
-
-/// Whether this entry alone sends a command.
-fn sends_alone(log: &[Entry], place: usize) -> bool {
-    for (at, entry) in log.iter().enumerate() {
-        if matches!(&entry.reply, Reply::Sent { .. }) != (at == place) {
-            return false;
-        }
-    }
-    true
-}
+eof = Err(NotNow)
+log = 15, sent at [8], closed true, done true";
 
 #[test]
 fn sends_a_command_in_its_round(rt: HostRuntime) {
-    let machine = play_on(&rt, rt.alloc(), BOUNDS, BEHIND);
-    assert!(rt; machine.done() && machine.closed());
-    assert!(rt; machine.log().len() == 15 && sends_alone(machine.log(), 8));
+    assert_plays(&rt, rt.alloc(), BOUNDS, COMMITTED, BEHIND);
 }
 
 #[test]
 fn has_nothing_to_do_at_first(rt: HostRuntime) {
-    let mut machine = fresh(&rt, rt.alloc(), BOUNDS);
-    assert!(rt; !machine.spoiled());
-    assert!(rt; machine.exec_choice().is_none());
-    let proposal = machine.propose(&mut Least).expect(&rt, "no stop");
-    assert!(rt; proposal.is_none());
+    let nothing = "choice = None\npropose = Ok(None)";
+    assert_plays(&rt, rt.alloc(), BOUNDS, nothing, "");
+}
+
+const ASKED: &str = "goal 1 obs 10 20 must = Ok(Done)";
+
+const NEXT: &str = "choice = Some(Commit(30))
+propose = Ok(Some(Proposal { conflict: Conflict { from: 20, code: OpenGoal, subject: 1, detail: 0, a: 10, b: 20 }, mv: Add { kind: 0, start: 10, goal: Some(1) } }))
+stuck = false";
+
+#[test]
+fn knows_what_is_next_while_a_goal_is_open(rt: HostRuntime) {
+    assert_plays(&rt, rt.alloc(), BOUNDS, ASKED, NEXT);
 }
 
 /// A machine with one open goal.
 pub(crate) fn asked(rt: &impl Abort, alloc: Global) -> Machine {
     let mut machine = fresh(rt, alloc, BOUNDS);
-    play(rt, alloc, &mut machine, "goal 1 obs 10 20 must = Ok(Done)");
+    play(rt, alloc, &mut machine, ASKED);
     machine
-}
-
-#[test]
-fn chooses_to_commit(rt: HostRuntime) {
-    let machine = asked(&rt, rt.alloc());
-    assert!(rt; !machine.spoiled());
-    assert!(rt; machine.exec_choice() == Some(Choice::Commit(30)));
-}
-
-#[test]
-fn proposes_an_activity_for_a_goal(rt: HostRuntime) {
-    let mut machine = asked(&rt, rt.alloc());
-    assert!(rt; !machine.spoiled());
-    let proposal = machine.propose(&mut Least).expect(&rt, "no stop");
-    let proposal = proposal.expect(&rt, "a proposal");
-    let add = RepairMove::Add {
-        kind: 0,
-        start: 10,
-        goal: Some(1),
-    };
-    assert!(rt; proposal.conflict == open_goal(1, 10, 20));
-    assert!(rt; proposal.mv == add);
-}
-
-#[test]
-fn tells_whether_it_is_stuck(rt: HostRuntime) {
-    let alloc = rt.alloc();
-    let machine = asked(&rt, alloc);
-    let board = machine.board();
-    assert!(rt; !board.spoiled());
-    assert!(rt; !is_stuck(alloc, board).expect(&rt, "memory"));
 }
 
 #[test]
 fn tells_begin_lines(rt: HostRuntime) {
     let alloc = rt.alloc();
-    assert!(rt; is_begin_line(alloc, b" begin # now").expect(&rt, "memory"));
-    assert!(rt; !is_begin_line(alloc, b"begin begin").expect(&rt, "memory"));
+    let one = is_begin_line(alloc, b" begin # now").expect(&rt, "memory");
+    holds(&rt, "one begin", one);
+    let two = is_begin_line(alloc, b"begin begin").expect(&rt, "memory");
+    holds(&rt, "no two", !two);
 }

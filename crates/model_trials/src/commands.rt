@@ -2,6 +2,7 @@ ghost use Rattle.std.specs.Prelude.{◌≡◌, [], true, IfOk};
 ghost use Rattle.pl_plan.specs.Fitting.{Fits};
 ghost use Rattle.model_trials.specs.Samples.{HasTwoKinds, root, four};
 
+use crate::asserting::holds;
 use crate::plans::parameters;
 use crate::reading::{model, number, word};
 use pl_conflict::{Code, Conflict};
@@ -56,7 +57,7 @@ fn sample(rt: &impl Abort, alloc: Global) -> (Model, Plan)
     ensures { Fits result.0 result.1.activities }
 {
     let model = model(rt, alloc, MODEL);
-    assert!(rt; has_two_kinds(&model));
+    holds(rt, "two kinds", has_two_kinds(&model));
     let plan = plan(alloc).expect(rt, "memory");
     (model, plan)
 }
@@ -85,7 +86,7 @@ fn due_activities_in_start_order(rt: HostRuntime) {
     let alloc = rt.alloc();
     let (model, plan) = sample(&rt, alloc);
     for row in DUE.lines() {
-        assert!(rt; is_due(&rt, alloc, &model, &plan, row), "{row}");
+        holds(&rt, row, is_due(&rt, alloc, &model, &plan, row));
     }
 }
 
@@ -113,9 +114,10 @@ fn how_far_to_commit(rt: HostRuntime) {
         let mut rest = row;
         let now = number(&mut rest);
         let first = word(&mut rest).parse().ok().map(conflict);
-        assert!(rt; best(&model, now, first) == number(&mut rest), "{row}");
+        holds(&rt, row, best(&model, now, first) == number(&mut rest));
     }
-    assert!(rt; target(&model, 69) == 99 && target(&model, 100) == 100);
+    holds(&rt, "the target at 69", target(&model, 69) == 99);
+    holds(&rt, "the target at 100", target(&model, 100) == 100);
 }
 
 /// A command with two values.
@@ -138,9 +140,9 @@ fn sent(rt: &impl Abort, alloc: Global) -> Entry {
 fn entries_are_copied(rt: HostRuntime) {
     let alloc = rt.alloc();
     let copy = sent(&rt, alloc).copy(alloc).expect(&rt, "memory");
-    assert!(rt; matches!(&copy.event, Event::Dispatch));
-    match &copy.reply {
-        Reply::Sent { values, .. } => assert!(rt; values.as_slice() == [Some(7), None].as_slice()),
-        _ => panic!(rt; "another reply"),
-    }
+    let Entry { event, reply } = &copy;
+    let text = format!(in alloc; "{event:?} {reply:?}").expect(&rt, "memory");
+    let wanted =
+        "Dispatch Sent { id: 3, kind: 0, start: 10, values: Items { items: [Some(7), None] } }";
+    holds(&rt, "the copy", text.as_str() == wanted);
 }

@@ -1,6 +1,7 @@
 ghost use Rattle.std.specs.Prelude.{◌≡◌, ◌∷◌, [], Some, None, pos, negsuc, true};
 ghost use Rattle.pl_facts.specs.Bases.{first_bases};
 
+use crate::asserting::holds;
 use crate::reading::{model, number, word};
 use pl_facts::{Bases, Goal, Goals, Options};
 use pl_lists::{Copied, Items};
@@ -69,10 +70,8 @@ fn answer(rt: &impl Abort, alloc: Global, goals: &mut Goals, call: &str) -> Opti
 fn assert_answers(rt: &impl Abort, alloc: Global, goals: &mut Goals, script: &str) {
     for line in script.lines() {
         let (call, wanted) = line.split_once(" = ").unwrap_or((line, ""));
-        assert!(rt;
-            answer(rt, alloc, goals, call) == wanted.parse().ok(),
-            "{line}"
-        );
+        let found = answer(rt, alloc, goals, call);
+        holds(rt, line, found == wanted.parse().ok());
     }
 }
 
@@ -126,12 +125,14 @@ fn has_starts(model: &Model) -> bool
 fn bases_of_a_model(rt: HostRuntime) {
     let alloc = rt.alloc();
     let model = model(&rt, alloc, MODEL);
-    assert!(rt; has_starts(&model));
+    holds(&rt, "the starts", has_starts(&model));
     let mut bases = Bases::new(alloc, &model).expect(&rt, "memory");
-    assert!(rt; bases.get(1) == (-1, 500) && bases.get(2) == (-1, 2));
+    holds(&rt, "the level", bases.get(1) == (-1, 500));
+    holds(&rt, "the state", bases.get(2) == (-1, 2));
     bases.set(1, 40, 90);
     let after = bases.copy(alloc).expect(&rt, "memory");
-    assert!(rt; after.get(1) == (40, 90) && after.get(2) == (-1, 2));
+    holds(&rt, "the level then", after.get(1) == (40, 90));
+    holds(&rt, "the state then", after.get(2) == (-1, 2));
 }
 
 #[test]
@@ -142,5 +143,6 @@ fn options_are_copied(rt: HostRuntime) {
         goals: 2,
         entries: 40,
     };
-    assert!(rt; options.copy(rt.alloc()).expect(&rt, "memory") == options);
+    let copy = options.copy(rt.alloc()).expect(&rt, "memory");
+    holds(&rt, "the copy", copy == options);
 }

@@ -2,6 +2,7 @@ ghost use Rattle.std.specs.Prelude.{◌≡◌, ◌<◌, ◌+◌, length, slice_g
 ghost use Rattle.pl_links.specs.Items.{alternatives_of};
 ghost use Rattle.pl_links.specs.Kept.{IsFor};
 
+use crate::asserting::holds;
 use crate::reading::model;
 use pl_links::{Broken, Links, Placed};
 use pl_lists::Copied;
@@ -16,7 +17,7 @@ fn camera(rt: &impl Abort, alloc: Global) -> Model
     let text = "horizon 2000 lead 120 kind warm_up { duration 10 }
 kind image { duration 40 link start warm_up end -60 0 }";
     let model = model(rt, alloc, text);
-    assert!(rt; model.kinds.len() == 2);
+    holds(rt, "two kinds", model.kinds.len() == 2);
     model
 }
 
@@ -29,8 +30,8 @@ fn scanner(rt: &impl Abort, alloc: Global) -> Model
 kind scan { duration 10 alternative { slot a shot slot b shot order a end b start 0 3 } }";
     let model = model(rt, alloc, text);
     let kinds = model.kinds.as_slice();
-    assert!(rt; kinds.len() == 2);
-    assert!(rt; kinds[1].alternatives.len() == 1);
+    holds(rt, "two kinds", kinds.len() == 2);
+    holds(rt, "one alternative", kinds[1].alternatives.len() == 1);
     model
 }
 
@@ -52,7 +53,7 @@ fn assert_whole(rt: &impl Abort, alloc: Global, links: &Links, model: &Model)
     requires { IsFor model.now links.now }
 {
     let broken = links.broken(alloc, model).expect(rt, "memory");
-    assert!(rt; broken.is_empty());
+    holds(rt, "nothing broken", broken.is_empty());
 }
 
 /// Asserts that this alone is broken: the first link or order of 1.
@@ -61,7 +62,8 @@ fn assert_broken(rt: &impl Abort, alloc: Global, links: &Links, model: &Model, s
 {
     let broken = links.broken(alloc, model).expect(rt, "memory");
     let (id, index) = (1, 0);
-    assert!(rt; broken.as_slice() == [Broken { id, index, slots }].as_slice());
+    let wanted = [Broken { id, index, slots }];
+    holds(rt, "one broken", broken.as_slice() == wanted.as_slice());
 }
 
 #[test]
@@ -122,5 +124,6 @@ fn a_second_shot_follows_the_first(rt: HostRuntime) {
 #[test]
 fn items_are_copied(rt: HostRuntime) {
     let scan = scan();
-    assert!(rt; scan.copy(rt.alloc()).expect(&rt, "memory") == scan);
+    let copy = scan.copy(rt.alloc()).expect(&rt, "memory");
+    holds(&rt, "the copy", copy == scan);
 }

@@ -1,6 +1,7 @@
 ghost use Rattle.std.specs.Prelude.{◌≡◌, true};
 ghost use Rattle.pl_msg.specs.Limits.{IsNumbered, HasFewStates};
 
+use crate::asserting::holds;
 use crate::reading::model;
 use pl_lists::Copied;
 use pl_model::{Model, Timeline};
@@ -56,11 +57,11 @@ fn read(alloc: Global, line: &str, model: &Model) -> Result<String, AllocError>
 /// Reads each line of a table, which stands before what is read of it.
 fn assert_read(rt: &impl Abort, alloc: Global, table: &str) {
     let model = model(rt, alloc, MODEL);
-    assert!(rt; is_small(&model));
+    holds(rt, "a small model", is_small(&model));
     for row in table.lines() {
         let (line, wanted) = row.split_once(" => ").unwrap_or((row, ""));
         let found = read(alloc, line, &model).expect(rt, "memory");
-        assert!(rt; found.as_str() == wanted, "{line}");
+        holds(rt, line, found.as_str() == wanted);
     }
 }
 

@@ -4,6 +4,7 @@ ghost use Rattle.pl_plan.specs.Fitting.{Fits, alternatives_of};
 ghost use Rattle.pl_plan.specs.Trees.{IsRooted};
 ghost use Rattle.model_trials.specs.Samples.{parameters, slots_in, IsOneSlot, HasKinds, parent, child, sample};
 
+use crate::asserting::holds;
 use crate::reading::{number, word};
 use pl_check::check;
 use pl_lists::{Copied, Items};
@@ -133,7 +134,7 @@ fn model(rt: &impl Abort, alloc: Global) -> Model
     let Ok(model) = check(alloc, &ast) else {
         panic!(rt; "no model");
     };
-    assert!(rt; has_kinds(&model));
+    holds(rt, "the kinds", has_kinds(&model));
     model
 }
 
@@ -174,7 +175,7 @@ fn is_told(rt: &impl Abort, alloc: Global, model: &Model, plan: &Plan, row: &str
 {
     let mut rest = row;
     let id = number(&mut rest);
-    assert!(rt; plan.get(id).is_some());
+    holds(rt, row, plan.get(id).is_some());
     let values = plan.values(alloc, model, id).expect(rt, "memory");
     let (firm, end) = (plan.firm(model, id), plan.end(model, id));
     let text = format!(in alloc; "{:?} {firm} {end:?}", values.as_slice()).expect(rt, "memory");
@@ -185,15 +186,18 @@ fn is_told(rt: &impl Abort, alloc: Global, model: &Model, plan: &Plan, row: &str
 fn values_firmness_and_ends(rt: HostRuntime) {
     let (model, plan) = sample(&rt, rt.alloc());
     for row in TOLD.lines() {
-        assert!(rt; is_told(&rt, rt.alloc(), &model, &plan, row), "{row}");
+        let is_told = is_told(&rt, rt.alloc(), &model, &plan, row);
+        holds(&rt, row, is_told);
     }
 }
 
 #[test]
 fn values_one_by_one(rt: HostRuntime) {
     let (model, plan) = sample(&rt, rt.alloc());
-    assert!(rt; plan.value(&model, 3, 0) == Some(8) && plan.value(&model, 3, 1) == Some(16));
-    assert!(rt; plan.value(&model, 1, 0) == Some(7) && plan.value(&model, 2, 0) == Some(7));
+    holds(&rt, "one set", plan.value(&model, 3, 0) == Some(8));
+    holds(&rt, "its double", plan.value(&model, 3, 1) == Some(16));
+    holds(&rt, "the parent's", plan.value(&model, 1, 0) == Some(7));
+    holds(&rt, "one bound to it", plan.value(&model, 2, 0) == Some(7));
 }
 
 /// The children of each activity, all below it and itself, and its root.
@@ -207,7 +211,7 @@ fn is_in_tree(rt: &impl Abort, alloc: Global, plan: &Plan, row: &str) -> bool
 {
     let mut rest = row;
     let id = number(&mut rest);
-    assert!(rt; plan.get(id).is_some());
+    holds(rt, row, plan.get(id).is_some());
     let children = plan.children(alloc, id).expect(rt, "memory");
     let subtree = plan.subtree(alloc, id).expect(rt, "memory");
     let root = plan.root(id);
@@ -219,7 +223,8 @@ fn is_in_tree(rt: &impl Abort, alloc: Global, plan: &Plan, row: &str) -> bool
 fn trees(rt: HostRuntime) {
     let plan = plan(rt.alloc()).expect(&rt, "memory");
     for row in TREES.lines() {
-        assert!(rt; is_in_tree(&rt, rt.alloc(), &plan, row), "{row}");
+        let is_in_tree = is_in_tree(&rt, rt.alloc(), &plan, row);
+        holds(&rt, row, is_in_tree);
     }
 }
 
@@ -240,7 +245,8 @@ fn answer(plan: &mut Plan, call: &str) -> Option<u32> {
 fn assert_answers(rt: &impl Abort, plan: &mut Plan, script: &str) {
     for line in script.lines() {
         let (call, wanted) = line.split_once(" = ").unwrap_or((line, ""));
-        assert!(rt; answer(plan, call) == wanted.parse().ok(), "{line}");
+        let found = answer(plan, call);
+        holds(rt, line, found == wanted.parse().ok());
     }
 }
 
@@ -266,5 +272,6 @@ fn activities_by_id(rt: HostRuntime) {
 #[test]
 fn moves_are_copied(rt: HostRuntime) {
     let repair = RepairMove::Shift { id: 2, start: 45 };
-    assert!(rt; repair.copy(rt.alloc()).expect(&rt, "memory") == repair);
+    let copy = repair.copy(rt.alloc()).expect(&rt, "memory");
+    holds(&rt, "the copy", copy == repair);
 }

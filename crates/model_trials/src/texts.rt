@@ -1,3 +1,4 @@
+use crate::asserting::holds;
 use pl_accept::{Accepted, accept, too_long};
 use pl_check::check;
 use pl_lists::Copied;
@@ -40,13 +41,13 @@ horizon 9 lead 3 state s { a } start a any step a a => unexpected at 43";
 /// Asserts that the text is judged so, and accepted or refused accordingly.
 fn assert_fault(rt: &impl Abort, alloc: Global, text: &str, fault: &str) {
     let is_read = is_read(alloc, text.as_bytes(), fault).expect(rt, "memory");
-    assert!(rt; is_read, "read: {text}");
+    holds(rt, text, is_read);
     assert_judged(rt, alloc, text, fault);
 }
 
 fn assert_judged(rt: &impl Abort, alloc: Global, text: &str, fault: &str) {
     let is_judged = is_judged(alloc, text.as_bytes(), fault).expect(rt, "memory");
-    assert!(rt; is_judged, "judged: {text}");
+    holds(rt, text, is_judged);
 }
 
 #[test]
@@ -108,7 +109,7 @@ fn longest(alloc: Global) -> Result<String, AllocError> {
 fn lengths(rt: HostRuntime) {
     let alloc = rt.alloc();
     let mut text = longest(alloc).expect(&rt, "memory");
-    assert!(rt; text.len() == 1_048_576);
+    holds(&rt, "the longest", text.len() == 1_048_576);
     assert_fault(&rt, alloc, text.as_str(), "");
     text.push('\n').expect(&rt, "memory");
     assert_fault(&rt, alloc, text.as_str(), "too long");
@@ -118,7 +119,10 @@ fn lengths(rt: HostRuntime) {
 fn says_what_is_too_long(rt: HostRuntime) {
     match too_long(rt.alloc()).expect(&rt, "memory") {
         Accepted::Model(_) => panic!(rt; "no text is too long"),
-        Accepted::Refused(line) => assert!(rt; line.as_slice() == b"model: too long\n".as_slice()),
+        Accepted::Refused(line) => {
+            let is = line.as_slice() == b"model: too long\n".as_slice();
+            holds(&rt, "its line", is);
+        }
     }
 }
 
@@ -228,7 +232,7 @@ fn rewritten(rt: &impl Abort, alloc: Global, text: &str) -> Vec<u8> {
 
 fn assert_rewritten(rt: &impl Abort, alloc: Global, text: &str, wanted: &str) {
     let written = rewritten(rt, alloc, text);
-    assert!(rt; written.as_slice() == wanted.as_bytes(), "{text}");
+    holds(rt, text, written.as_slice() == wanted.as_bytes());
 }
 
 const TEXT: &str = "horizon 100 lead 30 capacity cam 10 level bat 0 1000 500
@@ -289,9 +293,10 @@ fn scan(rt: &impl Abort, alloc: Global) -> Model {
 fn offsets_are_the_least(rt: HostRuntime) {
     let model = scan(&rt, rt.alloc());
     let kinds = model.kinds.as_slice();
-    assert!(rt; kinds.len() == 2);
-    assert!(rt; kinds[0].least_duration == 5);
+    holds(&rt, "two kinds", kinds.len() == 2);
+    holds(&rt, "the duration", kinds[0].least_duration == 5);
     let alternatives = kinds[1].alternatives.as_slice();
-    assert!(rt; alternatives.len() == 1);
-    assert!(rt; alternatives[0].offsets.as_slice() == [0, 5].as_slice());
+    holds(&rt, "one alternative", alternatives.len() == 1);
+    let offsets = alternatives[0].offsets.as_slice();
+    holds(&rt, "the offsets", offsets == [0, 5].as_slice());
 }

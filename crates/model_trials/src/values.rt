@@ -1,6 +1,7 @@
 ghost use Rattle.std.specs.Prelude.{IfOk};
 ghost use Rattle.pl_model.specs.Values.{NamesBelow};
 
+use crate::asserting::holds;
 use crate::reading::{value, word};
 use pl_lists::Boxed;
 use pl_model::{Expr, Op, bounds, eval};
@@ -27,9 +28,13 @@ fn odd(alloc: Global) -> Result<Expr, AllocError>
 #[test]
 fn values_and_bounds(rt: HostRuntime) {
     let odd = odd(rt.alloc()).expect(&rt, "memory");
-    assert!(rt; eval(&odd, &[Some(8), None]) == Some(17));
-    assert!(rt; eval(&odd, &[None, Some(8)]) == None);
-    assert!(rt; bounds(&odd, &[(1, 10), (0, 0)]) == (3, 21));
+    holds(&rt, "at 8", eval(&odd, &[Some(8), None]) == Some(17));
+    holds(&rt, "no value", eval(&odd, &[None, Some(8)]) == None);
+    holds(
+        &rt,
+        "its bounds",
+        bounds(&odd, &[(1, 10), (0, 0)]) == (3, 21),
+    );
 }
 
 /// How far from 0 a value may be.
@@ -38,10 +43,13 @@ const FAR: i64 = 1_000_000_000_000_000_000;
 #[test]
 fn values_that_are_far(rt: HostRuntime) {
     for number in [FAR, -FAR] {
-        assert!(rt; eval(&Expr::Num(number), &[]) == Some(number), "{number}");
+        let value = eval(&Expr::Num(number), &[]);
+        holds(&rt, "the furthest", value == Some(number));
     }
-    assert!(rt; eval(&Expr::Num(FAR + 1), &[]) == None);
-    assert!(rt; eval(&Expr::Param(0), &[Some(-FAR - 1)]) == None);
+    let beyond = eval(&Expr::Num(FAR + 1), &[]);
+    holds(&rt, "one beyond", beyond == None);
+    let beyond = eval(&Expr::Param(0), &[Some(-FAR - 1)]);
+    holds(&rt, "a parameter beyond", beyond == None);
 }
 
 /// Operations on two parameters: the value at 8 and -3, its bounds from -2 to 8 and from -3 to 5, the value at the furthest
@@ -86,7 +94,7 @@ fn operations(rt: HostRuntime) {
         let mut rest = row;
         let op = operation(word(&mut rest));
         let expr = apply(rt.alloc(), op, Expr::Param(0), Expr::Param(1)).expect(&rt, "memory");
-        assert!(rt; has_values(&expr, &mut rest), "{row}");
-        assert!(rt; has_far_values(&expr, &mut rest), "{row}");
+        holds(&rt, row, has_values(&expr, &mut rest));
+        holds(&rt, row, has_far_values(&expr, &mut rest));
     }
 }

@@ -1,0 +1,29 @@
+//! Assertions by calls: each costs a proof much less than one that is written out.
+ghost use Rattle.std.specs.Prelude.{◌≡◌, true};
+
+use pl_lists::Copied;
+use std::alloc::{AllocError, Global};
+use std::process::Abort;
+
+/// Asserts that it holds; `what` is told where it does not.
+pub(crate) fn holds(rt: &impl Abort, what: &str, it: bool)
+    ensures { it ≡ true }
+{
+    assert!(rt; it, "{what}");
+}
+
+/// Asserts that it holds in the sequence of a seed.
+pub(crate) fn holds_for(rt: &impl Abort, seed: u64, it: bool)
+    ensures { it ≡ true }
+{
+    assert!(rt; it, "seed {seed}");
+}
+
+/// Whether the copy is the same.
+pub(crate) fn is_copied<T: Copied + PartialEq + Drop>(
+    rt: &impl Abort,
+    alloc: Global,
+    it: &T,
+) -> bool {
+    it.copy(alloc).expect(rt, "memory") == *it
+}
