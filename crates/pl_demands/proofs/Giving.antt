@@ -13,8 +13,8 @@ use Rattle.pl_plan.specs.Firm.{has_amount, amount_with, amounts_with, amounts_in
 use Rattle.pl_world.specs.declared.plan_state.PlanState.{PlanState}
 use Rattle.pl_world.specs.declared.demand.Demand.{Demand}
 use Rattle.pl_world.specs.PlanStates.{numbered, reservations_in, row_of, amounts_at}
-use Rattle.pl_world.specs.Demands.{asked_for, demands_until}
-use Rattle.pl_demands.specs.Amounts.{is_given, AreGiven, asked_with, asked_by}
+use Rattle.pl_world.specs.Demands.{asked_with, asked_for, demands_until}
+use Rattle.pl_demands.specs.Amounts.{is_given, AreGiven, asked_by}
 
 -- ---- they are given
 
@@ -36,13 +36,6 @@ given values rs has = record {
 -- ---- the same is asked for
 
 module _ (id start end : ℕ) (values : Row) where
-  one : (n : ℕ) (r : Reservation) → asked_with id start end (amount_with values r) (n, r) ≡ asked_for id start end values (n, r)
-  one n (reservation.Take line e) = refl
-  one n (reservation.Raise line e point) = refl
-  one n (reservation.Lower line e point) = refl
-  one n (reservation.Put line state point) = refl
-  one n (reservation.Must line state) = refl
-
   along : (before : Row) (n : ℕ) (rs : List Reservation) → n ≡ length before → map (asked_by id start end (before ++ amounts_with values rs)) (numbered n rs) ≡ map (asked_for id start end values) (numbered n rs)
   along before n [] is = refl
   along before n (r ∷ rs) is =
@@ -50,7 +43,7 @@ module _ (id start end : ℕ) (values : Row) where
       let more = amounts_with values rs in
       let place : n ≡ length before + 0 = omega (arith, is) in
       let here : get_or (before ++ x ∷ more) n None ≡ x = ap (λ (i : ℕ). get_or (before ++ x ∷ more) i None) place ∙ get_or-append-add before (x ∷ more) 0 None in
-      let head : asked_by id start end (before ++ x ∷ more) (n, r) ≡ asked_for id start end values (n, r) = ap (λ (o : Option ℤ). asked_with id start end o (n, r)) here ∙ one n r in
+      let head : asked_by id start end (before ++ x ∷ more) (n, r) ≡ asked_for id start end values (n, r) = ap (λ (o : Option ℤ). asked_with id start end o (n, r)) here in
       let same : (before ++ x ∷ []) ++ more ≡ before ++ x ∷ more = append_assoc before (x ∷ []) more in
       let next : suc n ≡ length (before ++ x ∷ []) = omega (arith, is, length_push before x) in
       let rest : map (asked_by id start end (before ++ x ∷ more)) (numbered (suc n) rs) ≡ map (asked_for id start end values) (numbered (suc n) rs) =

@@ -1,18 +1,11 @@
 -- What an activity asks for by the amounts of its reservations.
-use Rattle.std.specs.Prelude.{◌≡◌, ℕ, ◌<◌, pos, neg_ℤ, ℤ, Bool, true, List, length, slice_index_or, Option, Some, None, unwrap_or}
+use Rattle.std.specs.Prelude.{◌≡◌, ℕ, ◌<◌, pos, ℤ, Bool, true, List, length, slice_index_or, Option, Some, None}
 use Rattle.pl_model.specs.declared.expressions.Expr.{Expr}
 use Rattle.pl_model.specs.declared.reservations.Reservation.{Reservation}
-use Rattle.pl_model.specs.declared.reservations.Reservation.TheVariants as reservation
 use Rattle.pl_plan.specs.Values.{Row}
 use Rattle.pl_plan.specs.Firm.{is_within, amount_of}
-use Rattle.pl_capacity.specs.Uses.{use_of}
-use Rattle.pl_level.specs.Effects.{effect_of}
-use Rattle.pl_links.specs.Broken.{point_of}
-use Rattle.pl_state.specs.Sets.{setting_of}
-use Rattle.pl_state.specs.Musts.{must_of}
 use Rattle.pl_world.specs.declared.demand.Demand.{Demand}
-use Rattle.pl_world.specs.declared.demand.Asked.TheVariants as asked
-use Rattle.pl_world.specs.Demands.{demand_of}
+use Rattle.pl_world.specs.Demands.{asked_with}
 
 -- no amount is asked for, or this is one from 0 to 10^9
 abbrev pub is_meant : Option ℤ → Option Expr → Bool
@@ -27,14 +20,6 @@ pub record AreGiven (amounts : Row) (reservations : List Reservation) : Type 0 w
   pub places : length amounts ≡ length reservations
   pub each : (n : ℕ) (r : Reservation) → n < length reservations → is_given (slice_index_or amounts n None) (slice_index_or reservations n r) ≡ true
 
--- what a reservation asks for by its amount
-abbrev pub asked_with : ℕ → ℕ → ℕ → Option ℤ → ℕ × Reservation → Demand
-asked_with id start end amount (n, reservation.Take line e) = demand_of line (asked.Use (use_of start end (unwrap_or amount (pos 0))))
-asked_with id start end amount (n, reservation.Raise line e point) = demand_of line (asked.Effect (effect_of (point_of point start end) (unwrap_or amount (pos 0))))
-asked_with id start end amount (n, reservation.Lower line e point) = demand_of line (asked.Effect (effect_of (point_of point start end) (neg_ℤ (unwrap_or amount (pos 0)))))
-asked_with id start end amount (n, reservation.Put line state point) = demand_of line (asked.Set (setting_of (point_of point start end) id n state))
-asked_with id start end amount (n, reservation.Must line state) = demand_of line (asked.Must (must_of start end id n state))
-
--- the same by the amounts of all
+-- what a reservation asks for by the amounts of all
 abbrev pub asked_by : ℕ → ℕ → ℕ → Row → ℕ × Reservation → Demand
 asked_by id start end amounts x = asked_with id start end (slice_index_or amounts x.0 None) x

@@ -7,8 +7,8 @@ ghost use Rattle.pl_level.specs.Effects.{effect_of};
 ghost use Rattle.pl_links.specs.Broken.{point_of};
 ghost use Rattle.pl_world.specs.PlanStates.{numbered, reservations_in, amounts_at, end_at};
 ghost use Rattle.pl_world.specs.Whole.{IsWhole};
-ghost use Rattle.pl_world.specs.Demands.{demand_of, demands_until, demands_at, demands_of};
-ghost use Rattle.pl_demands.specs.Amounts.{is_given, AreGiven, asked_with, asked_by};
+ghost use Rattle.pl_world.specs.Demands.{demand_of, asked_with, demands_until, demands_at, demands_of};
+ghost use Rattle.pl_demands.specs.Amounts.{is_given, AreGiven, asked_by};
 
 use pl_capacity::Use;
 use pl_level::Effect;

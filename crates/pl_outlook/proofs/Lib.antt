@@ -1,6 +1,5 @@
 pub mod Rising
 pub mod After
-pub mod Still
 pub mod Counted
 pub mod Moving
 pub mod Differing

@@ -27,9 +27,9 @@ use Rattle.pl_world.specs.Activities.{at_start, late_at, unset_at, bad_values_at
 use Rattle.pl_world.specs.Moves.{with_activities}
 use Rattle.pl_world.specs.Whole.{IsWhole}
 use Rattle.pl_world.proofs.Owning.{Each, each_append, each_when, each_found, each_flat}
-use Rattle.pl_outlook.specs.Moved.{still, AreStill}
+use Rattle.pl_values.specs.Shifted.{still, AreStill}
+use Rattle.pl_values.proofs.Still.{values_still}
 use Rattle.pl_outlook.proofs.Counted.{itself}
-use Rattle.pl_outlook.proofs.Still.{values_still}
 
 -- ---- at another moment
 

@@ -32,7 +32,7 @@ use Rattle.pl_world.specs.Parts.{part_of, of_activities}
 use Rattle.pl_world.specs.Whole.{IsWhole}
 use Rattle.pl_world.proofs.Refusing.{may}
 use Rattle.pl_outlook.specs.Counts.{AreApart}
-use Rattle.pl_outlook.specs.Moved.{still}
+use Rattle.pl_values.specs.Shifted.{still}
 use Rattle.pl_outlook.specs.Plain.{is_plain, is_plain_part, count_of_plain}
 use Rattle.pl_outlook.specs.Standing.{is_unmoved, is_unmoved_one, count_of_unmoved}
 use Rattle.pl_lists.proofs.Tests.{or_true}

@@ -30,12 +30,13 @@ use Rattle.pl_moves.specs.Runs.{CanBeMade, start_of}
 use Rattle.pl_moves.proofs.Made.{IsMadeBy, made, can_replace}
 use Rattle.pl_outlook.specs.Asked.{IsAskedBy}
 use Rattle.pl_outlook.specs.Askings.{IsAskingOf}
-use Rattle.pl_outlook.specs.Moved.{AreStill, demand_moved, still}
+use Rattle.pl_values.specs.Shifted.{AreStill, still}
+use Rattle.pl_values.proofs.Still.{values_still}
+use Rattle.pl_outlook.specs.Moved.{demand_moved}
 use Rattle.pl_outlook.specs.declared.asking.Asking.{Asking}
 use Rattle.pl_outlook.proofs.Alike.{alike_delete, alike_shift}
 use Rattle.pl_outlook.proofs.Asks.{ask_same}
 use Rattle.pl_outlook.proofs.Moving.{demands_moved}
-use Rattle.pl_outlook.proofs.Still.{values_still}
 
 -- ---- a deletion
 

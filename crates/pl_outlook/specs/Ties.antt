@@ -19,7 +19,7 @@ placed_at start p = record p { start = start; end = option_map (λ e. (e + start
 abbrev pub count_of_lone : PlanState → ℕ → Placed → ℕ
 count_of_lone s start p = length (filter (lacks_partner (placed_in s) (placed_at start p)) (links_of s.model p))
 
--- the same of an activity that is moved alone, if there is one
+-- the same of an activity that is moved alone, or added, if there is one
 abbrev pub lone_then : PlanState → ℕ → Option Placed → ℕ
 lone_then s start None = 0
 lone_then s start (Some p) = count_of_lone s start p

@@ -16,7 +16,7 @@ use pl_plan::RepairMove;
 use std::alloc::{AllocError, Global};
 
 /// Of a move, and of those that go on with it: how many conflicts of goals and activities each leaves at least, the activity that it
-/// moves alone, and what it asks for.
+/// moves alone or adds, and what it asks for.
 #[derive(Drop)]
 pub(crate) struct Known {
     pub(crate) first: RepairMove,

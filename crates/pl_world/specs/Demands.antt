@@ -7,6 +7,7 @@ use Rattle.pl_model.specs.declared.reservations.Reservation.TheVariants as reser
 use Rattle.pl_model.specs.Values.{value_of}
 use Rattle.pl_plan.specs.declared.activity.Activity.{Activity}
 use Rattle.pl_plan.specs.Values.{Row}
+use Rattle.pl_plan.specs.Firm.{amount_with}
 use Rattle.pl_points.specs.Sums.{total}
 use Rattle.pl_capacity.specs.declared.reservation.Use.{Use}
 use Rattle.pl_capacity.specs.Uses.{use_of, used}
@@ -33,15 +34,19 @@ amount_in values e = unwrap_or (value_of e values) (pos 0)
 abbrev pub demand_of : ℕ → Asked → Demand
 demand_of line what = record { line = line; asked = what }
 
--- A reservation of an activity from a start to an end, with its number and the activity's id and values. A capacity is used from the
--- start up to but not at the end; a level is raised or lowered, and a state set, at a point; a state is needed from the start up to
--- but not at the end.
+-- A reservation of an activity from a start to an end, by its amount, with its number and the activity's id. A capacity is used from
+-- the start up to but not at the end; a level is raised or lowered, and a state set, at a point; a state is needed from the start up
+-- to but not at the end.
+abbrev pub asked_with : ℕ → ℕ → ℕ → Option ℤ → ℕ × Reservation → Demand
+asked_with id start end amount (n, reservation.Take line e) = demand_of line (asked.Use (use_of start end (unwrap_or amount (pos 0))))
+asked_with id start end amount (n, reservation.Raise line e point) = demand_of line (asked.Effect (effect_of (point_of point start end) (unwrap_or amount (pos 0))))
+asked_with id start end amount (n, reservation.Lower line e point) = demand_of line (asked.Effect (effect_of (point_of point start end) (neg_ℤ (unwrap_or amount (pos 0)))))
+asked_with id start end amount (n, reservation.Put line state point) = demand_of line (asked.Set (setting_of (point_of point start end) id n state))
+asked_with id start end amount (n, reservation.Must line state) = demand_of line (asked.Must (must_of start end id n state))
+
+-- the same by the activity's values
 abbrev pub asked_for : ℕ → ℕ → ℕ → Row → ℕ × Reservation → Demand
-asked_for id start end values (n, reservation.Take line e) = demand_of line (asked.Use (use_of start end (amount_in values e)))
-asked_for id start end values (n, reservation.Raise line e point) = demand_of line (asked.Effect (effect_of (point_of point start end) (amount_in values e)))
-asked_for id start end values (n, reservation.Lower line e point) = demand_of line (asked.Effect (effect_of (point_of point start end) (neg_ℤ (amount_in values e))))
-asked_for id start end values (n, reservation.Put line state point) = demand_of line (asked.Set (setting_of (point_of point start end) id n state))
-asked_for id start end values (n, reservation.Must line state) = demand_of line (asked.Must (must_of start end id n state))
+asked_for id start end values x = asked_with id start end (amount_with values x.1) x
 
 abbrev pub demands_until : PlanState → Activity → ℕ → List Demand
 demands_until s a end = map (asked_for a.id a.start end (row_of s a)) (reservations_of s a)

@@ -1,4 +1,4 @@
-use Rattle.pl_outlook.proofs.Still.{values_still}
+use Rattle.pl_values.proofs.Still.{values_still}
 use Rattle.pl_outlook.proofs.laws.laws_of_starts.Goals as goal
 
 pub returns : goal.returns
