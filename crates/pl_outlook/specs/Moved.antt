@@ -1,8 +1,6 @@
 -- What is asked for, moved along with the activities that ask.
-use Rattle.std.specs.Prelude.{◌≡◌, ℕ, ◌+◌, ◌-◌, List}
-use Rattle.std.specs.Option.{option_map}
-use Rattle.pl_plan.specs.declared.activity.Activity.{Activity}
-use Rattle.pl_plan.specs.Activities.{activity_of}
+use Rattle.std.specs.Prelude.{ℕ, ◌+◌, ◌-◌}
+pub use Rattle.pl_values.specs.Shifted.{still, AreStill}
 use Rattle.pl_world.specs.declared.demand.Demand.{Demand}
 use Rattle.pl_world.specs.declared.demand.Asked.{Asked}
 use Rattle.pl_world.specs.declared.demand.Asked.TheVariants as asked
@@ -18,11 +16,3 @@ asked_moved from to (asked.Must m) = asked.Must (record m { from = moved_to from
 
 abbrev pub demand_moved : ℕ → ℕ → Demand → Demand
 demand_moved from to d = record d { asked = asked_moved from to d.asked }
-
--- an activity without its start
-abbrev pub still : Activity → Activity
-still a = record a { start = 0 }
-
--- the same activities but for their starts
-abbrev pub AreStill : List Activity → List Activity → Type 0
-AreStill xs ys = (q : ℕ) → option_map still (activity_of q xs) ≡ option_map still (activity_of q ys)
