@@ -27,7 +27,7 @@ use Rattle.pl_model.specs.Names.{Differ, HasDistinctStates, HasDistinctParts}
 use Rattle.pl_model.specs.Expressions.{nodes_of, HasSmallLiterals, IsSmallExpr, exprs_of, HasSmallExprs}
 use Rattle.pl_model.specs.Bounds.{bounds_of}
 use Rattle.pl_model.specs.Schedules as schedules
-use Rattle.pl_model.specs.Schedules.{spans_of, HasLeastOffsets, IsPossible, IsTimedAlternative, IsTimedKind}
+use Rattle.pl_model.specs.Schedules.{param_range, spans_of, HasLeastOffsets, IsPossible, IsTimedAlternative, IsTimedKind}
 use Rattle.pl_model.proofs.Parts.{has_distinct_names, has_small_expressions, has_least_times, is_written}
 use Rattle.pl_model.specs.Written.{IsWrittenLine, IsWrittenKind}
 use Rattle.pl_syntax.specs.Answers.{ReadsText}
@@ -42,7 +42,7 @@ use Rattle.pl_check.specs.Names.{line_name, item_name, twice_in_line, twice_in_k
 use Rattle.pl_check.specs.Counts.{few_nodes, counts_in_param, counts_in_reservation, counts_in_link, counts_in_alternative, counts_in_kind, counts_in_line, counts_in_items, counts_in}
 use Rattle.pl_check.specs.Sizes.{IsSmallLine, IsSmallAlternative}
 use Rattle.pl_check.specs.Numbering.{numbered, numbered_line, numbered_param, numbered_params, numbered_reservation, numbered_reservations, numbered_link, numbered_links, numbered_alternative, numbered_alternatives, numbered_duration, numbered_head, numbered_asks, numbered_kind, numbered_item, numbered_items}
-use Rattle.pl_check.specs.Ranges.{range_in_line, range_in_param, range_in_reservation, range_in_duration, range_in_link, range_in_alternative, range_in_kind, range_in_draft, range_in, is_between, is_possible, param_range, duration_bounds}
+use Rattle.pl_check.specs.Ranges.{range_in_line, range_in_param, range_in_reservation, range_in_duration, range_in_link, range_in_alternative, range_in_kind, range_in_draft, range_in, is_between, is_possible, duration_bounds}
 use Rattle.pl_check.specs.Drafting.{lines_in, kinds_in}
 use Rattle.pl_check.specs.Dependencies.{IsWellFounded}
 use Rattle.pl_lists.specs.Lists.{Pairwise}

@@ -11,11 +11,9 @@ use Rattle.pl_syntax.specs.declared.parameters.AstParam.{AstParam}
 use Rattle.pl_syntax.specs.declared.alternatives.AstSlot.{AstSlot}
 use Rattle.pl_syntax.specs.declared.alternatives.AstAlternative.{AstAlternative}
 use Rattle.pl_syntax.specs.declared.expressions.AstExpr.{AstExpr}
+pub use Rattle.pl_syntax.specs.Forms.{Name}
 use Rattle.pl_check.specs.declared.fault.ModelFault.TheVariants as fault
 use Rattle.pl_check.specs.Judgements.{Judgement, pass, ◌>>◌, each}
-
-abbrev pub Name : Type 0
-Name = List ℕ
 
 -- the number of a name: its place among the names
 abbrev pub place_of : List Name → Name → Option ℕ

@@ -13,6 +13,7 @@ use Rattle.pl_model.specs.declared.alternatives.Order.{Order}
 use Rattle.pl_model.specs.declared.timelines.Timeline.{Timeline}
 use Rattle.pl_model.specs.declared.timelines.Timeline.TheVariants.{Capacity, Level, States}
 use Rattle.pl_model.specs.Bounds.{bounds_of}
+use Rattle.pl_model.specs.Schedules.{param_range}
 use Rattle.pl_model.specs.Values.{NamesBelow}
 use Rattle.pl_check.specs.declared.fault.ModelFault.TheVariants as fault
 use Rattle.pl_check.specs.declared.fault.What.TheVariants as what
@@ -63,10 +64,7 @@ range_in_param p =
     unless (is_amount p.low && is_amount p.high && int_le p.low p.high && is_default p.low p.high p.origin) (fault.Range what.Param)
     >> range_in_origin p.origin
 
--- the range of each parameter, whether it is set or follows from others
-abbrev pub param_range : Param → ℤ × ℤ
-param_range p = (p.low, p.high)
-
+-- each parameter over its range, whether it is set or follows from others
 abbrev pub duration_bounds : DraftKind → ℤ × ℤ
 duration_bounds k = bounds_of k.duration (map param_range k.params)
 

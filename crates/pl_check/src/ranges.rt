@@ -1,8 +1,9 @@
 //! The row of numbers out of range.
 ghost use Rattle.std.specs.Prelude.{◌≡◌, ◌≤ℤ◌, pos, All, IfOk, map};
+ghost use Rattle.pl_model.specs.Schedules.{param_range};
 ghost use Rattle.pl_check.specs.declared.fault.ModelFault.TheVariants as fault;
 ghost use Rattle.pl_check.specs.Judgements.{Judgement, Gives, unless, each};
-ghost use Rattle.pl_check.specs.Ranges.{is_between, is_amount, is_level, literals_fit, range_in_expr, range_in_line, is_default, range_in_origin, range_in_param, param_range, duration_bounds, is_possible, range_in_reservation, is_distance, range_in_link, range_in_binding, range_in_slot, range_in_order, range_in_alternative, range_in_duration, range_in_kind, range_in_draft, range_in, NamesOwn, NamesOwnIn};
+ghost use Rattle.pl_check.specs.Ranges.{is_between, is_amount, is_level, literals_fit, range_in_expr, range_in_line, is_default, range_in_origin, range_in_param, duration_bounds, is_possible, range_in_reservation, is_distance, range_in_link, range_in_binding, range_in_slot, range_in_order, range_in_alternative, range_in_duration, range_in_kind, range_in_draft, range_in, NamesOwn, NamesOwnIn};
 
 use crate::drafts::{Draft, DraftAlternative, DraftKind};
 use crate::fault::{ModelFault, What};

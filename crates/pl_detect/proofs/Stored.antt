@@ -1,9 +1,8 @@
 -- The activities of a plan come into a temporal store by rising id, each into a free slot.
 use Rattle.std.proofs.Common.{◌≡◌, ℕ, zero, suc, ◌+◌, ◌<◌, ◌≤◌, eqb, ltb, Bool, true, false, List, [], ◌∷◌, length, get_or, take, map, find, Option, None, Some, IfSome, refl, sym, ap, ◌∙◌, subst, arith, add-one}
-use Rattle.std.specs.Prelude.{filter, slice_get}
+use Rattle.std.specs.Prelude.{filter}
 use Rattle.std.specs.Option.{option_map}
 use Rattle.pl_model.specs.declared.alternatives.Slot.{Slot}
-use Rattle.pl_model.specs.declared.kinds.Kind.{Kind}
 use Rattle.pl_model.specs.declared.whole.Model.{Model}
 use Rattle.pl_plan.specs.declared.activity.Activity.{Activity}
 use Rattle.pl_plan.specs.Activities.{activity_of, placed}
@@ -84,11 +83,6 @@ slot_few model xs (Some b) p found fits lt =
 
 -- ---- what is asked of the next activity
 
-pub same_choice : (kind : Option Kind) (choice : Option ℕ) → plan.IsChoice kind choice → links.IsChoice kind choice
-same_choice kind None fits = tt
-same_choice None (Some n) fits = fits
-same_choice (Some k) (Some n) fits = fits
-
 module _ (s : PlanState) (whole : IsWhole s) (k : ℕ) (d : Activity) (lt : k < length s.plan.activities) where
   pub next_item : links.with_item (placed_of s (get_or s.plan.activities k d)) (map (placed_of s) (take k s.plan.activities)) ≡ map (placed_of s) (take (suc k) s.plan.activities)
   next_item = with_item_is s (get_or s.plan.activities k d) (take k s.plan.activities) ∙ ap (map (placed_of s)) (next_placed s.plan.activities 0 k d whole.rising lt)
@@ -107,7 +101,7 @@ module _ (s : PlanState) (whole : IsWhole s) (k : ℕ) (d : Activity) (lt : k < 
       record {
         absent = item_is s a.id (take k s.plan.activities) ∙ ap (option_map (placed_of s)) (next_absent s.plan.activities 0 k d whole.rising lt);
         kind = alone.kind;
-        choice = same_choice (slice_get s.model.kinds a.kind) a.detail alone.choice;
+        choice = alone.choice;
         slot = slot_free a.parent refl (whole.fits.no_other k d lt);
       }
 

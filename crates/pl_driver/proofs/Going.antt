@@ -1,9 +1,8 @@
 -- A round goes on by one entry.
-use Rattle.std.proofs.Common.{◌≡◌, ℕ, List, [], ◌∷◌, ◌++◌, true, false, not, ◌&&◌, Option, Some, None, Ok, Err, refl, sym, ◌∙◌, ap, subst, inl, append_assoc}
+use Rattle.std.proofs.Common.{◌≡◌, List, [], ◌∷◌, ◌++◌, true, false, not, ◌&&◌, Option, Some, None, Ok, Err, refl, sym, ◌∙◌, ap, subst, inl, append_assoc}
 use Rattle.std.specs.Prelude.{is_some}
 use Rattle.std.proofs.lemmas.List.{append-nil}
 use Rattle.std.proofs.lemmas.List.Elements.{filter_map-append}
-use Rattle.pl_plan.specs.declared.repair.RepairMove.{RepairMove}
 use Rattle.pl_entry.specs.declared.event.Event.{Event}
 use Rattle.pl_entry.specs.declared.event.Event.TheVariants as event
 use Rattle.pl_entry.specs.declared.reply.Reply.{Reply}
@@ -17,7 +16,7 @@ use Rattle.pl_machine.specs.declared.stop.Stop.TheVariants as stop
 use Rattle.pl_machine.specs.declared.repaired.Repaired.{Repaired}
 use Rattle.pl_machine.specs.declared.repaired.Repaired.TheVariants as repaired
 use Rattle.pl_machine.specs.World.{World}
-use Rattle.pl_machine.specs.Step.{is_enabled, reply_of, after_fix, after_commit, after_dispatch, after}
+use Rattle.pl_machine.specs.Step.{is_enabled, reply_of, after}
 use Rattle.pl_machine.specs.Choices.{exec_choice_of, event_of}
 use Rattle.pl_machine.specs.Legal.{world_from}
 use Rattle.pl_machine.specs.Solo.{Picks, Drawn, IsSoloEvent, solo_from}
@@ -25,23 +24,11 @@ use Rattle.pl_machine.specs.Finished.{inputs_of, input_in}
 use Rattle.pl_machine.specs.Sound.{State}
 use Rattle.pl_machine.specs.Taking.{Spoils, Answers}
 use Rattle.pl_machine.specs.Mending.{IsAskedAtMost, HasRepaired, RepairsOnce}
+use Rattle.pl_machine.proofs.Going.{fix_done, commit_done, dispatch_done}
 use Rattle.pl_machine.proofs.Runs.{world_from_push}
 use Rattle.pl_driver.specs.Rounds.{Goes, Ran, RanTo, Executes, Stepped}
 
 -- ---- one entry
-
-fix_done : (w : World) (m : RepairMove) (r : Reply) → (after_fix w m r).done ≡ w.done
-fix_done w m reply.Done = refl
-fix_done w m _ = refl
-
-commit_done : (w : World) (h : ℕ) (r : Reply) → (after_commit w h r).done ≡ w.done
-commit_done w h reply.Done = refl
-commit_done w h (reply.Held k) = refl
-commit_done w h _ = refl
-
-dispatch_done : (w : World) (r : Reply) → (after_dispatch w r).done ≡ w.done
-dispatch_done w (reply.Sent id kind start values) = refl
-dispatch_done w _ = refl
 
 -- only an input ends a run
 still_going : (w : World) (e : Event) → input_in e ≡ None → (after w e).done ≡ w.done

@@ -6,6 +6,7 @@ use Rattle.std.proofs.lemmas.List.Elements.{All-from_recursion}
 use Rattle.std.proofs.lemmas.Bool.{ltb-true, leb-true, and_parts}
 use Rattle.std.proofs.lemmas.Int.{ints}
 use Rattle.pl_lists.specs.Judgements.{◌>>=◌}
+use Rattle.pl_text.specs.Bytes.{is_digit}
 use Rattle.pl_model.specs.declared.parameters.Param.{Param}
 use Rattle.pl_model.specs.declared.kinds.Kind.{Kind}
 use Rattle.pl_model.specs.declared.whole.Model.{Model}
@@ -24,7 +25,7 @@ use Rattle.pl_entry.specs.declared.entry.Entry.{Entry}
 use Rattle.pl_entry.specs.Bounds.{IsWord, IsWordIf, IsConflictInRange, IsMoveInRange, AreOptions, IsEventInRange, IsInputReply, IsFixReply, IsRestReply, IsCommitReply, IsSent, IsDispatchReply, IsReplyTo, IsNumberOf, IsJournalEntry}
 use Rattle.pl_journal.specs.declared.fault.EntryFault.TheVariants as fault
 use Rattle.pl_journal.specs.Reads.{Read}
-use Rattle.pl_journal.specs.Words.{word_or_none, with_digit, count_from, count_of, count_in, said_in, word_in, amount_of, amount_in, is_digit, before, rest_from}
+use Rattle.pl_journal.specs.Words.{word_or_none, with_digit, count_from, count_of, count_in, said_in, word_in, amount_of, amount_in, before, rest_from}
 use Rattle.pl_journal.specs.Moves.{code_in, conflict_in, kind_from, kind_named, goal_in, addition_in, assignment_in, deletion_in, shift_in, detailing_in, abstraction_in, drop_in, move_by, move_in}
 use Rattle.pl_journal.specs.Replies.{goal_reply, input_reply, locked_in, behind_in, beyond_in, fix_reply_by, fix_reply_in, reason_of, rest_reply_in, held_in, commit_reply_by, commit_reply_in, value_of, given_or, named_value, value_at, values_in, sent_in}
 use Rattle.pl_journal.specs.Entries.{answered, options_in, is_from_1_to, are_options, opening_in, message_in, input_by, input_in, fix_in, rested_in, commit_in, dispatch_in, entry_by, entry_in, candidate_in, MayStand}

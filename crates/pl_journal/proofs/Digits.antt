@@ -3,9 +3,10 @@ use Rattle.std.proofs.Common.{◌≡◌, ℕ, ◌+◌, ◌-◌, ◌*◌, ◌/◌
 use Rattle.std.proofs.lemmas.Bool.{le-leb, lt-ltb, cond-true, and_from}
 use Rattle.std.proofs.lemmas.Fmt.{decimal_by_steps}
 use Rattle.pl_lists.specs.Judgements.{◌>>=◌}
+use Rattle.pl_text.specs.Bytes.{is_digit}
 use Rattle.pl_journal.specs.declared.fault.EntryFault.TheVariants as fault
 use Rattle.pl_journal.specs.Reads.{Read}
-use Rattle.pl_journal.specs.Words.{is_digit, word_or_none, with_digit, count_from, count_of}
+use Rattle.pl_journal.specs.Words.{word_or_none, with_digit, count_from, count_of}
 
 digit_append : (r : Read ℕ) (xs ys : List ℕ) → ((n : ℕ) → count_from n (xs ++ ys) ≡ (count_from n xs >>= λ m. count_from m ys)) → (r >>= λ n. count_from n (xs ++ ys)) ≡ ((r >>= λ n. count_from n xs) >>= λ n. count_from n ys)
 digit_append (Ok n) xs ys more = more n

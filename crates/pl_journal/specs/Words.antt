@@ -1,8 +1,9 @@
 -- What a text begins with: words, each behind one blank. A reader gives what it read and the text behind it. Readers are lenient where it does not matter:
 -- a line is compared with that of its entry before it is taken.
-use Rattle.std.specs.Prelude.{ℕ, ◌+◌, ◌-◌, ◌*◌, pos, ℤ, nat_le, nat_lt, ◌==◌, ◌&&◌, not, Bool, List, [], ◌∷◌, take, drop, if◌then◌else◌, bytes_eq, Ok, Err}
+use Rattle.std.specs.Prelude.{ℕ, ◌+◌, ◌-◌, ◌*◌, pos, ℤ, nat_le, nat_lt, ◌==◌, not, List, [], ◌∷◌, take, drop, if◌then◌else◌, bytes_eq, Ok, Err}
 use Rattle.std.specs.List.{prefix_len}
 use Rattle.pl_lists.specs.Judgements.{◌>>=◌}
+use Rattle.pl_text.specs.Bytes.{is_digit}
 use Rattle.pl_journal.specs.declared.fault.EntryFault.TheVariants as fault
 use Rattle.pl_journal.specs.Reads.{Read}
 
@@ -34,9 +35,6 @@ abbrev pub said_in : List ℕ → List ℕ → Read (List ℕ)
 said_in word text = word_in text >>= λ w. if bytes_eq w.0 word then Ok w.1 else Err fault.NotALine
 
 -- ---- numbers
-
-abbrev pub is_digit : ℕ → Bool
-is_digit byte = nat_le 48 byte && nat_le byte 57
 
 -- where it is below 2 ^ 32
 abbrev pub word_or_none : ℕ → Read ℕ

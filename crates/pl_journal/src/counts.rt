@@ -1,6 +1,7 @@
 ghost use Rattle.std.specs.Prelude.{◌≡◌};
+ghost use Rattle.pl_text.specs.Bytes.{is_digit};
 ghost use Rattle.pl_journal.specs.Reads.{Sees};
-ghost use Rattle.pl_journal.specs.Words.{is_digit, word_or_none, with_digit, count_of, count_in, labelled_in, amount_of, amount_in};
+ghost use Rattle.pl_journal.specs.Words.{word_or_none, with_digit, count_of, count_in, labelled_in, amount_of, amount_in};
 
 use crate::fault::EntryFault;
 use crate::words::{behind, word};

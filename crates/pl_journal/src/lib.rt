@@ -12,7 +12,9 @@ mod names;
 mod openings;
 mod reading;
 mod replies;
+mod sharing;
 mod words;
 
 pub use fault::EntryFault;
 pub use reading::{has_line, read_entry};
+pub use sharing::shared_types;

@@ -21,7 +21,7 @@ use Rattle.pl_world.specs.PlanStates.{among, end_at}
 use Rattle.pl_world.specs.Whole.{IsWhole}
 use Rattle.pl_world.specs.Links.{placed_of, placed_in}
 use Rattle.pl_detect.proofs.Found.{all_found}
-use Rattle.pl_detect.proofs.Stored.{item_is, with_item_is, child_is, slot_few, same_choice}
+use Rattle.pl_detect.proofs.Stored.{item_is, with_item_is, child_is, slot_few}
 use Rattle.pl_changes.specs.Putting.{CanPut}
 use Rattle.pl_changes.specs.Replaced.{CanReplace, taken, put, replaced, touched, with_plan}
 use Rattle.pl_changes.proofs.Putting.{found-taken, puttable, rising-taken}
@@ -168,7 +168,7 @@ module _ (t : PlanState) (whole : IsWhole t) where
       record {
         absent = item_is t a.id xs ∙ ap (option_map (placed_of t)) none;
         kind = alone.kind;
-        choice = same_choice (plan.kind_of t.model a) a.detail alone.choice;
+        choice = alone.choice;
         slot = slot_free a xs more all a.parent refl in_slot;
       }
 

@@ -8,9 +8,11 @@ mod near;
 mod passing;
 mod placing;
 mod replacement;
+mod sharing;
 mod taking;
 
 pub use laws::{laws_of_keeping, laws_of_passing};
 pub use mended::Mended;
 pub use passing::pass;
 pub use replacement::replace;
+pub use sharing::shared_types;

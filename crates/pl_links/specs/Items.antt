@@ -1,9 +1,9 @@
 -- Placed activities by rising id.
-use Rattle.std.specs.Prelude.{◌≡◌, ℕ, ◌<◌, ◌≤◌, ◌==◌, ◌&&◌, nat_lt, if◌then◌else◌, Bool, false, List, [], ◌∷◌, length, find, filter, slice_get, Option, Some, None, IfSome, IsSome}
+use Rattle.std.specs.Prelude.{◌≡◌, ℕ, ◌<◌, ◌≤◌, ◌==◌, nat_lt, if◌then◌else◌, Bool, List, [], ◌∷◌, length, find, filter, slice_get, Option, Some, None, IfSome, IsSome}
 use Rattle.pl_lists.specs.Lists as lists
-use Rattle.pl_model.specs.declared.alternatives.Alternative.{Alternative}
 use Rattle.pl_model.specs.declared.kinds.Kind.{Kind}
 use Rattle.pl_model.specs.declared.whole.Model.{Model}
+pub use Rattle.pl_model.specs.Choices.{alternatives_of, IsChoice, is_slot}
 use Rattle.pl_links.specs.declared.placed.Placed.{Placed}
 
 -- ids rise, from this one on
@@ -32,11 +32,6 @@ with_item p (x ∷ more) = if nat_lt x.id p.id then x ∷ with_item p more else 
 abbrev pub without : ℕ → List Placed → List Placed
 without id items = lists.without (λ (p : Placed). p.id == id) items
 
--- whether a place is this slot of this parent
-abbrev pub is_slot : ℕ → ℕ → Option (ℕ × ℕ) → Bool
-is_slot parent slot None = false
-is_slot parent slot (Some p) = (p.0 == parent) && (p.1 == slot)
-
 abbrev pub fills : ℕ → ℕ → Placed → Bool
 fills parent slot p = is_slot parent slot p.parent
 
@@ -52,15 +47,6 @@ AreApart items = (parent slot : ℕ) → length (filter (fills parent slot) item
 
 abbrev pub kind_of : Model → Placed → Option Kind
 kind_of model p = slice_get model.kinds p.kind
-
-abbrev pub alternatives_of : Option Kind → List Alternative
-alternatives_of None = []
-alternatives_of (Some k) = k.alternatives
-
--- no choice, or one of the kind's alternatives
-abbrev pub IsChoice : Option Kind → Option ℕ → Type 0
-IsChoice kind None = Unit {0}
-IsChoice kind (Some alternative) = alternative < length (alternatives_of kind)
 
 pub record CanBePlaced (model : Model) (items : List Placed) (p : Placed) : Type 0 where
   pub absent : item_of p.id items ≡ None

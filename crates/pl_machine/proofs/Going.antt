@@ -15,18 +15,18 @@ use Rattle.pl_machine.specs.Step.{is_enabled, reply_of, after_input, after_fix, 
 use Rattle.pl_machine.specs.Sound.{IsSound}
 use Rattle.pl_machine.specs.Legal.{legal_from, world_from, options_in, IsOpenedRun, Legal, no_options, world_of, IsHistory}
 
-abbrev Goes : World → Type 0
+abbrev pub Goes : World → Type 0
 Goes w = w.closed ≡ false → w.done ≡ false
 
-first_true : (a b : Bool) → (a && b) ≡ true → a ≡ true
+pub first_true : (a b : Bool) → (a && b) ≡ true → a ≡ true
 first_true true b e = refl
 first_true false b e = absurd (cc)
 
-both_true : (a b : Bool) → (a && b) ≡ true → b ≡ true
+pub both_true : (a b : Bool) → (a && b) ≡ true → b ≡ true
 both_true true b e = e
 both_true false b e = absurd (cc)
 
-is_false : (a : Bool) → not a ≡ true → a ≡ false
+pub is_false : (a : Bool) → not a ≡ true → a ≡ false
 is_false true e = absurd (cc)
 is_false false e = refl
 
@@ -36,20 +36,20 @@ input_goes w None _ closed going begun = going
 input_goes w (Some line) reply.Done closed going begun = going
 input_goes w (Some line) _ closed going begun = going
 
-fix_done : (w : World) (m : RepairMove) (r : Reply) → (after_fix w m r).done ≡ w.done
+pub fix_done : (w : World) (m : RepairMove) (r : Reply) → (after_fix w m r).done ≡ w.done
 fix_done w m reply.Done = refl
 fix_done w m _ = refl
 
-commit_done : (w : World) (h : ℕ) (r : Reply) → (after_commit w h r).done ≡ w.done
+pub commit_done : (w : World) (h : ℕ) (r : Reply) → (after_commit w h r).done ≡ w.done
 commit_done w h reply.Done = refl
 commit_done w h (reply.Held k) = refl
 commit_done w h _ = refl
 
-dispatch_done : (w : World) (r : Reply) → (after_dispatch w r).done ≡ w.done
+pub dispatch_done : (w : World) (r : Reply) → (after_dispatch w r).done ≡ w.done
 dispatch_done w (reply.Sent id kind start values) = refl
 dispatch_done w _ = refl
 
-step_goes : (w : World) (e : Event) → is_enabled w e ≡ true → Goes w → Goes (after w e)
+pub step_goes : (w : World) (e : Event) → is_enabled w e ≡ true → Goes w → Goes (after w e)
 step_goes w (event.Opened o) enabled goes begun = absurd (cc)
 step_goes w (event.Input line) enabled goes begun =
     input_goes w line (reply_of w (event.Input line)) (first_true w.closed (not w.done) enabled) (is_false w.done (both_true w.closed (not w.done) enabled)) begun
@@ -59,7 +59,7 @@ step_goes w (event.Commit h) enabled goes begun = commit_done w h (reply_of w (e
 step_goes w event.Dispatch enabled goes begun = dispatch_done w (reply_of w event.Dispatch) ∙ goes (is_false w.closed (first_true (not w.closed) _ enabled))
 step_goes w event.Close enabled goes begun = goes (is_false w.closed (first_true (not w.closed) _ enabled))
 
-run_goes : (w : World) (es : List Entry) → legal_from w es → Goes w → Goes (world_from w es)
+pub run_goes : (w : World) (es : List Entry) → legal_from w es → Goes w → Goes (world_from w es)
 run_goes w [] legal goes = goes
 run_goes w (e ∷ es) legal goes = run_goes (after w e.event) es legal.1 (step_goes w e.event legal.0.enabled goes)
 
@@ -67,7 +67,7 @@ opened_goes : (m : Model) (o : Option Options) (answer : Reply) (es : List Entry
 opened_goes m None answer es run = absurd run
 opened_goes m (Some o) answer es run = run_goes (fresh_world m o) es run.steps (λ begun. refl)
 
-world_goes : (m : Model) (log : List Entry) → Legal m log → Goes (world_of m log)
+pub world_goes : (m : Model) (log : List Entry) → Legal m log → Goes (world_of m log)
 unfolding world_of
 world_goes m [] legal = absurd legal
 world_goes m (first ∷ es) legal = opened_goes m (options_in first.event) first.reply es legal

@@ -1,7 +1,7 @@
 -- Lines of the input, by their tokens.
 use Rattle.std.specs.Prelude.{ℕ, List, [], ◌∷◌, ◌++◌, Bool, true, false, not, ◌||◌, ◌==◌, if◌then◌else◌, Option, Some, None, Result, Ok, codes}
 use Rattle.std.specs.List.{list_all, take_while}
-use Rattle.pl_io.specs.Lines.{lines_of}
+use Rattle.pl_io.specs.Lines.{lines_of, with_newline}
 use Rattle.pl_text.specs.declared.token.Token.{Token}
 use Rattle.pl_text.specs.declared.fault.TextFault.{TextFault}
 use Rattle.pl_text.specs.Tokens.{tokens_of}
@@ -32,9 +32,6 @@ is_blank_line line = list_all is_space (take_while (λ b. not (b == 35)) line)
 -- ---- the parts of an input
 
 -- the lines up to but not with the first `begin` line, each with its newline, where there is one
-abbrev pub with_newline : List ℕ → List ℕ
-with_newline line = line ++ 10 ∷ []
-
 abbrev pub text_before : List ℕ → Bool → Option (List ℕ) → Option (List ℕ)
 text_before line true rest = Some []
 text_before line false None = None

@@ -1,31 +1,11 @@
 ghost use Rattle.std.specs.Prelude.{◌≡◌, ◌<◌, ◌^◌, length, Ok, Err, IfOk, MatchResult, IfSome, OnErr};
 ghost use Rattle.pl_text.specs.Tokens.{tokens_of};
-ghost use Rattle.pl_msg.specs.Words.{token_text, says};
 ghost use Rattle.pl_machine.specs.Lines.{is_only, is_line_of, begin_word, is_space, is_blank_line};
 ghost use Rattle.pl_machine.specs.Reading.{GivesTokens};
 
+use pl_msg::says;
 use pl_text::{TextFault, Token, tokens};
 use std::alloc::{AllocError, Global};
-
-/// The bytes of a token of a line, and none where the token is not within the line.
-fn token_text<'a>(line: &'a [u8], token: &Token) -> &'a [u8]
-    ensures { result.now ≡ token_text line.now token.now }
-{
-    let from = token.from as usize;
-    let to = token.to as usize;
-    if from <= to && to <= line.len() {
-        &line[from..to]
-    } else {
-        &[]
-    }
-}
-
-/// Whether a token of a line is this word.
-fn says(line: &[u8], token: &Token, word: &[u8]) -> bool
-    ensures { result ≡ says line.now token.now word.now }
-{
-    token_text(line, token) == word
-}
 
 /// The tokens of a line, or none where it has a fault.
 fn line_tokens(alloc: Global, line: &[u8]) -> Result<Option<Vec<Token>>, AllocError>

@@ -2,6 +2,7 @@
 
 use crate::choice::Choice;
 use crate::machine::Machine;
+use crate::repaired::Repaired;
 use crate::stop::Stop;
 use pl_lists::may_be_shared;
 
@@ -9,5 +10,6 @@ use pl_lists::may_be_shared;
 pub fn shared_types() {
     may_be_shared::<Choice>();
     may_be_shared::<Machine>();
+    may_be_shared::<Repaired>();
     may_be_shared::<Stop>();
 }

@@ -1,5 +1,4 @@
 pub mod Digits
-pub mod Ends
 pub mod Leasts
 pub mod Telling
 pub mod Playing

@@ -19,7 +19,7 @@ use Rattle.pl_machine.specs.Solo.{Picks, Drawn}
 use Rattle.pl_driver.specs.Rounds.{RanTo, Rounds}
 use Rattle.pl_main.specs.Solo.{IsSoloEvent, solo_from}
 use Rattle.pl_main.specs.Tells.{is_last, Hears, Told, FillsUp, at_once, within, Telling}
-use Rattle.pl_main.proofs.Ends.{is_ended, line_ends}
+use Rattle.pl_pair.proofs.Ends.{is_ended, line_ends}
 use Rattle.pl_main.proofs.Leasts.{TakesLeast, least_solo}
 
 done_by : (w : World) (line : List ℕ) (r : Reply) → w.done ≡ false → (after_input w (Some line) r).done ≡ is_ended r

@@ -1,8 +1,6 @@
 -- Numbers of the command line: 1 to 18 decimal digits.
-use Rattle.std.specs.Prelude.{ℕ, ◌+◌, ◌-◌, ◌*◌, List, [], ◌∷◌, length, Bool, ◌&&◌, nat_lt, nat_le, if◌then◌else◌, Option, Some, None}
-
-abbrev pub is_digit : ℕ → Bool
-is_digit b = nat_le 48 b && nat_le b 57
+use Rattle.std.specs.Prelude.{ℕ, ◌+◌, ◌-◌, ◌*◌, List, [], ◌∷◌, length, ◌&&◌, nat_lt, nat_le, if◌then◌else◌, Option, Some, None}
+use Rattle.pl_text.specs.Bytes.{is_digit}
 
 -- the number whose digits so far have this value
 abbrev pub digits_on : ℕ → List ℕ → Option ℕ

@@ -5,5 +5,6 @@ pub mod Values
 pub mod Names
 pub mod Expressions
 pub mod Schedules
+pub mod Choices
 pub mod Written
 pub mod Checked

@@ -10,6 +10,7 @@ use Rattle.pl_model.specs.declared.parameters.Param.{Param}
 use Rattle.pl_model.specs.declared.whole.Model.{Model}
 use Rattle.pl_facts.specs.declared.goal.Goal.{Goal}
 use Rattle.pl_text.specs.declared.token.Token.{Token}
+use Rattle.pl_text.specs.Tokens.{token_text}
 use Rattle.pl_msg.specs.declared.fault.MsgFault.{MsgFault}
 use Rattle.pl_msg.specs.declared.fault.MsgFault.TheVariants as fault
 use Rattle.pl_msg.specs.declared.forms.GoalForm.{GoalForm}
@@ -22,7 +23,7 @@ use Rattle.pl_lists.specs.Judgements.{◌>>=◌, each_made}
 use Rattle.pl_lists.proofs.Judging.{bind_ok, if_ok}
 use Rattle.pl_lists.proofs.Tests.{both_true}
 use Rattle.pl_msg.specs.Reads.{Read}
-use Rattle.pl_msg.specs.Words.{token_text, says, number_in, name_in}
+use Rattle.pl_msg.specs.Words.{says, number_in, name_in}
 use Rattle.pl_msg.specs.Names.{first_from, kind_named, timeline_name, timeline_named, state_named, is_free}
 use Rattle.pl_msg.specs.Goals.{names_free, is_in_range, given, value_of, place_in, places_in, form_in, goal_of_kind, goal_with, goal_in}
 use Rattle.pl_msg.specs.Telemetry.{value_by, level_by, state_with, told_by, telemetry_in}

@@ -2,6 +2,7 @@
 use Rattle.std.specs.Prelude.{ℕ, ℤ, pos, Bool, true, false, not, ◌&&◌, nat_le, nat_lt, int_le, List, [], ◌∷◌, Option, Some, None, if◌then◌else◌, codes, bytes_eq, Ok, Err}
 use Rattle.std.specs.List.{list_any, list_all}
 use Rattle.pl_text.specs.declared.token.Token.{Token}
+use Rattle.pl_text.specs.Tokens.{token_text}
 use Rattle.pl_model.specs.declared.parameters.Param.{Param}
 use Rattle.pl_model.specs.declared.kinds.Kind.{Kind}
 use Rattle.pl_model.specs.declared.whole.Model.{Model}
@@ -11,7 +12,7 @@ use Rattle.pl_msg.specs.declared.presets.Preset.{Preset}
 use Rattle.pl_msg.specs.declared.forms.GoalForm.{GoalForm}
 use Rattle.pl_lists.specs.Judgements.{◌>>=◌, each_made}
 use Rattle.pl_msg.specs.Reads.{Read}
-use Rattle.pl_msg.specs.Words.{token_text, says, number_in, name_in}
+use Rattle.pl_msg.specs.Words.{says, number_in, name_in}
 use Rattle.pl_msg.specs.Names.{kind_named, is_free}
 
 -- ---- the form

@@ -3,6 +3,7 @@ use Rattle.std.specs.Prelude.{ℕ, pos, nat_le, List, [], ◌∷◌, Option, Som
 use Rattle.pl_text.specs.declared.token.Token.{Token}
 use Rattle.pl_text.specs.declared.token.TokenKind.{TokenKind}
 use Rattle.pl_text.specs.declared.token.TokenKind.TheVariants as kind
+use Rattle.pl_text.specs.Tokens.{token_text}
 use Rattle.pl_model.specs.declared.timelines.Timeline.{Timeline}
 use Rattle.pl_model.specs.declared.timelines.Timeline.TheVariants as timeline
 use Rattle.pl_model.specs.declared.whole.Model.{Model}
@@ -13,7 +14,7 @@ use Rattle.pl_msg.specs.declared.telemetry.Value.{Value}
 use Rattle.pl_msg.specs.declared.telemetry.Value.TheVariants as said
 use Rattle.pl_lists.specs.Judgements.{◌>>=◌}
 use Rattle.pl_msg.specs.Reads.{Read}
-use Rattle.pl_msg.specs.Words.{token_text, name_in}
+use Rattle.pl_msg.specs.Words.{name_in}
 use Rattle.pl_msg.specs.Names.{timeline_named, state_named}
 
 -- a number or a name

@@ -1,17 +1,13 @@
 -- What the tokens of a line say: a word, a number or a name.
-use Rattle.std.specs.Prelude.{ℕ, ◌-◌, List, [], length, take, drop, Bool, ◌&&◌, nat_le, if◌then◌else◌, bytes_eq, Result, Ok, Err}
+use Rattle.std.specs.Prelude.{ℕ, List, Bool, if◌then◌else◌, bytes_eq, Result, Ok, Err}
 use Rattle.pl_text.specs.declared.token.Token.{Token}
 use Rattle.pl_text.specs.declared.token.TokenKind.{TokenKind}
 use Rattle.pl_text.specs.declared.token.TokenKind.TheVariants as kind
 use Rattle.pl_text.specs.declared.fault.TextFault.{TextFault}
-use Rattle.pl_text.specs.Tokens.{tokens_of}
+use Rattle.pl_text.specs.Tokens.{token_text, tokens_of}
 use Rattle.pl_text.specs.Words.{is_name}
 use Rattle.pl_msg.specs.declared.fault.MsgFault.TheVariants as fault
 use Rattle.pl_msg.specs.Reads.{Read}
-
--- the bytes of a token, and none where it isn't within the line
-abbrev pub token_text : List ℕ → Token → List ℕ
-token_text line t = if nat_le t.from t.to && nat_le t.to (length line) then take (t.to - t.from) (drop t.from line) else []
 
 -- whether the token is written so
 abbrev pub says : List ℕ → Token → List ℕ → Bool

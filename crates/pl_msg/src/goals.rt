@@ -1,7 +1,7 @@
 ghost use Rattle.std.specs.Prelude.{◌≡◌, ◌≤◌, ◌^◌, length};
 ghost use Rattle.std.specs.List.{list_all};
+ghost use Rattle.pl_text.specs.Tokens.{token_text};
 ghost use Rattle.pl_msg.specs.Reads.{Gives};
-ghost use Rattle.pl_msg.specs.Words.{token_text};
 ghost use Rattle.pl_msg.specs.Names.{kind_named};
 ghost use Rattle.pl_msg.specs.Goals.{names_free, is_in_range, given, place_in, places_in, goal_of_kind, goal_with, goal_in};
 
@@ -9,11 +9,10 @@ use crate::fault::MsgFault;
 use crate::forms::{GoalForm, form_of};
 use crate::names::{is_free, kind_named};
 use crate::presets::{Preset, value_of};
-use crate::words::token_text;
 use pl_facts::Goal;
 use pl_lists::Items;
 use pl_model::{Kind, Model, Param};
-use pl_text::Token;
+use pl_text::{Token, token_text};
 use std::alloc::Global;
 
 /// Whether the preset names a parameter that is declared without `=`.

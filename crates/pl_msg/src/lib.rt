@@ -16,3 +16,4 @@ pub use fault::MsgFault;
 pub use message::Message;
 pub use reading::read_message;
 pub use sharing::shared_types;
+pub use words::says;

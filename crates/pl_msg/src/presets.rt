@@ -4,9 +4,9 @@ ghost use Rattle.pl_msg.specs.Reads.{Gives, Shows};
 ghost use Rattle.pl_msg.specs.Goals.{preset_in, preset_at, is_named, are_distinct, presets_in, each_preset, value_of};
 
 use crate::fault::MsgFault;
-use crate::words::{name_of, number_of, says, token_text};
+use crate::words::{name_of, number_of, says};
 use pl_lists::Items;
-use pl_text::Token;
+use pl_text::{Token, token_text};
 use std::alloc::Global;
 
 /// `NAME = VALUE` behind a goal. The name is a token of the line.

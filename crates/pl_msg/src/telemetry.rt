@@ -1,15 +1,15 @@
 ghost use Rattle.std.specs.Prelude.{◌≡◌, ◌≤◌, ◌^◌, length};
+ghost use Rattle.pl_text.specs.Tokens.{token_text};
 ghost use Rattle.pl_msg.specs.Telemetry.{value_by, level_by, state_by, told_by, telemetry_in};
 ghost use Rattle.pl_msg.specs.Names.{timeline_named};
-ghost use Rattle.pl_msg.specs.Words.{token_text};
 ghost use Rattle.pl_msg.specs.Limits.{IsNumbered};
 
 use crate::fault::MsgFault;
 use crate::message::Message;
 use crate::names::{state_named, timeline_named};
-use crate::words::{name_of, token_text};
+use crate::words::name_of;
 use pl_model::{Model, Name, Timeline};
-use pl_text::{Token, TokenKind};
+use pl_text::{Token, TokenKind, token_text};
 
 /// A value as it is written, a name as a token of the line.
 #[derive(Clone, Copy, Debug)]

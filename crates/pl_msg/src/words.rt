@@ -1,23 +1,10 @@
 ghost use Rattle.std.specs.Prelude.{◌≡◌, ◌<◌, ◌^◌, length};
 ghost use Rattle.pl_msg.specs.Reads.{Shows};
-ghost use Rattle.pl_msg.specs.Words.{token_text, says, number_in, name_in, tokens_in};
+ghost use Rattle.pl_msg.specs.Words.{says, number_in, name_in, tokens_in};
 
 use crate::fault::MsgFault;
-use pl_text::{TextFault, Token, TokenKind, is_name, tokens};
+use pl_text::{TextFault, Token, TokenKind, is_name, token_text, tokens};
 use std::alloc::Global;
-
-/// The bytes of a token of a line, and none where the token is not within the line.
-pub fn token_text<'a>(line: &'a [u8], token: &Token) -> &'a [u8]
-    ensures { result.now ≡ token_text line.now token.now }
-{
-    let from = token.from as usize;
-    let to = token.to as usize;
-    if from <= to && to <= line.len() {
-        &line[from..to]
-    } else {
-        &[]
-    }
-}
 
 /// Whether a token of a line is written so.
 pub fn says(line: &[u8], token: &Token, text: &[u8]) -> bool

@@ -6,6 +6,7 @@ mod finding;
 mod kept;
 mod laws;
 mod passed;
+mod sharing;
 mod touched;
 
 pub use finding::near;
@@ -14,4 +15,5 @@ pub use laws::{
     laws_of_commits, laws_of_goal_changes, laws_of_moments, laws_of_nearness, laws_of_replacements,
 };
 pub use passed::passed_by;
+pub use sharing::shared_types;
 pub use touched::{Touched, each_once, touched_by};

@@ -31,7 +31,8 @@ use Rattle.pl_pair.specs.Served.{AreOf, IsStopAtMost, AreOfUntil}
 use Rattle.pl_pair.specs.Rounds.{IsBetween}
 use Rattle.pl_pair.specs.Feeds.{IsInput, AreInputs}
 use Rattle.pl_pair.specs.Runs.{ClosesAll}
-use Rattle.pl_pair.proofs.Ending.{world_goes, enabled_going, steps_behind}
+use Rattle.pl_machine.proofs.Going.{world_goes}
+use Rattle.pl_pair.proofs.Ending.{enabled_going, steps_behind}
 use Rattle.pl_pair.proofs.Feeding.{drop_front, entries_on}
 
 -- ---- the passes are joined

@@ -1,4 +1,4 @@
--- A plan may be shared among threads, a worker may be handed back from one, and what a worker's thread is handed may be sent to it.
+-- A worker may be handed back from a thread, and what its thread is handed may be sent to it.
 use mathlib.Core.List.{List, [], ◌∷◌}
 use Prim.Native.Nat.{ℕ}
 use mir.Syntax.{ty_unit, named}
@@ -8,7 +8,7 @@ use denote.Exit
 use denote.Ref.{ShrRef}
 use denote.Builtin.{u64}
 use denote.Param.{param, arg}
-use denote.Param.Send.{IsSend, IsSync, AllSend, param_send, arg_send, struct_send, struct_sync, recorded_send, recorded_sync, shr_send, sendable}
+use denote.Param.Send.{IsSend, IsSync, AllSend, param_send, arg_send, struct_send, recorded_send, shr_send, sendable}
 use denote.Struct.Declared.{shape}
 use denote.Struct.Field.{rows}
 use denote.Struct.Struct.{Struct}
@@ -16,33 +16,19 @@ use denote.Struct.Tuple.{parts, type_at, TupleAt}
 use Rattle.std.proofs.Crossing.{crosses}
 use Rattle.std.specs.contracts.alloc.Global as Heap
 use Rattle.std.specs.contracts.sync.atomic.AtomicBool
-use Rattle.pl_turn.proofs.lock.TurnLock.TheSendSync as lock
 use Rattle.pl_turn.proofs.pass.Pass.TheSendSync as pass
 use Rattle.pl_turn.specs.contracts.pass.Pass
 use Rattle.pl_machine.proofs.stop.Stop.TheSendSync as stop
-use Rattle.pl_shared.proofs.bell.Bell.TheSendSync as bell
 use Rattle.pl_shared.proofs.role.Role.TheSendSync as role
 use Rattle.pl_pair.proofs.duty.Duty.TheSendSync as duty
-use Rattle.pl_shared.proofs.Crossing.{held_send}
+use Rattle.pl_shared.proofs.Crossing.{held_whole, plan_sync, pass_send}
 use Rattle.pl_shared.specs.contracts.held.Held
 use Rattle.pl_shared.specs.contracts.noted.Noted
 use Rattle.pl_shared.specs.contracts.plan.SharedPlan
 use Rattle.pl_pair.specs.contracts.worker.Worker
 
-held_whole : IsSend Held.the_row
-held_whole = search (held_send, sendable, crosses) depth 40 fits 6000
-
-plan_fields : IsSync SharedPlan.the_field.row
-plan_fields = struct_sync (shape SharedPlan.the_type) (lock.the_field_sync Held.the_row Noted.the_row _ held_whole, (bell.the_field_sync, tt))
-
-pub plan_sync : IsSync SharedPlan.the_row
-plan_sync = let T = SharedPlan.the_type in recorded_sync (Struct (shape T)) T.D T.to T.to_one plan_fields
-
 pass_fields : IsSend (Pass.the_field Held.the_row Noted.the_row).row
 pass_fields = pass.the_field_send Held.the_row Noted.the_row held_whole
-
-pub pass_send : IsSend (Pass.the_row Held.the_row Noted.the_row)
-pass_send = pass.the_send Held.the_row Noted.the_row held_whole
 
 pub worker_send : IsSend Worker.the_field.row
 worker_send = struct_send (shape Worker.the_type) (pass_fields, (role.the_field_send, (duty.the_field_send, (search (stop.the_send, sendable, crosses) depth 40 fits 6000, tt))))

@@ -1,9 +1,8 @@
 -- The input ends with the last entry of a log, where it ends.
-use Rattle.std.proofs.Common.{◌≡◌, ℕ, ◌+◌, List, [], ◌∷◌, ◌++◌, Bool, true, false, Option, Some, None, unwrap_or, refl, sym, ◌∙◌, ap}
-use Rattle.std.specs.Prelude.{not, ◌&&◌}
+use Rattle.std.proofs.Common.{◌≡◌, ℕ, List, [], ◌∷◌, ◌++◌, Bool, true, false, Option, Some, None, unwrap_or, refl, sym, ◌∙◌, ap}
+use Rattle.std.specs.Prelude.{not}
 use Rattle.pl_facts.specs.declared.options.Options.{Options}
 use Rattle.pl_model.specs.declared.whole.Model.{Model}
-use Rattle.pl_plan.specs.declared.repair.RepairMove.{RepairMove}
 use Rattle.pl_entry.specs.declared.event.Event.{Event}
 use Rattle.pl_entry.specs.declared.event.Event.TheVariants as event
 use Rattle.pl_entry.specs.declared.reply.Reply.{Reply}
@@ -12,9 +11,10 @@ use Rattle.pl_entry.specs.declared.entry.Entry.{Entry}
 use Rattle.pl_machine.specs.Lines.{is_line_of, end_word}
 use Rattle.pl_machine.specs.Messages.{line_reply}
 use Rattle.pl_machine.specs.World.{World, fresh_world}
-use Rattle.pl_machine.specs.Step.{is_enabled, reply_of, after_input, after_fix, after_commit, after_dispatch, after}
+use Rattle.pl_machine.specs.Step.{is_enabled, reply_of, after_input, after}
 use Rattle.pl_machine.specs.Legal.{legal_from, world_from, no_options, options_in, IsOpenedRun, Legal, world_of}
 use Rattle.pl_machine.specs.Finished.{inputs_of}
+use Rattle.pl_machine.proofs.Going.{Goes, first_true, both_true, is_false, fix_done, commit_done, dispatch_done, step_goes}
 use Rattle.pl_pair.proofs.Ends.{is_ended, line_ends}
 
 -- whether an input ends the run
@@ -40,40 +40,6 @@ EndsIf true inputs = LastEnds inputs
 
 -- ---- one step
 
-abbrev pub Goes : World → Type 0
-Goes w = w.closed ≡ false → w.done ≡ false
-
-first_true : (a b : Bool) → (a && b) ≡ true → a ≡ true
-first_true true b e = refl
-first_true false b e = absurd (cc)
-
-both_true : (a b : Bool) → (a && b) ≡ true → b ≡ true
-both_true true b e = e
-both_true false b e = absurd (cc)
-
-is_false : (a : Bool) → not a ≡ true → a ≡ false
-is_false true e = absurd (cc)
-is_false false e = refl
-
-input_goes : (w : World) (line : Option (List ℕ)) (r : Reply) → w.closed ≡ true → w.done ≡ false → Goes (after_input w line r)
-input_goes w line reply.Ended closed going begun = absurd (let both : true ≡ false = sym closed ∙ begun in cc)
-input_goes w None _ closed going begun = going
-input_goes w (Some line) reply.Done closed going begun = going
-input_goes w (Some line) _ closed going begun = going
-
-fix_done : (w : World) (m : RepairMove) (r : Reply) → (after_fix w m r).done ≡ w.done
-fix_done w m reply.Done = refl
-fix_done w m _ = refl
-
-commit_done : (w : World) (h : ℕ) (r : Reply) → (after_commit w h r).done ≡ w.done
-commit_done w h reply.Done = refl
-commit_done w h (reply.Held k) = refl
-commit_done w h _ = refl
-
-dispatch_done : (w : World) (r : Reply) → (after_dispatch w r).done ≡ w.done
-dispatch_done w (reply.Sent id kind start values) = refl
-dispatch_done w _ = refl
-
 line_done : (w : World) (line : List ℕ) (r : Reply) → w.done ≡ false → (after_input w (Some line) r).done ≡ is_ended r
 line_done w line reply.Ended going = refl
 line_done w line reply.Done going = going
@@ -93,30 +59,7 @@ enabled_going w (event.Commit h) enabled goes = goes (is_false w.closed enabled)
 enabled_going w event.Dispatch enabled goes = goes (is_false w.closed (first_true (not w.closed) _ enabled))
 enabled_going w event.Close enabled goes = goes (is_false w.closed (first_true (not w.closed) _ enabled))
 
-step_goes : (w : World) (e : Event) → is_enabled w e ≡ true → Goes w → Goes (after w e)
-step_goes w (event.Opened o) enabled goes begun = absurd (cc)
-step_goes w (event.Input line) enabled goes begun =
-    input_goes w line (reply_of w (event.Input line)) (first_true w.closed (not w.done) enabled) (is_false w.done (both_true w.closed (not w.done) enabled)) begun
-step_goes w (event.Fix k m) enabled goes begun = fix_done w m (reply_of w (event.Fix k m)) ∙ goes (is_false w.closed (first_true (not w.closed) _ enabled))
-step_goes w event.Rest enabled goes begun = goes (is_false w.closed (first_true (not w.closed) _ enabled))
-step_goes w (event.Commit h) enabled goes begun = commit_done w h (reply_of w (event.Commit h)) ∙ goes (is_false w.closed enabled)
-step_goes w event.Dispatch enabled goes begun = dispatch_done w (reply_of w event.Dispatch) ∙ goes (is_false w.closed (first_true (not w.closed) _ enabled))
-step_goes w event.Close enabled goes begun = goes (is_false w.closed (first_true (not w.closed) _ enabled))
-
 -- ---- a whole log
-
-pub run_goes : (w : World) (es : List Entry) → legal_from w es → Goes w → Goes (world_from w es)
-run_goes w [] legal goes = goes
-run_goes w (e ∷ es) legal goes = run_goes (after w e.event) es legal.1 (step_goes w e.event legal.0.enabled goes)
-
-opened_goes : (m : Model) (o : Option Options) (answer : Reply) (es : List Entry) → IsOpenedRun m o answer es → Goes (world_from (fresh_world m (unwrap_or o no_options)) es)
-opened_goes m None answer es run = absurd run
-opened_goes m (Some o) answer es run = run_goes (fresh_world m o) es run.steps (λ begun. refl)
-
-pub world_goes : (m : Model) (log : List Entry) → Legal m log → Goes (world_of m log)
-unfolding world_of
-world_goes m [] legal = absurd legal
-world_goes m (first ∷ es) legal = opened_goes m (options_in first.event) first.reply es legal
 
 world_append : (w : World) (xs ys : List Entry) → world_from w (xs ++ ys) ≡ world_from (world_from w xs) ys
 world_append w [] ys = refl

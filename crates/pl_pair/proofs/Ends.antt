@@ -6,7 +6,7 @@ use Rattle.std.proofs.lemmas.Slice.Eq.{bytes_eq-Decides}
 use Rattle.pl_lists.specs.Judgements.{◌>>=◌}
 use Rattle.pl_text.specs.declared.token.Token.{Token}
 use Rattle.pl_text.specs.declared.fault.TextFault.{TextFault}
-use Rattle.pl_text.specs.Tokens.{tokens_of}
+use Rattle.pl_text.specs.Tokens.{token_text, tokens_of}
 use Rattle.pl_model.specs.declared.timelines.Timeline.{Timeline}
 use Rattle.pl_model.specs.declared.timelines.Timeline.TheVariants as timeline
 use Rattle.pl_facts.specs.declared.goal.Goal.{Goal}
@@ -18,7 +18,7 @@ use Rattle.pl_msg.specs.declared.message.Message.TheVariants as message
 use Rattle.pl_msg.specs.declared.telemetry.Value.{Value}
 use Rattle.pl_msg.specs.declared.telemetry.Value.TheVariants as said
 use Rattle.pl_msg.specs.Reads.{Read}
-use Rattle.pl_msg.specs.Words.{token_text, says, number_in, name_in, without_fault}
+use Rattle.pl_msg.specs.Words.{says, number_in, name_in, without_fault}
 use Rattle.pl_msg.specs.Names.{timeline_named, state_named}
 use Rattle.pl_msg.specs.Goals.{goal_in}
 use Rattle.pl_msg.specs.Telemetry.{value_by, level_by, state_with, state_by, told_by, telemetry_in}

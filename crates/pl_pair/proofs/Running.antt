@@ -58,7 +58,8 @@ use Rattle.pl_pair.specs.Feeds.{AreInputs, Reads, unasked, asked, Tells, WritesA
 use Rattle.pl_pair.specs.Feeds as fed
 use Rattle.pl_pair.specs.Endings.{is_full, is_other, refusal_of, ended_of}
 use Rattle.pl_pair.specs.Runs.{ClosesAll, History, InMessages, HadLimit, MayFault, WhyNone, IsCauseOf, Given, WritesLog, ReadUpTo, RunsUntil, RunsFull, all_handed, one_behind, one_unread, RunsShort, RunEnds, PairRun}
-use Rattle.pl_pair.proofs.Ending.{NoEnds, LastEnds, EndsIf, Goes, world_goes, steps_behind, world_behind, run_ends}
+use Rattle.pl_machine.proofs.Going.{Goes, world_goes}
+use Rattle.pl_pair.proofs.Ending.{NoEnds, LastEnds, EndsIf, steps_behind, world_behind, run_ends}
 use Rattle.pl_pair.proofs.Working.{own_on, own_kinds}
 use Rattle.pl_pair.proofs.Saying.{told_on, told_front, told_all, told_lines, told_gave, up_to_next, up_to_last, up_to_told, if_known, asks_begins, messages_on, skip_blanks, none_left}
 use Rattle.pl_pair.proofs.Passing.{took_follows, follows_on, adds_nothing}

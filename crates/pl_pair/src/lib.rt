@@ -11,8 +11,10 @@ mod hands;
 mod pairing;
 mod rounds;
 mod run;
+mod sharing;
 mod waiting;
 mod worker;
 
 pub use ended::Ended;
 pub use run::run_pair;
+pub use sharing::shared_types;

@@ -1,20 +1,17 @@
 -- When activities fit a model.
-use Rattle.std.specs.Prelude.{◌≡◌, ℕ, ◌<◌, ◌≤◌, ◌==◌, ◌&&◌, Bool, false, List, [], ◌∷◌, filter, All, length, slice_get, slice_index_or, Option, Some, None, IfSome, option_and_then}
+use Rattle.std.specs.Prelude.{◌≡◌, ℕ, ◌<◌, ◌≤◌, Bool, List, [], ◌∷◌, filter, All, length, slice_get, slice_index_or, Option, Some, None, IfSome, option_and_then}
 use Rattle.pl_model.specs.declared.alternatives.Slot.{Slot}
 use Rattle.pl_model.specs.declared.alternatives.Alternative.{Alternative}
 use Rattle.pl_model.specs.declared.kinds.Kind.{Kind}
 use Rattle.pl_model.specs.declared.whole.Model.{Model}
 use Rattle.pl_model.specs.Checked.{params_of}
+pub use Rattle.pl_model.specs.Choices.{alternatives_of, IsChoice, is_slot}
 use Rattle.pl_plan.specs.declared.activity.Activity.{Activity}
 use Rattle.pl_plan.specs.Activities.{activity_of}
 use Rattle.pl_plan.specs.Trees.{IsRooted}
 
 abbrev pub kind_of : Model → Activity → Option Kind
 kind_of model a = slice_get model.kinds a.kind
-
-abbrev pub alternatives_of : Option Kind → List Alternative
-alternatives_of None = []
-alternatives_of (Some k) = k.alternatives
 
 abbrev pub slots_of : Option Alternative → List Slot
 slots_of None = []
@@ -28,22 +25,12 @@ abbrev pub chosen_slots_of : Model → Option Activity → List Slot
 chosen_slots_of model None = []
 chosen_slots_of model (Some a) = chosen_slots model a
 
--- no choice, or one of the kind's alternatives
-abbrev pub IsChoice : Option Kind → Option ℕ → Type 0
-IsChoice kind None = Unit {0}
-IsChoice kind (Some alternative) = alternative < length (alternatives_of kind)
-
 -- what an activity owes by itself
 pub record FitsAlone (model : Model) (a : Activity) : Type 0 where
   pub kind : a.kind < length model.kinds
   pub start : (1 ≤ a.start) × (a.start < model.horizon)
   pub set : length a.set ≡ length (params_of (kind_of model a))
   pub choice : IsChoice (kind_of model a) a.detail
-
--- whether a place is this slot of this parent
-abbrev pub is_slot : ℕ → ℕ → Option (ℕ × ℕ) → Bool
-is_slot parent slot None = false
-is_slot parent slot (Some p) = (p.0 == parent) && (p.1 == slot)
 
 abbrev pub fills : ℕ → ℕ → Activity → Bool
 fills parent slot a = is_slot parent slot a.parent

@@ -1,26 +1,23 @@
+//! Which types may be shared among threads.
+
 use crate::bell::Bell;
 use crate::held::Held;
+use crate::noted::Noted;
 use crate::part::Part;
+use crate::plan::{Pass, SharedPlan};
 use crate::role::{Acted, Role};
 use pl_lists::may_be_shared;
-use pl_turn::{Logged, Pass, TurnLock};
 
 fn may_be_moved<T: Send>() {}
 
-fn lock_may_be_shared<V: Logged + Send>() {
-    may_be_shared::<TurnLock<V>>();
-}
-
-fn pass_may_be_moved<V: Logged + Send>() {
-    may_be_moved::<Pass<V>>();
-}
-
-/// Shows that threads may share this crate's types, a plan part by part, and that a pass may be moved to one, as long as this compiles.
+/// Shows that threads may share this crate's types, and that a pass may be moved to one, as long as this compiles.
 pub fn shared_types() {
     may_be_shared::<Acted>();
     may_be_shared::<Bell>();
+    may_be_shared::<Held>();
+    may_be_shared::<Noted>();
     may_be_shared::<Part>();
     may_be_shared::<Role>();
-    lock_may_be_shared::<Held>();
-    pass_may_be_moved::<Held>();
+    may_be_shared::<SharedPlan>();
+    may_be_moved::<Pass>();
 }

@@ -6,7 +6,8 @@ use Rattle.std.specs.declared.vec.Vec.{Vec}
 use Rattle.std.specs.declared.alloc.Global.{Global}
 use Rattle.pl_io.specs.declared.errors.LineFault.{LineFault}
 use Rattle.pl_io.specs.Reader.{Reader}
-use Rattle.pl_machine.specs.Lines.{is_line_of, begin_word, text_before, model_text_of, lines_behind, with_newline}
+use Rattle.pl_io.specs.Lines.{with_newline}
+use Rattle.pl_machine.specs.Lines.{is_line_of, begin_word, text_before, model_text_of, lines_behind}
 use Rattle.pl_stream.specs.Reads.{Took, Halts, IsUsedUp}
 use Rattle.pl_stream.specs.Heads.{Keeps, IsHead, text_of_lines, IsBefore, IsBegun, HasNoBegin, HeadHalts, LooksOn, SeesBegin}
 use Rattle.pl_stream.proofs.Reading.{took_none, took_more, used_later, halts_later}

@@ -5,7 +5,8 @@ use Rattle.std.specs.declared.vec.Vec.{Vec}
 use Rattle.std.specs.declared.alloc.Global.{Global}
 use Rattle.pl_io.specs.declared.errors.LineFault.{LineFault}
 use Rattle.pl_io.specs.Reader.{Reader}
-use Rattle.pl_machine.specs.Lines.{is_line_of, begin_word, model_text_of, lines_behind, with_newline}
+use Rattle.pl_io.specs.Lines.{with_newline}
+use Rattle.pl_machine.specs.Lines.{is_line_of, begin_word, model_text_of, lines_behind}
 use Rattle.pl_stream.specs.declared.found.Found.{Found}
 use Rattle.pl_stream.specs.declared.found.Found.TheVariants as found
 use Rattle.pl_stream.specs.declared.found.Head.{Head}

@@ -1,7 +1,6 @@
 ghost use Rattle.std.specs.Prelude.{◌≡◌, ◌≤◌, ◌<◌, ◌++◌, ◌^◌, None, IfOk, IsErrOf, length, List, ℕ};
 ghost use Rattle.pl_io.specs.Faults.{Rose};
-ghost use Rattle.pl_io.specs.Lines.{ahead};
-ghost use Rattle.pl_machine.specs.Lines.{with_newline};
+ghost use Rattle.pl_io.specs.Lines.{ahead, with_newline};
 ghost use Rattle.pl_stream.specs.Heads.{Keeps, LooksAt, Looks, HeadGives};
 
 use crate::found::{Found, Head};

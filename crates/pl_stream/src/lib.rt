@@ -8,6 +8,7 @@ mod head;
 mod inputs;
 mod messages;
 mod reads;
+mod sharing;
 mod writes;
 
 pub use found::Head;
@@ -17,4 +18,5 @@ pub use head::read_head;
 pub use inputs::line_in;
 pub use messages::next_message;
 pub use reads::next_line;
+pub use sharing::shared_types;
 pub use writes::{write_entries, write_log};

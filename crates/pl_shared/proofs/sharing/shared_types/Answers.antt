@@ -1,10 +1,25 @@
 use denote.Param.Send.{sendable}
 use Rattle.std.proofs.Crossing.{crosses}
-use Rattle.pl_shared.proofs.Crossing.{held_send}
+use Rattle.pl_shared.proofs.Crossing.{held_send, held_sync, noted_send, noted_sync, plan_send, plan_sync, pass_send}
 use Rattle.pl_shared.proofs.sharing.shared_types.Goals as goal
 
-pub lock_may_be_shared-requires-send-V : goal.lock_may_be_shared-requires-send-V
-lock_may_be_shared-requires-send-V c κs = search (held_send, sendable, crosses) depth 40 fits 6000
+pub may_be_shared-requires-3-send-T : goal.may_be_shared-requires-3-send-T
+may_be_shared-requires-3-send-T c κs = search (held_send, sendable, crosses) depth 40 fits 6000
 
-pub pass_may_be_moved-requires-send-V : goal.pass_may_be_moved-requires-send-V
-pass_may_be_moved-requires-send-V c κs = search (held_send, sendable, crosses) depth 40 fits 6000
+pub may_be_shared-requires-3-sync-T : goal.may_be_shared-requires-3-sync-T
+may_be_shared-requires-3-sync-T c κs = search (held_sync, sendable, crosses) depth 40 fits 6000
+
+pub may_be_shared-requires-4-send-T : goal.may_be_shared-requires-4-send-T
+may_be_shared-requires-4-send-T c κs = search (noted_send, sendable, crosses) depth 40 fits 6000
+
+pub may_be_shared-requires-4-sync-T : goal.may_be_shared-requires-4-sync-T
+may_be_shared-requires-4-sync-T c κs = search (noted_sync, sendable, crosses) depth 40 fits 6000
+
+pub may_be_shared-requires-7-send-T : goal.may_be_shared-requires-7-send-T
+may_be_shared-requires-7-send-T c κs = search (plan_send, sendable, crosses) depth 40 fits 6000
+
+pub may_be_shared-requires-7-sync-T : goal.may_be_shared-requires-7-sync-T
+may_be_shared-requires-7-sync-T c κs = search (plan_sync, sendable, crosses) depth 40 fits 6000
+
+pub may_be_moved-requires-send-T : goal.may_be_moved-requires-send-T
+may_be_moved-requires-send-T c κs = search (pass_send, sendable, crosses) depth 40 fits 6000
