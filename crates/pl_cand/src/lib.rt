@@ -12,7 +12,6 @@ mod links;
 mod making;
 mod membership;
 mod numbers;
-mod properness;
 mod proposal;
 mod reading;
 mod repairs;
@@ -23,6 +22,7 @@ mod strides;
 mod stuck;
 mod timelines;
 mod users;
+mod worth;
 
 pub use chooser::Chooser;
 pub use conflicts::candidates;

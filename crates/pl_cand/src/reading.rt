@@ -1,23 +1,22 @@
 //! What a plan state tells of an activity.
-ghost use Rattle.std.specs.Prelude.{◌≡◌, ◌≤◌, is_none, All, IfSome, Some, length, slice_get};
+ghost use Rattle.std.specs.Prelude.{◌≡◌, ◌≤◌, All, IfSome, Some, length, slice_get};
 ghost use Rattle.std.specs.Int.{int_max, int_min};
 ghost use Rattle.std.specs.Option.{option_copied};
 ghost use Rattle.pl_model.specs.Checked.{params_of};
 ghost use Rattle.pl_plan.specs.Activities.{activity_of};
 ghost use Rattle.pl_plan.specs.Fitting.{kind_of, chosen_slots};
-ghost use Rattle.pl_plan.specs.Values.{binding_of, bindings_in};
+ghost use Rattle.pl_plan.specs.Values.{bindings_in};
 ghost use Rattle.pl_links.specs.Broken.{moment_of, links_of};
 ghost use Rattle.pl_world.specs.Whole.{IsWhole};
-ghost use Rattle.pl_world.specs.PlanStates.{end_at, found, is_committed, is_open, reservations_in};
+ghost use Rattle.pl_world.specs.PlanStates.{end_at, found, is_committed, reservations_in};
 ghost use Rattle.pl_world.specs.Activities.{bindings_of};
 ghost use Rattle.pl_world.specs.Links.{placed_of};
-ghost use Rattle.pl_world.specs.Moves.{alternatives_at, is_free, is_set_origin};
+ghost use Rattle.pl_world.specs.Moves.{alternatives_at};
 ghost use Rattle.pl_world.specs.Starts.{floor_at, last_of};
 ghost use Rattle.pl_cand.specs.Near.{AreClose, AreNear, IsNear};
 ghost use Rattle.pl_cand.specs.Levels.{IsOfLevel};
 
-use pl_facts::Goal;
-use pl_model::{Alternative, Expr, Kind, Link, Origin, Param, Point, Reservation, Slot};
+use pl_model::{Alternative, Expr, Kind, Link, Param, Point, Reservation, Slot};
 use pl_plan::Activity;
 use pl_world::PlanState;
 
@@ -180,40 +179,6 @@ pub(crate) fn bindings_of<'s>(s: &'s PlanState, a: &Activity) -> &'s [(u8, Expr)
         },
         None => &[],
     }
-}
-
-fn is_unbound(bindings: &[(u8, Expr)], number: u8) -> bool
-    ensures { result ≡ is_none (binding_of number bindings.now) }
-{
-    for (bound, _) in bindings {
-        if *bound == number {
-            return false;
-        }
-    }
-    true
-}
-
-fn is_set(origin: &Origin) -> bool
-    ensures { result ≡ is_set_origin origin.now }
-{
-    match origin {
-        Origin::Free(_) => true,
-        Origin::Dependent(_) => false,
-    }
-}
-
-/// Whether the parameter of this number is neither bound nor dependent.
-pub(crate) fn is_free(bindings: &[(u8, Expr)], number: u8, param: &Param) -> bool
-    ensures { result ≡ is_free bindings.now (number, param.now) }
-{
-    is_unbound(bindings, number) && is_set(&param.origin)
-}
-
-/// Whether the goal is neither dropped nor served.
-pub(crate) fn is_open(s: &PlanState, goal: &Goal) -> bool
-    ensures { result ≡ is_open s.now goal.now }
-{
-    !goal.dropped && !s.plan.is_served(goal.number)
 }
 
 /// Whether the activity is committed.

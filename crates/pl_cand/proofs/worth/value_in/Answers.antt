@@ -2,7 +2,7 @@ use Rattle.std.proofs.Common.{◌≤◌, length, arith, sym}
 use Rattle.pl_plan.specs.Fitting.{kind_of}
 use Rattle.pl_model.specs.Checked.{params_of}
 use Rattle.pl_cand.proofs.Playing.{no_value}
-use Rattle.pl_cand.proofs.properness.value_in.Goals as goal
+use Rattle.pl_cand.proofs.worth.value_in.Goals as goal
 
 pub returns-else-number-params_of : goal.returns-else-number-params_of
 returns-else-number-params_of c =
