@@ -16,7 +16,6 @@ mod proposal;
 mod reading;
 mod repairs;
 mod role;
-mod slots;
 mod starts;
 mod strides;
 mod stuck;

@@ -6,7 +6,6 @@ ghost use Rattle.pl_world.specs.PlanStates.{found};
 ghost use Rattle.pl_world.specs.Activities.{value_in};
 ghost use Rattle.pl_world.specs.Candidates.{changes_nothing, has_start, has_value, is_value, is_worth};
 
-use crate::reading::{live, params_of};
 use pl_moves::is_proper;
 use pl_plan::{Activity, RepairMove};
 use pl_world::PlanState;
@@ -26,7 +25,7 @@ fn value_in(s: &PlanState, a: &Activity, number: u8) -> Option<i64>
     requires live { activity_of a.now.id s.now.plan.activities ≡ Some a.now }
     ensures { result ≡ value_in s.now a.now number }
 {
-    if (number as usize) < params_of(s, a).len() {
+    if (number as usize) < s.params_of(a).len() {
         s.plan.value(s.model.get(), a.id, number)
     } else {
         None
@@ -46,7 +45,7 @@ fn has_value(s: &PlanState, id: u32, number: u8, value: i64) -> bool
     requires { IsWhole s.now }
     ensures { result ≡ has_value s.now number value (found s.now id) }
 {
-    match live(s, id) {
+    match s.live(id) {
         Some(a) => is_value(value, value_in(s, a, number)),
         None => false,
     }

@@ -3,9 +3,7 @@ ghost use Rattle.pl_plan.specs.Values.{binding_of};
 ghost use Rattle.pl_world.specs.PlanStates.{found, goal_at, is_open};
 ghost use Rattle.pl_world.specs.Moves.{holds, alternatives_at, is_free, is_proper, is_set_origin, is_wanted, takes_value};
 
-use crate::lookups::{alternatives_in, bindings_at, param_at};
 use pl_board::Board;
-use pl_facts::Goal;
 use pl_model::{Expr, Origin, Param};
 use pl_plan::{Activity, RepairMove};
 use pl_world::PlanState;
@@ -41,20 +39,12 @@ pub fn is_free(bindings: &[(u8, Expr)], number: u8, param: &Param) -> bool
 fn takes_value(s: &PlanState, a: &Activity, number: u8, value: i64) -> bool
     ensures { result ≡ takes_value s.now a.now number value }
 {
-    match param_at(s.model.get(), a, number) {
+    match s.params_of(a).get(number as usize) {
         Some(param) => {
-            is_free(bindings_at(s, a.parent), number, param)
-                && param.low <= value
-                && value <= param.high
+            is_free(s.bindings_of(a), number, param) && param.low <= value && value <= param.high
         }
         None => false,
     }
-}
-
-fn is_open(s: &PlanState, goal: &Goal) -> bool
-    ensures { result ≡ is_open s.now goal.now }
-{
-    !goal.dropped && !s.plan.is_served(goal.number)
 }
 
 // No goal, or an open one of this kind.
@@ -63,7 +53,7 @@ fn is_wanted(s: &PlanState, kind: u32, goal: Option<u32>) -> bool
 {
     match goal {
         Some(number) => match s.goals.get(number) {
-            Some(goal) => is_open(s, goal) && goal.kind == kind,
+            Some(goal) => s.is_open(goal) && goal.kind == kind,
             None => false,
         },
         None => true,
@@ -74,7 +64,7 @@ fn can_drop(s: &PlanState, number: u32) -> bool
     ensures { result ≡ holds (λ g. is_open s.now g && not g.must) (goal_at s.now number) }
 {
     match s.goals.get(number) {
-        Some(goal) => is_open(s, goal) && !goal.must,
+        Some(goal) => s.is_open(goal) && !goal.must,
         None => false,
     }
 }
@@ -102,9 +92,7 @@ fn can_detail(s: &PlanState, id: u32, alternative: u32) -> bool
     ensures { result ≡ holds (λ a. is_none a.detail && nat_lt alternative (length (alternatives_at s.now a))) (found s.now id) }
 {
     match s.plan.get(id) {
-        Some(a) => {
-            a.detail.is_none() && (alternative as usize) < alternatives_in(s.model.get(), a).len()
-        }
+        Some(a) => a.detail.is_none() && (alternative as usize) < s.alternatives_of(a).len(),
         None => false,
     }
 }

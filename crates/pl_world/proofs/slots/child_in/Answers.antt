@@ -1,6 +1,6 @@
 use Rattle.std.proofs.Common.{◌∙◌}
-use Rattle.pl_cand.proofs.Children.{child_found}
-use Rattle.pl_cand.proofs.slots.child_in.Goals as goal
+use Rattle.pl_world.proofs.Children.{child_found}
+use Rattle.pl_world.proofs.slots.child_in.Goals as goal
 
 pub returns-clause-value : goal.returns-clause-value
 returns-clause-value c =

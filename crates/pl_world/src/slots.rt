@@ -6,36 +6,12 @@ ghost use Rattle.pl_plan.specs.Fitting.{fills};
 ghost use Rattle.pl_world.specs.Whole.{IsWhole};
 ghost use Rattle.pl_world.specs.PlanStates.{found};
 ghost use Rattle.pl_world.specs.Links.{order_at, place_in};
-ghost use Rattle.pl_cand.specs.Near.{IsNear};
-ghost use Rattle.pl_cand.specs.Slots.{filling, first_filling};
+ghost use Rattle.pl_world.specs.Slots.{filling, first_filling};
 
-use crate::reading::{alternatives_of, live};
+use crate::plan_state::PlanState;
 use pl_model::Order;
 use pl_plan::Activity;
-use pl_world::PlanState;
 use std::alloc::{AllocError, Global};
-
-fn chosen_order<'s>(s: &'s PlanState, a: &Activity, index: u32) -> Option<&'s Order>
-    ensures { option_copied result ≡ order_at s.now a.now index }
-{
-    match a.detail {
-        Some(detail) => match alternatives_of(s, a).get(detail as usize) {
-            Some(alternative) => alternative.orders.as_slice().get(index as usize),
-            None => None,
-        },
-        None => None,
-    }
-}
-
-/// The order of this index of the chosen alternative.
-pub(crate) fn order_at<'s>(s: &'s PlanState, a: &Activity, index: u32) -> Option<&'s Order>
-    requires { IsWhole s.now }
-    ensures value { option_copied result ≡ order_at s.now a.now index }
-    ensures low { IfSome result (λ o. IsNear o.now.low) }
-    ensures high { IfSome result (λ o. IsNear o.now.high) }
-{
-    chosen_order(s, a, index)
-}
 
 fn fills(parent: u32, slot: u32, a: &Activity) -> bool
     ensures { result ≡ fills parent slot a.now }
@@ -50,7 +26,7 @@ fn filling(s: &PlanState, parent: u32, slot: u32, id: u32) -> Option<&Activity>
     ensures value { option_copied result ≡ filling parent slot (found s.now id) }
     ensures live { IfSome result (λ a. activity_of a.now.id s.now.plan.activities ≡ Some a.now) }
 {
-    match live(s, id) {
+    match s.live(id) {
         Some(a) if fills(parent, slot, a) => Some(a),
         _ => None,
     }
@@ -83,20 +59,35 @@ fn child_in<'s>(
     Ok(first_filling(s, parent.id, slot, children.as_slice()))
 }
 
-/// The activity in a slot of a live parent, or the parent.
-pub(crate) fn place_in<'s>(
-    alloc: Global,
-    s: &'s PlanState,
-    parent: &'s Activity,
-    slot: Option<u32>,
-) -> Result<Option<&'s Activity>, AllocError>
-    requires whole { IsWhole s.now }
-    requires live { activity_of parent.now.id s.now.plan.activities ≡ Some parent.now }
-    ensures value { IfOk result (λ a. option_copied a ≡ place_in s.now parent.now slot) }
-    ensures live { IfOk result (λ o. IfSome o (λ a. activity_of a.now.id s.now.plan.activities ≡ Some a.now)) }
-{
-    match slot {
-        Some(slot) => child_in(alloc, s, parent, slot),
-        None => Ok(Some(parent)),
+impl PlanState {
+    /// The order of this index of the chosen alternative.
+    pub fn order_at(&self, a: &Activity, index: u32) -> Option<&Order>
+        ensures { option_copied result ≡ order_at self.now a.now index }
+    {
+        match a.detail {
+            Some(detail) => match self.alternatives_of(a).get(detail as usize) {
+                Some(alternative) => alternative.orders.as_slice().get(index as usize),
+                None => None,
+            },
+            None => None,
+        }
+    }
+
+    /// The activity in a slot of a live parent, or the parent.
+    pub fn place_in<'s>(
+        &'s self,
+        alloc: Global,
+        parent: &'s Activity,
+        slot: Option<u32>,
+    ) -> Result<Option<&'s Activity>, AllocError>
+        requires whole { IsWhole self.now }
+        requires live { activity_of parent.now.id self.now.plan.activities ≡ Some parent.now }
+        ensures value { IfOk result (λ a. option_copied a ≡ place_in self.now parent.now slot) }
+        ensures live { IfOk result (λ o. IfSome o (λ a. activity_of a.now.id self.now.plan.activities ≡ Some a.now)) }
+    {
+        match slot {
+            Some(slot) => child_in(alloc, self, parent, slot),
+            None => Ok(Some(parent)),
+        }
     }
 }

@@ -7,7 +7,7 @@ use Rattle.pl_plan.specs.Activities.{AreRising, activity_of}
 use Rattle.pl_plan.specs.Trees.{id_of, is_child, children_of}
 use Rattle.pl_plan.specs.Fitting.{fills}
 use Rattle.pl_plan.proofs.Kept.{each_found}
-use Rattle.pl_detect.specs.Slots.{first_filling}
+use Rattle.pl_world.specs.Slots.{first_filling}
 
 module _ (xs : List Activity) (parent slot : ℕ) where
   -- what is no child of the parent is in none of its slots

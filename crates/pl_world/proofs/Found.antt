@@ -1,6 +1,7 @@
 -- What is found by an id.
-use Rattle.std.proofs.Common.{◌≡◌, ℕ, ◌<◌, eqb, Bool, true, false, List, [], ◌∷◌, length, get_or, Some, refl, sym, ap, ◌∙◌, subst}
+use Rattle.std.proofs.Common.{◌≡◌, ℕ, ◌<◌, eqb, Bool, true, false, List, [], ◌∷◌, length, get_or, Option, Some, None, IfSome, refl, sym, ap, ◌∙◌, subst}
 use Rattle.std.specs.Prelude.{All}
+use Rattle.std.specs.Option.{option_map}
 use Rattle.std.proofs.lemmas.Bool.{eqb-true}
 use Rattle.std.proofs.lemmas.List.Elements.{All-head, All-tail}
 use Rattle.std.proofs.lemmas.Option.{slice_get_read}
@@ -12,6 +13,11 @@ use Rattle.pl_plan.specs.Fitting.{FitsAlone, kind_of}
 use Rattle.pl_plan.proofs.Ids.{found_at}
 use Rattle.pl_world.specs.declared.plan_state.PlanState.{PlanState}
 use Rattle.pl_world.specs.Whole.{IsWhole}
+
+-- what holds of what is looked up holds behind the reference to it
+pub known_by : {A B : Type 0} (f : A → B) (P : B → Type 0) (o : Option A) (r : Option B) → option_map f o ≡ r → ((x : B) → r ≡ Some x → P x) → IfSome o (λ a. P (f a))
+known_by f P None r e each = tt
+known_by f P (Some a) r e each = each (f a) (sym e)
 
 -- the activity at a place is found by its id
 pub found_here : (xs ys : List Activity) → xs ≡ ys → AreRising ys → (i : ℕ) (x : Activity) → i < length xs → x ≡ get_or xs i x → activity_of x.id ys ≡ Some x

@@ -1,6 +1,6 @@
 use Rattle.std.proofs.Common.{◌≡◌, drop}
-use Rattle.pl_cand.specs.Slots.{first_filling}
-use Rattle.pl_cand.proofs.slots.first_filling.Given as goal
+use Rattle.pl_world.specs.Slots.{first_filling}
+use Rattle.pl_world.proofs.slots.first_filling.Given as goal
 
 -- none so far
 abbrev pub invariant-loop-id : goal.invariant-loop-id
