@@ -1,7 +1,6 @@
 -- What a whole plan state knows of its goals and of the kinds of its activities.
-use Rattle.std.proofs.Common.{◌≡◌, ℕ, ℤ, ◌≤◌, Bool, true, false, List, [], ◌∷◌, length, Option, Some, None, IfSome, refl, sym, subst, arith}
+use Rattle.std.proofs.Common.{◌≡◌, ℕ, ℤ, ◌≤◌, Bool, true, false, List, [], ◌∷◌, length, Option, Some, None, refl, sym, subst, arith}
 use Rattle.std.specs.Prelude.{All, slice_get, option_and_then}
-use Rattle.std.specs.Option.{option_map}
 use Rattle.std.proofs.lemmas.Int.{ints}
 use Rattle.std.proofs.lemmas.Option.{slice_get_within, get_or_from_slice_get}
 use Rattle.std.proofs.lemmas.List.Elements.{All-nil, All-head, All-tail, All-weaker}
@@ -33,11 +32,6 @@ use Rattle.pl_cand.specs.Levels.{HasBase, IsOfLevel, IsToldAt}
 -- what holds of all holds of what stands at an index
 pub all_at : {X : Type 0} (P : X → Type 0) (xs : List X) (i : ℕ) (x : X) → All P xs → slice_get xs i ≡ Some x → P x
 all_at P xs i x all is = subst P (get_or_from_slice_get xs i x x is) (all i x (slice_get_within xs i x is))
-
--- what holds of what is looked up holds behind the reference to it
-pub known_by : {A B : Type 0} (f : A → B) (P : B → Type 0) (o : Option A) (r : Option B) → option_map f o ≡ r → ((x : B) → r ≡ Some x → P x) → IfSome o (λ a. P (f a))
-known_by f P None r e each = tt
-known_by f P (Some a) r e each = each (f a) (sym e)
 
 -- ---- levels
 

@@ -1,6 +1,4 @@
 pub mod Steps
-pub mod Found
-pub mod Children
 pub mod Listing
 pub mod Checks
 pub mod Keeping

@@ -1,7 +1,6 @@
 pub mod Near
 pub mod Details
 pub mod Levels
-pub mod Slots
 pub mod Tests
 pub mod Tried
 pub mod ById

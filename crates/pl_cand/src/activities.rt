@@ -11,11 +11,12 @@ ghost use Rattle.pl_world.specs.Repairs.{all_assigns, assigns, assigns_one, end_
 ghost use Rattle.pl_cand.specs.Near.{AreNear};
 ghost use Rattle.pl_cand.specs.Details.{assign_to, assigns_as, assigns_if_free, detail_of};
 
-use crate::reading::{bindings_of, checked_alternatives, checked_params, end_of, is_free};
+use crate::reading::{checked_alternatives, checked_params, end_of};
 use crate::repairs::{add_deletion, add_moves};
 use crate::starts::add_shift;
 use crate::strides::spread;
 use pl_model::{Expr, Param};
+use pl_moves::is_free;
 use pl_plan::{Activity, RepairMove};
 use pl_world::PlanState;
 use std::alloc::{AllocError, Global};
@@ -102,7 +103,7 @@ fn add_all_assigns(
     requires { IsWhole s.now }
     ensures { OnOk result (out.new.items ≡ out.old.items ++ all_assigns s.now a.now) }
 {
-    add_free_assigns(alloc, a.id, bindings_of(s, a), checked_params(s, a), out)?;
+    add_free_assigns(alloc, a.id, s.bindings_of(a), checked_params(s, a), out)?;
     Ok(())
 }
 

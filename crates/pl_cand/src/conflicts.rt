@@ -11,7 +11,6 @@ use crate::activities::{for_bad_value, for_overrun, for_undetailed, for_unset};
 use crate::cuts::cut;
 use crate::goals::for_goal;
 use crate::links::{for_linked, for_temporal};
-use crate::reading::live;
 use crate::repairs::add_moves;
 use crate::timelines::{for_bad_step, for_high, for_low, for_must, for_over};
 use pl_board::Board;
@@ -71,7 +70,7 @@ fn for_subject(
     requires { IsWhole s.now }
     ensures { OnOk result (out.new.items ≡ out.old.items ++ of_found (λ a. tried_with s.now a k.now k.now.code) (found s.now k.now.subject)) }
 {
-    match live(s, k.subject) {
+    match s.live(k.subject) {
         Some(a) => for_activity(alloc, s, a, k, out),
         None => Ok(()),
     }

@@ -7,7 +7,7 @@ ghost use Rattle.pl_world.specs.Whole.{IsWhole};
 ghost use Rattle.pl_world.specs.Candidates.{is_worth, once_from, same_move};
 ghost use Rattle.pl_cand.specs.Cuts.{are_alike, standing};
 
-use crate::properness::is_worth;
+use crate::worth::is_worth;
 use pl_plan::RepairMove;
 use pl_world::PlanState;
 use std::alloc::{AllocError, Global};

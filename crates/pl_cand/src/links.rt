@@ -11,9 +11,8 @@ ghost use Rattle.std.specs.Int.{int_max, int_min};
 ghost use Rattle.pl_world.specs.Starts.{floor_at, last_of};
 ghost use Rattle.pl_cand.specs.Near.{AreClose, IsClose, IsNear};
 
-use crate::reading::{floor, last, links_of, moment_of};
+use crate::reading::{checked_order, floor, last, links_of, moment_of};
 use crate::repairs::add_moves;
-use crate::slots::{order_at, place_in};
 use crate::starts::{add_news, add_shift};
 use crate::strides::spread;
 use pl_model::{Link, Order, Point};
@@ -276,8 +275,8 @@ fn add_order(
     requires high { IsNear order.now.high }
     ensures { OnOk result (out.new.items ≡ out.old.items ++ for_order s.now parent.now order.now) }
 {
-    let first = place_in(alloc, s, parent, order.first)?;
-    let second = place_in(alloc, s, parent, order.second)?;
+    let first = s.place_in(alloc, parent, order.first)?;
+    let second = s.place_in(alloc, parent, order.second)?;
     add_shifts_between(s, order, first, second, out)?;
     Ok(())
 }
@@ -293,7 +292,7 @@ fn add_order_of(
     requires live { activity_of parent.now.id s.now.plan.activities ≡ Some parent.now }
     ensures { OnOk result (out.new.items ≡ out.old.items ++ of_found (for_order s.now parent.now) (order_at s.now parent.now index)) }
 {
-    match order_at(s, parent, index) {
+    match checked_order(s, parent, index) {
         Some(order) => add_order(alloc, s, parent, order, out),
         None => Ok(()),
     }

@@ -6,7 +6,7 @@ ghost use Rattle.pl_world.specs.Candidates.{candidates_of, is_worth, once_from, 
 
 use crate::conflicts::tried;
 use crate::cuts::{MOST, cut, is_same};
-use crate::properness::is_worth;
+use crate::worth::is_worth;
 use pl_board::Board;
 use pl_conflict::Conflict;
 use pl_plan::RepairMove;

@@ -5,7 +5,6 @@ ghost use Rattle.pl_world.specs.Whole.{IsWhole};
 ghost use Rattle.pl_world.specs.Starts.{places_at, spread};
 ghost use Rattle.pl_cand.specs.Near.{IsSmall};
 
-use crate::reading::live;
 use crate::{repairs, strides};
 use pl_board::Board;
 use std::alloc::{AllocError, Global};
@@ -38,7 +37,7 @@ pub fn places(alloc: Global, board: &Board, id: u32) -> Result<Vec<u32>, AllocEr
     ensures { IfOk result (λ all. map pos all.items ≡ places_at board.now.state id) }
 {
     let s = board.state();
-    let a = live(s, id).unwrap();
+    let a = s.live(id).unwrap();
     let starts = repairs::places(alloc, s, a)?;
     from_zero(alloc, starts.as_slice())
 }

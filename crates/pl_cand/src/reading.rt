@@ -1,23 +1,20 @@
 //! What a plan state tells of an activity.
-ghost use Rattle.std.specs.Prelude.{◌≡◌, ◌≤◌, is_none, All, IfSome, Some, length, slice_get};
+ghost use Rattle.std.specs.Prelude.{◌≡◌, ◌≤◌, All, IfSome, Some, length};
 ghost use Rattle.std.specs.Int.{int_max, int_min};
 ghost use Rattle.std.specs.Option.{option_copied};
 ghost use Rattle.pl_model.specs.Checked.{params_of};
 ghost use Rattle.pl_plan.specs.Activities.{activity_of};
-ghost use Rattle.pl_plan.specs.Fitting.{kind_of, chosen_slots};
-ghost use Rattle.pl_plan.specs.Values.{binding_of, bindings_in};
+ghost use Rattle.pl_plan.specs.Fitting.{kind_of};
 ghost use Rattle.pl_links.specs.Broken.{moment_of, links_of};
 ghost use Rattle.pl_world.specs.Whole.{IsWhole};
-ghost use Rattle.pl_world.specs.PlanStates.{end_at, found, is_committed, is_open, reservations_in};
-ghost use Rattle.pl_world.specs.Activities.{bindings_of};
-ghost use Rattle.pl_world.specs.Links.{placed_of};
-ghost use Rattle.pl_world.specs.Moves.{alternatives_at, is_free, is_set_origin};
+ghost use Rattle.pl_world.specs.PlanStates.{end_at, is_committed, reservations_in};
+ghost use Rattle.pl_world.specs.Links.{order_at, placed_of};
+ghost use Rattle.pl_world.specs.Moves.{alternatives_at};
 ghost use Rattle.pl_world.specs.Starts.{floor_at, last_of};
 ghost use Rattle.pl_cand.specs.Near.{AreClose, AreNear, IsNear};
 ghost use Rattle.pl_cand.specs.Levels.{IsOfLevel};
 
-use pl_facts::Goal;
-use pl_model::{Alternative, Expr, Kind, Link, Origin, Param, Point, Reservation, Slot};
+use pl_model::{Alternative, Link, Order, Param, Point, Reservation};
 use pl_plan::Activity;
 use pl_world::PlanState;
 
@@ -57,45 +54,20 @@ pub(crate) fn to_last(s: &PlanState, moment: i64) -> i64
     moment.min(last(s))
 }
 
-/// The live activity of this id.
-pub(crate) fn live<'s>(s: &'s PlanState, id: u32) -> Option<&'s Activity>
-    ensures value { option_copied result ≡ found s.now id }
-    ensures live { IfSome result (λ a. activity_of a.now.id s.now.plan.activities ≡ Some a.now) }
-{
-    s.plan.get(id)
-}
-
-/// The kind of an activity.
-pub(crate) fn kind_of<'s>(s: &'s PlanState, a: &Activity) -> Option<&'s Kind>
-    ensures { option_copied result ≡ kind_of s.now.model a.now }
-{
-    s.model.get().kinds.as_slice().get(a.kind as usize)
-}
-
-/// The parameters of its kind.
-pub(crate) fn params_of<'s>(s: &'s PlanState, a: &Activity) -> &'s [Param]
-    ensures { result.now ≡ params_of (kind_of s.now.model a.now) }
-{
-    match kind_of(s, a) {
-        Some(kind) => kind.params.as_slice(),
-        None => &[],
-    }
-}
-
-/// The same, at most sixteen, whose bounds are near 0.
+/// The parameters of its kind, at most sixteen, whose bounds are near 0.
 pub(crate) fn checked_params<'s>(s: &'s PlanState, a: &Activity) -> &'s [Param]
     requires { IsWhole s.now }
     ensures value { result.now ≡ params_of (kind_of s.now.model a.now) }
     ensures few { length result.now ≤ 16 }
     ensures near { All AreNear result.now }
 {
-    params_of(s, a)
+    s.params_of(a)
 }
 
 fn reservations_of_kind<'s>(s: &'s PlanState, a: &Activity) -> &'s [Reservation]
     ensures { result.now ≡ reservations_in (kind_of s.now.model a.now) }
 {
-    match kind_of(s, a) {
+    match s.kind_of(a) {
         Some(kind) => kind.reservations.as_slice(),
         None => &[],
     }
@@ -113,7 +85,7 @@ pub(crate) fn reservations_of<'s>(s: &'s PlanState, a: &Activity) -> &'s [Reserv
 fn links_of_kind<'s>(s: &'s PlanState, a: &Activity) -> &'s [Link]
     ensures { result.now ≡ links_of s.now.model (placed_of s.now a.now) }
 {
-    match kind_of(s, a) {
+    match s.kind_of(a) {
         Some(kind) => kind.links.as_slice(),
         None => &[],
     }
@@ -128,92 +100,23 @@ pub(crate) fn links_of<'s>(s: &'s PlanState, a: &Activity) -> &'s [Link]
     links_of_kind(s, a)
 }
 
-/// The alternatives of its kind.
-pub(crate) fn alternatives_of<'s>(s: &'s PlanState, a: &Activity) -> &'s [Alternative]
-    ensures { result.now ≡ alternatives_at s.now a.now }
-{
-    match kind_of(s, a) {
-        Some(kind) => kind.alternatives.as_slice(),
-        None => &[],
-    }
-}
-
-/// The same, at most eight.
+/// The alternatives of its kind, at most eight.
 pub(crate) fn checked_alternatives<'s>(s: &'s PlanState, a: &Activity) -> &'s [Alternative]
     requires { IsWhole s.now }
     ensures value { result.now ≡ alternatives_at s.now a.now }
     ensures few { length result.now ≤ 8 }
 {
-    alternatives_of(s, a)
+    s.alternatives_of(a)
 }
 
-// The slots of the chosen alternative.
-fn chosen_slots<'s>(s: &'s PlanState, a: &Activity) -> &'s [Slot]
-    ensures { result.now ≡ chosen_slots s.now.model a.now }
+/// The order of this index of the chosen alternative, whose distances are near 0.
+pub(crate) fn checked_order<'s>(s: &'s PlanState, a: &Activity, index: u32) -> Option<&'s Order>
+    requires { IsWhole s.now }
+    ensures value { option_copied result ≡ order_at s.now a.now index }
+    ensures low { IfSome result (λ o. IsNear o.now.low) }
+    ensures high { IfSome result (λ o. IsNear o.now.high) }
 {
-    match a.detail {
-        Some(alternative) => match alternatives_of(s, a).get(alternative as usize) {
-            Some(alternative) => alternative.slots.as_slice(),
-            None => &[],
-        },
-        None => &[],
-    }
-}
-
-fn slot_bindings<'s>(s: &'s PlanState, a: &Activity, slot: u32) -> &'s [(u8, Expr)]
-    ensures { result.now ≡ bindings_in (slice_get (chosen_slots s.now.model a.now) slot) }
-{
-    match chosen_slots(s, a).get(slot as usize) {
-        Some(slot) => slot.bindings.as_slice(),
-        None => &[],
-    }
-}
-
-/// The expressions that the slot of an activity binds to its parameters.
-pub(crate) fn bindings_of<'s>(s: &'s PlanState, a: &Activity) -> &'s [(u8, Expr)]
-    ensures { result.now ≡ bindings_of s.now a.now }
-{
-    match a.parent {
-        Some((parent, slot)) => match s.plan.get(parent) {
-            Some(above) => slot_bindings(s, above, slot),
-            None => &[],
-        },
-        None => &[],
-    }
-}
-
-fn is_unbound(bindings: &[(u8, Expr)], number: u8) -> bool
-    ensures { result ≡ is_none (binding_of number bindings.now) }
-{
-    for (bound, _) in bindings {
-        if *bound == number {
-            return false;
-        }
-    }
-    true
-}
-
-fn is_set(origin: &Origin) -> bool
-    ensures { result ≡ is_set_origin origin.now }
-{
-    match origin {
-        Origin::Free(_) => true,
-        Origin::Dependent(_) => false,
-    }
-}
-
-/// Whether the parameter of this number is neither bound nor dependent.
-pub(crate) fn is_free(bindings: &[(u8, Expr)], number: u8, param: &Param) -> bool
-    ensures { result ≡ is_free bindings.now (number, param.now) }
-{
-    is_unbound(bindings, number) && is_set(&param.origin)
-}
-
-/// Whether the goal is neither dropped nor served.
-pub(crate) fn is_open(s: &PlanState, goal: &Goal) -> bool
-    ensures { result ≡ is_open s.now goal.now }
-{
-    !goal.dropped && !s.plan.is_served(goal.number)
+    s.order_at(a, index)
 }
 
 /// Whether the activity is committed.

@@ -11,7 +11,6 @@ ghost use Rattle.pl_cand.specs.ById.{around_id, moves_of_id};
 use crate::activities::end_by;
 use crate::help::Help;
 use crate::helping::add_help;
-use crate::reading::{kind_of, live};
 use crate::repairs::add_moves;
 use crate::role::Role;
 use crate::starts::add_shift;
@@ -32,7 +31,7 @@ fn add_around(
     requires { IsWhole s.now }
     ensures { OnOk result (out.new.items ≡ out.old.items ++ around_id s.now a b id) }
 {
-    match live(s, id) {
+    match s.live(id) {
         Some(user) => {
             add_shift(s, user.id, i64::from(b), out)?;
             end_by(s, user, a, out)?;
@@ -67,7 +66,7 @@ fn add_moves_of(
     requires { IsWhole s.now }
     ensures { OnOk result (out.new.items ≡ out.old.items ++ moves_of_id s.now id) }
 {
-    match live(s, id) {
+    match s.live(id) {
         Some(user) => add_moves(alloc, s, user, out),
         None => Ok(()),
     }
@@ -148,7 +147,7 @@ pub(crate) fn for_high(
 fn reservation_at<'s>(s: &'s PlanState, a: &Activity, index: u32) -> Option<&'s Reservation>
     ensures { option_copied result ≡ reservation_at s.now a.now index }
 {
-    match kind_of(s, a) {
+    match s.kind_of(a) {
         Some(kind) => kind.reservations.as_slice().get(index as usize),
         None => None,
     }

@@ -1,5 +1,3 @@
 pub mod Bounded
-pub mod Later
 pub mod Grounds
-pub mod Resting
 pub mod Giving

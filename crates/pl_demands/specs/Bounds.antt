@@ -1,5 +1,5 @@
 -- The bounds that each demand keeps.
-use Rattle.std.specs.Prelude.{ℕ, ◌<◌, ◌≤◌, ◌*◌, ℤ, pos, neg_ℤ, ◌≤ℤ◌, Option, slice_get}
+use Rattle.std.specs.Prelude.{ℕ, ◌<◌, ◌≤◌, Option, slice_get}
 use Rattle.pl_model.specs.declared.timelines.Timeline.{Timeline}
 use Rattle.pl_model.specs.declared.whole.Model.{Model}
 use Rattle.pl_model.specs.Checked.{IsCapacityLine, IsLevelLine, HasState}
@@ -30,13 +30,3 @@ IsOfSort line (asked.Must m) = HasState m.state line
 pub record IsDemandOf (model : Model) (d : Demand) : Type 0 where
   pub bounded : IsBounded d.asked
   pub of_sort : IsOfSort (slice_get model.timelines d.line) d.asked
-
--- ---- sums
-
--- within 10^9 of 0
-abbrev pub IsPart : ℤ → Type 0
-IsPart z = (neg_ℤ (pos 1000000000) ≤ℤ z) × (z ≤ℤ pos 1000000000)
-
--- within 10^9 of 0 for each of so many
-abbrev pub IsSum : ℕ → ℤ → Type 0
-IsSum n z = (neg_ℤ (pos (1000000000 * n)) ≤ℤ z) × (z ≤ℤ pos (1000000000 * n))

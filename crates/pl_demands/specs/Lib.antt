@@ -1,5 +1,4 @@
 pub mod Bounds
 pub mod Based
 pub mod Fresh
-pub mod Latest
 pub mod Amounts

@@ -1,6 +1,5 @@
-pub mod Found
+pub use Rattle.pl_world.proofs.Found
 pub mod Named
 pub mod Stored
-pub mod Children
 pub mod BrokenConflicts
 pub mod FirmOnes

@@ -20,7 +20,7 @@ use Rattle.pl_world.specs.Whole.{IsWhole}
 use Rattle.pl_world.specs.Activities.{bindings_of, row_above}
 use Rattle.pl_plan.proofs.FirmSteps.{checked_kind, amounts_named}
 use Rattle.pl_plan.proofs.ValueLaws.{values_solve}
-use Rattle.pl_detect.proofs.Found.{parent_live}
+use Rattle.pl_world.proofs.Found.{parent_live}
 
 slot_named : (model : Model) (n : ℕ) (slots : List Slot) → All (IsCheckedSlot model n) slots → (i : ℕ) → All (BindsBelow n) (bindings_in (slice_get slots i))
 slot_named model n [] all i = All-nil (BindsBelow n)

@@ -14,7 +14,7 @@ use Rattle.pl_links.specs.Kept.{Kept, kept_of}
 use Rattle.pl_world.specs.declared.plan_state.PlanState.{PlanState}
 use Rattle.pl_world.specs.Whole.{IsWhole}
 use Rattle.pl_world.specs.Links.{placed_of}
-use Rattle.pl_detect.proofs.Found.{found_id, all_found}
+use Rattle.pl_world.proofs.Found.{found_id, all_found}
 
 -- ---- look-ups in the store are look-ups in the plan
 

@@ -3,7 +3,7 @@ ghost use Rattle.std.specs.Prelude.{◌≡◌, ◌++◌, OnOk};
 ghost use Rattle.std.specs.List.{flat_map};
 ghost use Rattle.std.specs.Option.{option_copied, option_to_list};
 ghost use Rattle.pl_world.specs.Whole.{IsWhole};
-ghost use Rattle.pl_world.specs.PlanStates.{is_open, served_by};
+ghost use Rattle.pl_world.specs.PlanStates.{served_by};
 ghost use Rattle.pl_world.specs.Goals.{open_at, off_from, off_at, goal_conflicts};
 
 use crate::filing::add;
@@ -13,19 +13,13 @@ use pl_plan::Activity;
 use pl_world::PlanState;
 use std::alloc::AllocError;
 
-fn is_open(s: &PlanState, goal: &Goal) -> bool
-    ensures { result ≡ is_open s.now goal.now }
-{
-    !goal.dropped && !s.plan.is_served(goal.number)
-}
-
 /// The conflict of a goal that is open and can still be met.
 #[tactic(auto, unfolding(pl_world::specs::Goals::open_at))]
 pub fn open_at(s: &PlanState, goal: &Goal) -> Option<Conflict>
     requires { IsWhole s.now }
     ensures { option_to_list result ≡ open_at s.now goal.now }
 {
-    if is_open(s, goal) && s.floor() <= goal.latest {
+    if s.is_open(goal) && s.floor() <= goal.latest {
         Some(Conflict {
             from: goal.latest,
             code: Code::OpenGoal,

@@ -10,7 +10,6 @@ mod goals;
 mod links;
 mod parameters;
 mod placing;
-mod slots;
 mod valuation;
 
 pub use activities::{activity_conflicts, wrong_at, wrong_with};

@@ -10,7 +10,6 @@ ghost use Rattle.pl_detect.specs.Broken.{broken_conflict};
 
 use crate::filing::add_when;
 use crate::placing::placed_in;
-use crate::slots::{order_at, place_in};
 use pl_conflict::{Code, Conflict};
 use pl_links::Broken;
 use pl_model::Order;
@@ -88,8 +87,8 @@ fn add_unmet_order(
     requires live { activity_of parent.now.id s.now.plan.activities ≡ Some parent.now }
     ensures { OnOk result (out.new.items ≡ out.old.items ++ unmet_order s.now parent.now index order.now) }
 {
-    let first = place_in(alloc, s, parent, order.first)?;
-    let second = place_in(alloc, s, parent, order.second)?;
+    let first = s.place_in(alloc, parent, order.first)?;
+    let second = s.place_in(alloc, parent, order.second)?;
     add_unmet_from(s, parent, index, first, second, out)?;
     Ok(())
 }
@@ -105,7 +104,7 @@ fn add_unmet(
     requires live { activity_of parent.now.id s.now.plan.activities ≡ Some parent.now }
     ensures { OnOk result (out.new.items ≡ out.old.items ++ of_found (unmet_order s.now parent.now index) (order_at s.now parent.now index)) }
 {
-    match order_at(s, parent, index) {
+    match s.order_at(parent, index) {
         Some(order) => add_unmet_order(alloc, s, parent, index, order, out),
         None => Ok(()),
     }

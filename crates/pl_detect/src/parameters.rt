@@ -10,7 +10,7 @@ ghost use Rattle.pl_plan.specs.Known.{is_outside, is_unset, is_bad_param, lacks_
 ghost use Rattle.pl_world.specs.PlanStates.{row_of};
 ghost use Rattle.pl_world.specs.Activities.{bad_param, bindings_of, params_at, row_above, unset_at};
 
-use crate::bindings::{binding_of, bindings_of};
+use crate::bindings::binding_of;
 use crate::filing::{add_when, at_start};
 use pl_conflict::{Code, Conflict};
 use pl_model::{Expr, Kind, Origin, Param};
@@ -41,7 +41,7 @@ pub(crate) fn add_unset(
     requires len { length own.now ≡ length kind.now.params }
     ensures { OnOk result (out.new.items ≡ out.old.items ++ unset_at s.now a.now) }
 {
-    let bindings = bindings_of(s, a);
+    let bindings = s.bindings_of(a);
     let params = kind.params.as_slice();
     for (number, param) in params.iter().enumerate() {
         let holds = is_unset(binding_of(bindings, number), &param.origin, own[number]);
@@ -111,7 +111,7 @@ pub(crate) fn add_bad_params(
     requires len { length own.now ≡ length kind.now.params }
     ensures { OnOk result (out.new.items ≡ out.old.items ++ flat_map (bad_param s.now a.now) (params_at s.now a.now)) }
 {
-    let bindings = bindings_of(s, a);
+    let bindings = s.bindings_of(a);
     let params = kind.params.as_slice();
     for (number, param) in params.iter().enumerate() {
         let holds = is_bad_param(number, param, bindings, above, own);

@@ -43,11 +43,8 @@ fn execute(machine: &mut Machine) -> Result<Reply, Stop>
     requires rested { machine.old.world.rested ≡ true }
     ensures { Executes machine.old result machine.new }
 {
-    match choose(machine) {
-        Choice::Dispatch => machine.dispatch(),
-        Choice::Commit(horizon) => machine.commit(horizon),
-        Choice::Close => machine.close(),
-    }
+    let choice = choose(machine);
+    machine.execute(choice)
 }
 
 #[tactic(auto, using(crate::proofs::Going::executes_goes, crate::proofs::Going::executes_stops))]

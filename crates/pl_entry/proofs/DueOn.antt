@@ -1,5 +1,5 @@
 -- What is due, and what comes to be due as the present moves on.
-use Rattle.std.proofs.Common.{◌≡◌, ℕ, ◌<◌, ◌≤◌, ltb, true, List, [], ◌∷◌, ◌++◌, Some, Result, Ok, Err, IfOk, sym, ◌∙◌, ap, arith, ◌⊎◌, inl, inr}
+use Rattle.std.proofs.Common.{◌≡◌, ℕ, ◌<◌, ◌≤◌, ltb, true, List, [], ◌∷◌, ◌++◌, Some, sym, ◌∙◌, ap, arith, ◌⊎◌, inl, inr}
 use Rattle.std.specs.Prelude.{All, AllPairs, Contains}
 use Rattle.std.proofs.lemmas.Bool.{cases_lt, and_parts, and_from, ltb-true, lt-ltb}
 use Rattle.std.proofs.lemmas.List.Elements.{All-append, All-head, All-tail, All-weaker, All-contains_itself, Contains-append_left, Contains-append_right, Contains-append_cases}
@@ -89,7 +89,3 @@ module _ (model : Model) (xs : List Activity) (rising : AreRising xs) (before no
     members = λ id. (there id, back id);
     order = pairs_joined (Before xs) old new old_is.order new_order across;
   }))
-
-pub due_since_result : (model : Model) (xs : List Activity) → AreRising xs → (before now c : ℕ) → before ≤ now → {V E : Type 0} → (items : V → List ℕ) (r : Result V E) → IfOk r (λ v. items v ≡ due_since model xs before now c) → IfOk r (λ v. due_of model xs now c ≡ due_of model xs before c ++ items v)
-due_since_result model xs rising before now c le items (Ok v) e = due_goes_on model xs rising before now c le ∙ ap (λ l. due_of model xs before c ++ l) (sym e)
-due_since_result model xs rising before now c le items (Err x) e = tt

@@ -17,4 +17,4 @@ pub use laws::{laws_of_due, laws_of_horizon};
 pub use reply::{Reason, Reply, Values};
 pub use sending::due;
 pub use sharing::shared_types;
-pub use since::{due_since, due_since_among};
+pub use since::due_since_among;

@@ -1,12 +1,10 @@
-ghost use Rattle.std.specs.Prelude.{◌≡◌, ◌<◌, ◌≤◌, ◌++◌, All, length, IfOk, OnOk, if◌then◌else◌};
+ghost use Rattle.std.specs.Prelude.{◌≡◌, ◌<◌, All, length, IfOk, OnOk, if◌then◌else◌};
 ghost use Rattle.std.specs.BTreeSet.{insert_key};
-ghost use Rattle.pl_plan.specs.Activities.{AreRising};
-ghost use Rattle.pl_plan.specs.Fitting.{Fits};
-ghost use Rattle.pl_entry.specs.Due.{is_due_since, start_of, start_cmp, starts_since, due_since, due_of};
+ghost use Rattle.pl_entry.specs.Due.{is_due_since, start_of, start_cmp, starts_since, due_since};
 
 use crate::sending::{ids_in, is_due};
 use pl_model::Model;
-use pl_plan::{Activity, Plan};
+use pl_plan::Activity;
 use std::alloc::{AllocError, Global};
 use std::collections::BTreeSet;
 
@@ -60,21 +58,4 @@ pub fn due_since_among(
 {
     let starts = starts_since(alloc, model, activities, before, now, c)?;
     ids_in(alloc, &starts)
-}
-
-/// The ids of the activities that come to be due as the present moves on from `before`, in the order of `due`: behind those that
-/// were due they are all that are due.
-pub fn due_since(
-    alloc: Global,
-    model: &Model,
-    plan: &Plan,
-    before: u32,
-    now: u32,
-    c: u32,
-) -> Result<Vec<u32>, AllocError>
-    requires fits { Fits model.now plan.now.activities }
-    requires later { before ≤ now }
-    ensures { IfOk result (λ ids. due_of model.now plan.now.activities now c ≡ due_of model.now plan.now.activities before c ++ ids.items) }
-{
-    due_since_among(alloc, model, plan.activities(), before, now, c)
 }

@@ -2,6 +2,7 @@ mod appending;
 mod choosing;
 mod closing;
 mod committing;
+mod executing;
 mod fixing;
 mod listening;
 mod mending;

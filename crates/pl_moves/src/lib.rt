@@ -32,6 +32,6 @@ pub use laws::laws_of_repairs;
 pub use least::least_left;
 pub use legality::{is_legal, legal};
 pub use move_fault::MoveFault;
-pub use properness::proper;
+pub use properness::{is_free, is_proper, proper};
 pub use runs::{RunCounts, goes_on, left_after_run, start_of};
 pub use sharing::shared_types;

@@ -1,12 +1,10 @@
 ghost use Rattle.std.specs.Prelude.{◌≡◌, ◌&&◌, false, not, nat_lt, length, is_none, is_some};
 ghost use Rattle.pl_plan.specs.Values.{binding_of};
 ghost use Rattle.pl_world.specs.PlanStates.{found, goal_at, is_open};
-ghost use Rattle.pl_world.specs.Moves.{holds, alternatives_at, is_proper, is_set_origin, is_wanted, takes_value};
+ghost use Rattle.pl_world.specs.Moves.{holds, alternatives_at, is_free, is_proper, is_set_origin, is_wanted, takes_value};
 
-use crate::lookups::{alternatives_in, bindings_at, param_at};
 use pl_board::Board;
-use pl_facts::Goal;
-use pl_model::{Expr, Origin};
+use pl_model::{Expr, Origin, Param};
 use pl_plan::{Activity, RepairMove};
 use pl_world::PlanState;
 
@@ -30,25 +28,23 @@ fn is_set(origin: &Origin) -> bool
     }
 }
 
+/// Whether the parameter of this number is neither bound nor dependent.
+pub fn is_free(bindings: &[(u8, Expr)], number: u8, param: &Param) -> bool
+    ensures { result ≡ is_free bindings.now (number, param.now) }
+{
+    is_unbound(bindings, number) && is_set(&param.origin)
+}
+
 // The parameter is free, and the value lies from its low to its high.
 fn takes_value(s: &PlanState, a: &Activity, number: u8, value: i64) -> bool
     ensures { result ≡ takes_value s.now a.now number value }
 {
-    match param_at(s.model.get(), a, number) {
+    match s.params_of(a).get(number as usize) {
         Some(param) => {
-            is_unbound(bindings_at(s, a.parent), number)
-                && is_set(&param.origin)
-                && param.low <= value
-                && value <= param.high
+            is_free(s.bindings_of(a), number, param) && param.low <= value && value <= param.high
         }
         None => false,
     }
-}
-
-fn is_open(s: &PlanState, goal: &Goal) -> bool
-    ensures { result ≡ is_open s.now goal.now }
-{
-    !goal.dropped && !s.plan.is_served(goal.number)
 }
 
 // No goal, or an open one of this kind.
@@ -57,7 +53,7 @@ fn is_wanted(s: &PlanState, kind: u32, goal: Option<u32>) -> bool
 {
     match goal {
         Some(number) => match s.goals.get(number) {
-            Some(goal) => is_open(s, goal) && goal.kind == kind,
+            Some(goal) => s.is_open(goal) && goal.kind == kind,
             None => false,
         },
         None => true,
@@ -68,7 +64,7 @@ fn can_drop(s: &PlanState, number: u32) -> bool
     ensures { result ≡ holds (λ g. is_open s.now g && not g.must) (goal_at s.now number) }
 {
     match s.goals.get(number) {
-        Some(goal) => is_open(s, goal) && !goal.must,
+        Some(goal) => s.is_open(goal) && !goal.must,
         None => false,
     }
 }
@@ -96,9 +92,7 @@ fn can_detail(s: &PlanState, id: u32, alternative: u32) -> bool
     ensures { result ≡ holds (λ a. is_none a.detail && nat_lt alternative (length (alternatives_at s.now a))) (found s.now id) }
 {
     match s.plan.get(id) {
-        Some(a) => {
-            a.detail.is_none() && (alternative as usize) < alternatives_in(s.model.get(), a).len()
-        }
+        Some(a) => a.detail.is_none() && (alternative as usize) < s.alternatives_of(a).len(),
         None => false,
     }
 }
@@ -118,8 +112,9 @@ fn can_add(s: &PlanState, kind: u32, goal: Option<u32>) -> bool
     (kind as usize) < s.model.get().kinds.len() && is_wanted(s, kind, goal)
 }
 
+/// Whether the move makes sense in this plan state, be it refused or not.
 #[tactic(auto, unfolding(pl_world::specs::Moves::is_proper))]
-fn is_proper(s: &PlanState, mv: &RepairMove) -> bool
+pub fn is_proper(s: &PlanState, mv: &RepairMove) -> bool
     ensures { result ≡ is_proper s.now mv.now }
 {
     match *mv {
@@ -133,7 +128,7 @@ fn is_proper(s: &PlanState, mv: &RepairMove) -> bool
     }
 }
 
-/// Whether the move makes sense on this board, be it refused or not.
+/// The same on a board.
 pub fn proper(board: &Board, mv: &RepairMove) -> bool
     requires { board.now.spoiled ≡ false }
     ensures { result ≡ is_proper board.now.state mv.now }

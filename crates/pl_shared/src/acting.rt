@@ -5,7 +5,6 @@ ghost use Rattle.pl_shared.specs.Inside.{ActsIn};
 ghost use Rattle.pl_shared.specs.Plans.{BelongsTo};
 ghost use Rattle.pl_shared.specs.Turns.{TakesTurn, Acts};
 
-use crate::executing::execute;
 use crate::held::Held;
 use crate::plan::{Pass, SharedPlan};
 use crate::role::{Acted, Role};
@@ -47,7 +46,7 @@ impl Held {
         requires enabled { is_enabled self.old.machine.world (event_of choice) ≡ true }
         ensures { ActsIn Role.Executive self.old result Role.Executive self.new }
     {
-        match execute(&mut self.machine, choice) {
+        match self.machine.execute(choice) {
             Ok(_) => Ok(Acted::Did(self.last_number())),
             Err(stop) => Err(stop),
         }

@@ -4,7 +4,6 @@
 mod acting;
 mod bell;
 mod copying;
-mod executing;
 mod feeding;
 mod held;
 mod inside;

@@ -1,3 +1,5 @@
+pub mod Found
+pub mod Children
 pub mod Crossing
 pub mod Owning
 pub mod Subjects

@@ -3,6 +3,7 @@ pub mod Whole
 pub mod Goals
 pub mod Activities
 pub mod Links
+pub mod Slots
 pub mod Demands
 pub mod Telemetry
 pub mod Timelines

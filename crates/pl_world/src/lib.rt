@@ -4,9 +4,11 @@
 mod demand;
 mod laws;
 mod plan_state;
+mod reading;
 mod refusal;
 mod shared_model;
 mod sharing;
+mod slots;
 
 pub use demand::{Asked, Demand};
 pub use laws::{
