@@ -36,7 +36,7 @@ why_known : (old new : Reader) (before after : Option (List ℕ)) (f : LineFault
 why_known old new None after f is = tt
 why_known old new (Some bytes) after fault.Read is = tt
 why_known old new (Some bytes) after (fault.Long n) is = is.0
-why_known old new (Some bytes) after fault.Total is = is
+why_known old new (Some bytes) after fault.Total is = is.0
 why_known old new (Some bytes) after fault.Memory is = tt
 
 -- what a fault shows is said of the reader's limits, which it leaves as they were
