@@ -233,7 +233,7 @@ why_stuck ended.Memory place left rest limit working why is = absurd why
 leaves_by : (old new : Reader) (lines : List (List ℕ)) (left : ℕ) (rest after : Option (List ℕ)) → StopsAt old lines left rest fault.Read new after → ReadLeaves old.limit left rest new.held after
 leaves_by old new lines left rest after stops = record {
   shows = subst (λ n. shows_next n left new.held ≡ false) stops.limit (subst (λ n. shows_next new.limit n new.held ≡ false) stops.room stops.shown);
-  kept = stops.kept refl;
+  kept = stops.kept;
 }
 
 read_leaves_by : (place last : Place) (lines : List (List ℕ)) (left : ℕ) (rest : Option (List ℕ)) (f : LineFault) → IsCauseOf ended.ReadFault f → StopsAt place.reader lines left rest f last.reader last.ahead → ReadLeaves place.reader.limit left rest last.reader.held last.ahead
