@@ -61,14 +61,15 @@ pub record IsNextLine (old new : Reader) (bytes : List ℕ) (after : Option (Lis
   pub rest : after ≡ Some (after_line bytes)
   pub room : new.room + length bytes ≡ old.room + length (after_line bytes)
 
--- What the answer says of the bytes that were ahead, `after` being those that are ahead now. A failed read loses none.
+-- What the answer says of the bytes that were ahead, `after` being those that are ahead now. No fault but want of memory loses
+-- one of them.
 abbrev pub Answers : (old new : Reader) (bytes : List ℕ) (after : Option (List ℕ))
     → Result (Option NumberedLine) LineFault → Type 0
 Answers old new bytes after (Ok (Some line)) = IsNextLine old new bytes after line
 Answers old new bytes after (Ok None) = (next_of old.limit old.room bytes ≡ ended) × (after ≡ Some [])
 Answers old new bytes after (Err (Long n)) =
-    (next_of old.limit old.room bytes ≡ line_too_long) × (n ≡ old.number + 1)
-Answers old new bytes after (Err Total) = next_of old.limit old.room bytes ≡ input_too_long
+    (next_of old.limit old.room bytes ≡ line_too_long) × (n ≡ old.number + 1) × (after ≡ Some bytes)
+Answers old new bytes after (Err Total) = (next_of old.limit old.room bytes ≡ input_too_long) × (after ≡ Some bytes)
 Answers old new bytes after (Err Read) = after ≡ Some bytes
 Answers old new bytes after (Err Memory) = ⊤
 

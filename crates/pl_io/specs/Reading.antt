@@ -47,11 +47,11 @@ FailsOutside before now (Long n) = ⊥
 FailsOutside before now Total = ⊥
 FailsOutside before now Memory = ⊤
 
--- the bytes that were ahead are so still where a read failed
+-- the bytes that were ahead are so still, but where memory was wanting
 abbrev pub KeepsAhead : (bytes : List ℕ) (after : Option (List ℕ)) → LineFault → Type 0
 KeepsAhead bytes after Read = after ≡ Some bytes
-KeepsAhead bytes after (Long n) = ⊤
-KeepsAhead bytes after Total = ⊤
+KeepsAhead bytes after (Long n) = after ≡ Some bytes
+KeepsAhead bytes after Total = after ≡ Some bytes
 KeepsAhead bytes after Memory = ⊤
 
 -- a line of this many bytes stands at the front of the held bytes
@@ -79,8 +79,8 @@ Reaches old new bytes after (Ok (Some len)) =
     → after_line bytes ≡ drop (len + 1) new.held ++ more)
 Reaches old new bytes after (Ok None) = (next_of old.limit old.room bytes ≡ ended) × (after ≡ Some [])
 Reaches old new bytes after (Err (Long n)) =
-    (next_of old.limit old.room bytes ≡ line_too_long) × (n ≡ old.number + 1)
-Reaches old new bytes after (Err Total) = next_of old.limit old.room bytes ≡ input_too_long
+    (next_of old.limit old.room bytes ≡ line_too_long) × (n ≡ old.number + 1) × (after ≡ Some bytes)
+Reaches old new bytes after (Err Total) = (next_of old.limit old.room bytes ≡ input_too_long) × (after ≡ Some bytes)
 Reaches old new bytes after (Err Read) = after ≡ Some bytes
 Reaches old new bytes after (Err Memory) = ⊤
 

@@ -97,8 +97,8 @@ pub right_not_refused : (form : Form) (input : List ℕ) (left held now other_le
 right_not_refused form input left held now other_left other_held other_now right refused =
     no_model_of journal_line_limit input right.words right.model other_left other_held other_now (taken_text input right.words right.behind [] left right.read) right.accepted refused
 
-pub right_not_past : (form : Form) (input : List ℕ) (left held now other_held other_now : Option (List ℕ)) → IsRightJournal form input left held now → IsPastJournal input other_held other_now → ⊥
-right_not_past form input left held now other_held other_now right past =
+pub right_not_past : (form : Form) (input : List ℕ) (left held now other_left other_held other_now : Option (List ℕ)) → IsRightJournal form input left held now → IsPastJournal input other_left other_held other_now → ⊥
+right_not_past form input left held now other_left other_held other_now right past =
     all_or_stuck journal_line_limit past.lines right.read.lines past.left past.rest right.read.left []
     (goes_on journal_line_limit total_limit input past.lines right.read.lines past.left past.rest right.read.left [] past.why past.gave right.read.gave) refl past.why
 
@@ -106,15 +106,15 @@ pub wrong_not_refused : (input : List ℕ) (left held now other_left other_held 
 wrong_not_refused input left held now other_left other_held other_now wrong refused =
     no_model_of journal_line_limit input wrong.words wrong.model other_left other_held other_now (taken_text input wrong.words wrong.behind wrong.rest left wrong.read) wrong.accepted refused
 
-pub no_journal_not_past : (input : List ℕ) (left held now other_held other_now : Option (List ℕ)) → IsNoModel journal_line_limit input left held now → IsPastJournal input other_held other_now → ⊥
-no_journal_not_past input left held now other_held other_now refused past = by_asked past.asked
+pub no_journal_not_past : (input : List ℕ) (left held now other_left other_held other_now : Option (List ℕ)) → IsNoModel journal_line_limit input left held now → IsPastJournal input other_left other_held other_now → ⊥
+no_journal_not_past input left held now other_left other_held other_now refused past = by_asked past.asked
   where
     by_asked : (model_text_of past.lines ≡ None) ⊎ IsRightSoFar past.lines → ⊥
     by_asked (inl none) = head_not_past journal_line_limit input past.lines past.left past.rest left held now past.why past.gave none refused
     by_asked (inr so_far) = no_model_of journal_line_limit input so_far.words so_far.model left held now (split_text journal_line_limit input past.lines past.left past.rest so_far.words past.gave so_far.text) so_far.accepted refused
 
-pub wrong_not_past : (input : List ℕ) (left held now other_held other_now : Option (List ℕ)) → IsWrongJournal input left held now → IsPastJournal input other_held other_now → ⊥
-wrong_not_past input left held now other_held other_now wrong past = by_wrong wrong.wrong
+pub wrong_not_past : (input : List ℕ) (left held now other_left other_held other_now : Option (List ℕ)) → IsWrongJournal input left held now → IsPastJournal input other_left other_held other_now → ⊥
+wrong_not_past input left held now other_left other_held other_now wrong past = by_wrong wrong.wrong
   where
     on : GoesOn journal_line_limit past.lines wrong.read.lines past.left past.rest wrong.read.left wrong.rest
     on = goes_on journal_line_limit total_limit input past.lines wrong.read.lines past.left past.rest wrong.read.left wrong.rest past.why past.gave wrong.read.gave
@@ -137,8 +137,8 @@ wrong_not_past input left held now other_held other_now wrong past = by_wrong wr
 
 -- ---- an input within the limits
 
-pub journal_within : (input : List ℕ) (held now : Option (List ℕ)) → IsWithinLimits journal_line_limit input → IsPastJournal input held now → ⊥
-journal_within input held now within past = is_within journal_line_limit input past.lines past.left past.rest within past.gave past.why
+pub journal_within : (input : List ℕ) (left held now : Option (List ℕ)) → IsWithinLimits journal_line_limit input → IsPastJournal input left held now → ⊥
+journal_within input left held now within past = is_within journal_line_limit input past.lines past.left past.rest within past.gave past.why
 
 -- ---- what the journal is decides
 
@@ -148,7 +148,7 @@ right_decides form input left held now status says (is_done e) no_read no_write 
 right_decides form input left held now status says (is_refused e) no_read no_write has = absurd (no_model_of journal_line_limit input has.words has.model left held now has.text has.accepted (says.refused e))
 right_decides form input left held now status says (is_read e) no_read no_write has = absurd (no_read e)
 right_decides form input left held now status says (is_write e) no_read no_write has = absurd (no_write e)
-right_decides form input left held now status says (is_limit e) no_read no_write has = absurd (has.no_limit held now (says.limit e))
+right_decides form input left held now status says (is_limit e) no_read no_write has = absurd (has.no_limit left held now (says.limit e))
 right_decides form input left held now status says (is_full e) no_read no_write has = absurd (says.never_full e)
 right_decides form input left held now status says (is_wrong e) no_read no_write has =
     let wrong = says.wrong e in
@@ -163,7 +163,7 @@ wrong_decides form input left held now status says (is_wrong e) no_read no_write
 wrong_decides form input left held now status says (is_refused e) no_read no_write has = absurd (no_model_of journal_line_limit input has.words has.model left held now has.text has.accepted (says.refused e))
 wrong_decides form input left held now status says (is_read e) no_read no_write has = absurd (no_read e)
 wrong_decides form input left held now status says (is_write e) no_read no_write has = absurd (no_write e)
-wrong_decides form input left held now status says (is_limit e) no_read no_write has = absurd (has.no_limit held now (says.limit e))
+wrong_decides form input left held now status says (is_limit e) no_read no_write has = absurd (has.no_limit left held now (says.limit e))
 wrong_decides form input left held now status says (is_full e) no_read no_write has = absurd (says.never_full e)
 wrong_decides form input left held now status says (is_done e) no_read no_write has =
     let right = says.done e in

@@ -61,12 +61,12 @@ head_not_past limit input xs room rest left held now stuck gave none (no_begin l
 head_not_past limit input xs room rest left held now stuck gave none (faulty words line head refused adds) =
     no_text xs words (text_then_limit limit input xs head.lines room rest head.left head.rest words stuck gave head.gave head.head) none
 
-pub found_not_past : (input : List ℕ) (left held now other_held other_now : Option (List ℕ)) → IsFound input left held now → IsPastHead line_limit input other_held other_now → ⊥
-found_not_past input left held now other_held other_now found past =
+pub found_not_past : (input : List ℕ) (left held now other_left other_held other_now : Option (List ℕ)) → IsFound input left held now → IsPastHead line_limit input other_left other_held other_now → ⊥
+found_not_past input left held now other_left other_held other_now found past =
     no_text past.lines found.words (text_then_limit line_limit input past.lines found.begins.lines past.left past.rest found.begins.left found.begins.rest found.words past.why past.gave found.begins.gave found.begins.head) past.none
 
-pub no_model_not_past : (limit : ℕ) (input : List ℕ) (left held now other_held other_now : Option (List ℕ)) → IsNoModel limit input left held now → IsPastHead limit input other_held other_now → ⊥
-no_model_not_past limit input left held now other_held other_now none past = head_not_past limit input past.lines past.left past.rest left held now past.why past.gave past.none none
+pub no_model_not_past : (limit : ℕ) (input : List ℕ) (left held now other_left other_held other_now : Option (List ℕ)) → IsNoModel limit input left held now → IsPastHead limit input other_left other_held other_now → ⊥
+no_model_not_past limit input left held now other_left other_held other_now none past = head_not_past limit input past.lines past.left past.rest left held now past.why past.gave past.none none
 
 pub found_not_refused : (input : List ℕ) (left held now other_left other_held other_now : Option (List ℕ)) → IsFound input left held now → IsNoModel line_limit input other_left other_held other_now → ⊥
 found_not_refused input left held now other_left other_held other_now found none = no_model_of line_limit input found.words found.model other_left other_held other_now found.begins.text found.accepted none
@@ -79,8 +79,8 @@ done_not_refused turns input left held now other_left other_held other_now done 
 pub refused_not_full : (turns : ℕ) (input : List ℕ) (left held now other_left other_held other_now : Option (List ℕ)) → IsNoModel line_limit input left held now → IsFull turns input other_left other_held other_now → ⊥
 refused_not_full turns input left held now other_left other_held other_now refused full = no_model_of line_limit input full.words full.model left held now full.text full.accepted refused
 
-pub refused_not_past : (turns : ℕ) (input : List ℕ) (left held now other_held other_now : Option (List ℕ)) → IsNoModel line_limit input left held now → IsPastLimit turns input other_held other_now → ⊥
-refused_not_past turns input left held now other_held other_now refused past =
+pub refused_not_past : (turns : ℕ) (input : List ℕ) (left held now other_left other_held other_now : Option (List ℕ)) → IsNoModel line_limit input left held now → IsPastLimit turns input other_left other_held other_now → ⊥
+refused_not_past turns input left held now other_left other_held other_now refused past =
     elim past.asked [
       | inl none ↦ head_not_past line_limit input past.lines past.left past.rest left held now past.why past.gave none.0 refused
       | inr waits ↦ no_model_of line_limit input waits.words waits.model left held now (split_text line_limit input past.lines past.left past.rest waits.words past.gave waits.text) waits.accepted refused
@@ -135,8 +135,8 @@ done_before input ys zs messages more inputs rest whole behind all no_end = by_e
           | inr q ↦ longer messages q.0 (lines_of rest) (whole ∙ messages_append ys (lines_of rest) p.0 p.1 ∙ ap (λ (ns : List Message). ns ++ messages_of (lines_of rest)) q.1)
         ]
 
-pub done_not_past : (turns : ℕ) (input : List ℕ) (left held now other_held other_now : Option (List ℕ)) → IsDone turns input left held now → IsPastLimit turns input other_held other_now → ⊥
-done_not_past turns input left held now other_held other_now done past =
+pub done_not_past : (turns : ℕ) (input : List ℕ) (left held now other_left other_held other_now : Option (List ℕ)) → IsDone turns input left held now → IsPastLimit turns input other_left other_held other_now → ⊥
+done_not_past turns input left held now other_left other_held other_now done past =
     elim past.asked [
       | inl none ↦ no_text past.lines done.words (text_then_limit line_limit input past.lines done.read.lines past.left past.rest done.read.left done.read.rest done.words past.why past.gave done.read.gave done.read.text) none.0
       | inr waits ↦ (
@@ -168,8 +168,8 @@ no_pending : (pending more : List Message) → pending ++ more ≡ [] → pendin
 no_pending [] more e = refl
 no_pending (p ∷ pending) more e = (let h : p ∷ (pending ++ more) ≡ [] = e in (cc))
 
-pub past_not_full : (turns : ℕ) (input : List ℕ) (held now other_left other_held other_now : Option (List ℕ)) → IsPastLimit turns input held now → IsFull turns input other_left other_held other_now → ⊥
-past_not_full turns input held now other_left other_held other_now past full =
+pub past_not_full : (turns : ℕ) (input : List ℕ) (left held now other_left other_held other_now : Option (List ℕ)) → IsPastLimit turns input left held now → IsFull turns input other_left other_held other_now → ⊥
+past_not_full turns input left held now other_left other_held other_now past full =
     elim past.asked [
       | inl none ↦ no_text past.lines full.words (text_then_limit line_limit input past.lines full.read.lines past.left past.rest full.read.left full.read.rest full.words past.why past.gave full.read.gave full.read.text) none.0
       | inr waits ↦ waiting_not_full waits
@@ -229,11 +229,11 @@ is_within limit input lines left rest within gave stuck =
     within_rest limit lines left rest (subst (λ (ls : Lines). All (IsShort limit) ls) (gave_lines limit total_limit input lines left rest gave) within.lines)
     (omega (arith, room_left limit total_limit input lines left rest gave, within.total)) stuck
 
-pub run_within : (turns : ℕ) (input : List ℕ) (held now : Option (List ℕ)) → IsWithinLimits line_limit input → IsPastLimit turns input held now → ⊥
-run_within turns input held now within past = is_within line_limit input past.lines past.left past.rest within past.gave past.why
+pub run_within : (turns : ℕ) (input : List ℕ) (left held now : Option (List ℕ)) → IsWithinLimits line_limit input → IsPastLimit turns input left held now → ⊥
+run_within turns input left held now within past = is_within line_limit input past.lines past.left past.rest within past.gave past.why
 
-pub head_within : (input : List ℕ) (held now : Option (List ℕ)) → IsWithinLimits line_limit input → IsPastHead line_limit input held now → ⊥
-head_within input held now within past = is_within line_limit input past.lines past.left past.rest within past.gave past.why
+pub head_within : (input : List ℕ) (left held now : Option (List ℕ)) → IsWithinLimits line_limit input → IsPastHead line_limit input left held now → ⊥
+head_within input left held now within past = is_within line_limit input past.lines past.left past.rest within past.gave past.why
 
 -- ---- a job that can be done is done
 
@@ -243,7 +243,7 @@ run_completes turns input left held now status says (is_done e) can no_read no_w
 run_completes turns input left held now status says (is_refused e) can no_read no_write = absurd (no_model_of line_limit input can.words can.model left held now can.text can.accepted (says.refused e))
 run_completes turns input left held now status says (is_read e) can no_read no_write = absurd (no_read e)
 run_completes turns input left held now status says (is_write e) can no_read no_write = absurd (no_write e)
-run_completes turns input left held now status says (is_limit e) can no_read no_write = absurd (can.no_limit held now (says.limit e))
+run_completes turns input left held now status says (is_limit e) can no_read no_write = absurd (can.no_limit left held now (says.limit e))
 run_completes turns input left held now status says (is_full e) can no_read no_write = inr (inl e)
 run_completes turns input left held now status says (is_wrong e) can no_read no_write = absurd (says.never_wrong e)
 run_completes turns input left held now status says (is_memory e) can no_read no_write = inr (inr e)
@@ -254,7 +254,7 @@ check_completes input left held now status says (is_done e) can no_read no_write
 check_completes input left held now status says (is_refused e) can no_read no_write = absurd (no_model_of line_limit input can.words can.model left held now can.text can.accepted (says.refused e))
 check_completes input left held now status says (is_read e) can no_read no_write = absurd (no_read e)
 check_completes input left held now status says (is_write e) can no_read no_write = absurd (no_write e)
-check_completes input left held now status says (is_limit e) can no_read no_write = absurd (can.no_limit held now (says.limit e))
+check_completes input left held now status says (is_limit e) can no_read no_write = absurd (can.no_limit left held now (says.limit e))
 check_completes input left held now status says (is_full e) can no_read no_write = absurd (says.never_full e)
 check_completes input left held now status says (is_wrong e) can no_read no_write = absurd (says.never_wrong e)
 check_completes input left held now status says (is_memory e) can no_read no_write = inr e

@@ -103,10 +103,10 @@ refused_checks old new left source_left held now r is head adds refused short fa
 
 -- ---- where the reader stops
 
-pub past_head : (limit : ℕ) (new : Reader) (input : List ℕ) (source_left held : Option (List ℕ)) (f : LineFault) → HeadHalts (fresh_reader limit) (Some input) f new (ahead new.held source_left) → HaltFor f halt.Limit → IsPastHead limit input held held
+pub past_head : (limit : ℕ) (new : Reader) (input : List ℕ) (source_left held : Option (List ℕ)) (f : LineFault) → HeadHalts (fresh_reader limit) (Some input) f new (ahead new.held source_left) → HaltFor f halt.Limit → IsPastHead limit input source_left held held
 past_head limit new input source_left held f head is =
     let s = head_stopped limit new input source_left f halt.Limit head is in
-    record { lines = s.lines; left = s.left; rest = s.rest; gave = s.gave; why = s.why; none = s.none; silent = refl }
+    record { lines = s.lines; left = s.left; rest = s.rest; gave = s.gave; why = s.why; source = s.past refl; none = s.none; silent = refl }
 
 pub head_fault : (limit : ℕ) (new : Reader) (input : List ℕ) (source_left held : Option (List ℕ)) (f : LineFault) → HeadHalts (fresh_reader limit) (Some input) f new (ahead new.held source_left) → HaltFor f halt.Read → IsHeadFault limit input source_left held held
 head_fault limit new input source_left held f head is =

@@ -25,7 +25,7 @@ use Rattle.pl_stream.specs.declared.halt.Halt.TheVariants as halt
 use Rattle.pl_main.specs.declared.outcome.Outcome.{Outcome}
 use Rattle.pl_main.specs.declared.outcome.Outcome.TheVariants as outcome
 use Rattle.pl_stream.specs.Reads.{Gave, IsUsedUp, AreBlank}
-use Rattle.pl_stream.specs.Stops.{HaltFor, ReadLeaves, StopsBy}
+use Rattle.pl_stream.specs.Stops.{HaltFor, ReadLeaves, LimitLeaves, StopsBy}
 use Rattle.pl_stream.specs.Waits.{MessageGives, line_in}
 use Rattle.pl_stream.specs.Heads.{IsHead, IsBegun, HasNoBegin, HeadHalts}
 use Rattle.pl_main.specs.Tells.{FillsUp, at_once, within}
@@ -33,9 +33,9 @@ use Rattle.pl_stream.specs.Written.{Adds, WriteStops}
 use Rattle.pl_stream.specs.Places.{Place}
 use Rattle.pl_main.specs.Plays.{Plays, EndsWith, by_end, by_line, EndsAll, PlaysOut, PlayHalts, PlayFills, Playing}
 use Rattle.pl_main.specs.Runs.{fresh_state, unopened, in_opening, in_play, ModelRuns, AcceptsKept, IsKeptModel, unjudged, in_fault, in_run, TextRuns}
-use Rattle.pl_main.specs.Top.{IsReadTo, ShowsNoLine, program_options, line_limit, total_limit, fresh_reader, IsDone, HasHead, no_begin_line, IsNoModel, no_begin, WaitsBehind, IsReadFault, IsPastLimit, HasRead, IsFull}
+use Rattle.pl_main.specs.Top.{IsReadTo, ShowsNoLine, ShowsLimit, program_options, line_limit, total_limit, fresh_reader, IsDone, HasHead, no_begin_line, IsNoModel, no_begin, WaitsBehind, IsReadFault, IsPastLimit, HasRead, IsFull}
 use Rattle.pl_stream.proofs.Reading.{gave_append, gave_lines, known}
-use Rattle.pl_stream.proofs.Stopping.{read_leaves, stops_by}
+use Rattle.pl_stream.proofs.Stopping.{read_leaves, limit_leaves, stops_by}
 use Rattle.pl_stream.proofs.Beginning.{head_then}
 use Rattle.pl_stream.proofs.Writing.{adds_then, log_is_short}
 use Rattle.pl_main.proofs.Playing.{blanks_first, message_first, end_first, none_left, not_single, messages_append, inputs_append, joined}
@@ -204,6 +204,11 @@ pub shows_none : (limit left : ℕ) (told : Option (List ℕ)) (rest held : List
 shows_none limit left None rest held after source_left leaves is behind = absurd (let h : None ≡ Some rest = is in (cc))
 shows_none limit left (Some bytes) rest held after source_left leaves is behind = record { came = held; shows = leaves.shows; behind = behind ∙ leaves.kept ∙ is }
 
+-- what a fault of length leaves, where the bytes are known
+pub shows_limit : (limit left : ℕ) (told : Option (List ℕ)) (rest held : List ℕ) (after source_left : Option (List ℕ)) → LimitLeaves limit left told held after → told ≡ Some rest → ahead held source_left ≡ after → ShowsLimit limit left rest source_left
+shows_limit limit left None rest held after source_left leaves is behind = absurd (let h : None ≡ Some rest = is in (cc))
+shows_limit limit left (Some bytes) rest held after source_left leaves is behind = record { came = held; few = leaves.few; shows = leaves.shows; behind = behind ∙ leaves.kept ∙ is }
+
 -- the lines behind which no line was given
 pub record IsStopped (e : Halt) (turns : ℕ) (input : List ℕ) (source_left held now : Option (List ℕ)) : Type 0 where
   pub lines : List (List ℕ)
@@ -212,10 +217,11 @@ pub record IsStopped (e : Halt) (turns : ℕ) (input : List ℕ) (source_left he
   pub gave : Gave line_limit total_limit input lines left rest
   pub why : StopsBy e line_limit left (Some rest)
   pub source : e ≡ halt.Read → ShowsNoLine line_limit left rest source_left
+  pub past : e ≡ halt.Limit → ShowsLimit line_limit left rest source_left
   pub asked : ((model_text_of lines ≡ None) × (now ≡ held)) ⊎ WaitsBehind turns lines held now
 
-pub past_limit : (turns : ℕ) (input : List ℕ) (source_left held now : Option (List ℕ)) → IsStopped halt.Limit turns input source_left held now → IsPastLimit turns input held now
-past_limit turns input source_left held now s = record { lines = s.lines; left = s.left; rest = s.rest; gave = s.gave; why = s.why; asked = s.asked }
+pub past_limit : (turns : ℕ) (input : List ℕ) (source_left held now : Option (List ℕ)) → IsStopped halt.Limit turns input source_left held now → IsPastLimit turns input source_left held now
+past_limit turns input source_left held now s = record { lines = s.lines; left = s.left; rest = s.rest; gave = s.gave; why = s.why; source = s.past refl; asked = s.asked }
 
 pub read_fault : (turns : ℕ) (input : List ℕ) (source_left held now : Option (List ℕ)) → IsStopped halt.Read turns input source_left held now → IsReadFault turns input source_left held now
 read_fault turns input source_left held now s = record { lines = s.lines; left = s.left; rest = s.rest; gave = s.gave; source = s.source refl; asked = s.asked }
@@ -236,6 +242,9 @@ stopped_ends e turns input words heads_rest heads m start place source_left held
       source = λ read.
           shows_none line_limit plays.left plays.rest k.rest place.reader.held place.ahead source_left
           (subst (λ n. ReadLeaves n plays.left plays.rest place.reader.held place.ahead) begins.limit (plays.leaves read)) k.is behind;
+      past = λ over.
+          shows_limit line_limit plays.left plays.rest k.rest place.reader.held place.ahead source_left
+          (subst (λ n. LimitLeaves n plays.left plays.rest place.reader.held place.ahead) begins.limit (plays.past over begins.few)) k.is behind;
       asked = inr record {
         model = m;
         log = opening (program_options turns) ∷ plays.entries;
@@ -515,6 +524,7 @@ pub record IsHeadStopped (e : Halt) (limit : ℕ) (input : List ℕ) (source_lef
   pub gave : Gave limit total_limit input lines left rest
   pub why : StopsBy e limit left (Some rest)
   pub source : e ≡ halt.Read → ShowsNoLine limit left rest source_left
+  pub past : e ≡ halt.Limit → ShowsLimit limit left rest source_left
   pub none : model_text_of lines ≡ None
 
 pub head_stopped : (limit : ℕ) (new : Reader) (input : List ℕ) (source_left : Option (List ℕ)) (f : LineFault) (e : Halt) → HeadHalts (fresh_reader limit) (Some input) f new (ahead new.held source_left) → HaltFor f e → IsHeadStopped e limit input source_left
@@ -530,6 +540,9 @@ head_stopped limit new input source_left f e head is =
       source = λ read.
           shows_none limit halts.left halts.rest k.rest new.held (ahead new.held source_left) source_left
           (read_leaves (fresh_reader limit) new (Some input) (ahead new.held source_left) head.lines f halts (subst (λ (h : Halt). HaltFor f h) read is)) k.is refl;
+      past = λ over.
+          shows_limit limit halts.left halts.rest k.rest new.held (ahead new.held source_left) source_left
+          (limit_leaves (fresh_reader limit) new (Some input) (ahead new.held source_left) head.lines f halts (subst (λ (h : Halt). HaltFor f h) over is) (omega arith)) k.is refl;
       none = head.none;
     }
 

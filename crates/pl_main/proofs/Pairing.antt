@@ -21,7 +21,7 @@ use Rattle.pl_stream.specs.declared.halt.Halt.{Halt}
 use Rattle.pl_stream.specs.declared.halt.Halt.TheVariants as halt
 use Rattle.pl_stream.specs.Heads.{IsBegun, HasNoBegin, HeadHalts}
 use Rattle.pl_stream.specs.Reads.{Gave, IsUsedUp, StopsAt}
-use Rattle.pl_stream.specs.Stops.{HaltFor, IsStuck, ReadLeaves}
+use Rattle.pl_stream.specs.Stops.{HaltFor, IsStuck, ReadLeaves, LimitLeaves}
 use Rattle.pl_stream.specs.Written.{Adds}
 use Rattle.pl_stream.proofs.Reading.{known, gave_append, gave_lines}
 use Rattle.pl_pair.specs.declared.ended.Ended.{Ended}
@@ -32,11 +32,11 @@ use Rattle.pl_pair.proofs.Running.{runs_none}
 use Rattle.pl_main.specs.declared.outcome.Outcome.{Outcome}
 use Rattle.pl_main.specs.declared.outcome.Outcome.TheVariants as outcome
 use Rattle.pl_main.specs.Runs.{fresh_state, AcceptsKept}
-use Rattle.pl_main.specs.Top.{line_limit, total_limit, fresh_reader, no_begin_line, HasRead, ShowsNoLine, faulty}
+use Rattle.pl_main.specs.Top.{line_limit, total_limit, fresh_reader, no_begin_line, HasRead, ShowsNoLine, ShowsLimit, faulty}
 use Rattle.pl_main.specs.Pairs.{IsPaired, IsPairDone, PairWaitsBehind, IsPairFull, HasPairBegun, IsPairTorn, torn_refusal, torn_run, WasGiven, ReadsInPart, to_last, to_next, at_next, IsPairShort, silent, of_run, Paired, PairedKnown, outcome_of, PairTextTorn, in_refusal, in_writing, PairTextShort, at_once, in_run, PairTextRuns}
-use Rattle.pl_stream.proofs.Stopping.{never_full, never_writes}
+use Rattle.pl_stream.proofs.Stopping.{never_full, never_writes, limit_stops}
 use Rattle.pl_stream.proofs.Beginning.{head_then}
-use Rattle.pl_main.proofs.Ending.{split_is, begins_at, begins_nowhere, head_stopped, shows_none, fresh_begun, fresh_nowhere, fresh_halts}
+use Rattle.pl_main.proofs.Ending.{split_is, begins_at, begins_nowhere, head_stopped, shows_none, shows_limit, fresh_begun, fresh_nowhere, fresh_halts}
 
 -- ---- a machine that was not opened
 
@@ -217,6 +217,7 @@ record IsStopped (e : Ended) (turns seed : ℕ) (input : List ℕ) (source_left 
   gave : Gave line_limit total_limit input lines left rest
   why : e ≡ ended.InputLimit → IsStuck line_limit left rest
   source : e ≡ ended.ReadFault → ShowsNoLine line_limit left rest source_left
+  past : e ≡ ended.InputLimit → ShowsLimit line_limit left rest source_left
   waits : PairWaitsBehind turns seed lines held now
 
 -- a reader that works had met no limit
@@ -233,7 +234,7 @@ why_stuck ended.Memory place left rest limit working why is = absurd why
 leaves_by : (old new : Reader) (lines : List (List ℕ)) (left : ℕ) (rest after : Option (List ℕ)) → StopsAt old lines left rest fault.Read new after → ReadLeaves old.limit left rest new.held after
 leaves_by old new lines left rest after stops = record {
   shows = subst (λ n. shows_next n left new.held ≡ false) stops.limit (subst (λ n. shows_next new.limit n new.held ≡ false) stops.room stops.shown);
-  kept = stops.kept refl;
+  kept = stops.kept;
 }
 
 read_leaves_by : (place last : Place) (lines : List (List ℕ)) (left : ℕ) (rest : Option (List ℕ)) (f : LineFault) → IsCauseOf ended.ReadFault f → StopsAt place.reader lines left rest f last.reader last.ahead → ReadLeaves place.reader.limit left rest last.reader.held last.ahead
@@ -244,6 +245,18 @@ read_leaves_by place last lines left rest fault.Memory cause stops = absurd caus
 
 stopped_leaves : (e : Ended) (place last : Place) (lines : List (List ℕ)) (left : ℕ) (rest : Option (List ℕ)) → StoppedBy e place lines left rest last → e ≡ ended.ReadFault → ReadLeaves place.reader.limit left rest last.reader.held last.ahead
 stopped_leaves e place last lines left rest stopped is = read_leaves_by place last lines left rest stopped.reason (subst (λ (x : Ended). IsCauseOf x stopped.reason) is stopped.cause) stopped.stops
+
+-- what ends a run of a pair by a limit is a fault of length
+by_limit : (f : LineFault) → IsCauseOf ended.InputLimit f → HaltFor f halt.Limit
+by_limit fault.Read cause = absurd cause
+by_limit (fault.Long n) cause = refl
+by_limit fault.Total cause = refl
+by_limit fault.Memory cause = absurd cause
+
+stopped_past : (e : Ended) (place last : Place) (lines : List (List ℕ)) (left : ℕ) (rest : Option (List ℕ)) → StoppedBy e place lines left rest last → e ≡ ended.InputLimit → length place.reader.held < read_size
+    → LimitLeaves place.reader.limit left rest last.reader.held last.ahead
+stopped_past e place last lines left rest stopped is small =
+    limit_stops place.reader last.reader lines left rest last.ahead stopped.reason stopped.stops (by_limit stopped.reason (subst (λ (x : Ended). IsCauseOf x stopped.reason) is stopped.cause)) small
 
 until : (e : Ended) (turns seed : ℕ) (input words : List ℕ) (place last : Place) (m : Model) (source_left held now : Option (List ℕ)) → IsBehind input words place → IsModelText words m → ahead last.reader.held source_left ≡ last.ahead
     → (run : PairRun seed (fresh_state turns m) place held e last now) → RunsUntil e m run.log run.entries place held last now → IsStopped e turns seed input source_left held now
@@ -261,6 +274,9 @@ until e turns seed input words place last m source_left held now behind accepted
       source = λ read.
           shows_none line_limit g.left g.rest k.rest last.reader.held last.ahead source_left
           (subst (λ n. ReadLeaves n g.left g.rest last.reader.held last.ahead) behind.limit (stopped_leaves e place last g.lines g.left g.rest (g.stopped behind.working) read)) k.is same;
+      past = λ over.
+          shows_limit line_limit g.left g.rest k.rest last.reader.held last.ahead source_left
+          (subst (λ n. LimitLeaves n g.left g.rest last.reader.held last.ahead) behind.limit (stopped_past e place last g.lines g.left g.rest (g.stopped behind.working) over behind.few)) k.is same;
       waits = record {
         model = m;
         log = run.log;
@@ -388,7 +404,7 @@ begun_known turns seed kept start place input source_left held now (Ok outcome.R
     faulty begun.words ran.0.line (begins_at line_limit kept start.reader input start.ahead source_left begun same) (ran.0.refused begun.words begun.keeps) ran.0.written
 begun_known turns seed kept start place input source_left held now (Err halt.Limit) begun ran behind =
     let s = until ended.InputLimit turns seed input begun.words start place ran.model source_left held now (is_behind kept start input begun) (ran.text begun.words begun.keeps) behind ran.run ran.run.ends in
-    record { lines = s.lines; left = s.left; rest = s.rest; gave = s.gave; why = s.why refl; asked = inr s.waits }
+    record { lines = s.lines; left = s.left; rest = s.rest; gave = s.gave; why = s.why refl; source = s.past refl; asked = inr s.waits }
 begun_known turns seed kept start place input source_left held now (Err halt.Read) begun ran behind =
     let s = until ended.ReadFault turns seed input begun.words start place ran.model source_left held now (is_behind kept start input begun) (ran.text begun.words begun.keeps) behind ran.run ran.run.ends in
     record { lines = s.lines; left = s.left; rest = s.rest; gave = s.gave; source = s.source refl; asked = inr s.waits }
@@ -424,7 +440,7 @@ head_ran : (turns seed : ℕ) (new : Reader) (input source_left held : Option (L
 head_ran turns seed new None source_left held f e head is = tt
 head_ran turns seed new (Some input) source_left held f halt.Limit head is =
     let s = head_stopped line_limit new input source_left f halt.Limit head is in
-    record { lines = s.lines; left = s.left; rest = s.rest; gave = s.gave; why = s.why; asked = inl (s.none, refl) }
+    record { lines = s.lines; left = s.left; rest = s.rest; gave = s.gave; why = s.why; source = s.past refl; asked = inl (s.none, refl) }
 head_ran turns seed new (Some input) source_left held f halt.Full head is = absurd (never_full f is)
 head_ran turns seed new (Some input) source_left held f halt.Read head is =
     let s = head_stopped line_limit new input source_left f halt.Read head is in

@@ -21,14 +21,14 @@ use Rattle.pl_render.proofs.Texts.{text_joined}
 use Rattle.pl_stream.specs.declared.halt.Halt.{Halt}
 use Rattle.pl_stream.specs.declared.halt.Halt.TheVariants as halt
 use Rattle.pl_stream.specs.Reads.{GaveKnown, IsUsedUp, AreBlank}
-use Rattle.pl_stream.specs.Stops.{HaltFor, ReadLeaves, StopsBy}
+use Rattle.pl_stream.specs.Stops.{HaltFor, ReadLeaves, LimitLeaves, StopsBy}
 use Rattle.pl_stream.specs.Waits.{GetsFault, MessageGives, line_in}
 use Rattle.pl_main.specs.Tells.{IsReady, Told, FillsUp, at_once, within}
 use Rattle.pl_stream.specs.Written.{Adds, WriteStops}
 use Rattle.pl_stream.specs.Places.{Place}
 use Rattle.pl_main.specs.Plays.{Plays, EndsAll, by_end, by_line, PlaysOut, PlayHalts, Answered, Filled, untold, told_in_part, Answering, StepsOn, StepFills, StepHalts, unread, unheard, unwritten, PlayFills, Steps, Playing}
 use Rattle.pl_stream.proofs.Reading.{took_none, took_more, gave_later}
-use Rattle.pl_stream.proofs.Stopping.{never_full, never_writes, read_leaves, stops_by}
+use Rattle.pl_stream.proofs.Stopping.{never_full, never_writes, read_leaves, limit_leaves, stops_by}
 use Rattle.pl_stream.proofs.Writing.{some_held, adds_then, appends_then}
 
 pub input_fits : (start place : Place) (message : Option NumberedLine) (line : Option (List ℕ)) → start.reader.limit ≡ 4096 → line ≡ line_in message → IfSome line (λ bytes. All (λ byte. byte < 256) bytes)
@@ -324,6 +324,9 @@ plays_halt e old mid new start middle place held written now plays step =
       leaves = λ read.
           subst (λ n. ReadLeaves n halts.left halts.rest place.reader.held place.ahead) plays.took.limit
           (read_leaves middle.reader place.reader middle.ahead place.ahead step.fault.lines step.reason halts (subst (λ (h : Halt). HaltFor step.reason h) read step.halts));
+      past = λ over small.
+          subst (λ n. LimitLeaves n halts.left halts.rest place.reader.held place.ahead) plays.took.limit
+          (limit_leaves middle.reader place.reader middle.ahead place.ahead step.fault.lines step.reason halts (subst (λ (h : Halt). HaltFor step.reason h) over step.halts) (plays.took.few small));
       log = ap (λ (t : State). t.log) step.same ∙ plays.log;
       solo = plays.solo;
       world = ap (λ (t : State). t.world) step.same ∙ plays.world;

@@ -16,12 +16,12 @@ use Rattle.pl_accept.specs.declared.accepting.Accepted.TheVariants as accepted
 use Rattle.pl_stream.specs.declared.halt.Halt.{Halt}
 use Rattle.pl_stream.specs.declared.halt.Halt.TheVariants as halt
 use Rattle.pl_stream.specs.Reads.{Gave, Took, IsUsedUp}
-use Rattle.pl_stream.specs.Stops.{HaltFor, ReadLeaves, StopsBy}
+use Rattle.pl_stream.specs.Stops.{HaltFor, ReadLeaves, LimitLeaves, StopsBy}
 use Rattle.pl_stream.specs.Heads.{IsBegun, HasNoBegin, HeadHalts}
 use Rattle.pl_stream.specs.Written.{Adds}
 use Rattle.pl_stream.proofs.Reading.{gave_append, known, IsKnown}
 use Rattle.pl_stream.proofs.Beginning.{head_then}
-use Rattle.pl_stream.proofs.Stopping.{never_full, never_writes, read_leaves, stops_by}
+use Rattle.pl_stream.proofs.Stopping.{never_full, never_writes, read_leaves, limit_leaves, stops_by}
 use Rattle.pl_replay.specs.declared.verdict.Verdict.{Verdict}
 use Rattle.pl_replay.specs.declared.verdict.Verdict.TheVariants as verdict
 use Rattle.pl_replay.specs.Journals.{entry_lines, lines_from, IsWrongAtLast}
@@ -32,7 +32,7 @@ use Rattle.pl_main.specs.declared.judgement.Judgement.{Judgement}
 use Rattle.pl_main.specs.declared.judgement.Judgement.TheVariants as judged
 use Rattle.pl_stream.specs.Places.{Place, place_of}
 use Rattle.pl_main.specs.Runs.{AcceptsKept, IsKeptModel, TextFails}
-use Rattle.pl_main.specs.Top.{total_limit, fresh_reader, no_begin_line, ShowsNoLine, IsNoModel, faulty}
+use Rattle.pl_main.specs.Top.{total_limit, fresh_reader, no_begin_line, ShowsNoLine, ShowsLimit, IsNoModel, faulty}
 use Rattle.pl_main.specs.Replays.{journal_line_limit, state_of, text_of_form, HasTaken, IsRightJournal, IsWrong, no_entry, wrong_last, IsWrongJournal, IsRightSoFar, IsJournalShort, of_right, of_wrong, of_refusal, ReadsBack, ReadsBackKnown, WritesAs, WritesJudged, RightBehind, WrongBehind, ShortBehind, right_cut, wrong_cut, ModelReads, TextCut, journal_cut, refusal_cut, TextReads}
 use Rattle.pl_main.proofs.Ending.{begins_at, begins_nowhere, shows_none, head_stopped, fresh_begun, fresh_nowhere, fresh_halts}
 
@@ -229,6 +229,7 @@ record IsJournalStopped (e : Halt) (input : List ℕ) (source_left : Option (Lis
   gave : Gave journal_line_limit total_limit input lines left rest
   why : StopsBy e journal_line_limit left (Some rest)
   source : e ≡ halt.Read → ShowsNoLine journal_line_limit left rest source_left
+  past : e ≡ halt.Limit → ShowsLimit journal_line_limit left rest source_left
   asked : (model_text_of lines ≡ None) ⊎ IsRightSoFar lines
 
 stopped_whole : (e : Halt) (kept : Option (Vec ℕ Global)) (start place : Place) (input : List ℕ) (source_left : Option (List ℕ)) (m : Model) (f : LineFault)
@@ -249,6 +250,10 @@ stopped_whole e kept start place input source_left m f begun text stops is behin
           (let leaves = read_leaves start.reader place.reader start.ahead place.ahead stops.lines f halts (subst (λ (h : Halt). HaltFor f h) read is) in
           shows_none journal_line_limit halts.left halts.rest l.rest place.reader.held place.ahead source_left
           (subst (λ n. ReadLeaves n halts.left halts.rest place.reader.held place.ahead) begun.took.limit leaves) l.is behind);
+      past = λ over.
+          (let leaves = limit_leaves start.reader place.reader start.ahead place.ahead stops.lines f halts (subst (λ (h : Halt). HaltFor f h) over is) (begun.took.few (omega arith)) in
+          shows_limit journal_line_limit halts.left halts.rest l.rest place.reader.held place.ahead source_left
+          (subst (λ n. LimitLeaves n halts.left halts.rest place.reader.held place.ahead) begun.took.limit leaves) l.is behind);
       asked = inr (record {
         model = m;
         log = stops.log;
@@ -289,7 +294,7 @@ begun_known form kept start place input source_left held now (Ok judged.Refused)
     refused_whole kept start place input source_left held now begun (record { line = text.0.line; refused = text.0.refused; written = no_text text.0.line }) text.0.written text.1 behind
 begun_known form kept start place input source_left held now (Err halt.Limit) begun text behind =
     let s = stopped_whole halt.Limit kept start place input source_left text.model text.reads.reason begun text.text text.reads.stops text.reads.halts behind in
-    record { lines = s.lines; left = s.left; rest = s.rest; gave = s.gave; why = s.why; asked = s.asked; silent = text.reads.silent }
+    record { lines = s.lines; left = s.left; rest = s.rest; gave = s.gave; why = s.why; source = s.past refl; asked = s.asked; silent = text.reads.silent }
 begun_known form kept start place input source_left held now (Err halt.Full) begun text behind = absurd text
 begun_known form kept start place input source_left held now (Err halt.Read) begun text behind =
     let s = stopped_whole halt.Read kept start place input source_left text.model text.reads.reason begun text.text text.reads.stops text.reads.halts behind in
@@ -338,7 +343,7 @@ head_known : (form : Form) (new : Reader) (input : List ℕ) (source_left held :
     → ReadsBack form input source_left held held (Err e)
 head_known form new input source_left held f halt.Limit head is =
     let s = head_stopped journal_line_limit new input source_left f halt.Limit head is in
-    record { lines = s.lines; left = s.left; rest = s.rest; gave = s.gave; why = s.why; asked = inl s.none; silent = refl }
+    record { lines = s.lines; left = s.left; rest = s.rest; gave = s.gave; why = s.why; source = s.past refl; asked = inl s.none; silent = refl }
 head_known form new input source_left held f halt.Full head is = absurd (never_full f is)
 head_known form new input source_left held f halt.Read head is =
     let s = head_stopped journal_line_limit new input source_left f halt.Read head is in

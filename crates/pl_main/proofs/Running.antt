@@ -75,7 +75,7 @@ head_ran : (turns : â„•) (new : Reader) (input source_left held : Option (List â
 head_ran turns new None source_left held f e head is = tt
 head_ran turns new (Some input) source_left held f halt.Limit head is =
     let s = head_stopped line_limit new input source_left f halt.Limit head is in
-    record { lines = s.lines; left = s.left; rest = s.rest; gave = s.gave; why = s.why; asked = inl (s.none, refl) }
+    record { lines = s.lines; left = s.left; rest = s.rest; gave = s.gave; why = s.why; source = s.past refl; asked = inl (s.none, refl) }
 head_ran turns new (Some input) source_left held f halt.Full head is = absurd (never_full f is)
 head_ran turns new (Some input) source_left held f halt.Read head is =
     let s = head_stopped line_limit new input source_left f halt.Read head is in

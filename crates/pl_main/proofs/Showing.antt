@@ -139,7 +139,7 @@ begun_then goals old kept new last after left held now (Ok outcome.Done) few is_
 begun_then goals old kept new last after left held now (Ok outcome.Refused) few is_fresh begun text =
     record { left = left; refused = begun_solo demo_turns old kept new last (Input goals) after left held now (Ok outcome.Refused) is_fresh begun text }
 begun_then goals old kept new last after left held now (Err halt.Limit) few is_fresh begun text =
-    run_within demo_turns (demo_text goals) None None (demo_within goals few)
+    run_within demo_turns (demo_text goals) left None None (demo_within goals few)
     (begun_solo demo_turns old kept new last (Input goals) after left None None (Err halt.Limit) is_fresh begun record { model = text.model; text = text.text; run = text.shows.run })
 begun_then goals old kept new last after left held now (Err halt.Full) few is_fresh begun text =
     record {
@@ -183,7 +183,7 @@ never_reads f is no_read = no_read (only_reads f is)
 head_then : (goals : ℕ) (old new : Reader) (left held : Option (List ℕ)) (f : LineFault) (e : Halt) → goals ≤ 4000 → old ≡ fresh_reader line_limit
     → HeadHalts old (ahead old.held (Input goals)) f new (ahead new.held left) → HaltFor f e → (f ≡ fault.Read → ⊥) → Shows goals held held (Err e)
 head_then goals old new left held f halt.Limit few is_fresh head is no_read =
-    run_within demo_turns (demo_text goals) None None (demo_within goals few) (head_solo demo_turns old new (Input goals) left None f halt.Limit is_fresh head is)
+    run_within demo_turns (demo_text goals) left None None (demo_within goals few) (head_solo demo_turns old new (Input goals) left None f halt.Limit is_fresh head is)
 head_then goals old new left held f halt.Full few is_fresh head is no_read = absurd (never_full f is)
 head_then goals old new left held f halt.Read few is_fresh head is no_read = absurd (never_reads f is no_read)
 head_then goals old new left held f halt.Write few is_fresh head is no_read = absurd (never_writes f is)

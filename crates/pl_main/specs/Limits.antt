@@ -25,7 +25,7 @@ pub record CanRun (turns : ℕ) (input : List ℕ) : Type 0 where
   pub model : Model
   pub text : (split_of input).text ≡ Some words
   pub accepted : IsModelText words model
-  pub no_limit : (held now : Option (List ℕ)) → IsPastLimit turns input held now → ⊥
+  pub no_limit : (left held now : Option (List ℕ)) → IsPastLimit turns input left held now → ⊥
 
 -- The same for a pair.
 pub record CanPair (turns seed : ℕ) (input : List ℕ) : Type 0 where
@@ -33,7 +33,7 @@ pub record CanPair (turns seed : ℕ) (input : List ℕ) : Type 0 where
   pub model : Model
   pub text : (split_of input).text ≡ Some words
   pub accepted : IsModelText words model
-  pub no_limit : (held now : Option (List ℕ)) → IsPairPastLimit turns seed input held now → ⊥
+  pub no_limit : (left held now : Option (List ℕ)) → IsPairPastLimit turns seed input left held now → ⊥
 
 -- The same for a check, which runs nothing.
 pub record CanCheck (input : List ℕ) : Type 0 where
@@ -41,7 +41,7 @@ pub record CanCheck (input : List ℕ) : Type 0 where
   pub model : Model
   pub text : (split_of input).text ≡ Some words
   pub accepted : IsModelText words model
-  pub no_limit : (held now : Option (List ℕ)) → IsPastHead line_limit input held now → ⊥
+  pub no_limit : (left held now : Option (List ℕ)) → IsPastHead line_limit input left held now → ⊥
 
 -- The input begins with the text of a model, the lines behind it that are not blank are those of a legal log, and no line passes a limit.
 pub record HasRightJournal (input : List ℕ) : Type 0 where
@@ -51,7 +51,7 @@ pub record HasRightJournal (input : List ℕ) : Type 0 where
   pub text : (split_of input).text ≡ Some words
   pub accepted : IsModelText words model
   pub journal : IsJournalOf model (entry_lines (lines_behind (lines_of input))) log
-  pub no_limit : (held now : Option (List ℕ)) → IsPastJournal input held now → ⊥
+  pub no_limit : (left held now : Option (List ℕ)) → IsPastJournal input left held now → ⊥
 
 -- Behind the text of a model there is no entry, or one is wrong: the lines up to it, and the verdict. No line that is asked for passes a limit.
 pub record HasWrongJournal (input : List ℕ) : Type 0 where
@@ -64,7 +64,7 @@ pub record HasWrongJournal (input : List ℕ) : Type 0 where
   pub accepted : IsModelText words model
   pub lines : entry_lines (lines_behind (lines_of input)) ≡ front ++ more
   pub wrong : ((front ≡ []) × (more ≡ [])) ⊎ IsWrongAtLast model front verdict
-  pub no_limit : (held now : Option (List ℕ)) → IsPastJournal input held now → ⊥
+  pub no_limit : (left held now : Option (List ℕ)) → IsPastJournal input left held now → ⊥
 
 -- The job is done, or memory is wanting, or, for a run, the log is full.
 abbrev pub IsDoneBy : Task → ℕ → Type 0

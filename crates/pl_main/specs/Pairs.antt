@@ -27,7 +27,7 @@ use Rattle.pl_pair.specs.Runs.{History, PairRun}
 use Rattle.pl_main.specs.declared.outcome.Outcome.{Outcome}
 use Rattle.pl_main.specs.declared.outcome.Outcome.TheVariants as outcome
 use Rattle.pl_main.specs.Runs.{fresh_state, IsKeptModel, TextFails}
-use Rattle.pl_main.specs.Top.{line_limit, total_limit, program_options, HasRead, ShowsNoLine, IsNoModel}
+use Rattle.pl_main.specs.Top.{line_limit, total_limit, program_options, HasRead, ShowsNoLine, ShowsLimit, IsNoModel}
 
 -- A legal log that was opened with the turns of the words and the limits of the program. Behind the open entry, inputs are the feeder's own entries, fixes and rests the planner's,
 -- commits, dispatches and closes the executive's. Each of the planner's is what its chooser, made from the seed, proposes in the world before it, or a rest, and each of the executive's what it chooses there.
@@ -64,13 +64,14 @@ pub record PairWaitsBehind (turns seed : ℕ) (lines : List (List ℕ)) (held no
   pub going : (world_of model log).done ≡ false
   pub written : Adds held now (text_of_log model log)
 
--- The line asked for is too long, or the input is: behind these lines, while the model's text was read or a message was due.
-pub record IsPairPastLimit (turns seed : ℕ) (input : List ℕ) (held now : Option (List ℕ)) : Type 0 where
+-- The line asked for is too long, or the input is: behind these lines, while the model's text was read or a message was due. The bytes that came behind them show it, and none is lost.
+pub record IsPairPastLimit (turns seed : ℕ) (input : List ℕ) (source_left held now : Option (List ℕ)) : Type 0 where
   pub lines : List (List ℕ)
   pub left : ℕ
   pub rest : List ℕ
   pub gave : Gave line_limit total_limit input lines left rest
   pub why : IsStuck line_limit left rest
+  pub source : ShowsLimit line_limit left rest source_left
   pub asked : ((model_text_of lines ≡ None) × (now ≡ held)) ⊎ PairWaitsBehind turns seed lines held now
 
 -- A read failed: behind these lines, while the model's text was read or a message was due. The source had shown no further line.
@@ -141,7 +142,7 @@ pub data IsPairShort (turns seed : ℕ) (input : List ℕ) (source_left held now
 abbrev pub Paired : (turns seed : ℕ) → List ℕ → (source_left held now : Option (List ℕ)) → Result Outcome Halt → Type 0
 Paired turns seed input source_left held now (Ok outcome.Done) = IsPairDone turns seed input source_left held now
 Paired turns seed input source_left held now (Ok outcome.Refused) = IsNoModel line_limit input source_left held now
-Paired turns seed input source_left held now (Err halt.Limit) = IsPairPastLimit turns seed input held now
+Paired turns seed input source_left held now (Err halt.Limit) = IsPairPastLimit turns seed input source_left held now
 Paired turns seed input source_left held now (Err halt.Full) = IsPairFull turns seed input source_left held now
 Paired turns seed input source_left held now (Err halt.Read) = IsPairReadFault turns seed input source_left held now
 Paired turns seed input source_left held now (Err halt.Write) = IsPairTorn turns seed input source_left held now

@@ -16,7 +16,7 @@ use Rattle.pl_stream.specs.declared.halt.Halt.{Halt}
 use Rattle.pl_stream.specs.declared.halt.Halt.TheVariants as halt
 use Rattle.pl_stream.specs.Reads.{GaveKnown, Took}
 use Rattle.pl_main.specs.Tells.{IsReady, Told, FillsUp}
-use Rattle.pl_stream.specs.Stops.{HaltFor, ReadLeaves, StopsBy}
+use Rattle.pl_stream.specs.Stops.{HaltFor, ReadLeaves, LimitLeaves, StopsBy}
 use Rattle.pl_stream.specs.Waits.{MessageGives, GetsFault, line_in}
 use Rattle.pl_stream.specs.Places.{Place}
 use Rattle.pl_stream.specs.Written.{Adds}
@@ -71,6 +71,7 @@ pub record PlayHalts (e : Halt) (old : State) (start : Place) (held : Option (Li
   pub gave : GaveKnown start.reader.limit start.reader.room start.ahead lines left rest
   pub why : StopsBy e start.reader.limit left rest
   pub leaves : e ≡ halt.Read → ReadLeaves start.reader.limit left rest place.reader.held place.ahead
+  pub past : e ≡ halt.Limit → length start.reader.held < read_size → LimitLeaves start.reader.limit left rest place.reader.held place.ahead
   pub log : new.log ≡ old.log ++ entries
   pub solo : solo_from old.world entries
   pub world : new.world ≡ world_from old.world entries

@@ -27,7 +27,7 @@ use Rattle.pl_main.specs.declared.judgement.Judgement.{Judgement}
 use Rattle.pl_main.specs.declared.judgement.Judgement.TheVariants as judged
 use Rattle.pl_stream.specs.Places.{Place}
 use Rattle.pl_main.specs.Runs.{IsKeptModel, TextFails}
-use Rattle.pl_main.specs.Top.{total_limit, IsReadTo, ShowsNoLine, IsNoModel}
+use Rattle.pl_main.specs.Top.{total_limit, IsReadTo, ShowsNoLine, ShowsLimit, IsNoModel}
 
 -- the most bytes of a line, where a journal is read
 abbrev pub journal_line_limit : ℕ
@@ -90,13 +90,14 @@ pub record IsRightSoFar (lines : List (List ℕ)) : Type 0 where
   pub right : (log ≡ []) ⊎ Legal model log
   pub entries : entry_lines (lines_behind lines) ≡ lines_from model 0 log
 
--- The line asked for is too long, or the input is: behind these lines, while the model's text was read, or behind entries of which none is wrong. Nothing was written.
-pub record IsPastJournal (input : List ℕ) (held now : Option (List ℕ)) : Type 0 where
+-- The line asked for is too long, or the input is: behind these lines, while the model's text was read, or behind entries of which none is wrong. The bytes that came behind them show it, and none is lost. Nothing was written.
+pub record IsPastJournal (input : List ℕ) (source_left held now : Option (List ℕ)) : Type 0 where
   pub lines : List (List ℕ)
   pub left : ℕ
   pub rest : List ℕ
   pub gave : Gave journal_line_limit total_limit input lines left rest
   pub why : IsStuck journal_line_limit left rest
+  pub source : ShowsLimit journal_line_limit left rest source_left
   pub asked : (model_text_of lines ≡ None) ⊎ IsRightSoFar lines
   pub silent : now ≡ held
 
@@ -124,7 +125,7 @@ abbrev pub ReadsBack : Form → List ℕ → (source_left held now : Option (Lis
 ReadsBack form input source_left held now (Ok judged.Right) = IsRightJournal form input source_left held now
 ReadsBack form input source_left held now (Ok judged.Wrong) = IsWrongJournal input source_left held now
 ReadsBack form input source_left held now (Ok judged.Refused) = IsNoModel journal_line_limit input source_left held now
-ReadsBack form input source_left held now (Err halt.Limit) = IsPastJournal input held now
+ReadsBack form input source_left held now (Err halt.Limit) = IsPastJournal input source_left held now
 ReadsBack form input source_left held now (Err halt.Full) = ⊥
 ReadsBack form input source_left held now (Err halt.Read) = IsJournalFault input source_left held now
 ReadsBack form input source_left held now (Err halt.Write) = IsJournalShort form input source_left held now

@@ -46,7 +46,7 @@ pub record SaysRan (turns : ℕ) (input : List ℕ) (source_left held now : Opti
   pub refused : status ≡ 3 → IsNoModel line_limit input source_left held now
   pub read_fault : status ≡ 4 → IsReadFault turns input source_left held now
   pub short : status ≡ 5 → IsShort turns input source_left held now
-  pub limit : status ≡ 6 → IsPastLimit turns input held now
+  pub limit : status ≡ 6 → IsPastLimit turns input source_left held now
   pub full : status ≡ 7 → IsFull turns input source_left held now
   pub never_wrong : status ≡ 8 → ⊥
   pub memory : status ≡ 9 → IsOutOfMemory turns input held now
@@ -58,7 +58,7 @@ pub record SaysChecked (input : List ℕ) (source_left held now : Option (List �
   pub refused : status ≡ 3 → IsNoModel line_limit input source_left held now
   pub read_fault : status ≡ 4 → IsHeadFault line_limit input source_left held now
   pub short : status ≡ 5 → IsCheckShort input source_left held now
-  pub limit : status ≡ 6 → IsPastHead line_limit input held now
+  pub limit : status ≡ 6 → IsPastHead line_limit input source_left held now
   pub never_full : status ≡ 7 → ⊥
   pub never_wrong : status ≡ 8 → ⊥
   pub silent : status ≡ 9 → now ≡ held
@@ -70,7 +70,7 @@ pub record SaysReadBack (form : Form) (input : List ℕ) (source_left held now :
   pub refused : status ≡ 3 → IsNoModel journal_line_limit input source_left held now
   pub read_fault : status ≡ 4 → IsJournalFault input source_left held now
   pub short : status ≡ 5 → IsJournalShort form input source_left held now
-  pub limit : status ≡ 6 → IsPastJournal input held now
+  pub limit : status ≡ 6 → IsPastJournal input source_left held now
   pub never_full : status ≡ 7 → ⊥
   pub wrong : status ≡ 8 → IsWrongJournal input source_left held now
   pub silent : status ≡ 9 → now ≡ held
@@ -109,7 +109,7 @@ pub record SaysPaired (turns seed : ℕ) (input : List ℕ) (source_left held no
   pub refused : status ≡ 3 → IsNoModel line_limit input source_left held now
   pub read_fault : status ≡ 4 → IsPairReadFault turns seed input source_left held now
   pub short : status ≡ 5 → IsPairTorn turns seed input source_left held now
-  pub limit : status ≡ 6 → IsPairPastLimit turns seed input held now
+  pub limit : status ≡ 6 → IsPairPastLimit turns seed input source_left held now
   pub full : status ≡ 7 → IsPairFull turns seed input source_left held now
   pub never_wrong : status ≡ 8 → ⊥
   pub memory : status ≡ 9 → IsPairShort turns seed input source_left held now

@@ -1,5 +1,5 @@
 -- What the top call promises of `run solo N` and of `check`.
-use Rattle.std.specs.Prelude.{◌≡◌, ℕ, ◌<◌, ◌⊎◌, List, [], ◌∷◌, ◌++◌, length, true, false, Option, Some, None, Result, Ok, Err, codes, decimal, ⊤}
+use Rattle.std.specs.Prelude.{◌≡◌, ℕ, ◌+◌, ◌<◌, ◌≤◌, ◌⊎◌, List, [], ◌∷◌, ◌++◌, length, true, false, Option, Some, None, Result, Ok, Err, codes, decimal, ⊤}
 use Rattle.pl_io.specs.Lines.{ahead}
 use Rattle.pl_io.specs.Reader.{Reader}
 use Rattle.pl_io.specs.Sparing.{read_size, shows_next}
@@ -48,6 +48,14 @@ pub record IsReadTo (rest : List ℕ) (source_left : Option (List ℕ)) : Type 0
 pub record ShowsNoLine (limit left : ℕ) (rest : List ℕ) (source_left : Option (List ℕ)) : Type 0 where
   pub came : List ℕ
   pub shows : shows_next limit left came ≡ false
+  pub behind : ahead came source_left ≡ Some rest
+
+-- The bytes that came behind the lines that were given pass a limit by themselves, and are at most a line within the limit and
+-- one read. They stand before those that the source has left.
+pub record ShowsLimit (limit left : ℕ) (rest : List ℕ) (source_left : Option (List ℕ)) : Type 0 where
+  pub came : List ℕ
+  pub few : length came ≤ limit + read_size
+  pub shows : IsStuck limit left came
   pub behind : ahead came source_left ≡ Some rest
 
 -- The lines that were asked for, each within the limits: the text of a model up to a `begin` line, and behind it these
@@ -119,12 +127,14 @@ pub record WaitsBehind (turns : ℕ) (lines : List (List ℕ)) (held now : Optio
   pub written : Adds held now (text_of_log model log)
 
 -- The line asked for is too long, or the input is: behind these lines, while the model's text was read or a message was due.
-pub record IsPastLimit (turns : ℕ) (input : List ℕ) (held now : Option (List ℕ)) : Type 0 where
+-- The bytes that came behind them show it, and none is lost.
+pub record IsPastLimit (turns : ℕ) (input : List ℕ) (source_left held now : Option (List ℕ)) : Type 0 where
   pub lines : List (List ℕ)
   pub left : ℕ
   pub rest : List ℕ
   pub gave : Gave line_limit total_limit input lines left rest
   pub why : IsStuck line_limit left rest
+  pub source : ShowsLimit line_limit left rest source_left
   pub asked : ((model_text_of lines ≡ None) × (now ≡ held)) ⊎ WaitsBehind turns lines held now
 
 -- A read failed: behind these lines, while the model's text was read or a message was due. The source had shown no further
@@ -198,7 +208,7 @@ pub data IsOutOfMemory (turns : ℕ) (input : List ℕ) (held now : Option (List
 abbrev pub Ran : ℕ → List ℕ → (source_left held now : Option (List ℕ)) → Result Outcome Halt → Type 0
 Ran turns input source_left held now (Ok outcome.Done) = IsDone turns input source_left held now
 Ran turns input source_left held now (Ok outcome.Refused) = IsNoModel line_limit input source_left held now
-Ran turns input source_left held now (Err halt.Limit) = IsPastLimit turns input held now
+Ran turns input source_left held now (Err halt.Limit) = IsPastLimit turns input source_left held now
 Ran turns input source_left held now (Err halt.Full) = IsFull turns input source_left held now
 Ran turns input source_left held now (Err halt.Read) = IsReadFault turns input source_left held now
 Ran turns input source_left held now (Err halt.Write) = IsShort turns input source_left held now
@@ -221,13 +231,15 @@ pub record IsFound (input : List ℕ) (source_left held now : Option (List ℕ))
   pub accepted : IsModelText words model
   pub written : Adds held now (model_ok_line model)
 
--- The line asked for is too long, or the input is, while the model's text was read.
-pub record IsPastHead (limit : ℕ) (input : List ℕ) (held now : Option (List ℕ)) : Type 0 where
+-- The line asked for is too long, or the input is, while the model's text was read. The bytes that came behind these lines
+-- show it, and none is lost.
+pub record IsPastHead (limit : ℕ) (input : List ℕ) (source_left held now : Option (List ℕ)) : Type 0 where
   pub lines : List (List ℕ)
   pub left : ℕ
   pub rest : List ℕ
   pub gave : Gave limit total_limit input lines left rest
   pub why : IsStuck limit left rest
+  pub source : ShowsLimit limit left rest source_left
   pub none : model_text_of lines ≡ None
   pub silent : now ≡ held
 
@@ -252,7 +264,7 @@ pub data IsCheckShort (input : List ℕ) (source_left held now : Option (List �
 abbrev pub Checks : List ℕ → (source_left held now : Option (List ℕ)) → Result Outcome Halt → Type 0
 Checks input source_left held now (Ok outcome.Done) = IsFound input source_left held now
 Checks input source_left held now (Ok outcome.Refused) = IsNoModel line_limit input source_left held now
-Checks input source_left held now (Err halt.Limit) = IsPastHead line_limit input held now
+Checks input source_left held now (Err halt.Limit) = IsPastHead line_limit input source_left held now
 Checks input source_left held now (Err halt.Full) = ⊥
 Checks input source_left held now (Err halt.Read) = IsHeadFault line_limit input source_left held now
 Checks input source_left held now (Err halt.Write) = IsCheckShort input source_left held now

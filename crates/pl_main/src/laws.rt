@@ -13,22 +13,22 @@ ghost use Rattle.pl_main.specs.Limits.{IsWithinLimits};
 pub fn statuses_are_told_apart()
     ensures done_not_refused { (turns : ℕ) (input : List ℕ) (left held now other_left other_held other_now : Option (List ℕ))
         → IsDone turns input left held now → IsNoModel line_limit input other_left other_held other_now → ⊥ }
-    ensures done_not_past { (turns : ℕ) (input : List ℕ) (left held now other_held other_now : Option (List ℕ))
-        → IsDone turns input left held now → IsPastLimit turns input other_held other_now → ⊥ }
+    ensures done_not_past { (turns : ℕ) (input : List ℕ) (left held now other_left other_held other_now : Option (List ℕ))
+        → IsDone turns input left held now → IsPastLimit turns input other_left other_held other_now → ⊥ }
     ensures done_not_full { (turns : ℕ) (input : List ℕ) (left held now other_left other_held other_now : Option (List ℕ))
         → IsDone turns input left held now → IsFull turns input other_left other_held other_now → ⊥ }
-    ensures refused_not_past { (turns : ℕ) (input : List ℕ) (left held now other_held other_now : Option (List ℕ))
-        → IsNoModel line_limit input left held now → IsPastLimit turns input other_held other_now → ⊥ }
+    ensures refused_not_past { (turns : ℕ) (input : List ℕ) (left held now other_left other_held other_now : Option (List ℕ))
+        → IsNoModel line_limit input left held now → IsPastLimit turns input other_left other_held other_now → ⊥ }
     ensures refused_not_full { (turns : ℕ) (input : List ℕ) (left held now other_left other_held other_now : Option (List ℕ))
         → IsNoModel line_limit input left held now → IsFull turns input other_left other_held other_now → ⊥ }
-    ensures past_not_full { (turns : ℕ) (input : List ℕ) (held now other_left other_held other_now : Option (List ℕ))
-        → IsPastLimit turns input held now → IsFull turns input other_left other_held other_now → ⊥ }
+    ensures past_not_full { (turns : ℕ) (input : List ℕ) (left held now other_left other_held other_now : Option (List ℕ))
+        → IsPastLimit turns input left held now → IsFull turns input other_left other_held other_now → ⊥ }
     ensures found_not_refused { (input : List ℕ) (left held now other_left other_held other_now : Option (List ℕ))
         → IsFound input left held now → IsNoModel line_limit input other_left other_held other_now → ⊥ }
-    ensures found_not_past { (input : List ℕ) (left held now other_held other_now : Option (List ℕ))
-        → IsFound input left held now → IsPastHead line_limit input other_held other_now → ⊥ }
-    ensures no_model_not_past { (input : List ℕ) (left held now other_held other_now : Option (List ℕ))
-        → IsNoModel line_limit input left held now → IsPastHead line_limit input other_held other_now → ⊥ }
+    ensures found_not_past { (input : List ℕ) (left held now other_left other_held other_now : Option (List ℕ))
+        → IsFound input left held now → IsPastHead line_limit input other_left other_held other_now → ⊥ }
+    ensures no_model_not_past { (input : List ℕ) (left held now other_left other_held other_now : Option (List ℕ))
+        → IsNoModel line_limit input left held now → IsPastHead line_limit input other_left other_held other_now → ⊥ }
     ensures shown_not_refused { (goals : ℕ) (held now other_held other_now : Option (List ℕ))
         → IsShown goals held now → HasNoDemo goals other_held other_now → ⊥ }
     ensures shown_not_full { (goals : ℕ) (held now other_held other_now : Option (List ℕ))
@@ -37,30 +37,30 @@ pub fn statuses_are_told_apart()
         → HasNoDemo goals held now → IsShownInPart goals other_held other_now → ⊥ }
     ensures pair_done_not_refused { (turns seed : ℕ) (input : List ℕ) (left held now other_left other_held other_now : Option (List ℕ))
         → IsPairDone turns seed input left held now → IsNoModel line_limit input other_left other_held other_now → ⊥ }
-    ensures pair_done_not_past { (turns seed : ℕ) (input : List ℕ) (left held now other_held other_now : Option (List ℕ))
-        → IsPairDone turns seed input left held now → IsPairPastLimit turns seed input other_held other_now → ⊥ }
-    ensures pair_refused_not_past { (turns seed : ℕ) (input : List ℕ) (left held now other_held other_now : Option (List ℕ))
-        → IsNoModel line_limit input left held now → IsPairPastLimit turns seed input other_held other_now → ⊥ }
+    ensures pair_done_not_past { (turns seed : ℕ) (input : List ℕ) (left held now other_left other_held other_now : Option (List ℕ))
+        → IsPairDone turns seed input left held now → IsPairPastLimit turns seed input other_left other_held other_now → ⊥ }
+    ensures pair_refused_not_past { (turns seed : ℕ) (input : List ℕ) (left held now other_left other_held other_now : Option (List ℕ))
+        → IsNoModel line_limit input left held now → IsPairPastLimit turns seed input other_left other_held other_now → ⊥ }
     ensures pair_refused_not_full { (turns seed : ℕ) (input : List ℕ) (left held now other_left other_held other_now : Option (List ℕ))
         → IsNoModel line_limit input left held now → IsPairFull turns seed input other_left other_held other_now → ⊥ }
     ensures right_not_wrong { (form : Form) (input : List ℕ) (left held now other_left other_held other_now : Option (List ℕ))
         → IsRightJournal form input left held now → IsWrongJournal input other_left other_held other_now → ⊥ }
     ensures right_not_refused { (form : Form) (input : List ℕ) (left held now other_left other_held other_now : Option (List ℕ))
         → IsRightJournal form input left held now → IsNoModel journal_line_limit input other_left other_held other_now → ⊥ }
-    ensures right_not_past { (form : Form) (input : List ℕ) (left held now other_held other_now : Option (List ℕ))
-        → IsRightJournal form input left held now → IsPastJournal input other_held other_now → ⊥ }
+    ensures right_not_past { (form : Form) (input : List ℕ) (left held now other_left other_held other_now : Option (List ℕ))
+        → IsRightJournal form input left held now → IsPastJournal input other_left other_held other_now → ⊥ }
     ensures wrong_not_refused { (input : List ℕ) (left held now other_left other_held other_now : Option (List ℕ))
         → IsWrongJournal input left held now → IsNoModel journal_line_limit input other_left other_held other_now → ⊥ }
-    ensures wrong_not_past { (input : List ℕ) (left held now other_held other_now : Option (List ℕ))
-        → IsWrongJournal input left held now → IsPastJournal input other_held other_now → ⊥ }
-    ensures no_journal_not_past { (input : List ℕ) (left held now other_held other_now : Option (List ℕ))
-        → IsNoModel journal_line_limit input left held now → IsPastJournal input other_held other_now → ⊥ }
-    ensures within { (turns : ℕ) (input : List ℕ) (held now : Option (List ℕ))
-        → IsWithinLimits line_limit input → IsPastLimit turns input held now → ⊥ }
-    ensures pair_within { (turns seed : ℕ) (input : List ℕ) (held now : Option (List ℕ))
-        → IsWithinLimits line_limit input → IsPairPastLimit turns seed input held now → ⊥ }
-    ensures head_within { (input : List ℕ) (held now : Option (List ℕ))
-        → IsWithinLimits line_limit input → IsPastHead line_limit input held now → ⊥ }
-    ensures journal_within { (input : List ℕ) (held now : Option (List ℕ))
-        → IsWithinLimits journal_line_limit input → IsPastJournal input held now → ⊥ }
+    ensures wrong_not_past { (input : List ℕ) (left held now other_left other_held other_now : Option (List ℕ))
+        → IsWrongJournal input left held now → IsPastJournal input other_left other_held other_now → ⊥ }
+    ensures no_journal_not_past { (input : List ℕ) (left held now other_left other_held other_now : Option (List ℕ))
+        → IsNoModel journal_line_limit input left held now → IsPastJournal input other_left other_held other_now → ⊥ }
+    ensures within { (turns : ℕ) (input : List ℕ) (left held now : Option (List ℕ))
+        → IsWithinLimits line_limit input → IsPastLimit turns input left held now → ⊥ }
+    ensures pair_within { (turns seed : ℕ) (input : List ℕ) (left held now : Option (List ℕ))
+        → IsWithinLimits line_limit input → IsPairPastLimit turns seed input left held now → ⊥ }
+    ensures head_within { (input : List ℕ) (left held now : Option (List ℕ))
+        → IsWithinLimits line_limit input → IsPastHead line_limit input left held now → ⊥ }
+    ensures journal_within { (input : List ℕ) (left held now : Option (List ℕ))
+        → IsWithinLimits journal_line_limit input → IsPastJournal input left held now → ⊥ }
 {}

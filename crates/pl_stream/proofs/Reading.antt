@@ -1,5 +1,5 @@
 -- Lines that a reader gave, one after another.
-use Rattle.std.proofs.Common.{◌≡◌, ℕ, ◌+◌, ◌<◌, List, [], ◌∷◌, ◌++◌, length, take, Bool, true, false, not, ◌&&◌, nat_lt, if◌then◌else◌, Option, Some, None, IfSome, Result, Ok, Err, refl, sym, ◌∙◌, ap, subst, length-append, arith}
+use Rattle.std.proofs.Common.{◌≡◌, ℕ, ◌+◌, ◌<◌, ◌≤◌, List, [], ◌∷◌, ◌++◌, length, take, Bool, true, false, not, ◌&&◌, nat_lt, if◌then◌else◌, Option, Some, None, IfSome, Result, Ok, Err, refl, sym, ◌∙◌, ap, subst, length-append, arith}
 use Rattle.pl_io.specs.declared.errors.LineFault.{LineFault}
 use Rattle.pl_io.specs.declared.errors.LineFault.TheVariants as fault
 use Rattle.pl_io.specs.Lines.{first_line, has_newline, lines_of, after_line, next_of, given, ended, line_too_long, input_too_long}
@@ -36,7 +36,7 @@ why_known : (old new : Reader) (before after : Option (List ℕ)) (f : LineFault
 why_known old new None after f is = tt
 why_known old new (Some bytes) after fault.Read is = tt
 why_known old new (Some bytes) after (fault.Long n) is = is.0
-why_known old new (Some bytes) after fault.Total is = is
+why_known old new (Some bytes) after fault.Total is = is.0
 why_known old new (Some bytes) after fault.Memory is = tt
 
 -- what a fault shows is said of the reader's limits, which it leaves as they were
@@ -46,12 +46,12 @@ shown_now old new (fault.Long n) limit room number shown = (rw (limit, room) sho
 shown_now old new fault.Total limit room number shown = rw (limit, room) shown
 shown_now old new fault.Memory limit room number shown = tt
 
-kept_now : (old new : Reader) (before after : Option (List ℕ)) (f : LineFault) → IfSome before (λ bytes. Answers old new bytes after (Err f)) → f ≡ fault.Read → IfSome before (λ bytes. after ≡ Some bytes)
-kept_now old new None after f is read = tt
-kept_now old new (Some bytes) after fault.Read is read = is
-kept_now old new (Some bytes) after (fault.Long n) is read = absurd (let h : fault.Long n ≡ fault.Read = read in (cc))
-kept_now old new (Some bytes) after fault.Total is read = absurd (let h : fault.Total ≡ fault.Read = read in (cc))
-kept_now old new (Some bytes) after fault.Memory is read = absurd (let h : fault.Memory ≡ fault.Read = read in (cc))
+kept_now : (old new : Reader) (before after : Option (List ℕ)) (f : LineFault) → IfSome before (λ bytes. Answers old new bytes after (Err f)) → (f ≡ fault.Memory → ⊥) → IfSome before (λ bytes. after ≡ Some bytes)
+kept_now old new None after f is other = tt
+kept_now old new (Some bytes) after fault.Read is other = is
+kept_now old new (Some bytes) after (fault.Long n) is other = is.2
+kept_now old new (Some bytes) after fault.Total is other = is.1
+kept_now old new (Some bytes) after fault.Memory is other = absurd (other refl)
 
 pub gave_none : (limit room : ℕ) (before : Option (List ℕ)) → GaveKnown limit room before [] room before
 gave_none limit room None = tt
@@ -90,7 +90,8 @@ next_gives old new before after (Err f) working moves answers few =
         room = moves.room;
         number = omega (arith, moves.number);
         shown = shown_now old new f moves.limit moves.room moves.number (moves.shown working);
-        kept = kept_now old new before after f answers;
+        few = few;
+        kept = kept_now old new before after f answers other;
       };
     }
 
@@ -138,6 +139,7 @@ stops_later old mid new before middle after rest xs ys left f first stops = reco
   room = stops.room;
   number = counted old.number mid.number new.number xs ys first.number stops.number;
   shown = stops.shown;
+  few = λ small. subst (λ n. length new.held ≤ n + read_size) first.limit (stops.few (first.few small));
   kept = stops.kept;
 }
 

@@ -44,14 +44,16 @@ WhyKnown limit room (Some rest) f = Why limit room rest f
 
 -- What a fault leaves, behind these lines and before these bytes. The reader answers it from now on. A line that is too
 -- long is told by its number. Also where the source tells nothing, the bytes that were read and not given pass the limit, or
--- show no further line where a read failed. A failed read loses none.
+-- show no further line where a read failed. They are at most a line within the limit and one read, if the reader held fewer bytes
+-- than one read asks for. No byte is lost: they stand before those that the source has left.
 pub record StopsAt (old : Reader) (lines : List (List ℕ)) (left : ℕ) (rest : Option (List ℕ)) (f : LineFault) (new : Reader) (after : Option (List ℕ)) : Type 0 where
   pub failed : new.failed ≡ Some f
   pub limit : new.limit ≡ old.limit
   pub room : new.room ≡ left
   pub number : new.number ≡ old.number + length lines
   pub shown : FaultShown new new f
-  pub kept : f ≡ fault.Read → IfSome rest (λ bytes. after ≡ Some bytes)
+  pub few : length old.held < read_size → length new.held ≤ old.limit + read_size
+  pub kept : IfSome rest (λ bytes. after ≡ Some bytes)
 
 -- The reader gave these lines and stopped at the next by this fault. Memory may also have been wanting for a line that was
 -- given, and then nothing is said of the reader.

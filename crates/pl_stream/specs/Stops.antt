@@ -1,9 +1,9 @@
 -- How a run stops by a fault of its reader.
-use Rattle.std.specs.Prelude.{◌≡◌, ℕ, List, false, Option, Some, None, IfSome, ◌⊎◌, ⊤}
+use Rattle.std.specs.Prelude.{◌≡◌, ℕ, ◌+◌, ◌≤◌, List, length, false, Option, Some, None, IfSome, ◌⊎◌, ⊤}
 use Rattle.pl_io.specs.declared.errors.LineFault.{LineFault}
 use Rattle.pl_io.specs.declared.errors.LineFault.TheVariants as fault
 use Rattle.pl_io.specs.Lines.{next_of, line_too_long, input_too_long}
-use Rattle.pl_io.specs.Sparing.{shows_next}
+use Rattle.pl_io.specs.Sparing.{shows_next, read_size}
 use Rattle.pl_stream.specs.declared.halt.Halt.{Halt}
 use Rattle.pl_stream.specs.declared.halt.Halt.TheVariants as halt
 
@@ -26,6 +26,13 @@ IsStuckKnown limit room (Some rest) = IsStuck limit room rest
 -- What a failed read leaves, before these bytes: those that were read and not given show no further line, and none is lost.
 pub record ReadLeaves (limit room : ℕ) (rest : Option (List ℕ)) (held : List ℕ) (after : Option (List ℕ)) : Type 0 where
   pub shows : shows_next limit room held ≡ false
+  pub kept : IfSome rest (λ bytes. after ≡ Some bytes)
+
+-- What a fault of length leaves, before these bytes: those that were read and not given pass a limit, and are at most a line
+-- within the limit and one read. None is lost.
+pub record LimitLeaves (limit room : ℕ) (rest : Option (List ℕ)) (held : List ℕ) (after : Option (List ℕ)) : Type 0 where
+  pub shows : IsStuck limit room held
+  pub few : length held ≤ limit + read_size
   pub kept : IfSome rest (λ bytes. after ≡ Some bytes)
 
 -- why no line is given behind those that were
