@@ -57,8 +57,8 @@ run_unopened turns m start held = unopened refl refl
 -- the open entry's line was not written whole
 pub run_unwritten : (turns : ℕ) (m : Model) (start : Place) (held now : Option (List ℕ)) (e : Halt) (faults later : ℕ) → Legal m (opening (program_options turns) ∷ []) → AppendsFront held now (text_from m 0 (opening (program_options turns) ∷ []))
     → WriteStops faults later e → ModelRuns turns m start held (Err e) start now
-run_unwritten turns m start held now halt.Write faults later legal front cause = in_opening legal front
-run_unwritten turns m start held now halt.Memory faults later legal front cause = in_opening legal front
+run_unwritten turns m start held now halt.Write faults later legal front cause = in_opening legal front refl
+run_unwritten turns m start held now halt.Memory faults later legal front cause = in_opening legal front refl
 run_unwritten turns m start held now halt.Read faults later legal front cause = absurd cause
 run_unwritten turns m start held now halt.Limit faults later legal front cause = absurd cause
 run_unwritten turns m start held now halt.Full faults later legal front cause = absurd cause
@@ -128,6 +128,11 @@ last_is [] ys x y e = (not_single x y ys e).1
 last_is (z ∷ xs) [] x y e = absurd (let h : z ∷ xs ≡ [] = (not_single y x (z ∷ xs) (sym e)).0 in (cc))
 last_is (z ∷ xs) (w ∷ ys) x y e = last_is xs ys x y (let h : z ∷ (xs ++ x ∷ []) ≡ w ∷ (ys ++ y ∷ []) = e in (cc))
 
+-- messages of which one is the last are some
+some_last : (front : List (Option (List ℕ))) (last : Option (List ℕ)) → [] ≡ front ++ last ∷ [] → ⊥
+some_last [] last e = cc
+some_last (m ∷ front) last e = cc
+
 pub ends_all : (rest : List ℕ) (lines : List (List ℕ)) (inputs : List (Option (List ℕ))) → EndsWith rest lines inputs → messages_of (lines ++ lines_of rest) ≡ inputs
 ends_all rest lines inputs (by_end front last none is) = ap (λ (r : List ℕ). messages_of (lines ++ lines_of r)) none ∙ ap messages_of (append-nil lines) ∙ is
 ends_all rest lines inputs (by_line front line before last is all) = all (lines_of rest)
@@ -139,6 +144,11 @@ ends_read rest lines inputs (by_line front line before last is all) = ap message
 pub ends_used_up : (rest : List ℕ) (lines : List (List ℕ)) (inputs front : List (Option (List ℕ))) → EndsWith rest lines inputs → inputs ≡ front ++ None ∷ [] → rest ≡ []
 ends_used_up rest lines inputs front (by_end ahead_of last none is) e = none
 ends_used_up rest lines inputs front (by_line before line so_far last is all) e = absurd (let h : Some line ≡ None = last_is before front (Some line) None (sym last ∙ e) in (cc))
+
+-- there is a message, the last of them
+ends_some : (rest : List ℕ) (lines : List (List ℕ)) (inputs : List (Option (List ℕ))) → EndsWith rest lines inputs → inputs ≡ [] → ⊥
+ends_some rest lines inputs (by_end front last none is) e = some_last front None (sym e ∙ last)
+ends_some rest lines inputs (by_line front line before last is all) e = some_last front (Some line) (sym e ∙ last)
 
 -- the last line that was read is the last message, where that is a line
 pub ends_last : (rest : List ℕ) (lines : List (List ℕ)) (inputs front : List (Option (List ℕ))) (line : List ℕ) → EndsWith rest lines inputs → inputs ≡ front ++ Some line ∷ []
@@ -194,6 +204,7 @@ done_ends turns input words heads_rest heads m start place source_left held open
         behind = ap messages_of both.1 ∙ ends_read k.rest plays.lines (inputs_of plays.entries) ends ∙ sym (append-nil (inputs_of plays.entries));
         no_further = λ front line e. (let last = ends_last k.rest plays.lines (inputs_of plays.entries) front line ends e in ends_behind heads plays.lines last.0 line last.1);
         used_up = λ front e. ends_used_up k.rest plays.lines (inputs_of plays.entries) front ends e;
+        none = λ e. absurd (ends_some k.rest plays.lines (inputs_of plays.entries) ends e);
         source = read_to place source_left k.rest (plays.few begins.few) behind k.is;
       };
       written = l.text;
@@ -378,6 +389,7 @@ has_read input words heads lines room mid heads_rest bytes before next place sou
           let behind_lines = ends_behind lines got.lines last.0 line last.1 in
           ends_behind heads (lines ++ got.lines) behind_lines.0 line behind_lines.1);
       used_up = λ front e. got.used_up (last_is before front next None e);
+      none = λ e. absurd (some_last before next (sym e));
       source = read_to place source_left got.rest got.few behind got.is;
     }
 
@@ -472,6 +484,22 @@ begins_at limit kept new input after source_left begun behind =
       text = (split_is input begun.lines begun.words (lines_of k.rest) begun.head (gave_lines limit total_limit input begun.lines new.room k.rest k.gave)).text;
       source = record { came = new.held; few = begun.took.few (omega arith); behind = behind ∙ k.is };
     }
+
+-- no line was asked for behind `begin`
+pub head_read : (input words : List ℕ) (source_left : Option (List ℕ)) → HasHead line_limit input words source_left → HasRead words [] input source_left
+head_read input words source_left head = record {
+  lines = head.lines;
+  left = head.left;
+  rest = head.rest;
+  more = messages_of (lines_behind head.lines);
+  gave = head.gave;
+  text = head.head;
+  behind = refl;
+  no_further = λ front line e. absurd (some_last front (Some line) e);
+  used_up = λ front e. absurd (some_last front None e);
+  none = λ e. head.no_further;
+  source = head.source;
+}
 
 -- the reader behind a text that begins
 pub behind_text : (kept : Option (Vec ℕ Global)) (start : Place) (input : Option (List ℕ)) → IsBegun (fresh_reader line_limit) input kept start.reader start.ahead → BeginsAt start

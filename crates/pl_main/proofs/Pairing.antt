@@ -32,8 +32,8 @@ use Rattle.pl_pair.proofs.Running.{runs_none}
 use Rattle.pl_main.specs.declared.outcome.Outcome.{Outcome}
 use Rattle.pl_main.specs.declared.outcome.Outcome.TheVariants as outcome
 use Rattle.pl_main.specs.Runs.{fresh_state, AcceptsKept}
-use Rattle.pl_main.specs.Top.{line_limit, total_limit, fresh_reader, no_begin_line, HasRead, ShowsNoLine, faulty}
-use Rattle.pl_main.specs.Pairs.{IsPaired, IsPairDone, PairWaitsBehind, IsPairFull, HasPairBegun, IsPairTorn, torn_refusal, torn_run, WasGiven, ReadsInPart, to_last, to_next, at_next, IsPairShort, silent, of_run, Paired, PairedKnown, outcome_of, PairTextTorn, in_refusal, in_writing, PairTextShort, at_once, in_run, PairTextRuns}
+use Rattle.pl_main.specs.Top.{line_limit, total_limit, fresh_reader, no_begin_line, HasRead, ShowsNoLine, faulty, WasGiven}
+use Rattle.pl_main.specs.Pairs.{IsPaired, IsPairDone, PairWaitsBehind, IsPairFull, HasPairBegun, IsPairTorn, torn_refusal, torn_run, ReadsInPart, to_last, to_next, at_next, IsPairShort, silent, of_run, Paired, PairedKnown, outcome_of, PairTextTorn, in_refusal, in_writing, PairTextShort, at_once, in_run, PairTextRuns}
 use Rattle.pl_stream.proofs.Stopping.{never_full, never_writes}
 use Rattle.pl_stream.proofs.Beginning.{head_then}
 use Rattle.pl_main.proofs.Ending.{split_is, begins_at, begins_nowhere, head_stopped, shows_none, fresh_begun, fresh_nowhere, fresh_halts}
@@ -168,6 +168,7 @@ read_of input words place last messages source_left behind same read =
       used_up = λ front e.
           (let used : last.ahead ≡ Some [] = subst (λ (b : Option (List ℕ)). IsUsedUp b last.ahead) behind.is (read.used_up front e) in
           let h : Some k.rest ≡ Some [] = sym k.is ∙ used in (cc));
+      none = λ e. both.1 ∙ read.none e;
       source = record { came = last.reader.held; few = read.few behind.few; behind = same ∙ k.is };
     }
 

@@ -27,7 +27,7 @@ use Rattle.pl_pair.specs.Runs.{History, PairRun}
 use Rattle.pl_main.specs.declared.outcome.Outcome.{Outcome}
 use Rattle.pl_main.specs.declared.outcome.Outcome.TheVariants as outcome
 use Rattle.pl_main.specs.Runs.{fresh_state, IsKeptModel, TextFails}
-use Rattle.pl_main.specs.Top.{line_limit, total_limit, program_options, HasRead, ShowsNoLine, IsNoModel}
+use Rattle.pl_main.specs.Top.{line_limit, total_limit, program_options, HasRead, ShowsNoLine, IsNoModel, WasGiven}
 
 -- A legal log that was opened with the turns of the words and the limits of the program. Behind the open entry, inputs are the feeder's own entries, fixes and rests the planner's,
 -- commits, dispatches and closes the executive's. Each of the planner's is what its chooser, made from the seed, proposes in the world before it, or a rest, and each of the executive's what it chooses there.
@@ -115,16 +115,6 @@ pub record HasPairBegun (turns seed : ℕ) (input : List ℕ) : Type 0 where
 pub data IsPairTorn (turns seed : ℕ) (input : List ℕ) (source_left held now : Option (List ℕ)) : Type 0 where
   torn_refusal : (line : List ℕ) → IsNoModel line_limit input source_left (Some []) (Some line) → AppendsFront held now line → IsPairTorn turns seed input source_left held now
   torn_run : (run : HasPairBegun turns seed input) → HasRead run.words (inputs_of run.log) input source_left → AppendsFront held now (text_of_log run.model run.log) → IsPairTorn turns seed input source_left held now
-
--- The lines that were given, each within the limits: the text of a model up to a `begin` line, and behind it these messages.
-pub record WasGiven (words : List ℕ) (messages : List (Option (List ℕ))) (input : List ℕ) : Type 0 where
-  pub lines : List (List ℕ)
-  pub left : ℕ
-  pub rest : List ℕ
-  pub gave : Gave line_limit total_limit input lines left rest
-  pub head : model_text_of lines ≡ Some words
-  pub more : List (Option (List ℕ))
-  pub behind : messages_of (lines_behind lines) ≡ messages ++ more
 
 -- How far was read where memory was wanting: the last line that was asked for is the last of these messages, or the one behind it. Or memory was wanting to read that one, and then nothing is said of what the source has left.
 pub data ReadsInPart (words : List ℕ) (messages unanswered : List (Option (List ℕ))) (input : List ℕ) (source_left : Option (List ℕ)) : Type 0 where

@@ -207,6 +207,7 @@ up_to start place inputs more heard said = record {
   said = said;
   no_further = heard.last;
   used_up = heard.used;
+  none = heard.none;
 }
 
 -- messages that do not end the run

@@ -132,7 +132,7 @@ pub record Given (r : Ended) (place : Place) (inputs : List (Option (List ℕ)))
 -- ---- how far the input was read
 
 -- The lines that were asked for, each within the reader's limits: their messages are these. Where the last message is a line, it is the last that was asked for; where it is the end of the
--- input, all bytes were used up. The reader holds fewer bytes than one read asks for, if it did before.
+-- input, all bytes were used up; where there is no message, no line was asked for. The reader holds fewer bytes than one read asks for, if it did before.
 pub record ReadUpTo (place : Place) (messages : List (Option (List ℕ))) (behind : Place) : Type 0 where
   pub lines : List (List ℕ)
   pub more : List (Option (List ℕ))
@@ -141,6 +141,7 @@ pub record ReadUpTo (place : Place) (messages : List (Option (List ℕ))) (behin
   pub said : messages_of lines ≡ messages ++ more
   pub no_further : EndsRead messages lines
   pub used_up : EndsUsed place messages behind
+  pub none : messages ≡ [] → lines ≡ []
 
 -- ---- how it ended
 
