@@ -202,6 +202,7 @@ done_ends turns input words heads_rest heads m start place source_left held open
         gave = gave_append line_limit total_limit input heads plays.lines start.reader.room heads_rest place.reader.room k.rest gave k.gave;
         text = both.0;
         behind = ap messages_of both.1 ∙ ends_read k.rest plays.lines (inputs_of plays.entries) ends ∙ sym (append-nil (inputs_of plays.entries));
+        no_others = inl refl;
         no_further = λ front line e. (let last = ends_last k.rest plays.lines (inputs_of plays.entries) front line ends e in ends_behind heads plays.lines last.0 line last.1);
         used_up = λ front e. ends_used_up k.rest plays.lines (inputs_of plays.entries) front ends e;
         none = λ e. absurd (ends_some k.rest plays.lines (inputs_of plays.entries) ends e);
@@ -274,6 +275,16 @@ first_message : (line : List ℕ) (lines : List (List ℕ)) → is_blank_line li
 first_message line lines message true ends = record { more = []; is = end_first line lines message ends }
 first_message line lines message false ends = record { more = messages_of lines; is = message_first line lines message ends }
 
+-- messages of which this is the first, and the only one but for the end of the lines
+pub record BeginsAlone (next : Option (List ℕ)) (all : List (Option (List ℕ))) : Type 0 where
+  pub more : List (Option (List ℕ))
+  pub is : all ≡ next ∷ more
+  pub no_others : (more ≡ []) ⊎ (more ≡ None ∷ [])
+
+first_alone : (line : List ℕ) → is_blank_line line ≡ false → (b : Bool) → is_line_of end_word line ≡ b → BeginsAlone (Some line) (messages_of (line ∷ []))
+first_alone line message true ends = record { more = []; is = end_first line [] message ends; no_others = inl refl }
+first_alone line message false ends = record { more = None ∷ []; is = message_first line [] message ends ∙ ap (λ (ns : List (Option (List ℕ))). Some line ∷ ns) none_left; no_others = inr refl }
+
 behind_blanks : (blanks lines : List (List ℕ)) (next : Option (List ℕ)) → AreBlank blanks → BeginsWith next (messages_of lines) → BeginsWith next (messages_of (blanks ++ lines))
 behind_blanks blanks lines next blank begins = record { more = begins.more; is = blanks_first blanks lines blank ∙ begins.is }
 
@@ -283,7 +294,7 @@ pub record GotNext (next : Option (List ℕ)) (room : ℕ) (bytes : List ℕ) (b
   pub left : ℕ
   pub rest : List ℕ
   pub gave : Gave line_limit room bytes lines left rest
-  pub read : BeginsWith next (messages_of lines)
+  pub read : BeginsAlone next (messages_of lines)
   pub all : BeginsWith next (messages_of (lines ++ lines_of rest))
   pub used_up : next ≡ None → rest ≡ []
   pub last : (line : List ℕ) → next ≡ Some line → (before : List (List ℕ)) × (lines ≡ before ++ line ∷ [])
@@ -298,7 +309,8 @@ got_next before behind bytes (Some line) starts is_ahead gets =
       left = behind.reader.room;
       rest = k.rest;
       gave = k.gave;
-      read = behind_blanks gets.lines (line.bytes ∷ []) (Some line.bytes) gets.blank (first_message line.bytes [] gets.message (is_line_of end_word line.bytes) refl);
+      read = (let first = first_alone line.bytes gets.message (is_line_of end_word line.bytes) refl in
+          record { more = first.more; is = blanks_first gets.lines (line.bytes ∷ []) gets.blank ∙ first.is; no_others = first.no_others });
       all = subst (λ (ls : List (List ℕ)). BeginsWith (Some line.bytes) (messages_of ls)) (sym (append_assoc gets.lines (line.bytes ∷ []) (lines_of k.rest)))
           (behind_blanks gets.lines (line.bytes ∷ lines_of k.rest) (Some line.bytes) gets.blank (first_message line.bytes (lines_of k.rest) gets.message (is_line_of end_word line.bytes) refl));
       used_up = λ e. absurd (let h : Some line.bytes ≡ None = e in (cc));
@@ -310,13 +322,14 @@ got_next before behind bytes None starts is_ahead gets =
     let k = known before.reader.limit before.reader.room line_limit before.reader.room before.ahead bytes gets.lines behind.reader.room behind.ahead starts.limit refl is_ahead gets.took.gave in
     let used = subst (λ (b : Option (List ℕ)). IsUsedUp b behind.ahead) is_ahead gets.used_up in
     let none : k.rest ≡ [] = (let h : Some k.rest ≡ Some [] = sym k.is ∙ used in (cc)) in
-    let begins : BeginsWith None (messages_of gets.lines) = record { more = []; is = ap messages_of (sym (append-nil gets.lines)) ∙ blanks_first gets.lines [] gets.blank ∙ none_left } in
+    let alone : messages_of gets.lines ≡ None ∷ [] = ap messages_of (sym (append-nil gets.lines)) ∙ blanks_first gets.lines [] gets.blank ∙ none_left in
+    let begins : BeginsWith None (messages_of gets.lines) = record { more = []; is = alone } in
     record {
       lines = gets.lines;
       left = behind.reader.room;
       rest = k.rest;
       gave = k.gave;
-      read = begins;
+      read = record { more = []; is = alone; no_others = inl refl };
       all = subst (λ (ls : List (List ℕ)). BeginsWith None (messages_of ls)) (sym (ap (λ (r : List ℕ). gets.lines ++ lines_of r) none ∙ append-nil gets.lines)) begins;
       used_up = λ e. none;
       last = λ found e. absurd (let h : None ≡ Some found = e in (cc));
@@ -384,6 +397,7 @@ has_read input words heads lines room mid heads_rest bytes before next place sou
       gave = gave_append line_limit total_limit input heads (lines ++ got.lines) room heads_rest got.left got.rest gave (gave_append line_limit room heads_rest lines got.lines mid bytes got.left got.rest gave2 got.gave);
       text = both.0;
       behind = ap messages_of both.1 ∙ messages_append lines got.lines before so_far ∙ ap (λ (ns : List (Option (List ℕ))). before ++ ns) got.read.is ∙ sym (append_assoc before (next ∷ []) got.read.more);
+      no_others = got.read.no_others;
       no_further = λ front line e.
           (let last = got.last line (last_is before front next (Some line) e) in
           let behind_lines = ends_behind lines got.lines last.0 line last.1 in
@@ -491,10 +505,11 @@ head_read input words source_left head = record {
   lines = head.lines;
   left = head.left;
   rest = head.rest;
-  more = messages_of (lines_behind head.lines);
+  more = None ∷ [];
   gave = head.gave;
   text = head.head;
-  behind = refl;
+  behind = ap messages_of head.no_further ∙ none_left;
+  no_others = inr refl;
   no_further = λ front line e. absurd (some_last front (Some line) e);
   used_up = λ front e. absurd (some_last front None e);
   none = λ e. head.no_further;

@@ -164,6 +164,7 @@ read_of input words place last messages source_left behind same read =
       gave = gave_append line_limit total_limit input behind.heads read.lines place.reader.room behind.rest last.reader.room k.rest behind.gave k.gave;
       text = both.0;
       behind = ap messages_of both.1 ∙ read.said;
+      no_others = read.no_others;
       no_further = λ front line e. (let found = read.no_further front line e in lines_end behind.heads read.lines found.0 line found.1);
       used_up = λ front e.
           (let used : last.ahead ≡ Some [] = subst (λ (b : Option (List ℕ)). IsUsedUp b last.ahead) behind.is (read.used_up front e) in

@@ -51,8 +51,8 @@ pub record ShowsNoLine (limit left : ℕ) (rest : List ℕ) (source_left : Optio
   pub behind : ahead came source_left ≡ Some rest
 
 -- The lines that were asked for, each within the limits: the text of a model up to a `begin` line, and behind it these
--- messages. The last line is the last message. Where the last message is the end of the input, all bytes were read. Where
--- there is no message, no line was asked for behind `begin`.
+-- messages and no others. The last line is the last message. Where the last message is the end of the input, all bytes were
+-- read. Where there is no message, no line was asked for behind `begin`.
 pub record HasRead (words : List ℕ) (messages : List (Option (List ℕ))) (input : List ℕ)
     (source_left : Option (List ℕ)) : Type 0 where
   pub lines : List (List ℕ)
@@ -62,6 +62,7 @@ pub record HasRead (words : List ℕ) (messages : List (Option (List ℕ))) (inp
   pub gave : Gave line_limit total_limit input lines left rest
   pub text : model_text_of lines ≡ Some words
   pub behind : messages_of (lines_behind lines) ≡ messages ++ more
+  pub no_others : (more ≡ []) ⊎ (more ≡ None ∷ [])
   pub no_further : (front : List (Option (List ℕ))) (line : List ℕ) → messages ≡ front ++ Some line ∷ []
       → (before : List (List ℕ)) × (lines ≡ before ++ line ∷ [])
   pub used_up : (front : List (Option (List ℕ))) → messages ≡ front ++ None ∷ [] → rest ≡ []

@@ -131,7 +131,7 @@ pub record Given (r : Ended) (place : Place) (inputs : List (Option (List ℕ)))
 
 -- ---- how far the input was read
 
--- The lines that were asked for, each within the reader's limits: their messages are these. Where the last message is a line, it is the last that was asked for; where it is the end of the
+-- The lines that were asked for, each within the reader's limits: their messages are these and no others. Where the last message is a line, it is the last that was asked for; where it is the end of the
 -- input, all bytes were used up; where there is no message, no line was asked for. The reader holds fewer bytes than one read asks for, if it did before.
 pub record ReadUpTo (place : Place) (messages : List (Option (List ℕ))) (behind : Place) : Type 0 where
   pub lines : List (List ℕ)
@@ -139,6 +139,7 @@ pub record ReadUpTo (place : Place) (messages : List (Option (List ℕ))) (behin
   pub gave : GaveKnown place.reader.limit place.reader.room place.ahead lines behind.reader.room behind.ahead
   pub few : length place.reader.held < read_size → length behind.reader.held < read_size
   pub said : messages_of lines ≡ messages ++ more
+  pub no_others : (more ≡ []) ⊎ (more ≡ None ∷ [])
   pub no_further : EndsRead messages lines
   pub used_up : EndsUsed place messages behind
   pub none : messages ≡ [] → lines ≡ []
