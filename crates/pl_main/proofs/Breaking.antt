@@ -1,5 +1,5 @@
 -- A run that is cut short, by a write that failed or for want of memory.
-use Rattle.std.proofs.Common.{◌≡◌, ℕ, List, [], ◌∷◌, ◌++◌, false, Option, Some, None, ◌⊎◌, inl, inr, refl, sym, ◌∙◌, ap, subst, append_assoc}
+use Rattle.std.proofs.Common.{◌≡◌, ℕ, List, [], ◌∷◌, ◌++◌, true, false, Option, Some, None, ◌⊎◌, inl, inr, refl, sym, ◌∙◌, ap, subst, append_assoc}
 use Rattle.std.proofs.lemmas.List.{append-nil}
 use Rattle.std.specs.declared.vec.Vec.{Vec}
 use Rattle.std.specs.declared.alloc.Global.{Global}
@@ -7,7 +7,7 @@ use Rattle.pl_io.specs.Lines.{ahead, lines_of}
 use Rattle.pl_io.specs.Writes.{AppendsFront}
 use Rattle.pl_model.specs.declared.whole.Model.{Model}
 use Rattle.pl_entry.specs.declared.entry.Entry.{Entry}
-use Rattle.pl_machine.specs.Lines.{lines_behind, messages_of, split_of}
+use Rattle.pl_machine.specs.Lines.{messages_of, split_of}
 use Rattle.pl_machine.specs.World.{World}
 use Rattle.pl_machine.specs.Legal.{Legal, opening, world_from, world_of}
 use Rattle.pl_main.specs.Solo.{solo_from, Solo}
@@ -20,17 +20,17 @@ use Rattle.pl_stream.specs.declared.halt.Halt.TheVariants as halt
 use Rattle.pl_stream.specs.Reads.{Gave}
 use Rattle.pl_stream.specs.Heads.{IsHead, IsBegun}
 use Rattle.pl_stream.specs.Written.{Adds}
-use Rattle.pl_main.specs.Tells.{Told, FillsUp, at_once, within}
+use Rattle.pl_main.specs.Tells.{Told, ToldInPart}
 use Rattle.pl_stream.specs.Places.{Place}
 use Rattle.pl_stream.specs.Waits.{line_in}
 use Rattle.pl_main.specs.Plays.{Plays, unread, unheard, unwritten, StepLacks, PlaysInPart}
 use Rattle.pl_main.specs.Runs.{fresh_state, unopened, in_opening, in_play, IsKeptModel, unjudged, in_fault, in_run, TextBreaks}
-use Rattle.pl_main.specs.Top.{program_options, line_limit, total_limit, fresh_reader, faulty, HasBegun, IsShort, in_journal, in_refusal, IsOutOfMemory, nothing, in_entry, behind_entry}
+use Rattle.pl_main.specs.Top.{program_options, line_limit, total_limit, fresh_reader, faulty, HasRead, WasGiven, HasBegun, IsShort, in_journal, in_refusal, IsOutOfMemory, nothing, in_entry, behind_entry}
 use Rattle.pl_stream.proofs.Reading.{gave_append, gave_lines, known}
 use Rattle.pl_stream.proofs.Beginning.{head_then}
 use Rattle.pl_stream.proofs.Writing.{appends_then}
 use Rattle.pl_main.proofs.Playing.{messages_append, inputs_append, joined, joined_front}
-use Rattle.pl_main.proofs.Ending.{split_is, logged, BeginsAt, got_next, has_read, all_messages, begins_at, behind_text}
+use Rattle.pl_main.proofs.Ending.{split_is, logged, BeginsAt, got_next, has_read, all_messages, head_read, begins_at, behind_text}
 
 abbrev Message : Type 0
 Message = Option (List ℕ)
@@ -52,13 +52,6 @@ opened_run turns input words rest heads room m head gave accepted legal = record
   legal = legal;
   solo = opened_solo turns m;
   options = refl;
-  lines = heads;
-  left = room;
-  rest = rest;
-  gave = gave;
-  head = head.text;
-  more = messages_of (lines_behind heads);
-  behind = refl;
   unanswered = (split_of input).messages;
   messages = refl;
 }
@@ -67,6 +60,8 @@ opened_run turns input words rest heads room m head gave accepted legal = record
 
 record HasWaited (turns : ℕ) (input : List ℕ) (held now : Option (List ℕ)) : Type 0 where
   run : HasBegun turns input
+  given : WasGiven run.words (inputs_of run.log) input
+  closed : (world_of run.model run.log).closed ≡ true
   going : (world_of run.model run.log).done ≡ false
   written : Adds held now (text_of_log run.model run.log)
 
@@ -88,6 +83,10 @@ waited turns input words heads_rest heads m start middle held opened written mid
         legal = l.legal;
         solo = l.solo;
         options = refl;
+        unanswered = messages_of (lines_of k.rest);
+        messages = split.messages ∙ ap messages_of (gave_lines line_limit start.reader.room heads_rest plays.lines middle.reader.room k.rest k.gave) ∙ messages_append plays.lines (lines_of k.rest) (inputs_of plays.entries) plays.messages;
+      };
+      given = record {
         lines = heads ++ plays.lines;
         left = middle.reader.room;
         rest = k.rest;
@@ -95,60 +94,40 @@ waited turns input words heads_rest heads m start middle held opened written mid
         head = both.0;
         more = None ∷ [];
         behind = ap messages_of both.1 ∙ plays.messages;
-        unanswered = messages_of (lines_of k.rest);
-        messages = split.messages ∙ ap messages_of (gave_lines line_limit start.reader.room heads_rest plays.lines middle.reader.room k.rest k.gave) ∙ messages_append plays.lines (lines_of k.rest) (inputs_of plays.entries) plays.messages;
       };
+      closed = ap (λ (w : World). w.closed) (sym l.world) ∙ plays.ready.closed;
       going = ap (λ (w : World). w.done) (sym l.world) ∙ plays.ready.going;
       written = l.text;
     }
 
--- ---- a log whose last message was not written whole
+-- ---- a log whose last entries were not written whole
 
--- the entries of a message, as far as they were made
+-- the entries of a message, as far as they were made: it is their one input
 record Added (mid new : State) (input : Message) : Type 0 where
   entries : List Entry
   log : new.log ≡ mid.log ++ entries
   solo : solo_from mid.world entries
   world : new.world ≡ world_from mid.world entries
   same : SameRun mid new
-  inputs : (inputs_of entries ≡ input ∷ []) ⊎ (inputs_of entries ≡ [])
+  inputs : inputs_of entries ≡ input ∷ []
 
-added : (mid new : State) (input : Message) → Told mid input new ⊎ FillsUp mid input new → Added mid new input
-added mid new input (inl told) = record { entries = told.entries; log = told.log; solo = told.solo; world = told.world; same = told.same; inputs = inl told.inputs }
-added mid new input (inr (at_once full is)) = record {
-  entries = [];
-  log = ap (λ (s : State). s.log) is ∙ sym (append-nil mid.log);
-  solo = tt;
-  world = ap (λ (s : State). s.world) is;
-  same = record { model = ap (λ (s : State). s.model) is; options = ap (λ (s : State). s.world.options) is };
-  inputs = inr refl;
-}
-added mid new input (inr (within told)) = record { entries = told.entries; log = told.log; solo = told.solo; world = told.world; same = told.same; inputs = inl told.inputs }
-
-inputs_whole : (before more : List Entry) (input : Message) → (inputs_of more ≡ input ∷ []) ⊎ (inputs_of more ≡ []) → (inputs_of (before ++ more) ≡ inputs_of before ++ input ∷ []) ⊎ (inputs_of (before ++ more) ≡ inputs_of before)
-inputs_whole before more input (inl one) = inl (inputs_append before more ∙ ap (λ (ns : List Message). inputs_of before ++ ns) one)
-inputs_whole before more input (inr none) = inr (inputs_append before more ∙ ap (λ (ns : List Message). inputs_of before ++ ns) none ∙ append-nil (inputs_of before))
-
--- messages that begin with these inputs
-record Reaches (inputs all : List Message) : Type 0 where
-  more : List Message
-  is : all ≡ inputs ++ more
-
-reached : (inputs before rest all : List Message) (next : Message) → all ≡ before ++ next ∷ rest → (inputs ≡ before ++ next ∷ []) ⊎ (inputs ≡ before) → Reaches inputs all
-reached inputs before rest all next is (inl whole) = record { more = rest; is = is ∙ sym (append_assoc before (next ∷ []) rest) ∙ ap (λ (ns : List Message). ns ++ rest) (sym whole) }
-reached inputs before rest all next is (inr part) = record { more = next ∷ rest; is = is ∙ ap (λ (ns : List Message). ns ++ next ∷ rest) (sym part) }
+added : (mid new : State) (input : Message) → Told mid input new ⊎ ToldInPart mid input new → Added mid new input
+added mid new input (inl told) = record { entries = told.entries; log = told.log; solo = told.solo; world = told.world; same = told.same; inputs = told.inputs }
+added mid new input (inr told) = record { entries = told.entries; log = told.log; solo = told.solo; world = told.world; same = told.same; inputs = told.inputs }
 
 opened_front : (m : Model) (first : Entry) (entries : List Entry) (held opened now : Option (List ℕ)) → Adds held opened (text_from m 0 (first ∷ [])) → AppendsFront opened now (text_from m 1 entries) → AppendsFront held now (text_of_log m (first ∷ entries))
 opened_front m first entries held opened now adds front =
     subst (λ (t : List ℕ). AppendsFront held now (t ++ text_from m 1 entries)) (append-nil (line_of m 0 first)) (appends_then held opened now (text_from m 0 (first ∷ [])) (text_from m 1 entries) adds front)
 
-record HasBroken (turns : ℕ) (input : List ℕ) (held now : Option (List ℕ)) : Type 0 where
+-- the last line that was asked for is the last message of the log
+record HasBroken (turns : ℕ) (input : List ℕ) (source_left held now : Option (List ℕ)) : Type 0 where
   run : HasBegun turns input
+  read : HasRead run.words (inputs_of run.log) input source_left
   front : AppendsFront held now (text_of_log run.model run.log)
 
 broken : (turns : ℕ) (input words heads_rest : List ℕ) (heads : List (List ℕ)) (m : Model) (start place : Place) (source_left held opened now : Option (List ℕ)) (new : State)
     → IsHead heads words → Gave line_limit total_limit input heads start.reader.room heads_rest → start.ahead ≡ Some heads_rest → BeginsAt start → IsModelText words m
-    → Adds held opened (text_from m 0 (opening (program_options turns) ∷ [])) → PlaysInPart (fresh_state turns m) start opened new place now → Legal new.model new.log → ahead place.reader.held source_left ≡ place.ahead → HasBroken turns input held now
+    → Adds held opened (text_from m 0 (opening (program_options turns) ∷ [])) → PlaysInPart (fresh_state turns m) start opened new place now → Legal new.model new.log → ahead place.reader.held source_left ≡ place.ahead → HasBroken turns input source_left held now
 broken turns input words heads_rest heads m start place source_left held opened now new head gave is_ahead begins accepted first plays legal behind =
     let so_far = plays.plays in
     let next = line_in plays.step.message in
@@ -160,10 +139,9 @@ broken turns input words heads_rest heads m start place source_left held opened 
     let middle : BeginsAt plays.middle = record { limit = so_far.took.limit ∙ begins.limit; few = so_far.took.few begins.few } in
     let got = got_next plays.middle place k.rest plays.step.message middle k.is plays.step.gets in
     let read = has_read input words heads so_far.lines start.reader.room plays.middle.reader.room heads_rest k.rest (inputs_of so_far.entries) next place source_left head gave k.gave so_far.messages got behind in
-    let inputs = inputs_whole so_far.entries last.entries next last.inputs in
-    let asked = reached (inputs_of (so_far.entries ++ last.entries)) (inputs_of so_far.entries) read.more (messages_of (lines_behind read.lines)) next (read.behind ∙ append_assoc (inputs_of so_far.entries) (next ∷ []) read.more) inputs in
-    let all = reached (inputs_of (so_far.entries ++ last.entries)) (inputs_of so_far.entries) got.all.more (split_of input).messages next
-    (all_messages input words heads so_far.lines start.reader.room plays.middle.reader.room heads_rest k.rest (inputs_of so_far.entries) next place head gave k.gave so_far.messages got) inputs in
+    let inputs : inputs_of so_far.entries ++ next ∷ [] ≡ inputs_of (so_far.entries ++ last.entries) =
+    sym (inputs_append so_far.entries last.entries ∙ ap (λ (ns : List Message). inputs_of so_far.entries ++ ns) last.inputs) in
+    let all = all_messages input words heads so_far.lines start.reader.room plays.middle.reader.room heads_rest k.rest (inputs_of so_far.entries) next place head gave k.gave so_far.messages got in
     record {
       run = record {
         model = m;
@@ -174,16 +152,10 @@ broken turns input words heads_rest heads m start place source_left held opened 
         legal = l.legal;
         solo = l.solo;
         options = refl;
-        lines = read.lines;
-        left = read.left;
-        rest = read.rest;
-        gave = read.gave;
-        head = read.text;
-        more = asked.more;
-        behind = asked.is;
-        unanswered = all.more;
-        messages = all.is;
+        unanswered = got.all.more;
+        messages = all ∙ sym (append_assoc (inputs_of so_far.entries) (next ∷ []) got.all.more) ∙ ap (λ (ns : List Message). ns ++ got.all.more) inputs;
       };
+      read = subst (λ (ns : List Message). HasRead words ns input source_left) inputs read;
       front = opened_front m (opening (program_options turns)) (so_far.entries ++ last.entries) held opened now first
           (joined_front (fresh_state turns m) plays.waiting new opened plays.written now so_far.entries last.entries so_far.log so_far.same so_far.written last.log answered.written);
     }
@@ -196,6 +168,12 @@ run_opened turns kept start input m begun text legal =
     let k = known line_limit total_limit line_limit total_limit (Some input) input begun.lines start.reader.room start.ahead refl refl refl begun.took.gave in
     opened_run turns input begun.words k.rest begun.lines start.reader.room m begun.head k.gave (text begun.words begun.keeps) legal
 
+-- of the open entry no line was asked for
+opened_read : (kept : Option (Vec ℕ Global)) (start place : Place) (input : List ℕ) (source_left : Option (List ℕ)) → (begun : IsBegun (fresh_reader line_limit) (Some input) kept start.reader start.ahead) → place ≡ start
+    → ahead place.reader.held source_left ≡ place.ahead → HasRead begun.words [] input source_left
+opened_read kept start place input source_left begun same behind =
+    head_read input begun.words source_left (begins_at line_limit kept start.reader input start.ahead source_left begun (subst (λ (p : Place). ahead p.reader.held source_left ≡ p.ahead) same behind))
+
 run_waited : (turns : ℕ) (kept : Option (Vec ℕ Global)) (start middle : Place) (input : List ℕ) (held opened written : Option (List ℕ)) (m : Model) (mid : State) → IsBegun (fresh_reader line_limit) (Some input) kept start.reader start.ahead → IsKeptModel kept m
     → Adds held opened (text_from m 0 (opening (program_options turns) ∷ [])) → Plays (fresh_state turns m) start opened mid middle written → Legal mid.model mid.log → HasWaited turns input held written
 run_waited turns kept start middle input held opened written m mid begun text first plays legal =
@@ -203,7 +181,7 @@ run_waited turns kept start middle input held opened written m mid begun text fi
     waited turns input begun.words k.rest begun.lines m start middle held opened written mid begun.head k.gave k.is (behind_text kept start (Some input) begun) (text begun.words begun.keeps) first plays legal
 
 run_broken : (turns : ℕ) (kept : Option (Vec ℕ Global)) (start place : Place) (input : List ℕ) (source_left held opened now : Option (List ℕ)) (m : Model) (new : State) → IsBegun (fresh_reader line_limit) (Some input) kept start.reader start.ahead → IsKeptModel kept m
-    → Adds held opened (text_from m 0 (opening (program_options turns) ∷ [])) → PlaysInPart (fresh_state turns m) start opened new place now → Legal new.model new.log → ahead place.reader.held source_left ≡ place.ahead → HasBroken turns input held now
+    → Adds held opened (text_from m 0 (opening (program_options turns) ∷ [])) → PlaysInPart (fresh_state turns m) start opened new place now → Legal new.model new.log → ahead place.reader.held source_left ≡ place.ahead → HasBroken turns input source_left held now
 run_broken turns kept start place input source_left held opened now m new begun text first plays legal behind =
     let k = known line_limit total_limit line_limit total_limit (Some input) input begun.lines start.reader.room start.ahead refl refl refl begun.took.gave in
     broken turns input begun.words k.rest begun.lines m start place source_left held opened now new begun.head k.gave k.is (behind_text kept start (Some input) begun) (text begun.words begun.keeps) first plays legal behind
@@ -216,34 +194,36 @@ short_whole turns kept start place input source_left held now begun (in_fault is
     let begins = begins_at line_limit kept start.reader input start.ahead source_left begun (subst (λ (p : Place). ahead p.reader.held source_left ≡ p.ahead) same behind) in
     in_refusal fails.line (faulty begun.words fails.line begins (fails.refused begun.words begun.keeps) refl) front
 short_whole turns kept start place input source_left held now begun (in_run m text (unopened is same)) behind = absurd (let h : halt.Write ≡ halt.Memory = is in (cc))
-short_whole turns kept start place input source_left held now begun (in_run m text (in_opening legal front)) behind = in_journal (run_opened turns kept start input m begun text legal) front
+short_whole turns kept start place input source_left held now begun (in_run m text (in_opening legal front same)) behind =
+    in_journal (run_opened turns kept start input m begun text legal) (opened_read kept start place input source_left begun same behind) front
 short_whole turns kept start place input source_left held now begun (in_run m text (in_play run)) behind =
     let b = run_broken turns kept start place input source_left held run.opened now m run.new begun text run.first run.playing run.legal behind in
-    in_journal b.run b.front
+    in_journal b.run b.read b.front
 
 -- all that was written is the journal of a log that waits for a message
-waits_whole : (turns : ℕ) (input : List ℕ) (held written now : Option (List ℕ)) → HasWaited turns input held written → now ≡ written → IsOutOfMemory turns input held now
-waits_whole turns input held written now waits same =
-    behind_entry waits.run waits.going (subst (λ (o : Option (List ℕ)). Adds held o (text_of_log waits.run.model waits.run.log)) (sym same) waits.written)
+waits_whole : (turns : ℕ) (input : List ℕ) (source_left held written now : Option (List ℕ)) → HasWaited turns input held written → now ≡ written → IsOutOfMemory turns input source_left held now
+waits_whole turns input source_left held written now waits same =
+    behind_entry waits.run waits.given waits.closed waits.going (subst (λ (o : Option (List ℕ)). Adds held o (text_of_log waits.run.model waits.run.log)) (sym same) waits.written)
 
 play_lacks : (turns : ℕ) (kept : Option (Vec ℕ Global)) (start place middle : Place) (input : List ℕ) (source_left held opened written now : Option (List ℕ)) (m : Model) (mid new : State) → IsBegun (fresh_reader line_limit) (Some input) kept start.reader start.ahead → IsKeptModel kept m
     → Adds held opened (text_from m 0 (opening (program_options turns) ∷ [])) → Plays (fresh_state turns m) start opened mid middle written → StepLacks mid middle written new place now → Legal new.model new.log → ahead place.reader.held source_left ≡ place.ahead
-    → IsOutOfMemory turns input held now
+    → IsOutOfMemory turns input source_left held now
 play_lacks turns kept start place middle input source_left held opened written now m mid new begun text first plays (unread same_state same) legal behind =
-    waits_whole turns input held written now (run_waited turns kept start middle input held opened written m mid begun text first plays (subst (λ (s : State). Legal s.model s.log) same_state legal)) same
+    waits_whole turns input source_left held written now (run_waited turns kept start middle input held opened written m mid begun text first plays (subst (λ (s : State). Legal s.model s.log) same_state legal)) same
 play_lacks turns kept start place middle input source_left held opened written now m mid new begun text first plays (unheard before same) legal behind =
-    waits_whole turns input held written now (run_waited turns kept start middle input held opened written m mid begun text first plays before) same
+    waits_whole turns input source_left held written now (run_waited turns kept start middle input held opened written m mid begun text first plays before) same
 play_lacks turns kept start place middle input source_left held opened written now m mid new begun text first plays (unwritten step) legal behind =
     let b = run_broken turns kept start place input source_left held opened now m new begun text first (record { waiting = mid; middle = middle; written = written; plays = plays; step = step }) legal behind in
-    in_entry b.run b.front
+    in_entry b.run b.read b.front
 
 -- memory was wanting
 pub memory_whole : (turns : ℕ) (kept : Option (Vec ℕ Global)) (start place : Place) (input : List ℕ) (source_left held now : Option (List ℕ)) → IsBegun (fresh_reader line_limit) (Some input) kept start.reader start.ahead
-    → TextBreaks halt.Memory turns kept start held place now → ahead place.reader.held source_left ≡ place.ahead → IsOutOfMemory turns input held now
+    → TextBreaks halt.Memory turns kept start held place now → ahead place.reader.held source_left ≡ place.ahead → IsOutOfMemory turns input source_left held now
 memory_whole turns kept start place input source_left held now begun (unjudged is same) behind = nothing same
 memory_whole turns kept start place input source_left held now begun (in_fault is fails front same) behind = absurd (let h : halt.Memory ≡ halt.Write = is in (cc))
 memory_whole turns kept start place input source_left held now begun (in_run m text (unopened is same)) behind = nothing same
-memory_whole turns kept start place input source_left held now begun (in_run m text (in_opening legal front)) behind = in_entry (run_opened turns kept start input m begun text legal) front
+memory_whole turns kept start place input source_left held now begun (in_run m text (in_opening legal front same)) behind =
+    in_entry (run_opened turns kept start input m begun text legal) (opened_read kept start place input source_left begun same behind) front
 memory_whole turns kept start place input source_left held now begun (in_run m text (in_play run)) behind =
     let lacks = run.playing in
     play_lacks turns kept start place lacks.middle input source_left held run.opened lacks.written now m lacks.waiting run.new begun text run.first lacks.plays lacks.step run.legal behind

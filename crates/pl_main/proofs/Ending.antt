@@ -57,8 +57,8 @@ run_unopened turns m start held = unopened refl refl
 -- the open entry's line was not written whole
 pub run_unwritten : (turns : ℕ) (m : Model) (start : Place) (held now : Option (List ℕ)) (e : Halt) (faults later : ℕ) → Legal m (opening (program_options turns) ∷ []) → AppendsFront held now (text_from m 0 (opening (program_options turns) ∷ []))
     → WriteStops faults later e → ModelRuns turns m start held (Err e) start now
-run_unwritten turns m start held now halt.Write faults later legal front cause = in_opening legal front
-run_unwritten turns m start held now halt.Memory faults later legal front cause = in_opening legal front
+run_unwritten turns m start held now halt.Write faults later legal front cause = in_opening legal front refl
+run_unwritten turns m start held now halt.Memory faults later legal front cause = in_opening legal front refl
 run_unwritten turns m start held now halt.Read faults later legal front cause = absurd cause
 run_unwritten turns m start held now halt.Limit faults later legal front cause = absurd cause
 run_unwritten turns m start held now halt.Full faults later legal front cause = absurd cause
@@ -128,6 +128,11 @@ last_is [] ys x y e = (not_single x y ys e).1
 last_is (z ∷ xs) [] x y e = absurd (let h : z ∷ xs ≡ [] = (not_single y x (z ∷ xs) (sym e)).0 in (cc))
 last_is (z ∷ xs) (w ∷ ys) x y e = last_is xs ys x y (let h : z ∷ (xs ++ x ∷ []) ≡ w ∷ (ys ++ y ∷ []) = e in (cc))
 
+-- messages of which one is the last are some
+some_last : (front : List (Option (List ℕ))) (last : Option (List ℕ)) → [] ≡ front ++ last ∷ [] → ⊥
+some_last [] last e = cc
+some_last (m ∷ front) last e = cc
+
 pub ends_all : (rest : List ℕ) (lines : List (List ℕ)) (inputs : List (Option (List ℕ))) → EndsWith rest lines inputs → messages_of (lines ++ lines_of rest) ≡ inputs
 ends_all rest lines inputs (by_end front last none is) = ap (λ (r : List ℕ). messages_of (lines ++ lines_of r)) none ∙ ap messages_of (append-nil lines) ∙ is
 ends_all rest lines inputs (by_line front line before last is all) = all (lines_of rest)
@@ -139,6 +144,11 @@ ends_read rest lines inputs (by_line front line before last is all) = ap message
 pub ends_used_up : (rest : List ℕ) (lines : List (List ℕ)) (inputs front : List (Option (List ℕ))) → EndsWith rest lines inputs → inputs ≡ front ++ None ∷ [] → rest ≡ []
 ends_used_up rest lines inputs front (by_end ahead_of last none is) e = none
 ends_used_up rest lines inputs front (by_line before line so_far last is all) e = absurd (let h : Some line ≡ None = last_is before front (Some line) None (sym last ∙ e) in (cc))
+
+-- there is a message, the last of them
+ends_some : (rest : List ℕ) (lines : List (List ℕ)) (inputs : List (Option (List ℕ))) → EndsWith rest lines inputs → inputs ≡ [] → ⊥
+ends_some rest lines inputs (by_end front last none is) e = some_last front None (sym e ∙ last)
+ends_some rest lines inputs (by_line front line before last is all) e = some_last front (Some line) (sym e ∙ last)
 
 -- the last line that was read is the last message, where that is a line
 pub ends_last : (rest : List ℕ) (lines : List (List ℕ)) (inputs front : List (Option (List ℕ))) (line : List ℕ) → EndsWith rest lines inputs → inputs ≡ front ++ Some line ∷ []
@@ -192,8 +202,10 @@ done_ends turns input words heads_rest heads m start place source_left held open
         gave = gave_append line_limit total_limit input heads plays.lines start.reader.room heads_rest place.reader.room k.rest gave k.gave;
         text = both.0;
         behind = ap messages_of both.1 ∙ ends_read k.rest plays.lines (inputs_of plays.entries) ends ∙ sym (append-nil (inputs_of plays.entries));
+        no_others = inl refl;
         no_further = λ front line e. (let last = ends_last k.rest plays.lines (inputs_of plays.entries) front line ends e in ends_behind heads plays.lines last.0 line last.1);
         used_up = λ front e. ends_used_up k.rest plays.lines (inputs_of plays.entries) front ends e;
+        none = λ e. absurd (ends_some k.rest plays.lines (inputs_of plays.entries) ends e);
         source = read_to place source_left k.rest (plays.few begins.few) behind k.is;
       };
       written = l.text;
@@ -272,6 +284,16 @@ first_message : (line : List ℕ) (lines : List (List ℕ)) → is_blank_line li
 first_message line lines message true ends = record { more = []; is = end_first line lines message ends }
 first_message line lines message false ends = record { more = messages_of lines; is = message_first line lines message ends }
 
+-- messages of which this is the first, and the only one but for the end of the lines
+pub record BeginsAlone (next : Option (List ℕ)) (all : List (Option (List ℕ))) : Type 0 where
+  pub more : List (Option (List ℕ))
+  pub is : all ≡ next ∷ more
+  pub no_others : (more ≡ []) ⊎ (more ≡ None ∷ [])
+
+first_alone : (line : List ℕ) → is_blank_line line ≡ false → (b : Bool) → is_line_of end_word line ≡ b → BeginsAlone (Some line) (messages_of (line ∷ []))
+first_alone line message true ends = record { more = []; is = end_first line [] message ends; no_others = inl refl }
+first_alone line message false ends = record { more = None ∷ []; is = message_first line [] message ends ∙ ap (λ (ns : List (Option (List ℕ))). Some line ∷ ns) none_left; no_others = inr refl }
+
 behind_blanks : (blanks lines : List (List ℕ)) (next : Option (List ℕ)) → AreBlank blanks → BeginsWith next (messages_of lines) → BeginsWith next (messages_of (blanks ++ lines))
 behind_blanks blanks lines next blank begins = record { more = begins.more; is = blanks_first blanks lines blank ∙ begins.is }
 
@@ -281,7 +303,7 @@ pub record GotNext (next : Option (List ℕ)) (room : ℕ) (bytes : List ℕ) (b
   pub left : ℕ
   pub rest : List ℕ
   pub gave : Gave line_limit room bytes lines left rest
-  pub read : BeginsWith next (messages_of lines)
+  pub read : BeginsAlone next (messages_of lines)
   pub all : BeginsWith next (messages_of (lines ++ lines_of rest))
   pub used_up : next ≡ None → rest ≡ []
   pub last : (line : List ℕ) → next ≡ Some line → (before : List (List ℕ)) × (lines ≡ before ++ line ∷ [])
@@ -296,7 +318,8 @@ got_next before behind bytes (Some line) starts is_ahead gets =
       left = behind.reader.room;
       rest = k.rest;
       gave = k.gave;
-      read = behind_blanks gets.lines (line.bytes ∷ []) (Some line.bytes) gets.blank (first_message line.bytes [] gets.message (is_line_of end_word line.bytes) refl);
+      read = (let first = first_alone line.bytes gets.message (is_line_of end_word line.bytes) refl in
+          record { more = first.more; is = blanks_first gets.lines (line.bytes ∷ []) gets.blank ∙ first.is; no_others = first.no_others });
       all = subst (λ (ls : List (List ℕ)). BeginsWith (Some line.bytes) (messages_of ls)) (sym (append_assoc gets.lines (line.bytes ∷ []) (lines_of k.rest)))
           (behind_blanks gets.lines (line.bytes ∷ lines_of k.rest) (Some line.bytes) gets.blank (first_message line.bytes (lines_of k.rest) gets.message (is_line_of end_word line.bytes) refl));
       used_up = λ e. absurd (let h : Some line.bytes ≡ None = e in (cc));
@@ -308,13 +331,14 @@ got_next before behind bytes None starts is_ahead gets =
     let k = known before.reader.limit before.reader.room line_limit before.reader.room before.ahead bytes gets.lines behind.reader.room behind.ahead starts.limit refl is_ahead gets.took.gave in
     let used = subst (λ (b : Option (List ℕ)). IsUsedUp b behind.ahead) is_ahead gets.used_up in
     let none : k.rest ≡ [] = (let h : Some k.rest ≡ Some [] = sym k.is ∙ used in (cc)) in
-    let begins : BeginsWith None (messages_of gets.lines) = record { more = []; is = ap messages_of (sym (append-nil gets.lines)) ∙ blanks_first gets.lines [] gets.blank ∙ none_left } in
+    let alone : messages_of gets.lines ≡ None ∷ [] = ap messages_of (sym (append-nil gets.lines)) ∙ blanks_first gets.lines [] gets.blank ∙ none_left in
+    let begins : BeginsWith None (messages_of gets.lines) = record { more = []; is = alone } in
     record {
       lines = gets.lines;
       left = behind.reader.room;
       rest = k.rest;
       gave = k.gave;
-      read = begins;
+      read = record { more = []; is = alone; no_others = inl refl };
       all = subst (λ (ls : List (List ℕ)). BeginsWith None (messages_of ls)) (sym (ap (λ (r : List ℕ). gets.lines ++ lines_of r) none ∙ append-nil gets.lines)) begins;
       used_up = λ e. none;
       last = λ found e. absurd (let h : None ≡ Some found = e in (cc));
@@ -382,11 +406,13 @@ has_read input words heads lines room mid heads_rest bytes before next place sou
       gave = gave_append line_limit total_limit input heads (lines ++ got.lines) room heads_rest got.left got.rest gave (gave_append line_limit room heads_rest lines got.lines mid bytes got.left got.rest gave2 got.gave);
       text = both.0;
       behind = ap messages_of both.1 ∙ messages_append lines got.lines before so_far ∙ ap (λ (ns : List (Option (List ℕ))). before ++ ns) got.read.is ∙ sym (append_assoc before (next ∷ []) got.read.more);
+      no_others = got.read.no_others;
       no_further = λ front line e.
           (let last = got.last line (last_is before front next (Some line) e) in
           let behind_lines = ends_behind lines got.lines last.0 line last.1 in
           ends_behind heads (lines ++ got.lines) behind_lines.0 line behind_lines.1);
       used_up = λ front e. got.used_up (last_is before front next None e);
+      none = λ e. absurd (some_last before next (sym e));
       source = read_to place source_left got.rest got.few behind got.is;
     }
 
@@ -481,6 +507,23 @@ begins_at limit kept new input after source_left begun behind =
       text = (split_is input begun.lines begun.words (lines_of k.rest) begun.head (gave_lines limit total_limit input begun.lines new.room k.rest k.gave)).text;
       source = record { came = new.held; few = begun.took.few (omega arith); behind = behind ∙ k.is };
     }
+
+-- no line was asked for behind `begin`
+pub head_read : (input words : List ℕ) (source_left : Option (List ℕ)) → HasHead line_limit input words source_left → HasRead words [] input source_left
+head_read input words source_left head = record {
+  lines = head.lines;
+  left = head.left;
+  rest = head.rest;
+  more = None ∷ [];
+  gave = head.gave;
+  text = head.head;
+  behind = ap messages_of head.no_further ∙ none_left;
+  no_others = inr refl;
+  no_further = λ front line e. absurd (some_last front (Some line) e);
+  used_up = λ front e. absurd (some_last front None e);
+  none = λ e. head.no_further;
+  source = head.source;
+}
 
 -- the reader behind a text that begins
 pub behind_text : (kept : Option (Vec ℕ Global)) (start : Place) (input : Option (List ℕ)) → IsBegun (fresh_reader line_limit) input kept start.reader start.ahead → BeginsAt start

@@ -27,13 +27,13 @@ use Rattle.pl_stream.proofs.Reading.{known, gave_append, gave_lines}
 use Rattle.pl_pair.specs.declared.ended.Ended.{Ended}
 use Rattle.pl_pair.specs.declared.ended.Ended.TheVariants as ended
 use Rattle.pl_stream.specs.Places.{Place, place_of}
-use Rattle.pl_pair.specs.Runs.{InMessages, HadLimit, WhyNone, IsCauseOf, StoppedBy, ReadUpTo, RunsUntil, ReadsShort, all_handed, one_behind, one_unread, PairRun}
+use Rattle.pl_pair.specs.Runs.{InMessages, HadLimit, WhyNone, IsCauseOf, StoppedBy, ReadUpTo, RunsUntil, ReadsShort, one_behind, one_unread, RunsShort, in_lines, behind_lines, PairRun}
 use Rattle.pl_pair.proofs.Running.{runs_none}
 use Rattle.pl_main.specs.declared.outcome.Outcome.{Outcome}
 use Rattle.pl_main.specs.declared.outcome.Outcome.TheVariants as outcome
 use Rattle.pl_main.specs.Runs.{fresh_state, AcceptsKept}
-use Rattle.pl_main.specs.Top.{line_limit, total_limit, fresh_reader, no_begin_line, HasRead, ShowsNoLine, ShowsLimit, faulty}
-use Rattle.pl_main.specs.Pairs.{IsPaired, IsPairDone, PairWaitsBehind, IsPairFull, HasPairBegun, IsPairTorn, torn_refusal, torn_run, WasGiven, ReadsInPart, to_last, to_next, at_next, IsPairShort, silent, of_run, Paired, PairedKnown, outcome_of, PairTextTorn, in_refusal, in_writing, PairTextShort, at_once, in_run, PairTextRuns}
+use Rattle.pl_main.specs.Top.{line_limit, total_limit, fresh_reader, no_begin_line, HasRead, ShowsNoLine, ShowsLimit, faulty, WasGiven}
+use Rattle.pl_main.specs.Pairs.{IsPaired, IsPairDone, PairWaitsBehind, IsPairFull, HasPairBegun, IsPairTorn, torn_refusal, torn_run, ReadsInPart, to_next, at_next, IsPairShort, silent, in_part, between_rounds, Paired, PairedKnown, outcome_of, PairTextTorn, in_refusal, in_writing, PairTextShort, at_once, in_run, PairTextRuns}
 use Rattle.pl_stream.proofs.Stopping.{never_full, never_writes, limit_stops}
 use Rattle.pl_stream.proofs.Beginning.{head_then}
 use Rattle.pl_main.proofs.Ending.{split_is, begins_at, begins_nowhere, head_stopped, shows_none, shows_limit, fresh_begun, fresh_nowhere, fresh_halts}
@@ -164,10 +164,12 @@ read_of input words place last messages source_left behind same read =
       gave = gave_append line_limit total_limit input behind.heads read.lines place.reader.room behind.rest last.reader.room k.rest behind.gave k.gave;
       text = both.0;
       behind = ap messages_of both.1 ∙ read.said;
+      no_others = read.no_others;
       no_further = λ front line e. (let found = read.no_further front line e in lines_end behind.heads read.lines found.0 line found.1);
       used_up = λ front e.
           (let used : last.ahead ≡ Some [] = subst (λ (b : Option (List ℕ)). IsUsedUp b last.ahead) behind.is (read.used_up front e) in
           let h : Some k.rest ≡ Some [] = sym k.is ∙ used in (cc));
+      none = λ e. both.1 ∙ read.none e;
       source = record { came = last.reader.held; few = read.few behind.few; behind = same ∙ k.is };
     }
 
@@ -366,7 +368,6 @@ module _ (turns seed : ℕ) (input words : List ℕ) (place last : Place) (m : M
     log_read read = subst (λ (is : List (Option (List ℕ))). HasRead words is input source_left) log_inputs (read_of input words place last (inputs_of run.entries) source_left behind same read)
 
     part_read : ReadsShort place (inputs_of run.entries) last → ReadsInPart words (inputs_of run.log) log_front.0 input source_left
-    part_read (all_handed read) = to_last (log_read read)
     part_read (one_behind next read is_next) =
         let on = in_messages place behind.rest (λ messages. IsPrefix (inputs_of run.entries ++ next ∷ []) messages) behind.is is_next in
         let P : List (Option (List ℕ)) → Type 0 = λ is. IsPrefix (is ++ next ∷ []) (messages_of (lines_of behind.rest)) in
@@ -376,6 +377,10 @@ module _ (turns seed : ℕ) (input words : List ℕ) (place last : Place) (m : M
         (subst Q log_inputs (read_of input words place last (inputs_of run.entries ++ next ∷ []) source_left behind same read))
     part_read (one_unread middle read faults) =
         at_next (subst (λ (is : List (Option (List ℕ))). WasGiven words is input) log_inputs (given_of input words place middle (inputs_of run.entries) behind read))
+
+    run_short : (accepted : IsModelText words m) → RunsShort m run.log run.entries place held last now → IsPairShort turns seed input source_left held now
+    run_short accepted (in_lines read front) = in_part (has_begun accepted) (log_read read) front
+    run_short accepted (behind_lines at read written) = between_rounds (has_begun accepted) (part_read read) at.0 at.1 written
 
 torn_of : (turns seed : ℕ) (kept : Option (Vec ℕ Global)) (start place : Place) (input : List ℕ) (source_left held now : Option (List ℕ)) → IsBegun (fresh_reader line_limit) (Some input) kept start.reader start.ahead
     → PairTextTorn turns seed kept start held place now → ahead place.reader.held source_left ≡ place.ahead → IsPairTorn turns seed input source_left held now
@@ -391,9 +396,7 @@ short_of : (turns seed : ℕ) (kept : Option (Vec ℕ Global)) (start place : Pl
     → PairTextShort turns seed kept start held place now → ahead place.reader.held source_left ≡ place.ahead → IsPairShort turns seed input source_left held now
 short_of turns seed kept start place input source_left held now begun (at_once same) behind = silent same
 short_of turns seed kept start place input source_left held now begun (in_run ran) behind =
-    let before = is_behind kept start input begun in
-    of_run (has_begun turns seed input begun.words start place ran.model held ended.Memory now before ran.run (ran.text begun.words begun.keeps))
-    (part_read turns seed input begun.words start place ran.model held ended.Memory now before ran.run source_left behind ran.run.ends.read) ran.run.ends.written
+    run_short turns seed input begun.words start place ran.model held ended.Memory now (is_behind kept start input begun) ran.run source_left behind (ran.text begun.words begun.keeps) ran.run.ends
 
 begun_known : (turns seed : ℕ) (kept : Option (Vec ℕ Global)) (start place : Place) (input : List ℕ) (source_left held now : Option (List ℕ)) (r : Result Outcome Halt)
     → IsBegun (fresh_reader line_limit) (Some input) kept start.reader start.ahead → PairTextRuns turns seed kept start held r place now → ahead place.reader.held source_left ≡ place.ahead → PairedKnown turns seed (Some input) source_left held now r

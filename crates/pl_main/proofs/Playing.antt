@@ -1,6 +1,6 @@
 -- Message after message.
-use Rattle.std.proofs.Common.{◌≡◌, ℕ, ◌+◌, ◌<◌, ◌≤◌, List, [], ◌∷◌, ◌++◌, length, drop, Bool, true, false, All, Option, Some, None, IfSome, ◌⊎◌, inl, inr, Result, Ok, Err, refl, sym, ◌∙◌, ap, subst, append_assoc, length-append}
-use Rattle.std.proofs.lemmas.List.{append-nil}
+use Rattle.std.proofs.Common.{◌≡◌, ℕ, ◌+◌, ◌<◌, ◌≤◌, List, [], ◌∷◌, ◌++◌, length, drop, Bool, true, false, All, Option, Some, None, IfSome, ◌⊎◌, inl, inr, Result, Ok, Err, refl, sym, ◌∙◌, ap, subst, append_assoc, length-append, arith}
+use Rattle.std.proofs.lemmas.List.{append-nil, drop_all}
 use Rattle.std.proofs.lemmas.List.Elements.{filter_map-append}
 use Rattle.pl_io.specs.declared.errors.LineFault.{LineFault}
 use Rattle.pl_io.specs.Reader.{NumberedLine}
@@ -23,7 +23,7 @@ use Rattle.pl_stream.specs.declared.halt.Halt.TheVariants as halt
 use Rattle.pl_stream.specs.Reads.{GaveKnown, IsUsedUp, AreBlank}
 use Rattle.pl_stream.specs.Stops.{HaltFor, ReadLeaves, LimitLeaves, StopsBy}
 use Rattle.pl_stream.specs.Waits.{GetsFault, MessageGives, line_in}
-use Rattle.pl_main.specs.Tells.{IsReady, Told, FillsUp, at_once, within}
+use Rattle.pl_main.specs.Tells.{IsReady, Told, ToldInPart, FillsUp, at_once, within}
 use Rattle.pl_stream.specs.Written.{Adds, WriteStops}
 use Rattle.pl_stream.specs.Places.{Place}
 use Rattle.pl_main.specs.Plays.{Plays, EndsAll, by_end, by_line, PlaysOut, PlayHalts, Answered, Filled, untold, told_in_part, Answering, StepsOn, StepFills, StepHalts, unread, unheard, unwritten, PlayFills, Steps, Playing}
@@ -42,11 +42,12 @@ input_fits start place (Some message) (Some line) limit is bytes gets =
 
 -- ---- a message whose lines were not written whole
 
-filled_model : (old new : State) (input : Option (List ℕ)) → FillsUp old input new → new.model ≡ old.model
-filled_model old new input (at_once full is) = ap (λ (s : State). s.model) is
-filled_model old new input (within told) = told.same.model
+-- a log that grew was not full when the message came
+grown : (old new : State) (input : Option (List ℕ)) → FillsUp old input new → length old.log < length new.log → ToldInPart old input new
+grown old new input (at_once full is) more = absurd (let same : length new.log ≡ length old.log = ap (λ (s : State). length s.log) is in omega (arith, more, same))
+grown old new input (within told) more = told
 
-cut_off : (old new : State) (input held now : Option (List ℕ)) (e : Halt) (faults later : ℕ) → Told old input new ⊎ FillsUp old input new → AppendsFront held now (text_from old.model (length old.log) (drop (length old.log) new.log)) → WriteStops faults later e → Answering old input held (Err e) new now
+cut_off : (old new : State) (input held now : Option (List ℕ)) (e : Halt) (faults later : ℕ) → Told old input new ⊎ ToldInPart old input new → AppendsFront held now (text_from old.model (length old.log) (drop (length old.log) new.log)) → WriteStops faults later e → Answering old input held (Err e) new now
 cut_off old new input held now halt.Write faults later told front cause = record { told = told; written = front }
 cut_off old new input held now halt.Memory faults later told front cause = told_in_part (record { told = told; written = front })
 cut_off old new input held now halt.Read faults later told front cause = absurd cause
@@ -57,9 +58,17 @@ pub told_cut : (old new : State) (input held now : Option (List ℕ)) (e : Halt)
 told_cut old new input held now e from faults later told is front cause =
     cut_off old new input held now e faults later (inl told) (subst (λ (m : Model). AppendsFront held now (text_from m (length old.log) (drop (length old.log) new.log))) told.same.model (subst (λ n. AppendsFront held now (text_from new.model n (drop n new.log))) is front)) cause
 
-pub filled_cut : (old new : State) (input held now : Option (List ℕ)) (e : Halt) (from faults later : ℕ) → FillsUp old input new → from ≡ length old.log → AppendsFront held now (text_from new.model from (drop from new.log)) → WriteStops faults later e → Answering old input held (Err e) new now
-filled_cut old new input held now e from faults later fills is front cause =
-    cut_off old new input held now e faults later (inr fills) (subst (λ (m : Model). AppendsFront held now (text_from m (length old.log) (drop (length old.log) new.log))) (filled_model old new input fills) (subst (λ n. AppendsFront held now (text_from new.model n (drop n new.log))) is front)) cause
+pub filled_cut : (old new : State) (input held now : Option (List ℕ)) (e : Halt) (from faults later : ℕ) → FillsUp old input new → from ≡ length old.log → from < length new.log → AppendsFront held now (text_from new.model from (drop from new.log)) → WriteStops faults later e
+    → Answering old input held (Err e) new now
+filled_cut old new input held now e from faults later fills is more front cause =
+    let told = grown old new input fills (omega (arith, is, more)) in
+    cut_off old new input held now e faults later (inr told) (subst (λ (m : Model). AppendsFront held now (text_from m (length old.log) (drop (length old.log) new.log))) told.same.model (subst (λ n. AppendsFront held now (text_from new.model n (drop n new.log))) is front)) cause
+
+-- of a message that came to a full log nothing is to be written
+pub filled_before : (old new : State) (input held : Option (List ℕ)) (from : ℕ) → FillsUp old input new → from ≡ length old.log → length new.log ≤ from → Answering old input held (Err halt.Full) new held
+filled_before old new input held from fills is none =
+    let fresh : drop (length old.log) new.log ≡ [] = drop_all (length old.log) new.log (omega (arith, is, none)) in
+    record { fills = fills; written = subst (λ (es : List Entry). Adds held held (text_from old.model (length old.log) es)) (sym fresh) (some_held held) }
 
 pub not_told : (old new : State) (input held : Option (List ℕ)) → Legal old.model old.log → Answering old input held (Err halt.Memory) new held
 not_told old new input held legal = untold legal refl

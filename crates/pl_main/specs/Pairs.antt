@@ -27,7 +27,7 @@ use Rattle.pl_pair.specs.Runs.{History, PairRun}
 use Rattle.pl_main.specs.declared.outcome.Outcome.{Outcome}
 use Rattle.pl_main.specs.declared.outcome.Outcome.TheVariants as outcome
 use Rattle.pl_main.specs.Runs.{fresh_state, IsKeptModel, TextFails}
-use Rattle.pl_main.specs.Top.{line_limit, total_limit, program_options, HasRead, ShowsNoLine, ShowsLimit, IsNoModel}
+use Rattle.pl_main.specs.Top.{line_limit, total_limit, program_options, HasRead, ShowsNoLine, ShowsLimit, IsNoModel, WasGiven}
 
 -- A legal log that was opened with the turns of the words and the limits of the program. Behind the open entry, inputs are the feeder's own entries, fixes and rests the planner's,
 -- commits, dispatches and closes the executive's. Each of the planner's is what its chooser, made from the seed, proposes in the world before it, or a rest, and each of the executive's what it chooses there.
@@ -117,26 +117,17 @@ pub data IsPairTorn (turns seed : ℕ) (input : List ℕ) (source_left held now 
   torn_refusal : (line : List ℕ) → IsNoModel line_limit input source_left (Some []) (Some line) → AppendsFront held now line → IsPairTorn turns seed input source_left held now
   torn_run : (run : HasPairBegun turns seed input) → HasRead run.words (inputs_of run.log) input source_left → AppendsFront held now (text_of_log run.model run.log) → IsPairTorn turns seed input source_left held now
 
--- The lines that were given, each within the limits: the text of a model up to a `begin` line, and behind it these messages.
-pub record WasGiven (words : List ℕ) (messages : List (Option (List ℕ))) (input : List ℕ) : Type 0 where
-  pub lines : List (List ℕ)
-  pub left : ℕ
-  pub rest : List ℕ
-  pub gave : Gave line_limit total_limit input lines left rest
-  pub head : model_text_of lines ≡ Some words
-  pub more : List (Option (List ℕ))
-  pub behind : messages_of (lines_behind lines) ≡ messages ++ more
-
--- How far was read where memory was wanting: the last line that was asked for is the last of these messages, or the one behind it. Or memory was wanting to read that one, and then nothing is said of what the source has left.
+-- How far was read where memory was wanting for the message behind these: it is the last line that was asked for. Or memory was wanting to read it, and then nothing is said of what the source has left.
 pub data ReadsInPart (words : List ℕ) (messages unanswered : List (Option (List ℕ))) (input : List ℕ) (source_left : Option (List ℕ)) : Type 0 where
-  to_last : HasRead words messages input source_left → ReadsInPart words messages unanswered input source_left
   to_next : (next : Option (List ℕ)) (more : List (Option (List ℕ))) → unanswered ≡ next ∷ more → HasRead words (messages ++ next ∷ []) input source_left → ReadsInPart words messages unanswered input source_left
   at_next : WasGiven words messages input → ReadsInPart words messages unanswered input source_left
 
--- Memory was wanting: nothing went out, or a front of such a log's journal.
+-- Memory was wanting: nothing went out, or a front of such a log's journal, and the last line that was asked for is the last message of the log. Or, between two rounds, all of the journal went out, and memory was wanting for the next message.
 pub data IsPairShort (turns seed : ℕ) (input : List ℕ) (source_left held now : Option (List ℕ)) : Type 0 where
   silent : now ≡ held → IsPairShort turns seed input source_left held now
-  of_run : (run : HasPairBegun turns seed input) → ReadsInPart run.words (inputs_of run.log) run.unanswered input source_left → AddsFront held now (text_of_log run.model run.log) → IsPairShort turns seed input source_left held now
+  in_part : (run : HasPairBegun turns seed input) → HasRead run.words (inputs_of run.log) input source_left → AddsFront held now (text_of_log run.model run.log) → IsPairShort turns seed input source_left held now
+  between_rounds : (run : HasPairBegun turns seed input) → ReadsInPart run.words (inputs_of run.log) run.unanswered input source_left → (world_of run.model run.log).closed ≡ true → (world_of run.model run.log).done ≡ false
+      → Adds held now (text_of_log run.model run.log) → IsPairShort turns seed input source_left held now
 
 -- how a run of a pair ended, where the input's bytes are known
 abbrev pub Paired : (turns seed : ℕ) → List ℕ → (source_left held now : Option (List ℕ)) → Result Outcome Halt → Type 0

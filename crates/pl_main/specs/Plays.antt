@@ -15,7 +15,7 @@ use Rattle.pl_render.specs.Lines.{text_from}
 use Rattle.pl_stream.specs.declared.halt.Halt.{Halt}
 use Rattle.pl_stream.specs.declared.halt.Halt.TheVariants as halt
 use Rattle.pl_stream.specs.Reads.{GaveKnown, Took}
-use Rattle.pl_main.specs.Tells.{IsReady, Told, FillsUp}
+use Rattle.pl_main.specs.Tells.{IsReady, Told, ToldInPart, FillsUp}
 use Rattle.pl_stream.specs.Stops.{HaltFor, ReadLeaves, LimitLeaves, StopsBy}
 use Rattle.pl_stream.specs.Waits.{MessageGives, GetsFault, line_in}
 use Rattle.pl_stream.specs.Places.{Place}
@@ -90,9 +90,9 @@ pub record Filled (old : State) (input : Option (List ℕ)) (held : Option (List
   pub fills : FillsUp old input new
   pub written : Adds held now (text_from old.model (length old.log) (drop (length old.log) new.log))
 
--- A front of the lines of the message's entries was written.
+-- The message was logged, and a front of the lines of its entries was written, and not all of them.
 pub record AnsweredInPart (old : State) (input : Option (List ℕ)) (held : Option (List ℕ)) (new : State) (now : Option (List ℕ)) : Type 0 where
-  pub told : Told old input new ⊎ FillsUp old input new
+  pub told : Told old input new ⊎ ToldInPart old input new
   pub written : AppendsFront held now (text_from old.model (length old.log) (drop (length old.log) new.log))
 
 -- Memory was wanting: for the message or its round, and then nothing of it was written, or for a line of its entries.

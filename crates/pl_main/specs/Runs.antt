@@ -33,12 +33,13 @@ pub record ModelRun (turns : ℕ) (model : Model) (start : Place) (held : Option
   pub legal : Legal new.model new.log
 
 -- A run over a model that was cut short: memory was wanting before its journal, or a front of the open entry's line was
--- written, or it came so far.
+-- written and no line was asked for, or it came so far.
 pub data ModelBreaks (e : Halt) (turns : ℕ) (model : Model) (start : Place) (held : Option (List ℕ)) (place : Place)
     (now : Option (List ℕ)) : Type 0 where
   unopened : e ≡ halt.Memory → now ≡ held → ModelBreaks e turns model start held place now
   in_opening : Legal model (opening (program_options turns) ∷ [])
-      → AppendsFront held now (text_from model 0 (opening (program_options turns) ∷ [])) → ModelBreaks e turns model start held place now
+      → AppendsFront held now (text_from model 0 (opening (program_options turns) ∷ [])) → place ≡ start
+      → ModelBreaks e turns model start held place now
   in_play : ModelRun turns model start held (Err e) place now → ModelBreaks e turns model start held place now
 
 abbrev pub ModelRuns : ℕ → Model → Place → Option (List ℕ) → Result (Unit {0}) Halt → Place

@@ -49,7 +49,7 @@ pub record SaysRan (turns : ℕ) (input : List ℕ) (source_left held now : Opti
   pub limit : status ≡ 6 → IsPastLimit turns input source_left held now
   pub full : status ≡ 7 → IsFull turns input source_left held now
   pub never_wrong : status ≡ 8 → ⊥
-  pub memory : status ≡ 9 → IsOutOfMemory turns input held now
+  pub memory : status ≡ 9 → IsOutOfMemory turns input source_left held now
 
 -- what the status of a check says
 pub record SaysChecked (input : List ℕ) (source_left held now : Option (List ℕ)) (status : ℕ)

@@ -59,7 +59,8 @@ pub record ShowsLimit (limit left : ℕ) (rest : List ℕ) (source_left : Option
   pub behind : ahead came source_left ≡ Some rest
 
 -- The lines that were asked for, each within the limits: the text of a model up to a `begin` line, and behind it these
--- messages. The last line is the last message. Where the last message is the end of the input, all bytes were read.
+-- messages and no others. The last line is the last message. Where the last message is the end of the input, all bytes were
+-- read. Where there is no message, no line was asked for behind `begin`.
 pub record HasRead (words : List ℕ) (messages : List (Option (List ℕ))) (input : List ℕ)
     (source_left : Option (List ℕ)) : Type 0 where
   pub lines : List (List ℕ)
@@ -69,9 +70,11 @@ pub record HasRead (words : List ℕ) (messages : List (Option (List ℕ))) (inp
   pub gave : Gave line_limit total_limit input lines left rest
   pub text : model_text_of lines ≡ Some words
   pub behind : messages_of (lines_behind lines) ≡ messages ++ more
+  pub no_others : (more ≡ []) ⊎ (more ≡ None ∷ [])
   pub no_further : (front : List (Option (List ℕ))) (line : List ℕ) → messages ≡ front ++ Some line ∷ []
       → (before : List (List ℕ)) × (lines ≡ before ++ line ∷ [])
   pub used_up : (front : List (Option (List ℕ))) → messages ≡ front ++ None ∷ [] → rest ≡ []
+  pub none : messages ≡ [] → lines_behind lines ≡ []
   pub source : IsReadTo rest source_left
 
 -- The run is done: what was written is the journal of a finished solo log of the input.
@@ -168,8 +171,17 @@ pub record IsFull (turns : ℕ) (input : List ℕ) (source_left held now : Optio
       ⊎ (((world_of model log).closed ≡ true) × ((next : Option (List ℕ)) × (pending ≡ next ∷ [])))
   pub written : Adds held now (text_of_log model log)
 
--- A legal solo log of the program over the input's model, whose inputs are the first messages of the input. The lines that
--- were taken for it are within the limits.
+-- The lines that were given, each within the limits: the text of a model up to a `begin` line, and behind it these messages.
+pub record WasGiven (words : List ℕ) (messages : List (Option (List ℕ))) (input : List ℕ) : Type 0 where
+  pub lines : List (List ℕ)
+  pub left : ℕ
+  pub rest : List ℕ
+  pub gave : Gave line_limit total_limit input lines left rest
+  pub head : model_text_of lines ≡ Some words
+  pub more : List (Option (List ℕ))
+  pub behind : messages_of (lines_behind lines) ≡ messages ++ more
+
+-- A legal solo log of the program over the input's model, whose inputs are the first messages of the input.
 pub record HasBegun (turns : ℕ) (input : List ℕ) : Type 0 where
   pub model : Model
   pub log : List Entry
@@ -179,30 +191,27 @@ pub record HasBegun (turns : ℕ) (input : List ℕ) : Type 0 where
   pub legal : Legal model log
   pub solo : Solo model log
   pub options : options_of log ≡ program_options turns
-  pub lines : List (List ℕ)
-  pub left : ℕ
-  pub rest : List ℕ
-  pub gave : Gave line_limit total_limit input lines left rest
-  pub head : model_text_of lines ≡ Some words
-  pub more : List (Option (List ℕ))
-  pub behind : messages_of (lines_behind lines) ≡ inputs_of log ++ more
   pub unanswered : List (Option (List ℕ))
   pub messages : (split_of input).messages ≡ inputs_of log ++ unanswered
 
--- A write failed. What went out is a front of such a log's journal, or of the line that refuses the model.
+-- A write failed. What went out is a front of such a log's journal, and not all of it, and then the last line that was asked
+-- for is the last message of the log; or of the line that refuses the model.
 pub data IsShort (turns : ℕ) (input : List ℕ) (source_left held now : Option (List ℕ)) : Type 0 where
-  in_journal : (run : HasBegun turns input) → AppendsFront held now (text_of_log run.model run.log)
-      → IsShort turns input source_left held now
+  in_journal : (run : HasBegun turns input) → HasRead run.words (inputs_of run.log) input source_left
+      → AppendsFront held now (text_of_log run.model run.log) → IsShort turns input source_left held now
   in_refusal : (line : List ℕ) → IsNoModel line_limit input source_left (Some []) (Some line)
       → AppendsFront held now line → IsShort turns input source_left held now
 
--- Memory was wanting. Nothing went out, or a front of such a log's journal, or all of it where the run isn't done.
-pub data IsOutOfMemory (turns : ℕ) (input : List ℕ) (held now : Option (List ℕ)) : Type 0 where
-  nothing : now ≡ held → IsOutOfMemory turns input held now
-  in_entry : (run : HasBegun turns input) → AppendsFront held now (text_of_log run.model run.log)
-      → IsOutOfMemory turns input held now
-  behind_entry : (run : HasBegun turns input) → (world_of run.model run.log).done ≡ false
-      → Adds held now (text_of_log run.model run.log) → IsOutOfMemory turns input held now
+-- Memory was wanting. Nothing went out; or a front of such a log's journal, and not all of it, and then the last line that
+-- was asked for is the last message of the log; or all of it, between two rounds. Then nothing is said of what the source has
+-- left, since memory may have been wanting to read the next line.
+pub data IsOutOfMemory (turns : ℕ) (input : List ℕ) (source_left held now : Option (List ℕ)) : Type 0 where
+  nothing : now ≡ held → IsOutOfMemory turns input source_left held now
+  in_entry : (run : HasBegun turns input) → HasRead run.words (inputs_of run.log) input source_left
+      → AppendsFront held now (text_of_log run.model run.log) → IsOutOfMemory turns input source_left held now
+  behind_entry : (run : HasBegun turns input) → WasGiven run.words (inputs_of run.log) input
+      → (world_of run.model run.log).closed ≡ true → (world_of run.model run.log).done ≡ false
+      → Adds held now (text_of_log run.model run.log) → IsOutOfMemory turns input source_left held now
 
 -- How a run ended, where the input's bytes are known.
 abbrev pub Ran : ℕ → List ℕ → (source_left held now : Option (List ℕ)) → Result Outcome Halt → Type 0
@@ -212,7 +221,7 @@ Ran turns input source_left held now (Err halt.Limit) = IsPastLimit turns input 
 Ran turns input source_left held now (Err halt.Full) = IsFull turns input source_left held now
 Ran turns input source_left held now (Err halt.Read) = IsReadFault turns input source_left held now
 Ran turns input source_left held now (Err halt.Write) = IsShort turns input source_left held now
-Ran turns input source_left held now (Err halt.Memory) = IsOutOfMemory turns input held now
+Ran turns input source_left held now (Err halt.Memory) = IsOutOfMemory turns input source_left held now
 
 abbrev pub RanKnown : ℕ → (input source_left held now : Option (List ℕ)) → Result Outcome Halt → Type 0
 RanKnown turns None source_left held now r = ⊤

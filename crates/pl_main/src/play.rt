@@ -13,7 +13,7 @@ use pl_stream::{Halt, halt_of, line_in, next_message, write_log};
 use std::alloc::Global;
 
 /// Answers a message and writes the lines of its entries. Answers whether the run is done.
-#[tactic(auto, using(crate::proofs::Playing::told_cut, crate::proofs::Playing::filled_cut, crate::proofs::Playing::not_told))]
+#[tactic(auto, using(crate::proofs::Playing::told_cut, crate::proofs::Playing::filled_cut, crate::proofs::Playing::filled_before, crate::proofs::Playing::not_told))]
 fn answer<O: Sink>(
     alloc: Global,
     machine: &mut Machine,
@@ -32,10 +32,12 @@ fn answer<O: Sink>(
             write_log(alloc, machine, from, out)?;
             Ok(machine.done())
         }
-        Err(Stop::LogFull) => {
+        Err(Stop::LogFull) if from < machine.log().len() => {
             write_log(alloc, machine, from, out)?;
             Err(Halt::Full)
         }
+        // The log was full when the message came: nothing of it is to be written.
+        Err(Stop::LogFull) => Err(Halt::Full),
         Err(_) => Err(Halt::Memory),
     }
 }

@@ -179,6 +179,7 @@ heard_more start middle place inputs None heard asks =
       said = said_same inputs heard.lines gets.lines heard.said gets.blank;
       used = λ front e. used_on start middle place heard.lines heard.reads gets.used_up;
       last = λ front line e. absurd (let h : None ≡ Some line = last_is inputs front None (Some line) e in (cc));
+      none = λ e. absurd (some_nil inputs None (sym e));
     }
 heard_more start middle place inputs (Some line) heard asks =
     let gets = asks.1 in
@@ -190,6 +191,7 @@ heard_more start middle place inputs (Some line) heard asks =
       last = λ front l e.
           let same : line.bytes ≡ l = some_bytes line.bytes l (last_is inputs front (Some line.bytes) (Some l) e) in
           (heard.lines ++ gets.lines, sym (append_assoc heard.lines gets.lines (line.bytes ∷ [])) ∙ ap (λ (x : List ℕ). (heard.lines ++ gets.lines) ++ x ∷ []) same);
+      none = λ e. absurd (some_nil inputs (Some line.bytes) (sym e));
     }
 
 -- and it was handed on
@@ -233,6 +235,7 @@ heard_none start = record {
   said = refl;
   used = λ front e. absurd (some_nil front None e);
   last = λ front line e. absurd (some_nil front (Some line) e);
+  none = λ e. refl;
 }
 
 pub feeding_none : (plan : SharedPlan) (m : Model) (pass : PlanPass) (start : Place) (held : Option (List ℕ)) → BelongsTo plan pass → mine_of pass ≡ [] → Feeding plan m pass start held pass start held 0

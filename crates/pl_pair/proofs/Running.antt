@@ -57,7 +57,7 @@ use Rattle.pl_pair.specs.Asking.{Faults, now_failed, had_failed, Asks}
 use Rattle.pl_pair.specs.Feeds.{AreInputs, Reads, unasked, asked, Tells, WritesAll, FeedsOut, FeedsUntil, FeedsRefused, FeedsStopped, FeedsTorn, FeedsPart, FeedsShort, for_lines, for_message, for_reader, FeedsCut, refused, FeedsAll, FeedsToEnd}
 use Rattle.pl_pair.specs.Feeds as fed
 use Rattle.pl_pair.specs.Endings.{is_full, is_other, refusal_of, ended_of}
-use Rattle.pl_pair.specs.Runs.{ClosesAll, History, InMessages, HadLimit, MayFault, WhyNone, IsCauseOf, Given, WritesLog, ReadUpTo, RunsUntil, RunsFull, all_handed, one_behind, one_unread, RunsShort, RunEnds, PairRun}
+use Rattle.pl_pair.specs.Runs.{ClosesAll, History, InMessages, HadLimit, MayFault, WhyNone, IsCauseOf, Given, WritesLog, ReadUpTo, RunsUntil, RunsFull, one_behind, one_unread, RunsShort, in_lines, behind_lines, RunEnds, PairRun}
 use Rattle.pl_machine.proofs.Going.{Goes, world_goes}
 use Rattle.pl_pair.proofs.Ending.{NoEnds, LastEnds, EndsIf, steps_behind, world_behind, run_ends}
 use Rattle.pl_pair.proofs.Working.{own_on, own_kinds}
@@ -696,22 +696,21 @@ module _ (start : State) (first : PlanPass) (w1 w2 : Worker) (joined : Joined st
     runs_part feeds =
         let list = list_stop feeds.tells.inputs mid first feeds.tells.mine stops in
         pair_run ended.Memory start first w1 w2 joined place held now old mid end end feeds.tells list (λ e. absurd (cc)) (λ e. absurd (cc))
-        (record {
-          read = all_handed (told_read start first w1 w2 joined place held now old seen0 mid end feeds.tells plan feeds.own list takes.longer);
-          written = part_front start first w1 w2 joined place held now old seen0 mid end feeds.tells plan feeds.own list takes.longer feeds.written;
-        })
+        (in_lines (told_read start first w1 w2 joined place held now old seen0 mid end feeds.tells plan feeds.own list takes.longer)
+        (part_front start first w1 w2 joined place held now old seen0 mid end feeds.tells plan feeds.own list takes.longer feeds.written))
 
     -- to read a message
     runs_unread : FeedsUntil plan start.model cut.Memory old place held mid end now → PairRun joined.seed start place held ended.Memory end now
     runs_unread feeds =
         let tells = feeds.waiting.tells in
         let list = list_stop tells.inputs mid first tells.mine stops in
+        let rests = between feeds.waiting.between in
+        let at = world_is start first w1 w2 joined place held now old seen0 mid feeds.middle tells plan feeds.waiting.own list takes.longer rests feeds.waiting.written IsBetween feeds.waiting.between in
         let P : LineFault → Type 0 = λ f. Faults feeds.middle f end in
         pair_run ended.Memory start first w1 w2 joined place held now old mid feeds.middle end tells list (λ e. absurd (cc)) (λ e. absurd (cc))
-        (record {
-          read = one_unread feeds.middle (told_read start first w1 w2 joined place held now old seen0 mid feeds.middle tells plan feeds.waiting.own list takes.longer) (subst P (memory_by feeds.fault feeds.cut) feeds.asks);
-          written = front_is start first w1 w2 joined place held now old seen0 mid feeds.middle tells plan feeds.waiting.own list takes.longer (between feeds.waiting.between) feeds.waiting.written;
-        })
+        (behind_lines at
+        (one_unread feeds.middle (told_read start first w1 w2 joined place held now old seen0 mid feeds.middle tells plan feeds.waiting.own list takes.longer) (subst P (memory_by feeds.fault feeds.cut) feeds.asks))
+        (text_is start first w1 w2 joined place held now old seen0 mid feeds.middle tells plan feeds.waiting.own list takes.longer rests feeds.waiting.written))
 
     -- a message was read that the plan did not take
     short_refused : (c : Cut) (feeds : FeedsRefused plan start.model c old place held mid end now) (same : mine_of mid ≡ mine_of feeds.mid)
@@ -724,12 +723,11 @@ module _ (start : State) (first : PlanPass) (w1 w2 : Worker) (joined : Joined st
         let to_first = prefix_trans (seen_of feeds.mid) (seen_of mid) (seen_of first) feeds.follows.longer takes.longer in
         let rests = between feeds.waiting.between in
         let at = world_is start first w1 w2 joined place held now old seen0 feeds.mid feeds.middle tells plan feeds.waiting.own list to_first rests feeds.waiting.written IsBetween feeds.waiting.between in
-        record {
-          read = one_behind (line_in feeds.step.message)
-              (read_next start first w1 w2 joined place held now old seen0 feeds.mid feeds.middle tells plan feeds.waiting.own list to_first rests feeds.waiting.written at.1 feeds.step.message end feeds.step.asks)
-              (next_read start first w1 w2 joined place held now old seen0 feeds.mid feeds.middle tells plan feeds.waiting.own list to_first rests feeds.waiting.written at.1 feeds.step.message end feeds.step.asks);
-          written = front_is start first w1 w2 joined place held now old seen0 feeds.mid feeds.middle tells plan feeds.waiting.own list to_first rests feeds.waiting.written;
-        }
+        behind_lines at
+        (one_behind (line_in feeds.step.message)
+        (read_next start first w1 w2 joined place held now old seen0 feeds.mid feeds.middle tells plan feeds.waiting.own list to_first rests feeds.waiting.written at.1 feeds.step.message end feeds.step.asks)
+        (next_read start first w1 w2 joined place held now old seen0 feeds.mid feeds.middle tells plan feeds.waiting.own list to_first rests feeds.waiting.written at.1 feeds.step.message end feeds.step.asks))
+        (text_is start first w1 w2 joined place held now old seen0 feeds.mid feeds.middle tells plan feeds.waiting.own list to_first rests feeds.waiting.written)
 
     -- to hand a message on
     runs_untaken : FeedsRefused plan start.model cut.Memory old place held mid end now → PairRun joined.seed start place held ended.Memory end now
@@ -793,10 +791,8 @@ module _ (start : State) (first : PlanPass) (w1 w2 : Worker) (joined : Joined st
         let workers = is_full w1.refusal || is_full w2.refusal in
         pair_run (refusal_of false w1.refusal w2.refusal) start first w1 w2 joined place held now old mid end end tells list (λ e. absurd (never_finished others workers e)) (λ e. no_other others workers e)
         (ends_refusal others workers start.model joined.whole.log (more_entries start first w1 w2 joined place held now old seen0 mid end tells plan feeds.own list takes.longer) place end held now
-        (record {
-          read = all_handed (told_read start first w1 w2 joined place held now old seen0 mid end tells plan feeds.own list takes.longer);
-          written = front_is start first w1 w2 joined place held now old seen0 mid end tells plan feeds.own list takes.longer rests feeds.written;
-        })
+        (in_lines (told_read start first w1 w2 joined place held now old seen0 mid end tells plan feeds.own list takes.longer)
+        (front_is start first w1 w2 joined place held now old seen0 mid end tells plan feeds.own list takes.longer rests feeds.written))
         (λ e is. worker_full start first w1 w2 joined place held now old seen0 mid end tells plan feeds.own list takes.longer rests feeds.written is))
 
     runs_cut : FeedsCut plan start.model old place held mid end now → PairRun joined.seed start place held (refusal_of false w1.refusal w2.refusal) end now
@@ -855,7 +851,7 @@ runs_none seed start place held legal =
       feeder_goes = λ e. absurd (cc);
       refused = λ e. absurd (cc);
       messages = if_known place.ahead (λ bytes. IsPrefix [] (messages_of (lines_of bytes))) (λ bytes is. (messages_of (lines_of bytes), refl));
-      ends = record { read = all_handed (up_to_next place place [] (heard_none place) tt); written = adds_nothing held (text_of_log m start.log) };
+      ends = in_lines (up_to_next place place [] (heard_none place) tt) (adds_nothing held (text_of_log m start.log));
     }
 
 pub not_done : (w u : World) → w ≡ record u { state = w.state } → w.done ≡ false → u.done ≡ false

@@ -1,5 +1,5 @@
 -- The messages of lines, and the inputs that were made of them.
-use Rattle.std.proofs.Common.{◌≡◌, ℕ, ◌<◌, List, [], ◌∷◌, ◌++◌, length, Bool, true, false, not, Option, Some, None, IfSome, Ok, refl, sym, ◌∙◌, ap, subst, append_assoc}
+use Rattle.std.proofs.Common.{◌≡◌, ℕ, ◌<◌, List, [], ◌∷◌, ◌++◌, length, Bool, true, false, not, Option, Some, None, IfSome, ◌⊎◌, inl, inr, Ok, refl, sym, ◌∙◌, ap, subst, append_assoc}
 use Rattle.std.proofs.lemmas.List.{append-nil}
 use Rattle.std.proofs.lemmas.List.Elements.{filter_map-append}
 use mathlib.Core.List.{IsPrefix}
@@ -198,22 +198,24 @@ reads_few : (start place : Place) (lines : List (List ℕ)) → Reads start line
 reads_few start place lines (unasked none same) few = subst (λ (p : Place). length p.reader.held < read_size) (sym same) few
 reads_few start place lines (asked works took) few = took.few few
 
-up_to : (start place : Place) (inputs more : List (Option (List ℕ))) (heard : Heard start inputs place) → messages_of heard.lines ≡ inputs ++ more → ReadUpTo start inputs place
-up_to start place inputs more heard said = record {
+up_to : (start place : Place) (inputs more : List (Option (List ℕ))) (heard : Heard start inputs place) → messages_of heard.lines ≡ inputs ++ more → (more ≡ []) ⊎ (more ≡ None ∷ []) → ReadUpTo start inputs place
+up_to start place inputs more heard said no_others = record {
   lines = heard.lines;
   more = more;
   gave = reads_gave start place heard.lines heard.reads;
   few = reads_few start place heard.lines heard.reads;
   said = said;
+  no_others = no_others;
   no_further = heard.last;
   used_up = heard.used;
+  none = heard.none;
 }
 
 -- messages that do not end the run
 pub up_to_next : (start place : Place) (inputs : List (Option (List ℕ))) → Heard start inputs place → NoEnds inputs → ReadUpTo start inputs place
 up_to_next start place inputs heard none =
     up_to start place inputs (None ∷ []) heard
-    (ap messages_of (sym (append-nil heard.lines)) ∙ messages_on heard.lines [] inputs none heard.said ∙ ap (λ (ms : List (Option (List ℕ))). inputs ++ ms) none_left)
+    (ap messages_of (sym (append-nil heard.lines)) ∙ messages_on heard.lines [] inputs none heard.said ∙ ap (λ (ms : List (Option (List ℕ))). inputs ++ ms) none_left) (inr refl)
 
 no_ends_push : (front : List (Option (List ℕ))) (last : Option (List ℕ)) → NoEnds front → is_ending last ≡ false → NoEnds (front ++ last ∷ [])
 no_ends_push [] last none other = (other, tt)
@@ -224,14 +226,14 @@ pub up_to_last : (start place : Place) (front : List (Option (List ℕ))) (last 
 up_to_last start place front None heard none =
     let said : said_in front ≡ spoken heard.lines = sym (append-nil (said_in front)) ∙ sym (filter_map-append (λ (m : Option (List ℕ)). m) front (None ∷ [])) ∙ heard.said in
     up_to start place (front ++ None ∷ []) [] heard
-    (ap messages_of (sym (append-nil heard.lines)) ∙ messages_on heard.lines [] front none said ∙ ap (λ (ms : List (Option (List ℕ))). front ++ ms) none_left ∙ sym (append-nil (front ++ None ∷ [])))
+    (ap messages_of (sym (append-nil heard.lines)) ∙ messages_on heard.lines [] front none said ∙ ap (λ (ms : List (Option (List ℕ))). front ++ ms) none_left ∙ sym (append-nil (front ++ None ∷ []))) (inl refl)
 up_to_last start place front (Some line) heard none = by (is_line_of end_word line) refl
   where
     said : said_in front ++ line ∷ [] ≡ spoken heard.lines
     said = sym (filter_map-append (λ (m : Option (List ℕ)). m) front (Some line ∷ [])) ∙ heard.said
 
     by : (b : Bool) → is_line_of end_word line ≡ b → ReadUpTo start (front ++ Some line ∷ []) place
-    by true ends = up_to start place (front ++ Some line ∷ []) [] heard (ap messages_of (sym (append-nil heard.lines)) ∙ messages_to heard.lines [] line ends front none said ∙ sym (append-nil (front ++ Some line ∷ [])))
+    by true ends = up_to start place (front ++ Some line ∷ []) [] heard (ap messages_of (sym (append-nil heard.lines)) ∙ messages_to heard.lines [] line ends front none said ∙ sym (append-nil (front ++ Some line ∷ []))) (inl refl)
     by false other = up_to_next start place (front ++ Some line ∷ []) heard (no_ends_push front (Some line) none other)
 
 -- whether the last of them ends the run or not

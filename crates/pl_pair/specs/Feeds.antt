@@ -62,13 +62,14 @@ EndsUsed start inputs place = (front : List (Option (List ℕ))) → inputs ≡ 
 abbrev pub EndsRead : List (Option (List ℕ)) → List (List ℕ) → Type 0
 EndsRead inputs lines = (front : List (Option (List ℕ))) (line : List ℕ) → inputs ≡ front ++ Some line ∷ [] → (before : List (List ℕ)) × (lines ≡ before ++ line ∷ [])
 
--- These messages were read, and no line behind the last.
+-- These messages were read, and no line behind the last; where there is none, no line at all.
 pub record Heard (start : Place) (inputs : List (Option (List ℕ))) (place : Place) : Type 0 where
   pub lines : List (List ℕ)
   pub reads : Reads start lines place
   pub said : said_in inputs ≡ spoken lines
   pub used : EndsUsed start inputs place
   pub last : EndsRead inputs lines
+  pub none : inputs ≡ [] → lines ≡ []
 
 -- Messages were read, and each was handed to the plan, as the pass's own entry.
 pub record Tells (old : PlanPass) (start : Place) (new : PlanPass) (place : Place) : Type 0 where

@@ -131,16 +131,18 @@ pub record Given (r : Ended) (place : Place) (inputs : List (Option (List ℕ)))
 
 -- ---- how far the input was read
 
--- The lines that were asked for, each within the reader's limits: their messages are these. Where the last message is a line, it is the last that was asked for; where it is the end of the
--- input, all bytes were used up. The reader holds fewer bytes than one read asks for, if it did before.
+-- The lines that were asked for, each within the reader's limits: their messages are these and no others. Where the last message is a line, it is the last that was asked for; where it is the end of the
+-- input, all bytes were used up; where there is no message, no line was asked for. The reader holds fewer bytes than one read asks for, if it did before.
 pub record ReadUpTo (place : Place) (messages : List (Option (List ℕ))) (behind : Place) : Type 0 where
   pub lines : List (List ℕ)
   pub more : List (Option (List ℕ))
   pub gave : GaveKnown place.reader.limit place.reader.room place.ahead lines behind.reader.room behind.ahead
   pub few : length place.reader.held < read_size → length behind.reader.held < read_size
   pub said : messages_of lines ≡ messages ++ more
+  pub no_others : (more ≡ []) ⊎ (more ≡ None ∷ [])
   pub no_further : EndsRead messages lines
   pub used_up : EndsUsed place messages behind
+  pub none : messages ≡ [] → lines ≡ []
 
 -- ---- how it ended
 
@@ -180,16 +182,15 @@ pub record RunsTorn (m : Model) (log entries : List Entry) (place : Place) (held
   pub read : ReadUpTo place (inputs_of entries) behind
   pub written : AppendsFront held now (text_of_log m log)
 
--- How far was read where memory was wanting: up to the last of these inputs, or up to the message behind it, which was read and is no input. Or memory was wanting to read that message, and of the reader that is behind it no more is said.
+-- How far was read where memory was wanting for the message behind these inputs: it was read and is no input. Or memory was wanting to read it, and of the reader that is behind it no more is said.
 pub data ReadsShort (place : Place) (inputs : List (Option (List ℕ))) (behind : Place) : Type 0 where
-  all_handed : ReadUpTo place inputs behind → ReadsShort place inputs behind
   one_behind : (next : Option (List ℕ)) → ReadUpTo place (inputs ++ next ∷ []) behind → InMessages place (λ messages. IsPrefix (inputs ++ next ∷ []) messages) → ReadsShort place inputs behind
   one_unread : (middle : Place) → ReadUpTo place inputs middle → Faults middle fault.Memory behind → ReadsShort place inputs behind
 
--- Memory was wanting: a front of the text of the whole log was written.
-pub record RunsShort (m : Model) (log entries : List Entry) (place : Place) (held : Option (List ℕ)) (behind : Place) (now : Option (List ℕ)) : Type 0 where
-  pub read : ReadsShort place (inputs_of entries) behind
-  pub written : AddsFront held now (text_of_log m log)
+-- Memory was wanting: a front of the text of the whole log was written, and no line was asked for behind the last input. Or, between two rounds, all of the text was written, and memory was wanting for the next message.
+pub data RunsShort (m : Model) (log entries : List Entry) (place : Place) (held : Option (List ℕ)) (behind : Place) (now : Option (List ℕ)) : Type 0 where
+  in_lines : ReadUpTo place (inputs_of entries) behind → AddsFront held now (text_of_log m log) → RunsShort m log entries place held behind now
+  behind_lines : IsBetween (world_of m log) → ReadsShort place (inputs_of entries) behind → WritesLog m log held now → RunsShort m log entries place held behind now
 
 abbrev pub RunEnds : Ended → Model → List Entry → List Entry → Place → Option (List ℕ) → Place → Option (List ℕ) → Type 0
 RunEnds ended.Finished m log entries place held behind now = RunsOut m log entries place held behind now
