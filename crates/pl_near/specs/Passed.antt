@@ -1,6 +1,7 @@
 -- Which goals and activities the present passes as it moves on.
 use Rattle.std.specs.Prelude.{ℕ, nat_le, nat_lt, ◌==◌, ◌&&◌, not, Bool, List, map, filter}
 use Rattle.pl_conflict.specs.declared.conflict.Conflict.{Conflict}
+use Rattle.pl_conflict.specs.declared.conflict.Code.TheVariants as code
 use Rattle.pl_conflict.specs.Codes.{code_number}
 use Rattle.pl_plan.specs.declared.activity.Activity.{Activity}
 use Rattle.pl_plan.specs.Trees.{id_of}
@@ -9,7 +10,7 @@ use Rattle.pl_world.specs.PlanStates.{is_committed}
 
 -- an open goal of which the latest start has come
 abbrev pub is_open_by : ℕ → Conflict → Bool
-is_open_by now k = (code_number k.code == 0) && nat_le k.from now
+is_open_by now k = (code_number k.code == code_number code.OpenGoal) && nat_le k.from now
 
 abbrev pub subject_of : Conflict → ℕ
 subject_of k = k.subject

@@ -71,7 +71,7 @@ pub record IsOpenWithout (s : PlanState) (id : ℕ) : Type 0 where
 
 -- it tells that a value is not set
 abbrev pub is_unset_one : Conflict → Bool
-is_unset_one q = code_number q.code == 3
+is_unset_one q = code_number q.code == code_number code.Unset
 
 -- one of the activity of this id stands
 pub record HasUnset (t : PlanState) (id : ℕ) : Type 0 where
