@@ -19,7 +19,8 @@ use Rattle.pl_main.specs.declared.form.Form.{Form}
 use Rattle.pl_main.specs.Top.{total_limit, IsNoModel}
 use Rattle.pl_main.specs.Replays.{journal_line_limit, HasTaken, IsRightJournal, IsWrong, no_entry, wrong_last, IsWrongJournal, IsRightSoFar, IsPastJournal}
 use Rattle.pl_main.specs.Limits.{IsWithinLimits, HasRightJournal, HasWrongJournal, Decides}
-use Rattle.pl_main.specs.Statuses.{SaysReadBack, IsSoloStatus, is_done, is_refused, is_read, is_write, is_limit, is_full, is_wrong, is_memory}
+use Rattle.pl_main.specs.Statuses.{SaysReadBack}
+use Rattle.pl_main.proofs.Jobs.{IsJobStatus, is_done, is_refused, is_read, is_write, is_limit, is_full, is_wrong, is_memory}
 use Rattle.pl_main.proofs.OneInput.{behind_goes_on, split_text}
 use Rattle.pl_main.proofs.Causes.{no_model_of, text_then_limit, no_text, head_not_past, is_within}
 
@@ -142,7 +143,7 @@ journal_within input left held now within past = is_within journal_line_limit in
 
 -- ---- what the journal is decides
 
-right_decides : (form : Form) (input : List ℕ) (left held now : Option (List ℕ)) (status : ℕ) → SaysReadBack form input left held now status → IsSoloStatus status → (status ≡ 4 → ⊥) → (status ≡ 5 → ⊥)
+right_decides : (form : Form) (input : List ℕ) (left held now : Option (List ℕ)) (status : ℕ) → SaysReadBack form input left held now status → IsJobStatus status → (status ≡ 4 → ⊥) → (status ≡ 5 → ⊥)
     → HasRightJournal input → (status ≡ 0) ⊎ (status ≡ 9)
 right_decides form input left held now status says (is_done e) no_read no_write has = inl e
 right_decides form input left held now status says (is_refused e) no_read no_write has = absurd (no_model_of journal_line_limit input has.words has.model left held now has.text has.accepted (says.refused e))
@@ -157,7 +158,7 @@ right_decides form input left held now status says (is_wrong e) no_read no_write
     (taken_lines input wrong.words wrong.behind wrong.rest left wrong.read) (front_is wrong.model wrong.behind wrong.rest wrong.verdict wrong.wrong))
 right_decides form input left held now status says (is_memory e) no_read no_write has = inr e
 
-wrong_decides : (form : Form) (input : List ℕ) (left held now : Option (List ℕ)) (status : ℕ) → SaysReadBack form input left held now status → IsSoloStatus status → (status ≡ 4 → ⊥) → (status ≡ 5 → ⊥)
+wrong_decides : (form : Form) (input : List ℕ) (left held now : Option (List ℕ)) (status : ℕ) → SaysReadBack form input left held now status → IsJobStatus status → (status ≡ 4 → ⊥) → (status ≡ 5 → ⊥)
     → HasWrongJournal input → (status ≡ 8) ⊎ (status ≡ 9)
 wrong_decides form input left held now status says (is_wrong e) no_read no_write has = inl e
 wrong_decides form input left held now status says (is_refused e) no_read no_write has = absurd (no_model_of journal_line_limit input has.words has.model left held now has.text has.accepted (says.refused e))
@@ -172,7 +173,7 @@ wrong_decides form input left held now status says (is_done e) no_read no_write 
     (subst (λ (ls : Lines). IsJournalOf right.model ls right.log) (sym (all_taken input right.words right.behind left right.read)) right.journal) has.lines has.wrong)
 wrong_decides form input left held now status says (is_memory e) no_read no_write has = inr e
 
-pub decides : (form : Form) (input : List ℕ) (left held now : Option (List ℕ)) (status : ℕ) → SaysReadBack form input left held now status → IsSoloStatus status → (status ≡ 4 → ⊥) → (status ≡ 5 → ⊥) → Decides input status
+pub decides : (form : Form) (input : List ℕ) (left held now : Option (List ℕ)) (status : ℕ) → SaysReadBack form input left held now status → IsJobStatus status → (status ≡ 4 → ⊥) → (status ≡ 5 → ⊥) → Decides input status
 decides form input left held now status says is no_read no_write = record {
   right = right_decides form input left held now status says is no_read no_write;
   wrong = wrong_decides form input left held now status says is no_read no_write;

@@ -20,8 +20,9 @@ use Rattle.pl_main.specs.Top.{line_limit, total_limit, program_options, IsDone, 
 use Rattle.pl_report.specs.Demonstration.{demo_text}
 use Rattle.pl_main.specs.Demos.{demo_turns, IsShown, IsShownInPart, HasNoDemo, CanShow}
 use Rattle.pl_main.specs.Limits.{IsWithinLimits, CanRun, CanCheck, IsDoneBy}
-use Rattle.pl_main.specs.Statuses.{SaysRan, SaysChecked, SaysShown, IsSoloStatus, is_done, is_refused, is_read, is_write, is_limit, is_full, is_wrong, is_memory}
+use Rattle.pl_main.specs.Statuses.{SaysRan, SaysChecked, SaysShown}
 use Rattle.pl_stream.proofs.Reading.{gave_lines}
+use Rattle.pl_main.proofs.Jobs.{IsJobStatus, is_done, is_refused, is_read, is_write, is_limit, is_full, is_wrong, is_memory}
 use Rattle.pl_main.proofs.Playing.{messages_append, not_single}
 use Rattle.pl_stream.proofs.Comparing.{end_is_no_limit, goes_on, all_or_stuck}
 use Rattle.pl_main.proofs.OneInput.{text_goes_on, behind_goes_on, split_text, split_messages, Ends, messages_end, messages_last, Front, front_of, longer}
@@ -237,7 +238,7 @@ head_within input left held now within past = is_within line_limit input past.li
 
 -- ---- a job that can be done is done
 
-pub run_completes : (turns : ℕ) (input : List ℕ) (left held now : Option (List ℕ)) (status : ℕ) → SaysRan turns input left held now status → IsSoloStatus status → CanRun turns input
+pub run_completes : (turns : ℕ) (input : List ℕ) (left held now : Option (List ℕ)) (status : ℕ) → SaysRan turns input left held now status → IsJobStatus status → CanRun turns input
     → (status ≡ 4 → ⊥) → (status ≡ 5 → ⊥) → IsDoneBy (task.Solo turns) status
 run_completes turns input left held now status says (is_done e) can no_read no_write = inl e
 run_completes turns input left held now status says (is_refused e) can no_read no_write = absurd (no_model_of line_limit input can.words can.model left held now can.text can.accepted (says.refused e))
@@ -248,7 +249,7 @@ run_completes turns input left held now status says (is_full e) can no_read no_w
 run_completes turns input left held now status says (is_wrong e) can no_read no_write = absurd (says.never_wrong e)
 run_completes turns input left held now status says (is_memory e) can no_read no_write = inr (inr e)
 
-pub check_completes : (input : List ℕ) (left held now : Option (List ℕ)) (status : ℕ) → SaysChecked input left held now status → IsSoloStatus status → CanCheck input
+pub check_completes : (input : List ℕ) (left held now : Option (List ℕ)) (status : ℕ) → SaysChecked input left held now status → IsJobStatus status → CanCheck input
     → (status ≡ 4 → ⊥) → (status ≡ 5 → ⊥) → IsDoneBy task.Check status
 check_completes input left held now status says (is_done e) can no_read no_write = inl e
 check_completes input left held now status says (is_refused e) can no_read no_write = absurd (no_model_of line_limit input can.words can.model left held now can.text can.accepted (says.refused e))
@@ -270,7 +271,7 @@ shown_not_full goals held now other_held other_now shown part = done_not_full de
 pub no_demo_not_full : (goals : ℕ) (held now other_held other_now : Option (List ℕ)) → HasNoDemo goals held now → IsShownInPart goals other_held other_now → ⊥
 no_demo_not_full goals held now other_held other_now none part = refused_not_full demo_turns (demo_text goals) none.left held now part.left None None none.refused part.full
 
-pub demo_completes : (goals : ℕ) (held now : Option (List ℕ)) (status : ℕ) → SaysShown goals held now status → IsSoloStatus status → CanShow goals → (status ≡ 5 → ⊥) → IsDoneBy (task.Demo goals) status
+pub demo_completes : (goals : ℕ) (held now : Option (List ℕ)) (status : ℕ) → SaysShown goals held now status → IsJobStatus status → CanShow goals → (status ≡ 5 → ⊥) → IsDoneBy (task.Demo goals) status
 demo_completes goals held now status says (is_done e) can no_write = inl e
 demo_completes goals held now status says (is_refused e) can no_write =
     let none = says.refused e in

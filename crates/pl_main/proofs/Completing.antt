@@ -4,11 +4,12 @@ use Rattle.pl_main.specs.declared.command.Task.{Task}
 use Rattle.pl_main.specs.declared.command.Task.TheVariants as task
 use Rattle.pl_main.specs.declared.form.Form.TheVariants as which
 use Rattle.pl_main.specs.Limits.{Completes}
-use Rattle.pl_main.specs.Statuses.{SaysKnown, IsSoloStatus}
+use Rattle.pl_main.specs.Statuses.{SaysKnown}
+use Rattle.pl_main.proofs.Jobs.{IsJobStatus}
 use Rattle.pl_main.proofs.Causes.{run_completes, check_completes, demo_completes}
 use Rattle.pl_main.proofs.Apart.{decides}
 
-pub completes : (t : Task) (input : Option (List ℕ)) (left held now : Option (List ℕ)) (status : ℕ) → SaysKnown t input left held now status → IsSoloStatus status → (status ≡ 4 → ⊥) → (status ≡ 5 → ⊥)
+pub completes : (t : Task) (input : Option (List ℕ)) (left held now : Option (List ℕ)) (status : ℕ) → SaysKnown t input left held now status → IsJobStatus status → (status ≡ 4 → ⊥) → (status ≡ 5 → ⊥)
     → Completes t input status
 completes (task.Solo turns) None left held now status says is no_read no_write = tt
 completes task.Check None left held now status says is no_read no_write = tt

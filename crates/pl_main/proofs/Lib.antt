@@ -10,6 +10,7 @@ pub mod Showing
 pub mod Summing
 pub mod Replaying
 pub mod Pairing
+pub mod Jobs
 pub mod Topping
 pub mod OneInput
 pub mod OneLog

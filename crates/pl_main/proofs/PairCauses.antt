@@ -6,7 +6,8 @@ use Rattle.pl_stream.proofs.Comparing.{goes_on, all_or_stuck}
 use Rattle.pl_main.specs.Top.{line_limit, total_limit, IsNoModel}
 use Rattle.pl_main.specs.Pairs.{IsPairDone, IsPairPastLimit, IsPairFull}
 use Rattle.pl_main.specs.Limits.{IsWithinLimits, CompletesPair}
-use Rattle.pl_main.specs.Statuses.{SaysPairKnown, IsSoloStatus, is_done, is_refused, is_read, is_write, is_limit, is_full, is_wrong, is_memory}
+use Rattle.pl_main.specs.Statuses.{SaysPairKnown}
+use Rattle.pl_main.proofs.Jobs.{IsJobStatus, is_done, is_refused, is_read, is_write, is_limit, is_full, is_wrong, is_memory}
 use Rattle.pl_main.proofs.OneInput.{behind_goes_on, split_text, split_messages}
 use Rattle.pl_main.proofs.Causes.{no_model_of, text_then_limit, no_text, head_not_past, done_before, is_within}
 
@@ -40,7 +41,7 @@ pair_refused_not_past turns seed input left held now other_left other_held other
 pub pair_within : (turns seed : ℕ) (input : List ℕ) (left held now : Option (List ℕ)) → IsWithinLimits line_limit input → IsPairPastLimit turns seed input left held now → ⊥
 pair_within turns seed input left held now within past = is_within line_limit input past.lines past.left past.rest within past.gave past.why
 
-pub pair_completes : (turns seed : ℕ) (input left held now : Option (List ℕ)) (status : ℕ) → SaysPairKnown turns seed input left held now status → IsSoloStatus status → (status ≡ 4 → ⊥) → (status ≡ 5 → ⊥) → CompletesPair turns seed input status
+pub pair_completes : (turns seed : ℕ) (input left held now : Option (List ℕ)) (status : ℕ) → SaysPairKnown turns seed input left held now status → IsJobStatus status → (status ≡ 4 → ⊥) → (status ≡ 5 → ⊥) → CompletesPair turns seed input status
 pair_completes turns seed None left held now status says is no_read no_write = tt
 pair_completes turns seed (Some input) left held now status says (is_done e) no_read no_write = λ can. inl e
 pair_completes turns seed (Some input) left held now status says (is_refused e) no_read no_write = λ can. absurd (no_model_of line_limit input can.words can.model left held now can.text can.accepted (says.refused e))

@@ -20,7 +20,7 @@ use Rattle.pl_main.specs.declared.form.Form.TheVariants as which
 use Rattle.pl_main.specs.declared.judgement.Judgement.{Judgement}
 use Rattle.pl_main.specs.declared.judgement.Judgement.TheVariants as judged
 use Rattle.pl_main.specs.Replays.{ReadsBack, ReadsBackKnown}
-use Rattle.pl_main.specs.Statuses.{IsTask, status_of, status_of_journal, SaysReadBack, SaysKnown, SaysPairKnown, IsSoloStatus, is_done, is_refused, is_read, is_write, is_limit, is_full, is_wrong, is_memory}
+use Rattle.pl_main.specs.Statuses.{IsTask, status_of, status_of_journal, SaysReadBack, SaysKnown, SaysPairKnown}
 use Rattle.pl_main.specs.Demos.{Shows}
 use Rattle.pl_main.specs.Pairs.{PairedKnown}
 use Rattle.pl_main.specs.Top.{RanKnown, ChecksKnown}
@@ -82,15 +82,6 @@ pub says_reported : (input source_left held now : Option (List ℕ)) (r : Result
 says_reported None source_left held now r read = tt
 says_reported (Some input) source_left held now r read = reads_back which.Report input source_left held now r read
 
-pub status_is : (r : Result Outcome Halt) → IsSoloStatus (status_of r)
-status_is (Ok outcome.Done) = is_done refl
-status_is (Ok outcome.Refused) = is_refused refl
-status_is (Err halt.Read) = is_read refl
-status_is (Err halt.Write) = is_write refl
-status_is (Err halt.Limit) = is_limit refl
-status_is (Err halt.Full) = is_full refl
-status_is (Err halt.Memory) = is_memory refl
-
 pub read_failed : (r : Result Outcome Halt) → status_of r ≡ 4 → r ≡ Err halt.Read
 read_failed (Ok outcome.Done) e = absurd (omega (arith, e))
 read_failed (Ok outcome.Refused) e = absurd (omega (arith, e))
@@ -108,12 +99,6 @@ write_failed (Err halt.Write) e = refl
 write_failed (Err halt.Limit) e = absurd (omega (arith, e))
 write_failed (Err halt.Full) e = absurd (omega (arith, e))
 write_failed (Err halt.Memory) e = absurd (omega (arith, e))
-
-pub journal_status_is : (r : Result Judgement Halt) → IsSoloStatus (status_of_journal r)
-journal_status_is (Ok judged.Right) = is_done refl
-journal_status_is (Ok judged.Refused) = is_refused refl
-journal_status_is (Ok judged.Wrong) = is_wrong refl
-journal_status_is (Err e) = status_is (Err e)
 
 -- ---- the words
 

@@ -1,5 +1,5 @@
 -- The statuses of the program.
-use Rattle.std.specs.Prelude.{◌≡◌, ℕ, ◌≤◌, List, Option, Some, None, Result, Ok, Err, ⊤, codes, ◌++◌, ◌∷◌, []}
+use Rattle.std.specs.Prelude.{◌≡◌, ℕ, ◌≤◌, List, Contains, Option, Some, None, Result, Ok, Err, ⊤, codes, ◌++◌, ◌∷◌, []}
 use Rattle.pl_main.specs.declared.command.Task.{Task}
 use Rattle.pl_main.specs.declared.command.Task.TheVariants as task
 use Rattle.pl_stream.specs.declared.halt.Halt.{Halt}
@@ -126,16 +126,24 @@ IsUnread task.Replay old new = ⊤
 IsUnread task.Report old new = ⊤
 IsUnread (task.Demo goals) old new = new ≡ old
 
--- a job has one of these statuses, and no other
-pub data IsSoloStatus (status : ℕ) : Type 0 where
-  is_done : status ≡ 0 → IsSoloStatus status
-  is_refused : status ≡ 3 → IsSoloStatus status
-  is_read : status ≡ 4 → IsSoloStatus status
-  is_write : status ≡ 5 → IsSoloStatus status
-  is_limit : status ≡ 6 → IsSoloStatus status
-  is_full : status ≡ 7 → IsSoloStatus status
-  is_wrong : status ≡ 8 → IsSoloStatus status
-  is_memory : status ≡ 9 → IsSoloStatus status
+-- The statuses that a job of one thread can end with, whatever is told of its input: 4 and 6 come of a job that reads its
+-- input, 7 of one that makes a log, 8 of one that reads a log back.
+abbrev pub statuses_of : Task → List ℕ
+statuses_of (task.Solo turns) = 0 ∷ 3 ∷ 4 ∷ 5 ∷ 6 ∷ 7 ∷ 9 ∷ []
+statuses_of task.Check = 0 ∷ 3 ∷ 4 ∷ 5 ∷ 6 ∷ 9 ∷ []
+statuses_of task.Replay = 0 ∷ 3 ∷ 4 ∷ 5 ∷ 6 ∷ 8 ∷ 9 ∷ []
+statuses_of task.Report = 0 ∷ 3 ∷ 4 ∷ 5 ∷ 6 ∷ 8 ∷ 9 ∷ []
+statuses_of (task.Demo goals) = 0 ∷ 3 ∷ 5 ∷ 7 ∷ 9 ∷ []
+
+-- the same of a run of a pair
+abbrev pub pair_statuses : List ℕ
+pair_statuses = 0 ∷ 3 ∷ 4 ∷ 5 ∷ 6 ∷ 7 ∷ 9 ∷ []
+
+unfoldable pub IsStatusOf : Task → ℕ → Type 0
+IsStatusOf job status = Contains (statuses_of job) status
+
+unfoldable pub IsPairStatus : ℕ → Type 0
+IsPairStatus status = Contains pair_statuses status
 
 abbrev pub usage_line : List ℕ
 usage_line = codes "usage: run solo N | run pair N SEED | check | replay | report | demo N" ++ 10 ∷ []

@@ -62,12 +62,13 @@ fn check_text<O: Sink>(alloc: Global, kept: Option<Vec<u8>>, out: &mut O) -> Res
 }
 
 /// Reads a model up to its `begin` line and writes that it is one, or its first fault.
-#[tactic(auto, using(crate::proofs::Checking::no_reader, crate::proofs::Checking::head_checks))]
+#[tactic(auto, using(crate::proofs::Checking::no_reader, crate::proofs::Checking::head_checks, crate::proofs::Jobs::fault_fills_none, crate::proofs::Jobs::line_fills_none))]
 pub fn check<S: Source, O: Sink>(alloc: Global, src: &mut S, out: &mut O) -> Result<Outcome, Halt>
     ensures checks { ChecksKnown (S.left src.old) (S.left src.new) (O.held out.old) (O.held out.new)
         result }
     ensures read { IsErrOf result Halt.Read → Rose (S.faults src.old) (S.faults src.new) }
     ensures write { IsErrOf result Halt.Write → Rose (O.faults out.old) (O.faults out.new) }
+    ensures never_full { IsErrOf result Halt.Full → ⊥ }
 {
     let mut lines = LineReader::new(alloc, LINE_LIMIT, TOTAL_LIMIT)?;
     match read_head(alloc, &mut lines, src) {

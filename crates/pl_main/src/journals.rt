@@ -67,7 +67,7 @@ fn read_text<S: Source, O: Sink>(
 }
 
 /// Reads a model and a journal, and writes the first wrong entry of the journal, or what the form asks of a legal one.
-#[tactic(auto, using(crate::proofs::Replaying::begun_reads, crate::proofs::Replaying::refused_reads, crate::proofs::Replaying::head_reads))]
+#[tactic(auto, using(crate::proofs::Replaying::begun_reads, crate::proofs::Replaying::refused_reads, crate::proofs::Replaying::head_reads, crate::proofs::Jobs::fault_fills_none, crate::proofs::Jobs::text_fills_none, crate::proofs::Jobs::journal_fills_none))]
 pub fn read_back<S: Source, O: Sink>(
     alloc: Global,
     form: Form,
@@ -78,6 +78,7 @@ pub fn read_back<S: Source, O: Sink>(
         result }
     ensures read { IsErrOf result Halt.Read → Rose (S.faults src.old) (S.faults src.new) }
     ensures write { IsErrOf result Halt.Write → Rose (O.faults out.old) (O.faults out.new) }
+    ensures never_full { IsErrOf result Halt.Full → ⊥ }
 {
     let mut lines = LineReader::new(alloc, JOURNAL_LINE_LIMIT, TOTAL_LIMIT)?;
     match read_head(alloc, &mut lines, src) {

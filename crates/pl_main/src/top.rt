@@ -3,7 +3,7 @@ ghost use Rattle.pl_io.specs.Faults.{Rose};
 ghost use Rattle.pl_io.specs.Writes.{AppendsFront};
 ghost use Rattle.pl_main.specs.Words.{command_of};
 ghost use Rattle.pl_main.specs.Limits.{Completes, CompletesPair};
-ghost use Rattle.pl_main.specs.Statuses.{IsTask, IsSoloStatus, status_of, status_of_journal, usage_line, SaysKnown, SaysPairKnown, IsUnread};
+ghost use Rattle.pl_main.specs.Statuses.{IsTask, IsStatusOf, IsPairStatus, status_of, status_of_journal, usage_line, SaysKnown, SaysPairKnown, IsUnread};
 ghost use Rattle.pl_stream.specs.Written.{Adds};
 
 use crate::check::check;
@@ -48,10 +48,10 @@ fn status_of_journal(ended: Result<Judgement, Halt>) -> u8
     }
 }
 
-#[tactic(auto, using(crate::proofs::Topping::says_of, crate::proofs::Topping::says_checked, crate::proofs::Topping::says_shown, crate::proofs::Topping::says_replayed, crate::proofs::Topping::says_reported, crate::proofs::Topping::status_is, crate::proofs::Topping::journal_status_is))]
+#[tactic(auto, using(crate::proofs::Topping::says_of, crate::proofs::Topping::says_checked, crate::proofs::Topping::says_shown, crate::proofs::Topping::says_replayed, crate::proofs::Topping::says_reported, crate::proofs::Jobs::solo_status, crate::proofs::Jobs::check_status, crate::proofs::Jobs::replay_status, crate::proofs::Jobs::report_status, crate::proofs::Jobs::demo_status))]
 fn task_status<I: Source, O: Sink>(alloc: Global, task: &Task, input: &mut I, out: &mut O) -> u8
     requires { IsTask task.now }
-    ensures status { IsSoloStatus result }
+    ensures status { IsStatusOf task.now result }
     ensures read { result ≡ 4 → Rose (I.faults input.old) (I.faults input.new) }
     ensures write { result ≡ 5 → Rose (O.faults out.old) (O.faults out.new) }
     ensures says { SaysKnown task.now (I.left input.old) (I.left input.new) (O.held out.old)
@@ -70,7 +70,7 @@ fn task_status<I: Source, O: Sink>(alloc: Global, task: &Task, input: &mut I, ou
 /// Does a task of one thread. It waits for nobody.
 pub fn run_solo<I: Source, O: Sink>(alloc: Global, task: &Task, input: &mut I, out: &mut O) -> u8
     requires { IsTask task.now }
-    ensures status { IsSoloStatus result }
+    ensures status { IsStatusOf task.now result }
     ensures read { result ≡ 4 → Rose (I.faults input.old) (I.faults input.new) }
     ensures write { result ≡ 5 → Rose (O.faults out.old) (O.faults out.new) }
     ensures says { SaysKnown task.now (I.left input.old) (I.left input.new) (O.held out.old)
@@ -100,7 +100,7 @@ fn usage<O: Sink>(out: &mut O) -> u8
 }
 
 /// Does the job of a planner and an executive in threads of their own, and answers its status.
-#[tactic(auto, using(crate::proofs::Topping::says_paired, crate::proofs::Topping::status_is))]
+#[tactic(auto, using(crate::proofs::Topping::says_paired, crate::proofs::Jobs::pair_status))]
 fn pair<R: Threads + Wait + Sync, I: Source, O: Sink, G: Gate + Sync>(
     rt: &R,
     alloc: Global,
@@ -111,7 +111,7 @@ fn pair<R: Threads + Wait + Sync, I: Source, O: Sink, G: Gate + Sync>(
     gate: &G,
 ) -> u8
     requires { (1 ≤ turns) × (turns ≤ 1000) }
-    ensures status { IsSoloStatus result }
+    ensures status { IsPairStatus result }
     ensures read { result ≡ 4 → Rose (I.faults input.old) (I.faults input.new) }
     ensures write { result ≡ 5 → Rose (O.faults out.old) (O.faults out.new) }
     ensures says { SaysPairKnown turns seed (I.left input.old) (I.left input.new) (O.held out.old) (O.held out.new) result }
@@ -140,7 +140,8 @@ pub fn run<R: Threads + Wait + Sync, I: Source, O: Sink, G: Gate + Sync>(
         → IsUnread task input.old input.new }
     ensures usage_text { result ≡ 2 → Adds (O.held out.old) (O.held out.new) usage_line }
     ensures usage_front { command_of words.now ≡ None → result ≡ 5 → AppendsFront (O.held out.old) (O.held out.new) usage_line }
-    ensures status { (result ≡ 2) ⊎ IsSoloStatus result }
+    ensures status { (task : Task) → command_of words.now ≡ Some (Command.Alone task) → IsStatusOf task result }
+    ensures pair_status { (turns seed : ℕ) → command_of words.now ≡ Some (Command.Pair turns seed) → IsPairStatus result }
     ensures read { result ≡ 4 → Rose (I.faults input.old) (I.faults input.new) }
     ensures write { result ≡ 5 → Rose (O.faults out.old) (O.faults out.new) }
     ensures says { (task : Task) → command_of words.now ≡ Some (Command.Alone task)

@@ -1,6 +1,7 @@
 use Rattle.std.proofs.Common.{sym, subst}
 use Rattle.pl_main.specs.Limits.{CompletesPair}
-use Rattle.pl_main.proofs.Topping.{says_paired, status_is, read_failed, write_failed}
+use Rattle.pl_main.proofs.Jobs.{status_is}
+use Rattle.pl_main.proofs.Topping.{says_paired, read_failed, write_failed}
 use Rattle.pl_main.proofs.PairCauses.{pair_completes}
 use Rattle.pl_main.proofs.top.pair.Goals as goal
 
