@@ -118,14 +118,6 @@ abbrev pub SaysPairKnown : (turns seed : ℕ) → (input source_left held now : 
 SaysPairKnown turns seed None source_left held now status = ⊤
 SaysPairKnown turns seed (Some input) source_left held now status = SaysPaired turns seed input source_left held now status
 
--- a demonstration leaves the input as it was
-abbrev pub IsUnread : {A : Type 0} → Task → A → A → Type 0
-IsUnread (task.Solo turns) old new = ⊤
-IsUnread task.Check old new = ⊤
-IsUnread task.Replay old new = ⊤
-IsUnread task.Report old new = ⊤
-IsUnread (task.Demo goals) old new = new ≡ old
-
 -- The statuses that a job of one thread can end with, whatever is told of its input: 4 and 6 come of a job that reads its
 -- input, 7 of one that makes a log, 8 of one that reads a log back.
 abbrev pub statuses_of : Task → List ℕ

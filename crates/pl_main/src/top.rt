@@ -3,7 +3,7 @@ ghost use Rattle.pl_io.specs.Faults.{Rose};
 ghost use Rattle.pl_io.specs.Writes.{AppendsFront};
 ghost use Rattle.pl_main.specs.Words.{command_of};
 ghost use Rattle.pl_main.specs.Limits.{Completes, CompletesPair};
-ghost use Rattle.pl_main.specs.Statuses.{IsTask, IsStatusOf, IsPairStatus, status_of, status_of_journal, usage_line, SaysKnown, SaysPairKnown, IsUnread};
+ghost use Rattle.pl_main.specs.Statuses.{IsTask, IsStatusOf, IsPairStatus, status_of, status_of_journal, usage_line, SaysKnown, SaysPairKnown};
 ghost use Rattle.pl_stream.specs.Written.{Adds};
 
 use crate::check::check;
@@ -56,7 +56,7 @@ fn task_status<I: Source, O: Sink>(alloc: Global, task: &Task, input: &mut I, ou
     ensures write { result ≡ 5 → Rose (O.faults out.old) (O.faults out.new) }
     ensures says { SaysKnown task.now (I.left input.old) (I.left input.new) (O.held out.old)
         (O.held out.new) result }
-    ensures unread { IsUnread task.now input.old input.new }
+    ensures unread { (goals : ℕ) → task.now ≡ Task.Demo goals → input.new ≡ input.old }
 {
     match task {
         Task::Solo { turns } => status_of(solo(alloc, *turns, input, out)),
@@ -75,7 +75,7 @@ pub fn run_solo<I: Source, O: Sink>(alloc: Global, task: &Task, input: &mut I, o
     ensures write { result ≡ 5 → Rose (O.faults out.old) (O.faults out.new) }
     ensures says { SaysKnown task.now (I.left input.old) (I.left input.new) (O.held out.old)
         (O.held out.new) result }
-    ensures unread { IsUnread task.now input.old input.new }
+    ensures unread { (goals : ℕ) → task.now ≡ Task.Demo goals → input.new ≡ input.old }
     ensures complete { (Rose (I.faults input.old) (I.faults input.new) → ⊥)
         → (Rose (O.faults out.old) (O.faults out.new) → ⊥)
         → Completes task.now (I.left input.old) result }
@@ -136,8 +136,7 @@ pub fn run<R: Threads + Wait + Sync, I: Source, O: Sink, G: Gate + Sync>(
     ensures usage { result ≡ 2 → command_of words.now ≡ None }
     ensures words { command_of words.now ≡ None → (result ≡ 2) ⊎ (result ≡ 5) }
     ensures unread { command_of words.now ≡ None → input.new ≡ input.old }
-    ensures task_unread { (task : Task) → command_of words.now ≡ Some (Command.Alone task)
-        → IsUnread task input.old input.new }
+    ensures demo_unread { (goals : ℕ) → command_of words.now ≡ Some (Command.Alone (Task.Demo goals)) → input.new ≡ input.old }
     ensures usage_text { result ≡ 2 → Adds (O.held out.old) (O.held out.new) usage_line }
     ensures usage_front { command_of words.now ≡ None → result ≡ 5 → AppendsFront (O.held out.old) (O.held out.new) usage_line }
     ensures status { (task : Task) → command_of words.now ≡ Some (Command.Alone task) → IsStatusOf task result }
