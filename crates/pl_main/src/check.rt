@@ -5,7 +5,7 @@ ghost use Rattle.pl_main.specs.Runs.{TextChecks};
 ghost use Rattle.pl_main.specs.Top.{model_ok_line, ChecksKnown};
 ghost use Rattle.pl_stream.specs.Written.{Adds, WriteStops};
 
-use crate::judging::{model_of, refuse};
+use crate::judging::{NO_BEGIN, model_of, refuse};
 use crate::outcome::Outcome;
 use crate::whole::{LINE_LIMIT, TOTAL_LIMIT};
 use pl_accept::Accepted;
@@ -73,7 +73,7 @@ pub fn check<S: Source, O: Sink>(alloc: Global, src: &mut S, out: &mut O) -> Res
     let mut lines = LineReader::new(alloc, LINE_LIMIT, TOTAL_LIMIT)?;
     match read_head(alloc, &mut lines, src) {
         Err(fault) => Err(halt_of(fault)),
-        Ok(Head::NoBegin) => refuse(out, b"model: no begin\n"),
+        Ok(Head::NoBegin) => refuse(out, NO_BEGIN),
         Ok(Head::Text(kept)) => check_text(alloc, kept, out),
     }
 }

@@ -5,7 +5,7 @@ ghost use Rattle.pl_stream.specs.Places.{place_of};
 ghost use Rattle.pl_main.specs.Demos.{summary_line, Shows, DemoPlays, ModelShows, TextShows};
 
 use crate::check::push_counted;
-use crate::judging::{model_of, refuse};
+use crate::judging::{NO_BEGIN, model_of, refuse};
 use crate::outcome::Outcome;
 use crate::play::play;
 use crate::whole::{LINE_LIMIT, TOTAL_LIMIT, program_options};
@@ -118,7 +118,7 @@ pub fn demo<O: Sink>(alloc: Global, goals: u32, out: &mut O) -> Result<Outcome, 
     let mut lines = LineReader::new(alloc, LINE_LIMIT, TOTAL_LIMIT)?;
     match read_head(alloc, &mut lines, &mut src) {
         Err(fault) => Err(halt_of(fault)),
-        Ok(Head::NoBegin) => refuse(out, b"model: no begin\n"),
+        Ok(Head::NoBegin) => refuse(out, NO_BEGIN),
         Ok(Head::Text(kept)) => show_text(alloc, goals, kept, &mut lines, &mut src, out),
     }
 }

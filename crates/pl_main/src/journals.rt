@@ -7,7 +7,7 @@ ghost use Rattle.pl_main.specs.Replays.{ModelReads, TextReads, ReadsBackKnown};
 use crate::form::Form;
 use crate::journal_text::{write_judged, write_text};
 use crate::judgement::Judgement;
-use crate::judging::model_of;
+use crate::judging::{NO_BEGIN, model_of};
 use crate::whole::TOTAL_LIMIT;
 use pl_accept::Accepted;
 use pl_io::{LineReader, Sink, Source};
@@ -83,7 +83,7 @@ pub fn read_back<S: Source, O: Sink>(
     let mut lines = LineReader::new(alloc, JOURNAL_LINE_LIMIT, TOTAL_LIMIT)?;
     match read_head(alloc, &mut lines, src) {
         Err(fault) => Err(halt_of(fault)),
-        Ok(Head::NoBegin) => write_text(out, b"model: no begin\n", Judgement::Refused),
+        Ok(Head::NoBegin) => write_text(out, NO_BEGIN, Judgement::Refused),
         Ok(Head::Text(kept)) => read_text(alloc, form, kept, &mut lines, src, out),
     }
 }

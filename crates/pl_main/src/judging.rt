@@ -10,6 +10,9 @@ use pl_io::{Sink, put};
 use pl_stream::Halt;
 use std::alloc::{AllocError, Global};
 
+/// What is said of an input without a `begin` line.
+pub const NO_BEGIN: &[u8] = b"model: no begin\n";
+
 /// Writes the line that refuses a model.
 pub fn refuse<O: Sink>(out: &mut O, line: &[u8]) -> Result<Outcome, Halt>
     ensures text { OnOk result (Adds (O.held out.old) (O.held out.new) line.now) }

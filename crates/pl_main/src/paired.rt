@@ -7,7 +7,7 @@ ghost use Rattle.pl_pair.specs.Runs.{PairRun};
 ghost use Rattle.pl_main.specs.Runs.{fresh_state};
 ghost use Rattle.pl_main.specs.Pairs.{outcome_of, PairTextRuns, PairedKnown};
 
-use crate::judging::{model_of, refuse};
+use crate::judging::{NO_BEGIN, model_of, refuse};
 use crate::outcome::Outcome;
 use crate::whole::{LINE_LIMIT, TOTAL_LIMIT, open_machine};
 use pl_accept::Accepted;
@@ -111,7 +111,7 @@ pub fn paired<R: Threads + Wait + Sync, S: Source, O: Sink, G: Gate + Sync>(
     let mut lines = LineReader::new(alloc, LINE_LIMIT, TOTAL_LIMIT)?;
     match read_head(alloc, &mut lines, src) {
         Err(fault) => Err(halt_of(fault)),
-        Ok(Head::NoBegin) => refuse(out, b"model: no begin\n"),
+        Ok(Head::NoBegin) => refuse(out, NO_BEGIN),
         Ok(Head::Text(kept)) => run_text(rt, alloc, turns, seed, kept, gate, &mut lines, src, out),
     }
 }

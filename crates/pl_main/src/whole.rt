@@ -5,7 +5,7 @@ ghost use Rattle.pl_stream.specs.Places.{place_of};
 ghost use Rattle.pl_main.specs.Runs.{fresh_state, ModelRuns, TextRuns};
 ghost use Rattle.pl_main.specs.Top.{program_options, RanKnown};
 
-use crate::judging::{model_of, refuse};
+use crate::judging::{NO_BEGIN, model_of, refuse};
 use crate::outcome::Outcome;
 use crate::play::play;
 use pl_accept::Accepted;
@@ -115,7 +115,7 @@ pub fn solo<S: Source, O: Sink>(
     let mut lines = LineReader::new(alloc, LINE_LIMIT, TOTAL_LIMIT)?;
     match read_head(alloc, &mut lines, src) {
         Err(fault) => Err(halt_of(fault)),
-        Ok(Head::NoBegin) => refuse(out, b"model: no begin\n"),
+        Ok(Head::NoBegin) => refuse(out, NO_BEGIN),
         Ok(Head::Text(kept)) => run_text(alloc, turns, kept, &mut lines, src, out),
     }
 }
