@@ -148,14 +148,11 @@ demo_status goals held now r shows = demo_place goals held now r shows
 
 -- ---- no log is full where none is made
 
-pub fault_fills_none : (f : LineFault) (h : Halt) → HaltFor f h → h ≡ halt.Full → ⊥
-fault_fills_none f h is full = never_full f (subst (λ (k : Halt). HaltFor f k) full is)
+err_is : {A : Type 0} (h k : Halt) → ◌≡◌ {A = Result A Halt} (Err h) (Err k) → h ≡ k
+err_is h k e = cc
 
-pub head_fills_none : (f : LineFault) (h : Halt) → HaltFor f h → (r : Result Outcome Halt) → r ≡ Err h → IsErrOf r halt.Full → ⊥
-head_fills_none f h is r stopped full = fault_fills_none f h is (let e : Err h ≡ Err halt.Full = subst (λ (x : Result Outcome Halt). x ≡ Err halt.Full) stopped full in (cc))
-
-pub journal_head_fills_none : (f : LineFault) (h : Halt) → HaltFor f h → (r : Result Judgement Halt) → r ≡ Err h → IsErrOf r halt.Full → ⊥
-journal_head_fills_none f h is r stopped full = fault_fills_none f h is (let e : Err h ≡ Err halt.Full = subst (λ (x : Result Judgement Halt). x ≡ Err halt.Full) stopped full in (cc))
+pub fault_fills_none : {A : Type 0} (f : LineFault) (h : Halt) → HaltFor f h → ◌≡◌ {A = Result A Halt} (Err h) (Err halt.Full) → ⊥
+fault_fills_none f h is full = never_full f (subst (λ (k : Halt). HaltFor f k) (err_is h halt.Full full) is)
 
 pub line_fills_none : (before now : ℕ) (r : Result Outcome Halt) → IfErr r (WriteStops before now) → IsErrOf r halt.Full → ⊥
 line_fills_none before now r stops full = subst (λ (x : Result Outcome Halt). IfErr x (WriteStops before now)) full stops

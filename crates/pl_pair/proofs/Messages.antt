@@ -1,16 +1,19 @@
 -- A message is read and handed on.
 use Rattle.std.proofs.Common.{◌≡◌, ℕ, ◌<◌, ◌≤◌, List, [], ◌∷◌, ◌++◌, length, true, false, All, Option, Some, None, IfSome, Result, Ok, Err, inl, inr, refl, sym, ◌∙◌, ap, subst, arith}
 use Rattle.pl_io.specs.declared.errors.LineFault.{LineFault}
+use Rattle.pl_io.specs.declared.errors.LineFault.TheVariants as fault
 use Rattle.pl_io.specs.Reader.{Reader, NumberedLine, Moves, Answers, Repeats}
 use Rattle.pl_io.specs.Sparing.{read_size, IsSparing}
 use Rattle.pl_entry.specs.Bounds.{IsMessageLine}
 use Rattle.pl_machine.specs.Lines.{is_blank_line}
+use Rattle.pl_stream.specs.declared.halt.Halt.{Halt}
+use Rattle.pl_stream.specs.Stops.{HaltFor}
 use Rattle.pl_stream.specs.Reads.{GotLine}
 use Rattle.pl_stream.specs.Waits.{MessageGives, line_in}
 use Rattle.pl_stream.proofs.Reading.{next_gives, took_more, used_later, halts_later}
 use Rattle.pl_shared.specs.Plans.{PlanPass}
 use Rattle.pl_pair.specs.declared.cut.Cut.{Cut}
-use Rattle.pl_pair.specs.Cuts.{cut_by}
+use Rattle.pl_pair.specs.Cuts.{cut_of, cut_by}
 use Rattle.pl_stream.specs.Places.{Place}
 use Rattle.pl_pair.specs.Asking.{Faults, now_failed, had_failed, FirstLine, Asks, HandsIn, Passes}
 
@@ -95,6 +98,13 @@ input_fits start place (Some message) (Some line) limit is bytes asks =
     record { short = rw same (omega arith); bytes = bytes; one_line = rw same asks.1.no_newline }
 
 -- ---- what came of it
+
+-- a run stops by a fault as the feeder does
+pub halts_by : (f : LineFault) (h : Halt) → HaltFor f h → cut_of h ≡ cut_by f
+halts_by fault.Read h is = ap cut_of is
+halts_by (fault.Long n) h is = ap cut_of is
+halts_by fault.Total h is = ap cut_of is
+halts_by fault.Memory h is = ap cut_of is
 
 pub passes_none : (start place : Place) (pass : PlanPass) (f : LineFault) → Asks start (Err f) place → Passes start pass (Err (cut_by f)) place pass
 passes_none start place pass f asks = inr (record { fault = f; asks = asks; cut = refl; same = refl })

@@ -13,7 +13,7 @@ use crate::cut::Cut;
 use pl_io::{Line, LineFault, LineReader, Source};
 use pl_machine::{Stop, is_blank_line};
 use pl_shared::{Pass, SharedPlan};
-use pl_stream::{line_in, next_message};
+use pl_stream::{halt_of, line_in, next_message};
 use std::sync::Wait;
 
 /// The next line, or the fault that the reader met, now or before.
@@ -58,14 +58,12 @@ fn feed<R: Wait>(rt: &R, plan: &SharedPlan, pass: &mut Pass, line: Option<&[u8]>
     }
 }
 
+/// Why the feeder stops by a fault of its reader.
+#[tactic(auto, using(crate::proofs::Messages::halts_by))]
 fn cut_by(fault: LineFault) -> Cut
     ensures { result ≡ cut_by fault }
 {
-    match fault {
-        LineFault::Read => Cut::Read,
-        LineFault::Long(_) | LineFault::Total => Cut::Limit,
-        LineFault::Memory => Cut::Memory,
-    }
+    Cut::from(halt_of(fault))
 }
 
 /// Reads the next message and hands it to the plan.
