@@ -7,4 +7,8 @@ pub use Rattle.pl_world.specs.Moves
 pub use Rattle.pl_world.specs.Candidates
 pub use Rattle.pl_changes.specs.Changes
 pub use Rattle.pl_changes.specs.Replaced
+pub use Rattle.pl_model.specs.Checked
+pub use Rattle.pl_facts.specs.Goals
+pub use Rattle.pl_links.specs.Broken
+pub use Rattle.pl_world.specs.Links
 pub mod Boards

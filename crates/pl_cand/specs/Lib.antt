@@ -1,3 +1,9 @@
+pub use Rattle.pl_plan.specs.Activities
+pub use Rattle.pl_world.specs.Candidates
+pub use Rattle.pl_world.specs.Legal
+pub use Rattle.pl_world.specs.Moves
+pub use Rattle.pl_world.specs.Starts
+pub use Rattle.pl_board.specs.Boards
 pub mod Near
 pub mod Details
 pub mod Levels

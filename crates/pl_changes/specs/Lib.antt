@@ -1,6 +1,9 @@
 pub use Rattle.pl_world.specs.PlanStates
 pub use Rattle.pl_world.specs.Whole
 pub use Rattle.pl_world.specs.Moves
+pub use Rattle.pl_model.specs.Checked
+pub use Rattle.pl_facts.specs.Goals
+pub use Rattle.pl_plan.specs.Activities
 pub mod Changes
 pub mod Replaced
 pub mod Putting

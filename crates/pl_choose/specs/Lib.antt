@@ -1,3 +1,4 @@
+pub use Rattle.pl_cand.specs.Proposals
 pub mod Picks
 pub mod Found
 pub mod Tried

@@ -1,3 +1,9 @@
+pub use Rattle.pl_model.specs.Checked
+pub use Rattle.pl_plan.specs.Activities
+pub use Rattle.pl_world.specs.Demands
+pub use Rattle.pl_world.specs.PlanStates
+pub use Rattle.pl_world.specs.Timelines
+pub use Rattle.pl_world.specs.Whole
 pub mod Bounds
 pub mod Based
 pub mod Fresh

@@ -1,5 +1,6 @@
 pub use Rattle.pl_render.specs.Lines
 pub use Rattle.pl_entry.specs.Bounds
+pub use Rattle.pl_model.specs.Checked
 pub mod Journal
 pub mod Reads
 pub mod Words

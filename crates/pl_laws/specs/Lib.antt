@@ -4,5 +4,6 @@ pub use Rattle.pl_machine.specs.Finished
 pub use Rattle.pl_world.specs.Conflicts
 pub use Rattle.pl_render.specs.Lines
 pub use Rattle.pl_moves.specs.Keeping
+pub use Rattle.pl_model.specs.Checked
 pub mod Standing
 pub mod Laws

@@ -1,6 +1,13 @@
 pub use Rattle.pl_world.specs.PlanStates
 pub use Rattle.pl_world.specs.Demands
 pub use Rattle.pl_world.specs.Timelines
+pub use Rattle.pl_conflict.specs.Order
+pub use Rattle.pl_model.specs.Checked
+pub use Rattle.pl_world.specs.Parts
+pub use Rattle.pl_world.specs.Whole
+pub use Rattle.pl_changes.specs.Changes
+pub use Rattle.pl_changes.specs.Replaced
+pub use Rattle.pl_demands.specs.Based
 pub mod Held
 pub mod Framed
 pub mod Told

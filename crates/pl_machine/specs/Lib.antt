@@ -7,6 +7,10 @@ pub use Rattle.pl_world.specs.PlanStates
 pub use Rattle.pl_world.specs.Conflicts
 pub use Rattle.pl_world.specs.Moves
 pub use Rattle.pl_board.specs.Boards
+pub use Rattle.pl_model.specs.Checked
+pub use Rattle.pl_world.specs.Grants
+pub use Rattle.pl_moves.specs.Keeping as KeptByMoves
+pub use Rattle.pl_cand.specs.Proposals
 pub mod Lines
 pub mod Reading
 pub mod World

@@ -2,6 +2,7 @@ pub use Rattle.pl_world.specs.PlanStates
 pub use Rattle.pl_world.specs.Whole
 pub use Rattle.pl_world.specs.Moves
 pub use Rattle.pl_world.specs.Legal
+pub use Rattle.pl_board.specs.Boards
 pub mod Sides
 pub mod Changes
 pub mod Undone

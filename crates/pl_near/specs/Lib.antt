@@ -1,3 +1,11 @@
+pub use Rattle.pl_conflict.specs.Order
+pub use Rattle.pl_plan.specs.Activities
+pub use Rattle.pl_world.specs.Conflicts
+pub use Rattle.pl_world.specs.Grants
+pub use Rattle.pl_world.specs.Whole
+pub use Rattle.pl_changes.specs.Changes
+pub use Rattle.pl_changes.specs.Replaced
+pub use Rattle.pl_values.specs.Kept
 pub mod Near
 pub mod Touched
 pub mod Passed

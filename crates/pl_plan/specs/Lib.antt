@@ -1,4 +1,5 @@
 pub use Rattle.pl_model.specs.Checked
+pub use Rattle.pl_model.specs.Values as ModelValues
 pub mod Activities
 pub mod State
 pub mod Places

@@ -1,3 +1,9 @@
+pub use Rattle.pl_io.specs.Faults
+pub use Rattle.pl_io.specs.Lines
+pub use Rattle.pl_io.specs.Reader
+pub use Rattle.pl_model.specs.Checked
+pub use Rattle.pl_machine.specs.Legal
+pub use Rattle.pl_machine.specs.Sound
 pub mod Journals
 pub mod Verifying
 pub mod Holding

@@ -1,3 +1,5 @@
+pub use Rattle.pl_io.specs.Lines as ByteLines
+pub use Rattle.pl_machine.specs.Legal
 pub mod Demonstration
 pub mod Lines
 pub mod Reports

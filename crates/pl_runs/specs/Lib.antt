@@ -1,1 +1,2 @@
+pub use Rattle.pl_model.specs.Checked
 pub mod Lengths

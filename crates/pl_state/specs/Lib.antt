@@ -1,6 +1,7 @@
 pub use Rattle.pl_lists.specs.Lists
 pub use Rattle.pl_points.specs.Spans
 pub use Rattle.pl_points.specs.Standing
+pub use Rattle.pl_points.specs.Laws
 pub mod Keys
 pub mod Rows
 pub mod Sets

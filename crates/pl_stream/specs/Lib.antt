@@ -1,3 +1,7 @@
+pub use Rattle.pl_io.specs.Faults
+pub use Rattle.pl_io.specs.Lines as ByteLines
+pub use Rattle.pl_io.specs.Writes
+pub use Rattle.pl_render.specs.Lines
 pub mod Reads
 pub mod Heads
 pub mod Waits

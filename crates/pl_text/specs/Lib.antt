@@ -1,3 +1,4 @@
+pub use Rattle.pl_lists.specs.Judgements
 pub mod Bytes
 pub mod Words
 pub mod Tokens

@@ -1,3 +1,8 @@
+pub use Rattle.pl_conflict.specs.Order
+pub use Rattle.pl_conflict.specs.Sorting
+pub use Rattle.pl_points.specs.Sums
+pub use Rattle.pl_facts.specs.Goals as AcceptedGoals
+pub use Rattle.pl_plan.specs.Activities as PlanActivities
 pub mod PlanStates
 pub mod Whole
 pub mod Goals
