@@ -15,3 +15,4 @@ pub mod Parts
 pub mod Renewing
 pub mod Indexing
 pub mod Apart
+pub mod Looking

@@ -1,5 +1,7 @@
 -- Lists that are sorted by keys of which no two are equal.
 use Rattle.std.specs.Prelude.{◌≡◌, List, [], ◌∷◌}
+use Rattle.std.specs.declared.cmp.Ordering.{Ordering}
+use Rattle.std.specs.Ordering.{nat_cmp, ordering_then}
 use Rattle.pl_state.specs.declared.key.Key.{Key}
 use Rattle.pl_state.specs.declared.answer.BadSet.{BadSet}
 use Rattle.pl_state.specs.declared.answer.BrokenMust.{BrokenMust}
@@ -21,3 +23,10 @@ broken_key b = key_of b.id b.index b.from
 
 abbrev pub bad_key : BadSet → Key
 bad_key b = key_of b.at b.id b.index
+
+-- by id, index, start and end
+abbrev pub broken_cmp : BrokenMust → BrokenMust → Ordering
+broken_cmp a b =
+    ordering_then (nat_cmp a.id b.id)
+    (ordering_then (nat_cmp a.index b.index)
+    (ordering_then (nat_cmp a.from b.from) (nat_cmp a.to b.to)))

@@ -1,8 +1,8 @@
 use pl_lists::{Copied, Items};
 use std::alloc::{AllocError, Global};
 
-/// A span in which the state is another than a must needs.
-#[derive(Clone, Copy, Debug, PartialEq, Eq)]
+/// A span in which the state is another than a must needs. They are ordered by their fields in turn.
+#[derive(Clone, Copy, Debug, PartialEq, Eq, PartialOrd, Ord)]
 pub struct BrokenMust {
     pub id: u32,
     pub index: u32,

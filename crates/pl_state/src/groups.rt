@@ -12,7 +12,8 @@ ghost use Rattle.pl_state.specs.Present.{group_at, broken_at};
 
 use crate::answer::BrokenMust;
 use crate::key::{Key, run_of};
-use crate::listed::{Difference, push_missing, replace};
+use crate::listed::{Difference, replace};
+use crate::missing::push_missing;
 use crate::musts::{Musts, groups_of};
 use crate::present::Present;
 use crate::sets::Sets;
@@ -92,8 +93,8 @@ fn renew_key(
     let old = run_of(broken, renewal.taken, key);
     let group = groups_of(alloc, sets, present, &named)?;
     let gone = &broken[old.begin..old.behind];
-    push_missing(&mut renewal.went, &group, gone)?;
-    push_missing(&mut renewal.came, gone, &group)?;
+    push_missing(alloc, &mut renewal.went, &group, gone)?;
+    push_missing(alloc, &mut renewal.came, gone, &group)?;
     renewal
         .fresh
         .extend_from_slice(&broken[renewal.taken..old.begin])?;

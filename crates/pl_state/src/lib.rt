@@ -9,6 +9,7 @@ mod key;
 mod laws;
 mod line;
 mod listed;
+mod missing;
 mod musts;
 mod near;
 mod present;

@@ -1,6 +1,6 @@
 ghost use Rattle.std.specs.Prelude.{◌≡◌, ◌≤◌, ◌-◌, ◌++◌, length, take, drop, OnOk, IfOk};
 ghost use Rattle.pl_state.specs.Keys.{AreSorted, KnowsKey};
-ghost use Rattle.pl_lists.specs.Lists.{is_among, left_out};
+ghost use Rattle.pl_lists.specs.Lists.{left_out};
 
 use crate::answer::{BadSet, BrokenMust, StateChange};
 use crate::key::{Key, Keyed, position_of};
@@ -48,33 +48,6 @@ impl Keyed for BadSet {
     fn is_same(&self, other: &BadSet) -> bool {
         self.at == other.at && (self.id == other.id && self.index == other.index)
     }
-}
-
-fn contains<T: Keyed>(list: &[T], item: &T) -> bool
-    ensures { result ≡ is_among T.same list.now item.now }
-{
-    for other in list {
-        if other.is_same(item) {
-            return true;
-        }
-    }
-    false
-}
-
-// Puts those that are not among the others behind what is missing.
-pub(crate) fn push_missing<T: Keyed>(
-    missing: &mut Items<T>,
-    others: &[T],
-    list: &[T],
-) -> Result<(), AllocError>
-    ensures { OnOk result (missing.new ≡ missing.old ++ left_out T.same others.now list.now) }
-{
-    for item in list {
-        if !contains(others, item) {
-            missing.push(*item)?;
-        }
-    }
-    Ok(())
 }
 
 // Those that are not among the others, which are sorted.
