@@ -1,13 +1,13 @@
 -- Pairs of a number and an id in their order, and what stands under a number.
-use Rattle.std.proofs.Common.{◌≡◌, ℕ, zero, suc, ◌<◌, ◌≤◌, ◌^◌, eqb, Bool, true, false, not, cond, ◌&&◌, ◌||◌, List, [], ◌∷◌, map, Some, refl, sym, ◌∙◌, ap, arith, nat_cmp, is_eq, is_lt, is_le, Ordering, Less, Equal, Greater, ◌⊎◌, ⊎_elim, BTreeSet}
-use Rattle.std.specs.Prelude.{All, filter}
+use Rattle.std.proofs.Common.{◌≡◌, ℕ, zero, suc, ◌<◌, ◌≤◌, ◌^◌, eqb, ltb, Bool, true, false, not, cond, ◌&&◌, ◌||◌, List, [], ◌∷◌, map, Some, refl, sym, ◌∙◌, ap, arith, nat_cmp, is_eq, is_lt, is_le, is_gt, Ordering, Less, Equal, Greater, ◌⊎◌, ⊎_elim, BTreeSet}
+use Rattle.std.specs.Prelude.{All, filter, find, slice_get}
 use Rattle.std.specs.List.{list_any}
 use Rattle.std.specs.Ordering.{ordering_then}
 use Rattle.std.specs.List.Sorted.{IsStrictlySortedBy}
 use Rattle.std.specs.BTreeMap.{is_at}
 use Rattle.std.specs.BTreeMap.Range.{range_contains}
 use Rattle.std.specs.BTreeSet.{contains, Updates, UpdatesBy}
-use Rattle.std.specs.declared.ops.Bound.TheVariants.{Included}
+use Rattle.std.specs.declared.ops.Bound.TheVariants.{Included, Excluded}
 use Rattle.std.proofs.lemmas.Bool.{lt-ltb, le-ltb, eq-eqb, ne_eqb, eqb-true, cases_order}
 use Rattle.std.proofs.lemmas.List.Elements.{All-head, All-tail, All-weaker}
 use Rattle.std.proofs.lemmas.Map.Views.{All-after_first}
@@ -119,3 +119,45 @@ under_rises n pairs sorted = under_rises_from 0 n pairs sorted (λ k d lt e. ome
 
 pub under_range : (n : ℕ) (pairs range : List (ℕ × ℕ)) → All (λ p. p.1 < 2 ^ 32) pairs → range ≡ filter (range_contains pair_cmp (Included (n, 0)) (Included (n, 4294967295))) pairs → ids_under n pairs ≡ map (λ p. p.1) range
 under_range n pairs range small is = sym (ap (λ (l : List (ℕ × ℕ)). map (λ p. p.1) l) (is ∙ range_under n pairs small))
+
+-- ---- what stands under a number behind an id
+
+forward : (n behind : ℕ) → behind < 2 ^ 32 → is_gt (pair_cmp (n, behind) (n, 4294967295)) ≡ false
+forward n behind small = rw (le-ltb n n (omega arith), eq-eqb n n refl) (⊎_elim
+    (λ (e : behind ≡ 4294967295). rw (le-ltb behind 4294967295 (omega (arith, e)), eq-eqb behind 4294967295 e) refl)
+    (λ o. ⊎_elim
+    (λ (lt : behind < 4294967295). rw (lt-ltb behind 4294967295 lt) refl)
+    (λ (gt : 4294967295 < behind). absurd (omega (arith, gt, small)))
+    o)
+    (cases_order behind 4294967295))
+
+in_range_behind : (n behind : ℕ) (p : ℕ × ℕ) → p.1 < 2 ^ 32 → range_contains pair_cmp (Excluded (n, behind)) (Included (n, 4294967295)) p ≡ (eqb n p.0 && ltb behind p.1)
+in_range_behind n behind p small = ⊎_elim
+    (λ (e : n ≡ p.0). rw (le-ltb n p.0 (omega (arith, e)), eq-eqb n p.0 e, le-ltb 4294967295 p.1 (omega (arith, small))) (inside (ltb behind p.1) (eqb behind p.1) (eqb 4294967295 p.1)))
+    (λ o. ⊎_elim
+    (λ (lt : n < p.0). rw (lt-ltb n p.0 lt, ne_eqb n p.0 (λ e. omega (arith, lt, e))) refl)
+    (λ (gt : p.0 < n). rw (le-ltb n p.0 (omega (arith, gt)), ne_eqb n p.0 (λ e. omega (arith, gt, e))) refl)
+    o)
+    (cases_order n p.0)
+  where
+    inside : (a b d : Bool) → (is_lt (cond a Less (cond b Equal Greater)) && not (is_lt (cond d Equal Greater))) ≡ a
+    inside true b true = refl
+    inside true b false = refl
+    inside false true d = refl
+    inside false false d = refl
+
+find_under : (n behind : ℕ) (pairs : List (ℕ × ℕ)) → find (ltb behind) (ids_under n pairs) ≡ slice_get (map (λ p. p.1) (filter (λ p. eqb n p.0 && ltb behind p.1) pairs)) 0
+find_under n behind [] = refl
+find_under n behind (p ∷ pairs) = cases (eqb n p.0) refl (ltb behind p.1) refl (find_under n behind pairs)
+  where
+    cases : (b : Bool) → eqb n p.0 ≡ b → (d : Bool) → ltb behind p.1 ≡ d → find (ltb behind) (ids_under n pairs) ≡ slice_get (map (λ r. r.1) (filter (λ r. eqb n r.0 && ltb behind r.1) pairs)) 0
+        → find (ltb behind) (ids_under n (p ∷ pairs)) ≡ slice_get (map (λ r. r.1) (filter (λ r. eqb n r.0 && ltb behind r.1) (p ∷ pairs))) 0
+    cases true e true f more = rw (e, f) refl
+    cases true e false f more = rw (e, f) more
+    cases false e true f more = rw e more
+    cases false e false f more = rw e more
+
+pub under_behind : (n behind : ℕ) (pairs range : List (ℕ × ℕ)) → All (λ p. p.1 < 2 ^ 32) pairs → range ≡ filter (range_contains pair_cmp (Excluded (n, behind)) (Included (n, 4294967295))) pairs → find (ltb behind) (ids_under n pairs) ≡ slice_get (map (λ p. p.1) range) 0
+under_behind n behind pairs range small is =
+    let same = filter_within (range_contains pair_cmp (Excluded (n, behind)) (Included (n, 4294967295))) (λ p. eqb n p.0 && ltb behind p.1) (λ p. p.1 < 2 ^ 32) (in_range_behind n behind) pairs small in
+    find_under n behind pairs ∙ sym (ap (λ (l : List (ℕ × ℕ)). slice_get (map (λ p. p.1) l) 0) (is ∙ same))

@@ -1,10 +1,11 @@
-ghost use Rattle.std.specs.Prelude.{◌≡◌, [], OnOk, OnErr, IfOk, Some, slice_get};
+ghost use Rattle.std.specs.Prelude.{◌≡◌, [], OnOk, OnErr, IfOk, Some, slice_get, find, nat_lt};
 ghost use Rattle.std.specs.List.Sorted.{IsStrictlyIncreasing};
 ghost use Rattle.pl_plan.specs.Index.{ids_under, Enters, Leaves};
 
 use std::alloc::{AllocError, Global};
 use std::collections::BTreeSet;
 use std::marker::Model;
+use std::ops::Bound;
 
 /// Ids under numbers, which contracts see as pairs by rising number, then id.
 #[derive(Debug, Drop)]
@@ -60,6 +61,16 @@ impl Index {
         ensures rising { IsStrictlyIncreasing (ids_under number self.now) }
     {
         let pair = self.pairs.range((number, 0)..=(number, u32::MAX)).next()?;
+        Some(pair.1)
+    }
+
+    pub(crate) fn next_under(&self, number: u32, behind: u32) -> Option<u32>
+        ensures next { result ≡ find (nat_lt behind) (ids_under number self.now) }
+        ensures rising { IsStrictlyIncreasing (ids_under number self.now) }
+    {
+        let from = Bound::Excluded((number, behind));
+        let to = Bound::Included((number, u32::MAX));
+        let pair = self.pairs.range((from, to)).next()?;
         Some(pair.1)
     }
 }

@@ -1,4 +1,4 @@
-ghost use Rattle.std.specs.Prelude.{◌≡◌, ℕ, IfOk, OnOk, ◌||◌, slice_get};
+ghost use Rattle.std.specs.Prelude.{◌≡◌, ℕ, IfOk, OnOk, ◌||◌, slice_get, find, nat_lt};
 ghost use Rattle.std.specs.Ordering.{nat_cmp};
 ghost use Rattle.std.specs.BTreeSet.{contains};
 ghost use Rattle.pl_plan.specs.Activities.{IsLive, AreRising};
@@ -18,6 +18,13 @@ impl Plan {
         ensures rising { AreRising self.now.activities }
     {
         self.families().children.under(alloc, id)
+    }
+
+    /// The least id above `behind` among those of the children. It takes no memory.
+    pub fn child_behind(&self, id: u32, behind: u32) -> Option<u32>
+        ensures { result ≡ find (nat_lt behind) (children_of id self.now.activities) }
+    {
+        self.families().children.next_under(id, behind)
     }
 
     /// The ids of the activity and of all its descendants, rising.
