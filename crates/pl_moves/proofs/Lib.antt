@@ -1,10 +1,10 @@
-mod Descents
 mod Offsets
 mod Slots
 mod Swaps
 mod Subtrees
 mod Returning
 mod Picking
+mod Foremost
 mod Trying
 mod Kin
 mod Onward

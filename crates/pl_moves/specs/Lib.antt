@@ -4,6 +4,7 @@ pub use Rattle.pl_world.specs.Moves
 pub use Rattle.pl_world.specs.Legal
 pub use Rattle.pl_board.specs.Boards
 pub mod Sides
+pub mod Objections
 pub mod Changes
 pub mod Undone
 pub mod Runs

@@ -87,7 +87,7 @@ pub fn apply<L: Ledger>(
     ensures ids { OnOk result (board.new.state.next_id ≤ board.old.state.next_id + 16) }
     ensures fault { IfErr result (λ fault. Fails mv.now fault board.old board.new) }
 {
-    match refusal(alloc, board.state(), mv) {
+    match refusal(board.state(), mv) {
         Some(reason) => Err(MoveFault::Refused(reason)),
         None => {
             make(alloc, board, mv, steps)?;

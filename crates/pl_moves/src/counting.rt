@@ -47,7 +47,7 @@ pub fn left_after<L: Ledger>(
     ensures count { IfOk result (λ n. IsCounted mv.now n board.old board.new) }
     ensures fault { IfErr result (λ fault. Fails mv.now fault board.old board.new) }
 {
-    match refusal(alloc, board.state(), mv) {
+    match refusal(board.state(), mv) {
         Some(reason) => Err(MoveFault::Refused(reason)),
         None => Ok(count_after(alloc, board, mv, steps)?),
     }
