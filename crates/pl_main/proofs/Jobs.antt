@@ -1,5 +1,5 @@
 -- The statuses of the jobs.
-use Rattle.std.proofs.Common.{◌≡◌, ℕ, List, [], ◌∷◌, length, Option, Result, Ok, Err, IsErrOf, IfErr, get_or, ltb, true, refl, subst}
+use Rattle.std.proofs.Common.{◌≡◌, ℕ, List, [], ◌∷◌, length, Option, Result, Ok, Err, IsErrOf, IfErr, get_or, ltb, true, refl, subst, arith}
 use Rattle.std.specs.Prelude.{All, Contains}
 use Rattle.std.proofs.lemmas.Bool.{ltb-true}
 use Rattle.std.proofs.lemmas.List.Elements.{All-nil, All-cons, All-contains, Contains-get_or}
@@ -78,6 +78,25 @@ status_is (Err halt.Write) = is_write refl
 status_is (Err halt.Limit) = is_limit refl
 status_is (Err halt.Full) = is_full refl
 status_is (Err halt.Memory) = is_memory refl
+
+-- ---- no job ends as words that are of no form do
+
+never_usage : (status : ℕ) → IsJobStatus status → status ≡ 2 → ⊥
+never_usage status (is_done e) two = omega (arith, e, two)
+never_usage status (is_refused e) two = omega (arith, e, two)
+never_usage status (is_read e) two = omega (arith, e, two)
+never_usage status (is_write e) two = omega (arith, e, two)
+never_usage status (is_limit e) two = omega (arith, e, two)
+never_usage status (is_full e) two = omega (arith, e, two)
+never_usage status (is_wrong e) two = omega (arith, e, two)
+never_usage status (is_memory e) two = omega (arith, e, two)
+
+pub job_not_usage : (t : Task) (status : ℕ) → IsStatusOf t status → status ≡ 2 → ⊥
+job_not_usage t status is two = never_usage status (is_job t status is) two
+
+pub pair_not_usage : (status : ℕ) → IsPairStatus status → status ≡ 2 → ⊥
+unfolding IsPairStatus
+pair_not_usage status has two = never_usage status (All-contains IsJobStatus pair_statuses status (reads (7 ∷ 9 ∷ []) from_seven) has) two
 
 -- ---- each job
 
