@@ -146,7 +146,7 @@ ends_used_up rest lines inputs front (by_end ahead_of last none is) e = none
 ends_used_up rest lines inputs front (by_line before line so_far last is all) e = absurd (let h : Some line ≡ None = last_is before front (Some line) None (sym last ∙ e) in (cc))
 
 -- there is a message, the last of them
-ends_some : (rest : List ℕ) (lines : List (List ℕ)) (inputs : List (Option (List ℕ))) → EndsWith rest lines inputs → inputs ≡ [] → ⊥
+pub ends_some : (rest : List ℕ) (lines : List (List ℕ)) (inputs : List (Option (List ℕ))) → EndsWith rest lines inputs → inputs ≡ [] → ⊥
 ends_some rest lines inputs (by_end front last none is) e = some_last front None (sym e ∙ last)
 ends_some rest lines inputs (by_line front line before last is all) e = some_last front (Some line) (sym e ∙ last)
 
