@@ -1,5 +1,5 @@
 -- A run that is cut short, by a write that failed or for want of memory.
-use Rattle.std.proofs.Common.{◌≡◌, ℕ, List, [], ◌∷◌, ◌++◌, true, false, Option, Some, None, ◌⊎◌, inl, inr, refl, sym, ◌∙◌, ap, subst, append_assoc}
+use Rattle.std.proofs.Common.{◌≡◌, ℕ, ◌+◌, List, [], ◌∷◌, ◌++◌, length, true, false, Option, Some, None, ◌⊎◌, inl, inr, refl, sym, ◌∙◌, ap, subst, append_assoc}
 use Rattle.std.proofs.lemmas.List.{append-nil}
 use Rattle.std.specs.declared.vec.Vec.{Vec}
 use Rattle.std.specs.declared.alloc.Global.{Global}
@@ -19,7 +19,7 @@ use Rattle.pl_accept.specs.Accepting.{IsModelText}
 use Rattle.pl_stream.specs.declared.halt.Halt.TheVariants as halt
 use Rattle.pl_stream.specs.Reads.{Gave}
 use Rattle.pl_stream.specs.Heads.{IsHead, IsBegun}
-use Rattle.pl_stream.specs.Written.{Adds}
+use Rattle.pl_stream.specs.Written.{Adds, IsCutShort, opens, answers}
 use Rattle.pl_main.specs.Tells.{Told, ToldInPart}
 use Rattle.pl_stream.specs.Places.{Place}
 use Rattle.pl_stream.specs.Waits.{line_in}
@@ -28,8 +28,8 @@ use Rattle.pl_main.specs.Runs.{fresh_state, unopened, in_opening, in_play, IsKep
 use Rattle.pl_main.specs.Top.{program_options, line_limit, total_limit, fresh_reader, faulty, HasRead, WasGiven, HasBegun, IsShort, in_journal, in_refusal, IsOutOfMemory, nothing, in_entry, behind_entry}
 use Rattle.pl_stream.proofs.Reading.{gave_append, gave_lines, known}
 use Rattle.pl_stream.proofs.Beginning.{head_then}
-use Rattle.pl_stream.proofs.Writing.{appends_then}
-use Rattle.pl_main.proofs.Playing.{messages_append, inputs_append, joined, joined_front}
+use Rattle.pl_stream.proofs.Writing.{adds_then, appends_then}
+use Rattle.pl_main.proofs.Playing.{messages_append, inputs_append, added_text, joined, joined_front}
 use Rattle.pl_main.proofs.Ending.{split_is, logged, BeginsAt, got_next, has_read, all_messages, head_read, begins_at, behind_text}
 
 abbrev Message : Type 0
@@ -119,11 +119,50 @@ opened_front : (m : Model) (first : Entry) (entries : List Entry) (held opened n
 opened_front m first entries held opened now adds front =
     subst (λ (t : List ℕ). AppendsFront held now (t ++ text_from m 1 entries)) (append-nil (line_of m 0 first)) (appends_then held opened now (text_from m 0 (first ∷ [])) (text_from m 1 entries) adds front)
 
+-- what nothing is added to
+adds_none : (held : Option (List ℕ)) → Adds held held []
+adds_none None = tt
+adds_none (Some bytes) = ap Some (sym (append-nil bytes))
+
+-- a front of the open entry's line was written
+cut_opening : (turns : ℕ) (m : Model) (held now : Option (List ℕ)) → AppendsFront held now (text_from m 0 (opening (program_options turns) ∷ [])) → IsCutShort m (opening (program_options turns) ∷ []) held now
+cut_opening turns m held now front = record {
+  earlier = [];
+  last = opening (program_options turns) ∷ [];
+  parts = refl;
+  round = opens refl refl;
+  written = held;
+  whole = adds_none held;
+  part = front;
+  front = front;
+}
+
 -- the last line that was asked for is the last message of the log
 record HasBroken (turns : ℕ) (input : List ℕ) (source_left held now : Option (List ℕ)) : Type 0 where
   run : HasBegun turns input
   read : HasRead run.words (inputs_of run.log) input source_left
-  front : AppendsFront held now (text_of_log run.model run.log)
+  cut : IsCutShort run.model run.log held now
+
+-- All entries before a message were written, and a front of the lines of those that the message brought.
+cut_in_round : (turns : ℕ) (m : Model) (start place : Place) (held opened now : Option (List ℕ)) (new : State) (plays : PlaysInPart (fresh_state turns m) start opened new place now) (last : Added plays.waiting new (line_in plays.step.message))
+    → Adds held opened (text_from m 0 (opening (program_options turns) ∷ [])) → IsCutShort m (opening (program_options turns) ∷ (plays.plays.entries ++ last.entries)) held now
+unfolding world_of
+cut_in_round turns m start place held opened now new plays last first =
+    let so_far = plays.plays in
+    let answered = plays.step.answered in
+    let count : length (opening (program_options turns) ∷ []) + length so_far.entries ≡ length (opening (program_options turns) ∷ so_far.entries) = omega arith in
+    let text = added_text (fresh_state turns m) plays.waiting new so_far.entries last.entries so_far.log so_far.same last.log in
+    record {
+      earlier = opening (program_options turns) ∷ so_far.entries;
+      last = last.entries;
+      parts = refl;
+      round = answers (line_in plays.step.message) (ap (λ (w : World). w.closed) (sym so_far.world) ∙ so_far.ready.closed) last.inputs;
+      written = plays.written;
+      whole = subst (λ (t : List ℕ). Adds held plays.written (t ++ text_from m 1 so_far.entries)) (append-nil (line_of m 0 (opening (program_options turns)))) (adds_then held opened plays.written (text_from m 0 (opening (program_options turns) ∷ [])) (text_from m 1 so_far.entries) first so_far.written);
+      part = subst (λ (t : List ℕ). AppendsFront plays.written now t) (text ∙ ap (λ (n : ℕ). text_from m n last.entries) count) answered.written;
+      front = opened_front m (opening (program_options turns)) (so_far.entries ++ last.entries) held opened now first
+          (joined_front (fresh_state turns m) plays.waiting new opened plays.written now so_far.entries last.entries so_far.log so_far.same so_far.written last.log answered.written);
+    }
 
 broken : (turns : ℕ) (input words heads_rest : List ℕ) (heads : List (List ℕ)) (m : Model) (start place : Place) (source_left held opened now : Option (List ℕ)) (new : State)
     → IsHead heads words → Gave line_limit total_limit input heads start.reader.room heads_rest → start.ahead ≡ Some heads_rest → BeginsAt start → IsModelText words m
@@ -156,8 +195,7 @@ broken turns input words heads_rest heads m start place source_left held opened 
         messages = all ∙ sym (append_assoc (inputs_of so_far.entries) (next ∷ []) got.all.more) ∙ ap (λ (ns : List Message). ns ++ got.all.more) inputs;
       };
       read = subst (λ (ns : List Message). HasRead words ns input source_left) inputs read;
-      front = opened_front m (opening (program_options turns)) (so_far.entries ++ last.entries) held opened now first
-          (joined_front (fresh_state turns m) plays.waiting new opened plays.written now so_far.entries last.entries so_far.log so_far.same so_far.written last.log answered.written);
+      cut = cut_in_round turns m start place held opened now new plays last first;
     }
 
 -- ---- behind the model's text
@@ -195,10 +233,10 @@ short_whole turns kept start place input source_left held now begun (in_fault is
     in_refusal fails.line (faulty begun.words fails.line begins (fails.refused begun.words begun.keeps) refl) front
 short_whole turns kept start place input source_left held now begun (in_run m text (unopened is same)) behind = absurd (let h : halt.Write ≡ halt.Memory = is in (cc))
 short_whole turns kept start place input source_left held now begun (in_run m text (in_opening legal front same)) behind =
-    in_journal (run_opened turns kept start input m begun text legal) (opened_read kept start place input source_left begun same behind) front
+    in_journal (run_opened turns kept start input m begun text legal) (opened_read kept start place input source_left begun same behind) (cut_opening turns m held now front)
 short_whole turns kept start place input source_left held now begun (in_run m text (in_play run)) behind =
     let b = run_broken turns kept start place input source_left held run.opened now m run.new begun text run.first run.playing run.legal behind in
-    in_journal b.run b.read b.front
+    in_journal b.run b.read b.cut
 
 -- all that was written is the journal of a log that waits for a message
 waits_whole : (turns : ℕ) (input : List ℕ) (source_left held written now : Option (List ℕ)) → HasWaited turns input held written → now ≡ written → IsOutOfMemory turns input source_left held now
@@ -214,7 +252,7 @@ play_lacks turns kept start place middle input source_left held opened written n
     waits_whole turns input source_left held written now (run_waited turns kept start middle input held opened written m mid begun text first plays before) same
 play_lacks turns kept start place middle input source_left held opened written now m mid new begun text first plays (unwritten step) legal behind =
     let b = run_broken turns kept start place input source_left held opened now m new begun text first (record { waiting = mid; middle = middle; written = written; plays = plays; step = step }) legal behind in
-    in_entry b.run b.read b.front
+    in_entry b.run b.read b.cut
 
 -- memory was wanting
 pub memory_whole : (turns : ℕ) (kept : Option (Vec ℕ Global)) (start place : Place) (input : List ℕ) (source_left held now : Option (List ℕ)) → IsBegun (fresh_reader line_limit) (Some input) kept start.reader start.ahead
@@ -223,7 +261,7 @@ memory_whole turns kept start place input source_left held now begun (unjudged i
 memory_whole turns kept start place input source_left held now begun (in_fault is fails front same) behind = absurd (let h : halt.Memory ≡ halt.Write = is in (cc))
 memory_whole turns kept start place input source_left held now begun (in_run m text (unopened is same)) behind = nothing same
 memory_whole turns kept start place input source_left held now begun (in_run m text (in_opening legal front same)) behind =
-    in_entry (run_opened turns kept start input m begun text legal) (opened_read kept start place input source_left begun same behind) front
+    in_entry (run_opened turns kept start input m begun text legal) (opened_read kept start place input source_left begun same behind) (cut_opening turns m held now front)
 memory_whole turns kept start place input source_left held now begun (in_run m text (in_play run)) behind =
     let lacks = run.playing in
     play_lacks turns kept start place lacks.middle input source_left held run.opened lacks.written now m lacks.waiting run.new begun text run.first lacks.plays lacks.step run.legal behind

@@ -27,13 +27,13 @@ use Rattle.pl_stream.proofs.Reading.{known, gave_append, gave_lines}
 use Rattle.pl_pair.specs.declared.ended.Ended.{Ended}
 use Rattle.pl_pair.specs.declared.ended.Ended.TheVariants as ended
 use Rattle.pl_stream.specs.Places.{Place, place_of}
-use Rattle.pl_pair.specs.Runs.{InMessages, HadLimit, WhyNone, IsCauseOf, StoppedBy, ReadUpTo, RunsUntil, ReadsShort, one_behind, one_unread, RunsShort, in_lines, behind_lines, PairRun}
+use Rattle.pl_pair.specs.Runs.{InMessages, HadLimit, WhyNone, IsCauseOf, StoppedBy, ReadUpTo, RunsUntil, ReadsShort, one_behind, one_unread, RunsShort, in_lines, all_lines, behind_lines, PairRun}
 use Rattle.pl_pair.proofs.Running.{runs_none}
 use Rattle.pl_main.specs.declared.outcome.Outcome.{Outcome}
 use Rattle.pl_main.specs.declared.outcome.Outcome.TheVariants as outcome
 use Rattle.pl_main.specs.Runs.{fresh_state, AcceptsKept}
 use Rattle.pl_main.specs.Top.{line_limit, total_limit, fresh_reader, no_begin_line, HasRead, ShowsNoLine, ShowsLimit, faulty, WasGiven}
-use Rattle.pl_main.specs.Pairs.{IsPaired, IsPairDone, PairWaitsBehind, IsPairFull, HasPairBegun, IsPairTorn, torn_refusal, torn_run, ReadsInPart, to_next, at_next, IsPairShort, silent, in_part, between_rounds, Paired, PairedKnown, outcome_of, PairTextTorn, in_refusal, in_writing, PairTextShort, at_once, in_run, PairTextRuns}
+use Rattle.pl_main.specs.Pairs.{IsPaired, IsPairDone, PairWaitsBehind, IsPairFull, HasPairBegun, IsPairTorn, torn_refusal, torn_run, ReadsInPart, to_next, at_next, IsPairShort, silent, in_part, in_round, between_rounds, Paired, PairedKnown, outcome_of, PairTextTorn, in_refusal, in_writing, PairTextShort, at_once, in_run, PairTextRuns}
 use Rattle.pl_stream.proofs.Stopping.{never_full, never_writes, limit_stops}
 use Rattle.pl_stream.proofs.Beginning.{head_then}
 use Rattle.pl_main.proofs.Ending.{split_is, begins_at, begins_nowhere, head_stopped, shows_none, shows_limit, fresh_begun, fresh_nowhere, fresh_halts}
@@ -379,7 +379,8 @@ module _ (turns seed : ℕ) (input words : List ℕ) (place last : Place) (m : M
         at_next (subst (λ (is : List (Option (List ℕ))). WasGiven words is input) log_inputs (given_of input words place middle (inputs_of run.entries) behind read))
 
     run_short : (accepted : IsModelText words m) → RunsShort m run.log run.entries place held last now → IsPairShort turns seed input source_left held now
-    run_short accepted (in_lines read front) = in_part (has_begun accepted) (log_read read) front
+    run_short accepted (in_lines read cut) = in_part (has_begun accepted) (log_read read) cut
+    run_short accepted (all_lines read going written) = in_round (has_begun accepted) (log_read read) going written
     run_short accepted (behind_lines at read written) = between_rounds (has_begun accepted) (part_read read) at.0 at.1 written
 
 torn_of : (turns seed : ℕ) (kept : Option (Vec ℕ Global)) (start place : Place) (input : List ℕ) (source_left held now : Option (List ℕ)) → IsBegun (fresh_reader line_limit) (Some input) kept start.reader start.ahead

@@ -193,34 +193,35 @@ pub record Joined (old mid new : State) (held written now : Option (List ℕ)) (
   pub same : SameRun old new
   pub text : Adds held now (text_from old.model (length old.log) (before ++ added))
 
+-- the text of entries that were added behind others
+pub added_text : (old mid new : State) (before added : List Entry) → mid.log ≡ old.log ++ before → SameRun old mid → new.log ≡ mid.log ++ added
+    → text_from mid.model (length mid.log) (drop (length mid.log) new.log) ≡ text_from old.model (length old.log + length before) added
+added_text old mid new before added log same log2 =
+    let fresh : drop (length mid.log) new.log ≡ added = ap (λ (l : List Entry). drop (length mid.log) l) log2 ∙ drop_front mid.log added in
+    let place : length mid.log ≡ length old.log + length before = ap (λ (l : List Entry). length l) log ∙ length-append old.log before in
+    ap (λ (l : List Entry). text_from mid.model (length mid.log) l) fresh ∙ ap (λ (n : ℕ). text_from mid.model n added) place ∙ ap (λ (m : Model). text_from m (length old.log + length before) added) same.model
+
 pub joined : (old mid new : State) (held written now : Option (List ℕ)) (before added : List Entry)
     → mid.log ≡ old.log ++ before → solo_from old.world before → mid.world ≡ world_from old.world before → SameRun old mid → Adds held written (text_from old.model (length old.log) before)
     → new.log ≡ mid.log ++ added → solo_from mid.world added → new.world ≡ world_from mid.world added → SameRun mid new → Adds written now (text_from mid.model (length mid.log) (drop (length mid.log) new.log))
     → Joined old mid new held written now before added
 joined old mid new held written now before added log solo world same text log2 solo2 world2 same2 text2 =
     let whole : new.log ≡ old.log ++ (before ++ added) = log2 ∙ ap (λ (l : List Entry). l ++ added) log ∙ append_assoc old.log before added in
-    let fresh : drop (length mid.log) new.log ≡ added = ap (λ (l : List Entry). drop (length mid.log) l) log2 ∙ drop_front mid.log added in
-    let place : length mid.log ≡ length old.log + length before = ap (λ (l : List Entry). length l) log ∙ length-append old.log before in
-    let added_text : text_from mid.model (length mid.log) (drop (length mid.log) new.log) ≡ text_from old.model (length old.log + length before) added =
-    ap (λ (l : List Entry). text_from mid.model (length mid.log) l) fresh ∙ ap (λ (n : ℕ). text_from mid.model n added) place ∙ ap (λ (m : Model). text_from m (length old.log + length before) added) same.model in
+    let text_is = added_text old mid new before added log same log2 in
     record {
       log = whole;
       solo = solo_append old.world before added solo (subst (λ (w : World). solo_from w added) world solo2);
       world = world2 ∙ ap (λ (w : World). world_from w added) world ∙ sym (world_append old.world before added);
       same = record { model = same2.model ∙ same.model; options = same2.options ∙ same.options };
-      text = subst (λ (t : List ℕ). Adds held now t) (sym (text_append old.model (length old.log) before added)) (adds_then held written now (text_from old.model (length old.log) before) (text_from old.model (length old.log + length before) added) text (subst (λ (t : List ℕ). Adds written now t) added_text text2));
+      text = subst (λ (t : List ℕ). Adds held now t) (sym (text_append old.model (length old.log) before added)) (adds_then held written now (text_from old.model (length old.log) before) (text_from old.model (length old.log + length before) added) text (subst (λ (t : List ℕ). Adds written now t) text_is text2));
     }
 
 -- a front of the lines of a message's entries, behind those before it
 pub joined_front : (old mid new : State) (held written now : Option (List ℕ)) (before added : List Entry) → mid.log ≡ old.log ++ before → SameRun old mid → Adds held written (text_from old.model (length old.log) before) → new.log ≡ mid.log ++ added
     → AppendsFront written now (text_from mid.model (length mid.log) (drop (length mid.log) new.log)) → AppendsFront held now (text_from old.model (length old.log) (before ++ added))
 joined_front old mid new held written now before added log same text log2 front =
-    let fresh : drop (length mid.log) new.log ≡ added = ap (λ (l : List Entry). drop (length mid.log) l) log2 ∙ drop_front mid.log added in
-    let place : length mid.log ≡ length old.log + length before = ap (λ (l : List Entry). length l) log ∙ length-append old.log before in
-    let added_text : text_from mid.model (length mid.log) (drop (length mid.log) new.log) ≡ text_from old.model (length old.log + length before) added =
-    ap (λ (l : List Entry). text_from mid.model (length mid.log) l) fresh ∙ ap (λ (n : ℕ). text_from mid.model n added) place ∙ ap (λ (m : Model). text_from m (length old.log + length before) added) same.model in
     subst (λ (t : List ℕ). AppendsFront held now t) (sym (text_append old.model (length old.log) before added))
-    (appends_then held written now (text_from old.model (length old.log) before) (text_from old.model (length old.log + length before) added) text (subst (λ (t : List ℕ). AppendsFront written now t) added_text front))
+    (appends_then held written now (text_from old.model (length old.log) before) (text_from old.model (length old.log + length before) added) text (subst (λ (t : List ℕ). AppendsFront written now t) (added_text old mid new before added log same log2) front))
 
 -- the messages of a line that doesn't end the run
 message_goes : (lines blanks : List (List ℕ)) (line : List ℕ) (ms : List (Option (List ℕ))) → messages_of lines ≡ ms ++ None ∷ [] → AreBlank blanks → is_blank_line line ≡ false → is_line_of end_word line ≡ false

@@ -15,12 +15,11 @@ use Rattle.pl_stream.specs.declared.halt.Halt.TheVariants as halt
 use Rattle.pl_stream.specs.Heads.{Keeps}
 use Rattle.pl_stream.specs.Reads.{Gave}
 use Rattle.pl_stream.specs.Stops.{IsStuck}
-use Rattle.pl_stream.specs.Written.{Adds}
+use Rattle.pl_stream.specs.Written.{Adds, IsCutShort}
 use Rattle.pl_shared.specs.Roles.{is_input}
 use Rattle.pl_pair.specs.declared.ended.Ended.{Ended}
 use Rattle.pl_pair.specs.declared.ended.Ended.TheVariants as ended
 use Rattle.pl_stream.specs.Places.{Place}
-use Rattle.pl_pair.specs.Rounds.{AddsFront}
 use Rattle.pl_pair.specs.Served.{AreOf}
 use Rattle.pl_pair.specs.Chosen.{AreChosen}
 use Rattle.pl_pair.specs.Runs.{History, PairRun}
@@ -112,20 +111,22 @@ pub record HasPairBegun (turns seed : ℕ) (input : List ℕ) : Type 0 where
   pub unanswered : List (Option (List ℕ))
   pub messages : (split_of input).messages ≡ inputs_of log ++ unanswered
 
--- A write failed. What went out is a front of the line that refuses the model, or of such a log's journal, and not all of it. Of a run the last line that was asked for is the last message of the log.
+-- A write failed. What went out is a front of the line that refuses the model, or of such a log's journal, and not all of it. Of a journal all of the rounds before the last message went out, and the last line that was asked for is this message.
 pub data IsPairTorn (turns seed : ℕ) (input : List ℕ) (source_left held now : Option (List ℕ)) : Type 0 where
   torn_refusal : (line : List ℕ) → IsNoModel line_limit input source_left (Some []) (Some line) → AppendsFront held now line → IsPairTorn turns seed input source_left held now
-  torn_run : (run : HasPairBegun turns seed input) → HasRead run.words (inputs_of run.log) input source_left → AppendsFront held now (text_of_log run.model run.log) → IsPairTorn turns seed input source_left held now
+  torn_run : (run : HasPairBegun turns seed input) → HasRead run.words (inputs_of run.log) input source_left → IsCutShort run.model run.log held now → IsPairTorn turns seed input source_left held now
 
 -- How far was read where memory was wanting for the message behind these: it is the last line that was asked for. Or memory was wanting to read it, and then nothing is said of what the source has left.
 pub data ReadsInPart (words : List ℕ) (messages unanswered : List (Option (List ℕ))) (input : List ℕ) (source_left : Option (List ℕ)) : Type 0 where
   to_next : (next : Option (List ℕ)) (more : List (Option (List ℕ))) → unanswered ≡ next ∷ more → HasRead words (messages ++ next ∷ []) input source_left → ReadsInPart words messages unanswered input source_left
   at_next : WasGiven words messages input → ReadsInPart words messages unanswered input source_left
 
--- Memory was wanting: nothing went out, or a front of such a log's journal, and the last line that was asked for is the last message of the log. Or, between two rounds, all of the journal went out, and memory was wanting for the next message.
+-- Memory was wanting: nothing went out; or a front of such a log's journal, and not all of it, but all of the rounds before the last message, and the last line that was asked for is this message; or all of it, within the round of that message. Or, between two rounds, all of the journal went out, and memory was wanting for the next message.
 pub data IsPairShort (turns seed : ℕ) (input : List ℕ) (source_left held now : Option (List ℕ)) : Type 0 where
   silent : now ≡ held → IsPairShort turns seed input source_left held now
-  in_part : (run : HasPairBegun turns seed input) → HasRead run.words (inputs_of run.log) input source_left → AddsFront held now (text_of_log run.model run.log) → IsPairShort turns seed input source_left held now
+  in_part : (run : HasPairBegun turns seed input) → HasRead run.words (inputs_of run.log) input source_left → IsCutShort run.model run.log held now → IsPairShort turns seed input source_left held now
+  in_round : (run : HasPairBegun turns seed input) → HasRead run.words (inputs_of run.log) input source_left → (world_of run.model run.log).done ≡ false → Adds held now (text_of_log run.model run.log)
+      → IsPairShort turns seed input source_left held now
   between_rounds : (run : HasPairBegun turns seed input) → ReadsInPart run.words (inputs_of run.log) run.unanswered input source_left → (world_of run.model run.log).closed ≡ true → (world_of run.model run.log).done ≡ false
       → Adds held now (text_of_log run.model run.log) → IsPairShort turns seed input source_left held now
 

@@ -19,7 +19,7 @@ use Rattle.pl_main.specs.declared.outcome.Outcome.{Outcome}
 use Rattle.pl_main.specs.declared.outcome.Outcome.TheVariants as outcome
 use Rattle.pl_stream.specs.Reads.{Gave}
 use Rattle.pl_stream.specs.Stops.{IsStuck}
-use Rattle.pl_stream.specs.Written.{Adds}
+use Rattle.pl_stream.specs.Written.{Adds, IsCutShort}
 
 -- the limits of the program, with the turns of the words
 abbrev pub program_options : ℕ → Options
@@ -194,21 +194,21 @@ pub record HasBegun (turns : ℕ) (input : List ℕ) : Type 0 where
   pub unanswered : List (Option (List ℕ))
   pub messages : (split_of input).messages ≡ inputs_of log ++ unanswered
 
--- A write failed. What went out is a front of such a log's journal, and not all of it, and then the last line that was asked
--- for is the last message of the log; or of the line that refuses the model.
+-- A write failed. What went out is a front of such a log's journal, and not all of it, but all of the rounds before the last
+-- message, and then the last line that was asked for is this message; or it is a front of the line that refuses the model.
 pub data IsShort (turns : ℕ) (input : List ℕ) (source_left held now : Option (List ℕ)) : Type 0 where
   in_journal : (run : HasBegun turns input) → HasRead run.words (inputs_of run.log) input source_left
-      → AppendsFront held now (text_of_log run.model run.log) → IsShort turns input source_left held now
+      → IsCutShort run.model run.log held now → IsShort turns input source_left held now
   in_refusal : (line : List ℕ) → IsNoModel line_limit input source_left (Some []) (Some line)
       → AppendsFront held now line → IsShort turns input source_left held now
 
--- Memory was wanting. Nothing went out; or a front of such a log's journal, and not all of it, and then the last line that
--- was asked for is the last message of the log; or all of it, between two rounds. Then nothing is said of what the source has
--- left, since memory may have been wanting to read the next line.
+-- Memory was wanting. Nothing went out; or a front of such a log's journal, and not all of it, but all of the rounds before the
+-- last message, and then the last line that was asked for is this message; or all of it, between two rounds. Then nothing is
+-- said of what the source has left, since memory may have been wanting to read the next line.
 pub data IsOutOfMemory (turns : ℕ) (input : List ℕ) (source_left held now : Option (List ℕ)) : Type 0 where
   nothing : now ≡ held → IsOutOfMemory turns input source_left held now
   in_entry : (run : HasBegun turns input) → HasRead run.words (inputs_of run.log) input source_left
-      → AppendsFront held now (text_of_log run.model run.log) → IsOutOfMemory turns input source_left held now
+      → IsCutShort run.model run.log held now → IsOutOfMemory turns input source_left held now
   behind_entry : (run : HasBegun turns input) → WasGiven run.words (inputs_of run.log) input
       → (world_of run.model run.log).closed ≡ true → (world_of run.model run.log).done ≡ false
       → Adds held now (text_of_log run.model run.log) → IsOutOfMemory turns input source_left held now
