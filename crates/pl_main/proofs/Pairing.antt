@@ -22,12 +22,13 @@ use Rattle.pl_stream.specs.declared.halt.Halt.TheVariants as halt
 use Rattle.pl_stream.specs.Heads.{IsBegun, HasNoBegin, HeadHalts}
 use Rattle.pl_stream.specs.Reads.{Gave, IsUsedUp, StopsAt}
 use Rattle.pl_stream.specs.Stops.{HaltFor, IsStuck, ReadLeaves, LimitLeaves}
-use Rattle.pl_stream.specs.Written.{Adds}
+use Rattle.pl_stream.specs.Written.{Adds, IsCutShort}
 use Rattle.pl_stream.proofs.Reading.{known, gave_append, gave_lines}
 use Rattle.pl_pair.specs.declared.ended.Ended.{Ended}
 use Rattle.pl_pair.specs.declared.ended.Ended.TheVariants as ended
 use Rattle.pl_stream.specs.Places.{Place, place_of}
-use Rattle.pl_pair.specs.Runs.{InMessages, HadLimit, WhyNone, IsCauseOf, StoppedBy, ReadUpTo, RunsUntil, ReadsShort, one_behind, one_unread, RunsShort, in_lines, all_lines, behind_lines, PairRun}
+use Rattle.pl_pair.specs.Runs.{InMessages, HadLimit, WhyNone, IsCauseOf, StoppedBy, ReadUpTo, RunsUntil, IsWrittenInPart, ReadsShort, one_behind, one_unread, RunsShort, in_lines, all_lines, behind_lines, PairRun}
+use Rattle.pl_pair.proofs.Cutting.{cut_short}
 use Rattle.pl_pair.proofs.Running.{runs_none}
 use Rattle.pl_main.specs.declared.outcome.Outcome.{Outcome}
 use Rattle.pl_main.specs.declared.outcome.Outcome.TheVariants as outcome
@@ -351,6 +352,9 @@ module _ (turns seed : ℕ) (input words : List ℕ) (place last : Place) (m : M
       let o = opened turns seed m place held e last now run in
       sym o.inputs
 
+  log_cut : IsWrittenInPart m run.log run.entries held now → IsCutShort m run.log held now
+  log_cut cut = cut_short m run.log run.entries held now log_inputs cut
+
   abbrev has_begun : IsModelText words m → HasPairBegun turns seed input
   has_begun accepted = record {
     model = m;
@@ -379,7 +383,7 @@ module _ (turns seed : ℕ) (input words : List ℕ) (place last : Place) (m : M
         at_next (subst (λ (is : List (Option (List ℕ))). WasGiven words is input) log_inputs (given_of input words place middle (inputs_of run.entries) behind read))
 
     run_short : (accepted : IsModelText words m) → RunsShort m run.log run.entries place held last now → IsPairShort turns seed input source_left held now
-    run_short accepted (in_lines read cut) = in_part (has_begun accepted) (log_read read) cut
+    run_short accepted (in_lines read cut) = in_part (has_begun accepted) (log_read read) (log_cut cut)
     run_short accepted (all_lines read going written) = in_round (has_begun accepted) (log_read read) going written
     run_short accepted (behind_lines at read written) = between_rounds (has_begun accepted) (part_read read) at.0 at.1 written
 
@@ -391,7 +395,8 @@ torn_of turns seed kept start place input source_left held now begun (in_refusal
 torn_of turns seed kept start place input source_left held now begun (in_writing ran) behind =
     let before = is_behind kept start input begun in
     torn_run (has_begun turns seed input begun.words start place ran.model held ended.WriteFault now before ran.run (ran.text begun.words begun.keeps))
-    (log_read turns seed input begun.words start place ran.model held ended.WriteFault now before ran.run source_left behind ran.run.ends.read) ran.run.ends.written
+    (log_read turns seed input begun.words start place ran.model held ended.WriteFault now before ran.run source_left behind ran.run.ends.read)
+    (log_cut turns seed input begun.words start place ran.model held ended.WriteFault now before ran.run ran.run.ends.written)
 
 short_of : (turns seed : ℕ) (kept : Option (Vec ℕ Global)) (start place : Place) (input : List ℕ) (source_left held now : Option (List ℕ)) → IsBegun (fresh_reader line_limit) (Some input) kept start.reader start.ahead
     → PairTextShort turns seed kept start held place now → ahead place.reader.held source_left ≡ place.ahead → IsPairShort turns seed input source_left held now
