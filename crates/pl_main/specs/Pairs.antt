@@ -121,7 +121,7 @@ pub data ReadsInPart (words : List ℕ) (messages unanswered : List (Option (Lis
   to_next : (next : Option (List ℕ)) (more : List (Option (List ℕ))) → unanswered ≡ next ∷ more → HasRead words (messages ++ next ∷ []) input source_left → ReadsInPart words messages unanswered input source_left
   at_next : WasGiven words messages input → ReadsInPart words messages unanswered input source_left
 
--- Memory was wanting: nothing went out; or a front of such a log's journal, and not all of it, but all of the rounds before the last message, and the last line that was asked for is this message; or all of it, within the round of that message. Or, between two rounds, all of the journal went out, and memory was wanting for the next message.
+-- Memory was wanting: nothing went out; or a front of such a log's journal, and not all of it, but all of the rounds before the last message, and the last line that was asked for is this message; or all of it, the run not ended. Or, between two rounds, all of the journal went out, and memory was wanting for the next message.
 pub data IsPairShort (turns seed : ℕ) (input : List ℕ) (source_left held now : Option (List ℕ)) : Type 0 where
   silent : now ≡ held → IsPairShort turns seed input source_left held now
   in_part : (run : HasPairBegun turns seed input) → HasRead run.words (inputs_of run.log) input source_left → IsCutShort run.model run.log held now → IsPairShort turns seed input source_left held now

@@ -1,5 +1,5 @@
 -- What was written.
-use Rattle.std.specs.Prelude.{◌≡◌, ℕ, List, [], ◌∷◌, ◌++◌, length, true, Option, Some, IfSome, ⊤}
+use Rattle.std.specs.Prelude.{◌≡◌, ℕ, ◌<◌, List, [], ◌∷◌, ◌++◌, length, true, Option, Some, IfSome, ⊤}
 use Rattle.pl_io.specs.Faults.{Rose}
 use Rattle.pl_io.specs.Writes.{AppendsFront}
 use Rattle.pl_model.specs.declared.whole.Model.{Model}
@@ -25,8 +25,8 @@ WriteStops before now halt.Full = ⊥
 -- What a log has behind these entries: the open entry alone, or, behind a closed round, the entries of one message.
 pub data IsLastRound (m : Model) (earlier last : List Entry) : Type 0 where
   opens : earlier ≡ [] → inputs_of last ≡ [] → IsLastRound m earlier last
-  answers : (message : Option (List ℕ)) → (world_of m earlier).closed ≡ true → inputs_of last ≡ message ∷ []
-      → IsLastRound m earlier last
+  answers : (message : Option (List ℕ)) → 0 < length earlier → (world_of m earlier).closed ≡ true
+      → inputs_of last ≡ message ∷ [] → IsLastRound m earlier last
 
 -- The journal of a log was cut short: a front of its text was written, and not all of it. Where the sink tells its bytes, all
 -- lines up to the last message's were written, and of those behind them a front, and not all. So what came before a message
