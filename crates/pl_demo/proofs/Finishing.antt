@@ -1,13 +1,13 @@
 -- The kinds of the model are those of the drafts, with their least durations and offsets.
-use Rattle.std.proofs.Common.{◌≡◌, ℕ, ℤ, pos, List, [], ◌∷◌, refl, sym, ap, subst}
+use Rattle.std.proofs.Common.{◌≡◌, ℕ, ℤ, pos, List, [], ◌∷◌, codes, refl, sym, ap, subst}
 use Rattle.pl_lists.specs.Lists.{Pairwise}
 use Rattle.pl_model.specs.declared.reservations.Reservation.{Reservation}
 use Rattle.pl_model.specs.declared.alternatives.Alternative.{Alternative}
 use Rattle.pl_check.specs.declared.drafts.DraftAlternative.{DraftAlternative}
 use Rattle.pl_check.specs.Networks.{cut_to, span_of, FinishesAlternative, FinishesKind}
 use Rattle.pl_check.specs.Checked.{spans_in}
-use Rattle.pl_demo.specs.DemoModel.{scan_alternative, fixed_kind, demo_kinds}
-use Rattle.pl_demo.proofs.Drafts.{fixed_draft, scan_draft, scan_kind, demo_drafts, draft_kinds, lasting, demo_spans}
+use Rattle.pl_demo.specs.DemoModel.{obs_reservations, shot_reservations, charge_reservations, scan_alternative, fixed_kind, demo_kinds}
+use Rattle.pl_demo.proofs.Drafts.{fixed_draft, scan_draft, demo_drafts, draft_kinds, lasting, demo_spans}
 use Rattle.pl_demo.proofs.Ranging.{bounds_num, demo_spans_are, scan_span_is}
 use Rattle.pl_demo.proofs.Network.{scan_offsets}
 
@@ -41,13 +41,13 @@ scan_finished = record { slots = refl; orders = refl; offsets = scan_offsets }
 
 by_spans : Pairwise (FinishesKind horizon demo_spans) draft_kinds demo_kinds
 by_spans = (
-  finished _ 5 _ [] [] (ap least_cut (sym (bounds_num (pos 5)))) tt,
+  finished (codes "obs") 5 obs_reservations [] [] (ap least_cut (sym (bounds_num (pos 5)))) tt,
   (
-    finished _ 4 _ [] [] (ap least_cut (sym (bounds_num (pos 4)))) tt,
+    finished (codes "shot") 4 shot_reservations [] [] (ap least_cut (sym (bounds_num (pos 4)))) tt,
     (
-      finished _ 10 _ [] [] (ap least_cut (sym (bounds_num (pos 10)))) tt,
+      finished (codes "charge") 10 charge_reservations [] [] (ap least_cut (sym (bounds_num (pos 10)))) tt,
       (
-        finished _ 10 _ (scan_draft ∷ []) (scan_alternative ∷ []) (ap least_cut (sym (bounds_num (pos 10)))) (subst (Finishes (scan_draft ∷ []) (scan_alternative ∷ [])) (sym scan_span_is) (scan_finished, tt)),
+        finished (codes "scan") 10 [] (scan_draft ∷ []) (scan_alternative ∷ []) (ap least_cut (sym (bounds_num (pos 10)))) (subst (Finishes (scan_draft ∷ []) (scan_alternative ∷ [])) (sym scan_span_is) (scan_finished, tt)),
         tt,
       ),
     ),
