@@ -18,7 +18,7 @@ use Rattle.pl_stream.specs.Reads.{Gave}
 use Rattle.pl_stream.specs.Stops.{IsStuck}
 use Rattle.pl_main.specs.Top.{line_limit, total_limit, program_options, IsDone, IsNoModel, no_begin, faulty, WaitsBehind, IsPastLimit, IsFull, IsFound, IsPastHead}
 use Rattle.pl_report.specs.Demonstration.{demo_text}
-use Rattle.pl_main.specs.Demos.{demo_turns, IsShown, IsShownInPart, HasNoDemo, CanShow}
+use Rattle.pl_main.specs.Demos.{demo_turns, IsShown, IsShownInPart}
 use Rattle.pl_main.specs.Limits.{IsWithinLimits, CanRun, CanCheck, IsDoneBy}
 use Rattle.pl_main.specs.Statuses.{SaysRan, SaysChecked, SaysShown}
 use Rattle.pl_stream.proofs.Reading.{gave_lines}
@@ -262,23 +262,15 @@ check_completes input left held now status says (is_memory e) can no_read no_wri
 
 -- ---- a demonstration
 
-pub shown_not_refused : (goals : ℕ) (held now other_held other_now : Option (List ℕ)) → IsShown goals held now → HasNoDemo goals other_held other_now → ⊥
-shown_not_refused goals held now other_held other_now shown none = done_not_refused demo_turns (demo_text goals) shown.left None None none.left other_held other_now shown.done none.refused
-
 pub shown_not_full : (goals : ℕ) (held now other_held other_now : Option (List ℕ)) → IsShown goals held now → IsShownInPart goals other_held other_now → ⊥
 shown_not_full goals held now other_held other_now shown part = done_not_full demo_turns (demo_text goals) shown.left None None part.left None None shown.done part.full
 
-pub no_demo_not_full : (goals : ℕ) (held now other_held other_now : Option (List ℕ)) → HasNoDemo goals held now → IsShownInPart goals other_held other_now → ⊥
-no_demo_not_full goals held now other_held other_now none part = refused_not_full demo_turns (demo_text goals) none.left held now part.left None None none.refused part.full
-
-pub demo_completes : (goals : ℕ) (held now : Option (List ℕ)) (status : ℕ) → SaysShown goals held now status → IsJobStatus status → CanShow goals → (status ≡ 5 → ⊥) → IsDoneBy (task.Demo goals) status
-demo_completes goals held now status says (is_done e) can no_write = inl e
-demo_completes goals held now status says (is_refused e) can no_write =
-    let none = says.refused e in
-    absurd (no_model_of line_limit (demo_text goals) can.words can.model none.left held now can.text can.accepted none.refused)
-demo_completes goals held now status says (is_read e) can no_write = absurd (says.never_read e)
-demo_completes goals held now status says (is_write e) can no_write = absurd (no_write e)
-demo_completes goals held now status says (is_limit e) can no_write = absurd (says.never_limit e)
-demo_completes goals held now status says (is_full e) can no_write = inr (inl e)
-demo_completes goals held now status says (is_wrong e) can no_write = absurd (says.never_wrong e)
-demo_completes goals held now status says (is_memory e) can no_write = inr (inr e)
+pub demo_completes : (goals : ℕ) (held now : Option (List ℕ)) (status : ℕ) → SaysShown goals held now status → IsJobStatus status → (status ≡ 5 → ⊥) → IsDoneBy (task.Demo goals) status
+demo_completes goals held now status says (is_done e) no_write = inl e
+demo_completes goals held now status says (is_refused e) no_write = absurd (says.never_refused e)
+demo_completes goals held now status says (is_read e) no_write = absurd (says.never_read e)
+demo_completes goals held now status says (is_write e) no_write = absurd (no_write e)
+demo_completes goals held now status says (is_limit e) no_write = absurd (says.never_limit e)
+demo_completes goals held now status says (is_full e) no_write = inr (inl e)
+demo_completes goals held now status says (is_wrong e) no_write = absurd (says.never_wrong e)
+demo_completes goals held now status says (is_memory e) no_write = inr (inr e)

@@ -19,4 +19,4 @@ completes task.Report None left held now status says is no_read no_write = tt
 completes task.Report (Some input) left held now status says is no_read no_write = decides which.Report input left held now status says is no_read no_write
 completes (task.Solo turns) (Some input) left held now status says is no_read no_write = λ can. run_completes turns input left held now status says is can no_read no_write
 completes task.Check (Some input) left held now status says is no_read no_write = λ can. check_completes input left held now status says is can no_read no_write
-completes (task.Demo goals) input left held now status says is no_read no_write = λ can. demo_completes goals held now status says is can no_write
+completes (task.Demo goals) input left held now status says is no_read no_write = demo_completes goals held now status says is no_write

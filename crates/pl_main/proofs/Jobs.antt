@@ -62,9 +62,8 @@ job_statuses task.Check = reads (9 ∷ []) from_nine
 job_statuses task.Replay = reads (8 ∷ 9 ∷ []) from_eight
 job_statuses task.Report = reads (8 ∷ 9 ∷ []) from_eight
 job_statuses (task.Demo goals) =
-    more 0 (3 ∷ 5 ∷ 7 ∷ 9 ∷ []) (is_done refl)
-    (more 3 (5 ∷ 7 ∷ 9 ∷ []) (is_refused refl)
-    (more 5 (7 ∷ 9 ∷ []) (is_write refl) from_seven))
+    more 0 (5 ∷ 7 ∷ 9 ∷ []) (is_done refl)
+    (more 5 (7 ∷ 9 ∷ []) (is_write refl) from_seven)
 
 pub is_job : (t : Task) (status : ℕ) → IsStatusOf t status → IsJobStatus status
 unfolding IsStatusOf
@@ -154,12 +153,12 @@ report_status r never = journal_place r never
 
 demo_place : (goals : ℕ) (held now : Option (List ℕ)) (r : Result Outcome Halt) → Shows goals held now r → Contains (statuses_of (task.Demo goals)) (status_of r)
 demo_place goals held now (Ok outcome.Done) shows = at (statuses_of (task.Demo goals)) 0 refl
-demo_place goals held now (Ok outcome.Refused) shows = at (statuses_of (task.Demo goals)) 1 refl
+demo_place goals held now (Ok outcome.Refused) shows = absurd shows
 demo_place goals held now (Err halt.Read) shows = absurd shows
-demo_place goals held now (Err halt.Write) shows = at (statuses_of (task.Demo goals)) 2 refl
+demo_place goals held now (Err halt.Write) shows = at (statuses_of (task.Demo goals)) 1 refl
 demo_place goals held now (Err halt.Limit) shows = absurd shows
-demo_place goals held now (Err halt.Full) shows = at (statuses_of (task.Demo goals)) 3 refl
-demo_place goals held now (Err halt.Memory) shows = at (statuses_of (task.Demo goals)) 4 refl
+demo_place goals held now (Err halt.Full) shows = at (statuses_of (task.Demo goals)) 2 refl
+demo_place goals held now (Err halt.Memory) shows = at (statuses_of (task.Demo goals)) 3 refl
 
 pub demo_status : (goals : ℕ) (held now : Option (List ℕ)) (r : Result Outcome Halt) → Shows goals held now r → IsStatusOf (task.Demo goals) (status_of r)
 unfolding IsStatusOf

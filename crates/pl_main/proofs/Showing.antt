@@ -1,5 +1,5 @@
 -- The end of a demonstration.
-use Rattle.std.proofs.Common.{◌≡◌, ℕ, ◌≤◌, List, [], length, All, OnOk, OnErr, IfOk, IfErr, Option, Some, None, Result, Ok, Err, refl, sym, ap, ◌∙◌, subst, arith}
+use Rattle.std.proofs.Common.{◌≡◌, ℕ, ◌≤◌, List, [], length, All, Option, Some, None, Result, Ok, Err, refl, sym, ap, ◌∙◌, subst, arith}
 use Rattle.std.specs.declared.vec.Vec.{Vec}
 use Rattle.std.specs.declared.alloc.Global.{Global}
 use Rattle.pl_io.specs.declared.errors.LineFault.{LineFault}
@@ -14,8 +14,13 @@ use Rattle.pl_machine.specs.World.{World}
 use Rattle.pl_machine.specs.Legal.{Legal, world_of}
 use Rattle.pl_machine.specs.Sound.{State}
 use Rattle.pl_accept.specs.declared.accepting.Accepted.TheVariants as accepted
+use Rattle.pl_accept.specs.Accepting.{IsModelText}
+use Rattle.pl_accept.proofs.Apart.{apart}
 use Rattle.pl_report.specs.Demonstration.{demo_text}
 use Rattle.pl_report.proofs.Lines.{demo_text_lines, demo_lines_short, demo_text_short}
+use Rattle.pl_demo.specs.DemoModel.{demo_words, demo_model}
+use Rattle.pl_demo.proofs.Beginning.{demo_begins}
+use Rattle.pl_demo.proofs.Modelling.{demo_accepted}
 use Rattle.pl_stream.specs.declared.halt.Halt.{Halt}
 use Rattle.pl_stream.specs.declared.halt.Halt.TheVariants as halt
 use Rattle.pl_main.specs.declared.outcome.Outcome.{Outcome}
@@ -28,11 +33,11 @@ use Rattle.pl_main.specs.Runs.{fresh_state, AcceptsKept, IsKeptModel}
 use Rattle.pl_main.specs.Top.{line_limit, fresh_reader, no_begin_line}
 use Rattle.pl_main.specs.Limits.{IsWithinLimits}
 use Rattle.pl_stream.specs.Written.{Adds}
-use Rattle.pl_main.specs.Demos.{demo_turns, summary_line, IsShownShort, of_summary, of_refusal, Shows, IsPlayed, DemoPlays, ModelShown, ModelShows, TextShort, of_model, of_line, TextShows}
+use Rattle.pl_main.specs.Demos.{demo_turns, summary_line, IsShownShort, Shows, IsPlayed, DemoPlays, KeepsModel, ModelShown, ModelShows, TextShows}
 use Rattle.pl_stream.proofs.Stopping.{never_full, never_writes, only_reads}
-use Rattle.pl_main.proofs.Ending.{fresh_begun, IsDoneWith, done_with}
+use Rattle.pl_main.proofs.Ending.{fresh_begun, begins_at, IsDoneWith, done_with}
 use Rattle.pl_main.proofs.Running.{begun_solo, refused_solo, head_solo}
-use Rattle.pl_main.proofs.Causes.{run_within}
+use Rattle.pl_main.proofs.Causes.{no_model_of, run_within}
 
 -- ---- the demonstration's input
 
@@ -41,6 +46,9 @@ demo_within goals few = record {
   lines = subst (λ (ls : List (List ℕ)). All (λ line. length line ≤ 4096) ls) (sym (demo_text_lines goals few)) (λ k d less. omega (arith, demo_lines_short goals few k d less));
   total = omega (arith, demo_text_short goals few);
 }
+
+some_same : (x y : List ℕ) → Some x ≡ Some y → x ≡ y
+some_same x y e = cc
 
 -- a count that stands at 0 did not rise
 pub never_rose : Rose 0 0 → ⊥
@@ -79,15 +87,9 @@ model_shown goals m start place held now new line text played same is adds =
 
 -- ---- a demonstration over a text
 
-pub text_hides : (goals : ℕ) (kept : Option (Vec ℕ Global)) (start : Place) (held now : Option (List ℕ)) (line : List ℕ) (r : Result Outcome Halt)
-    → AcceptsKept kept (accepted.Refused line) → OnOk r (Adds held now line) → IfOk r (λ o. o ≡ outcome.Refused) → OnErr r (AppendsFront held now line) → IfErr r (λ e. e ≡ halt.Write) → TextShows goals kept start held r start now
-text_hides goals kept start held now line (Ok outcome.Refused) text adds refused front fails = (record { line = line; refused = text; written = adds }, refl)
-text_hides goals kept start held now line (Ok outcome.Done) text adds refused front fails = absurd (let h : outcome.Done ≡ outcome.Refused = refused in (cc))
-text_hides goals kept start held now line (Err halt.Write) text adds refused front fails = of_line (record { line = line; refused = text; written = tt }) front refl
-text_hides goals kept start held now line (Err halt.Limit) text adds refused front fails = absurd (let h : halt.Limit ≡ halt.Write = fails in (cc))
-text_hides goals kept start held now line (Err halt.Full) text adds refused front fails = absurd (let h : halt.Full ≡ halt.Write = fails in (cc))
-text_hides goals kept start held now line (Err halt.Read) text adds refused front fails = absurd (let h : halt.Read ≡ halt.Write = fails in (cc))
-text_hides goals kept start held now line (Err halt.Memory) text adds refused front fails = absurd (let h : halt.Memory ≡ halt.Write = fails in (cc))
+-- a text that is a model's is not refused
+pub kept_passes : (kept : Option (Vec ℕ Global)) (line : List ℕ) → KeepsModel kept → AcceptsKept kept (accepted.Refused line) → ⊥
+kept_passes kept line model refused = apart model.words line model.model model.accepted (refused model.words model.keeps)
 
 pub text_shows : (goals : ℕ) (kept : Option (Vec ℕ Global)) (start place : Place) (held now : Option (List ℕ)) (m : Model) (r : Result Outcome Halt)
     → AcceptsKept kept (accepted.Model m) → ModelShows goals m start held r place now → TextShows goals kept start held r place now
@@ -96,7 +98,7 @@ text_shows goals kept start place held now m (Ok outcome.Refused) text shows = a
 text_shows goals kept start place held now m (Err halt.Limit) text shows = record { model = m; text = text; shows = shows }
 text_shows goals kept start place held now m (Err halt.Full) text shows = record { model = m; text = text; shows = shows }
 text_shows goals kept start place held now m (Err halt.Read) text shows = absurd shows
-text_shows goals kept start place held now m (Err halt.Write) text shows = of_model (record { model = m; text = text; shows = shows })
+text_shows goals kept start place held now m (Err halt.Write) text shows = record { model = m; text = text; shows = shows }
 text_shows goals kept start place held now m (Err halt.Memory) text shows = shows
 
 -- ---- behind a `begin` line
@@ -117,14 +119,15 @@ summary_is : (goals : ℕ) (left : Option (List ℕ)) (end_state : State) → (d
 summary_is goals left end_state d = ap (λ (l : List Entry). summary_line goals l end_state.world) d.log ∙ ap (λ (w : World). summary_line goals d.done.log w) d.world
 
 short_then : (goals : ℕ) (old : Reader) (kept : Option (Vec ℕ Global)) (new last : Reader) (after left held now : Option (List ℕ)) → old ≡ fresh_reader line_limit
-    → IsBegun old (ahead old.held (Input goals)) kept new (ahead new.held after) → TextShort goals kept (place_of new after) held (place_of last left) now → IsShownShort goals held now
-short_then goals old kept new last after left held now is_fresh begun (of_model text) =
+    → IsBegun old (ahead old.held (Input goals)) kept new (ahead new.held after) → TextShows goals kept (place_of new after) held (Err halt.Write) (place_of last left) now → IsShownShort goals held now
+short_then goals old kept new last after left held now is_fresh begun text =
     let shown = text.shows in
     let d = done_at goals old kept new last after left text.model shown.new is_fresh begun text.text shown.played in
-    of_summary left d.done (subst (λ (l : List ℕ). AppendsFront held now l) (summary_is goals left shown.new d) shown.front)
-short_then goals old kept new last after left held now is_fresh begun (of_line fails front same) =
-    let refused = begun_solo demo_turns old kept new last (Input goals) after left (Some []) (Some fails.line) (Ok outcome.Refused) is_fresh begun (record { line = fails.line; refused = fails.refused; written = refl }, same) in
-    of_refusal left fails.line refused front
+    record {
+      left = left;
+      done = d.done;
+      front = subst (λ (l : List ℕ). AppendsFront held now l) (summary_is goals left shown.new d) shown.front;
+    }
 
 begun_then : (goals : ℕ) (old : Reader) (kept : Option (Vec ℕ Global)) (new last : Reader) (after left held now : Option (List ℕ)) (r : Result Outcome Halt) → goals ≤ 4000 → old ≡ fresh_reader line_limit
     → IsBegun old (ahead old.held (Input goals)) kept new (ahead new.held after) → TextShows goals kept (place_of new after) held r (place_of last left) now → Shows goals held now r
@@ -136,8 +139,7 @@ begun_then goals old kept new last after left held now (Ok outcome.Done) few is_
       done = d.done;
       written = subst (λ (l : List ℕ). Adds held now l) (summary_is goals left shown.new d) shown.written;
     }
-begun_then goals old kept new last after left held now (Ok outcome.Refused) few is_fresh begun text =
-    record { left = left; refused = begun_solo demo_turns old kept new last (Input goals) after left held now (Ok outcome.Refused) is_fresh begun text }
+begun_then goals old kept new last after left held now (Ok outcome.Refused) few is_fresh begun text = absurd text
 begun_then goals old kept new last after left held now (Err halt.Limit) few is_fresh begun text =
     run_within demo_turns (demo_text goals) left None None (demo_within goals few)
     (begun_solo demo_turns old kept new last (Input goals) after left None None (Err halt.Limit) is_fresh begun record { model = text.model; text = text.text; run = text.shows.run })
@@ -156,24 +158,36 @@ pub begun_shows : (goals : ℕ) (text : List ℕ) (old : Reader) (kept : Option 
 begun_shows goals text old kept new last after left held now r few is is_fresh begun shows =
     begun_then goals old kept new last after left held now r few is_fresh (subst (λ (t : List ℕ). IsBegun old (ahead old.held (Some t)) kept new (ahead new.held after)) is begun) shows
 
--- ---- where there is none
+-- the text before it is a model's
+model_then : (goals : ℕ) (old : Reader) (kept : Option (Vec ℕ Global)) (new : Reader) (after : Option (List ℕ)) → goals ≤ 4000 → old ≡ fresh_reader line_limit
+    → IsBegun old (ahead old.held (Input goals)) kept new (ahead new.held after) → KeepsModel kept
+model_then goals old kept new after few is_fresh begun =
+    let fresh = fresh_begun line_limit old kept new (Input goals) (ahead new.held after) is_fresh begun in
+    let head = begins_at line_limit kept new (demo_text goals) (ahead new.held after) after fresh refl in
+    let same : demo_words ≡ fresh.words = some_same demo_words fresh.words (sym (demo_begins goals few) ∙ head.text) in
+    record {
+      words = fresh.words;
+      model = demo_model;
+      keeps = fresh.keeps;
+      accepted = subst (λ (w : List ℕ). IsModelText w demo_model) same demo_accepted;
+    }
 
-no_begin_then : (goals : ℕ) (old new : Reader) (left held now : Option (List ℕ)) (r : Result Outcome Halt) → old ≡ fresh_reader line_limit
-    → HasNoBegin old (ahead old.held (Input goals)) new (ahead new.held left) → OnOk r (Adds held now no_begin_line) → IfOk r (λ o. o ≡ outcome.Refused) → OnErr r (AppendsFront held now no_begin_line) → IfErr r (λ e. e ≡ halt.Write) → Shows goals held now r
-no_begin_then goals old new left held now (Ok outcome.Refused) is_fresh head adds refused front fails =
-    record { left = left; refused = refused_solo demo_turns old new (Input goals) left held now (Ok outcome.Refused) is_fresh head adds refl tt tt }
-no_begin_then goals old new left held now (Ok outcome.Done) is_fresh head adds refused front fails = absurd (let h : outcome.Done ≡ outcome.Refused = refused in (cc))
-no_begin_then goals old new left held now (Err halt.Write) is_fresh head adds refused front fails =
-    of_refusal left no_begin_line (refused_solo demo_turns old new (Input goals) left (Some []) (Some no_begin_line) (Ok outcome.Refused) is_fresh head refl refl tt tt) front
-no_begin_then goals old new left held now (Err halt.Limit) is_fresh head adds refused front fails = absurd (let h : halt.Limit ≡ halt.Write = fails in (cc))
-no_begin_then goals old new left held now (Err halt.Full) is_fresh head adds refused front fails = absurd (let h : halt.Full ≡ halt.Write = fails in (cc))
-no_begin_then goals old new left held now (Err halt.Read) is_fresh head adds refused front fails = absurd (let h : halt.Read ≡ halt.Write = fails in (cc))
-no_begin_then goals old new left held now (Err halt.Memory) is_fresh head adds refused front fails = absurd (let h : halt.Memory ≡ halt.Write = fails in (cc))
+pub begun_keeps : (goals : ℕ) (text : List ℕ) (old : Reader) (kept : Option (Vec ℕ Global)) (new : Reader) (after : Option (List ℕ)) → goals ≤ 4000 → text ≡ demo_text goals → old ≡ fresh_reader line_limit
+    → IsBegun old (ahead old.held (Some text)) kept new (ahead new.held after) → KeepsModel kept
+begun_keeps goals text old kept new after few is is_fresh begun =
+    model_then goals old kept new after few is_fresh (subst (λ (t : List ℕ). IsBegun old (ahead old.held (Some t)) kept new (ahead new.held after)) is begun)
 
-pub no_begin_shows : (goals : ℕ) (text : List ℕ) (old new : Reader) (left held now : Option (List ℕ)) (r : Result Outcome Halt) → text ≡ demo_text goals → old ≡ fresh_reader line_limit
-    → HasNoBegin old (ahead old.held (Some text)) new (ahead new.held left) → OnOk r (Adds held now no_begin_line) → IfOk r (λ o. o ≡ outcome.Refused) → OnErr r (AppendsFront held now no_begin_line) → IfErr r (λ e. e ≡ halt.Write) → Shows goals held now r
-no_begin_shows goals text old new left held now r is is_fresh head adds refused front fails =
-    no_begin_then goals old new left held now r is_fresh (subst (λ (t : List ℕ). HasNoBegin old (ahead old.held (Some t)) new (ahead new.held left)) is head) adds refused front fails
+-- there is such a line
+begin_then : (goals : ℕ) (old new : Reader) (left : Option (List ℕ)) → goals ≤ 4000 → old ≡ fresh_reader line_limit
+    → HasNoBegin old (ahead old.held (Input goals)) new (ahead new.held left) → ⊥
+begin_then goals old new left few is_fresh head =
+    no_model_of line_limit (demo_text goals) demo_words demo_model left (Some []) (Some no_begin_line) (demo_begins goals few) demo_accepted
+    (refused_solo demo_turns old new (Input goals) left (Some []) (Some no_begin_line) (Ok outcome.Refused) is_fresh head refl refl tt tt)
+
+pub has_begin : (goals : ℕ) (text : List ℕ) (old new : Reader) (left : Option (List ℕ)) → goals ≤ 4000 → text ≡ demo_text goals → old ≡ fresh_reader line_limit
+    → HasNoBegin old (ahead old.held (Some text)) new (ahead new.held left) → ⊥
+has_begin goals text old new left few is is_fresh head =
+    begin_then goals old new left few is_fresh (subst (λ (t : List ℕ). HasNoBegin old (ahead old.held (Some t)) new (ahead new.held left)) is head)
 
 -- ---- where the reader stops
 

@@ -56,11 +56,11 @@ says_checked (Some input) source_left held now (Err halt.Memory) ran = record { 
 says_checked (Some input) source_left held now (Err halt.Full) ran = absurd ran
 
 pub says_shown : (goals : ℕ) (input source_left held now : Option (List ℕ)) (r : Result Outcome Halt) → Shows goals held now r → SaysKnown (task.Demo goals) input source_left held now (status_of r)
-says_shown goals input source_left held now (Ok outcome.Done) shows = record { done = λ e. shows; refused = λ e. absurd (omega (arith, e)); never_read = λ e. omega (arith, e); short = λ e. absurd (omega (arith, e)); never_limit = λ e. omega (arith, e); full = λ e. absurd (omega (arith, e)); silent = λ e. absurd (omega (arith, e)); never_wrong = λ e. omega (arith, e) }
-says_shown goals input source_left held now (Ok outcome.Refused) shows = record { done = λ e. absurd (omega (arith, e)); refused = λ e. shows; never_read = λ e. omega (arith, e); short = λ e. absurd (omega (arith, e)); never_limit = λ e. omega (arith, e); full = λ e. absurd (omega (arith, e)); silent = λ e. absurd (omega (arith, e)); never_wrong = λ e. omega (arith, e) }
-says_shown goals input source_left held now (Err halt.Full) shows = record { done = λ e. absurd (omega (arith, e)); refused = λ e. absurd (omega (arith, e)); never_read = λ e. omega (arith, e); short = λ e. absurd (omega (arith, e)); never_limit = λ e. omega (arith, e); full = λ e. shows; silent = λ e. absurd (omega (arith, e)); never_wrong = λ e. omega (arith, e) }
-says_shown goals input source_left held now (Err halt.Write) shows = record { done = λ e. absurd (omega (arith, e)); refused = λ e. absurd (omega (arith, e)); never_read = λ e. omega (arith, e); short = λ e. shows; never_limit = λ e. omega (arith, e); full = λ e. absurd (omega (arith, e)); silent = λ e. absurd (omega (arith, e)); never_wrong = λ e. omega (arith, e) }
-says_shown goals input source_left held now (Err halt.Memory) shows = record { done = λ e. absurd (omega (arith, e)); refused = λ e. absurd (omega (arith, e)); never_read = λ e. omega (arith, e); short = λ e. absurd (omega (arith, e)); never_limit = λ e. omega (arith, e); full = λ e. absurd (omega (arith, e)); silent = λ e. shows; never_wrong = λ e. omega (arith, e) }
+says_shown goals input source_left held now (Ok outcome.Done) shows = record { done = λ e. shows; never_refused = λ e. omega (arith, e); never_read = λ e. omega (arith, e); short = λ e. absurd (omega (arith, e)); never_limit = λ e. omega (arith, e); full = λ e. absurd (omega (arith, e)); silent = λ e. absurd (omega (arith, e)); never_wrong = λ e. omega (arith, e) }
+says_shown goals input source_left held now (Ok outcome.Refused) shows = absurd shows
+says_shown goals input source_left held now (Err halt.Full) shows = record { done = λ e. absurd (omega (arith, e)); never_refused = λ e. omega (arith, e); never_read = λ e. omega (arith, e); short = λ e. absurd (omega (arith, e)); never_limit = λ e. omega (arith, e); full = λ e. shows; silent = λ e. absurd (omega (arith, e)); never_wrong = λ e. omega (arith, e) }
+says_shown goals input source_left held now (Err halt.Write) shows = record { done = λ e. absurd (omega (arith, e)); never_refused = λ e. omega (arith, e); never_read = λ e. omega (arith, e); short = λ e. shows; never_limit = λ e. omega (arith, e); full = λ e. absurd (omega (arith, e)); silent = λ e. absurd (omega (arith, e)); never_wrong = λ e. omega (arith, e) }
+says_shown goals input source_left held now (Err halt.Memory) shows = record { done = λ e. absurd (omega (arith, e)); never_refused = λ e. omega (arith, e); never_read = λ e. omega (arith, e); short = λ e. absurd (omega (arith, e)); never_limit = λ e. omega (arith, e); full = λ e. absurd (omega (arith, e)); silent = λ e. shows; never_wrong = λ e. omega (arith, e) }
 says_shown goals input source_left held now (Err halt.Limit) shows = absurd shows
 says_shown goals input source_left held now (Err halt.Read) shows = absurd shows
 

@@ -1,10 +1,9 @@
 -- What is promised of `demo N`.
-use Rattle.std.specs.Prelude.{◌≡◌, List, [], ◌∷◌, ◌++◌, ℕ, length, Option, Some, None, Result, Ok, Err, codes, decimal, ⊤}
+use Rattle.std.specs.Prelude.{◌≡◌, List, [], ◌∷◌, ◌++◌, ℕ, length, Option, None, Result, Ok, Err, codes, decimal, ⊤}
 use Rattle.pl_io.specs.Writes.{AppendsFront}
 use Rattle.pl_model.specs.declared.whole.Model.{Model}
 use Rattle.pl_entry.specs.declared.entry.Entry.{Entry}
 use Rattle.pl_world.specs.Conflicts.{conflicts_of}
-use Rattle.pl_machine.specs.Lines.{split_of}
 use Rattle.pl_machine.specs.World.{World}
 use Rattle.pl_machine.specs.Legal.{Legal, world_of}
 use Rattle.pl_machine.specs.Sound.{State}
@@ -16,10 +15,11 @@ use Rattle.pl_stream.specs.declared.halt.Halt.{Halt}
 use Rattle.pl_stream.specs.declared.halt.Halt.TheVariants as halt
 use Rattle.pl_main.specs.declared.outcome.Outcome.{Outcome}
 use Rattle.pl_main.specs.declared.outcome.Outcome.TheVariants as outcome
+use Rattle.pl_stream.specs.Heads.{Keeps}
 use Rattle.pl_stream.specs.Places.{Place}
 use Rattle.pl_main.specs.Plays.{PlaysOut}
-use Rattle.pl_main.specs.Runs.{fresh_state, ModelRun, IsKeptModel, TextFails}
-use Rattle.pl_main.specs.Top.{line_limit, IsDone, IsNoModel, IsFull}
+use Rattle.pl_main.specs.Runs.{fresh_state, ModelRun, IsKeptModel}
+use Rattle.pl_main.specs.Top.{IsDone, IsFull}
 use Rattle.pl_stream.specs.Written.{Adds}
 
 -- the repair turns of a round
@@ -48,30 +48,16 @@ pub record IsShownInPart (goals : ℕ) (held now : Option (List ℕ)) : Type 0 w
   pub full : IsFull demo_turns (demo_text goals) left None None
   pub silent : now ≡ held
 
--- The demonstration's input begins with no model.
-pub record HasNoDemo (goals : ℕ) (held now : Option (List ℕ)) : Type 0 where
+-- A write failed. What went out is a front of the summary of the run.
+pub record IsShownShort (goals : ℕ) (held now : Option (List ℕ)) : Type 0 where
   pub left : Option (List ℕ)
-  pub refused : IsNoModel line_limit (demo_text goals) left held now
-
--- A write failed. What went out is a front of the line that was due: the summary of the run, or the line that refuses the
--- input.
-pub data IsShownShort (goals : ℕ) (held now : Option (List ℕ)) : Type 0 where
-  of_summary : (left : Option (List ℕ)) → (done : IsDone demo_turns (demo_text goals) left None None)
-      → AppendsFront held now (summary_line goals done.log (world_of done.model done.log)) → IsShownShort goals held now
-  of_refusal : (left : Option (List ℕ)) → (line : List ℕ) → IsNoModel line_limit (demo_text goals) left (Some []) (Some line)
-      → AppendsFront held now line → IsShownShort goals held now
-
--- The demonstration's input begins with a model.
-pub record CanShow (goals : ℕ) : Type 0 where
-  pub words : List ℕ
-  pub model : Model
-  pub text : (split_of (demo_text goals)).text ≡ Some words
-  pub accepted : IsModelText words model
+  pub done : IsDone demo_turns (demo_text goals) left None None
+  pub front : AppendsFront held now (summary_line goals done.log (world_of done.model done.log))
 
 -- how a demonstration ended
 abbrev pub Shows : ℕ → (held now : Option (List ℕ)) → Result Outcome Halt → Type 0
 Shows goals held now (Ok outcome.Done) = IsShown goals held now
-Shows goals held now (Ok outcome.Refused) = HasNoDemo goals held now
+Shows goals held now (Ok outcome.Refused) = ⊥
 Shows goals held now (Err halt.Limit) = ⊥
 Shows goals held now (Err halt.Full) = IsShownInPart goals held now
 Shows goals held now (Err halt.Read) = ⊥
@@ -79,6 +65,13 @@ Shows goals held now (Err halt.Write) = IsShownShort goals held now
 Shows goals held now (Err halt.Memory) = now ≡ held
 
 -- ---- its parts
+
+-- The text that was kept is a model's.
+pub record KeepsModel (kept : Option (Vec ℕ Global)) : Type 0 where
+  pub words : List ℕ
+  pub model : Model
+  pub keeps : Keeps kept words
+  pub accepted : IsModelText words model
 
 -- All messages were answered, by a journal that nobody reads.
 pub record IsPlayed (model : Model) (start : Place) (new : State) (place : Place) : Type 0 where
@@ -126,17 +119,10 @@ pub record TextShown (goals : ℕ) (kept : Option (Vec ℕ Global)) (start : Pla
   pub text : IsKeptModel kept model
   pub shows : ModelShows goals model start held r place now
 
--- A front of the line that was due was written, of a model's summary, or of the line that refuses a text.
-pub data TextShort (goals : ℕ) (kept : Option (Vec ℕ Global)) (start : Place) (held : Option (List ℕ)) (place : Place)
-    (now : Option (List ℕ)) : Type 0 where
-  of_model : TextShown goals kept start held (Err halt.Write) place now → TextShort goals kept start held place now
-  of_line : (fails : TextFails kept None None) → AppendsFront held now fails.line → place ≡ start
-      → TextShort goals kept start held place now
-
 -- what a text that was kept leads to
 abbrev pub TextShows : ℕ → Option (Vec ℕ Global) → Place → Option (List ℕ) → Result Outcome Halt → Place
     → Option (List ℕ) → Type 0
-TextShows goals kept start held (Ok outcome.Refused) place now = TextFails kept held now × (place ≡ start)
+TextShows goals kept start held (Ok outcome.Refused) place now = ⊥
 TextShows goals kept start held (Ok outcome.Done) place now =
     TextShown goals kept start held (Ok outcome.Done) place now
 TextShows goals kept start held (Err halt.Limit) place now =
@@ -144,5 +130,6 @@ TextShows goals kept start held (Err halt.Limit) place now =
 TextShows goals kept start held (Err halt.Full) place now =
     TextShown goals kept start held (Err halt.Full) place now
 TextShows goals kept start held (Err halt.Read) place now = ⊥
-TextShows goals kept start held (Err halt.Write) place now = TextShort goals kept start held place now
+TextShows goals kept start held (Err halt.Write) place now =
+    TextShown goals kept start held (Err halt.Write) place now
 TextShows goals kept start held (Err halt.Memory) place now = now ≡ held

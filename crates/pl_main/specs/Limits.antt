@@ -9,7 +9,6 @@ use Rattle.pl_replay.specs.declared.verdict.Verdict.{Verdict}
 use Rattle.pl_replay.specs.Journals.{entry_lines, IsJournalOf, IsWrongAtLast}
 use Rattle.pl_main.specs.declared.command.Task.{Task}
 use Rattle.pl_main.specs.declared.command.Task.TheVariants as task
-use Rattle.pl_main.specs.Demos.{CanShow}
 use Rattle.pl_main.specs.Pairs.{IsPairPastLimit}
 use Rattle.pl_main.specs.Replays.{IsPastJournal}
 use Rattle.pl_main.specs.Top.{line_limit, total_limit, IsPastLimit, IsPastHead}
@@ -86,7 +85,7 @@ Completes (task.Solo turns) input status =
 Completes task.Check input status = IfSome input (λ bytes. CanCheck bytes → IsDoneBy task.Check status)
 Completes task.Replay input status = IfSome input (λ bytes. Decides bytes status)
 Completes task.Report input status = IfSome input (λ bytes. Decides bytes status)
-Completes (task.Demo goals) input status = CanShow goals → IsDoneBy (task.Demo goals) status
+Completes (task.Demo goals) input status = IsDoneBy (task.Demo goals) status
 
 -- a run of a pair that can be done is done, or memory is wanting, or the log is full
 abbrev pub CompletesPair : (turns seed : ℕ) → Option (List ℕ) → ℕ → Type 0

@@ -13,7 +13,7 @@ use Rattle.pl_main.specs.declared.judgement.Judgement.TheVariants as judged
 use Rattle.pl_main.specs.Replays.{journal_line_limit, IsRightJournal, IsWrongJournal, IsPastJournal, IsJournalFault, IsJournalShort}
 use Rattle.pl_main.specs.Top.{line_limit, IsDone, IsReadFault, IsPastLimit, IsFull, IsShort, IsOutOfMemory, IsFound, IsNoModel, IsHeadFault, IsPastHead, IsCheckShort}
 use Rattle.pl_main.specs.Pairs.{IsPairDone, IsPairReadFault, IsPairPastLimit, IsPairFull, IsPairTorn, IsPairShort}
-use Rattle.pl_main.specs.Demos.{IsShown, IsShownInPart, IsShownShort, HasNoDemo}
+use Rattle.pl_main.specs.Demos.{IsShown, IsShownInPart, IsShownShort}
 
 -- 0 done, 3 the model is refused, 4 a read failed, 5 a write failed, 6 a line or the input is too long, 7 the log is full, 8 the journal is wrong, 9 memory
 abbrev pub status_of : Result Outcome Halt → ℕ
@@ -75,10 +75,11 @@ pub record SaysReadBack (form : Form) (input : List ℕ) (source_left held now :
   pub wrong : status ≡ 8 → IsWrongJournal input source_left held now
   pub silent : status ≡ 9 → now ≡ held
 
--- What the status of a demonstration says, which reads nothing: no line of its input is too long, and no read of it fails.
+-- What the status of a demonstration says, which reads nothing: its input begins with a model, no line of it is too long, and
+-- no read of it fails.
 pub record SaysShown (goals : ℕ) (held now : Option (List ℕ)) (status : ℕ) : Type 0 where
   pub done : status ≡ 0 → IsShown goals held now
-  pub refused : status ≡ 3 → HasNoDemo goals held now
+  pub never_refused : status ≡ 3 → ⊥
   pub never_read : status ≡ 4 → ⊥
   pub short : status ≡ 5 → IsShownShort goals held now
   pub never_limit : status ≡ 6 → ⊥
@@ -118,14 +119,14 @@ abbrev pub SaysPairKnown : (turns seed : ℕ) → (input source_left held now : 
 SaysPairKnown turns seed None source_left held now status = ⊤
 SaysPairKnown turns seed (Some input) source_left held now status = SaysPaired turns seed input source_left held now status
 
--- The statuses that a job of one thread can end with, whatever is told of its input: 4 and 6 come of a job that reads its
+-- The statuses that a job of one thread can end with, whatever is told of its input: 3, 4 and 6 come of a job that reads its
 -- input, 7 of one that makes a log, 8 of one that reads a log back.
 abbrev pub statuses_of : Task → List ℕ
 statuses_of (task.Solo turns) = 0 ∷ 3 ∷ 4 ∷ 5 ∷ 6 ∷ 7 ∷ 9 ∷ []
 statuses_of task.Check = 0 ∷ 3 ∷ 4 ∷ 5 ∷ 6 ∷ 9 ∷ []
 statuses_of task.Replay = 0 ∷ 3 ∷ 4 ∷ 5 ∷ 6 ∷ 8 ∷ 9 ∷ []
 statuses_of task.Report = 0 ∷ 3 ∷ 4 ∷ 5 ∷ 6 ∷ 8 ∷ 9 ∷ []
-statuses_of (task.Demo goals) = 0 ∷ 3 ∷ 5 ∷ 7 ∷ 9 ∷ []
+statuses_of (task.Demo goals) = 0 ∷ 5 ∷ 7 ∷ 9 ∷ []
 
 -- the same of a run of a pair
 abbrev pub pair_statuses : List ℕ

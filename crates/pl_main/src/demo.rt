@@ -2,10 +2,10 @@ ghost use Rattle.std.specs.Prelude.{◌≡◌, ◌≤◌, None, Some, IsErrOf, I
 ghost use Rattle.pl_io.specs.Faults.{Rose};
 ghost use Rattle.pl_model.specs.Checked.{IsChecked};
 ghost use Rattle.pl_stream.specs.Places.{place_of};
-ghost use Rattle.pl_main.specs.Demos.{summary_line, Shows, DemoPlays, ModelShows, TextShows};
+ghost use Rattle.pl_main.specs.Demos.{summary_line, Shows, DemoPlays, KeepsModel, ModelShows, TextShows};
 
 use crate::check::push_counted;
-use crate::judging::{NO_BEGIN, model_of, refuse};
+use crate::judging::model_of;
 use crate::outcome::Outcome;
 use crate::play::play;
 use crate::whole::{LINE_LIMIT, TOTAL_LIMIT, program_options};
@@ -85,7 +85,7 @@ fn show_model<O: Sink>(
     Ok(Outcome::Done)
 }
 
-#[tactic(auto, using(crate::proofs::Showing::text_hides, crate::proofs::Showing::text_shows))]
+#[tactic(auto, using(crate::proofs::Showing::kept_passes, crate::proofs::Showing::text_shows))]
 fn show_text<O: Sink>(
     alloc: Global,
     goals: u32,
@@ -94,6 +94,7 @@ fn show_text<O: Sink>(
     src: &mut SureSource,
     out: &mut O,
 ) -> Result<Outcome, Halt>
+    requires keeps { KeepsModel kept }
     requires limit { lines.old.limit ≡ 4096 }
     requires working { lines.old.failed ≡ None }
     ensures shows { TextShows goals kept (place_of lines.old (Some src.old)) (O.held out.old) result
@@ -101,13 +102,13 @@ fn show_text<O: Sink>(
     ensures write { IsErrOf result Halt.Write → Rose (O.faults out.old) (O.faults out.new) }
 {
     match model_of(alloc, &kept)? {
-        Accepted::Refused(line) => refuse(out, line.as_slice()),
+        Accepted::Refused(_line) => unreachable!(),
         Accepted::Model(model) => show_model(alloc, goals, model, lines, src, out),
     }
 }
 
 /// Runs the demonstration's input, and writes one line that says how it ended.
-#[tactic(auto, using(crate::proofs::Showing::begun_shows, crate::proofs::Showing::no_begin_shows, crate::proofs::Showing::head_shows, crate::proofs::Showing::never_rose))]
+#[tactic(auto, using(crate::proofs::Showing::begun_shows, crate::proofs::Showing::has_begin, crate::proofs::Showing::head_shows, crate::proofs::Showing::never_rose))]
 pub fn demo<O: Sink>(alloc: Global, goals: u32, out: &mut O) -> Result<Outcome, Halt>
     requires { (1 ≤ goals) × (goals ≤ 4000) }
     ensures shows { Shows goals (O.held out.old) (O.held out.new) result }
@@ -118,7 +119,7 @@ pub fn demo<O: Sink>(alloc: Global, goals: u32, out: &mut O) -> Result<Outcome, 
     let mut lines = LineReader::new(alloc, LINE_LIMIT, TOTAL_LIMIT)?;
     match read_head(alloc, &mut lines, &mut src) {
         Err(fault) => Err(halt_of(fault)),
-        Ok(Head::NoBegin) => refuse(out, NO_BEGIN),
+        Ok(Head::NoBegin) => unreachable!(),
         Ok(Head::Text(kept)) => show_text(alloc, goals, kept, &mut lines, &mut src, out),
     }
 }

@@ -2,13 +2,13 @@
 ghost use Rattle.std.specs.Prelude.{ℕ, List, Option};
 ghost use Rattle.pl_main.specs.Top.{line_limit, IsDone, IsPastLimit, IsFull, IsFound, IsNoModel, IsPastHead};
 ghost use Rattle.pl_main.specs.Pairs.{IsPairDone, IsPairPastLimit, IsPairFull};
-ghost use Rattle.pl_main.specs.Demos.{IsShown, IsShownInPart, HasNoDemo};
+ghost use Rattle.pl_main.specs.Demos.{IsShown, IsShownInPart};
 ghost use Rattle.pl_main.specs.declared.form.Form.{Form};
 ghost use Rattle.pl_main.specs.Replays.{journal_line_limit, IsRightJournal, IsWrongJournal, IsPastJournal};
 ghost use Rattle.pl_main.specs.Limits.{IsWithinLimits};
 
 /// The causes of the statuses 0, 3, 6 and 7 of a run stand one at a time, whatever was written, and
-/// so do those of the statuses 0, 3 and 6 of a check, of 0, 3, 6 and 8 of a replay or a report, and of 0, 3 and 7 of a
+/// so do those of the statuses 0, 3 and 6 of a check, of 0, 3, 6 and 8 of a replay or a report, and of 0 and 7 of a
 /// demonstration. Of a pair that of 3 stands apart from those of 0, 6 and 7, and those of 0 and 6 from one another. An input within the limits has no cause of 6.
 pub fn statuses_are_told_apart()
     ensures done_not_refused { (turns : ℕ) (input : List ℕ) (left held now other_left other_held other_now : Option (List ℕ))
@@ -29,12 +29,8 @@ pub fn statuses_are_told_apart()
         → IsFound input left held now → IsPastHead line_limit input other_left other_held other_now → ⊥ }
     ensures no_model_not_past { (input : List ℕ) (left held now other_left other_held other_now : Option (List ℕ))
         → IsNoModel line_limit input left held now → IsPastHead line_limit input other_left other_held other_now → ⊥ }
-    ensures shown_not_refused { (goals : ℕ) (held now other_held other_now : Option (List ℕ))
-        → IsShown goals held now → HasNoDemo goals other_held other_now → ⊥ }
     ensures shown_not_full { (goals : ℕ) (held now other_held other_now : Option (List ℕ))
         → IsShown goals held now → IsShownInPart goals other_held other_now → ⊥ }
-    ensures no_demo_not_full { (goals : ℕ) (held now other_held other_now : Option (List ℕ))
-        → HasNoDemo goals held now → IsShownInPart goals other_held other_now → ⊥ }
     ensures pair_done_not_refused { (turns seed : ℕ) (input : List ℕ) (left held now other_left other_held other_now : Option (List ℕ))
         → IsPairDone turns seed input left held now → IsNoModel line_limit input other_left other_held other_now → ⊥ }
     ensures pair_done_not_past { (turns seed : ℕ) (input : List ℕ) (left held now other_left other_held other_now : Option (List ℕ))

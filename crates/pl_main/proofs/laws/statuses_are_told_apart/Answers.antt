@@ -1,5 +1,5 @@
 use Rattle.pl_main.specs.Top.{line_limit}
-use Rattle.pl_main.proofs.Causes.{done_not_refused, done_not_past, done_not_full, refused_not_past, refused_not_full, past_not_full, found_not_refused, found_not_past, no_model_not_past, shown_not_refused, shown_not_full, no_demo_not_full, run_within, head_within}
+use Rattle.pl_main.proofs.Causes.{done_not_refused, done_not_past, done_not_full, refused_not_past, refused_not_full, past_not_full, found_not_refused, found_not_past, no_model_not_past, shown_not_full, run_within, head_within}
 use Rattle.pl_main.proofs.Apart.{right_not_wrong, right_not_refused, right_not_past, wrong_not_refused, wrong_not_past, no_journal_not_past, journal_within}
 use Rattle.pl_main.proofs.PairCauses.{pair_done_not_refused, pair_done_not_past, pair_refused_not_past, pair_refused_not_full, pair_within}
 use Rattle.pl_main.proofs.laws.statuses_are_told_apart.Goals as goal
@@ -31,14 +31,8 @@ returns-clause-found_not_past c = found_not_past
 pub returns-clause-no_model_not_past : goal.returns-clause-no_model_not_past
 returns-clause-no_model_not_past c = no_model_not_past line_limit
 
-pub returns-clause-shown_not_refused : goal.returns-clause-shown_not_refused
-returns-clause-shown_not_refused c = shown_not_refused
-
 pub returns-clause-shown_not_full : goal.returns-clause-shown_not_full
 returns-clause-shown_not_full c = shown_not_full
-
-pub returns-clause-no_demo_not_full : goal.returns-clause-no_demo_not_full
-returns-clause-no_demo_not_full c = no_demo_not_full
 
 pub returns-clause-within : goal.returns-clause-within
 returns-clause-within c = run_within

@@ -1,0 +1,11 @@
+pub mod Beginning
+pub mod Lexing
+pub mod Parsing
+pub mod Drafts
+pub mod Counting
+pub mod Numbering
+pub mod Ranging
+pub mod Graphs
+pub mod Network
+pub mod Finishing
+pub mod Modelling
