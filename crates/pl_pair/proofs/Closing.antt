@@ -405,7 +405,7 @@ module _ (items : List Noted) (inputs : List (Option (List ℕ))) (own feeder pl
       -- so an input behind it has the place of the last
       last_at : (e : Entry) (p : ℕ) → length front ≤ p → p < length items → slice_get items p ≡ Some (Made e) → is_input e.event ≡ true → last.0 ≡ p
       last_at e p behind within at is =
-          let one = apart_owners.inside p (omega arith) within in
+          let one = apart_owners.inside p (omega (arith, past, behind)) within in
           let none = times_within front 0 p earlier here behind in
           let others = nobody_else p e at is in
           let sum = sum_by-cons (times_at p) own (list.rest ∷ planner ∷ executive ∷ []) in
