@@ -1,7 +1,8 @@
 -- What the whole history says of the three own lists.
-use Rattle.std.proofs.Common.{◌≡◌, ◌≢◌, ℕ, suc, ◌+◌, ◌≤◌, ◌<◌, List, [], ◌∷◌, ◌++◌, length, map, drop, filter, cond, nat_eq, Bool, true, false, not, Option, Some, None, slice_get, refl, sym, ◌∙◌, ap, subst, arith, inl, inr, ne_eqb}
+use Rattle.std.proofs.Common.{◌≡◌, ◌≢◌, ℕ, suc, ◌+◌, ◌≤◌, ◌<◌, List, [], ◌∷◌, ◌++◌, length, map, drop, filter, cond, nat_eq, Bool, true, false, not, Option, Some, None, slice_get, refl, sym, ◌∙◌, ap, subst, arith, inl, inr, ne_eqb, append_assoc, length-append}
 use Rattle.std.specs.Prelude.{◌&&◌}
 use Rattle.std.specs.List.{All, filter_map, list_any}
+use Rattle.std.proofs.lemmas.Bool.{eqb-true}
 use Rattle.std.proofs.lemmas.List.Sums.{sum_by-cons, sum_by-append}
 use Rattle.std.proofs.lemmas.List.Elements.{All-nil, All-cons, All-head, All-tail, All-append}
 use Rattle.std.proofs.lemmas.Option.{slice_get_within}
@@ -165,6 +166,13 @@ one_at p x = cond (nat_eq x.0 p) 1 0
 pub at_other : (p : ℕ) (x : ℕ × Noted) → x.0 ≢ p → one_at p x ≡ 0
 at_other p x ne = ap (λ (b : Bool). cond b 1 0) (ne_eqb x.0 p ne)
 
+is_one : (b : Bool) → cond b 1 0 ≡ 1 → b ≡ true
+is_one true e = refl
+is_one false e = absurd (omega arith)
+
+at_same : (p : ℕ) (x : ℕ × Noted) → one_at p x ≡ 1 → x.0 ≡ p
+at_same p x e = eqb-true x.0 p (is_one (nat_eq x.0 p) e)
+
 -- of entries that are no inputs none stands at an input's place
 times_failing : (h : List Noted) (low p : ℕ) (e : Noted) (own : List (ℕ × Noted)) → StandsFrom h low own → All (λ x. is_entry is_input x.1 ≡ false) own → slice_get h p ≡ Some e → is_entry is_input e ≡ true → times_at p own ≡ 0
 times_failing h low p e [] s fails at passes = refl
@@ -272,6 +280,36 @@ more_inputs (e ∷ es) s =
     made_input e.event (is_input e.event) refl e refl (map Made es ++ stop_items s)
     ∙ more_by (input_in e.event) e es (filter (is_entry is_input) (map Made es ++ stop_items s)) refl (more_inputs es s)
 
+is_in : (v : Event) (i : Option (List ℕ)) → input_in v ≡ Some i → is_input v ≡ true
+is_in (event.Opened o) i e = absurd (cc)
+is_in (event.Input line) i e = refl
+is_in (event.Fix k m) i e = absurd (cc)
+is_in event.Rest i e = absurd (cc)
+is_in (event.Commit h) i e = absurd (cc)
+is_in event.Dispatch i e = absurd (cc)
+is_in event.Close i e = absurd (cc)
+
+input_some : (v : Event) → is_input v ≡ true → (i : Option (List ℕ)) × (input_in v ≡ Some i)
+input_some (event.Opened o) e = absurd (cc)
+input_some (event.Input line) e = (line, refl)
+input_some (event.Fix k m) e = absurd (cc)
+input_some event.Rest e = absurd (cc)
+input_some (event.Commit h) e = absurd (cc)
+input_some event.Dispatch e = absurd (cc)
+input_some event.Close e = absurd (cc)
+
+-- an entry that is no input adds none
+none_more : (o : Option (Option (List ℕ))) (e : Entry) (es : List Entry) → input_in e.event ≡ o → (is_input e.event ≡ true → ⊥) → inputs_of es ≡ [] → inputs_of (e ∷ es) ≡ []
+none_more None e es is never none = rw is none
+none_more (Some i) e es is never none = absurd (never (is_in e.event i is))
+
+one_more : (e : Entry) (es : List Entry) (i : Option (List ℕ)) → input_in e.event ≡ Some i → inputs_of es ≡ [] → inputs_of (e ∷ es) ≡ i ∷ []
+one_more e es i is none = rw is (ap (λ (is : List (Option (List ℕ))). i ∷ is) none)
+
+pub at_front : (xs ys : List Noted) (x : Noted) → slice_get (xs ++ x ∷ ys) (length xs) ≡ Some x
+at_front [] ys x = refl
+at_front (z ∷ xs) ys x = at_front xs ys x
+
 stands_front : (h : List Noted) (low : ℕ) (xs ys : List (ℕ × Noted)) → StandsFrom h low (xs ++ ys) → StandsFrom h low xs
 stands_front h low [] ys s = tt
 stands_front h low (x ∷ xs) ys s = (s.0, s.1, stands_front h (suc x.0) xs ys s.2)
@@ -362,6 +400,43 @@ module _ (items : List Noted) (inputs : List (Option (List ℕ))) (own feeder pl
         let sum = sum_by-cons (times_at p) own (list.rest ∷ planner ∷ executive ∷ []) in
         omega (arith, one, none, others, sum)
 
+    -- all own items but the last stand in a front
+    module _ (front : List Noted) (earlier : List (ℕ × Noted)) (last : ℕ × Noted) (whole : own ≡ earlier ++ last ∷ []) (here : StandsIn front earlier) (past : opening ≤ length front) where
+      -- so an input behind it has the place of the last
+      last_at : (e : Entry) (p : ℕ) → length front ≤ p → p < length items → slice_get items p ≡ Some (Made e) → is_input e.event ≡ true → last.0 ≡ p
+      last_at e p behind within at is =
+          let one = apart_owners.inside p (omega (arith, past, behind)) within in
+          let none = times_within front 0 p earlier here behind in
+          let others = nobody_else p e at is in
+          let sum = sum_by-cons (times_at p) own (list.rest ∷ planner ∷ executive ∷ []) in
+          let parts : times_at p own ≡ times_at p earlier + times_at p (last ∷ []) = ap (λ (l : List (ℕ × Noted)). times_at p l) whole ∙ sum_by-append (one_at p) earlier (last ∷ []) in
+          let alone = sum_by-cons (one_at p) last [] in
+          at_same p last (omega (arith, one, none, others, sum, parts, alone))
+
+      entry_at : (before : List Noted) (e : Entry) (rest : List Noted) → items ≡ before ++ Made e ∷ rest → (length before < length items) × (slice_get items (length before) ≡ Some (Made e))
+      entry_at before e rest is =
+          let long = ap (λ (xs : List Noted). length xs) is ∙ length-append before (Made e ∷ rest) in
+          (omega (arith, long), ap (λ (xs : List Noted). slice_get xs (length before)) is ∙ at_front before rest (Made e))
+
+      -- and where it stands right behind the front, there is none behind it
+      none_behind : (before : List Noted) (es : List Entry) (s : Bool) → items ≡ before ++ (map Made es ++ stop_items s) → last.0 ≡ length front → length front < length before → inputs_of es ≡ []
+      none_behind before [] s is at less = refl
+      none_behind before (e ∷ es) s is at less =
+          let there = entry_at before e (map Made es ++ stop_items s) is in
+          let next : items ≡ (before ++ Made e ∷ []) ++ (map Made es ++ stop_items s) = is ∙ sym (append_assoc before (Made e ∷ []) (map Made es ++ stop_items s)) in
+          let long = length-append before (Made e ∷ []) in
+          none_more (input_in e.event) e es refl (λ input. let same = last_at e (length before) (omega arith) there.0 there.1 input in omega (arith, same, at, less))
+          (none_behind (before ++ Made e ∷ []) es s next at (omega (arith, long, less)))
+
+      pub one_input : (e : Entry) (es : List Entry) (s : Bool) → items ≡ front ++ (map Made (e ∷ es) ++ stop_items s) → is_input e.event ≡ true → (message : Option (List ℕ)) × (inputs_of (e ∷ es) ≡ message ∷ [])
+      one_input e es s is input =
+          let there = entry_at front e (map Made es ++ stop_items s) is in
+          let at = last_at e (length front) (omega arith) there.0 there.1 input in
+          let next : items ≡ (front ++ Made e ∷ []) ++ (map Made es ++ stop_items s) = is ∙ sym (append_assoc front (Made e ∷ []) (map Made es ++ stop_items s)) in
+          let long = length-append front (Made e ∷ []) in
+          let some = input_some e.event input in
+          (some.0, one_more e es some.0 some.1 (none_behind (front ++ Made e ∷ []) es s next at (omega (arith, long))))
+
 -- ---- nothing follows
 
 closed_input : (w : World) (v : Event) → is_enabled w v ≡ true → w.closed ≡ true → is_input v ≡ true
@@ -384,10 +459,6 @@ pub world_in : (P : World → Type 0) (seen : List Noted) (m : Model) → model_
 world_in P seen m is here =
     let Q : Option Model → Type 0 = λ o. OfWorld o (entries_in seen) P in
     subst Q is here
-
-pub at_front : (xs ys : List Noted) (x : Noted) → slice_get (xs ++ x ∷ ys) (length xs) ≡ Some x
-at_front [] ys x = refl
-at_front (z ∷ xs) ys x = at_front xs ys x
 
 -- the entries of a front of a legal log are a legal log
 pub legal_front : (front : List Noted) (m : Model) → IsPlan front → model_in front ≡ Some m → Legal m (entries_in front)

@@ -1,10 +1,10 @@
 -- Round after round, and message after message.
-use Rattle.std.proofs.Common.{◌≡◌, ℕ, ◌+◌, ◌≤◌, List, [], ◌∷◌, ◌++◌, length, take, drop, false, not, Option, Some, None, Result, Ok, Err, inl, inr, refl, sym, ◌∙◌, ap, subst, arith, append_assoc, length-append}
+use Rattle.std.proofs.Common.{◌≡◌, ℕ, ◌+◌, ◌≤◌, ◌<◌, List, [], ◌∷◌, ◌++◌, length, drop, false, not, Option, Some, None, Result, Ok, Err, ◌⊎◌, inl, inr, refl, sym, ◌∙◌, ap, subst, arith, append_assoc, length-append}
 use Rattle.std.proofs.lemmas.List.{append-nil}
-use Rattle.std.proofs.lemmas.List.Elements.{filter_map-append, filter-append}
-use Rattle.std.proofs.Math.Seq.{take-append-add}
+use Rattle.std.proofs.lemmas.List.Elements.{All-head, filter_map-append, filter-append}
 use mathlib.Core.List.{IsPrefix}
-use Rattle.pl_turn.specs.Passes.{seen_of, mine_of}
+use Rattle.pl_turn.specs.History.{StandsIn}
+use Rattle.pl_turn.specs.Passes.{seen_of, mine_of, crew_of}
 use Rattle.pl_turn.proofs.Histories.{prefix_trans}
 use Rattle.pl_io.specs.declared.errors.LineFault.{LineFault}
 use Rattle.pl_io.specs.declared.errors.LineFault.TheVariants as fault
@@ -26,21 +26,22 @@ use Rattle.pl_stream.proofs.Writing.{some_held, adds_then}
 use Rattle.pl_shared.specs.declared.noted.Noted.{Noted}
 use Rattle.pl_shared.specs.declared.noted.Noted.TheVariants.{Made, Stopped}
 use Rattle.pl_shared.specs.declared.plan.SharedPlan.{SharedPlan}
-use Rattle.pl_shared.specs.Items.{entry_in, entries_in}
+use Rattle.pl_shared.specs.Items.{entry_in, entries_in, InWorld}
+use Rattle.pl_shared.proofs.Items.{log_is_some, entries_in_items}
 use Rattle.pl_shared.specs.Roles.{IsInputOf}
-use Rattle.pl_shared.specs.Plans.{PlanPass, BelongsTo}
-use Rattle.pl_shared.specs.Turns.{TakesTurn, Stops}
+use Rattle.pl_shared.specs.Plans.{PlanPass, IsPlan, BelongsTo}
+use Rattle.pl_shared.specs.Turns.{TakesTurn, Makes, Stops}
 use Rattle.pl_shared.proofs.Progress.{from_world}
 use Rattle.pl_pair.specs.declared.cut.Cut.{Cut}
 use Rattle.pl_pair.specs.declared.cut.Cut.TheVariants as cut
 use Rattle.pl_pair.specs.declared.rounds.Stage.TheVariants as stage
 use Rattle.pl_pair.specs.Cuts.{cut_by}
-use Rattle.pl_pair.specs.Rounds.{Follows, Looks, AddsFront, lines_behind, RoundEnds}
+use Rattle.pl_pair.specs.Rounds.{Follows, Looks, IsBetween, lines_behind, RoundEnds}
 use Rattle.std.specs.Prelude.{IsErrOf}
 use Rattle.pl_stream.specs.Places.{Place}
 use Rattle.pl_pair.specs.Asking.{Asks, HandsOn, HandsNone, Passes, PassesTo}
-use Rattle.pl_pair.specs.Feeds.{spoken, said_in, IsInput, AreInputs, Reads, unasked, asked, Heard, Tells, WritesAll, StepsOn, StepsOut, StepsCut, in_round, at_message, Steps, Feeding, Waiting, FeedsOut, FeedsUntil, FeedsRefused, FeedsTorn, FeedsPart, for_lines, for_message, for_reader, refused, stopped, FeedsAll, FeedsToEnd}
-use Rattle.pl_pair.proofs.Passing.{follows_self, follows_on, entries_longer}
+use Rattle.pl_pair.specs.Feeds.{spoken, said_in, IsInput, AreInputs, Reads, unasked, asked, Heard, Tells, HandsOne, Writes, WritesAll, StepsOn, StepsOut, StepsCut, in_round, at_message, Steps, Feeding, Waiting, FeedsOut, FeedsUntil, FeedsRefused, FeedsTorn, for_lines, for_message, for_reader, refused, stopped, FeedsAll, FeedsToEnd}
+use Rattle.pl_pair.proofs.Passing.{follows_self, follows_on, entries_longer, behind_looks}
 
 -- ---- lists
 
@@ -64,50 +65,26 @@ last_is (z ∷ xs) (w ∷ ys) x y e = (let h : xs ++ x ∷ [] ≡ ys ++ y ∷ []
 pub entries_on : (front seen : List Noted) → (on : IsPrefix front seen) → entries_in seen ≡ entries_in front ++ entries_in on.0
 entries_on front seen on = ap entries_in (sym on.1) ∙ filter_map-append entry_in front on.0
 
+-- the lines behind a front are those of the rest
+pub lines_rest : (m : Model) (front seen : List Noted) (from : ℕ) → (on : IsPrefix front seen) → from ≡ length (entries_in front) → lines_behind m from seen ≡ text_from m (0 + length (entries_in front)) (entries_in on.0)
+lines_rest m front seen from on count =
+    let es = entries_in front in
+    let more = entries_in on.0 in
+    let left : drop from (entries_in seen) ≡ more = ap (λ (k : ℕ). drop k (entries_in seen)) count ∙ ap (λ (xs : List Entry). drop (length es) xs) (entries_on front seen on) ∙ drop_front es more in
+    let start : from ≡ 0 + length es = omega (arith, count) in
+    ap (λ (xs : List Entry). text_from m from xs) left ∙ ap (λ (k : ℕ). text_from m k more) start
+
 text_on : (m : Model) (front seen : List Noted) (from : ℕ) → IsPrefix front seen → from ≡ length (entries_in front) → text_from m 0 (entries_in front) ++ lines_behind m from seen ≡ text_from m 0 (entries_in seen)
 text_on m front seen from on count =
     let es = entries_in front in
-    let more = entries_in on.0 in
     let whole = entries_on front seen on in
-    let left : drop from (entries_in seen) ≡ more = ap (λ (k : ℕ). drop k (entries_in seen)) count ∙ ap (λ (xs : List Entry). drop (length es) xs) whole ∙ drop_front es more in
-    let start : from ≡ 0 + length es = omega (arith, count) in
-    ap (λ (xs : List Entry). text_from m 0 es ++ text_from m from xs) left
-    ∙ ap (λ (k : ℕ). text_from m 0 es ++ text_from m k more) start
-    ∙ sym (text_joined m 0 es more)
+    ap (λ (t : List ℕ). text_from m 0 es ++ t) (lines_rest m front seen from on count)
+    ∙ sym (text_joined m 0 es (entries_in on.0))
     ∙ ap (λ (xs : List Entry). text_from m 0 xs) (sym whole)
 
 wrote_on : (m : Model) (held mid now : Option (List ℕ)) (front seen : List Noted) (from : ℕ) → IsPrefix front seen → from ≡ length (entries_in front) → Adds held mid (text_from m 0 (entries_in front)) → Adds mid now (lines_behind m from seen) → WritesAll m held seen now
 wrote_on m held mid now front seen from on count first second =
     subst (λ (t : List ℕ). Adds held now t) (text_on m front seen from on count) (adds_then held mid now (text_from m 0 (entries_in front)) (lines_behind m from seen) first second)
-
--- a front behind what was written
-front_then : (held mid now : Option (List ℕ)) (xs ys : List ℕ) → Adds held mid xs → AddsFront mid now ys → AddsFront held now (xs ++ ys)
-front_then None mid now xs ys first second = tt
-front_then (Some before) mid now xs ys first second =
-    let part = subst (λ (m : Option (List ℕ)). AddsFront m now ys) first second in
-    (length xs + part.0, (let le = part.1 in let long = length-append xs ys in omega arith), part.2 ∙ ap (λ (t : List ℕ). Some t) (append_assoc before xs (take part.0 ys) ∙ ap (λ (t : List ℕ). before ++ t) (sym (take-append-add xs ys part.0))))
-
-wrote_part : (m : Model) (held mid now : Option (List ℕ)) (front seen : List Noted) (from : ℕ) → IsPrefix front seen → from ≡ length (entries_in front) → Adds held mid (text_from m 0 (entries_in front)) → AddsFront mid now (lines_behind m from seen) → AddsFront held now (text_from m 0 (entries_in seen))
-wrote_part m held mid now front seen from on count first second =
-    subst (λ (t : List ℕ). AddsFront held now t) (text_on m front seen from on count) (front_then held mid now (text_from m 0 (entries_in front)) (lines_behind m from seen) first second)
-
--- the same of a front that isn't all
-torn_then : (held mid now : Option (List ℕ)) (xs ys : List ℕ) → Adds held mid xs → AppendsFront mid now ys → AppendsFront held now (xs ++ ys)
-torn_then None mid now xs ys first second = tt
-torn_then (Some before) mid now xs ys first second =
-    let part = subst (λ (m : Option (List ℕ)). AppendsFront m now ys) first second in
-    (length xs + part.0, (let lt = part.1 in let long = length-append xs ys in omega arith), part.2 ∙ ap (λ (t : List ℕ). Some t) (append_assoc before xs (take part.0 ys) ∙ ap (λ (t : List ℕ). before ++ t) (sym (take-append-add xs ys part.0))))
-
-wrote_torn : (m : Model) (held mid now : Option (List ℕ)) (front seen : List Noted) (from : ℕ) → IsPrefix front seen → from ≡ length (entries_in front) → Adds held mid (text_from m 0 (entries_in front)) → AppendsFront mid now (lines_behind m from seen) → AppendsFront held now (text_from m 0 (entries_in seen))
-wrote_torn m held mid now front seen from on count first second =
-    subst (λ (t : List ℕ). AppendsFront held now t) (text_on m front seen from on count) (torn_then held mid now (text_from m 0 (entries_in front)) (lines_behind m from seen) first second)
-
--- all of a front
-pub front_of : (held now : Option (List ℕ)) (xs ys : List ℕ) → Adds held now xs → AddsFront held now (xs ++ ys)
-front_of None now xs ys adds = tt
-front_of (Some before) now xs ys adds =
-    let all : take (length xs + 0) (xs ++ ys) ≡ xs ++ [] = take-append-add xs ys 0 in
-    (length xs + 0, (let long = length-append xs ys in omega arith), adds ∙ ap (λ (t : List ℕ). Some (before ++ t)) (sym (all ∙ append-nil xs)))
 
 -- ---- what was told
 
@@ -207,6 +184,30 @@ tells_more plan old mid new start middle place tells follows step =
       mine = (let P : List (ℕ × Noted) → Type 0 = λ xs. AreInputs (tells.inputs ++ line ∷ []) xs in subst P (sym makes.mine) (inputs_push tells.inputs (mine_of mid) line (step.hands.0, Made makes.entry) tells.mine is));
     }
 
+-- a pass's own items stand in what it has seen
+pub own_stands : (plan : SharedPlan) (pass : PlanPass) → BelongsTo plan pass → StandsIn (seen_of pass) (mine_of pass)
+own_stands plan pass own = All-head (StandsIn (seen_of pass)) (mine_of pass) (crew_of pass).joined own.lock.stands
+
+-- its entry stands behind what was seen before it
+one_due : (mid new : PlanPass) (next number : ℕ) (line : Option (List ℕ)) → Makes (IsInputOf line) mid new number → next ≡ length (entries_in (seen_of mid)) → next < length (entries_in (seen_of new))
+one_due mid new next number line makes count =
+    let before = seen_of mid ++ makes.between in
+    let whole : entries_in (seen_of new) ≡ entries_in before ++ makes.entry ∷ [] = ap entries_in makes.seen ∙ filter_map-append entry_in before (Made makes.entry ∷ []) in
+    let long = ap (λ (es : List Entry). length es) whole ∙ length-append (entries_in before) (makes.entry ∷ []) in
+    let longer = entries_longer (seen_of mid) before (makes.between, refl) in
+    omega (arith, long, longer, count)
+
+hands_one : (plan : SharedPlan) (old mid new : PlanPass) (number : ℕ) (line : Option (List ℕ)) → BelongsTo plan mid → Follows old mid → Makes (IsInputOf line) mid new number → InWorld (seen_of mid) IsBetween → HandsOne old (seen_of mid) (mine_of new)
+hands_one plan old mid new number line own follows makes between = record {
+  longer = follows.longer;
+  plan = own.seen;
+  between = between;
+  earlier = mine_of mid;
+  stands = own_stands plan mid own;
+  last = (number, Made makes.entry);
+  own = makes.mine;
+}
+
 not_full : (f : LineFault) → cut.Full ≡ cut_by f → ⊥
 not_full fault.Read e = cc
 not_full (fault.Long n) e = cc
@@ -226,6 +227,13 @@ not_write fault.Total e = cc
 not_write fault.Memory e = cc
 
 -- ---- the loop
+
+-- a plan has entries
+plan_some : (seen : List Noted) → IsPlan seen → 0 < length (entries_in seen)
+plan_some seen plan =
+    let same = ap (λ (es : List Entry). length es) (ap entries_in plan.is ∙ entries_in_items plan.model plan.log plan.stopped) in
+    let some = log_is_some plan.model plan.log plan.legal in
+    omega arith
 
 -- nothing was read
 pub heard_none : (start : Place) → Heard start [] start
@@ -247,7 +255,7 @@ feeding_none plan m pass start held own new = record {
     heard = heard_none start;
     mine = (let P : List (ℕ × Noted) → Type 0 = λ xs. AreInputs [] xs in subst P (sym new) tt);
   };
-  writes = record { front = []; in_front = (seen_of pass, refl); count = refl; written = some_held held };
+  writes = record { front = []; in_front = (seen_of pass, refl); count = refl; due = plan_some (seen_of pass) own.seen; written = some_held held; behind = inl new };
 }
 
 module _ (plan : SharedPlan) (m : Model) (old : PlanPass) (start : Place) (held : Option (List ℕ)) (cur : PlanPass) (middle : Place) (mid : Option (List ℕ)) (from : ℕ) (feeding : Feeding plan m old start held cur middle mid from) where
@@ -265,23 +273,21 @@ module _ (plan : SharedPlan) (m : Model) (old : PlanPass) (start : Place) (held 
     between = ends.2;
   }
 
-  part_to : (new : PlanPass) (place : Place) (now : Option (List ℕ)) → BelongsTo plan new → Looks cur new → AddsFront mid now (lines_behind m from (seen_of new)) → place ≡ middle → FeedsPart plan m old start held new place now
-  part_to new place now own looks adds same =
-      let P : Place → Type 0 = λ p. Tells old start new p in
+  -- the pass sees more, and its lines are still to be written
+  still : (new : PlanPass) → BelongsTo plan new → Looks cur new → Feeding plan m old start held new middle mid from
+  still new own looks =
+      let writes = feeding.writes in
+      let P : List (ℕ × Noted) → Type 0 = λ own. (own ≡ []) ⊎ HandsOne old writes.front own in
       record {
         own = own;
-        tells = subst P (sym same) (told_to new looks);
-        written = wrote_part m held mid now feeding.writes.front (seen_of new) from (on_to new looks) feeding.writes.count feeding.writes.written adds;
+        tells = told_to new looks;
+        writes = record { front = writes.front; in_front = on_to new looks; count = writes.count; due = behind_looks from cur new writes.due looks; written = writes.written; behind = subst P (sym looks.mine) writes.behind };
       }
 
   torn_to : (new : PlanPass) (place : Place) (now : Option (List ℕ)) → BelongsTo plan new → Looks cur new → AppendsFront mid now (lines_behind m from (seen_of new)) → place ≡ middle → FeedsTorn plan m old start held new place now
-  torn_to new place now own looks adds same =
-      let P : Place → Type 0 = λ p. Tells old start new p in
-      record {
-        own = own;
-        tells = subst P (sym same) (told_to new looks);
-        written = wrote_torn m held mid now feeding.writes.front (seen_of new) from (on_to new looks) feeding.writes.count feeding.writes.written adds;
-      }
+  torn_to new place now own looks torn same =
+      let P : Place → Type 0 = λ p. Feeding plan m old start held new p mid from in
+      record { next = from; so_far = mid; feeding = subst P (sym same) (still new own looks); torn = torn }
 
   -- the lines were written, and a message was handed on
   pub feeds_on : (new : PlanPass) (place : Place) (now : Option (List ℕ)) (next : ℕ) → BelongsTo plan new → StepsOn plan m from middle cur mid next place new now → Feeding plan m old start held new place now next
@@ -290,7 +296,14 @@ module _ (plan : SharedPlan) (m : Model) (old : PlanPass) (start : Place) (held 
       record {
         own = own;
         tells = tells_more plan old step.mid new start middle place waiting.tells step.follows step.passes;
-        writes = record { front = seen_of step.mid; in_front = step.follows.longer; count = step.ends.1; written = waiting.written };
+        writes = record {
+          front = seen_of step.mid;
+          in_front = step.follows.longer;
+          count = step.ends.1;
+          due = one_due step.mid new next step.passes.hands.0 (line_in step.passes.message) step.passes.hands.1 step.ends.1;
+          written = waiting.written;
+          behind = inr (hands_one plan old step.mid new step.passes.hands.0 (line_in step.passes.message) step.own waiting.tells.follows step.passes.hands.1 step.ends.2);
+        };
       }
 
   -- the input had ended
@@ -310,7 +323,7 @@ module _ (plan : SharedPlan) (m : Model) (old : PlanPass) (start : Place) (held 
   cut_round cut.Limit new place now own looks ends same = absurd ends
   cut_round cut.Full new place now own looks ends same = absurd ends
   cut_round cut.Write new place now own looks ends same = torn_to new place now own looks ends same
-  cut_round cut.Memory new place now own looks ends same = for_lines (part_to new place now own looks ends same)
+  cut_round cut.Memory new place now own looks ends same = for_lines (torn_to new place now own looks ends same)
   cut_round cut.Stopped new place now own looks ends same =
       let P : Place → Type 0 = λ p. Tells old start new p in
       stopped (record {
@@ -356,11 +369,8 @@ module _ (plan : SharedPlan) (m : Model) (old : PlanPass) (start : Place) (held 
 
 -- ---- what the loop needs of it
 
-pub feeding_within : (plan : SharedPlan) (m : Model) (old new : PlanPass) (start place : Place) (held now : Option (List ℕ)) (next : ℕ) → Feeding plan m old start held new place now next → next ≤ length (entries_in (seen_of new))
-feeding_within plan m old new start place held now next feeding =
-    let le = entries_longer feeding.writes.front (seen_of new) feeding.writes.in_front in
-    let count = feeding.writes.count in
-    omega arith
+pub feeding_due : (plan : SharedPlan) (m : Model) (old new : PlanPass) (start place : Place) (held now : Option (List ℕ)) (next : ℕ) → Feeding plan m old start held new place now next → next < length (entries_in (seen_of new))
+feeding_due plan m old new start place held now next feeding = feeding.writes.due
 
 reads_limit : (start place : Place) (lines : List (List ℕ)) → Reads start lines place → place.reader.limit ≡ start.reader.limit
 reads_limit start place lines (unasked none same) = ap (λ (p : Place). p.reader.limit) same

@@ -7,5 +7,6 @@ pub mod Ending
 pub mod Saying
 pub mod Closing
 pub mod Choosing
+pub mod Cutting
 pub mod Running
 pub mod Crossing

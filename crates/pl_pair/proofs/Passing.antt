@@ -1,5 +1,5 @@
 -- The history goes on between two looks of the feeder.
-use Rattle.std.proofs.Common.{◌≡◌, ℕ, ◌+◌, ◌≤◌, List, [], ◌∷◌, length, Bool, true, false, Option, Some, None, Result, Ok, Err, refl, sym, ◌∙◌, ap, subst, arith, length-append, length-drop}
+use Rattle.std.proofs.Common.{◌≡◌, ℕ, ◌+◌, ◌≤◌, ◌<◌, List, [], ◌∷◌, length, drop, Bool, true, false, Option, Some, None, Result, Ok, Err, refl, sym, ◌∙◌, ap, subst, arith, length-append, length-drop}
 use Rattle.std.specs.Prelude.{◌||◌}
 use Rattle.std.proofs.lemmas.List.{append-nil}
 use Rattle.std.proofs.lemmas.List.Elements.{filter_map-append}
@@ -10,7 +10,7 @@ use Rattle.pl_io.specs.Faults.{Rose}
 use Rattle.pl_io.specs.Writes.{AppendsFront}
 use Rattle.pl_model.specs.declared.whole.Model.{Model}
 use Rattle.pl_entry.specs.declared.entry.Entry.{Entry}
-use Rattle.pl_render.specs.Lines.{text_from}
+use Rattle.pl_render.specs.Lines.{line_of, text_from}
 use Rattle.pl_stream.specs.declared.halt.Halt.{Halt}
 use Rattle.pl_stream.specs.declared.halt.Halt.TheVariants as halt
 use Rattle.pl_stream.specs.Written.{Adds, WriteStops}
@@ -28,7 +28,7 @@ use Rattle.pl_pair.specs.declared.cut.Cut.TheVariants as cut
 use Rattle.pl_pair.specs.declared.rounds.Stage.{Stage}
 use Rattle.pl_pair.specs.declared.rounds.Stage.TheVariants as stage
 use Rattle.pl_pair.specs.Cuts.{cut_of}
-use Rattle.pl_pair.specs.Rounds.{Follows, Looks, IsBetween, IsRound, AddsFront, StageOf, lines_behind, RoundEnds}
+use Rattle.pl_pair.specs.Rounds.{Follows, Looks, IsBetween, IsRound, StageOf, lines_behind, RoundEnds}
 
 -- ---- passes
 
@@ -104,6 +104,13 @@ copied_few plan from old new part le takes own copies = copied_short from (seen_
 pub within_looks : (n : ℕ) (old new : PlanPass) → n ≤ length (entries_in (seen_of old)) → Looks old new → n ≤ length (entries_in (seen_of new))
 within_looks n old new le looks = within_later n old new le looks.follows
 
+pub within : (n : ℕ) (pass : PlanPass) → n < length (entries_in (seen_of pass)) → n ≤ length (entries_in (seen_of pass))
+within n pass less = omega arith
+
+-- entries stand behind a number
+pub behind_looks : (n : ℕ) (old new : PlanPass) → n < length (entries_in (seen_of old)) → Looks old new → n < length (entries_in (seen_of new))
+behind_looks n old new less looks = (let more = entries_longer (seen_of old) (seen_of new) looks.follows.longer in omega arith)
+
 -- ---- the lines of a round
 
 or_left : (a b : Bool) → (a || b) ≡ true → b ≡ false → a ≡ true
@@ -114,49 +121,55 @@ or_left false false e f = absurd (cc)
 copied_text : (m : Model) (from : ℕ) (held now : Option (List ℕ)) (seen : List Noted) (part : Part) → Copies from seen part → Adds held now (text_from m from part.entries) → Adds held now (lines_behind m from seen)
 copied_text m from held now seen part copies adds = subst (λ (es : List Entry). Adds held now (text_from m from es)) copies.entries adds
 
-pub round_ends : (m : Model) (from : ℕ) (held now : Option (List ℕ)) (seen : List Noted) (part : Part) (r : Result Stage Cut) → from ≤ length (entries_in seen) → IsRound from seen part → Adds held now (text_from m from part.entries)
+pub round_ends : (m : Model) (from : ℕ) (held now : Option (List ℕ)) (seen : List Noted) (part : Part) (r : Result Stage Cut) → from < length (entries_in seen) → IsRound from seen part → Adds held now (text_from m from part.entries)
     → StageOf part from r → RoundEnds m from held r seen now
-round_ends m from held now seen part (Ok stage.Ended) le round adds is = (
+round_ends m from held now seen part (Ok stage.Ended) less round adds is = (
   copied_text m from held now seen part round.0 adds,
   in_world_on (λ w. (part.closed ≡ w.closed) × (part.done ≡ w.done)) (λ w. w.done ≡ true) seen (λ w h. sym h.1 ∙ is) round.0.world,
 )
-round_ends m from held now seen part (Ok (stage.Waits next)) le round adds is = (
+round_ends m from held now seen part (Ok (stage.Waits next)) less round adds is = (
   copied_text m from held now seen part round.0 adds,
-  is.2 ∙ copied_to from seen part le round.0,
+  is.2 ∙ copied_to from seen part (omega arith) round.0,
   in_world_on (λ w. (part.closed ≡ w.closed) × (part.done ≡ w.done)) IsBetween seen (λ w h. (sym h.0 ∙ or_left part.closed part.stopped round.1 is.1, sym h.1 ∙ is.0)) round.0.world,
 )
-round_ends m from held now seen part (Err cut.Stopped) le round adds is = (
+round_ends m from held now seen part (Err cut.Stopped) less round adds is = (
   copied_text m from held now seen part round.0 adds,
   sym round.0.stopped ∙ is.1,
   in_world_on (λ w. (part.closed ≡ w.closed) × (part.done ≡ w.done)) (λ w. w.done ≡ false) seen (λ w h. sym h.1 ∙ is.0) round.0.world,
 )
-round_ends m from held now seen part (Err cut.Read) le round adds is = absurd is
-round_ends m from held now seen part (Err cut.Write) le round adds is = absurd is
-round_ends m from held now seen part (Err cut.Limit) le round adds is = absurd is
-round_ends m from held now seen part (Err cut.Full) le round adds is = absurd is
-round_ends m from held now seen part (Err cut.Memory) le round adds is = absurd is
+round_ends m from held now seen part (Err cut.Read) less round adds is = absurd is
+round_ends m from held now seen part (Err cut.Write) less round adds is = absurd is
+round_ends m from held now seen part (Err cut.Limit) less round adds is = absurd is
+round_ends m from held now seen part (Err cut.Full) less round adds is = absurd is
+round_ends m from held now seen part (Err cut.Memory) less round adds is = absurd is
 
--- nothing was written
-pub adds_nothing : (held : Option (List ℕ)) (text : List ℕ) → AddsFront held held text
-adds_nothing None text = tt
-adds_nothing (Some before) text = (0, omega arith, ap (λ (bytes : List ℕ). Some bytes) (sym (append-nil before)))
+-- entries have some text
+text_some : (m : Model) (n : ℕ) (es : List Entry) → 0 < length es → 0 < length (text_from m n es)
+unfolding line_of
+text_some m n [] less = absurd (omega arith)
+text_some m n (e ∷ es) less = simp length-append (omega arith)
 
-adds_part : (held now : Option (List ℕ)) (text : List ℕ) → AppendsFront held now text → AddsFront held now text
-adds_part None now text front = tt
-adds_part (Some before) now text front = (front.0, (let lt = front.1 in omega arith), front.2)
+none_of : (held : Option (List ℕ)) (text : List ℕ) → 0 < length text → AppendsFront held held text
+none_of None text less = tt
+none_of (Some before) text less = (0, less, ap (λ (bytes : List ℕ). Some bytes) (sym (append-nil before)))
+
+-- nothing was written of some lines
+pub none_written : (m : Model) (n : ℕ) (held : Option (List ℕ)) (es : List Entry) → 0 < length es → AppendsFront held held (text_from m n es)
+none_written m n held es less = none_of held (text_from m n es) (text_some m n es less)
+
+pub nothing_written : (m : Model) (from : ℕ) (held : Option (List ℕ)) (old new : PlanPass) → from < length (entries_in (seen_of old)) → Looks old new → AppendsFront held held (lines_behind m from (seen_of new))
+nothing_written m from held old new less looks =
+    let more = behind_looks from old new less looks in
+    none_written m from held (drop from (entries_in (seen_of new))) (omega (arith, more, length-drop from (entries_in (seen_of new))))
 
 copied_torn : (m : Model) (from : ℕ) (held now : Option (List ℕ)) (seen : List Noted) (part : Part) → Copies from seen part → AppendsFront held now (text_from m from part.entries) → AppendsFront held now (lines_behind m from seen)
 copied_torn m from held now seen part copies front = subst (λ (es : List Entry). AppendsFront held now (text_from m from es)) copies.entries front
-
-copied_front : (m : Model) (from : ℕ) (held now : Option (List ℕ)) (seen : List Noted) (part : Part) → Copies from seen part → AppendsFront held now (text_from m from part.entries) → AddsFront held now (lines_behind m from seen)
-copied_front m from held now seen part copies front =
-    adds_part held now (lines_behind m from seen) (copied_torn m from held now seen part copies front)
 
 -- a write stopped, or memory was wanting
 pub round_breaks : (m : Model) (from : ℕ) (held now : Option (List ℕ)) (seen : List Noted) (part : Part) (h : Halt) (before after : ℕ) → IsRound from seen part → AppendsFront held now (text_from m from part.entries) → WriteStops before after h
     → RoundEnds m from held (Err (cut_of h)) seen now
 round_breaks m from held now seen part halt.Write before after round front stops = copied_torn m from held now seen part round.0 front
-round_breaks m from held now seen part halt.Memory before after round front stops = copied_front m from held now seen part round.0 front
+round_breaks m from held now seen part halt.Memory before after round front stops = copied_torn m from held now seen part round.0 front
 round_breaks m from held now seen part halt.Read before after round front stops = absurd stops
 round_breaks m from held now seen part halt.Limit before after round front stops = absurd stops
 round_breaks m from held now seen part halt.Full before after round front stops = absurd stops
@@ -168,5 +181,5 @@ write_rose halt.Read before after stops is = absurd stops
 write_rose halt.Limit before after stops is = absurd stops
 write_rose halt.Full before after stops is = absurd stops
 
-pub round_short : (plan : SharedPlan) (from : ℕ) (old new : PlanPass) (part : Part) → from ≤ length (entries_in (seen_of old)) → Looks old new → BelongsTo plan new → IsRound from (seen_of new) part → from + length part.entries ≤ 250000
-round_short plan from old new part le looks own round = copied_short from (seen_of new) part (within_looks from old new le looks) own.seen round.0
+pub round_short : (plan : SharedPlan) (from : ℕ) (old new : PlanPass) (part : Part) → from < length (entries_in (seen_of old)) → Looks old new → BelongsTo plan new → IsRound from (seen_of new) part → from + length part.entries ≤ 250000
+round_short plan from old new part less looks own round = copied_short from (seen_of new) part (within_looks from old new (omega arith) looks) own.seen round.0

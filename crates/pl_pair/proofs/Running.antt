@@ -1,9 +1,9 @@
 -- What a run comes to.
-use Rattle.std.proofs.Common.{◌≡◌, ℕ, ◌+◌, ◌≤◌, List, [], ◌∷◌, ◌++◌, length, map, Bool, true, false, Option, Some, None, Result, Ok, Err, slice_get, refl, sym, ◌∙◌, ap, subst, arith, inl, inr, ◌⊎◌, append_assoc, length-append}
+use Rattle.std.proofs.Common.{◌≡◌, ℕ, ◌+◌, ◌≤◌, ◌<◌, List, [], ◌∷◌, ◌++◌, length, map, Bool, true, false, Option, Some, None, Result, Ok, Err, slice_get, refl, sym, ◌∙◌, ap, subst, arith, inl, inr, ◌⊎◌, append_assoc, length-append}
 use Rattle.std.specs.Prelude.{◌||◌, if◌then◌else◌}
 use Rattle.std.specs.List.{All}
-use Rattle.std.proofs.lemmas.List.{append-nil, take-append-le}
-use Rattle.std.proofs.lemmas.List.Elements.{All-nil, All-cons, All-head}
+use Rattle.std.proofs.lemmas.List.{append-nil}
+use Rattle.std.proofs.lemmas.List.Elements.{All-nil, All-cons}
 use mathlib.Core.List.{IsPrefix}
 use Rattle.pl_turn.specs.History.{IsEachOnce, StandsIn, times_in}
 use Rattle.pl_turn.specs.Passes.{seen_of, mine_of, crew_of, leads, made_by, joined_by, opening_of}
@@ -24,11 +24,10 @@ use Rattle.pl_io.specs.Writes.{AppendsFront}
 use Rattle.pl_io.specs.Reader.{NumberedLine}
 use Rattle.pl_stream.proofs.Reading.{took_none, halts_later}
 use Rattle.pl_render.specs.Lines.{text_from, text_of_log}
-use Rattle.pl_render.proofs.Texts.{text_joined}
 use Rattle.pl_stream.specs.Reads.{Took, WhyKnown}
 use Rattle.pl_stream.specs.Stops.{IsStuckKnown}
 use Rattle.pl_stream.specs.Waits.{line_in}
-use Rattle.pl_stream.specs.Written.{Adds}
+use Rattle.pl_stream.specs.Written.{Adds, answers, IsCutShort}
 use Rattle.pl_shared.specs.declared.noted.Noted.{Noted}
 use Rattle.pl_shared.specs.declared.noted.Noted.TheVariants.{Made, Stopped}
 use Rattle.pl_shared.specs.declared.plan.SharedPlan.{SharedPlan}
@@ -51,51 +50,23 @@ use Rattle.pl_pair.specs.Duties.{chooser_of, role_of}
 use Rattle.pl_pair.specs.Cuts.{cut_by}
 use Rattle.pl_pair.specs.Served as serving
 use Rattle.pl_pair.specs.Served.{AreOf, MakesOwn, IsFullRound, Refused, IsWorker}
-use Rattle.pl_pair.specs.Rounds.{Follows, IsBetween, AddsFront}
+use Rattle.pl_pair.specs.Rounds.{Follows, IsBetween, lines_behind}
 use Rattle.pl_stream.specs.Places.{Place}
 use Rattle.pl_pair.specs.Asking.{Faults, now_failed, had_failed, Asks}
-use Rattle.pl_pair.specs.Feeds.{AreInputs, Reads, unasked, asked, Tells, WritesAll, FeedsOut, FeedsUntil, FeedsRefused, FeedsStopped, FeedsTorn, FeedsPart, FeedsShort, for_lines, for_message, for_reader, FeedsCut, refused, FeedsAll, FeedsToEnd}
+use Rattle.pl_pair.specs.Feeds.{AreInputs, Reads, unasked, asked, Tells, HandsOne, Writes, WritesAll, FeedsOut, FeedsUntil, FeedsRefused, FeedsStopped, FeedsTorn, FeedsShort, for_lines, for_message, for_reader, FeedsCut, refused, FeedsAll, FeedsToEnd}
 use Rattle.pl_pair.specs.Feeds as fed
 use Rattle.pl_pair.specs.Endings.{is_full, is_other, refusal_of, ended_of}
-use Rattle.pl_pair.specs.Runs.{ClosesAll, History, InMessages, HadLimit, MayFault, WhyNone, IsCauseOf, Given, WritesLog, ReadUpTo, RunsUntil, RunsFull, one_behind, one_unread, RunsShort, in_lines, behind_lines, RunEnds, PairRun}
+use Rattle.pl_pair.specs.Runs.{ClosesAll, History, InMessages, HadLimit, MayFault, WhyNone, IsCauseOf, Given, WritesLog, ReadUpTo, RunsUntil, RunsFull, IsWrittenInPart, in_last_round, in_first_round, one_behind, one_unread, RunsShort, in_lines, all_lines, behind_lines, RunEnds, PairRun}
 use Rattle.pl_machine.proofs.Going.{Goes, world_goes}
 use Rattle.pl_pair.proofs.Ending.{NoEnds, LastEnds, EndsIf, steps_behind, world_behind, run_ends}
 use Rattle.pl_pair.proofs.Working.{own_on, own_kinds}
 use Rattle.pl_pair.proofs.Saying.{told_on, told_front, told_all, told_lines, told_gave, up_to_next, up_to_last, up_to_told, if_known, asks_begins, messages_on, skip_blanks, none_left}
-use Rattle.pl_pair.proofs.Passing.{took_follows, follows_on, adds_nothing}
-use Rattle.pl_pair.proofs.Feeding.{front_of, heard_none, heard_more}
+use Rattle.pl_pair.proofs.Passing.{took_follows, follows_on, none_written}
+use Rattle.pl_pair.proofs.Feeding.{entries_on, own_stands, heard_none, heard_more}
+use Rattle.pl_pair.proofs.Cutting.{twice_on, twice_is, rest_some, rest_torn, whole_torn}
 use Rattle.pl_pair.specs.Chosen.{AreChosen}
 use Rattle.pl_pair.proofs.Choosing.{are_chosen}
-use Rattle.pl_pair.proofs.Closing.{FeederList, feeder_until, MoreOf, more_of, NoInputs, made_no_inputs, repair_no_input, executed_no_input, inputs_kind, inputs_are, no_further, same_model, Rests, between, over, stopped, world_in, at_front, entries_whole, over_none, between_input, stop_none}
-
--- ---- the text
-
--- a front of the text of a front of a log
-front_on : (m : Model) (held now : Option (List ℕ)) (xs ys : List Entry) → AddsFront held now (text_from m 0 xs) → AddsFront held now (text_from m 0 (xs ++ ys))
-front_on m None now xs ys adds = tt
-front_on m (Some before) now xs ys adds =
-    let t = text_from m 0 xs in
-    let more = text_from m (0 + length xs) ys in
-    let whole : text_from m 0 (xs ++ ys) ≡ t ++ more = text_joined m 0 xs ys in
-    let P : List ℕ → Type 0 = λ w. AddsFront (Some before) now w in
-    let long = length-append t more in
-    subst P (sym whole) (adds.0, (let le = adds.1 in omega arith), adds.2 ∙ ap (λ (w : List ℕ). Some (before ++ w)) (sym (take-append-le adds.0 t more adds.1)))
-
--- the same of a front that isn't all
-torn_on : (m : Model) (held now : Option (List ℕ)) (xs ys : List Entry) → AppendsFront held now (text_from m 0 xs) → AppendsFront held now (text_from m 0 (xs ++ ys))
-torn_on m None now xs ys adds = tt
-torn_on m (Some before) now xs ys adds =
-    let t = text_from m 0 xs in
-    let more = text_from m (0 + length xs) ys in
-    let whole : text_from m 0 (xs ++ ys) ≡ t ++ more = text_joined m 0 xs ys in
-    let P : List ℕ → Type 0 = λ w. AppendsFront (Some before) now w in
-    let long = length-append t more in
-    let fits : adds.0 ≤ length t = (let lt = adds.1 in omega arith) in
-    subst P (sym whole) (adds.0, (let lt = adds.1 in omega arith), adds.2 ∙ ap (λ (w : List ℕ). Some (before ++ w)) (sym (take-append-le adds.0 t more fits)))
-
--- all of a text is a front of it
-all_front : (m : Model) (held now : Option (List ℕ)) (log : List Entry) → Adds held now (text_from m 0 log) → AddsFront held now (text_from m 0 log)
-all_front m held now log adds = subst (λ (w : List ℕ). AddsFront held now w) (append-nil (text_from m 0 log)) (front_of held now (text_from m 0 log) [] adds)
+use Rattle.pl_pair.proofs.Closing.{FeederList, feeder_until, MoreOf, more_of, NoInputs, made_no_inputs, repair_no_input, executed_no_input, inputs_kind, inputs_are, no_further, one_input, same_model, Rests, between, over, stopped, world_in, at_front, entries_whole, over_none, between_input, stop_none}
 
 -- ---- the whole history, of the model that was handed in
 
@@ -160,10 +131,6 @@ list_same inputs mid first are same = record { rest = []; whole = same ∙ sym (
 list_stop : (inputs : List (Option (List ℕ))) (mid first : PlanPass) → AreInputs inputs (mine_of mid) → Stops mid first → FeederList inputs (mine_of mid) (mine_of first)
 list_stop inputs mid first are (was_stopped same stops) = list_same inputs mid first are same
 list_stop inputs mid first are (is_stopped seen on going is mine) = record { rest = (length seen, Stopped) ∷ []; whole = mine; are = are; behind = inr (length seen, refl) }
-
--- a pass's own items stand in what it has seen
-own_stands : (plan : SharedPlan) (pass : PlanPass) → BelongsTo plan pass → StandsIn (seen_of pass) (mine_of pass)
-own_stands plan pass own = All-head (StandsIn (seen_of pass)) (mine_of pass) (crew_of pass).joined own.lock.stands
 
 -- ---- one whole history
 
@@ -340,6 +307,29 @@ module _ (m : Model) (before : List Entry) (first : PlanPass) (w1 w2 : Worker) (
 
       pub settled_world : (P : World → Type 0) → InWorld front P → P (world_of m joined.whole.log)
       settled_world P here = subst (λ (l : List Entry). P (world_of m l)) (sym settled_log) (world_in P front m settled.model here)
+
+    -- ---- one message follows what was written
+
+    module _ (old : PlanPass) (front : List Noted) (handed : HandsOne old front own) (onto : IsPrefix front (items_of m joined.whole.log joined.whole.stop)) (past : length before ≤ length front) where
+      message_by : (behind : MoreOf onto.0) (es : List Entry) → behind.entries ≡ es → 0 < length (entries_in onto.0) → (message : Option (List ℕ)) × (inputs_of (entries_in onto.0) ≡ message ∷ [])
+      message_by behind [] is due =
+          let none : entries_in onto.0 ≡ [] = ap entries_in behind.is ∙ made_entries behind.entries behind.stop ∙ is in
+          let long = ap (λ (es : List Entry). length es) none in
+          absurd (omega (arith, long, due))
+      message_by behind (e ∷ es) is due =
+          let same : entries_in onto.0 ≡ e ∷ es = ap entries_in behind.is ∙ made_entries behind.entries behind.stop ∙ is in
+          let whole' : items_of m joined.whole.log joined.whole.stop ≡ front ++ (map Made (e ∷ es) ++ stop_items behind.stop) =
+          sym onto.1 ∙ ap (λ (xs : List Noted). front ++ xs) (behind.is ∙ ap (λ (xs : List Entry). map Made xs ++ stop_items behind.stop) is) in
+          let model = model_seen front handed.plan onto in
+          let input = between_input m joined.whole.log joined.whole.stop joined.whole.legal front handed.plan model onto handed.between e es same in
+          let one = one_input (items_of m joined.whole.log joined.whole.stop) inputs own (mine_of first) (mine_of w1.pass) (mine_of w2.pass) list joined.whole.stands none_one none_two (length before) joined.whole.owners
+          front handed.earlier handed.last handed.own handed.stands past e es behind.stop whole' input in
+          (one.0, ap inputs_of same ∙ one.1)
+
+      pub one_message : 0 < length (entries_in onto.0) → (message : Option (List ℕ)) × (inputs_of (entries_in onto.0) ≡ message ∷ [])
+      one_message due =
+          let behind = more_of front m joined.whole.log joined.whole.stop handed.plan joined.whole.legal onto in
+          message_by behind behind.entries refl due
 
     -- ---- a full log
 
@@ -534,17 +524,26 @@ last_ends : (b : Bool) (inputs : List (Option (List ℕ))) → b ≡ true → En
 last_ends true inputs e ends = ends
 last_ends false inputs e ends = absurd (cc)
 
+-- a feeder that has no own item handed on no message
+none_handed : (inputs : List (Option (List ℕ))) (own : List (ℕ × Noted)) → AreInputs inputs own → own ≡ [] → inputs ≡ []
+none_handed [] own are none = refl
+none_handed (i ∷ inputs) [] are none = absurd are
+none_handed (i ∷ inputs) (x ∷ own) are none = absurd (cc)
+
 -- a round that is open has no end of the input behind it
 closed_by : (w : World) (closed : Bool) → w.closed ≡ closed → Goes w → w.done ≡ true → closed ≡ true
 closed_by w true is goes done = refl
 closed_by w false is goes done = absurd (let both : true ≡ false = sym done ∙ goes is in cc)
 
 module _ (start : State) (first : PlanPass) (w1 w2 : Worker) (joined : Joined start.model start.log first w1 w2) (place : Place) (held now : Option (List ℕ)) (old : PlanPass) (seen0 : seen_of old ≡ items_of start.model start.log false) where
-  opening_in : (mid : PlanPass) → Follows old mid → length start.log ≤ length (seen_of mid)
-  opening_in mid follows =
-      let le = prefix_length (seen_of old) (seen_of mid) follows.longer in
+  opening_of_front : (front : List Noted) → IsPrefix (seen_of old) front → length start.log ≤ length front
+  opening_of_front front longer =
+      let le = prefix_length (seen_of old) front longer in
       let same = ap (λ (xs : List Noted). length xs) seen0 ∙ length_going start.model start.log false refl in
       omega (arith, le, same)
+
+  opening_in : (mid : PlanPass) → Follows old mid → length start.log ≤ length (seen_of mid)
+  opening_in mid follows = opening_of_front (seen_of mid) follows.longer
 
   model_of : (mid : PlanPass) → Follows old mid → model_in (seen_of mid) ≡ Some start.model
   model_of mid follows = follows.model ∙ (ap model_in seen0 ∙ model_in_items start.model start.log false joined.legal)
@@ -567,18 +566,48 @@ module _ (start : State) (first : PlanPass) (w1 w2 : Worker) (joined : Joined st
     told_read : ReadUpTo place (inputs_of more_entries) end
     told_read = subst (λ (is : List (Option (List ℕ))). ReadUpTo place is end) (sym told_same) (up_to_told (world_of start.model joined.whole.log).done place end tells.inputs tells.heard told_ends)
 
-    -- a front was written
-    part_front : AddsFront held now (text_from start.model 0 (entries_in (seen_of mid))) → AddsFront held now (text_of_log start.model joined.whole.log)
-    part_front adds =
-        let P : List Entry → Type 0 = λ l. AddsFront held now (text_from start.model 0 l) in
-        subst P (sym (entries_whole start.model joined.whole.log joined.whole.stop joined.whole.legal (seen_of mid) own.seen (model_of mid tells.follows) onto))
-        (front_on start.model held now (entries_in (seen_of mid)) (entries_in onto.0) adds)
+    -- of the lines behind a front of what was seen, a front was written, and not all of them
+    module _ (next : ℕ) (so_far : Option (List ℕ)) (writes : Writes start.model old held mid so_far next) (torn : AppendsFront so_far now (lines_behind start.model next (seen_of mid))) where
+      abbrev behind_front : List Noted
+      behind_front = twice_on writes.front (seen_of mid) (items_of start.model joined.whole.log joined.whole.stop) writes.in_front onto
 
-    part_torn : AppendsFront held now (text_from start.model 0 (entries_in (seen_of mid))) → AppendsFront held now (text_of_log start.model joined.whole.log)
-    part_torn adds =
-        let P : List Entry → Type 0 = λ l. AppendsFront held now (text_from start.model 0 l) in
-        subst P (sym (entries_whole start.model joined.whole.log joined.whole.stop joined.whole.legal (seen_of mid) own.seen (model_of mid tells.follows) onto))
-        (torn_on start.model held now (entries_in (seen_of mid)) (entries_in onto.0) adds)
+      front_onto : writes.front ++ behind_front ≡ items_of start.model joined.whole.log joined.whole.stop
+      front_onto = twice_is start.model writes.front (seen_of mid) (items_of start.model joined.whole.log joined.whole.stop) writes.in_front onto next writes.count
+
+      log_parts : joined.whole.log ≡ entries_in writes.front ++ entries_in behind_front
+      log_parts =
+          sym (entries_in_items start.model joined.whole.log joined.whole.stop) ∙ entries_on writes.front (items_of start.model joined.whole.log joined.whole.stop) (behind_front, front_onto)
+
+      last_torn : AppendsFront so_far now (text_from start.model (length (entries_in writes.front)) (entries_in behind_front))
+      last_torn = rest_torn start.model writes.front (seen_of mid) (items_of start.model joined.whole.log joined.whole.stop) writes.in_front onto next writes.count so_far now torn
+
+      all_torn : AppendsFront held now (text_of_log start.model joined.whole.log)
+      all_torn = whole_torn start.model held so_far now joined.whole.log (entries_in writes.front) (entries_in behind_front) log_parts writes.written last_torn
+
+      -- the front is a closed round's, and one message stands behind it
+      cut_one : HandsOne old writes.front (mine_of mid) → IsCutShort start.model joined.whole.log held now
+      cut_one handed =
+          let here : IsPrefix writes.front (items_of start.model joined.whole.log joined.whole.stop) = (behind_front, front_onto) in
+          let model = same_model writes.front (items_of start.model joined.whole.log joined.whole.stop) start.model handed.plan here (model_in_items start.model joined.whole.log joined.whole.stop joined.whole.legal) in
+          let due = rest_some start.model writes.front (seen_of mid) (items_of start.model joined.whole.log joined.whole.stop) writes.in_front onto next writes.count writes.due in
+          let one = one_message start.model start.log first w1 w2 joined tells.inputs (mine_of mid) list old writes.front handed here (opening_of_front writes.front handed.longer) due in
+          record {
+            earlier = entries_in writes.front;
+            last = entries_in behind_front;
+            parts = log_parts;
+            round = answers one.0 (world_in IsBetween writes.front start.model model handed.between).0 one.1;
+            written = so_far;
+            whole = writes.written;
+            part = last_torn;
+            front = all_torn;
+          }
+
+      in_part : IsWrittenInPart start.model joined.whole.log more_entries held now
+      in_part = by writes.behind
+        where
+          by : (mine_of mid ≡ []) ⊎ HandsOne old writes.front (mine_of mid) → IsWrittenInPart start.model joined.whole.log more_entries held now
+          by (inl none) = in_first_round (told_same ∙ none_handed tells.inputs (mine_of mid) tells.mine none) all_torn
+          by (inr handed) = in_last_round (cut_one handed)
 
     module _ (rests : Rests (seen_of mid)) (written : WritesAll start.model held (seen_of mid) now) where
       settled : Settled start.model held now (seen_of mid) (mine_of mid)
@@ -613,9 +642,6 @@ module _ (start : State) (first : PlanPass) (w1 w2 : Worker) (joined : Joined st
             given = subst (λ (is : List (Option (List ℕ))). Given r place is behind) (sym told_same) (given_by r c old mid place end behind tells f whys is (no_ends (world_of start.model joined.whole.log).done tells.inputs at.1 told_ends) asks);
             written = text_is;
           }
-
-      front_is : AddsFront held now (text_of_log start.model joined.whole.log)
-      front_is = all_front start.model held now joined.whole.log text_is
 
       -- a worker met a full log, in an open round
       worker_open : (is_full w1.refusal || is_full w2.refusal) ≡ true → (world_of start.model joined.whole.log).closed ≡ false
@@ -684,20 +710,22 @@ module _ (start : State) (first : PlanPass) (w1 w2 : Worker) (joined : Joined st
     -- a write failed
     runs_torn : FeedsTorn plan start.model old place held mid end now → PairRun joined.seed start place held ended.WriteFault end now
     runs_torn feeds =
-        let list = list_stop feeds.tells.inputs mid first feeds.tells.mine stops in
-        pair_run ended.WriteFault start first w1 w2 joined place held now old mid end end feeds.tells list (λ e. absurd (cc)) (λ e. absurd (cc))
+        let tells = feeds.feeding.tells in
+        let list = list_stop tells.inputs mid first tells.mine stops in
+        pair_run ended.WriteFault start first w1 w2 joined place held now old mid end end tells list (λ e. absurd (cc)) (λ e. absurd (cc))
         (record {
-          read = told_read start first w1 w2 joined place held now old seen0 mid end feeds.tells plan feeds.own list takes.longer;
-          written = part_torn start first w1 w2 joined place held now old seen0 mid end feeds.tells plan feeds.own list takes.longer feeds.written;
+          read = told_read start first w1 w2 joined place held now old seen0 mid end tells plan feeds.feeding.own list takes.longer;
+          written = in_part start first w1 w2 joined place held now old seen0 mid end tells plan feeds.feeding.own list takes.longer feeds.next feeds.so_far feeds.feeding.writes feeds.torn;
         })
 
     -- memory was wanting for the lines of a round
-    runs_part : FeedsPart plan start.model old place held mid end now → PairRun joined.seed start place held ended.Memory end now
+    runs_part : FeedsTorn plan start.model old place held mid end now → PairRun joined.seed start place held ended.Memory end now
     runs_part feeds =
-        let list = list_stop feeds.tells.inputs mid first feeds.tells.mine stops in
-        pair_run ended.Memory start first w1 w2 joined place held now old mid end end feeds.tells list (λ e. absurd (cc)) (λ e. absurd (cc))
-        (in_lines (told_read start first w1 w2 joined place held now old seen0 mid end feeds.tells plan feeds.own list takes.longer)
-        (part_front start first w1 w2 joined place held now old seen0 mid end feeds.tells plan feeds.own list takes.longer feeds.written))
+        let tells = feeds.feeding.tells in
+        let list = list_stop tells.inputs mid first tells.mine stops in
+        pair_run ended.Memory start first w1 w2 joined place held now old mid end end tells list (λ e. absurd (cc)) (λ e. absurd (cc))
+        (in_lines (told_read start first w1 w2 joined place held now old seen0 mid end tells plan feeds.feeding.own list takes.longer)
+        (in_part start first w1 w2 joined place held now old seen0 mid end tells plan feeds.feeding.own list takes.longer feeds.next feeds.so_far feeds.feeding.writes feeds.torn))
 
     -- to read a message
     runs_unread : FeedsUntil plan start.model cut.Memory old place held mid end now → PairRun joined.seed start place held ended.Memory end now
@@ -791,8 +819,9 @@ module _ (start : State) (first : PlanPass) (w1 w2 : Worker) (joined : Joined st
         let workers = is_full w1.refusal || is_full w2.refusal in
         pair_run (refusal_of false w1.refusal w2.refusal) start first w1 w2 joined place held now old mid end end tells list (λ e. absurd (never_finished others workers e)) (λ e. no_other others workers e)
         (ends_refusal others workers start.model joined.whole.log (more_entries start first w1 w2 joined place held now old seen0 mid end tells plan feeds.own list takes.longer) place end held now
-        (in_lines (told_read start first w1 w2 joined place held now old seen0 mid end tells plan feeds.own list takes.longer)
-        (front_is start first w1 w2 joined place held now old seen0 mid end tells plan feeds.own list takes.longer rests feeds.written))
+        (all_lines (told_read start first w1 w2 joined place held now old seen0 mid end tells plan feeds.own list takes.longer)
+        (world_is start first w1 w2 joined place held now old seen0 mid end tells plan feeds.own list takes.longer rests feeds.written (λ w. w.done ≡ false) feeds.going)
+        (text_is start first w1 w2 joined place held now old seen0 mid end tells plan feeds.own list takes.longer rests feeds.written))
         (λ e is. worker_full start first w1 w2 joined place held now old seen0 mid end tells plan feeds.own list takes.longer rests feeds.written is))
 
     runs_cut : FeedsCut plan start.model old place held mid end now → PairRun joined.seed start place held (refusal_of false w1.refusal w2.refusal) end now
@@ -851,7 +880,7 @@ runs_none seed start place held legal =
       feeder_goes = λ e. absurd (cc);
       refused = λ e. absurd (cc);
       messages = if_known place.ahead (λ bytes. IsPrefix [] (messages_of (lines_of bytes))) (λ bytes is. (messages_of (lines_of bytes), refl));
-      ends = in_lines (up_to_next place place [] (heard_none place) tt) (adds_nothing held (text_of_log m start.log));
+      ends = in_lines (up_to_next place place [] (heard_none place) tt) (in_first_round refl (none_written m 0 held start.log (log_is_some m start.log legal)));
     }
 
 pub not_done : (w u : World) → w ≡ record u { state = w.state } → w.done ≡ false → u.done ≡ false
@@ -868,14 +897,14 @@ feeds_follows plan m old new place end held now (Err c) feeds = follows_on old f
     by_cut (fed.stopped f) = f.tells.follows
 
     by_short : FeedsShort plan m old place held feeds.mid end now → Follows old feeds.mid
-    by_short (for_lines f) = f.tells.follows
+    by_short (for_lines f) = f.feeding.tells.follows
     by_short (for_message f) = follows_on old f.mid feeds.mid f.waiting.tells.follows f.follows
     by_short (for_reader f) = f.waiting.tells.follows
 
     by : (c : Cut) → FeedsAll plan m old place held (Err c) feeds.mid end now → Follows old feeds.mid
     by cut.Read f = f.waiting.tells.follows
     by cut.Limit f = f.waiting.tells.follows
-    by cut.Write f = f.tells.follows
+    by cut.Write f = f.feeding.tells.follows
     by cut.Memory f = by_short f
     by cut.Full f = follows_on old f.mid feeds.mid f.waiting.tells.follows f.follows
     by cut.Stopped f = by_cut f

@@ -1,7 +1,8 @@
 -- All that the feeder does: the messages that it handed to the plan, and what it wrote.
-use Rattle.std.specs.Prelude.{◌≡◌, ℕ, List, [], ◌∷◌, ◌++◌, length, filter, not, true, false, Option, Some, None, Result, Ok, Err, ⊤}
+use Rattle.std.specs.Prelude.{◌≡◌, ◌<◌, ℕ, List, [], ◌∷◌, ◌++◌, length, filter, not, true, false, Option, Some, None, Result, Ok, Err, ◌⊎◌, ⊤}
 use Rattle.std.specs.List.{filter_map}
 use mathlib.Core.List.{IsPrefix}
+use Rattle.pl_turn.specs.History.{StandsIn}
 use Rattle.pl_turn.specs.Passes.{seen_of, mine_of}
 use Rattle.pl_io.specs.declared.errors.LineFault.{LineFault}
 use Rattle.pl_io.specs.Writes.{AppendsFront}
@@ -16,13 +17,13 @@ use Rattle.pl_shared.specs.declared.noted.Noted.{Noted}
 use Rattle.pl_shared.specs.declared.noted.Noted.TheVariants.{Opened, Made, Stopped}
 use Rattle.pl_shared.specs.declared.plan.SharedPlan.{SharedPlan}
 use Rattle.pl_shared.specs.Items.{entries_in, stop_in, InWorld}
-use Rattle.pl_shared.specs.Plans.{PlanPass, BelongsTo}
+use Rattle.pl_shared.specs.Plans.{PlanPass, IsPlan, BelongsTo}
 use Rattle.pl_shared.specs.Turns.{TakesTurn, Stops}
 use Rattle.pl_pair.specs.declared.cut.Cut.{Cut}
 use Rattle.pl_pair.specs.declared.cut.Cut.TheVariants as cut
 use Rattle.pl_pair.specs.Cuts.{cut_by}
 use Rattle.pl_pair.specs.declared.rounds.Stage.TheVariants as stage
-use Rattle.pl_pair.specs.Rounds.{Follows, Looks, IsBetween, AddsFront, RoundEnds}
+use Rattle.pl_pair.specs.Rounds.{Follows, Looks, IsBetween, lines_behind, RoundEnds}
 use Rattle.pl_stream.specs.Places.{Place}
 use Rattle.pl_pair.specs.Asking.{Faults, HandsOn, Passes}
 
@@ -80,12 +81,24 @@ pub record Tells (old : PlanPass) (start : Place) (new : PlanPass) (place : Plac
 
 -- ---- lines
 
--- A front of the history was written.
-pub record Writes (m : Model) (held : Option (List ℕ)) (seen : List Noted) (now : Option (List ℕ)) (next : ℕ) : Type 0 where
+-- One message was handed on behind these items, which go on from what the pass had seen to the end of a closed round. The other own items stand among them.
+pub record HandsOne (old : PlanPass) (front : List Noted) (mine : List (ℕ × Noted)) : Type 0 where
+  pub longer : IsPrefix (seen_of old) front
+  pub plan : IsPlan front
+  pub between : InWorld front IsBetween
+  pub earlier : List (ℕ × Noted)
+  pub stands : StandsIn front earlier
+  pub last : ℕ × Noted
+  pub own : mine ≡ earlier ++ last ∷ []
+
+-- A front of the history was written, and entries stand behind it: those of the round of the last message, or no message was handed on.
+pub record Writes (m : Model) (old : PlanPass) (held : Option (List ℕ)) (new : PlanPass) (now : Option (List ℕ)) (next : ℕ) : Type 0 where
   pub front : List Noted
-  pub in_front : IsPrefix front seen
+  pub in_front : IsPrefix front (seen_of new)
   pub count : next ≡ length (entries_in front)
+  pub due : next < length (entries_in (seen_of new))
   pub written : Adds held now (text_from m 0 (entries_in front))
+  pub behind : (mine_of new ≡ []) ⊎ HandsOne old front (mine_of new)
 
 -- All that was seen was written.
 abbrev pub WritesAll : Model → Option (List ℕ) → List Noted → Option (List ℕ) → Type 0
@@ -125,7 +138,7 @@ Steps plan m from start old held (Err c) place new now = StepsCut plan m from st
 pub record Feeding (plan : SharedPlan) (m : Model) (old : PlanPass) (start : Place) (held : Option (List ℕ)) (new : PlanPass) (place : Place) (now : Option (List ℕ)) (next : ℕ) : Type 0 where
   pub own : BelongsTo plan new
   pub tells : Tells old start new place
-  pub writes : Writes m held (seen_of new) now next
+  pub writes : Writes m old held new now next
 
 -- Behind a round: what was seen was written, and the round is closed.
 pub record Waiting (plan : SharedPlan) (m : Model) (old : PlanPass) (start : Place) (held : Option (List ℕ)) (new : PlanPass) (place : Place) (now : Option (List ℕ)) : Type 0 where
@@ -166,21 +179,16 @@ pub record FeedsStopped (plan : SharedPlan) (m : Model) (old : PlanPass) (start 
   pub stopped : stop_in (seen_of new) ≡ true
   pub going : InWorld (seen_of new) (λ w. w.done ≡ false)
 
--- A write failed: a front of what was seen was written, and not all of it. No message was read behind those that were handed on.
+-- Of the lines of a round a front was written, and not all of them. No message was read behind those that were handed on.
 pub record FeedsTorn (plan : SharedPlan) (m : Model) (old : PlanPass) (start : Place) (held : Option (List ℕ)) (new : PlanPass) (place : Place) (now : Option (List ℕ)) : Type 0 where
-  pub own : BelongsTo plan new
-  pub tells : Tells old start new place
-  pub written : AppendsFront held now (text_from m 0 (entries_in (seen_of new)))
-
--- Memory was wanting for the lines of a round: a front of what was seen was written. No message was read behind those that were handed on.
-pub record FeedsPart (plan : SharedPlan) (m : Model) (old : PlanPass) (start : Place) (held : Option (List ℕ)) (new : PlanPass) (place : Place) (now : Option (List ℕ)) : Type 0 where
-  pub own : BelongsTo plan new
-  pub tells : Tells old start new place
-  pub written : AddsFront held now (text_from m 0 (entries_in (seen_of new)))
+  pub next : ℕ
+  pub so_far : Option (List ℕ)
+  pub feeding : Feeding plan m old start held new place so_far next
+  pub torn : AppendsFront so_far now (lines_behind m next (seen_of new))
 
 -- Memory was wanting for the lines of a round, to hand a message on, or to read one.
 pub data FeedsShort (plan : SharedPlan) (m : Model) (old : PlanPass) (start : Place) (held : Option (List ℕ)) (new : PlanPass) (place : Place) (now : Option (List ℕ)) : Type 0 where
-  for_lines : FeedsPart plan m old start held new place now → FeedsShort plan m old start held new place now
+  for_lines : FeedsTorn plan m old start held new place now → FeedsShort plan m old start held new place now
   for_message : FeedsRefused plan m cut.Memory old start held new place now → FeedsShort plan m old start held new place now
   for_reader : FeedsUntil plan m cut.Memory old start held new place now → FeedsShort plan m old start held new place now
 

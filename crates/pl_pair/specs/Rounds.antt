@@ -1,5 +1,5 @@
 -- What the feeder does between two messages: it waits for the round to close, and writes its lines.
-use Rattle.std.specs.Prelude.{◌≡◌, ◌+◌, ◌≤◌, ℕ, List, ◌++◌, length, take, drop, true, false, ◌||◌, Option, Some, IfSome, Result, Ok, Err}
+use Rattle.std.specs.Prelude.{◌≡◌, ◌+◌, ℕ, List, length, drop, true, false, ◌||◌, Option, Result, Ok, Err}
 use mathlib.Core.List.{IsPrefix}
 use Rattle.pl_io.specs.Writes.{AppendsFront}
 use Rattle.pl_turn.specs.Passes.{seen_of, mine_of, crew_of}
@@ -36,10 +36,6 @@ IsBetween w = (w.closed ≡ true) × (w.done ≡ false)
 abbrev pub IsRound : ℕ → List Noted → Part → Type 0
 IsRound from seen part = Copies from seen part × ((part.closed || part.stopped) ≡ true)
 
--- where the sink tells its bytes, a front of these came behind them
-abbrev pub AddsFront : Option (List ℕ) → Option (List ℕ) → List ℕ → Type 0
-AddsFront old new text = IfSome old (λ before. (count : ℕ) × (count ≤ length text) × (new ≡ Some (before ++ take count text)))
-
 -- where a part says that the run stands
 abbrev pub StageOf : Part → ℕ → Result Stage Cut → Type 0
 StageOf part from (Ok stage.Ended) = part.done ≡ true
@@ -55,13 +51,13 @@ StageOf part from (Err cut.Memory) = ⊥
 abbrev pub lines_behind : Model → ℕ → List Noted → List ℕ
 lines_behind m from seen = text_from m from (drop from (entries_in seen))
 
--- what was written, and where the run stands behind it
+-- What was written, and where the run stands behind it. Where a write failed or memory was wanting, a front of the lines was written, and not all of them.
 abbrev pub RoundEnds : Model → ℕ → Option (List ℕ) → Result Stage Cut → List Noted → Option (List ℕ) → Type 0
 RoundEnds m from held (Ok stage.Ended) seen now = Adds held now (lines_behind m from seen) × InWorld seen (λ w. w.done ≡ true)
 RoundEnds m from held (Ok (stage.Waits next)) seen now = Adds held now (lines_behind m from seen) × (next ≡ length (entries_in seen)) × InWorld seen IsBetween
 RoundEnds m from held (Err cut.Stopped) seen now = Adds held now (lines_behind m from seen) × (stop_in seen ≡ true) × InWorld seen (λ w. w.done ≡ false)
 RoundEnds m from held (Err cut.Write) seen now = AppendsFront held now (lines_behind m from seen)
-RoundEnds m from held (Err cut.Memory) seen now = AddsFront held now (lines_behind m from seen)
+RoundEnds m from held (Err cut.Memory) seen now = AppendsFront held now (lines_behind m from seen)
 RoundEnds m from held (Err cut.Read) seen now = ⊥
 RoundEnds m from held (Err cut.Limit) seen now = ⊥
 RoundEnds m from held (Err cut.Full) seen now = ⊥

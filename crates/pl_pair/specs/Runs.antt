@@ -19,7 +19,7 @@ use Rattle.pl_machine.specs.Sound.{State}
 use Rattle.pl_render.specs.Lines.{text_of_log}
 use Rattle.pl_stream.specs.Reads.{GaveKnown, StopsAt}
 use Rattle.pl_stream.specs.Stops.{IsStuckKnown}
-use Rattle.pl_stream.specs.Written.{Adds}
+use Rattle.pl_stream.specs.Written.{Adds, IsCutShort}
 use Rattle.pl_shared.specs.declared.noted.Noted.{Noted}
 use Rattle.pl_shared.specs.Items.{items_of, model_in}
 use Rattle.pl_shared.specs.Roles.{worker_of, is_input, is_repair, is_executed}
@@ -30,7 +30,7 @@ use Rattle.pl_pair.specs.declared.ended.Ended.{Ended}
 use Rattle.pl_pair.specs.declared.ended.Ended.TheVariants as ended
 use Rattle.pl_pair.specs.Duties.{chooser_of}
 use Rattle.pl_pair.specs.Served.{AreOf, AreOfUntil, Made, MakesOwn, Refused}
-use Rattle.pl_pair.specs.Rounds.{IsBetween, AddsFront}
+use Rattle.pl_pair.specs.Rounds.{IsBetween}
 use Rattle.pl_pair.specs.Endings.{is_other}
 use Rattle.pl_pair.specs.Chosen.{AreChosen}
 use Rattle.pl_stream.specs.Places.{Place}
@@ -177,19 +177,25 @@ pub record RunsFull (m : Model) (log entries : List Entry) (place : Place) (held
   pub due : (((world_of m log).closed ≡ false) × (pending ≡ [])) ⊎ (((world_of m log).closed ≡ true) × IsNext place (inputs_of entries) pending)
   pub written : WritesLog m log held now
 
--- A write failed: a front of the text of the whole log was written, and not all of it. No line was asked for behind the last input.
+-- A front of the text of the whole log was written, and not all of it: all up to the last message's round; or no message was read.
+pub data IsWrittenInPart (m : Model) (log entries : List Entry) (held now : Option (List ℕ)) : Type 0 where
+  in_last_round : IsCutShort m log held now → IsWrittenInPart m log entries held now
+  in_first_round : inputs_of entries ≡ [] → AppendsFront held now (text_of_log m log) → IsWrittenInPart m log entries held now
+
+-- A write failed: the text of the whole log was written in part. No line was asked for behind the last input.
 pub record RunsTorn (m : Model) (log entries : List Entry) (place : Place) (held : Option (List ℕ)) (behind : Place) (now : Option (List ℕ)) : Type 0 where
   pub read : ReadUpTo place (inputs_of entries) behind
-  pub written : AppendsFront held now (text_of_log m log)
+  pub written : IsWrittenInPart m log entries held now
 
 -- How far was read where memory was wanting for the message behind these inputs: it was read and is no input. Or memory was wanting to read it, and of the reader that is behind it no more is said.
 pub data ReadsShort (place : Place) (inputs : List (Option (List ℕ))) (behind : Place) : Type 0 where
   one_behind : (next : Option (List ℕ)) → ReadUpTo place (inputs ++ next ∷ []) behind → InMessages place (λ messages. IsPrefix (inputs ++ next ∷ []) messages) → ReadsShort place inputs behind
   one_unread : (middle : Place) → ReadUpTo place inputs middle → Faults middle fault.Memory behind → ReadsShort place inputs behind
 
--- Memory was wanting: a front of the text of the whole log was written, and no line was asked for behind the last input. Or, between two rounds, all of the text was written, and memory was wanting for the next message.
+-- Memory was wanting: the text of the whole log was written in part, or all of it within a round, and no line was asked for behind the last input. Or, between two rounds, all of the text was written, and memory was wanting for the next message.
 pub data RunsShort (m : Model) (log entries : List Entry) (place : Place) (held : Option (List ℕ)) (behind : Place) (now : Option (List ℕ)) : Type 0 where
-  in_lines : ReadUpTo place (inputs_of entries) behind → AddsFront held now (text_of_log m log) → RunsShort m log entries place held behind now
+  in_lines : ReadUpTo place (inputs_of entries) behind → IsWrittenInPart m log entries held now → RunsShort m log entries place held behind now
+  all_lines : ReadUpTo place (inputs_of entries) behind → (world_of m log).done ≡ false → WritesLog m log held now → RunsShort m log entries place held behind now
   behind_lines : IsBetween (world_of m log) → ReadsShort place (inputs_of entries) behind → WritesLog m log held now → RunsShort m log entries place held behind now
 
 abbrev pub RunEnds : Ended → Model → List Entry → List Entry → Place → Option (List ℕ) → Place → Option (List ℕ) → Type 0

@@ -1,5 +1,5 @@
 //! The feeder: it alone reads and writes.
-ghost use Rattle.std.specs.Prelude.{◌≡◌, ◌≤◌, [], length, None, IsErrOf};
+ghost use Rattle.std.specs.Prelude.{◌≡◌, ◌≤◌, ◌<◌, [], length, None, IsErrOf};
 ghost use Rattle.pl_io.specs.Faults.{Rose};
 ghost use Rattle.pl_turn.specs.Passes.{seen_of, mine_of};
 ghost use Rattle.pl_shared.specs.Items.{entries_in};
@@ -59,7 +59,7 @@ fn step<R: Wait, S: Source, O: Sink>(
 ) -> Result<Option<u32>, Cut>
     requires own { BelongsTo plan.now pass.old }
     requires hands { AreHands plan.now hands.old }
-    requires from { from ≤ length (entries_in (seen_of pass.old)) }
+    requires from { from < length (entries_in (seen_of pass.old)) }
     requires limit { lines.old.limit ≤ 4096 }
     ensures own { BelongsTo plan.now pass.new }
     ensures hands { AreHands plan.now hands.new }

@@ -1,5 +1,5 @@
 //! A round's lines are written once it has closed.
-ghost use Rattle.std.specs.Prelude.{◌≤◌, ◌+◌, length, IsErrOf};
+ghost use Rattle.std.specs.Prelude.{◌≤◌, ◌<◌, ◌+◌, length, IsErrOf};
 ghost use Rattle.pl_io.specs.Faults.{Rose};
 ghost use Rattle.pl_turn.specs.Passes.{seen_of};
 ghost use Rattle.pl_shared.specs.Items.{entries_in};
@@ -37,7 +37,7 @@ fn stage_of(part: &Part, from: u32) -> Result<Stage, Cut>
 }
 
 /// Waits for the round to close, and writes the lines of the entries from a number on.
-#[tactic(auto, using(crate::proofs::Passing::round_ends, crate::proofs::Passing::round_breaks, crate::proofs::Passing::write_rose, crate::proofs::Passing::adds_nothing, crate::proofs::Passing::within_looks, crate::proofs::Passing::round_short))]
+#[tactic(auto, using(crate::proofs::Passing::round_ends, crate::proofs::Passing::round_breaks, crate::proofs::Passing::write_rose, crate::proofs::Passing::nothing_written, crate::proofs::Passing::behind_looks, crate::proofs::Passing::within, crate::proofs::Passing::round_short))]
 pub(crate) fn write_round<R: Wait, O: Sink>(
     rt: &R,
     alloc: Global,
@@ -50,7 +50,7 @@ pub(crate) fn write_round<R: Wait, O: Sink>(
 ) -> Result<Stage, Cut>
     requires own { BelongsTo plan.now pass.old }
     requires hands { AreHands plan.now hands.old }
-    requires from { from ≤ length (entries_in (seen_of pass.old)) }
+    requires from { from < length (entries_in (seen_of pass.old)) }
     ensures own { BelongsTo plan.now pass.new }
     ensures hands { AreHands plan.now hands.new }
     ensures duties { SameDuties hands.old hands.new }

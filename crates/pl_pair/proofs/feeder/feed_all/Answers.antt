@@ -1,5 +1,5 @@
 use Rattle.std.proofs.Common.{refl, ◌∙◌, arith}
-use Rattle.pl_pair.proofs.Feeding.{feeding_none, feeding_within, feeds_on, feeds_out, feeds_cut}
+use Rattle.pl_pair.proofs.Feeding.{feeding_none, feeding_due, feeds_on, feeds_out, feeds_cut}
 use Rattle.pl_pair.proofs.feeder.feed_all.Goals as goal
 
 pub loop-init : goal.loop-init
@@ -12,7 +12,7 @@ loop-init g c = record {
 }
 
 pub step-requires-clause-from : goal.step-requires-clause-from
-step-requires-clause-from g c = feeding_within _ _ _ _ _ _ _ _ _ c.loop.invariant.so_far
+step-requires-clause-from g c = feeding_due _ _ _ _ _ _ _ _ _ c.loop.invariant.so_far
 
 pub loop-preserved : goal.loop-preserved
 loop-preserved g c =
