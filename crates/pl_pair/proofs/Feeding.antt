@@ -229,7 +229,7 @@ not_write fault.Memory e = cc
 -- ---- the loop
 
 -- a plan has entries
-plan_some : (seen : List Noted) → IsPlan seen → 0 < length (entries_in seen)
+pub plan_some : (seen : List Noted) → IsPlan seen → 0 < length (entries_in seen)
 plan_some seen plan =
     let same = ap (λ (es : List Entry). length es) (ap entries_in plan.is ∙ entries_in_items plan.model plan.log plan.stopped) in
     let some = log_is_some plan.model plan.log plan.legal in

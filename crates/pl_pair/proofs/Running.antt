@@ -62,7 +62,7 @@ use Rattle.pl_pair.proofs.Ending.{NoEnds, LastEnds, EndsIf, steps_behind, world_
 use Rattle.pl_pair.proofs.Working.{own_on, own_kinds}
 use Rattle.pl_pair.proofs.Saying.{told_on, told_front, told_all, told_lines, told_gave, up_to_next, up_to_last, up_to_told, if_known, asks_begins, messages_on, skip_blanks, none_left}
 use Rattle.pl_pair.proofs.Passing.{took_follows, follows_on, none_written}
-use Rattle.pl_pair.proofs.Feeding.{entries_on, own_stands, heard_none, heard_more}
+use Rattle.pl_pair.proofs.Feeding.{entries_on, own_stands, heard_none, heard_more, plan_some}
 use Rattle.pl_pair.proofs.Cutting.{twice_on, twice_is, rest_some, rest_torn, whole_torn}
 use Rattle.pl_pair.specs.Chosen.{AreChosen}
 use Rattle.pl_pair.proofs.Choosing.{are_chosen}
@@ -595,7 +595,7 @@ module _ (start : State) (first : PlanPass) (w1 w2 : Worker) (joined : Joined st
             earlier = entries_in writes.front;
             last = entries_in behind_front;
             parts = log_parts;
-            round = answers one.0 (world_in IsBetween writes.front start.model model handed.between).0 one.1;
+            round = answers one.0 (plan_some writes.front handed.plan) (world_in IsBetween writes.front start.model model handed.between).0 one.1;
             written = so_far;
             whole = writes.written;
             part = last_torn;

@@ -192,7 +192,7 @@ pub data ReadsShort (place : Place) (inputs : List (Option (List ℕ))) (behind 
   one_behind : (next : Option (List ℕ)) → ReadUpTo place (inputs ++ next ∷ []) behind → InMessages place (λ messages. IsPrefix (inputs ++ next ∷ []) messages) → ReadsShort place inputs behind
   one_unread : (middle : Place) → ReadUpTo place inputs middle → Faults middle fault.Memory behind → ReadsShort place inputs behind
 
--- Memory was wanting: the text of the whole log was written in part, or all of it within a round, and no line was asked for behind the last input. Or, between two rounds, all of the text was written, and memory was wanting for the next message.
+-- Memory was wanting: the text of the whole log was written in part, or all of it, the world not done, and no line was asked for behind the last input. Or, between two rounds, all of the text was written, and memory was wanting for the next message.
 pub data RunsShort (m : Model) (log entries : List Entry) (place : Place) (held : Option (List ℕ)) (behind : Place) (now : Option (List ℕ)) : Type 0 where
   in_lines : ReadUpTo place (inputs_of entries) behind → IsWrittenInPart m log entries held now → RunsShort m log entries place held behind now
   all_lines : ReadUpTo place (inputs_of entries) behind → (world_of m log).done ≡ false → WritesLog m log held now → RunsShort m log entries place held behind now
