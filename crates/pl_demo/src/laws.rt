@@ -5,7 +5,7 @@ ghost use Rattle.pl_report.specs.Demonstration.{demo_text};
 ghost use Rattle.pl_demo.specs.DemoModel.{demo_words, demo_model};
 
 /// The demonstration's input begins with the same text for each number of goals, and this text is a model's.
-pub fn demo_model_laws()
+pub fn laws_of_demonstration()
     ensures text { (goals : ℕ) → goals ≤ 4000 → (split_of (demo_text goals)).text ≡ Some demo_words }
     ensures model { IsModelText demo_words demo_model }
 {}

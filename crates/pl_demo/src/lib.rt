@@ -3,4 +3,4 @@
 
 mod laws;
 
-pub use laws::demo_model_laws;
+pub use laws::laws_of_demonstration;

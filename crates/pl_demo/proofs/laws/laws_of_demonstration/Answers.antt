@@ -1,6 +1,6 @@
 use Rattle.pl_demo.proofs.Beginning.{demo_begins}
 use Rattle.pl_demo.proofs.Modelling.{demo_accepted}
-use Rattle.pl_demo.proofs.laws.demo_model_laws.Goals as goal
+use Rattle.pl_demo.proofs.laws.laws_of_demonstration.Goals as goal
 
 pub returns-clause-text : goal.returns-clause-text
 returns-clause-text c = demo_begins
