@@ -36,19 +36,45 @@ scan_solution = record {
   each_point = refl;
   origin = refl;
   meets = All-from_recursion (Meets scan_times) scan_edges (
-    met (apart 1 0 (pos 0)) (omega (arith, ints)), (
-    met (apart 2 0 (pos 0)) (omega (arith, ints)), (
-    met (apart 3 0 (pos 0)) (omega (arith, ints)), (
-    met (apart 4 0 (pos 0)) (omega (arith, ints)), (
-    met (apart 5 0 (pos 0)) (omega (arith, ints)), (
-    met (apart 0 1 (pos 10)) (omega (arith, ints)), (
-    met (apart 1 0 (negsuc 9)) (omega (arith, ints)), (
-    met (apart 2 3 (pos 4)) (omega (arith, ints)), (
-    met (apart 3 2 (negsuc 3)) (omega (arith, ints)), (
-    met (apart 4 5 (pos 4)) (omega (arith, ints)), (
-    met (apart 5 4 (negsuc 3)) (omega (arith, ints)), (
-    met (apart 3 4 (pos 3)) (omega (arith, ints)), (
-    met (apart 4 3 (pos 0)) (omega (arith, ints)), tt)))))))))))));
+    met (apart 1 0 (pos 0)) (omega (arith, ints)),
+    (
+      met (apart 2 0 (pos 0)) (omega (arith, ints)),
+      (
+        met (apart 3 0 (pos 0)) (omega (arith, ints)),
+        (
+          met (apart 4 0 (pos 0)) (omega (arith, ints)),
+          (
+            met (apart 5 0 (pos 0)) (omega (arith, ints)),
+            (
+              met (apart 0 1 (pos 10)) (omega (arith, ints)),
+              (
+                met (apart 1 0 (negsuc 9)) (omega (arith, ints)),
+                (
+                  met (apart 2 3 (pos 4)) (omega (arith, ints)),
+                  (
+                    met (apart 3 2 (negsuc 3)) (omega (arith, ints)),
+                    (
+                      met (apart 4 5 (pos 4)) (omega (arith, ints)),
+                      (
+                        met (apart 5 4 (negsuc 3)) (omega (arith, ints)),
+                        (
+                          met (apart 3 4 (pos 3)) (omega (arith, ints)),
+                          (
+                            met (apart 4 3 (pos 0)) (omega (arith, ints)),
+                            tt,
+                          ),
+                        ),
+                      ),
+                    ),
+                  ),
+                ),
+              ),
+            ),
+          ),
+        ),
+      ),
+    ),
+  );
 }
 
 module _ (others : List ℤ) (s : IsSolution scan_net others) where
