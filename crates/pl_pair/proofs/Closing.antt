@@ -166,9 +166,9 @@ one_at p x = cond (nat_eq x.0 p) 1 0
 pub at_other : (p : ℕ) (x : ℕ × Noted) → x.0 ≢ p → one_at p x ≡ 0
 at_other p x ne = ap (λ (b : Bool). cond b 1 0) (ne_eqb x.0 p ne)
 
-is_one : (b : Bool) → cond b 1 0 ≡ 1 → b ≡ true
+is_one : (b : Bool) → ◌≡◌ {A = ℕ} (cond b 1 0) 1 → b ≡ true
 is_one true e = refl
-is_one false e = absurd (omega arith)
+is_one false e = absurd (let h : ◌≡◌ {A = ℕ} 0 1 = e in (cc))
 
 at_same : (p : ℕ) (x : ℕ × Noted) → one_at p x ≡ 1 → x.0 ≡ p
 at_same p x e = eqb-true x.0 p (is_one (nat_eq x.0 p) e)
