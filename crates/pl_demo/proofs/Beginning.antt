@@ -1,5 +1,5 @@
 -- The demonstration's input begins with this text, whatever stands behind the `begin` line.
-use Rattle.std.proofs.Common.{◌≡◌, ℕ, ◌≤◌, List, [], ◌∷◌, ◌++◌, Option, Some, flat_map, codes, refl, ap, ◌∙◌}
+use Rattle.std.proofs.Common.{◌≡◌, ℕ, ◌≤◌, List, [], ◌∷◌, ◌++◌, Some, flat_map, codes, refl, ap, ◌∙◌}
 use Rattle.std.specs.List.{range_with_len}
 use Rattle.pl_text.specs.Bytes.{class_of}
 use Rattle.pl_text.specs.Tokens.{lexeme_of, tokens_at}

@@ -1,5 +1,5 @@
 -- The text passes every check, and this is its model.
-use Rattle.std.proofs.Common.{◌≡◌, pos, List, Ok, refl, sym, subst}
+use Rattle.std.proofs.Common.{◌≡◌, List, Ok, refl, sym, subst}
 use Rattle.pl_check.specs.declared.drafts.Draft.{Draft}
 use Rattle.pl_check.specs.Judgements.{Judged, Judgement, ◌>>=◌, ◌>>◌}
 use Rattle.pl_check.specs.Names.{twice_in}

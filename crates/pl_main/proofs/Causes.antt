@@ -12,7 +12,6 @@ use Rattle.pl_main.specs.Solo.{Solo}
 use Rattle.pl_machine.specs.Finished.{inputs_of}
 use Rattle.pl_accept.specs.Accepting.{IsModelText, IsRefusedAs}
 use Rattle.pl_accept.proofs.Apart.{apart, one_model}
-use Rattle.pl_main.specs.declared.command.Task.{Task}
 use Rattle.pl_main.specs.declared.command.Task.TheVariants as task
 use Rattle.pl_stream.specs.Reads.{Gave}
 use Rattle.pl_stream.specs.Stops.{IsStuck}

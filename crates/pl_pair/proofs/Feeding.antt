@@ -15,7 +15,6 @@ use Rattle.pl_model.specs.declared.whole.Model.{Model}
 use Rattle.pl_entry.specs.declared.event.Event.TheVariants as event
 use Rattle.pl_entry.specs.declared.entry.Entry.{Entry}
 use Rattle.pl_machine.specs.Lines.{is_blank_line}
-use Rattle.pl_machine.specs.declared.stop.Stop.TheVariants as stop
 use Rattle.pl_render.specs.Lines.{text_from}
 use Rattle.pl_render.proofs.Texts.{text_joined}
 use Rattle.pl_stream.specs.Reads.{Took, IsUsedUp, AreBlank}
@@ -40,7 +39,7 @@ use Rattle.pl_pair.specs.Rounds.{Follows, Looks, IsBetween, lines_behind, RoundE
 use Rattle.std.specs.Prelude.{IsErrOf}
 use Rattle.pl_stream.specs.Places.{Place}
 use Rattle.pl_pair.specs.Asking.{Asks, HandsOn, HandsNone, Passes, PassesTo}
-use Rattle.pl_pair.specs.Feeds.{spoken, said_in, IsInput, AreInputs, Reads, unasked, asked, Heard, Tells, HandsOne, Writes, WritesAll, StepsOn, StepsOut, StepsCut, in_round, at_message, Steps, Feeding, Waiting, FeedsOut, FeedsUntil, FeedsRefused, FeedsTorn, for_lines, for_message, for_reader, refused, stopped, FeedsAll, FeedsToEnd}
+use Rattle.pl_pair.specs.Feeds.{spoken, said_in, IsInput, AreInputs, Reads, unasked, asked, Heard, Tells, HandsOne, WritesAll, StepsOn, StepsOut, StepsCut, in_round, at_message, Steps, Feeding, Waiting, FeedsOut, FeedsUntil, FeedsRefused, FeedsTorn, for_lines, for_message, for_reader, refused, stopped, FeedsAll, FeedsToEnd}
 use Rattle.pl_pair.proofs.Passing.{follows_self, follows_on, entries_longer, behind_looks}
 
 -- ---- lists

@@ -9,7 +9,6 @@ use Rattle.pl_io.specs.Writes.{AppendsFront}
 use Rattle.pl_model.specs.declared.whole.Model.{Model}
 use Rattle.pl_entry.specs.declared.event.Event.TheVariants as event
 use Rattle.pl_machine.specs.Lines.{is_blank_line}
-use Rattle.pl_machine.specs.declared.stop.Stop.TheVariants as stop
 use Rattle.pl_render.specs.Lines.{text_from}
 use Rattle.pl_stream.specs.Reads.{Took, IsUsedUp}
 use Rattle.pl_stream.specs.Written.{Adds}
