@@ -19,7 +19,8 @@ use Rattle.pl_accept.specs.Accepting.{IsModelText}
 use Rattle.pl_stream.specs.declared.halt.Halt.TheVariants as halt
 use Rattle.pl_stream.specs.Reads.{Gave}
 use Rattle.pl_stream.specs.Heads.{IsHead, IsBegun}
-use Rattle.pl_stream.specs.Written.{Adds, IsCutShort, opens, answers}
+use Rattle.pl_stream.specs.CutShort.{IsCutShort, opens, answers}
+use Rattle.pl_stream.specs.Written.{Adds}
 use Rattle.pl_main.specs.Tells.{Told, ToldInPart}
 use Rattle.pl_stream.specs.Places.{Place}
 use Rattle.pl_stream.specs.Waits.{line_in}

@@ -37,7 +37,8 @@ use Rattle.pl_main.specs.Top.{IsReadTo, ShowsNoLine, ShowsLimit, program_options
 use Rattle.pl_stream.proofs.Reading.{gave_append, gave_lines, known}
 use Rattle.pl_stream.proofs.Stopping.{read_leaves, limit_leaves, stops_by}
 use Rattle.pl_stream.proofs.Beginning.{head_then}
-use Rattle.pl_stream.proofs.Writing.{adds_then, log_is_short}
+use Rattle.pl_stream.proofs.Logs.{log_is_short}
+use Rattle.pl_stream.proofs.Writing.{adds_then}
 use Rattle.pl_main.proofs.Playing.{blanks_first, message_first, end_first, none_left, not_single, messages_append, inputs_append, joined}
 
 -- ---- a run over a model

@@ -22,7 +22,8 @@ use Rattle.pl_stream.specs.declared.halt.Halt.TheVariants as halt
 use Rattle.pl_stream.specs.Heads.{IsBegun, HasNoBegin, HeadHalts}
 use Rattle.pl_stream.specs.Reads.{Gave, IsUsedUp, StopsAt}
 use Rattle.pl_stream.specs.Stops.{HaltFor, IsStuck, ReadLeaves, LimitLeaves}
-use Rattle.pl_stream.specs.Written.{Adds, IsCutShort}
+use Rattle.pl_stream.specs.CutShort.{IsCutShort}
+use Rattle.pl_stream.specs.Written.{Adds}
 use Rattle.pl_stream.proofs.Reading.{known, gave_append, gave_lines}
 use Rattle.pl_pair.specs.declared.ended.Ended.{Ended}
 use Rattle.pl_pair.specs.declared.ended.Ended.TheVariants as ended

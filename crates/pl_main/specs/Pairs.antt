@@ -15,7 +15,8 @@ use Rattle.pl_stream.specs.declared.halt.Halt.TheVariants as halt
 use Rattle.pl_stream.specs.Heads.{Keeps}
 use Rattle.pl_stream.specs.Reads.{Gave}
 use Rattle.pl_stream.specs.Stops.{IsStuck}
-use Rattle.pl_stream.specs.Written.{Adds, IsCutShort}
+use Rattle.pl_stream.specs.CutShort.{IsCutShort}
+use Rattle.pl_stream.specs.Written.{Adds}
 use Rattle.pl_shared.specs.Roles.{is_input}
 use Rattle.pl_pair.specs.declared.ended.Ended.{Ended}
 use Rattle.pl_pair.specs.declared.ended.Ended.TheVariants as ended

@@ -19,7 +19,8 @@ use Rattle.pl_main.specs.declared.outcome.Outcome.{Outcome}
 use Rattle.pl_main.specs.declared.outcome.Outcome.TheVariants as outcome
 use Rattle.pl_stream.specs.Reads.{Gave}
 use Rattle.pl_stream.specs.Stops.{IsStuck}
-use Rattle.pl_stream.specs.Written.{Adds, IsCutShort}
+use Rattle.pl_stream.specs.CutShort.{IsCutShort}
+use Rattle.pl_stream.specs.Written.{Adds}
 
 -- the limits of the program, with the turns of the words
 abbrev pub program_options : ℕ → Options

@@ -27,7 +27,8 @@ use Rattle.pl_render.specs.Lines.{text_from, text_of_log}
 use Rattle.pl_stream.specs.Reads.{Took, WhyKnown}
 use Rattle.pl_stream.specs.Stops.{IsStuckKnown}
 use Rattle.pl_stream.specs.Waits.{line_in}
-use Rattle.pl_stream.specs.Written.{Adds, answers, IsCutShort}
+use Rattle.pl_stream.specs.CutShort.{answers, IsCutShort}
+use Rattle.pl_stream.specs.Written.{Adds}
 use Rattle.pl_shared.specs.declared.noted.Noted.{Noted}
 use Rattle.pl_shared.specs.declared.noted.Noted.TheVariants.{Made, Stopped}
 use Rattle.pl_shared.specs.declared.plan.SharedPlan.{SharedPlan}

@@ -19,7 +19,8 @@ use Rattle.pl_machine.specs.Sound.{State}
 use Rattle.pl_render.specs.Lines.{text_of_log}
 use Rattle.pl_stream.specs.Reads.{GaveKnown, StopsAt}
 use Rattle.pl_stream.specs.Stops.{IsStuckKnown}
-use Rattle.pl_stream.specs.Written.{Adds, IsCutShort}
+use Rattle.pl_stream.specs.CutShort.{IsCutShort}
+use Rattle.pl_stream.specs.Written.{Adds}
 use Rattle.pl_shared.specs.declared.noted.Noted.{Noted}
 use Rattle.pl_shared.specs.Items.{items_of, model_in}
 use Rattle.pl_shared.specs.Roles.{worker_of, is_input, is_repair, is_executed}

@@ -4,3 +4,4 @@ pub mod Skipping
 pub mod Stopping
 pub mod Writing
 pub mod Comparing
+pub mod Logs

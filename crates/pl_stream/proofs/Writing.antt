@@ -4,10 +4,7 @@ use Rattle.std.proofs.lemmas.List.{append-nil, take-append-le}
 use Rattle.std.proofs.Math.Seq.{take-append-add}
 use Rattle.pl_io.specs.Writes.{AppendsFront}
 use Rattle.pl_model.specs.declared.whole.Model.{Model}
-use Rattle.pl_facts.specs.declared.options.Options.{Options}
-use Rattle.pl_entry.specs.declared.reply.Reply.{Reply}
 use Rattle.pl_entry.specs.declared.entry.Entry.{Entry}
-use Rattle.pl_machine.specs.Legal.{Legal, IsOpenedRun, options_in}
 use Rattle.pl_render.specs.Lines.{line_of, text_from}
 use Rattle.pl_stream.specs.Written.{Adds}
 
@@ -36,14 +33,6 @@ adds_more old mid new line rest whole front adds = record {
   adds = adds_then old mid new front.text line front.adds adds;
   all = append_assoc front.text line rest ∙ front.all;
 }
-
-opened_short : (m : Model) (o : Option Options) (answer : Reply) (es : List Entry) → IsOpenedRun m o answer es → length es + 1 ≤ 250000
-opened_short m None answer es run = absurd run
-opened_short m (Some o) answer es run = omega (arith, run.bounded, run.options.entries.1)
-
-pub log_is_short : (m : Model) (log : List Entry) → Legal m log → length log ≤ 250000
-log_is_short m [] legal = absurd legal
-log_is_short m (first ∷ es) legal = omega (arith, opened_short m (options_in first.event) first.reply es legal)
 
 line_some : (m : Model) (n : ℕ) (e : Entry) → 0 < length (line_of m n e)
 unfolding line_of

@@ -8,3 +8,4 @@ pub mod Waits
 pub mod Places
 pub mod Stops
 pub mod Written
+pub mod CutShort

@@ -1,4 +1,4 @@
-ghost use Rattle.std.specs.Prelude.{◌≤◌, ◌+◌, ◌<◌, OnOk, OnErr, IfErr, length, drop};
+ghost use Rattle.std.specs.Prelude.{◌≤◌, ◌+◌, ◌<◌, OnOk, OnErr, IfErr, length};
 ghost use Rattle.pl_io.specs.Writes.{AppendsFront};
 ghost use Rattle.pl_render.specs.Lines.{line_of, text_from};
 ghost use Rattle.pl_stream.specs.Written.{Adds, WriteStops};
@@ -6,7 +6,6 @@ ghost use Rattle.pl_stream.specs.Written.{Adds, WriteStops};
 use crate::halt::Halt;
 use pl_entry::Entry;
 use pl_io::{Sink, put};
-use pl_machine::Machine;
 use pl_model::Model;
 use pl_render::render;
 use std::alloc::Global;
@@ -50,22 +49,4 @@ pub fn write_entries<O: Sink>(
         number += 1;
     }
     Ok(())
-}
-
-/// Writes the lines of a log from an entry on.
-#[tactic(auto, using(crate::proofs::Writing::log_is_short))]
-pub fn write_log<O: Sink>(
-    alloc: Global,
-    machine: &Machine,
-    from: usize,
-    out: &mut O,
-) -> Result<(), Halt>
-    requires { from ≤ length machine.now.log }
-    ensures text { OnOk result (Adds (O.held out.old) (O.held out.new) (text_from machine.now.model from (drop from machine.now.log))) }
-    ensures front { OnErr result (AppendsFront (O.held out.old) (O.held out.new) (text_from machine.now.model from (drop from machine.now.log))) }
-    ensures cause { IfErr result (WriteStops (O.faults out.old) (O.faults out.new)) }
-    ensures later { O.faults out.old ≤ O.faults out.new }
-{
-    let log = machine.log();
-    write_entries(alloc, machine.model(), from as u32, &log[from..], out)
 }
