@@ -179,6 +179,7 @@ impl<P: Points> Capacity<P> {
         &self.spans
     }
 
+    /// Whether a change failed for want of memory: the spans then say nothing, and each further change fails.
     pub fn spoiled(&self) -> bool
         ensures { result ≡ self.now.spoiled }
     {

@@ -252,6 +252,7 @@ impl<P: Points> Level<P> {
         self.high.as_slice()
     }
 
+    /// Whether a change failed for want of memory: the spans then say nothing, and each further change fails.
     pub fn spoiled(&self) -> bool
         ensures { result ≡ self.now.spoiled }
     {

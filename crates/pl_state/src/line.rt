@@ -398,6 +398,7 @@ impl StateLine {
         &self.told.bad
     }
 
+    /// Whether a change failed for want of memory: what is told then says nothing, and each further change fails.
     pub fn spoiled(&self) -> bool
         ensures { result ≡ self.now.spoiled }
     {
