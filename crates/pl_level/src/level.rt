@@ -266,7 +266,7 @@ impl<P: Points + Copied> Copied for Level<P> {
         let low = self.low.copy(alloc)?;
         let high = self.high.copy(alloc)?;
         Ok(Level {
-            alloc: self.alloc,
+            alloc,
             horizon: self.horizon,
             least: self.least,
             most: self.most,
