@@ -1,7 +1,7 @@
 -- Rows of blocks as one list of points.
 use Rattle.std.proofs.Common.{◌≡◌, ℕ, zero, suc, ◌+◌, ◌*◌, ◌<◌, ◌≤◌, Bool, true, false, ◌&&◌, cond, ltb, ◌/◌, List, [], ◌∷◌, ◌++◌, length, get_or, take, drop, refl, ap, sym, ◌∙◌, subst, arith, append_assoc, ℤ, pos, ◌+ℤ◌, eqb, leb}
 use Rattle.std.specs.Ordering.{int_eq}
-use Rattle.std.proofs.lemmas.Bool.{false≢true, lt-ltb, le-ltb, ltb-true, leb-true, leb-false}
+use Rattle.std.proofs.lemmas.Bool.{false≢true, lt-ltb, le-ltb, ltb-true, leb-true, leb-false, and_from}
 use Rattle.std.proofs.lemmas.Int.{ints, to_z-of_z}
 use Rattle.std.proofs.lemmas.List.{length-append}
 use Rattle.pl_lists.specs.Lists.{front, back}
@@ -27,9 +27,6 @@ and_right : (a b : Bool) → (a && b) ≡ true → b ≡ true
 and_right true b e = e
 and_right false b e = absurd (false≢true e)
 
-and_both : (a b : Bool) → a ≡ true → b ≡ true → (a && b) ≡ true
-and_both a b e f = rw e f
-
 and_false : (a b : Bool) → a ≡ true → (a && b) ≡ false → b ≡ false
 and_false true b e f = f
 and_false false b e f = absurd (false≢true e)
@@ -38,15 +35,15 @@ pub past_more : (a b : ℕ) (ps : List Point) → a ≤ b → is_past a ps ≡ t
 past_more a b [] le e = refl
 past_more a b (p ∷ ps) le e =
     let f : is_before b p ≡ true = lt-ltb p.0 b (omega (arith, ltb-true p.0 a (and_left (is_before a p) (is_past a ps) e), le)) in
-    and_both (is_before b p) (is_past b ps) f (past_more a b ps le (and_right (is_before a p) (is_past a ps) e))
+    and_from (is_before b p) (is_past b ps) f (past_more a b ps le (and_right (is_before a p) (is_past a ps) e))
 
 pub past_append : (at : ℕ) (xs ys : List Point) → is_past at xs ≡ true → is_past at ys ≡ true → is_past at (xs ++ ys) ≡ true
 past_append at [] ys e f = f
-past_append at (x ∷ xs) ys e f = and_both (is_before at x) (is_past at (xs ++ ys)) (and_left (is_before at x) (is_past at xs) e) (past_append at xs ys (and_right (is_before at x) (is_past at xs) e) f)
+past_append at (x ∷ xs) ys e f = and_from (is_before at x) (is_past at (xs ++ ys)) (and_left (is_before at x) (is_past at xs) e) (past_append at xs ys (and_right (is_before at x) (is_past at xs) e) f)
 
 past_left : (at : ℕ) (xs ys : List Point) → is_past at (xs ++ ys) ≡ true → is_past at xs ≡ true
 past_left at [] ys e = refl
-past_left at (x ∷ xs) ys e = and_both (is_before at x) (is_past at xs) (and_left (is_before at x) (is_past at (xs ++ ys)) e) (past_left at xs ys (and_right (is_before at x) (is_past at (xs ++ ys)) e))
+past_left at (x ∷ xs) ys e = and_from (is_before at x) (is_past at xs) (and_left (is_before at x) (is_past at (xs ++ ys)) e) (past_left at xs ys (and_right (is_before at x) (is_past at (xs ++ ys)) e))
 
 past_right : (at : ℕ) (xs ys : List Point) → is_past at (xs ++ ys) ≡ true → is_past at ys ≡ true
 past_right at [] ys e = e
@@ -104,7 +101,7 @@ pub rise_split : (c : ℕ) (xs ys : List Point) → RiseFrom c (xs ++ ys) → (d
 rise_split c [] ys rising = (c, (omega arith, (refl, rising)))
 rise_split c (x ∷ xs) ys rising =
     let h = rise_split (suc x.0) xs ys rising.2 in
-    (h.0, (omega (arith, rising.0, h.1.0), (and_both (is_before h.0 x) (is_past h.0 xs) (lt-ltb x.0 h.0 (omega (arith, h.1.0))) h.1.1.0, h.1.1.1)))
+    (h.0, (omega (arith, rising.0, h.1.0), (and_from (is_before h.0 x) (is_past h.0 xs) (lt-ltb x.0 h.0 (omega (arith, h.1.0))) h.1.1.0, h.1.1.1)))
 
 pub rise_front : (c : ℕ) (xs ys : List Point) → RiseFrom c (xs ++ ys) → RiseFrom c xs
 rise_front c [] ys rising = tt

@@ -99,12 +99,3 @@ low_step low s m z r xs ps p cut sum is rest =
 pub high_step : (high s m z r : ℤ) (xs ps : List Point) (p : Point) → xs ≡ p ∷ ps → z ≡ s +ℤ p.1 → m ≡ int_max high z → greatest_along high s xs ≡ r → greatest_along m z ps ≡ r
 high_step high s m z r xs ps p cut sum is rest =
     ap (λ x. greatest_along x z ps) (is ∙ ap (int_max high) sum) ∙ ap (λ x. greatest_along (int_max high (s +ℤ p.1)) x ps) sum ∙ sym (ap (greatest_along high s) cut) ∙ rest
-
-pub or_left : (a b : Bool) → a ≡ true → (a || b) ≡ true
-or_left a b e = rw e refl
-
-pub or_right : (a b : Bool) → b ≡ true → (a || b) ≡ true
-or_right a b e = rw e (sym (or_true a))
-
-pub or_neither : (a b : Bool) → a ≡ false → b ≡ false → (a || b) ≡ false
-or_neither a b e f = rw e (rw f refl)

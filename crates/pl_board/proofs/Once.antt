@@ -5,6 +5,7 @@ use Rattle.std.specs.List.Sorted.{IsStrictlyIncreasing}
 use Rattle.std.proofs.lemmas.Bool.{eqb-true, eq-eqb}
 use Rattle.std.proofs.lemmas.List.Elements.{All-nil, All-cons, All-head, All-tail, All-weaker}
 use Rattle.std.proofs.lemmas.List.Kept.{AllPairs-from_increasing}
+use Rattle.std.proofs.Math.Bool.{or-true}
 use Rattle.pl_plan.specs.declared.activity.Activity.{Activity}
 use Rattle.pl_plan.specs.Activities.{IsLive, activity_of}
 use Rattle.pl_plan.specs.Trees.{id_of}
@@ -28,13 +29,9 @@ among_all P (x ∷ xs) all i e = cases (eqb x i) refl (among_all P xs (All-tail 
     cases true f more = subst P (eqb-true x i f) (All-head P x xs all)
     cases false f more = more (rw f at e)
 
-or_true : (b : Bool) → (b || true) ≡ true
-or_true true = refl
-or_true false = refl
-
 all_among : (P : ℕ → Type 0) (xs : List ℕ) → ((i : ℕ) → among i xs ≡ true → P i) → All P xs
 all_among P [] each = All-nil P
-all_among P (x ∷ xs) each = All-cons P x xs (each x (rw (eq-eqb x x refl) refl)) (all_among P xs (λ i e. each i (rw e (or_true (eqb x i)))))
+all_among P (x ∷ xs) each = All-cons P x xs (each x (rw (eq-eqb x x refl) refl)) (all_among P xs (λ i e. each i (rw e (or-true (eqb x i)))))
 
 among-append : (i : ℕ) (xs ys : List ℕ) → among i (xs ++ ys) ≡ (among i xs || among i ys)
 among-append i [] ys = refl

@@ -1,5 +1,5 @@
 -- What a search finds.
-use Rattle.std.proofs.Common.{◌≡◌, ℕ, ◌<◌, Bool, true, false, cond, List, [], ◌∷◌, ◌++◌, length, get_or, refl, sym, subst, ap, ◌∙◌, append_assoc, append-nil, drop, drop-cons, add-one, ◌+◌, arith}
+use Rattle.std.proofs.Common.{◌≡◌, ℕ, ◌<◌, Bool, true, false, cond, List, [], ◌∷◌, ◌++◌, length, get_or, refl, sym, subst, ap, ◌∙◌, append_assoc, append-nil, arith}
 use Rattle.std.specs.Prelude.{find, filter, Contains, ◌||◌, ◌==◌, ◌%◌, not, is_some, Option, Some, None, slice_get}
 use Rattle.std.specs.List.{list_any}
 use Rattle.std.proofs.lemmas.Grind.{common_steps}
@@ -94,11 +94,3 @@ nonempty p (x ∷ more) e = by_test x (filter p more) (list_any p more) (p x) (�
     by_test : {X : Type 0} (x : X) (ys : List X) (rest : Bool) (b : Bool) → (rest ≡ true → HasFirst ys) → (b || rest) ≡ true → HasFirst (cond b (x ∷ ys) ys)
     by_test x ys rest true so h = (x, ys, refl)
     by_test x ys rest false so h = so h
-
--- the next element of a list, and the ones behind it
-pub drop_next : {X : Type 0} (xs : List X) (k : ℕ) (d : X) → k < length xs → drop k xs ≡ get_or xs k d ∷ drop (k + 1) xs
-drop_next xs k d within = rw (add-one, drop-cons xs k d) refl
-
-pub empty_if : {X : Type 0} (xs : List X) → length xs ≡ 0 → xs ≡ []
-empty_if [] e = refl
-empty_if (x ∷ more) e = absurd (omega (arith, e))

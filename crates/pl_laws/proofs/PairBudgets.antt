@@ -1,7 +1,7 @@
 -- How long a log is in which each commit is what the executive chooses, also before repair rests, as where a planner repairs beside it.
 use Rattle.std.proofs.Common.{◌≡◌, ℕ, suc, ◌+◌, ◌-◌, ◌*◌, ◌<◌, ◌≤◌, max, List, [], ◌∷◌, length, Bool, true, false, not, ◌&&◌, ◌||◌, nat_lt, Option, Some, None, refl, sym, subst, arith, length-append, nat_le}
 use Rattle.std.specs.Prelude.{if◌then◌else◌, is_some}
-use Rattle.std.proofs.lemmas.Bool.{ltb-true, le-ltb, lt-leb}
+use Rattle.std.proofs.lemmas.Bool.{ltb-true, le-ltb, lt-leb, and_right, not-true}
 use Rattle.pl_conflict.specs.declared.conflict.Conflict.{Conflict}
 use Rattle.pl_model.specs.declared.whole.Model.{Model}
 use Rattle.pl_model.specs.Checked.{IsChecked}
@@ -21,7 +21,7 @@ use Rattle.pl_machine.specs.Legal.{options_of, entries_behind, MayFollow}
 use Rattle.pl_machine.proofs.Granting.{grants}
 use Rattle.pl_laws.specs.Laws.{IsChosen, chosen_from, IsExecutiveChoice, executive_from, PairLengthIsBounded, ChosenAreOfExecutive}
 use Rattle.pl_machine.specs.Messages.{told_line}
-use Rattle.pl_laws.proofs.Spending.{Spends, Pays, is_false, first_true, second_true, repairs_on, log_bounded}
+use Rattle.pl_laws.proofs.Spending.{Spends, Pays, first_true, second_true, repairs_on, log_bounded}
 use Rattle.pl_laws.proofs.Budgets.{more_of, chosen_commit, best_grantable, no_more}
 
 -- ---- what may still follow in a round, but for commands
@@ -132,13 +132,9 @@ target_reply s further =
     let less = ltb-true (behind_of s) (target_in s) further in
     in_reach (nat_le (target_in s) (behind_of s)) (nat_lt s.model.horizon (target_in s)) (held_reply (first_conflict s) (target_in s)) (lt-leb (target_in s) (behind_of s) less) (le-ltb s.model.horizon (target_in s) (omega arith))
 
-second_false : (a b : Bool) → b ≡ false → (a && b) ≡ false
-second_false true b e = e
-second_false false b e = refl
-
 -- no commit to the target follows one that was granted
 reached : (w : World) → early_of (after_commit w (target_in w.state) reply.Done) ≡ false
-reached w = second_false (not w.held) (nat_lt (max (target_in w.state) w.state.moment) (target_in w.state)) (le-ltb (max (target_in w.state) w.state.moment) (target_in w.state) (omega arith))
+reached w = and_right (not w.held) (nat_lt (max (target_in w.state) w.state.moment) (target_in w.state)) (le-ltb (max (target_in w.state) w.state.moment) (target_in w.state) (omega arith))
 
 granted_spends : (w : World) → w.closed ≡ false → w.rested ≡ false → early_of w ≡ true → Spends pair_budget w (after_commit w (target_in w.state) reply.Done)
 granted_spends w closed rested early =
@@ -201,12 +197,12 @@ event_pays turns w (event.Fix k m) answer is enabled replies answers chosen =
 event_pays turns w event.Rest answer is enabled replies answers chosen =
     let on = repairs_on w.closed w.rested (is_some (reason_of w)) enabled in
     rest_step w.closed w.rested (more_of w.state) (early_of w) (w.options.turns - w.turn) (length w.dispatched) on.0 on.1
-event_pays turns w (event.Commit h) answer is enabled replies answers chosen = commit_spends w h (is_false w.closed enabled) chosen
+event_pays turns w (event.Commit h) answer is enabled replies answers chosen = commit_spends w h (not-true w.closed enabled) chosen
 event_pays turns w event.Dispatch answer is enabled replies answers chosen =
     let sent : IsDispatchReply w.state.model (reply_of w event.Dispatch) = subst (λ (r : Reply). IsDispatchReply w.state.model r) answers replies in
     dispatch_spends w w.state.model (reply_of w event.Dispatch) sent
 event_pays turns w event.Close answer is enabled replies answers chosen =
-    close_step w.closed w.rested (more_of w.state) (early_of w) (w.options.turns - w.turn) (length w.dispatched) (is_false w.closed (first_true (not w.closed) _ enabled))
+    close_step w.closed w.rested (more_of w.state) (early_of w) (w.options.turns - w.turn) (length w.dispatched) (not-true w.closed (first_true (not w.closed) _ enabled))
 
 entry_pays : (turns : ℕ) (w : World) (e : Entry) (es : List Entry) → w.options.turns ≡ turns → MayFollow w e → executive_from w (e ∷ es) → Pays pair_budget (2 * turns + 5) w e.event × executive_from (after w e.event) es
 entry_pays turns w e es is follows chosen = (event_pays turns w e.event e.reply is follows.enabled follows.reply follows.answers chosen.0, chosen.1)

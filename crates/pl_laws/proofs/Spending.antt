@@ -88,10 +88,6 @@ Pays left each w event.Close = Spends left w (after w event.Close)
 
 -- ---- where an event is enabled
 
-pub is_false : (a : Bool) → not a ≡ true → a ≡ false
-is_false true e = absurd (cc)
-is_false false e = refl
-
 pub first_true : (a b : Bool) → (a && b) ≡ true → a ≡ true
 first_true true b e = refl
 first_true false b e = absurd (cc)

@@ -6,8 +6,8 @@ use Rattle.std.specs.declared.cmp.Ordering.TheVariants.{Less, Equal, Greater}
 use Rattle.std.specs.Ordering.{is_eq, ordering_reverse}
 use Rattle.std.proofs.lemmas.Bool.{eqb-true, and_parts, true≢false}
 use Rattle.std.proofs.lemmas.Bool.Decides.{nat_tests}
+use Rattle.std.proofs.Math.Bool.{or-true, or-false}
 use Rattle.pl_lists.specs.Lists.{is_among, left_out}
-use Rattle.pl_lists.proofs.Tests.{or_false}
 use Rattle.pl_points.specs.declared.span.Span.{Span}
 use Rattle.pl_points.specs.declared.span.Change.{Change}
 use Rattle.pl_points.specs.Spans.{span}
@@ -135,11 +135,7 @@ module _ (first : Conflict → Bool) where
     where
       either : (a b c d : Bool) → (a ≡ true → c ≡ true) → (b ≡ true → d ≡ true) → (a || b) ≡ true → (c || d) ≡ true
       either true b c d f g e = rw (f refl) refl
-      either false true c d f g e = rw (g refl) (last c)
-        where
-          last : (v : Bool) → (v || true) ≡ true
-          last true = refl
-          last false = refl
+      either false true c d f g e = rw (g refl) (or-true c)
       either false false c d f g e = absurd (cc)
 
       table : (f o n w c o' n' w' c' : Bool) → (o ≡ true → f ≡ true) → (n ≡ true → f ≡ true) → (o' ≡ true → f ≡ false) → (n' ≡ true → f ≡ false)
@@ -150,7 +146,7 @@ module _ (first : Conflict → Bool) where
           let en' : n' ≡ false = never n' fn' in
           let ew' : w' ≡ false = never w' (λ e. fo' (wo' e)) in
           let ec' : c' ≡ false = never c' (λ e. fn' (cn' e)) in
-          rw (eo', en', ew', ec') (or_false n ∙ (is ∙ sym (ap (λ b. (b && not (w || false)) || (c || false)) (or_false o) ∙ (ap (λ b. (o && not b) || (c || false)) (or_false w) ∙ ap (λ b. (o && not w) || b) (or_false c)))))
+          rw (eo', en', ew', ec') (or-false n ∙ (is ∙ sym (ap (λ b. (b && not (w || false)) || (c || false)) (or-false o) ∙ (ap (λ b. (o && not b) || (c || false)) (or-false w) ∙ ap (λ b. (o && not w) || b) (or-false c)))))
         where
           never : (b : Bool) → (b ≡ true → true ≡ false) → b ≡ false
           never true h = absurd (true≢false (h refl))

@@ -3,7 +3,7 @@ use Rattle.std.proofs.Common.{◌≡◌, ℕ, zero, suc, ◌<◌, ◌≤◌, eqb
 use Rattle.std.specs.Prelude.{All}
 use Rattle.std.specs.List.{flat_map}
 use Rattle.std.proofs.lemmas.Int.{ints}
-use Rattle.std.proofs.lemmas.Bool.{eqb-true, eqb-false, ne_eqb}
+use Rattle.std.proofs.lemmas.Bool.{eqb-true, eqb-false, ne_eqb, or_parts}
 use Rattle.std.proofs.lemmas.List.Folds.{list_any-append, list_any_none}
 use Rattle.std.proofs.lemmas.List.Elements.{All-nil, All-cons, All-head, All-tail, All-append}
 use Rattle.pl_points.specs.Sums.{total}
@@ -54,10 +54,6 @@ total_without g id (x ∷ xs) = by (eqb x.id id) (total_without g id xs)
     by : (b : Bool) → total g xs ≡ total g (without id xs) +ℤ if_found g (activity_of id xs) → (g x +ℤ total g xs) ≡ total g (cond b xs (x ∷ without id xs)) +ℤ if_found g (cond b (Some x) (activity_of id xs))
     by true more = omega (arith, ints)
     by false more = omega (arith, ints, more)
-
-or_parts : (a b : Bool) → (a || b) ≡ false → (a ≡ false) × (b ≡ false)
-or_parts true b e = absurd (cc)
-or_parts false b e = (refl, e)
 
 -- the other ids find what they found
 found_still : (g : Activity → ℤ) (id : ℕ) (xs : List Activity) (gone : List ℕ) → AreRising xs → among id gone ≡ false → All (λ n. if_found g (activity_of n (without id xs)) ≡ if_found g (activity_of n xs)) gone

@@ -3,6 +3,7 @@ use Rattle.std.proofs.Common.{◌≡◌, ℕ, zero, suc, ◌+◌, ◌-◌, Bool,
 use Rattle.std.specs.Prelude.{All, slice_get, int_lt}
 use Rattle.std.specs.Option.{option_map}
 use Rattle.std.proofs.lemmas.List.Elements.{All-head, All-tail}
+use Rattle.std.proofs.lemmas.Option.{slice_get-map}
 use Rattle.pl_points.specs.Sums.{total}
 use Rattle.pl_points.specs.declared.span.Span.{Span}
 use Rattle.pl_points.specs.Spans.{spans_of}
@@ -35,11 +36,6 @@ use Rattle.pl_lines.proofs.StandingEqual.{sets_equal, musts_equal}
 
 -- ---- places of lists
 
-pub map_at : {X Y : Type 0} (f : X → Y) (xs : List X) (i : ℕ) → slice_get (map f xs) i ≡ option_map f (slice_get xs i)
-map_at f [] i = refl
-map_at f (x ∷ xs) zero = refl
-map_at f (x ∷ xs) (suc i) = map_at f xs i
-
 pub numbered_at : {T : Type 0} (c i n : ℕ) (xs : List T) → n ≡ c + i → slice_get (numbered c xs) i ≡ option_map (λ (x : T). (n, x)) (slice_get xs i)
 numbered_at c i n [] e = refl
 numbered_at c zero n (x ∷ xs) e = let same : c ≡ n = omega (arith, e) in ap (λ m. Some (m, x)) same
@@ -54,9 +50,9 @@ all_get P (y ∷ ys) (suc i) x all e = all_get P ys i x (All-tail P y ys all) e
 
 pub frame_at : (s : PlanState) (lines : List Line) → AreFramed s lines → (line : ℕ) → option_map bare (slice_get lines line) ≡ option_map (idle s) (option_map (λ (t : Timeline). (line, t)) (slice_get s.model.timelines line))
 frame_at s lines framed line =
-    sym (map_at bare lines line)
+    sym (slice_get-map bare lines line)
     ∙ ap (λ (l : List Line). slice_get l line) framed
-    ∙ map_at (idle s) (lines_of s) line
+    ∙ slice_get-map (idle s) (lines_of s) line
     ∙ ap (option_map (idle s)) (numbered_at 0 line line s.model.timelines (omega arith))
 
 abbrev pub IsFramedAs : PlanState → ℕ → Line → Timeline → Type 0

@@ -7,6 +7,7 @@ use Rattle.std.specs.List.Sorted.{IsStrictlySortedBy}
 use Rattle.std.proofs.lemmas.Bool.{and_parts, and_from, not-true}
 use Rattle.std.proofs.lemmas.List.Folds.{list_any_more}
 use Rattle.std.proofs.lemmas.List.Elements.{All-contains, All-take, All-weaker, filter_passes}
+use Rattle.std.proofs.Math.Bool.{and-true}
 use Rattle.pl_links.specs.declared.broken.Broken.{Broken}
 use Rattle.pl_links.specs.Sets.{broken_cmp, has}
 use Rattle.pl_links.proofs.Anys.{same_when, any_filter, any_from, any_found}
@@ -79,11 +80,7 @@ has_filter f b xs = any_filter f (is_at (broken_cmp b)) xs ∙ same_when (list_a
 -- where only what is near may change, the exchange leaves what stands
 module _ (f g : Broken → Bool) (old near : List Broken) (b : Broken) (is : has b old ≡ f b) (kept : has b near ≡ false → f b ≡ g b) where
   came_is : (o s n : Bool) → (n ≡ false → o ≡ s) → ((s && not o) && n) ≡ (s && not o)
-  came_is o true true same = and_yes (not o)
-    where
-      and_yes : (b : Bool) → (b && true) ≡ b
-      and_yes true = refl
-      and_yes false = refl
+  came_is o true true same = and-true (not o)
   came_is true true false same = refl
   came_is false true false same = same refl
   came_is o false n same = refl

@@ -1,7 +1,7 @@
 -- What is committed can be sent: a commit is granted only where no value of what it commits is out of range.
 use Rattle.std.proofs.Common.{◌≡◌, ℕ, zero, suc, ◌+◌, ◌<◌, ◌≤◌, ℤ, ◌≤ℤ◌, List, [], ◌∷◌, ◌++◌, length, Bool, true, false, not, ◌&&◌, ◌||◌, int_le, nat_lt, nat_le, All, Option, Some, None, IfSome, Result, Ok, Err, IfOk, ◌↔◌, if◌then◌else◌, refl, sym, ◌∙◌, subst, arith}
 use Rattle.std.specs.List.{flat_map}
-use Rattle.std.proofs.lemmas.Bool.{leb-false, ltb-false, ltb-true, lt-leb, le-leb, le-ltb}
+use Rattle.std.proofs.lemmas.Bool.{leb-false, ltb-false, ltb-true, lt-leb, le-leb, le-ltb, or_left, or_right}
 use Rattle.std.proofs.lemmas.Grind.{common_steps}
 use Rattle.std.proofs.lemmas.Int.{ints}
 use Rattle.std.proofs.lemmas.List.Elements.{All-nil, All-cons, All-head, All-tail, All-get_or, All-from_get_or, All-weaker}
@@ -44,14 +44,6 @@ use Rattle.pl_machine.specs.Sound.{State}
 use Rattle.pl_machine.specs.Taking.{Answers}
 use Rattle.pl_machine.specs.Keeping.{AreSendable, KeepsStanding}
 use Rattle.pl_machine.specs.Step.{behind_of, first_conflict, held_reply, commit_reply}
-
-or_left : (b c : Bool) → b ≡ true → (b || c) ≡ true
-or_left true c e = refl
-or_left false c e = absurd (cc)
-
-or_right : (b c : Bool) → c ≡ true → (b || c) ≡ true
-or_right true c e = refl
-or_right false c e = e
 
 has-left : (xs ys : List Conflict) (q : Conflict) → has q xs ≡ true → has q (xs ++ ys) ≡ true
 has-left xs ys q e = has-append xs ys q ∙ or_left (has q xs) (has q ys) e

@@ -6,8 +6,9 @@ use Rattle.std.specs.declared.cmp.Ordering.TheVariants.{Less, Equal, Greater}
 use Rattle.std.specs.Ordering.{ordering_reverse, is_eq}
 use Rattle.std.specs.Cmp.{int_eq_equiv}
 use Rattle.std.specs.List.{list_any}
-use Rattle.std.proofs.lemmas.Bool.{lt-ltb}
+use Rattle.std.proofs.lemmas.Bool.{lt-ltb, and_from}
 use Rattle.std.proofs.lemmas.List.Elements.{All-contains, All-contains_itself, All-filter, filter_passes}
+use Rattle.std.proofs.Math.Bool.{or-true}
 use Rattle.pl_conflict.specs.declared.conflict.Conflict.{Conflict}
 use Rattle.pl_conflict.specs.Order.{conflict_cmp, has}
 use Rattle.pl_conflict.proofs.OrderLaws.{conflict_total}
@@ -41,14 +42,10 @@ use Rattle.pl_machine.specs.Mending.{is_repairing, HasMended, IsAskedAtMost, Sto
 
 -- ---- what is among the legal ones is in the list, and legal
 
-or_true : (b : Bool) → (b || true) ≡ true
-or_true true = refl
-or_true false = refl
-
 any_at : {X : Type 0} (p : X → Bool) (xs : List X) (k : ℕ) (x : X) → k < length xs → get_or xs k x ≡ x → p x ≡ true → list_any p xs ≡ true
 any_at p [] k x lt here h = absurd (omega arith)
 any_at p (y ∷ xs) zero x lt here h = ap (λ (b : Bool). b || list_any p xs) (ap p here ∙ h)
-any_at p (y ∷ xs) (suc k) x lt here h = ap (λ (b : Bool). p y || b) (any_at p xs k x (omega arith) here h) ∙ or_true (p y)
+any_at p (y ∷ xs) (suc k) x lt here h = ap (λ (b : Bool). p y || b) (any_at p xs k x (omega arith) here h) ∙ or-true (p y)
 
 contained : {X : Type 0} (p : X → Bool) (xs : List X) (x : X) → Contains xs x → p x ≡ true → list_any p xs ≡ true
 contained p xs x here h = any_at p xs here.0 x here.1 here.2 h
@@ -69,21 +66,17 @@ by_reverse Greater e = absurd (cc)
 same_conflict : (k : Conflict) → is_eq (conflict_cmp k k) ≡ true
 same_conflict k = by_reverse (conflict_cmp k k) (conflict_total.antisymm k k)
 
-both_are : (a b : Bool) → a ≡ true → b ≡ true → (a && b) ≡ true
-both_are true b e f = f
-both_are false b e f = absurd (cc)
-
 same_number_self : (n : Option ℕ) → same_number n n ≡ true
 same_number_self None = refl
 same_number_self (Some n) = eq-eqb n n refl
 
 same_move_self : (m : RepairMove) → same_move m m ≡ true
-same_move_self (repair.Add kind start goal) = both_are _ _ (eq-eqb kind kind refl) (both_are _ _ (eq-eqb start start refl) (same_number_self goal))
+same_move_self (repair.Add kind start goal) = and_from _ _ (eq-eqb kind kind refl) (and_from _ _ (eq-eqb start start refl) (same_number_self goal))
 same_move_self (repair.Delete id) = eq-eqb id id refl
-same_move_self (repair.Shift id start) = both_are _ _ (eq-eqb id id refl) (eq-eqb start start refl)
-same_move_self (repair.Detail id alternative) = both_are _ _ (eq-eqb id id refl) (eq-eqb alternative alternative refl)
+same_move_self (repair.Shift id start) = and_from _ _ (eq-eqb id id refl) (eq-eqb start start refl)
+same_move_self (repair.Detail id alternative) = and_from _ _ (eq-eqb id id refl) (eq-eqb alternative alternative refl)
 same_move_self (repair.Abstract id) = eq-eqb id id refl
-same_move_self (repair.Assign id param value) = both_are _ _ (eq-eqb id id refl) (both_are _ _ (eq-eqb param param refl) (int_eq_equiv.refl value))
+same_move_self (repair.Assign id param value) = and_from _ _ (eq-eqb id id refl) (and_from _ _ (eq-eqb param param refl) (int_eq_equiv.refl value))
 same_move_self (repair.Drop number) = eq-eqb number number refl
 
 -- ---- what is proposed is answered by ok

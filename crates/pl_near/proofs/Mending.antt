@@ -3,6 +3,7 @@ use Rattle.std.proofs.Common.{◌≡◌, ℕ, eqb, Bool, true, false, List, [], 
 use Rattle.std.specs.Prelude.{◌||◌, ◌&&◌, not}
 use Rattle.std.specs.List.{flat_map}
 use Rattle.std.proofs.lemmas.Bool.{eqb-true, eqb-false}
+use Rattle.std.proofs.Math.Bool.{or-true}
 use Rattle.pl_conflict.specs.declared.conflict.Conflict.{Conflict}
 use Rattle.pl_conflict.specs.Order.{has}
 use Rattle.pl_conflict.proofs.Sorting.{has-append}
@@ -22,11 +23,7 @@ both_mend true true w v c d e f = rw (e, f) refl
 both_mend true false true v c d e f = refl
 both_mend true false false v c d e f = rw e refl
 both_mend false true w true c d e f = rw f refl
-both_mend false true w false c d e f = rw f (or_one c)
-  where
-    or_one : (a : Bool) → (a || true) ≡ true
-    or_one true = refl
-    or_one false = refl
+both_mend false true w false c d e f = rw f (or-true c)
 
 and_right : (a b : Bool) → (a && b) ≡ true → b ≡ true
 and_right true b e = e

@@ -5,7 +5,7 @@ use Rattle.std.specs.List.{list_any}
 use Rattle.std.proofs.lemmas.Bool.{le-ltb}
 use Rattle.std.proofs.lemmas.List.Elements.{All-head}
 use Rattle.std.proofs.lemmas.List.{append-nil}
-use Rattle.pl_lists.proofs.Tests.{or_true}
+use Rattle.std.proofs.Math.Bool.{or-true}
 use Rattle.pl_changes.specs.Replaced.{with_plan}
 use Rattle.pl_changes.proofs.Keeping.{whole_replaced}
 use Rattle.pl_conflict.specs.declared.conflict.Conflict.{Conflict}
@@ -50,7 +50,7 @@ one_of p (k ∷ ks) h = by (p k) refl h (one_of p ks)
   where
     by : (b : Bool) → p k ≡ b → (b || list_any p ks) ≡ true → (list_any p ks ≡ true → IsOneOf p ks) → IsOneOf p (k ∷ ks)
     by true e there more = record { q = k; there = ap (λ b. b || has k ks) (same_itself k); passes = e }
-    by false e there more = let one : IsOneOf p ks = more there in record { q = one.q; there = ap (λ b. same one.q k || b) one.there ∙ or_true (same one.q k); passes = one.passes }
+    by false e there more = let one : IsOneOf p ks = more there in record { q = one.q; there = ap (λ b. same one.q k || b) one.there ∙ or-true (same one.q k); passes = one.passes }
 
 pub code_unset : (c : Code) → eqb (code_number c) 3 ≡ true → c ≡ code.Unset
 code_unset code.Unset e = refl

@@ -5,7 +5,8 @@ use Rattle.std.specs.List.{list_any}
 use Rattle.std.specs.List.Sorted.{IsStrictlySortedBy}
 use Rattle.std.specs.BTreeMap.{is_at}
 use Rattle.std.specs.BTreeSet.{contains}
-use Rattle.std.proofs.lemmas.Bool.{eq-eqb, ne_eqb, eqb-true, eqb-false}
+use Rattle.std.proofs.lemmas.Bool.{eq-eqb, ne_eqb, eqb-true, eqb-false, or_left, or_right}
+use Rattle.std.proofs.Math.Bool.{or-false}
 use Rattle.pl_plan.specs.declared.activity.Activity.{Activity}
 use Rattle.pl_plan.specs.Activities.{AreRising, activity_of, IsLive}
 use Rattle.pl_plan.specs.Index.{is_number}
@@ -22,14 +23,6 @@ pub same_test : (a b : Bool) → (a ≡ true → b ≡ true) → (b ≡ true →
 same_test true b there back = sym (there refl)
 same_test false true there back = back refl
 same_test false false there back = refl
-
-pub or_left : (a b : Bool) → a ≡ true → (a || b) ≡ true
-or_left true b e = refl
-or_left false b e = absurd (cc)
-
-pub or_right : (a b : Bool) → b ≡ true → (a || b) ≡ true
-or_right true b e = refl
-or_right false b e = e
 
 any_at : (f : ℕ → Bool) (ids : List ℕ) (q : ℕ) → among q ids ≡ true → f q ≡ true → list_any f ids ≡ true
 any_at f [] q there holds = absurd (cc)
@@ -172,8 +165,4 @@ inserted_one before after id q is = is ∙ rw (eq_at id q) (as_or (eqb id q))
     as_or false = refl
 
 pub found_all : (xs : List Activity) (top : ℕ) (before after : BTreeSet ℕ) (q : ℕ) → before.keys ≡ [] → contains nat_cmp after q ≡ (descends xs top q || contains nat_cmp before q) → among q after.keys ≡ descends xs top q
-found_all xs top before after q empty is = sym (contains_among q after.keys) ∙ (is ∙ (ap (λ (l : List ℕ). descends xs top q || list_any (λ k. is_eq (nat_cmp q k)) l) empty ∙ or_none (descends xs top q)))
-  where
-    or_none : (b : Bool) → (b || false) ≡ b
-    or_none true = refl
-    or_none false = refl
+found_all xs top before after q empty is = sym (contains_among q after.keys) ∙ (is ∙ (ap (λ (l : List ℕ). descends xs top q || list_any (λ k. is_eq (nat_cmp q k)) l) empty ∙ or-false (descends xs top q)))

@@ -3,6 +3,7 @@ use Rattle.std.proofs.Common.{◌≡◌, ℕ, zero, suc, ◌+◌, ◌<◌, ◌�
 use Rattle.std.proofs.lemmas.Bool.{cond_both, true≢false, ltb-true, ltb-false, leb-true, leb-false, le-ltb, lt-leb}
 use Rattle.std.proofs.lemmas.Bool.Decides.{nat_tests}
 use Rattle.std.proofs.lemmas.List.{drop_all, drop-drop}
+use Rattle.std.proofs.Math.Bool.{and-false}
 use Rattle.pl_points.specs.declared.span.Span.{Span}
 use Rattle.pl_lists.specs.Lists.{front, back}
 use Rattle.pl_points.specs.Spans.{within, covers, AreApart, span, joined}
@@ -158,11 +159,7 @@ apart_before at c e (p ∷ s) apart = cond_both (begins_before at p) (span p.fro
     later h = apart_later (suc (min p.to at)) (suc p.to) at (before at s) (omega arith) h
 
 pub covers_before : (at c e : ℕ) (s : List Span) (t : ℕ) → AreApart c e s → covers (before at s) t ≡ (ltb t at && covers s t)
-covers_before at c e [] t apart = sym (and_none (ltb t at))
-  where
-    and_none : (b : Bool) → (b && false) ≡ false
-    and_none true = refl
-    and_none false = refl
+covers_before at c e [] t apart = sym (and-false (ltb t at))
 covers_before at c e (p ∷ s) t apart = cases (begins_before at p) refl (covers_before at (suc p.to) e s t apart.3)
   where
     cut : p.from < at → within p.from (min p.to at) t ≡ (ltb t at && within p.from p.to t)
@@ -192,11 +189,7 @@ apart_behind at c e (p ∷ s) apart = cond_both (ends_by at p) (behind at s) (sp
     (λ f. (omega arith, omega (arith, apart.1, leb-false p.to at f), apart.2, apart.3))
 
 pub covers_behind : (at c e : ℕ) (s : List Span) (t : ℕ) → AreApart c e s → covers (behind at s) t ≡ (leb at t && covers s t)
-covers_behind at c e [] t apart = sym (and_none (leb at t))
-  where
-    and_none : (b : Bool) → (b && false) ≡ false
-    and_none true = refl
-    and_none false = refl
+covers_behind at c e [] t apart = sym (and-false (leb at t))
 covers_behind at c e (p ∷ s) t apart = cases (ends_by at p) refl (covers_behind at (suc p.to) e s t apart.3)
   where
     cut : at < p.to → within (max p.from at) p.to t ≡ (leb at t && within p.from p.to t)

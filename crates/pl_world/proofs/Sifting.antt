@@ -5,7 +5,7 @@ use Rattle.std.specs.List.{list_any}
 use Rattle.std.proofs.lemmas.List.{length-take, get_or-take}
 use Rattle.std.proofs.lemmas.List.Elements.{All-nil, All-cons, All-head, All-tail, All-take, All-weaker, filter_passes}
 use Rattle.std.proofs.lemmas.List.Kept.{AllPairs-cons}
-use Rattle.pl_lists.proofs.Tests.{both_true}
+use Rattle.std.proofs.lemmas.Bool.{and_parts, not-true}
 use Rattle.pl_conflict.specs.declared.conflict.Conflict.{Conflict}
 use Rattle.pl_plan.specs.declared.repair.RepairMove.{RepairMove}
 use Rattle.pl_world.specs.declared.plan_state.PlanState.{PlanState}
@@ -33,14 +33,10 @@ unfolding candidates_of
 worth s k = All-take (λ m. is_worth s m ≡ true) 256 (once_from [] (filter (is_worth s) (tried_for s k k.code))) (once_keeps (λ m. is_worth s m ≡ true) [] (filter (is_worth s) (tried_for s k k.code)) (filter_passes (is_worth s) (tried_for s k k.code)))
 
 pub proper : (s : PlanState) (k : Conflict) → All (λ m. is_proper s m ≡ true) (candidates_of s k)
-proper s k = All-weaker (λ m. is_worth s m ≡ true) (λ m. is_proper s m ≡ true) (λ m h. (both_true (is_proper s m) (not (changes_nothing s m)) h).0) (candidates_of s k) (worth s k)
+proper s k = All-weaker (λ m. is_worth s m ≡ true) (λ m. is_proper s m ≡ true) (λ m h. (and_parts (is_proper s m) (not (changes_nothing s m)) h).0) (candidates_of s k) (worth s k)
 
 pub changing : (s : PlanState) (k : Conflict) → All (λ m. changes_nothing s m ≡ false) (candidates_of s k)
-changing s k = All-weaker (λ m. is_worth s m ≡ true) (λ m. changes_nothing s m ≡ false) (λ m h. turned (changes_nothing s m) (both_true (is_proper s m) (not (changes_nothing s m)) h).1) (candidates_of s k) (worth s k)
-  where
-    turned : (b : Bool) → not b ≡ true → b ≡ false
-    turned true e = absurd (cc)
-    turned false e = refl
+changing s k = All-weaker (λ m. is_worth s m ≡ true) (λ m. changes_nothing s m ≡ false) (λ m h. not-true (changes_nothing s m) (and_parts (is_proper s m) (not (changes_nothing s m)) h).1) (candidates_of s k) (worth s k)
 
 pub at_most : (s : PlanState) (k : Conflict) → length (candidates_of s k) ≤ 256
 unfolding candidates_of
