@@ -4,6 +4,7 @@ use Rattle.std.specs.Prelude.{int_lt, is_some}
 use Rattle.std.specs.Int.{int_min, int_max}
 use Rattle.std.proofs.lemmas.Bool.{false≢true}
 use Rattle.std.proofs.lemmas.Int.{ints}
+use Rattle.std.proofs.Math.Bool.{or-false}
 use Rattle.pl_points.specs.Points.{Point, leaving, is_out}
 use Rattle.pl_blocks.specs.Blocks.{least_along, greatest_along, least_sum, greatest_sum, change_of}
 
@@ -37,12 +38,8 @@ shuffle true false r l = refl
 shuffle false true r l = refl
 shuffle false false r l = refl
 
-or_nil : (b : Bool) → b ≡ (b || false)
-or_nil true = refl
-or_nil false = refl
-
 out_along : (L M s low high r : ℤ) (ps : List Point) → either_out L M (s +ℤ least_along low r ps) (s +ℤ greatest_along high r ps) ≡ (either_out L M (s +ℤ low) (s +ℤ high) || is_some (leaving L M (s +ℤ r) ps))
-out_along L M s low high r [] = or_nil (either_out L M (s +ℤ low) (s +ℤ high))
+out_along L M s low high r [] = sym (or-false (either_out L M (s +ℤ low) (s +ℤ high)))
 out_along L M s low high r (p ∷ ps) =
     let z = r +ℤ p.1 in
     let same : s +ℤ z ≡ (s +ℤ r) +ℤ p.1 = omega (arith, ints) in

@@ -5,7 +5,7 @@ use Rattle.std.specs.List.Sorted.{IsStrictlyIncreasing}
 use Rattle.std.proofs.lemmas.Bool.{eqb-true, eq-eqb}
 use Rattle.std.proofs.lemmas.List.Elements.{All-nil, All-cons, All-head, All-tail, All-weaker}
 use Rattle.std.proofs.lemmas.List.Kept.{AllPairs-from_increasing}
-use Rattle.std.proofs.Math.Bool.{or-true}
+use Rattle.std.proofs.Math.Bool.{or-true, or_assoc}
 use Rattle.pl_plan.specs.declared.activity.Activity.{Activity}
 use Rattle.pl_plan.specs.Activities.{IsLive, activity_of}
 use Rattle.pl_plan.specs.Trees.{id_of}
@@ -35,11 +35,7 @@ all_among P (x ∷ xs) each = All-cons P x xs (each x (rw (eq-eqb x x refl) refl
 
 among-append : (i : ℕ) (xs ys : List ℕ) → among i (xs ++ ys) ≡ (among i xs || among i ys)
 among-append i [] ys = refl
-among-append i (x ∷ xs) ys = ap (λ b. eqb x i || b) (among-append i xs ys) ∙ assoc (eqb x i) (among i xs) (among i ys)
-  where
-    assoc : (a b c : Bool) → (a || (b || c)) ≡ ((a || b) || c)
-    assoc true b c = refl
-    assoc false b c = refl
+among-append i (x ∷ xs) ys = ap (λ b. eqb x i || b) (among-append i xs ys) ∙ sym (or_assoc (eqb x i) (among i xs) (among i ys))
 
 module _ (s : PlanState) (gone once : List ℕ) (more : List Activity) (whole : IsWhole s) (same : HoldSame once gone) where
   taken_once : taken s.plan.activities once ≡ taken s.plan.activities gone

@@ -4,6 +4,7 @@ use Rattle.std.proofs.Common.{◌≡◌, ℕ, zero, suc, ◌≤◌, Bool, true, 
 use Rattle.std.specs.Prelude.{filter, ◌||◌}
 use Rattle.std.specs.List.{list_any}
 use Rattle.std.proofs.lemmas.Bool.{or_right, or_from}
+use Rattle.pl_lists.proofs.Tests.{or_weaker}
 use Rattle.pl_plan.specs.declared.repair.RepairMove.{RepairMove}
 use Rattle.pl_world.specs.Candidates.{same_move, once_from}
 use Rattle.pl_cand.proofs.Same.{one_move}
@@ -26,11 +27,7 @@ take_all (suc n) (x ∷ xs) le = ap (λ l. x ∷ l) (take_all n xs (omega (arith
 any_more : (P : RepairMove → Bool) (n : ℕ) (xs : List RepairMove) → list_any P (take n xs) ≡ true → list_any P (take (suc n) xs) ≡ true
 any_more P zero xs e = absurd (cc)
 any_more P (suc n) [] e = absurd (cc)
-any_more P (suc n) (x ∷ xs) e = cases (P x) (list_any P (take n xs)) (list_any P (take (suc n) xs)) e (any_more P n xs)
-  where
-    cases : (a b c : Bool) → (a || b) ≡ true → (b ≡ true → c ≡ true) → (a || c) ≡ true
-    cases true b c e on = refl
-    cases false b c e on = on e
+any_more P (suc n) (x ∷ xs) e = or_weaker (P x) (list_any P (take n xs)) (list_any P (take (suc n) xs)) e (any_more P n xs)
 
 module _ (W : RepairMove → Bool) (m : RepairMove) where
   -- ---- the first that are tried

@@ -35,9 +35,10 @@ use Rattle.pl_check.specs.Numbering.{numbered, numbered_line, numbered_step, num
 use Rattle.pl_check.specs.Ranges.{is_between, is_amount, is_level, is_default, is_distance, range_in_line, range_in_param, range_in_origin, range_in_link, range_in_slot, range_in_order, range_in_alternative}
 use Rattle.pl_check.specs.Networks.{FinishesAlternative}
 use Rattle.pl_check.proofs.SizeLemmas.{then_passes}
-use Rattle.pl_check.proofs.RangeLemmas.{test_passes, each_passes, le_from_test, between}
+use Rattle.pl_check.proofs.RangeLemmas.{test_passes, each_passes, between}
 use Rattle.pl_lists.proofs.Judging.{bind_ok}
 use Rattle.pl_lists.proofs.Listing.{pairwise_length}
+use Rattle.pl_lists.proofs.Numbers.{le_from_test}
 use Rattle.pl_check.proofs.PairLemmas.{known_ok, ok_same, pair_all, pair_with, all_such, each_pairs, Makes}
 use Rattle.pl_check.proofs.MadeLemmas.{kind_found}
 use Rattle.pl_check.proofs.ExpressionLemmas.{names_made}

@@ -4,6 +4,7 @@ use Rattle.std.specs.Prelude.{int_le, ◌&&◌}
 use Rattle.std.proofs.lemmas.Int.{ints}
 use Rattle.std.proofs.lemmas.List.Elements.{All-nil, All-cons, All-head, All-tail, All-weaker}
 use Rattle.std.proofs.lemmas.Bool.{and_parts}
+use Rattle.pl_lists.proofs.Numbers.{le_from_test}
 use Rattle.pl_model.specs.declared.alternatives.Order.{Order}
 use Rattle.pl_check.specs.declared.fault.ModelFault.{ModelFault}
 use Rattle.pl_check.specs.declared.fault.ModelFault.TheVariants as fault
@@ -26,9 +27,6 @@ test_passes false e h = absurd (cc)
 pub each_passes : {X : Type 0} (judge : X → Judgement) (xs : List X) → each judge xs ≡ pass → All (λ x. judge x ≡ pass) xs
 each_passes judge [] h = All-nil (λ x. judge x ≡ pass)
 each_passes judge (x ∷ xs) h = let both = then_passes (judge x) (each judge xs) tt h in All-cons (λ y. judge y ≡ pass) x xs both.0 (each_passes judge xs both.1)
-
-pub le_from_test : (a b : ℤ) → int_le a b ≡ true → a ≤ℤ b
-le_from_test a b h = grind (arith, ints)
 
 pub between : (low high n : ℤ) → is_between low high n ≡ true → (low ≤ℤ n) × (n ≤ℤ high)
 unfolding is_between

@@ -50,9 +50,10 @@ use Rattle.pl_lists.specs.Lists.{Pairwise}
 use Rattle.pl_check.specs.Networks.{FinishesAlternative, FinishesKind, cut_to, span_of}
 use Rattle.pl_check.specs.Checked.{drafted, ranged, spans_in, IsModelOf, AnswersJudged, Answers, IsChecked as IsAnswered}
 use Rattle.pl_check.proofs.SizeLemmas.{then_passes, not_too_many, below_from_test, few, small_line, small_alternative}
-use Rattle.pl_check.proofs.RangeLemmas.{each_passes, le_from_test, of_kinds, horizon_passes, lead_passes}
+use Rattle.pl_check.proofs.RangeLemmas.{each_passes, of_kinds, horizon_passes, lead_passes}
 use Rattle.pl_lists.proofs.Judging.{bind_ok}
 use Rattle.pl_lists.proofs.Listing.{pairwise_length}
+use Rattle.pl_lists.proofs.Numbers.{le_from_test}
 use Rattle.pl_check.proofs.PairLemmas.{ok_same, pair_all, pair_with, pair_at, all_both, all_such, each_pairs, Makes}
 use Rattle.pl_check.proofs.DraftLemmas.{Numbers, numbers_kind}
 use Rattle.pl_check.proofs.MadeLemmas.{written_kinds, written_lines, kinds_such, lines_such, made_kinds, made_lines}

@@ -14,6 +14,7 @@ use Rattle.std.proofs.lemmas.List.Folds.{list_any-append}
 use Rattle.std.proofs.Math.Bool.{or_comm, or-false, and-true, and-false}
 use Rattle.std.proofs.lemmas.Bool.{not-true, and_parts}
 use Rattle.pl_lists.proofs.Tests.{or_swap, or_again, without_both}
+use Rattle.pl_lists.proofs.Orderings.{equal_from_test}
 use Rattle.pl_conflict.specs.declared.conflict.Conflict.{Conflict}
 use Rattle.pl_conflict.specs.Order.{conflict_cmp, has}
 use Rattle.pl_conflict.specs.Sorting.{AreInOrder, sorted, left_by, exchanged}
@@ -23,12 +24,7 @@ abbrev pub same : Conflict → Conflict → Bool
 same q k = is_at (conflict_cmp q) k
 
 pub same_is : (q k : Conflict) → same q k ≡ true → q ≡ k
-same_is q k e = conflict_exact q k (tied (conflict_cmp q k) e)
-  where
-    tied : (r : Ordering) → is_eq r ≡ true → r ≡ Equal
-    tied Equal e = refl
-    tied Less e = absurd (cc)
-    tied Greater e = absurd (cc)
+same_is q k e = conflict_exact q k (equal_from_test (conflict_cmp q k) e)
 
 -- ---- insertion
 

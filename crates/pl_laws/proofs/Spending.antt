@@ -88,14 +88,6 @@ Pays left each w event.Close = Spends left w (after w event.Close)
 
 -- ---- where an event is enabled
 
-pub first_true : (a b : Bool) → (a && b) ≡ true → a ≡ true
-first_true true b e = refl
-first_true false b e = absurd (cc)
-
-pub second_true : (a b : Bool) → (a && b) ≡ true → b ≡ true
-second_true true b e = e
-second_true false b e = absurd (cc)
-
 -- repair is not over
 pub repairs_on : (closed rested more : Bool) → (not closed && (not rested && more)) ≡ true → (closed ≡ false) × (rested ≡ false) × (more ≡ true)
 repairs_on true rested more e = absurd (cc)

@@ -8,6 +8,7 @@ use Rattle.std.proofs.lemmas.Int.{ints, to_z-of_z}
 use Rattle.std.proofs.Math.Bool.{and-false, and-true, or-false}
 use mir.Val.{to_z, of_z, SFits}
 use mir.Syntax.{w64}
+use Rattle.pl_lists.proofs.Numbers.{add_nothing}
 use Rattle.pl_points.specs.declared.span.Span.{Span}
 use Rattle.pl_points.specs.declared.limit.Limit.TheVariants.{Below, Above}
 use Rattle.pl_points.specs.Sums.{total, IsSmall}
@@ -349,9 +350,6 @@ sound_new h least most value xs ps low high lt fits is_least is_most is_value no
         tied = λ t. ap (λ l. sum_to l t) points;
         before = refl;
       };
-      low = steadily (is_low (make false h least most 0 0 value [])) (int_lt value least) h low lt (λ t. ap (λ z. int_lt z least) (plus_none value)) is_low_list;
-      high = steadily (is_high (make false h least most 0 0 value [])) (int_lt most value) h high lt (λ t. ap (int_lt most) (plus_none value)) is_high_list;
+      low = steadily (is_low (make false h least most 0 0 value [])) (int_lt value least) h low lt (λ t. ap (λ z. int_lt z least) (add_nothing value)) is_low_list;
+      high = steadily (is_high (make false h least most 0 0 value [])) (int_lt most value) h high lt (λ t. ap (int_lt most) (add_nothing value)) is_high_list;
     })
-  where
-    plus_none : (v : ℤ) → v +ℤ pos 0 ≡ v
-    plus_none v = omega (arith, ints)

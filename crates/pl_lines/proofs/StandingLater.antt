@@ -8,6 +8,7 @@ use Rattle.std.proofs.lemmas.Bool.{cases_eq, cases_lt, false≢true}
 use Rattle.std.proofs.lemmas.List.{get_or-set_same, get_or-set_other, get_or_past}
 use Rattle.std.proofs.lemmas.List.Elements.{All-map, All-weaker, All-set}
 use Rattle.std.proofs.lemmas.Option.{slice_get-map}
+use Rattle.pl_lists.proofs.Elements.{all_at}
 use Rattle.pl_conflict.specs.declared.conflict.Conflict.{Conflict}
 use Rattle.pl_facts.specs.declared.goal.Goal.{Goal}
 use Rattle.pl_facts.specs.Bases.{base_of}
@@ -31,7 +32,7 @@ use Rattle.pl_lines.specs.Held.{held, held_in, held_at, asked_at, Hold}
 use Rattle.pl_lines.specs.Framed.{bare, idle, IsOrdered, AreLinesOf}
 use Rattle.pl_lines.specs.Told.{IsTold}
 use Rattle.pl_lines.specs.Moments.{at_moment, based_on, rebased_in}
-use Rattle.pl_lines.proofs.StandingLines.{numbered_at, frame_at, framed_there, IsFramedAs, all_get, no_effects, no_items, empty_level, empty_states, same_level, same_states}
+use Rattle.pl_lines.proofs.StandingLines.{numbered_at, frame_at, framed_there, IsFramedAs, no_effects, no_items, empty_level, empty_states, same_level, same_states}
 
 -- ---- what is asked for is the same
 
@@ -225,7 +226,7 @@ module _ (s : PlanState) (line : ℕ) (value : ℤ) where
     pub lines_told : AreLinesOf (told_now line value s) (slice_set lines line (based_on value l))
     lines_told = record {
       framed = framed_all;
-      ordered = All-set IsOrdered lines line (based_on value l) (ordered_rebased l (all_get IsOrdered lines line l are.ordered here)) are.ordered;
+      ordered = All-set IsOrdered lines line (based_on value l) (ordered_rebased l (all_at IsOrdered lines line l are.ordered here)) are.ordered;
       hold = hold_same (slice_set lines line (based_on value l)) (demands_of s) (demands_of (told_now line value s)) (demands_told s line value) (λ n f. held_told n f ∙ are.hold n f);
     }
       where

@@ -11,7 +11,8 @@ use Rattle.std.proofs.lemmas.Grind.{common_steps}
 use Rattle.std.proofs.lemmas.List.Sums.{take_while-cons}
 use Rattle.std.proofs.lemmas.List.Elements.{All-head, All-tail}
 use Rattle.std.proofs.lemmas.Map.Views.{All-after_first}
-use Rattle.std.proofs.Math.Bool.{and-true}
+use Rattle.std.proofs.Math.Bool.{and-true, and-false}
+use Rattle.pl_lists.proofs.Tests.{and_second}
 use Rattle.pl_conflict.specs.declared.conflict.Conflict.{Conflict}
 use Rattle.pl_conflict.specs.declared.conflict.Code.{Code}
 use Rattle.pl_conflict.specs.declared.conflict.Code.TheVariants as code
@@ -182,11 +183,7 @@ front_ends p k ks e = take_while-cons p k ks ∙ ap (λ b. cond b (k ∷ take_wh
 
 has-front : (m c : ℕ) (ks : List Conflict) (q : Conflict) → AreInOrder ks → has q (take_while (λ (k : Conflict). leb k.from m && ltb k.from c) ks) ≡ ((leb q.from m && ltb q.from c) && has q ks)
 unfolding IsStrictlySortedBy
-has-front m c [] q ordered = none (leb q.from m && ltb q.from c)
-  where
-    none : (b : Bool) → false ≡ (b && false)
-    none true = refl
-    none false = refl
+has-front m c [] q ordered = sym (and-false (leb q.from m && ltb q.from c))
 has-front m c (k ∷ ks) q ordered = cases (leb k.from m && ltb k.from c) refl (same q k) refl (has-front m c ks q ordered.1)
   where
     cases : (b : Bool) → (leb k.from m && ltb k.from c) ≡ b → (h : Bool) → same q k ≡ h → has q (take_while (λ (k : Conflict). leb k.from m && ltb k.from c) ks) ≡ ((leb q.from m && ltb q.from c) && has q ks) → has q (take_while (λ (k : Conflict). leb k.from m && ltb k.from c) (k ∷ ks)) ≡ ((leb q.from m && ltb q.from c) && (same q k || has q ks))
@@ -244,10 +241,6 @@ mends_one true false false w st true was stands goes named broken = refl
 mends_one true false false w st false was stands goes named broken = refl
 mends_one false du ds w st true was stands goes named broken = absurd (let bad : false ≡ true = broken refl in cc)
 mends_one false du ds w st false was stands goes named broken = refl
-
-and_second : (a b : Bool) → (a && b) ≡ true → b ≡ true
-and_second true b e = e
-and_second false b e = absurd (cc)
 
 module _ (s : PlanState) (m c : ℕ) (present : s.moment ≤ m) (horizon : s.committed ≤ c) (rising : AreRising s.plan.activities) (ks : List Conflict) (ordered : AreInOrder ks) (shows : ShowsLinks s ks) where
   abbrev went : List Conflict

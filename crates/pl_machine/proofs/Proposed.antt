@@ -1,10 +1,10 @@
 -- What is proposed is a move of the model.
-use Rattle.std.proofs.Common.{◌≡◌, ℕ, ℤ, ◌≤ℤ◌, Bool, true, ◌&&◌, List, length, All, Option, Some, None, IfSome, refl, sym, subst, arith}
+use Rattle.std.proofs.Common.{◌≡◌, ℕ, ℤ, Bool, true, ◌&&◌, List, length, All, Option, Some, None, IfSome, refl, sym, subst, arith}
 use Rattle.std.specs.Prelude.{slice_get, nat_lt, int_le}
 use Rattle.std.proofs.lemmas.Bool.{ltb-true, and_parts}
 use Rattle.std.proofs.lemmas.Int.{ints}
-use Rattle.std.proofs.lemmas.List.Elements.{All-get_or}
-use Rattle.std.proofs.lemmas.Option.{slice_get_within, get_or_from_slice_get}
+use Rattle.pl_lists.proofs.Elements.{all_at}
+use Rattle.pl_lists.proofs.Numbers.{le_from_test}
 use Rattle.pl_model.specs.declared.parameters.Param.{Param}
 use Rattle.pl_model.specs.declared.kinds.Kind.{Kind}
 use Rattle.pl_model.specs.declared.whole.Model.{Model}
@@ -23,12 +23,6 @@ use Rattle.pl_cand.specs.Proposals.{IsProposal}
 use Rattle.pl_cand.proofs.Proposed.{proposed_proper}
 use Rattle.pl_machine.specs.Repairs.{IsMoveOf}
 
-got : {X : Type 0} (P : X → Type 0) (xs : List X) (i : ℕ) (x : X) → All P xs → slice_get xs i ≡ Some x → P x
-got P xs i x all is = subst P (get_or_from_slice_get xs i x x is) (All-get_or P xs i x (slice_get_within xs i x is) all)
-
-le_from_test : (a b : ℤ) → int_le a b ≡ true → a ≤ℤ b
-le_from_test a b e = grind (arith, ints)
-
 within_amounts : (low high v : ℤ) → IsAmount low → IsAmount high → is_within low high (Some v) ≡ true → IsAmount v
 within_amounts low high v least most e =
     let both = and_parts (int_le low v) (int_le v high) e in
@@ -43,7 +37,7 @@ taken free value kinds m n k None checked is None here e = absurd (cc)
 taken free value kinds m n k None checked is (Some p) here e = absurd (cc)
 taken free value kinds m n k (Some kind) checked is None here e = absurd (cc)
 taken free value kinds m n k (Some kind) checked is (Some p) here e =
-    let param = got (IsCheckedParam (length kind.params)) kind.params n p (got (IsCheckedKind m) kinds k kind checked is).params here in
+    let param = all_at (IsCheckedParam (length kind.params)) kind.params n p (all_at (IsCheckedKind m) kinds k kind checked is).params here in
     within_amounts p.low p.high value param.least param.greatest (and_parts (free p) (is_within p.low p.high (Some value)) e).1
 
 assigned : (s : PlanState) (n : ℕ) (value : ℤ) (o : Option Activity) → IsChecked s.model → holds (λ a. takes_value s a n value) o ≡ true → IsAmount value

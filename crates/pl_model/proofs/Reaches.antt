@@ -5,6 +5,7 @@ use Rattle.std.proofs.lemmas.Int.{ints, clamps}
 use Rattle.std.proofs.lemmas.Bool.{cases_Bool, and_parts}
 use Rattle.std.proofs.Math.Nat.{mul-le-mul_right}
 use Rattle.std.proofs.Math.IntN.{*ℤ_comm, *ℤ-negsuc}
+use Rattle.pl_lists.proofs.Numbers.{le_from_test}
 use Rattle.pl_model.specs.declared.expressions.Op.{Op}
 use Rattle.pl_model.specs.declared.expressions.Op.TheVariants.{Add, Sub, Mul, Min, Max}
 use Rattle.pl_model.specs.Values.{limited, joined, outcome_of}
@@ -46,9 +47,6 @@ outcome_reached Sub r s x y p q = (omega (arith, ints, p.0, q.1), omega (arith, 
 outcome_reached Mul r s x y p q = product_reached r.0 r.1 s.0 s.1 x y p q
 outcome_reached Min r s x y p q = (omega (arith, ints, clamps, p.0, q.0), omega (arith, ints, clamps, p.1, q.1))
 outcome_reached Max r s x y p q = (omega (arith, ints, clamps, p.0, q.0), omega (arith, ints, clamps, p.1, q.1))
-
-le_from_test : (a b : ℤ) → int_le a b ≡ true → a ≤ℤ b
-le_from_test a b h = grind (arith, ints)
 
 near_from_test : (n : ℤ) → (int_le (negsuc 999999999999999999) n && int_le n (pos 1000000000000000000)) ≡ true → IsWithin (negsuc 999999999999999999, pos 1000000000000000000) n
 near_from_test n h =

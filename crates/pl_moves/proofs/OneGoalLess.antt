@@ -4,11 +4,9 @@ use Rattle.std.specs.Prelude.{◌||◌, ◌&&◌, not, nat_lt, nat_le, Option, S
 use Rattle.std.specs.Option.{option_map}
 use Rattle.std.specs.Set.{remove_key}
 use Rattle.std.proofs.lemmas.Bool.{eqb-true, eq-eqb, false_from_ne_true}
-use Rattle.std.specs.declared.cmp.Ordering.{Ordering}
-use Rattle.std.specs.declared.cmp.Ordering.TheVariants.{Less, Equal, Greater}
-use Rattle.std.specs.Ordering.{is_eq, ordering_reverse}
 use Rattle.std.proofs.lemmas.Map.Made.{length-remove_key}
 use Rattle.std.proofs.Math.Bool.{or-false, and-true, and-false}
+use Rattle.pl_lists.proofs.Orderings.{tie_from_reverse}
 use Rattle.pl_conflict.specs.declared.conflict.Conflict.{Conflict}
 use Rattle.pl_conflict.specs.declared.conflict.Code.TheVariants.{OpenGoal, OffGoal}
 use Rattle.pl_conflict.specs.Order.{conflict_cmp, has}
@@ -60,12 +58,7 @@ has_number n (x ∷ goals) g e = cases (is_numbered n x) refl (has_number n goal
     cases false f more = more (rw f at e)
 
 pub same_itself : (k : Conflict) → same k k ≡ true
-same_itself k = tied (conflict_cmp k k) (conflict_total.antisymm k k)
-  where
-    tied : (r : Ordering) → r ≡ ordering_reverse r → is_eq r ≡ true
-    tied Less e = absurd (cc)
-    tied Equal e = refl
-    tied Greater e = absurd (cc)
+same_itself k = tie_from_reverse (conflict_cmp k k) (conflict_total.antisymm k k)
 
 -- ---- one goal less
 

@@ -1,6 +1,6 @@
 -- Each number of a message that is read is within its limits.
 use Rattle.std.proofs.Common.{◌≡◌, ℕ, zero, suc, ◌+◌, ◌<◌, ◌≤◌, Bool, true, false, cond, List, [], ◌∷◌, length, Ok, Err, refl, ap, subst, arith}
-use Rattle.std.specs.Prelude.{ℤ, pos, ◌≤ℤ◌, int_le, Option, Some, None, IfSome, slice_get, codes, bytes_eq, ◌&&◌, nat_le, nat_lt}
+use Rattle.std.specs.Prelude.{ℤ, pos, int_le, Option, Some, None, IfSome, slice_get, codes, bytes_eq, ◌&&◌, nat_le, nat_lt}
 use Rattle.std.proofs.lemmas.Option.{slice_get_within, same_Some}
 use Rattle.std.proofs.lemmas.Bool.{leb-true, ltb-true, and_parts}
 use Rattle.std.proofs.lemmas.Int.{ints}
@@ -21,6 +21,7 @@ use Rattle.pl_msg.specs.declared.telemetry.Value.{Value}
 use Rattle.pl_msg.specs.declared.telemetry.Value.TheVariants as said
 use Rattle.pl_lists.specs.Judgements.{◌>>=◌, each_made}
 use Rattle.pl_lists.proofs.Judging.{bind_ok, if_ok}
+use Rattle.pl_lists.proofs.Numbers.{le_from_test}
 use Rattle.pl_msg.specs.Reads.{Read}
 use Rattle.pl_msg.specs.Words.{says, number_in, name_in}
 use Rattle.pl_msg.specs.Names.{first_from, kind_named, timeline_name, timeline_named, state_named, is_free}
@@ -45,9 +46,6 @@ stands_first false place y ys later n x e rest = let there = rest e in let at : 
 pub first_from-Some : {X : Type 0} (test : X → Bool) (place : ℕ) (xs : List X) (n : ℕ) (x : X) → first_from test place xs ≡ Some (n, x) → Stands place xs n x
 first_from-Some test place [] n x e = absurd (cc)
 first_from-Some test place (y ∷ ys) n x e = stands_first (test y) place y ys (first_from test (place + 1) ys) n x e (first_from-Some test (place + 1) ys n x)
-
-le_from_test : (a b : ℤ) → int_le a b ≡ true → a ≤ℤ b
-le_from_test a b h = grind (arith, ints)
 
 -- the places that are read fit the parameters
 fits_param : (line : List ℕ) (ps : List Preset) (param : Param) (value : Option ℤ) → place_in param (given line ps param) ≡ Ok value → FitsParam param value

@@ -4,6 +4,7 @@ use Rattle.std.specs.List.{flat_map}
 use Rattle.std.proofs.lemmas.Bool.{leb-false, ltb-false, ltb-true, lt-leb, leb-true, le-ltb, lt-ltb, le-leb, or_left, or_right, or_parts, or_from}
 use Rattle.std.proofs.lemmas.Grind.{common_steps}
 use Rattle.std.proofs.lemmas.List.Elements.{All-head, All-tail}
+use Rattle.pl_lists.proofs.Tests.{not_and_parts}
 use Rattle.pl_conflict.specs.declared.conflict.Conflict.{Conflict}
 use Rattle.pl_conflict.specs.declared.conflict.Code.TheVariants as code
 use Rattle.pl_conflict.specs.Order.{has}
@@ -115,11 +116,6 @@ wrong_early s a =
 
 -- ---- tests
 
-both_of : (b c : Bool) → not (b && c) ≡ false → (b ≡ true) × (c ≡ true)
-both_of true true e = (refl, refl)
-both_of true false e = absurd (cc)
-both_of false c e = absurd (cc)
-
 not_first : (b c : Bool) → b ≡ false → not (b && c) ≡ true
 not_first true c e = absurd (cc)
 not_first false c e = refl
@@ -179,7 +175,7 @@ module _ (s : PlanState) (h : ℕ) (later : s.committed ≤ h) where
 
   stays_past : (a : Activity) → is_ahead s a ≡ false → is_ahead next a ≡ false
   stays_past a e =
-      let both = both_of (is_committed s a) (nat_le a.start s.moment) e in
+      let both = not_and_parts (is_committed s a) (nat_le a.start s.moment) e in
       let less = ltb-true a.start s.committed both.0 in
       not_both (is_committed next a) (nat_le a.start s.moment) (lt-ltb a.start h (omega (arith, less, later))) both.1
 

@@ -4,6 +4,7 @@ use Rattle.std.specs.Prelude.{◌||◌, ◌&&◌, ◌⊎◌, not, nat_le}
 use Rattle.std.specs.List.{flat_map}
 use Rattle.std.specs.Option.{option_map}
 use Rattle.std.proofs.Math.Bool.{or-true}
+use Rattle.pl_lists.proofs.Tests.{or_second_true}
 use Rattle.pl_conflict.specs.declared.conflict.Conflict.{Conflict}
 use Rattle.pl_conflict.specs.declared.conflict.Code.{Code}
 use Rattle.pl_conflict.specs.declared.conflict.Code.TheVariants as code
@@ -61,14 +62,10 @@ of_values s a =
     (each_found IsOfValues (bad_duration s a) (kind_of s.model a) (λ k. each_when IsOfValues _ (at_start a code.BadValue 16 0) refl)))
     (each_flat IsOfValues (bad_amount s a) (reservations_of s a) (λ r. each_when IsOfValues _ (at_start a code.BadValue (17 + r.0) 0) refl)))
 
-second : (a b : Bool) → (a || b) ≡ true → (a ≡ true → ⊥) → b ≡ true
-second true b e no_a = absurd (no_a refl)
-second false b e no_a = e
-
 -- one that tells of no alternative is of that part
 lacks_one : (s : PlanState) (a : Activity) (q : Conflict) → q.code ≡ code.Undetailed → has q (fixed_at s a) ≡ true → has q (undetailed_at s a) ≡ true
 lacks_one s a q is there =
-    second (has q (unset_at s a ++ bad_values_at s a)) (has q (undetailed_at s a)) (sym (has-append (unset_at s a ++ bad_values_at s a) (undetailed_at s a) q) ∙ there)
+    or_second_true (has q (unset_at s a ++ bad_values_at s a)) (has q (undetailed_at s a)) (sym (has-append (unset_at s a ++ bad_values_at s a) (undetailed_at s a) q) ∙ there)
     (λ h. absurd (let no : eqb (code_number q.code) 5 ≡ false = of_values s a q h in let bad : true ≡ false = sym (ap (λ c. eqb (code_number c) 5) is) ∙ no in cc))
 
 -- ---- the activities then

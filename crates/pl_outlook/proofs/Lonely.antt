@@ -3,6 +3,7 @@ use Rattle.std.proofs.Common.{◌≡◌, ℕ, zero, suc, ◌+◌, ◌<◌, ◌�
 use Rattle.std.specs.Prelude.{◌||◌, slice_get}
 use Rattle.std.specs.List.{flat_map}
 use Rattle.std.proofs.lemmas.Bool.{eqb-true, eqb-false, false_from_ne_true, or_left, or_right}
+use Rattle.std.proofs.Math.Bool.{or_assoc}
 use Rattle.pl_conflict.specs.declared.conflict.Conflict.{Conflict}
 use Rattle.pl_conflict.specs.Order.{has}
 use Rattle.pl_conflict.proofs.Sorting.{same, same_is, has-append}
@@ -28,12 +29,8 @@ flat_append f [] ys q = refl
 flat_append f (x ∷ xs) ys q =
     has-append (f x) (flat_map f (xs ++ ys)) q
     ∙ (ap (λ b. has q (f x) || b) (flat_append f xs ys q)
-    ∙ (turned (has q (f x)) (has q (flat_map f xs)) (has q (flat_map f ys))
+    ∙ ((sym (or_assoc (has q (f x)) (has q (flat_map f xs)) (has q (flat_map f ys))))
     ∙ ap (λ b. b || has q (flat_map f ys)) (sym (has-append (f x) (flat_map f xs) q))))
-  where
-    turned : (a b c : Bool) → (a || (b || c)) ≡ ((a || b) || c)
-    turned true b c = refl
-    turned false b c = refl
 
 module _ (t : PlanState) (a : Activity) (ahead : is_ahead t a ≡ true) where
   abbrev own : Placed

@@ -6,7 +6,9 @@ use Rattle.std.specs.List.Sorted.{IsStrictlySortedBy}
 use Rattle.std.specs.BTreeMap.{is_at}
 use Rattle.std.specs.BTreeSet.{contains}
 use Rattle.std.proofs.lemmas.Bool.{eq-eqb, ne_eqb, eqb-true, eqb-false, or_left, or_right}
-use Rattle.std.proofs.Math.Bool.{or-false}
+use Rattle.std.proofs.Math.Bool.{or-false, and-false}
+use Rattle.pl_lists.proofs.Elements.{any_agree}
+use Rattle.pl_lists.proofs.Tests.{same_test}
 use Rattle.pl_plan.specs.declared.activity.Activity.{Activity}
 use Rattle.pl_plan.specs.Activities.{AreRising, activity_of, IsLive}
 use Rattle.pl_plan.specs.Index.{is_number}
@@ -14,15 +16,10 @@ use Rattle.pl_plan.specs.Trees.{id_of, IsRooted, parent_in, parent_of, children_
 use Rattle.pl_plan.proofs.TreeLaws.{descends_join, descends_sound, descends_complete}
 use Rattle.pl_plan.proofs.RisingIds.{among, filter_rises, same_rising, sorted_rises}
 use Rattle.pl_plan.proofs.Owned.{owned_among}
-use Rattle.pl_plan.proofs.Pairs.{eq_at, any_agree}
+use Rattle.pl_plan.proofs.Pairs.{eq_at}
 use Rattle.pl_plan.proofs.Members.{ids_rise}
 
 -- ---- tests that agree
-
-pub same_test : (a b : Bool) → (a ≡ true → b ≡ true) → (b ≡ true → a ≡ true) → a ≡ b
-same_test true b there back = sym (there refl)
-same_test false true there back = back refl
-same_test false false there back = refl
 
 any_at : (f : ℕ → Bool) (ids : List ℕ) (q : ℕ) → among q ids ≡ true → f q ≡ true → list_any f ids ≡ true
 any_at f [] q there holds = absurd (cc)
@@ -119,11 +116,7 @@ module _ (xs : List Activity) (rooted : IsRooted xs) (rising : AreRising xs) whe
   -- ---- the subtree as a list
 
   among_filter : (p : ℕ → Bool) (q : ℕ) (ids : List ℕ) → among q (filter p ids) ≡ (p q && among q ids)
-  among_filter p q [] = and_none (p q)
-    where
-      and_none : (b : Bool) → false ≡ (b && false)
-      and_none true = refl
-      and_none false = refl
+  among_filter p q [] = sym (and-false (p q))
   among_filter p q (i ∷ ids) = cases (p i) refl (eqb q i) refl (among_filter p q ids)
     where
       cases : (b : Bool) → p i ≡ b → (d : Bool) → eqb q i ≡ d → among q (filter p ids) ≡ (p q && among q ids) → among q (filter p (i ∷ ids)) ≡ (p q && among q (i ∷ ids))

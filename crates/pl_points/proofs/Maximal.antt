@@ -2,11 +2,11 @@
 use Rattle.std.proofs.Common.{◌≡◌, ℕ, zero, suc, ◌+◌, ◌-◌, ◌^◌, ◌<◌, ◌≤◌, Bool, true, false, ◌&&◌, ◌||◌, List, [], ◌∷◌, refl, ap, sym, ◌∙◌, subst, arith, eqb, ltb, leb}
 use Rattle.std.proofs.lemmas.Bool.{cond_both, eqb-true, eqb-false, true≢false, ltb-true, ltb-false, leb-true, leb-false}
 use Rattle.std.proofs.lemmas.Bool.Decides.{nat_tests}
-use Rattle.std.proofs.Math.Bool.{and-true, and-false, or-false}
+use Rattle.std.proofs.Math.Bool.{and-true, and-false, or-false, and-or_distrib_right, or_assoc}
 use Rattle.pl_points.specs.declared.span.Span.{Span}
 use Rattle.pl_points.specs.Spans.{within, covers, AreApart, AreMaximal, span, grown, spans_of, joined}
 use Rattle.pl_points.specs.Mending.{mended}
-use Rattle.pl_points.proofs.Spanning.{or_assoc, apart_later, apart_wider, covers-joined, apart-joined, within_two}
+use Rattle.pl_points.proofs.Spanning.{apart_later, apart_wider, covers-joined, apart-joined, within_two}
 use Rattle.pl_points.proofs.Cuts.{covers_low, within_high, within_low, within_yes, apart_from, apart_to}
 
 apart_grown : (b : Bool) (a e : ℕ) (s : List Span) → suc a ≤ e → AreApart (suc a) e s → AreApart a e (grown b a s)
@@ -131,14 +131,8 @@ splits P a m n =
     (λ t. whole.exact t ∙ (ap (λ b. within a b t && P t) (sym e) ∙ sym (covers-joined a (a + m) ((a + m) + n) (spans_of P a m) (spans_of P (a + m) n) one.apart other.apart t
     ∙ (ap (λ v. v || covers (spans_of P (a + m) n) t) (one.exact t) ∙ (ap (λ v. (within a (a + m) t && P t) || v) (other.exact t) ∙ both t)))))
   where
-    spread : (w v x : Bool) → ((w && x) || (v && x)) ≡ ((w || v) && x)
-    spread true true true = refl
-    spread true true false = refl
-    spread true false x = or-false x
-    spread false v x = refl
-
     both : (t : ℕ) → ((within a (a + m) t && P t) || (within (a + m) ((a + m) + n) t && P t)) ≡ (within a ((a + m) + n) t && P t)
-    both t = spread (within a (a + m) t) (within (a + m) ((a + m) + n) t) (P t) ∙ ap (λ w. w && P t) (sym (within_two a (a + m) ((a + m) + n) t (omega arith) (omega arith)))
+    both t = sym (and-or_distrib_right (within a (a + m) t) (within (a + m) ((a + m) + n) t) (P t)) ∙ ap (λ w. w && P t) (sym (within_two a (a + m) ((a + m) + n) t (omega arith) (omega arith)))
 
 pub local : (P Q : ℕ → Bool) (a n : ℕ) → ((t : ℕ) → a ≤ t → t < a + n → P t ≡ Q t) → spans_of P a n ≡ spans_of Q a n
 local P Q a zero same = refl

@@ -2,7 +2,7 @@
 use Rattle.std.proofs.Common.{◌≡◌, ℕ, suc, ◌^◌, ◌<◌, ◌≤◌, Bool, true, false, ◌&&◌, ◌||◌, cond, List, [], ◌∷◌, ◌++◌, length, get_or, drop, refl, ap, sym, ◌∙◌, subst, arith, eqb, ltb, leb, Result, Ok, Err, IfOk, OnOk}
 use Rattle.std.proofs.lemmas.Bool.{cond_both, eq-eqb, ne_eqb, ltb-true, ltb-false, leb-true, leb-false, le-leb, lt-leb, or_right}
 use Rattle.std.proofs.lemmas.List.{drop_all, append-nil}
-use Rattle.std.proofs.Math.Bool.{or-false}
+use Rattle.std.proofs.Math.Bool.{or-false, or_assoc}
 use Rattle.pl_points.specs.declared.span.Span.{Span}
 use Rattle.pl_lists.specs.Lists.{front, back}
 use Rattle.pl_points.specs.Spans.{within, covers, AreApart, joined}
@@ -11,7 +11,7 @@ use Rattle.pl_points.specs.Changes.{same_span, IsChange}
 use Rattle.pl_lists.specs.Lists.{is_among, left_out}
 use Rattle.pl_points.specs.declared.span.Change.{Change}
 use Rattle.pl_points.proofs.Parting.{drop_next, back_fails}
-use Rattle.pl_points.proofs.Spanning.{or_assoc, apart_later, apart-joined, covers-joined, within_true}
+use Rattle.pl_points.proofs.Spanning.{apart_later, apart-joined, covers-joined, within_true}
 use Rattle.pl_points.proofs.Cuts.{covers_low, covers_high, within_high, within_low, within_yes, apart_from, apart_to, covers_before, apart_behind, covers_behind}
 
 other_begin : (p x : Span) → (p.from ≡ x.from → ⊥) → same_span p x ≡ false

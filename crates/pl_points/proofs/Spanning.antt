@@ -3,13 +3,9 @@ use Rattle.std.proofs.Common.{◌≡◌, ℕ, zero, suc, ◌<◌, ◌≤◌, Boo
 use Rattle.std.proofs.lemmas.Bool.{cond_both, eqb-true, eqb-false, eq-eqb, ne_eqb, and_parts, leb-true, ltb-true}
 use Rattle.std.proofs.lemmas.Bool.Decides.{nat_tests}
 use Rattle.std.proofs.lemmas.List.{get_or_default}
-use Rattle.std.proofs.Math.Bool.{or-false}
+use Rattle.std.proofs.Math.Bool.{or-false, or_assoc}
 use Rattle.pl_points.specs.declared.span.Span.{Span}
 use Rattle.pl_points.specs.Spans.{within, covers, AreApart, span, joined}
-
-pub or_assoc : (a b c : Bool) → ((a || b) || c) ≡ (a || (b || c))
-or_assoc true b c = refl
-or_assoc false b c = refl
 
 pub within_two : (a b c x : ℕ) → a ≤ b → b ≤ c → within a c x ≡ (within a b x || within b c x)
 within_two a b c x le more = grind (arith, nat_tests)

@@ -1,6 +1,8 @@
 -- Sets of tokens whose relations are computed.
-use Rattle.std.proofs.Common.{◌≡◌, ℕ, Bool, true, false, not, ◌&&◌, ◌||◌, ◌==◌, List, [], ◌∷◌, ◌++◌, refl, ap, ◌∙◌}
+use Rattle.std.proofs.Common.{◌≡◌, ℕ, Bool, true, false, not, ◌&&◌, ◌||◌, ◌==◌, List, [], ◌∷◌, ◌++◌, refl, ap, ◌∙◌, sym}
 use Rattle.std.proofs.lemmas.Bool.{eqb-true, not-true, or_left, or_right}
+use Rattle.std.proofs.Math.Bool.{or-false}
+use Rattle.pl_lists.proofs.Tests.{and_first, and_second, or_weaker}
 use Rattle.pl_rules.specs.declared.token.Token.{Token}
 use Rattle.pl_rules.specs.declared.token.Token.TheVariants as token
 use Rattle.pl_text.specs.declared.word.Word.{Word}
@@ -48,14 +50,6 @@ disjoint s t = none_among s.words t.words && (none_among s.symbols t.symbols && 
 
 abbrev pub within : Set → Set → Bool
 within s t = all_among s.words t.words && (all_among s.symbols t.symbols && ((not s.names || t.names) && (not s.numbers || t.numbers)))
-
-pub and_first : (a b : Bool) → (a && b) ≡ true → a ≡ true
-and_first true b e = refl
-and_first false b e = e
-
-pub and_second : (a b : Bool) → (a && b) ≡ true → b ≡ true
-and_second true b e = e
-and_second false b e = absurd cc
 
 not_both : (a b : Bool) → not (a && b) ≡ true → a ≡ true → b ≡ false
 not_both true b e h = not-true b e
@@ -125,30 +119,21 @@ nothing-has (token.Symbol v) h = absurd cc
 nothing-has (token.Name n) h = absurd cc
 nothing-has (token.Number n) h = absurd cc
 
--- a test that is a set
-or_false : (b : Bool) → b ≡ (b || false)
-or_false true = refl
-or_false false = refl
-
 pub told_word : (w : Word) (t : Token) → is_word w t ≡ has (only_word w) t
-told_word w (token.Word v) = or_false (word_number v == word_number w)
+told_word w (token.Word v) = sym (or-false (word_number v == word_number w))
 told_word w (token.Symbol v) = refl
 told_word w (token.Name n) = refl
 told_word w (token.Number n) = refl
 
 pub told_symbol : (s : Symbol) (t : Token) → is_symbol s t ≡ has (only_symbol s) t
 told_symbol s (token.Word v) = refl
-told_symbol s (token.Symbol v) = or_false (symbol_number v == symbol_number s)
+told_symbol s (token.Symbol v) = sym (or-false (symbol_number v == symbol_number s))
 told_symbol s (token.Name n) = refl
 told_symbol s (token.Number n) = refl
 
-left_at : (a b c : Bool) → (a || b) ≡ true → (b ≡ true → c ≡ true) → (a || c) ≡ true
-left_at true b c h f = refl
-left_at false b c h f = f h
-
 pub among-append-left : (n : ℕ) (xs ys : List ℕ) → among n xs ≡ true → among n (xs ++ ys) ≡ true
 among-append-left n [] ys h = absurd cc
-among-append-left n (x ∷ xs) ys h = left_at (n == x) (among n xs) (among n (xs ++ ys)) h (among-append-left n xs ys)
+among-append-left n (x ∷ xs) ys h = or_weaker (n == x) (among n xs) (among n (xs ++ ys)) h (among-append-left n xs ys)
 
 pub among-append-right : (n : ℕ) (xs ys : List ℕ) → among n ys ≡ true → among n (xs ++ ys) ≡ true
 among-append-right n [] ys h = h

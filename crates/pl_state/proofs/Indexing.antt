@@ -7,6 +7,7 @@ use Rattle.std.specs.List.{Contains}
 use Rattle.std.proofs.Math.Bool.{and-false}
 use Rattle.pl_points.specs.declared.span.Span.{Span}
 use Rattle.pl_lists.specs.Lists.{front, back}
+use Rattle.pl_lists.proofs.Numbers.{eqb_itself}
 use Rattle.pl_points.specs.Standing.{without}
 use Rattle.pl_points.proofs.Parting.{IsParted}
 use Rattle.pl_state.specs.declared.key.Key.{Key}
@@ -159,9 +160,6 @@ many_has same exact u (x ∷ xs) le = cases (same x u) refl le (many_has same ex
     cases : (b : Bool) → same x u ≡ b → 1 ≤ cond b 1 0 + many same u xs → (1 ≤ many same u xs → Has u xs) → Has u (x ∷ xs)
     cases true e l more = inl (exact x u e)
     cases false e l more = inr (more (omega (arith, l)))
-
-eqb_itself : (n : ℕ) → eqb n n ≡ true
-eqb_itself n = grind arith
 
 pub kept_has : (u : Must) (ms : List Must) (xs : List Started) → AreKept ms xs → Has u ms → Has (started u) xs
 kept_has u ms xs kept has =

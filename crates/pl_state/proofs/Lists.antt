@@ -1,8 +1,7 @@
 -- Items that a list leaves out, and those that it has.
 use Rattle.std.proofs.Common.{◌≡◌, Bool, true, false, ◌||◌, cond, List, [], ◌∷◌, ◌++◌, refl, ap, sym, ◌∙◌, subst}
 use Rattle.std.proofs.lemmas.List.{append_assoc, append-nil}
-use Rattle.std.proofs.Math.Bool.{or-true}
-use Rattle.pl_points.proofs.Spanning.{or_assoc}
+use Rattle.std.proofs.Math.Bool.{or-true, or_assoc}
 use Rattle.pl_lists.specs.Lists.{is_among, left_out}
 
 -- each item is in the list
