@@ -3,6 +3,7 @@ use Rattle.std.proofs.Common.{◌≡◌, ◌≢◌, ℕ, zero, suc, ◌+◌, ◌
 use Rattle.std.proofs.lemmas.List.{length-take, get_or-take}
 use Rattle.std.proofs.lemmas.List.Elements.{All-get_or}
 use Rattle.std.proofs.lemmas.Option.{slice_get_within, get_or_from_slice_get}
+use Rattle.pl_lists.proofs.Elements.{all_at}
 use Rattle.pl_text.specs.declared.token.Token.{Token as Piece}
 use Rattle.pl_rules.specs.declared.token.Token.{Token}
 use Rattle.pl_rules.specs.Tokens.{AreReal}
@@ -154,9 +155,6 @@ at_taken P xs n i x lt h e =
     let inside = slice_get_within xs i x e in
     subst P (get_or-take n xs i x lt ∙ get_or_from_slice_get xs i x x e) (All-get_or P (take n xs) i x (omega (arith, length-take n xs, lt, inside)) h)
 
-at_place : {X : Type 0} (P : X → Type 0) (xs : List X) (i : ℕ) (x : X) → All P xs → slice_get xs i ≡ Some x → P x
-at_place P xs i x h e = subst P (get_or_from_slice_get xs i x x e) (All-get_or P xs i x (slice_get_within xs i x e) h)
-
 found_same : {X : Type 0} (xs : List X) (i j : ℕ) (x y : X) → slice_get xs i ≡ Some x → slice_get xs j ≡ Some y → i ≡ j → x ≡ y
 found_same xs i j x y e f same = let g = sym e ∙ ap (λ (n : ℕ). slice_get xs n) same ∙ f in cc
 
@@ -184,7 +182,7 @@ circular_same kinds n p m q f g =
     circular_in f.kind g.kind n p m q (found_same kinds f.place g.place f.kind g.kind f.found g.found place) f.first g.first
 
 no_circular : (kinds : List DraftKind) (n p : List ℕ) → AreWellFounded kinds → IsFirstCircular kinds n p → ⊥
-no_circular kinds n p w f = not_founded f.kind n p (at_place IsWellFounded kinds f.place f.kind w f.found) f.first
+no_circular kinds n p w f = not_founded f.kind n p (all_at IsWellFounded kinds f.place f.kind w f.found) f.first
 
 no_recursive : (kinds : List DraftKind) (n : List ℕ) → AreUncontained kinds → IsFirstRecursive kinds n → ⊥
 no_recursive kinds n u f = u.each f.place f.first.vertex f.first.cyclic
@@ -197,7 +195,7 @@ recursive_same kinds n m f g =
 
 module _ (horizon : ℤ) (spans : List (ℤ × ℤ)) where
   conflict_not : (k : DraftKind) (n : List ℕ) (a : ℕ) (c : List ℕ) → IsScheduled horizon spans k → IsFirstConflict spans (span_of horizon k) k n a c → ⊥
-  conflict_not k n a c s f = let t = at_place (HasSchedule spans (span_of horizon k)) k.alternatives a f.alternative s f.found in f.conflict.1 t.0 t.1
+  conflict_not k n a c s f = let t = all_at (HasSchedule spans (span_of horizon k)) k.alternatives a f.alternative s f.found in f.conflict.1 t.0 t.1
 
   conflict_before : (k : DraftKind) (n m : List ℕ) (a b : ℕ) (c d : List ℕ) → IsFirstConflict spans (span_of horizon k) k n a c → IsFirstConflict spans (span_of horizon k) k m b d → a < b → ⊥
   conflict_before k n m a b c d f g lt = let t = at_taken (HasSchedule spans (span_of horizon k)) k.alternatives b a f.alternative lt g.earlier f.found in f.conflict.1 t.0 t.1

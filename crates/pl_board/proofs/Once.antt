@@ -5,6 +5,7 @@ use Rattle.std.specs.List.Sorted.{IsStrictlyIncreasing}
 use Rattle.std.proofs.lemmas.Bool.{eqb-true, eq-eqb}
 use Rattle.std.proofs.lemmas.List.Elements.{All-nil, All-cons, All-head, All-tail, All-weaker}
 use Rattle.std.proofs.lemmas.List.Kept.{AllPairs-from_increasing}
+use Rattle.std.proofs.Math.Bool.{or-true, or_assoc}
 use Rattle.pl_plan.specs.declared.activity.Activity.{Activity}
 use Rattle.pl_plan.specs.Activities.{IsLive, activity_of}
 use Rattle.pl_plan.specs.Trees.{id_of}
@@ -28,21 +29,13 @@ among_all P (x ∷ xs) all i e = cases (eqb x i) refl (among_all P xs (All-tail 
     cases true f more = subst P (eqb-true x i f) (All-head P x xs all)
     cases false f more = more (rw f at e)
 
-or_true : (b : Bool) → (b || true) ≡ true
-or_true true = refl
-or_true false = refl
-
 all_among : (P : ℕ → Type 0) (xs : List ℕ) → ((i : ℕ) → among i xs ≡ true → P i) → All P xs
 all_among P [] each = All-nil P
-all_among P (x ∷ xs) each = All-cons P x xs (each x (rw (eq-eqb x x refl) refl)) (all_among P xs (λ i e. each i (rw e (or_true (eqb x i)))))
+all_among P (x ∷ xs) each = All-cons P x xs (each x (rw (eq-eqb x x refl) refl)) (all_among P xs (λ i e. each i (rw e (or-true (eqb x i)))))
 
 among-append : (i : ℕ) (xs ys : List ℕ) → among i (xs ++ ys) ≡ (among i xs || among i ys)
 among-append i [] ys = refl
-among-append i (x ∷ xs) ys = ap (λ b. eqb x i || b) (among-append i xs ys) ∙ assoc (eqb x i) (among i xs) (among i ys)
-  where
-    assoc : (a b c : Bool) → (a || (b || c)) ≡ ((a || b) || c)
-    assoc true b c = refl
-    assoc false b c = refl
+among-append i (x ∷ xs) ys = ap (λ b. eqb x i || b) (among-append i xs ys) ∙ sym (or_assoc (eqb x i) (among i xs) (among i ys))
 
 module _ (s : PlanState) (gone once : List ℕ) (more : List Activity) (whole : IsWhole s) (same : HoldSame once gone) where
   taken_once : taken s.plan.activities once ≡ taken s.plan.activities gone

@@ -1,7 +1,7 @@
 -- The first so many of those that pass a test, and moves where they first stand.
 use Rattle.std.proofs.Common.{◌≡◌, ℕ, zero, suc, ◌+◌, ◌-◌, ◌<◌, ◌≤◌, Bool, true, false, List, [], ◌∷◌, ◌++◌, length, take, drop, get_or, map, add-one, drop-cons, refl, sym, ap, ◌∙◌, arith, append_assoc, append-nil, length-append, eqb, Option, Some, None}
-use Rattle.std.proofs.lemmas.Bool.{eqb-true}
-use Rattle.std.specs.Prelude.{filter, ◌||◌, ◌&&◌}
+use Rattle.std.proofs.lemmas.Bool.{eqb-true, and_parts}
+use Rattle.std.specs.Prelude.{filter, ◌||◌}
 use Rattle.std.specs.List.{list_any}
 use Rattle.std.proofs.lemmas.List.Folds.{list_any-append}
 use Rattle.pl_plan.specs.declared.repair.RepairMove.{RepairMove}
@@ -145,12 +145,8 @@ same_number_is (Some m) (Some n) e = ap (λ (k : ℕ). Some k) (eqb-true m n e)
 
 pub alike_worth : (s : PlanState) (m n : RepairMove) → are_alike m n ≡ true → is_worth s m ≡ is_worth s n
 unfolding is_proper
-alike_worth s (Add kind start goal) (Add k t g) e = same (both (eqb kind k) (same_number goal g) e)
+alike_worth s (Add kind start goal) (Add k t g) e = same (and_parts (eqb kind k) (same_number goal g) e)
   where
-    both : (a b : Bool) → (a && b) ≡ true → (a ≡ true) × (b ≡ true)
-    both true b e = (refl, e)
-    both false b e = absurd (cc)
-
     same : (eqb kind k ≡ true) × (same_number goal g ≡ true) → is_worth s (Add kind start goal) ≡ is_worth s (Add k t g)
     same h = ap (λ x. is_worth s (Add x start goal)) (eqb-true kind k h.0) ∙ ap (λ x. is_worth s (Add k start x)) (same_number_is goal g h.1)
 alike_worth s _ _ e = absurd (cc)

@@ -5,6 +5,7 @@ use Rattle.std.specs.List.{list_any}
 use Rattle.std.proofs.lemmas.Bool.{eqb-false, ne_eqb}
 use Rattle.std.proofs.lemmas.List.Elements.{All-nil, All-cons, All-head, All-tail, All-weaker}
 use Rattle.std.proofs.lemmas.List.Folds.{list_any_none}
+use Rattle.pl_lists.proofs.Tests.{or_first_false, or_second_false}
 use Rattle.pl_plan.specs.declared.activity.Activity.{Activity}
 use Rattle.pl_plan.specs.Activities.{AreRising, IsLive, activity_of, placed, without}
 use Rattle.pl_plan.proofs.Ids.{rising-without, rising-placed}
@@ -44,14 +45,6 @@ abbrev AreApart : List Activity → Type 0
 AreApart [] = Unit {0}
 AreApart (a ∷ more) = (list_any (λ (y : Activity). eqb y.id a.id) more ≡ false) × AreApart more
 
-or_left : (a b : Bool) → (a || b) ≡ false → a ≡ false
-or_left true b e = e
-or_left false b e = refl
-
-or_right : (a b : Bool) → (a || b) ≡ false → b ≡ false
-or_right true b e = absurd (cc)
-or_right false b e = e
-
 pairs_apart : (more : List Activity) → AllPairs (λ one other. one.id ≢ other.id) more → AreApart more
 pairs_apart [] once = tt
 pairs_apart (a ∷ more) once = (
@@ -63,8 +56,8 @@ still_free : (a : Activity) (xs more : List Activity) → activity_of a.id xs �
 still_free a xs [] none apart free = All-nil (λ (b : Activity). activity_of b.id (placed a xs) ≡ None)
 still_free a xs (b ∷ more) none apart free =
     All-cons (λ (b : Activity). activity_of b.id (placed a xs) ≡ None) b more
-    (let other : eqb a.id b.id ≡ false = ne_eqb a.id b.id (λ is. eqb-false b.id a.id (or_left (eqb b.id a.id) (list_any (λ (y : Activity). eqb y.id a.id) more) apart) (sym is)) in rw (found-placed a xs b.id none, other) (All-head (λ (b : Activity). activity_of b.id xs ≡ None) b more free))
-    (still_free a xs more none (or_right (eqb b.id a.id) (list_any (λ (y : Activity). eqb y.id a.id) more) apart) (All-tail (λ (b : Activity). activity_of b.id xs ≡ None) b more free))
+    (let other : eqb a.id b.id ≡ false = ne_eqb a.id b.id (λ is. eqb-false b.id a.id (or_first_false (eqb b.id a.id) (list_any (λ (y : Activity). eqb y.id a.id) more) apart) (sym is)) in rw (found-placed a xs b.id none, other) (All-head (λ (b : Activity). activity_of b.id xs ≡ None) b more free))
+    (still_free a xs more none (or_second_false (eqb b.id a.id) (list_any (λ (y : Activity). eqb y.id a.id) more) apart) (All-tail (λ (b : Activity). activity_of b.id xs ≡ None) b more free))
 
 can_put : (xs more : List Activity) → AreApart more → All (λ (a : Activity). activity_of a.id xs ≡ None) more → CanPut xs more
 can_put xs [] apart free = tt

@@ -1,9 +1,9 @@
 -- Activities put one after another in the places of those of their ids, as if all were taken out first.
 use Rattle.std.proofs.Common.{◌≡◌, ℕ, eqb, Bool, true, false, cond, List, [], ◌∷◌, ◌++◌, map, refl, sym, ap, ◌∙◌, arith}
-use Rattle.std.proofs.lemmas.Bool.Decides.{nat_tests}
 use Rattle.std.specs.Prelude.{Option, Some, None, if◌then◌else◌, ◌||◌}
 use Rattle.std.specs.Option.{option_map}
 use Rattle.std.proofs.lemmas.Bool.{eqb-true, eqb-false, ne_eqb}
+use Rattle.pl_lists.proofs.Numbers.{eqb_itself}
 use Rattle.pl_plan.specs.declared.activity.Activity.{Activity}
 use Rattle.pl_plan.specs.Activities.{AreRising, IsLive, activity_of, placed, without, exchanged}
 use Rattle.pl_plan.specs.Trees.{id_of}
@@ -20,10 +20,7 @@ use Rattle.pl_changes.proofs.Putting.{rising-taken, found-taken}
 use Rattle.pl_changes.proofs.Finding.{none_live}
 
 pub free_without : (id : ℕ) (xs : List Activity) → AreRising xs → activity_of id (without id xs) ≡ None
-free_without id xs rising = found-without id 0 xs id rising ∙ ap (λ b. cond b None (activity_of id xs)) (ne_same id)
-  where
-    ne_same : (n : ℕ) → eqb n n ≡ true
-    ne_same n = grind (arith, nat_tests)
+free_without id xs rising = found-without id 0 xs id rising ∙ ap (λ b. cond b None (activity_of id xs)) (eqb_itself id)
 
 pub rising_renewed : (a : Activity) (xs : List Activity) → AreRising xs → AreRising (renewed a xs)
 rising_renewed a xs rising = rising-placed a 0 (without a.id xs) (free_without a.id xs rising) (omega arith) (rising-without a.id 0 xs rising)
@@ -89,11 +86,8 @@ placed_taken a (g ∷ ids) xs rising free apart =
 
 -- no later one of those that can be put has the id of an earlier one
 apart_later : (a : Activity) (xs more : List Activity) → activity_of a.id xs ≡ None → CanPut (placed a xs) more → among a.id (map id_of more) ≡ false
-apart_later a xs more free can = none more (none_live (placed a xs) more a.id can (rw (found-placed a xs a.id free, same a.id) refl))
+apart_later a xs more free can = none more (none_live (placed a xs) more a.id can (rw (found-placed a xs a.id free, eqb_itself a.id) refl))
   where
-    same : (n : ℕ) → eqb n n ≡ true
-    same n = grind (arith, nat_tests)
-
     none : (ys : List Activity) → activity_of a.id ys ≡ None → among a.id (map id_of ys) ≡ false
     none [] e = refl
     none (y ∷ ys) e = cases (eqb y.id a.id) refl (none ys)

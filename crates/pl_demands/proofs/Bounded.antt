@@ -8,6 +8,7 @@ use Rattle.std.proofs.lemmas.Int.{ints}
 use Rattle.std.proofs.lemmas.List.{length-append, length-map}
 use Rattle.std.proofs.lemmas.List.Elements.{All-nil, All-cons, All-head, All-tail, All-append, All-weaker}
 use Rattle.std.proofs.lemmas.List.Sums.{AllPass-from_list_all}
+use Rattle.pl_lists.proofs.Numbers.{le_from_test}
 use Rattle.pl_model.specs.declared.reservations.Point.{Point}
 use Rattle.pl_model.specs.declared.reservations.Point.TheVariants.{Start, End}
 use Rattle.pl_model.specs.declared.reservations.Reservation.{Reservation}
@@ -34,9 +35,6 @@ use Rattle.pl_world.specs.Demands.{asked_for, demands_until, demands_at, demands
 use Rattle.pl_demands.specs.Bounds.{IsMoment, IsBounded, IsDemandOf}
 
 -- ---- one demand
-
-le_from_test : (a b : ℤ) → int_le a b ≡ true → a ≤ℤ b
-le_from_test a b e = grind (arith, ints)
 
 amount_within : (o : Option ℤ) → is_within (pos 0) (pos 1000000000) o ≡ true → (pos 0 ≤ℤ unwrap_or o (pos 0)) × (unwrap_or o (pos 0) ≤ℤ pos 1000000000)
 amount_within None e = absurd (cc)

@@ -57,8 +57,12 @@ pub fn line_conflicts(
         Timeline::Level { least, most, .. } => {
             add_levels(alloc, s, demands, line, *least, *most, out)
         }
-        Timeline::States { any, steps, .. } => {
-            add_states(alloc, s, demands, line, *any, steps.as_slice(), out)
+        Timeline::States {
+            states, any, steps, ..
+        } => {
+            let count = states.len() as u32;
+            let line_states = states_of(alloc, s, demands, line, count, *any, steps.as_slice())?;
+            add_states(s, line, *any, steps.as_slice(), &line_states, out)
         }
     }
 }
@@ -105,22 +109,18 @@ fn add_levels(
 }
 
 fn add_states(
-    alloc: Global,
     s: &PlanState,
-    demands: &[Demand],
     line: u32,
     any: bool,
     steps: &[(u32, u32)],
+    states: &StateLine,
     out: &mut Vec<Conflict>,
 ) -> Result<(), AllocError>
-    requires whole { IsWhole s.now }
-    requires demands { demands.now ≡ demands_of s.now }
-    requires base { HasBase s.now line 32 }
+    requires { states.now ≡ states_of s.now line any steps.now }
     ensures { OnOk result (out.new.items ≡ out.old.items ++ (musts s.now line ++ bad_steps s.now line any steps.now)) }
 {
-    let states = states_of(alloc, s, demands, line, any, steps)?;
-    add_unmet(s, line, any, steps, &states, out)?;
-    add_bad(s, line, any, steps, &states, out)?;
+    add_unmet(s, line, any, steps, states, out)?;
+    add_bad(s, line, any, steps, states, out)?;
     Ok(())
 }
 

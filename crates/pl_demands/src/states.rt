@@ -14,12 +14,13 @@ use pl_state::StateLine;
 use pl_world::{Asked, Demand, PlanState};
 use std::alloc::{AllocError, Global};
 
-/// The state timeline of this number, with its base, its sets and its musts.
+/// The timeline of this number, which has so many states, with its base, its sets and its musts.
 pub(crate) fn states_of(
     alloc: Global,
     s: &PlanState,
     demands: &[Demand],
     line: u32,
+    count: u32,
     any: bool,
     steps: &[(u32, u32)],
 ) -> Result<StateLine, AllocError>
@@ -30,7 +31,7 @@ pub(crate) fn states_of(
 {
     let horizon = s.model.get().horizon;
     let state = told_state(s, line);
-    let mut states = StateLine::new(alloc, horizon, 0, state, any, steps)?;
+    let mut states = StateLine::new(alloc, horizon, count, state, any, steps)?;
     states.advance(since(s, line))?;
     states.rebase(state)?;
     add_all(&mut states, demands, line)?;

@@ -23,6 +23,7 @@ use Rattle.pl_entry.specs.Bounds.{IsConflictInRange, IsMoveInRange, AreOptions, 
 use Rattle.pl_render.specs.Words.{spaced}
 use Rattle.pl_render.specs.Lines.{code_word, conflict_words, kind_name, kind_params, move_words, values_words, command_words, reply_words, event_words, text_of}
 use Rattle.pl_render.proofs.Plain.{plain, lacks_plain, plain-decimal}
+use Rattle.pl_render.proofs.Telling.{code_plain}
 use Rattle.pl_render.proofs.Told.{AreTold}
 use Rattle.pl_journal.specs.Reads.{Read}
 use Rattle.pl_journal.specs.Moves.{activity_code, code_of, code_in, conflict_in, goal_in, addition_in, assignment_in, deletion_in, shift_in, detailing_in, abstraction_in, drop_in, move_by, move_in}
@@ -52,22 +53,6 @@ code_back code.Low = refl
 code_back code.High = refl
 code_back code.Must = refl
 code_back code.BadStep = refl
-
-code_plain : (c : Code) → plain (code_word c) ≡ true
-code_plain code.OpenGoal = refl
-code_plain code.OffGoal = refl
-code_plain code.Late = refl
-code_plain code.Unset = refl
-code_plain code.BadValue = refl
-code_plain code.Undetailed = refl
-code_plain code.Overrun = refl
-code_plain code.Temporal = refl
-code_plain code.Linked = refl
-code_plain code.Over = refl
-code_plain code.Low = refl
-code_plain code.High = refl
-code_plain code.Must = refl
-code_plain code.BadStep = refl
 
 code_read : (c : Code) (ws : List (List ℕ)) → code_in (spaced (code_word c ∷ ws)) ≡ Ok (c, spaced ws)
 code_read c ws = rw (word_back (code_word c) ws (code_plain c), code_back c) refl

@@ -1,13 +1,11 @@
 -- Lists of conflicts that are made of spans, musts and steps, as those change.
 use Rattle.std.proofs.Common.{◌≡◌, ℕ, eqb, Bool, true, false, cond, List, [], ◌∷◌, ◌++◌, refl, ap, sym, ◌∙◌, subst, arith}
 use Rattle.std.specs.Prelude.{not, ◌||◌, ◌&&◌, map}
-use Rattle.std.specs.declared.cmp.Ordering.{Ordering}
-use Rattle.std.specs.declared.cmp.Ordering.TheVariants.{Less, Equal, Greater}
-use Rattle.std.specs.Ordering.{is_eq, ordering_reverse}
 use Rattle.std.proofs.lemmas.Bool.{eqb-true, and_parts, true≢false}
 use Rattle.std.proofs.lemmas.Bool.Decides.{nat_tests}
+use Rattle.std.proofs.Math.Bool.{or-true, or-false, and-false, and-or_distrib_left}
 use Rattle.pl_lists.specs.Lists.{is_among, left_out}
-use Rattle.pl_lists.proofs.Tests.{or_false}
+use Rattle.pl_lists.proofs.Orderings.{tie_from_reverse}
 use Rattle.pl_points.specs.declared.span.Span.{Span}
 use Rattle.pl_points.specs.declared.span.Change.{Change}
 use Rattle.pl_points.specs.Spans.{span}
@@ -33,12 +31,7 @@ use Rattle.pl_world.proofs.Owning.{Each, each_map}
 use Rattle.pl_lines.specs.Changed.{IsExchanged}
 
 same_itself : (q : Conflict) → same q q ≡ true
-same_itself q = by (conflict_cmp q q) (conflict_total.antisymm q q)
-  where
-    by : (r : Ordering) → r ≡ ordering_reverse r → is_eq r ≡ true
-    by Less e = absurd (cc)
-    by Equal e = refl
-    by Greater e = absurd (cc)
+same_itself q = tie_from_reverse (conflict_cmp q q) (conflict_total.antisymm q q)
 
 -- ---- what is left out was among them
 
@@ -79,16 +72,8 @@ module _ {X : Type 0} (make : X → Conflict) (read : Conflict → X) (back : (x
       by false e false g a h = refl
 
   made : (q : Conflict) (xs : List X) → has q (map make xs) ≡ (form q && is_among alike xs (read q))
-  made q [] = none (form q)
-    where
-      none : (f : Bool) → false ≡ (f && false)
-      none true = refl
-      none false = refl
-  made q (x ∷ xs) = ap (λ b. b || has q (map make xs)) (one_made q x) ∙ ap (λ b. (form q && alike x (read q)) || b) (made q xs) ∙ both (form q) (alike x (read q)) (is_among alike xs (read q))
-    where
-      both : (f a b : Bool) → ((f && a) || (f && b)) ≡ (f && (a || b))
-      both true a b = refl
-      both false a b = refl
+  made q [] = sym (and-false (form q))
+  made q (x ∷ xs) = ap (λ b. b || has q (map make xs)) (one_made q x) ∙ ap (λ b. (form q && alike x (read q)) || b) (made q xs) ∙ sym (and-or_distrib_left (form q) (alike x (read q)) (is_among alike xs (read q)))
 
   pub made_exchanged : (old new went came : List X) → went ≡ left_out alike new old → came ≡ left_out alike old new → IsExchanged (map make old) (map make new) (map make went) (map make came)
   made_exchanged old new went came gone more = record {
@@ -135,11 +120,7 @@ module _ (first : Conflict → Bool) where
     where
       either : (a b c d : Bool) → (a ≡ true → c ≡ true) → (b ≡ true → d ≡ true) → (a || b) ≡ true → (c || d) ≡ true
       either true b c d f g e = rw (f refl) refl
-      either false true c d f g e = rw (g refl) (last c)
-        where
-          last : (v : Bool) → (v || true) ≡ true
-          last true = refl
-          last false = refl
+      either false true c d f g e = rw (g refl) (or-true c)
       either false false c d f g e = absurd (cc)
 
       table : (f o n w c o' n' w' c' : Bool) → (o ≡ true → f ≡ true) → (n ≡ true → f ≡ true) → (o' ≡ true → f ≡ false) → (n' ≡ true → f ≡ false)
@@ -150,7 +131,7 @@ module _ (first : Conflict → Bool) where
           let en' : n' ≡ false = never n' fn' in
           let ew' : w' ≡ false = never w' (λ e. fo' (wo' e)) in
           let ec' : c' ≡ false = never c' (λ e. fn' (cn' e)) in
-          rw (eo', en', ew', ec') (or_false n ∙ (is ∙ sym (ap (λ b. (b && not (w || false)) || (c || false)) (or_false o) ∙ (ap (λ b. (o && not b) || (c || false)) (or_false w) ∙ ap (λ b. (o && not w) || b) (or_false c)))))
+          rw (eo', en', ew', ec') (or-false n ∙ (is ∙ sym (ap (λ b. (b && not (w || false)) || (c || false)) (or-false o) ∙ (ap (λ b. (o && not b) || (c || false)) (or-false w) ∙ ap (λ b. (o && not w) || b) (or-false c)))))
         where
           never : (b : Bool) → (b ≡ true → true ≡ false) → b ≡ false
           never true h = absurd (true≢false (h refl))
@@ -173,11 +154,8 @@ span_exact s t e =
     let h = and_parts (eqb s.from t.from) (eqb s.to t.to) e in
     ap (λ n. span n s.to) (eqb-true s.from t.from h.0) ∙ ap (span t.from) (eqb-true s.to t.to h.1)
 
-itself : (n : ℕ) → eqb n n ≡ true
-itself n = grind (arith, nat_tests)
-
 span_itself : (s : Span) → same_span s s ≡ true
-span_itself s = rw (itself s.from, itself s.to) refl
+span_itself s = rw (eqb_itself s.from, eqb_itself s.to) refl
 
 read_span : Conflict → Span
 read_span q = span q.a q.b
@@ -206,10 +184,10 @@ levels_exchanged line low low' high high' change is =
 -- ---- musts and steps
 
 broken_itself : (m : BrokenMust) → same_broken m m ≡ true
-broken_itself m = rw (itself m.id, itself m.index, itself m.from, itself m.to) refl
+broken_itself m = rw (eqb_itself m.id, eqb_itself m.index, eqb_itself m.from, eqb_itself m.to) refl
 
 bad_itself : (x : BadSet) → same_bad x x ≡ true
-bad_itself x = rw (itself x.at, itself x.id, itself x.index) refl
+bad_itself x = rw (eqb_itself x.at, eqb_itself x.id, eqb_itself x.index) refl
 
 read_broken : Conflict → BrokenMust
 read_broken q = record { id = q.subject; index = q.detail; from = q.a; to = q.b }

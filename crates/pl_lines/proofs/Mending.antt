@@ -1,8 +1,9 @@
 -- The set of conflicts is mended as one timeline changes.
 use Rattle.std.proofs.Common.{◌≡◌, ℕ, set, eqb, Bool, true, false, cond, List, refl, ap, sym, ◌∙◌, subst}
 use Rattle.std.specs.Prelude.{map, not, ◌&&◌, ◌||◌, slice_get, Option, Some, None}
-use Rattle.std.proofs.lemmas.Bool.{eqb-true, eq-eqb, true≢false}
+use Rattle.std.proofs.lemmas.Bool.{eqb-true, eq-eqb, true≢false, false_from_ne_true}
 use Rattle.std.proofs.lemmas.List.Elements.{All-weaker}
+use Rattle.std.proofs.lemmas.Option.{same_Some}
 use Rattle.pl_conflict.specs.declared.conflict.Conflict.{Conflict}
 use Rattle.pl_conflict.specs.declared.conflict.Code.TheVariants as code
 use Rattle.pl_conflict.specs.Order.{has}
@@ -38,11 +39,6 @@ wrong_about s line (States x) named = each_append (IsAbout s line) (map (unmet_m
     (each_made (IsAbout s line) (unmet_must s) (broken_now x) (All-weaker (IsBrokenOf s line) (λ m. IsAbout s line (unmet_must s m)) (λ m h. (h, refl)) (broken_now x) (all_broken s line (state_at x) x.moment x.horizon x.musts named.1)))
     (each_made (IsAbout s line) (bad_step s) (bad_now x) (All-weaker (IsBadOf s line) (λ y. IsAbout s line (bad_step s y)) (λ y h. (h, refl)) (bad_now x) (all_bad s line (is_allowed x.any x.steps) x.base x.horizon x.moment x.value x.sets named.0)))
 
--- tests
-gone : (b : Bool) → (b ≡ true → ⊥) → b ≡ false
-gone true h = absurd (h refl)
-gone false h = refl
-
 unchanged : (o w c n : Bool) → n ≡ ((o && not w) || c) → w ≡ false → c ≡ false → n ≡ o
 unchanged o w c n is no_went no_came = is ∙ rw (no_went, no_came) (kept o)
   where
@@ -55,7 +51,7 @@ module _ (s : PlanState) (lines : List Line) (i : ℕ) (l l' : Line) (went came 
       → ((q : Conflict) → has q all' ≡ ((has q all && not (has q went)) || has q came)) → AreInOrder all' → IsMended s lines (set lines i l') all all'
   mended_line at named named' told members ordered = record {
     told = λ t q own. by t q own (owner_of s q) refl;
-    others = λ q other. unchanged (has q all) (has q went) (has q came) (has q all') (members q) (gone (has q went) (λ e. other (went_about q e).1)) (gone (has q came) (λ e. other (came_about q e).1));
+    others = λ q other. unchanged (has q all) (has q went) (has q came) (has q all') (members q) (false_from_ne_true (has q went) (λ e. other (went_about q e).1)) (false_from_ne_true (has q came) (λ e. other (came_about q e).1));
     sorted = λ o. ordered;
   }
     where
@@ -67,10 +63,7 @@ module _ (s : PlanState) (lines : List Line) (i : ℕ) (l l' : Line) (went came 
 
       -- of another timeline, or of none
       elsewhere : (q : Conflict) → (owner_of s q ≡ Some i → ⊥) → has q all' ≡ has q all
-      elsewhere q other = unchanged (has q all) (has q went) (has q came) (has q all') (members q) (gone (has q went) (λ e. other (went_about q e).0)) (gone (has q came) (λ e. other (came_about q e).0))
-
-      same_number : (m k : ℕ) → Some m ≡ Some k → m ≡ k
-      same_number m k e = cc
+      elsewhere q other = unchanged (has q all) (has q went) (has q came) (has q all') (members q) (false_from_ne_true (has q went) (λ e. other (went_about q e).0)) (false_from_ne_true (has q came) (λ e. other (came_about q e).0))
 
       by : IsTold s lines all → (q : Conflict) → part_of q.code ≡ of_timelines → (o : Option ℕ) → owner_of s q ≡ o → has q all' ≡ has q (of_found (wrong_at s (set lines i l')) o)
       by t q own None e = elsewhere q (λ f. none_is (sym e ∙ f)) ∙ (t q own ∙ ap (λ o. has q (of_found (wrong_at s lines) o)) e)
@@ -91,7 +84,7 @@ module _ (s : PlanState) (lines : List Line) (i : ℕ) (l l' : Line) (went came 
               members q ∙ (ap (λ b. (b && not (has q went)) || has q came) old_here ∙ (sym (told.members q) ∙ ap (λ o. has q (of_found (wrong_with s i) o)) (sym now_here))) in
               subst (λ n. has q all' ≡ has q (wrong_at s (set lines i l') n)) is here
           cases false h =
-              let apart : owner_of s q ≡ Some i → ⊥ = λ f. true≢false (sym (eq-eqb i j (sym (same_number j i (sym e ∙ f)))) ∙ h) in
+              let apart : owner_of s q ≡ Some i → ⊥ = λ f. true≢false (sym (eq-eqb i j (sym (same_Some j i (sym e ∙ f)))) ∙ h) in
               let stays : slice_get (set lines i l') j ≡ slice_get lines j = get_set lines i j l l' at ∙ ap (λ b. cond b (Some l') (slice_get lines j)) h in
               elsewhere q apart ∙ (old ∙ ap (λ o. has q (of_found (wrong_with s j) o)) (sym stays))
 

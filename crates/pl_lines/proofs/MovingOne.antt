@@ -4,9 +4,10 @@ use Rattle.std.specs.Prelude.{All, ◌||◌, Result, IfOk}
 use Rattle.std.proofs.lemmas.Result.{MatchResult-weaker}
 use Rattle.std.proofs.lemmas.Int.{ints}
 use Rattle.std.proofs.lemmas.Bool.{eqb-true, and_parts}
-use Rattle.std.proofs.lemmas.Bool.Decides.{nat_tests, Decides-int_eq}
+use Rattle.std.proofs.lemmas.Bool.Decides.{Decides-int_eq}
 use Rattle.std.proofs.lemmas.List.Elements.{All-cons, All-head, All-tail}
 use Rattle.pl_lists.specs.Lists.{front, back}
+use Rattle.pl_lists.proofs.Numbers.{eqb_itself}
 use Rattle.pl_points.specs.Sums.{total}
 use Rattle.pl_points.specs.Standing.{stands, without}
 use Rattle.pl_points.proofs.Totals.{total-push, total-without}
@@ -214,22 +215,10 @@ must_went s line m x x' went came has is told = record {
 -- ---- one is like itself
 
 pub one_alike : (x : Asked) → alike x x ≡ pos 1
-one_alike (asked.Use u) = rw (itself u.from, itself u.to, (Decides-int_eq u.amount u.amount).1 refl) refl
-  where
-    itself : (n : ℕ) → eqb n n ≡ true
-    itself n = grind (arith, nat_tests)
-one_alike (asked.Effect e) = rw (itself e.at, (Decides-int_eq e.delta e.delta).1 refl) refl
-  where
-    itself : (n : ℕ) → eqb n n ≡ true
-    itself n = grind (arith, nat_tests)
-one_alike (asked.Set y) = rw (itself y.at, itself y.id, itself y.index, itself y.state) refl
-  where
-    itself : (n : ℕ) → eqb n n ≡ true
-    itself n = grind (arith, nat_tests)
-one_alike (asked.Must m) = rw (itself m.from, itself m.to, itself m.id, itself m.index, itself m.state) refl
-  where
-    itself : (n : ℕ) → eqb n n ≡ true
-    itself n = grind (arith, nat_tests)
+one_alike (asked.Use u) = rw (eqb_itself u.from, eqb_itself u.to, (Decides-int_eq u.amount u.amount).1 refl) refl
+one_alike (asked.Effect e) = rw (eqb_itself e.at, (Decides-int_eq e.delta e.delta).1 refl) refl
+one_alike (asked.Set y) = rw (eqb_itself y.at, eqb_itself y.id, eqb_itself y.index, eqb_itself y.state) refl
+one_alike (asked.Must m) = rw (eqb_itself m.from, eqb_itself m.to, eqb_itself m.id, eqb_itself m.index, eqb_itself m.state) refl
 
 pub alike_nonneg : (x y : Asked) → pos 0 ≤ℤ alike x y
 alike_nonneg x y = by (same_asked y x)

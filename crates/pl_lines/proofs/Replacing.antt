@@ -3,9 +3,9 @@ use Rattle.std.proofs.Common.{◌≡◌, ℕ, zero, suc, ◌<◌, ◌≤◌, eqb
 use Rattle.std.specs.Prelude.{All}
 use Rattle.std.specs.List.{flat_map}
 use Rattle.std.proofs.lemmas.Int.{ints}
-use Rattle.std.proofs.lemmas.Bool.{eqb-true, eqb-false, ne_eqb}
+use Rattle.std.proofs.lemmas.Bool.{eqb-true, eqb-false, ne_eqb, or_parts}
 use Rattle.std.proofs.lemmas.List.Folds.{list_any-append, list_any_none}
-use Rattle.std.proofs.lemmas.List.Elements.{All-nil, All-cons, All-head, All-tail, All-append}
+use Rattle.std.proofs.lemmas.List.Elements.{All-nil, All-cons, All-head, All-tail}
 use Rattle.pl_points.specs.Sums.{total}
 use Rattle.pl_plan.specs.declared.activity.Activity.{Activity}
 use Rattle.pl_plan.specs.Activities.{AreRising, IsLive, activity_of, placed, without}
@@ -54,10 +54,6 @@ total_without g id (x ∷ xs) = by (eqb x.id id) (total_without g id xs)
     by : (b : Bool) → total g xs ≡ total g (without id xs) +ℤ if_found g (activity_of id xs) → (g x +ℤ total g xs) ≡ total g (cond b xs (x ∷ without id xs)) +ℤ if_found g (cond b (Some x) (activity_of id xs))
     by true more = omega (arith, ints)
     by false more = omega (arith, ints, more)
-
-or_parts : (a b : Bool) → (a || b) ≡ false → (a ≡ false) × (b ≡ false)
-or_parts true b e = absurd (cc)
-or_parts false b e = (refl, e)
 
 -- the other ids find what they found
 found_still : (g : Activity → ℤ) (id : ℕ) (xs : List Activity) (gone : List ℕ) → AreRising xs → among id gone ≡ false → All (λ n. if_found g (activity_of n (without id xs)) ≡ if_found g (activity_of n xs)) gone
@@ -129,10 +125,6 @@ module _ (P : Activity → Type 0) where
       let rest = of_put more (placed a xs) all in
       let one = of_placed a xs rest.0 in
       (one.1, All-cons P a more one.0 rest.1)
-
-pub all_flat_of : {T X : Type 0} (P : X → Type 0) (rule : T → List X) (xs : List T) → All (λ x. All P (rule x)) xs → All P (flat_map rule xs)
-all_flat_of P rule [] all = All-nil P
-all_flat_of P rule (x ∷ xs) all = All-append P (rule x) (flat_map rule xs) (All-head (λ y. All P (rule y)) x xs all) (all_flat_of P rule xs (All-tail (λ y. All P (rule y)) x xs all))
 
 -- ---- what is asked for
 

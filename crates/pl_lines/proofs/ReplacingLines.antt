@@ -4,6 +4,7 @@ use Rattle.std.specs.Prelude.{All, slice_get}
 use Rattle.std.proofs.lemmas.Int.{ints}
 use Rattle.std.proofs.lemmas.Bool.{eqb-true, eq-eqb}
 use Rattle.std.proofs.lemmas.List.Elements.{All-nil, All-cons, All-head, All-tail, All-append, All-map}
+use Rattle.pl_lists.proofs.Elements.{all_flat}
 use Rattle.pl_points.specs.declared.span.Span.{Span}
 use Rattle.pl_conflict.specs.declared.conflict.Conflict.{Conflict}
 use Rattle.pl_conflict.specs.declared.conflict.Code.TheVariants as code
@@ -44,7 +45,7 @@ use Rattle.pl_lines.specs.Mending.{IsMoved, less, CanAsk}
 use Rattle.pl_lines.specs.Laws.{AreOnce, gone_from, coming_to}
 use Rattle.pl_lines.proofs.Listing.{total_least}
 use Rattle.pl_lines.proofs.StandingNamed.{Passes, all_pass, named_held, named_one, can_ask, few_asked}
-use Rattle.pl_lines.proofs.Replacing.{all_flat_of, staying, IsKept, whole_after, found_placed, each_kept, same_demands, asked_before, asked_after}
+use Rattle.pl_lines.proofs.Replacing.{staying, IsKept, whole_after, found_placed, each_kept, same_demands, asked_before, asked_after}
 
 -- ---- what belongs to a timeline
 
@@ -193,7 +194,7 @@ part_least line f least d = by (eqb d.line line)
 -- ---- a replacement
 
 pub gone_askable : (s : PlanState) (gone : List ℕ) → IsWhole s → (lines : List Line) → AreLinesOf s lines → All (CanAsk s lines) (gone_from s gone)
-gone_askable s gone whole lines are = all_flat_of (CanAsk s lines) (λ id. of_found (demands_at s) (found s id)) gone (λ i d lt. by (get_or gone i d) (found s (get_or gone i d)) refl)
+gone_askable s gone whole lines are = all_flat (CanAsk s lines) (λ id. of_found (demands_at s) (found s id)) gone (λ i d lt. by (get_or gone i d) (found s (get_or gone i d)) refl)
   where
     by : (id : ℕ) (o : Option Activity) → found s id ≡ o → All (CanAsk s lines) (of_found (demands_at s) o)
     by id None e = All-nil (CanAsk s lines)
@@ -219,16 +220,16 @@ module _ (s : PlanState) (gone : List ℕ) (more : List Activity) (whole : IsWho
   rest_held lines lines' are moved line f = omega (arith, ints, moved.held line f, are.hold line f, asked_before s gone more whole can once line f)
 
   rest_named_before : All (IsNamed s) (staying s gone)
-  rest_named_before = all_flat_of (IsNamed s) (demands_at s) (taken s.plan.activities gone) (λ i d lt. named_one s (get_or (taken s.plan.activities gone) i d) whole.rising (each_kept s gone more whole can i d lt).before)
+  rest_named_before = all_flat (IsNamed s) (demands_at s) (taken s.plan.activities gone) (λ i d lt. named_one s (get_or (taken s.plan.activities gone) i d) whole.rising (each_kept s gone more whole can i d lt).before)
 
   rest_named_after : All (IsNamed (with_plan gone more s)) (staying s gone)
-  rest_named_after = all_flat_of (IsNamed (with_plan gone more s)) (demands_at s) (taken s.plan.activities gone) (λ i d lt.
+  rest_named_after = all_flat (IsNamed (with_plan gone more s)) (demands_at s) (taken s.plan.activities gone) (λ i d lt.
       (let a : Activity = get_or (taken s.plan.activities gone) i d in
       let kept : IsKept s gone more a = each_kept s gone more whole can i d lt in
       subst (λ (ds : List Demand). All (IsNamed (with_plan gone more s)) ds) (same_demands s gone more whole can a kept) (named_one (with_plan gone more s) a (whole_after s gone more whole can).rising kept.after)))
 
   rest_starts : All (λ (d : Demand). starts s (with_plan gone more s) d.asked ≡ true) (staying s gone)
-  rest_starts = all_flat_of (λ (d : Demand). starts s (with_plan gone more s) d.asked ≡ true) (demands_at s) (taken s.plan.activities gone) (λ i d lt.
+  rest_starts = all_flat (λ (d : Demand). starts s (with_plan gone more s) d.asked ≡ true) (demands_at s) (taken s.plan.activities gone) (λ i d lt.
       (let a : Activity = get_or (taken s.plan.activities gone) i d in
       let kept : IsKept s gone more a = each_kept s gone more whole can i d lt in
       starts_at s (with_plan gone more s) a (ap start_in (kept.before ∙ sym kept.after))))
@@ -253,7 +254,7 @@ module _ (s : PlanState) (gone : List ℕ) (more : List Activity) (whole : IsWho
     )
 
     pub come_askable : All (CanAsk (with_plan gone more s) lines') (coming_to (with_plan gone more s) more)
-    come_askable = all_flat_of (CanAsk (with_plan gone more s) lines') (demands_at (with_plan gone more s)) more (λ i d lt. can_ask (with_plan gone more s) lines' (get_or more i d) (whole_after s gone more whole can) rest_framed (found_placed s gone more whole can i d lt))
+    come_askable = all_flat (CanAsk (with_plan gone more s) lines') (demands_at (with_plan gone more s)) more (λ i d lt. can_ask (with_plan gone more s) lines' (get_or more i d) (whole_after s gone more whole can) rest_framed (found_placed s gone more whole can i d lt))
 
     -- what comes was taken on
     pub lines_after : (lines'' : List Line) → IsMoved lines' lines'' (asked_at (coming_to (with_plan gone more s) more)) → AreLinesOf (with_plan gone more s) lines''

@@ -3,6 +3,7 @@ use Rattle.std.proofs.Common.{◌≡◌, ℕ, eqb, Bool, true, false, cond, List
 use Rattle.std.specs.Prelude.{slice_get}
 use Rattle.std.specs.List.{flat_map}
 use Rattle.std.proofs.lemmas.Int.{ints}
+use Rattle.pl_lists.proofs.Numbers.{add_nothing}
 use Rattle.pl_points.specs.Sums.{total}
 use Rattle.pl_capacity.specs.declared.reservation.Use.{Use}
 use Rattle.pl_capacity.specs.Uses as capacity
@@ -37,20 +38,17 @@ asked_items what g line (d ∷ ds) = omega (arith, ints, by (eqb d.line line), a
 
 -- ---- what is held, item by item
 
-add_none : (z : ℤ) → z +ℤ pos 0 ≡ z
-add_none z = omega (arith, ints)
-
 pub held_uses : (g : Use → ℤ) (c : capacity.Standing) → held (by_item use_in g) (Capacity c) ≡ total g c.uses
-held_uses g c = total_same (λ u. g u +ℤ pos 0) g (λ u. add_none (g u)) c.uses
+held_uses g c = total_same (λ u. g u +ℤ pos 0) g (λ u. add_nothing (g u)) c.uses
 
 pub held_effects : (g : Effect → ℤ) (l : level.Standing) → held (by_item effect_in g) (Level l) ≡ total g l.effects
-held_effects g l = total_same (λ e. g e +ℤ pos 0) g (λ e. add_none (g e)) l.effects
+held_effects g l = total_same (λ e. g e +ℤ pos 0) g (λ e. add_nothing (g e)) l.effects
 
 pub held_sets : (g : Setting → ℤ) (x : states.Standing) → held (by_item set_in g) (States x) ≡ total g x.sets
-held_sets g x = omega (arith, ints, total_same (λ y. g y +ℤ pos 0) g (λ y. add_none (g y)) x.sets, total_nothing x.musts)
+held_sets g x = omega (arith, ints, total_same (λ y. g y +ℤ pos 0) g (λ y. add_nothing (g y)) x.sets, total_nothing x.musts)
 
 pub held_musts : (g : Must → ℤ) (x : states.Standing) → held (by_item must_in g) (States x) ≡ total g x.musts
-held_musts g x = omega (arith, ints, total_same (λ m. g m +ℤ pos 0) g (λ m. add_none (g m)) x.musts, total_nothing x.sets)
+held_musts g x = omega (arith, ints, total_same (λ m. g m +ℤ pos 0) g (λ m. add_nothing (g m)) x.musts, total_nothing x.sets)
 
 -- ---- both
 

@@ -7,6 +7,8 @@ use Rattle.std.proofs.lemmas.Int.{ints}
 use Rattle.std.proofs.lemmas.Bool.{cases_eq, cases_lt, false≢true}
 use Rattle.std.proofs.lemmas.List.{get_or-set_same, get_or-set_other, get_or_past}
 use Rattle.std.proofs.lemmas.List.Elements.{All-map, All-weaker, All-set}
+use Rattle.std.proofs.lemmas.Option.{slice_get-map}
+use Rattle.pl_lists.proofs.Elements.{all_at}
 use Rattle.pl_conflict.specs.declared.conflict.Conflict.{Conflict}
 use Rattle.pl_facts.specs.declared.goal.Goal.{Goal}
 use Rattle.pl_facts.specs.Bases.{base_of}
@@ -30,7 +32,7 @@ use Rattle.pl_lines.specs.Held.{held, held_in, held_at, asked_at, Hold}
 use Rattle.pl_lines.specs.Framed.{bare, idle, IsOrdered, AreLinesOf}
 use Rattle.pl_lines.specs.Told.{IsTold}
 use Rattle.pl_lines.specs.Moments.{at_moment, based_on, rebased_in}
-use Rattle.pl_lines.proofs.StandingLines.{map_at, numbered_at, frame_at, framed_there, IsFramedAs, all_get, no_effects, no_items, empty_level, empty_states, same_level, same_states}
+use Rattle.pl_lines.proofs.StandingLines.{numbered_at, frame_at, framed_there, IsFramedAs, no_effects, no_items, empty_level, empty_states, same_level, same_states}
 
 -- ---- what is asked for is the same
 
@@ -129,7 +131,7 @@ pub lines_moved : (s : PlanState) (now : ℕ) (lines : List Line) → AreLinesOf
 lines_moved s now lines are = record {
   framed = bare_moved now lines ∙ (ap (λ (xs : List Line). map (at_moment now) xs) are.framed ∙ idle_moved s now (lines_of s));
   ordered = All-map IsOrdered (at_moment now) lines (All-weaker IsOrdered (λ l. IsOrdered (at_moment now l)) (ordered_moved now) lines are.ordered);
-  hold = hold_same (map (at_moment now) lines) (demands_of s) (demands_of (moved_on now s)) (demands_moved s now) (λ line f. ap (held_in f) (map_at (at_moment now) lines line) ∙ (held_moved now f (slice_get lines line) ∙ are.hold line f));
+  hold = hold_same (map (at_moment now) lines) (demands_of s) (demands_of (moved_on now s)) (demands_moved s now) (λ line f. ap (held_in f) (slice_get-map (at_moment now) lines line) ∙ (held_moved now f (slice_get lines line) ∙ are.hold line f));
 }
 
 -- ---- telemetry
@@ -224,16 +226,16 @@ module _ (s : PlanState) (line : ℕ) (value : ℤ) where
     pub lines_told : AreLinesOf (told_now line value s) (slice_set lines line (based_on value l))
     lines_told = record {
       framed = framed_all;
-      ordered = All-set IsOrdered lines line (based_on value l) (ordered_rebased l (all_get IsOrdered lines line l are.ordered here)) are.ordered;
+      ordered = All-set IsOrdered lines line (based_on value l) (ordered_rebased l (all_at IsOrdered lines line l are.ordered here)) are.ordered;
       hold = hold_same (slice_set lines line (based_on value l)) (demands_of s) (demands_of (told_now line value s)) (demands_told s line value) (λ n f. held_told n f ∙ are.hold n f);
     }
       where
         framed_all : map bare (slice_set lines line (based_on value l)) ≡ map (idle (told_now line value s)) (lines_of (told_now line value s))
         framed_all = same_places (map bare (slice_set lines line (based_on value l))) (map (idle (told_now line value s)) (lines_of s)) (λ n.
-            map_at bare (slice_set lines line (based_on value l)) n
+            slice_get-map bare (slice_set lines line (based_on value l)) n
             ∙ (frame_told n
             ∙ (ap (option_map (idle (told_now line value s))) (sym (numbered_at 0 n n s.model.timelines (omega arith)))
-            ∙ sym (map_at (idle (told_now line value s)) (lines_of s) n))))
+            ∙ sym (slice_get-map (idle (told_now line value s)) (lines_of s) n))))
 
 pub lines_rebased : (s : PlanState) (line : ℕ) (value : ℤ) (lines : List Line) → IsWhole s → AreLinesOf s lines → CanTell value (slice_get s.model.timelines line) → AreLinesOf (told_now line value s) (rebased_in lines line value (slice_get lines line))
 lines_rebased s line value lines whole are can = by (slice_get lines line) refl
@@ -272,5 +274,5 @@ pub lines_first : (s : PlanState) → s.plan.activities ≡ [] → AreLinesOf s 
 lines_first s none = record {
   framed = bare_idle s (lines_of s);
   ordered = All-map IsOrdered (idle s) (lines_of s) (λ i d lt. ordered_idle s _);
-  hold = λ line f. ap (held_in f) (map_at (idle s) (lines_of s) line) ∙ (held_idle s f (slice_get (lines_of s) line) ∙ sym (ap (λ (xs : List Activity). asked_at (flat_map (demands_at s) xs) line f) none));
+  hold = λ line f. ap (held_in f) (slice_get-map (idle s) (lines_of s) line) ∙ (held_idle s f (slice_get (lines_of s) line) ∙ sym (ap (λ (xs : List Activity). asked_at (flat_map (demands_at s) xs) line f) none));
 }

@@ -1,8 +1,9 @@
 -- What is wrong with timelines that hold what a plan asks for is what the plan says.
-use Rattle.std.proofs.Common.{◌≡◌, ℕ, zero, suc, ◌+◌, ◌-◌, Bool, false, List, [], ◌∷◌, ◌++◌, map, Option, Some, None, refl, sym, ap, ◌∙◌, subst, arith, ℤ, ◌+ℤ◌}
-use Rattle.std.specs.Prelude.{All, slice_get, int_lt}
+use Rattle.std.proofs.Common.{◌≡◌, ℕ, zero, suc, ◌+◌, ◌-◌, Bool, false, List, [], ◌∷◌, ◌++◌, map, Option, Some, None, refl, sym, ap, ◌∙◌, arith, ℤ, ◌+ℤ◌}
+use Rattle.std.specs.Prelude.{slice_get, int_lt}
 use Rattle.std.specs.Option.{option_map}
-use Rattle.std.proofs.lemmas.List.Elements.{All-head, All-tail}
+use Rattle.std.proofs.lemmas.Option.{slice_get-map}
+use Rattle.pl_lists.proofs.Elements.{all_at}
 use Rattle.pl_points.specs.Sums.{total}
 use Rattle.pl_points.specs.declared.span.Span.{Span}
 use Rattle.pl_points.specs.Spans.{spans_of}
@@ -35,28 +36,18 @@ use Rattle.pl_lines.proofs.StandingEqual.{sets_equal, musts_equal}
 
 -- ---- places of lists
 
-pub map_at : {X Y : Type 0} (f : X → Y) (xs : List X) (i : ℕ) → slice_get (map f xs) i ≡ option_map f (slice_get xs i)
-map_at f [] i = refl
-map_at f (x ∷ xs) zero = refl
-map_at f (x ∷ xs) (suc i) = map_at f xs i
-
 pub numbered_at : {T : Type 0} (c i n : ℕ) (xs : List T) → n ≡ c + i → slice_get (numbered c xs) i ≡ option_map (λ (x : T). (n, x)) (slice_get xs i)
 numbered_at c i n [] e = refl
 numbered_at c zero n (x ∷ xs) e = let same : c ≡ n = omega (arith, e) in ap (λ m. Some (m, x)) same
 numbered_at c (suc i) n (x ∷ xs) e = numbered_at (suc c) i n xs (omega (arith, e))
 
-pub all_get : {T : Type 0} (P : T → Type 0) (xs : List T) (i : ℕ) (x : T) → All P xs → slice_get xs i ≡ Some x → P x
-all_get P [] i x all e = absurd (cc)
-all_get P (y ∷ ys) zero x all e = let same : y ≡ x = cc in subst P same (All-head P y ys all)
-all_get P (y ∷ ys) (suc i) x all e = all_get P ys i x (All-tail P y ys all) e
-
 -- ---- a timeline and the one of the model
 
 pub frame_at : (s : PlanState) (lines : List Line) → AreFramed s lines → (line : ℕ) → option_map bare (slice_get lines line) ≡ option_map (idle s) (option_map (λ (t : Timeline). (line, t)) (slice_get s.model.timelines line))
 frame_at s lines framed line =
-    sym (map_at bare lines line)
+    sym (slice_get-map bare lines line)
     ∙ ap (λ (l : List Line). slice_get l line) framed
-    ∙ map_at (idle s) (lines_of s) line
+    ∙ slice_get-map (idle s) (lines_of s) line
     ∙ ap (option_map (idle s)) (numbered_at 0 line line s.model.timelines (omega arith))
 
 abbrev pub IsFramedAs : PlanState → ℕ → Line → Timeline → Type 0
@@ -125,7 +116,7 @@ module _ (s : PlanState) (lines : List Line) (are : AreLinesOf s lines) (line : 
   -- a state timeline is the one that is made anew
   pub states_fresh : (x : states.Standing) → AreRising s.plan.activities → slice_get lines line ≡ Some (States x) → (any : Bool) (steps : List (ℕ × ℕ)) → no_items x ≡ empty_states s line any steps → x ≡ states_of s line any steps
   states_fresh x rising here any steps frame =
-      let sorted : IsOrdered (States x) = all_get IsOrdered lines line (States x) are.ordered here in
+      let sorted : IsOrdered (States x) = all_at IsOrdered lines line (States x) are.ordered here in
       ap (λ (z : states.Standing). record z { sets = x.sets; musts = x.musts }) frame
       ∙ (ap (λ (ys : List Setting). record (empty_states s line any steps) { sets = ys; musts = x.musts }) (sets_equal s line x.sets rising sorted.0 (sets_held lines (demands_of s) are.hold line x here))
       ∙ ap (λ (ms : List Must). record (empty_states s line any steps) { sets = sets_of line (demands_of s); musts = ms }) (musts_equal s line x.musts rising sorted.1 (musts_held lines (demands_of s) are.hold line x here)))

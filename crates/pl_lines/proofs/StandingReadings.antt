@@ -4,6 +4,7 @@ use Rattle.std.specs.Prelude.{All, slice_get}
 use Rattle.std.specs.Option.{option_map}
 use Rattle.std.proofs.lemmas.Int.{ints}
 use Rattle.std.proofs.lemmas.List.Elements.{All-nil, All-cons}
+use Rattle.pl_lists.proofs.Elements.{all_at}
 use Rattle.pl_model.specs.declared.timelines.Timeline.{Timeline}
 use Rattle.pl_model.specs.declared.timelines.Timeline.TheVariants as timeline
 use Rattle.pl_model.specs.Checked.{IsCheckedLine, IsCapacityLine, IsLevelLine}
@@ -21,7 +22,7 @@ use Rattle.pl_lines.specs.declared.line.Line.TheVariants.{Capacity, Level, State
 use Rattle.pl_lines.specs.Framed.{bare, idle, AreFramed, AreLinesOf}
 use Rattle.pl_lines.specs.Moments.{MayReach, CanHave, CanHaveAt}
 use Rattle.pl_lines.specs.Readings.{IsCapacityAt, IsLevelAt, AreStatesAt, used_of, level_of, state_of}
-use Rattle.pl_lines.proofs.StandingLines.{frame_at, framed_there, IsFramedAs, all_get, no_uses, no_effects, no_items, empty_capacity, empty_level, empty_states, same_capacity, same_level, same_states, used_now, level_now, state_now}
+use Rattle.pl_lines.proofs.StandingLines.{frame_at, framed_there, IsFramedAs, no_uses, no_effects, no_items, empty_capacity, empty_level, empty_states, same_capacity, same_level, same_states, used_now, level_now, state_now}
 
 -- a timeline of the plan's horizon, at its present
 pub record IsAt (s : PlanState) (spoiled : Bool) (horizon moment : ℕ) : Type 0 where
@@ -173,4 +174,4 @@ can_have s line value lines whole framed can = by (slice_get s.model.timelines l
     by None f can = absurd can
     by (Some t) f can =
         let there = line_there s lines framed line t f in
-        subst (CanHaveAt value) (sym there.1) (have_one s line value there.0 t (all_get IsCheckedLine s.model.timelines line t whole.checked.timelines f) can there.2)
+        subst (CanHaveAt value) (sym there.1) (have_one s line value there.0 t (all_at IsCheckedLine s.model.timelines line t whole.checked.timelines f) can there.2)

@@ -50,10 +50,13 @@ fn idle(alloc: Global, s: &PlanState, line: u32, timeline: &Timeline) -> Result<
         Timeline::Level { least, most, .. } => {
             Ok(Line::Level(idle_level(alloc, s, line, *least, *most)))
         }
-        Timeline::States { any, steps, .. } => Ok(Line::States(idle_states(
+        Timeline::States {
+            states, any, steps, ..
+        } => Ok(Line::States(idle_states(
             alloc,
             s,
             line,
+            states.len() as u32,
             *any,
             steps.as_slice(),
         )?)),
@@ -77,6 +80,7 @@ fn idle_states(
     alloc: Global,
     s: &PlanState,
     line: u32,
+    count: u32,
     any: bool,
     steps: &[(u32, u32)],
 ) -> Result<StateLine, AllocError>
@@ -86,7 +90,7 @@ fn idle_states(
 {
     let horizon = s.model.get().horizon;
     let state = told_state(s, line);
-    StateLine::new(alloc, horizon, 0, state, any, steps)
+    StateLine::new(alloc, horizon, count, state, any, steps)
 }
 
 fn told(s: &PlanState, line: u32) -> i64

@@ -3,6 +3,7 @@ use Rattle.std.proofs.Common.{◌≡◌, ℕ, eqb, Bool, true, false, List, [], 
 use Rattle.std.specs.Prelude.{◌||◌, ◌&&◌, All, option_to_list}
 use Rattle.std.proofs.lemmas.List.Elements.{All-nil, All-cons, All-weaker}
 use Rattle.std.proofs.lemmas.List.Folds.{list_any-append}
+use Rattle.pl_lists.proofs.Tests.{or_first_false, or_second_false}
 use Rattle.pl_model.specs.declared.alternatives.Order.{Order}
 use Rattle.pl_plan.specs.declared.activity.Activity.{Activity}
 use Rattle.pl_plan.specs.Activities.{AreRising, activity_of}
@@ -16,7 +17,6 @@ use Rattle.pl_detect.specs.Broken.{conflict_by, broken_conflict}
 use Rattle.pl_detect.proofs.Found.{found_id}
 use Rattle.pl_changes.specs.Replaced.{replaced, with_plan}
 use Rattle.pl_linked.specs.Near.{own_and_parent, ids_at, near}
-use Rattle.pl_linked.proofs.Telling.{or_left, or_right}
 use Rattle.pl_linked.proofs.Lookups.{Fails, find-replaced, activity_of_find}
 
 among-append : (p : ℕ) (xs ys : List ℕ) → among p (xs ++ ys) ≡ (among p xs || among p ys)
@@ -27,10 +27,10 @@ abbrev Misses : ℕ → Activity → Type 0
 Misses p a = among p (own_and_parent a) ≡ false
 
 not_itself : (p : ℕ) (a : Activity) → Misses p a → eqb a.id p ≡ false
-not_itself p a misses = or_left (eqb a.id p) (among p (option_to_list (parent_in a))) misses
+not_itself p a misses = or_first_false (eqb a.id p) (among p (option_to_list (parent_in a))) misses
 
 not_child : (p slot : ℕ) (a : Activity) → Misses p a → fills p slot a ≡ false
-not_child p slot a misses = by a.parent (or_right (eqb a.id p) (among p (option_to_list (parent_id a.parent))) misses)
+not_child p slot a misses = by a.parent (or_second_false (eqb a.id p) (among p (option_to_list (parent_id a.parent))) misses)
   where
     none : (b c : Bool) → (b || false) ≡ false → (b && c) ≡ false
     none true c e = absurd (cc)
@@ -45,16 +45,16 @@ module _ (s : PlanState) (p : ℕ) where
   gone_miss [] e = All-nil (λ id. (a : Activity) → found s id ≡ Some a → Misses p a)
   gone_miss (g ∷ gone) e =
       let both : (among p (ids_at s g) || among p (flat_map (ids_at s) gone)) ≡ false = sym (among-append p (ids_at s g) (flat_map (ids_at s) gone)) ∙ e in
-      let here : among p (ids_at s g) ≡ false = or_left (among p (ids_at s g)) (among p (flat_map (ids_at s) gone)) both in
+      let here : among p (ids_at s g) ≡ false = or_first_false (among p (ids_at s g)) (among p (flat_map (ids_at s) gone)) both in
       All-cons (λ id. (a : Activity) → found s id ≡ Some a → Misses p a) g gone
       (λ a is. rw is at here)
-      (gone_miss gone (or_right (among p (ids_at s g)) (among p (flat_map (ids_at s) gone)) both))
+      (gone_miss gone (or_second_false (among p (ids_at s g)) (among p (flat_map (ids_at s) gone)) both))
 
 more_miss : (p : ℕ) (more : List Activity) → among p (flat_map own_and_parent more) ≡ false → All (Misses p) more
 more_miss p [] e = All-nil (Misses p)
 more_miss p (a ∷ more) e =
     let both : (among p (own_and_parent a) || among p (flat_map own_and_parent more)) ≡ false = sym (among-append p (own_and_parent a) (flat_map own_and_parent more)) ∙ e in
-    All-cons (Misses p) a more (or_left (among p (own_and_parent a)) (among p (flat_map own_and_parent more)) both) (more_miss p more (or_right (among p (own_and_parent a)) (among p (flat_map own_and_parent more)) both))
+    All-cons (Misses p) a more (or_first_false (among p (own_and_parent a)) (among p (flat_map own_and_parent more)) both) (more_miss p more (or_second_false (among p (own_and_parent a)) (among p (flat_map own_and_parent more)) both))
 
 module _ (s : PlanState) (gone : List ℕ) (more : List Activity) (rising : AreRising s.plan.activities) (p : ℕ) (far : among p (near s gone more) ≡ false) where
   parts : (among p (flat_map (ids_at s) gone) || among p (flat_map own_and_parent more)) ≡ false
@@ -64,8 +64,8 @@ module _ (s : PlanState) (gone : List ℕ) (more : List Activity) (rising : AreR
   same_search : (f : Activity → Bool) → ((a : Activity) → Misses p a → f a ≡ false) → find f (replaced s.plan.activities gone more) ≡ find f s.plan.activities
   same_search f fails = find-replaced f s.plan.activities gone more rising
       (All-weaker (λ id. (a : Activity) → found s id ≡ Some a → Misses p a) (Fails f s.plan.activities) (λ id misses a is. fails a (misses a is)) gone
-      (gone_miss s p gone (or_left (among p (flat_map (ids_at s) gone)) (among p (flat_map own_and_parent more)) parts)))
-      (All-weaker (Misses p) (λ a. f a ≡ false) fails more (more_miss p more (or_right (among p (flat_map (ids_at s) gone)) (among p (flat_map own_and_parent more)) parts)))
+      (gone_miss s p gone (or_first_false (among p (flat_map (ids_at s) gone)) (among p (flat_map own_and_parent more)) parts)))
+      (All-weaker (Misses p) (λ a. f a ≡ false) fails more (more_miss p more (or_second_false (among p (flat_map (ids_at s) gone)) (among p (flat_map own_and_parent more)) parts)))
 
   same_found : found (with_plan gone more s) p ≡ found s p
   same_found = sym (activity_of_find p (replaced s.plan.activities gone more)) ∙ (same_search (λ a. eqb a.id p) (not_itself p) ∙ activity_of_find p s.plan.activities)

@@ -4,6 +4,7 @@ use Rattle.std.specs.Prelude.{◌||◌, ◌&&◌}
 use Rattle.std.specs.List.{list_any}
 use Rattle.std.specs.BTreeMap.{is_at}
 use Rattle.std.proofs.lemmas.Bool.{cases_eq, eq-eqb, ne_eqb}
+use Rattle.std.proofs.Math.Bool.{and-false, and-or_distrib_right}
 use Rattle.pl_conflict.specs.declared.conflict.Conflict.{Conflict}
 use Rattle.pl_conflict.specs.Order as conflicts
 use Rattle.pl_conflict.proofs.Sorting.{has-append}
@@ -89,11 +90,7 @@ module _ (s : PlanState) where
 
 module _ {X : Type 0} (same : X → X → Bool) (exact : (b x : X) → same b x ≡ true → b ≡ x) where
   pub any-filter : (p : X → Bool) (xs : List X) (b : X) → list_any (same b) (filter p xs) ≡ (p b && list_any (same b) xs)
-  any-filter p [] b = none (p b)
-    where
-      none : (t : Bool) → false ≡ (t && false)
-      none true = refl
-      none false = refl
+  any-filter p [] b = sym (and-false (p b))
   any-filter p (x ∷ xs) b = cases (p x) refl (same b x) refl (any-filter p xs b)
     where
       late : (i t h f : Bool) → i ≡ false → f ≡ (t && h) → (i || f) ≡ (t && (i || h))
@@ -131,11 +128,4 @@ has-near broken (i ∷ ids) b =
     ∙ (ap (λ h. h || has b (broken_near broken ids)) (has-filter (is_of i) broken b)
     ∙ (ap (λ h. (eqb b.id i && has b broken) || h) (has-near broken ids b)
     ∙ (ap (λ t. (t && has b broken) || (among b.id ids && has b broken)) (eqb-sym b.id i)
-    ∙ both (eqb i b.id) (among b.id ids) (has b broken))))
-  where
-    both : (t n h : Bool) → ((t && h) || (n && h)) ≡ ((t || n) && h)
-    both true true true = refl
-    both true true false = refl
-    both true false true = refl
-    both true false false = refl
-    both false n h = refl
+    ∙ sym (and-or_distrib_right (eqb i b.id) (among b.id ids) (has b broken)))))

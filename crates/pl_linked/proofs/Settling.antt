@@ -5,12 +5,14 @@ use Rattle.std.specs.List.Sorted.{IsStrictlySortedBy}
 use Rattle.std.specs.BTreeMap.{is_at}
 use Rattle.std.specs.Ordering.{is_eq}
 use Rattle.std.specs.declared.cmp.Ordering.TheVariants.{Less}
-use Rattle.std.proofs.lemmas.Bool.{and_parts, leb-true, le-leb, ltb-true, lt-ltb}
+use Rattle.std.proofs.lemmas.Bool.{and_parts, leb-true, le-leb, ltb-true, lt-ltb, or_left, or_right}
 use Rattle.std.proofs.lemmas.Cmp.{tied_itself}
 use Rattle.std.proofs.lemmas.Grind.{common_steps}
 use Rattle.std.proofs.lemmas.List.Sums.{take_while-cons}
 use Rattle.std.proofs.lemmas.List.Elements.{All-head, All-tail}
 use Rattle.std.proofs.lemmas.Map.Views.{All-after_first}
+use Rattle.std.proofs.Math.Bool.{and-true, and-false}
+use Rattle.pl_lists.proofs.Tests.{and_second}
 use Rattle.pl_conflict.specs.declared.conflict.Conflict.{Conflict}
 use Rattle.pl_conflict.specs.declared.conflict.Code.{Code}
 use Rattle.pl_conflict.specs.declared.conflict.Code.TheVariants as code
@@ -181,11 +183,7 @@ front_ends p k ks e = take_while-cons p k ks ∙ ap (λ b. cond b (k ∷ take_wh
 
 has-front : (m c : ℕ) (ks : List Conflict) (q : Conflict) → AreInOrder ks → has q (take_while (λ (k : Conflict). leb k.from m && ltb k.from c) ks) ≡ ((leb q.from m && ltb q.from c) && has q ks)
 unfolding IsStrictlySortedBy
-has-front m c [] q ordered = none (leb q.from m && ltb q.from c)
-  where
-    none : (b : Bool) → false ≡ (b && false)
-    none true = refl
-    none false = refl
+has-front m c [] q ordered = sym (and-false (leb q.from m && ltb q.from c))
 has-front m c (k ∷ ks) q ordered = cases (leb k.from m && ltb k.from c) refl (same q k) refl (has-front m c ks q ordered.1)
   where
     cases : (b : Bool) → (leb k.from m && ltb k.from c) ≡ b → (h : Bool) → same q k ≡ h → has q (take_while (λ (k : Conflict). leb k.from m && ltb k.from c) ks) ≡ ((leb q.from m && ltb q.from c) && has q ks) → has q (take_while (λ (k : Conflict). leb k.from m && ltb k.from c) (k ∷ ks)) ≡ ((leb q.from m && ltb q.from c) && (same q k || has q ks))
@@ -209,27 +207,20 @@ has-passed t ks q ordered =
 it : (k : Conflict) → same k k ≡ true
 it k = ap is_eq (tied_itself conflict_total k)
 
-or_here : (a b : Bool) → a ≡ true → (a || b) ≡ true
-or_here a b e = rw e refl
-
-or_there : (a b : Bool) → b ≡ true → (a || b) ≡ true
-or_there true b e = refl
-or_there false b e = e
-
 owners_has : (ks : List Conflict) (q : Conflict) → has q ks ≡ true → sets.has (owner_of q) (map owner_of ks) ≡ true
 owners_has [] q h = absurd (cc)
 owners_has (k ∷ ks) q h = cases (same q k) refl (owners_has ks q)
   where
     cases : (b : Bool) → same q k ≡ b → (has q ks ≡ true → sets.has (owner_of q) (map owner_of ks) ≡ true) → (is_at (sets.broken_cmp (owner_of q)) (owner_of k) || sets.has (owner_of q) (map owner_of ks)) ≡ true
-    cases true e more = or_here (is_at (sets.broken_cmp (owner_of q)) (owner_of k)) (sets.has (owner_of q) (map owner_of ks)) (subst (λ (x : Conflict). is_at (sets.broken_cmp (owner_of q)) (owner_of x) ≡ true) (same_is q k e) (itself (owner_of q)))
-    cases false e more = or_there (is_at (sets.broken_cmp (owner_of q)) (owner_of k)) (sets.has (owner_of q) (map owner_of ks)) (more (rw e at h))
+    cases true e more = or_left (is_at (sets.broken_cmp (owner_of q)) (owner_of k)) (sets.has (owner_of q) (map owner_of ks)) (subst (λ (x : Conflict). is_at (sets.broken_cmp (owner_of q)) (owner_of x) ≡ true) (same_is q k e) (itself (owner_of q)))
+    cases false e more = or_right (is_at (sets.broken_cmp (owner_of q)) (owner_of k)) (sets.has (owner_of q) (map owner_of ks)) (more (rw e at h))
 
 owners_pass : (p : Broken → Bool) (b : Broken) (ks : List Conflict) → ((k : Conflict) → has k ks ≡ true → p (owner_of k) ≡ true) → sets.has b (map owner_of ks) ≡ true → p b ≡ true
 owners_pass p b [] all h = absurd (cc)
-owners_pass p b (k ∷ ks) all h = cases (is_at (sets.broken_cmp b) (owner_of k)) refl (owners_pass p b ks (λ q here. all q (or_there (same q k) (has q ks) here)))
+owners_pass p b (k ∷ ks) all h = cases (is_at (sets.broken_cmp b) (owner_of k)) refl (owners_pass p b ks (λ q here. all q (or_right (same q k) (has q ks) here)))
   where
     cases : (t : Bool) → is_at (sets.broken_cmp b) (owner_of k) ≡ t → (sets.has b (map owner_of ks) ≡ true → p b ≡ true) → p b ≡ true
-    cases true e more = ap p (same_broken b (owner_of k) e) ∙ all k (or_here (same k k) (has k ks) (it k))
+    cases true e more = ap p (same_broken b (owner_of k) e) ∙ all k (or_left (same k k) (has k ks) (it k))
     cases false e more = more (rw e at h)
 
 -- ---- the law
@@ -251,10 +242,6 @@ mends_one true false false w st false was stands goes named broken = refl
 mends_one false du ds w st true was stands goes named broken = absurd (let bad : false ≡ true = broken refl in cc)
 mends_one false du ds w st false was stands goes named broken = refl
 
-and_second : (a b : Bool) → (a && b) ≡ true → b ≡ true
-and_second true b e = e
-and_second false b e = absurd (cc)
-
 module _ (s : PlanState) (m c : ℕ) (present : s.moment ≤ m) (horizon : s.committed ≤ c) (rising : AreRising s.plan.activities) (ks : List Conflict) (ordered : AreInOrder ks) (shows : ShowsLinks s ks) where
   abbrev went : List Conflict
   went = passed (later m c s) ks
@@ -272,11 +259,7 @@ module _ (s : PlanState) (m c : ℕ) (present : s.moment ≤ m) (horizon : s.com
   goes q h =
       let of : part_of q.code ≡ of_links = of_links_alone s q h in
       let listed : has q ks ≡ true = shows q of ∙ h in
-      has-passed (later m c s) ks q ordered ∙ (ap (λ b. b && (is_settled (later m c s) q.from && has q ks)) (is_part q.code of) ∙ (ap (λ b. is_settled (later m c s) q.from && b) listed ∙ and_true (is_settled (later m c s) q.from)))
-    where
-      and_true : (b : Bool) → (b && true) ≡ b
-      and_true true = refl
-      and_true false = refl
+      has-passed (later m c s) ks q ordered ∙ (ap (λ b. b && (is_settled (later m c s) q.from && has q ks)) (is_part q.code of) ∙ (ap (λ b. is_settled (later m c s) q.from && b) listed ∙ and-true (is_settled (later m c s) q.from)))
 
   law : (q : Conflict) → has q (link_conflicts (later m c s)) ≡ ((has q (link_conflicts s) && not (has q went)) || has q (flat_map (broken_conflict (later m c s)) (map owner_of went)))
   law q =

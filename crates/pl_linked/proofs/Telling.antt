@@ -3,6 +3,7 @@ use Rattle.std.proofs.Common.{◌≡◌, ℕ, eqb, Bool, true, false, List, [], 
 use Rattle.std.specs.Prelude.{◌||◌, ◌&&◌, not}
 use Rattle.std.specs.BTreeMap.{is_at}
 use Rattle.std.proofs.lemmas.List.Folds.{list_any-append}
+use Rattle.pl_lists.proofs.Tests.{or_first_false, or_second_false}
 use Rattle.pl_links.specs.declared.broken.Broken.{Broken}
 use Rattle.pl_links.specs.declared.changes.Changes.{Changes}
 use Rattle.pl_links.specs.Changes.{Tells}
@@ -13,14 +14,6 @@ use Rattle.pl_linked.specs.Telling.{TellsAll}
 
 pub has-append : (xs ys : List Broken) (b : Broken) → has b (xs ++ ys) ≡ (has b xs || has b ys)
 has-append xs ys b = list_any-append (is_at (broken_cmp b)) xs ys
-
-pub or_left : (a b : Bool) → (a || b) ≡ false → a ≡ false
-or_left true b e = e
-or_left false b e = refl
-
-pub or_right : (a b : Bool) → (a || b) ≡ false → b ≡ false
-or_right true b e = absurd (cc)
-or_right false b e = e
 
 -- nothing is told
 pub tells_itself : (told bs : List Broken) → TellsAll told told bs bs
@@ -40,17 +33,17 @@ neither false false e f = refl
 
 pub tells_changes : (told old new : List Broken) (changes : Changes) → Tells old new changes → TellsAll told ((told ++ changes.came.items) ++ changes.went.items) old new
 tells_changes told old new changes tells = record {
-  untold = λ b e. or_left (has b told) (has b changes.came.items) (first b e);
+  untold = λ b e. or_first_false (has b told) (has b changes.came.items) (first b e);
   unchanged = λ b e. neither (has b new) (has b old)
-      (sym (tells.came b) ∙ or_right (has b told) (has b changes.came.items) (first b e))
-      (sym (tells.went b) ∙ or_right (has b (told ++ changes.came.items)) (has b changes.went.items) (parts b e));
+      (sym (tells.came b) ∙ or_second_false (has b told) (has b changes.came.items) (first b e))
+      (sym (tells.went b) ∙ or_second_false (has b (told ++ changes.came.items)) (has b changes.went.items) (parts b e));
 }
   where
     parts : (b : Broken) → has b ((told ++ changes.came.items) ++ changes.went.items) ≡ false → (has b (told ++ changes.came.items) || has b changes.went.items) ≡ false
     parts b e = sym (has-append (told ++ changes.came.items) changes.went.items b) ∙ e
 
     first : (b : Broken) → has b ((told ++ changes.came.items) ++ changes.went.items) ≡ false → (has b told || has b changes.came.items) ≡ false
-    first b e = sym (has-append told changes.came.items b) ∙ or_left (has b (told ++ changes.came.items)) (has b changes.went.items) (parts b e)
+    first b e = sym (has-append told changes.came.items b) ∙ or_first_false (has b (told ++ changes.came.items)) (has b changes.went.items) (parts b e)
 
 -- what is not placed stays out
 pub absent_stays : (id : ℕ) (items : List Placed) → is_some (item_of id items) ≡ false → items ≡ without id items

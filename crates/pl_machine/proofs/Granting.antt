@@ -1,11 +1,13 @@
 -- What is committed can be sent: a commit is granted only where no value of what it commits is out of range.
-use Rattle.std.proofs.Common.{◌≡◌, ℕ, zero, suc, ◌+◌, ◌<◌, ◌≤◌, ℤ, ◌≤ℤ◌, List, [], ◌∷◌, ◌++◌, length, Bool, true, false, not, ◌&&◌, ◌||◌, int_le, nat_lt, nat_le, All, Option, Some, None, IfSome, Result, Ok, Err, IfOk, ◌↔◌, if◌then◌else◌, refl, sym, ◌∙◌, subst, arith}
+use Rattle.std.proofs.Common.{◌≡◌, ℕ, zero, suc, ◌+◌, ◌<◌, ◌≤◌, ℤ, List, [], ◌∷◌, ◌++◌, length, Bool, true, false, ◌||◌, int_le, nat_lt, nat_le, All, Option, Some, None, IfSome, Result, Ok, Err, IfOk, ◌↔◌, if◌then◌else◌, refl, sym, ◌∙◌, subst, arith}
 use Rattle.std.specs.List.{flat_map}
-use Rattle.std.proofs.lemmas.Bool.{leb-false, ltb-false, ltb-true, lt-leb, le-leb, le-ltb}
+use Rattle.std.proofs.lemmas.Bool.{leb-false, ltb-false, ltb-true, lt-leb, le-leb, le-ltb, or_left, or_right}
 use Rattle.std.proofs.lemmas.Grind.{common_steps}
 use Rattle.std.proofs.lemmas.Int.{ints}
 use Rattle.std.proofs.lemmas.List.Elements.{All-nil, All-cons, All-head, All-tail, All-get_or, All-from_get_or, All-weaker}
 use Rattle.std.proofs.lemmas.Option.{get_or_from_slice_get}
+use Rattle.pl_lists.proofs.Tests.{not_and_parts, or_first_false}
+use Rattle.pl_lists.proofs.Numbers.{le_from_test}
 use Rattle.pl_conflict.specs.declared.conflict.Conflict.{Conflict}
 use Rattle.pl_conflict.specs.declared.conflict.Code.TheVariants.{BadValue, Late}
 use Rattle.pl_conflict.specs.Order.{has}
@@ -44,14 +46,6 @@ use Rattle.pl_machine.specs.Sound.{State}
 use Rattle.pl_machine.specs.Taking.{Answers}
 use Rattle.pl_machine.specs.Keeping.{AreSendable, KeepsStanding}
 use Rattle.pl_machine.specs.Step.{behind_of, first_conflict, held_reply, commit_reply}
-
-or_left : (b c : Bool) → b ≡ true → (b || c) ≡ true
-or_left true c e = refl
-or_left false c e = absurd (cc)
-
-or_right : (b c : Bool) → c ≡ true → (b || c) ≡ true
-or_right true c e = refl
-or_right false c e = e
 
 has-left : (xs ys : List Conflict) (q : Conflict) → has q xs ≡ true → has q (xs ++ ys) ≡ true
 has-left xs ys q e = has-append xs ys q ∙ or_left (has q xs) (has q ys) e
@@ -100,20 +94,12 @@ stands s a whole here planned p e =
 
 -- ---- amounts
 
-both_true : (b c : Bool) → not (b && c) ≡ false → (b ≡ true) × (c ≡ true)
-both_true true true e = (refl, refl)
-both_true true false e = absurd (cc)
-both_true false c e = absurd (cc)
-
-le_from_test : (a b : ℤ) → int_le a b ≡ true → a ≤ℤ b
-le_from_test a b e = grind (arith, ints)
-
 in_range : (low high v : ℤ) → IsAmount low → IsAmount high → int_le low v ≡ true → int_le v high ≡ true → IsAmount v
 in_range low high v least most above below = let up = le_from_test low v above in let down = le_from_test v high below in (omega (arith, ints, least.0, up), omega (arith, ints, most.1, down))
 
 amount_of : (low high : ℤ) (v : Option ℤ) → IsAmount low → IsAmount high → is_outside low high v ≡ false → IfSome v IsAmount
 amount_of low high None least most e = tt
-amount_of low high (Some v) least most e = let both = both_true (int_le low v) (int_le v high) e in in_range low high v least most both.0 both.1
+amount_of low high (Some v) least most e = let both = not_and_parts (int_le low v) (int_le v high) e in in_range low high v least most both.0 both.1
 
 -- the values of parameters that are not out of range
 amounts_from : (values : ℕ → Option ℤ) (n count : ℕ) (ps : List Param) → All (IsCheckedParam count) ps → All (λ (p : ℕ × Param). is_outside p.1.low p.1.high (values p.0) ≡ false) (numbered n ps)
@@ -129,10 +115,6 @@ amounts_from values n count (p ∷ ps) checked ok (suc i) lt =
     subst (λ k. IfSome (values k) IsAmount) same (amounts_from values (suc n) count ps (All-tail (IsCheckedParam count) p ps checked) (All-tail (λ (q : ℕ × Param). is_outside q.1.low q.1.high (values q.0) ≡ false) (n, p) (numbered (suc n) ps) ok) i (omega (arith, lt)))
 
 -- ---- a granted commit
-
-left_false : (b c : Bool) → (b || c) ≡ false → b ≡ false
-left_false true c e = absurd (cc)
-left_false false c e = refl
 
 each_case : (P : Conflict → Type 0) (k q : Conflict) (rest b : Bool) → same q k ≡ b → P k → (rest ≡ true → P q) → (b || rest) ≡ true → P q
 each_case P k q rest true e first more h = subst P (sym (same_is q k e)) first
@@ -157,7 +139,7 @@ module _ (s : PlanState) (h : ℕ) (whole : IsWhole s) (untouched : All (λ (k :
       none_bad s a (params_at s a) (λ p e.
       let free : nat_lt a.start h ≡ false = all_each (λ (k : Conflict). touches_before h k ≡ false) (conflicts_of s) untouched (at_start a BadValue p.0 0) (stands s a whole here new p e) in
       let late = ltb-false a.start h free in absurd (omega (arith, early, late))) in
-      let inside = All-weaker (λ (p : ℕ × Param). is_bad_at s a p ≡ false) (λ (p : ℕ × Param). is_outside p.1.low p.1.high (value_in s a p.0) ≡ false) (λ p e. left_false _ _ e) (params_at s a) ok in
+      let inside = All-weaker (λ (p : ℕ × Param). is_bad_at s a p ≡ false) (λ (p : ℕ × Param). is_outside p.1.low p.1.high (value_in s a p.0) ≡ false) (λ p e. or_first_false _ _ e) (params_at s a) ok in
       let alone = (all_at (FitsAlone s.model) s.plan.activities a.id a whole.fits.each here).0 in
       let checked = kind_at s.model a (kind_of s.model a) whole.checked.kinds alone.kind refl in
       let places = (values_solve s.model s.plan.activities whole.checked whole.fits.rooted).places a.id a here in

@@ -3,6 +3,7 @@ use Rattle.std.proofs.Common.{◌≡◌, ℕ, ◌+◌, ◌≤◌, List, [], ◌�
 use Rattle.std.specs.Prelude.{unwrap_or}
 use Rattle.std.specs.List.{cons_option}
 use Rattle.std.proofs.lemmas.List.{append-nil}
+use Rattle.std.proofs.lemmas.Bool.{not-true}
 use Rattle.pl_model.specs.declared.whole.Model.{Model}
 use Rattle.pl_facts.specs.declared.options.Options.{Options}
 use Rattle.pl_entry.specs.declared.event.Event.{Event}
@@ -44,22 +45,18 @@ both_true true true e = (refl, refl)
 both_true true false e = absurd (let h : false ≡ true = e in (cc))
 both_true false b e = absurd (let h : false ≡ true = e in (cc))
 
-not_true : (a : Bool) → not a ≡ true → a ≡ false
-not_true true e = absurd (let h : false ≡ true = e in (cc))
-not_true false e = refl
-
 -- where an event that is no input is enabled, a round is open
 in_round : (w : World) (e : Event) → input_in e ≡ None → is_enabled w e ≡ true → w.closed ≡ false
 in_round w (event.Opened o) none on = absurd (let h : false ≡ true = on in (cc))
 in_round w (event.Input line) none on = absurd (let h : Some line ≡ None = none in (cc))
-in_round w (event.Fix k m) none on = not_true w.closed (both_true (not w.closed) _ on).0
-in_round w event.Rest none on = not_true w.closed (both_true (not w.closed) _ on).0
-in_round w (event.Commit h) none on = not_true w.closed on
-in_round w event.Dispatch none on = not_true w.closed (both_true (not w.closed) _ on).0
-in_round w event.Close none on = not_true w.closed (both_true (not w.closed) _ on).0
+in_round w (event.Fix k m) none on = not-true w.closed (both_true (not w.closed) _ on).0
+in_round w event.Rest none on = not-true w.closed (both_true (not w.closed) _ on).0
+in_round w (event.Commit h) none on = not-true w.closed on
+in_round w event.Dispatch none on = not-true w.closed (both_true (not w.closed) _ on).0
+in_round w event.Close none on = not-true w.closed (both_true (not w.closed) _ on).0
 
 waits_closed : (w : World) (line : Message) → is_enabled w (event.Input line) ≡ true → (w.closed ≡ true) × (w.done ≡ false)
-waits_closed w line on = let both = both_true w.closed (not w.done) on in (both.0, not_true w.done both.1)
+waits_closed w line on = let both = both_true w.closed (not w.done) on in (both.0, not-true w.done both.1)
 
 closed_not : (w : World) → w.closed ≡ true → w.closed ≡ false → ⊥
 closed_not w yes_ no_ = (let h : true ≡ false = sym yes_ ∙ no_ in (cc))

@@ -2,6 +2,7 @@
 use Rattle.std.proofs.Common.{◌≡◌, ℕ, ◌≤◌, List, [], length, All, Option, Some, None, Result, Ok, Err, refl, sym, ap, ◌∙◌, subst, arith}
 use Rattle.std.specs.declared.vec.Vec.{Vec}
 use Rattle.std.specs.declared.alloc.Global.{Global}
+use Rattle.std.proofs.lemmas.Option.{same_Some}
 use Rattle.pl_io.specs.declared.errors.LineFault.{LineFault}
 use Rattle.pl_io.specs.declared.errors.LineFault.TheVariants as fault
 use Rattle.pl_io.specs.Faults.{Rose}
@@ -46,9 +47,6 @@ demo_within goals few = record {
   lines = subst (λ (ls : List (List ℕ)). All (λ line. length line ≤ 4096) ls) (sym (demo_text_lines goals few)) (λ k d less. omega (arith, demo_lines_short goals few k d less));
   total = omega (arith, demo_text_short goals few);
 }
-
-some_same : (x y : List ℕ) → Some x ≡ Some y → x ≡ y
-some_same x y e = cc
 
 -- a count that stands at 0 did not rise
 pub never_rose : Rose 0 0 → ⊥
@@ -164,7 +162,7 @@ model_then : (goals : ℕ) (old : Reader) (kept : Option (Vec ℕ Global)) (new 
 model_then goals old kept new after few is_fresh begun =
     let fresh = fresh_begun line_limit old kept new (Input goals) (ahead new.held after) is_fresh begun in
     let head = begins_at line_limit kept new (demo_text goals) (ahead new.held after) after fresh refl in
-    let same : demo_words ≡ fresh.words = some_same demo_words fresh.words (sym (demo_begins goals few) ∙ head.text) in
+    let same : demo_words ≡ fresh.words = same_Some demo_words fresh.words (sym (demo_begins goals few) ∙ head.text) in
     record {
       words = fresh.words;
       model = demo_model;

@@ -14,6 +14,7 @@ use pl_model::Model;
 use pl_stream::{Halt, Head, halt_of, read_head};
 use std::alloc::{AllocError, Global};
 
+/// Puts the words and then the count in decimal at the end.
 pub fn push_counted(out: &mut Vec<u8>, words: &[u8], count: usize) -> Result<(), AllocError>
     ensures { OnOk result (out.new.items ≡ out.old.items ++ (words.now ++ decimal count)) }
 {

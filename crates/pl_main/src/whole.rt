@@ -17,10 +17,13 @@ use pl_stream::{Halt, Head, halt_of, read_head, write_log};
 use std::alloc::{AllocError, Global};
 use std::sync::Arc;
 
+/// The most bytes of a line of the input, without its newline.
 pub const LINE_LIMIT: u32 = 4096;
 
+/// The most bytes of the input.
 pub const TOTAL_LIMIT: u64 = 1_073_741_824;
 
+/// The limits of a run of the program, with so many repairs a round.
 pub fn program_options(turns: u32) -> Options
     ensures { result ≡ program_options turns }
 {

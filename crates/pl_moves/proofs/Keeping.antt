@@ -4,6 +4,7 @@ use Rattle.std.specs.Prelude.{◌&&◌, All, ℤ, Option, Some, None, is_some, s
 use Rattle.std.specs.Option.{option_or}
 use Rattle.std.proofs.lemmas.Bool.{le-ltb, eqb-true, eq-eqb}
 use Rattle.std.proofs.lemmas.List.Elements.{All-nil, All-cons, All-map, All-weaker}
+use Rattle.pl_lists.proofs.Tests.{and_first}
 use Rattle.pl_model.specs.declared.whole.Model.{Model}
 use Rattle.pl_model.specs.declared.alternatives.Alternative.{Alternative}
 use Rattle.pl_plan.specs.declared.activity.Activity.{Activity}
@@ -29,7 +30,7 @@ use Rattle.pl_changes.specs.Replaced.{touched}
 use Rattle.pl_moves.specs.Changes.{gone_by, placed_by, assigned, undetailed, with_children, IsOfActivities}
 use Rattle.pl_moves.specs.Keeping.{KeepsCommitted, GivesIds}
 use Rattle.pl_moves.proofs.Swaps.{MayCome, IsSwap}
-use Rattle.pl_moves.proofs.Subtrees.{among_ids, among_subtree, both_left}
+use Rattle.pl_moves.proofs.Subtrees.{among_ids, among_subtree}
 use Rattle.pl_moves.proofs.Offsets.{paired}
 use Rattle.pl_moves.proofs.Branched.{children_count}
 use Rattle.pl_moves.proofs.Made.{IsMadeBy, made}
@@ -124,7 +125,7 @@ module _ (s : PlanState) (whole : IsWhole s) where
       under : (top : ℕ) → among q (subtree_of top live) ≡ true → is_under s top a ≡ true
       under top e =
           let both : (descends live top q && is_some (activity_of q live)) ≡ true = sym (among_subtree live top q) ∙ e in
-          subst (λ n. descends live top n ≡ true) (sym is_id) (both_left (descends live top q) (is_some (activity_of q live)) both)
+          subst (λ n. descends live top n ≡ true) (sym is_id) (and_first (descends live top q) (is_some (activity_of q live)) both)
 
       only : (id : ℕ) (b : Bool) → eqb id q ≡ b → among q (id ∷ []) ≡ true → eqb a.id id ≡ true
       only id true e h = eq-eqb a.id id (is_id ∙ sym (eqb-true id q e))

@@ -4,6 +4,8 @@ use Rattle.std.specs.Prelude.{◌&&◌, All, Option, Some, None, is_some}
 use Rattle.std.specs.Option.{option_or}
 use Rattle.std.proofs.lemmas.Bool.{eqb-true}
 use Rattle.std.proofs.lemmas.List.Elements.{All-map}
+use Rattle.std.proofs.Math.Bool.{and-false}
+use Rattle.pl_lists.proofs.Tests.{and_first, and_second}
 use Rattle.pl_plan.specs.declared.activity.Activity.{Activity}
 use Rattle.pl_plan.specs.Activities.{RiseFrom, AreRising, IsLive, activity_of}
 use Rattle.pl_plan.specs.Trees.{id_of, Descends, descends, subtree_of}
@@ -21,11 +23,7 @@ use Rattle.pl_moves.proofs.Swaps.{IsSwap, swapped_at}
 -- ---- ids in lists
 
 among_filter : (p : ℕ → Bool) (ids : List ℕ) (q : ℕ) → among q (filter p ids) ≡ (p q && among q ids)
-among_filter p [] q = by (p q)
-  where
-    by : (b : Bool) → false ≡ (b && false)
-    by true = refl
-    by false = refl
+among_filter p [] q = sym (and-false (p q))
 among_filter p (i ∷ ids) q = cases (p i) refl (eqb i q) refl (among_filter p ids q)
   where
     cases : (b : Bool) → p i ≡ b → (e : Bool) → eqb i q ≡ e → among q (filter p ids) ≡ (p q && among q ids) → among q (filter p (i ∷ ids)) ≡ (p q && among q (i ∷ ids))
@@ -62,14 +60,6 @@ among_right q (i ∷ ids) more apart = cases (eqb i q) refl (among_right q ids m
     cases true g rest = absurd (let bad : true ≡ false = rw g at apart in cc)
     cases false g rest = let less : among q (ids ++ more) ≡ false = rw g at apart in rest less
 
-pub both_left : (a b : Bool) → (a && b) ≡ true → a ≡ true
-both_left true b e = refl
-both_left false b e = absurd (cc)
-
-pub both_right : (a b : Bool) → (a && b) ≡ true → b ≡ true
-both_right true b e = e
-both_right false b e = absurd (cc)
-
 pub rising_map : (c : Activity → Activity) → KeepsTree c → (from : ℕ) (xs : List Activity) → RiseFrom from xs → RiseFrom from (map c xs)
 rising_map c keeps from [] rising = rising
 rising_map c keeps from (x ∷ xs) rising = rw (keeps.id x) (rising.0, rising_map c keeps (suc x.id) xs rising.1)
@@ -96,7 +86,7 @@ module _ (s : PlanState) (whole : IsWhole s) (top : ℕ) where
   goes : (q : ℕ) → among q gone ≡ true → (descends xs top q ≡ true) × IsLive q xs
   goes q is =
       let both : (descends xs top q && is_some (activity_of q xs)) ≡ true = sym (among_subtree xs top q) ∙ is in
-      (both_left (descends xs top q) (is_some (activity_of q xs)) both, both_right (descends xs top q) (is_some (activity_of q xs)) both)
+      (and_first (descends xs top q) (is_some (activity_of q xs)) both, and_second (descends xs top q) (is_some (activity_of q xs)) both)
 
   pub goes_if : (q : ℕ) → descends xs top q ≡ true → IsLive q xs → among q gone ≡ true
   goes_if q under live = among_subtree xs top q ∙ rw (under, live) refl

@@ -4,11 +4,11 @@ use Rattle.std.specs.Prelude.{filter, Some, None}
 use Rattle.std.specs.List.{list_any}
 use Rattle.std.specs.Cmp.{both_ways}
 use Rattle.std.proofs.lemmas.Bool.{eq-eqb, ne_eqb}
+use Rattle.std.proofs.Math.Bool.{or-true}
 use Rattle.pl_plan.specs.declared.activity.Activity.{Activity}
 use Rattle.pl_plan.specs.Activities.{RiseFrom, AreRising, activity_of}
 use Rattle.pl_plan.specs.Trees.{id_of}
 use Rattle.pl_plan.proofs.Lookups.{none_below}
-use Rattle.pl_lists.proofs.Tests.{or_true}
 use Rattle.pl_world.specs.PlanStates.{among}
 
 record Found (p : Activity → Bool) (xs : List Activity) : Type 0 where
@@ -34,7 +34,7 @@ found_any p (x ∷ xs) id a here passes = cases (eqb x.id id) refl (found_any p 
   where
     cases : (b : Bool) → eqb x.id id ≡ b → (activity_of id xs ≡ Some a → p a ≡ true → list_any p xs ≡ true) → list_any p (x ∷ xs) ≡ true
     cases true e more = let at : Some x ≡ Some a = rw e at here in let same : x ≡ a = cc in rw (same, passes) refl
-    cases false e more = rw (more (rw e at here) passes) (or_true (p x))
+    cases false e more = rw (more (rw e at here) passes) (or-true (p x))
 
 -- the same of both lists, where each activity that passes is found in both under its id
 pub any_same : (p : Activity → Bool) (xs ys : List Activity) → AreRising xs → AreRising ys → ((id : ℕ) (a : Activity) → p a ≡ true → activity_of id xs ≡ Some a → activity_of id ys ≡ Some a) → ((id : ℕ) (a : Activity) → p a ≡ true → activity_of id ys ≡ Some a → activity_of id xs ≡ Some a) → list_any p ys ≡ list_any p xs
@@ -49,7 +49,7 @@ chosen_among p id [] a here is = absurd (cc)
 chosen_among p id (x ∷ xs) a here is = cases (eqb x.id id) refl (chosen_among p id xs a)
   where
     kept : (b : Bool) → p x ≡ b → among id (map id_of (filter p xs)) ≡ true → among id (map id_of (filter p (x ∷ xs))) ≡ true
-    kept true e there = rw (e, there) (or_true (eqb x.id id))
+    kept true e there = rw (e, there) (or-true (eqb x.id id))
     kept false e there = rw e there
 
     cases : (b : Bool) → eqb x.id id ≡ b → (activity_of id xs ≡ Some a → p a ≡ true → among id (map id_of (filter p xs)) ≡ true) → among id (map id_of (filter p (x ∷ xs))) ≡ true

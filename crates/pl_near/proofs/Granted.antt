@@ -1,9 +1,10 @@
 -- A commit of what no conflict touches changes no conflict: what is newly committed has none.
 use Rattle.std.proofs.Common.{◌≡◌, ℕ, ◌+◌, ◌<◌, ◌≤◌, List, [], ◌∷◌, ◌++◌, Bool, true, false, not, ◌&&◌, ◌||◌, nat_lt, nat_le, Option, Some, None, All, refl, sym, ◌∙◌, ap, subst, arith}
 use Rattle.std.specs.List.{flat_map}
-use Rattle.std.proofs.lemmas.Bool.{leb-false, ltb-false, ltb-true, lt-leb, leb-true, le-ltb, lt-ltb, le-leb}
+use Rattle.std.proofs.lemmas.Bool.{leb-false, ltb-false, ltb-true, lt-leb, leb-true, le-ltb, lt-ltb, le-leb, or_left, or_right, or_parts, or_from}
 use Rattle.std.proofs.lemmas.Grind.{common_steps}
 use Rattle.std.proofs.lemmas.List.Elements.{All-head, All-tail}
+use Rattle.pl_lists.proofs.Tests.{not_and_parts}
 use Rattle.pl_conflict.specs.declared.conflict.Conflict.{Conflict}
 use Rattle.pl_conflict.specs.declared.conflict.Code.TheVariants as code
 use Rattle.pl_conflict.specs.Order.{has}
@@ -26,14 +27,6 @@ use Rattle.pl_world.proofs.Owning.{Each, each_append, each_when, each_found, eac
 use Rattle.pl_changes.specs.Changes.{committed_to}
 
 -- ---- each of a list of conflicts
-
-or_left : (b c : Bool) → b ≡ true → (b || c) ≡ true
-or_left true c e = refl
-or_left false c e = absurd (cc)
-
-or_right : (b c : Bool) → c ≡ true → (b || c) ≡ true
-or_right true c e = refl
-or_right false c e = e
 
 each_left : (P : Conflict → Type 0) (xs ys : List Conflict) → Each P (xs ++ ys) → Each P xs
 each_left P xs ys each q h = each q (has-append xs ys q ∙ or_left (has q xs) (has q ys) h)
@@ -123,11 +116,6 @@ wrong_early s a =
 
 -- ---- tests
 
-both_of : (b c : Bool) → not (b && c) ≡ false → (b ≡ true) × (c ≡ true)
-both_of true true e = (refl, refl)
-both_of true false e = absurd (cc)
-both_of false c e = absurd (cc)
-
 not_first : (b c : Bool) → b ≡ false → not (b && c) ≡ true
 not_first true c e = absurd (cc)
 not_first false c e = refl
@@ -136,14 +124,6 @@ not_both : (b c : Bool) → b ≡ true → c ≡ true → not (b && c) ≡ false
 not_both true true e f = refl
 not_both true false e f = absurd (cc)
 not_both false c e f = absurd (cc)
-
-none_of : (b c : Bool) → (b || c) ≡ false → (b ≡ false) × (c ≡ false)
-none_of true c e = absurd (cc)
-none_of false c e = (refl, e)
-
-neither : (b c : Bool) → b ≡ false → c ≡ false → (b || c) ≡ false
-neither true c e f = absurd (cc)
-neither false c e f = f
 
 module _ (s : PlanState) (h : ℕ) (later : s.committed ≤ h) where
   abbrev next : PlanState
@@ -195,7 +175,7 @@ module _ (s : PlanState) (h : ℕ) (later : s.committed ≤ h) where
 
   stays_past : (a : Activity) → is_ahead s a ≡ false → is_ahead next a ≡ false
   stays_past a e =
-      let both = both_of (is_committed s a) (nat_le a.start s.moment) e in
+      let both = not_and_parts (is_committed s a) (nat_le a.start s.moment) e in
       let less = ltb-true a.start s.committed both.0 in
       not_both (is_committed next a) (nat_le a.start s.moment) (lt-ltb a.start h (omega (arith, less, later))) both.1
 
@@ -203,9 +183,9 @@ module _ (s : PlanState) (h : ℕ) (later : s.committed ≤ h) where
   unmet_alike parent index (Some first) (Some second) each =
       when_alike h (is_ahead s parent || (is_ahead s first || is_ahead s second)) (is_ahead next parent || (is_ahead next first || is_ahead next second)) _
       (λ e up. or_left (is_ahead next parent) (is_ahead next first || is_ahead next second) (stays_ahead parent (omega (arith, up))))
-      (λ e. let one = none_of (is_ahead s parent) (is_ahead s first || is_ahead s second) e in
-      let two = none_of (is_ahead s first) (is_ahead s second) one.1 in
-      neither (is_ahead next parent) (is_ahead next first || is_ahead next second) (stays_past parent one.0) (neither (is_ahead next first) (is_ahead next second) (stays_past first two.0) (stays_past second two.1)))
+      (λ e. let one = or_parts (is_ahead s parent) (is_ahead s first || is_ahead s second) e in
+      let two = or_parts (is_ahead s first) (is_ahead s second) one.1 in
+      or_from (is_ahead next parent) (is_ahead next first || is_ahead next second) (stays_past parent one.0) (or_from (is_ahead next first) (is_ahead next second) (stays_past first two.0) (stays_past second two.1)))
       each
   unmet_alike parent index (Some first) None each = refl
   unmet_alike parent index None second each = refl

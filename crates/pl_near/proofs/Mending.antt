@@ -3,6 +3,8 @@ use Rattle.std.proofs.Common.{◌≡◌, ℕ, eqb, Bool, true, false, List, [], 
 use Rattle.std.specs.Prelude.{◌||◌, ◌&&◌, not}
 use Rattle.std.specs.List.{flat_map}
 use Rattle.std.proofs.lemmas.Bool.{eqb-true, eqb-false}
+use Rattle.std.proofs.Math.Bool.{or-true}
+use Rattle.pl_lists.proofs.Tests.{and_second}
 use Rattle.pl_conflict.specs.declared.conflict.Conflict.{Conflict}
 use Rattle.pl_conflict.specs.Order.{has}
 use Rattle.pl_conflict.proofs.Sorting.{has-append}
@@ -22,15 +24,7 @@ both_mend true true w v c d e f = rw (e, f) refl
 both_mend true false true v c d e f = refl
 both_mend true false false v c d e f = rw e refl
 both_mend false true w true c d e f = rw f refl
-both_mend false true w false c d e f = rw f (or_one c)
-  where
-    or_one : (a : Bool) → (a || true) ≡ true
-    or_one true = refl
-    or_one false = refl
-
-and_right : (a b : Bool) → (a && b) ≡ true → b ≡ true
-and_right true b e = e
-and_right false b e = absurd (cc)
+both_mend false true w false c d e f = rw f (or-true c)
 
 -- where a is true what stood goes and what is new comes, else nothing changes
 near_mended : (a o n : Bool) → (a ≡ false → n ≡ o) → n ≡ ((o && not (a && o)) || (a && n))
@@ -80,7 +74,7 @@ has-near at owned (i ∷ ids) k = has-append (at i) (flat_map at ids) k ∙ ap (
 pub near_mends : (mine : Conflict → Bool) (at was : ℕ → List Conflict) (old new : List Conflict) (ids : List ℕ) → IsPart mine was old → IsPart mine at new → ((n : ℕ) → among n ids ≡ false → at n ≡ was n) → Mends mine old new (flat_map was ids) (flat_map at ids)
 near_mends mine at was old new ids before after kept = record {
   of_old = λ k h. (before.owned k.subject k (sym (before.whole k) ∙ h)).1;
-  of_went = λ k h. (before.owned k.subject k (and_right (among k.subject ids) (has k (was k.subject)) (sym (went k) ∙ h))).1;
+  of_went = λ k h. (before.owned k.subject k (and_second (among k.subject ids) (has k (was k.subject)) (sym (went k) ∙ h))).1;
   mends = λ k. rw (after.whole k, before.whole k, went k, came k) (near_mended (among k.subject ids) (has k (was k.subject)) (has k (at k.subject)) (λ e. ap (λ (ks : List Conflict). has k ks) (kept k.subject e)));
 }
   where

@@ -3,7 +3,7 @@ use Rattle.std.proofs.Common.{◌≡◌, ℕ, ℤ, eqb, Bool, true, false, cond,
 use Rattle.std.specs.Prelude.{option_and_then, if◌then◌else◌}
 use Rattle.std.specs.Option.{option_map, option_or}
 use Rattle.std.proofs.lemmas.Bool.{eqb-true, eqb-false, ne_eqb}
-use Rattle.pl_lists.proofs.Tests.{or_false}
+use Rattle.std.proofs.Math.Bool.{or-false}
 use Rattle.pl_conflict.specs.declared.conflict.Conflict.{Conflict}
 use Rattle.pl_facts.specs.declared.goal.Goal.{Goal}
 use Rattle.pl_facts.specs.Goals.{is_numbered, goal_of, with_dropped}
@@ -61,7 +61,7 @@ served_carried goals a some = by a.parent refl
 pub follows_goal : (s : PlanState) (g : Goal) → IsWhole s → Follows s (with_goal g s) (g.number ∷ []) []
 unfolding open_at wrong_at
 follows_goal s g whole = record {
-  opens = λ n other. let apart : eqb g.number n ≡ false = sym (or_false (eqb g.number n)) ∙ other in ap (of_found (open_at s)) (goal_of-other n s.goals g apart);
+  opens = λ n other. let apart : eqb g.number n ≡ false = sym (or-false (eqb g.number n)) ∙ other in ap (of_found (open_at s)) (goal_of-other n s.goals g apart);
   offs = λ id none. found_alike (off_at (with_goal g s)) (off_at s) (found s id) (λ a e. off_alike s (with_goal g s) a refl (ap (of_found (off_from a)) (same_served s.goals g (served_in a) (served_carried s.goals a (all_found (IsCarried s.goals) id s.plan.activities a whole.carried e)))));
   wrongs = λ id none. refl;
 }
@@ -115,7 +115,7 @@ dropped_off n goals a (Some m) = ap (of_found (off_from a)) (goal_of-dropped n m
 pub follows_no_goal : (s : PlanState) (n : ℕ) → Follows s (without_goal n s) (n ∷ []) []
 unfolding open_at wrong_at
 follows_no_goal s n = record {
-  opens = λ m other. ap (of_found (open_at s)) (goal_of-kept n m s.goals (sym (or_false (eqb n m)) ∙ other));
+  opens = λ m other. ap (of_found (open_at s)) (goal_of-kept n m s.goals (sym (or-false (eqb n m)) ∙ other));
   offs = λ id none. found_alike (off_at (without_goal n s)) (off_at s) (found s id) (λ a e. off_alike s (without_goal n s) a refl (dropped_off n s.goals a (served_in a)));
   wrongs = λ id none. refl;
 }

@@ -4,7 +4,7 @@ use Rattle.std.specs.Prelude.{◌&&◌, filter, not, nat_lt, nat_le, Some}
 use Rattle.std.proofs.lemmas.Bool.{eq-eqb, false≢true, ltb-false, le-leb, leb-true, leb-false}
 use Rattle.std.proofs.lemmas.Bool.Decides.{nat_tests}
 use Rattle.std.proofs.lemmas.Grind.{common_steps}
-use Rattle.pl_lists.proofs.Tests.{or_true}
+use Rattle.std.proofs.Math.Bool.{or-true}
 use Rattle.pl_conflict.specs.declared.conflict.Conflict.{Conflict}
 use Rattle.pl_conflict.specs.Order.{has}
 use Rattle.pl_conflict.proofs.Sorting.{same, same_is}
@@ -55,7 +55,7 @@ among_passed now [] k h passes = absurd (cc)
 among_passed now (x ∷ ks) k h passes = cases (same k x) refl (among_passed now ks k)
   where
     kept : (b : Bool) → is_open_by now x ≡ b → among k.subject (map subject_of (filter (is_open_by now) ks)) ≡ true → among k.subject (map subject_of (filter (is_open_by now) (x ∷ ks))) ≡ true
-    kept true e there = rw (e, there) (or_true (eqb x.subject k.subject))
+    kept true e there = rw (e, there) (or-true (eqb x.subject k.subject))
     kept false e there = rw e there
 
     cases : (b : Bool) → same k x ≡ b → (has k ks ≡ true → is_open_by now k ≡ true → among k.subject (map subject_of (filter (is_open_by now) ks)) ≡ true) → among k.subject (map subject_of (filter (is_open_by now) (x ∷ ks))) ≡ true

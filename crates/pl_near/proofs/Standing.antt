@@ -2,8 +2,7 @@
 use Rattle.std.proofs.Common.{◌≡◌, ℕ, eqb, Bool, true, false, List, [], ◌∷◌, ◌++◌, Option, Some, None, refl, sym, ap, ◌∙◌, subst, inl, inr}
 use Rattle.std.specs.Prelude.{◌||◌, ◌&&◌, ◌⊎◌, not, nat_le, nat_lt}
 use Rattle.std.specs.List.{flat_map}
-use Rattle.std.proofs.lemmas.Bool.{eqb-true, false≢true}
-use Rattle.pl_lists.proofs.Tests.{both_true}
+use Rattle.std.proofs.lemmas.Bool.{eqb-true, false≢true, and_parts}
 use Rattle.pl_conflict.specs.declared.conflict.Conflict.{Conflict}
 use Rattle.pl_conflict.specs.Codes.{code_number}
 use Rattle.pl_conflict.specs.Order.{has}
@@ -54,8 +53,8 @@ is_wrong_kind k = is_of_activities (part_of k.code)
 
 open_or_off : (k : Conflict) → is_open_kind k ≡ true → is_off_kind k ≡ true → ⊥
 open_or_off k e f =
-    let one : code_number k.code ≡ 0 = eqb-true (code_number k.code) 0 (both_true (is_of_goals (part_of k.code)) (eqb (code_number k.code) 0) e).1 in
-    let two : eqb (code_number k.code) 1 ≡ true = (both_true (is_of_goals (part_of k.code)) (eqb (code_number k.code) 1) f).1 in
+    let one : code_number k.code ≡ 0 = eqb-true (code_number k.code) 0 (and_parts (is_of_goals (part_of k.code)) (eqb (code_number k.code) 0) e).1 in
+    let two : eqb (code_number k.code) 1 ≡ true = (and_parts (is_of_goals (part_of k.code)) (eqb (code_number k.code) 1) f).1 in
     let bad : false ≡ true = rw one at two in
     false≢true bad
 

@@ -1,11 +1,13 @@
 -- What a replacement of activities leaves alone.
 use Rattle.std.proofs.Common.{◌≡◌, ℕ, eqb, Bool, true, false, List, [], ◌∷◌, ◌++◌, map, refl, sym, ap, ◌∙◌, subst}
-use Rattle.std.specs.Prelude.{◌||◌, ◌+◌, All, Option, Some, None, slice_index_or, if◌then◌else◌}
+use Rattle.std.specs.Prelude.{◌+◌, All, Option, Some, None, slice_index_or, if◌then◌else◌}
 use Rattle.std.specs.List.{flat_map, filter_map}
 use Rattle.std.specs.Option.{option_or, option_to_list}
-use Rattle.std.proofs.lemmas.Bool.{eqb-true, eq-eqb, false≢true}
+use Rattle.std.proofs.lemmas.Bool.{eqb-true, false≢true}
 use Rattle.std.proofs.lemmas.List.Elements.{All-head, All-tail}
 use Rattle.std.proofs.lemmas.List.Folds.{list_any-append}
+use Rattle.pl_lists.proofs.Tests.{or_first_false, or_second_false}
+use Rattle.pl_lists.proofs.Numbers.{eqb_itself}
 use Rattle.pl_model.specs.declared.expressions.Expr.{Expr}
 use Rattle.pl_conflict.specs.declared.conflict.Conflict.{Conflict}
 use Rattle.pl_conflict.specs.declared.conflict.Code.TheVariants as code
@@ -36,19 +38,11 @@ use Rattle.pl_near.proofs.Standing.{found_number}
 
 -- ---- which numbers are covered
 
-or_left : (a b : Bool) → (a || b) ≡ false → a ≡ false
-or_left true b e = e
-or_left false b e = refl
-
-or_right : (a b : Bool) → (a || b) ≡ false → b ≡ false
-or_right true b e = absurd (cc)
-or_right false b e = e
-
 pub not_left : (n : ℕ) (xs ys : List ℕ) → among n (xs ++ ys) ≡ false → among n xs ≡ false
-not_left n xs ys e = or_left (among n xs) (among n ys) (sym (list_any-append (λ i. eqb i n) xs ys) ∙ e)
+not_left n xs ys e = or_first_false (among n xs) (among n ys) (sym (list_any-append (λ i. eqb i n) xs ys) ∙ e)
 
 pub not_right : (n : ℕ) (xs ys : List ℕ) → among n (xs ++ ys) ≡ false → among n ys ≡ false
-not_right n xs ys e = or_right (among n xs) (among n ys) (sym (list_any-append (λ i. eqb i n) xs ys) ∙ e)
+not_right n xs ys e = or_second_false (among n xs) (among n ys) (sym (list_any-append (λ i. eqb i n) xs ys) ∙ e)
 
 not_both : (n : ℕ) (xs ys : List ℕ) → among n xs ≡ false → among n ys ≡ false → among n (xs ++ ys) ≡ false
 not_both n xs ys e f = list_any-append (λ i. eqb i n) xs ys ∙ rw e f
@@ -63,7 +57,7 @@ not_in_each f n id (i ∷ ids) none there = cases (eqb i id) refl (not_in_each f
 
 not_number : (n : ℕ) (o : Option ℕ) → among n (option_to_list o) ≡ false → is_number n o ≡ false
 not_number n None none = refl
-not_number n (Some m) none = or_left (eqb m n) false none
+not_number n (Some m) none = or_first_false (eqb m n) false none
 
 not_placed : (n id : ℕ) (more : List Activity) (a : Activity) → among n (filter_map served_in more) ≡ false → activity_of id more ≡ Some a → is_number n (served_in a) ≡ false
 not_placed n id [] a none here = absurd (cc)
@@ -77,7 +71,7 @@ not_placed n id (x ∷ more) a none here = goals (served_in x) refl (not_placed 
     goals None e rec = cases (eqb x.id id) refl (rw e refl) (rec (rw e at none))
     goals (Some m) e rec =
         let none2 : among n (m ∷ filter_map served_in more) ≡ false = rw e at none in
-        cases (eqb x.id id) refl (rw e (or_left (eqb m n) (among n (filter_map served_in more)) none2)) (rec (or_right (eqb m n) (among n (filter_map served_in more)) none2))
+        cases (eqb x.id id) refl (rw e (or_first_false (eqb m n) (among n (filter_map served_in more)) none2)) (rec (or_second_false (eqb m n) (among n (filter_map served_in more)) none2))
 
 -- what comes and is live goes
 comes_gone : (xs : List Activity) (gone : List ℕ) (more : List Activity) (q : ℕ) → All (λ a. IsLive a.id xs → among a.id gone ≡ true) more → IsLive q xs → among q gone ≡ false → among q (map id_of more) ≡ false
@@ -90,13 +84,10 @@ comes_gone xs gone (x ∷ more) q free live other = cases (eqb x.id q) refl (com
 
 not_there : (q : ℕ) (more : List Activity) → among q (map id_of more) ≡ false → activity_of q more ≡ None
 not_there q [] none = refl
-not_there q (x ∷ more) none = rw (or_left (eqb x.id q) (among q (map id_of more)) none) (not_there q more (or_right (eqb x.id q) (among q (map id_of more)) none))
+not_there q (x ∷ more) none = rw (or_first_false (eqb x.id q) (among q (map id_of more)) none) (not_there q more (or_second_false (eqb x.id q) (among q (map id_of more)) none))
 
 is_child_of : (a : Activity) (p : ℕ × ℕ) → a.parent ≡ Some p → is_child p.0 a ≡ true
-is_child_of a p e = rw e (itself p.0)
-  where
-    itself : (n : ℕ) → eqb n n ≡ true
-    itself n = eq-eqb n n refl
+is_child_of a p e = rw e (eqb_itself p.0)
 
 -- what is wrong with an activity, by its values, by what its slot binds, by the values above it, and by its end
 abbrev wrong_by : PlanState → Activity → Row → List (ℕ × Expr) → Row → Option ℕ → List Conflict

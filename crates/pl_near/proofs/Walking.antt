@@ -7,7 +7,7 @@ use Rattle.std.proofs.lemmas.Grind.{common_steps}
 use Rattle.std.proofs.lemmas.List.Elements.{All-head, All-tail}
 use Rattle.std.proofs.lemmas.Map.Keys.{sorted_tail}
 use Rattle.std.proofs.lemmas.Map.Views.{All-after_first}
-use Rattle.pl_lists.proofs.Tests.{and_false}
+use Rattle.std.proofs.Math.Bool.{and-false}
 use Rattle.pl_conflict.specs.declared.conflict.Conflict.{Conflict}
 use Rattle.pl_conflict.specs.Codes.{code_number}
 use Rattle.pl_conflict.specs.Order.{conflict_cmp}
@@ -22,7 +22,7 @@ from_rises : (k q : Conflict) → conflict_cmp k q ≡ Less → k.from ≤ q.fro
 from_rises k q e = grind (arith, common_steps)
 
 not_by : (now : ℕ) (k : Conflict) → now < k.from → is_open_by now k ≡ false
-not_by now k later = rw (lt-leb k.from now later) (and_false (eqb (code_number k.code) 0))
+not_by now k later = rw (lt-leb k.from now later) (and-false (eqb (code_number k.code) 0))
 
 none_later : (now : ℕ) (k : Conflict) (ks : List Conflict) → now < k.from → All (λ q. conflict_cmp k q ≡ Less) ks → subjects now ks ≡ []
 none_later now k [] later rising = refl

@@ -1,7 +1,6 @@
 -- Moves that place the same at other starts.
-use Rattle.std.proofs.Common.{◌≡◌, ℕ, Bool, true, false, eqb, Option, Some, None, refl, sym, ap, ◌∙◌, inl, inr}
-use Rattle.std.specs.Prelude.{◌&&◌}
-use Rattle.std.proofs.lemmas.Bool.{eqb-true}
+use Rattle.std.proofs.Common.{◌≡◌, ℕ, true, false, eqb, Option, Some, None, refl, sym, ap, ◌∙◌, inl, inr}
+use Rattle.std.proofs.lemmas.Bool.{eqb-true, and_parts}
 use Rattle.pl_plan.specs.declared.repair.RepairMove.{RepairMove}
 use Rattle.pl_plan.specs.declared.repair.RepairMove.TheVariants.{Add, Delete, Shift, Detail, Abstract, Assign, Drop}
 use Rattle.pl_moves.specs.Runs.{goes_on}
@@ -31,17 +30,13 @@ one_number None (Some n) e = absurd (cc)
 one_number (Some m) None e = absurd (cc)
 one_number (Some m) (Some n) e = ap (λ (k : ℕ). Some k) (sym (eqb-true m n e))
 
-both : (a b : Bool) → (a && b) ≡ true → (a ≡ true) × (b ≡ true)
-both true b e = (refl, e)
-both false b e = absurd (cc)
-
 pub alike_add : (kind start : ℕ) (goal : Option ℕ) (m : RepairMove) → IsAlike (Add kind start goal) m → (to : ℕ) × (m ≡ Add kind to goal)
 alike_add kind start goal m (inl is) = (start, is)
 alike_add kind start goal m (inr on) = by m on
   where
     by : (m : RepairMove) → goes_on (Add kind start goal) m ≡ true → (to : ℕ) × (m ≡ Add kind to goal)
     by (Add k t g) on =
-        let tests = both (eqb kind k) (same_number goal g) on in
+        let tests = and_parts (eqb kind k) (same_number goal g) on in
         (t, ap (λ n. Add n t g) (sym (eqb-true kind k tests.0)) ∙ ap (λ o. Add kind t o) (one_number goal g tests.1))
     by (Shift i t) on = absurd (cc)
     by (Delete i) on = absurd (cc)

@@ -3,6 +3,8 @@ use Rattle.std.proofs.Common.{◌≡◌, ℕ, ℤ, ◌+◌, ◌≤◌, eqb, Bool
 use Rattle.std.specs.Prelude.{◌||◌, ◌&&◌, ◌⊎◌, not, nat_le}
 use Rattle.std.specs.List.{flat_map}
 use Rattle.std.specs.Option.{option_map}
+use Rattle.std.proofs.Math.Bool.{or-true}
+use Rattle.pl_lists.proofs.Tests.{or_second_true}
 use Rattle.pl_conflict.specs.declared.conflict.Conflict.{Conflict}
 use Rattle.pl_conflict.specs.declared.conflict.Code.{Code}
 use Rattle.pl_conflict.specs.declared.conflict.Code.TheVariants as code
@@ -10,7 +12,6 @@ use Rattle.pl_conflict.specs.Codes.{code_number}
 use Rattle.pl_conflict.specs.Order.{has}
 use Rattle.pl_conflict.proofs.Sorting.{has-append}
 use Rattle.pl_facts.specs.declared.goal.Goal.{Goal}
-use Rattle.pl_lists.proofs.Tests.{or_true}
 use Rattle.pl_moves.specs.Runs.{CanBeMade}
 use Rattle.pl_plan.specs.declared.activity.Activity.{Activity}
 use Rattle.pl_plan.specs.declared.repair.RepairMove.TheVariants.{Assign}
@@ -61,14 +62,10 @@ of_values s a =
     (each_found IsOfValues (bad_duration s a) (kind_of s.model a) (λ k. each_when IsOfValues _ (at_start a code.BadValue 16 0) refl)))
     (each_flat IsOfValues (bad_amount s a) (reservations_of s a) (λ r. each_when IsOfValues _ (at_start a code.BadValue (17 + r.0) 0) refl)))
 
-second : (a b : Bool) → (a || b) ≡ true → (a ≡ true → ⊥) → b ≡ true
-second true b e no_a = absurd (no_a refl)
-second false b e no_a = e
-
 -- one that tells of no alternative is of that part
 lacks_one : (s : PlanState) (a : Activity) (q : Conflict) → q.code ≡ code.Undetailed → has q (fixed_at s a) ≡ true → has q (undetailed_at s a) ≡ true
 lacks_one s a q is there =
-    second (has q (unset_at s a ++ bad_values_at s a)) (has q (undetailed_at s a)) (sym (has-append (unset_at s a ++ bad_values_at s a) (undetailed_at s a) q) ∙ there)
+    or_second_true (has q (unset_at s a ++ bad_values_at s a)) (has q (undetailed_at s a)) (sym (has-append (unset_at s a ++ bad_values_at s a) (undetailed_at s a) q) ∙ there)
     (λ h. absurd (let no : eqb (code_number q.code) 5 ≡ false = of_values s a q h in let bad : true ≡ false = sym (ap (λ c. eqb (code_number c) 5) is) ∙ no in cc))
 
 -- ---- the activities then
@@ -144,7 +141,7 @@ module _ (s : PlanState) (whole : IsWhole s) (next : s.next_id ≤ 3999999000) (
           let own : has q (undetailed_at then_ (e a)) ≡ true = ap (λ (ks : List Conflict). has q ks) (lacks_same a) ∙ lacks_one s a q is both.1 in
           let fixed : has q (fixed_at then_ (e a)) ≡ true =
           has-append (unset_at then_ (e a) ++ bad_values_at then_ (e a)) (undetailed_at then_ (e a)) q
-          ∙ (ap (λ b. has q (unset_at then_ (e a) ++ bad_values_at then_ (e a)) || b) own ∙ or_true (has q (unset_at then_ (e a) ++ bad_values_at then_ (e a)))) in
+          ∙ (ap (λ b. has q (unset_at then_ (e a) ++ bad_values_at then_ (e a)) || b) own ∙ or-true (has q (unset_at then_ (e a) ++ bad_values_at then_ (e a)))) in
           let wrong : has q (wrong_at then_ (e a)) ≡ true = among_fixed then_ (e a) q (free_same a ∙ both.0) fixed in
           let now : found then_ q.subject ≡ Some (e a) = found_then q.subject ∙ ap (option_map e) f in
           wrong_is_left then_ whole_too q (ap (λ (o : Option Activity). has q (of_found (wrong_at then_) o)) now ∙ wrong)

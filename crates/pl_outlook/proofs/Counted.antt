@@ -1,30 +1,20 @@
 -- Conflicts that differ, and that a list holds, are no more than the list is long; and groups of them that do not meet add up.
 use Rattle.std.proofs.Common.{◌≡◌, ◌+◌, ◌≤◌, Bool, true, false, List, [], ◌∷◌, length, refl, sym, ap, ◌∙◌, arith}
 use Rattle.std.specs.Prelude.{◌||◌, ◌&&◌, not}
-use Rattle.std.specs.declared.cmp.Ordering.TheVariants.{Less, Equal, Greater}
 use Rattle.std.specs.Set.{remove_key}
 use Rattle.std.proofs.lemmas.Map.Made.{length-remove_key}
-use Rattle.pl_lists.proofs.Tests.{or_true}
 use Rattle.pl_conflict.specs.declared.conflict.Conflict.{Conflict}
 use Rattle.pl_conflict.specs.Order.{conflict_cmp, has}
 use Rattle.pl_conflict.specs.Sorting.{AreInOrder}
 use Rattle.pl_outlook.specs.Counts.{AreApart}
 use Rattle.pl_conflict.proofs.Sorting.{same, same_is, has-remove, ordered-remove}
 use Rattle.pl_conflict.proofs.OrderLaws.{conflict_total}
-use Rattle.std.specs.Ordering.{is_eq, ordering_reverse}
-use Rattle.std.specs.declared.cmp.Ordering.{Ordering}
+use Rattle.std.proofs.Math.Bool.{or-true}
+use Rattle.std.proofs.lemmas.Bool.{false_from_ne_true}
+use Rattle.pl_lists.proofs.Orderings.{tie_from_reverse}
 
 pub itself : (k : Conflict) → same k k ≡ true
-itself k = tied (conflict_cmp k k) (conflict_total.antisymm k k)
-  where
-    tied : (r : Ordering) → r ≡ ordering_reverse r → is_eq r ≡ true
-    tied Less e = absurd (cc)
-    tied Equal e = refl
-    tied Greater e = absurd (cc)
-
-pub true_or_not : (b : Bool) → (b ≡ true → ⊥) → b ≡ false
-true_or_not true never = absurd (never refl)
-true_or_not false never = refl
+itself k = tie_from_reverse (conflict_cmp k k) (conflict_total.antisymm k k)
 
 kept : (h s : Bool) → h ≡ true → s ≡ false → (h && not s) ≡ true
 kept true false e f = refl
@@ -41,5 +31,5 @@ held_are_few (k ∷ ks) all apart ordered held =
   where
     others : (q : Conflict) → has q ks ≡ true → has q (remove_key (same k) all) ≡ true
     others q e =
-        let other : same k q ≡ false = true_or_not (same k q) (λ f. absurd (let is : k ≡ q = same_is k q f in let bad : true ≡ false = sym e ∙ (ap (λ z. has z ks) (sym is) ∙ apart.0) in cc)) in
-        has-remove all k q ordered ∙ kept (has q all) (same k q) (held q (ap (λ b. same q k || b) e ∙ or_true (same q k))) other
+        let other : same k q ≡ false = false_from_ne_true (same k q) (λ f. absurd (let is : k ≡ q = same_is k q f in let bad : true ≡ false = sym e ∙ (ap (λ z. has z ks) (sym is) ∙ apart.0) in cc)) in
+        has-remove all k q ordered ∙ kept (has q all) (same k q) (held q (ap (λ b. same q k || b) e ∙ or-true (same q k))) other

@@ -1,6 +1,7 @@
 -- Conflicts that differ: of two lists that do not meet, those that pass a test, and those of the spans of a timeline.
 use Rattle.std.proofs.Common.{◌≡◌, ℕ, suc, ◌<◌, ◌≤◌, Bool, true, false, cond, List, [], ◌∷◌, ◌++◌, map, filter, refl, sym, ap, ◌∙◌, arith}
 use Rattle.std.specs.Prelude.{◌||◌}
+use Rattle.std.proofs.lemmas.Bool.{false_from_ne_true, or_from}
 use Rattle.pl_points.specs.declared.span.Span.{Span}
 use Rattle.pl_points.specs.Spans as spans
 use Rattle.pl_conflict.specs.declared.conflict.Conflict.{Conflict}
@@ -9,23 +10,14 @@ use Rattle.pl_conflict.specs.Order.{has}
 use Rattle.pl_conflict.proofs.Sorting.{same, same_is, has-append}
 use Rattle.pl_world.specs.Timelines.{outside}
 use Rattle.pl_outlook.specs.Counts.{AreApart}
-use Rattle.pl_outlook.proofs.Counted.{itself, true_or_not}
-
-neither : (a b : Bool) → a ≡ false → b ≡ false → (a || b) ≡ false
-neither false false e f = refl
-neither true b e f = absurd (cc)
-neither false true e f = absurd (cc)
+use Rattle.pl_outlook.proofs.Counted.{itself}
 
 pub apart_both : (xs ys : List Conflict) → AreApart xs → AreApart ys → ((q : Conflict) → has q xs ≡ true → has q ys ≡ false) → AreApart (xs ++ ys)
 apart_both [] ys one other meet = other
 apart_both (k ∷ xs) ys one other meet = (
-  has-append xs ys k ∙ neither (has k xs) (has k ys) one.0 (meet k (ap (λ b. b || has k xs) (itself k))),
+  has-append xs ys k ∙ or_from (has k xs) (has k ys) one.0 (meet k (ap (λ b. b || has k xs) (itself k))),
   apart_both xs ys one.1 other (λ q e. meet q (ap (λ b. same q k || b) e ∙ last (same q k))),
 )
-  where
-    last : (b : Bool) → (b || true) ≡ true
-    last true = refl
-    last false = refl
 
 -- ---- those that pass
 
@@ -50,7 +42,7 @@ apart_passing p [] apart = apart
 apart_passing p (k ∷ ks) apart = by (p k) (apart_passing p ks apart.1)
   where
     none : has k (filter p ks) ≡ false
-    none = true_or_not (has k (filter p ks)) (λ e. absurd (let there : has k ks ≡ true = (has_passing p ks k e).0 in let bad : true ≡ false = sym there ∙ apart.0 in cc))
+    none = false_from_ne_true (has k (filter p ks)) (λ e. absurd (let there : has k ks ≡ true = (has_passing p ks k e).0 in let bad : true ≡ false = sym there ∙ apart.0 in cc))
 
     by : (b : Bool) → AreApart (filter p ks) → AreApart (cond b (k ∷ filter p ks) (filter p ks))
     by true rest = (none, rest)
@@ -61,8 +53,8 @@ apart_passing p (k ∷ ks) apart = by (p k) (apart_passing p ks apart.1)
 module _ (why : Code) (line : ℕ) where
   none_of_later : (q : Conflict) (a b : ℕ) (ps : List Span) → q.from < a → spans.AreApart a b ps → has q (map (outside why line) ps) ≡ false
   none_of_later q a b [] lt apart = refl
-  none_of_later q a b (p ∷ ps) lt apart = neither (same q (outside why line p)) (has q (map (outside why line) ps))
-      (true_or_not (same q (outside why line p)) (λ e. absurd (let is : q ≡ outside why line p = same_is q (outside why line p) e in let at : q.from ≡ p.from = ap (λ (z : Conflict). z.from) is in let low : a ≤ p.from = apart.0 in omega (arith, lt, at, low))))
+  none_of_later q a b (p ∷ ps) lt apart = or_from (same q (outside why line p)) (has q (map (outside why line) ps))
+      (false_from_ne_true (same q (outside why line p)) (λ e. absurd (let is : q ≡ outside why line p = same_is q (outside why line p) e in let at : q.from ≡ p.from = ap (λ (z : Conflict). z.from) is in let low : a ≤ p.from = apart.0 in omega (arith, lt, at, low))))
       (none_of_later q (suc p.to) b ps (let low : a ≤ p.from = apart.0 in let high : p.from < p.to = apart.1 in omega (arith, lt, low, high)) apart.3)
 
   pub spans_differ : (a b : ℕ) (ps : List Span) → spans.AreApart a b ps → AreApart (map (outside why line) ps)

@@ -1,12 +1,12 @@
 -- A change leaves all conflicts of goals and of activities but those that stood near what it concerns.
-use Rattle.std.proofs.Common.{◌≡◌, ℕ, suc, ◌+◌, ◌<◌, ◌≤◌, Bool, true, false, List, [], ◌∷◌, ◌++◌, filter, length, Option, Some, None, refl, ◌∙◌, inl, inr, arith, length-append}
+use Rattle.std.proofs.Common.{◌≡◌, ℕ, suc, ◌+◌, ◌<◌, ◌≤◌, Bool, true, List, [], ◌∷◌, ◌++◌, filter, length, Option, Some, None, refl, ◌∙◌, inl, inr, arith, length-append}
 use Rattle.std.specs.Prelude.{◌&&◌, ◌⊎◌, not}
 use Rattle.std.specs.List.{flat_map}
 use Rattle.std.specs.Option.{option_to_list}
 use Rattle.std.specs.BTreeSet.{insert_key}
 use Rattle.std.specs.declared.cmp.Ordering.{Ordering}
 use Rattle.std.specs.declared.cmp.Ordering.TheVariants.{Less, Equal, Greater}
-use Rattle.pl_lists.proofs.Tests.{both_true}
+use Rattle.std.proofs.lemmas.Bool.{and_parts, not-true}
 use Rattle.pl_conflict.specs.declared.conflict.Conflict.{Conflict}
 use Rattle.pl_conflict.specs.Order.{conflict_cmp, has}
 use Rattle.pl_conflict.specs.Sorting.{sorted}
@@ -56,10 +56,6 @@ is_of_two of_timelines e = absurd (cc)
 pub plain_is : (q : Conflict) → is_plain q ≡ true → IsPlain q
 plain_is q e = is_of_two (part_of q.code) e
 
-not_so : (b : Bool) → not b ≡ true → b ≡ false
-not_so true e = absurd (cc)
-not_so false e = refl
-
 -- of goals or activities, and none of these
 abbrev pub is_kept : List Conflict → Conflict → Bool
 is_kept wrong q = is_plain q && not (has q wrong)
@@ -68,7 +64,7 @@ few_are_lost : (s : PlanState) (wrong : List Conflict) → length (filter (λ q.
 few_are_lost s wrong =
     let few : length (filter (λ q. is_plain q && has q wrong) (conflicts_of s)) ≤ length (sorted wrong) =
     held_are_few (filter (λ q. is_plain q && has q wrong) (conflicts_of s)) (sorted wrong) (standing_apart s (λ q. is_plain q && has q wrong)) (ordered-sorted wrong)
-    (λ q e. has-sorted wrong q ∙ (both_true (is_plain q) (has q wrong) (has_passing (λ k. is_plain k && has k wrong) (conflicts_of s) q e).1).1) in
+    (λ q e. has-sorted wrong q ∙ (and_parts (is_plain q) (has q wrong) (has_passing (λ k. is_plain k && has k wrong) (conflicts_of s) q e).1).1) in
     let less = length-sorted wrong in
     omega (arith, few, less)
 
@@ -82,8 +78,8 @@ module _ (s t : PlanState) (whole : IsWhole s) (whole_too : IsWhole t) (numbers 
   pub kept_stays : (q : Conflict) → has q (filter (is_kept (near s numbers ids)) (conflicts_of s)) ≡ true → (has q (conflicts_of t) ≡ true) × (is_plain q ≡ true)
   kept_stays q e =
       let both = has_passing (is_kept (near s numbers ids)) (conflicts_of s) q e in
-      let two = both_true (is_plain q) (not (has q (near s numbers ids))) both.1 in
-      (steady s t numbers ids whole whole_too follows q (plain_is q two.0) both.0 (not_so (has q (near s numbers ids)) two.1), two.0)
+      let two = and_parts (is_plain q) (not (has q (near s numbers ids))) both.1 in
+      (steady s t numbers ids whole whole_too follows q (plain_is q two.0) both.0 (not-true (has q (near s numbers ids)) two.1), two.0)
 
   pub kept_are_left : length (filter (is_kept (near s numbers ids)) (conflicts_of s)) ≤ count_of_plain t
   kept_are_left = left_are_few t (filter (is_kept (near s numbers ids)) (conflicts_of s)) (standing_apart s (is_kept (near s numbers ids))) kept_stays

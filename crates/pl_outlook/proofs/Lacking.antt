@@ -5,7 +5,8 @@ use Rattle.std.specs.List.{list_any}
 use Rattle.std.proofs.lemmas.Bool.{le-ltb}
 use Rattle.std.proofs.lemmas.List.Elements.{All-head}
 use Rattle.std.proofs.lemmas.List.{append-nil}
-use Rattle.pl_lists.proofs.Tests.{or_true}
+use Rattle.std.proofs.Math.Bool.{or-true}
+use Rattle.pl_lists.proofs.Tests.{or_second_true}
 use Rattle.pl_changes.specs.Replaced.{with_plan}
 use Rattle.pl_changes.proofs.Keeping.{whole_replaced}
 use Rattle.pl_conflict.specs.declared.conflict.Conflict.{Conflict}
@@ -50,22 +51,18 @@ one_of p (k ∷ ks) h = by (p k) refl h (one_of p ks)
   where
     by : (b : Bool) → p k ≡ b → (b || list_any p ks) ≡ true → (list_any p ks ≡ true → IsOneOf p ks) → IsOneOf p (k ∷ ks)
     by true e there more = record { q = k; there = ap (λ b. b || has k ks) (same_itself k); passes = e }
-    by false e there more = let one : IsOneOf p ks = more there in record { q = one.q; there = ap (λ b. same one.q k || b) one.there ∙ or_true (same one.q k); passes = one.passes }
+    by false e there more = let one : IsOneOf p ks = more there in record { q = one.q; there = ap (λ b. same one.q k || b) one.there ∙ or-true (same one.q k); passes = one.passes }
 
 pub code_unset : (c : Code) → eqb (code_number c) 3 ≡ true → c ≡ code.Unset
 code_unset code.Unset e = refl
 code_unset _ e = absurd (cc)
-
-second : (a b : Bool) → (a || b) ≡ true → (a ≡ true → ⊥) → b ≡ true
-second true b e no_a = absurd (no_a refl)
-second false b e no_a = e
 
 -- near it alone, one that tells it is of the activity itself
 of_wrong : (t : PlanState) (id : ℕ) (q : Conflict) → q.code ≡ code.Unset → has q (near t [] (id ∷ [])) ≡ true → has q (wrong_of t id) ≡ true
 unfolding near
 of_wrong t id q is h =
     ap (λ (ks : List Conflict). has q ks) (sym (append-nil (wrong_of t id)))
-    ∙ second (has q (off_of t id ++ [])) (has q (wrong_of t id ++ [])) (sym (has-append (off_of t id ++ []) (wrong_of t id ++ []) q) ∙ h)
+    ∙ or_second_true (has q (off_of t id ++ [])) (has q (wrong_of t id ++ [])) (sym (has-append (off_of t id ++ []) (wrong_of t id ++ []) q) ∙ h)
     (λ there. absurd (
     let mine : has q (off_of t id) ≡ true = ap (λ (ks : List Conflict). has q ks) (sym (append-nil (off_of t id))) ∙ there in
     let off : q.code ≡ code.OffGoal = each_found IsOff (off_at t) (found t id) (off_code t) q mine in

@@ -2,7 +2,8 @@
 use Rattle.std.proofs.Common.{◌≡◌, ℕ, zero, suc, ◌+◌, ◌<◌, ◌≤◌, Bool, true, false, cond, eqb, List, [], ◌∷◌, ◌++◌, filter, length, Option, Some, refl, sym, ap, ◌∙◌, subst, arith, max}
 use Rattle.std.specs.Prelude.{◌||◌, slice_get}
 use Rattle.std.specs.List.{flat_map}
-use Rattle.std.proofs.lemmas.Bool.{eqb-true, eqb-false}
+use Rattle.std.proofs.lemmas.Bool.{eqb-true, eqb-false, false_from_ne_true, or_left, or_right}
+use Rattle.std.proofs.Math.Bool.{or_assoc}
 use Rattle.pl_conflict.specs.declared.conflict.Conflict.{Conflict}
 use Rattle.pl_conflict.specs.Order.{has}
 use Rattle.pl_conflict.proofs.Sorting.{same, same_is, has-append}
@@ -19,7 +20,7 @@ use Rattle.pl_world.specs.PlanStates.{found, of_found, is_ahead}
 use Rattle.pl_world.specs.Links.{placed_of, placed_in, lone, conflict_of, links_at, link_conflicts}
 use Rattle.pl_world.proofs.Standing.{links_by_subject}
 use Rattle.pl_outlook.specs.Counts.{AreApart}
-use Rattle.pl_outlook.proofs.Counted.{itself, true_or_not}
+use Rattle.pl_outlook.proofs.Counted.{itself}
 
 -- ---- one that is broken is a conflict
 
@@ -28,20 +29,8 @@ flat_append f [] ys q = refl
 flat_append f (x ∷ xs) ys q =
     has-append (f x) (flat_map f (xs ++ ys)) q
     ∙ (ap (λ b. has q (f x) || b) (flat_append f xs ys q)
-    ∙ (turned (has q (f x)) (has q (flat_map f xs)) (has q (flat_map f ys))
+    ∙ ((sym (or_assoc (has q (f x)) (has q (flat_map f xs)) (has q (flat_map f ys))))
     ∙ ap (λ b. b || has q (flat_map f ys)) (sym (has-append (f x) (flat_map f xs) q))))
-  where
-    turned : (a b c : Bool) → (a || (b || c)) ≡ ((a || b) || c)
-    turned true b c = refl
-    turned false b c = refl
-
-left : (a b : Bool) → a ≡ true → (a || b) ≡ true
-left true b e = refl
-left false b e = absurd (cc)
-
-right : (a b : Bool) → b ≡ true → (a || b) ≡ true
-right true b e = refl
-right false b e = e
 
 module _ (t : PlanState) (a : Activity) (ahead : is_ahead t a ≡ true) where
   abbrev own : Placed
@@ -53,7 +42,7 @@ module _ (t : PlanState) (a : Activity) (ahead : is_ahead t a ≡ true) where
   here : (links : List Link) (orders : List Order) (j : ℕ) (l : Link) → slice_get links j ≡ Some l → lacks_partner items own l ≡ true → has (lone a j) (flat_map (conflict_of t a) (broken_at items own links orders j)) ≡ true
   here links orders j l is lacks =
       flat_append (conflict_of t a) (when (is_link_broken items own (slice_get links j)) link_one) (when (is_order_broken items own (slice_get orders j)) order_one) (lone a j)
-      ∙ left (has (lone a j) (flat_map (conflict_of t a) (when (is_link_broken items own (slice_get links j)) link_one))) _ first
+      ∙ or_left (has (lone a j) (flat_map (conflict_of t a) (when (is_link_broken items own (slice_get links j)) link_one))) _ first
     where
       link_one : Broken
       link_one = record { id = own.id; index = j; slots = false }
@@ -68,7 +57,7 @@ module _ (t : PlanState) (a : Activity) (ahead : is_ahead t a ≡ true) where
       first =
           ap (λ b. has (lone a j) (flat_map (conflict_of t a) (when b link_one))) broken
           ∙ (ap (λ b. has (lone a j) (states.when b (lone a j) ++ [])) ahead
-          ∙ left (same (lone a j) (lone a j)) false (itself (lone a j)))
+          ∙ or_left (same (lone a j) (lone a j)) false (itself (lone a j)))
 
   below : (links : List Link) (orders : List Order) (n j : ℕ) (l : Link) → j < n → slice_get links j ≡ Some l → lacks_partner items own l ≡ true → has (lone a j) (flat_map (conflict_of t a) (broken_below items own links orders n)) ≡ true
   below links orders zero j l lt is lacks = absurd (omega (arith, lt))
@@ -76,8 +65,8 @@ module _ (t : PlanState) (a : Activity) (ahead : is_ahead t a ≡ true) where
     where
       by : (b : Bool) → eqb j n ≡ b → (j < n → slice_get links j ≡ Some l → lacks_partner items own l ≡ true → has (lone a j) (flat_map (conflict_of t a) (broken_below items own links orders n)) ≡ true)
           → (has (lone a j) (flat_map (conflict_of t a) (broken_below items own links orders n)) || has (lone a j) (flat_map (conflict_of t a) (broken_at items own links orders n))) ≡ true
-      by true e more = right (has (lone a j) (flat_map (conflict_of t a) (broken_below items own links orders n))) _ (subst (λ (m : ℕ). has (lone a j) (flat_map (conflict_of t a) (broken_at items own links orders m)) ≡ true) (eqb-true j n e) (here links orders j l is lacks))
-      by false e more = left _ (has (lone a j) (flat_map (conflict_of t a) (broken_at items own links orders n))) (more (let other : j ≡ n → ⊥ = eqb-false j n e in grind (arith, other, lt)) is lacks)
+      by true e more = or_right (has (lone a j) (flat_map (conflict_of t a) (broken_below items own links orders n))) _ (subst (λ (m : ℕ). has (lone a j) (flat_map (conflict_of t a) (broken_at items own links orders m)) ≡ true) (eqb-true j n e) (here links orders j l is lacks))
+      by false e more = or_left _ (has (lone a j) (flat_map (conflict_of t a) (broken_at items own links orders n))) (more (let other : j ≡ n → ⊥ = eqb-false j n e in grind (arith, other, lt)) is lacks)
 
   pub lone_stands : AreRising t.plan.activities → found t a.id ≡ Some a → (j : ℕ) (l : Link) → j < length (links_of t.model own) → slice_get (links_of t.model own) j ≡ Some l → lacks_partner items own l ≡ true → has (lone a j) (link_conflicts t) ≡ true
   unfolding links_at
@@ -128,7 +117,7 @@ module _ (a : Activity) (is_lone : Link → Bool) where
   lones_differ i (l ∷ ls) = by (is_lone l) (lones_differ (suc i) ls)
     where
       none : has (lone a i) (lones_from (suc i) ls) ≡ false
-      none = true_or_not (has (lone a i) (lones_from (suc i) ls)) (λ e. absurd (let low : suc i ≤ i = later_ones (suc i) ls (lone a i) e in omega (arith, low)))
+      none = false_from_ne_true (has (lone a i) (lones_from (suc i) ls)) (λ e. absurd (let low : suc i ≤ i = later_ones (suc i) ls (lone a i) e in omega (arith, low)))
 
       by : (b : Bool) → AreApart (lones_from (suc i) ls) → AreApart (cond b (lone a i ∷ lones_from (suc i) ls) (lones_from (suc i) ls))
       by true rest = (none, rest)

@@ -4,7 +4,8 @@ use Rattle.std.specs.Prelude.{◌||◌, ◌&&◌, not, nat_le, nat_lt, option_an
 use Rattle.std.specs.List.{flat_map, filter_map, list_any}
 use Rattle.std.specs.Option.{option_to_list}
 use Rattle.std.proofs.lemmas.List.Folds.{list_any-append}
-use Rattle.pl_lists.proofs.Tests.{or_false, or_true}
+use Rattle.std.proofs.Math.Bool.{or-false, or-true}
+use Rattle.std.proofs.lemmas.Bool.{false_from_ne_true, or_from, or_left}
 use Rattle.pl_conflict.specs.declared.conflict.Conflict.{Conflict}
 use Rattle.pl_conflict.specs.declared.conflict.Code.{Code}
 use Rattle.pl_conflict.specs.declared.conflict.Code.TheVariants as code
@@ -31,18 +32,6 @@ use Rattle.pl_world.proofs.Owning.{Each, each_when, each_planned, each_found}
 use Rattle.pl_world.proofs.Standing.{members, goals_by_subject, activities_by_subject, of_goals_alone, of_activities_alone, of_links_alone, of_timelines_alone}
 
 -- ---- tests
-
-pub never : (b : Bool) → (b ≡ true → ⊥) → b ≡ false
-never true not_so = absurd (not_so refl)
-never false not_so = refl
-
-neither : (a b : Bool) → a ≡ false → b ≡ false → (a || b) ≡ false
-neither false b e f = f
-neither true b e f = absurd (cc)
-
-first : (a b : Bool) → a ≡ true → (a || b) ≡ true
-first true b e = refl
-first false b e = absurd (cc)
 
 other : (a b : Bool) → (a || b) ≡ true → a ≡ false → b ≡ true
 other true b e f = absurd (cc)
@@ -73,23 +62,23 @@ open_stands s whole q opened there = by (has q (open_of s q.subject)) refl
     is = code_open q.code opened
 
     no_off : has q (off_of s q.subject) ≡ false
-    no_off = never (has q (off_of s q.subject)) (λ h. absurd (let off : q.code ≡ code.OffGoal = each_found IsOff (off_at s) (found s q.subject) (off_code s) q h in let bad : code.OpenGoal ≡ code.OffGoal = sym is ∙ off in cc))
+    no_off = false_from_ne_true (has q (off_of s q.subject)) (λ h. absurd (let off : q.code ≡ code.OffGoal = each_found IsOff (off_at s) (found s q.subject) (off_code s) q h in let bad : code.OpenGoal ≡ code.OffGoal = sym is ∙ off in cc))
 
     no_activity : has q (activity_conflicts s) ≡ false
-    no_activity = never (has q (activity_conflicts s)) (λ h. absurd (let part : part_of q.code ≡ of_activities = of_activities_alone s q h in let bad : of_goals ≡ of_activities = sym (ap part_of is) ∙ part in cc))
+    no_activity = false_from_ne_true (has q (activity_conflicts s)) (λ h. absurd (let part : part_of q.code ≡ of_activities = of_activities_alone s q h in let bad : of_goals ≡ of_activities = sym (ap part_of is) ∙ part in cc))
 
     no_link : has q (link_conflicts s) ≡ false
-    no_link = never (has q (link_conflicts s)) (λ h. absurd (let part : part_of q.code ≡ of_links = of_links_alone s q h in let bad : of_goals ≡ of_links = sym (ap part_of is) ∙ part in cc))
+    no_link = false_from_ne_true (has q (link_conflicts s)) (λ h. absurd (let part : part_of q.code ≡ of_links = of_links_alone s q h in let bad : of_goals ≡ of_links = sym (ap part_of is) ∙ part in cc))
 
     no_line : has q (timeline_conflicts s) ≡ false
-    no_line = never (has q (timeline_conflicts s)) (λ h. absurd (let part : part_of q.code ≡ of_timelines = of_timelines_alone s q h in let bad : of_goals ≡ of_timelines = sym (ap part_of is) ∙ part in cc))
+    no_line = false_from_ne_true (has q (timeline_conflicts s)) (λ h. absurd (let part : part_of q.code ≡ of_timelines = of_timelines_alone s q h in let bad : of_goals ≡ of_timelines = sym (ap part_of is) ∙ part in cc))
 
     by : (b : Bool) → has q (open_of s q.subject) ≡ b → has q (open_of s q.subject) ≡ true
     by true e = e
     by false e = absurd (
-        let goals : has q (goal_conflicts s) ≡ false = goals_by_subject s whole.distinct whole.rising q ∙ neither (has q (open_of s q.subject)) (has q (off_of s q.subject)) e no_off in
-        let none : has q (conflicts_of s) ≡ false = members s q ∙ neither (has q (goal_conflicts s)) (has q (activity_conflicts s) || (has q (link_conflicts s) || has q (timeline_conflicts s))) goals
-        (neither (has q (activity_conflicts s)) (has q (link_conflicts s) || has q (timeline_conflicts s)) no_activity (neither (has q (link_conflicts s)) (has q (timeline_conflicts s)) no_link no_line)) in
+        let goals : has q (goal_conflicts s) ≡ false = goals_by_subject s whole.distinct whole.rising q ∙ or_from (has q (open_of s q.subject)) (has q (off_of s q.subject)) e no_off in
+        let none : has q (conflicts_of s) ≡ false = members s q ∙ or_from (has q (goal_conflicts s)) (has q (activity_conflicts s) || (has q (link_conflicts s) || has q (timeline_conflicts s))) goals
+        (or_from (has q (activity_conflicts s)) (has q (link_conflicts s) || has q (timeline_conflicts s)) no_activity (or_from (has q (link_conflicts s)) (has q (timeline_conflicts s)) no_link no_line)) in
         let bad : true ≡ false = sym there ∙ none in
         cc)
 
@@ -98,34 +87,34 @@ pub wrong_stands : (s : PlanState) → IsWhole s → (q : Conflict) → part_of 
 wrong_stands s whole q is there = by (has q (wrong_of s q.subject)) refl
   where
     no_goal : has q (goal_conflicts s) ≡ false
-    no_goal = never (has q (goal_conflicts s)) (λ h. absurd (let part : part_of q.code ≡ of_goals = of_goals_alone s q h in let bad : of_activities ≡ of_goals = sym is ∙ part in cc))
+    no_goal = false_from_ne_true (has q (goal_conflicts s)) (λ h. absurd (let part : part_of q.code ≡ of_goals = of_goals_alone s q h in let bad : of_activities ≡ of_goals = sym is ∙ part in cc))
 
     no_link : has q (link_conflicts s) ≡ false
-    no_link = never (has q (link_conflicts s)) (λ h. absurd (let part : part_of q.code ≡ of_links = of_links_alone s q h in let bad : of_activities ≡ of_links = sym is ∙ part in cc))
+    no_link = false_from_ne_true (has q (link_conflicts s)) (λ h. absurd (let part : part_of q.code ≡ of_links = of_links_alone s q h in let bad : of_activities ≡ of_links = sym is ∙ part in cc))
 
     no_line : has q (timeline_conflicts s) ≡ false
-    no_line = never (has q (timeline_conflicts s)) (λ h. absurd (let part : part_of q.code ≡ of_timelines = of_timelines_alone s q h in let bad : of_activities ≡ of_timelines = sym is ∙ part in cc))
+    no_line = false_from_ne_true (has q (timeline_conflicts s)) (λ h. absurd (let part : part_of q.code ≡ of_timelines = of_timelines_alone s q h in let bad : of_activities ≡ of_timelines = sym is ∙ part in cc))
 
     by : (b : Bool) → has q (wrong_of s q.subject) ≡ b → has q (wrong_of s q.subject) ≡ true
     by true e = e
     by false e = absurd (
         let activities : has q (activity_conflicts s) ≡ false = activities_by_subject s whole.rising q ∙ e in
-        let none : has q (conflicts_of s) ≡ false = members s q ∙ neither (has q (goal_conflicts s)) (has q (activity_conflicts s) || (has q (link_conflicts s) || has q (timeline_conflicts s))) no_goal
-        (neither (has q (activity_conflicts s)) (has q (link_conflicts s) || has q (timeline_conflicts s)) activities (neither (has q (link_conflicts s)) (has q (timeline_conflicts s)) no_link no_line)) in
+        let none : has q (conflicts_of s) ≡ false = members s q ∙ or_from (has q (goal_conflicts s)) (has q (activity_conflicts s) || (has q (link_conflicts s) || has q (timeline_conflicts s))) no_goal
+        (or_from (has q (activity_conflicts s)) (has q (link_conflicts s) || has q (timeline_conflicts s)) activities (or_from (has q (link_conflicts s)) (has q (timeline_conflicts s)) no_link no_line)) in
         let bad : true ≡ false = sym there ∙ none in
         cc)
 
 -- and the one of its number stands
 pub open_is_left : (t : PlanState) → IsWhole t → (q : Conflict) → has q (open_of t q.subject) ≡ true → has q (conflicts_of t) ≡ true
 open_is_left t whole q here =
-    members t q ∙ first (has q (goal_conflicts t)) (has q (activity_conflicts t) || (has q (link_conflicts t) || has q (timeline_conflicts t)))
-    (goals_by_subject t whole.distinct whole.rising q ∙ first (has q (open_of t q.subject)) (has q (off_of t q.subject)) here)
+    members t q ∙ or_left (has q (goal_conflicts t)) (has q (activity_conflicts t) || (has q (link_conflicts t) || has q (timeline_conflicts t)))
+    (goals_by_subject t whole.distinct whole.rising q ∙ or_left (has q (open_of t q.subject)) (has q (off_of t q.subject)) here)
 
 -- and so does one of an activity
 pub wrong_is_left : (t : PlanState) → IsWhole t → (q : Conflict) → has q (wrong_of t q.subject) ≡ true → has q (conflicts_of t) ≡ true
 wrong_is_left t whole q here =
-    members t q ∙ ap (λ b. has q (goal_conflicts t) || b) (first (has q (activity_conflicts t)) (has q (link_conflicts t) || has q (timeline_conflicts t)) (activities_by_subject t whole.rising q ∙ here))
-    ∙ or_true (has q (goal_conflicts t))
+    members t q ∙ ap (λ b. has q (goal_conflicts t) || b) (or_left (has q (activity_conflicts t)) (has q (link_conflicts t) || has q (timeline_conflicts t)) (activities_by_subject t whole.rising q ∙ here))
+    ∙ or-true (has q (goal_conflicts t))
 
 -- ---- goals that are served
 
@@ -146,7 +135,7 @@ served_not_open s n served = by (goal_at s n) refl
 -- an open goal is not served
 pub open_not_served : (s : PlanState) (q : Conflict) → has q (open_of s q.subject) ≡ true → is_served q.subject s.plan.activities ≡ false
 open_not_served s q here =
-    never (is_served q.subject s.plan.activities) (λ h. absurd (let none : has q (open_of s q.subject) ≡ has q [] = ap (λ (ks : List Conflict). has q ks) (served_not_open s q.subject h) in let bad : true ≡ false = sym here ∙ none in cc))
+    false_from_ne_true (is_served q.subject s.plan.activities) (λ h. absurd (let none : has q (open_of s q.subject) ≡ has q [] = ap (λ (ks : List Conflict). has q ks) (served_not_open s q.subject h) in let bad : true ≡ false = sym here ∙ none in cc))
 
 pub found_any : (p : Activity → Bool) (xs : List Activity) (id : ℕ) (a : Activity) → activity_of id xs ≡ Some a → p a ≡ true → list_any p xs ≡ true
 found_any p [] id a here passes = absurd (cc)
@@ -154,11 +143,11 @@ found_any p (x ∷ xs) id a here passes = cases (eqb x.id id) refl (found_any p 
   where
     cases : (b : Bool) → eqb x.id id ≡ b → (activity_of id xs ≡ Some a → p a ≡ true → list_any p xs ≡ true) → list_any p (x ∷ xs) ≡ true
     cases true e more = let at : Some x ≡ Some a = rw e at here in let same : x ≡ a = cc in rw (same, passes) refl
-    cases false e more = rw (more (rw e at here) passes) (or_true (p x))
+    cases false e more = rw (more (rw e at here) passes) (or-true (p x))
 
 is_it : (n : ℕ) (o : Option ℕ) → among n (option_to_list o) ≡ true → is_number n o ≡ true
 is_it n None h = absurd (cc)
-is_it n (Some m) h = sym (or_false (eqb m n)) ∙ h
+is_it n (Some m) h = sym (or-false (eqb m n)) ∙ h
 
 one_served : (s : PlanState) (n id : ℕ) → among n (served_at s id) ≡ true → is_served n s.plan.activities ≡ true
 one_served s n id h = by (found s id) refl h
@@ -185,10 +174,10 @@ moved_served n from to p [] h = absurd (cc)
 moved_served n from to p (x ∷ xs) h = by (p x) refl (served_in x) refl (moved_served n from to p xs)
   where
     behind : is_served n xs ≡ true → is_served n (x ∷ xs) ≡ true
-    behind e = rw e (or_true (serves n x))
+    behind e = rw e (or-true (serves n x))
 
     here : (m : ℕ) → served_in x ≡ Some m → (b : Bool) → eqb m n ≡ b → (b || among n (filter_map served_in (map (moved from to) (filter p xs)))) ≡ true → (among n (filter_map served_in (map (moved from to) (filter p xs))) ≡ true → is_served n xs ≡ true) → is_served n (x ∷ xs) ≡ true
-    here m f true e there more = first (serves n x) (is_served n xs) (rw f e)
+    here m f true e there more = or_left (serves n x) (is_served n xs) (rw f e)
     here m f false e there more = behind (more there)
 
     by : (b : Bool) → p x ≡ b → (o : Option ℕ) → served_in x ≡ o → (among n (filter_map served_in (map (moved from to) (filter p xs))) ≡ true → is_served n xs ≡ true) → is_served n (x ∷ xs) ≡ true
@@ -201,6 +190,6 @@ pub untouched : (s : PlanState) (n : ℕ) (gone : List ℕ) (more : List Activit
 unfolding touched_goals
 untouched s n gone more comes free =
     list_any-append (λ k. eqb k n) (flat_map (served_at s) gone) (filter_map served_in more)
-    ∙ neither (among n (flat_map (served_at s) gone)) (among n (filter_map served_in more))
-    (never (among n (flat_map (served_at s) gone)) (λ h. absurd (let bad : true ≡ false = sym (gone_served s n gone h) ∙ free in cc)))
-    (never (among n (filter_map served_in more)) (λ h. absurd (let bad : true ≡ false = sym (comes h) ∙ free in cc)))
+    ∙ or_from (among n (flat_map (served_at s) gone)) (among n (filter_map served_in more))
+    (false_from_ne_true (among n (flat_map (served_at s) gone)) (λ h. absurd (let bad : true ≡ false = sym (gone_served s n gone h) ∙ free in cc)))
+    (false_from_ne_true (among n (filter_map served_in more)) (λ h. absurd (let bad : true ≡ false = sym (comes h) ∙ free in cc)))

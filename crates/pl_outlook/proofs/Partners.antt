@@ -7,9 +7,9 @@ use Rattle.std.proofs.lemmas.Bool.{eq-eqb, eqb-true, eqb-false, leb-true}
 use Rattle.std.proofs.lemmas.Option.{slice_get_within}
 use Rattle.std.proofs.lemmas.List.Elements.{All-nil, All-cons, All-head, All-tail}
 use Rattle.std.proofs.lemmas.List.Kept.{IsStrictlySortedBy-filter}
+use Rattle.std.proofs.Math.Bool.{or-true}
 use Rattle.pl_conflict.specs.declared.conflict.Conflict.{Conflict}
 use Rattle.pl_conflict.specs.Order.{conflict_cmp, has}
-use Rattle.pl_lists.proofs.Tests.{or_true}
 use Rattle.pl_model.specs.declared.links.Link.{Link}
 use Rattle.pl_links.specs.declared.placed.Placed.{Placed}
 use Rattle.pl_links.specs.Broken.{moment_of, are_apart, is_partner, lacks_partner, links_of}
@@ -91,7 +91,7 @@ here_too p id top (y ∷ ys) passes is = by (eqb y.id id) refl is (here_too p id
     by false e h more = kept (p y.id) refl (more h)
       where
         kept : (b : Bool) → p y.id ≡ b → list_any (eqb id) (filter p (map id_of ys)) ≡ true → list_any (eqb id) (filter p (map id_of (y ∷ ys))) ≡ true
-        kept true f rest = rw f (rw rest (or_true (eqb id y.id)))
+        kept true f rest = rw f (rw rest (or-true (eqb id y.id)))
         kept false f rest = rw f rest
 
 one_of : (id : ℕ) (is : List ℕ) → list_any (eqb id) is ≡ true → length is ≡ 1 → is ≡ id ∷ []
@@ -245,7 +245,7 @@ module _ (s : PlanState) (whole : IsWhole s) (next : s.next_id ≤ 3999999000) (
   among_links q e =
       let stands : has q (conflicts_of t) ≡ true =
       members t q ∙ ap (λ (b : Bool). has q (goal_conflicts t) || (has q (activity_conflicts t) || (b || has q (timeline_conflicts t)))) e
-      ∙ rw (or_true (has q (activity_conflicts t)), or_true (has q (goal_conflicts t))) refl in
+      ∙ rw (or-true (has q (activity_conflicts t)), or-true (has q (goal_conflicts t))) refl in
       has_kept is_link (conflicts_of t) q (ap (λ (p : Part). is_link_part p) (of_links_alone t q e)) stands
 
   abbrev is_lone : Link → Bool

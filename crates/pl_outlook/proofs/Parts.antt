@@ -5,7 +5,8 @@ use Rattle.std.specs.Prelude.{◌||◌, ℤ, All, slice_get, Option, Some}
 use Rattle.std.proofs.lemmas.List.{length-append, length-map}
 use Rattle.std.proofs.lemmas.List.Elements.{All-head, All-tail}
 use Rattle.std.proofs.lemmas.List.Kept.{IsStrictlySortedBy-filter}
-use Rattle.pl_lists.proofs.Tests.{or_true}
+use Rattle.std.proofs.Math.Bool.{or-true}
+use Rattle.std.proofs.lemmas.Bool.{false_from_ne_true}
 use Rattle.pl_points.proofs.Maximal.{maximal_spans}
 use Rattle.pl_model.specs.declared.timelines.Timeline.{Timeline}
 use Rattle.pl_model.specs.declared.timelines.Timeline.TheVariants.{Capacity, Level}
@@ -34,7 +35,7 @@ use Rattle.pl_outlook.specs.Counts.{AreApart}
 use Rattle.pl_outlook.specs.Plain.{is_plain_part, is_plain, count_of_plain}
 use Rattle.pl_outlook.specs.Ties.{is_link_part, is_link, count_of_links}
 use Rattle.pl_outlook.specs.Sides.{limit_of, value_at, is_past, code_of, HasLimit, IsOther, AreDifferent, spans_past, times_past}
-use Rattle.pl_outlook.proofs.Counted.{held_are_few, true_or_not}
+use Rattle.pl_outlook.proofs.Counted.{held_are_few}
 use Rattle.pl_outlook.proofs.Differing.{apart_both, spans_differ}
 
 -- ---- those that pass a test
@@ -82,7 +83,7 @@ not_at_both o other (inr codes) q one two = codes (sym one.1 ∙ two.1)
 none_behind : (s : PlanState) (o : Outside) (os : List Outside) → All (IsOther o) os → (q : Conflict) → IsAt o q → has q (past_all s os) ≡ false
 none_behind s o [] others q at = refl
 none_behind s o (p ∷ os) others q at =
-    let here : has q (past_at s p) ≡ false = true_or_not (has q (past_at s p)) (λ e. not_at_both o p (All-head (IsOther o) p os others) q at (at_it s p q e)) in
+    let here : has q (past_at s p) ≡ false = false_from_ne_true (has q (past_at s p)) (λ e. not_at_both o p (All-head (IsOther o) p os others) q at (at_it s p q e)) in
     let rest : has q (past_all s os) ≡ false = none_behind s o os (All-tail (IsOther o) p os others) q at in
     has-append (past_at s p) (past_all s os) q ∙ rw (here, rest) refl
 
@@ -117,7 +118,7 @@ module _ (s : PlanState) (rising : AreRising s.plan.activities) (line : ℕ) (q 
       let same_limit : most ≡ limit = cc in
       let high : has q (highs s line most) ≡ true = ap (λ m. has q (highs s line m)) same_limit ∙ e in
       of_line (Level name least most start) there (each_map (λ k. owner_of s k ≡ Some line) (outside code.High line) _ (λ p. refl) q e)
-      (has-append (lows s line least) (highs s line most) q ∙ ap (λ b. has q (lows s line least) || b) high ∙ or_true (has q (lows s line least)))
+      (has-append (lows s line least) (highs s line most) q ∙ ap (λ b. has q (lows s line least) || b) high ∙ or-true (has q (lows s line least)))
   past_of _ limit _ there is e = absurd (cc)
 
 all_stand : (s : PlanState) → AreRising s.plan.activities → (os : List Outside) → All (HasLimit s) os → (q : Conflict) → has q (past_all s os) ≡ true → has q (timeline_conflicts s) ≡ true
@@ -158,7 +159,7 @@ among_lines s q e =
     let is : is_of_line q ≡ true = ap is_line_part part in
     let stands : has q (conflicts_of s) ≡ true =
     members s q ∙ ap (λ b. has q (goal_conflicts s) || (has q (activity_conflicts s) || (has q (link_conflicts s) || b))) e
-    ∙ rw (or_true (has q (link_conflicts s)), or_true (has q (activity_conflicts s)), or_true (has q (goal_conflicts s))) refl in
+    ∙ rw (or-true (has q (link_conflicts s)), or-true (has q (activity_conflicts s)), or-true (has q (goal_conflicts s))) refl in
     has_kept is_of_line (conflicts_of s) q is stands
 
 pub two_parts : (s : PlanState) → count_of_plain s + count_of_links s ≤ length (conflicts_of s)

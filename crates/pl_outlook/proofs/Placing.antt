@@ -7,11 +7,11 @@ use Rattle.std.proofs.lemmas.Bool.{eq-eqb, leb-true, ne_eqb}
 use Rattle.std.proofs.lemmas.Option.{slice_get_within}
 use Rattle.std.proofs.lemmas.List.Elements.{All-head, All-tail}
 use Rattle.std.proofs.lemmas.List.Kept.{IsStrictlySortedBy-filter}
+use Rattle.std.proofs.Math.Bool.{or-true}
 use Rattle.pl_changes.specs.Replaced.{touched, with_plan}
 use Rattle.pl_changes.proofs.Keeping.{whole_replaced}
 use Rattle.pl_conflict.specs.declared.conflict.Conflict.{Conflict}
 use Rattle.pl_conflict.specs.Order.{conflict_cmp, has}
-use Rattle.pl_lists.proofs.Tests.{or_true}
 use Rattle.pl_links.specs.declared.placed.Placed.{Placed}
 use Rattle.pl_links.specs.Broken.{is_partner, lacks_partner, links_of}
 use Rattle.pl_model.specs.declared.kinds.Kind.{Kind}
@@ -121,7 +121,7 @@ module _ (s : PlanState) (whole : IsWhole s) (next : s.next_id ≤ 3999999000) (
   among_links q e =
       let stands : has q (conflicts_of t) ≡ true =
       members t q ∙ ap (λ (b : Bool). has q (goal_conflicts t) || (has q (activity_conflicts t) || (b || has q (timeline_conflicts t)))) e
-      ∙ rw (or_true (has q (activity_conflicts t)), or_true (has q (goal_conflicts t))) refl in
+      ∙ rw (or-true (has q (activity_conflicts t)), or-true (has q (goal_conflicts t))) refl in
       has_kept is_link (conflicts_of t) q (ap (λ (p : Part). is_link_part p) (of_links_alone t q e)) stands
 
   -- ---- as it is placed in a plan of its own, at another start

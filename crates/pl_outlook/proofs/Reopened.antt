@@ -1,7 +1,7 @@
 -- A goal that the root alone served that goes is open again.
 use Rattle.std.proofs.Common.{◌≡◌, ℕ, Bool, true, false, List, [], ◌∷◌, map, filter, get_or, refl, sym, ap, ◌∙◌}
 use Rattle.std.specs.Prelude.{◌||◌, All, not}
-use Rattle.std.proofs.lemmas.Bool.{eq-eqb, le-leb}
+use Rattle.std.proofs.lemmas.Bool.{eq-eqb, le-leb, false_from_ne_true}
 use Rattle.std.proofs.lemmas.List.Folds.{list_any_none}
 use Rattle.std.proofs.lemmas.List.Elements.{All-cons, All-nil}
 use Rattle.pl_conflict.specs.declared.conflict.Conflict.{Conflict}
@@ -22,7 +22,7 @@ use Rattle.pl_world.specs.Moves.{applied}
 use Rattle.pl_world.specs.Whole.{IsWhole}
 use Rattle.pl_outlook.specs.Standing.{IsOpenWithout}
 use Rattle.pl_outlook.proofs.Counted.{itself as same_itself}
-use Rattle.pl_outlook.proofs.Opens.{found_any, never, open_is_left, open_not_served, open_stands}
+use Rattle.pl_outlook.proofs.Opens.{found_any, open_is_left, open_not_served, open_stands}
 
 -- ---- a goal that one root alone serves
 
@@ -53,7 +53,7 @@ not_served : (s : PlanState) → IsWhole s → (n id : ℕ) → serving n s.plan
 not_served s whole n id alone =
     list_any_none (serves n) (without_subtree id s.plan.activities)
     (all_kept (λ (x : Activity). not (descends s.plan.activities id x.id)) (λ (x : Activity). serves n x ≡ false) s.plan.activities
-    (λ i d lt stays. never (serves n (get_or s.plan.activities i d)) (λ h. absurd (
+    (λ i d lt stays. false_from_ne_true (serves n (get_or s.plan.activities i d)) (λ h. absurd (
     let is = one_serves n id s.plan.activities alone i d lt h in
     let under : descends s.plan.activities id id ≡ true = descends_complete s.plan.activities whole.fits.rooted id id itself in
     let bad : false ≡ true = sym (ap (λ b. not b) (ap (λ k. descends s.plan.activities id k) is ∙ under)) ∙ stays in
@@ -68,7 +68,7 @@ module _ (s : PlanState) (whole : IsWhole s) (id : ℕ) (of : IsOpenWithout s id
 
   -- it does not stand before
   pub is_new : has again (conflicts_of s) ≡ false
-  is_new = never (has again (conflicts_of s)) (λ h. absurd (let free = open_not_served s again (open_stands s whole again refl h) in let bad : true ≡ false = sym served ∙ free in cc))
+  is_new = false_from_ne_true (has again (conflicts_of s)) (λ h. absurd (let free = open_not_served s again (open_stands s whole again refl h) in let bad : true ≡ false = sym served ∙ free in cc))
 
   -- and stands then
   pub stands_again : has again (conflicts_of (applied s (Delete id))) ≡ true

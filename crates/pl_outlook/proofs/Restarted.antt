@@ -3,7 +3,7 @@ use Rattle.std.proofs.Common.{◌≡◌, ℕ, ◌+◌, eqb, Bool, true, false, L
 use Rattle.std.specs.Prelude.{◌||◌, ◌&&◌, not, is_none, slice_get, slice_index_or}
 use Rattle.std.specs.List.{flat_map}
 use Rattle.std.specs.Option.{option_map}
-use Rattle.pl_lists.proofs.Tests.{or_true}
+use Rattle.std.proofs.Math.Bool.{or-true}
 use Rattle.pl_conflict.specs.declared.conflict.Conflict.{Conflict}
 use Rattle.pl_conflict.specs.declared.conflict.Code.{Code}
 use Rattle.pl_conflict.specs.declared.conflict.Code.TheVariants as code
@@ -58,7 +58,7 @@ has_at n (k ∷ ks) q h = by (same q k) refl h (has_at n ks q)
   where
     by : (b : Bool) → same q k ≡ b → (b || has q ks) ≡ true → (has q ks ≡ true → has (at n q) (map (at n) ks) ≡ true) → (same (at n q) (at n k) || has (at n q) (map (at n) ks)) ≡ true
     by true e there more = ap (λ b. b || has (at n q) (map (at n) ks)) (ap (λ (z : Conflict). same (at n q) (at n z)) (sym (same_is q k e)) ∙ itself (at n q))
-    by false e there more = ap (λ b. same (at n q) (at n k) || b) (more there) ∙ or_true (same (at n q) (at n k))
+    by false e there more = ap (λ b. same (at n q) (at n k) || b) (more there) ∙ or-true (same (at n q) (at n k))
 
 -- ---- what hangs on no start
 
@@ -180,7 +180,7 @@ among_fixed s a q planned there =
     ap (λ (ks : List Conflict). has q ks) (wrong_split s a)
     ∙ (ap (λ b. has q (if_planned b ((late_at s a ++ fixed_at s a) ++ overrun_at s a))) planned
     ∙ (has-append (late_at s a ++ fixed_at s a) (overrun_at s a) q
-    ∙ ap (λ b. b || has q (overrun_at s a)) (has-append (late_at s a) (fixed_at s a) q ∙ ap (λ b. has q (late_at s a) || b) there ∙ or_true (has q (late_at s a)))))
+    ∙ ap (λ b. b || has q (overrun_at s a)) (has-append (late_at s a) (fixed_at s a) q ∙ ap (λ b. has q (late_at s a) || b) there ∙ or-true (has q (late_at s a)))))
 
 -- ---- all activities at other starts
 

@@ -3,8 +3,9 @@ use Rattle.std.proofs.Common.{◌≡◌, ℕ, ◌≤◌, eqb, Bool, true, false,
 use Rattle.std.specs.Prelude.{◌||◌, ◌⊎◌, All, if◌then◌else◌}
 use Rattle.std.specs.List.{filter_map}
 use Rattle.std.specs.Option.{option_map}
-use Rattle.std.proofs.lemmas.Bool.{le-ltb}
+use Rattle.std.proofs.lemmas.Bool.{le-ltb, false_from_ne_true}
 use Rattle.std.proofs.lemmas.List.{length-map}
+use Rattle.std.proofs.Math.Bool.{or-true}
 use Rattle.pl_conflict.specs.declared.conflict.Conflict.{Conflict}
 use Rattle.pl_conflict.specs.declared.conflict.Code.{Code}
 use Rattle.pl_conflict.specs.declared.conflict.Code.TheVariants as code
@@ -35,11 +36,10 @@ use Rattle.pl_outlook.specs.Counts.{AreApart}
 use Rattle.pl_values.specs.Shifted.{still}
 use Rattle.pl_outlook.specs.Plain.{is_plain, is_plain_part, count_of_plain}
 use Rattle.pl_outlook.specs.Standing.{is_unmoved, is_unmoved_one, count_of_unmoved}
-use Rattle.pl_lists.proofs.Tests.{or_true}
 use Rattle.pl_outlook.proofs.Counted.{itself}
 use Rattle.pl_outlook.proofs.Differing.{has_passing}
 use Rattle.pl_outlook.proofs.Leaving.{left_are_few, standing_apart}
-use Rattle.pl_outlook.proofs.Opens.{moved_served, never, open_not_served, open_stands, untouched, wrong_stands, wrong_is_left}
+use Rattle.pl_outlook.proofs.Opens.{moved_served, open_not_served, open_stands, untouched, wrong_stands, wrong_is_left}
 use Rattle.pl_outlook.proofs.Restarted.{at, fixed_among, fixed_at, fixed_from, fixed_stays, found_then, is_fixed}
 use Rattle.pl_outlook.proofs.Made.{stays, whole_then}
 
@@ -56,17 +56,17 @@ from_map f (k ∷ ks) q h = by (same q (f k)) refl h (from_map f ks q)
   where
     by : (b : Bool) → same q (f k) ≡ b → (b || has q (map f ks)) ≡ true → (has q (map f ks) ≡ true → IsFrom f ks q) → IsFrom f (k ∷ ks) q
     by true e there more = record { k = k; there = ap (λ b. b || has k ks) (itself k); is = same_is q (f k) e }
-    by false e there more = let from : IsFrom f ks q = more there in record { k = from.k; there = ap (λ b. same from.k k || b) from.there ∙ or_true (same from.k k); is = from.is }
+    by false e there more = let from : IsFrom f ks q = more there in record { k = from.k; there = ap (λ b. same from.k k || b) from.there ∙ or-true (same from.k k); is = from.is }
 
 behind : (f : Conflict → Conflict) (k : Conflict) (ks : List Conflict) → ((q r : Conflict) → has q (k ∷ ks) ≡ true → has r (k ∷ ks) ≡ true → f q ≡ f r → q ≡ r) → (q r : Conflict) → has q ks ≡ true → has r ks ≡ true → f q ≡ f r → q ≡ r
-behind f k ks one q r h g e = one q r (ap (λ b. same q k || b) h ∙ or_true (same q k)) (ap (λ b. same r k || b) g ∙ or_true (same r k)) e
+behind f k ks one q r h g e = one q r (ap (λ b. same q k || b) h ∙ or-true (same q k)) (ap (λ b. same r k || b) g ∙ or-true (same r k)) e
 
 apart_map : (f : Conflict → Conflict) (ks : List Conflict) → AreApart ks → ((q r : Conflict) → has q ks ≡ true → has r ks ≡ true → f q ≡ f r → q ≡ r) → AreApart (map f ks)
 apart_map f [] apart one = tt
 apart_map f (k ∷ ks) apart one = (
-  never (has (f k) (map f ks)) (λ h. absurd (
+  false_from_ne_true (has (f k) (map f ks)) (λ h. absurd (
       let from : IsFrom f ks (f k) = from_map f ks (f k) h in
-      let is : k ≡ from.k = one k from.k (ap (λ b. b || has k ks) (itself k)) (ap (λ b. same from.k k || b) from.there ∙ or_true (same from.k k)) from.is in
+      let is : k ≡ from.k = one k from.k (ap (λ b. b || has k ks) (itself k)) (ap (λ b. same from.k k || b) from.there ∙ or-true (same from.k k)) from.is in
       let bad : true ≡ false = sym from.there ∙ (ap (λ (z : Conflict). has z ks) (sym is) ∙ apart.0) in
       cc)),
   apart_map f ks apart.1 (behind f k ks one),

@@ -2,8 +2,7 @@
 use Rattle.std.proofs.Common.{◌≡◌, ℕ, ℤ, suc, ◌+◌, ◌-◌, ◌≤◌, eqb, Bool, true, false, cond, List, [], ◌∷◌, filter, length, Option, Some, None, refl, sym, ap, ◌∙◌, subst, inl, inr, arith}
 use Rattle.std.specs.Prelude.{◌||◌, slice_get}
 use Rattle.std.specs.Option.{option_to_list}
-use Rattle.std.proofs.lemmas.Bool.{eqb-true}
-use Rattle.pl_lists.proofs.Tests.{both_true}
+use Rattle.std.proofs.lemmas.Bool.{eqb-true, and_parts, false_from_ne_true}
 use Rattle.pl_conflict.specs.declared.conflict.Conflict.{Conflict}
 use Rattle.pl_conflict.specs.declared.conflict.Code.TheVariants.{Undetailed}
 use Rattle.pl_conflict.specs.declared.conflict.Code.TheVariants as code
@@ -36,7 +35,7 @@ use Rattle.pl_outlook.proofs.Made.{follows, whole_then}
 use Rattle.pl_outlook.proofs.Reopened.{again, is_new, stands_again}
 use Rattle.pl_outlook.proofs.Shifted.{shift_left}
 use Rattle.pl_outlook.proofs.Leaving.{left_are_few, standing_apart}
-use Rattle.pl_outlook.proofs.Opens.{never, wrong_stands}
+use Rattle.pl_outlook.proofs.Opens.{wrong_stands}
 use Rattle.pl_outlook.proofs.Unchosen.{unchosen}
 
 -- ---- moves that place the same
@@ -49,7 +48,7 @@ same_number_is (Some m) (Some n) e = ap (λ (k : ℕ). Some k) (eqb-true m n e)
 
 on_add : (kind start : ℕ) (goal : Option ℕ) (m : RepairMove) → goes_on (Add kind start goal) m ≡ true → (t : ℕ) × (m ≡ Add kind t goal)
 on_add kind start goal (Add k t g) e =
-    let both = both_true (eqb kind k) (same_number goal g) e in
+    let both = and_parts (eqb kind k) (same_number goal g) e in
     (t, ap (λ (j : ℕ). Add j t g) (sym (eqb-true kind k both.0)) ∙ ap (λ (h : Option ℕ). Add kind t h) (sym (same_number_is goal g both.1)))
 on_add kind start goal (Delete i) e = absurd (cc)
 on_add kind start goal (Shift i t) e = absurd (cc)
@@ -124,7 +123,7 @@ module _ (s : PlanState) (whole : IsWhole s) (next : s.next_id ≤ 3999999000) (
   one_comes of = left_are_few gone (again s whole id of whole_gone ∷ others_than) (not_there, standing_apart s (is_kept (near s numbers ids))) each
     where
       not_there : has (again s whole id of whole_gone) others_than ≡ false
-      not_there = never (has (again s whole id of whole_gone) others_than) (λ h. absurd (
+      not_there = false_from_ne_true (has (again s whole id of whole_gone) others_than) (λ h. absurd (
           let there = (has_passing (is_kept (near s numbers ids)) (conflicts_of s) (again s whole id of whole_gone) h).0 in
           let bad : true ≡ false = sym there ∙ is_new s whole id of whole_gone in
           cc))
@@ -170,7 +169,7 @@ module _ (s : PlanState) (whole : IsWhole s) (next : s.next_id ≤ 3999999000) (
 
   -- an activity that is not there yet has no conflicts
   none_of_new : (q : Conflict) → part_of q.code ≡ of_activities → q.subject ≡ s.next_id → has q others ≡ false
-  none_of_new q is subject = never (has q others) (λ h. absurd (
+  none_of_new q is subject = false_from_ne_true (has q others) (λ h. absurd (
       let there : has q (conflicts_of s) ≡ true = (has_passing (is_kept wrong) (conflicts_of s) q h).0 in
       let own : has q (wrong_of s q.subject) ≡ true = wrong_stands s whole q is there in
       let none : wrong_of s q.subject ≡ [] = ap (wrong_of s) subject ∙ none_wrong_new s whole in
@@ -197,7 +196,7 @@ module _ (s : PlanState) (whole : IsWhole s) (next : s.next_id ≤ 3999999000) (
       of_part = ap part_of u.why
 
       differ : same u.q new ≡ false
-      differ = never (same u.q new) (λ h. absurd (let is : u.q ≡ new = same_is u.q new h in let bad : code.Unset ≡ code.Undetailed = sym u.why ∙ ap (λ (k : Conflict). k.code) is in cc))
+      differ = false_from_ne_true (same u.q new) (λ h. absurd (let is : u.q ≡ new = same_is u.q new h in let bad : code.Unset ≡ code.Undetailed = sym u.why ∙ ap (λ (k : Conflict). k.code) is in cc))
 
       apart_of : (b : Bool) → has u.q (first b) ≡ false
       apart_of true = none_of_new u.q of_part u.of

@@ -6,7 +6,7 @@ use Rattle.std.proofs.lemmas.Bool.{le-ltb}
 use Rattle.std.proofs.lemmas.Grind.{flat_map-append}
 use Rattle.std.proofs.lemmas.List.{append-nil}
 use Rattle.std.proofs.lemmas.List.Elements.{All-head}
-use Rattle.pl_lists.proofs.Tests.{or_true}
+use Rattle.std.proofs.Math.Bool.{or-true}
 use Rattle.pl_conflict.specs.declared.conflict.Conflict.{Conflict}
 use Rattle.pl_conflict.specs.declared.conflict.Code.TheVariants.{Undetailed}
 use Rattle.pl_conflict.specs.Order.{has}
@@ -28,7 +28,7 @@ use Rattle.pl_world.proofs.Standing.{members}
 use Rattle.pl_outlook.proofs.Counted.{itself}
 
 has_between : (k : Conflict) (xs us ys : List Conflict) → has k us ≡ true → has k (xs ++ us ++ ys) ≡ true
-has_between k xs us ys e = has-append (xs ++ us) ys k ∙ ap (λ b. b || has k ys) (has-append xs us k ∙ ap (λ b. has k xs || b) e ∙ or_true (has k xs))
+has_between k xs us ys e = has-append (xs ++ us) ys k ∙ ap (λ b. b || has k ys) (has-append xs us k ∙ ap (λ b. has k xs || b) e ∙ or-true (has k xs))
 
 has_planned : (k : Conflict) (committed : Bool) (ks : List Conflict) → committed ≡ false → has k ks ≡ true → has k (if_planned committed ks) ≡ true
 has_planned k true ks e there = absurd (cc)
@@ -57,5 +57,5 @@ unchosen s kind start goal allowed some =
     let last : has k (flat_map (wrong_at t) (root ∷ [])) ≡ true = ap (has k) (append-nil (wrong_at t root)) ∙ wrong in
     let among : has k (activity_conflicts t) ≡ true =
     ap (has k) (flat_map-append (wrong_at t) s.plan.activities (root ∷ [])) ∙ has-append (flat_map (wrong_at t) s.plan.activities) (flat_map (wrong_at t) (root ∷ [])) k
-    ∙ ap (λ b. has k (flat_map (wrong_at t) s.plan.activities) || b) last ∙ or_true (has k (flat_map (wrong_at t) s.plan.activities)) in
-    members t k ∙ ap (λ b. has k (goal_conflicts t) || (b || (has k (link_conflicts t) || has k (timeline_conflicts t)))) among ∙ or_true (has k (goal_conflicts t))
+    ∙ ap (λ b. has k (flat_map (wrong_at t) s.plan.activities) || b) last ∙ or-true (has k (flat_map (wrong_at t) s.plan.activities)) in
+    members t k ∙ ap (λ b. has k (goal_conflicts t) || (b || (has k (link_conflicts t) || has k (timeline_conflicts t)))) among ∙ or-true (has k (goal_conflicts t))

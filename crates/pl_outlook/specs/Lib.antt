@@ -10,6 +10,7 @@ pub use Rattle.pl_world.specs.PlanStates
 pub use Rattle.pl_world.specs.Timelines
 pub use Rattle.pl_world.specs.Whole
 pub use Rattle.pl_changes.specs.Replaced
+pub use Rattle.pl_values.specs.Shifted
 pub use Rattle.pl_near.specs.Near
 pub use Rattle.pl_lines.specs.Laws
 pub use Rattle.pl_moves.specs.Runs

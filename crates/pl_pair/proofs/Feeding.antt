@@ -37,6 +37,7 @@ use Rattle.pl_pair.specs.declared.rounds.Stage.TheVariants as stage
 use Rattle.pl_pair.specs.Cuts.{cut_by}
 use Rattle.pl_pair.specs.Rounds.{Follows, Looks, IsBetween, lines_behind, RoundEnds}
 use Rattle.std.specs.Prelude.{IsErrOf}
+use Rattle.std.proofs.lemmas.Option.{same_Some}
 use Rattle.pl_stream.specs.Places.{Place}
 use Rattle.pl_pair.specs.Asking.{Asks, HandsOn, HandsNone, Passes, PassesTo}
 use Rattle.pl_pair.specs.Feeds.{spoken, said_in, IsInput, AreInputs, Reads, unasked, asked, Heard, Tells, HandsOne, WritesAll, StepsOn, StepsOut, StepsCut, in_round, at_message, Steps, Feeding, Waiting, FeedsOut, FeedsUntil, FeedsRefused, FeedsTorn, for_lines, for_message, for_reader, refused, stopped, FeedsAll, FeedsToEnd}
@@ -142,9 +143,6 @@ inputs_push [] (y ∷ own) line x are is = absurd are
 inputs_push (l ∷ inputs) [] line x are is = absurd are
 inputs_push (l ∷ inputs) (y ∷ own) line x are is = (are.0, inputs_push inputs own line x are.1 is)
 
-some_bytes : (x y : List ℕ) → Some x ≡ Some y → x ≡ y
-some_bytes x y e = cc
-
 -- a message more
 pub heard_more : (start middle place : Place) (inputs : List (Option (List ℕ))) (message : Option NumberedLine) → Heard start inputs middle → Asks middle (Ok message) place → Heard start (inputs ++ line_in message ∷ []) place
 heard_more start middle place inputs None heard asks =
@@ -165,7 +163,7 @@ heard_more start middle place inputs (Some line) heard asks =
       said = said_more inputs heard.lines gets.lines line.bytes heard.said gets.blank gets.message;
       used = λ front e. absurd (let h : Some line.bytes ≡ None = last_is inputs front (Some line.bytes) None e in (cc));
       last = λ front l e.
-          let same : line.bytes ≡ l = some_bytes line.bytes l (last_is inputs front (Some line.bytes) (Some l) e) in
+          let same : line.bytes ≡ l = same_Some line.bytes l (last_is inputs front (Some line.bytes) (Some l) e) in
           (heard.lines ++ gets.lines, sym (append_assoc heard.lines gets.lines (line.bytes ∷ [])) ∙ ap (λ (x : List ℕ). (heard.lines ++ gets.lines) ++ x ∷ []) same);
       none = λ e. absurd (some_nil inputs (Some line.bytes) (sym e));
     }

@@ -4,6 +4,8 @@ use Rattle.std.specs.Prelude.{◌||◌, if◌then◌else◌}
 use Rattle.std.specs.List.{All}
 use Rattle.std.proofs.lemmas.List.{append-nil}
 use Rattle.std.proofs.lemmas.List.Elements.{All-nil, All-cons}
+use Rattle.std.proofs.lemmas.Option.{same_Some}
+use Rattle.std.proofs.lemmas.Bool.{or_cases}
 use mathlib.Core.List.{IsPrefix}
 use Rattle.pl_turn.specs.History.{IsEachOnce, StandsIn, times_in}
 use Rattle.pl_turn.specs.Passes.{seen_of, mine_of, crew_of, leads, made_by, joined_by, opening_of}
@@ -81,13 +83,10 @@ pub record Whole (m : Model) (before : List Entry) (first planner executive : Pl
   pub stands : All (StandsIn (items_of m log stop)) (mine_of first ∷ mine_of planner ∷ mine_of executive ∷ [])
   pub owners : IsEachOnce (length before) (length (items_of m log stop)) (λ place. times_in place (mine_of first ∷ mine_of planner ∷ mine_of executive ∷ []))
 
-unwrap : {X : Type 0} (x y : X) → Some x ≡ Some y → x ≡ y
-unwrap x y e = cc
-
 pub whole_of : (m : Model) (before : List Entry) (first planner executive : PlanPass) (machine : State) → model_in (seen_of first) ≡ Some m → opening_of first ≡ length before → ClosesAll first planner executive machine
     → Whole m before first planner executive
 whole_of m before first planner executive machine model opening closes =
-    let same : machine.model ≡ m = unwrap machine.model m (sym closes.model ∙ model) in
+    let same : machine.model ≡ m = same_Some machine.model m (sym closes.model ∙ model) in
     let lists = mine_of first ∷ mine_of planner ∷ mine_of executive ∷ [] in
     let W : Model → Type 0 = λ k. Legal k machine.log × IsPrefix (seen_of first) (items_of k machine.log closes.stopped) × IsPrefix (seen_of planner) (items_of k machine.log closes.stopped)
     × IsPrefix (seen_of executive) (items_of k machine.log closes.stopped) × All (StandsIn (items_of k machine.log closes.stopped)) lists
@@ -150,10 +149,6 @@ pub record Settled (m : Model) (held now : Option (List ℕ)) (front : List Note
   pub stands : StandsIn front own
   pub written : WritesAll m held front now
 
-one_full : (a b : Bool) → (a || b) ≡ true → (a ≡ true) ⊎ (b ≡ true)
-one_full true b e = inl refl
-one_full false b e = inr e
-
 -- What is known once the threads are joined, and nothing is said yet of how the feeder ended.
 pub record Joined (m : Model) (before : List Entry) (first : PlanPass) (w1 w2 : Worker) : Type 0 where
   pub plan : SharedPlan
@@ -211,7 +206,7 @@ module _ (m : Model) (before : List Entry) (first : PlanPass) (w1 w2 : Worker) (
 
   -- one of the workers met a full log
   met_full : (is_full w1.refusal || is_full w2.refusal) ≡ true → (r : Role) × IsFullRound r (items_of m joined.whole.log joined.whole.stop)
-  met_full is = by (one_full (is_full w1.refusal) (is_full w2.refusal) is)
+  met_full is = by (or_cases (is_full w1.refusal) (is_full w2.refusal) is)
     where
       by : (is_full w1.refusal ≡ true) ⊎ (is_full w2.refusal ≡ true) → (r : Role) × IsFullRound r (items_of m joined.whole.log joined.whole.stop)
       by (inl e) = (w1.role, refused_full w1.refusal w1.role (items_of m joined.whole.log joined.whole.stop) e why_one)

@@ -107,7 +107,7 @@ entry_back m event.Close r told h hr = ap (λ (x : Reply). answered event.Close 
 
 -- ---- the words have no blank and no newline
 
-code_plain : (c : Code) → plain (code_word c) ≡ true
+pub code_plain : (c : Code) → plain (code_word c) ≡ true
 code_plain code.OpenGoal = refl
 code_plain code.OffGoal = refl
 code_plain code.Late = refl

@@ -1,5 +1,6 @@
 -- A rule with its proof, and rules made of rules. A grammar is read exactly because it is written with these.
 use Rattle.std.proofs.Common.{◌≡◌, ℕ, suc, ◌≤◌, Bool, true, false, ◌&&◌, if◌then◌else◌, List, [], ◌∷◌, length, map, Option, Some, None, ◌⊎◌, inl, inr, Result, Ok, refl, sym, ap, ◌∙◌, subst, arith}
+use Rattle.pl_lists.proofs.Tests.{and_first, and_second}
 use Rattle.pl_text.specs.declared.word.Word.{Word}
 use Rattle.pl_rules.specs.declared.symbol.Symbol.{Symbol}
 use Rattle.pl_rules.specs.declared.token.Token.{Token}
@@ -13,7 +14,7 @@ use Rattle.pl_rules.proofs.Steps.{judged_in_row}
 use Rattle.pl_rules.proofs.TokenTests.{same_word, same_symbol}
 use Rattle.pl_rules.proofs.Loops.{Any, Refuses, FormThen, Onward, more, RuleExact, Starts}
 use Rattle.pl_rules.proofs.Rules.{never, Guards, guards_apart, guards_both, guards_many, SpellsReal, spell_token, token_rule, Starts-both, seq_rule, renamed_down, renamed_rule, many_rule}
-use Rattle.pl_rules.proofs.Sets.{Set, has, nothing, only_word, only_symbol, joined, joined-left, joined-right, disjoint, disjoint-is, within, within-is, and_first, and_second, told_word, told_symbol}
+use Rattle.pl_rules.proofs.Sets.{Set, has, nothing, only_word, only_symbol, joined, joined-left, joined-right, disjoint, disjoint-is, within, within-is, told_word, told_symbol}
 
 pub record Rule (I X : Type 0) : Type 1 where
   -- whether each of its texts has a token, and what the first can be

@@ -1,6 +1,8 @@
 -- Sets of tokens whose relations are computed.
-use Rattle.std.proofs.Common.{◌≡◌, ℕ, Bool, true, false, not, ◌&&◌, ◌||◌, ◌==◌, List, [], ◌∷◌, ◌++◌, refl, ap, ◌∙◌}
-use Rattle.std.proofs.lemmas.Bool.{eqb-true}
+use Rattle.std.proofs.Common.{◌≡◌, ℕ, Bool, true, false, not, ◌&&◌, ◌||◌, ◌==◌, List, [], ◌∷◌, ◌++◌, refl, ap, ◌∙◌, sym}
+use Rattle.std.proofs.lemmas.Bool.{eqb-true, not-true, or_left, or_right}
+use Rattle.std.proofs.Math.Bool.{or-false}
+use Rattle.pl_lists.proofs.Tests.{and_first, and_second, or_weaker}
 use Rattle.pl_rules.specs.declared.token.Token.{Token}
 use Rattle.pl_rules.specs.declared.token.Token.TheVariants as token
 use Rattle.pl_text.specs.declared.word.Word.{Word}
@@ -49,20 +51,8 @@ disjoint s t = none_among s.words t.words && (none_among s.symbols t.symbols && 
 abbrev pub within : Set → Set → Bool
 within s t = all_among s.words t.words && (all_among s.symbols t.symbols && ((not s.names || t.names) && (not s.numbers || t.numbers)))
 
-pub and_first : (a b : Bool) → (a && b) ≡ true → a ≡ true
-and_first true b e = refl
-and_first false b e = e
-
-pub and_second : (a b : Bool) → (a && b) ≡ true → b ≡ true
-and_second true b e = e
-and_second false b e = absurd cc
-
-not_true : (a : Bool) → not a ≡ true → a ≡ false
-not_true true e = absurd cc
-not_true false e = refl
-
 not_both : (a b : Bool) → not (a && b) ≡ true → a ≡ true → b ≡ false
-not_both true b e h = not_true b e
+not_both true b e h = not-true b e
 not_both false b e h = absurd cc
 
 implied : (a b : Bool) → (not a || b) ≡ true → a ≡ true → b ≡ true
@@ -76,7 +66,7 @@ none_at n x xs ys false is first rest h = rest h
 
 none-is : (n : ℕ) (xs ys : List ℕ) → none_among xs ys ≡ true → among n xs ≡ true → among n ys ≡ false
 none-is n [] ys e h = absurd cc
-none-is n (x ∷ xs) ys e h = none_at n x xs ys (n == x) refl (not_true (among x ys) (and_first (not (among x ys)) (none_among xs ys) e)) (none-is n xs ys (and_second (not (among x ys)) (none_among xs ys) e)) h
+none-is n (x ∷ xs) ys e h = none_at n x xs ys (n == x) refl (not-true (among x ys) (and_first (not (among x ys)) (none_among xs ys) e)) (none-is n xs ys (and_second (not (among x ys)) (none_among xs ys) e)) h
 
 all_at : (n x : ℕ) (xs ys : List ℕ) (b : Bool) → (n == x) ≡ b → among x ys ≡ true → (among n xs ≡ true → among n ys ≡ true) → (b || among n xs) ≡ true → among n ys ≡ true
 all_at n x xs ys true is first rest h = ap (λ (m : ℕ). among m ys) (eqb-true n x is) ∙ first
@@ -129,50 +119,34 @@ nothing-has (token.Symbol v) h = absurd cc
 nothing-has (token.Name n) h = absurd cc
 nothing-has (token.Number n) h = absurd cc
 
--- a test that is a set
-or_false : (b : Bool) → b ≡ (b || false)
-or_false true = refl
-or_false false = refl
-
 pub told_word : (w : Word) (t : Token) → is_word w t ≡ has (only_word w) t
-told_word w (token.Word v) = or_false (word_number v == word_number w)
+told_word w (token.Word v) = sym (or-false (word_number v == word_number w))
 told_word w (token.Symbol v) = refl
 told_word w (token.Name n) = refl
 told_word w (token.Number n) = refl
 
 pub told_symbol : (s : Symbol) (t : Token) → is_symbol s t ≡ has (only_symbol s) t
 told_symbol s (token.Word v) = refl
-told_symbol s (token.Symbol v) = or_false (symbol_number v == symbol_number s)
+told_symbol s (token.Symbol v) = sym (or-false (symbol_number v == symbol_number s))
 told_symbol s (token.Name n) = refl
 told_symbol s (token.Number n) = refl
 
-left_or : (a b : Bool) → a ≡ true → (a || b) ≡ true
-left_or a b e = rw e refl
-
-left_at : (a b c : Bool) → (a || b) ≡ true → (b ≡ true → c ≡ true) → (a || c) ≡ true
-left_at true b c h f = refl
-left_at false b c h f = f h
-
-right_at : (a b : Bool) → b ≡ true → (a || b) ≡ true
-right_at true b e = refl
-right_at false b e = e
-
 pub among-append-left : (n : ℕ) (xs ys : List ℕ) → among n xs ≡ true → among n (xs ++ ys) ≡ true
 among-append-left n [] ys h = absurd cc
-among-append-left n (x ∷ xs) ys h = left_at (n == x) (among n xs) (among n (xs ++ ys)) h (among-append-left n xs ys)
+among-append-left n (x ∷ xs) ys h = or_weaker (n == x) (among n xs) (among n (xs ++ ys)) h (among-append-left n xs ys)
 
 pub among-append-right : (n : ℕ) (xs ys : List ℕ) → among n ys ≡ true → among n (xs ++ ys) ≡ true
 among-append-right n [] ys h = h
-among-append-right n (x ∷ xs) ys h = right_at (n == x) (among n (xs ++ ys)) (among-append-right n xs ys h)
+among-append-right n (x ∷ xs) ys h = or_right (n == x) (among n (xs ++ ys)) (among-append-right n xs ys h)
 
 pub joined-left : (s t : Set) (u : Token) → has s u ≡ true → has (joined s t) u ≡ true
 joined-left s t (token.Word v) h = among-append-left (word_number v) s.words t.words h
 joined-left s t (token.Symbol v) h = among-append-left (symbol_number v) s.symbols t.symbols h
-joined-left s t (token.Name n) h = left_or s.names t.names h
-joined-left s t (token.Number n) h = left_or s.numbers t.numbers h
+joined-left s t (token.Name n) h = or_left s.names t.names h
+joined-left s t (token.Number n) h = or_left s.numbers t.numbers h
 
 pub joined-right : (s t : Set) (u : Token) → has t u ≡ true → has (joined s t) u ≡ true
 joined-right s t (token.Word v) h = among-append-right (word_number v) s.words t.words h
 joined-right s t (token.Symbol v) h = among-append-right (symbol_number v) s.symbols t.symbols h
-joined-right s t (token.Name n) h = right_at s.names t.names h
-joined-right s t (token.Number n) h = right_at s.numbers t.numbers h
+joined-right s t (token.Name n) h = or_right s.names t.names h
+joined-right s t (token.Number n) h = or_right s.numbers t.numbers h

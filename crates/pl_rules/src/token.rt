@@ -28,6 +28,7 @@ fn symbol_number(symbol: Symbol) -> u8
 }
 
 impl Token {
+    /// Whether it is this reserved word.
     pub fn is_word(&self, word: Word) -> bool
         ensures { result ≡ same self.now (tokens.Word word) }
     {
@@ -37,6 +38,7 @@ impl Token {
         }
     }
 
+    /// Whether it is this symbol.
     pub fn is_symbol(&self, symbol: Symbol) -> bool
         ensures { result ≡ same self.now (tokens.Symbol symbol) }
     {

@@ -1,5 +1,6 @@
 -- Lines that a reader gave, one after another.
 use Rattle.std.proofs.Common.{◌≡◌, ℕ, ◌+◌, ◌<◌, ◌≤◌, List, [], ◌∷◌, ◌++◌, length, take, Bool, true, false, not, ◌&&◌, nat_lt, if◌then◌else◌, Option, Some, None, IfSome, Result, Ok, Err, refl, sym, ◌∙◌, ap, subst, length-append, arith}
+use Rattle.std.proofs.lemmas.Option.{same_Some}
 use Rattle.pl_io.specs.declared.errors.LineFault.{LineFault}
 use Rattle.pl_io.specs.declared.errors.LineFault.TheVariants as fault
 use Rattle.pl_io.specs.Lines.{first_line, has_newline, lines_of, after_line, next_of, given, ended, line_too_long, input_too_long}
@@ -18,19 +19,16 @@ unfolding next_of
 ended_is_none limit room [] e = refl
 ended_is_none limit room (b ∷ bs) e = absurd (by_tests (nat_lt limit (length (first_line (take room (b ∷ bs))))) (nat_lt room (length (b ∷ bs)) && not (has_newline (take room (b ∷ bs)))) (first_line (b ∷ bs)) (after_line (b ∷ bs)) e)
 
-some_is : {A : Type 0} (x y : A) → Some x ≡ Some y → x ≡ y
-some_is x y e = cc
-
 one_known : (old new : Reader) (before after : Option (List ℕ)) (line : NumberedLine) → IfSome before (λ bytes. IsNextLine old new bytes after line) → GaveKnown old.limit old.room before (line.bytes ∷ []) new.room after
 one_known old new None after line is = tt
 one_known old new (Some bytes) None line is = absurd (let e : None ≡ Some (after_line bytes) = is.rest in (cc))
 one_known old new (Some bytes) (Some rest) line is =
-    (new.room, record { next = is.next; leaves = is.room }, (refl, some_is rest (after_line bytes) is.rest))
+    (new.room, record { next = is.next; leaves = is.room }, (refl, same_Some rest (after_line bytes) is.rest))
 
 none_known : (old : Reader) (before after : Option (List ℕ)) → IfSome before (λ bytes. (next_of old.limit old.room bytes ≡ ended) × (after ≡ Some [])) → GaveKnown old.limit old.room before [] old.room after × IsUsedUp before after
 none_known old None after is = (tt, tt)
 none_known old (Some bytes) None is = absurd (let e : None ≡ Some [] = is.1 in (cc))
-none_known old (Some bytes) (Some rest) is = ((refl, some_is rest [] is.1 ∙ sym (ended_is_none old.limit old.room bytes is.0)), is.1)
+none_known old (Some bytes) (Some rest) is = ((refl, same_Some rest [] is.1 ∙ sym (ended_is_none old.limit old.room bytes is.0)), is.1)
 
 why_known : (old new : Reader) (before after : Option (List ℕ)) (f : LineFault) → IfSome before (λ bytes. Answers old new bytes after (Err f)) → WhyKnown old.limit old.room before f
 why_known old new None after f is = tt

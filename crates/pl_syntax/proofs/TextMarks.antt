@@ -1,8 +1,8 @@
 -- The tokens of a text are marks of the grammar, and tokens that a text can have.
-use Rattle.std.proofs.Common.{◌≡◌, ℕ, zero, suc, pos, ◌+◌, ◌-◌, ◌*◌, ◌^◌, ◌<◌, ◌≤◌, Bool, true, false, ◌&&◌, ◌||◌, if◌then◌else◌, ltb, List, [], ◌∷◌, ◌++◌, length, map, get_or, Option, Some, None, Result, Ok, refl, sym, ap, subst, ◌∙◌, append_assoc, arith}
+use Rattle.std.proofs.Common.{◌≡◌, ℕ, zero, suc, pos, ◌+◌, ◌-◌, ◌*◌, ◌^◌, ◌<◌, ◌≤◌, Bool, true, false, ◌||◌, if◌then◌else◌, ltb, List, [], ◌∷◌, ◌++◌, length, map, get_or, Option, Some, None, Result, Ok, refl, sym, ap, subst, ◌∙◌, append_assoc, arith}
 use Rattle.std.specs.List.{list_all, All}
 use Rattle.std.specs.Option.{IsSome}
-use Rattle.std.proofs.lemmas.Bool.{lt-ltb}
+use Rattle.std.proofs.lemmas.Bool.{lt-ltb, and_parts}
 use Rattle.std.proofs.lemmas.List.{length-append}
 use Rattle.std.proofs.Math.Seq.{take-append_seam, drop-append_seam}
 use Rattle.std.proofs.Math.Nat.{mul-le-mul_right}
@@ -27,10 +27,6 @@ use Rattle.pl_syntax.specs.Marks.{bytes_of, word_or_name, symbol_or_none, mark_o
 
 -- ---- numbers are small
 
-split : (a b : Bool) → (a && b) ≡ true → (a ≡ true) × (b ≡ true)
-split true b e = (refl, e)
-split false b e = absurd cc
-
 grow : (n d p q : ℕ) → d ≤ 9 → q ≡ 10 * p → (n * 10 + d + 1) * p ≤ (n + 1) * q
 grow n d p q le e = rw e (omega (arith, mul-le-mul_right p (small n d le)))
   where
@@ -40,7 +36,7 @@ grow n d p q le e = rw e (omega (arith, mul-le-mul_right p (small n d le)))
 read_on_bound : (n : ℕ) (ds : List ℕ) → list_all is_number_byte ds ≡ true → read_on n ds < (n + 1) * 10 ^ length ds
 read_on_bound n [] all = omega arith
 read_on_bound n (d ∷ ds) all =
-    let parts = split (is_number_byte d) (list_all is_number_byte ds) all in
+    let parts = and_parts (is_number_byte d) (list_all is_number_byte ds) all in
     let range = digit_range d parts.0 in
     let ih = read_on_bound (n * 10 + (d - 48)) ds parts.1 in
     let e : length ds + 1 ≡ suc (length ds) = omega arith in

@@ -36,6 +36,7 @@ fn mark(alloc: Global, text: &[u8], token: &pl_text::Token) -> Result<Token, All
     }
 }
 
+/// The tokens as the grammar sees them, in their order.
 pub fn marks(
     alloc: Global,
     text: &[u8],

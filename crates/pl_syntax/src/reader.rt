@@ -38,6 +38,7 @@ fn natural_of(number: i64) -> Option<u64>
 }
 
 impl<'a> Reader<'a> {
+    /// Over all tokens of a text.
     pub fn new(alloc: Global, tokens: &'a [Token]) -> Self
         ensures { result.rest.now ≡ tokens.now }
     {

@@ -1,9 +1,10 @@
 -- What is kept after each step, and after a replacement.
 use Rattle.std.proofs.Common.{◌≡◌, ℕ, eqb, Bool, true, false, List, [], ◌∷◌, ◌++◌, map, refl, sym, ap, ◌∙◌, subst}
-use Rattle.std.specs.Prelude.{◌||◌, Option, Some, None, if◌then◌else◌}
+use Rattle.std.specs.Prelude.{Option, Some, None, if◌then◌else◌}
 use Rattle.std.specs.Option.{option_or, option_map}
 use Rattle.std.proofs.lemmas.Bool.{eqb-true}
 use Rattle.std.proofs.lemmas.List.Folds.{list_any-append}
+use Rattle.pl_lists.proofs.Tests.{or_first_false, or_second_false}
 use Rattle.pl_plan.specs.declared.activity.Activity.{Activity}
 use Rattle.pl_plan.specs.declared.evaluated.Evaluated.{Evaluated}
 use Rattle.pl_plan.specs.Activities.{activity_of}
@@ -19,14 +20,6 @@ use Rattle.pl_changes.proofs.Finding.{found-replaced}
 use Rattle.pl_values.specs.Kept.{kept_at, comes_to, come_to, AreOf, KeepsUp}
 
 -- ---- numbers among others
-
-or_left : (a b : Bool) → (a || b) ≡ false → a ≡ false
-or_left true b e = e
-or_left false b e = refl
-
-or_right : (a b : Bool) → (a || b) ≡ false → b ≡ false
-or_right true b e = absurd (cc)
-or_right false b e = e
 
 not_both : (n : ℕ) (xs ys : List ℕ) → among n xs ≡ false → among n ys ≡ false → among n (xs ++ ys) ≡ false
 not_both n xs ys e f = list_any-append (λ i. eqb i n) xs ys ∙ rw e f
@@ -44,7 +37,7 @@ found_id id (x ∷ xs) a e = cases (eqb x.id id) refl (found_id id xs a)
 
 not_there : (q : ℕ) (more : List Activity) → among q (map id_of more) ≡ false → activity_of q more ≡ None
 not_there q [] none = refl
-not_there q (x ∷ more) none = rw (or_left (eqb x.id q) (among q (map id_of more)) none) (not_there q more (or_right (eqb x.id q) (among q (map id_of more)) none))
+not_there q (x ∷ more) none = rw (or_first_false (eqb x.id q) (among q (map id_of more)) none) (not_there q more (or_second_false (eqb x.id q) (among q (map id_of more)) none))
 
 module _ (s : PlanState) (gone : List ℕ) (more : List Activity) (whole : IsWhole s) (can : CanReplace s gone more) where
   abbrev now : List Activity

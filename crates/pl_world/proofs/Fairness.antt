@@ -3,9 +3,8 @@ use Rattle.std.proofs.Common.{◌≡◌, ℕ, ◌+◌, ◌≤◌, ◌<◌, Bool,
 use Rattle.std.specs.Prelude.{All, map, filter, nat_lt, nat_le, ◌==◌, ◌&&◌, ℤ, pos, negsuc, ◌+ℤ◌, ◌-ℤ◌, Option, Some, None, option_and_then, slice_get}
 use Rattle.std.specs.Int.{int_min, int_max}
 use Rattle.std.specs.List.{flat_map}
-use Rattle.std.proofs.lemmas.Bool.{leb-true, ltb-true}
+use Rattle.std.proofs.lemmas.Bool.{leb-true, ltb-true, and_parts}
 use Rattle.std.proofs.lemmas.List.Elements.{All-nil, All-cons, All-append, All-map, All-filter, All-take}
-use Rattle.pl_lists.proofs.Tests.{both_true}
 use Rattle.pl_conflict.specs.declared.conflict.Conflict.{Conflict}
 use Rattle.pl_conflict.specs.declared.conflict.Code.{Code}
 use Rattle.pl_conflict.specs.declared.conflict.Code.TheVariants as code
@@ -58,7 +57,7 @@ module _ (s : PlanState) where
   started make fair (pos n) = by (nat_le 1 n && nat_lt n s.model.horizon) refl
     where
       by : (b : Bool) → (nat_le 1 n && nat_lt n s.model.horizon) ≡ b → Are (cond b (make n ∷ []) [])
-      by true e = let within : (nat_le 1 n ≡ true) × (nat_lt n s.model.horizon ≡ true) = both_true (nat_le 1 n) (nat_lt n s.model.horizon) e in one (make n) (fair n (leb-true 1 n within.0) (ltb-true n s.model.horizon within.1))
+      by true e = let within : (nat_le 1 n ≡ true) × (nat_lt n s.model.horizon ≡ true) = and_parts (nat_le 1 n) (nat_lt n s.model.horizon) e in one (make n) (fair n (leb-true 1 n within.0) (ltb-true n s.model.horizon within.1))
       by false e = none
 
   shift_fair : (id : ℕ) (v : ℤ) → Are (starting s (shift_to id) v)

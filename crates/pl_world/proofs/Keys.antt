@@ -4,7 +4,7 @@ use Rattle.std.specs.Prelude.{◌||◌, find, Some}
 use Rattle.std.specs.List.{list_any, flat_map}
 use Rattle.std.proofs.lemmas.Bool.{eqb-true, eqb-false, ne_eqb}
 use Rattle.std.proofs.lemmas.List.Folds.{list_any_none}
-use Rattle.pl_lists.proofs.Tests.{or_false}
+use Rattle.std.proofs.Math.Bool.{or-false}
 use Rattle.pl_conflict.specs.declared.conflict.Conflict.{Conflict}
 use Rattle.pl_conflict.specs.Order.{has}
 use Rattle.pl_conflict.proofs.Sorting.{has-append}
@@ -41,7 +41,7 @@ module _ {X : Type 0} (key : X → ℕ) (f : X → List Conflict) (k : Conflict)
   by_key (x ∷ xs) apart = has-append (f x) (flat_map f xs) k ∙ cases (eqb (key x) n) refl (by_key xs apart.1)
     where
       cases : (b : Bool) → eqb (key x) n ≡ b → has k (flat_map f xs) ≡ has k (of_found f (find (λ x. eqb (key x) n) xs)) → (has k (f x) || has k (flat_map f xs)) ≡ has k (of_found f (find (λ x. eqb (key x) n) (x ∷ xs)))
-      cases true e more = let none : list_any (λ y. eqb (key y) n) xs ≡ false = subst (λ m. list_any (λ y. eqb (key y) m) xs ≡ false) (eqb-true (key x) n e) apart.0 in rw (e, none_of xs none) (or_false (has k (f x)))
+      cases true e more = let none : list_any (λ y. eqb (key y) n) xs ≡ false = subst (λ m. list_any (λ y. eqb (key y) m) xs ≡ false) (eqb-true (key x) n e) apart.0 in rw (e, none_of xs none) (or-false (has k (f x)))
       cases false e more = rw (e, not_of x e) more
 
 -- ---- goals by number

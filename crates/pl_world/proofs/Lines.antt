@@ -4,6 +4,7 @@ use Rattle.std.specs.Prelude.{◌||◌, find, slice_get, Option, Some, None}
 use Rattle.std.specs.Option.{option_map}
 use Rattle.std.specs.List.{list_any, flat_map}
 use Rattle.std.proofs.lemmas.Bool.{eq-eqb, ne_eqb}
+use Rattle.std.proofs.lemmas.Option.{same_Some}
 use Rattle.pl_conflict.specs.declared.conflict.Conflict.{Conflict}
 use Rattle.pl_conflict.specs.declared.conflict.Code.TheVariants as code
 use Rattle.pl_conflict.specs.Order.{has}
@@ -70,9 +71,6 @@ by_line s rising q = by (owner_of s q) refl
     by : (o : Option ℕ) → owner_of s q ≡ o → has q (timeline_conflicts s) ≡ has q (of_found (line_conflicts_of s) o)
     by None e = nowhere s q rising e (lines_of s)
     by (Some n) e =
-        by_key (λ (y : ℕ × Timeline). y.0) (line_conflicts s) q n (λ y h. same n y.0 (sym e ∙ about s rising y.0 y.1 q h)) (lines_of s) (numbers_apart 0 s.model.timelines)
+        by_key (λ (y : ℕ × Timeline). y.0) (line_conflicts s) q n (λ y h. same_Some n y.0 (sym e ∙ about s rising y.0 y.1 q h)) (lines_of s) (numbers_apart 0 s.model.timelines)
         ∙ ap (λ o. has q (of_found (line_conflicts s) o)) (find_number 0 n n s.model.timelines (omega arith))
         ∙ ap (λ ks. has q ks) (found_made s n (slice_get s.model.timelines n))
-      where
-        same : (m k : ℕ) → Some m ≡ Some k → m ≡ k
-        same m k is = cc

@@ -3,7 +3,7 @@ use Rattle.std.proofs.Common.{◌≡◌, Bool, true, false, List, [], ◌∷◌,
 use Rattle.std.specs.Prelude.{◌||◌, All, map, Option, Some, None}
 use Rattle.std.specs.List.{flat_map}
 use Rattle.std.proofs.lemmas.List.Elements.{All-head, All-tail}
-use Rattle.pl_lists.proofs.Tests.{or_false}
+use Rattle.std.proofs.Math.Bool.{or-false}
 use Rattle.pl_conflict.specs.declared.conflict.Conflict.{Conflict}
 use Rattle.pl_conflict.specs.Order.{has}
 use Rattle.pl_conflict.proofs.Sorting.{same_is, has-append}
@@ -17,7 +17,7 @@ module _ (P : Conflict → Type 0) where
   each_none q h = absurd (cc)
 
   pub each_one : (k : Conflict) → P k → Each P (k ∷ [])
-  each_one k p q h = subst P (sym (same_is q k (sym (or_false _) ∙ h))) p
+  each_one k p q h = subst P (sym (same_is q k (sym (or-false _) ∙ h))) p
 
   pub each_append : (xs ys : List Conflict) → Each P xs → Each P ys → Each P (xs ++ ys)
   each_append xs ys one two q h = cases (has q xs) refl (sym (has-append xs ys q) ∙ h)

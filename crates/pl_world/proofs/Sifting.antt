@@ -1,24 +1,17 @@
 -- What is left of the moves that are tried.
 use Rattle.std.proofs.Common.{◌≡◌, ℕ, ◌≤◌, ◌<◌, min, Bool, true, false, cond, List, [], ◌∷◌, length, take, refl, arith}
-use Rattle.std.specs.Prelude.{All, AllPairs, ◌||◌, not, filter}
+use Rattle.std.specs.Prelude.{All, AllPairs, not, filter}
 use Rattle.std.specs.List.{list_any}
 use Rattle.std.proofs.lemmas.List.{length-take, get_or-take}
 use Rattle.std.proofs.lemmas.List.Elements.{All-nil, All-cons, All-head, All-tail, All-take, All-weaker, filter_passes}
 use Rattle.std.proofs.lemmas.List.Kept.{AllPairs-cons}
-use Rattle.pl_lists.proofs.Tests.{both_true}
+use Rattle.std.proofs.lemmas.Bool.{and_parts, not-true}
+use Rattle.pl_lists.proofs.Tests.{or_second_false, or_first_false}
 use Rattle.pl_conflict.specs.declared.conflict.Conflict.{Conflict}
 use Rattle.pl_plan.specs.declared.repair.RepairMove.{RepairMove}
 use Rattle.pl_world.specs.declared.plan_state.PlanState.{PlanState}
 use Rattle.pl_world.specs.Moves.{is_proper}
 use Rattle.pl_world.specs.Candidates.{tried_for, is_worth, changes_nothing, same_move, once_from, candidates_of}
-
-neither_or : (a b : Bool) → (a || b) ≡ false → b ≡ false
-neither_or true b e = absurd (cc)
-neither_or false b e = e
-
-first_or : (a b : Bool) → (a || b) ≡ false → a ≡ false
-first_or true b e = absurd (cc)
-first_or false b e = refl
 
 pub once_keeps : (P : RepairMove → Type 0) (seen xs : List RepairMove) → All P xs → All P (once_from seen xs)
 once_keeps P seen [] all = all
@@ -33,14 +26,10 @@ unfolding candidates_of
 worth s k = All-take (λ m. is_worth s m ≡ true) 256 (once_from [] (filter (is_worth s) (tried_for s k k.code))) (once_keeps (λ m. is_worth s m ≡ true) [] (filter (is_worth s) (tried_for s k k.code)) (filter_passes (is_worth s) (tried_for s k k.code)))
 
 pub proper : (s : PlanState) (k : Conflict) → All (λ m. is_proper s m ≡ true) (candidates_of s k)
-proper s k = All-weaker (λ m. is_worth s m ≡ true) (λ m. is_proper s m ≡ true) (λ m h. (both_true (is_proper s m) (not (changes_nothing s m)) h).0) (candidates_of s k) (worth s k)
+proper s k = All-weaker (λ m. is_worth s m ≡ true) (λ m. is_proper s m ≡ true) (λ m h. (and_parts (is_proper s m) (not (changes_nothing s m)) h).0) (candidates_of s k) (worth s k)
 
 pub changing : (s : PlanState) (k : Conflict) → All (λ m. changes_nothing s m ≡ false) (candidates_of s k)
-changing s k = All-weaker (λ m. is_worth s m ≡ true) (λ m. changes_nothing s m ≡ false) (λ m h. turned (changes_nothing s m) (both_true (is_proper s m) (not (changes_nothing s m)) h).1) (candidates_of s k) (worth s k)
-  where
-    turned : (b : Bool) → not b ≡ true → b ≡ false
-    turned true e = absurd (cc)
-    turned false e = refl
+changing s k = All-weaker (λ m. is_worth s m ≡ true) (λ m. changes_nothing s m ≡ false) (λ m h. not-true (changes_nothing s m) (and_parts (is_proper s m) (not (changes_nothing s m)) h).1) (candidates_of s k) (worth s k)
 
 pub at_most : (s : PlanState) (k : Conflict) → length (candidates_of s k) ≤ 256
 unfolding candidates_of
@@ -54,7 +43,7 @@ unseen seen (m ∷ more) = cases (list_any (same_move m) seen) refl (unseen seen
   where
     cases : (b : Bool) → list_any (same_move m) seen ≡ b → All (λ x. list_any (same_move x) seen ≡ false) (once_from seen more) → All (λ x. list_any (same_move x) (m ∷ seen) ≡ false) (once_from (m ∷ seen) more) → All (λ x. list_any (same_move x) seen ≡ false) (cond b (once_from seen more) (m ∷ once_from (m ∷ seen) more))
     cases true e left right = left
-    cases false e left right = All-cons (λ x. list_any (same_move x) seen ≡ false) m (once_from (m ∷ seen) more) e (All-weaker (λ x. list_any (same_move x) (m ∷ seen) ≡ false) (λ x. list_any (same_move x) seen ≡ false) (λ x h. neither_or (same_move x m) (list_any (same_move x) seen) h) (once_from (m ∷ seen) more) right)
+    cases false e left right = All-cons (λ x. list_any (same_move x) seen ≡ false) m (once_from (m ∷ seen) more) e (All-weaker (λ x. list_any (same_move x) (m ∷ seen) ≡ false) (λ x. list_any (same_move x) seen ≡ false) (λ x h. or_second_false (same_move x m) (list_any (same_move x) seen) h) (once_from (m ∷ seen) more) right)
 
 apart_once : (seen xs : List RepairMove) → AllPairs (λ one other. same_move other one ≡ false) (once_from seen xs)
 apart_once seen [] = λ i j d lt within. absurd (omega (arith, lt, within))
@@ -62,7 +51,7 @@ apart_once seen (m ∷ more) = cases (list_any (same_move m) seen) (apart_once s
   where
     cases : (b : Bool) → AllPairs (λ one other. same_move other one ≡ false) (once_from seen more) → AllPairs (λ one other. same_move other one ≡ false) (once_from (m ∷ seen) more) → AllPairs (λ one other. same_move other one ≡ false) (cond b (once_from seen more) (m ∷ once_from (m ∷ seen) more))
     cases true left right = left
-    cases false left right = AllPairs-cons (λ one other. same_move other one ≡ false) m (once_from (m ∷ seen) more) (All-weaker (λ x. list_any (same_move x) (m ∷ seen) ≡ false) (λ x. same_move x m ≡ false) (λ x h. first_or (same_move x m) (list_any (same_move x) seen) h) (once_from (m ∷ seen) more) (unseen (m ∷ seen) more)) right
+    cases false left right = AllPairs-cons (λ one other. same_move other one ≡ false) m (once_from (m ∷ seen) more) (All-weaker (λ x. list_any (same_move x) (m ∷ seen) ≡ false) (λ x. same_move x m ≡ false) (λ x h. or_first_false (same_move x m) (list_any (same_move x) seen) h) (once_from (m ∷ seen) more) (unseen (m ∷ seen) more)) right
 
 pub none_twice : (s : PlanState) (k : Conflict) → AllPairs (λ one other. same_move other one ≡ false) (candidates_of s k)
 unfolding candidates_of

@@ -4,14 +4,9 @@ use Rattle.std.specs.Prelude.{ℤ, pos, negsuc, ◌+ℤ◌, ◌-ℤ◌, ◌≤�
 use Rattle.std.proofs.lemmas.Bool.{leb-true, leb-false}
 use Rattle.std.proofs.lemmas.Int.{ints}
 use Rattle.std.proofs.Math.Nat.{suc-mul, lt-mul-div-succ, mul-le-mul_right}
+use Rattle.pl_lists.proofs.Numbers.{le_to_test, lt_to_test}
 use Rattle.pl_world.specs.PlanStates.{natural}
 use Rattle.pl_world.specs.Starts.{stride, stride_of, steps_from, spread}
-
-le_true : (a b : ℤ) → a ≤ℤ b → int_le a b ≡ true
-le_true a b h = grind (arith, ints)
-
-le_false : (a b : ℤ) → b <ℤ a → int_le a b ≡ false
-le_false a b h = grind (arith, ints)
 
 one_more : (low : ℤ) (step i : ℕ) → low +ℤ pos (suc i * step) ≡ (low +ℤ pos step) +ℤ pos (i * step)
 one_more low step i = rw (suc-mul i step) (omega (arith, ints))
@@ -31,19 +26,19 @@ step_here zero low high step i lt le = absurd (omega (arith, lt))
 step_here (suc n) low high step zero lt le =
     let here : low +ℤ pos (zero * step) ≡ low = omega (arith, ints) in
     let first : low ≤ℤ high = omega (arith, ints, le) in
-    rw (le_true low high first) (ap Some (sym here))
+    rw (le_to_test low high first) (ap Some (sym here))
 step_here (suc n) low high step (suc i) lt le =
     let there : low +ℤ pos (suc i * step) ≡ (low +ℤ pos step) +ℤ pos (i * step) = one_more low step i in
     let within : ((low +ℤ pos step) +ℤ pos (i * step)) ≤ℤ high = subst (λ z. z ≤ℤ high) there le in
     let first : low ≤ℤ high = omega (arith, ints, within) in
     let rest : slice_get (steps_from n (low +ℤ pos step) high step) i ≡ Some ((low +ℤ pos step) +ℤ pos (i * step)) = step_here n (low +ℤ pos step) high step i (omega (arith, lt)) within in
-    rw (le_true low high first) (rest ∙ ap Some (sym there))
+    rw (le_to_test low high first) (rest ∙ ap Some (sym there))
 
 step_past : (n : ℕ) (low high : ℤ) (step i : ℕ) → high <ℤ (low +ℤ pos (i * step)) → slice_get (steps_from n low high step) i ≡ None
 step_past zero low high step i gt = refl
 step_past (suc n) low high step zero gt =
     let past : high <ℤ low = omega (arith, ints, gt) in
-    rw (le_false low high past) refl
+    rw (lt_to_test low high past) refl
 step_past (suc n) low high step (suc i) gt = cases (int_le low high) (step_past n (low +ℤ pos step) high step i (subst (λ z. high <ℤ z) (one_more low step i) gt))
   where
     cases : (b : Bool) → slice_get (steps_from n (low +ℤ pos step) high step) i ≡ None → slice_get (cond b (low ∷ steps_from n (low +ℤ pos step) high step) []) (suc i) ≡ None

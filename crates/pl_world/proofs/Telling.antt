@@ -6,6 +6,7 @@ use Rattle.std.specs.List.{flat_map}
 use Rattle.std.proofs.lemmas.Bool.{lt-ltb}
 use Rattle.std.proofs.lemmas.Int.{ints}
 use Rattle.std.proofs.lemmas.List.Elements.{All-nil, All-cons, All-head, All-tail, All-append, All-map}
+use Rattle.std.proofs.lemmas.Option.{same_Some}
 use Rattle.pl_facts.specs.Bases.{base_of}
 use Rattle.pl_model.specs.declared.kinds.Kind.{Kind}
 use Rattle.pl_model.specs.declared.whole.Model.{Model}
@@ -52,11 +53,8 @@ found_started id (x ∷ xs) a all is = by (eqb x.id id) refl (found_started id x
 ends_with : (horizon : ℕ) (k : Kind) (start : ℕ) (values : Row) (end : ℕ) → 1 ≤ start → end_with horizon k start values ≡ Some end → 1 ≤ end
 ends_with horizon k start values end le is = by (is_firm_with horizon k values) (duration_in horizon k values) is
   where
-    some : (m n : ℕ) → Some m ≡ Some n → m ≡ n
-    some m n e = cc
-
     by : (b : Bool) (o : Option ℕ) → cond b (option_map (λ d. start + d) o) None ≡ Some end → 1 ≤ end
-    by true (Some d) e = let same : start + d ≡ end = some (start + d) end e in omega (arith, le, same)
+    by true (Some d) e = let same : start + d ≡ end = same_Some (start + d) end e in omega (arith, le, same)
     by true None e = absurd (cc)
     by false o e = absurd (cc)
 

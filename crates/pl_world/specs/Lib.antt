@@ -1,8 +1,10 @@
+pub use Rattle.pl_model.specs.Checked
 pub use Rattle.pl_conflict.specs.Order
 pub use Rattle.pl_conflict.specs.Sorting
 pub use Rattle.pl_points.specs.Sums
 pub use Rattle.pl_facts.specs.Goals as AcceptedGoals
 pub use Rattle.pl_plan.specs.Activities as PlanActivities
+pub use Rattle.pl_plan.specs.Fitting
 pub mod PlanStates
 pub mod Whole
 pub mod Goals

@@ -9,6 +9,7 @@ pub struct Demand {
     pub asked: Asked,
 }
 
+/// The reservation itself, by the sort of its timeline: states are set, or must stand.
 #[derive(Clone, Copy, Debug, PartialEq, Eq)]
 pub enum Asked {
     Use(Use),

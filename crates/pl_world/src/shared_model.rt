@@ -25,12 +25,14 @@ impl std::marker::Model for SharedModel {
 }
 
 impl SharedModel {
+    /// A first owner.
     pub fn new(model: Arc<Model>) -> SharedModel
         ensures { result ≡ arc_value model }
     {
         SharedModel { model }
     }
 
+    /// The model, which all owners share.
     pub fn get(&self) -> &Model
         ensures { result.now ≡ self.now }
     {

@@ -163,6 +163,7 @@ impl<'a> Reader<'a> {
         Ok(AstAlternative { slots, orders })
     }
 
+    /// Takes alternatives as long as one begins.
     #[tactic(auto, using(pl_rules::proofs::Turns::many_goes, pl_rules::proofs::Turns::many_fails, pl_rules::proofs::Turns::many_stops, pl_rules::proofs::Turns::many_ends), unfolding(crate::specs::Reading::alternatives_at))]
     pub fn alternatives(&mut self) -> Result<Items<AstAlternative>, Stopped>
         ensures { Gives result self.new.rest.now (alternatives_at 32 32 self.old.rest.now) }

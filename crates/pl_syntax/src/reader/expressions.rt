@@ -239,6 +239,7 @@ impl<'a> Reader<'a> {
         Ok(left)
     }
 
+    /// Takes an expression of at most so many levels, with brackets at most so deep, and tells how many levels it has.
     #[cycle(expr)]
     #[tactic(auto, using(crate::proofs::ExprExact::expr_at_is), unfolding(crate::specs::ReadingExpressions::expr_with))]
     pub fn expr(&mut self, levels: u32, brackets: u32) -> Result<(AstExpr, u32), Stopped>

@@ -62,6 +62,7 @@ impl<'a> Reader<'a> {
         Ok(params)
     }
 
+    /// Takes a kind of activity.
     #[tactic(auto, unfolding(crate::specs::Reading::kind_at))]
     pub fn kind(&mut self) -> Result<AstKind, Stopped>
         ensures { Gives result self.new.rest.now (kind_at 32 32 self.old.rest.now) }

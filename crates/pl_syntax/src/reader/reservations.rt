@@ -100,6 +100,7 @@ impl<'a> Reader<'a> {
         }
     }
 
+    /// Takes reservations as long as one begins.
     #[tactic(auto, using(pl_rules::proofs::Turns::many_goes, pl_rules::proofs::Turns::many_fails, pl_rules::proofs::Turns::many_stops, pl_rules::proofs::Turns::many_ends), unfolding(crate::specs::Reading::reservations_at))]
     pub fn reservations(&mut self) -> Result<Items<AstReservation>, Stopped>
         ensures { Gives result self.new.rest.now (reservations_at 32 32 self.old.rest.now) }
@@ -134,6 +135,7 @@ impl<'a> Reader<'a> {
         })
     }
 
+    /// Takes links as long as one begins.
     #[tactic(auto, using(pl_rules::proofs::Turns::many_goes, pl_rules::proofs::Turns::many_fails, pl_rules::proofs::Turns::many_stops, pl_rules::proofs::Turns::many_ends), unfolding(crate::specs::Reading::links_at))]
     pub fn links(&mut self) -> Result<Items<AstLink>, Stopped>
         ensures { Gives result self.new.rest.now (links_at self.old.rest.now) }

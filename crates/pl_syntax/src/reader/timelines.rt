@@ -124,6 +124,7 @@ impl<'a> Reader<'a> {
         })
     }
 
+    /// Takes a timeline of any sort.
     #[tactic(auto, unfolding(crate::specs::Reading::timeline_at))]
     pub fn timeline(&mut self) -> Result<AstTimeline, Stopped>
         ensures { Gives result self.new.rest.now (timeline_at self.old.rest.now) }

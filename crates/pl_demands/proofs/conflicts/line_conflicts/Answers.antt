@@ -11,5 +11,5 @@ add_levels-requires-clause-least c = raw_level c.in-Level.least (checked_line c.
 pub add_levels-requires-clause-most : goal.add_levels-requires-clause-most
 add_levels-requires-clause-most c = raw_level c.in-Level.most (checked_line c.args.s.now c.requires.whole c.args.line _ (c.requires.line ∙ ap Some c.in-Level.is)).1
 
-pub add_states-requires-clause-base : goal.add_states-requires-clause-base
-add_states-requires-clause-base c = states_limits c.args.s.now c.requires.whole c.args.line _ (c.requires.line ∙ ap Some c.in-States.is) tt
+pub states_of-requires-clause-base : goal.states_of-requires-clause-base
+states_of-requires-clause-base c = states_limits c.args.s.now c.requires.whole c.args.line _ (c.requires.line ∙ ap Some c.in-States.is) tt
