@@ -67,7 +67,7 @@ def commands_that_differ(program, text):
 
 
 def main():
-    program = sys.argv[1] if len(sys.argv) > 1 else str(TOP / "crates/lundocsef/out/lundocsef")
+    program = str(pathlib.Path(sys.argv[1]).resolve() if len(sys.argv) > 1 else TOP / "crates/lundocsef/out/lundocsef")
     known, complaints = lines_of_examples(program)
     for page in PAGES:
         text = page.read_text()
