@@ -37,7 +37,7 @@ adds_more old mid new line rest whole front adds = record {
   all = append_assoc front.text line rest ∙ front.all;
 }
 
-opened_short : (m : Model) (o : Option Options) (answer : Reply) (es : List Entry) → IsOpenedRun m o answer es → length es + 1 ≤ 250000
+pub opened_short : (m : Model) (o : Option Options) (answer : Reply) (es : List Entry) → IsOpenedRun m o answer es → length es + 1 ≤ 250000
 opened_short m None answer es run = absurd run
 opened_short m (Some o) answer es run = omega (arith, run.bounded, run.options.entries.1)
 
