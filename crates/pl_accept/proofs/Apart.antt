@@ -3,7 +3,6 @@ use Rattle.std.proofs.Common.{◌≡◌, ◌≢◌, ℕ, suc, ◌+◌, ◌*◌, 
 use Rattle.std.proofs.lemmas.Int.{ints}
 use Rattle.std.specs.Prelude.{slice_index}
 use Rattle.pl_text.specs.declared.token.Token.{Token as Piece}
-use Rattle.pl_text.specs.Tokens.{tokens_of}
 use Rattle.pl_rules.specs.declared.token.Token.{Token}
 use Rattle.pl_rules.specs.Faults.{Stop, Judged}
 use Rattle.pl_stn.specs.declared.net.Net.{Net}
@@ -27,7 +26,7 @@ use Rattle.pl_syntax.specs.Reading.{read_all}
 use Rattle.pl_syntax.specs.Marks.{marks_of}
 use Rattle.pl_syntax.specs.Answers.{ReadsText, longest, Answers as Read}
 use Rattle.pl_syntax.proofs.ReadExact.{read_exact}
-use Rattle.pl_syntax.proofs.Answered.{found_short}
+use Rattle.pl_syntax.proofs.Answered.{found_short, same_tokens}
 use Rattle.pl_check.specs.declared.fault.ModelFault.{ModelFault}
 use Rattle.pl_check.specs.declared.fault.ModelFault.TheVariants as fault
 use Rattle.pl_check.specs.declared.drafts.Draft.{Draft}
@@ -49,9 +48,6 @@ use Rattle.pl_accept.specs.Accepting.{IsModelText, IsRefusedAs, by_syntax, by_ch
 judged_one : (ts : List Token) (r : Result Ast Stop) (a b : Ast) → Judged (Reads limits) ReadsFree ts r → Reads limits ts a → Reads limits ts b → a ≡ b
 judged_one ts (Ok d) a b j h g = sym (j.1 a h) ∙ j.1 b g
 judged_one ts (Err s) a b j h g = absurd (j.0 a h)
-
-pub same_tokens : (text : List ℕ) (ts us : List Piece) → tokens_of text ≡ Ok ts → tokens_of text ≡ Ok us → ts ≡ us
-same_tokens text ts us e f = let g = sym e ∙ f in cc
 
 pub one_tree : (text : List ℕ) (a b : Ast) → ReadsText text a → ReadsText text b → a ≡ b
 one_tree text a b h g =

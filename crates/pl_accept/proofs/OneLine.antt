@@ -17,7 +17,8 @@ use Rattle.pl_syntax.specs.Expressions.{limits}
 use Rattle.pl_syntax.specs.Grammar.{Reads, ReadsFree}
 use Rattle.pl_syntax.specs.Marks.{marks_of, place_of}
 use Rattle.pl_syntax.specs.Answers.{IsFirstBadAt, Answers as Read}
-use Rattle.pl_syntax.proofs.TextMarks.{marks_real}
+use Rattle.pl_syntax.proofs.TextMarks.{marks_real, real_append}
+use Rattle.pl_syntax.proofs.Answered.{same_tokens}
 use Rattle.pl_check.specs.declared.fault.ModelFault.{ModelFault}
 use Rattle.pl_check.specs.declared.fault.ModelFault.TheVariants as fault
 use Rattle.pl_check.specs.declared.drafts.Draft.{Draft}
@@ -25,13 +26,14 @@ use Rattle.pl_check.specs.declared.drafts.DraftKind.{DraftKind}
 use Rattle.pl_check.specs.Judgements as judge
 use Rattle.pl_check.specs.Drafting.{kinds_in}
 use Rattle.pl_check.specs.Cycles.{Graph, IsFirstCyclic}
-use Rattle.pl_check.specs.Dependencies.{IsWellFounded, AreWellFounded, AreUncontained, param_graph, IsFirstCircularIn, IsFirstCircular, IsFirstRecursive}
+use Rattle.pl_check.specs.Dependencies.{IsWellFounded, param_graph, IsFirstCircularIn, IsFirstCircular, IsFirstRecursive}
 use Rattle.pl_check.specs.Networks.{span_of}
 use Rattle.pl_check.specs.Schedules.{HasSchedule, IsScheduled, IsFirstConflict, IsFirstUnscheduled}
 use Rattle.pl_check.specs.Checked.{drafted, spans_in, IsFault, AnswersDrafts, AnswersJudged, Answers as Checked}
+use Rattle.pl_check.proofs.AcceptanceLemmas.{not_circular, not_recursive}
 use Rattle.pl_accept.specs.Refusals.{syntax_text, fault_text, refusal_line}
 use Rattle.pl_accept.specs.Accepting.{IsRefusedAs, by_syntax, by_check}
-use Rattle.pl_accept.proofs.Apart.{same_tokens, one_tree, syntax_apart}
+use Rattle.pl_accept.proofs.Apart.{one_tree, syntax_apart}
 
 same_place : (i j : ℕ) → (i < j → ⊥) → (j < i → ⊥) → i ≡ j
 same_place zero zero f g = refl
@@ -56,10 +58,6 @@ split (t ∷ ts) (suc i) (suc j) le r = let s = split ts i j (omega (arith, le))
 assoc : (xs ys zs : List Token) → (xs ++ ys) ++ zs ≡ xs ++ (ys ++ zs)
 assoc [] ys zs = refl
 assoc (x ∷ xs) ys zs = ap (λ (l : List Token). x ∷ l) (assoc xs ys zs)
-
-real_append : (xs ys : List Token) → AreReal xs → AreReal ys → AreReal (xs ++ ys)
-real_append [] ys r s = s
-real_append (x ∷ xs) ys r s = (r.0, real_append xs ys r.1 s)
 
 module _ {D : Type 0} (R F : Language D) (ts : List Token) (real : AreReal ts) where
   earlier : (i j : ℕ) → i ≤ j → Begins R (take j ts) → Begins R (take i ts)
@@ -181,12 +179,6 @@ circular_same kinds n p m q f g =
     (λ lt. not_founded g.kind m q (at_taken IsWellFounded kinds f.place g.place g.kind lt f.earlier g.found) g.first) in
     circular_in f.kind g.kind n p m q (found_same kinds f.place g.place f.kind g.kind f.found g.found place) f.first g.first
 
-no_circular : (kinds : List DraftKind) (n p : List ℕ) → AreWellFounded kinds → IsFirstCircular kinds n p → ⊥
-no_circular kinds n p w f = not_founded f.kind n p (all_at IsWellFounded kinds f.place f.kind w f.found) f.first
-
-no_recursive : (kinds : List DraftKind) (n : List ℕ) → AreUncontained kinds → IsFirstRecursive kinds n → ⊥
-no_recursive kinds n u f = u.each f.place f.first.vertex f.first.cyclic
-
 recursive_same : (kinds : List DraftKind) (n m : List ℕ) → IsFirstRecursive kinds n → IsFirstRecursive kinds m → fault_text (fault.Recursive n) ≡ fault_text (fault.Recursive m)
 recursive_same kinds n m f g =
     let place = cyclic_same _ f.place g.place f.first g.first in
@@ -234,23 +226,23 @@ drafts_same ast ds (fault.Circular n p) (fault.Unknown n2) m k h g = absurd g
 drafts_same ast ds (fault.Circular n p) (fault.Range n2) m k h g = absurd g
 drafts_same ast ds (fault.Circular n p) fault.Memory m k h g = absurd (k refl)
 drafts_same ast ds (fault.Circular n p) (fault.Circular n2 p2) m k h g = circular_same (kinds_in ds) n p n2 p2 h g
-drafts_same ast ds (fault.Circular n p) (fault.Recursive n2) m k h g = absurd (no_circular (kinds_in ds) n p g.0 h)
-drafts_same ast ds (fault.Circular n p) (fault.NoSchedule n2 a2 c2) m k h g = absurd (no_circular (kinds_in ds) n p g.0 h)
+drafts_same ast ds (fault.Circular n p) (fault.Recursive n2) m k h g = absurd (not_circular (kinds_in ds) n p g.0 h)
+drafts_same ast ds (fault.Circular n p) (fault.NoSchedule n2 a2 c2) m k h g = absurd (not_circular (kinds_in ds) n p g.0 h)
 drafts_same ast ds (fault.Recursive n) (fault.Twice n2) m k h g = absurd g
 drafts_same ast ds (fault.Recursive n) (fault.TooMany n2) m k h g = absurd g
 drafts_same ast ds (fault.Recursive n) (fault.Unknown n2) m k h g = absurd g
 drafts_same ast ds (fault.Recursive n) (fault.Range n2) m k h g = absurd g
 drafts_same ast ds (fault.Recursive n) fault.Memory m k h g = absurd (k refl)
-drafts_same ast ds (fault.Recursive n) (fault.Circular n2 p2) m k h g = absurd (no_circular (kinds_in ds) n2 p2 h.0 g)
+drafts_same ast ds (fault.Recursive n) (fault.Circular n2 p2) m k h g = absurd (not_circular (kinds_in ds) n2 p2 h.0 g)
 drafts_same ast ds (fault.Recursive n) (fault.Recursive n2) m k h g = recursive_same (kinds_in ds) n n2 h.1 g.1
-drafts_same ast ds (fault.Recursive n) (fault.NoSchedule n2 a2 c2) m k h g = absurd (no_recursive (kinds_in ds) n g.1 h.1)
+drafts_same ast ds (fault.Recursive n) (fault.NoSchedule n2 a2 c2) m k h g = absurd (not_recursive (kinds_in ds) n g.1 h.1)
 drafts_same ast ds (fault.NoSchedule n a c) (fault.Twice n2) m k h g = absurd g
 drafts_same ast ds (fault.NoSchedule n a c) (fault.TooMany n2) m k h g = absurd g
 drafts_same ast ds (fault.NoSchedule n a c) (fault.Unknown n2) m k h g = absurd g
 drafts_same ast ds (fault.NoSchedule n a c) (fault.Range n2) m k h g = absurd g
 drafts_same ast ds (fault.NoSchedule n a c) fault.Memory m k h g = absurd (k refl)
-drafts_same ast ds (fault.NoSchedule n a c) (fault.Circular n2 p2) m k h g = absurd (no_circular (kinds_in ds) n2 p2 h.0 g)
-drafts_same ast ds (fault.NoSchedule n a c) (fault.Recursive n2) m k h g = absurd (no_recursive (kinds_in ds) n2 h.1 g.1)
+drafts_same ast ds (fault.NoSchedule n a c) (fault.Circular n2 p2) m k h g = absurd (not_circular (kinds_in ds) n2 p2 h.0 g)
+drafts_same ast ds (fault.NoSchedule n a c) (fault.Recursive n2) m k h g = absurd (not_recursive (kinds_in ds) n2 h.1 g.1)
 drafts_same ast ds (fault.NoSchedule n a c) (fault.NoSchedule n2 a2 c2) m k h g = unscheduled_same ast.horizon (spans_in ast.horizon ds) (kinds_in ds) n n2 a a2 c c2 h.2 g.2
 
 judged_same : (ast : Ast) (j : judge.Judged (List Draft)) (e f : ModelFault) → e ≢ fault.Memory → f ≢ fault.Memory → AnswersJudged ast j (Err e) → AnswersJudged ast j (Err f) → fault_text e ≡ fault_text f

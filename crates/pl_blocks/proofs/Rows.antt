@@ -9,7 +9,7 @@ use Rattle.std.proofs.Math.Bool.{and-true, and-false}
 use Rattle.pl_lists.specs.Lists.{front, back}
 use Rattle.pl_lists.proofs.Tests.{and_first, and_second}
 use Rattle.pl_points.specs.Sums.{IsSmall}
-use Rattle.pl_points.specs.Points.{Point, sum_to, sum_below, is_before, put, merged, RiseFrom, SmallFrom, AreNear, ArePoints}
+use Rattle.pl_points.specs.Points.{Point, sum_below, is_before, put, merged, RiseFrom, SmallFrom, AreNear, ArePoints}
 use Rattle.pl_points.proofs.Parting.{NonePass, IsParted, back_fails, drop_next}
 use Rattle.pl_points.proofs.PointLists.{small_along, rising_later, small_near, rising_drop}
 use Rattle.pl_points.proofs.Outside.{back_le, below_none, small_back}
@@ -365,17 +365,6 @@ pub below_here : (c at : ℕ) (xs ys : List Point) → RiseFrom c (xs ++ ys) →
 below_here c at xs ys rising not =
     let h = rise_split c xs ys rising in
     omega (arith, ints, below_append at xs ys, below_none h.0 at ys (not_past_le at h.0 xs h.1.1.0 not) h.1.1.1)
-
-pub sum_is_below : (ps : List Point) (at : ℕ) → sum_to ps at ≡ sum_below ps (at + 1)
-sum_is_below [] at = refl
-sum_is_below (p ∷ ps) at = ap (λ v. cond v p.1 (pos 0) +ℤ sum_to ps at) (same p.0) ∙ ap (λ z. cond (ltb p.0 (at + 1)) p.1 (pos 0) +ℤ z) (sum_is_below ps at)
-  where
-    same : (n : ℕ) → leb n at ≡ ltb n (at + 1)
-    same n = cases (leb n at) refl
-      where
-        cases : (v : Bool) → leb n at ≡ v → v ≡ ltb n (at + 1)
-        cases true e = sym (lt-ltb n (at + 1) (omega (arith, leb-true n at e)))
-        cases false e = sym (le-ltb n (at + 1) (omega (arith, leb-false n at e)))
 
 -- sums so far are small
 pub small_below : (s : ℤ) (c at : ℕ) (ps : List Point) → RiseFrom c ps → SmallFrom s ps → IsSmall (s +ℤ sum_below ps at)

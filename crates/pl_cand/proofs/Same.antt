@@ -7,7 +7,7 @@ use Rattle.pl_plan.specs.declared.repair.RepairMove.{RepairMove}
 use Rattle.pl_plan.specs.declared.repair.RepairMove.TheVariants as repair
 use Rattle.pl_world.specs.Candidates.{same_move, same_number}
 
-one_number : (x y : Option ℕ) → same_number x y ≡ true → x ≡ y
+pub one_number : (x y : Option ℕ) → same_number x y ≡ true → x ≡ y
 one_number None None e = refl
 one_number None (Some n) e = absurd (cc)
 one_number (Some m) None e = absurd (cc)

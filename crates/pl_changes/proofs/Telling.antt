@@ -44,7 +44,7 @@ pub can_set : (model : Model) (moment line : ℕ) (value : ℤ) (bases : List (O
 can_set model moment line value bases are None here can = absurd can
 can_set model moment line value bases are (Some t) here can = has_base moment value t (base_of line bases) can (are line t here)
 
-within_bases : (line : ℕ) (bases : List (Option (ℤ × ℤ))) → IsSome (base_of line bases) → line < length bases
+pub within_bases : (line : ℕ) (bases : List (Option (ℤ × ℤ))) → IsSome (base_of line bases) → line < length bases
 within_bases line bases some = ⊎_elim
     (λ (lt : line < length bases). lt)
     (λ (ge : length bases ≤ line). absurd (let none : base_of line bases ≡ None = get_or_past bases line None ge in false≢true (rw none at some)))

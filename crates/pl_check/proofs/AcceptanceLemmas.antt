@@ -13,12 +13,12 @@ use Rattle.pl_check.specs.Networks.{span_of}
 use Rattle.pl_check.specs.Schedules.{HasSchedule, IsScheduled, IsFirstUnscheduled}
 use Rattle.pl_check.specs.Checked.{spans_in, AnswersDrafts, AnswersJudged, Answers, PassesEachRow, IsModelOrMemory}
 
-not_circular : (kinds : List DraftKind) (name param : List ℕ) → AreWellFounded kinds → IsFirstCircular kinds name param → ⊥
+pub not_circular : (kinds : List DraftKind) (name param : List ℕ) → AreWellFounded kinds → IsFirstCircular kinds name param → ⊥
 not_circular kinds name param w f =
     let kind = all_at IsWellFounded kinds f.place f.kind w f.found in
     kind.acyclic.each f.first.number f.first.first.vertex f.first.first.cyclic
 
-not_recursive : (kinds : List DraftKind) (name : List ℕ) → AreUncontained kinds → IsFirstRecursive kinds name → ⊥
+pub not_recursive : (kinds : List DraftKind) (name : List ℕ) → AreUncontained kinds → IsFirstRecursive kinds name → ⊥
 not_recursive kinds name u f = u.each f.place f.first.vertex f.first.cyclic
 
 not_unscheduled : (horizon : ℤ) (spans : List (ℤ × ℤ)) (kinds : List DraftKind) (name : List ℕ) (number : ℕ) (cycle : List ℕ) → All (IsScheduled horizon spans) kinds → IsFirstUnscheduled horizon spans kinds name number cycle → ⊥

@@ -13,6 +13,7 @@ use Rattle.std.proofs.lemmas.List.{append_assoc, append-nil, take_more}
 use Rattle.std.proofs.lemmas.List.Folds.{list_any-append}
 use Rattle.std.proofs.Math.Bool.{or_comm, or-false, and-true, and-false}
 use Rattle.std.proofs.lemmas.Bool.{not-true, and_parts}
+use Rattle.std.proofs.lemmas.Cmp.{tied_itself}
 use Rattle.pl_lists.proofs.Tests.{or_swap, or_again, without_both}
 use Rattle.pl_lists.proofs.Orderings.{equal_from_test}
 use Rattle.pl_conflict.specs.declared.conflict.Conflict.{Conflict}
@@ -25,6 +26,9 @@ same q k = is_at (conflict_cmp q) k
 
 pub same_is : (q k : Conflict) → same q k ≡ true → q ≡ k
 same_is q k e = conflict_exact q k (equal_from_test (conflict_cmp q k) e)
+
+pub same_itself : (q : Conflict) → same q q ≡ true
+same_itself q = ap is_eq (tied_itself conflict_total q)
 
 -- ---- insertion
 
@@ -70,7 +74,7 @@ same_sym q k = ap is_eq (conflict_total.antisymm q k) ∙ turned (conflict_cmp k
     turned Equal = refl
     turned Greater = refl
 
-absent : (k : Conflict) (ks : List Conflict) → AllByRecursion (λ y. conflict_cmp k y ≡ Less) ks → has k ks ≡ false
+pub absent : (k : Conflict) (ks : List Conflict) → AllByRecursion (λ y. conflict_cmp k y ≡ Less) ks → has k ks ≡ false
 absent k [] all = refl
 absent k (y ∷ ks) all = rw all.0 (absent k ks all.1)
 

@@ -1,22 +1,21 @@
 -- Lists of conflicts that are made of spans, musts and steps, as those change.
 use Rattle.std.proofs.Common.{◌≡◌, ℕ, eqb, Bool, true, false, cond, List, [], ◌∷◌, ◌++◌, refl, ap, sym, ◌∙◌, subst, arith}
 use Rattle.std.specs.Prelude.{not, ◌||◌, ◌&&◌, map}
-use Rattle.std.proofs.lemmas.Bool.{eqb-true, and_parts, true≢false}
+use Rattle.std.proofs.lemmas.Bool.{true≢false}
 use Rattle.std.proofs.lemmas.Bool.Decides.{nat_tests}
 use Rattle.std.proofs.Math.Bool.{or-true, or-false, and-false, and-or_distrib_left}
 use Rattle.pl_lists.specs.Lists.{is_among, left_out}
-use Rattle.pl_lists.proofs.Orderings.{tie_from_reverse}
 use Rattle.pl_points.specs.declared.span.Span.{Span}
 use Rattle.pl_points.specs.declared.span.Change.{Change}
 use Rattle.pl_points.specs.Spans.{span}
 use Rattle.pl_points.specs.Changes.{same_span, IsChange}
-use Rattle.pl_points.proofs.Alike.{exchange}
+use Rattle.pl_points.proofs.Alike.{exchange, same_exact}
+use Rattle.pl_points.proofs.Rounds.{same_self}
 use Rattle.pl_conflict.specs.declared.conflict.Conflict.{Conflict}
 use Rattle.pl_conflict.specs.declared.conflict.Code.{Code}
 use Rattle.pl_conflict.specs.declared.conflict.Code.TheVariants as code
 use Rattle.pl_conflict.specs.Codes.{code_number}
-use Rattle.pl_conflict.specs.Order.{conflict_cmp, has}
-use Rattle.pl_conflict.proofs.OrderLaws.{conflict_total}
+use Rattle.pl_conflict.specs.Order.{has}
 use Rattle.pl_conflict.proofs.Sorting.{same, same_is, has-append}
 use Rattle.pl_level.specs.declared.reservation.LevelChange.{LevelChange}
 use Rattle.pl_level.specs.Soundness.{AreChanges as AreLevelChanges}
@@ -25,13 +24,11 @@ use Rattle.pl_state.specs.declared.answer.BadSet.{BadSet}
 use Rattle.pl_state.specs.declared.answer.StateChange.{StateChange}
 use Rattle.pl_state.specs.Lines.{AreChanges, same_broken, same_bad}
 use Rattle.pl_state.proofs.Apart.{broken_exact, bad_exact}
+use Rattle.pl_state.proofs.Grouping.{bad_itself, broken_itself}
 use Rattle.pl_world.specs.declared.plan_state.PlanState.{PlanState}
 use Rattle.pl_world.specs.Timelines.{outside, unmet_must, bad_step}
 use Rattle.pl_world.proofs.Owning.{Each, each_map}
 use Rattle.pl_lines.specs.Changed.{IsExchanged}
-
-same_itself : (q : Conflict) → same q q ≡ true
-same_itself q = tie_from_reverse (conflict_cmp q q) (conflict_total.antisymm q q)
 
 -- ---- what is left out was among them
 
@@ -149,14 +146,6 @@ module _ (first : Conflict → Bool) where
 
 -- ---- spans
 
-span_exact : (s t : Span) → same_span s t ≡ true → s ≡ t
-span_exact s t e =
-    let h = and_parts (eqb s.from t.from) (eqb s.to t.to) e in
-    ap (λ n. span n s.to) (eqb-true s.from t.from h.0) ∙ ap (span t.from) (eqb-true s.to t.to h.1)
-
-span_itself : (s : Span) → same_span s s ≡ true
-span_itself s = rw (eqb_itself s.from, eqb_itself s.to) refl
-
 read_span : Conflict → Span
 read_span q = span q.a q.b
 
@@ -165,7 +154,7 @@ unfolding read_span
 span_back why line s = refl
 
 pub spans_exchanged : (why : Code) (line : ℕ) (old new : List Span) (change : Change) → IsChange old new change → IsExchanged (map (outside why line) old) (map (outside why line) new) (map (outside why line) change.went) (map (outside why line) change.came)
-spans_exchanged why line old new change is = made_exchanged (outside why line) read_span (span_back why line) same_span span_exact span_itself old new change.went change.came is.went is.came
+spans_exchanged why line old new change is = made_exchanged (outside why line) read_span (span_back why line) same_span same_exact same_self old new change.went change.came is.went is.came
 
 is_low : Conflict → Bool
 is_low q = eqb (code_number q.code) 10
@@ -182,12 +171,6 @@ levels_exchanged line low low' high high' change is =
     (spans_exchanged code.Low line low low' change.low is.low) (spans_exchanged code.High line high high' change.high is.high)
 
 -- ---- musts and steps
-
-broken_itself : (m : BrokenMust) → same_broken m m ≡ true
-broken_itself m = rw (eqb_itself m.id, eqb_itself m.index, eqb_itself m.from, eqb_itself m.to) refl
-
-bad_itself : (x : BadSet) → same_bad x x ≡ true
-bad_itself x = rw (eqb_itself x.at, eqb_itself x.id, eqb_itself x.index) refl
 
 read_broken : Conflict → BrokenMust
 read_broken q = record { id = q.subject; index = q.detail; from = q.a; to = q.b }

@@ -21,6 +21,7 @@ use Rattle.pl_lines.specs.Framed.{bare, IsOrdered}
 use Rattle.pl_lines.specs.Mending.{IsMoved, less, IsOfSort, CanAsk}
 use Rattle.pl_lines.specs.Changed.{just, less_just, HasRoomFor, HoldsOne}
 use Rattle.pl_lines.proofs.MovingOne.{one_alike, alike_nonneg}
+use Rattle.pl_lines.proofs.Listing.{total_least}
 
 -- ---- one of several
 
@@ -69,19 +70,15 @@ moved_then lines lines' lines'' by by' by'' first second sums =
 
 -- ---- sums over demands that come one after another
 
-total_nonneg : {T : Type 0} (g : T → ℤ) → ((x : T) → pos 0 ≤ℤ g x) → (xs : List T) → pos 0 ≤ℤ total g xs
-total_nonneg g least [] = omega (arith, ints)
-total_nonneg g least (x ∷ xs) = omega (arith, ints, least x, total_nonneg g least xs)
-
 total_front : {T : Type 0} (g : T → ℤ) → ((x : T) → pos 0 ≤ℤ g x) → (xs : List T) (i : ℕ) (d : T) → i < length xs → (total g (take i xs) +ℤ g (get_or xs i d)) ≤ℤ total g xs
 total_front g least [] i d lt = absurd (omega (arith, lt))
-total_front g least (x ∷ xs) zero d lt = omega (arith, ints, total_nonneg g least xs)
+total_front g least (x ∷ xs) zero d lt = omega (arith, ints, total_least g least xs)
 total_front g least (x ∷ xs) (suc i) d lt = omega (arith, ints, total_front g least xs i d (omega (arith, lt)))
 
 total_more : {T : Type 0} (g : T → ℤ) (xs : List T) (i : ℕ) (d : T) → i < length xs → total g (take (i + 1) xs) ≡ total g (take i xs) +ℤ g (get_or xs i d)
 total_more g xs i d lt = ap (total g) (take_more xs i d lt) ∙ total-push g (take i xs) (get_or xs i d)
 
-part_nonneg : (line : ℕ) (f : Asked → ℤ) → ((x : Asked) → pos 0 ≤ℤ f x) → (d : Demand) → pos 0 ≤ℤ part_at line f d
+pub part_nonneg : (line : ℕ) (f : Asked → ℤ) → ((x : Asked) → pos 0 ≤ℤ f x) → (d : Demand) → pos 0 ≤ℤ part_at line f d
 part_nonneg line f least d = by (eqb d.line line)
   where
     by : (b : Bool) → pos 0 ≤ℤ cond b (f d.asked) (pos 0)

@@ -1,12 +1,10 @@
 -- One timeline as something is asked of it, or given back.
-use Rattle.std.proofs.Common.{◌≡◌, ◌≤◌, ℕ, length, eqb, Bool, true, false, cond, List, [], ◌∷◌, ◌++◌, refl, ap, ◌∙◌, arith, ℤ, pos, ◌+ℤ◌, ◌≤ℤ◌, neg_ℤ}
+use Rattle.std.proofs.Common.{◌≡◌, ◌≤◌, ℕ, length, Bool, true, false, cond, List, [], ◌∷◌, ◌++◌, refl, ap, ◌∙◌, arith, ℤ, pos, ◌+ℤ◌, ◌≤ℤ◌, neg_ℤ}
 use Rattle.std.specs.Prelude.{All, ◌||◌, Result, IfOk}
 use Rattle.std.proofs.lemmas.Result.{MatchResult-weaker}
 use Rattle.std.proofs.lemmas.Int.{ints}
-use Rattle.std.proofs.lemmas.Bool.{eqb-true, and_parts}
 use Rattle.std.proofs.lemmas.Bool.Decides.{Decides-int_eq}
 use Rattle.std.proofs.lemmas.List.Elements.{All-cons, All-head, All-tail}
-use Rattle.pl_lists.specs.Lists.{front, back}
 use Rattle.pl_lists.proofs.Numbers.{eqb_itself}
 use Rattle.pl_points.specs.Sums.{total}
 use Rattle.pl_points.specs.Standing.{stands, without}
@@ -21,7 +19,7 @@ use Rattle.pl_level.specs.Effects.{Standing as LevelStanding, IsEffect, effect_o
 use Rattle.pl_level.proofs.Levels.{same_exact as effect_exact}
 use Rattle.pl_state.specs.declared.reservation.Setting.{Setting}
 use Rattle.pl_state.specs.declared.reservation.Must.{Must}
-use Rattle.pl_state.specs.Sets.{setting_of, set_key, set_before, same_setting, with_set}
+use Rattle.pl_state.specs.Sets.{set_key, set_before, same_setting, with_set}
 use Rattle.pl_state.specs.Musts.{must_key, must_before, same_must, with_must}
 use Rattle.pl_state.specs.Lines.{Standing as StateStanding}
 use Rattle.pl_state.proofs.Keys.{sorted_with, sorted_without}
@@ -36,14 +34,8 @@ use Rattle.pl_lines.specs.Held.{held, alike, same_asked}
 use Rattle.pl_lines.specs.Framed.{bare}
 use Rattle.pl_lines.specs.Told.{wrong_with}
 use Rattle.pl_lines.specs.Changed.{IsExchanged, IsLineChanged, HasOne, HasRoom, more_by, less_by}
-
-set_exact : (x y : Setting) → same_setting x y ≡ true → x ≡ y
-set_exact x y e =
-    let one = and_parts (eqb x.at y.at) _ e in
-    let two = and_parts (eqb x.id y.id) _ one.1 in
-    let three = and_parts (eqb x.index y.index) _ two.1 in
-    ap (λ n. setting_of n x.id x.index x.state) (eqb-true x.at y.at one.0) ∙ (ap (λ n. setting_of y.at n x.index x.state) (eqb-true x.id y.id two.0)
-    ∙ (ap (λ n. setting_of y.at y.id n x.state) (eqb-true x.index y.index three.0) ∙ ap (λ n. setting_of y.at y.id y.index n) (eqb-true x.state y.state three.1)))
+use Rattle.pl_lines.proofs.StandingEqual.{set_exact}
+use Rattle.pl_lines.proofs.Listing.{total_nothing, total_put}
 
 -- ---- sums
 
@@ -55,19 +47,6 @@ counted same u (x ∷ xs) more = by (counted same u xs) (same x u) more
     by : (pos 1 ≤ℤ total (λ x. cond (same x u) (pos 1) (pos 0)) xs → stands same u xs ≡ true) → (b : Bool) → pos 1 ≤ℤ (cond b (pos 1) (pos 0) +ℤ total (λ x. cond (same x u) (pos 1) (pos 0)) xs) → (b || stands same u xs) ≡ true
     by rest true m = refl
     by rest false m = rest (omega (arith, ints, m))
-
-total_none : {T : Type 0} (xs : List T) → total (λ x. pos 0) xs ≡ pos 0
-total_none [] = refl
-total_none (x ∷ xs) = omega (arith, ints, total_none xs)
-
--- an item put in its place
-total_in : {T : Type 0} (f : T → ℤ) (test : T → Bool) (u : T) (xs : List T) → total f (front test xs ++ u ∷ back test xs) ≡ total f xs +ℤ f u
-total_in f test u [] = omega (arith, ints)
-total_in f test u (x ∷ xs) = by (test x) (total_in f test u xs)
-  where
-    by : (b : Bool) → total f (front test xs ++ u ∷ back test xs) ≡ total f xs +ℤ f u → total f (cond b (x ∷ front test xs) [] ++ u ∷ cond b (back test xs) (x ∷ xs)) ≡ total f (x ∷ xs) +ℤ f u
-    by true more = omega (arith, ints, more)
-    by false more = omega (arith, ints)
 
 total_out : {T : Type 0} (same : T → T → Bool) (exact : (x y : T) → same x y ≡ true → x ≡ y) (f : T → ℤ) (xs : List T) (u : T) → stands same u xs ≡ true → total f (without same u xs) ≡ total f xs +ℤ neg_ℤ (f u)
 total_out same exact f xs u has = omega (arith, ints, total-without same exact f xs u has)
@@ -167,17 +146,17 @@ effect_room l room = omega (arith, ints, room, total_one l.effects)
 -- ---- states
 
 pub set_stands : (x : StateStanding) (y : Setting) → HasOne (States x) (asked.Set y) → stands same_setting y x.sets ≡ true
-set_stands x y has = counted same_setting y x.sets (omega (arith, ints, has, total_none x.musts))
+set_stands x y has = counted same_setting y x.sets (omega (arith, ints, has, total_nothing x.musts))
 
 pub must_stands : (x : StateStanding) (m : Must) → HasOne (States x) (asked.Must m) → stands same_must m x.musts ≡ true
-must_stands x m has = counted same_must m x.musts (omega (arith, ints, has, total_none x.sets))
+must_stands x m has = counted same_must m x.musts (omega (arith, ints, has, total_nothing x.sets))
 
 pub set_came : (s : PlanState) (line : ℕ) (y : Setting) (x x' : StateStanding) (went came : List Conflict) → x' ≡ record x { sets = with_set y x.sets } → IsExchanged (wrong_with s line (States x)) (wrong_with s line (States x')) went came
     → IsLineChanged s line (asked.Set y) (more_by (asked.Set y)) (States x) (States x') went came
 set_came s line y x x' went came is told = record {
   frame = ap (λ (v : StateStanding). bare (States v)) is;
   ordered = λ o. rw is (sorted_with set_key y x.sets o.0, o.1);
-  held = λ f. ap (λ (v : StateStanding). held f (States v)) is ∙ beside _ _ _ _ (total_in (λ z. f (asked.Set z)) (set_before y) y x.sets);
+  held = λ f. ap (λ (v : StateStanding). held f (States v)) is ∙ beside _ _ _ _ (total_put (λ z. f (asked.Set z)) (set_before y) y x.sets);
   named = λ n h. rw is (all_in (IsSetOf s line) (set_before y) y x.sets n h.0, h.1);
   exchanged = told;
 }
@@ -197,7 +176,7 @@ pub must_came : (s : PlanState) (line : ℕ) (m : Must) (x x' : StateStanding) (
 must_came s line m x x' went came is told = record {
   frame = ap (λ (v : StateStanding). bare (States v)) is;
   ordered = λ o. rw is (o.0, sorted_with must_key m x.musts o.1);
-  held = λ f. ap (λ (v : StateStanding). held f (States v)) is ∙ behind _ _ _ _ (total_in (λ z. f (asked.Must z)) (must_before m) m x.musts);
+  held = λ f. ap (λ (v : StateStanding). held f (States v)) is ∙ behind _ _ _ _ (total_put (λ z. f (asked.Must z)) (must_before m) m x.musts);
   named = λ n h. rw is (h.0, all_in (IsMustOf s line) (must_before m) m x.musts n h.1);
   exchanged = told;
 }

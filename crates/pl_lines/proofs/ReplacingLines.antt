@@ -1,5 +1,5 @@
 -- Timelines while a plan is replaced: what goes is given back, and then what comes is taken on.
-use Rattle.std.proofs.Common.{◌≡◌, ℕ, eqb, Bool, true, false, cond, List, [], ◌∷◌, ◌++◌, map, get_or, Option, Some, None, refl, sym, ap, ◌∙◌, subst, arith, ℤ, pos, ◌≤ℤ◌}
+use Rattle.std.proofs.Common.{◌≡◌, ℕ, eqb, Bool, true, false, cond, List, [], ◌∷◌, ◌++◌, map, get_or, Option, Some, None, refl, sym, ap, ◌∙◌, subst, arith, ℤ}
 use Rattle.std.specs.Prelude.{All, slice_get}
 use Rattle.std.proofs.lemmas.Int.{ints}
 use Rattle.std.proofs.lemmas.Bool.{eqb-true, eq-eqb}
@@ -37,7 +37,7 @@ use Rattle.pl_world.proofs.Naming.{all_broken, all_bad}
 use Rattle.pl_changes.specs.Replaced.{taken, with_plan, CanReplace}
 use Rattle.pl_lines.specs.declared.line.Line.{Line}
 use Rattle.pl_lines.specs.declared.line.Line.TheVariants.{Capacity, Level, States}
-use Rattle.pl_lines.specs.Held.{part_at, asked_at, Hold, same_asked, alike, one, HoldAll, HaveRoom}
+use Rattle.pl_lines.specs.Held.{part_at, asked_at, Hold, alike, one, HoldAll, HaveRoom}
 use Rattle.pl_lines.specs.Framed.{AreFramed, AreLinesOf}
 use Rattle.pl_lines.specs.Told.{wrong_with, wrong_at, IsTold}
 use Rattle.pl_lines.specs.Named.{IsNamed, HoldsNamed, AreNamed}
@@ -46,6 +46,8 @@ use Rattle.pl_lines.specs.Laws.{AreOnce, gone_from, coming_to}
 use Rattle.pl_lines.proofs.Listing.{total_least}
 use Rattle.pl_lines.proofs.StandingNamed.{Passes, all_pass, named_held, named_one, can_ask, few_asked}
 use Rattle.pl_lines.proofs.Replacing.{staying, IsKept, whole_after, found_placed, each_kept, same_demands, asked_before, asked_after}
+use Rattle.pl_lines.proofs.MovingOne.{alike_nonneg}
+use Rattle.pl_lines.proofs.Moving.{part_nonneg}
 
 -- ---- what belongs to a timeline
 
@@ -177,20 +179,6 @@ module _ (s t : PlanState) where
 
 -- ---- bounds of sums
 
-alike_least : (x y : Asked) → pos 0 ≤ℤ alike x y
-alike_least x y = by (same_asked y x)
-  where
-    by : (b : Bool) → pos 0 ≤ℤ cond b (pos 1) (pos 0)
-    by true = omega (arith, ints)
-    by false = omega (arith, ints)
-
-part_least : (line : ℕ) (f : Asked → ℤ) → ((a : Asked) → pos 0 ≤ℤ f a) → (d : Demand) → pos 0 ≤ℤ part_at line f d
-part_least line f least d = by (eqb d.line line)
-  where
-    by : (b : Bool) → pos 0 ≤ℤ cond b (f d.asked) (pos 0)
-    by true = least d.asked
-    by false = omega (arith, ints)
-
 -- ---- a replacement
 
 pub gone_askable : (s : PlanState) (gone : List ℕ) → IsWhole s → (lines : List Line) → AreLinesOf s lines → All (CanAsk s lines) (gone_from s gone)
@@ -211,7 +199,7 @@ module _ (s : PlanState) (gone : List ℕ) (more : List Activity) (whole : IsWho
     ints,
     are.hold line (alike x),
     asked_before s gone more whole can once line (alike x),
-    total_least (part_at line (alike x)) (part_least line (alike x) (alike_least x)) (staying s gone),
+    total_least (part_at line (alike x)) (part_nonneg line (alike x) (alike_nonneg x)) (staying s gone),
   )
 
   -- what goes was given back

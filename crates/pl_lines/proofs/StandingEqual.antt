@@ -7,8 +7,9 @@ use Rattle.pl_state.specs.declared.reservation.Setting.{Setting}
 use Rattle.pl_state.specs.declared.reservation.Must.{Must}
 use Rattle.pl_state.specs.Keys.{key_of, AreSorted, Has}
 use Rattle.pl_state.specs.Sets.{setting_of, same_setting, set_key}
-use Rattle.pl_state.specs.Musts.{must_of, same_must, must_key}
+use Rattle.pl_state.specs.Musts.{same_must, must_key}
 use Rattle.pl_state.proofs.Sorting.{same_lists}
+use Rattle.pl_state.proofs.Indexing.{exact_must}
 use Rattle.pl_world.specs.declared.plan_state.PlanState.{PlanState}
 use Rattle.pl_plan.specs.Activities.{AreRising}
 use Rattle.pl_world.specs.Demands.{demands_of, sets_of, musts_of}
@@ -26,14 +27,6 @@ set_exact x y e =
 
 pub set_itself : (x : Setting) → same_setting x x ≡ true
 set_itself x = rw (eq-eqb x.at x.at refl, eq-eqb x.id x.id refl, eq-eqb x.index x.index refl, eq-eqb x.state x.state refl) refl
-
-pub must_exact : (x y : Must) → same_must x y ≡ true → x ≡ y
-must_exact x y e =
-    let one = and_parts (eqb x.from y.from) _ e in
-    let two = and_parts (eqb x.to y.to) _ one.1 in
-    let three = and_parts (eqb x.id y.id) _ two.1 in
-    let four = and_parts (eqb x.index y.index) _ three.1 in
-    ap (λ n. must_of n x.to x.id x.index x.state) (eqb-true x.from y.from one.0) ∙ (ap (λ n. must_of y.from n x.id x.index x.state) (eqb-true x.to y.to two.0) ∙ (ap (λ n. must_of y.from y.to n x.index x.state) (eqb-true x.id y.id three.0) ∙ (ap (λ n. must_of y.from y.to y.id n x.state) (eqb-true x.index y.index four.0) ∙ ap (λ n. must_of y.from y.to y.id y.index n) (eqb-true x.state y.state four.1))))
 
 pub must_itself : (x : Must) → same_must x x ≡ true
 must_itself x = rw (eq-eqb x.from x.from refl, eq-eqb x.to x.to refl, eq-eqb x.id x.id refl, eq-eqb x.index x.index refl, eq-eqb x.state x.state refl) refl
@@ -71,4 +64,4 @@ pub sets_equal : (s : PlanState) (line : ℕ) (sets : List Setting) → AreRisin
 sets_equal s line sets rising sorted sums = equal (λ x. x.at) (λ x. x.id) (λ x. x.index) same_setting set_exact set_itself sets (sets_of line (demands_of s)) sorted (sets_sorted line (demands_of s)) sums (once_set s line rising)
 
 pub musts_equal : (s : PlanState) (line : ℕ) (musts : List Must) → AreRising s.plan.activities → AreSorted must_key musts → ((g : Must → ℤ) → total g musts ≡ total g (musts_of line (demands_of s))) → musts ≡ musts_of line (demands_of s)
-musts_equal s line musts rising sorted sums = equal (λ m. 0) (λ m. m.id) (λ m. m.index) same_must must_exact must_itself musts (musts_of line (demands_of s)) sorted (musts_sorted line (demands_of s)) sums (once_must s line rising)
+musts_equal s line musts rising sorted sums = equal (λ m. 0) (λ m. m.id) (λ m. m.index) same_must exact_must must_itself musts (musts_of line (demands_of s)) sorted (musts_sorted line (demands_of s)) sums (once_must s line rising)

@@ -1,11 +1,11 @@
 -- What timelines hold as the present moves on, as one is told anew, as goals change, and at first.
-use Rattle.std.proofs.Common.{◌≡◌, ◌≢◌, ℕ, zero, suc, ◌<◌, ◌≤◌, false, List, [], ◌∷◌, map, length, Option, Some, None, IsSome, refl, sym, ap, ◌∙◌, subst, arith, ⊎_elim, ℤ, pos}
+use Rattle.std.proofs.Common.{◌≡◌, ◌≢◌, ℕ, zero, suc, false, List, [], ◌∷◌, map, Option, Some, None, refl, sym, ap, ◌∙◌, subst, arith, ⊎_elim, ℤ, pos}
 use Rattle.std.specs.Prelude.{slice_get, slice_set}
 use Rattle.std.specs.Option.{option_map}
 use Rattle.std.specs.List.{flat_map}
 use Rattle.std.proofs.lemmas.Int.{ints}
-use Rattle.std.proofs.lemmas.Bool.{cases_eq, cases_lt, false≢true}
-use Rattle.std.proofs.lemmas.List.{get_or-set_same, get_or-set_other, get_or_past}
+use Rattle.std.proofs.lemmas.Bool.{cases_eq}
+use Rattle.std.proofs.lemmas.List.{get_or-set_same, get_or-set_other}
 use Rattle.std.proofs.lemmas.List.Elements.{All-map, All-weaker, All-set}
 use Rattle.std.proofs.lemmas.Option.{slice_get-map}
 use Rattle.pl_lists.proofs.Elements.{all_at}
@@ -25,7 +25,8 @@ use Rattle.pl_world.specs.Whole.{IsWhole}
 use Rattle.pl_world.specs.Demands.{demands_at, demands_of, moment_of_base, value_of_base}
 use Rattle.pl_world.specs.Timelines.{lines_of}
 use Rattle.pl_changes.specs.Changes.{with_goal, without_goal, moved_on, told_now, committed_to, with_next, CanTell}
-use Rattle.pl_changes.proofs.Telling.{can_set}
+use Rattle.pl_changes.proofs.Telling.{can_set, within_bases}
+use Rattle.pl_changes.proofs.Keeping.{demands_next}
 use Rattle.pl_lines.specs.declared.line.Line.{Line}
 use Rattle.pl_lines.specs.declared.line.Line.TheVariants.{Capacity, Level, States}
 use Rattle.pl_lines.specs.Held.{held, held_in, held_at, asked_at, Hold}
@@ -55,10 +56,6 @@ demands_without_goal s n = refl
 pub demands_committed : (s : PlanState) (h : ℕ) → demands_of (committed_to h s) ≡ demands_of s
 unfolding demands_at
 demands_committed s h = refl
-
-pub demands_next : (s : PlanState) (id : ℕ) → demands_of (with_next id s) ≡ demands_of s
-unfolding demands_at
-demands_next s id = refl
 
 hold_same : (lines : List Line) (ds es : List Demand) → es ≡ ds → Hold lines ds → Hold lines es
 hold_same lines ds es same hold line f = hold line f ∙ sym (ap (λ (xs : List Demand). asked_at xs line f) same)
@@ -156,12 +153,6 @@ same_places (x ∷ xs) (y ∷ ys) same =
     let head : Some x ≡ Some y = same 0 in
     let first : x ≡ y = cc in
     ap (λ z. z ∷ xs) first ∙ ap (λ zs. y ∷ zs) (same_places xs ys (λ i. same (suc i)))
-
-within_bases : (line : ℕ) (bases : List (Option (ℤ × ℤ))) → IsSome (base_of line bases) → line < length bases
-within_bases line bases some = ⊎_elim
-    (λ (lt : line < length bases). lt)
-    (λ (ge : length bases ≤ line). absurd (let none : base_of line bases ≡ None = get_or_past bases line None ge in false≢true (rw none at some)))
-    (cases_lt line (length bases))
 
 module _ (s : PlanState) (line : ℕ) (value : ℤ) where
   pub base_told : IsWhole s → CanTell value (slice_get s.model.timelines line) → base_of line (told_now line value s).bases ≡ Some (pos s.moment, value)

@@ -49,7 +49,3 @@ module _ (f : Activity → Bool) where
   pub find-replaced : (xs : List Activity) (gone : List ℕ) (more : List Activity) → AreRising xs → All (Fails f xs) gone → All (λ a. f a ≡ false) more → find f (replaced xs gone more) ≡ find f xs
   unfolding replaced
   find-replaced xs gone more rising fails others = find-put (taken xs gone) more others ∙ find-taken xs gone rising fails
-
-pub activity_of_find : (n : ℕ) (xs : List Activity) → find (λ (a : Activity). eqb a.id n) xs ≡ activity_of n xs
-activity_of_find n [] = refl
-activity_of_find n (x ∷ xs) = ap (λ o. cond (eqb x.id n) (Some x) o) (activity_of_find n xs)

@@ -13,13 +13,14 @@ use Rattle.pl_links.specs.declared.broken.Broken.{Broken}
 use Rattle.pl_world.specs.declared.plan_state.PlanState.{PlanState}
 use Rattle.pl_world.specs.PlanStates.{found, of_found, among}
 use Rattle.pl_world.specs.Links.{place_in, order_at, unmet_from, unmet_order, link_conflict}
+use Rattle.pl_world.proofs.Keys.{activity_of_find}
 use Rattle.pl_detect.specs.Broken.{conflict_by, broken_conflict}
 use Rattle.pl_detect.proofs.Found.{found_id}
 use Rattle.pl_changes.specs.Replaced.{replaced, with_plan}
 use Rattle.pl_linked.specs.Near.{own_and_parent, ids_at, near}
-use Rattle.pl_linked.proofs.Lookups.{Fails, find-replaced, activity_of_find}
+use Rattle.pl_linked.proofs.Lookups.{Fails, find-replaced}
 
-among-append : (p : ℕ) (xs ys : List ℕ) → among p (xs ++ ys) ≡ (among p xs || among p ys)
+pub among-append : (p : ℕ) (xs ys : List ℕ) → among p (xs ++ ys) ≡ (among p xs || among p ys)
 among-append p xs ys = list_any-append (λ i. eqb i p) xs ys
 
 -- neither it nor its parent

@@ -3,11 +3,8 @@ use Rattle.std.proofs.Common.{◌≡◌, ℕ, ◌≤◌, leb, ltb, Bool, true, f
 use Rattle.std.specs.Prelude.{◌||◌, ◌&&◌, not, All, take_while}
 use Rattle.std.specs.List.Sorted.{IsStrictlySortedBy}
 use Rattle.std.specs.BTreeMap.{is_at}
-use Rattle.std.specs.Ordering.{is_eq}
 use Rattle.std.specs.declared.cmp.Ordering.TheVariants.{Less}
 use Rattle.std.proofs.lemmas.Bool.{and_parts, leb-true, le-leb, ltb-true, lt-ltb, or_left, or_right}
-use Rattle.std.proofs.lemmas.Cmp.{tied_itself}
-use Rattle.std.proofs.lemmas.Grind.{common_steps}
 use Rattle.std.proofs.lemmas.List.Sums.{take_while-cons}
 use Rattle.std.proofs.lemmas.List.Elements.{All-head, All-tail}
 use Rattle.std.proofs.lemmas.Map.Views.{All-after_first}
@@ -18,8 +15,8 @@ use Rattle.pl_conflict.specs.declared.conflict.Code.{Code}
 use Rattle.pl_conflict.specs.declared.conflict.Code.TheVariants as code
 use Rattle.pl_conflict.specs.Order.{conflict_cmp, has}
 use Rattle.pl_conflict.specs.Sorting.{AreInOrder}
-use Rattle.pl_conflict.proofs.OrderLaws.{conflict_total}
-use Rattle.pl_conflict.proofs.Sorting.{same, same_is}
+use Rattle.pl_conflict.proofs.OrderLaws.{from_rises}
+use Rattle.pl_conflict.proofs.Sorting.{same, same_is, same_itself}
 use Rattle.pl_plan.specs.declared.activity.Activity.{Activity}
 use Rattle.pl_plan.specs.Activities.{AreRising}
 use Rattle.pl_links.specs.declared.broken.Broken.{Broken}
@@ -162,9 +159,6 @@ is_part code.High e = absurd (cc)
 is_part code.Must e = absurd (cc)
 is_part code.BadStep e = absurd (cc)
 
-from_rises : (k q : Conflict) → conflict_cmp k q ≡ Less → k.from ≤ q.from
-from_rises k q e = grind (arith, common_steps)
-
 -- none of these is in the list
 none_has : (Q : Conflict → Type 0) (q : Conflict) → (Q q → ⊥) → (ks : List Conflict) → All Q ks → has q ks ≡ false
 none_has Q q never [] all = refl
@@ -204,9 +198,6 @@ has-passed t ks q ordered =
 
 -- ---- what they are about
 
-it : (k : Conflict) → same k k ≡ true
-it k = ap is_eq (tied_itself conflict_total k)
-
 owners_has : (ks : List Conflict) (q : Conflict) → has q ks ≡ true → sets.has (owner_of q) (map owner_of ks) ≡ true
 owners_has [] q h = absurd (cc)
 owners_has (k ∷ ks) q h = cases (same q k) refl (owners_has ks q)
@@ -220,7 +211,7 @@ owners_pass p b [] all h = absurd (cc)
 owners_pass p b (k ∷ ks) all h = cases (is_at (sets.broken_cmp b) (owner_of k)) refl (owners_pass p b ks (λ q here. all q (or_right (same q k) (has q ks) here)))
   where
     cases : (t : Bool) → is_at (sets.broken_cmp b) (owner_of k) ≡ t → (sets.has b (map owner_of ks) ≡ true → p b ≡ true) → p b ≡ true
-    cases true e more = ap p (same_broken b (owner_of k) e) ∙ all k (or_left (same k k) (has k ks) (it k))
+    cases true e more = ap p (same_broken b (owner_of k) e) ∙ all k (or_left (same k k) (has k ks) (same_itself k))
     cases false e more = more (rw e at h)
 
 -- ---- the law

@@ -1,10 +1,9 @@
 -- A store goes on with its plan: what goes is taken out of both, and what is placed comes into both.
 use Rattle.std.proofs.Common.{◌≡◌, ℕ, suc, ◌<◌, ◌≤◌, eqb, ltb, Bool, true, false, cond, List, [], ◌∷◌, length, map, find, filter, Option, None, Some, IfSome, refl, sym, ap, ◌∙◌, subst, arith}
-use Rattle.std.specs.Prelude.{◌||◌, ◌++◌, All, if◌then◌else◌}
+use Rattle.std.specs.Prelude.{All, if◌then◌else◌}
 use Rattle.std.specs.Option.{option_map}
 use Rattle.std.proofs.lemmas.Bool.{eq-eqb, ne_eqb}
 use Rattle.std.proofs.lemmas.List.Elements.{All-head, All-tail, All-weaker}
-use Rattle.std.proofs.lemmas.List.Folds.{list_any-append}
 use Rattle.pl_plan.specs.declared.activity.Activity.{Activity}
 use Rattle.pl_plan.specs.Activities.{activity_of, placed, without}
 use Rattle.pl_plan.specs.Fitting as plan
@@ -26,6 +25,7 @@ use Rattle.pl_changes.specs.Putting.{CanPut}
 use Rattle.pl_changes.specs.Replaced.{CanReplace, taken, put, replaced, touched, with_plan}
 use Rattle.pl_changes.proofs.Putting.{found-taken, puttable, rising-taken}
 use Rattle.pl_changes.proofs.Keeping.{whole_replaced}
+use Rattle.pl_values.proofs.Keeping.{among_neither}
 use Rattle.pl_linked.specs.Telling.{all_without}
 use Rattle.pl_linked.specs.Placing.{CanPlaceAll, all_with}
 
@@ -76,9 +76,6 @@ map_alike : {X Y : Type 0} (f g : X → Y) (xs : List X) → All (λ x. f x ≡ 
 map_alike f g [] all = refl
 map_alike f g (x ∷ xs) all = ap (λ y. y ∷ map f xs) (All-head (λ x. f x ≡ g x) x xs all) ∙ ap (λ l. g x ∷ l) (map_alike f g xs (All-tail (λ x. f x ≡ g x) x xs all))
 
-neither : (p : ℕ) (xs ys : List ℕ) → among p xs ≡ false → among p ys ≡ false → among p (xs ++ ys) ≡ false
-neither p xs ys e f = list_any-append (λ i. eqb i p) xs ys ∙ (ap (λ b. b || among p ys) e ∙ f)
-
 left_there : (b : Bool) (o : Option Activity) (a : Activity) → (if b then None else o) ≡ Some a → (b ≡ false) × (o ≡ Some a)
 left_there true o a e = absurd (cc)
 left_there false o a e = (refl, e)
@@ -92,7 +89,7 @@ module _ (s : PlanState) (gone : List ℕ) (more : List Activity) (whole : IsWho
   same_end a here =
       let was = left_there (among a.id gone) (activity_of a.id s.plan.activities) a (sym (found-taken s.plan.activities gone a.id whole.rising) ∙ here) in
       let is : activity_of a.id (put (taken s.plan.activities gone) more) ≡ Some a = stays (taken s.plan.activities gone) more a.id a can_put here in
-      let far : among a.id (touched gone more) ≡ false = neither a.id gone (map id_of more) was.0 (apart (taken s.plan.activities gone) more a.id a can_put here) in
+      let far : among a.id (touched gone more) ≡ false = among_neither a.id gone (map id_of more) was.0 (apart (taken s.plan.activities gone) more a.id a can_put here) in
       let values : values_of s.model s.plan.activities a.id ≡ values_of s.model (put (taken s.plan.activities gone) more) a.id = sym (can.kept a.id far) in
       ap (λ o. end_in s.model o (values_of s.model s.plan.activities a.id)) (was.1 ∙ sym is) ∙ ap (end_in s.model (activity_of a.id (put (taken s.plan.activities gone) more))) values
 

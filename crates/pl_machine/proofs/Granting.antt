@@ -11,7 +11,7 @@ use Rattle.pl_lists.proofs.Numbers.{le_from_test}
 use Rattle.pl_conflict.specs.declared.conflict.Conflict.{Conflict}
 use Rattle.pl_conflict.specs.declared.conflict.Code.TheVariants.{BadValue, Late}
 use Rattle.pl_conflict.specs.Order.{has}
-use Rattle.pl_conflict.proofs.Sorting.{same, same_is, has-append}
+use Rattle.pl_conflict.proofs.Sorting.{same, has-append}
 use Rattle.pl_model.specs.declared.parameters.Param.{Param}
 use Rattle.pl_model.specs.declared.kinds.Kind.{Kind}
 use Rattle.pl_model.specs.declared.whole.Model.{Model}
@@ -41,6 +41,7 @@ use Rattle.pl_entry.specs.declared.reply.Reply.TheVariants as reply
 use Rattle.pl_world.proofs.Standing.{members, activities_by_subject}
 use Rattle.pl_world.proofs.Granting.{untouched}
 use Rattle.pl_changes.specs.Changes.{committed_to}
+use Rattle.pl_near.proofs.Granted.{each_case}
 use Rattle.pl_machine.specs.declared.stop.Stop.{Stop}
 use Rattle.pl_machine.specs.Sound.{State}
 use Rattle.pl_machine.specs.Taking.{Answers}
@@ -115,10 +116,6 @@ amounts_from values n count (p ∷ ps) checked ok (suc i) lt =
     subst (λ k. IfSome (values k) IsAmount) same (amounts_from values (suc n) count ps (All-tail (IsCheckedParam count) p ps checked) (All-tail (λ (q : ℕ × Param). is_outside q.1.low q.1.high (values q.0) ≡ false) (n, p) (numbered (suc n) ps) ok) i (omega (arith, lt)))
 
 -- ---- a granted commit
-
-each_case : (P : Conflict → Type 0) (k q : Conflict) (rest b : Bool) → same q k ≡ b → P k → (rest ≡ true → P q) → (b || rest) ≡ true → P q
-each_case P k q rest true e first more h = subst P (sym (same_is q k e)) first
-each_case P k q rest false e first more h = more h
 
 all_each : (P : Conflict → Type 0) (ks : List Conflict) → All P ks → (q : Conflict) → has q ks ≡ true → P q
 all_each P [] all q h = absurd (cc)

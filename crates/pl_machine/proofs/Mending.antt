@@ -7,10 +7,9 @@ use Rattle.std.specs.List.{list_any}
 use Rattle.std.proofs.lemmas.Bool.{lt-ltb, and_from}
 use Rattle.std.proofs.Math.Bool.{or-true}
 use Rattle.pl_lists.proofs.Elements.{filter_contains, filter_passing}
-use Rattle.pl_lists.proofs.Orderings.{tie_from_reverse}
 use Rattle.pl_conflict.specs.declared.conflict.Conflict.{Conflict}
 use Rattle.pl_conflict.specs.Order.{conflict_cmp, has}
-use Rattle.pl_conflict.proofs.OrderLaws.{conflict_total}
+use Rattle.pl_conflict.proofs.Sorting.{same_itself}
 use Rattle.pl_plan.specs.declared.repair.RepairMove.{RepairMove}
 use Rattle.pl_plan.specs.declared.repair.RepairMove.TheVariants as repair
 use Rattle.pl_entry.specs.declared.event.Event.{Event}
@@ -51,9 +50,6 @@ contained p xs x here h = any_at p xs here.0 x here.1 here.2 h
 
 -- ---- each is itself
 
-same_conflict : (k : Conflict) → is_eq (conflict_cmp k k) ≡ true
-same_conflict k = tie_from_reverse (conflict_cmp k k) (conflict_total.antisymm k k)
-
 same_number_self : (n : Option ℕ) → same_number n n ≡ true
 same_number_self None = refl
 same_number_self (Some n) = eq-eqb n n refl
@@ -85,7 +81,7 @@ proposed_done s p proposal =
     let m = p.mv in
     let candidate : Contains (candidates_of s k) m = filter_contains (is_legal s) (candidates_of s k) m proposal.1 in
     made_if (has k (conflicts_of s)) (is_candidate s k m) (refusal_reply (refusal_of s m))
-    (contained (λ q. is_eq (conflict_cmp k q)) (conflicts_of s) k proposal.0 (same_conflict k))
+    (contained (λ q. is_eq (conflict_cmp k q)) (conflicts_of s) k proposal.0 (same_itself k))
     (contained (same_move m) (candidates_of s k) m candidate (same_move_self m))
     (no_refusal (refusal_of s m) (filter_passing (is_legal s) (candidates_of s k) m proposal.1))
 

@@ -24,6 +24,10 @@ use Rattle.pl_machine.specs.declared.change.Change.{Change}
 use Rattle.pl_machine.specs.Changes.{changed}
 use Rattle.pl_machine.specs.Taking.{IsOpen, Takes, Spoils, with_round, with_state}
 
+pub world_append : (w : World) (xs ys : List Entry) → world_from w (xs ++ ys) ≡ world_from (world_from w xs) ys
+world_append w [] ys = refl
+world_append w (x ∷ xs) ys = world_append (after w x.event) xs ys
+
 pub legal_from_push : (w : World) (es : List Entry) (e : Entry) → legal_from w es → MayFollow (world_from w es) e → legal_from w (es ++ e ∷ [])
 legal_from_push w [] e legal follows = (follows, tt)
 legal_from_push w (x ∷ es) e legal follows = (legal.0, legal_from_push (after w x.event) es e legal.1 follows)

@@ -15,6 +15,7 @@ use Rattle.pl_machine.specs.Step.{is_enabled, reply_of, after}
 use Rattle.pl_machine.specs.Legal.{MayFollow, legal_from, world_from, Legal, IsOpenedRun, options_in, options_of, no_options, entries_behind, world_of}
 use Rattle.pl_main.specs.Solo.{solo_event, IsSoloEvent, solo_from, Solo}
 use Rattle.pl_machine.specs.Finished.{input_in, inputs_of}
+use Rattle.pl_pair.proofs.Ending.{legal_behind}
 use Rattle.pl_main.proofs.Playing.{inputs_append}
 
 abbrev Message : Type 0
@@ -117,10 +118,6 @@ are_one w (x ∷ xs) (y ∷ ys) more l1 l2 s1 s2 e =
     let rest : inputs_of ys ≡ inputs_of xs ++ more = rest_agrees (input_in x.event) (input_in y.event) (inputs_of xs) (inputs_of ys) more (ap (λ (v : Event). input_in v) same) e in
     one_more x y xs ys entries (are_one (after w x.event) xs ys more l1.1 (subst (λ (v : Event). legal_from (after w v) ys) (sym same) l2.1) s1.1 (subst (λ (v : Event). solo_from (after w v) ys) (sym same) s2.1) rest)
 
-legal_rest : (w : World) (xs ys : List Entry) → legal_from w (xs ++ ys) → legal_from (world_from w xs) ys
-legal_rest w [] ys l = l
-legal_rest w (x ∷ xs) ys l = legal_rest (after w x.event) xs ys l.1
-
 -- the first entry behind a closed round is an input, and there is none behind the end
 first_behind : (w : World) (z : Entry) (a : Option Message) → input_in z.event ≡ a → MayFollow w z → w.closed ≡ true → (line : Message) × (a ≡ Some line) × (w.done ≡ false)
 first_behind w z None is may closed = absurd (closed_not w closed (in_round w z.event is may.enabled))
@@ -202,7 +199,7 @@ full_and_closed m o full other more first second e long closed = by_one (logs_ar
     by_more : (zs : List Entry) → entries_behind full ≡ entries_behind other ++ zs → (world_of m full ≡ world_of m other) × (more ≡ [])
     by_more [] is = same_log (is ∙ append-nil (entries_behind other))
     by_more (z ∷ zs) is =
-        let rest = legal_rest (fresh_world m o) (entries_behind other) (z ∷ zs) (subst (λ (es : List Entry). legal_from (fresh_world m o) es) is first.steps) in
+        let rest = legal_behind (fresh_world m o) (entries_behind other) (z ∷ zs) (subst (λ (es : List Entry). legal_from (fresh_world m o) es) is first.steps) in
         let shut : (world_from (fresh_world m o) (entries_behind other)).closed ≡ true = ap (λ (w : World). w.closed) (sym second.world) ∙ closed in
         let next = first_behind (world_from (fresh_world m o) (entries_behind other)) z (input_in z.event) refl rest.0 shut in
         let whole : inputs_of full ≡ inputs_of other ++ (next.0 ∷ inputs_of zs) =

@@ -1,5 +1,5 @@
 -- What a repair leaves as it was.
-use Rattle.std.proofs.Common.{◌≡◌, ℕ, ◌+◌, ◌≤◌, eqb, ltb, Bool, true, false, cond, List, [], ◌∷◌, ◌++◌, map, filter, length, get_or, refl, sym, ap, ◌∙◌, subst, arith}
+use Rattle.std.proofs.Common.{◌≡◌, ℕ, ◌+◌, ◌≤◌, eqb, ltb, Bool, true, false, cond, List, [], ◌∷◌, map, filter, length, get_or, refl, sym, ap, ◌∙◌, subst, arith}
 use Rattle.std.specs.Prelude.{◌&&◌, All, ℤ, Option, Some, None, is_some, slice_get, if◌then◌else◌}
 use Rattle.std.specs.Option.{option_or}
 use Rattle.std.proofs.lemmas.Bool.{le-ltb, eqb-true, eq-eqb}
@@ -27,6 +27,7 @@ use Rattle.pl_world.specs.Moves.{is_proper, refusal_of, applied, is_changed, is_
 use Rattle.pl_world.specs.Legal.{MayBeMade}
 use Rattle.pl_world.proofs.Refusing.{may}
 use Rattle.pl_changes.specs.Replaced.{touched}
+use Rattle.pl_values.proofs.Keeping.{among_neither}
 use Rattle.pl_moves.specs.Changes.{gone_by, placed_by, assigned, undetailed, with_children, IsOfActivities}
 use Rattle.pl_moves.specs.Keeping.{KeepsCommitted, GivesIds}
 use Rattle.pl_moves.proofs.Swaps.{MayCome, IsSwap}
@@ -36,14 +37,6 @@ use Rattle.pl_moves.proofs.Branched.{children_count}
 use Rattle.pl_moves.proofs.Made.{IsMadeBy, made}
 
 -- ---- lists
-
-among_append : (q : ℕ) (ids more : List ℕ) → among q ids ≡ false → among q more ≡ false → among q (ids ++ more) ≡ false
-among_append q [] more apart apart_too = apart_too
-among_append q (i ∷ ids) more apart apart_too = cases (eqb i q) refl (among_append q ids more)
-  where
-    cases : (b : Bool) → eqb i q ≡ b → (among q ids ≡ false → among q more ≡ false → among q (ids ++ more) ≡ false) → among q (i ∷ ids ++ more) ≡ false
-    cases true e rest = absurd (let bad : true ≡ false = rw e at apart in cc)
-    cases false e rest = let less : among q ids ≡ false = rw e at apart in rw e (rest less apart_too)
 
 not_both : (b c : Bool) → (b && c) ≡ false → b ≡ true → c ≡ false
 not_both true c e is = e
@@ -86,7 +79,7 @@ module _ (s : PlanState) (whole : IsWhole s) (gone : List ℕ) (more ys : List A
   same_above id a here early =
       let is_id : a.id ≡ id = (all_at (FitsAlone s.model) xs id a whole.fits.each here).1 in
       let unplaced_too : among id (map id_of more) ≡ false = among_ids more id ∙ ap is_some (unplaced id a here early) in
-      let apart : among id (touched gone more) ≡ false = among_append id gone (map id_of more) (stays id a here early) unplaced_too in
+      let apart : among id (touched gone more) ≡ false = among_neither id gone (map id_of more) (stays id a here early) unplaced_too in
       swap.above a.id (subst (λ n. among n (touched gone more) ≡ false) (sym is_id) apart)
 
   pub values : (id : ℕ) (a : Activity) → activity_of id xs ≡ Some a → is_committed s a ≡ true → values_of s.model ys a.id ≡ values_of s.model xs a.id

@@ -6,12 +6,11 @@ use Rattle.std.specs.Set.{remove_key}
 use Rattle.std.proofs.lemmas.Bool.{eqb-true, eq-eqb, false_from_ne_true}
 use Rattle.std.proofs.lemmas.Map.Made.{length-remove_key}
 use Rattle.std.proofs.Math.Bool.{or-false, and-true, and-false}
-use Rattle.pl_lists.proofs.Orderings.{tie_from_reverse}
 use Rattle.pl_conflict.specs.declared.conflict.Conflict.{Conflict}
 use Rattle.pl_conflict.specs.declared.conflict.Code.TheVariants.{OpenGoal, OffGoal}
-use Rattle.pl_conflict.specs.Order.{conflict_cmp, has}
-use Rattle.pl_conflict.proofs.OrderLaws.{conflict_total, conflict_exact, conflict_unique}
-use Rattle.pl_conflict.proofs.Sorting.{same, same_is, ordered-remove, has-remove}
+use Rattle.pl_conflict.specs.Order.{has}
+use Rattle.pl_conflict.proofs.OrderLaws.{conflict_exact, conflict_unique}
+use Rattle.pl_conflict.proofs.Sorting.{same, same_is, ordered-remove, has-remove, same_itself}
 use Rattle.pl_facts.specs.declared.goal.Goal.{Goal}
 use Rattle.pl_facts.specs.Goals.{goal_of, is_numbered, with_dropped}
 use Rattle.pl_plan.specs.declared.activity.Activity.{Activity}
@@ -56,9 +55,6 @@ has_number n (x ∷ goals) g e = cases (is_numbered n x) refl (has_number n goal
     cases : (b : Bool) → is_numbered n x ≡ b → (goal_of n goals ≡ Some g → is_numbered n g ≡ true) → is_numbered n g ≡ true
     cases true f more = let here : Some x ≡ Some g = rw f at e in let is : x ≡ g = cc in ap (is_numbered n) (sym is) ∙ f
     cases false f more = more (rw f at e)
-
-pub same_itself : (k : Conflict) → same k k ≡ true
-same_itself k = tie_from_reverse (conflict_cmp k k) (conflict_total.antisymm k k)
 
 -- ---- one goal less
 

@@ -1,5 +1,5 @@
 -- When a change of a subtree is a replacement.
-use Rattle.std.proofs.Common.{◌≡◌, ℕ, suc, ◌<◌, ◌≤◌, eqb, Bool, true, false, cond, List, [], ◌∷◌, ◌++◌, map, filter, length, get_or, refl, sym, ap, ◌∙◌, subst, arith}
+use Rattle.std.proofs.Common.{◌≡◌, ℕ, suc, ◌<◌, ◌≤◌, eqb, Bool, true, false, cond, List, [], ◌∷◌, map, filter, length, get_or, refl, sym, ap, ◌∙◌, subst, arith}
 use Rattle.std.specs.Prelude.{◌&&◌, All, Option, Some, None, is_some}
 use Rattle.std.specs.Option.{option_or}
 use Rattle.std.proofs.lemmas.Bool.{eqb-true}
@@ -18,6 +18,7 @@ use Rattle.pl_plan.proofs.Subtrees.{descends_live}
 use Rattle.pl_world.specs.declared.plan_state.PlanState.{PlanState}
 use Rattle.pl_world.specs.PlanStates.{among}
 use Rattle.pl_world.specs.Whole.{IsWhole, IsCarried, IsIdBelow}
+use Rattle.pl_near.proofs.Touching.{not_left}
 use Rattle.pl_moves.proofs.Swaps.{IsSwap, swapped_at}
 
 -- ---- ids in lists
@@ -43,22 +44,6 @@ among_ids (x ∷ xs) q = cases (eqb x.id q) refl (among_ids xs q)
 pub among_subtree : (xs : List Activity) (top q : ℕ) → among q (subtree_of top xs) ≡ (descends xs top q && is_some (activity_of q xs))
 unfolding subtree_of
 among_subtree xs top q = among_filter (descends xs top) (map id_of xs) q ∙ ap (λ b. descends xs top q && b) (among_ids xs q)
-
-pub among_left : (q : ℕ) (ids more : List ℕ) → among q (ids ++ more) ≡ false → among q ids ≡ false
-among_left q [] more apart = refl
-among_left q (i ∷ ids) more apart = cases (eqb i q) refl (among_left q ids more)
-  where
-    cases : (e : Bool) → eqb i q ≡ e → (among q (ids ++ more) ≡ false → among q ids ≡ false) → among q (i ∷ ids) ≡ false
-    cases true g rest = absurd (let bad : true ≡ false = rw g at apart in cc)
-    cases false g rest = let less : among q (ids ++ more) ≡ false = rw g at apart in rw g (rest less)
-
-pub among_right : (q : ℕ) (ids more : List ℕ) → among q (ids ++ more) ≡ false → among q more ≡ false
-among_right q [] more apart = apart
-among_right q (i ∷ ids) more apart = cases (eqb i q) refl (among_right q ids more)
-  where
-    cases : (e : Bool) → eqb i q ≡ e → (among q (ids ++ more) ≡ false → among q more ≡ false) → among q more ≡ false
-    cases true g rest = absurd (let bad : true ≡ false = rw g at apart in cc)
-    cases false g rest = let less : among q (ids ++ more) ≡ false = rw g at apart in rest less
 
 pub rising_map : (c : Activity → Activity) → KeepsTree c → (from : ℕ) (xs : List Activity) → RiseFrom from xs → RiseFrom from (map c xs)
 rising_map c keeps from [] rising = rising
@@ -126,7 +111,7 @@ module _ (s : PlanState) (whole : IsWhole s) (top : ℕ) where
       carried = carried;
       rising = rising;
       found = found;
-      above = λ id apart q above. same_outside q (stays_above id q (among_left id gone (map id_of more) apart) above);
+      above = λ id apart q above. same_outside q (stays_above id q (not_left id gone (map id_of more) apart) above);
       fits = fits;
       few = few;
     }

@@ -10,7 +10,7 @@ use Rattle.std.proofs.Math.Bool.{or-true}
 use Rattle.pl_conflict.specs.declared.conflict.Conflict.{Conflict}
 use Rattle.pl_conflict.specs.declared.conflict.Code.TheVariants.{Undetailed}
 use Rattle.pl_conflict.specs.Order.{has}
-use Rattle.pl_conflict.proofs.Sorting.{has-append}
+use Rattle.pl_conflict.proofs.Sorting.{has-append, same_itself}
 use Rattle.pl_plan.specs.declared.activity.Activity.{Activity}
 use Rattle.pl_plan.specs.declared.repair.RepairMove.{RepairMove}
 use Rattle.pl_plan.specs.declared.repair.RepairMove.TheVariants.{Add}
@@ -28,7 +28,6 @@ use Rattle.pl_world.proofs.Refusing.{may}
 use Rattle.pl_world.proofs.Standing.{members}
 use Rattle.pl_moves.specs.Least.{least_known}
 use Rattle.pl_moves.specs.Runs.{CanBeMade}
-use Rattle.pl_moves.proofs.OneGoalLess.{same_itself}
 
 has_between : (k : Conflict) (xs us ys : List Conflict) → has k us ≡ true → has k (xs ++ us ++ ys) ≡ true
 has_between k xs us ys e = has-append (xs ++ us) ys k ∙ ap (λ b. b || has k ys) (has-append xs us k ∙ ap (λ b. has k xs || b) e ∙ or-true (has k xs))

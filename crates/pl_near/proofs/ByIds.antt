@@ -28,7 +28,7 @@ any_found p c (x ∷ xs) rising h = cases (p x) refl (any_found p (suc x.id) xs 
         let apart : eqb x.id f.id ≡ false = ne_eqb x.id f.id (λ is. let none : activity_of f.id xs ≡ None = none_below xs (suc x.id) f.id rising.1 (omega (arith, is)) in let bad : None ≡ Some f.a = sym none ∙ f.here in absurd (cc)) in
         record { id = f.id; a = f.a; here = rw apart f.here; passes = f.passes }
 
-found_any : (p : Activity → Bool) (xs : List Activity) (id : ℕ) (a : Activity) → activity_of id xs ≡ Some a → p a ≡ true → list_any p xs ≡ true
+pub found_any : (p : Activity → Bool) (xs : List Activity) (id : ℕ) (a : Activity) → activity_of id xs ≡ Some a → p a ≡ true → list_any p xs ≡ true
 found_any p [] id a here passes = absurd (cc)
 found_any p (x ∷ xs) id a here passes = cases (eqb x.id id) refl (found_any p xs id a)
   where

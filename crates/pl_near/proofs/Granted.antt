@@ -2,7 +2,6 @@
 use Rattle.std.proofs.Common.{◌≡◌, ℕ, ◌+◌, ◌<◌, ◌≤◌, List, [], ◌∷◌, ◌++◌, Bool, true, false, not, ◌&&◌, ◌||◌, nat_lt, nat_le, Option, Some, None, All, refl, sym, ◌∙◌, ap, subst, arith}
 use Rattle.std.specs.List.{flat_map}
 use Rattle.std.proofs.lemmas.Bool.{leb-false, ltb-false, ltb-true, lt-leb, leb-true, le-ltb, lt-ltb, le-leb, or_left, or_right, or_parts, or_from}
-use Rattle.std.proofs.lemmas.Grind.{common_steps}
 use Rattle.std.proofs.lemmas.List.Elements.{All-head, All-tail}
 use Rattle.pl_lists.proofs.Tests.{not_and_parts}
 use Rattle.pl_conflict.specs.declared.conflict.Conflict.{Conflict}
@@ -25,6 +24,7 @@ use Rattle.pl_world.specs.Conflicts.{conflicts_of}
 use Rattle.pl_world.specs.Grants.{touches_before}
 use Rattle.pl_world.proofs.Owning.{Each, each_append, each_when, each_found, each_flat}
 use Rattle.pl_changes.specs.Changes.{committed_to}
+use Rattle.pl_near.proofs.Passing.{has_first}
 
 -- ---- each of a list of conflicts
 
@@ -34,16 +34,13 @@ each_left P xs ys each q h = each q (has-append xs ys q ∙ or_left (has q xs) (
 each_right : (P : Conflict → Type 0) (xs ys : List Conflict) → Each P (xs ++ ys) → Each P ys
 each_right P xs ys each q h = each q (has-append xs ys q ∙ or_right (has q xs) (has q ys) h)
 
-each_case : (P : Conflict → Type 0) (k q : Conflict) (rest b : Bool) → same q k ≡ b → P k → (rest ≡ true → P q) → (b || rest) ≡ true → P q
+pub each_case : (P : Conflict → Type 0) (k q : Conflict) (rest b : Bool) → same q k ≡ b → P k → (rest ≡ true → P q) → (b || rest) ≡ true → P q
 each_case P k q rest true e first more h = subst P (sym (same_is q k e)) first
 each_case P k q rest false e first more h = more h
 
 each_all : (P : Conflict → Type 0) (ks : List Conflict) → All P ks → Each P ks
 each_all P [] all q h = absurd (cc)
 each_all P (k ∷ ks) all q h = each_case P k q (has q ks) (same q k) refl (All-head P k ks all) (each_all P ks (All-tail P k ks all) q) h
-
-has_first : (k : Conflict) (ks : List Conflict) → has k (k ∷ ks) ≡ true
-has_first k ks = grind (arith, common_steps)
 
 -- two rules that give the same of each give the same of all, where that is known of what the first gives
 same_all : {X : Type 0} (P : Conflict → Type 0) (f g : X → List Conflict) → ((x : X) → Each P (f x) → f x ≡ g x) → (xs : List X) → Each P (flat_map f xs) → flat_map f xs ≡ flat_map g xs

@@ -46,7 +46,7 @@ wrong_kept s now later a none = is_wrong_from (moved_on now s) a ∙ by (is_comm
 
 -- ---- goals
 
-has_first : (k : Conflict) (ks : List Conflict) → has k (k ∷ ks) ≡ true
+pub has_first : (k : Conflict) (ks : List Conflict) → has k (k ∷ ks) ≡ true
 has_first k ks = grind (arith, common_steps)
 
 -- an open goal that stands and is passed is among those that are

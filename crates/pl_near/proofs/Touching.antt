@@ -30,6 +30,7 @@ use Rattle.pl_world.specs.PlanStates.{among, found, goal_at, is_committed, row_o
 use Rattle.pl_world.specs.Goals.{open_at, open_of, off_at, off_of}
 use Rattle.pl_world.specs.Activities.{at_start, late_at, params_at, bindings_of, undetailed_at, past_end, row_above, wrong_at, wrong_of}
 use Rattle.pl_world.specs.Whole.{IsWhole}
+use Rattle.pl_values.proofs.Keeping.{not_there, among_neither}
 use Rattle.pl_near.specs.Near.{Follows, HoldSame}
 use Rattle.pl_near.specs.Touched.{served_at, children_at, touched_goals, touched_ids}
 use Rattle.pl_near.proofs.OfGoals.{found_alike}
@@ -43,9 +44,6 @@ not_left n xs ys e = or_first_false (among n xs) (among n ys) (sym (list_any-app
 
 pub not_right : (n : ℕ) (xs ys : List ℕ) → among n (xs ++ ys) ≡ false → among n ys ≡ false
 not_right n xs ys e = or_second_false (among n xs) (among n ys) (sym (list_any-append (λ i. eqb i n) xs ys) ∙ e)
-
-not_both : (n : ℕ) (xs ys : List ℕ) → among n xs ≡ false → among n ys ≡ false → among n (xs ++ ys) ≡ false
-not_both n xs ys e f = list_any-append (λ i. eqb i n) xs ys ∙ rw e f
 
 not_in_each : (f : ℕ → List ℕ) (n id : ℕ) (ids : List ℕ) → among n (flat_map f ids) ≡ false → among id ids ≡ true → among n (f id) ≡ false
 not_in_each f n id [] none there = absurd (cc)
@@ -81,10 +79,6 @@ comes_gone xs gone (x ∷ more) q free live other = cases (eqb x.id q) refl (com
     cases : (b : Bool) → eqb x.id q ≡ b → among q (map id_of more) ≡ false → among q (map id_of (x ∷ more)) ≡ false
     cases true e rest = absurd (let goes : IsLive q xs → among q gone ≡ true = subst (λ n. IsLive n xs → among n gone ≡ true) (eqb-true x.id q e) (All-head (λ (a : Activity). IsLive a.id xs → among a.id gone ≡ true) x more free) in false≢true (sym other ∙ goes live))
     cases false e rest = rw e rest
-
-not_there : (q : ℕ) (more : List Activity) → among q (map id_of more) ≡ false → activity_of q more ≡ None
-not_there q [] none = refl
-not_there q (x ∷ more) none = rw (or_first_false (eqb x.id q) (among q (map id_of more)) none) (not_there q more (or_second_false (eqb x.id q) (among q (map id_of more)) none))
 
 is_child_of : (a : Activity) (p : ℕ × ℕ) → a.parent ≡ Some p → is_child p.0 a ≡ true
 is_child_of a p e = rw e (eqb_itself p.0)
@@ -179,7 +173,7 @@ module _ (s : PlanState) (gone : List ℕ) (more : List Activity) (whole : IsWho
       let parented : IsParented s.plan.activities a = all_found (IsParented s.plan.activities) id s.plan.activities a whole.fits.rooted.parents here in
       let both = rw is at parented in
       let stays : among p.0 gone ≡ false = by (among p.0 gone) refl in
-      not_both p.0 gone (map id_of more) stays (comes_gone s.plan.activities gone more p.0 can.free both.0 stays)
+      among_neither p.0 gone (map id_of more) stays (comes_gone s.plan.activities gone more p.0 can.free both.0 stays)
     where
       by : (b : Bool) → among p.0 gone ≡ b → among p.0 gone ≡ false
       by false e = e

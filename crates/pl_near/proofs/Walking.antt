@@ -3,7 +3,6 @@ use Rattle.std.proofs.Common.{◌≡◌, ℕ, ◌<◌, ◌≤◌, eqb, Bool, tru
 use Rattle.std.specs.Prelude.{All, filter}
 use Rattle.std.specs.declared.cmp.Ordering.TheVariants.{Less}
 use Rattle.std.proofs.lemmas.Bool.{lt-leb}
-use Rattle.std.proofs.lemmas.Grind.{common_steps}
 use Rattle.std.proofs.lemmas.List.Elements.{All-head, All-tail}
 use Rattle.std.proofs.lemmas.Map.Keys.{sorted_tail}
 use Rattle.std.proofs.lemmas.Map.Views.{All-after_first}
@@ -12,14 +11,12 @@ use Rattle.pl_conflict.specs.declared.conflict.Conflict.{Conflict}
 use Rattle.pl_conflict.specs.Codes.{code_number}
 use Rattle.pl_conflict.specs.Order.{conflict_cmp}
 use Rattle.pl_conflict.specs.Sorting.{AreInOrder}
+use Rattle.pl_conflict.proofs.OrderLaws.{from_rises}
 use Rattle.pl_near.specs.Passed.{is_open_by, subject_of}
 
 -- the subjects of those that are open by then
 abbrev pub subjects : ℕ → List Conflict → List ℕ
 subjects now ks = map subject_of (filter (is_open_by now) ks)
-
-from_rises : (k q : Conflict) → conflict_cmp k q ≡ Less → k.from ≤ q.from
-from_rises k q e = grind (arith, common_steps)
 
 not_by : (now : ℕ) (k : Conflict) → now < k.from → is_open_by now k ≡ false
 not_by now k later = rw (lt-leb k.from now later) (and-false (eqb (code_number k.code) 0))

@@ -4,17 +4,12 @@ use Rattle.std.specs.Prelude.{◌||◌, ◌&&◌, not}
 use Rattle.std.specs.Set.{remove_key}
 use Rattle.std.proofs.lemmas.Map.Made.{length-remove_key}
 use Rattle.pl_conflict.specs.declared.conflict.Conflict.{Conflict}
-use Rattle.pl_conflict.specs.Order.{conflict_cmp, has}
+use Rattle.pl_conflict.specs.Order.{has}
 use Rattle.pl_conflict.specs.Sorting.{AreInOrder}
 use Rattle.pl_outlook.specs.Counts.{AreApart}
-use Rattle.pl_conflict.proofs.Sorting.{same, same_is, has-remove, ordered-remove}
-use Rattle.pl_conflict.proofs.OrderLaws.{conflict_total}
+use Rattle.pl_conflict.proofs.Sorting.{same, same_is, has-remove, ordered-remove, same_itself}
 use Rattle.std.proofs.Math.Bool.{or-true}
 use Rattle.std.proofs.lemmas.Bool.{false_from_ne_true}
-use Rattle.pl_lists.proofs.Orderings.{tie_from_reverse}
-
-pub itself : (k : Conflict) → same k k ≡ true
-itself k = tie_from_reverse (conflict_cmp k k) (conflict_total.antisymm k k)
 
 kept : (h s : Bool) → h ≡ true → s ≡ false → (h && not s) ≡ true
 kept true false e f = refl
@@ -24,7 +19,7 @@ kept false s e f = absurd (cc)
 pub held_are_few : (ks all : List Conflict) → AreApart ks → AreInOrder all → ((q : Conflict) → has q ks ≡ true → has q all ≡ true) → length ks ≤ length all
 held_are_few [] all apart ordered held = omega arith
 held_are_few (k ∷ ks) all apart ordered held =
-    let here : has k all ≡ true = held k (ap (λ b. b || has k ks) (itself k)) in
+    let here : has k all ≡ true = held k (ap (λ b. b || has k ks) (same_itself k)) in
     let shorter : length (remove_key (same k) all) + 1 ≡ length all = length-remove_key (same k) all here in
     let more : length ks ≤ length (remove_key (same k) all) = held_are_few ks (remove_key (same k) all) apart.1 (ordered-remove all k ordered) others in
     omega (arith, shorter, more)

@@ -7,15 +7,14 @@ use Rattle.pl_points.specs.Spans as spans
 use Rattle.pl_conflict.specs.declared.conflict.Conflict.{Conflict}
 use Rattle.pl_conflict.specs.declared.conflict.Code.{Code}
 use Rattle.pl_conflict.specs.Order.{has}
-use Rattle.pl_conflict.proofs.Sorting.{same, same_is, has-append}
+use Rattle.pl_conflict.proofs.Sorting.{same, same_is, has-append, same_itself}
 use Rattle.pl_world.specs.Timelines.{outside}
 use Rattle.pl_outlook.specs.Counts.{AreApart}
-use Rattle.pl_outlook.proofs.Counted.{itself}
 
 pub apart_both : (xs ys : List Conflict) → AreApart xs → AreApart ys → ((q : Conflict) → has q xs ≡ true → has q ys ≡ false) → AreApart (xs ++ ys)
 apart_both [] ys one other meet = other
 apart_both (k ∷ xs) ys one other meet = (
-  has-append xs ys k ∙ or_from (has k xs) (has k ys) one.0 (meet k (ap (λ b. b || has k xs) (itself k))),
+  has-append xs ys k ∙ or_from (has k xs) (has k ys) one.0 (meet k (ap (λ b. b || has k xs) (same_itself k))),
   apart_both xs ys one.1 other (λ q e. meet q (ap (λ b. same q k || b) e ∙ last (same q k))),
 )
 

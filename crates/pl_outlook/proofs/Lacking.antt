@@ -14,7 +14,7 @@ use Rattle.pl_conflict.specs.declared.conflict.Code.{Code}
 use Rattle.pl_conflict.specs.declared.conflict.Code.TheVariants as code
 use Rattle.pl_conflict.specs.Codes.{code_number}
 use Rattle.pl_conflict.specs.Order.{has}
-use Rattle.pl_conflict.proofs.Sorting.{same, has-append}
+use Rattle.pl_conflict.proofs.Sorting.{same, has-append, same_itself}
 use Rattle.pl_moves.specs.Runs.{CanBeMade}
 use Rattle.pl_near.specs.Near.{near}
 use Rattle.pl_plan.specs.declared.activity.Activity.{Activity}
@@ -34,7 +34,6 @@ use Rattle.pl_world.proofs.Subjects.{wrong_is}
 use Rattle.pl_outlook.specs.Askings.{only, without_goal}
 use Rattle.pl_outlook.specs.Standing.{is_unset_one, HasUnset, IsUnsetThen}
 use Rattle.pl_outlook.proofs.Adding.{by_replacing, found_then, itself, may_replace, row, row_alone, row_then}
-use Rattle.pl_outlook.proofs.Counted.{itself as same_itself}
 use Rattle.pl_outlook.proofs.Opens.{IsOff, off_code, wrong_is_left}
 use Rattle.pl_outlook.proofs.Restarted.{among_fixed, at, fixed_among, fixed_at, fixed_by, fixed_is, fixed_moved, has_at, is_fixed}
 

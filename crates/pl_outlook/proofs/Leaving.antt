@@ -1,14 +1,12 @@
 -- How many conflicts of goals and activities are left, by some that are.
 use Rattle.std.proofs.Common.{◌≡◌, ℕ, ◌+◌, ◌≤◌, Bool, true, false, List, [], ◌∷◌, filter, length, Option, Some, None, refl, sym, ap, ◌∙◌, arith}
 use Rattle.std.specs.Prelude.{◌&&◌, not, nat_le}
-use Rattle.std.specs.List.{AllByRecursion}
 use Rattle.std.specs.List.Sorted.{IsStrictlySortedBy}
-use Rattle.std.specs.declared.cmp.Ordering.TheVariants.{Less}
 use Rattle.std.proofs.lemmas.List.Kept.{IsStrictlySortedBy-filter}
 use Rattle.pl_conflict.specs.declared.conflict.Conflict.{Conflict}
 use Rattle.pl_conflict.specs.Order.{conflict_cmp, has}
 use Rattle.pl_conflict.specs.Sorting.{AreInOrder}
-use Rattle.pl_conflict.proofs.Sorting.{same, same_is}
+use Rattle.pl_conflict.proofs.Sorting.{same, same_is, absent}
 use Rattle.pl_facts.specs.declared.goal.Goal.{Goal}
 use Rattle.pl_world.specs.declared.plan_state.PlanState.{PlanState}
 use Rattle.pl_world.specs.PlanStates.{floor_of, goal_at, is_open, of_found, when}
@@ -21,10 +19,6 @@ use Rattle.pl_outlook.proofs.Counted.{held_are_few}
 use Rattle.pl_outlook.proofs.Differing.{apart_passing}
 
 -- ---- lists in order
-
-absent : (k : Conflict) (ks : List Conflict) → AllByRecursion (λ y. conflict_cmp k y ≡ Less) ks → has k ks ≡ false
-absent k [] all = refl
-absent k (y ∷ ks) all = rw all.0 (absent k ks all.1)
 
 ordered_apart : (ks : List Conflict) → AreInOrder ks → AreApart ks
 unfolding IsStrictlySortedBy

@@ -6,7 +6,7 @@ use Rattle.std.proofs.lemmas.Bool.{eqb-true, eqb-false, false_from_ne_true, or_l
 use Rattle.std.proofs.Math.Bool.{or_assoc}
 use Rattle.pl_conflict.specs.declared.conflict.Conflict.{Conflict}
 use Rattle.pl_conflict.specs.Order.{has}
-use Rattle.pl_conflict.proofs.Sorting.{same, same_is, has-append}
+use Rattle.pl_conflict.proofs.Sorting.{same, same_is, has-append, same_itself}
 use Rattle.pl_model.specs.declared.links.Link.{Link}
 use Rattle.pl_model.specs.declared.alternatives.Order.{Order}
 use Rattle.pl_links.specs.declared.placed.Placed.{Placed}
@@ -20,7 +20,6 @@ use Rattle.pl_world.specs.PlanStates.{found, of_found, is_ahead}
 use Rattle.pl_world.specs.Links.{placed_of, placed_in, lone, conflict_of, links_at, link_conflicts}
 use Rattle.pl_world.proofs.Standing.{links_by_subject}
 use Rattle.pl_outlook.specs.Counts.{AreApart}
-use Rattle.pl_outlook.proofs.Counted.{itself}
 
 -- ---- one that is broken is a conflict
 
@@ -57,7 +56,7 @@ module _ (t : PlanState) (a : Activity) (ahead : is_ahead t a ≡ true) where
       first =
           ap (λ b. has (lone a j) (flat_map (conflict_of t a) (when b link_one))) broken
           ∙ (ap (λ b. has (lone a j) (states.when b (lone a j) ++ [])) ahead
-          ∙ or_left (same (lone a j) (lone a j)) false (itself (lone a j)))
+          ∙ or_left (same (lone a j) (lone a j)) false (same_itself (lone a j)))
 
   below : (links : List Link) (orders : List Order) (n j : ℕ) (l : Link) → j < n → slice_get links j ≡ Some l → lacks_partner items own l ≡ true → has (lone a j) (flat_map (conflict_of t a) (broken_below items own links orders n)) ≡ true
   below links orders zero j l lt is lacks = absurd (omega (arith, lt))

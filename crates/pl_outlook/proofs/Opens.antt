@@ -1,7 +1,7 @@
 -- Open goals that stand, and those that no activity serves.
 use Rattle.std.proofs.Common.{◌≡◌, ℕ, eqb, Bool, true, false, List, [], ◌∷◌, map, filter, Option, Some, None, refl, sym, ap, ◌∙◌, subst}
 use Rattle.std.specs.Prelude.{◌||◌, ◌&&◌, not, nat_le, nat_lt, option_and_then}
-use Rattle.std.specs.List.{flat_map, filter_map, list_any}
+use Rattle.std.specs.List.{flat_map, filter_map}
 use Rattle.std.specs.Option.{option_to_list}
 use Rattle.std.proofs.lemmas.List.Folds.{list_any-append}
 use Rattle.std.proofs.Math.Bool.{or-false, or-true}
@@ -14,8 +14,8 @@ use Rattle.pl_conflict.specs.Order.{has}
 use Rattle.pl_facts.specs.declared.goal.Goal.{Goal}
 use Rattle.pl_near.specs.Touched.{served_at, touched_goals}
 use Rattle.pl_near.proofs.Standing.{found_number}
+use Rattle.pl_near.proofs.ByIds.{found_any}
 use Rattle.pl_plan.specs.declared.activity.Activity.{Activity}
-use Rattle.pl_plan.specs.Activities.{activity_of}
 use Rattle.pl_plan.specs.Index.{is_number}
 use Rattle.pl_plan.specs.Serving.{served_in, serves, is_served}
 use Rattle.pl_world.specs.declared.plan_state.PlanState.{PlanState}
@@ -136,14 +136,6 @@ served_not_open s n served = by (goal_at s n) refl
 pub open_not_served : (s : PlanState) (q : Conflict) → has q (open_of s q.subject) ≡ true → is_served q.subject s.plan.activities ≡ false
 open_not_served s q here =
     false_from_ne_true (is_served q.subject s.plan.activities) (λ h. absurd (let none : has q (open_of s q.subject) ≡ has q [] = ap (λ (ks : List Conflict). has q ks) (served_not_open s q.subject h) in let bad : true ≡ false = sym here ∙ none in cc))
-
-pub found_any : (p : Activity → Bool) (xs : List Activity) (id : ℕ) (a : Activity) → activity_of id xs ≡ Some a → p a ≡ true → list_any p xs ≡ true
-found_any p [] id a here passes = absurd (cc)
-found_any p (x ∷ xs) id a here passes = cases (eqb x.id id) refl (found_any p xs id a)
-  where
-    cases : (b : Bool) → eqb x.id id ≡ b → (activity_of id xs ≡ Some a → p a ≡ true → list_any p xs ≡ true) → list_any p (x ∷ xs) ≡ true
-    cases true e more = let at : Some x ≡ Some a = rw e at here in let same : x ≡ a = cc in rw (same, passes) refl
-    cases false e more = rw (more (rw e at here) passes) (or-true (p x))
 
 is_it : (n : ℕ) (o : Option ℕ) → among n (option_to_list o) ≡ true → is_number n o ≡ true
 is_it n None h = absurd (cc)

@@ -1,5 +1,5 @@
 -- What demands make of a timeline: one more of them, none moved, and the uses or the effects among them.
-use Rattle.std.proofs.Common.{◌≡◌, ℕ, ◌+◌, ◌<◌, Bool, true, false, cond, eqb, List, [], ◌∷◌, ◌++◌, length, get_or, drop, map, refl, sym, ap, ◌∙◌, add-one, ℤ, pos, ◌+ℤ◌, arith}
+use Rattle.std.proofs.Common.{◌≡◌, ℕ, ◌+◌, ◌<◌, Bool, true, false, cond, eqb, List, [], ◌∷◌, length, get_or, drop, map, refl, sym, ap, ◌∙◌, add-one, ℤ, pos, ◌+ℤ◌, arith}
 use Rattle.std.proofs.Math.Seq.{drop-cons}
 use Rattle.std.proofs.lemmas.Int.{ints}
 use Rattle.pl_points.specs.Sums.{total}
@@ -9,6 +9,7 @@ use Rattle.pl_world.specs.declared.demand.Demand.{Demand}
 use Rattle.pl_world.specs.declared.demand.Asked.{Asked}
 use Rattle.pl_world.specs.declared.demand.Asked.TheVariants as asked
 use Rattle.pl_world.specs.Demands.{asked_of, use_in, effect_in, uses_of, effects_of}
+use Rattle.pl_lines.proofs.Listing.{total-append}
 use Rattle.pl_outlook.specs.Afterwards.{asked_on, pull_of, pull}
 use Rattle.pl_outlook.specs.Moved.{moved_to, asked_moved, demand_moved}
 use Rattle.pl_outlook.specs.declared.outside.Side.{Side}
@@ -42,10 +43,6 @@ all_still [] = refl
 all_still (d ∷ ds) = ap (λ (a : Asked). record d { asked = a } ∷ map (demand_moved 0 0) ds) (asked_still d.asked) ∙ ap (λ (xs : List Demand). d ∷ xs) (all_still ds)
 
 -- ---- uses or effects
-
-total-append : {T : Type 0} (f : T → ℤ) (xs ys : List T) → total f (xs ++ ys) ≡ total f xs +ℤ total f ys
-total-append f [] ys = omega (arith, ints)
-total-append f (x ∷ xs) ys = let more = total-append f xs ys in omega (arith, ints, more)
 
 -- what it makes of a timeline of this number, on a side and with a base
 abbrev pub on : Side → ℕ → ℕ → ℕ → Demand → ℤ

@@ -20,9 +20,10 @@ use Rattle.pl_world.specs.Goals.{open_at, open_goal}
 use Rattle.pl_world.specs.Conflicts.{conflicts_of}
 use Rattle.pl_world.specs.Moves.{applied}
 use Rattle.pl_world.specs.Whole.{IsWhole}
+use Rattle.pl_near.proofs.ByIds.{found_any}
 use Rattle.pl_outlook.specs.Standing.{IsOpenWithout}
-use Rattle.pl_outlook.proofs.Counted.{itself as same_itself}
-use Rattle.pl_outlook.proofs.Opens.{found_any, open_is_left, open_not_served, open_stands}
+use Rattle.pl_conflict.proofs.Sorting.{same_itself}
+use Rattle.pl_outlook.proofs.Opens.{open_is_left, open_not_served, open_stands}
 
 -- ---- a goal that one root alone serves
 

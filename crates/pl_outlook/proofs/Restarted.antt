@@ -8,7 +8,7 @@ use Rattle.pl_conflict.specs.declared.conflict.Conflict.{Conflict}
 use Rattle.pl_conflict.specs.declared.conflict.Code.{Code}
 use Rattle.pl_conflict.specs.declared.conflict.Code.TheVariants as code
 use Rattle.pl_conflict.specs.Order.{has}
-use Rattle.pl_conflict.proofs.Sorting.{same, same_is, has-append}
+use Rattle.pl_conflict.proofs.Sorting.{same, same_is, has-append, same_itself}
 use Rattle.pl_model.specs.declared.expressions.Expr.{Expr}
 use Rattle.pl_model.specs.declared.kinds.Kind.{Kind}
 use Rattle.pl_model.specs.declared.parameters.Param.{Param}
@@ -29,7 +29,6 @@ use Rattle.pl_world.specs.Whole.{IsWhole}
 use Rattle.pl_world.proofs.Owning.{Each, each_append, each_when, each_found, each_flat}
 use Rattle.pl_values.specs.Shifted.{still, AreStill}
 use Rattle.pl_values.proofs.Still.{values_still}
-use Rattle.pl_outlook.proofs.Counted.{itself}
 
 -- ---- at another moment
 
@@ -57,7 +56,7 @@ has_at n [] q h = absurd (cc)
 has_at n (k ∷ ks) q h = by (same q k) refl h (has_at n ks q)
   where
     by : (b : Bool) → same q k ≡ b → (b || has q ks) ≡ true → (has q ks ≡ true → has (at n q) (map (at n) ks) ≡ true) → (same (at n q) (at n k) || has (at n q) (map (at n) ks)) ≡ true
-    by true e there more = ap (λ b. b || has (at n q) (map (at n) ks)) (ap (λ (z : Conflict). same (at n q) (at n z)) (sym (same_is q k e)) ∙ itself (at n q))
+    by true e there more = ap (λ b. b || has (at n q) (map (at n) ks)) (ap (λ (z : Conflict). same (at n q) (at n z)) (sym (same_is q k e)) ∙ same_itself (at n q))
     by false e there more = ap (λ b. same (at n q) (at n k) || b) (more there) ∙ or-true (same (at n q) (at n k))
 
 -- ---- what hangs on no start

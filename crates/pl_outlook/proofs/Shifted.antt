@@ -6,12 +6,13 @@ use Rattle.std.specs.Option.{option_map}
 use Rattle.std.proofs.lemmas.Bool.{le-ltb, false_from_ne_true}
 use Rattle.std.proofs.lemmas.List.{length-map}
 use Rattle.std.proofs.Math.Bool.{or-true}
+use Rattle.std.proofs.lemmas.Option.{same_Some}
 use Rattle.pl_conflict.specs.declared.conflict.Conflict.{Conflict}
 use Rattle.pl_conflict.specs.declared.conflict.Code.{Code}
 use Rattle.pl_conflict.specs.declared.conflict.Code.TheVariants as code
 use Rattle.pl_conflict.specs.Codes.{code_number}
 use Rattle.pl_conflict.specs.Order.{has}
-use Rattle.pl_conflict.proofs.Sorting.{same, same_is}
+use Rattle.pl_conflict.proofs.Sorting.{same, same_is, same_itself}
 use Rattle.pl_moves.specs.Changes.{placed_by}
 use Rattle.pl_moves.specs.Runs.{CanBeMade}
 use Rattle.pl_moves.proofs.Made.{named_live}
@@ -36,7 +37,6 @@ use Rattle.pl_outlook.specs.Counts.{AreApart}
 use Rattle.pl_values.specs.Shifted.{still}
 use Rattle.pl_outlook.specs.Plain.{is_plain, is_plain_part, count_of_plain}
 use Rattle.pl_outlook.specs.Standing.{is_unmoved, is_unmoved_one, count_of_unmoved}
-use Rattle.pl_outlook.proofs.Counted.{itself}
 use Rattle.pl_outlook.proofs.Differing.{has_passing}
 use Rattle.pl_outlook.proofs.Leaving.{left_are_few, standing_apart}
 use Rattle.pl_outlook.proofs.Opens.{moved_served, open_not_served, open_stands, untouched, wrong_stands, wrong_is_left}
@@ -55,7 +55,7 @@ from_map f [] q h = absurd (cc)
 from_map f (k ∷ ks) q h = by (same q (f k)) refl h (from_map f ks q)
   where
     by : (b : Bool) → same q (f k) ≡ b → (b || has q (map f ks)) ≡ true → (has q (map f ks) ≡ true → IsFrom f ks q) → IsFrom f (k ∷ ks) q
-    by true e there more = record { k = k; there = ap (λ b. b || has k ks) (itself k); is = same_is q (f k) e }
+    by true e there more = record { k = k; there = ap (λ b. b || has k ks) (same_itself k); is = same_is q (f k) e }
     by false e there more = let from : IsFrom f ks q = more there in record { k = from.k; there = ap (λ b. same from.k k || b) from.there ∙ or-true (same from.k k); is = from.is }
 
 behind : (f : Conflict → Conflict) (k : Conflict) (ks : List Conflict) → ((q r : Conflict) → has q (k ∷ ks) ≡ true → has r (k ∷ ks) ≡ true → f q ≡ f r → q ≡ r) → (q r : Conflict) → has q ks ≡ true → has r ks ≡ true → f q ≡ f r → q ≡ r
@@ -66,7 +66,7 @@ apart_map f [] apart one = tt
 apart_map f (k ∷ ks) apart one = (
   false_from_ne_true (has (f k) (map f ks)) (λ h. absurd (
       let from : IsFrom f ks (f k) = from_map f ks (f k) h in
-      let is : k ≡ from.k = one k from.k (ap (λ b. b || has k ks) (itself k)) (ap (λ b. same from.k k || b) from.there ∙ or-true (same from.k k)) from.is in
+      let is : k ≡ from.k = one k from.k (ap (λ b. b || has k ks) (same_itself k)) (ap (λ b. same from.k k || b) from.there ∙ or-true (same from.k k)) from.is in
       let bad : true ≡ false = sym from.there ∙ (ap (λ (z : Conflict). has z ks) (sym is) ∙ apart.0) in
       cc)),
   apart_map f ks apart.1 (behind f k ks one),
@@ -217,15 +217,12 @@ module _ (s : PlanState) (whole : IsWhole s) (next : s.next_id ≤ 3999999000) (
   from_own : (q : Conflict) (mine : IsOwn s q) → q.from ≡ mine.a.start
   from_own q mine = fixed_from s mine.a q mine.among
 
-  some_same : (a b : Activity) → Some a ≡ Some b → a ≡ b
-  some_same a b f = cc
-
   fixed_one : (q r : Conflict) → is_fixed q.code ≡ true → is_fixed r.code ≡ true → has q (conflicts_of s) ≡ true → has r (conflicts_of s) ≡ true → (n m : ℕ) → at n q ≡ at m r → q ≡ r
   fixed_one q r fixed fixed_too there there_too n m f =
       let mine : IsOwn s q = own s whole q fixed there in
       let other : IsOwn s r = own s whole r fixed_too there_too in
       let subject : q.subject ≡ r.subject = ap (λ (k : Conflict). k.subject) f in
-      let activity : mine.a ≡ other.a = some_same mine.a other.a (sym mine.here ∙ ap (found s) subject ∙ other.here) in
+      let activity : mine.a ≡ other.a = same_Some mine.a other.a (sym mine.here ∙ ap (found s) subject ∙ other.here) in
       let start : q.from ≡ r.from = from_own q mine ∙ ap (λ (a : Activity). a.start) activity ∙ sym (from_own r other) in
       ap (at q.from) f ∙ ap (λ k. at k r) start
 

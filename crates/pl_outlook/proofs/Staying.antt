@@ -37,6 +37,7 @@ use Rattle.pl_outlook.proofs.Shifted.{shift_left}
 use Rattle.pl_outlook.proofs.Leaving.{left_are_few, standing_apart}
 use Rattle.pl_outlook.proofs.Opens.{wrong_stands}
 use Rattle.pl_outlook.proofs.Unchosen.{unchosen}
+use Rattle.pl_outlook.proofs.Alike.{alike_delete, alike_shift, alike_add}
 
 -- ---- moves that place the same
 
@@ -66,21 +67,9 @@ on_shift id start (Abstract i) e = absurd (cc)
 on_shift id start (Assign i p v) e = absurd (cc)
 on_shift id start (Drop g) e = absurd (cc)
 
-pub alike_add : (kind start : ℕ) (goal : Option ℕ) (m : RepairMove) → IsAlike (Add kind start goal) m → (t : ℕ) × (m ≡ Add kind t goal)
-alike_add kind start goal m (inl e) = (start, e)
-alike_add kind start goal m (inr e) = on_add kind start goal m e
-
-pub alike_shift : (id start : ℕ) (m : RepairMove) → IsAlike (Shift id start) m → (t : ℕ) × (m ≡ Shift id t)
-alike_shift id start m (inl e) = (start, e)
-alike_shift id start m (inr e) = on_shift id start m e
-
 pub alike_assign : (id param : ℕ) (value : ℤ) (m : RepairMove) → IsAlike (Assign id param value) m → m ≡ Assign id param value
 alike_assign id param value m (inl e) = e
 alike_assign id param value m (inr e) = absurd (cc)
-
-pub alike_delete : (id : ℕ) (m : RepairMove) → IsAlike (Delete id) m → m ≡ Delete id
-alike_delete id m (inl e) = e
-alike_delete id m (inr e) = absurd (cc)
 
 -- ---- conflicts that are left
 

@@ -10,7 +10,7 @@ use Rattle.std.proofs.Math.Bool.{or-true}
 use Rattle.pl_conflict.specs.declared.conflict.Conflict.{Conflict}
 use Rattle.pl_conflict.specs.declared.conflict.Code.TheVariants.{Undetailed}
 use Rattle.pl_conflict.specs.Order.{has}
-use Rattle.pl_conflict.proofs.Sorting.{has-append}
+use Rattle.pl_conflict.proofs.Sorting.{has-append, same_itself}
 use Rattle.pl_plan.specs.declared.activity.Activity.{Activity}
 use Rattle.pl_plan.specs.declared.repair.RepairMove.TheVariants.{Add}
 use Rattle.pl_plan.specs.Fitting.{alternatives_of}
@@ -25,7 +25,6 @@ use Rattle.pl_world.specs.Moves.{root_for, applied, refusal_of}
 use Rattle.pl_world.specs.Legal.{MayBeMade}
 use Rattle.pl_world.proofs.Refusing.{may}
 use Rattle.pl_world.proofs.Standing.{members}
-use Rattle.pl_outlook.proofs.Counted.{itself}
 
 has_between : (k : Conflict) (xs us ys : List Conflict) → has k us ≡ true → has k (xs ++ us ++ ys) ≡ true
 has_between k xs us ys e = has-append (xs ++ us) ys k ∙ ap (λ b. b || has k ys) (has-append xs us k ∙ ap (λ b. has k xs || b) e ∙ or-true (has k xs))
@@ -40,7 +39,7 @@ unfolding wrong_at
 wrong_new t a planned undetailed =
     let k : Conflict = at_start a Undetailed 0 0 in
     let early : List Conflict = late_at t a ++ unset_at t a ++ bad_values_at t a in
-    has_planned k (is_committed t a) (early ++ undetailed_at t a ++ overrun_at t a) planned (has_between k early (undetailed_at t a) (overrun_at t a) (ap (has k) undetailed ∙ ap (λ b. b || false) (itself k)))
+    has_planned k (is_committed t a) (early ++ undetailed_at t a ++ overrun_at t a) planned (has_between k early (undetailed_at t a) (overrun_at t a) (ap (has k) undetailed ∙ ap (λ b. b || false) (same_itself k)))
 
 pub unchosen : (s : PlanState) (kind start : ℕ) (goal : Option ℕ) → refusal_of s (Add kind start goal) ≡ None → eqb (length (alternatives_of (slice_get s.model.kinds kind))) 0 ≡ false
     → has (at_start (root_for s kind start goal) Undetailed 0 0) (conflicts_of (applied s (Add kind start goal))) ≡ true

@@ -11,6 +11,7 @@ use Rattle.pl_turn.specs.History.{IsEachOnce, StandsFrom, StandsIn, times_at, ti
 use Rattle.pl_turn.specs.Passes.{seen_of, mine_of, crew_of, leads, made_by, joined_by, opening_of, lists_of}
 use Rattle.pl_turn.proofs.Histories.{prefix_trans}
 use Rattle.pl_turn.proofs.Sifting.{sifted}
+use Rattle.pl_turn.proofs.Owning.{spends_true}
 use Rattle.pl_model.specs.declared.whole.Model.{Model}
 use Rattle.pl_entry.specs.declared.event.Event.{Event}
 use Rattle.pl_entry.specs.declared.event.Event.TheVariants as event
@@ -163,12 +164,8 @@ one_at p x = cond (nat_eq x.0 p) 1 0
 pub at_other : (p : ℕ) (x : ℕ × Noted) → x.0 ≢ p → one_at p x ≡ 0
 at_other p x ne = ap (λ (b : Bool). cond b 1 0) (ne_eqb x.0 p ne)
 
-is_one : (b : Bool) → ◌≡◌ {A = ℕ} (cond b 1 0) 1 → b ≡ true
-is_one true e = refl
-is_one false e = absurd (let h : ◌≡◌ {A = ℕ} 0 1 = e in (cc))
-
 at_same : (p : ℕ) (x : ℕ × Noted) → one_at p x ≡ 1 → x.0 ≡ p
-at_same p x e = eqb-true x.0 p (is_one (nat_eq x.0 p) e)
+at_same p x e = eqb-true x.0 p (spends_true (nat_eq x.0 p) e)
 
 -- of entries that are no inputs none stands at an input's place
 times_failing : (h : List Noted) (low p : ℕ) (e : Noted) (own : List (ℕ × Noted)) → StandsFrom h low own → All (λ x. is_entry is_input x.1 ≡ false) own → slice_get h p ≡ Some e → is_entry is_input e ≡ true → times_at p own ≡ 0

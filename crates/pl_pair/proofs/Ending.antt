@@ -17,6 +17,7 @@ use Rattle.pl_machine.specs.Step.{is_enabled, reply_of, after_input, after}
 use Rattle.pl_machine.specs.Legal.{legal_from, world_from, no_options, options_in, IsOpenedRun, Legal, world_of}
 use Rattle.pl_machine.specs.Finished.{inputs_of}
 use Rattle.pl_machine.proofs.Going.{Goes, fix_done, commit_done, dispatch_done, step_goes}
+use Rattle.pl_machine.proofs.Runs.{world_append}
 use Rattle.pl_pair.proofs.Ends.{is_ended, line_ends}
 
 -- whether an input ends the run
@@ -42,7 +43,7 @@ EndsIf true inputs = LastEnds inputs
 
 -- ---- one step
 
-line_done : (w : World) (line : List ℕ) (r : Reply) → w.done ≡ false → (after_input w (Some line) r).done ≡ is_ended r
+pub line_done : (w : World) (line : List ℕ) (r : Reply) → w.done ≡ false → (after_input w (Some line) r).done ≡ is_ended r
 line_done w line reply.Ended going = refl
 line_done w line reply.Done going = going
 line_done w line _ going = going
@@ -63,11 +64,7 @@ enabled_going w event.Close enabled goes = goes (not-true w.closed (and_first (n
 
 -- ---- a whole log
 
-world_append : (w : World) (xs ys : List Entry) → world_from w (xs ++ ys) ≡ world_from (world_from w xs) ys
-world_append w [] ys = refl
-world_append w (x ∷ xs) ys = world_append (after w x.event) xs ys
-
-legal_behind : (w : World) (xs ys : List Entry) → legal_from w (xs ++ ys) → legal_from (world_from w xs) ys
+pub legal_behind : (w : World) (xs ys : List Entry) → legal_from w (xs ++ ys) → legal_from (world_from w xs) ys
 legal_behind w [] ys legal = legal
 legal_behind w (x ∷ xs) ys legal = legal_behind (after w x.event) xs ys legal.1
 

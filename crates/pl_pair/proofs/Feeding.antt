@@ -26,11 +26,10 @@ use Rattle.pl_shared.specs.declared.noted.Noted.{Noted}
 use Rattle.pl_shared.specs.declared.noted.Noted.TheVariants.{Made, Stopped}
 use Rattle.pl_shared.specs.declared.plan.SharedPlan.{SharedPlan}
 use Rattle.pl_shared.specs.Items.{entry_in, entries_in, InWorld}
-use Rattle.pl_shared.proofs.Items.{log_is_some, entries_in_items}
 use Rattle.pl_shared.specs.Roles.{IsInputOf}
-use Rattle.pl_shared.specs.Plans.{PlanPass, IsPlan, BelongsTo}
+use Rattle.pl_shared.specs.Plans.{PlanPass, BelongsTo}
 use Rattle.pl_shared.specs.Turns.{TakesTurn, Makes, Stops}
-use Rattle.pl_shared.proofs.Progress.{from_world}
+use Rattle.pl_shared.proofs.Progress.{from_world, some_entries}
 use Rattle.pl_pair.specs.declared.cut.Cut.{Cut}
 use Rattle.pl_pair.specs.declared.cut.Cut.TheVariants as cut
 use Rattle.pl_pair.specs.declared.rounds.Stage.TheVariants as stage
@@ -103,7 +102,7 @@ reads_on start middle place xs ys (unasked none same) took =
     subst P (sym none) (subst Q same took)
 reads_on start middle place xs ys (asked works first) took = took_more start.reader middle.reader place.reader start.ahead middle.ahead place.ahead xs ys first took
 
-works_on : (start middle : Place) (xs : List (List ℕ)) → Reads start xs middle → middle.reader.failed ≡ None → start.reader.failed ≡ None
+pub works_on : (start middle : Place) (xs : List (List ℕ)) → Reads start xs middle → middle.reader.failed ≡ None → start.reader.failed ≡ None
 works_on start middle xs (unasked none same) works = sym (ap (λ (p : Place). p.reader.failed) same) ∙ works
 works_on start middle xs (asked works first) works2 = works
 
@@ -225,13 +224,6 @@ not_write fault.Memory e = cc
 
 -- ---- the loop
 
--- a plan has entries
-pub plan_some : (seen : List Noted) → IsPlan seen → 0 < length (entries_in seen)
-plan_some seen plan =
-    let same = ap (λ (es : List Entry). length es) (ap entries_in plan.is ∙ entries_in_items plan.model plan.log plan.stopped) in
-    let some = log_is_some plan.model plan.log plan.legal in
-    omega arith
-
 -- nothing was read
 pub heard_none : (start : Place) → Heard start [] start
 heard_none start = record {
@@ -252,7 +244,7 @@ feeding_none plan m pass start held own new = record {
     heard = heard_none start;
     mine = (let P : List (ℕ × Noted) → Type 0 = λ xs. AreInputs [] xs in subst P (sym new) tt);
   };
-  writes = record { front = []; in_front = (seen_of pass, refl); count = refl; due = plan_some (seen_of pass) own.seen; written = some_held held; behind = inl new };
+  writes = record { front = []; in_front = (seen_of pass, refl); count = refl; due = some_entries (seen_of pass) own.seen; written = some_held held; behind = inl new };
 }
 
 module _ (plan : SharedPlan) (m : Model) (old : PlanPass) (start : Place) (held : Option (List ℕ)) (cur : PlanPass) (middle : Place) (mid : Option (List ℕ)) (from : ℕ) (feeding : Feeding plan m old start held cur middle mid from) where

@@ -21,7 +21,8 @@ use Rattle.pl_shared.specs.Items.{entry_in, entries_in}
 use Rattle.pl_shared.specs.declared.plan.SharedPlan.{SharedPlan}
 use Rattle.pl_shared.specs.Plans.{PlanPass, IsPlan, BelongsTo}
 use Rattle.pl_shared.specs.Turns.{TakesTurn, Copies}
-use Rattle.pl_shared.proofs.Items.{log_is_short, entries_in_items}
+use Rattle.pl_machine.proofs.ShortLogs.{log_is_short}
+use Rattle.pl_shared.proofs.Items.{entries_in_items}
 use Rattle.pl_shared.proofs.Progress.{in_world_on}
 use Rattle.pl_pair.specs.declared.cut.Cut.{Cut}
 use Rattle.pl_pair.specs.declared.cut.Cut.TheVariants as cut

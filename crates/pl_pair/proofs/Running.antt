@@ -40,8 +40,9 @@ use Rattle.pl_shared.specs.declared.role.Role.TheVariants.{Planner, Executive}
 use Rattle.pl_shared.specs.Roles.{worker_of, has_event, is_entry, is_input, is_repair, is_executed}
 use Rattle.pl_shared.specs.Plans.{PlanPass, IsPlan, BelongsTo}
 use Rattle.pl_shared.specs.Turns.{TakesTurn, IsFull, Stops, was_stopped, is_stopped}
-use Rattle.pl_shared.proofs.Items.{log_is_some, entries_in_items, model_in_items, length_going, made_entries}
-use Rattle.pl_shared.proofs.Progress.{log_is_bounded, world_options, full_ends, full_on, same_world}
+use Rattle.pl_machine.proofs.ShortLogs.{log_is_some}
+use Rattle.pl_shared.proofs.Items.{entries_in_items, model_in_items, length_going, made_entries}
+use Rattle.pl_shared.proofs.Progress.{log_is_bounded, world_options, full_ends, full_on, same_world, some_entries}
 use Rattle.pl_pair.specs.declared.cut.Cut.{Cut}
 use Rattle.pl_pair.specs.declared.cut.Cut.TheVariants as cut
 use Rattle.pl_pair.specs.declared.ended.Ended.{Ended}
@@ -65,7 +66,7 @@ use Rattle.pl_pair.proofs.Ending.{NoEnds, LastEnds, EndsIf, steps_behind, world_
 use Rattle.pl_pair.proofs.Working.{own_on, own_kinds}
 use Rattle.pl_pair.proofs.Saying.{told_on, told_front, told_all, told_lines, told_gave, up_to_next, up_to_last, up_to_told, if_known, asks_begins, messages_on, skip_blanks, none_left}
 use Rattle.pl_pair.proofs.Passing.{took_follows, follows_on, none_written}
-use Rattle.pl_pair.proofs.Feeding.{entries_on, own_stands, heard_none, heard_more, plan_some}
+use Rattle.pl_pair.proofs.Feeding.{entries_on, own_stands, heard_none, heard_more, works_on}
 use Rattle.pl_pair.proofs.Cutting.{twice_on, twice_is, rest_some, rest_torn, whole_torn}
 use Rattle.pl_pair.specs.Chosen.{AreChosen}
 use Rattle.pl_pair.proofs.Choosing.{are_chosen}
@@ -466,10 +467,6 @@ memory_by (fault.Long n) is = absurd (cc)
 memory_by fault.Total is = absurd (cc)
 memory_by fault.Memory is = refl
 
-start_works : (start place : Place) (lines : List (List ℕ)) → Reads start lines place → place.reader.failed ≡ None → start.reader.failed ≡ None
-start_works start place lines (unasked none same) works = sym (ap (λ (p : Place). p.reader.failed) same) ∙ works
-start_works start place lines (asked works took) works2 = works
-
 start_failed : (start place : Place) (lines : List (List ℕ)) (f : LineFault) → Reads start lines place → place.reader.failed ≡ Some f → start.reader.failed ≡ Some f
 start_failed start place lines f (unasked none same) failed = sym (ap (λ (p : Place). p.reader.failed) same) ∙ failed
 start_failed start place lines f (asked works took) failed = absurd (let both : None ≡ Some f = sym took.working ∙ failed in (cc))
@@ -485,7 +482,7 @@ not_both o f none some = (let both : None ≡ Some f = sym none ∙ some in (cc)
 given_by : (r : Ended) (c : Cut) (old mid : PlanPass) (place end behind : Place) (tells : Tells old place mid end) (f : LineFault) → Whys r c place → c ≡ cut_by f → NoEnds tells.inputs → Faults end f behind → Given r place tells.inputs behind
 given_by r c old mid place end behind tells f whys is none (now_failed works gets) =
     let halts = halts_later place.reader end.reader behind.reader place.ahead end.ahead behind.ahead tells.heard.lines gets.lines f (reads_took place end tells.heard.lines tells.heard.reads works) gets.halts in
-    let started = start_works place end tells.heard.lines tells.heard.reads works in
+    let started = works_on place end tells.heard.lines tells.heard.reads works in
     record {
       lines = tells.heard.lines ++ gets.lines;
       left = halts.left;
@@ -591,7 +588,7 @@ module _ (start : State) (first : PlanPass) (w1 w2 : Worker) (joined : Joined st
             earlier = entries_in writes.front;
             last = entries_in behind_front;
             parts = log_parts;
-            round = answers one.0 (plan_some writes.front handed.plan) (world_in IsBetween writes.front start.model model handed.between).0 one.1;
+            round = answers one.0 (some_entries writes.front handed.plan) (world_in IsBetween writes.front start.model model handed.between).0 one.1;
             written = so_far;
             whole = writes.written;
             part = last_torn;

@@ -19,15 +19,15 @@ use Rattle.pl_pair.proofs.Ending.{is_ending, NoEnds, LastEnds, EndsIf}
 
 -- ---- one line
 
-blank_next : (line : List ℕ) (lines : List (List ℕ)) → is_blank_line line ≡ true → messages_of (line ∷ lines) ≡ messages_of lines
+pub blank_next : (line : List ℕ) (lines : List (List ℕ)) → is_blank_line line ≡ true → messages_of (line ∷ lines) ≡ messages_of lines
 unfolding messages_of
 blank_next line lines blank = rw blank refl
 
-message_next : (line : List ℕ) (lines : List (List ℕ)) → is_blank_line line ≡ false → is_line_of end_word line ≡ false → messages_of (line ∷ lines) ≡ Some line ∷ messages_of lines
+pub message_next : (line : List ℕ) (lines : List (List ℕ)) → is_blank_line line ≡ false → is_line_of end_word line ≡ false → messages_of (line ∷ lines) ≡ Some line ∷ messages_of lines
 unfolding messages_of
 message_next line lines message other = rw (message, other) refl
 
-end_next : (line : List ℕ) (lines : List (List ℕ)) → is_blank_line line ≡ false → is_line_of end_word line ≡ true → messages_of (line ∷ lines) ≡ Some line ∷ []
+pub end_next : (line : List ℕ) (lines : List (List ℕ)) → is_blank_line line ≡ false → is_line_of end_word line ≡ true → messages_of (line ∷ lines) ≡ Some line ∷ []
 unfolding messages_of
 end_next line lines message ends = rw (message, ends) refl
 

@@ -111,7 +111,7 @@ fits_deleted model xs rising fits top root =
         by_top q is true e = absurd (let bad : None ≡ Some id = sym root ∙ (ap (λ n. parent_of n xs) (sym (eqb-true q top e)) ∙ is) in cc)
         by_top q is false e = rw (upper xs fits.rooted rising top q id is (not-true (descends xs top id) stay) e) refl
 
-abstracted_keeps : (top : ℕ) → KeepsTree (abstracted top)
+pub abstracted_keeps : (top : ℕ) → KeepsTree (abstracted top)
 abstracted_keeps top = record { id = λ a. by_id a (eqb a.id top); kind = λ a. by_kind a (eqb a.id top); parent = λ a. by_parent a (eqb a.id top) }
   where
     by_id : (a : Activity) (b : Bool) → (cond b (record a { detail = None }) a).id ≡ a.id

@@ -37,11 +37,11 @@ any_gives f G (i ∷ ids) holds given = by_first (f i) refl (λ h. any_gives f G
     by_first true e more = given i (or_left (eqb i i) (among i ids) (eq-eqb i i refl)) e
     by_first false e more = more (rw e at holds)
 
-number_is : (n : ℕ) (o : Option ℕ) → is_number n o ≡ true → o ≡ Some n
+pub number_is : (n : ℕ) (o : Option ℕ) → is_number n o ≡ true → o ≡ Some n
 number_is n None e = absurd (cc)
 number_is n (Some m) e = ap Some (eqb-true m n e)
 
-is_this : (n : ℕ) (o : Option ℕ) → o ≡ Some n → is_number n o ≡ true
+pub is_this : (n : ℕ) (o : Option ℕ) → o ≡ Some n → is_number n o ≡ true
 is_this n None e = absurd (cc)
 is_this n (Some m) e = let same : m ≡ n = cc in eq-eqb m n same
 

@@ -232,7 +232,7 @@ among_prefix : (ps others xs : List Span) → AllAmong others xs → AllAmong (p
 among_prefix [] others xs all = all
 among_prefix (p ∷ ps) others xs all = among_more p (ps ++ others) xs (among_prefix ps others xs all)
 
-same_self : (x : Span) → same_span x x ≡ true
+pub same_self : (x : Span) → same_span x x ≡ true
 same_self x = rw (eq-eqb x.from x.from refl) (eq-eqb x.to x.to refl)
 
 among_front : (s t : List Span) → AllAmong (s ++ t) s

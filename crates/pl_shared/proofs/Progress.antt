@@ -37,7 +37,8 @@ use Rattle.pl_shared.specs.Plans.{PlanPass, IsPlan}
 use Rattle.pl_shared.specs.Making.{IsMadeAt, MakesAll}
 use Rattle.pl_shared.specs.Turns.{TakesTurn, Acts, Stops, was_stopped, is_stopped, IsFull, Works, WorksUntil, WasAskedAtMost, WorksOn}
 use Rattle.pl_shared.proofs.OwnEntries.{makes_all_on, makes_all_push}
-use Rattle.pl_shared.proofs.Items.{log_is_some, log_is_short, length_stopped, length_going, entries_in_items, model_in_items}
+use Rattle.pl_machine.proofs.ShortLogs.{log_is_some, log_is_short}
+use Rattle.pl_shared.proofs.Items.{length_stopped, length_going, entries_in_items, model_in_items}
 
 -- ---- which entries a role makes
 

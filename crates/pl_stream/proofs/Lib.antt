@@ -4,4 +4,3 @@ pub mod Skipping
 pub mod Stopping
 pub mod Writing
 pub mod Comparing
-pub mod Logs

@@ -10,7 +10,7 @@ use pl_machine::Machine;
 use std::alloc::Global;
 
 /// Writes the lines of a log from an entry on.
-#[tactic(auto, using(crate::proofs::Logs::log_is_short))]
+#[tactic(auto, using(pl_machine::proofs::ShortLogs::log_is_short))]
 pub fn write_log<O: Sink>(
     alloc: Global,
     machine: &Machine,

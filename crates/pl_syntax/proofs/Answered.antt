@@ -24,7 +24,7 @@ Read ts r = Judged (Reads limits) ReadsFree ts r
 judged : (ts : List Token) (r : Result Ast Stop) → read_all 32 32 ts ≡ r → Read ts r
 judged ts r e = subst (Read ts) e (read_exact 32 32 (omega arith) ts)
 
-same_tokens : (text : List ℕ) (ts us : List Piece) → tokens_of text ≡ Ok ts → tokens_of text ≡ Ok us → ts ≡ us
+pub same_tokens : (text : List ℕ) (ts us : List Piece) → tokens_of text ≡ Ok ts → tokens_of text ≡ Ok us → ts ≡ us
 same_tokens text ts us e f = let g = sym e ∙ f in cc
 
 same_reads : (text : List ℕ) (ts : List Piece) (other : Ast) → tokens_of text ≡ Ok ts → ReadsText text other → Reads limits (marks_of text ts) other

@@ -165,7 +165,7 @@ piece_real (word b bs) rest is = (word_real b bs (word_of (b ∷ bs)) refl is.0 
 piece_real (number d ds) rest is = (short_number d ds (digit_byte d is.0) is.2.0 is.1, tt)
 piece_real (symbol b) rest is = symbol_real (symbol_of b) (symbol_some b is)
 
-real_append : (ts us : List Token) → AreReal ts → AreReal us → AreReal (ts ++ us)
+pub real_append : (ts us : List Token) → AreReal ts → AreReal us → AreReal (ts ++ us)
 real_append [] us h g = g
 real_append (t ∷ ts) us h g = (h.0, real_append ts us h.1 g)
 

@@ -18,7 +18,7 @@ use Rattle.pl_turn.proofs.Histories.{prefix_self, prefix_none}
 spends_most : {I : Type 0} (k : Known I) → spends k ≤ 1
 spends_most k = elim k.spent as (λ b. cond b 1 0 ≤ 1) [ true ↦ omega arith | false ↦ omega arith ]
 
-spends_true : (b : Bool) → ◌≡◌ {A = ℕ} (cond b 1 0) 1 → b ≡ true
+pub spends_true : (b : Bool) → ◌≡◌ {A = ℕ} (cond b 1 0) 1 → b ≡ true
 spends_true true e = refl
 spends_true false e = absurd (omega arith)
 

@@ -2,7 +2,6 @@
 use Rattle.std.proofs.Common.{◌≡◌, ℕ, eqb, Bool, true, false, List, [], ◌∷◌, ◌++◌, map, refl, sym, ap, ◌∙◌, subst}
 use Rattle.std.specs.Prelude.{Option, Some, None, if◌then◌else◌}
 use Rattle.std.specs.Option.{option_or, option_map}
-use Rattle.std.proofs.lemmas.Bool.{eqb-true}
 use Rattle.std.proofs.lemmas.List.Folds.{list_any-append}
 use Rattle.pl_lists.proofs.Tests.{or_first_false, or_second_false}
 use Rattle.pl_plan.specs.declared.activity.Activity.{Activity}
@@ -14,6 +13,7 @@ use Rattle.pl_plan.specs.Firm.{amounts_of, end_of}
 use Rattle.pl_world.specs.declared.plan_state.PlanState.{PlanState}
 use Rattle.pl_world.specs.PlanStates.{among}
 use Rattle.pl_world.specs.Whole.{IsWhole}
+use Rattle.pl_world.proofs.Found.{found_id}
 use Rattle.pl_changes.specs.Replaced.{replaced, CanReplace}
 use Rattle.pl_changes.proofs.Putting.{puttable}
 use Rattle.pl_changes.proofs.Finding.{found-replaced}
@@ -21,21 +21,12 @@ use Rattle.pl_values.specs.Kept.{kept_at, comes_to, come_to, AreOf, KeepsUp}
 
 -- ---- numbers among others
 
-not_both : (n : ℕ) (xs ys : List ℕ) → among n xs ≡ false → among n ys ≡ false → among n (xs ++ ys) ≡ false
-not_both n xs ys e f = list_any-append (λ i. eqb i n) xs ys ∙ rw e f
+pub among_neither : (n : ℕ) (xs ys : List ℕ) → among n xs ≡ false → among n ys ≡ false → among n (xs ++ ys) ≡ false
+among_neither n xs ys e f = list_any-append (λ i. eqb i n) xs ys ∙ rw e f
 
 -- ---- a replacement
 
--- what is found has the id
-pub found_id : (id : ℕ) (xs : List Activity) (a : Activity) → activity_of id xs ≡ Some a → a.id ≡ id
-found_id id [] a e = absurd (cc)
-found_id id (x ∷ xs) a e = cases (eqb x.id id) refl (found_id id xs a)
-  where
-    cases : (b : Bool) → eqb x.id id ≡ b → (activity_of id xs ≡ Some a → a.id ≡ id) → a.id ≡ id
-    cases true is more = let here : Some x ≡ Some a = rw is at e in let same : x ≡ a = cc in subst (λ (y : Activity). y.id ≡ id) same (eqb-true x.id id is)
-    cases false is more = more (rw is at e)
-
-not_there : (q : ℕ) (more : List Activity) → among q (map id_of more) ≡ false → activity_of q more ≡ None
+pub not_there : (q : ℕ) (more : List Activity) → among q (map id_of more) ≡ false → activity_of q more ≡ None
 not_there q [] none = refl
 not_there q (x ∷ more) none = rw (or_first_false (eqb x.id q) (among q (map id_of more)) none) (not_there q more (or_second_false (eqb x.id q) (among q (map id_of more)) none))
 
@@ -55,11 +46,11 @@ module _ (s : PlanState) (gone : List ℕ) (more : List Activity) (whole : IsWho
 
   same_end : (id : ℕ) → among id gone ≡ false → among id (map id_of more) ≡ false → end_of s.model now id ≡ end_of s.model s.plan.activities id
   unfolding end_of
-  same_end id in_place away = rw (same_there id in_place away, can.kept id (not_both id gone (map id_of more) in_place away)) refl
+  same_end id in_place away = rw (same_there id in_place away, can.kept id (among_neither id gone (map id_of more) in_place away)) refl
 
   same_amounts : (id : ℕ) → among id gone ≡ false → among id (map id_of more) ≡ false → amounts_of s.model now id ≡ amounts_of s.model s.plan.activities id
   unfolding amounts_of
-  same_amounts id in_place away = rw (same_there id in_place away, can.kept id (not_both id gone (map id_of more) in_place away)) refl
+  same_amounts id in_place away = rw (same_there id in_place away, can.kept id (among_neither id gone (map id_of more) in_place away)) refl
 
   -- what stays comes to the same
   stays : (id : ℕ) → among id gone ≡ false → among id (map id_of more) ≡ false → come_to s.model now id ≡ come_to s.model s.plan.activities id
@@ -70,7 +61,7 @@ module _ (s : PlanState) (gone : List ℕ) (more : List Activity) (whole : IsWho
       by (Some a) e =
           let is : a.id ≡ id = found_id id s.plan.activities a e in
           ap (λ n. Some (record { values = values_of s.model now n; amounts = amounts_of s.model now n; end = end_of s.model now n })) is
-          ∙ ap (λ row. Some (record { values = row; amounts = amounts_of s.model now id; end = end_of s.model now id })) (can.kept id (not_both id gone (map id_of more) in_place away))
+          ∙ ap (λ row. Some (record { values = row; amounts = amounts_of s.model now id; end = end_of s.model now id })) (can.kept id (among_neither id gone (map id_of more) in_place away))
           ∙ ap (λ row. Some (record { values = values_of s.model s.plan.activities id; amounts = row; end = end_of s.model now id })) (same_amounts id in_place away)
           ∙ ap (λ end. Some (record { values = values_of s.model s.plan.activities id; amounts = amounts_of s.model s.plan.activities id; end = end })) (same_end id in_place away)
           ∙ ap (λ n. Some (record { values = values_of s.model s.plan.activities n; amounts = amounts_of s.model s.plan.activities n; end = end_of s.model s.plan.activities n })) (sym is)

@@ -19,12 +19,12 @@ use Rattle.pl_plan.proofs.Climbs.{all_at}
 use Rattle.pl_world.specs.declared.plan_state.PlanState.{PlanState}
 use Rattle.pl_world.specs.PlanStates.{among}
 use Rattle.pl_world.specs.Whole.{IsWhole}
+use Rattle.pl_world.proofs.Found.{found_id}
 use Rattle.pl_changes.specs.Replaced.{replaced, CanReplace}
 use Rattle.pl_changes.proofs.Putting.{puttable}
 use Rattle.pl_changes.proofs.Finding.{found-replaced}
 use Rattle.pl_values.specs.Kept.{kept_at, comes_to, come_to, AreOf}
 use Rattle.pl_values.specs.Shifted.{still, AreStill, IsShift, start_before, moved, KeepsShifted}
-use Rattle.pl_values.proofs.Keeping.{found_id}
 use Rattle.pl_values.proofs.Coming.{AreOnce, once_head, once_tail}
 use Rattle.pl_values.proofs.Still.{values_still}
 

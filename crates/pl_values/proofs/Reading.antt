@@ -5,8 +5,8 @@ use Rattle.pl_plan.specs.declared.activity.Activity.{Activity}
 use Rattle.pl_plan.specs.declared.evaluated.Evaluated.{Evaluated}
 use Rattle.pl_plan.specs.Activities.{IsLive, activity_of}
 use Rattle.pl_plan.specs.Values.{values_of}
+use Rattle.pl_world.proofs.Found.{found_id}
 use Rattle.pl_values.specs.Kept.{comes_to, come_to}
-use Rattle.pl_values.proofs.Keeping.{found_id}
 
 module _ (model : Model) (xs : List Activity) where
   -- of a live activity

@@ -2,6 +2,7 @@
 use Rattle.std.proofs.Common.{◌≡◌, ℕ, Bool, true, false, List, refl, ap, subst}
 use Rattle.std.specs.Prelude.{find, Option, Some, None}
 use Rattle.std.specs.Option.{option_map}
+use Rattle.std.proofs.lemmas.Option.{same_Some}
 use Rattle.pl_plan.specs.declared.activity.Activity.{Activity}
 use Rattle.pl_plan.specs.declared.repair.RepairMove.{RepairMove}
 use Rattle.pl_plan.specs.Activities.{AreRising}
@@ -27,14 +28,11 @@ Decides o p q b (Behind id) = (o ≡ None) × IsFound p id
 Decides o p q b (Beyond id) = (o ≡ None) × (p ≡ None) × IsFound q id
 Decides o p q b Full = (o ≡ None) × (p ≡ None) × (q ≡ None) × (b ≡ true)
 
-same : (r t : Refusal) → Some r ≡ Some t → r ≡ t
-same r t e = cc
-
 why : (o p q : Option Activity) (b : Bool) (r : Refusal) → decided o p q b ≡ Some r → Decides o p q b r
-why (Some a) p q b r e = subst (Decides (Some a) p q b) (same (Locked a.id) r e) (a, refl, refl)
-why None (Some a) q b r e = subst (Decides None (Some a) q b) (same (Behind a.id) r e) (refl, (a, refl, refl))
-why None None (Some a) b r e = subst (Decides None None (Some a) b) (same (Beyond a.id) r e) (refl, refl, (a, refl, refl))
-why None None None true r e = subst (Decides None None None true) (same Full r e) (refl, refl, refl, refl)
+why (Some a) p q b r e = subst (Decides (Some a) p q b) (same_Some (Locked a.id) r e) (a, refl, refl)
+why None (Some a) q b r e = subst (Decides None (Some a) q b) (same_Some (Behind a.id) r e) (refl, (a, refl, refl))
+why None None (Some a) b r e = subst (Decides None None (Some a) b) (same_Some (Beyond a.id) r e) (refl, refl, (a, refl, refl))
+why None None None true r e = subst (Decides None None None true) (same_Some Full r e) (refl, refl, refl, refl)
 why None None None false r e = absurd (cc)
 
 so : (o p q : Option Activity) (b : Bool) (r : Refusal) → Decides o p q b r → decided o p q b ≡ Some r

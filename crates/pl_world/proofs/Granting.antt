@@ -4,18 +4,15 @@ use Rattle.std.specs.Prelude.{All, IfSome, ◌↔◌}
 use Rattle.std.specs.List.Sorted.{IsStrictlySortedBy}
 use Rattle.std.specs.declared.cmp.Ordering.TheVariants.{Less}
 use Rattle.std.proofs.lemmas.Bool.{ltb-false, le-ltb}
-use Rattle.std.proofs.lemmas.Grind.{common_steps}
 use Rattle.std.proofs.lemmas.List.Elements.{All-nil, All-cons, All-head, All-weaker}
 use Rattle.std.proofs.lemmas.Map.Views.{All-after_first}
 use Rattle.pl_conflict.specs.declared.conflict.Conflict.{Conflict}
 use Rattle.pl_conflict.specs.Order.{conflict_cmp}
+use Rattle.pl_conflict.proofs.OrderLaws.{from_rises}
 use Rattle.pl_world.specs.declared.plan_state.PlanState.{PlanState}
 use Rattle.pl_world.specs.Conflicts.{conflicts_of}
 use Rattle.pl_world.specs.Grants.{touches_before}
 use Rattle.pl_world.proofs.Standing.{ordered}
-
-from_rises : (k q : Conflict) → conflict_cmp k q ≡ Less → k.from ≤ q.from
-from_rises k q e = grind (arith, common_steps)
 
 by_first : (h : ℕ) (ks : List Conflict) → All (λ k. touches_before h k ≡ false) ks → IfSome (slice_get ks 0) (λ k. h ≤ k.from)
 by_first h [] all = tt

@@ -66,7 +66,7 @@ activities_apart : (c : ℕ) (xs : List Activity) → RiseFrom c xs → Apart (�
 activities_apart c [] rising = tt
 activities_apart c (x ∷ xs) rising = (none_below x.id (suc x.id) xs (omega arith) rising.1, activities_apart (suc x.id) xs rising.1)
 
-activity_of_find : (n : ℕ) (xs : List Activity) → find (λ (a : Activity). eqb a.id n) xs ≡ activity_of n xs
+pub activity_of_find : (n : ℕ) (xs : List Activity) → find (λ (a : Activity). eqb a.id n) xs ≡ activity_of n xs
 activity_of_find n [] = refl
 activity_of_find n (x ∷ xs) = ap (λ o. cond (eqb x.id n) (Some x) o) (activity_of_find n xs)
 

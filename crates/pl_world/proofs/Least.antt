@@ -6,18 +6,7 @@ use Rattle.pl_plan.specs.declared.activity.Activity.{Activity}
 use Rattle.pl_plan.specs.Activities.{RiseFrom, activity_of}
 use Rattle.pl_plan.proofs.Lookups.{none_below}
 use Rattle.pl_world.specs.Legal.{IsLeast}
-
--- what is found has the id
-has_id : (id : ℕ) (xs : List Activity) (a : Activity) → activity_of id xs ≡ Some a → a.id ≡ id
-has_id id [] a is = absurd (cc)
-has_id id (x ∷ xs) a is = by (eqb x.id id) refl (has_id id xs a)
-  where
-    some : (y : Activity) → Some y ≡ Some a → y ≡ a
-    some y e = cc
-
-    by : (b : Bool) → eqb x.id id ≡ b → (activity_of id xs ≡ Some a → a.id ≡ id) → a.id ≡ id
-    by true e more = let same : x ≡ a = some x (rw e at is) in subst (λ (y : Activity). y.id ≡ id) same (eqb-true x.id id e)
-    by false e more = more (rw e at is)
+use Rattle.pl_world.proofs.Found.{found_id}
 
 -- ids rise, so what is found lies from the first on
 above : (c id : ℕ) (xs : List Activity) (a : Activity) → RiseFrom c xs → activity_of id xs ≡ Some a → c ≤ id
@@ -82,8 +71,8 @@ found_least test c xs rising id is = by (find test xs) refl
     by None e = absurd (some_found test id xs is.a is.here is.passes e)
     by (Some b) e =
         let found : IsLeast test xs b.id = least_found test c xs rising b e in
-        let mine : is.a.id ≡ id = has_id id xs is.a is.here in
-        let others : found.a.id ≡ b.id = has_id b.id xs found.a found.here in
+        let mine : is.a.id ≡ id = found_id id xs is.a is.here in
+        let others : found.a.id ≡ b.id = found_id b.id xs found.a found.here in
         let below : b.id ≤ is.a.id = found.least is.a (subst (λ n. activity_of n xs ≡ Some is.a) (sym mine) is.here) is.passes in
         let over : id ≤ found.a.id = is.least found.a (subst (λ n. activity_of n xs ≡ Some found.a) (sym others) found.here) found.passes in
         (b, e, omega (arith, mine, others, below, over))

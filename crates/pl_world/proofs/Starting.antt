@@ -1,5 +1,5 @@
 -- The activities that a move starts stand by rising id.
-use Rattle.std.proofs.Common.{ℕ, suc, ◌+◌, ◌≤◌, Bool, true, false, cond, List, [], ◌∷◌, arith}
+use Rattle.std.proofs.Common.{ℕ, suc, ◌+◌, ◌≤◌, List, [], ◌∷◌, arith}
 use Rattle.std.specs.Prelude.{map, filter, Option, Some, None, slice_get}
 use Rattle.pl_model.specs.declared.alternatives.Slot.{Slot}
 use Rattle.pl_model.specs.declared.alternatives.Alternative.{Alternative}
@@ -7,21 +7,14 @@ use Rattle.pl_plan.specs.declared.activity.Activity.{Activity}
 use Rattle.pl_plan.specs.declared.repair.RepairMove.{RepairMove}
 use Rattle.pl_plan.specs.declared.repair.RepairMove.TheVariants.{Add, Delete, Shift, Detail, Abstract, Assign, Drop}
 use Rattle.pl_plan.specs.Activities.{RiseFrom, AreRising}
+use Rattle.pl_plan.proofs.ByLookUps.{filter_rising}
 use Rattle.pl_world.specs.declared.plan_state.PlanState.{PlanState}
 use Rattle.pl_world.specs.PlanStates.{found}
 use Rattle.pl_world.specs.Moves.{is_under, alternatives_at, children_from, children_in, children_for, moved, moved_with, started_by}
 
-weaker : (b c : ℕ) (xs : List Activity) → b ≤ c → RiseFrom c xs → RiseFrom b xs
-weaker b c [] le rising = tt
-weaker b c (x ∷ xs) le rising = (omega (arith, le, rising.0), rising.1)
-
-rising_filter : (test : Activity → Bool) (c : ℕ) (xs : List Activity) → RiseFrom c xs → RiseFrom c (filter test xs)
-rising_filter test c [] rising = tt
-rising_filter test c (x ∷ xs) rising = by (test x) (rising_filter test (suc x.id) xs rising.1)
-  where
-    by : (b : Bool) → RiseFrom (suc x.id) (filter test xs) → RiseFrom c (cond b (x ∷ filter test xs) (filter test xs))
-    by true rest = (rising.0, rest)
-    by false rest = weaker c (suc x.id) (filter test xs) (omega (arith, rising.0)) rest
+pub rise_lower : (b c : ℕ) (xs : List Activity) → b ≤ c → RiseFrom c xs → RiseFrom b xs
+rise_lower b c [] le rising = tt
+rise_lower b c (x ∷ xs) le rising = (omega (arith, le, rising.0), rising.1)
 
 rising_moved : (from to c : ℕ) (xs : List Activity) → RiseFrom c xs → RiseFrom c (map (moved from to) xs)
 rising_moved from to c [] rising = tt
@@ -39,7 +32,7 @@ started_rise s (Shift id start) rising = by (found s id)
   where
     by : (o : Option Activity) → AreRising (moved_with s start o)
     by None = tt
-    by (Some a) = rising_moved a.start start 0 (filter (is_under s a.id) s.plan.activities) (rising_filter (is_under s a.id) 0 s.plan.activities rising)
+    by (Some a) = rising_moved a.start start 0 (filter (is_under s a.id) s.plan.activities) (filter_rising (is_under s a.id) 0 s.plan.activities rising)
 started_rise s (Detail id alternative) rising = by (found s id)
   where
     within : (a : Activity) (o : Option Alternative) → AreRising (children_in s a o)

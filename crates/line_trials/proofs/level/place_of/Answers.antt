@@ -2,9 +2,9 @@ use Rattle.std.proofs.Common.{◌≡◌, suc, ◌∷◌, drop, ap, sym, ◌∙�
 use Rattle.std.proofs.lemmas.List.{get_or_default}
 use Rattle.pl_points.specs.Standing.{stands}
 use Rattle.pl_points.proofs.Parting.{drop_next}
-use Rattle.line_trials.proofs.Placed.{without_at}
 use Rattle.pl_level.specs.declared.reservation.Effect.{Effect}
 use Rattle.pl_level.specs.Effects.{same_effect}
+use Rattle.pl_state.proofs.Orders.{without_at}
 use Rattle.line_trials.proofs.level.place_of.Goals as goal
 
 pub returns-then-is_same-clause-stands : goal.returns-then-is_same-clause-stands
