@@ -6,7 +6,7 @@ use mathlib.Core.List.{IsPrefix}
 use Rattle.pl_model.specs.declared.whole.Model.{Model}
 use Rattle.pl_entry.specs.declared.entry.Entry.{Entry}
 use Rattle.pl_machine.specs.World.{World}
-use Rattle.pl_machine.specs.Legal.{world_of, IsHistory}
+use Rattle.pl_machine.specs.Legal.{Legal, world_of, IsHistory}
 use Rattle.pl_shared.specs.declared.noted.Noted.{Noted}
 use Rattle.pl_shared.specs.declared.noted.Noted.TheVariants.{Opened, Made, Stopped}
 use Rattle.pl_shared.specs.Items.{log_items, stop_items, items_of, entry_in, entries_in, model_in, is_stop, stop_in, OfWorld, InWorld}
