@@ -8,18 +8,18 @@ use Rattle.pl_conflict.specs.Order.{has}
 use Rattle.pl_conflict.specs.Sorting.{exchanged}
 use Rattle.pl_conflict.proofs.OrderLaws.{conflict_unique, conflict_exact}
 use Rattle.pl_conflict.proofs.Sorting.{has-append, has-exchanged, ordered-exchanged}
-use Rattle.pl_world.specs.declared.plan_state.PlanState.{PlanState}
-use Rattle.pl_world.specs.Parts.{Part, part_of, of_goals, of_activities, of_links, of_timelines}
-use Rattle.pl_world.specs.Conflicts.{conflicts_of}
-use Rattle.pl_world.specs.Goals.{goal_conflicts}
-use Rattle.pl_world.specs.Activities.{activity_conflicts}
-use Rattle.pl_world.specs.Links.{link_conflicts}
-use Rattle.pl_world.specs.Timelines.{timeline_conflicts}
-use Rattle.pl_world.specs.Whole.{IsWhole}
-use Rattle.pl_world.proofs.Standing.{ordered, members, of_goals_alone, of_activities_alone, of_links_alone, of_timelines_alone}
-use Rattle.pl_near.specs.Near.{near, IsPlain, Follows}
-use Rattle.pl_near.proofs.Standing.{near_plain, mended}
-use Rattle.pl_linked.specs.Mended.{MendsLinks}
+use Rattle.pl_semantics.specs.declared.plan_state.PlanState.{PlanState}
+use Rattle.pl_semantics.specs.Parts.{Part, part_of, of_goals, of_activities, of_links, of_timelines}
+use Rattle.pl_semantics.specs.Conflicts.{conflicts_of}
+use Rattle.pl_semantics.specs.Goals.{goal_conflicts}
+use Rattle.pl_semantics.specs.Activities.{activity_conflicts}
+use Rattle.pl_semantics.specs.Links.{link_conflicts}
+use Rattle.pl_semantics.specs.Timelines.{timeline_conflicts}
+use Rattle.pl_semantics.specs.Whole.{IsWhole}
+use Rattle.pl_semantics.proofs.Standing.{ordered, members, of_goals_alone, of_activities_alone, of_links_alone, of_timelines_alone}
+use Rattle.pl_update.specs.GoalsAndActivities.Near.{near, IsPlain, Follows}
+use Rattle.pl_update.proofs.AboutGoalsAndActivities.Standing.{near_plain, mended}
+use Rattle.pl_update.specs.Links.Mended.{MendsLinks}
 
 -- ---- tests
 

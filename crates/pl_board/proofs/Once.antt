@@ -10,14 +10,14 @@ use Rattle.pl_plan.specs.declared.activity.Activity.{Activity}
 use Rattle.pl_plan.specs.Activities.{IsLive, activity_of}
 use Rattle.pl_plan.specs.Trees.{id_of}
 use Rattle.pl_plan.proofs.LookUpLaws.{same_activities}
-use Rattle.pl_world.specs.declared.plan_state.PlanState.{PlanState}
-use Rattle.pl_world.specs.PlanStates.{among}
-use Rattle.pl_world.specs.Whole.{IsWhole}
-use Rattle.pl_changes.specs.Replaced.{taken, put, replaced, touched, CanReplace, with_plan}
-use Rattle.pl_changes.proofs.Putting.{rising-taken, found-taken}
-use Rattle.pl_near.specs.Near.{HoldSame}
-use Rattle.pl_linked.proofs.Nearby.{among-append}
-use Rattle.pl_lines.specs.Laws.{AreOnce}
+use Rattle.pl_semantics.specs.declared.plan_state.PlanState.{PlanState}
+use Rattle.pl_semantics.specs.PlanStates.{among}
+use Rattle.pl_semantics.specs.Whole.{IsWhole}
+use Rattle.pl_update.specs.Changes.Replaced.{taken, put, replaced, touched, CanReplace, with_plan}
+use Rattle.pl_update.proofs.AboutChanges.Putting.{rising-taken, found-taken}
+use Rattle.pl_update.specs.GoalsAndActivities.Near.{HoldSame}
+use Rattle.pl_update.proofs.AboutLinks.Nearby.{among-append}
+use Rattle.pl_update.specs.Timelines.Laws.{AreOnce}
 
 pub once_rising : (ids : List ℕ) → IsStrictlyIncreasing ids → AreOnce ids
 once_rising ids rising i j d lt within = let less = AllPairs-from_increasing ids rising i j d lt within in (λ same. omega (arith, less, same))

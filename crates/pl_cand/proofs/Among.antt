@@ -6,7 +6,7 @@ use Rattle.std.specs.List.{list_any}
 use Rattle.std.proofs.lemmas.Bool.{or_right, or_from}
 use Rattle.pl_lists.proofs.Tests.{or_weaker}
 use Rattle.pl_plan.specs.declared.repair.RepairMove.{RepairMove}
-use Rattle.pl_world.specs.Candidates.{same_move, once_from}
+use Rattle.pl_semantics.specs.Candidates.{same_move, once_from}
 use Rattle.pl_cand.proofs.Same.{one_move}
 
 either : (a b : Bool) → (a || b) ≡ true → (a ≡ true → b ≡ true) → b ≡ true

@@ -22,10 +22,10 @@ use Rattle.pl_plan.specs.Fitting.{kind_of, alternatives_of}
 use Rattle.pl_plan.specs.Serving.{served_in}
 use Rattle.pl_plan.proofs.FirmSteps.{checked_kind}
 use Rattle.pl_links.specs.Broken.{links_of, links_in, orders_in}
-use Rattle.pl_world.specs.declared.plan_state.PlanState.{PlanState}
-use Rattle.pl_world.specs.PlanStates.{goal_at, served_by, reservations_in}
-use Rattle.pl_world.specs.Whole.{IsWhole, IsGoalOf, IsBase}
-use Rattle.pl_world.specs.Links.{placed_of, order_at}
+use Rattle.pl_semantics.specs.declared.plan_state.PlanState.{PlanState}
+use Rattle.pl_semantics.specs.PlanStates.{goal_at, served_by, reservations_in}
+use Rattle.pl_semantics.specs.Whole.{IsWhole, IsGoalOf, IsBase}
+use Rattle.pl_semantics.specs.Links.{placed_of, order_at}
 use Rattle.pl_cand.specs.Near.{IsNear, AreNear, AreClose}
 use Rattle.pl_cand.specs.Levels.{HasBase, IsOfLevel, IsToldAt}
 

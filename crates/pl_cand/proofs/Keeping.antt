@@ -6,15 +6,15 @@ use Rattle.std.specs.List.{list_any}
 use Rattle.std.proofs.lemmas.List.Folds.{list_any-append}
 use Rattle.pl_plan.specs.declared.repair.RepairMove.{RepairMove}
 use Rattle.pl_plan.specs.declared.repair.RepairMove.TheVariants.{Add, Delete, Shift, Detail, Abstract, Assign, Drop}
-use Rattle.pl_world.specs.Moves.{is_proper}
-use Rattle.pl_world.specs.Candidates.{same_move, same_number, is_worth, once_from}
+use Rattle.pl_semantics.specs.Moves.{is_proper}
+use Rattle.pl_semantics.specs.Candidates.{same_move, same_number, is_worth, once_from}
 use Rattle.pl_plan.specs.declared.activity.Activity.{Activity}
 use Rattle.pl_plan.specs.Trees.{id_of}
-use Rattle.pl_world.specs.declared.plan_state.PlanState.{PlanState}
+use Rattle.pl_semantics.specs.declared.plan_state.PlanState.{PlanState}
 use Rattle.pl_cand.specs.declared.role.Role.{Role}
 use Rattle.pl_cand.specs.Tests.{is_user, users_with}
 use Rattle.pl_model.specs.declared.kinds.Kind.{Kind}
-use Rattle.pl_world.specs.PlanStates.{numbered}
+use Rattle.pl_semantics.specs.PlanStates.{numbered}
 use Rattle.pl_cand.specs.declared.help.Help.{Help}
 use Rattle.pl_cand.specs.Helping.{helpers_with, is_helper, number_of}
 use Rattle.pl_cand.specs.Cuts.{once_after, standing, are_alike}

@@ -7,9 +7,9 @@ use Rattle.pl_model.specs.declared.expressions.Expr.{Expr}
 use Rattle.pl_model.specs.declared.parameters.Param.{Param}
 use Rattle.pl_plan.specs.declared.activity.Activity.{Activity}
 use Rattle.pl_plan.specs.declared.repair.RepairMove.{RepairMove}
-use Rattle.pl_world.specs.PlanStates.{numbered, of_found}
-use Rattle.pl_world.specs.Moves.{is_free}
-use Rattle.pl_world.specs.Repairs.{assigns, assigns_one}
+use Rattle.pl_semantics.specs.PlanStates.{numbered, of_found}
+use Rattle.pl_semantics.specs.Moves.{is_free}
+use Rattle.pl_semantics.specs.Repairs.{assigns, assigns_one}
 use Rattle.pl_cand.specs.Details.{assigns_as, assigns_if_free}
 
 -- ---- by number

@@ -1,7 +1,7 @@
 -- Tests one by one, and activities by their ids.
 use Rattle.std.proofs.Common.{◌≡◌, ℕ, zero, suc, ◌≤◌, eqb, Bool, true, false, List, [], ◌∷◌, ◌++◌, length, map, Option, Some, None, IfSome, refl, ap, ◌∙◌, arith}
 use Rattle.std.specs.Prelude.{All, slice_index_or, ◌&&◌, ◌||◌, nat_lt, int_lt, pos}
-use Rattle.pl_world.specs.Activities.{value_in}
+use Rattle.pl_semantics.specs.Activities.{value_in}
 use Rattle.std.specs.List.{flat_map, list_any}
 use Rattle.std.proofs.lemmas.List.Elements.{All-nil, All-head, All-tail, All-filter, All-take}
 use Rattle.std.proofs.Math.Bool.{and-false}
@@ -16,19 +16,19 @@ use Rattle.pl_plan.specs.Activities.{activity_of}
 use Rattle.pl_plan.specs.Trees.{id_of}
 use Rattle.pl_plan.specs.Fitting.{kind_of}
 use Rattle.pl_plan.proofs.Kept.{each_found}
-use Rattle.pl_world.specs.declared.plan_state.PlanState.{PlanState}
-use Rattle.pl_world.specs.PlanStates.{found, numbered, of_found, reservations_in, row_of, end_at}
-use Rattle.pl_world.specs.Whole.{IsWhole}
-use Rattle.pl_world.specs.LineRepairs.{around, takes_in, first_eight, lowers_below, raises_below}
+use Rattle.pl_semantics.specs.declared.plan_state.PlanState.{PlanState}
+use Rattle.pl_semantics.specs.PlanStates.{found, numbered, of_found, reservations_in, row_of, end_at}
+use Rattle.pl_semantics.specs.Whole.{IsWhole}
+use Rattle.pl_semantics.specs.LineRepairs.{around, takes_in, first_eight, lowers_below, raises_below}
 use Rattle.pl_plan.specs.Values.{Row}
-use Rattle.pl_world.specs.Demands.{amount_in, asked_for, demands_at}
+use Rattle.pl_semantics.specs.Demands.{amount_in, asked_for, demands_at}
 use Rattle.pl_model.specs.declared.kinds.Kind.{Kind}
 use Rattle.pl_model.specs.Values.{NamesBelow}
 use Rattle.pl_model.specs.Checked.{params_of}
 use Rattle.pl_plan.specs.Firm.{amount_of}
 use Rattle.pl_plan.proofs.FirmSteps.{checked_kind, amounts_named}
 use Rattle.pl_plan.proofs.ValueLaws.{values_solve}
-use Rattle.pl_world.specs.Starts.{moves_of}
+use Rattle.pl_semantics.specs.Starts.{moves_of}
 use Rattle.pl_cand.specs.ById.{around_id, moves_of_id}
 use Rattle.pl_cand.specs.Tests.{lowers_at, may_take, raises_at, uses_in, is_used_of}
 

@@ -3,11 +3,11 @@ use Rattle.std.proofs.Common.{◌≡◌, Bool, true, false, All, Option, Some, N
 use Rattle.std.proofs.lemmas.List.Elements.{All-contains, All-filter, filter_passes}
 use Rattle.pl_lists.proofs.Elements.{none_from_test}
 use Rattle.pl_conflict.specs.declared.conflict.Conflict.{Conflict}
-use Rattle.pl_world.specs.declared.plan_state.PlanState.{PlanState}
-use Rattle.pl_world.specs.Moves.{is_proper, refusal_of}
-use Rattle.pl_world.specs.Candidates.{candidates_of}
-use Rattle.pl_world.specs.Legal.{is_legal, legal_for, is_stuck}
-use Rattle.pl_world.proofs.Sifting.{proper}
+use Rattle.pl_semantics.specs.declared.plan_state.PlanState.{PlanState}
+use Rattle.pl_semantics.specs.Moves.{is_proper, refusal_of}
+use Rattle.pl_semantics.specs.Candidates.{candidates_of}
+use Rattle.pl_semantics.specs.Legal.{is_legal, legal_for, is_stuck}
+use Rattle.pl_semantics.proofs.Sifting.{proper}
 use Rattle.pl_cand.specs.declared.proposal.Proposal.{Proposal}
 use Rattle.pl_cand.specs.Proposals.{IsProposal}
 

@@ -5,7 +5,7 @@ use Rattle.std.proofs.lemmas.Bool.{eqb-true, and_parts}
 use Rattle.std.proofs.lemmas.Int.{ints}
 use Rattle.pl_plan.specs.declared.repair.RepairMove.{RepairMove}
 use Rattle.pl_plan.specs.declared.repair.RepairMove.TheVariants as repair
-use Rattle.pl_world.specs.Candidates.{same_move, same_number}
+use Rattle.pl_semantics.specs.Candidates.{same_move, same_number}
 
 pub one_number : (x y : Option ℕ) → same_number x y ≡ true → x ≡ y
 one_number None None e = refl

@@ -2,8 +2,8 @@
 use Rattle.std.proofs.Common.{◌≡◌, ℕ, zero, suc, ◌-◌, ◌<◌, ◌≤◌, List, [], ◌∷◌, ◌++◌, append_assoc, refl, sym, ap, ◌∙◌, arith}
 use Rattle.std.specs.Prelude.{ℤ, pos, ◌+ℤ◌, ◌-ℤ◌, ◌≤ℤ◌, ◌<ℤ◌}
 use Rattle.pl_lists.proofs.Numbers.{le_to_test, lt_to_test}
-use Rattle.pl_world.specs.PlanStates.{natural}
-use Rattle.pl_world.specs.Starts.{steps_from, stride, spread}
+use Rattle.pl_semantics.specs.PlanStates.{natural}
+use Rattle.pl_semantics.specs.Starts.{steps_from, stride, spread}
 
 -- one number more
 pub step_more : (n : ℕ) (low high : ℤ) (step : ℕ) → 0 < n → low ≤ℤ high → steps_from n low high step ≡ low ∷ steps_from (n - 1) (low +ℤ pos step) high step

@@ -7,12 +7,12 @@ use Rattle.std.specs.Option.{option_map}
 use Rattle.pl_lists.proofs.Elements.{filter_contains, filter_passing, none_from_test}
 use Rattle.pl_conflict.specs.declared.conflict.Conflict.{Conflict}
 use Rattle.pl_plan.specs.declared.repair.RepairMove.{RepairMove}
-use Rattle.pl_world.specs.declared.plan_state.PlanState.{PlanState}
-use Rattle.pl_world.specs.Conflicts.{conflicts_of}
-use Rattle.pl_world.specs.Candidates.{candidates_of}
-use Rattle.pl_world.specs.Legal.{is_legal, has_repair, legal_for, left_after, repairable, is_stuck}
-use Rattle.pl_world.specs.Moves.{refusal_of}
-use Rattle.pl_world.proofs.Sifting.{proper}
+use Rattle.pl_semantics.specs.declared.plan_state.PlanState.{PlanState}
+use Rattle.pl_semantics.specs.Conflicts.{conflicts_of}
+use Rattle.pl_semantics.specs.Candidates.{candidates_of}
+use Rattle.pl_semantics.specs.Legal.{is_legal, has_repair, legal_for, left_after, repairable, is_stuck}
+use Rattle.pl_semantics.specs.Moves.{refusal_of}
+use Rattle.pl_semantics.proofs.Sifting.{proper}
 use Rattle.pl_cand.specs.declared.proposal.Proposal.{Proposal}
 use Rattle.pl_cand.specs.Proposals.{IsProposal}
 use Rattle.pl_choose.specs.declared.draw.Draw.{Draw}

@@ -6,9 +6,9 @@ use Rattle.std.proofs.lemmas.List.{take-append-drop, drop_all, drop_more}
 use Rattle.std.proofs.Math.Seq.{take-add}
 use Rattle.std.proofs.lemmas.List.Elements.{All-nil, All-cons, All-head, All-tail}
 use Rattle.pl_plan.specs.declared.repair.RepairMove.{RepairMove}
-use Rattle.pl_world.specs.declared.plan_state.PlanState.{PlanState}
-use Rattle.pl_world.specs.Legal.{left_after}
-use Rattle.pl_outlook.specs.Bounds.{AreLeast}
+use Rattle.pl_semantics.specs.declared.plan_state.PlanState.{PlanState}
+use Rattle.pl_semantics.specs.Legal.{left_after}
+use Rattle.pl_bounds.specs.Bounds.{AreLeast}
 use Rattle.pl_choose.specs.declared.best.Best.{Best}
 use Rattle.pl_choose.specs.Found.{IsAllowed, lowest}
 use Rattle.pl_choose.specs.Picks.{fewest}

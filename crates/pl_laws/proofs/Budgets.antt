@@ -16,11 +16,11 @@ use Rattle.pl_entry.specs.declared.entry.Entry.{Entry}
 use Rattle.pl_entry.specs.Bounds.{IsDispatchReply, IsReplyTo}
 use Rattle.pl_entry.specs.Horizon.{target_of, best_of, IsBest}
 use Rattle.pl_entry.proofs.BestLaws.{best_is}
-use Rattle.pl_world.specs.declared.plan_state.PlanState.{PlanState}
-use Rattle.pl_world.specs.Conflicts.{conflicts_of}
-use Rattle.pl_world.specs.Grants.{touches_before, IsGrantable}
-use Rattle.pl_world.proofs.Standing.{ordered}
-use Rattle.pl_changes.specs.Changes.{committed_to}
+use Rattle.pl_semantics.specs.declared.plan_state.PlanState.{PlanState}
+use Rattle.pl_semantics.specs.Conflicts.{conflicts_of}
+use Rattle.pl_semantics.specs.Grants.{touches_before, IsGrantable}
+use Rattle.pl_semantics.proofs.Standing.{ordered}
+use Rattle.pl_update.specs.Changes.Changes.{committed_to}
 use Rattle.pl_machine.specs.declared.choice.Choice.TheVariants as choice
 use Rattle.pl_machine.specs.World.{World, fresh_world, due_in, reason_of}
 use Rattle.pl_machine.specs.Step.{behind_of, target_in, best_in, commit_reply, is_enabled, reply_of, after_input, after_fix, after_commit, after_dispatch, after}

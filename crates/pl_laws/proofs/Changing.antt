@@ -20,11 +20,11 @@ use Rattle.pl_entry.specs.declared.event.Event.{Event}
 use Rattle.pl_entry.specs.declared.event.Event.TheVariants as event
 use Rattle.pl_entry.specs.declared.reply.Reply.{Reply}
 use Rattle.pl_entry.specs.declared.reply.Reply.TheVariants as reply
-use Rattle.pl_world.specs.declared.plan_state.PlanState.{PlanState}
-use Rattle.pl_world.specs.Moves.{is_proper, refusal_of, applied}
-use Rattle.pl_world.specs.Whole.{IsWhole, IsGoalOf}
-use Rattle.pl_changes.specs.Changes.{with_goal, told_now, moved_on, committed_to, CanTell}
-use Rattle.pl_changes.proofs.Keeping.{whole_with_goal, whole_without_goal, whole_moved_on, whole_told, whole_replaced, whole_committed}
+use Rattle.pl_semantics.specs.declared.plan_state.PlanState.{PlanState}
+use Rattle.pl_semantics.specs.Moves.{is_proper, refusal_of, applied}
+use Rattle.pl_semantics.specs.Whole.{IsWhole, IsGoalOf}
+use Rattle.pl_update.specs.Changes.Changes.{with_goal, told_now, moved_on, committed_to, CanTell}
+use Rattle.pl_update.proofs.AboutChanges.Keeping.{whole_with_goal, whole_without_goal, whole_moved_on, whole_told, whole_replaced, whole_committed}
 use Rattle.pl_moves.specs.Changes.{gone_by, placed_by, IsOfActivities}
 use Rattle.pl_moves.specs.Keeping.{KeepsCommitted}
 use Rattle.pl_moves.proofs.Made.{made, can_replace}

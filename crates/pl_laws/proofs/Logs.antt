@@ -6,8 +6,8 @@ use Rattle.pl_model.specs.declared.whole.Model.{Model}
 use Rattle.pl_entry.specs.declared.event.Event.TheVariants as event
 use Rattle.pl_entry.specs.declared.reply.Reply.{Reply}
 use Rattle.pl_entry.specs.declared.reply.Reply.TheVariants as reply
-use Rattle.pl_world.specs.Conflicts.{conflicts_of}
-use Rattle.pl_changes.specs.Changes.{committed_to}
+use Rattle.pl_semantics.specs.Conflicts.{conflicts_of}
+use Rattle.pl_update.specs.Changes.Changes.{committed_to}
 use Rattle.pl_machine.specs.World.{World, due_in}
 use Rattle.pl_machine.specs.Step.{all_sent, best_in, behind_of, commit_reply, after_commit}
 use Rattle.pl_machine.specs.Legal.{world_of}

@@ -13,7 +13,7 @@ use Rattle.pl_entry.specs.declared.reply.Reply.{Reply}
 use Rattle.pl_entry.specs.declared.reply.Reply.TheVariants as reply
 use Rattle.pl_entry.specs.declared.entry.Entry.{Entry}
 use Rattle.pl_entry.specs.Bounds.{IsDispatchReply, IsReplyTo}
-use Rattle.pl_world.specs.declared.plan_state.PlanState.{PlanState}
+use Rattle.pl_semantics.specs.declared.plan_state.PlanState.{PlanState}
 use Rattle.pl_machine.specs.declared.choice.Choice.TheVariants as choice
 use Rattle.pl_machine.specs.World.{World, fresh_world, due_in, reason_of}
 use Rattle.pl_machine.specs.Step.{behind_of, target_in, best_in, commit_reply, is_enabled, reply_of, after_input, after_fix, after_commit, after_dispatch, after, held_reply, first_conflict, round_begun}

@@ -20,9 +20,9 @@ use Rattle.pl_entry.specs.declared.entry.Entry.{Entry}
 use Rattle.pl_entry.specs.Bounds.{AreOptions}
 use Rattle.pl_entry.specs.Due.{due_of}
 use Rattle.pl_entry.proofs.DueLaws.{due_meets}
-use Rattle.pl_world.specs.PlanStates.{found, is_committed}
-use Rattle.pl_world.specs.Whole.{IsWhole}
-use Rattle.pl_changes.proofs.Keeping.{whole_first}
+use Rattle.pl_semantics.specs.PlanStates.{found, is_committed}
+use Rattle.pl_semantics.specs.Whole.{IsWhole}
+use Rattle.pl_update.proofs.AboutChanges.Keeping.{whole_first}
 use Rattle.pl_machine.specs.World.{World, fresh_world, due_in}
 use Rattle.pl_machine.specs.Step.{next_due, sent_reply, is_enabled, reply_of, after_input, after_fix, after_commit, after_dispatch, after}
 use Rattle.pl_machine.specs.Legal.{legal_from, world_from, options_in, IsOpenedRun, Legal, no_options, world_of}

@@ -16,8 +16,8 @@ use Rattle.pl_entry.specs.Bounds.{IsInputReply, IsLineReply, IsFixReply, IsRestR
 use Rattle.pl_entry.specs.Due.{StartsBefore}
 use Rattle.pl_entry.proofs.DueLaws.{due_meets, all_behind, pairs_behind, contains_first}
 use Rattle.pl_entry.proofs.Growth.{starts_rise}
-use Rattle.pl_world.specs.PlanStates.{found, is_committed}
-use Rattle.pl_world.specs.Whole.{IsWhole}
+use Rattle.pl_semantics.specs.PlanStates.{found, is_committed}
+use Rattle.pl_semantics.specs.Whole.{IsWhole}
 use Rattle.pl_machine.specs.World.{World, fresh_world}
 use Rattle.pl_machine.specs.Step.{sent_reply, is_enabled, reply_of, after_dispatch, after}
 use Rattle.pl_machine.specs.Legal.{MayFollow, legal_from, options_in, IsOpenedRun}

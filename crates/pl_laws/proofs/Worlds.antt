@@ -8,8 +8,8 @@ use Rattle.pl_entry.specs.declared.event.Event.TheVariants as event
 use Rattle.pl_entry.specs.declared.reply.Reply.{Reply}
 use Rattle.pl_entry.specs.declared.reply.Reply.TheVariants as reply
 use Rattle.pl_entry.specs.declared.entry.Entry.{Entry}
-use Rattle.pl_world.specs.declared.plan_state.PlanState.{PlanState}
-use Rattle.pl_world.specs.Whole.{IsWhole}
+use Rattle.pl_semantics.specs.declared.plan_state.PlanState.{PlanState}
+use Rattle.pl_semantics.specs.Whole.{IsWhole}
 use Rattle.pl_moves.specs.Keeping.{KeepsCommitted}
 use Rattle.pl_moves.proofs.Keeping.{keeps}
 use Rattle.pl_machine.specs.World.{World}

@@ -8,7 +8,7 @@ use Rattle.pl_model.specs.declared.whole.Model.{Model}
 use Rattle.pl_plan.specs.declared.activity.Activity.{Activity}
 use Rattle.pl_plan.specs.Fitting.{kind_of, alternatives_of}
 use Rattle.pl_entry.specs.Due.{is_due, start_of, with_starts, due_of}
-use Rattle.pl_world.specs.declared.plan_state.PlanState.{PlanState}
+use Rattle.pl_semantics.specs.declared.plan_state.PlanState.{PlanState}
 use Rattle.pl_machine.specs.World.{due_in, due_at}
 use Rattle.pl_machine.specs.declared.ahead.Ahead.{Ahead}
 use Rattle.pl_machine.specs.declared.change.Change.{Change}

@@ -20,15 +20,15 @@ use Rattle.pl_plan.specs.declared.activity.Activity.{Activity}
 use Rattle.pl_plan.specs.Fitting.{FitsAlone, kind_of}
 use Rattle.pl_plan.specs.Values.{binding_of}
 use Rattle.pl_plan.specs.Known.{is_outside, is_bad_param}
-use Rattle.pl_world.specs.declared.plan_state.PlanState.{PlanState}
-use Rattle.pl_world.specs.PlanStates.{found, is_committed, row_of, numbered, of_found, reservations_of}
-use Rattle.pl_world.specs.Activities.{at_start, bindings_of, params_at, value_in, row_above, bad_param, bad_duration, bad_amount, bad_values_at, late_at, unset_at, undetailed_at, overrun_at, wrong_at, wrong_of, activity_conflicts}
-use Rattle.pl_world.specs.Goals.{goal_conflicts}
-use Rattle.pl_world.specs.Links.{link_conflicts}
-use Rattle.pl_world.specs.Timelines.{timeline_conflicts}
-use Rattle.pl_world.specs.Conflicts.{conflicts_of}
-use Rattle.pl_world.specs.Grants.{touches_before, IsGrantable}
-use Rattle.pl_world.specs.Whole.{IsWhole}
+use Rattle.pl_semantics.specs.declared.plan_state.PlanState.{PlanState}
+use Rattle.pl_semantics.specs.PlanStates.{found, is_committed, row_of, numbered, of_found, reservations_of}
+use Rattle.pl_semantics.specs.Activities.{at_start, bindings_of, params_at, value_in, row_above, bad_param, bad_duration, bad_amount, bad_values_at, late_at, unset_at, undetailed_at, overrun_at, wrong_at, wrong_of, activity_conflicts}
+use Rattle.pl_semantics.specs.Goals.{goal_conflicts}
+use Rattle.pl_semantics.specs.Links.{link_conflicts}
+use Rattle.pl_semantics.specs.Timelines.{timeline_conflicts}
+use Rattle.pl_semantics.specs.Conflicts.{conflicts_of}
+use Rattle.pl_semantics.specs.Grants.{touches_before, IsGrantable}
+use Rattle.pl_semantics.specs.Whole.{IsWhole}
 use Rattle.pl_plan.proofs.Climbs.{all_at}
 use Rattle.pl_plan.proofs.ValueLaws.{values_solve}
 use Rattle.pl_entry.proofs.Growth.{due_grows}
@@ -38,10 +38,10 @@ use Rattle.pl_machine.specs.World.{due_in}
 use Rattle.pl_entry.specs.declared.event.Event.TheVariants as event
 use Rattle.pl_entry.specs.declared.reply.Reply.{Reply}
 use Rattle.pl_entry.specs.declared.reply.Reply.TheVariants as reply
-use Rattle.pl_world.proofs.Standing.{members, activities_by_subject}
-use Rattle.pl_world.proofs.Granting.{untouched}
-use Rattle.pl_changes.specs.Changes.{committed_to}
-use Rattle.pl_near.proofs.Granted.{each_case}
+use Rattle.pl_semantics.proofs.Standing.{members, activities_by_subject}
+use Rattle.pl_semantics.proofs.Granting.{untouched}
+use Rattle.pl_update.specs.Changes.Changes.{committed_to}
+use Rattle.pl_update.proofs.AboutGoalsAndActivities.Granted.{each_case}
 use Rattle.pl_machine.specs.declared.stop.Stop.{Stop}
 use Rattle.pl_machine.specs.Sound.{State}
 use Rattle.pl_machine.specs.Taking.{Answers}

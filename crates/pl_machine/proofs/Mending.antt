@@ -17,12 +17,12 @@ use Rattle.pl_entry.specs.declared.event.Event.TheVariants as event
 use Rattle.pl_entry.specs.declared.reply.Reply.{Reply}
 use Rattle.pl_entry.specs.declared.reply.Reply.TheVariants as reply
 use Rattle.pl_entry.specs.declared.reply.Reason.{Reason}
-use Rattle.pl_world.specs.declared.plan_state.PlanState.{PlanState}
-use Rattle.pl_world.specs.declared.refusal.Refusal.{Refusal}
-use Rattle.pl_world.specs.Conflicts.{conflicts_of}
-use Rattle.pl_world.specs.Moves.{refusal_of}
-use Rattle.pl_world.specs.Candidates.{candidates_of, same_move, same_number}
-use Rattle.pl_world.specs.Legal.{is_legal, has_repair, legal_for, is_stuck}
+use Rattle.pl_semantics.specs.declared.plan_state.PlanState.{PlanState}
+use Rattle.pl_semantics.specs.declared.refusal.Refusal.{Refusal}
+use Rattle.pl_semantics.specs.Conflicts.{conflicts_of}
+use Rattle.pl_semantics.specs.Moves.{refusal_of}
+use Rattle.pl_semantics.specs.Candidates.{candidates_of, same_move, same_number}
+use Rattle.pl_semantics.specs.Legal.{is_legal, has_repair, legal_for, is_stuck}
 use Rattle.pl_moves.specs.Keeping.{KeepsCommitted}
 use Rattle.pl_cand.specs.declared.proposal.Proposal.{Proposal}
 use Rattle.pl_cand.specs.Proposals.{IsProposal}

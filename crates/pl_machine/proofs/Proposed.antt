@@ -14,10 +14,10 @@ use Rattle.pl_plan.specs.declared.repair.RepairMove.{RepairMove}
 use Rattle.pl_plan.specs.declared.repair.RepairMove.TheVariants as repair
 use Rattle.pl_plan.specs.Fitting.{kind_of}
 use Rattle.pl_plan.specs.Firm.{is_within}
-use Rattle.pl_world.specs.declared.plan_state.PlanState.{PlanState}
-use Rattle.pl_world.specs.PlanStates.{found}
-use Rattle.pl_world.specs.Activities.{bindings_of}
-use Rattle.pl_world.specs.Moves.{is_free, is_wanted, holds, takes_value, is_proper}
+use Rattle.pl_semantics.specs.declared.plan_state.PlanState.{PlanState}
+use Rattle.pl_semantics.specs.PlanStates.{found}
+use Rattle.pl_semantics.specs.Activities.{bindings_of}
+use Rattle.pl_semantics.specs.Moves.{is_free, is_wanted, holds, takes_value, is_proper}
 use Rattle.pl_cand.specs.declared.proposal.Proposal.{Proposal}
 use Rattle.pl_cand.specs.Proposals.{IsProposal}
 use Rattle.pl_cand.proofs.Proposed.{proposed_proper}

@@ -10,7 +10,7 @@ use Rattle.pl_entry.specs.declared.reply.Reply.{Reply}
 use Rattle.pl_entry.specs.declared.entry.Entry.{Entry}
 use Rattle.pl_entry.specs.Bounds.{AreOptions, IsEventInRange, IsReplyTo}
 use Rattle.pl_entry.specs.Due.{due_of}
-use Rattle.pl_world.specs.declared.plan_state.PlanState.{PlanState}
+use Rattle.pl_semantics.specs.declared.plan_state.PlanState.{PlanState}
 use Rattle.pl_machine.specs.World.{World, fresh_world, due_in}
 use Rattle.pl_machine.specs.Step.{after, reply_of}
 use Rattle.pl_machine.specs.Legal.{MayFollow, legal_from, world_from, opening, options_in, IsOpenedRun, Legal, no_options, options_of, world_of, IsHistory}

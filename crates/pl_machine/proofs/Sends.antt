@@ -25,9 +25,9 @@ use Rattle.pl_entry.specs.declared.reply.Reply.TheVariants as reply
 use Rattle.pl_entry.specs.Bounds.{IsWord, IsSent, IsDispatchReply}
 use Rattle.pl_model.specs.declared.kinds.Kind.{Kind}
 use Rattle.pl_model.specs.Checked.{IsAmount, params_of}
-use Rattle.pl_world.specs.declared.plan_state.PlanState.{PlanState}
-use Rattle.pl_world.specs.PlanStates.{found, is_committed, row_of}
-use Rattle.pl_world.specs.Whole.{IsWhole}
+use Rattle.pl_semantics.specs.declared.plan_state.PlanState.{PlanState}
+use Rattle.pl_semantics.specs.PlanStates.{found, is_committed, row_of}
+use Rattle.pl_semantics.specs.Whole.{IsWhole}
 use Rattle.pl_machine.specs.Taking.{IsOpen, Takes}
 use Rattle.pl_machine.specs.Sound.{State, IsSound}
 use Rattle.pl_machine.proofs.Runs.{sound_step}

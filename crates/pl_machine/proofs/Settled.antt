@@ -16,12 +16,12 @@ use Rattle.pl_plan.specs.Trees.{descends}
 use Rattle.pl_plan.proofs.Climbs.{all_at}
 use Rattle.pl_entry.specs.Due.{is_due, is_due_since, start_of, with_starts, due_since}
 use Rattle.pl_entry.proofs.DueOn.{due_goes_on}
-use Rattle.pl_world.specs.declared.plan_state.PlanState.{PlanState}
-use Rattle.pl_world.specs.PlanStates.{found, is_committed}
-use Rattle.pl_world.specs.Whole.{IsWhole}
-use Rattle.pl_world.specs.Legal.{MayBeMade}
-use Rattle.pl_world.specs.Moves.{applied, is_under, moved, shifted, root_for, children_for, detailed, with_value, has_id}
-use Rattle.pl_world.proofs.Refusing.{may}
+use Rattle.pl_semantics.specs.declared.plan_state.PlanState.{PlanState}
+use Rattle.pl_semantics.specs.PlanStates.{found, is_committed}
+use Rattle.pl_semantics.specs.Whole.{IsWhole}
+use Rattle.pl_semantics.specs.Legal.{MayBeMade}
+use Rattle.pl_semantics.specs.Moves.{applied, is_under, moved, shifted, root_for, children_for, detailed, with_value, has_id}
+use Rattle.pl_semantics.proofs.Refusing.{may}
 use Rattle.pl_board.specs.Boards.{Standing, after}
 use Rattle.pl_machine.specs.World.{due_in, due_at}
 use Rattle.pl_machine.specs.declared.ahead.Ahead.{Ahead}

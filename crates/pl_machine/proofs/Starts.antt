@@ -9,9 +9,9 @@ use Rattle.pl_entry.specs.declared.event.Event.TheVariants as event
 use Rattle.pl_entry.specs.declared.reply.Reply.{Reply}
 use Rattle.pl_entry.proofs.Growth.{starts_rise}
 use Rattle.pl_plan.specs.declared.activity.Activity.{Activity}
-use Rattle.pl_world.specs.declared.plan_state.PlanState.{PlanState}
-use Rattle.pl_world.specs.PlanStates.{found}
-use Rattle.pl_world.specs.Whole.{IsWhole}
+use Rattle.pl_semantics.specs.declared.plan_state.PlanState.{PlanState}
+use Rattle.pl_semantics.specs.PlanStates.{found}
+use Rattle.pl_semantics.specs.Whole.{IsWhole}
 use Rattle.pl_machine.specs.declared.ahead.Ahead.{Ahead}
 use Rattle.pl_machine.specs.World.{World, due_in}
 use Rattle.pl_machine.specs.Step.{next_due, sent_reply, reply_of}

@@ -6,13 +6,13 @@ use Rattle.std.proofs.lemmas.Option.{same_Some}
 use Rattle.pl_io.specs.Lines.{lines_of}
 use Rattle.pl_model.specs.declared.whole.Model.{Model}
 use Rattle.pl_entry.specs.declared.entry.Entry.{Entry}
-use Rattle.pl_machine.specs.Lines.{is_blank_line, model_text_of, lines_behind, split_of}
+use Rattle.pl_input.specs.Words.{is_blank_line, model_text_of, lines_behind, split_of}
 use Rattle.pl_machine.specs.Legal.{Legal}
-use Rattle.pl_render.specs.Lines.{text_of}
-use Rattle.pl_accept.specs.Accepting.{IsModelText}
-use Rattle.pl_accept.proofs.Apart.{one_model, checked_model}
-use Rattle.pl_stream.proofs.Reading.{gave_lines}
-use Rattle.pl_stream.proofs.Comparing.{GoesOn, goes_on, all_or_stuck}
+use Rattle.pl_journal.specs.Rendering.Lines.{text_of}
+use Rattle.pl_check.specs.Accepting.{IsModelText}
+use Rattle.pl_check.proofs.Apart.{one_model, checked_model}
+use Rattle.pl_input.proofs.Reading.{gave_lines}
+use Rattle.pl_input.proofs.Comparing.{GoesOn, goes_on, all_or_stuck}
 use Rattle.pl_replay.specs.declared.verdict.Verdict.{Verdict}
 use Rattle.pl_replay.specs.Journals.{entry_lines, lines_from, IsJournalOf, IsWrongAtLast}
 use Rattle.pl_replay.proofs.Verdicts.{never_begins}

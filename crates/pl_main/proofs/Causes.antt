@@ -6,25 +6,25 @@ use Rattle.pl_io.specs.Lines.{lines_of, first_line, after_line, given, line_too_
 use Rattle.pl_io.proofs.FirstLine.{next_of-judged, judged-last}
 use Rattle.pl_io.proofs.LineLaws.{lines_of-front}
 use Rattle.pl_model.specs.declared.whole.Model.{Model}
-use Rattle.pl_machine.specs.Lines.{model_text_of, lines_behind, messages_of, split_of}
+use Rattle.pl_input.specs.Words.{model_text_of, lines_behind, messages_of, split_of}
 use Rattle.pl_machine.specs.World.{World}
 use Rattle.pl_machine.specs.Legal.{Legal, world_of}
 use Rattle.pl_main.specs.Solo.{Solo}
 use Rattle.pl_machine.specs.Finished.{inputs_of}
-use Rattle.pl_accept.specs.Accepting.{IsModelText, IsRefusedAs}
-use Rattle.pl_accept.proofs.Apart.{apart, one_model}
+use Rattle.pl_check.specs.Accepting.{IsModelText, IsRefusedAs}
+use Rattle.pl_check.proofs.Apart.{apart, one_model}
 use Rattle.pl_main.specs.declared.command.Task.TheVariants as task
-use Rattle.pl_stream.specs.Reads.{Gave}
-use Rattle.pl_stream.specs.Stops.{IsStuck}
+use Rattle.pl_input.specs.Reads.{Gave}
+use Rattle.pl_input.specs.Stops.{IsStuck}
 use Rattle.pl_main.specs.Top.{line_limit, total_limit, program_options, IsDone, IsNoModel, no_begin, faulty, WaitsBehind, IsPastLimit, IsFull, IsFound, IsPastHead}
 use Rattle.pl_report.specs.Demonstration.{demo_text}
 use Rattle.pl_main.specs.Demos.{demo_turns, IsShown, IsShownInPart}
 use Rattle.pl_main.specs.Limits.{IsWithinLimits, CanRun, CanCheck, IsDoneBy}
 use Rattle.pl_main.specs.Statuses.{SaysRan, SaysChecked, SaysShown}
-use Rattle.pl_stream.proofs.Reading.{gave_lines}
+use Rattle.pl_input.proofs.Reading.{gave_lines}
 use Rattle.pl_main.proofs.Jobs.{IsJobStatus, is_done, is_refused, is_read, is_write, is_limit, is_full, is_wrong, is_memory}
 use Rattle.pl_main.proofs.Playing.{messages_append, not_single}
-use Rattle.pl_stream.proofs.Comparing.{end_is_no_limit, goes_on, all_or_stuck}
+use Rattle.pl_input.proofs.Comparing.{end_is_no_limit, goes_on, all_or_stuck}
 use Rattle.pl_main.proofs.OneInput.{text_goes_on, behind_goes_on, split_text, split_messages, Ends, messages_end, messages_last, Front, front_of, longer}
 use Rattle.pl_main.proofs.OneLog.{opened_with, full_and_closed}
 

@@ -8,19 +8,19 @@ use Rattle.pl_io.specs.Lines.{ahead}
 use Rattle.pl_io.specs.Reader.{Reader}
 use Rattle.pl_io.specs.Writes.{AppendsFront}
 use Rattle.pl_model.specs.declared.whole.Model.{Model}
-use Rattle.pl_accept.specs.declared.accepting.Accepted.TheVariants as accepted
-use Rattle.pl_stream.specs.declared.halt.Halt.{Halt}
-use Rattle.pl_stream.specs.declared.halt.Halt.TheVariants as halt
+use Rattle.pl_check.specs.declared.accepting.Accepted.TheVariants as accepted
+use Rattle.pl_input.specs.declared.halt.Halt.{Halt}
+use Rattle.pl_input.specs.declared.halt.Halt.TheVariants as halt
 use Rattle.pl_main.specs.declared.outcome.Outcome.{Outcome}
 use Rattle.pl_main.specs.declared.outcome.Outcome.TheVariants as outcome
-use Rattle.pl_stream.specs.Heads.{IsBegun, HasNoBegin, HeadHalts}
-use Rattle.pl_stream.specs.Stops.{HaltFor}
-use Rattle.pl_stream.specs.Written.{Adds, WriteStops}
+use Rattle.pl_input.specs.Heads.{IsBegun, HasNoBegin, HeadHalts}
+use Rattle.pl_input.specs.Stops.{HaltFor}
+use Rattle.pl_journal.specs.Written.{Adds, WriteStops}
 use Rattle.pl_main.specs.Runs.{AcceptsKept, TextChecks}
 use Rattle.pl_main.specs.Runs as runs
 use Rattle.pl_main.specs.Top as top
 use Rattle.pl_main.specs.Top.{line_limit, fresh_reader, no_begin_line, model_ok_line, faulty, IsPastHead, IsHeadFault, ChecksKnown}
-use Rattle.pl_stream.proofs.Stopping.{never_full, never_writes}
+use Rattle.pl_input.proofs.Stopping.{never_full, never_writes}
 use Rattle.pl_main.proofs.Ending.{begins_at, begins_nowhere, head_stopped, fresh_begun, fresh_nowhere, fresh_halts}
 
 pub texts_joined : (xs ys zs : List ℕ) → xs ++ ys ++ zs ≡ xs ++ (ys ++ zs)

@@ -10,35 +10,35 @@ use Rattle.pl_io.specs.Sparing.{read_size}
 use Rattle.pl_io.specs.Writes.{AppendsFront}
 use Rattle.pl_model.specs.declared.whole.Model.{Model}
 use Rattle.pl_entry.specs.declared.entry.Entry.{Entry}
-use Rattle.pl_machine.specs.Lines.{is_blank_line, is_line_of, end_word, model_text_of, lines_behind, messages_of, split_of}
+use Rattle.pl_input.specs.Words.{is_blank_line, is_line_of, end_word, model_text_of, lines_behind, messages_of, split_of}
 use Rattle.pl_machine.specs.World.{World, fresh_world}
 use Rattle.pl_machine.specs.Legal.{Legal, opening, world_from, world_of}
 use Rattle.pl_main.specs.Solo.{solo_from, Solo}
 use Rattle.pl_machine.specs.Finished.{inputs_of}
 use Rattle.pl_machine.specs.Sound.{State}
 use Rattle.pl_driver.specs.Rounds.{SameRun}
-use Rattle.pl_render.specs.Lines.{line_of, text_from, text_of_log}
-use Rattle.pl_accept.specs.declared.accepting.Accepted.TheVariants as accepted
-use Rattle.pl_accept.specs.Accepting.{IsModelText}
-use Rattle.pl_stream.specs.declared.halt.Halt.{Halt}
-use Rattle.pl_stream.specs.declared.halt.Halt.TheVariants as halt
+use Rattle.pl_journal.specs.Rendering.Lines.{line_of, text_from, text_of_log}
+use Rattle.pl_check.specs.declared.accepting.Accepted.TheVariants as accepted
+use Rattle.pl_check.specs.Accepting.{IsModelText}
+use Rattle.pl_input.specs.declared.halt.Halt.{Halt}
+use Rattle.pl_input.specs.declared.halt.Halt.TheVariants as halt
 use Rattle.pl_main.specs.declared.outcome.Outcome.{Outcome}
 use Rattle.pl_main.specs.declared.outcome.Outcome.TheVariants as outcome
-use Rattle.pl_stream.specs.Reads.{Gave, IsUsedUp, AreBlank}
-use Rattle.pl_stream.specs.Stops.{HaltFor, ReadLeaves, LimitLeaves, StopsBy}
-use Rattle.pl_stream.specs.Waits.{MessageGives, line_in}
-use Rattle.pl_stream.specs.Heads.{IsHead, IsBegun, HasNoBegin, HeadHalts}
+use Rattle.pl_input.specs.Reads.{Gave, IsUsedUp, AreBlank}
+use Rattle.pl_input.specs.Stops.{HaltFor, ReadLeaves, LimitLeaves, StopsBy}
+use Rattle.pl_input.specs.Waits.{MessageGives, line_in}
+use Rattle.pl_input.specs.Heads.{IsHead, IsBegun, HasNoBegin, HeadHalts}
 use Rattle.pl_main.specs.Tells.{FillsUp, at_once, within}
-use Rattle.pl_stream.specs.Written.{Adds, WriteStops}
-use Rattle.pl_stream.specs.Places.{Place}
+use Rattle.pl_journal.specs.Written.{Adds, WriteStops}
+use Rattle.pl_input.specs.Places.{Place}
 use Rattle.pl_main.specs.Plays.{Plays, EndsWith, by_end, by_line, EndsAll, PlaysOut, PlayHalts, PlayFills, Playing}
 use Rattle.pl_main.specs.Runs.{fresh_state, unopened, in_opening, in_play, ModelRuns, AcceptsKept, IsKeptModel, unjudged, in_fault, in_run, TextRuns}
 use Rattle.pl_main.specs.Top.{IsReadTo, ShowsNoLine, ShowsLimit, program_options, line_limit, total_limit, fresh_reader, IsDone, HasHead, no_begin_line, IsNoModel, no_begin, WaitsBehind, IsReadFault, IsPastLimit, HasRead, IsFull}
-use Rattle.pl_stream.proofs.Reading.{gave_append, gave_lines, known}
-use Rattle.pl_stream.proofs.Stopping.{read_leaves, limit_leaves, stops_by}
-use Rattle.pl_stream.proofs.Beginning.{head_then}
+use Rattle.pl_input.proofs.Reading.{gave_append, gave_lines, known}
+use Rattle.pl_input.proofs.Stopping.{read_leaves, limit_leaves, stops_by}
+use Rattle.pl_input.proofs.Beginning.{head_then}
 use Rattle.pl_machine.proofs.ShortLogs.{log_is_short}
-use Rattle.pl_stream.proofs.Writing.{adds_then}
+use Rattle.pl_journal.proofs.AboutWriting.{adds_then}
 use Rattle.pl_pair.proofs.Saying.{skip_blanks, message_next, end_next, none_left}
 use Rattle.pl_main.proofs.Playing.{not_single, messages_append, inputs_append, joined}
 

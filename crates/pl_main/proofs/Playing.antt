@@ -7,7 +7,7 @@ use Rattle.pl_io.specs.Reader.{NumberedLine}
 use Rattle.pl_io.specs.Writes.{AppendsFront}
 use Rattle.pl_model.specs.declared.whole.Model.{Model}
 use Rattle.pl_entry.specs.declared.entry.Entry.{Entry}
-use Rattle.pl_machine.specs.Lines.{is_blank_line, is_line_of, end_word, messages_from, messages_of}
+use Rattle.pl_input.specs.Words.{is_blank_line, is_line_of, end_word, messages_from, messages_of}
 use Rattle.pl_machine.specs.World.{World}
 use Rattle.pl_machine.specs.Step.{after}
 use Rattle.pl_entry.specs.Bounds.{IsMessageLine}
@@ -17,20 +17,20 @@ use Rattle.pl_machine.specs.Finished.{inputs_of, input_in}
 use Rattle.pl_machine.specs.Sound.{State}
 use Rattle.pl_machine.proofs.Runs.{world_append}
 use Rattle.pl_driver.specs.Rounds.{SameRun}
-use Rattle.pl_render.specs.Lines.{text_from}
-use Rattle.pl_render.proofs.Texts.{text_joined}
-use Rattle.pl_stream.specs.declared.halt.Halt.{Halt}
-use Rattle.pl_stream.specs.declared.halt.Halt.TheVariants as halt
-use Rattle.pl_stream.specs.Reads.{GaveKnown, IsUsedUp, AreBlank}
-use Rattle.pl_stream.specs.Stops.{HaltFor, ReadLeaves, LimitLeaves, StopsBy}
-use Rattle.pl_stream.specs.Waits.{GetsFault, MessageGives, line_in}
+use Rattle.pl_journal.specs.Rendering.Lines.{text_from}
+use Rattle.pl_journal.proofs.AboutRendering.Texts.{text_joined}
+use Rattle.pl_input.specs.declared.halt.Halt.{Halt}
+use Rattle.pl_input.specs.declared.halt.Halt.TheVariants as halt
+use Rattle.pl_input.specs.Reads.{GaveKnown, IsUsedUp, AreBlank}
+use Rattle.pl_input.specs.Stops.{HaltFor, ReadLeaves, LimitLeaves, StopsBy}
+use Rattle.pl_input.specs.Waits.{GetsFault, MessageGives, line_in}
 use Rattle.pl_main.specs.Tells.{IsReady, Told, ToldInPart, FillsUp, at_once, within}
-use Rattle.pl_stream.specs.Written.{Adds, WriteStops}
-use Rattle.pl_stream.specs.Places.{Place}
+use Rattle.pl_journal.specs.Written.{Adds, WriteStops}
+use Rattle.pl_input.specs.Places.{Place}
 use Rattle.pl_main.specs.Plays.{Plays, EndsAll, by_end, by_line, PlaysOut, PlayHalts, Answered, Filled, untold, told_in_part, Answering, StepsOn, StepFills, StepHalts, unread, unheard, unwritten, PlayFills, Steps, Playing}
-use Rattle.pl_stream.proofs.Reading.{took_none, took_more, gave_later}
-use Rattle.pl_stream.proofs.Stopping.{never_full, never_writes, read_leaves, limit_leaves, stops_by}
-use Rattle.pl_stream.proofs.Writing.{some_held, adds_then, appends_then}
+use Rattle.pl_input.proofs.Reading.{took_none, took_more, gave_later}
+use Rattle.pl_input.proofs.Stopping.{never_full, never_writes, read_leaves, limit_leaves, stops_by}
+use Rattle.pl_journal.proofs.AboutWriting.{some_held, adds_then, appends_then}
 use Rattle.pl_pair.proofs.Saying.{skip_blanks, message_next, end_next, none_left}
 
 pub input_fits : (start place : Place) (message : Option NumberedLine) (line : Option (List ℕ)) → start.reader.limit ≡ 4096 → line ≡ line_in message → IfSome line (λ bytes. All (λ byte. byte < 256) bytes)

@@ -14,28 +14,28 @@ use Rattle.pl_entry.specs.declared.entry.Entry.{Entry}
 use Rattle.pl_machine.specs.World.{World}
 use Rattle.pl_machine.specs.Legal.{Legal, world_of}
 use Rattle.pl_machine.specs.Sound.{State}
-use Rattle.pl_accept.specs.declared.accepting.Accepted.TheVariants as accepted
-use Rattle.pl_accept.specs.Accepting.{IsModelText}
-use Rattle.pl_accept.proofs.Apart.{apart}
+use Rattle.pl_check.specs.declared.accepting.Accepted.TheVariants as accepted
+use Rattle.pl_check.specs.Accepting.{IsModelText}
+use Rattle.pl_check.proofs.Apart.{apart}
 use Rattle.pl_report.specs.Demonstration.{demo_text}
 use Rattle.pl_report.proofs.Lines.{demo_text_lines, demo_lines_short, demo_text_short}
-use Rattle.pl_demo.specs.DemoModel.{demo_words, demo_model}
-use Rattle.pl_demo.proofs.Beginning.{demo_begins}
-use Rattle.pl_demo.proofs.Modelling.{demo_accepted}
-use Rattle.pl_stream.specs.declared.halt.Halt.{Halt}
-use Rattle.pl_stream.specs.declared.halt.Halt.TheVariants as halt
+use Rattle.pl_report.specs.DemoModel.{demo_words, demo_model}
+use Rattle.pl_report.proofs.AboutDemonstration.Beginning.{demo_begins}
+use Rattle.pl_report.proofs.AboutDemonstration.Modelling.{demo_accepted}
+use Rattle.pl_input.specs.declared.halt.Halt.{Halt}
+use Rattle.pl_input.specs.declared.halt.Halt.TheVariants as halt
 use Rattle.pl_main.specs.declared.outcome.Outcome.{Outcome}
 use Rattle.pl_main.specs.declared.outcome.Outcome.TheVariants as outcome
-use Rattle.pl_stream.specs.Stops.{HaltFor}
-use Rattle.pl_stream.specs.Heads.{IsBegun, HasNoBegin, HeadHalts}
-use Rattle.pl_stream.specs.Places.{Place, place_of}
+use Rattle.pl_input.specs.Stops.{HaltFor}
+use Rattle.pl_input.specs.Heads.{IsBegun, HasNoBegin, HeadHalts}
+use Rattle.pl_input.specs.Places.{Place, place_of}
 use Rattle.pl_main.specs.Plays.{Playing}
 use Rattle.pl_main.specs.Runs.{fresh_state, AcceptsKept, IsKeptModel}
 use Rattle.pl_main.specs.Top.{line_limit, fresh_reader, no_begin_line}
 use Rattle.pl_main.specs.Limits.{IsWithinLimits}
-use Rattle.pl_stream.specs.Written.{Adds}
+use Rattle.pl_journal.specs.Written.{Adds}
 use Rattle.pl_main.specs.Demos.{demo_turns, summary_line, IsShownShort, Shows, IsPlayed, DemoPlays, KeepsModel, ModelShown, ModelShows, TextShows}
-use Rattle.pl_stream.proofs.Stopping.{never_full, never_writes, only_reads}
+use Rattle.pl_input.proofs.Stopping.{never_full, never_writes, only_reads}
 use Rattle.pl_main.proofs.Ending.{fresh_begun, begins_at, IsDoneWith, done_with}
 use Rattle.pl_main.proofs.Running.{begun_solo, refused_solo, head_solo}
 use Rattle.pl_main.proofs.Causes.{no_model_of, run_within}

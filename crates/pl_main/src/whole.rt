@@ -1,19 +1,20 @@
 ghost use Rattle.std.specs.Prelude.{◌≡◌, ◌≤◌, None, IfOk, IsErrOf};
 ghost use Rattle.pl_io.specs.Faults.{Rose};
 ghost use Rattle.pl_model.specs.Checked.{IsChecked};
-ghost use Rattle.pl_stream.specs.Places.{place_of};
+ghost use Rattle.pl_input.specs.Places.{place_of};
 ghost use Rattle.pl_main.specs.Runs.{fresh_state, ModelRuns, TextRuns};
 ghost use Rattle.pl_main.specs.Top.{program_options, RanKnown};
 
 use crate::judging::{NO_BEGIN, model_of, refuse};
+use crate::logs::write_log;
 use crate::outcome::Outcome;
 use crate::play::play;
-use pl_accept::Accepted;
+use pl_check::Accepted;
 use pl_facts::Options;
+use pl_input::{Halt, Head, halt_of, read_head};
 use pl_io::{LineReader, Sink, Source};
 use pl_machine::Machine;
 use pl_model::Model;
-use pl_stream::{Halt, Head, halt_of, read_head, write_log};
 use std::alloc::{AllocError, Global};
 use std::sync::Arc;
 

@@ -6,12 +6,12 @@ use Rattle.std.proofs.lemmas.List.{length-map, length-take-le, get_or_default}
 use Rattle.pl_plan.specs.declared.activity.Activity.{Activity}
 use Rattle.pl_plan.specs.declared.repair.RepairMove.{RepairMove}
 use Rattle.pl_plan.specs.Trees.{id_of}
-use Rattle.pl_world.specs.declared.plan_state.PlanState.{PlanState}
-use Rattle.pl_world.specs.Conflicts.{conflicts_of}
-use Rattle.pl_world.specs.Legal.{left_after}
-use Rattle.pl_world.specs.Moves.{moved, applied}
-use Rattle.pl_world.specs.Whole.{IsWhole}
-use Rattle.pl_changes.specs.Replaced.{CanReplace, with_plan}
+use Rattle.pl_semantics.specs.declared.plan_state.PlanState.{PlanState}
+use Rattle.pl_semantics.specs.Conflicts.{conflicts_of}
+use Rattle.pl_semantics.specs.Legal.{left_after}
+use Rattle.pl_semantics.specs.Moves.{moved, applied}
+use Rattle.pl_semantics.specs.Whole.{IsWhole}
+use Rattle.pl_update.specs.Changes.Replaced.{CanReplace, with_plan}
 use Rattle.pl_board.specs.Boards.{Standing, after}
 use Rattle.pl_moves.specs.Changes.{IsOfActivities, gone_by, placed_by}
 use Rattle.pl_moves.specs.Runs.{start_of, goes_on, counted, CanBeMade, IsTrialOf, IsCountOf}

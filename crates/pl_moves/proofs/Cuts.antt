@@ -15,9 +15,9 @@ use Rattle.pl_plan.proofs.Kept.{found-kept, found-changed}
 use Rattle.pl_plan.proofs.TreeLaws.{descends_complete}
 use Rattle.pl_plan.proofs.ByLookUps.{filter_rising}
 use Rattle.pl_plan.proofs.MoveLaws.{fits_deleted, fits_abstracted, abstracted_keeps}
-use Rattle.pl_world.specs.declared.plan_state.PlanState.{PlanState}
-use Rattle.pl_world.specs.PlanStates.{among}
-use Rattle.pl_world.specs.Whole.{IsWhole, IsCarried}
+use Rattle.pl_semantics.specs.declared.plan_state.PlanState.{PlanState}
+use Rattle.pl_semantics.specs.PlanStates.{among}
+use Rattle.pl_semantics.specs.Whole.{IsWhole, IsCarried}
 use Rattle.pl_moves.specs.Changes.{undetailed}
 use Rattle.pl_moves.proofs.Swaps.{IsSwap, swapped_at}
 use Rattle.pl_moves.proofs.Subtrees.{among_subtree, rising_map, goes_if, subtree_swap}

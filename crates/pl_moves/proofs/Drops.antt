@@ -5,10 +5,10 @@ use Rattle.pl_lists.proofs.Tests.{and_first}
 use Rattle.pl_facts.specs.declared.goal.Goal.{Goal}
 use Rattle.pl_plan.specs.declared.repair.RepairMove.{RepairMove}
 use Rattle.pl_plan.specs.declared.repair.RepairMove.TheVariants.{Add, Delete, Shift, Detail, Abstract, Assign, Drop}
-use Rattle.pl_world.specs.declared.plan_state.PlanState.{PlanState}
-use Rattle.pl_world.specs.PlanStates.{goal_at, is_open}
-use Rattle.pl_world.specs.Moves.{holds, is_proper, applied}
-use Rattle.pl_changes.specs.Changes.{IsOpenIn, without_goal}
+use Rattle.pl_semantics.specs.declared.plan_state.PlanState.{PlanState}
+use Rattle.pl_semantics.specs.PlanStates.{goal_at, is_open}
+use Rattle.pl_semantics.specs.Moves.{holds, is_proper, applied}
+use Rattle.pl_update.specs.Changes.Changes.{IsOpenIn, without_goal}
 use Rattle.pl_moves.specs.Changes.{IsOfActivities}
 
 pub open_if : (s : PlanState) (n : ℕ) → is_proper s (Drop n) ≡ true → IsOpenIn s n

@@ -11,10 +11,10 @@ use Rattle.pl_plan.proofs.Climbs.{all_at, parent_smaller}
 use Rattle.pl_plan.proofs.Lookups.{none_below}
 use Rattle.pl_plan.proofs.Subtrees.{named_live, number_is, is_this}
 use Rattle.pl_plan.proofs.TreeLaws.{descends_join, descends_sound, descends_complete}
-use Rattle.pl_world.specs.declared.plan_state.PlanState.{PlanState}
-use Rattle.pl_world.specs.PlanStates.{found}
-use Rattle.pl_world.specs.Whole.{IsWhole}
-use Rattle.pl_world.specs.Moves.{holds, is_under, moved, moved_with}
+use Rattle.pl_semantics.specs.declared.plan_state.PlanState.{PlanState}
+use Rattle.pl_semantics.specs.PlanStates.{found}
+use Rattle.pl_semantics.specs.Whole.{IsWhole}
+use Rattle.pl_semantics.specs.Moves.{holds, is_under, moved, moved_with}
 use Rattle.pl_moves.specs.Objections.{lesser}
 use Rattle.pl_moves.specs.Sides.{first_on, moves_to, when_so}
 use Rattle.pl_moves.specs.declared.side.Side.{Side}

@@ -12,8 +12,8 @@ use Rattle.pl_plan.specs.Trees.{Descends, itself, child}
 use Rattle.pl_plan.specs.Fitting.{Fits, FitsAlone, chosen_slots}
 use Rattle.pl_plan.proofs.Climbs.{all_at, parent_smaller}
 use Rattle.pl_plan.proofs.LookUpLaws.{fits_added}
-use Rattle.pl_world.specs.declared.plan_state.PlanState.{PlanState}
-use Rattle.pl_world.specs.Whole.{IsWhole, IsCarried, IsIdBelow}
+use Rattle.pl_semantics.specs.declared.plan_state.PlanState.{PlanState}
+use Rattle.pl_semantics.specs.Whole.{IsWhole, IsCarried, IsIdBelow}
 use Rattle.pl_moves.proofs.Swaps.{MayCome, IsSwap, swapped_at}
 
 pub found_append : (xs zs : List Activity) (q : ℕ) → activity_of q (xs ++ zs) ≡ option_or (activity_of q xs) (activity_of q zs)

@@ -20,14 +20,14 @@ use Rattle.pl_plan.proofs.Climbs.{all_at}
 use Rattle.pl_plan.proofs.Kept.{all_kept, each_found}
 use Rattle.pl_plan.proofs.LocalValues.{values_local, end_local}
 use Rattle.pl_plan.proofs.TreeLaws.{descends_complete}
-use Rattle.pl_world.specs.declared.plan_state.PlanState.{PlanState}
-use Rattle.pl_world.specs.PlanStates.{among, found, floor_of, is_committed, of_found}
-use Rattle.pl_world.specs.Whole.{IsWhole}
-use Rattle.pl_world.specs.Moves.{is_proper, refusal_of, applied, is_changed, is_locked, is_under, started_by, with_value, children_for, children_in, alternatives_at}
-use Rattle.pl_world.specs.Legal.{MayBeMade}
-use Rattle.pl_world.proofs.Refusing.{may}
-use Rattle.pl_changes.specs.Replaced.{touched}
-use Rattle.pl_values.proofs.Keeping.{among_neither}
+use Rattle.pl_semantics.specs.declared.plan_state.PlanState.{PlanState}
+use Rattle.pl_semantics.specs.PlanStates.{among, found, floor_of, is_committed, of_found}
+use Rattle.pl_semantics.specs.Whole.{IsWhole}
+use Rattle.pl_semantics.specs.Moves.{is_proper, refusal_of, applied, is_changed, is_locked, is_under, started_by, with_value, children_for, children_in, alternatives_at}
+use Rattle.pl_semantics.specs.Legal.{MayBeMade}
+use Rattle.pl_semantics.proofs.Refusing.{may}
+use Rattle.pl_update.specs.Changes.Replaced.{touched}
+use Rattle.pl_update.proofs.AboutEvaluations.Keeping.{among_neither}
 use Rattle.pl_moves.specs.Changes.{gone_by, placed_by, assigned, undetailed, with_children, IsOfActivities}
 use Rattle.pl_moves.specs.Keeping.{KeepsCommitted, GivesIds}
 use Rattle.pl_moves.proofs.Swaps.{MayCome, IsSwap}

@@ -12,12 +12,12 @@ use Rattle.pl_plan.specs.Trees.{id_of, descends, subtree_of}
 use Rattle.pl_plan.specs.Fitting.{FitsAlone}
 use Rattle.pl_plan.proofs.Climbs.{all_at}
 use Rattle.pl_plan.proofs.Kept.{found-kept}
-use Rattle.pl_world.specs.declared.plan_state.PlanState.{PlanState}
-use Rattle.pl_world.specs.PlanStates.{among, found, floor_of}
-use Rattle.pl_world.specs.Whole.{IsWhole}
-use Rattle.pl_world.specs.Candidates.{same_number}
-use Rattle.pl_world.specs.Moves.{is_under, moved, root_for}
-use Rattle.pl_world.proofs.Refusing.{may}
+use Rattle.pl_semantics.specs.declared.plan_state.PlanState.{PlanState}
+use Rattle.pl_semantics.specs.PlanStates.{among, found, floor_of}
+use Rattle.pl_semantics.specs.Whole.{IsWhole}
+use Rattle.pl_semantics.specs.Candidates.{same_number}
+use Rattle.pl_semantics.specs.Moves.{is_under, moved, root_for}
+use Rattle.pl_semantics.proofs.Refusing.{may}
 use Rattle.pl_moves.specs.Changes.{IsOfActivities, gone_by, placed_by}
 use Rattle.pl_moves.specs.Runs.{start_of, goes_on, CanBeMade}
 use Rattle.pl_moves.proofs.Made.{named_live, near_if}

@@ -19,13 +19,13 @@ use Rattle.pl_plan.specs.Trees.{parent_of, parent_id, subtree_of}
 use Rattle.pl_plan.specs.Fitting.{FitsAlone}
 use Rattle.pl_plan.specs.Moves.{without_subtree, without_below, abstracted}
 use Rattle.pl_plan.proofs.Climbs.{all_at}
-use Rattle.pl_world.specs.declared.plan_state.PlanState.{PlanState}
-use Rattle.pl_world.specs.PlanStates.{found, goal_at, is_open, floor_of}
-use Rattle.pl_world.specs.Whole.{IsWhole, IsGoalOf, IsIdBelow}
-use Rattle.pl_world.specs.Moves.{holds, is_proper, is_wanted, refusal_of, applied, root_for, unset_row, presets_of, moved, is_under, alternatives_at, changed_where, children_from, detailed, has_id}
-use Rattle.pl_world.specs.Legal.{MayBeMade}
-use Rattle.pl_world.proofs.Refusing.{may}
-use Rattle.pl_changes.specs.Replaced.{CanReplace, next_after, with_plan}
+use Rattle.pl_semantics.specs.declared.plan_state.PlanState.{PlanState}
+use Rattle.pl_semantics.specs.PlanStates.{found, goal_at, is_open, floor_of}
+use Rattle.pl_semantics.specs.Whole.{IsWhole, IsGoalOf, IsIdBelow}
+use Rattle.pl_semantics.specs.Moves.{holds, is_proper, is_wanted, refusal_of, applied, root_for, unset_row, presets_of, moved, is_under, alternatives_at, changed_where, children_from, detailed, has_id}
+use Rattle.pl_semantics.specs.Legal.{MayBeMade}
+use Rattle.pl_semantics.proofs.Refusing.{may}
+use Rattle.pl_update.specs.Changes.Replaced.{CanReplace, next_after, with_plan}
 use Rattle.pl_moves.specs.Changes.{IsNamedLive, IsNear, IsOfActivities, assigned, gone_by, placed_by, undetailed}
 use Rattle.pl_moves.proofs.Swaps.{IsSwap, can_swap, swap_is, next_same}
 use Rattle.pl_moves.proofs.Cuts.{delete_swap, abstract_swap}

@@ -16,20 +16,20 @@ use Rattle.pl_facts.specs.Goals.{goal_of, is_numbered, with_dropped}
 use Rattle.pl_plan.specs.declared.activity.Activity.{Activity}
 use Rattle.pl_plan.specs.Serving.{served_in}
 use Rattle.pl_plan.specs.declared.repair.RepairMove.TheVariants.{Drop}
-use Rattle.pl_world.specs.declared.plan_state.PlanState.{PlanState}
-use Rattle.pl_world.specs.PlanStates.{found, floor_of, goal_at, is_committed, is_open, of_found, served_by, when}
-use Rattle.pl_world.specs.Parts.{of_goals, of_activities, of_links, of_timelines}
-use Rattle.pl_world.specs.Goals.{goal_conflicts, off_at, off_from, off_goal, off_of, open_at, open_goal, open_of}
-use Rattle.pl_world.specs.Activities.{activity_conflicts, wrong_at}
-use Rattle.pl_world.specs.Links.{link_conflicts, links_at}
-use Rattle.pl_world.specs.Timelines.{timeline_conflicts, line_conflicts}
-use Rattle.pl_world.specs.Demands.{demands_at, use_at, level_at, state_at}
-use Rattle.pl_world.specs.Conflicts.{conflicts_of}
-use Rattle.pl_world.specs.Whole.{IsWhole}
-use Rattle.pl_world.specs.Moves.{applied}
-use Rattle.pl_changes.proofs.Goals.{distinct_dropped}
-use Rattle.pl_world.proofs.Owning.{Each, each_found, each_planned, each_when}
-use Rattle.pl_world.proofs.Standing.{members, ordered, goals_by_subject, of_activities_alone, of_links_alone, of_timelines_alone}
+use Rattle.pl_semantics.specs.declared.plan_state.PlanState.{PlanState}
+use Rattle.pl_semantics.specs.PlanStates.{found, floor_of, goal_at, is_committed, is_open, of_found, served_by, when}
+use Rattle.pl_semantics.specs.Parts.{of_goals, of_activities, of_links, of_timelines}
+use Rattle.pl_semantics.specs.Goals.{goal_conflicts, off_at, off_from, off_goal, off_of, open_at, open_goal, open_of}
+use Rattle.pl_semantics.specs.Activities.{activity_conflicts, wrong_at}
+use Rattle.pl_semantics.specs.Links.{link_conflicts, links_at}
+use Rattle.pl_semantics.specs.Timelines.{timeline_conflicts, line_conflicts}
+use Rattle.pl_semantics.specs.Demands.{demands_at, use_at, level_at, state_at}
+use Rattle.pl_semantics.specs.Conflicts.{conflicts_of}
+use Rattle.pl_semantics.specs.Whole.{IsWhole}
+use Rattle.pl_semantics.specs.Moves.{applied}
+use Rattle.pl_update.proofs.AboutChanges.Goals.{distinct_dropped}
+use Rattle.pl_semantics.proofs.Owning.{Each, each_found, each_planned, each_when}
+use Rattle.pl_semantics.proofs.Standing.{members, ordered, goals_by_subject, of_activities_alone, of_links_alone, of_timelines_alone}
 
 -- ---- goals
 

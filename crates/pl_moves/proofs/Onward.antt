@@ -12,14 +12,14 @@ use Rattle.pl_plan.specs.Values.{values_of}
 use Rattle.pl_plan.proofs.Ids.{rises_between}
 use Rattle.pl_plan.proofs.Kept.{each_found}
 use Rattle.pl_plan.proofs.LocalValues.{values_local}
-use Rattle.pl_world.specs.declared.plan_state.PlanState.{PlanState}
-use Rattle.pl_world.specs.PlanStates.{among}
-use Rattle.pl_world.specs.Whole.{IsWhole}
-use Rattle.pl_world.specs.Moves.{moved, applied}
-use Rattle.pl_changes.specs.Replaced.{CanReplace, replaced, touched, with_plan, next_after}
-use Rattle.pl_changes.proofs.Putting.{next_above}
-use Rattle.pl_values.proofs.Keeping.{among_neither}
-use Rattle.pl_near.proofs.Touching.{not_left, not_right}
+use Rattle.pl_semantics.specs.declared.plan_state.PlanState.{PlanState}
+use Rattle.pl_semantics.specs.PlanStates.{among}
+use Rattle.pl_semantics.specs.Whole.{IsWhole}
+use Rattle.pl_semantics.specs.Moves.{moved, applied}
+use Rattle.pl_update.specs.Changes.Replaced.{CanReplace, replaced, touched, with_plan, next_after}
+use Rattle.pl_update.proofs.AboutChanges.Putting.{next_above}
+use Rattle.pl_update.proofs.AboutEvaluations.Keeping.{among_neither}
+use Rattle.pl_update.proofs.AboutGoalsAndActivities.Touching.{not_left, not_right}
 use Rattle.pl_moves.specs.Changes.{gone_by, placed_by}
 use Rattle.pl_moves.specs.Runs.{start_of, goes_on, CanBeMade}
 use Rattle.pl_moves.specs.Undone.{IsUndoneBy, picked}

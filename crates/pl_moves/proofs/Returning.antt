@@ -15,19 +15,19 @@ use Rattle.pl_plan.proofs.Kept.{each_found}
 use Rattle.pl_plan.proofs.LocalValues.{values_local}
 use Rattle.pl_plan.proofs.RisingIds.{RiseIds, filter_rises}
 use Rattle.pl_plan.proofs.Members.{ids_rise}
-use Rattle.pl_world.specs.declared.plan_state.PlanState.{PlanState}
-use Rattle.pl_world.specs.PlanStates.{among, of_found}
-use Rattle.pl_world.specs.Whole.{IsWhole, IsCarried, IsIdBelow}
-use Rattle.pl_changes.specs.Changes.{with_next}
-use Rattle.pl_changes.specs.Replaced.{CanReplace, replaced, touched, with_plan}
-use Rattle.pl_world.specs.Moves.{is_proper, refusal_of, applied}
-use Rattle.pl_world.proofs.Starting.{rise_lower}
+use Rattle.pl_semantics.specs.declared.plan_state.PlanState.{PlanState}
+use Rattle.pl_semantics.specs.PlanStates.{among, of_found}
+use Rattle.pl_semantics.specs.Whole.{IsWhole, IsCarried, IsIdBelow}
+use Rattle.pl_update.specs.Changes.Changes.{with_next}
+use Rattle.pl_update.specs.Changes.Replaced.{CanReplace, replaced, touched, with_plan}
+use Rattle.pl_semantics.specs.Moves.{is_proper, refusal_of, applied}
+use Rattle.pl_semantics.proofs.Starting.{rise_lower}
 use Rattle.pl_plan.specs.declared.repair.RepairMove.{RepairMove}
 use Rattle.pl_plan.specs.declared.repair.RepairMove.TheVariants.{Add, Delete, Shift, Detail, Abstract, Assign, Drop}
 use Rattle.pl_moves.specs.Changes.{IsOfActivities, gone_by, placed_by}
-use Rattle.pl_changes.proofs.Putting.{next_grows}
-use Rattle.pl_values.proofs.Keeping.{among_neither}
-use Rattle.pl_near.proofs.Touching.{not_left, not_right}
+use Rattle.pl_update.proofs.AboutChanges.Putting.{next_grows}
+use Rattle.pl_update.proofs.AboutEvaluations.Keeping.{among_neither}
+use Rattle.pl_update.proofs.AboutGoalsAndActivities.Touching.{not_left, not_right}
 use Rattle.pl_moves.specs.Undone.{IsUndoneBy, alone, picked}
 use Rattle.pl_moves.proofs.Swaps.{IsSwap, MayCome, same_replaced, swap_is, swapped_at}
 use Rattle.pl_moves.proofs.Made.{IsMadeBy, made, can_replace}

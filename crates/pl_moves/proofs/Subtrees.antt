@@ -15,10 +15,10 @@ use Rattle.pl_plan.proofs.Climbs.{all_at}
 use Rattle.pl_plan.proofs.Kept.{all_kept, each_found}
 use Rattle.pl_plan.proofs.TreeLaws.{descends_join, descends_sound, descends_complete}
 use Rattle.pl_plan.proofs.Subtrees.{descends_live}
-use Rattle.pl_world.specs.declared.plan_state.PlanState.{PlanState}
-use Rattle.pl_world.specs.PlanStates.{among}
-use Rattle.pl_world.specs.Whole.{IsWhole, IsCarried, IsIdBelow}
-use Rattle.pl_near.proofs.Touching.{not_left}
+use Rattle.pl_semantics.specs.declared.plan_state.PlanState.{PlanState}
+use Rattle.pl_semantics.specs.PlanStates.{among}
+use Rattle.pl_semantics.specs.Whole.{IsWhole, IsCarried, IsIdBelow}
+use Rattle.pl_update.proofs.AboutGoalsAndActivities.Touching.{not_left}
 use Rattle.pl_moves.proofs.Swaps.{IsSwap, swapped_at}
 
 -- ---- ids in lists

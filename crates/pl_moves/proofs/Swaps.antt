@@ -13,11 +13,11 @@ use Rattle.pl_plan.proofs.Ids.{rises_above, rises_between, rising-without, risin
 use Rattle.pl_plan.proofs.Lookups.{none_below, found-placed, found-without}
 use Rattle.pl_plan.proofs.LookUpLaws.{same_activities}
 use Rattle.pl_plan.proofs.LocalValues.{values_local}
-use Rattle.pl_world.specs.declared.plan_state.PlanState.{PlanState}
-use Rattle.pl_world.specs.PlanStates.{among}
-use Rattle.pl_world.specs.Whole.{IsWhole, IsCarried}
-use Rattle.pl_changes.specs.Replaced.{CanReplace, taken, put, replaced, touched, next_after}
-use Rattle.pl_changes.proofs.Putting.{rising-taken}
+use Rattle.pl_semantics.specs.declared.plan_state.PlanState.{PlanState}
+use Rattle.pl_semantics.specs.PlanStates.{among}
+use Rattle.pl_semantics.specs.Whole.{IsWhole, IsCarried}
+use Rattle.pl_update.specs.Changes.Replaced.{CanReplace, taken, put, replaced, touched, next_after}
+use Rattle.pl_update.proofs.AboutChanges.Putting.{rising-taken}
 
 -- ---- those that go
 

@@ -15,17 +15,17 @@ use Rattle.pl_plan.specs.declared.activity.Activity.{Activity}
 use Rattle.pl_plan.specs.declared.repair.RepairMove.{RepairMove}
 use Rattle.pl_plan.specs.declared.repair.RepairMove.TheVariants.{Add}
 use Rattle.pl_plan.specs.Fitting.{alternatives_of}
-use Rattle.pl_world.specs.declared.plan_state.PlanState.{PlanState}
-use Rattle.pl_world.specs.PlanStates.{floor_of, is_committed, if_planned}
-use Rattle.pl_world.specs.Activities.{at_start, late_at, unset_at, bad_values_at, undetailed_at, overrun_at, wrong_at, activity_conflicts}
-use Rattle.pl_world.specs.Goals.{goal_conflicts}
-use Rattle.pl_world.specs.Links.{link_conflicts}
-use Rattle.pl_world.specs.Timelines.{timeline_conflicts}
-use Rattle.pl_world.specs.Conflicts.{conflicts_of}
-use Rattle.pl_world.specs.Moves.{root_for, applied, refusal_of}
-use Rattle.pl_world.specs.Legal.{MayBeMade, left_after}
-use Rattle.pl_world.proofs.Refusing.{may}
-use Rattle.pl_world.proofs.Standing.{members}
+use Rattle.pl_semantics.specs.declared.plan_state.PlanState.{PlanState}
+use Rattle.pl_semantics.specs.PlanStates.{floor_of, is_committed, if_planned}
+use Rattle.pl_semantics.specs.Activities.{at_start, late_at, unset_at, bad_values_at, undetailed_at, overrun_at, wrong_at, activity_conflicts}
+use Rattle.pl_semantics.specs.Goals.{goal_conflicts}
+use Rattle.pl_semantics.specs.Links.{link_conflicts}
+use Rattle.pl_semantics.specs.Timelines.{timeline_conflicts}
+use Rattle.pl_semantics.specs.Conflicts.{conflicts_of}
+use Rattle.pl_semantics.specs.Moves.{root_for, applied, refusal_of}
+use Rattle.pl_semantics.specs.Legal.{MayBeMade, left_after}
+use Rattle.pl_semantics.proofs.Refusing.{may}
+use Rattle.pl_semantics.proofs.Standing.{members}
 use Rattle.pl_moves.specs.Least.{least_known}
 use Rattle.pl_moves.specs.Runs.{CanBeMade}
 

@@ -14,14 +14,14 @@ use Rattle.pl_io.specs.Reader.{NumberedLine}
 use Rattle.pl_model.specs.declared.whole.Model.{Model}
 use Rattle.pl_entry.specs.declared.event.Event.TheVariants as event
 use Rattle.pl_entry.specs.declared.entry.Entry.{Entry}
-use Rattle.pl_machine.specs.Lines.{is_blank_line}
-use Rattle.pl_render.specs.Lines.{text_from}
-use Rattle.pl_render.proofs.Texts.{text_joined}
-use Rattle.pl_stream.specs.Reads.{Took, IsUsedUp, AreBlank}
-use Rattle.pl_stream.specs.Waits.{line_in}
-use Rattle.pl_stream.specs.Written.{Adds}
-use Rattle.pl_stream.proofs.Reading.{took_more, used_later}
-use Rattle.pl_stream.proofs.Writing.{some_held, adds_then}
+use Rattle.pl_input.specs.Words.{is_blank_line}
+use Rattle.pl_journal.specs.Rendering.Lines.{text_from}
+use Rattle.pl_journal.proofs.AboutRendering.Texts.{text_joined}
+use Rattle.pl_input.specs.Reads.{Took, IsUsedUp, AreBlank}
+use Rattle.pl_input.specs.Waits.{line_in}
+use Rattle.pl_journal.specs.Written.{Adds}
+use Rattle.pl_input.proofs.Reading.{took_more, used_later}
+use Rattle.pl_journal.proofs.AboutWriting.{some_held, adds_then}
 use Rattle.pl_shared.specs.declared.noted.Noted.{Noted}
 use Rattle.pl_shared.specs.declared.noted.Noted.TheVariants.{Made, Stopped}
 use Rattle.pl_shared.specs.declared.plan.SharedPlan.{SharedPlan}
@@ -37,7 +37,7 @@ use Rattle.pl_pair.specs.Cuts.{cut_by}
 use Rattle.pl_pair.specs.Rounds.{Follows, Looks, IsBetween, lines_behind, RoundEnds}
 use Rattle.std.specs.Prelude.{IsErrOf}
 use Rattle.std.proofs.lemmas.Option.{same_Some}
-use Rattle.pl_stream.specs.Places.{Place}
+use Rattle.pl_input.specs.Places.{Place}
 use Rattle.pl_pair.specs.Asking.{Asks, HandsOn, HandsNone, Passes, PassesTo}
 use Rattle.pl_pair.specs.Feeds.{spoken, said_in, IsInput, AreInputs, Reads, unasked, asked, Heard, Tells, HandsOne, WritesAll, StepsOn, StepsOut, StepsCut, in_round, at_message, Steps, Feeding, Waiting, FeedsOut, FeedsUntil, FeedsRefused, FeedsTorn, for_lines, for_message, for_reader, refused, stopped, FeedsAll, FeedsToEnd}
 use Rattle.pl_pair.proofs.Passing.{follows_self, follows_on, entries_longer, behind_looks}

@@ -18,19 +18,19 @@ use Rattle.pl_machine.specs.declared.stop.Stop.{Stop}
 use Rattle.pl_machine.specs.declared.stop.Stop.TheVariants as stop
 use Rattle.pl_machine.specs.World.{World}
 use Rattle.pl_machine.specs.Legal.{Legal, options_of, world_of}
-use Rattle.pl_machine.specs.Lines.{messages_of}
+use Rattle.pl_input.specs.Words.{messages_of}
 use Rattle.pl_machine.specs.Finished.{inputs_of}
 use Rattle.pl_machine.specs.Sound.{State}
 use Rattle.pl_io.specs.Lines.{lines_of}
 use Rattle.pl_io.specs.Writes.{AppendsFront}
 use Rattle.pl_io.specs.Reader.{NumberedLine}
-use Rattle.pl_stream.proofs.Reading.{took_none, halts_later}
-use Rattle.pl_render.specs.Lines.{text_from, text_of_log}
-use Rattle.pl_stream.specs.Reads.{Took, WhyKnown}
-use Rattle.pl_stream.specs.Stops.{IsStuckKnown}
-use Rattle.pl_stream.specs.Waits.{line_in}
-use Rattle.pl_stream.specs.CutShort.{answers, IsCutShort}
-use Rattle.pl_stream.specs.Written.{Adds}
+use Rattle.pl_input.proofs.Reading.{took_none, halts_later}
+use Rattle.pl_journal.specs.Rendering.Lines.{text_from, text_of_log}
+use Rattle.pl_input.specs.Reads.{Took, WhyKnown}
+use Rattle.pl_input.specs.Stops.{IsStuckKnown}
+use Rattle.pl_input.specs.Waits.{line_in}
+use Rattle.pl_driver.specs.CutShort.{answers, IsCutShort}
+use Rattle.pl_journal.specs.Written.{Adds}
 use Rattle.pl_shared.specs.declared.noted.Noted.{Noted}
 use Rattle.pl_shared.specs.declared.noted.Noted.TheVariants.{Made, Stopped}
 use Rattle.pl_shared.specs.declared.plan.SharedPlan.{SharedPlan}
@@ -55,7 +55,7 @@ use Rattle.pl_pair.specs.Cuts.{cut_by}
 use Rattle.pl_pair.specs.Served as serving
 use Rattle.pl_pair.specs.Served.{AreOf, MakesOwn, IsFullRound, Refused, IsWorker}
 use Rattle.pl_pair.specs.Rounds.{Follows, IsBetween, lines_behind}
-use Rattle.pl_stream.specs.Places.{Place}
+use Rattle.pl_input.specs.Places.{Place}
 use Rattle.pl_pair.specs.Asking.{Faults, now_failed, had_failed, Asks}
 use Rattle.pl_pair.specs.Feeds.{AreInputs, Reads, unasked, asked, Tells, HandsOne, Writes, WritesAll, FeedsOut, FeedsUntil, FeedsRefused, FeedsStopped, FeedsTorn, FeedsShort, for_lines, for_message, for_reader, FeedsCut, refused, FeedsAll, FeedsToEnd}
 use Rattle.pl_pair.specs.Feeds as fed

@@ -6,12 +6,12 @@ use mathlib.Core.List.{IsPrefix}
 use Rattle.pl_io.specs.Lines.{lines_of}
 use Rattle.pl_io.specs.Reader.{NumberedLine}
 use Rattle.pl_io.specs.Sparing.{read_size}
-use Rattle.pl_machine.specs.Lines.{is_blank_line, is_line_of, end_word, messages_of}
-use Rattle.pl_stream.specs.Reads.{GaveKnown, IsUsedUp, AreBlank}
-use Rattle.pl_stream.specs.Waits.{line_in}
-use Rattle.pl_stream.proofs.Reading.{gave_none, known, gave_lines}
+use Rattle.pl_input.specs.Words.{is_blank_line, is_line_of, end_word, messages_of}
+use Rattle.pl_input.specs.Reads.{GaveKnown, IsUsedUp, AreBlank}
+use Rattle.pl_input.specs.Waits.{line_in}
+use Rattle.pl_input.proofs.Reading.{gave_none, known, gave_lines}
 use Rattle.pl_shared.specs.Plans.{PlanPass}
-use Rattle.pl_stream.specs.Places.{Place}
+use Rattle.pl_input.specs.Places.{Place}
 use Rattle.pl_pair.specs.Asking.{Asks}
 use Rattle.pl_pair.specs.Feeds.{spoken, said_in, Reads, unasked, asked, Heard, Tells}
 use Rattle.pl_pair.specs.Runs.{InMessages, ReadUpTo}

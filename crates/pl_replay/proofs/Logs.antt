@@ -2,7 +2,7 @@
 use Rattle.std.proofs.Common.{◌≡◌, ℕ, suc, ◌+◌, ◌<◌, ◌^◌, List, [], ◌∷◌, ◌++◌, length, ◌∙◌, ap, arith}
 use Rattle.pl_model.specs.declared.whole.Model.{Model}
 use Rattle.pl_entry.specs.declared.entry.Entry.{Entry}
-use Rattle.pl_render.specs.Lines.{text_of}
+use Rattle.pl_journal.specs.Rendering.Lines.{text_of}
 use Rattle.pl_machine.specs.Legal.{Legal, options_in}
 use Rattle.pl_machine.proofs.ShortLogs.{opened_short}
 use Rattle.pl_replay.specs.Journals.{lines_from}

@@ -2,8 +2,8 @@
 use Rattle.std.proofs.Common.{◌≡◌, ℕ, zero, suc, ◌-◌, ◌<◌, ◌≤◌, List, [], ◌∷◌, length, get_or, Result, Ok, Err, refl, sym, ap, subst, ◌∙◌, arith}
 use Rattle.pl_text.specs.declared.token.Token.{Token as Piece}
 use Rattle.pl_text.specs.Tokens.{tokens_of}
-use Rattle.pl_rules.specs.declared.token.Token.{Token}
-use Rattle.pl_rules.specs.Faults.{Trouble, too_deep, unexpected, Stop, Judged, IsFirstBad}
+use Rattle.pl_syntax.specs.declared.token.Token.{Token}
+use Rattle.pl_syntax.specs.Faults.{Trouble, too_deep, unexpected, Stop, Judged, IsFirstBad}
 use Rattle.pl_syntax.specs.declared.whole.Ast.{Ast}
 use Rattle.pl_syntax.specs.declared.fault.SyntaxFault.{SyntaxFault}
 use Rattle.pl_syntax.specs.declared.fault.SyntaxFault.TheVariants as fault
@@ -15,7 +15,7 @@ use Rattle.pl_syntax.specs.Reading.{read_all}
 use Rattle.pl_syntax.specs.Gives.{Fails}
 use Rattle.pl_syntax.specs.Marks.{marks_of, place_of}
 use Rattle.pl_syntax.specs.Answers.{ReadsText, IsFirstBadAt, AnswersShort, IsTree, placed}
-use Rattle.pl_rules.proofs.Places.{first_bad}
+use Rattle.pl_syntax.proofs.Places.{first_bad}
 use Rattle.pl_syntax.proofs.ReadExact.{read_exact}
 
 abbrev Read : List Token → Result Ast Stop → Type 0

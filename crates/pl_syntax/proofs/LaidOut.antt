@@ -16,12 +16,12 @@ use Rattle.pl_text.specs.Tokens.{read_on, tokens_of}
 use Rattle.pl_text.specs.Pieces.{Piece, blank, word, number, symbol, spell_piece, spell, Stops, IsPiece, ArePieces, tokens_in}
 use Rattle.pl_text.proofs.Digits.{digit_range}
 use Rattle.pl_text.proofs.PieceLemmas.{made_of}
-use Rattle.pl_rules.specs.declared.token.Token.{Token}
-use Rattle.pl_rules.specs.declared.token.Token.TheVariants as token
-use Rattle.pl_rules.specs.declared.symbol.Symbol.{Symbol}
-use Rattle.pl_rules.specs.declared.symbol.Symbol.TheVariants as symbols
-use Rattle.pl_rules.specs.Symbols.{symbol_byte, symbol_of}
-use Rattle.pl_rules.specs.Tokens.{AreReal}
+use Rattle.pl_syntax.specs.declared.token.Token.{Token}
+use Rattle.pl_syntax.specs.declared.token.Token.TheVariants as token
+use Rattle.pl_syntax.specs.declared.symbol.Symbol.{Symbol}
+use Rattle.pl_syntax.specs.declared.symbol.Symbol.TheVariants as symbols
+use Rattle.pl_syntax.specs.Symbols.{symbol_byte, symbol_of}
+use Rattle.pl_syntax.specs.Tokens.{AreReal}
 use Rattle.pl_syntax.specs.Marks.{word_or_name, symbol_or_none, marks_of}
 use Rattle.pl_syntax.specs.Canonical.{token_text, breaks, in_states_behind, laid, text_of}
 use Rattle.pl_syntax.proofs.Again.{spread, spread_append}

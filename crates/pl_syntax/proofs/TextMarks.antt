@@ -16,13 +16,13 @@ use Rattle.pl_text.specs.Tokens.{read_on, number_value, tokens_of}
 use Rattle.pl_text.specs.Pieces.{Piece, blank, comment, word, number, symbol, spell_piece, spell, IsPiece, ArePieces, size, token_of, tokens_in, Lexes, AreInOrder}
 use Rattle.pl_text.proofs.Digits.{digit_range, power_step, power_below}
 use Rattle.pl_text.proofs.PieceLemmas.{lexes, ordered}
-use Rattle.pl_rules.specs.declared.token.Token.{Token}
-use Rattle.pl_rules.specs.declared.token.Token.TheVariants as token
-use Rattle.pl_rules.specs.declared.symbol.Symbol.{Symbol}
-use Rattle.pl_rules.specs.declared.symbol.Symbol.TheVariants as symbols
-use Rattle.pl_rules.specs.Symbols.{symbol_of}
-use Rattle.pl_rules.specs.Spelling.{AllFit}
-use Rattle.pl_rules.specs.Tokens.{IsReal, AreReal}
+use Rattle.pl_syntax.specs.declared.token.Token.{Token}
+use Rattle.pl_syntax.specs.declared.token.Token.TheVariants as token
+use Rattle.pl_syntax.specs.declared.symbol.Symbol.{Symbol}
+use Rattle.pl_syntax.specs.declared.symbol.Symbol.TheVariants as symbols
+use Rattle.pl_syntax.specs.Symbols.{symbol_of}
+use Rattle.pl_syntax.specs.Spelling.{AllFit}
+use Rattle.pl_syntax.specs.Tokens.{IsReal, AreReal}
 use Rattle.pl_syntax.specs.Marks.{bytes_of, word_or_name, symbol_or_none, mark_of, marks_of, HasMark, IsMarked}
 
 -- ---- numbers are small

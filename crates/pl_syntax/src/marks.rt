@@ -3,8 +3,8 @@ ghost use Rattle.std.specs.List.{All};
 ghost use Rattle.pl_text.specs.declared.token.TokenKind.TheVariants as kind;
 ghost use Rattle.pl_syntax.specs.Marks.{bytes_of, mark_of, marks_of, mark_by, place_of, IsMarked, HasMark};
 
+use crate::{Symbol, Token};
 use pl_lists::Items;
-use pl_rules::{Symbol, Token};
 use pl_text::{TokenKind, word_of};
 use std::alloc::{AllocError, Global};
 

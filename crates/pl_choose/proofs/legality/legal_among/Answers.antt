@@ -3,7 +3,7 @@ use Rattle.std.proofs.lemmas.List.Elements.{All-contains, Contains-get_or}
 use Rattle.std.specs.Prelude.{filter}
 use Rattle.std.proofs.lemmas.List.{drop_more}
 use Rattle.pl_plan.specs.declared.repair.RepairMove.TheVariants.{Add}
-use Rattle.pl_world.specs.Legal.{is_legal}
+use Rattle.pl_semantics.specs.Legal.{is_legal}
 use Rattle.pl_choose.specs.Found.{IsProper}
 use Rattle.pl_choose.proofs.Finding.{filter_step}
 use Rattle.pl_choose.proofs.legality.legal_among.Goals as goal
