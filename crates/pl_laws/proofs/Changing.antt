@@ -66,8 +66,6 @@ more_committed start c h le early = let lt = ltb-true start c early in lt-ltb st
 stays_commit : (s : PlanState) (h : ℕ) → s.committed ≤ h → StaysCommitted s (committed_to h s)
 stays_commit s h le = record { committed = le; stands = λ id a here c. here; still = λ id a here c. more_committed a.start s.committed h le c; values = λ id a here c. refl; ends = λ id a here c. refl }
 
-}
-
 stays_repair : (s s2 : PlanState) → KeepsCommitted s s2 → StaysCommitted s s2
 stays_repair s s2 keeps = record {
   committed = (let same : s2.committed ≡ s.committed = keeps.committed in omega (arith, same));
