@@ -2,6 +2,7 @@
 use Rattle.std.proofs.Common.{◌≡◌, ℕ, suc, ◌<◌, ◌≤◌, Bool, true, false, cond, List, [], ◌∷◌, ◌++◌, map, filter, refl, sym, ap, ◌∙◌, arith}
 use Rattle.std.specs.Prelude.{◌||◌}
 use Rattle.std.proofs.lemmas.Bool.{false_from_ne_true, or_from}
+use Rattle.std.proofs.Math.Bool.{or-true}
 use Rattle.pl_points.specs.declared.span.Span.{Span}
 use Rattle.pl_points.specs.Spans as spans
 use Rattle.pl_conflict.specs.declared.conflict.Conflict.{Conflict}
@@ -15,7 +16,7 @@ pub apart_both : (xs ys : List Conflict) → AreApart xs → AreApart ys → ((q
 apart_both [] ys one other meet = other
 apart_both (k ∷ xs) ys one other meet = (
   has-append xs ys k ∙ or_from (has k xs) (has k ys) one.0 (meet k (ap (λ b. b || has k xs) (same_itself k))),
-  apart_both xs ys one.1 other (λ q e. meet q (ap (λ b. same q k || b) e ∙ last (same q k))),
+  apart_both xs ys one.1 other (λ q e. meet q (ap (λ b. same q k || b) e ∙ or-true (same q k))),
 )
 
 -- ---- those that pass
