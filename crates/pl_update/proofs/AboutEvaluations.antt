@@ -1,7 +1,7 @@
 pub mod Keeping
 pub mod Reading
-mod Copying
+pub mod Copying
 pub mod Still
 pub mod Moving
-mod Alike
-mod Coming
+pub mod Alike
+pub mod Coming
