@@ -8,6 +8,9 @@ from .readable import shown
 
 def start(name, main, arguments=None):
     """Runs `main` with the words behind the command's name; returns the status with which the command ends."""
+    for stream in (sys.stdout, sys.stderr):
+        if hasattr(stream, 'reconfigure'):
+            stream.reconfigure(encoding='utf-8', errors='replace')       # whatever the language of the terminal
     try:
         status = main(sys.argv[1:] if arguments is None else arguments)
         sys.stdout.flush()

@@ -52,6 +52,7 @@ def warnings(model):
                 line.name, line.start, line.least, line.most)
     for kind in model.kinds:
         yield from of_amounts(model, kind)
+        yield from of_chains(kind)
         yield from of_may_goals(kind)
         yield from of_alternatives(model, kind)
 
@@ -85,6 +86,19 @@ def of_amounts(model, kind):
             most = model.timeline_named[each.timeline].most
             if low > most:
                 yield 'kind %s uses at least %d of %s, and there are %d: it can never run' % (kind.name, low, each.timeline, most)
+
+
+def of_chains(kind):
+    """Links with which each activity of a kind needs another one before it, or after it, and so on without an end."""
+    for link in kind.links:
+        if link.kind != kind.name:
+            continue
+        same = link.mine == link.theirs
+        before = link.high < 0 if same else link.high <= 0 and link.mine == 'start'
+        after = link.low > 0 if same else link.low >= 0 and link.mine == 'end'
+        if before or after:
+            yield 'kind %s: each needs another %s %s it, so the %s of them never has its partner, and that conflict stays' % (
+                kind.name, kind.name, 'before' if before else 'after', 'first' if before else 'last')
 
 
 def of_may_goals(kind):

@@ -1,5 +1,6 @@
 """A plan from files: the model, the journal, what the program says of them, and the world that they make."""
 import sys
+from concurrent.futures import ThreadPoolExecutor
 from dataclasses import dataclass
 from typing import Dict, List
 
@@ -83,9 +84,15 @@ def load_plan(paths, given_program=None, entry=None):
     source = read_source(paths)
     if entry is not None:
         source.lines = source.lines[:entry + 1]
-    expected = verdict(program.find_program(given_program), source)
-    plan = plan_of(read_model(source.model), source.lines)
-    if report_of(plan.snapshot, plan.conflicts) != expected:
+    path = program.find_program(given_program)
+    with ThreadPoolExecutor(max_workers=1) as pool:
+        answer = pool.submit(verdict, path, source)       # the program reads the journal while the tools do
+        try:
+            plan = plan_of(read_model(source.model), source.lines)
+        except Failure:
+            answer.result()                               # where the program refuses it too, its verdict is what counts
+            raise
+    if report_of(plan.snapshot, plan.conflicts) != answer.result():
         raise Failure('the tools and the program read this journal in different ways; please report this, with both files')
     return plan
 

@@ -19,7 +19,7 @@ STATUSES = {
 
 
 def add_program_option(parser):
-    parser.add_argument('--program', metavar='PATH', help='the planner (default: $LUNDOCSEF, else %s)' % BUILT)
+    parser.add_argument('--program', metavar='PATH', help='the planner (default: $LUNDOCSEF, else crates/lundocsef/out/lundocsef of this repository)')
 
 
 def find_program(given=None):

@@ -89,8 +89,10 @@ def bad_line(world, parts, line):
     if bad:
         return strange(bad[0])
     first = parts[0] if parts else ''
+    if first.lower() in FORMS and first not in FORMS:
+        return 'small and capital letters differ; did you mean `%s`?' % first.lower()
     if first not in FORMS:
-        return 'a message begins with goal, tele, tick or end' + meant(first.lower(), FORMS)
+        return 'a message begins with goal, tele, tick or end' + meant(first, FORMS)
     if first == 'goal':
         return 'its form is: %s%s' % (FORMS['goal'], what_of_goal(parts))
     return 'its form is: %s' % FORMS[first]

@@ -64,9 +64,6 @@ class Change:
     reservation: int
     value: object          # the signed amount, or the state
 
-    def key(self):
-        return self.moment, self.activity.id, self.reservation
-
 
 @dataclass
 class Need:
@@ -139,14 +136,13 @@ class Snapshot:
 
     def profile_of_changes(self, line, told):
         """Changes count one after the other; telemetry of a moment replaces what changes up to that moment have made."""
-        events = [(change.key(), 0, change) for change in self.changes[line.name]]
-        events = [(moment, 0, key, change) for (moment, *key), _, change in events]
-        events += [(each.moment, 1, [number], each) for number, each in enumerate(told)]
-        events.sort(key=lambda event: event[:3])
+        events = [(change.moment, 0, change.activity.id, change.reservation, change) for change in self.changes[line.name]]
+        events += [(each.moment, 1, number, 0, each) for number, each in enumerate(told)]
+        events.sort(key=lambda event: event[:4])
         base = told[-1].moment if told else -1
         value = line.start
         profile = Profile([0], [value])
-        for moment, is_told, _, event in events:
+        for moment, is_told, _, _, event in events:
             if is_told:
                 profile.marks.append(Mark(event.entry, moment, event.value, value))
                 value = event.value

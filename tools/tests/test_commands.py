@@ -142,6 +142,17 @@ class GoodInputTest(unittest.TestCase):
         status, output, errors = call('plan-live', CAMERA[0], '--columns', '90', text=text_of(CAMERA[1]))
         self.assertEqual((status, errors, output.count('now N, committed to C')), (0, '', 9))
 
+    def test_plan_live_can_draw_the_latest_plan_alone(self):
+        status, output, errors = call('plan-live', CAMERA[0], '--latest', text=text_of(CAMERA[1]))
+        self.assertEqual((status, errors, output.count('now N, committed to C')), (0, '', 1))
+        self.assertIn('entry 43', output)
+
+    def test_plan_live_keeps_the_journal(self):
+        with tempfile.TemporaryDirectory() as folder:
+            path = os.path.join(folder, 'kept')
+            self.assertEqual(call('plan-live', CAMERA[0], '--keep', path, text=text_of(CAMERA[1]))[0], 0)
+            self.assertEqual(text_of(path), text_of(CAMERA[1]))
+
     def test_model_look(self):
         status, output, _ = call('model-look', CAMERA[0])
         self.assertEqual(status, 0)

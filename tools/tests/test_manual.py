@@ -63,7 +63,7 @@ class GrammarTest(unittest.TestCase):
         for pattern in grammar['patterns']:
             self.assertIn(pattern['include'][1:], grammar['repository'])
         for rule in re.findall(r'"(?:match|begin|end)": ("(?:[^"\\]|\\.)*")', self.textmate):
-            re.compile(json.loads(rule).replace('(?<=\\b(?:in|rest) )', ''))         # its editors allow what Python's `re` does not
+            re.compile(json.loads(rule).replace('(?<=\\bin |\\brest )', ''))         # editors allow what Python's `re` does not
 
     def test_the_docs_reserve_the_same_words(self):
         with open(os.path.join(os.path.dirname(TOOLS), 'docs', 'MODEL.md'), encoding='utf-8') as file:

@@ -31,6 +31,7 @@ def main(arguments):
     parser.add_argument('--window', type=int, metavar='MOMENTS',
                         help='draw so many moments, a quarter of them past (default: all that happens)')
     parser.add_argument('--pause', type=float, default=0, metavar='SECONDS', help='wait after each drawing')
+    parser.add_argument('--latest', action='store_true', help='where several rounds come at once, draw the plan behind the last alone')
     parser.add_argument('--keep', metavar='FILE', help='write the journal to this file as it comes')
     parser.add_argument('--no-check', action='store_true', help='do not let the program check the journal at its end')
     parser.add_argument('--hide', default='', metavar='NAMES', help='kinds and timelines that are not drawn, separated by commas')
@@ -47,6 +48,16 @@ def main(arguments):
     if not given.no_check:
         verdict(program.find_program(given.program), live.source())
     return 0
+
+
+def batches(stream):
+    """The lines of a stream, those that come at once together."""
+    rest = b''
+    for data in iter(lambda: stream.read1(65536), b''):
+        *lines, rest = (rest + data).split(b'\n')
+        yield [line + b'\n' for line in lines]
+    if rest:
+        yield [rest]
 
 
 class Live:
@@ -73,21 +84,29 @@ class Live:
         return Source(self.model_text, self.lines, 'standard input')
 
     def follow(self, stream):
-        for data in iter(stream.readline, b''):
-            if self.kept:
-                self.kept.write(data)
-                self.kept.flush()
-            line = data.decode('latin-1').rstrip('\n')
-            if not line.strip():
-                continue
-            self.lines.append(line)
-            if line.startswith('model:') or line.startswith('usage:'):
-                raise Failure('the planner writes no journal, it says: %s' % line)
-            self.world.apply(read_entry(line))
-            if line.endswith(' close'):
+        for lines in batches(stream):
+            closed = [self.take(line) for line in lines]
+            if self.given.latest and any(closed):
                 self.draw()
         if not self.lines:
             raise Failure('standard input holds no journal')
+
+    def take(self, data):
+        """Takes a line, and draws the plan where a round closes with it; returns whether one does."""
+        if self.kept:
+            self.kept.write(data)
+            self.kept.flush()
+        line = data.decode('latin-1').rstrip('\n')
+        if not line.strip():
+            return False
+        self.lines.append(line)
+        if line.startswith(('model:', 'usage:')):
+            raise Failure('the planner writes no journal, it says: %s' % line)
+        self.world.apply(read_entry(line))
+        closed = line.endswith(' close')
+        if closed and not self.given.latest:
+            self.draw()
+        return closed
 
     def draw(self):
         plan = plan_of_world(self.world, self.lines)

@@ -33,18 +33,21 @@ def draw_axis(view, canvas, y, top, bottom):
 def draw_moments(plan, view, canvas, y, bottom):
     """The lines of the present and of the committed part, with words above the axis."""
     now, committed = plan.world.now, plan.world.committed
-    words = 'now %d%s' % (now, ' (%s)' % view.clock.label(now) if view.clock else '')
-    if view.shows(now):
-        canvas.line(view.x(now), y + 14, view.x(now), bottom, INK, 1.8)
-        canvas.text(view.x(now) - 4, y + 11, words, TEXT, INK, 'end' if view.x(now) - width_of(words) > 8 else None, font_weight='bold')
-    if not view.shows(committed):
-        return
+    words_of_now = 'now %d%s' % (now, ' (%s)' % view.clock.label(now) if view.clock else '')
     stopped = committed <= now
     words = 'nothing is committed from %d on' % committed if stopped else 'committed to %d' % committed
-    colour, x = WRONG if stopped else SERVED, view.x(committed)
-    to_right = not stopped and x + width_of(words) + 4 < view.width
-    canvas.line(x, y + (14 if to_right else 27), x, bottom, colour, 1.6, '6 3')
-    if to_right:
-        canvas.text(x + 4, y + 11, words, TEXT, colour, font_weight='bold')
-    else:
-        canvas.text(x - 4, y + 24, words, TEXT, colour, 'end', font_weight='bold')
+    to_right = not stopped and view.x(committed) + width_of(words) + 4 < view.width
+    # Words that reach back over the line of the present stand above the words of the present.
+    above = not stopped and not to_right
+    if view.shows(now):
+        at_left = view.x(now) - width_of(words_of_now) > 8
+        flag(view, canvas, now, words_of_now, INK, (y, bottom), 1 if above else 0, at_left)
+    if view.shows(committed):
+        flag(view, canvas, committed, words, WRONG if stopped else SERVED, (y, bottom), 1 if stopped else 0, not to_right, '6 3')
+
+
+def flag(view, canvas, moment, words, colour, ends, row, at_left, dash=None):
+    """A line down the picture at a moment, with words beside its top, in the first or second row above the axis."""
+    x, (y, bottom) = view.x(moment), ends
+    canvas.line(x, y + 14 + 13 * row, x, bottom, colour, 1.7, dash)
+    canvas.text(x - 4 if at_left else x + 4, y + 11 + 13 * row, words, TEXT, colour, 'end' if at_left else None, font_weight='bold')

@@ -18,14 +18,16 @@ def conflict_lane(plan, view):
     items = []
     for (moment, code), group in groups.items():
         label = code if len(group) == 1 else '%d %s' % (len(group), code)
-        items.append((view.x(moment), view.x(moment) + width_of(label, SMALL) + 14, (moment, label, group)))
+        x, wide = view.x(moment), width_of(label, SMALL) + 14
+        at_left = x + wide > view.width
+        items.append((x - wide if at_left else x, x + 6 if at_left else x + wide, (x, at_left, label, group)))
     rows, canvas = packed(items)[:ROWS], Canvas()
     for number, row in enumerate(rows):
-        for moment, label, group in row:
-            x, y = view.x(moment), 3 + 13 * number
+        for x, at_left, label, group in row:
+            y = 3 + 13 * number
             canvas.open_group('\n'.join('from %d: %s' % (each.moment, sentence(plan, each)) for each in group[:20]), class_='conflict')
             canvas.warning(x, y, WRONG, 10)
-            canvas.text(x + 8, y + 9, label, SMALL, WRONG, font_weight='bold')
+            canvas.text(x - 8 if at_left else x + 8, y + 9, label, SMALL, WRONG, 'end' if at_left else None, font_weight='bold')
             canvas.close_group()
     return Lane('what is wrong', '%d conflict%s' % (len(plan.conflicts), 's' * (len(plan.conflicts) != 1)), 13 * len(rows) + 6, canvas)
 
@@ -36,10 +38,12 @@ def conflict_sentences(plan, view):
     if not plan.conflicts:
         return canvas, 0
     canvas.text(12, y, 'What is wrong', 12, WRONG, font_weight='bold')
-    for conflict in plan.conflicts[:SENTENCES]:
+    # Those that count from a moment in view come first.
+    ordered = sorted(plan.conflicts, key=lambda conflict: not view.shows(conflict.moment))
+    for conflict in ordered[:SENTENCES]:
         y += 15
         canvas.text(20, y, 'from %d: %s (%s)' % (conflict.moment, sentence(plan, conflict), conflict.code), TEXT, INK)
-    if len(plan.conflicts) > SENTENCES:
+    if len(ordered) > SENTENCES:
         y += 15
-        canvas.text(20, y, 'and %d more' % (len(plan.conflicts) - SENTENCES), TEXT, DIM)
+        canvas.text(20, y, 'and %d more' % (len(ordered) - SENTENCES), TEXT, DIM)
     return canvas, y + 10
