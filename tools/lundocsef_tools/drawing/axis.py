@@ -3,6 +3,8 @@ from .canvas import width_of
 from .style import COMMITTED, DIM, FAINT, INK, PAST, SERVED, SMALL, TEXT, WRONG
 from .view import round_step
 
+HALO = dict(stroke='white', stroke_width=3, paint_order='stroke')     # keeps words readable where a line runs through them
+
 
 def shade(plan, view, canvas, top, bottom):
     """The past and what is committed, behind everything else."""
@@ -13,21 +15,28 @@ def shade(plan, view, canvas, top, bottom):
         canvas.rect(view.x(now), top, view.x(committed) - view.x(now), bottom - top, COMMITTED)
 
 
-def draw_axis(view, canvas, y, top, bottom):
-    """Lines at round moments, or at round clock times, with their labels."""
+def round_moments(view):
+    """The moments that have a line and a label, and whether their clock times need seconds."""
     wanted = (view.right - view.left) / 80
-    seconds = False
     if view.clock:
-        moments, seconds = view.clock.ticks(view.first, view.last, wanted)
-    else:
-        step = round_step(view.last - view.first, wanted)
-        moments = range(-(-view.first // step) * step, view.last + 1, step)
+        return view.clock.ticks(view.first, view.last, wanted)
+    step = round_step(view.last - view.first, wanted)
+    return range(-(-view.first // step) * step, view.last + 1, step), False
+
+
+def draw_axis(view, canvas, top, bottom):
+    """Lines at round moments, or at round clock times."""
+    for moment in round_moments(view)[0]:
+        canvas.line(view.x(moment), top - 4, view.x(moment), bottom, FAINT, 0.7)
+
+
+def draw_labels(view, canvas, top):
+    """The labels of these lines."""
+    moments, seconds = round_moments(view)
     for moment in moments:
-        x = view.x(moment)
-        canvas.line(x, top - 4, x, bottom, FAINT, 0.7)
-        canvas.text(x, top - 8, '%d' % moment, SMALL, DIM, 'middle')
+        canvas.text(view.x(moment), top - 8, '%d' % moment, SMALL, DIM, 'middle', **HALO)
         if view.clock:
-            canvas.text(x, top - 19, view.clock.label(moment, seconds), TEXT, INK, 'middle')
+            canvas.text(view.x(moment), top - 19, view.clock.label(moment, seconds), TEXT, INK, 'middle', **HALO)
 
 
 def draw_moments(plan, view, canvas, y, bottom):
@@ -50,4 +59,4 @@ def flag(view, canvas, moment, words, colour, ends, row, at_left, dash=None):
     """A line down the picture at a moment, with words beside its top, in the first or second row above the axis."""
     x, (y, bottom) = view.x(moment), ends
     canvas.line(x, y + 14 + 13 * row, x, bottom, colour, 1.7, dash)
-    canvas.text(x - 4 if at_left else x + 4, y + 11 + 13 * row, words, TEXT, colour, 'end' if at_left else None, font_weight='bold')
+    canvas.text(x - 4 if at_left else x + 4, y + 11 + 13 * row, words, TEXT, colour, 'end' if at_left else None, font_weight='bold', **HALO)

@@ -1,6 +1,6 @@
 """One picture of a plan."""
 from .activities import activity_lanes
-from .axis import draw_axis, draw_moments, shade
+from .axis import draw_axis, draw_labels, draw_moments, shade
 from .canvas import Canvas, width_of
 from .goals import goal_lane, state_of
 from .legend import draw_legend
@@ -45,12 +45,13 @@ def picture(plan, view):
     top = HEAD + AXIS + (CLOCK if view.clock else 0)
     bottom = top + sum(lane.height + 3 for lane in lanes)
     shade(plan, view, canvas, top, bottom)
-    draw_axis(view, canvas, HEAD, top, bottom)
+    draw_axis(view, canvas, top, bottom)
     y = top
     for lane in lanes:
         draw_lane(view, canvas, lane, y)
         y += lane.height + 3
     draw_moments(plan, view, canvas, HEAD, bottom)
+    draw_labels(view, canvas, top)
     sentences, height = conflict_sentences(plan, view)
     place(canvas, sentences, bottom + 6)
     legend, legend_height = draw_legend(view)
