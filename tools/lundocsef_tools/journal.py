@@ -3,6 +3,7 @@ from dataclasses import dataclass
 from typing import NamedTuple, Optional, Sequence
 
 from .failure import Failure
+from .readable import readable
 
 CODES = ('open-goal off-goal late unset bad-value undetailed overrun temporal link over low high must bad-step').split()
 CODE_ORDER = {code: number for number, code in enumerate(CODES)}
@@ -49,7 +50,7 @@ def read_entry(line):
     try:
         return parse(line)
     except (IndexError, ValueError, TypeError, KeyError):
-        raise Failure('this is no line of a journal: %s' % line[:120])
+        raise Failure('this is no line of a journal: %s' % readable(line[:120]))
 
 
 def parse(line):

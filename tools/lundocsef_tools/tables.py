@@ -36,7 +36,7 @@ class Row:
         text = self.get(name)
         if not text:
             return default
-        if not text.isdigit():
+        if not (text.isascii() and text.isdigit()):
             raise Failure('%s: %s is %s, and has to be a number' % (self.place, name, text))
         return int(text)
 
