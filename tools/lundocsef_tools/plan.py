@@ -83,6 +83,8 @@ def load_plan(paths, given_program=None, entry=None):
     """The plan behind a journal, or behind one of its entries, checked by the program."""
     source = read_source(paths)
     if entry is not None:
+        if source.lines and not 0 <= entry < len(source.lines):
+            raise Failure('%s has the entries 0 to %d, and no entry %d' % (source.name, len(source.lines) - 1, entry))
         source.lines = source.lines[:entry + 1]
     path = program.find_program(given_program)
     with ThreadPoolExecutor(max_workers=1) as pool:

@@ -112,7 +112,7 @@ class Requests:
             param = kind.param(name)
             if param is None or param.formula is not None:
                 raise Failure('%s: %s has no parameter %s that can be set' % (row.place, kind.name, name))
-            if not cell.isdigit() or not param.low <= int(cell) <= param.high:
+            if not (cell.isascii() and cell.isdigit()) or not param.low <= int(cell) <= param.high:
                 raise Failure('%s: %s is %s, and has to be from %d to %d' % (row.place, name, cell, param.low, param.high))
             found[name] = int(cell)
         return {param.name: found[param.name] for param in kind.params if param.name in found}

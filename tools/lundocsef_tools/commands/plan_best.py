@@ -47,7 +47,7 @@ def numbers(text):
     found = []
     for part in text.split(','):
         low, dash, high = part.partition('-')
-        if not low.isdigit() or (dash and not high.isdigit()):
+        if not low.isdigit() or (dash and not (high.isdigit() and int(low) <= int(high))):
             raise argparse.ArgumentTypeError('%s is no list of numbers' % text)
         found += range(int(low), int(high or low) + 1)
     return found
