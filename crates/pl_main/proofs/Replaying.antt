@@ -33,7 +33,7 @@ use Rattle.pl_input.specs.Places.{Place, place_of}
 use Rattle.pl_main.specs.Runs.{AcceptsKept, IsKeptModel, TextFails}
 use Rattle.pl_main.specs.Top.{total_limit, fresh_reader, no_begin_line, ShowsNoLine, ShowsLimit, IsNoModel, faulty}
 use Rattle.pl_main.specs.Replays.{journal_line_limit, state_of, text_of_form, HasTaken, IsRightJournal, IsWrong, no_entry, wrong_last, IsWrongJournal, IsRightSoFar, IsJournalShort, of_right, of_wrong, of_refusal, ReadsBack, ReadsBackKnown, WritesAs, WritesJudged, RightBehind, WrongBehind, ShortBehind, right_cut, wrong_cut, ModelReads, TextCut, journal_cut, refusal_cut, TextReads}
-use Rattle.pl_main.proofs.Ending.{begins_at, begins_nowhere, shows_none, shows_limit, head_stopped, fresh_begun, fresh_nowhere, fresh_halts}
+use Rattle.pl_main.proofs.Heading.{begins_at, begins_nowhere, shows_none, shows_limit, head_stopped, fresh_begun, fresh_nowhere, fresh_halts}
 
 -- ---- what is written
 
