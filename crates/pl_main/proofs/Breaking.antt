@@ -17,14 +17,14 @@ use Rattle.pl_driver.specs.Rounds.{SameRun}
 use Rattle.pl_journal.specs.Rendering.Lines.{line_of, text_from, text_of_log}
 use Rattle.pl_check.specs.Accepting.{IsModelText}
 use Rattle.pl_input.specs.declared.halt.Halt.TheVariants as halt
-use Rattle.pl_input.specs.Reads.{Gave}
+use Rattle.pl_input.specs.Reads.{GivesLines}
 use Rattle.pl_input.specs.Heads.{IsHead, IsBegun}
 use Rattle.pl_driver.specs.CutShort.{IsCutShort, opens, answers}
 use Rattle.pl_journal.specs.Written.{Adds}
-use Rattle.pl_main.specs.Tells.{Told, ToldInPart}
+use Rattle.pl_main.specs.Tells.{AnswersMessage, AnswersMessageInPart}
 use Rattle.pl_input.specs.Places.{Place}
 use Rattle.pl_input.specs.Waits.{line_in}
-use Rattle.pl_main.specs.Plays.{Plays, unread, unheard, unwritten, StepLacks, PlaysInPart}
+use Rattle.pl_main.specs.Plays.{AnswersMessages, unread, unheard, unwritten, LacksMemoryForNext, AnswersAllInPart}
 use Rattle.pl_main.specs.Runs.{fresh_state, unopened, in_opening, in_play, IsKeptModel, ModelBreaks, ModelRuns}
 use Rattle.pl_main.specs.Top.{program_options, line_limit, total_limit, fresh_reader, HasRead, WasGiven}
 use Rattle.pl_input.proofs.Reading.{gave_append, gave_lines, known}
@@ -47,7 +47,7 @@ opened_solo : (turns : ℕ) (m : Model) → Solo m (opening (program_options tur
 unfolding Solo
 opened_solo turns m = tt
 
-abbrev opened_run : (turns : ℕ) (input words rest : List ℕ) (heads : List (List ℕ)) (room : ℕ) (m : Model) → IsHead heads words → Gave line_limit total_limit input heads room rest → IsModelText words m
+abbrev opened_run : (turns : ℕ) (input words rest : List ℕ) (heads : List (List ℕ)) (room : ℕ) (m : Model) → IsHead heads words → GivesLines line_limit total_limit input heads room rest → IsModelText words m
     → Legal m (opening (program_options turns) ∷ []) → HasBegun (solo_run turns) input
 opened_run turns input words rest heads room m head gave accepted legal = record {
   model = m;
@@ -70,8 +70,8 @@ record HasWaited (turns : ℕ) (input : List ℕ) (held now : Option (List ℕ))
   written : Adds held now (text_of_log run.model run.log)
 
 waited : (turns : ℕ) (input words heads_rest : List ℕ) (heads : List (List ℕ)) (m : Model) (start middle : Place) (held opened written : Option (List ℕ)) (mid : State)
-    → IsHead heads words → Gave line_limit total_limit input heads start.reader.room heads_rest → start.ahead ≡ Some heads_rest → BeginsAt start → IsModelText words m
-    → Adds held opened (text_from m 0 (opening (program_options turns) ∷ [])) → Plays (fresh_state turns m) start opened mid middle written → Legal mid.model mid.log → HasWaited turns input held written
+    → IsHead heads words → GivesLines line_limit total_limit input heads start.reader.room heads_rest → start.ahead ≡ Some heads_rest → BeginsAt start → IsModelText words m
+    → Adds held opened (text_from m 0 (opening (program_options turns) ∷ [])) → AnswersMessages (fresh_state turns m) start opened mid middle written → Legal mid.model mid.log → HasWaited turns input held written
 waited turns input words heads_rest heads m start middle held opened written mid head gave is_ahead begins accepted first plays legal =
     let k = known start.reader.limit start.reader.room line_limit start.reader.room start.ahead heads_rest plays.lines middle.reader.room middle.ahead begins.limit refl is_ahead plays.took.gave in
     let split = split_is input heads words (lines_of heads_rest) head (gave_lines line_limit total_limit input heads start.reader.room heads_rest gave) in
@@ -113,7 +113,7 @@ record Added (mid new : State) (input : Message) : Type 0 where
   same : SameRun mid new
   inputs : inputs_of entries ≡ input ∷ []
 
-added : (mid new : State) (input : Message) → Told mid input new ⊎ ToldInPart mid input new → Added mid new input
+added : (mid new : State) (input : Message) → AnswersMessage mid input new ⊎ AnswersMessageInPart mid input new → Added mid new input
 added mid new input (inl told) = record { entries = told.entries; log = told.log; solo = told.solo; world = told.world; same = told.same; inputs = told.inputs }
 added mid new input (inr told) = record { entries = told.entries; log = told.log; solo = told.solo; world = told.world; same = told.same; inputs = told.inputs }
 
@@ -141,7 +141,7 @@ record HasBroken (turns : ℕ) (input : List ℕ) (source_left held now : Option
   cut : IsCutShort run.model run.log held now
 
 -- All entries before a message were written, and a front of the lines of those that the message brought.
-cut_in_round : (turns : ℕ) (m : Model) (start place : Place) (held opened now : Option (List ℕ)) (new : State) (plays : PlaysInPart (fresh_state turns m) start opened new place now) (last : Added plays.waiting new (line_in plays.step.message))
+cut_in_round : (turns : ℕ) (m : Model) (start place : Place) (held opened now : Option (List ℕ)) (new : State) (plays : AnswersAllInPart (fresh_state turns m) start opened new place now) (last : Added plays.waiting new (line_in plays.step.message))
     → Adds held opened (text_from m 0 (opening (program_options turns) ∷ [])) → IsCutShort m (opening (program_options turns) ∷ (plays.plays.entries ++ last.entries)) held now
 unfolding world_of
 cut_in_round turns m start place held opened now new plays last first =
@@ -162,8 +162,8 @@ cut_in_round turns m start place held opened now new plays last first =
     }
 
 broken : (turns : ℕ) (input words heads_rest : List ℕ) (heads : List (List ℕ)) (m : Model) (start place : Place) (source_left held opened now : Option (List ℕ)) (new : State)
-    → IsHead heads words → Gave line_limit total_limit input heads start.reader.room heads_rest → start.ahead ≡ Some heads_rest → BeginsAt start → IsModelText words m
-    → Adds held opened (text_from m 0 (opening (program_options turns) ∷ [])) → PlaysInPart (fresh_state turns m) start opened new place now → Legal new.model new.log → ahead place.reader.held source_left ≡ place.ahead → HasBroken turns input source_left held now
+    → IsHead heads words → GivesLines line_limit total_limit input heads start.reader.room heads_rest → start.ahead ≡ Some heads_rest → BeginsAt start → IsModelText words m
+    → Adds held opened (text_from m 0 (opening (program_options turns) ∷ [])) → AnswersAllInPart (fresh_state turns m) start opened new place now → Legal new.model new.log → ahead place.reader.held source_left ≡ place.ahead → HasBroken turns input source_left held now
 broken turns input words heads_rest heads m start place source_left held opened now new head gave is_ahead begins accepted first plays legal behind =
     let so_far = plays.plays in
     let next = line_in plays.step.message in
@@ -208,13 +208,13 @@ opened_read kept start place input source_left begun same behind =
     head_read input begun.words source_left (begins_at line_limit kept start.reader input start.ahead source_left begun (subst (λ (p : Place). ahead p.reader.held source_left ≡ p.ahead) same behind))
 
 run_waited : (turns : ℕ) (kept : Option (Vec ℕ Global)) (start middle : Place) (input : List ℕ) (held opened written : Option (List ℕ)) (m : Model) (mid : State) → IsBegun (fresh_reader line_limit) (Some input) kept start.reader start.ahead → IsKeptModel kept m
-    → Adds held opened (text_from m 0 (opening (program_options turns) ∷ [])) → Plays (fresh_state turns m) start opened mid middle written → Legal mid.model mid.log → HasWaited turns input held written
+    → Adds held opened (text_from m 0 (opening (program_options turns) ∷ [])) → AnswersMessages (fresh_state turns m) start opened mid middle written → Legal mid.model mid.log → HasWaited turns input held written
 run_waited turns kept start middle input held opened written m mid begun text first plays legal =
     let k = known line_limit total_limit line_limit total_limit (Some input) input begun.lines start.reader.room start.ahead refl refl refl begun.took.gave in
     waited turns input begun.words k.rest begun.lines m start middle held opened written mid begun.head k.gave k.is (behind_text kept start (Some input) begun) (text begun.words begun.keeps) first plays legal
 
 run_broken : (turns : ℕ) (kept : Option (Vec ℕ Global)) (start place : Place) (input : List ℕ) (source_left held opened now : Option (List ℕ)) (m : Model) (new : State) → IsBegun (fresh_reader line_limit) (Some input) kept start.reader start.ahead → IsKeptModel kept m
-    → Adds held opened (text_from m 0 (opening (program_options turns) ∷ [])) → PlaysInPart (fresh_state turns m) start opened new place now → Legal new.model new.log → ahead place.reader.held source_left ≡ place.ahead → HasBroken turns input source_left held now
+    → Adds held opened (text_from m 0 (opening (program_options turns) ∷ [])) → AnswersAllInPart (fresh_state turns m) start opened new place now → Legal new.model new.log → ahead place.reader.held source_left ≡ place.ahead → HasBroken turns input source_left held now
 run_broken turns kept start place input source_left held opened now m new begun text first plays legal behind =
     let k = known line_limit total_limit line_limit total_limit (Some input) input begun.lines start.reader.room start.ahead refl refl refl begun.took.gave in
     broken turns input begun.words k.rest begun.lines m start place source_left held opened now new begun.head k.gave k.is (behind_text kept start (Some input) begun) (text begun.words begun.keeps) first plays legal behind
@@ -235,7 +235,7 @@ waits_whole turns input source_left held written now waits same =
     behind_entry waits.run (record { given = waits.given; closed = waits.closed }) waits.going (subst (λ (o : Option (List ℕ)). Adds held o (text_of_log waits.run.model waits.run.log)) (sym same) waits.written)
 
 play_lacks : (turns : ℕ) (kept : Option (Vec ℕ Global)) (start place middle : Place) (input : List ℕ) (source_left held opened written now : Option (List ℕ)) (m : Model) (mid new : State) → IsBegun (fresh_reader line_limit) (Some input) kept start.reader start.ahead → IsKeptModel kept m
-    → Adds held opened (text_from m 0 (opening (program_options turns) ∷ [])) → Plays (fresh_state turns m) start opened mid middle written → StepLacks mid middle written new place now → Legal new.model new.log → ahead place.reader.held source_left ≡ place.ahead
+    → Adds held opened (text_from m 0 (opening (program_options turns) ∷ [])) → AnswersMessages (fresh_state turns m) start opened mid middle written → LacksMemoryForNext mid middle written new place now → Legal new.model new.log → ahead place.reader.held source_left ≡ place.ahead
     → IsOutOfMemory (solo_run turns) input source_left held now
 play_lacks turns kept start place middle input source_left held opened written now m mid new begun text first plays (unread same_state same) legal behind =
     waits_whole turns input source_left held written now (run_waited turns kept start middle input held opened written m mid begun text first plays (subst (λ (s : State). Legal s.model s.log) same_state legal)) same

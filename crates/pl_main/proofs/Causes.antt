@@ -14,7 +14,7 @@ use Rattle.pl_machine.specs.Finished.{inputs_of}
 use Rattle.pl_check.specs.Accepting.{IsModelText, IsRefusedAs}
 use Rattle.pl_check.proofs.Apart.{apart, one_model}
 use Rattle.pl_main.specs.declared.command.Task.TheVariants as task
-use Rattle.pl_input.specs.Reads.{Gave}
+use Rattle.pl_input.specs.Reads.{GivesLines}
 use Rattle.pl_input.specs.Stops.{IsStuck}
 use Rattle.pl_main.specs.Top.{line_limit, total_limit, program_options, IsNoModel, no_begin, faulty, IsFound, IsPastHead}
 use Rattle.pl_report.specs.Demonstration.{demo_text}
@@ -45,7 +45,7 @@ no_model_of limit input words m left held now text accepted (faulty others line 
 
 -- ---- the model's text and a limit
 
-pub text_then_limit : (limit : ℕ) (input : List ℕ) (xs ys : Lines) (left1 : ℕ) (rest1 : List ℕ) (left2 : ℕ) (rest2 words : List ℕ) → IsStuck limit left1 rest1 → Gave limit total_limit input xs left1 rest1 → Gave limit total_limit input ys left2 rest2
+pub text_then_limit : (limit : ℕ) (input : List ℕ) (xs ys : Lines) (left1 : ℕ) (rest1 : List ℕ) (left2 : ℕ) (rest2 words : List ℕ) → IsStuck limit left1 rest1 → GivesLines limit total_limit input xs left1 rest1 → GivesLines limit total_limit input ys left2 rest2
     → model_text_of ys ≡ Some words → model_text_of xs ≡ Some words
 text_then_limit limit input xs ys left1 rest1 left2 rest2 words stuck g h text =
     let on = goes_on limit total_limit input xs ys left1 rest1 left2 rest2 stuck g h in
@@ -55,7 +55,7 @@ pub no_text : (xs : Lines) (words : List ℕ) → model_text_of xs ≡ Some word
 no_text xs words some none = (let h : Some words ≡ None = sym some ∙ none in (cc))
 
 -- the reading that a limit stops, while no `begin` was read
-pub head_not_past : (limit : ℕ) (input : List ℕ) (xs : Lines) (room : ℕ) (rest : List ℕ) (left held now : Option (List ℕ)) → IsStuck limit room rest → Gave limit total_limit input xs room rest → model_text_of xs ≡ None → IsNoModel limit input left held now → ⊥
+pub head_not_past : (limit : ℕ) (input : List ℕ) (xs : Lines) (room : ℕ) (rest : List ℕ) (left held now : Option (List ℕ)) → IsStuck limit room rest → GivesLines limit total_limit input xs room rest → model_text_of xs ≡ None → IsNoModel limit input left held now → ⊥
 head_not_past limit input xs room rest left held now stuck gave none (no_begin lines room2 gave2 none2 source adds) =
     all_or_stuck limit xs lines room rest room2 [] (goes_on limit total_limit input xs lines room rest room2 [] stuck gave gave2) refl stuck
 head_not_past limit input xs room rest left held now stuck gave none (faulty words line head refused adds) =
@@ -201,7 +201,7 @@ in_the_middle : (limit : ℕ) (xs ys : Lines) (y : List ℕ) → All (IsShort li
 in_the_middle limit [] ys y all = all 0 [] (omega arith)
 in_the_middle limit (x ∷ xs) ys y all = in_the_middle limit xs ys y (λ k d less. all (suc k) d (omega (arith, less)))
 
-room_left : (limit room : ℕ) (bytes : List ℕ) (lines : Lines) (left : ℕ) (rest : List ℕ) → Gave limit room bytes lines left rest → left + length bytes ≡ room + length rest
+room_left : (limit room : ℕ) (bytes : List ℕ) (lines : Lines) (left : ℕ) (rest : List ℕ) → GivesLines limit room bytes lines left rest → left + length bytes ≡ room + length rest
 room_left limit room bytes [] left rest gave =
     let same : length rest ≡ length bytes = ap (λ (b : List ℕ). length b) gave.1 in
     omega (arith, gave.0, same)
@@ -224,7 +224,7 @@ within_rest limit lines left (b ∷ bs) short room stuck =
     let first : IsShort limit (first_line (b ∷ bs)) = in_the_middle limit lines (lines_of (after_line (b ∷ bs))) (first_line (b ∷ bs)) (subst (λ (ls : Lines). All (IsShort limit) (lines ++ ls)) front short) in
     next_fits limit left (b ∷ bs) (omega arith) room first stuck
 
-pub is_within : (limit : ℕ) (input : List ℕ) (lines : Lines) (left : ℕ) (rest : List ℕ) → IsWithinLimits limit input → Gave limit total_limit input lines left rest → IsStuck limit left rest → ⊥
+pub is_within : (limit : ℕ) (input : List ℕ) (lines : Lines) (left : ℕ) (rest : List ℕ) → IsWithinLimits limit input → GivesLines limit total_limit input lines left rest → IsStuck limit left rest → ⊥
 is_within limit input lines left rest within gave stuck =
     within_rest limit lines left rest (subst (λ (ls : Lines). All (IsShort limit) ls) (gave_lines limit total_limit input lines left rest gave) within.lines)
     (omega (arith, room_left limit total_limit input lines left rest gave, within.total)) stuck

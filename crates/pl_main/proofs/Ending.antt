@@ -18,14 +18,14 @@ use Rattle.pl_journal.specs.Rendering.Lines.{line_of, text_from, text_of_log}
 use Rattle.pl_check.specs.Accepting.{IsModelText}
 use Rattle.pl_input.specs.declared.halt.Halt.{Halt}
 use Rattle.pl_input.specs.declared.halt.Halt.TheVariants as halt
-use Rattle.pl_input.specs.Reads.{Gave}
+use Rattle.pl_input.specs.Reads.{GivesLines}
 use Rattle.pl_input.specs.Stops.{ReadLeaves, LimitLeaves, StopsBy}
 use Rattle.pl_input.specs.Waits.{line_in}
 use Rattle.pl_input.specs.Heads.{IsHead, IsBegun}
 use Rattle.pl_main.specs.Tells.{FillsUp, at_once, within}
 use Rattle.pl_journal.specs.Written.{Adds, WriteStops}
 use Rattle.pl_input.specs.Places.{Place}
-use Rattle.pl_main.specs.Plays.{Plays, EndsAll, PlaysOut, PlayHalts, PlayFills, Playing}
+use Rattle.pl_main.specs.Plays.{AnswersMessages, EndsAll, AnswersAll, AnswersUntilHalt, AnswersUntilFull, AnswersAllOrStops}
 use Rattle.pl_main.specs.Runs.{fresh_state, unopened, in_opening, in_play, ModelRuns, IsKeptModel}
 use Rattle.pl_main.specs.Top.{ShowsNoLine, ShowsLimit, program_options, line_limit, total_limit, fresh_reader, HasRead}
 use Rattle.pl_input.proofs.Reading.{gave_append, gave_lines, known}
@@ -41,7 +41,7 @@ use Rattle.pl_machine.proofs.ShortLogs.{log_is_short}
 -- ---- a run over a model
 
 pub run_stops : (turns : ℕ) (m : Model) (start place : Place) (held opened now : Option (List ℕ)) (e : Halt) (new : State)
-    → Adds held opened (text_from m 0 (opening (program_options turns) ∷ [])) → Playing (fresh_state turns m) start opened (Err e) new place now → Legal new.model new.log → ModelRuns turns m start held (Err e) place now
+    → Adds held opened (text_from m 0 (opening (program_options turns) ∷ [])) → AnswersAllOrStops (fresh_state turns m) start opened (Err e) new place now → Legal new.model new.log → ModelRuns turns m start held (Err e) place now
 run_stops turns m start place held opened now halt.Limit new first playing legal = record { opened = opened; new = new; first = first; playing = playing; legal = legal }
 run_stops turns m start place held opened now halt.Full new first playing legal = record { opened = opened; new = new; first = first; playing = playing; legal = legal }
 run_stops turns m start place held opened now halt.Read new first playing legal = record { opened = opened; new = new; first = first; playing = playing; legal = legal }
@@ -84,8 +84,8 @@ logged turns m new held opened now entries legal same log solo world first text 
 -- ---- how runs end
 
 abbrev pub done_ends : (turns : ℕ) (input words heads_rest : List ℕ) (heads : List (List ℕ)) (m : Model) (start place : Place) (source_left held opened now : Option (List ℕ)) (new : State)
-    → IsHead heads words → Gave line_limit total_limit input heads start.reader.room heads_rest → start.ahead ≡ Some heads_rest → BeginsAt start → IsModelText words m
-    → Adds held opened (text_from m 0 (opening (program_options turns) ∷ [])) → PlaysOut (fresh_state turns m) start opened new place now → Legal new.model new.log → ahead place.reader.held source_left ≡ place.ahead → IsDone (solo_run turns) input source_left held now
+    → IsHead heads words → GivesLines line_limit total_limit input heads start.reader.room heads_rest → start.ahead ≡ Some heads_rest → BeginsAt start → IsModelText words m
+    → Adds held opened (text_from m 0 (opening (program_options turns) ∷ [])) → AnswersAll (fresh_state turns m) start opened new place now → Legal new.model new.log → ahead place.reader.held source_left ≡ place.ahead → IsDone (solo_run turns) input source_left held now
 done_ends turns input words heads_rest heads m start place source_left held opened now new head gave is_ahead begins accepted first plays legal behind =
     let k = known start.reader.limit start.reader.room line_limit start.reader.room start.ahead heads_rest plays.lines place.reader.room place.ahead begins.limit refl is_ahead plays.gave in
     let ends = subst (λ (a : Option (List ℕ)). EndsAll (Some heads_rest) a plays.lines (inputs_of plays.entries)) k.is (subst (λ (b : Option (List ℕ)). EndsAll b place.ahead plays.lines (inputs_of plays.entries)) is_ahead plays.messages) in
@@ -127,7 +127,7 @@ pub record IsStopped (e : Halt) (turns : ℕ) (input : List ℕ) (source_left he
   pub lines : List (List ℕ)
   pub left : ℕ
   pub rest : List ℕ
-  pub gave : Gave line_limit total_limit input lines left rest
+  pub gave : GivesLines line_limit total_limit input lines left rest
   pub why : StopsBy e line_limit left (Some rest)
   pub source : e ≡ halt.Read → ShowsNoLine line_limit left rest source_left
   pub past : e ≡ halt.Limit → ShowsLimit line_limit left rest source_left
@@ -140,8 +140,8 @@ pub read_fault : (turns : ℕ) (input : List ℕ) (source_left held now : Option
 read_fault turns input source_left held now s = record { lines = s.lines; left = s.left; rest = s.rest; gave = s.gave; source = s.source refl; asked = s.asked }
 
 pub stopped_ends : (e : Halt) (turns : ℕ) (input words heads_rest : List ℕ) (heads : List (List ℕ)) (m : Model) (start place : Place) (source_left held opened now : Option (List ℕ)) (new : State)
-    → IsHead heads words → Gave line_limit total_limit input heads start.reader.room heads_rest → start.ahead ≡ Some heads_rest → BeginsAt start → IsModelText words m
-    → Adds held opened (text_from m 0 (opening (program_options turns) ∷ [])) → PlayHalts e (fresh_state turns m) start opened new place now → Legal new.model new.log → ahead place.reader.held source_left ≡ place.ahead → IsStopped e turns input source_left held now
+    → IsHead heads words → GivesLines line_limit total_limit input heads start.reader.room heads_rest → start.ahead ≡ Some heads_rest → BeginsAt start → IsModelText words m
+    → Adds held opened (text_from m 0 (opening (program_options turns) ∷ [])) → AnswersUntilHalt e (fresh_state turns m) start opened new place now → Legal new.model new.log → ahead place.reader.held source_left ≡ place.ahead → IsStopped e turns input source_left held now
 stopped_ends e turns input words heads_rest heads m start place source_left held opened now new head gave is_ahead begins accepted first plays legal behind =
     let k = known start.reader.limit start.reader.room line_limit start.reader.room start.ahead heads_rest plays.lines plays.left plays.rest begins.limit refl is_ahead plays.gave in
     let both = head_then heads words plays.lines head in
@@ -187,7 +187,7 @@ record IsFilled (turns : ℕ) (m : Model) (new : State) (opened now : Option (Li
   due : ((new.world.closed ≡ false) × (inputs_of entries ≡ before ++ next ∷ [])) ⊎ ((new.world.closed ≡ true) × (inputs_of entries ≡ before))
 
 filled : (turns : ℕ) (m : Model) (start place behind : Place) (opened written now : Option (List ℕ)) (mid new : State) (input : Option (List ℕ))
-    → (plays : Plays (fresh_state turns m) start opened mid place written) → FillsUp mid input new → Adds written now (text_from mid.model (length mid.log) (drop (length mid.log) new.log)) → IsFilled turns m new opened now (inputs_of plays.entries) input
+    → (plays : AnswersMessages (fresh_state turns m) start opened mid place written) → FillsUp mid input new → Adds written now (text_from mid.model (length mid.log) (drop (length mid.log) new.log)) → IsFilled turns m new opened now (inputs_of plays.entries) input
 filled turns m start place behind opened written now mid new input plays (at_once full is) text =
     let j = joined (fresh_state turns m) mid new opened written now plays.entries [] plays.log plays.solo plays.world plays.same plays.written
     (ap (λ (s : State). s.log) is ∙ sym (append-nil mid.log)) tt (ap (λ (s : State). s.world) is)
@@ -229,7 +229,7 @@ record LeavesMore (m : Model) (log : List Entry) (words input : List ℕ) (sourc
   due : (((world_of m log).closed ≡ false) × (pending ≡ [])) ⊎ (((world_of m log).closed ≡ true) × ((message : Option (List ℕ)) × ((pending ≡ message ∷ []) × ((others : List (Option (List ℕ))) × (unanswered ≡ message ∷ others)))))
 
 leaves_more : (m : Model) (log : List Entry) (input : List ℕ) (heads lines : List (List ℕ)) (words : List ℕ) (room mid : ℕ) (heads_rest bytes : List ℕ) (before : List (Option (List ℕ))) (next : Option (List ℕ)) (place : Place) (source_left : Option (List ℕ))
-    → IsHead heads words → Gave line_limit total_limit input heads room heads_rest → Gave line_limit room heads_rest lines mid bytes → messages_of lines ≡ before ++ None ∷ [] → GotNext next mid bytes place
+    → IsHead heads words → GivesLines line_limit total_limit input heads room heads_rest → GivesLines line_limit room heads_rest lines mid bytes → messages_of lines ≡ before ++ None ∷ [] → GotNext next mid bytes place
     → ahead place.reader.held source_left ≡ place.ahead → (((world_of m log).closed ≡ false) × (inputs_of log ≡ before ++ next ∷ [])) ⊎ (((world_of m log).closed ≡ true) × (inputs_of log ≡ before)) → LeavesMore m log words input source_left
 leaves_more m log input heads lines words room mid heads_rest bytes before next place source_left head gave gave2 so_far got behind due = by_due due
   where
@@ -256,8 +256,8 @@ leaves_more m log input heads lines words room mid heads_rest bytes before next 
     }
 
 pub full_ends : (turns : ℕ) (input words heads_rest : List ℕ) (heads : List (List ℕ)) (m : Model) (start place : Place) (source_left held opened now : Option (List ℕ)) (new : State)
-    → IsHead heads words → Gave line_limit total_limit input heads start.reader.room heads_rest → start.ahead ≡ Some heads_rest → BeginsAt start → IsModelText words m
-    → Adds held opened (text_from m 0 (opening (program_options turns) ∷ [])) → PlayFills (fresh_state turns m) start opened new place now → Legal new.model new.log → ahead place.reader.held source_left ≡ place.ahead → IsFull (solo_run turns) input source_left held now
+    → IsHead heads words → GivesLines line_limit total_limit input heads start.reader.room heads_rest → start.ahead ≡ Some heads_rest → BeginsAt start → IsModelText words m
+    → Adds held opened (text_from m 0 (opening (program_options turns) ∷ [])) → AnswersUntilFull (fresh_state turns m) start opened new place now → Legal new.model new.log → ahead place.reader.held source_left ≡ place.ahead → IsFull (solo_run turns) input source_left held now
 full_ends turns input words heads_rest heads m start place source_left held opened now new head gave is_ahead begins accepted first plays legal behind =
     let f = filled turns m start plays.middle place opened plays.written now plays.waiting new (line_in plays.step.message) plays.plays plays.step.fills plays.step.written in
     let split = split_is input heads words (lines_of heads_rest) head (gave_lines line_limit total_limit input heads start.reader.room heads_rest gave) in
@@ -291,7 +291,7 @@ pub record IsDoneWith (turns : ℕ) (input : List ℕ) (source_left : Option (Li
   pub world : new.world ≡ world_of done.model done.log
 
 pub done_with : (turns : ℕ) (kept : Option (Vec ℕ Global)) (start place : Place) (input : List ℕ) (source_left : Option (List ℕ)) (m : Model) (new : State)
-    → IsBegun (fresh_reader line_limit) (Some input) kept start.reader start.ahead → IsKeptModel kept m → PlaysOut (fresh_state turns m) start None new place None → Legal new.model new.log → ahead place.reader.held source_left ≡ place.ahead
+    → IsBegun (fresh_reader line_limit) (Some input) kept start.reader start.ahead → IsKeptModel kept m → AnswersAll (fresh_state turns m) start None new place None → Legal new.model new.log → ahead place.reader.held source_left ≡ place.ahead
     → IsDoneWith turns input source_left new
 done_with turns kept start place input source_left m new begun text plays legal behind =
     let k = known line_limit total_limit line_limit total_limit (Some input) input begun.lines start.reader.room start.ahead refl refl refl begun.took.gave in

@@ -9,7 +9,7 @@ use Rattle.pl_io.specs.Reader.{Reader}
 use Rattle.pl_input.specs.Words.{model_text_of, lines_behind, messages_of, split_of}
 use Rattle.pl_input.specs.declared.halt.Halt.{Halt}
 use Rattle.pl_input.specs.declared.halt.Halt.TheVariants as halt
-use Rattle.pl_input.specs.Reads.{Gave}
+use Rattle.pl_input.specs.Reads.{GivesLines}
 use Rattle.pl_input.specs.Stops.{HaltFor, ReadLeaves, LimitLeaves, StopsBy}
 use Rattle.pl_input.specs.Heads.{IsHead, IsBegun, HasNoBegin, HeadHalts}
 use Rattle.pl_journal.specs.Written.{Adds}
@@ -65,7 +65,7 @@ pub begins_nowhere : (limit : ℕ) (new : Reader) (input : List ℕ) (after sour
 begins_nowhere limit new input after source_left held now head behind adds =
     let k = known limit total_limit limit total_limit (Some input) input head.lines new.room after refl refl refl head.took.gave in
     let none : k.rest ≡ [] = (let h : Some k.rest ≡ Some [] = sym k.is ∙ head.used_up in (cc)) in
-    no_begin head.lines new.room (subst (λ (r : List ℕ). Gave limit total_limit input head.lines new.room r) none k.gave) (ap model_text_of (gave_lines limit total_limit input head.lines new.room k.rest k.gave ∙ ap (λ (r : List ℕ). head.lines ++ lines_of r) none ∙ append-nil head.lines) ∙ head.none)
+    no_begin head.lines new.room (subst (λ (r : List ℕ). GivesLines limit total_limit input head.lines new.room r) none k.gave) (ap model_text_of (gave_lines limit total_limit input head.lines new.room k.rest k.gave ∙ ap (λ (r : List ℕ). head.lines ++ lines_of r) none ∙ append-nil head.lines) ∙ head.none)
     record { came = new.held; few = head.took.few (omega arith); behind = behind ∙ head.used_up } adds
 
 -- ---- the end of a run that stops before `begin`
@@ -75,7 +75,7 @@ pub record IsHeadStopped (e : Halt) (limit : ℕ) (input : List ℕ) (source_lef
   pub lines : List (List ℕ)
   pub left : ℕ
   pub rest : List ℕ
-  pub gave : Gave limit total_limit input lines left rest
+  pub gave : GivesLines limit total_limit input lines left rest
   pub why : StopsBy e limit left (Some rest)
   pub source : e ≡ halt.Read → ShowsNoLine limit left rest source_left
   pub past : e ≡ halt.Limit → ShowsLimit limit left rest source_left

@@ -7,7 +7,7 @@ use Rattle.pl_io.specs.Lines.{ahead, lines_of}
 use Rattle.pl_io.specs.Reader.{NumberedLine}
 use Rattle.pl_io.specs.Sparing.{read_size}
 use Rattle.pl_input.specs.Words.{is_blank_line, is_line_of, end_word, messages_of, split_of}
-use Rattle.pl_input.specs.Reads.{Gave, IsUsedUp, AreBlank}
+use Rattle.pl_input.specs.Reads.{GivesLines, IsUsedUp, AreBlank}
 use Rattle.pl_input.specs.Waits.{MessageGives, line_in}
 use Rattle.pl_input.specs.Heads.{IsHead, IsBegun}
 use Rattle.pl_input.specs.Places.{Place}
@@ -119,7 +119,7 @@ pub record GotNext (next : Option (List ℕ)) (room : ℕ) (bytes : List ℕ) (b
   pub lines : List (List ℕ)
   pub left : ℕ
   pub rest : List ℕ
-  pub gave : Gave line_limit room bytes lines left rest
+  pub gave : GivesLines line_limit room bytes lines left rest
   pub read : BeginsAlone next (messages_of lines)
   pub all : BeginsWith next (messages_of (lines ++ lines_of rest))
   pub used_up : next ≡ None → rest ≡ []
@@ -165,7 +165,7 @@ got_next before behind bytes None starts is_ahead gets =
 
 -- the lines with a next message behind those that were played
 pub has_read : (input words : List ℕ) (heads lines : List (List ℕ)) (room mid : ℕ) (heads_rest bytes : List ℕ) (before : List (Option (List ℕ))) (next : Option (List ℕ)) (place : Place) (source_left : Option (List ℕ))
-    → IsHead heads words → Gave line_limit total_limit input heads room heads_rest → Gave line_limit room heads_rest lines mid bytes → messages_of lines ≡ before ++ None ∷ [] → GotNext next mid bytes place
+    → IsHead heads words → GivesLines line_limit total_limit input heads room heads_rest → GivesLines line_limit room heads_rest lines mid bytes → messages_of lines ≡ before ++ None ∷ [] → GotNext next mid bytes place
     → ahead place.reader.held source_left ≡ place.ahead → HasRead words (before ++ next ∷ []) input source_left
 has_read input words heads lines room mid heads_rest bytes before next place source_left head gave gave2 so_far got behind =
     let both = head_then heads words (lines ++ got.lines) head in
@@ -189,7 +189,7 @@ has_read input words heads lines room mid heads_rest bytes before next place sou
 
 -- all messages of the input, where these lines of it were played and the next message was found behind them
 pub all_messages : (input words : List ℕ) (heads lines : List (List ℕ)) (room mid : ℕ) (heads_rest bytes : List ℕ) (before : List (Option (List ℕ))) (next : Option (List ℕ)) (place : Place)
-    → IsHead heads words → Gave line_limit total_limit input heads room heads_rest → Gave line_limit room heads_rest lines mid bytes → messages_of lines ≡ before ++ None ∷ [] → (got : GotNext next mid bytes place)
+    → IsHead heads words → GivesLines line_limit total_limit input heads room heads_rest → GivesLines line_limit room heads_rest lines mid bytes → messages_of lines ≡ before ++ None ∷ [] → (got : GotNext next mid bytes place)
     → (split_of input).messages ≡ before ++ next ∷ got.all.more
 all_messages input words heads lines room mid heads_rest bytes before next place head gave gave2 so_far got =
     (split_is input heads words (lines_of heads_rest) head (gave_lines line_limit total_limit input heads room heads_rest gave)).messages

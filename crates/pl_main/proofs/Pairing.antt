@@ -18,7 +18,7 @@ use Rattle.pl_check.specs.Accepting.{IsModelText}
 use Rattle.pl_input.specs.declared.halt.Halt.{Halt}
 use Rattle.pl_input.specs.declared.halt.Halt.TheVariants as halt
 use Rattle.pl_input.specs.Heads.{IsBegun}
-use Rattle.pl_input.specs.Reads.{Gave, IsUsedUp, StopsAt}
+use Rattle.pl_input.specs.Reads.{GivesLines, IsUsedUp, StopsAt}
 use Rattle.pl_input.specs.Stops.{HaltFor, IsStuck, ReadLeaves, LimitLeaves}
 use Rattle.pl_driver.specs.CutShort.{IsCutShort}
 use Rattle.pl_input.proofs.Reading.{known, gave_append, gave_lines}
@@ -57,7 +57,7 @@ record IsBehind (input words : List ℕ) (place : Place) : Type 0 where
   limit : place.reader.limit ≡ line_limit
   few : length place.reader.held < read_size
   working : place.reader.failed ≡ None
-  gave : Gave line_limit total_limit input heads place.reader.room rest
+  gave : GivesLines line_limit total_limit input heads place.reader.room rest
   is : place.ahead ≡ Some rest
   text : (split_of input).text ≡ Some words
   messages : (split_of input).messages ≡ messages_of (lines_of rest)
@@ -164,7 +164,7 @@ record IsStopped (e : Halt) (turns seed : ℕ) (input : List ℕ) (source_left h
   lines : List (List ℕ)
   left : ℕ
   rest : List ℕ
-  gave : Gave line_limit total_limit input lines left rest
+  gave : GivesLines line_limit total_limit input lines left rest
   why : e ≡ halt.Limit → IsStuck line_limit left rest
   source : e ≡ halt.Read → ShowsNoLine line_limit left rest source_left
   past : e ≡ halt.Limit → ShowsLimit line_limit left rest source_left

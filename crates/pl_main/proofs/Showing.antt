@@ -29,7 +29,7 @@ use Rattle.pl_main.specs.declared.outcome.Outcome.TheVariants as outcome
 use Rattle.pl_input.specs.Stops.{HaltFor}
 use Rattle.pl_input.specs.Heads.{IsBegun, HasNoBegin, HeadHalts}
 use Rattle.pl_input.specs.Places.{Place, place_of}
-use Rattle.pl_main.specs.Plays.{Playing}
+use Rattle.pl_main.specs.Plays.{AnswersAllOrStops}
 use Rattle.pl_main.specs.Runs.{fresh_state, AcceptsKept, IsKeptModel, ModelRuns}
 use Rattle.pl_main.specs.Top.{line_limit, fresh_reader, no_begin_line}
 use Rattle.pl_main.specs.Limits.{IsWithinLimits}
@@ -58,7 +58,7 @@ never_rose rose = omega (arith, rose)
 -- ---- a demonstration over a model
 
 stopped_out : (m : Model) (start place : Place) (e : Halt) (new : State)
-    → Playing (fresh_state demo_turns m) start None (Err e) new place None → Legal new.model new.log → (e ≡ halt.Read → ⊥) → (e ≡ halt.Write → ⊥) → DemoPlays m start (Err e) place
+    → AnswersAllOrStops (fresh_state demo_turns m) start None (Err e) new place None → Legal new.model new.log → (e ≡ halt.Read → ⊥) → (e ≡ halt.Write → ⊥) → DemoPlays m start (Err e) place
 stopped_out m start place halt.Limit new playing legal no_read no_write = record { opened = None; new = new; first = tt; playing = playing; legal = legal }
 stopped_out m start place halt.Full new playing legal no_read no_write = record { opened = None; new = new; first = tt; playing = playing; legal = legal }
 stopped_out m start place halt.Read new playing legal no_read no_write = absurd (no_read refl)
@@ -66,9 +66,9 @@ stopped_out m start place halt.Write new playing legal no_read no_write = absurd
 stopped_out m start place halt.Memory new playing legal no_read no_write = tt
 
 pub out_stops : (m : Model) (start place : Place) (r : Result (Unit {0}) Halt) (e : Halt) (new : State) → r ≡ Err e
-    → Playing (fresh_state demo_turns m) start None r new place None → Legal new.model new.log → (r ≡ Err halt.Read → Rose 0 0) → (r ≡ Err halt.Write → Rose 0 0) → DemoPlays m start (Err e) place
+    → AnswersAllOrStops (fresh_state demo_turns m) start None r new place None → Legal new.model new.log → (r ≡ Err halt.Read → Rose 0 0) → (r ≡ Err halt.Write → Rose 0 0) → DemoPlays m start (Err e) place
 out_stops m start place r e new is playing legal reads writes =
-    stopped_out m start place e new (subst (λ (x : Result (Unit {0}) Halt). Playing (fresh_state demo_turns m) start None x new place None) is playing) legal
+    stopped_out m start place e new (subst (λ (x : Result (Unit {0}) Halt). AnswersAllOrStops (fresh_state demo_turns m) start None x new place None) is playing) legal
     (λ same. never_rose (reads (is ∙ ap (λ (x : Halt). Err x) same))) (λ same. never_rose (writes (is ∙ ap (λ (x : Halt). Err x) same)))
 
 model_stopped : (goals : ℕ) (m : Model) (start place : Place) (held : Option (List ℕ)) (e : Halt) → DemoPlays m start (Err e) place → ModelShows goals m start held (Err e) place held

@@ -17,7 +17,7 @@ use Rattle.pl_main.specs.declared.outcome.Outcome.{Outcome}
 use Rattle.pl_main.specs.declared.outcome.Outcome.TheVariants as outcome
 use Rattle.pl_input.specs.Heads.{Keeps}
 use Rattle.pl_input.specs.Places.{Place}
-use Rattle.pl_main.specs.Plays.{PlaysOut}
+use Rattle.pl_main.specs.Plays.{AnswersAll}
 use Rattle.pl_main.specs.Runs.{fresh_state, ModelRun, IsKeptModel}
 use Rattle.pl_main.specs.Endings.{IsDone, IsFull}
 use Rattle.pl_main.specs.RunKinds.{solo_run}
@@ -76,7 +76,7 @@ pub record KeepsModel (kept : Option (Vec ℕ Global)) : Type 0 where
 
 -- All messages were answered, by a journal that nobody reads.
 pub record IsPlayed (model : Model) (start : Place) (new : State) (place : Place) : Type 0 where
-  pub plays : PlaysOut (fresh_state demo_turns model) start None new place None
+  pub plays : AnswersAll (fresh_state demo_turns model) start None new place None
   pub legal : Legal new.model new.log
 
 abbrev pub DemoPlays : Model → Place → Result State Halt → Place → Type 0

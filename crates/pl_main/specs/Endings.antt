@@ -12,7 +12,7 @@ use Rattle.pl_input.specs.declared.halt.Halt.{Halt}
 use Rattle.pl_input.specs.declared.halt.Halt.TheVariants as halt
 use Rattle.pl_main.specs.declared.outcome.Outcome.{Outcome}
 use Rattle.pl_main.specs.declared.outcome.Outcome.TheVariants as outcome
-use Rattle.pl_input.specs.Reads.{Gave}
+use Rattle.pl_input.specs.Reads.{GivesLines}
 use Rattle.pl_input.specs.Stops.{IsStuck}
 use Rattle.pl_driver.specs.CutShort.{IsCutShort}
 use Rattle.pl_journal.specs.Written.{Adds}
@@ -57,7 +57,7 @@ pub record IsPastLimit (kind : RunKind) (input : List ℕ) (source_left held now
   pub lines : List (List ℕ)
   pub left : ℕ
   pub rest : List ℕ
-  pub gave : Gave line_limit total_limit input lines left rest
+  pub gave : GivesLines line_limit total_limit input lines left rest
   pub why : IsStuck line_limit left rest
   pub source : ShowsLimit line_limit left rest source_left
   pub asked : ((model_text_of lines ≡ None) × (now ≡ held)) ⊎ WaitsBehind kind lines held now
@@ -68,7 +68,7 @@ pub record IsReadFault (kind : RunKind) (input : List ℕ) (source_left held now
   pub lines : List (List ℕ)
   pub left : ℕ
   pub rest : List ℕ
-  pub gave : Gave line_limit total_limit input lines left rest
+  pub gave : GivesLines line_limit total_limit input lines left rest
   pub source : ShowsNoLine line_limit left rest source_left
   pub asked : ((model_text_of lines ≡ None) × (now ≡ held)) ⊎ WaitsBehind kind lines held now
 

@@ -17,7 +17,7 @@ use Rattle.pl_main.specs.declared.outcome.Outcome.TheVariants as outcome
 use Rattle.pl_input.specs.Heads.{Keeps}
 use Rattle.pl_journal.specs.Written.{Adds}
 use Rattle.pl_input.specs.Places.{Place}
-use Rattle.pl_main.specs.Plays.{Playing}
+use Rattle.pl_main.specs.Plays.{AnswersAllOrStops}
 use Rattle.pl_main.specs.Top.{program_options, model_ok_line}
 use Rattle.pl_pair.specs.Runs.{PairRun}
 
@@ -30,7 +30,7 @@ pub record ModelRun (turns : ℕ) (model : Model) (start : Place) (held : Option
   pub opened : Option (List ℕ)
   pub new : State
   pub first : Adds held opened (text_from model 0 (opening (program_options turns) ∷ []))
-  pub playing : Playing (fresh_state turns model) start opened r new place now
+  pub playing : AnswersAllOrStops (fresh_state turns model) start opened r new place now
   pub legal : Legal new.model new.log
 
 -- A run over a model that was cut short: memory was wanting before its journal, or a front of the open entry's line was

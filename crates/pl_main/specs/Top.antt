@@ -12,7 +12,7 @@ use Rattle.pl_input.specs.declared.halt.Halt.{Halt}
 use Rattle.pl_input.specs.declared.halt.Halt.TheVariants as halt
 use Rattle.pl_main.specs.declared.outcome.Outcome.{Outcome}
 use Rattle.pl_main.specs.declared.outcome.Outcome.TheVariants as outcome
-use Rattle.pl_input.specs.Reads.{Gave}
+use Rattle.pl_input.specs.Reads.{GivesLines}
 use Rattle.pl_input.specs.Stops.{IsStuck}
 use Rattle.pl_journal.specs.Written.{Adds}
 
@@ -62,7 +62,7 @@ pub record HasRead (words : List ℕ) (messages : List (Option (List ℕ))) (inp
   pub left : ℕ
   pub rest : List ℕ
   pub more : List (Option (List ℕ))
-  pub gave : Gave line_limit total_limit input lines left rest
+  pub gave : GivesLines line_limit total_limit input lines left rest
   pub text : model_text_of lines ≡ Some words
   pub behind : messages_of (lines_behind lines) ≡ messages ++ more
   pub no_others : (more ≡ []) ⊎ (more ≡ None ∷ [])
@@ -78,7 +78,7 @@ pub record HasHead (limit : ℕ) (input words : List ℕ) (source_left : Option 
   pub lines : List (List ℕ)
   pub left : ℕ
   pub rest : List ℕ
-  pub gave : Gave limit total_limit input lines left rest
+  pub gave : GivesLines limit total_limit input lines left rest
   pub head : model_text_of lines ≡ Some words
   pub no_further : lines_behind lines ≡ []
   pub text : (split_of input).text ≡ Some words
@@ -89,7 +89,7 @@ no_begin_line = codes "model: no begin" ++ 10 ∷ []
 
 -- The input begins with no model: there is no `begin` line, or the text before it has a fault, which was written. All lines, or those up to `begin`, are within the limits.
 pub data IsNoModel (limit : ℕ) (input : List ℕ) (source_left held now : Option (List ℕ)) : Type 0 where
-  no_begin : (lines : List (List ℕ)) (left : ℕ) → Gave limit total_limit input lines left []
+  no_begin : (lines : List (List ℕ)) (left : ℕ) → GivesLines limit total_limit input lines left []
       → (split_of input).text ≡ None → IsReadTo [] source_left → Adds held now no_begin_line
       → IsNoModel limit input source_left held now
   faulty : (words line : List ℕ) → HasHead limit input words source_left → IsRefusedAs words line
@@ -100,7 +100,7 @@ pub record WasGiven (words : List ℕ) (messages : List (Option (List ℕ))) (in
   pub lines : List (List ℕ)
   pub left : ℕ
   pub rest : List ℕ
-  pub gave : Gave line_limit total_limit input lines left rest
+  pub gave : GivesLines line_limit total_limit input lines left rest
   pub head : model_text_of lines ≡ Some words
   pub more : List (Option (List ℕ))
   pub behind : messages_of (lines_behind lines) ≡ messages ++ more
@@ -124,7 +124,7 @@ pub record IsPastHead (limit : ℕ) (input : List ℕ) (source_left held now : O
   pub lines : List (List ℕ)
   pub left : ℕ
   pub rest : List ℕ
-  pub gave : Gave limit total_limit input lines left rest
+  pub gave : GivesLines limit total_limit input lines left rest
   pub why : IsStuck limit left rest
   pub source : ShowsLimit limit left rest source_left
   pub none : model_text_of lines ≡ None
@@ -135,7 +135,7 @@ pub record IsHeadFault (limit : ℕ) (input : List ℕ) (source_left held now : 
   pub lines : List (List ℕ)
   pub left : ℕ
   pub rest : List ℕ
-  pub gave : Gave limit total_limit input lines left rest
+  pub gave : GivesLines limit total_limit input lines left rest
   pub source : ShowsNoLine limit left rest source_left
   pub none : model_text_of lines ≡ None
   pub silent : now ≡ held

@@ -12,7 +12,7 @@ use Rattle.pl_machine.specs.Legal.{world_of}
 use Rattle.pl_input.specs.Words.{messages_of}
 use Rattle.pl_machine.specs.Sound.{State}
 use Rattle.pl_input.proofs.Reading.{took_none, halts_later}
-use Rattle.pl_input.specs.Reads.{Took, WhyKnown}
+use Rattle.pl_input.specs.Reads.{ReadsLines, WhyKnown}
 use Rattle.pl_input.specs.Stops.{IsStuckKnown}
 use Rattle.pl_shared.specs.Roles.{is_input}
 use Rattle.pl_shared.specs.Plans.{PlanPass}
@@ -25,7 +25,7 @@ use Rattle.pl_pair.specs.Cuts.{cut_by}
 use Rattle.pl_pair.specs.Served.{AreOf}
 use Rattle.pl_input.specs.Places.{Place}
 use Rattle.pl_pair.specs.Asking.{Faults, now_failed, had_failed}
-use Rattle.pl_pair.specs.Feeds.{Reads, unasked, asked, Tells, refused}
+use Rattle.pl_pair.specs.Feeds.{Reads, unasked, asked, HandsOnMessages, refused}
 use Rattle.pl_pair.specs.Endings.{is_full, is_other, ended_of}
 use Rattle.pl_pair.specs.Runs.{InMessages, HadLimit, MayFault, WhyNone, IsCauseOf, Given, RunsFull, RunsShort, RunEnds, PairRun}
 use Rattle.pl_pair.proofs.Ending.{NoEnds}
@@ -84,7 +84,7 @@ never_finished e is = cc
 
 -- a run with what is known of its history
 pub pair_run : (r : Result (Unit {0}) Halt) (start : State) (first : PlanPass) (w1 w2 : Worker) (joined : Joined start.model start.log first w1 w2) (place : Place) (held now : Option (List ℕ)) (old mid : PlanPass) (end behind : Place)
-    (tells : Tells old place mid end) (list : FeederList tells.inputs (mine_of mid) (mine_of first)) → (r ≡ Ok tt → AreOf is_input (mine_of first)) → (r ≡ Err halt.Full → (is_other w1.refusal || is_other w2.refusal) ≡ false)
+    (tells : HandsOnMessages old place mid end) (list : FeederList tells.inputs (mine_of mid) (mine_of first)) → (r ≡ Ok tt → AreOf is_input (mine_of first)) → (r ≡ Err halt.Full → (is_other w1.refusal || is_other w2.refusal) ≡ false)
     → RunEnds r start.model joined.whole.log (entries start.model start.log first w1 w2 joined tells.inputs (mine_of mid) list) place held behind now → PairRun joined.seed start place held r behind now
 unfolding history
 pair_run r start first w1 w2 joined place held now old mid end behind tells list goes refuses ends =
@@ -105,10 +105,10 @@ pair_run r start first w1 w2 joined place held now old mid end behind tells list
 
 -- ---- no message was read
 
-pub reads_took : (start place : Place) (lines : List (List ℕ)) → Reads start lines place → place.reader.failed ≡ None → Took start.reader start.ahead lines place.reader place.ahead
+pub reads_took : (start place : Place) (lines : List (List ℕ)) → Reads start lines place → place.reader.failed ≡ None → ReadsLines start.reader start.ahead lines place.reader place.ahead
 reads_took start place lines (unasked none same) works =
-    let P : List (List ℕ) → Type 0 = λ ls. Took start.reader start.ahead ls place.reader place.ahead in
-    let Q : Place → Type 0 = λ p. Took p.reader p.ahead [] place.reader place.ahead in
+    let P : List (List ℕ) → Type 0 = λ ls. ReadsLines start.reader start.ahead ls place.reader place.ahead in
+    let Q : Place → Type 0 = λ p. ReadsLines p.reader p.ahead [] place.reader place.ahead in
     subst P (sym none) (subst Q same (took_none place.reader place.ahead works))
 reads_took start place lines (asked works took) works2 = took
 
@@ -192,7 +192,7 @@ start_still start place lines f (asked works took) failed = absurd (let both : N
 pub not_both : (o : Option LineFault) (f : LineFault) → o ≡ None → o ≡ Some f → ⊥
 not_both o f none some = (let both : None ≡ Some f = sym none ∙ some in (cc))
 
-pub given_by : (r : Halt) (c : Cut) (old mid : PlanPass) (place end behind : Place) (tells : Tells old place mid end) (f : LineFault) → Whys r c place → c ≡ cut_by f → NoEnds tells.inputs → Faults end f behind → Given r place tells.inputs behind
+pub given_by : (r : Halt) (c : Cut) (old mid : PlanPass) (place end behind : Place) (tells : HandsOnMessages old place mid end) (f : LineFault) → Whys r c place → c ≡ cut_by f → NoEnds tells.inputs → Faults end f behind → Given r place tells.inputs behind
 given_by r c old mid place end behind tells f whys is none (now_failed works gets) =
     let halts = halts_later place.reader end.reader behind.reader place.ahead end.ahead behind.ahead tells.heard.lines gets.lines f (reads_took place end tells.heard.lines tells.heard.reads works) gets.halts in
     let started = works_on place end tells.heard.lines tells.heard.reads works in

@@ -34,7 +34,7 @@ use Rattle.pl_pair.specs.Cuts.{cut_by}
 use Rattle.pl_pair.specs.Rounds.{Follows, IsBetween, lines_behind}
 use Rattle.pl_input.specs.Places.{Place}
 use Rattle.pl_pair.specs.Asking.{Faults, Asks}
-use Rattle.pl_pair.specs.Feeds.{AreInputs, Tells, HandsOne, Writes, WritesAll, FeedsOut, FeedsUntil, FeedsRefused, FeedsStopped, FeedsTorn, FeedsShort, for_lines, for_message, for_reader, FeedsCut, refused, FeedsAll, FeedsToEnd}
+use Rattle.pl_pair.specs.Feeds.{AreInputs, HandsOnMessages, HandsOne, Writes, WritesAll, FeedsOut, FeedsUntil, FeedsRefused, FeedsStopped, FeedsTorn, FeedsShort, for_lines, for_message, for_reader, FeedsCut, refused, FeedsAll, FeedsToEnd}
 use Rattle.pl_pair.specs.Feeds as fed
 use Rattle.pl_pair.specs.Endings.{is_full, is_other, refusal_of, ended_of}
 use Rattle.pl_pair.specs.Runs.{InMessages, Given, WritesLog, ReadUpTo, RunsUntil, RunsFull, IsWrittenInPart, in_last_round, in_first_round, one_behind, one_unread, RunsShort, in_lines, all_lines, behind_lines, RunEnds, PairRun}
@@ -84,7 +84,7 @@ module _ (start : State) (first : PlanPass) (w1 w2 : Worker) (joined : Joined st
   model_of mid follows = follows.model ∙ (ap model_in seen0 ∙ model_in_items start.model start.log false joined.legal)
 
   -- the run where a history that was written whole is all
-  module _ (mid : PlanPass) (end : Place) (tells : Tells old place mid end) (plan : SharedPlan) (own : BelongsTo plan mid) (list : FeederList tells.inputs (mine_of mid) (mine_of first)) (to_first : IsPrefix (seen_of mid) (seen_of first)) where
+  module _ (mid : PlanPass) (end : Place) (tells : HandsOnMessages old place mid end) (plan : SharedPlan) (own : BelongsTo plan mid) (list : FeederList tells.inputs (mine_of mid) (mine_of first)) (to_first : IsPrefix (seen_of mid) (seen_of first)) where
     onto : IsPrefix (seen_of mid) (items_of start.model joined.whole.log joined.whole.stop)
     onto = prefix_trans (seen_of mid) (seen_of first) (items_of start.model joined.whole.log joined.whole.stop) to_first joined.whole.first_seen
 

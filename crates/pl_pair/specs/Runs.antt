@@ -17,7 +17,7 @@ use Rattle.pl_input.specs.Words.{messages_of}
 use Rattle.pl_machine.specs.Finished.{inputs_of}
 use Rattle.pl_machine.specs.Sound.{State}
 use Rattle.pl_journal.specs.Rendering.Lines.{text_of_log}
-use Rattle.pl_input.specs.Reads.{GaveKnown, StopsAt}
+use Rattle.pl_input.specs.Reads.{GivesLinesKnown, StopsAt}
 use Rattle.pl_input.specs.Stops.{IsStuckKnown}
 use Rattle.pl_driver.specs.CutShort.{IsCutShort}
 use Rattle.pl_journal.specs.Written.{Adds}
@@ -123,7 +123,7 @@ pub record Given (e : Halt) (place : Place) (inputs : List (Option (List ℕ))) 
   pub lines : List (List ℕ)
   pub left : ℕ
   pub rest : Option (List ℕ)
-  pub gave : GaveKnown place.reader.limit place.reader.room place.ahead lines left rest
+  pub gave : GivesLinesKnown place.reader.limit place.reader.room place.ahead lines left rest
   pub why : WhyNone e place left rest
   pub messages : messages_of lines ≡ inputs ++ None ∷ []
   pub stopped : place.reader.failed ≡ None → StoppedBy e place lines left rest behind
@@ -136,7 +136,7 @@ pub record Given (e : Halt) (place : Place) (inputs : List (Option (List ℕ))) 
 pub record ReadUpTo (place : Place) (messages : List (Option (List ℕ))) (behind : Place) : Type 0 where
   pub lines : List (List ℕ)
   pub more : List (Option (List ℕ))
-  pub gave : GaveKnown place.reader.limit place.reader.room place.ahead lines behind.reader.room behind.ahead
+  pub gave : GivesLinesKnown place.reader.limit place.reader.room place.ahead lines behind.reader.room behind.ahead
   pub few : length place.reader.held < read_size → length behind.reader.held < read_size
   pub said : messages_of lines ≡ messages ++ more
   pub no_others : (more ≡ []) ⊎ (more ≡ None ∷ [])
