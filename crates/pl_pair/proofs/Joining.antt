@@ -189,7 +189,7 @@ module _ (m : Model) (before : List Entry) (first : PlanPass) (w1 w2 : Worker) (
       by (inr e) = (w2.role, refused_full w2.refusal w2.role (items_of m joined.whole.log joined.whole.stop) e why_two)
 
   module _ (inputs : List (Option (List ℕ))) (own : List (ℕ × Noted)) (list : FeederList inputs own (mine_of first)) where
-    pub history : History joined.seed m before joined.whole.log
+    unfoldable pub history : History joined.seed m before joined.whole.log
     history = record {
       stopped = joined.whole.stop;
       feeder = mine_of first;
