@@ -6,7 +6,7 @@ use Rattle.std.proofs.lemmas.Result.{on_ok_weaker}
 use Rattle.pl_points.specs.Spans.{AreApart, covers, within}
 use Rattle.pl_points.specs.Limits.{is_outside}
 use Rattle.pl_points.proofs.Spanning.{apart_piece, covers_piece, apart_wider, and_true}
-use Rattle.pl_points.proofs.pieces.push_piece.Goals as goal
+use Rattle.pl_points.proofs.pieces.push_if_outside.Goals as goal
 
 pub returns-then-is_outside-clause-apart : goal.returns-then-is_outside-clause-apart
 returns-then-is_outside-clause-apart c = on_ok_weaker c.extend.result (λ e. subst (λ l. AreApart 0 c.args.to l) (sym e) (apart_piece c.args.from c.args.to c.args.spans.now.items c.requires.some c.requires.apart)) c.extend.ensures
