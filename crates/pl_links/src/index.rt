@@ -120,12 +120,8 @@ impl Index {
         requires { from ≤ to }
         ensures { result ≡ list_any (λ k. lies group from to k && is_other own gone k.id) self.now }
     {
-        for key in self.within(group, from, to) {
-            if is_other(own, gone, key.id) {
-                return true;
-            }
-        }
-        false
+        self.within(group, from, to)
+            .any(|key| is_other(own, gone, key.id))
     }
 
     /// Adds the link of this index of each activity of the group in the window.
