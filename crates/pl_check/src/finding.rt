@@ -125,12 +125,8 @@ pub fn param_named(params: &[AstParam], name: &[u8]) -> Option<u8>
     ensures value { result ≡ param_named params.now name.now }
     ensures below { IfSome result (λ p. p < length params.now) }
 {
-    for (place, param) in params.iter().enumerate() {
-        if param.name.as_slice() == name {
-            return Some(place as u8);
-        }
-    }
-    None
+    let place = params.iter().position(|param| param.name.as_slice() == name)?;
+    Some(place as u8)
 }
 
 /// The place of the slot of this name in its alternative, from 0.
@@ -139,12 +135,8 @@ pub fn slot_named(slots: &[AstSlot], name: &[u8]) -> Option<u32>
     ensures value { result ≡ slot_named slots.now name.now }
     ensures below { IfSome result (λ s. s < length slots.now) }
 {
-    for (place, slot) in slots.iter().enumerate() {
-        if slot.name.as_slice() == name {
-            return Some(place as u32);
-        }
-    }
-    None
+    let place = slots.iter().position(|slot| slot.name.as_slice() == name)?;
+    Some(place as u32)
 }
 
 fn is_unequalled(origin: &AstOrigin) -> bool
@@ -162,12 +154,10 @@ pub fn bindable_named(params: &[AstParam], name: &[u8]) -> Option<u8>
     requires { length params.now ≤ 16 }
     ensures { result ≡ bindable_named params.now name.now }
 {
-    for (place, param) in params.iter().enumerate() {
-        if param.name.as_slice() == name && is_unequalled(&param.origin) {
-            return Some(place as u8);
-        }
-    }
-    None
+    let place = params
+        .iter()
+        .position(|param| param.name.as_slice() == name && is_unequalled(&param.origin))?;
+    Some(place as u8)
 }
 
 /// The number of a state among those of its timeline.
@@ -175,10 +165,6 @@ pub fn state_named(states: &[Name], name: &[u8]) -> Option<u32>
     requires { length states.now ≤ 32 }
     ensures { result ≡ place_of states.now name.now }
 {
-    for (place, state) in states.iter().enumerate() {
-        if name == state.as_slice() {
-            return Some(place as u32);
-        }
-    }
-    None
+    let place = states.iter().position(|state| name == state.as_slice())?;
+    Some(place as u32)
 }
