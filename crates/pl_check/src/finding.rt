@@ -125,7 +125,9 @@ pub fn param_named(params: &[AstParam], name: &[u8]) -> Option<u8>
     ensures value { result ≡ param_named params.now name.now }
     ensures below { IfSome result (λ p. p < length params.now) }
 {
-    let place = params.iter().position(|param| param.name.as_slice() == name)?;
+    let place = params
+        .iter()
+        .position(|param| param.name.as_slice() == name)?;
     Some(place as u8)
 }
 
@@ -154,9 +156,8 @@ pub fn bindable_named(params: &[AstParam], name: &[u8]) -> Option<u8>
     requires { length params.now ≤ 16 }
     ensures { result ≡ bindable_named params.now name.now }
 {
-    let place = params
-        .iter()
-        .position(|param| param.name.as_slice() == name && is_unequalled(&param.origin))?;
+    let place = params.iter().position(|param| param.name.as_slice() == name
+        && is_unequalled(&param.origin))?;
     Some(place as u8)
 }
 

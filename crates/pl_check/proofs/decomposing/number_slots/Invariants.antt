@@ -4,7 +4,7 @@ use Rattle.pl_check.proofs.LoopLemmas.{each_made_from}
 use Rattle.pl_check.specs.Finding.{is_kind}
 use Rattle.pl_check.specs.Sound.{IsSlotOf}
 use Rattle.pl_check.specs.Numbering.{numbered_slot}
-use Rattle.pl_check.proofs.drafting.number_slots.Given as goal
+use Rattle.pl_check.proofs.decomposing.number_slots.Given as goal
 
 -- the rest gives the whole
 abbrev pub invariant-loop-slot : goal.invariant-loop-slot

@@ -2,7 +2,7 @@ use Rattle.std.proofs.Common.{◌≡◌, drop}
 use Rattle.pl_check.specs.Judgements.{each_made}
 use Rattle.pl_check.proofs.LoopLemmas.{each_made_from}
 use Rattle.pl_check.specs.Numbering.{numbered_link}
-use Rattle.pl_check.proofs.drafting.number_links.Given as goal
+use Rattle.pl_check.proofs.reserving.number_links.Given as goal
 
 -- the rest gives the whole
 abbrev pub invariant-loop-link : goal.invariant-loop-link

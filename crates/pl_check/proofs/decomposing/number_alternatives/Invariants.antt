@@ -4,7 +4,7 @@ use Rattle.pl_check.proofs.LoopLemmas.{each_made_from}
 use Rattle.pl_check.specs.Finding.{is_kind}
 use Rattle.pl_check.specs.Sound.{IsSoundAlternative}
 use Rattle.pl_check.specs.Numbering.{numbered_alternative}
-use Rattle.pl_check.proofs.drafting.number_alternatives.Given as goal
+use Rattle.pl_check.proofs.decomposing.number_alternatives.Given as goal
 
 -- the rest gives the whole
 abbrev pub invariant-loop-alternative : goal.invariant-loop-alternative

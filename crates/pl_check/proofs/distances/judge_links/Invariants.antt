@@ -1,7 +1,7 @@
 use Rattle.std.proofs.Common.{◌≡◌, drop}
 use Rattle.pl_check.specs.Judgements.{each}
 use Rattle.pl_check.specs.Ranges.{range_in_link}
-use Rattle.pl_check.proofs.ranges.judge_links.Given as goal
+use Rattle.pl_check.proofs.distances.judge_links.Given as goal
 
 -- the rest gives the whole
 abbrev pub invariant-loop-link : goal.invariant-loop-link

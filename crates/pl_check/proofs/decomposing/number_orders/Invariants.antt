@@ -3,7 +3,7 @@ use Rattle.pl_check.specs.Judgements.{each_made}
 use Rattle.pl_check.proofs.LoopLemmas.{each_made_from}
 use Rattle.pl_check.specs.Sound.{IsOrderOf}
 use Rattle.pl_check.specs.Numbering.{numbered_order}
-use Rattle.pl_check.proofs.drafting.number_orders.Given as goal
+use Rattle.pl_check.proofs.decomposing.number_orders.Given as goal
 
 -- the rest gives the whole
 abbrev pub invariant-loop-order : goal.invariant-loop-order
