@@ -30,7 +30,7 @@ fn single(alloc: Global, a: Activity) -> Result<Vec<Activity>, AllocError>
 }
 
 /// A copy that is moved along with an activity that goes from `from` to `to`.
-pub fn moved(alloc: Global, a: &Activity, from: u32, to: u32) -> Result<Activity, AllocError>
+pub(crate) fn moved(alloc: Global, a: &Activity, from: u32, to: u32) -> Result<Activity, AllocError>
     requires { a.now.start + to < 2 ^ 32 }
     ensures { IfOk result (λ b. b ≡ moved from to a.now) }
 {
