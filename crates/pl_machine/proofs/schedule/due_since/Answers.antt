@@ -5,7 +5,7 @@ use Rattle.pl_entry.specs.Due.{due_since}
 use Rattle.pl_semantics.specs.declared.plan_state.PlanState.{PlanState}
 use Rattle.pl_semantics.specs.Whole.{IsWhole}
 use Rattle.pl_machine.proofs.Settled.{fit_behind, due_behind}
-use Rattle.pl_machine.proofs.machine.appending.due_since_on.Goals as goal
+use Rattle.pl_machine.proofs.schedule.due_since.Goals as goal
 
 pub due_since_among-requires : goal.due_since_among-requires
 due_since_among-requires c =

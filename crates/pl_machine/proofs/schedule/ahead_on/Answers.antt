@@ -4,7 +4,7 @@ use Rattle.pl_plan.specs.declared.activity.Activity.{Activity}
 use Rattle.pl_semantics.specs.declared.plan_state.PlanState.{PlanState}
 use Rattle.pl_machine.specs.Calm.{next_start, AreSettled}
 use Rattle.pl_machine.proofs.Settled.{looked_on}
-use Rattle.pl_machine.proofs.machine.appending.ahead_on.Goals as goal
+use Rattle.pl_machine.proofs.schedule.ahead_on.Goals as goal
 
 pub overflow_add-result : goal.overflow_add-result
 overflow_add-result c =
