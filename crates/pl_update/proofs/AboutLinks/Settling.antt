@@ -130,12 +130,34 @@ module _ (s : PlanState) (m c : ℕ) (present : s.moment ≤ m) (horizon : s.com
 of_part : (k : Code) → is_of_links k ≡ true → part_of k ≡ of_links
 of_part code.Temporal e = refl
 of_part code.Linked e = refl
-of_part _ e = absurd (cc)
+of_part code.OpenGoal e = absurd (cc)
+of_part code.OffGoal e = absurd (cc)
+of_part code.Late e = absurd (cc)
+of_part code.Unset e = absurd (cc)
+of_part code.BadValue e = absurd (cc)
+of_part code.Undetailed e = absurd (cc)
+of_part code.Overrun e = absurd (cc)
+of_part code.Over e = absurd (cc)
+of_part code.Low e = absurd (cc)
+of_part code.High e = absurd (cc)
+of_part code.Must e = absurd (cc)
+of_part code.BadStep e = absurd (cc)
 
 is_part : (k : Code) → part_of k ≡ of_links → is_of_links k ≡ true
 is_part code.Temporal e = refl
 is_part code.Linked e = refl
-is_part _ e = absurd (cc)
+is_part code.OpenGoal e = absurd (cc)
+is_part code.OffGoal e = absurd (cc)
+is_part code.Late e = absurd (cc)
+is_part code.Unset e = absurd (cc)
+is_part code.BadValue e = absurd (cc)
+is_part code.Undetailed e = absurd (cc)
+is_part code.Overrun e = absurd (cc)
+is_part code.Over e = absurd (cc)
+is_part code.Low e = absurd (cc)
+is_part code.High e = absurd (cc)
+is_part code.Must e = absurd (cc)
+is_part code.BadStep e = absurd (cc)
 
 -- none of these is in the list
 none_has : (Q : Conflict → Type 0) (q : Conflict) → (Q q → ⊥) → (ks : List Conflict) → All Q ks → has q ks ≡ false
