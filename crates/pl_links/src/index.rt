@@ -120,8 +120,12 @@ impl Index {
         requires { from ≤ to }
         ensures { result ≡ list_any (λ k. lies group from to k && is_other own gone k.id) self.now }
     {
-        self.within(group, from, to)
-            .any(|key| is_other(own, gone, key.id))
+        for key in self.within(group, from, to) {
+            if is_other(own, gone, key.id) {
+                return true;
+            }
+        }
+        false
     }
 
     /// Adds the link of this index of each activity of the group in the window.
