@@ -1,8 +1,9 @@
-use Rattle.std.proofs.Common.{◌≡◌, ◌≤◌, ◌+◌, true, neg_ℤ, arith, sym, subst, false}
+use Rattle.std.proofs.Common.{◌≡◌, ◌≤◌, ◌+◌, true, neg_ℤ, pos, ◌-ℤ◌, arith, sym, subst, false}
 use Rattle.std.proofs.lemmas.Int.{ints}
-use Rattle.pl_points.specs.Standing.{standing, stands}
+use Rattle.pl_points.specs.Standing.{standing, stands, without}
 use Rattle.pl_capacity.specs.Uses.{Standing, use_of, same_use, use_steps}
-use Rattle.pl_capacity.proofs.Shifts.{neg_fits, raw_back, amount_went, went}
+use Rattle.pl_capacity.specs.Soundness.{IsShift}
+use Rattle.pl_capacity.proofs.Shifts.{held, neg_fits, raw_back, amount_went, went}
 use Rattle.pl_capacity.proofs.capacity.Capacity.remove.Goals as goal
 
 pub overflow_sub-amount : goal.overflow_sub-amount
@@ -18,7 +19,8 @@ changed-requires-clause-shift g c =
     let u = use_of c.args.from c.args.to c.args.amount in
     let has : stands same_use u xs ≡ true = subst (λ (v : Standing). v.spoiled ≡ false → stands same_use u v.uses ≡ true) (sym c.self.view_is) c.requires c.if-self.false in
     let sound = c.self.invariant c.if-self.false in
-    went xs c.args.from c.args.to c.args.amount has sound.few sound.bounded
+    subst (λ (v : Standing). IsShift c.args.from c.args.to (held (pos 0 -ℤ held c.args.amount)) v.uses (without same_use (use_of c.args.from c.args.to (held c.args.amount)) v.uses)) c.self.view_is
+    (went xs c.args.from c.args.to c.args.amount has sound.few sound.bounded)
 
 pub returns-clause-cost : goal.returns-clause-cost
 returns-clause-cost g c = λ _.

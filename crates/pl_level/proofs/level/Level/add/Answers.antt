@@ -4,13 +4,15 @@ use mir.Syntax.{w64}
 use Rattle.std.proofs.lemmas.Int.{to_z-of_z}
 use Rattle.pl_points.specs.Standing.{standing}
 use Rattle.pl_level.specs.Effects.{Standing, effect_of, same_effect, effect_steps}
-use Rattle.pl_level.proofs.Shifting.{came}
+use Rattle.pl_level.specs.Soundness.{IsShift}
+use Rattle.pl_level.proofs.Shifting.{held, came}
 use Rattle.pl_level.proofs.level.Level.add.Goals as goal
 
 pub changed-requires-clause-shift : goal.changed-requires-clause-shift
 changed-requires-clause-shift g c =
     let few = subst (λ (v : Standing). v.spoiled ≡ false → length v.effects ≤ 319999) (sym c.self.view_is) c.requires.few c.if-self.false in
-    came (standing same_effect c.self.inside.notes.items) c.args.at c.args.delta c.requires.is_effect few (c.self.invariant c.if-self.false).tied.bounded
+    subst (λ (v : Standing). IsShift c.args.at (held c.args.delta) v.effects (v.effects ++ effect_of c.args.at (held c.args.delta) ∷ [])) c.self.view_is
+    (came (standing same_effect c.self.inside.notes.items) c.args.at c.args.delta c.requires.is_effect few (c.self.invariant c.if-self.false).tied.bounded)
 
 pub returns-clause-cost : goal.returns-clause-cost
 returns-clause-cost g c = λ _.

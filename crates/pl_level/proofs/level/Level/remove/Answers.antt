@@ -4,6 +4,7 @@ use mir.Syntax.{w64}
 use Rattle.std.proofs.lemmas.Int.{to_z-of_z}
 use Rattle.pl_points.specs.Standing.{standing, stands, without}
 use Rattle.pl_level.specs.Effects.{Standing, effect_of, same_effect, effect_steps}
+use Rattle.pl_level.specs.Soundness.{IsShift}
 use Rattle.pl_level.proofs.Levels.{neg_fits, raw_back}
 use Rattle.pl_level.proofs.Shifting.{held, amount_went, went}
 use Rattle.pl_level.proofs.level.Level.remove.Goals as goal
@@ -19,7 +20,8 @@ changed-requires-clause-shift g c =
     let xs = standing same_effect c.self.inside.notes.items in
     let has : stands same_effect (effect_of c.args.at c.args.delta) xs ≡ true = subst (λ (v : Standing). v.spoiled ≡ false → stands same_effect (effect_of c.args.at c.args.delta) v.effects ≡ true) (sym c.self.view_is) c.requires c.if-self.false in
     let tied = (c.self.invariant c.if-self.false).tied in
-    went xs c.args.at c.args.delta has tied.few tied.bounded
+    subst (λ (v : Standing). IsShift c.args.at (held (pos 0 -ℤ held c.args.delta)) v.effects (without same_effect (effect_of c.args.at (held c.args.delta)) v.effects)) c.self.view_is
+    (went xs c.args.at c.args.delta has tied.few tied.bounded)
 
 pub returns-clause-cost : goal.returns-clause-cost
 returns-clause-cost g c = λ _.
