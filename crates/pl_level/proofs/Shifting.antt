@@ -83,7 +83,7 @@ module _ {s : Standing} {b : ℤ} {ps : List Point} {low high : List Span} {at :
     small_next = held_small (held sum) (held_small sum small_sum)
 
     module _ (l m : ℤ) (is_l : l ≡ (held s.least -ℤ held s.value) +ℤ held (held sum)) (is_m : m ≡ (held s.most -ℤ held s.value) +ℤ held (held sum)) (near : Span)
-      (from : near.from ≡ begin s.horizon s.moment s.base at) (to : near.to ≡ s.horizon) (ps' : List Point) (points : ps' ≡ merged at (held d) ps) where
+        (from : near.from ≡ begin s.horizon s.moment s.base at) (to : near.to ≡ s.horizon) (ps' : List Point) (points : ps' ≡ merged at (held d) ps) where
       is_points : ps' ≡ merged at d ps
       is_points = points ∙ ap (λ z. merged at z ps) exact
 

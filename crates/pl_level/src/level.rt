@@ -150,7 +150,14 @@ impl<P: Points> Level<P> {
             to: self.horizon,
         };
         let near = window_of(present, self.base, at);
-        let change = mend_both(&self.points, &mut self.low, &mut self.high, sums, near, steps)?;
+        let change = mend_both(
+            &self.points,
+            &mut self.low,
+            &mut self.high,
+            sums,
+            near,
+            steps,
+        )?;
         self.notes = self.notes.with(&note);
         self.spoiled = false;
         Ok(change)
@@ -179,7 +186,14 @@ impl<P: Points> Level<P> {
             to: self.horizon,
         };
         let sums = sums_for(self.least, self.most, value, self.before);
-        let change = mend_both(&self.points, &mut self.low, &mut self.high, sums, present, steps)?;
+        let change = mend_both(
+            &self.points,
+            &mut self.low,
+            &mut self.high,
+            sums,
+            present,
+            steps,
+        )?;
         self.base = self.moment;
         self.value = value;
         self.spoiled = false;

@@ -1,5 +1,5 @@
 use Rattle.std.proofs.Common.{rules, ◌≡◌, ℕ, subst}
-use mir.Val.{to_z, of_z, SFits}
+use mir.Val.{SFits}
 use mir.Syntax.{w64}
 use Rattle.std.proofs.lemmas.Int.{to_z-of_z}
 use Rattle.pl_points.specs.declared.limit.Limit.TheVariants.{Above}

@@ -107,4 +107,3 @@ pub returns-in_err-add-clause-cost : goal.returns-in_err-add-clause-cost
 returns-in_err-add-clause-cost g c =
     let is = ready c.args.self.now c.args.at c.args.added c.args.note c.self.view_is c.self.invariant c.requires.unspoiled c.requires.shift in
     cost_early is g.P.Points.parts g.P.Points.change_steps g.P.Points.look_steps g.P.Points.search_steps c.args.steps.now c.add.new.steps c.args.self.now c.self.view_is c.add.ensures.cost
-

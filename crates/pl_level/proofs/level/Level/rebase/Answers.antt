@@ -67,4 +67,3 @@ returns-clause-change g c =
     (limit_is i.most c.sums_for-sums.result.most v v (held sum) (value_small i.most sound.tied.most) refl (ap held exact) c.sums_for-sums.ensures.most)
     c.in_ok-change.ensures.low_apart c.in_ok-change.ensures.high_apart c.in_ok-change.ensures.low_covers c.in_ok-change.ensures.high_covers in
     subst (λ (w : Standing). AreChanges (low_now w) (low_now s2) (high_now w) (high_now s2) c.in_ok-change.change) c.self.view_is (sound_changes s s2 _ _ _ _ _ _ _ _ c.in_ok-change.change sound sound2 c.in_ok-change.ensures.changes)
-
