@@ -76,7 +76,13 @@ impl<P: Points> Capacity<P> {
         if self.spoiled {
             return Err(AllocError);
         }
-        self.changed(from, to, amount, Noted::Came(Use { from, to, amount }), steps)
+        self.changed(
+            from,
+            to,
+            amount,
+            Noted::Came(Use { from, to, amount }),
+            steps,
+        )
     }
 
     /// Gives back a use that stands. On want of memory the timeline is spoiled.
@@ -99,7 +105,13 @@ impl<P: Points> Capacity<P> {
         if self.spoiled {
             return Err(AllocError);
         }
-        self.changed(from, to, -amount, Noted::Went(Use { from, to, amount }), steps)
+        self.changed(
+            from,
+            to,
+            -amount,
+            Noted::Went(Use { from, to, amount }),
+            steps,
+        )
     }
 
     // Notes a use that came or went, which adds the amount to what is in use from `from` up to but not at `to`.

@@ -87,4 +87,3 @@ returns-in_err-change-clause-cost g c =
     let most : to_z w64 (of_z w64 i.most) ≡ i.most = to_z-of_z w64 i.most fits in
     let is = ready c.args.self.now c.args.from c.args.to c.args.added c.args.note c.self.view_is c.self.invariant c.requires.unspoiled c.requires.shift in
     cost_after is g.P.Points.parts g.P.Points.change_steps g.P.Points.look_steps g.P.Points.search_steps c.args.steps.now c.shift.new.steps (to_z w64 (of_z w64 i.most)) c.args.self.now most c.self.view_is c.shift.ensures.cost
-
