@@ -1,5 +1,5 @@
 use crate::answer::{BadSet, BrokenMust, StateChange};
-use crate::line::StateLine;
+use crate::timeline::StateTimeline;
 use crate::reservation::{Must, Setting};
 use pl_lists::may_be_shared;
 
@@ -10,5 +10,5 @@ pub fn shared_types() {
     may_be_shared::<BrokenMust>();
     may_be_shared::<BadSet>();
     may_be_shared::<StateChange>();
-    may_be_shared::<StateLine>();
+    may_be_shared::<StateTimeline>();
 }

@@ -4,64 +4,40 @@ ghost use Rattle.pl_state.specs.Sets.{setting_of, same_setting, with_set};
 ghost use Rattle.pl_state.specs.Musts.{must_of, same_must, with_must};
 ghost use Rattle.pl_state.specs.Keys.{AreSorted};
 ghost use Rattle.pl_state.specs.Sorted.{bad_key};
-ghost use Rattle.pl_state.specs.Lines.{AreChanges, state_at, broken_now, bad_now};
+ghost use Rattle.pl_state.specs.Timelines.{AreChanges, state_at, broken_now, bad_now};
+ghost use Rattle.pl_state.specs.Keeping.{after, IsTimely};
 
 use crate::answer::{BadSet, BrokenMust, StateChange};
-use crate::groups::renew;
-use crate::key::Keyed;
-use crate::listed::{Difference, answer};
+use crate::change::Change;
+use crate::kept::{Kept, Told};
 use crate::musts::Musts;
-use crate::near::{Told, mend};
 use crate::present::Present;
 use crate::reservation::{Must, Setting};
-use crate::sets::{Sets, end_of_base, insert_set, remove_set, state_of};
-use pl_lists::{Copied, Items};
-use pl_points::Span;
+use crate::sets::{Sets, state_of};
+use pl_lists::Copied;
 use std::alloc::{AllocError, Global};
 use std::marker::Model;
 
 /// A state timeline. Contracts see the sets that stand by (moment, id, index), and the musts by (id, index).
 #[derive(Drop)]
-pub struct StateLine {
-    alloc: Global,
-    horizon: u32,
-    any: bool,
-    steps: Vec<(u32, u32)>,
-    moment: u32,
-    base: u32,
-    value: u32,
+pub struct StateTimeline {
     spoiled: bool,
-    sets: Sets,
-    musts: Musts,
-    told: Told,
+    kept: Kept,
 }
 
-impl Model for StateLine {
+impl Model for StateTimeline {
     ghost use Rattle.std.specs.Prelude.{◌≡◌, false};
-    ghost use Rattle.pl_state.specs.Lines.{Standing, IsSound, make};
+    ghost use Rattle.pl_state.specs.Timelines.{Standing};
+    ghost use Rattle.pl_state.specs.Keeping.{state_of, IsKept};
 
     ghost Value = { Standing };
 
-    ghost view = { λ c. make c.spoiled c.horizon c.any c.steps.items c.moment c.base c.value c.sets
-        c.musts };
+    ghost view = { λ c. state_of c.spoiled c.kept };
 
-    ghost invariant = { λ c. c.spoiled ≡ false
-        → IsSound (make c.spoiled c.horizon c.any c.steps.items c.moment c.base c.value c.sets
-        c.musts) c.told.broken.items c.told.bad.items };
+    ghost invariant = { λ c. c.spoiled ≡ false → IsKept c.kept };
 }
 
-// Steps that stay as they are.
-fn no_steps(alloc: Global) -> Difference<BadSet>
-    ensures went { result.went ≡ [] }
-    ensures came { result.came ≡ [] }
-{
-    Difference {
-        went: Items::new(alloc),
-        came: Items::new(alloc),
-    }
-}
-
-impl StateLine {
+impl StateTimeline {
     /// A state timeline with its start state, without sets and musts, at the moment 0.
     pub fn new(
         alloc: Global,
@@ -70,7 +46,7 @@ impl StateLine {
         start: u32,
         any: bool,
         steps: &[(u32, u32)],
-    ) -> Result<StateLine, AllocError>
+    ) -> Result<StateTimeline, AllocError>
         ensures { IfOk result (λ l. l ≡ record {
           spoiled = false;
           horizon = horizon;
@@ -84,21 +60,26 @@ impl StateLine {
         }) }
     {
         let steps = Vec::from_slice(alloc, steps)?;
-        Ok(StateLine {
+        let kept = Kept {
             alloc,
-            horizon,
             any,
             steps,
-            moment: 0,
-            base: 0,
-            value: start,
-            spoiled: false,
+            present: Present {
+                moment: 0,
+                horizon,
+                base: 0,
+                value: start,
+            },
             sets: Sets::new(alloc),
             musts: Musts::new(alloc),
             told: Told {
                 broken: Vec::new(alloc),
                 bad: Vec::new(alloc),
             },
+        };
+        Ok(StateTimeline {
+            spoiled: false,
+            kept,
         })
     }
 
@@ -119,35 +100,12 @@ impl StateLine {
         ensures err { OnErr result (self.new.spoiled ≡ true) }
         ensures after_spoil { self.old.spoiled ≡ true → IsErr result }
     {
-        if self.spoiled {
-            return Err(AllocError);
-        }
-        self.spoiled = true;
-        let set = Setting {
+        self.changed(Change::Put(Setting {
             at,
             id,
             index,
             state,
-        };
-        let near = insert_set(&mut self.sets, set, self.horizon)?;
-        let present = Present {
-            moment: self.moment,
-            horizon: self.horizon,
-            base: self.base,
-            value: self.value,
-        };
-        let change = mend(
-            self.alloc,
-            self.any,
-            &self.steps,
-            present,
-            near,
-            &self.sets,
-            &self.musts,
-            &mut self.told,
-        )?;
-        self.spoiled = false;
-        Ok(change)
+        }))
     }
 
     /// Takes out a set that stands. On want of memory the timeline is spoiled.
@@ -166,35 +124,12 @@ impl StateLine {
         ensures err { OnErr result (self.new.spoiled ≡ true) }
         ensures after_spoil { self.old.spoiled ≡ true → IsErr result }
     {
-        if self.spoiled {
-            return Err(AllocError);
-        }
-        self.spoiled = true;
-        let set = Setting {
+        self.changed(Change::Take(Setting {
             at,
             id,
             index,
             state,
-        };
-        let near = remove_set(&mut self.sets, set, self.horizon);
-        let present = Present {
-            moment: self.moment,
-            horizon: self.horizon,
-            base: self.base,
-            value: self.value,
-        };
-        let change = mend(
-            self.alloc,
-            self.any,
-            &self.steps,
-            present,
-            near,
-            &self.sets,
-            &self.musts,
-            &mut self.told,
-        )?;
-        self.spoiled = false;
-        Ok(change)
+        }))
     }
 
     /// Needs the state from `from` up to but not at `to`. On want of memory the timeline is spoiled.
@@ -214,34 +149,13 @@ impl StateLine {
         ensures err { OnErr result (self.new.spoiled ≡ true) }
         ensures after_spoil { self.old.spoiled ≡ true → IsErr result }
     {
-        if self.spoiled {
-            return Err(AllocError);
-        }
-        self.spoiled = true;
-        let must = Must {
+        self.changed(Change::Need(Must {
             from,
             to,
             id,
             index,
             state,
-        };
-        self.musts.insert(must)?;
-        let present = Present {
-            moment: self.moment,
-            horizon: self.horizon,
-            base: self.base,
-            value: self.value,
-        };
-        let difference = renew(
-            self.alloc,
-            &self.sets,
-            present,
-            &self.musts,
-            &[must.key()],
-            &mut self.told.broken,
-        )?;
-        self.spoiled = false;
-        Ok(answer(difference, no_steps(self.alloc)))
+        }))
     }
 
     /// Takes out a must that stands. On want of memory the timeline is spoiled.
@@ -261,34 +175,13 @@ impl StateLine {
         ensures err { OnErr result (self.new.spoiled ≡ true) }
         ensures after_spoil { self.old.spoiled ≡ true → IsErr result }
     {
-        if self.spoiled {
-            return Err(AllocError);
-        }
-        self.spoiled = true;
-        let must = Must {
+        self.changed(Change::Free(Must {
             from,
             to,
             id,
             index,
             state,
-        };
-        self.musts.remove(must);
-        let present = Present {
-            moment: self.moment,
-            horizon: self.horizon,
-            base: self.base,
-            value: self.value,
-        };
-        let difference = renew(
-            self.alloc,
-            &self.sets,
-            present,
-            &self.musts,
-            &[must.key()],
-            &mut self.told.broken,
-        )?;
-        self.spoiled = false;
-        Ok(answer(difference, no_steps(self.alloc)))
+        }))
     }
 
     /// Sets the base at the present moment: sets up to it count no more. On want of memory the timeline is spoiled.
@@ -301,34 +194,7 @@ impl StateLine {
         ensures err { OnErr result (self.new.spoiled ≡ true) }
         ensures after_spoil { self.old.spoiled ≡ true → IsErr result }
     {
-        if self.spoiled {
-            return Err(AllocError);
-        }
-        self.spoiled = true;
-        let present = Present {
-            moment: self.moment,
-            horizon: self.horizon,
-            base: self.moment,
-            value: state,
-        };
-        let near = Span {
-            from: self.moment,
-            to: end_of_base(&self.sets, self.moment, self.horizon),
-        };
-        let change = mend(
-            self.alloc,
-            self.any,
-            &self.steps,
-            present,
-            near,
-            &self.sets,
-            &self.musts,
-            &mut self.told,
-        )?;
-        self.base = self.moment;
-        self.value = state;
-        self.spoiled = false;
-        Ok(change)
+        self.changed(Change::Rebase(state))
     }
 
     /// Moves the present moment on. On want of memory the timeline is spoiled.
@@ -342,33 +208,26 @@ impl StateLine {
         ensures err { OnErr result (self.new.spoiled ≡ true) }
         ensures after_spoil { self.old.spoiled ≡ true → IsErr result }
     {
+        self.changed(Change::Advance(now))
+    }
+
+    // Makes the change, where no earlier one failed.
+    fn changed(&mut self, change: Change) -> Result<StateChange, AllocError>
+        requires { self.old.spoiled ≡ false → IsTimely change self.old }
+        ensures ok { OnOk result (self.new ≡ after change self.old) }
+        ensures change { IfOk result (λ c. AreChanges (broken_now self.old) (broken_now self.new)
+            (bad_now self.old) (bad_now self.new) c) }
+        ensures unspoiled { OnOk result (self.old.spoiled ≡ false) }
+        ensures err { OnErr result (self.new.spoiled ≡ true) }
+        ensures after_spoil { self.old.spoiled ≡ true → IsErr result }
+    {
         if self.spoiled {
             return Err(AllocError);
         }
         self.spoiled = true;
-        let present = Present {
-            moment: now,
-            horizon: self.horizon,
-            base: self.base,
-            value: self.value,
-        };
-        let near = Span {
-            from: self.moment,
-            to: now,
-        };
-        let change = mend(
-            self.alloc,
-            self.any,
-            &self.steps,
-            present,
-            near,
-            &self.sets,
-            &self.musts,
-            &mut self.told,
-        )?;
-        self.moment = now;
+        let told = self.kept.make(change)?;
         self.spoiled = false;
-        Ok(change)
+        Ok(told)
     }
 
     /// The state at a moment.
@@ -378,16 +237,17 @@ impl StateLine {
         ensures { self.now.spoiled ≡ false → result ≡ state_at self.now t }
     {
         if self.spoiled {
-            return self.value;
+            return self.kept.present.value;
         }
-        state_of(&self.sets, self.base, self.value, t)
+        let present = self.kept.present;
+        state_of(&self.kept.sets, present.base, present.value, t)
     }
 
     /// Where musts are broken, by (id, index, from).
     pub fn broken_musts(&self) -> &[BrokenMust]
         ensures { self.now.spoiled ≡ false → result.now ≡ broken_now self.now }
     {
-        &self.told.broken
+        &self.kept.told.broken
     }
 
     /// The sets that take a step that is not allowed, by (moment, id, index).
@@ -395,7 +255,7 @@ impl StateLine {
         ensures told { self.now.spoiled ≡ false → result.now ≡ bad_now self.now }
         ensures sorted { self.now.spoiled ≡ false → AreSorted bad_key result.now }
     {
-        &self.told.bad
+        &self.kept.told.bad
     }
 
     /// Whether a change failed for want of memory: what is told then says nothing, and each further change fails.
@@ -406,25 +266,25 @@ impl StateLine {
     }
 }
 
-impl Copied for StateLine {
-    fn copy(&self, alloc: Global) -> Result<StateLine, AllocError> {
-        let steps = Vec::from_slice(alloc, self.steps.as_slice())?;
-        let sets = self.sets.copy(alloc)?;
-        let musts = self.musts.copy(alloc)?;
-        let broken = Vec::from_slice(alloc, self.told.broken.as_slice())?;
-        let bad = Vec::from_slice(alloc, self.told.bad.as_slice())?;
-        Ok(StateLine {
-            alloc,
-            horizon: self.horizon,
-            any: self.any,
-            steps,
-            moment: self.moment,
-            base: self.base,
-            value: self.value,
+impl Copied for StateTimeline {
+    fn copy(&self, alloc: Global) -> Result<StateTimeline, AllocError> {
+        let kept = &self.kept;
+        let steps = Vec::from_slice(alloc, kept.steps.as_slice())?;
+        let sets = kept.sets.copy(alloc)?;
+        let musts = kept.musts.copy(alloc)?;
+        let broken = Vec::from_slice(alloc, kept.told.broken.as_slice())?;
+        let bad = Vec::from_slice(alloc, kept.told.bad.as_slice())?;
+        Ok(StateTimeline {
             spoiled: self.spoiled,
-            sets,
-            musts,
-            told: Told { broken, bad },
+            kept: Kept {
+                alloc,
+                any: kept.any,
+                steps,
+                present: kept.present,
+                sets,
+                musts,
+                told: Told { broken, bad },
+            },
         })
     }
 }
