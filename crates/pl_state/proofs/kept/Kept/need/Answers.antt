@@ -1,4 +1,4 @@
-use Rattle.std.proofs.Common.{ap}
+use Rattle.std.proofs.Common.{false, ap}
 use Rattle.pl_state.specs.declared.change.Change.TheVariants.{Need}
 use Rattle.pl_state.specs.Timelines.{make}
 use Rattle.pl_state.proofs.Changing.{broken_sorted, need_right}

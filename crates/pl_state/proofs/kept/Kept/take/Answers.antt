@@ -1,4 +1,4 @@
-use Rattle.std.proofs.Common.{ap, refl}
+use Rattle.std.proofs.Common.{false, ap, refl}
 use Rattle.pl_state.specs.declared.change.Change.TheVariants.{Take}
 use Rattle.pl_state.specs.Timelines.{make}
 use Rattle.pl_state.proofs.Changing.{take_right}
