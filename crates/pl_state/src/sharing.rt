@@ -1,6 +1,6 @@
 use crate::answer::{BadSet, BrokenMust, StateChange};
-use crate::timeline::StateTimeline;
 use crate::reservation::{Must, Setting};
+use crate::timeline::StateTimeline;
 use pl_lists::may_be_shared;
 
 /// A state timeline, what it holds and what it answers may be shared between threads.
