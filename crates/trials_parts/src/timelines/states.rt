@@ -31,7 +31,11 @@ fn number(rest: &mut &str) -> u32 {
 }
 
 // Puts a set: its moment, its id and its state.
-fn put(rt: &impl Abort, line: &mut StateTimeline, rest: &mut &str) -> Result<StateChange, AllocError>
+fn put(
+    rt: &impl Abort,
+    line: &mut StateTimeline,
+    rest: &mut &str,
+) -> Result<StateChange, AllocError>
     ensures horizon { OnOk result (line.new.horizon ≡ line.old.horizon) }
     ensures moment { OnOk result (line.new.moment ≡ line.old.moment) }
 {
