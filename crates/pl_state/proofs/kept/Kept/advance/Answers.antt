@@ -1,4 +1,4 @@
-use Rattle.std.proofs.Common.{◌≤◌, arith, refl}
+use Rattle.std.proofs.Common.{arith, refl}
 use Rattle.pl_state.specs.declared.change.Change.TheVariants.{Advance}
 use Rattle.pl_state.specs.Present.{present_of}
 use Rattle.pl_state.proofs.Changing.{advance_right}
