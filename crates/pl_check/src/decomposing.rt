@@ -11,7 +11,7 @@ use crate::fault::ModelFault;
 use crate::finding::{bindable_named, kind_named, slot_named};
 use crate::names::Names;
 use crate::numbering::{known, number_expr};
-use pl_lists::Items;
+use pl_lists::{Copied, Items};
 use pl_model::{Expr, Name, Order, Slot};
 use pl_syntax::{AstAlternative, AstExpr, AstOrder, AstParam, AstSlot, Item};
 use std::alloc::Global;

@@ -14,7 +14,7 @@ use crate::fault::ModelFault;
 use crate::names::Names;
 use crate::numbering::{number_expr, number_line, number_params};
 use crate::reserving::{number_links, number_reservations};
-use pl_lists::Items;
+use pl_lists::{Copied, Items};
 use pl_model::{Expr, Link, Param, Reservation};
 use pl_syntax::{AstKind, Item};
 use std::alloc::Global;

@@ -8,7 +8,7 @@ use crate::fault::ModelFault;
 use crate::finding::{capacity_named, kind_named, level_named, states_named};
 use crate::names::Names;
 use crate::numbering::{known, number_expr, number_state};
-use pl_lists::Items;
+use pl_lists::{Copied, Items};
 use pl_model::{Link, Name, Reservation};
 use pl_syntax::{AstLink, AstParam, AstReservation, Item};
 use std::alloc::Global;
