@@ -125,10 +125,12 @@ pub fn param_named(params: &[AstParam], name: &[u8]) -> Option<u8>
     ensures value { result ≡ param_named params.now name.now }
     ensures below { IfSome result (λ p. p < length params.now) }
 {
-    let place = params
-        .iter()
-        .position(|param| param.name.as_slice() == name)?;
-    Some(place as u8)
+    for (place, param) in params.iter().enumerate() {
+        if param.name.as_slice() == name {
+            return Some(place as u8);
+        }
+    }
+    None
 }
 
 /// The place of the slot of this name in its alternative, from 0.
@@ -137,8 +139,12 @@ pub fn slot_named(slots: &[AstSlot], name: &[u8]) -> Option<u32>
     ensures value { result ≡ slot_named slots.now name.now }
     ensures below { IfSome result (λ s. s < length slots.now) }
 {
-    let place = slots.iter().position(|slot| slot.name.as_slice() == name)?;
-    Some(place as u32)
+    for (place, slot) in slots.iter().enumerate() {
+        if slot.name.as_slice() == name {
+            return Some(place as u32);
+        }
+    }
+    None
 }
 
 fn is_unequalled(origin: &AstOrigin) -> bool
@@ -156,9 +162,12 @@ pub fn bindable_named(params: &[AstParam], name: &[u8]) -> Option<u8>
     requires { length params.now ≤ 16 }
     ensures { result ≡ bindable_named params.now name.now }
 {
-    let place = params.iter().position(|param| param.name.as_slice() == name
-        && is_unequalled(&param.origin))?;
-    Some(place as u8)
+    for (place, param) in params.iter().enumerate() {
+        if param.name.as_slice() == name && is_unequalled(&param.origin) {
+            return Some(place as u8);
+        }
+    }
+    None
 }
 
 /// The number of a state among those of its timeline.
@@ -166,6 +175,10 @@ pub fn state_named(states: &[Name], name: &[u8]) -> Option<u32>
     requires { length states.now ≤ 32 }
     ensures { result ≡ place_of states.now name.now }
 {
-    let place = states.iter().position(|state| name == state.as_slice())?;
-    Some(place as u32)
+    for (place, state) in states.iter().enumerate() {
+        if name == state.as_slice() {
+            return Some(place as u32);
+        }
+    }
+    None
 }
