@@ -1,4 +1,4 @@
-use crate::program::running::{Failing, NONE, assert_does, joined, lines};
+use crate::running::{Failing, NONE, assert_does, joined, lines};
 use std::alloc::Global;
 use std::process::Abort;
 use std::sync::Wait;
