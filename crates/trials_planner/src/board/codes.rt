@@ -155,7 +155,10 @@ add 0 5;add 0 20 =>";
 fn assert_row(rt: &impl Abort, alloc: Global, model: &str, row: &str) {
     let (changes, wrong) = row.split_once(" =>").unwrap_or((row, ""));
     let changes = changes.replace(alloc, ";", "\n").expect(rt, "memory");
-    let wrong = wrong.trim_start().replace(alloc, ";", "\n").expect(rt, "memory");
+    let wrong = wrong
+        .trim_start()
+        .replace(alloc, ";", "\n")
+        .expect(rt, "memory");
     let board = changed(rt, alloc, model, changes.as_str());
     assert_conflicts(rt, alloc, &board, wrong.as_str());
 }

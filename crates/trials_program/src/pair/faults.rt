@@ -1,9 +1,7 @@
 //! A pair that is stopped at each read and at each write, and wherever the output has no room left.
 use crate::breaking::Breaking;
 use crate::journals::models::{INPUT, JOURNAL, MODEL};
-use crate::running::{
-    Ended, NONE, ROOM, assert_does, count_newlines, does, does_within, joined,
-};
+use crate::running::{Ended, NONE, ROOM, assert_does, count_newlines, does, does_within, joined};
 use pl_io::MemSource;
 use pl_turn::NoGate;
 use std::alloc::Global;
@@ -95,7 +93,10 @@ fn stops_at_each_write(rt: HostRuntime) {
         let written = sink.bytes();
         assert!(rt; status == 5, "{write}: {status}");
         assert!(rt; whole_lines(written).len() == written.len(), "{write}");
-        assert!(rt; count_newlines(written).wrapping_add(1) as u64 == write, "{write}");
+        assert!(rt;
+            count_newlines(written).wrapping_add(1) as u64 == write,
+            "{write}"
+        );
         assert_front(&rt, alloc, written);
     }
 }
@@ -107,7 +108,10 @@ fn stops_where_no_room_is_left(rt: HostRuntime) {
     for room in 0..JOURNAL.len() {
         let mut source = MemSource::new(alloc, INPUT.as_bytes(), &[]).expect(&rt, "memory");
         let (status, sink) = does_within(&rt, alloc, WORDS, &mut source, room);
-        assert!(rt; status == 5 && sink.bytes().len() == room, "{room}: {status}");
+        assert!(rt;
+            status == 5 && sink.bytes().len() == room,
+            "{room}: {status}"
+        );
         assert_front(&rt, alloc, sink.bytes());
     }
 }

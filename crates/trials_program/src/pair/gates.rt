@@ -42,8 +42,10 @@ impl Told {
     fn take(&self, entry: u32) -> bool {
         let is_later = self.last.load(Ordering::SeqCst) < u64::from(entry);
         self.last.store(u64::from(entry), Ordering::SeqCst);
-        self.count.store(self.count().wrapping_add(1), Ordering::SeqCst);
-        self.numbers.store(with(self.numbers(), entry), Ordering::SeqCst);
+        self.count
+            .store(self.count().wrapping_add(1), Ordering::SeqCst);
+        self.numbers
+            .store(with(self.numbers(), entry), Ordering::SeqCst);
         is_later
     }
 }

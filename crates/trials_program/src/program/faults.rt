@@ -42,7 +42,10 @@ fn breaks_off<R: Abort + Threads + Wait + Sync>(rt: &R, alloc: Global, given: us
     let (status, sink) = does_within(rt, alloc, "run solo 8", &mut source, ROOM);
     let wanted = if lines < 9 { 4 } else { 0 };
     assert!(rt; status == wanted, "{given}: {status}");
-    assert!(rt; sink.bytes() == first_lines(written_behind(lines)), "{given}");
+    assert!(rt;
+        sink.bytes() == first_lines(written_behind(lines)),
+        "{given}"
+    );
 }
 
 #[test]
@@ -76,7 +79,10 @@ fn fills_up<R: Abort + Threads + Wait + Sync>(
         let mut source = MemSource::new(alloc, input, &[]).expect(rt, "memory");
         let (status, sink) = does_within(rt, alloc, words, &mut source, room);
         assert!(rt; status == 5, "{words}, room {room}: {status}");
-        assert!(rt; text.get(..room) == Some(sink.bytes()), "{words}, room {room}");
+        assert!(rt;
+            text.get(..room) == Some(sink.bytes()),
+            "{words}, room {room}"
+        );
     }
     let mut source = MemSource::new(alloc, input, &[]).expect(rt, "memory");
     let (status, sink) = does_within(rt, alloc, words, &mut source, text.len());
@@ -98,7 +104,13 @@ command 1 obs 10
 #[test]
 fn stops_where_no_room_is_left(rt: HostRuntime) {
     let alloc = rt.alloc();
-    fills_up(&rt, alloc, "run solo 8", INPUT.as_bytes(), JOURNAL.as_bytes());
+    fills_up(
+        &rt,
+        alloc,
+        "run solo 8",
+        INPUT.as_bytes(),
+        JOURNAL.as_bytes(),
+    );
     let model = "horizon 100 lead 30 kind obs { duration 5 }\nbegin\n";
     let input = format!(in alloc; "{model}{JOURNAL}").expect(&rt, "memory");
     for row in LINES.lines() {

@@ -33,7 +33,8 @@ fn text_of(rt: &impl Abort, alloc: Global, pieces: &str) -> String {
 }
 
 /// The texts of models, and what `check` says of each.
-const MODELS: &str = "horizon 100 lead 30 kind a { duration |32*(|5|32*)| } => model ok: timelines 0 kinds 1
+const MODELS: &str =
+    "horizon 100 lead 30 kind a { duration |32*(|5|32*)| } => model ok: timelines 0 kinds 1
 horizon 100 lead 30 kind a { duration |33*(|5|33*)| } => model: too deep at 70
 horizon 100 lead 30 kind a { duration 1|31*+1| } => model ok: timelines 0 kinds 1
 horizon 100 lead 30 kind a { duration 1|32*+1| } => model: too deep at 101
@@ -83,7 +84,8 @@ tick 1000000000000000000 => bad-line";
 const REFUSED: &str = "2 rest clear;3 commit 30 : ok;4 close;5 in eof;";
 
 /// Messages that are taken, and the rest of the journal of each.
-const TAKEN: &str = "goal 1000000000 obs 1 99 must => 2 fix 99 open-goal 1000000000 0 1 99 by add obs 1 goal 1000000000 : ok;3 rest clear;4 commit 30 : ok;5 close;6 in eof;
+const TAKEN: &str =
+    "goal 1000000000 obs 1 99 must => 2 fix 99 open-goal 1000000000 0 1 99 by add obs 1 goal 1000000000 : ok;3 rest clear;4 commit 30 : ok;5 close;6 in eof;
 tick 100 => 2 rest clear;3 close;4 in eof;";
 
 /// Asserts what `run solo 8` makes of one message.
