@@ -1,6 +1,6 @@
 //! A pair that is stopped at each read and at each write, and wherever the output has no room left.
 use crate::breaking::Breaking;
-use crate::journals::models::{INPUT, JOURNAL, MODEL};
+use crate::journals::models::{HEAD, INPUT, JOURNAL, OPEN};
 use crate::running::{Ended, NONE, ROOM, assert_does, count_newlines, does, does_within, joined};
 use pl_io::MemSource;
 use pl_turn::NoGate;
@@ -10,8 +10,6 @@ use std::sync::Wait;
 use std::thread::Threads;
 
 const WORDS: &str = "run pair 8 7";
-
-const OPEN: &str = "0 open turns 8 live 10000 goals 20000 entries 250000\n";
 
 /// What was written, without a last line that is torn.
 fn whole_lines(written: &[u8]) -> &[u8] {
@@ -33,8 +31,7 @@ fn assert_front<R: Abort + Threads + Wait + Sync>(rt: &R, alloc: Global, written
         assert!(rt; is_front && written.len() < OPEN.len());
         return;
     }
-    let head = format!(in alloc; "{MODEL}\nbegin\n").expect(rt, "memory");
-    let input = joined(rt, alloc, head.as_str(), lines);
+    let input = joined(rt, alloc, HEAD, lines);
     let line = format!(in alloc; "journal ok: entries {count} unfinished\n").expect(rt, "memory");
     assert_does(rt, alloc, "replay", NONE, &input, 0, line.as_bytes());
 }
@@ -88,8 +85,14 @@ fn stops_at_each_read(rt: HostRuntime) {
 fn stops_at_each_write(rt: HostRuntime) {
     let alloc = rt.alloc();
     for write in 1..13u64 {
-        let failing = ([].as_slice(), [write].as_slice());
-        let (status, sink) = does(&rt, alloc, WORDS, INPUT.as_bytes(), failing, &NoGate);
+        let (status, sink) = does(
+            &rt,
+            alloc,
+            WORDS,
+            INPUT.as_bytes(),
+            (&[], &[write]),
+            &NoGate,
+        );
         let written = sink.bytes();
         assert!(rt; status == 5, "{write}: {status}");
         assert!(rt; whole_lines(written).len() == written.len(), "{write}");
@@ -120,8 +123,7 @@ fn stops_where_no_room_is_left(rt: HostRuntime) {
 fn stops_at_a_longer_line(rt: HostRuntime) {
     let alloc = rt.alloc();
     let blanks = " ".repeat(alloc, 4097).expect(&rt, "memory");
-    let input = format!(in alloc; "{INPUT}").expect(&rt, "memory");
-    let (front, _) = input.as_str().split_once("end\n").unwrap_or(("", ""));
+    let (front, _) = INPUT.split_once("end\n").unwrap_or(("", ""));
     let input = format!(in alloc; "{front}{blanks}\nend\n").expect(&rt, "memory");
     let ended = does(&rt, alloc, WORDS, input.as_bytes(), NONE, &NoGate);
     assert_rounds(&rt, alloc, &ended, 6, 8);

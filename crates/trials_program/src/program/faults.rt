@@ -1,7 +1,7 @@
 //! The worked run, stopped at each read and at each write, and wherever the output has no room left.
 use crate::breaking::Breaking;
-use crate::journals::models::{INPUT, JOURNAL};
-use crate::running::{ROOM, assert_does, count_newlines, does_within};
+use crate::journals::models::{HEAD, INPUT, JOURNAL};
+use crate::running::{ROOM, assert_does, count_newlines, does_within, joined};
 use pl_io::MemSource;
 use std::alloc::Global;
 use std::process::Abort;
@@ -62,8 +62,15 @@ fn stops_at_each_write(rt: HostRuntime) {
     for write in 1..14u64 {
         let status = if write < 13 { 5 } else { 0 };
         let text = first_lines(write.wrapping_sub(1) as usize);
-        let failing = ([].as_slice(), [write].as_slice());
-        assert_does(&rt, alloc, "run solo 8", failing, input, status, text);
+        assert_does(
+            &rt,
+            alloc,
+            "run solo 8",
+            (&[], &[write]),
+            input,
+            status,
+            text,
+        );
     }
 }
 
@@ -78,11 +85,12 @@ fn fills_up<R: Abort + Threads + Wait + Sync>(
     for room in 0..text.len() {
         let mut source = MemSource::new(alloc, input, &[]).expect(rt, "memory");
         let (status, sink) = does_within(rt, alloc, words, &mut source, room);
-        assert!(rt; status == 5, "{words}, room {room}: {status}");
+        let written = sink.bytes();
         assert!(rt;
-            text.get(..room) == Some(sink.bytes()),
-            "{words}, room {room}"
+            status == 5 && written.len() == room,
+            "{words}, {room}: {status}"
         );
+        assert!(rt; text.starts_with(written), "{words}, {room}");
     }
     let mut source = MemSource::new(alloc, input, &[]).expect(rt, "memory");
     let (status, sink) = does_within(rt, alloc, words, &mut source, text.len());
@@ -111,12 +119,11 @@ fn stops_where_no_room_is_left(rt: HostRuntime) {
         INPUT.as_bytes(),
         JOURNAL.as_bytes(),
     );
-    let model = "horizon 100 lead 30 kind obs { duration 5 }\nbegin\n";
-    let input = format!(in alloc; "{model}{JOURNAL}").expect(&rt, "memory");
+    let input = joined(&rt, alloc, HEAD, JOURNAL.as_bytes());
     for row in LINES.lines() {
         let (words, line) = row.split_once(" => ").unwrap_or((row, ""));
         let text = format!(in alloc; "{line}\n").expect(&rt, "memory");
-        fills_up(&rt, alloc, words, input.as_bytes(), text.as_bytes());
+        fills_up(&rt, alloc, words, &input, text.as_bytes());
     }
-    fills_up(&rt, alloc, "report", input.as_bytes(), REPORT.as_bytes());
+    fills_up(&rt, alloc, "report", &input, REPORT.as_bytes());
 }

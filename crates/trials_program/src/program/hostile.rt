@@ -1,6 +1,6 @@
 //! Texts that are made to be refused, through the program: models, messages, journals.
-use crate::journals::models::{JOURNAL, MODEL};
-use crate::running::{NONE, assert_does, lines};
+use crate::journals::models::{HEAD, JOURNAL, OPEN};
+use crate::running::{NONE, assert_does, joined, lines};
 use std::alloc::Global;
 use std::process::Abort;
 use std::sync::Wait;
@@ -96,12 +96,12 @@ fn assert_answers<R: Abort + Threads + Wait + Sync>(
     reply: &str,
     rest: &str,
 ) {
+    let line = format!(in alloc; "{message}\n").expect(rt, "memory");
     let rest = lines(rt, alloc, rest);
-    let open = "0 open turns 8 live 10000 goals 20000 entries 250000";
-    let input = format!(in alloc; "{MODEL}\nbegin\n{message}\n").expect(rt, "memory");
-    let text = format!(in alloc; "{open}\n1 in {reply} : {message}\n{rest}").expect(rt, "memory");
-    let (input, text) = (input.as_bytes(), text.as_bytes());
-    assert_does(rt, alloc, "run solo 8", NONE, input, 0, text);
+    let text = format!(in alloc; "1 in {reply} : {message}\n{rest}").expect(rt, "memory");
+    let input = joined(rt, alloc, HEAD, line.as_bytes());
+    let text = joined(rt, alloc, OPEN, text.as_bytes());
+    assert_does(rt, alloc, "run solo 8", NONE, &input, 0, &text);
 }
 
 #[test]
@@ -125,10 +125,10 @@ fn assert_judged<R: Abort + Threads + Wait + Sync>(
     status: u8,
     text: &str,
 ) {
-    let input = format!(in alloc; "{MODEL}\nbegin\n{journal}").expect(rt, "memory");
-    let (input, text) = (input.as_bytes(), text.as_bytes());
-    assert_does(rt, alloc, "replay", NONE, input, status, text);
-    assert_does(rt, alloc, "report", NONE, input, status, text);
+    let input = joined(rt, alloc, HEAD, journal.as_bytes());
+    let text = text.as_bytes();
+    assert_does(rt, alloc, "replay", NONE, &input, status, text);
+    assert_does(rt, alloc, "report", NONE, &input, status, text);
 }
 
 /// A text of the worked journal, what stands in its place, and what is said of the first wrong entry.
