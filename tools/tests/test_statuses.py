@@ -63,7 +63,7 @@ class StatusesTest(unittest.TestCase):
         """With less and less memory: what was written is always the front of the whole, and at some size the program says so."""
         text = (FULL + 'end\n').encode()
         whole, found = ended('run solo 8', input=text, stdout=subprocess.PIPE)[1], set()
-        for size in range(3 << 20, 24 << 20, 1 << 20):
+        for size in range(4 << 20, 25 << 20, 4 << 20):
             status, written = ended('run solo 8', input=text, stdout=subprocess.PIPE,
                                     preexec_fn=lambda: resource.setrlimit(resource.RLIMIT_AS, (size, size)))
             found.add(status)
