@@ -2,6 +2,7 @@
 
 mod faults;
 mod gates;
+mod limits;
 mod meeting;
 mod missions;
 mod runs;

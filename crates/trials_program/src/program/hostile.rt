@@ -50,9 +50,21 @@ horizon 100 lead 30 kind a { duration 5 alternative { slot s a } } => model: rec
 horizon 100 lead 30 kind a { |16*param p# 1 9 |duration 5 } => model ok: timelines 0 kinds 1
 horizon 100 lead 30 kind a { |17*param p# 1 9 |duration 5 } => model: too many: params
 horizon 100 lead 30|256*;kind k# { duration 5 } => model ok: timelines 0 kinds 256
-horizon 100 lead 30|257*;kind k# { duration 5 } => model: too many: kinds
-1048532*;|horizon 100;lead 30;kind obs {;duration 5;} => model ok: timelines 0 kinds 1
-1048533*;|horizon 100;lead 30;kind obs {;duration 5;} => model: too long";
+horizon 100 lead 30|257*;kind k# { duration 5 } => model: too many: kinds";
+
+/// Asserts what `check` says of a model's text.
+fn assert_checked<R: Abort + Threads + Wait + Sync>(
+    rt: &R,
+    alloc: Global,
+    model: &str,
+    line: &str,
+) {
+    let input = format!(in alloc; "{model}\nbegin\n").expect(rt, "memory");
+    let text = format!(in alloc; "{line}\n").expect(rt, "memory");
+    let status = if line.starts_with("model ok") { 0 } else { 3 };
+    let (input, text) = (input.as_bytes(), text.as_bytes());
+    assert_does(rt, alloc, "check", NONE, input, status, text);
+}
 
 #[test]
 fn checks_hostile_models(rt: HostRuntime) {
@@ -60,11 +72,23 @@ fn checks_hostile_models(rt: HostRuntime) {
     for row in MODELS.lines() {
         let (pieces, line) = row.split_once(" => ").unwrap_or((row, ""));
         let model = text_of(&rt, alloc, pieces);
-        let input = format!(in alloc; "{model}\nbegin\n").expect(&rt, "memory");
-        let text = format!(in alloc; "{line}\n").expect(&rt, "memory");
-        let status = if line.starts_with("model ok") { 0 } else { 3 };
-        let (input, text) = (input.as_bytes(), text.as_bytes());
-        assert_does(&rt, alloc, "check", NONE, input, status, text);
+        assert_checked(&rt, alloc, model.as_str(), line);
+    }
+}
+
+/// The model's text behind newlines has 1,048,576 bytes, and then one more.
+#[test]
+fn checks_long_models(rt: HostRuntime) {
+    let alloc = rt.alloc();
+    let model = "horizon 100\nlead 30\nkind obs {\nduration 5\n}";
+    let lines = [
+        (1_048_532, "model ok: timelines 0 kinds 1"),
+        (1_048_533, "model: too long"),
+    ];
+    for (count, line) in lines {
+        let blanks = "\n".repeat(alloc, count).expect(&rt, "memory");
+        let text = format!(in alloc; "{blanks}{model}").expect(&rt, "memory");
+        assert_checked(&rt, alloc, text.as_str(), line);
     }
 }
 

@@ -1,5 +1,5 @@
-//! Runs that fill their log.
-use crate::running::{Ended, count_newlines, does_within};
+//! A run that fills its log.
+use crate::running::{count_newlines, does_within};
 use pl_io::MemSource;
 use std::alloc::Global;
 use std::process::Abort;
@@ -20,39 +20,27 @@ fn input(rt: &impl Abort, alloc: Global, last: &str) -> String {
     text
 }
 
-fn filled<R: Abort + Threads + Wait + Sync>(
-    rt: &R,
-    alloc: Global,
-    words: &str,
-    last: &str,
-) -> Ended {
-    let input = input(rt, alloc, last);
-    let mut source = MemSource::new(alloc, input.as_bytes(), &[]).expect(rt, "memory");
-    does_within(rt, alloc, words, &mut source, 8_000_000)
-}
-
-/// Asserts that a run has as many entries as may be, and ends so. Behind them the line `last` is given.
+/// Asserts that a run has as many entries as may be, and ends so. Behind all others the text `last` is given.
 fn assert_fills<R: Abort + Threads + Wait + Sync>(
     rt: &R,
     alloc: Global,
-    words: &str,
     last: &str,
     status: u8,
     entry: &[u8],
 ) {
-    let (found, sink) = filled(rt, alloc, words, last);
-    assert!(rt; found == status, "{words}: {found}");
-    assert!(rt; count_newlines(sink.bytes()) == 250_000, "{words}");
-    assert!(rt; sink.bytes().ends_with(entry), "{words}");
+    let input = input(rt, alloc, last);
+    let mut source = MemSource::new(alloc, input.as_bytes(), &[]).expect(rt, "memory");
+    let (found, sink) = does_within(rt, alloc, "run solo 1", &mut source, 8_000_000);
+    assert!(rt; found == status, "{found}");
+    assert!(rt; count_newlines(sink.bytes()) == 250_000, "{found}");
+    assert!(rt; sink.bytes().ends_with(entry), "{found}");
 }
 
 #[test]
 fn fills_the_log(rt: HostRuntime) {
     let alloc = rt.alloc();
-    for words in ["run solo 1", "run pair 1 7"] {
-        let end = b"\n249999 in end : end\n";
-        assert_fills(&rt, alloc, words, "end\nx\n", 0, end);
-        let more = b"\n249999 in bad-line : x\n";
-        assert_fills(&rt, alloc, words, "x\nend\n", 7, more);
-    }
+    let end = b"\n249999 in end : end\n";
+    assert_fills(&rt, alloc, "end\nx\n", 0, end);
+    let more = b"\n249999 in bad-line : x\n";
+    assert_fills(&rt, alloc, "x\nend\n", 7, more);
 }
