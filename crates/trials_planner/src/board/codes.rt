@@ -40,7 +40,7 @@ kind much { duration 5 use cam 1 use cam 1000000 * 1001 }
 kind back { param n 0 9 default 4 duration 5 use cam n - 5 }
 kind far { param n 0 1000000000 default 1000000000 duration 5 use cam n * n * n }
 kind child { param q 0 9 duration 5 }
-kind parent { param p 0 99 default 10 duration 5 alternative { slot s child ( q = p ) } }
+kind whole { param p 0 99 default 10 duration 5 alternative { slot s child ( q = p ) } }
 kind either { duration 5 alternative { slot s much } alternative { slot s slow } }";
 
 const WRONG_VALUES: &str = "add 0 10 => 10 unset 1 0 0 0;10 unset 1 1 0 0

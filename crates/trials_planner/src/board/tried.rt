@@ -23,7 +23,7 @@ const VALUES: &str = "horizon 6 lead 3
 kind free { param n 1 3 param m 1 2 default 1 duration 1 }
 kind twice { param n 0 2 default 2 param m 0 1 = n duration 1 }
 kind child { param q 0 1 param r 5 6 default 5 duration 1 }
-kind parent { param p 0 2 default 2 duration 1 alternative { slot s child ( q = p ) } }
+kind whole { param p 0 2 default 2 duration 1 alternative { slot s child ( q = p ) } }
 kind either { duration 1 alternative { slot s twice } alternative { slot s twice } }";
 
 const FOR_VALUES: &str =
