@@ -11,7 +11,7 @@ use pl_search::Insertion;
 pub trait Planner: Chooser {
     ghost rule: { World → Event → Type 0 };
 
-    ghost sound: { IsRuleOf picks rule };
+    ghost sound: { IsRuleOf Self.Chooser.picks rule };
 }
 
 impl Planner for Least {
