@@ -1,0 +1,81 @@
+//! Searches of several shapes, one after the other: a narrow one first.
+ghost use Rattle.std.specs.Prelude.{◌≡◌, false, OnOk};
+
+use crate::beam::{Aim, Ended, Shape, search_by_layers};
+use crate::node::Node;
+use crate::tries::Tries;
+use pl_board::Board;
+use std::alloc::AllocError;
+
+/// How many shapes are tried.
+const SHAPES: u32 = 4;
+
+// The shape that is tried after so many others.
+fn shape_of(number: u32) -> Shape {
+    match number {
+        0 => Shape {
+            width: 2,
+            conflicts: 1,
+            lengths: false,
+        },
+        1 => Shape {
+            width: 8,
+            conflicts: 1,
+            lengths: false,
+        },
+        2 => Shape {
+            width: 8,
+            conflicts: 1,
+            lengths: true,
+        },
+        _ => Shape {
+            width: 8,
+            conflicts: 3,
+            lengths: true,
+        },
+    }
+}
+
+// Whether a plan has fewer conflicts but open goals, or as many and is the cheaper one.
+fn is_better(node: &Node, best: &Node) -> bool {
+    let hard = node.look.hard;
+    let least = best.look.hard;
+    hard < least || (hard == least && node.price(false) < best.price(false))
+}
+
+fn better_of(best: Node, other: Node) -> Node {
+    if is_better(&other, &best) {
+        other
+    } else {
+        best
+    }
+}
+
+/// The better of two plans, the first among equals.
+pub(crate) fn better(best: Option<Node>, other: Option<Node>) -> Option<Node> {
+    match (best, other) {
+        (Some(best), Some(other)) => Some(better_of(best, other)),
+        (Some(best), None) => Some(best),
+        (None, other) => other,
+    }
+}
+
+/// Looks for a plan with few enough conflicts behind one of these.
+pub(crate) fn mend(
+    tries: &mut Tries,
+    board: &mut Board,
+    from: &[Node],
+    aim: &Aim,
+) -> Result<Ended, AllocError>
+    requires { board.old.spoiled ≡ false }
+    ensures { OnOk result (board.new ≡ board.old) }
+{
+    let mut best = None;
+    for number in 0..SHAPES {
+        match search_by_layers(tries, board, from, aim, &shape_of(number))? {
+            Ended::Found(node) => return Ok(Ended::Found(node)),
+            Ended::Best(node) => best = better(best, node),
+        }
+    }
+    Ok(Ended::Best(best))
+}
