@@ -1,66 +1,16 @@
 //! Plans that are looked at, each made on the board from the one before where both place the same activities.
-ghost use Rattle.std.specs.Prelude.{◌≡◌, ◌+◌, ◌^◌, ◌<◌, ◌≤◌, ◌∷◌, false, true, map, length, take, All, IfOk, OnOk};
+ghost use Rattle.std.specs.Prelude.{◌≡◌, ◌+◌, ◌<◌, ◌≤◌, ◌∷◌, false, true, length, All, IfOk, OnOk};
 ghost use Rattle.pl_semantics.specs.Whole.{IsWhole};
-ghost use Rattle.pl_semantics.specs.Moves.{moved};
-ghost use Rattle.pl_update.specs.Changes.Replaced.{CanReplace, with_plan};
-ghost use Rattle.pl_board.specs.Boards.{after};
 ghost use Rattle.pl_moves.specs.Changes.{IsOfActivities};
 ghost use Rattle.pl_moves.specs.Runs.{goes_on, CanBeMade, IsTrialOf};
 ghost use Rattle.pl_search.specs.Undos.{MayBeMade};
 
 use crate::tries::Tries;
-use crate::undo::make_change;
 use pl_board::Board;
-use pl_moves::{Trial, goes_on, moved, start_of, trial_of};
-use pl_plan::{Activity, RepairMove};
+use pl_moves::{Trial, go_on, make_change, run_length, start_of, trial_of};
+use pl_plan::RepairMove;
 use pl_points::{Quiet, Steps};
 use std::alloc::{AllocError, Global};
-
-// How many of the moves go on with what the first one places.
-fn run_length(first: &RepairMove, moves: &[RepairMove]) -> usize
-    ensures few { result ≤ length moves.now }
-    ensures alike { All (λ m. goes_on first.now m ≡ true) (take result moves.now) }
-{
-    for (place, mv) in moves.iter().enumerate() {
-        if !goes_on(first, mv) {
-            return place;
-        }
-    }
-    moves.len()
-}
-
-fn moved_all(
-    alloc: Global,
-    placed: &[Activity],
-    from: u32,
-    to: u32,
-) -> Result<Vec<Activity>, AllocError>
-    requires { All (λ a. a.start + to < 2 ^ 32) placed.now }
-    ensures { IfOk result (λ all. all.items ≡ map (moved from to) placed.now) }
-{
-    let mut all = Vec::with_capacity(alloc, placed.len())?;
-    for a in placed {
-        all.push(moved(alloc, a, from, to)?)?;
-    }
-    Ok(all)
-}
-
-// Takes what a move has placed on to another start.
-fn go_on(
-    alloc: Global,
-    board: &mut Board,
-    trial: &Trial,
-    from: u32,
-    to: u32,
-) -> Result<(), AllocError>
-    requires unspoiled { board.old.spoiled ≡ false }
-    requires near { All (λ a. a.start + to < 2 ^ 32) trial.now.change.placed.items }
-    requires can { CanReplace board.old.state trial.now.undo.gone.items (map (moved from to) trial.now.change.placed.items) }
-    ensures { OnOk result (board.new ≡ after (with_plan trial.now.undo.gone.items (map (moved from to) trial.now.change.placed.items) board.old.state)) }
-{
-    let placed = moved_all(alloc, &trial.change.placed, from, to)?;
-    board.replace(&trial.undo.gone, &placed, &mut Steps::new(Quiet))
-}
 
 impl Tries {
     // Looks at what the first of some moves makes, which is the fresh one of this number, and then at what each of the others does.
@@ -82,17 +32,18 @@ impl Tries {
         requires trial { IsTrialOf board.old.state first.now trial.now.change.gone.items trial.now.change.placed.items trial.now.undo.gone.items trial.now.undo.placed.items }
         ensures { OnOk result (board.new ≡ board.old) }
     {
+        let mut steps = Steps::new(Quiet);
         let next = board.next_id();
-        make_change(board, &trial.change)?;
+        make_change(board, &trial.change, &mut steps)?;
         self.look(board, number)?;
         let mut at = 0;
         'run: while at < rest.len() {
             let to = start_of(&rest[at]);
-            go_on(self.alloc, board, trial, start_of(first), to)?;
+            go_on(self.alloc, board, trial, start_of(first), to, &mut steps)?;
             at += 1;
             self.look(board, number.saturating_add(at))?;
         }
-        make_change(board, &trial.undo)?;
+        make_change(board, &trial.undo, &mut steps)?;
         board.reset_next(next);
         Ok(())
     }

@@ -1,13 +1,12 @@
 //! Moves that are made on a board to be looked at, and taken back.
 ghost use Rattle.std.specs.Prelude.{◌≡◌, ◌≤◌, true, false, IsTrue, OnOk, IfOk};
 ghost use Rattle.pl_board.specs.Boards.{after};
-ghost use Rattle.pl_update.specs.Changes.Replaced.{CanReplace, with_plan};
 ghost use Rattle.pl_moves.specs.Changes.{IsOfActivities};
 ghost use Rattle.pl_moves.specs.Undone.{IsUndoneBy};
 ghost use Rattle.pl_search.specs.Undos.{CanTakeBack, IsMadeForNow, MayBeMade, taken_back};
 
 use pl_board::Board;
-use pl_moves::{Change, Trial, is_legal, make, proper, trial_of};
+use pl_moves::{Change, Trial, is_legal, make, make_change, proper, trial_of};
 use pl_plan::RepairMove;
 use pl_points::{Quiet, Steps};
 use std::alloc::{AllocError, Global};
@@ -49,15 +48,6 @@ pub(crate) fn may_be_made(board: &Board, mv: &RepairMove) -> bool
     is_legal(board, mv)
 }
 
-/// Takes out what a change takes out, and puts in what it places.
-pub(crate) fn make_change(board: &mut Board, change: &Change) -> Result<(), AllocError>
-    requires unspoiled { board.old.spoiled ≡ false }
-    requires can { CanReplace board.old.state change.now.gone.items change.now.placed.items }
-    ensures { OnOk result (board.new ≡ after (with_plan change.now.gone.items change.now.placed.items board.old.state)) }
-{
-    board.replace(&change.gone, &change.placed, &mut Steps::new(Quiet))
-}
-
 // Makes the move, given the change that it comes to.
 fn make_trial(board: &mut Board, mv: &RepairMove, trial: Trial) -> Result<Undo, AllocError>
     requires unspoiled { board.old.spoiled ≡ false }
@@ -66,7 +56,7 @@ fn make_trial(board: &mut Board, mv: &RepairMove, trial: Trial) -> Result<Undo, 
 {
     let next = board.next_id();
     let Trial { change, undo } = trial;
-    make_change(board, &change)?;
+    make_change(board, &change, &mut Steps::new(Quiet))?;
     Ok(Undo { change: undo, next })
 }
 
@@ -90,7 +80,7 @@ pub(crate) fn take_back(board: &mut Board, undo: &Undo) -> Result<(), AllocError
     requires can { CanTakeBack undo.now board.old.state }
     ensures { OnOk result (board.new ≡ after (taken_back undo.now board.old.state)) }
 {
-    make_change(board, &undo.change)?;
+    make_change(board, &undo.change, &mut Steps::new(Quiet))?;
     board.reset_next(undo.next);
     Ok(())
 }
