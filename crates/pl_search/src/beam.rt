@@ -180,7 +180,7 @@ fn next_layer(
 #[derive(Drop)]
 struct Progress {
     best: Option<Node>,
-    price: i64,
+    price: u64,
     idle: u32,
 }
 
@@ -188,7 +188,7 @@ impl Progress {
     fn none() -> Progress {
         Progress {
             best: None,
-            price: i64::MAX,
+            price: u64::MAX,
             idle: 0,
         }
     }
@@ -224,11 +224,11 @@ fn see_all(tries: &mut Tries, from: &[Node]) -> Result<(), AllocError> {
     Ok(())
 }
 
-// Goes on by layers while more than so many plans may still be looked at.
+// Goes on by layers behind these plans while more than so many may still be looked at.
 fn go_on_by_layers(
     tries: &mut Tries,
     board: &mut Board,
-    first: Layer,
+    first: Vec<Node>,
     aim: &Aim,
     shape: &Shape,
     stop: u32,
@@ -236,18 +236,17 @@ fn go_on_by_layers(
     requires { board.old.spoiled ≡ false }
     ensures { OnOk result (board.new ≡ board.old) }
 {
-    let mut layer = first;
+    let mut nodes = first;
     let mut progress = Progress::none();
     for _layer in 0..aim.repairs.saturating_add(1) {
-        let nodes = match layer {
-            Layer::Found(node) => return Ok(Ended::Found(node)),
-            Layer::Going(nodes) => nodes,
-        };
         progress.note(tries.alloc, nodes.as_slice(), shape.lengths)?;
         if nodes.is_empty() || tries.left <= stop || progress.idle > PATIENCE {
-            return Ok(Ended::Best(progress.into_best()));
+            break;
         }
-        layer = next_layer(tries, board, nodes.as_slice(), aim, shape, stop)?;
+        match next_layer(tries, board, nodes.as_slice(), aim, shape, stop)? {
+            Layer::Found(node) => return Ok(Ended::Found(node)),
+            Layer::Going(next) => nodes = next,
+        }
     }
     Ok(Ended::Best(progress.into_best()))
 }
@@ -265,6 +264,8 @@ pub(crate) fn search_by_layers(
 {
     let stop = tries.left.saturating_sub(aim.worlds);
     see_all(tries, from)?;
-    let first = first_layer(tries.alloc, from, aim, shape)?;
-    go_on_by_layers(tries, board, first, aim, shape, stop)
+    match first_layer(tries.alloc, from, aim, shape)? {
+        Layer::Found(node) => Ok(Ended::Found(node)),
+        Layer::Going(nodes) => go_on_by_layers(tries, board, nodes, aim, shape, stop),
+    }
 }

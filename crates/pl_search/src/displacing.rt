@@ -1,5 +1,5 @@
 //! Goals that found no way are tried again, others giving way.
-ghost use Rattle.std.specs.Prelude.{◌≡◌, false, IfOk, IfSome, OnOk};
+ghost use Rattle.std.specs.Prelude.{◌≡◌, false, IfOk, OnOk};
 
 use crate::branching::GivingUp;
 use crate::draft::Draft;
@@ -27,36 +27,37 @@ fn copy_behind(
     Ok(other)
 }
 
-fn more_served(draft: Draft, other: Draft) -> Draft
-    requires draft { draft.board.spoiled ≡ false }
-    requires other { other.board.spoiled ≡ false }
-    ensures { result.board.spoiled ≡ false }
+// Takes the way, and goes on with what comes of it where more goals are served then.
+fn try_way(
+    tries: &mut Tries,
+    failures: &Failures,
+    draft: &mut Draft,
+    way: &Node,
+) -> Result<(), AllocError>
+    requires { draft.old.board.spoiled ≡ false }
+    ensures { OnOk result (draft.new.board.spoiled ≡ false) }
 {
+    let other = copy_behind(tries, failures, draft, way)?;
     if other.look.unserved < draft.look.unserved {
-        other
-    } else {
-        draft
+        *draft = other;
     }
+    Ok(())
 }
 
-// The plan with a goal served where others give way, if more goals are served then, and else the plan.
+// Serves the goal of a conflict where others give way, if more goals are served then.
 fn displace_for(
     tries: &mut Tries,
     failures: &Failures,
-    draft: Draft,
+    draft: &mut Draft,
     conflict: &Conflict,
-) -> Result<Draft, AllocError>
-    requires { draft.board.spoiled ≡ false }
-    ensures { IfOk result (λ d. d.board.spoiled ≡ false) }
+) -> Result<(), AllocError>
+    requires { draft.old.board.spoiled ≡ false }
+    ensures { OnOk result (draft.new.board.spoiled ≡ false) }
 {
-    let mut draft = draft;
     let giving_up = GivingUp::AllBut(conflict.subject);
     match draft.way_to_serve(tries, failures, conflict, giving_up)? {
-        Some(way) => {
-            let other = copy_behind(tries, failures, &draft, &way)?;
-            Ok(more_served(draft, other))
-        }
-        None => Ok(draft),
+        Some(way) => try_way(tries, failures, draft, &way),
+        None => Ok(()),
     }
 }
 
@@ -64,15 +65,14 @@ fn displace_for(
 pub(crate) fn displace(
     tries: &mut Tries,
     failures: &Failures,
-    draft: Draft,
+    draft: &mut Draft,
     failed: &[Conflict],
-) -> Result<Draft, AllocError>
-    requires { draft.board.spoiled ≡ false }
-    ensures { IfOk result (λ d. d.board.spoiled ≡ false) }
+) -> Result<(), AllocError>
+    requires { draft.old.board.spoiled ≡ false }
+    ensures { OnOk result (draft.new.board.spoiled ≡ false) }
 {
-    let mut draft = draft;
     for conflict in failed {
-        draft = displace_for(tries, failures, draft, conflict)?;
+        displace_for(tries, failures, draft, conflict)?;
     }
-    Ok(draft)
+    Ok(())
 }

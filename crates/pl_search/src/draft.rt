@@ -7,7 +7,7 @@ use crate::failures::Failures;
 use crate::inserting::insert;
 use crate::look::{Look, look_at};
 use crate::marks::mark_of_plan;
-use crate::mending::{better, mend};
+use crate::mending::{keep_better, mend};
 use crate::node::Node;
 use crate::tries::Tries;
 use crate::undo::{make_step, may_be_made};
@@ -118,6 +118,20 @@ impl Draft {
         mend(tries, &mut self.board, from.as_slice(), &aim)
     }
 
+    fn follow_better(
+        &mut self,
+        alloc: Global,
+        best: Option<Node>,
+        other: Option<Node>,
+    ) -> Result<(), AllocError>
+        requires { self.old.board.spoiled ≡ false }
+        ensures { OnOk result (self.new.board.spoiled ≡ false) }
+    {
+        let mut best = best;
+        keep_better(&mut best, other);
+        self.follow_best(alloc, best)
+    }
+
     // The same where any goal may be given up, and else the best that was found.
     fn mend_at_any_price(&mut self, tries: &mut Tries, best: Option<Node>) -> Result<(), AllocError>
         requires { self.old.board.spoiled ≡ false }
@@ -125,7 +139,7 @@ impl Draft {
     {
         match self.way_to_mend(tries, GivingUp::Any)? {
             Ended::Found(node) => self.follow(tries.alloc, &node),
-            Ended::Best(other) => self.follow_best(tries.alloc, better(best, other)),
+            Ended::Best(other) => self.follow_better(tries.alloc, best, other),
         }
     }
 
@@ -158,8 +172,9 @@ impl Draft {
             return Ok(None);
         }
         let worlds = failures.worlds_for(conflict.subject, self.worlds);
-        let aim = self.aim(self.look.hard, giving_up, worlds);
-        insert(tries, &mut self.board, self.look, conflict, &aim)
+        let look = self.look;
+        let aim = self.aim(look.hard, giving_up, worlds);
+        insert(tries, &mut self.board, look, conflict, &aim)
     }
 
     // Serves the goal of a conflict, if there is a way.

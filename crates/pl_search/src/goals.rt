@@ -8,27 +8,27 @@ use pl_facts::Goal;
 use std::alloc::{AllocError, Global};
 
 /// More than any window is wide.
-const BEHIND: i64 = 1_000_000_000_000;
+const BEHIND: u64 = 1_000_000_000_000;
 
 /// The conflict of an open goal, and its place in the order.
 #[derive(Clone, Copy, Debug)]
 struct Wanted {
     conflict: Conflict,
-    rank: (i64, u32),
+    rank: (u64, u32),
 }
 
 // How wide the rest of a goal's window is.
-fn width_of(goal: &Goal, floor: u32) -> i64 {
-    i64::from(goal.latest) - i64::from(goal.earliest.max(floor))
+fn width_of(goal: &Goal, floor: u32) -> u64 {
+    u64::from(goal.latest.saturating_sub(goal.earliest.max(floor)))
 }
 
 // Goals that must be served come first, and among these and the others the one of the narrowest window.
-fn rank_of(goal: &Goal, floor: u32) -> (i64, u32) {
+fn rank_of(goal: &Goal, floor: u32) -> (u64, u32) {
     let width = width_of(goal, floor);
     let rank = if goal.must {
         width
     } else {
-        width.saturating_add(BEHIND)
+        width + BEHIND
     };
     (rank, goal.number)
 }

@@ -166,7 +166,7 @@ impl Insertion {
 
 // How many plans one search by layers may look at, of so many for a message.
 fn worlds_for_one(worlds: u32) -> u32 {
-    worlds / 20 * 3
+    worlds.saturating_mul(3) / 20
 }
 
 impl Chooser for Insertion {

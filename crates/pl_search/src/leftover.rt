@@ -19,11 +19,11 @@ use std::alloc::{AllocError, Global};
 /// Of so many conflicts the repairs are tried.
 const CONFLICTS: u32 = 4;
 
-/// What it costs that a goal is no longer served.
-const LOST_GOAL: i64 = 10;
+/// What it costs that a goal is not served.
+const OPEN_GOAL: u64 = 10;
 
-/// What it costs besides in a turn in which other repairs are wanted.
-const NOT_YET: i64 = 1000;
+/// What it costs besides that one is no longer served, in a turn in which other repairs are wanted.
+const NOT_YET: u64 = 1000;
 
 fn must_be_served(board: &Board, goal: u32) -> bool {
     match board.goals().get(goal) {
@@ -93,20 +93,20 @@ fn pass_time(alloc: Global, board: &Board) -> Result<Option<Proposal>, AllocErro
 }
 
 // What a repair costs. With an even number of turns left another one than the loss of a goal is wanted.
-fn cost_of(step: &Step, before: &Look, left: u32) -> i64 {
-    let lost = i64::from(step.look.unserved) - i64::from(before.unserved);
-    let wait = if left % 2 == 0 && lost > 0 {
+fn cost_of(step: &Step, before: &Look, left: u32) -> u64 {
+    let open = u64::from(step.look.unserved) * OPEN_GOAL;
+    let wait = if left % 2 == 0 && step.look.unserved > before.unserved {
         NOT_YET
     } else {
         0
     };
-    price_of(&step.look, 0, false).saturating_add(LOST_GOAL * lost + wait)
+    price_of(&step.look, 0, false).saturating_add(open + wait)
 }
 
 // The repair that costs the least, the first among equals.
 fn cheapest(steps: &[Step], before: &Look, left: u32) -> Option<Proposal> {
     let mut best = None;
-    let mut least = i64::MAX;
+    let mut least = u64::MAX;
     for step in steps {
         let cost = cost_of(step, before, left);
         if cost < least {
@@ -126,7 +126,8 @@ fn cheapest_repair(
     requires { board.old.spoiled ≡ false }
     ensures { OnOk result (board.new ≡ board.old) }
 {
-    let look = look_at(board, mark_of_plan(board.plan()));
+    let mark = mark_of_plan(board.plan());
+    let look = look_at(board, mark);
     let branch = Branch {
         from: 0,
         look,

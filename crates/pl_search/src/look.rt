@@ -11,7 +11,7 @@ pub(crate) struct Look {
     /// How many other conflicts stand.
     pub(crate) hard: u32,
     /// What the lengths of conflicts count for.
-    pub(crate) lasting: i64,
+    pub(crate) lasting: u64,
     /// How many activities are live.
     pub(crate) activities: u32,
     /// The mark of the plan, which hangs on its activities and not on their ids.
@@ -19,10 +19,10 @@ pub(crate) struct Look {
 }
 
 /// The most that the length of one conflict counts for.
-const MOST_LASTING: i64 = 40;
+const MOST_LASTING: u64 = 40;
 
 /// The length that counts for half of the most.
-const HALF_LENGTH: i64 = 20;
+const HALF_LENGTH: u64 = 20;
 
 /// Whether a conflict is an open goal. A search serves goals one by one, so none of these is to be mended.
 pub(crate) fn is_open_goal(conflict: &Conflict) -> bool {
@@ -30,13 +30,13 @@ pub(crate) fn is_open_goal(conflict: &Conflict) -> bool {
 }
 
 // What so many moments count for: ever less for each more.
-fn count_for(moments: u32) -> i64 {
-    let moments = i64::from(moments);
+fn count_for(moments: u32) -> u64 {
+    let moments = u64::from(moments);
     MOST_LASTING * moments / (moments + HALF_LENGTH)
 }
 
 // What the length of a conflict counts for. Those of activities and goals have none.
-fn lasting_of(conflict: &Conflict) -> i64 {
+fn lasting_of(conflict: &Conflict) -> u64 {
     match conflict.code {
         Code::Over | Code::Low | Code::High | Code::Must => {
             count_for(conflict.b.saturating_sub(conflict.a))

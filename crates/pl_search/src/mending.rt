@@ -37,26 +37,27 @@ fn shape_of(number: u32) -> Shape {
 }
 
 // Whether a plan has fewer conflicts but open goals, or as many and is the cheaper one.
-fn is_better(node: &Node, best: &Node) -> bool {
+fn is_less(node: &Node, best: &Node) -> bool {
     let hard = node.look.hard;
     let least = best.look.hard;
     hard < least || (hard == least && node.price(false) < best.price(false))
 }
 
-fn better_of(best: Node, other: Node) -> Node {
-    if is_better(&other, &best) {
-        other
-    } else {
-        best
+// Whether there is another plan, and it is better than the best so far, if there is one.
+fn is_better(other: &Option<Node>, best: &Option<Node>) -> bool {
+    match other {
+        None => false,
+        Some(other) => match best {
+            None => true,
+            Some(best) => is_less(other, best),
+        },
     }
 }
 
-/// The better of two plans, the first among equals.
-pub(crate) fn better(best: Option<Node>, other: Option<Node>) -> Option<Node> {
-    match (best, other) {
-        (Some(best), Some(other)) => Some(better_of(best, other)),
-        (Some(best), None) => Some(best),
-        (None, other) => other,
+/// Keeps the better of two plans, the first among equals.
+pub(crate) fn keep_better(best: &mut Option<Node>, other: Option<Node>) {
+    if is_better(&other, best) {
+        *best = other;
     }
 }
 
@@ -74,7 +75,7 @@ pub(crate) fn mend(
     for number in 0..SHAPES {
         match search_by_layers(tries, board, from, aim, &shape_of(number))? {
             Ended::Found(node) => return Ok(Ended::Found(node)),
-            Ended::Best(node) => best = better(best, node),
+            Ended::Best(node) => keep_better(&mut best, node),
         }
     }
     Ok(Ended::Best(best))

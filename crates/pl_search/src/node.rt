@@ -37,7 +37,7 @@ impl Node {
     }
 
     /// Its price, with or without the lengths of conflicts.
-    pub(crate) fn price(&self, lengths: bool) -> i64 {
+    pub(crate) fn price(&self, lengths: bool) -> u64 {
         price_of(&self.look, self.path.len(), lengths)
     }
 

@@ -33,7 +33,7 @@ pub(crate) fn plan(
     let goals = open_goals(tries.alloc, &draft.board)?;
     draft.serve(tries, failures, goals.as_slice())?;
     let failed = open_goals(tries.alloc, &draft.board)?;
-    let draft = displace(tries, failures, draft, failed.as_slice())?;
+    displace(tries, failures, &mut draft, failed.as_slice())?;
     let failed = open_goals(tries.alloc, &draft.board)?;
     count_failures(failures, failed.as_slice())?;
     let mut path = Vec::from_slice(tries.alloc, draft.path.as_slice())?;

@@ -1,5 +1,5 @@
 //! Plans that are looked at, each made on the board from the one before where both place the same activities.
-ghost use Rattle.std.specs.Prelude.{◌≡◌, ◌+◌, ◌<◌, ◌≤◌, ◌∷◌, false, true, length, All, IfOk, OnOk};
+ghost use Rattle.std.specs.Prelude.{◌≡◌, ◌<◌, ◌≤◌, ◌∷◌, false, true, length, All, IfOk, OnOk};
 ghost use Rattle.pl_semantics.specs.Whole.{IsWhole};
 ghost use Rattle.pl_moves.specs.Changes.{IsOfActivities};
 ghost use Rattle.pl_moves.specs.Runs.{goes_on, CanBeMade, IsTrialOf};
@@ -48,39 +48,27 @@ impl Tries {
         Ok(())
     }
 
+    // Looks at what the first of some fresh moves makes, which is the one of this number, and those that go on with it. Answers how
+    // many these are.
     fn look_at_run(
         &mut self,
         board: &mut Board,
-        first: &RepairMove,
-        rest: &[RepairMove],
-        number: usize,
-    ) -> Result<(), AllocError>
-        requires unspoiled { board.old.spoiled ≡ false }
-        requires allowed { All (MayBeMade board.old.state) (first.now ∷ rest.now) }
-        requires alike { All (λ m. goes_on first.now m ≡ true) rest.now }
-        ensures { OnOk result (board.new ≡ board.old) }
-    {
-        let trial = trial_of(self.alloc, board.state(), first)?;
-        self.look_along(board, first, rest, &trial, number)
-    }
-
-    // Looks at what the fresh move of this number makes, and those that go on with it. Answers how many these are.
-    fn look_from(
-        &mut self,
-        board: &mut Board,
-        fresh: &[RepairMove],
+        moves: &[RepairMove],
         number: usize,
     ) -> Result<usize, AllocError>
         requires unspoiled { board.old.spoiled ≡ false }
-        requires allowed { All (MayBeMade board.old.state) fresh.now }
-        requires number { number < length fresh.now }
+        requires allowed { All (MayBeMade board.old.state) moves.now }
+        requires some { 0 < length moves.now }
         ensures same { OnOk result (board.new ≡ board.old) }
-        ensures few { IfOk result (λ n. n + number < length fresh.now) }
+        ensures some { IfOk result (λ n. 0 < n) }
+        ensures few { IfOk result (λ n. n ≤ length moves.now) }
     {
-        let rest = &fresh[number + 1..];
-        let more = run_length(&fresh[number], rest);
-        self.look_at_run(board, &fresh[number], &rest[..more], number)?;
-        Ok(more)
+        let first = &moves[0];
+        let rest = &moves[1..];
+        let more = run_length(first, rest);
+        let trial = trial_of(self.alloc, board.state(), first)?;
+        self.look_along(board, first, &rest[..more], &trial, number)?;
+        Ok(more + 1)
     }
 
     /// Looks at what each of the fresh moves makes.
@@ -95,8 +83,8 @@ impl Tries {
     {
         let mut number = 0;
         'runs: while number < fresh.len() {
-            let more = self.look_from(board, fresh, number)?;
-            number += more + 1;
+            let count = self.look_at_run(board, &fresh[number..], number)?;
+            number += count;
         }
         self.end_look();
         Ok(())

@@ -123,7 +123,8 @@ impl Tries {
     fn keep(&mut self, place: usize, look: Look) -> Result<(), AllocError>
         requires { place < length self.old.found.items }
     {
-        self.found[place].look = look;
+        let step = self.found[place];
+        self.found[place] = Step { look, ..step };
         self.left = self.left.saturating_sub(1);
         self.known.insert(look.mark, look)?;
         Ok(())
@@ -138,8 +139,8 @@ impl Tries {
         if place >= self.found.len() {
             return Ok(());
         }
-        let look = look_at(board, self.found[place].look.mark);
-        self.keep(place, look)
+        let step = self.found[place];
+        self.keep(place, look_at(board, step.look.mark))
     }
 
     /// Ends the looking at fresh plans.
