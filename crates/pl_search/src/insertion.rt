@@ -28,6 +28,8 @@ pub struct Insertion {
     path: Vec<Proposal>,
     tries: Tries,
     failures: Failures,
+    /// How many plans are kept for turns that its plan leaves.
+    spare: u32,
 }
 
 impl Insertion {
@@ -42,6 +44,7 @@ impl Insertion {
             path: Vec::new(alloc),
             tries: Tries::new(alloc),
             failures: Failures::none(alloc),
+            spare: 0,
         }
     }
 
@@ -55,7 +58,8 @@ impl Insertion {
             self.turn = 0;
             self.is_planned = false;
             self.path = Vec::new(alloc);
-            self.tries.begin(self.worlds);
+            self.spare = self.worlds / 10;
+            self.tries.begin(self.worlds - self.spare);
         }
     }
 
@@ -117,6 +121,8 @@ impl Insertion {
         ensures legal { IfOk result (λ o. IfSome o (λ p. IsProposal board.old.state (Some p))) }
         ensures same { OnOk result (board.new ≡ board.old) }
     {
+        self.tries.left = self.tries.left.saturating_add(self.spare);
+        self.spare = 0;
         let left = self.left();
         match leftover_repair(&mut self.tries, board, left)? {
             Some(repair) => confirm(alloc, board, &repair),

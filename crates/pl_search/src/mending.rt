@@ -36,11 +36,9 @@ fn shape_of(number: u32) -> Shape {
     }
 }
 
-// Whether a plan has fewer conflicts but open goals, or as many and is the cheaper one.
-fn is_less(node: &Node, best: &Node) -> bool {
-    let hard = node.look.hard;
-    let least = best.look.hard;
-    hard < least || (hard == least && node.price(false) < best.price(false))
+// What plans are compared by: conflicts but open goals, then open goals, then their prices.
+fn rank_of(node: &Node) -> (u32, u32, u64) {
+    (node.look.hard, node.look.unserved, node.price(false))
 }
 
 // Whether there is another plan, and it is better than the best so far, if there is one.
@@ -49,7 +47,7 @@ fn is_better(other: &Option<Node>, best: &Option<Node>) -> bool {
         None => false,
         Some(other) => match best {
             None => true,
-            Some(best) => is_less(other, best),
+            Some(best) => rank_of(other) < rank_of(best),
         },
     }
 }
