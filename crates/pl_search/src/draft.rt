@@ -4,6 +4,7 @@ ghost use Rattle.std.specs.Prelude.{◌≡◌, false, IfOk, OnOk};
 use crate::beam::{Aim, Ended};
 use crate::branching::GivingUp;
 use crate::failures::Failures;
+use crate::hopeless::count_hopeless;
 use crate::inserting::insert;
 use crate::look::{Look, look_at};
 use crate::marks::mark_of_plan;
@@ -107,14 +108,19 @@ impl Draft {
         }
     }
 
-    // Looks for repairs of all but open goals.
-    fn way_to_mend(&mut self, tries: &mut Tries, giving_up: GivingUp) -> Result<Ended, AllocError>
+    // Looks for repairs after which no more than so many conflicts stand beside open goals.
+    fn way_to_mend(
+        &mut self,
+        tries: &mut Tries,
+        giving_up: GivingUp,
+        enough: u32,
+    ) -> Result<Ended, AllocError>
         requires { self.old.board.spoiled ≡ false }
         ensures { OnOk result (self.new.board.spoiled ≡ false) }
     {
         let mut from = Vec::new(tries.alloc);
         from.push(Node::start(tries.alloc, self.look))?;
-        let aim = self.aim(0, giving_up, self.worlds);
+        let aim = self.aim(enough, giving_up, self.worlds);
         mend(tries, &mut self.board, from.as_slice(), &aim)
     }
 
@@ -133,27 +139,33 @@ impl Draft {
     }
 
     // The same where any goal may be given up, and else the best that was found.
-    fn mend_at_any_price(&mut self, tries: &mut Tries, best: Option<Node>) -> Result<(), AllocError>
+    fn mend_at_any_price(
+        &mut self,
+        tries: &mut Tries,
+        enough: u32,
+        best: Option<Node>,
+    ) -> Result<(), AllocError>
         requires { self.old.board.spoiled ≡ false }
         ensures { OnOk result (self.new.board.spoiled ≡ false) }
     {
-        match self.way_to_mend(tries, GivingUp::Any)? {
+        match self.way_to_mend(tries, GivingUp::Any, enough)? {
             Ended::Found(node) => self.follow(tries.alloc, &node),
             Ended::Best(other) => self.follow_better(tries.alloc, best, other),
         }
     }
 
-    /// Mends all but open goals, or as much as can be. A goal is given up only where nothing else helps.
+    /// Mends all but open goals and what is hopeless, or as much as can be. A goal is given up only where nothing else helps.
     pub(crate) fn mend_all(&mut self, tries: &mut Tries) -> Result<(), AllocError>
         requires { self.old.board.spoiled ≡ false }
         ensures { OnOk result (self.new.board.spoiled ≡ false) }
     {
-        if self.look.hard == 0 {
+        let hopeless = count_hopeless(tries.alloc, &self.board)?;
+        if self.look.hard <= hopeless {
             return Ok(());
         }
-        match self.way_to_mend(tries, GivingUp::Nothing)? {
+        match self.way_to_mend(tries, GivingUp::Nothing, hopeless)? {
             Ended::Found(node) => self.follow(tries.alloc, &node),
-            Ended::Best(best) => self.mend_at_any_price(tries, best),
+            Ended::Best(best) => self.mend_at_any_price(tries, hopeless, best),
         }
     }
 

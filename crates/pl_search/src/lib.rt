@@ -9,6 +9,7 @@ mod draft;
 mod expanding;
 mod failures;
 mod goals;
+mod hopeless;
 mod inserting;
 mod insertion;
 mod leftover;
