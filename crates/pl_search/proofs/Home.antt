@@ -35,7 +35,7 @@ made_for_now before m gone placed leaving returning by made is u leaves returns_
       can = record {
         can = rw (now, leaves, returns_) by.can_undo;
         ids = rw (next, now, leaves, returns_) by.ids;
-        next = rw (next, now, leaves, returns_) by.next;
+        next = rw (next, now, returns_) by.next;
       };
       back = rw (next, now, leaves, returns_) by.undone;
     }
