@@ -2,7 +2,6 @@
 use Rattle.std.proofs.Common.{◌≡◌, ℕ, false, List, sym, ap, ◌∙◌, subst}
 use Rattle.pl_plan.specs.declared.activity.Activity.{Activity}
 use Rattle.pl_plan.specs.declared.repair.RepairMove.{RepairMove}
-use Rattle.pl_semantics.specs.declared.plan_state.PlanState.{PlanState}
 use Rattle.pl_semantics.specs.Moves.{applied}
 use Rattle.pl_update.specs.Changes.Replaced.{with_plan}
 use Rattle.pl_board.specs.Boards.{Standing, after}
@@ -35,7 +34,7 @@ made_for_now before m gone placed leaving returning by made is u leaves returns_
       can = record {
         can = rw (now, leaves, returns_) by.can_undo;
         ids = rw (next, now, leaves, returns_) by.ids;
-        next = rw (next, now, leaves, returns_) by.next;
+        next = rw (next, now, returns_) by.next;
       };
       back = rw (next, now, leaves, returns_) by.undone;
     }

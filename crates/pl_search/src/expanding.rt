@@ -161,10 +161,11 @@ impl Tries {
         if path.is_empty() {
             return self.expand_here(board, branch);
         }
-        if !may_be_made(board, &path[0].mv) {
+        let first = path[0].mv;
+        if !may_be_made(board, &first) {
             return Ok(());
         }
-        let undo = make_for_now(self.alloc, board, &path[0].mv)?;
+        let undo = make_for_now(self.alloc, board, &first)?;
         self.expand(board, &path[1..], branch)?;
         take_back(board, &undo)?;
         Ok(())

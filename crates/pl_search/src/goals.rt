@@ -25,7 +25,11 @@ fn width_of(goal: &Goal, floor: u32) -> u64 {
 // Goals that must be served come first, and among these and the others the one of the narrowest window.
 fn rank_of(goal: &Goal, floor: u32) -> (u64, u32) {
     let width = width_of(goal, floor);
-    let rank = if goal.must { width } else { width + BEHIND };
+    let rank = if goal.must {
+        width
+    } else {
+        width.saturating_add(BEHIND)
+    };
     (rank, goal.number)
 }
 

@@ -92,8 +92,7 @@ fn pass_time(alloc: Global, board: &Board) -> Result<Option<Proposal>, AllocErro
     }
 }
 
-// What a repair costs. Conflicts that last longer cost more. With an even number of turns left another one than the loss of a goal
-// is wanted.
+// What a repair costs. With an even number of turns left another one than the loss of a goal is wanted.
 fn cost_of(step: &Step, before: &Look, left: u32) -> u64 {
     let open = u64::from(step.look.unserved) * OPEN_GOAL;
     let wait = if left % 2 == 0 && step.look.unserved > before.unserved {
@@ -101,17 +100,16 @@ fn cost_of(step: &Step, before: &Look, left: u32) -> u64 {
     } else {
         0
     };
-    price_of(&step.look, 0, true).saturating_add(open + wait)
+    price_of(&step.look, 0, false).saturating_add(open + wait)
 }
 
-// The repair that costs the least, the last among equals: of additions that help nothing that is the one of the last start, which
-// stands in the way of the least.
+// The repair that costs the least, the first among equals.
 fn cheapest(steps: &[Step], before: &Look, left: u32) -> Option<Proposal> {
     let mut best = None;
     let mut least = u64::MAX;
     for step in steps {
         let cost = cost_of(step, before, left);
-        if cost <= least {
+        if cost < least {
             best = Some(step.repair);
             least = cost;
         }

@@ -20,6 +20,17 @@ pub(crate) struct Step {
     pub(crate) look: Look,
 }
 
+impl Step {
+    /// The same repair, of what makes a plan of this mark.
+    pub(crate) fn with_mark(self, mark: u64) -> Step {
+        let before = self.look;
+        Step {
+            look: Look { mark, ..before },
+            ..self
+        }
+    }
+}
+
 impl Node {
     /// The plan that a search starts from.
     pub(crate) fn start(alloc: Global, look: Look) -> Node {

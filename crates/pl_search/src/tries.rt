@@ -77,7 +77,8 @@ impl Tries {
         if self.places.len() >= self.left as usize {
             return Ok(false);
         }
-        self.places.push(self.found.len())?;
+        let place = self.found.len();
+        self.places.push(place)?;
         self.add(step)?;
         Ok(true)
     }
@@ -109,13 +110,12 @@ impl Tries {
         requires others { All (MayBeMade board.now.state) fresh.old.items }
         ensures { OnOk result (All (MayBeMade board.now.state) fresh.new.items) }
     {
-        let trial = trial_of(self.alloc, board.state(), &step.repair.mv)?;
-        let mark = mark_behind(step.look.mark, &trial);
-        let look = Look { mark, ..step.look };
-        if !self.note_step(Step { look, ..step })? {
+        let mv = step.repair.mv;
+        let trial = trial_of(self.alloc, board.state(), &mv)?;
+        if !self.note_step(step.with_mark(mark_behind(step.look.mark, &trial)))? {
             return Ok(());
         }
-        fresh.push(step.repair.mv)?;
+        fresh.push(mv)?;
         Ok(())
     }
 

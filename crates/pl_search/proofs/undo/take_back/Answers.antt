@@ -1,4 +1,4 @@
-use Rattle.std.proofs.Common.{ap, ◌∙◌}
+use Rattle.std.proofs.Common.{ap}
 use Rattle.pl_board.specs.Boards.{Standing}
 use Rattle.pl_search.proofs.undo.take_back.Goals as goal
 

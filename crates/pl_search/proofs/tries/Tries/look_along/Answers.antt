@@ -1,5 +1,4 @@
-use Rattle.std.proofs.Common.{◌≡◌, false, ap, ◌∙◌, arith}
-use Rattle.pl_board.specs.Boards.{Standing}
+use Rattle.std.proofs.Common.{arith}
 use Rattle.pl_moves.proofs.Along.{back, made_at, may_go, near_then, went}
 use Rattle.pl_moves.proofs.Trying.{can_undo_then, home, last_state}
 use Rattle.pl_search.proofs.tries.Tries.look_along.Goals as goal
