@@ -129,7 +129,6 @@ pub(crate) fn run_workers<R: Threads + Wait + Sync, S: Source, O: Sink, G: Gate 
     let no_planner = AtomicBool::new(false);
     let no_executive = AtomicBool::new(false);
     let (flag_one, flag_two) = (&no_planner, &no_executive);
-    let repair = Duty::Repair(seed);
     let (lines, src, out, remains) = thread::scope(
         thread::scope_env(),
         rt,
@@ -141,7 +140,16 @@ pub(crate) fn run_workers<R: Threads + Wait + Sync, S: Source, O: Sink, G: Gate 
             ensures read { IsErrOf result.3.fed Cut.Read → lines.entry.now.failed ≡ None → Rose (S.faults src.entry.now) (S.faults result.1.now) }
             ensures write { IsErrOf result.3.fed Cut.Write → Rose (O.faults out.entry.now) (O.faults result.2.now) }
         {
-            let planner = hire(scope, rt, alloc, plan, gate, one, repair, flag_one);
+            let planner = hire(
+                scope,
+                rt,
+                alloc,
+                plan,
+                gate,
+                one,
+                Duty::Repair(seed),
+                flag_one,
+            );
             let executive = hire(scope, rt, alloc, plan, gate, two, Duty::Execute, flag_two);
             let hands = Hands { planner, executive };
             let remains = feed_and_join(rt, alloc, plan, model, pass, hands, lines, src, out);
