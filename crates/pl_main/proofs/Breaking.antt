@@ -43,19 +43,19 @@ Message = Option (List ℕ)
 
 -- ---- a log of the open entry alone
 
-opened_solo : {R : Rule} (turns : ℕ) (m : Model) → FollowsAll R m (opening (program_options turns) ∷ [])
+opened_solo : (R : Rule) (turns : ℕ) (m : Model) → FollowsAll R m (opening (program_options turns) ∷ [])
 unfolding FollowsAll
-opened_solo turns m = tt
+opened_solo R turns m = tt
 
 abbrev opened_run : {R : Rule} (turns : ℕ) (input words rest : List ℕ) (heads : List (List ℕ)) (room : ℕ) (m : Model) → IsHead heads words → GivesLines line_limit total_limit input heads room rest → IsModelText words m
     → Legal m (opening (program_options turns) ∷ []) → HasBegun (run_by R turns) input
-opened_run turns input words rest heads room m head gave accepted legal = record {
+opened_run {R} turns input words rest heads room m head gave accepted legal = record {
   model = m;
   log = opening (program_options turns) ∷ [];
   words = words;
   text = (split_is input heads words (lines_of rest) head (gave_lines line_limit total_limit input heads room rest gave)).text;
   accepted = accepted;
-  says = record { legal = legal; solo = opened_solo turns m; options = refl };
+  says = record { legal = legal; solo = opened_solo R turns m; options = refl };
   unanswered = (split_of input).messages;
   messages = refl;
 }
@@ -257,18 +257,18 @@ solo_memory turns kept start place input source_left held now m begun text (in_p
 
 -- ---- how a run of one thread ends
 
-pub ends_solo : {R : Rule} (turns : ℕ) → EndsOver (run_by R turns) (ModelRuns R turns)
-ends_solo turns kept start place input source_left held now m (Ok u) begun text run behind =
+pub ends_solo : (R : Rule) (turns : ℕ) → EndsOver (run_by R turns) (ModelRuns R turns)
+ends_solo R turns kept start place input source_left held now m (Ok u) begun text run behind =
     let k = known line_limit total_limit line_limit total_limit (Some input) input begun.lines start.reader.room start.ahead refl refl refl begun.took.gave in
     done_ends turns input begun.words k.rest begun.lines m start place source_left held run.opened now run.new begun.head k.gave k.is (behind_text kept start (Some input) begun) (text begun.words begun.keeps) run.first run.playing run.legal behind
-ends_solo turns kept start place input source_left held now m (Err halt.Limit) begun text run behind =
+ends_solo R turns kept start place input source_left held now m (Err halt.Limit) begun text run behind =
     let k = known line_limit total_limit line_limit total_limit (Some input) input begun.lines start.reader.room start.ahead refl refl refl begun.took.gave in
     past_limit turns input source_left held now (stopped_ends halt.Limit turns input begun.words k.rest begun.lines m start place source_left held run.opened now run.new begun.head k.gave k.is (behind_text kept start (Some input) begun) (text begun.words begun.keeps) run.first run.playing run.legal behind)
-ends_solo turns kept start place input source_left held now m (Err halt.Read) begun text run behind =
+ends_solo R turns kept start place input source_left held now m (Err halt.Read) begun text run behind =
     let k = known line_limit total_limit line_limit total_limit (Some input) input begun.lines start.reader.room start.ahead refl refl refl begun.took.gave in
     read_fault turns input source_left held now (stopped_ends halt.Read turns input begun.words k.rest begun.lines m start place source_left held run.opened now run.new begun.head k.gave k.is (behind_text kept start (Some input) begun) (text begun.words begun.keeps) run.first run.playing run.legal behind)
-ends_solo turns kept start place input source_left held now m (Err halt.Full) begun text run behind =
+ends_solo R turns kept start place input source_left held now m (Err halt.Full) begun text run behind =
     let k = known line_limit total_limit line_limit total_limit (Some input) input begun.lines start.reader.room start.ahead refl refl refl begun.took.gave in
     full_ends turns input begun.words k.rest begun.lines m start place source_left held run.opened now run.new begun.head k.gave k.is (behind_text kept start (Some input) begun) (text begun.words begun.keeps) run.first run.playing run.legal behind
-ends_solo turns kept start place input source_left held now m (Err halt.Write) begun text run behind = solo_short turns kept start place input source_left held now m begun text run behind
-ends_solo turns kept start place input source_left held now m (Err halt.Memory) begun text run behind = solo_memory turns kept start place input source_left held now m begun text run behind
+ends_solo R turns kept start place input source_left held now m (Err halt.Write) begun text run behind = solo_short turns kept start place input source_left held now m begun text run behind
+ends_solo R turns kept start place input source_left held now m (Err halt.Memory) begun text run behind = solo_memory turns kept start place input source_left held now m begun text run behind

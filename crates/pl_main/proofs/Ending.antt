@@ -40,26 +40,26 @@ use Rattle.pl_machine.proofs.ShortLogs.{log_is_short}
 
 -- ---- a run over a model
 
-pub run_stops : {R : Rule} (turns : ℕ) (m : Model) (start place : Place) (held opened now : Option (List ℕ)) (e : Halt) (new : State)
+pub run_stops : (R : Rule) (turns : ℕ) (m : Model) (start place : Place) (held opened now : Option (List ℕ)) (e : Halt) (new : State)
     → Adds held opened (text_from m 0 (opening (program_options turns) ∷ [])) → AnswersAllOrStops R (fresh_state turns m) start opened (Err e) new place now → Legal new.model new.log → ModelRuns R turns m start held (Err e) place now
-run_stops turns m start place held opened now halt.Limit new first playing legal = record { opened = opened; new = new; first = first; playing = playing; legal = legal }
-run_stops turns m start place held opened now halt.Full new first playing legal = record { opened = opened; new = new; first = first; playing = playing; legal = legal }
-run_stops turns m start place held opened now halt.Read new first playing legal = record { opened = opened; new = new; first = first; playing = playing; legal = legal }
-run_stops turns m start place held opened now halt.Write new first playing legal = in_play (record { opened = opened; new = new; first = first; playing = playing; legal = legal })
-run_stops turns m start place held opened now halt.Memory new first playing legal = in_play (record { opened = opened; new = new; first = first; playing = playing; legal = legal })
+run_stops R turns m start place held opened now halt.Limit new first playing legal = record { opened = opened; new = new; first = first; playing = playing; legal = legal }
+run_stops R turns m start place held opened now halt.Full new first playing legal = record { opened = opened; new = new; first = first; playing = playing; legal = legal }
+run_stops R turns m start place held opened now halt.Read new first playing legal = record { opened = opened; new = new; first = first; playing = playing; legal = legal }
+run_stops R turns m start place held opened now halt.Write new first playing legal = in_play (record { opened = opened; new = new; first = first; playing = playing; legal = legal })
+run_stops R turns m start place held opened now halt.Memory new first playing legal = in_play (record { opened = opened; new = new; first = first; playing = playing; legal = legal })
 
 -- memory was wanting for the machine
 pub run_unopened : {R : Rule} (turns : ℕ) (m : Model) (start : Place) (held : Option (List ℕ)) → ModelRuns R turns m start held (Err halt.Memory) start held
 run_unopened turns m start held = unopened refl refl
 
 -- the open entry's line was not written whole
-pub run_unwritten : {R : Rule} (turns : ℕ) (m : Model) (start : Place) (held now : Option (List ℕ)) (e : Halt) (faults later : ℕ) → Legal m (opening (program_options turns) ∷ []) → AppendsFront held now (text_from m 0 (opening (program_options turns) ∷ []))
+pub run_unwritten : (R : Rule) (turns : ℕ) (m : Model) (start : Place) (held now : Option (List ℕ)) (e : Halt) (faults later : ℕ) → Legal m (opening (program_options turns) ∷ []) → AppendsFront held now (text_from m 0 (opening (program_options turns) ∷ []))
     → WriteStops faults later e → ModelRuns R turns m start held (Err e) start now
-run_unwritten turns m start held now halt.Write faults later legal front cause = in_opening legal front refl
-run_unwritten turns m start held now halt.Memory faults later legal front cause = in_opening legal front refl
-run_unwritten turns m start held now halt.Read faults later legal front cause = absurd cause
-run_unwritten turns m start held now halt.Limit faults later legal front cause = absurd cause
-run_unwritten turns m start held now halt.Full faults later legal front cause = absurd cause
+run_unwritten R turns m start held now halt.Write faults later legal front cause = in_opening legal front refl
+run_unwritten R turns m start held now halt.Memory faults later legal front cause = in_opening legal front refl
+run_unwritten R turns m start held now halt.Read faults later legal front cause = absurd cause
+run_unwritten R turns m start held now halt.Limit faults later legal front cause = absurd cause
+run_unwritten R turns m start held now halt.Full faults later legal front cause = absurd cause
 
 -- ---- what was logged
 

@@ -85,26 +85,26 @@ pub step_fills : {R : Rule} (old new : State) (start place : Place) (held now : 
     → Filled R old (line_in message) held new now → AnswersNextUntilFull R old start held new place now
 step_fills old new start place held now message gets filled = record { message = message; gets = gets; fills = filled.fills; written = filled.written }
 
-step_by : {R : Rule} (old new : State) (start place : Place) (held now : Option (List ℕ)) (message : Option NumberedLine) (r : Result Bool Halt) → MessageGives start.reader start.ahead (Ok message) place.reader place.ahead
+step_by : (R : Rule) (old new : State) (start place : Place) (held now : Option (List ℕ)) (message : Option NumberedLine) (r : Result Bool Halt) → MessageGives start.reader start.ahead (Ok message) place.reader place.ahead
     → Answering R old (line_in message) held r new now → AnswersNextOrStops R old start held r new place now
-step_by old new start place held now message (Ok done) gets answers = (step_on old new start place held now message gets answers.0, answers.1)
-step_by old new start place held now message (Err halt.Full) gets answers = step_fills old new start place held now message gets answers
-step_by old new start place held now message (Err halt.Limit) gets answers = absurd answers
-step_by old new start place held now message (Err halt.Read) gets answers = absurd answers
-step_by old new start place held now message (Err halt.Write) gets answers = record { message = message; gets = gets; answered = answers }
-step_by old new start place held now message (Err halt.Memory) gets (untold legal silent) = unheard legal silent
-step_by old new start place held now message (Err halt.Memory) gets (told_in_part answered) = unwritten (record { message = message; gets = gets; answered = answered })
+step_by R old new start place held now message (Ok done) gets answers = (step_on old new start place held now message gets answers.0, answers.1)
+step_by R old new start place held now message (Err halt.Full) gets answers = step_fills old new start place held now message gets answers
+step_by R old new start place held now message (Err halt.Limit) gets answers = absurd answers
+step_by R old new start place held now message (Err halt.Read) gets answers = absurd answers
+step_by R old new start place held now message (Err halt.Write) gets answers = record { message = message; gets = gets; answered = answers }
+step_by R old new start place held now message (Err halt.Memory) gets (untold legal silent) = unheard legal silent
+step_by R old new start place held now message (Err halt.Memory) gets (told_in_part answered) = unwritten (record { message = message; gets = gets; answered = answered })
 
-pub step_answers : {R : Rule} (old new : State) (start place : Place) (held now line : Option (List ℕ)) (message : Option NumberedLine) (r : Result Bool Halt) → MessageGives start.reader start.ahead (Ok message) place.reader place.ahead
+pub step_answers : (R : Rule) (old new : State) (start place : Place) (held now line : Option (List ℕ)) (message : Option NumberedLine) (r : Result Bool Halt) → MessageGives start.reader start.ahead (Ok message) place.reader place.ahead
     → line ≡ line_in message → Answering R old line held r new now → AnswersNextOrStops R old start held r new place now
-step_answers {R} old new start place held now line message r gets is answers = step_by old new start place held now message r gets (subst (λ (l : Option (List ℕ)). Answering R old l held r new now) is answers)
+step_answers R old new start place held now line message r gets is answers = step_by R old new start place held now message r gets (subst (λ (l : Option (List ℕ)). Answering R old l held r new now) is answers)
 
-pub step_stops : {R : Rule} (old : State) (start place : Place) (held : Option (List ℕ)) (f : LineFault) (e : Halt) → GetsFault start.reader start.ahead f place.reader place.ahead → HaltFor f e → AnswersNextOrStops R old start held (Err e) old place held
-step_stops old start place held f halt.Limit gets is = record { reason = f; fault = gets; halts = is; same = refl; written = refl }
-step_stops old start place held f halt.Read gets is = record { reason = f; fault = gets; halts = is; same = refl; written = refl }
-step_stops old start place held f halt.Full gets is = absurd (never_full f is)
-step_stops old start place held f halt.Write gets is = absurd (never_writes f is)
-step_stops old start place held f halt.Memory gets is = unread refl refl
+pub step_stops : (R : Rule) (old : State) (start place : Place) (held : Option (List ℕ)) (f : LineFault) (e : Halt) → GetsFault start.reader start.ahead f place.reader place.ahead → HaltFor f e → AnswersNextOrStops R old start held (Err e) old place held
+step_stops R old start place held f halt.Limit gets is = record { reason = f; fault = gets; halts = is; same = refl; written = refl }
+step_stops R old start place held f halt.Read gets is = record { reason = f; fault = gets; halts = is; same = refl; written = refl }
+step_stops R old start place held f halt.Full gets is = absurd (never_full f is)
+step_stops R old start place held f halt.Write gets is = absurd (never_writes f is)
+step_stops R old start place held f halt.Memory gets is = unread refl refl
 
 -- ---- messages of lines
 
@@ -133,9 +133,9 @@ messages_append (line ∷ lines) more ms e =
 
 -- ---- entries that go on
 
-solo_append : {R : Rule} (w : World) (xs ys : List Entry) → follows R w xs → follows R (world_from w xs) ys → follows R w (xs ++ ys)
-solo_append w [] ys first second = second
-solo_append w (x ∷ xs) ys first second = (first.0, solo_append (after w x.event) xs ys first.1 second)
+solo_append : (R : Rule) (w : World) (xs ys : List Entry) → follows R w xs → follows R (world_from w xs) ys → follows R w (xs ++ ys)
+solo_append R w [] ys first second = second
+solo_append R w (x ∷ xs) ys first second = (first.0, solo_append R (after w x.event) xs ys first.1 second)
 
 drop_front : (xs ys : List Entry) → drop (length xs) (xs ++ ys) ≡ ys
 drop_front [] ys = refl
@@ -185,7 +185,7 @@ joined {R} old mid new held written now before added log solo world same text lo
     let text_is = added_text old mid new before added log same log2 in
     record {
       log = whole;
-      solo = solo_append old.world before added solo (subst (λ (w : World). follows R w added) world solo2);
+      solo = solo_append R old.world before added solo (subst (λ (w : World). follows R w added) world solo2);
       world = world2 ∙ ap (λ (w : World). world_from w added) world ∙ sym (world_append old.world before added);
       same = record { model = same2.model ∙ same.model; options = same2.options ∙ same.options };
       text = subst (λ (t : List ℕ). Adds held now t) (sym (text_joined old.model (length old.log) before added)) (adds_then held written now (text_from old.model (length old.log) before) (text_from old.model (length old.log + length before) added) text (subst (λ (t : List ℕ). Adds written now t) text_is text2));

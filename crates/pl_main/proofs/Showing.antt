@@ -144,11 +144,11 @@ begun_then goals old kept new last after left held now (Ok outcome.Done) few is_
 begun_then goals old kept new last after left held now (Ok outcome.Refused) few is_fresh begun text = absurd text
 begun_then goals old kept new last after left held now (Err halt.Limit) few is_fresh begun text =
     run_within (solo_run demo_turns) (demo_text goals) left None None (demo_within goals few)
-    (begun_run (solo_run demo_turns) (ModelRuns IsSoloEvent demo_turns) (ends_solo demo_turns) old kept new last (Input goals) after left None None (Err halt.Limit) is_fresh begun record { model = text.model; text = text.text; run = text.shows.run })
+    (begun_run (solo_run demo_turns) (ModelRuns IsSoloEvent demo_turns) (ends_solo IsSoloEvent demo_turns) old kept new last (Input goals) after left None None (Err halt.Limit) is_fresh begun record { model = text.model; text = text.text; run = text.shows.run })
 begun_then goals old kept new last after left held now (Err halt.Full) few is_fresh begun text =
     record {
       left = left;
-      full = begun_run (solo_run demo_turns) (ModelRuns IsSoloEvent demo_turns) (ends_solo demo_turns) old kept new last (Input goals) after left None None (Err halt.Full) is_fresh begun record { model = text.model; text = text.text; run = text.shows.run };
+      full = begun_run (solo_run demo_turns) (ModelRuns IsSoloEvent demo_turns) (ends_solo IsSoloEvent demo_turns) old kept new last (Input goals) after left None None (Err halt.Full) is_fresh begun record { model = text.model; text = text.text; run = text.shows.run };
       silent = text.shows.silent;
     }
 begun_then goals old kept new last after left held now (Err halt.Read) few is_fresh begun text = absurd text
