@@ -1,5 +1,5 @@
 //! The program that looks ahead.
-use crate::program::running::{Failing, NONE, assert_does, joined, words_of};
+use crate::running::{Failing, NONE, assert_does, count_newlines, joined, words_of};
 use pl_io::{MemSink, MemSource};
 use pl_main::{read_ahead, run_ahead};
 use std::alloc::Global;
@@ -68,7 +68,7 @@ fn its_journals_are_right(rt: HostRuntime) {
     for words in ["run 20 500", "run 3 50", "run 20 0"] {
         let (_, journal) = ran(&rt, alloc, words, NONE, &input);
         let whole = joined(&rt, alloc, MODEL, &journal);
-        let entries = journal.iter().filter(|byte| **byte == b'\n').count();
+        let entries = count_newlines(&journal);
         let wanted = format!(in alloc; "journal ok: entries {entries} finished\n").expect(
             &rt, "memory",
         );
