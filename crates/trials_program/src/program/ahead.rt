@@ -113,12 +113,12 @@ fn tells_faults(rt: HostRuntime) {
     let input = joined(&rt, alloc, MODEL, MESSAGES.as_bytes());
     let (status, text) = ran(&rt, alloc, "run", NONE, &input);
     assert!(rt;
-        status == 2 && text.as_slice() == b"usage: run N WORLDS\n",
+        status == 2 && text.as_slice() == b"usage: run N WORLDS\n".as_slice(),
         "usage"
     );
     let (status, text) = ran(&rt, alloc, "run 8 50", NONE, b"horizon 9");
     assert!(rt;
-        status == 3 && text.as_slice() == b"model: no begin\n",
+        status == 3 && text.as_slice() == b"model: no begin\n".as_slice(),
         "no model"
     );
     let (status, _) = ran(&rt, alloc, "run 8 50", (&[1], &[]), &input);
