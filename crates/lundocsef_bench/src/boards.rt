@@ -3,8 +3,8 @@ ghost use Rattle.std.specs.Prelude.{◌≤◌, ◌<◌};
 
 use crate::places::place_of;
 use anyhow::{Result, bail};
-use pl_accept::{Accepted, accept};
 use pl_board::Board;
+use pl_check::{Accepted, accept};
 use pl_moves::{apply, proper};
 use pl_plan::RepairMove;
 use pl_points::{Quiet, Steps};

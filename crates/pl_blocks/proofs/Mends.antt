@@ -1,6 +1,7 @@
 -- Rows in which one block makes place for others.
 use Rattle.std.proofs.Common.{◌≡◌, ℕ, zero, suc, ◌+◌, ◌-◌, ◌<◌, ◌≤◌, List, [], ◌∷◌, ◌++◌, length, get_or, take, drop, refl, ap, sym, ◌∙◌, subst, arith, append_assoc, set, pos}
 use Rattle.std.proofs.lemmas.List.{length-drop, length-append}
+use Rattle.std.proofs.Math.Seq.{take-suc}
 use Rattle.pl_points.specs.Points.{Point, ArePoints, RiseFrom, AreNear}
 use Rattle.pl_points.proofs.Parting.{drop_next}
 use Rattle.pl_blocks.specs.Blocks.{together, AreSized, AreFull}
@@ -124,12 +125,7 @@ mended_two bs place ps first second new fit parts one two few is =
 
 -- the row without its last block
 before_last : (bs : List (List Point)) (place i : ℕ) (a : List Point) → place ≡ suc i → place < length bs → a ≡ get_or bs i a → take place bs ≡ take i bs ++ a ∷ []
-before_last bs place i a e lt is = ap (λ n. take n bs) e ∙ at_suc bs i a (omega (arith, e, lt)) ∙ ap (λ q. take i bs ++ q ∷ []) (sym is)
-  where
-    at_suc : {T : Type 0} (xs : List T) (i : ℕ) (d : T) → i < length xs → take (suc i) xs ≡ take i xs ++ get_or xs i d ∷ []
-    at_suc [] i d lt = absurd (omega (arith, lt))
-    at_suc (x ∷ xs) zero d lt = refl
-    at_suc (x ∷ xs) (suc i) d lt = ap (λ l. x ∷ l) (at_suc xs i d (omega (arith, lt)))
+before_last bs place i a e lt is = ap (λ n. take n bs) e ∙ take-suc bs i a (omega (arith, e, lt)) ∙ ap (λ q. take i bs ++ q ∷ []) (sym is)
 
 pub mended_before : (bs : List (List Point)) (place i : ℕ) (ps a : List Point) (new : List (List Point)) → Fit bs place ps → place ≡ suc i → a ≡ get_or bs i a → length a + length ps ≤ 32
     → new ≡ take i bs ++ (a ++ ps) ∷ drop (suc place) bs → IsMended bs place ps new

@@ -1,12 +1,15 @@
 -- Rows of blocks as one list of points.
 use Rattle.std.proofs.Common.{◌≡◌, ℕ, zero, suc, ◌+◌, ◌*◌, ◌<◌, ◌≤◌, Bool, true, false, ◌&&◌, cond, ltb, ◌/◌, List, [], ◌∷◌, ◌++◌, length, get_or, take, drop, refl, ap, sym, ◌∙◌, subst, arith, append_assoc, ℤ, pos, ◌+ℤ◌, eqb, leb}
 use Rattle.std.specs.Ordering.{int_eq}
-use Rattle.std.proofs.lemmas.Bool.{false≢true, lt-ltb, le-ltb, ltb-true, leb-true, leb-false}
+use Rattle.std.proofs.lemmas.Bool.{false≢true, lt-ltb, le-ltb, ltb-true, leb-true, leb-false, and_from}
 use Rattle.std.proofs.lemmas.Int.{ints, to_z-of_z}
 use Rattle.std.proofs.lemmas.List.{length-append}
+use Rattle.std.proofs.Math.Seq.{take-suc}
+use Rattle.std.proofs.Math.Bool.{and-true, and-false}
 use Rattle.pl_lists.specs.Lists.{front, back}
+use Rattle.pl_lists.proofs.Tests.{and_first, and_second}
 use Rattle.pl_points.specs.Sums.{IsSmall}
-use Rattle.pl_points.specs.Points.{Point, sum_to, sum_below, is_before, put, merged, RiseFrom, SmallFrom, AreNear, ArePoints}
+use Rattle.pl_points.specs.Points.{Point, sum_below, is_before, put, merged, RiseFrom, SmallFrom, AreNear, ArePoints}
 use Rattle.pl_points.proofs.Parting.{NonePass, IsParted, back_fails, drop_next}
 use Rattle.pl_points.proofs.PointLists.{small_along, rising_later, small_near, rising_drop}
 use Rattle.pl_points.proofs.Outside.{back_le, below_none, small_back}
@@ -19,17 +22,6 @@ pub together-append : (xs ys : List (List Point)) → together (xs ++ ys) ≡ to
 together-append [] ys = refl
 together-append (x ∷ xs) ys = ap (λ l. x ++ l) (together-append xs ys) ∙ sym (append_assoc x (together xs) (together ys))
 
-and_left : (a b : Bool) → (a && b) ≡ true → a ≡ true
-and_left true b e = refl
-and_left false b e = absurd (false≢true e)
-
-and_right : (a b : Bool) → (a && b) ≡ true → b ≡ true
-and_right true b e = e
-and_right false b e = absurd (false≢true e)
-
-and_both : (a b : Bool) → a ≡ true → b ≡ true → (a && b) ≡ true
-and_both a b e f = rw e f
-
 and_false : (a b : Bool) → a ≡ true → (a && b) ≡ false → b ≡ false
 and_false true b e f = f
 and_false false b e f = absurd (false≢true e)
@@ -37,39 +29,39 @@ and_false false b e f = absurd (false≢true e)
 pub past_more : (a b : ℕ) (ps : List Point) → a ≤ b → is_past a ps ≡ true → is_past b ps ≡ true
 past_more a b [] le e = refl
 past_more a b (p ∷ ps) le e =
-    let f : is_before b p ≡ true = lt-ltb p.0 b (omega (arith, ltb-true p.0 a (and_left (is_before a p) (is_past a ps) e), le)) in
-    and_both (is_before b p) (is_past b ps) f (past_more a b ps le (and_right (is_before a p) (is_past a ps) e))
+    let f : is_before b p ≡ true = lt-ltb p.0 b (omega (arith, ltb-true p.0 a (and_first (is_before a p) (is_past a ps) e), le)) in
+    and_from (is_before b p) (is_past b ps) f (past_more a b ps le (and_second (is_before a p) (is_past a ps) e))
 
 pub past_append : (at : ℕ) (xs ys : List Point) → is_past at xs ≡ true → is_past at ys ≡ true → is_past at (xs ++ ys) ≡ true
 past_append at [] ys e f = f
-past_append at (x ∷ xs) ys e f = and_both (is_before at x) (is_past at (xs ++ ys)) (and_left (is_before at x) (is_past at xs) e) (past_append at xs ys (and_right (is_before at x) (is_past at xs) e) f)
+past_append at (x ∷ xs) ys e f = and_from (is_before at x) (is_past at (xs ++ ys)) (and_first (is_before at x) (is_past at xs) e) (past_append at xs ys (and_second (is_before at x) (is_past at xs) e) f)
 
 past_left : (at : ℕ) (xs ys : List Point) → is_past at (xs ++ ys) ≡ true → is_past at xs ≡ true
 past_left at [] ys e = refl
-past_left at (x ∷ xs) ys e = and_both (is_before at x) (is_past at xs) (and_left (is_before at x) (is_past at (xs ++ ys)) e) (past_left at xs ys (and_right (is_before at x) (is_past at (xs ++ ys)) e))
+past_left at (x ∷ xs) ys e = and_from (is_before at x) (is_past at xs) (and_first (is_before at x) (is_past at (xs ++ ys)) e) (past_left at xs ys (and_second (is_before at x) (is_past at (xs ++ ys)) e))
 
 past_right : (at : ℕ) (xs ys : List Point) → is_past at (xs ++ ys) ≡ true → is_past at ys ≡ true
 past_right at [] ys e = e
-past_right at (x ∷ xs) ys e = past_right at xs ys (and_right (is_before at x) (is_past at (xs ++ ys)) e)
+past_right at (x ∷ xs) ys e = past_right at xs ys (and_second (is_before at x) (is_past at (xs ++ ys)) e)
 
 -- points that lie before a moment, and others behind them
 pub back_past : (at : ℕ) (xs ys : List Point) → is_past at xs ≡ true → back (is_before at) (xs ++ ys) ≡ back (is_before at) ys
 back_past at [] ys e = refl
 back_past at (x ∷ xs) ys e =
-    let f : is_before at x ≡ true = and_left (is_before at x) (is_past at xs) e in
-    rw f (back_past at xs ys (and_right (is_before at x) (is_past at xs) e))
+    let f : is_before at x ≡ true = and_first (is_before at x) (is_past at xs) e in
+    rw f (back_past at xs ys (and_second (is_before at x) (is_past at xs) e))
 
 pub below_past : (at : ℕ) (xs ys : List Point) → is_past at xs ≡ true → sum_below (xs ++ ys) at ≡ change_of xs +ℤ sum_below ys at
 below_past at [] ys e = omega (arith, ints)
 below_past at (x ∷ xs) ys e =
-    let f : is_before at x ≡ true = and_left (is_before at x) (is_past at xs) e in
-    rw f (omega (arith, ints, below_past at xs ys (and_right (is_before at x) (is_past at xs) e)))
+    let f : is_before at x ≡ true = and_first (is_before at x) (is_past at xs) e in
+    rw f (omega (arith, ints, below_past at xs ys (and_second (is_before at x) (is_past at xs) e)))
 
 pub merged_past : (at : ℕ) (d : ℤ) (xs ys : List Point) → is_past at xs ≡ true → merged at d (xs ++ ys) ≡ xs ++ merged at d ys
 merged_past at d [] ys e = refl
 merged_past at d (x ∷ xs) ys e =
-    let f : is_before at x ≡ true = and_left (is_before at x) (is_past at xs) e in
-    rw f (ap (λ l. x ∷ l) (merged_past at d xs ys (and_right (is_before at x) (is_past at xs) e)))
+    let f : is_before at x ≡ true = and_first (is_before at x) (is_past at xs) e in
+    rw f (ap (λ l. x ∷ l) (merged_past at d xs ys (and_second (is_before at x) (is_past at xs) e)))
 
 -- points of which one does not
 pub back_here : (at : ℕ) (xs ys : List Point) → is_past at xs ≡ false → back (is_before at) (xs ++ ys) ≡ back (is_before at) xs ++ ys
@@ -104,7 +96,7 @@ pub rise_split : (c : ℕ) (xs ys : List Point) → RiseFrom c (xs ++ ys) → (d
 rise_split c [] ys rising = (c, (omega arith, (refl, rising)))
 rise_split c (x ∷ xs) ys rising =
     let h = rise_split (suc x.0) xs ys rising.2 in
-    (h.0, (omega (arith, rising.0, h.1.0), (and_both (is_before h.0 x) (is_past h.0 xs) (lt-ltb x.0 h.0 (omega (arith, h.1.0))) h.1.1.0, h.1.1.1)))
+    (h.0, (omega (arith, rising.0, h.1.0), (and_from (is_before h.0 x) (is_past h.0 xs) (lt-ltb x.0 h.0 (omega (arith, h.1.0))) h.1.1.0, h.1.1.1)))
 
 pub rise_front : (c : ℕ) (xs ys : List Point) → RiseFrom c (xs ++ ys) → RiseFrom c xs
 rise_front c [] ys rising = tt
@@ -172,15 +164,10 @@ take_drop (suc i) [] = refl
 take_drop (suc i) (x ∷ xs) = ap (λ l. x ∷ l) (take_drop i xs)
 
 pub take_next : {T : Type 0} (xs : List T) (i j : ℕ) (d : T) → i < length xs → j ≡ i + 1 → take j xs ≡ take i xs ++ get_or xs i d ∷ []
-take_next xs i j d lt next = ap (λ n. take n xs) (step i j next) ∙ at_suc xs i d lt
+take_next xs i j d lt next = ap (λ n. take n xs) (step i j next) ∙ take-suc xs i d lt
   where
     step : (i j : ℕ) → j ≡ i + 1 → j ≡ suc i
     step i j next = omega (arith, next)
-
-    at_suc : {T : Type 0} (xs : List T) (i : ℕ) (d : T) → i < length xs → take (suc i) xs ≡ take i xs ++ get_or xs i d ∷ []
-    at_suc [] i d lt = absurd (omega (arith, lt))
-    at_suc (x ∷ xs) zero d lt = refl
-    at_suc (x ∷ xs) (suc i) d lt = ap (λ l. x ∷ l) (at_suc xs i d (omega (arith, lt)))
 
 -- a place up to which the blocks lie before a moment
 pub is_past_up_to : (at i : ℕ) (bs : List (List Point)) → take i bs ≡ front (is_past at) bs → is_past at (together (take i bs)) ≡ true
@@ -289,7 +276,7 @@ blocks_passed c at (suc i) j (x ∷ bs) b rising sized lt next is past =
   where
     some_le : (d at : ℕ) (b : List Point) → RiseFrom d b → 0 < length b → is_past (at + 1) b ≡ true → d ≤ at
     some_le d at [] rising some past = absurd (omega (arith, some))
-    some_le d at (p ∷ ps) rising some past = omega (arith, rising.0, ltb-true p.0 (at + 1) (and_left (is_before (at + 1) p) (is_past (at + 1) ps) past))
+    some_le d at (p ∷ ps) rising some past = omega (arith, rising.0, ltb-true p.0 (at + 1) (and_first (is_before (at + 1) p) (is_past (at + 1) ps) past))
 
     first_le : (d at i : ℕ) (bs : List (List Point)) (b : List Point) → RiseFrom d (together bs) → AreSized bs → i < length bs → b ≡ get_or bs i b → is_past (at + 1) b ≡ true → d ≤ at
     first_le d at i [] b rising sized lt is past = absurd (omega (arith, lt))
@@ -302,14 +289,14 @@ blocks_passed c at (suc i) j (x ∷ bs) b rising sized lt next is past =
 cut_front : (at : ℕ) (xs : List Point) → is_past at xs ≡ true → front (is_before at) xs ≡ xs
 cut_front at [] e = refl
 cut_front at (x ∷ xs) e =
-    let f : is_before at x ≡ true = and_left (is_before at x) (is_past at xs) e in
-    rw f (ap (λ l. x ∷ l) (cut_front at xs (and_right (is_before at x) (is_past at xs) e)))
+    let f : is_before at x ≡ true = and_first (is_before at x) (is_past at xs) e in
+    rw f (ap (λ l. x ∷ l) (cut_front at xs (and_second (is_before at x) (is_past at xs) e)))
 
 cut_at : (at : ℕ) (xs ys : List Point) (q : Point) → is_past at xs ≡ true → is_before at q ≡ false → (front (is_before at) (xs ++ q ∷ ys) ≡ xs) × (back (is_before at) (xs ++ q ∷ ys) ≡ q ∷ ys)
 cut_at at [] ys q e f = (rw f refl, rw f refl)
 cut_at at (x ∷ xs) ys q e f =
-    let g : is_before at x ≡ true = and_left (is_before at x) (is_past at xs) e in
-    let h = cut_at at xs ys q (and_right (is_before at x) (is_past at xs) e) f in
+    let g : is_before at x ≡ true = and_first (is_before at x) (is_past at xs) e in
+    let h = cut_at at xs ys q (and_second (is_before at x) (is_past at xs) e) f in
     (rw g (ap (λ l. x ∷ l) h.0), rw g h.1)
 
 pub passed_here : (ps : List Point) (i at : ℕ) (p : Point) → RiseFrom 0 ps → is_past at (take i ps) ≡ true → i < length ps → p ≡ get_or ps i p → at ≤ p.0
@@ -347,24 +334,16 @@ change_next ps i j d lt next = ap change_of (take_next ps i j d lt next) ∙ tot
 -- the last point decides
 pub last_past : (c at : ℕ) (ps : List Point) (i : ℕ) (d : Point) → RiseFrom c ps → suc i ≡ length ps → ltb (get_or ps i d).0 at ≡ is_past at ps
 last_past c at [] i d rising e = absurd (omega (arith, e))
-last_past c at (p ∷ []) zero d rising e = and_true (is_before at p)
-  where
-    and_true : (b : Bool) → b ≡ (b && true)
-    and_true true = refl
-    and_true false = refl
+last_past c at (p ∷ []) zero d rising e = sym (and-true (is_before at p))
 last_past c at (p ∷ []) (suc i) d rising e = absurd (omega (arith, e))
 last_past c at (p ∷ q ∷ ps) zero d rising e = absurd (omega (arith, e))
 last_past c at (p ∷ q ∷ ps) (suc i) d rising e = last_past (suc p.0) at (q ∷ ps) i d rising.2 (omega (arith, e)) ∙ cases (is_past at (q ∷ ps)) refl
   where
     cases : (v : Bool) → is_past at (q ∷ ps) ≡ v → v ≡ (is_before at p && v)
     cases true f =
-        let g : is_before at p ≡ true = lt-ltb p.0 at (omega (arith, rising.2.0, ltb-true q.0 at (and_left (is_before at q) (is_past at ps) f))) in
+        let g : is_before at p ≡ true = lt-ltb p.0 at (omega (arith, rising.2.0, ltb-true q.0 at (and_first (is_before at q) (is_past at ps) f))) in
         rw g refl
-    cases false f = and_no (is_before at p)
-      where
-        and_no : (b : Bool) → false ≡ (b && false)
-        and_no true = refl
-        and_no false = refl
+    cases false f = sym (and-false (is_before at p))
 
 pub count_most : (bs : List (List Point)) → AreSized bs → length (together bs) ≤ 64 * length bs
 count_most [] sized = omega arith
@@ -386,17 +365,6 @@ pub below_here : (c at : ℕ) (xs ys : List Point) → RiseFrom c (xs ++ ys) →
 below_here c at xs ys rising not =
     let h = rise_split c xs ys rising in
     omega (arith, ints, below_append at xs ys, below_none h.0 at ys (not_past_le at h.0 xs h.1.1.0 not) h.1.1.1)
-
-pub sum_is_below : (ps : List Point) (at : ℕ) → sum_to ps at ≡ sum_below ps (at + 1)
-sum_is_below [] at = refl
-sum_is_below (p ∷ ps) at = ap (λ v. cond v p.1 (pos 0) +ℤ sum_to ps at) (same p.0) ∙ ap (λ z. cond (ltb p.0 (at + 1)) p.1 (pos 0) +ℤ z) (sum_is_below ps at)
-  where
-    same : (n : ℕ) → leb n at ≡ ltb n (at + 1)
-    same n = cases (leb n at) refl
-      where
-        cases : (v : Bool) → leb n at ≡ v → v ≡ ltb n (at + 1)
-        cases true e = sym (lt-ltb n (at + 1) (omega (arith, leb-true n at e)))
-        cases false e = sym (le-ltb n (at + 1) (omega (arith, leb-false n at e)))
 
 -- sums so far are small
 pub small_below : (s : ℤ) (c at : ℕ) (ps : List Point) → RiseFrom c ps → SmallFrom s ps → IsSmall (s +ℤ sum_below ps at)

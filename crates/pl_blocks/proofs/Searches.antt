@@ -244,10 +244,6 @@ begun_blocks new at d is sized few small = record {
     full_one (b ∷ []) few = (omega arith, tt)
     full_one (b ∷ c ∷ bs) few = absurd (omega (arith, few))
 
-pub no_items : {T : Type 0} (xs : List T) → length xs ≡ 0 → xs ≡ []
-no_items [] e = refl
-no_items (x ∷ xs) e = absurd (omega (arith, e))
-
 pub from_next : (i : ℕ) (bs : List (List Point)) → drop (i + 1) bs ≡ drop (suc i) bs
 from_next i bs = let same : i + 1 ≡ suc i = omega arith in ap (λ n. drop n bs) same
 

@@ -4,6 +4,7 @@ use Rattle.std.specs.Prelude.{int_lt, is_some}
 use Rattle.std.specs.Int.{int_min, int_max}
 use Rattle.std.proofs.lemmas.Bool.{false≢true}
 use Rattle.std.proofs.lemmas.Int.{ints}
+use Rattle.std.proofs.Math.Bool.{or-false}
 use Rattle.pl_points.specs.Points.{Point, leaving, is_out}
 use Rattle.pl_blocks.specs.Blocks.{least_along, greatest_along, least_sum, greatest_sum, change_of}
 
@@ -37,12 +38,8 @@ shuffle true false r l = refl
 shuffle false true r l = refl
 shuffle false false r l = refl
 
-or_nil : (b : Bool) → b ≡ (b || false)
-or_nil true = refl
-or_nil false = refl
-
 out_along : (L M s low high r : ℤ) (ps : List Point) → either_out L M (s +ℤ least_along low r ps) (s +ℤ greatest_along high r ps) ≡ (either_out L M (s +ℤ low) (s +ℤ high) || is_some (leaving L M (s +ℤ r) ps))
-out_along L M s low high r [] = or_nil (either_out L M (s +ℤ low) (s +ℤ high))
+out_along L M s low high r [] = sym (or-false (either_out L M (s +ℤ low) (s +ℤ high)))
 out_along L M s low high r (p ∷ ps) =
     let z = r +ℤ p.1 in
     let same : s +ℤ z ≡ (s +ℤ r) +ℤ p.1 = omega (arith, ints) in
@@ -99,12 +96,3 @@ low_step low s m z r xs ps p cut sum is rest =
 pub high_step : (high s m z r : ℤ) (xs ps : List Point) (p : Point) → xs ≡ p ∷ ps → z ≡ s +ℤ p.1 → m ≡ int_max high z → greatest_along high s xs ≡ r → greatest_along m z ps ≡ r
 high_step high s m z r xs ps p cut sum is rest =
     ap (λ x. greatest_along x z ps) (is ∙ ap (int_max high) sum) ∙ ap (λ x. greatest_along (int_max high (s +ℤ p.1)) x ps) sum ∙ sym (ap (greatest_along high s) cut) ∙ rest
-
-pub or_left : (a b : Bool) → a ≡ true → (a || b) ≡ true
-or_left a b e = rw e refl
-
-pub or_right : (a b : Bool) → b ≡ true → (a || b) ≡ true
-or_right a b e = rw e (sym (or_true a))
-
-pub or_neither : (a b : Bool) → a ≡ false → b ≡ false → (a || b) ≡ false
-or_neither a b e f = rw e (rw f refl)

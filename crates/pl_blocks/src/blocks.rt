@@ -193,14 +193,11 @@ impl Points for BlockPoints {
 }
 
 impl Copied for BlockPoints {
-    fn copy(&self, _alloc: Global) -> Result<BlockPoints, AllocError> {
-        let mut blocks = Vec::new(self.alloc);
+    fn copy(&self, alloc: Global) -> Result<BlockPoints, AllocError> {
+        let mut blocks = Vec::new(alloc);
         for block in &self.blocks {
-            blocks.push(block.copy(self.alloc)?)?;
+            blocks.push(block.copy(alloc)?)?;
         }
-        Ok(BlockPoints {
-            alloc: self.alloc,
-            blocks,
-        })
+        Ok(BlockPoints { alloc, blocks })
     }
 }

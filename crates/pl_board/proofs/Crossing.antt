@@ -5,7 +5,7 @@ use Rattle.std.proofs.MapsCrossingOver as over
 use denote.RattleType.{RattleType}
 use denote.Param.Send.{IsSend, IsSync, part_keyless, sendable}
 use Rattle.pl_points.specs.contracts.told.Told
-use Rattle.pl_lines.specs.contracts.lines.Lines
+use Rattle.pl_update.specs.contracts.timelines.lines.Lines
 use Rattle.pl_state.specs.contracts.line.StateLine
 use Rattle.pl_state.specs.contracts.sets.Sets
 use Rattle.pl_state.specs.contracts.starts.Starts
@@ -13,9 +13,9 @@ use Rattle.pl_state.specs.contracts.musts.Musts
 use Rattle.pl_board.specs.contracts.board.Board
 use Rattle.pl_conflict.specs.contracts.set.ConflictSet
 use Rattle.pl_links.specs.contracts.links.Links
-use Rattle.pl_values.specs.contracts.evaluations.Evaluations
-use Rattle.pl_world.specs.contracts.plan_state.PlanState
-use Rattle.pl_world.proofs.Crossing.{state_parts}
+use Rattle.pl_update.specs.contracts.evaluations.evaluations.Evaluations
+use Rattle.pl_semantics.specs.contracts.plan_state.PlanState
+use Rattle.pl_semantics.proofs.Crossing.{state_parts}
 
 -- what is noted for proofs alone owns nothing
 told_send : (A : RattleType) → IsSend (Told.the_row A)

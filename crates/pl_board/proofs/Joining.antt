@@ -1,51 +1,45 @@
 -- The set of conflicts after a change: timelines were mended in it already, and the others are exchanged.
 use Rattle.std.proofs.Common.{◌≡◌, ℕ, Bool, true, false, List, ◌++◌, refl, sym, ap, ◌∙◌, inl, inr, ⊎_elim}
 use Rattle.std.specs.Prelude.{◌&&◌, ◌||◌, not}
+use Rattle.std.proofs.lemmas.Bool.{false_from_ne_true}
+use Rattle.std.proofs.Math.Bool.{or-false}
 use Rattle.pl_conflict.specs.declared.conflict.Conflict.{Conflict}
 use Rattle.pl_conflict.specs.Order.{has}
 use Rattle.pl_conflict.specs.Sorting.{exchanged}
 use Rattle.pl_conflict.proofs.OrderLaws.{conflict_unique, conflict_exact}
 use Rattle.pl_conflict.proofs.Sorting.{has-append, has-exchanged, ordered-exchanged}
-use Rattle.pl_world.specs.declared.plan_state.PlanState.{PlanState}
-use Rattle.pl_world.specs.Parts.{Part, part_of, of_goals, of_activities, of_links, of_timelines}
-use Rattle.pl_world.specs.Conflicts.{conflicts_of}
-use Rattle.pl_world.specs.Goals.{goal_conflicts}
-use Rattle.pl_world.specs.Activities.{activity_conflicts}
-use Rattle.pl_world.specs.Links.{link_conflicts}
-use Rattle.pl_world.specs.Timelines.{timeline_conflicts}
-use Rattle.pl_world.specs.Whole.{IsWhole}
-use Rattle.pl_world.proofs.Standing.{ordered, members, of_goals_alone, of_activities_alone, of_links_alone, of_timelines_alone}
-use Rattle.pl_near.specs.Near.{near, IsPlain, Follows}
-use Rattle.pl_near.proofs.Standing.{near_plain, mended}
-use Rattle.pl_linked.specs.Mended.{MendsLinks}
+use Rattle.pl_semantics.specs.declared.plan_state.PlanState.{PlanState}
+use Rattle.pl_semantics.specs.Parts.{Part, part_of, of_goals, of_activities, of_links, of_timelines}
+use Rattle.pl_semantics.specs.Conflicts.{conflicts_of}
+use Rattle.pl_semantics.specs.Goals.{goal_conflicts}
+use Rattle.pl_semantics.specs.Activities.{activity_conflicts}
+use Rattle.pl_semantics.specs.Links.{link_conflicts}
+use Rattle.pl_semantics.specs.Timelines.{timeline_conflicts}
+use Rattle.pl_semantics.specs.Whole.{IsWhole}
+use Rattle.pl_semantics.proofs.Standing.{ordered, members, of_goals_alone, of_activities_alone, of_links_alone, of_timelines_alone}
+use Rattle.pl_update.specs.GoalsAndActivities.Near.{near, IsPlain, Follows}
+use Rattle.pl_update.proofs.AboutGoalsAndActivities.Standing.{near_plain, mended}
+use Rattle.pl_update.specs.Links.Mended.{MendsLinks}
 
 -- ---- tests
-
-absent : (b : Bool) → (b ≡ true → ⊥) → b ≡ false
-absent true never = absurd (never refl)
-absent false never = refl
 
 -- the parts that a conflict is not of
 module _ (s : PlanState) (q : Conflict) where
   no_goal : (part_of q.code ≡ of_goals → ⊥) → has q (goal_conflicts s) ≡ false
-  no_goal other = absent (has q (goal_conflicts s)) (λ h. other (of_goals_alone s q h))
+  no_goal other = false_from_ne_true (has q (goal_conflicts s)) (λ h. other (of_goals_alone s q h))
 
   no_activity : (part_of q.code ≡ of_activities → ⊥) → has q (activity_conflicts s) ≡ false
-  no_activity other = absent (has q (activity_conflicts s)) (λ h. other (of_activities_alone s q h))
+  no_activity other = false_from_ne_true (has q (activity_conflicts s)) (λ h. other (of_activities_alone s q h))
 
   no_link : (part_of q.code ≡ of_links → ⊥) → has q (link_conflicts s) ≡ false
-  no_link other = absent (has q (link_conflicts s)) (λ h. other (of_links_alone s q h))
+  no_link other = false_from_ne_true (has q (link_conflicts s)) (λ h. other (of_links_alone s q h))
 
   no_timeline : (part_of q.code ≡ of_timelines → ⊥) → has q (timeline_conflicts s) ≡ false
-  no_timeline other = absent (has q (timeline_conflicts s)) (λ h. other (of_timelines_alone s q h))
+  no_timeline other = false_from_ne_true (has q (timeline_conflicts s)) (λ h. other (of_timelines_alone s q h))
 
   -- a conflict of links stands where the links say so, one of timelines where the timelines do
   pub links_say : part_of q.code ≡ of_links → has q (conflicts_of s) ≡ has q (link_conflicts s)
-  links_say is = members s q ∙ rw (no_goal (λ e. let bad : of_links ≡ of_goals = sym is ∙ e in cc), no_activity (λ e. let bad : of_links ≡ of_activities = sym is ∙ e in cc), no_timeline (λ e. let bad : of_links ≡ of_timelines = sym is ∙ e in cc)) (or_none (has q (link_conflicts s)))
-    where
-      or_none : (b : Bool) → (b || false) ≡ b
-      or_none true = refl
-      or_none false = refl
+  links_say is = members s q ∙ rw (no_goal (λ e. let bad : of_links ≡ of_goals = sym is ∙ e in cc), no_activity (λ e. let bad : of_links ≡ of_activities = sym is ∙ e in cc), no_timeline (λ e. let bad : of_links ≡ of_timelines = sym is ∙ e in cc)) (or-false (has q (link_conflicts s)))
 
   pub timelines_say : part_of q.code ≡ of_timelines → has q (conflicts_of s) ≡ has q (timeline_conflicts s)
   timelines_say is = members s q ∙ rw (no_goal (λ e. let bad : of_timelines ≡ of_goals = sym is ∙ e in cc), no_activity (λ e. let bad : of_timelines ≡ of_activities = sym is ∙ e in cc), no_link (λ e. let bad : of_timelines ≡ of_links = sym is ∙ e in cc)) refl
@@ -92,13 +86,13 @@ module _ (s t : PlanState) (numbers ids : List ℕ) (went came set set' : List C
   was q other = turned.others q other ∙ ap (has q) is
 
   no_went : (q : Conflict) → (part_of q.code ≡ of_links → ⊥) → has q went ≡ false
-  no_went q other = absent (has q went) (λ h. other (turned.links.went_of_links q h))
+  no_went q other = false_from_ne_true (has q went) (λ h. other (turned.links.went_of_links q h))
 
   no_came : (q : Conflict) → (part_of q.code ≡ of_links → ⊥) → has q came ≡ false
-  no_came q other = absent (has q came) (λ h. other (turned.links.came_of_links q h))
+  no_came q other = false_from_ne_true (has q came) (λ h. other (turned.links.came_of_links q h))
 
   no_near : (u : PlanState) (q : Conflict) → (IsPlain q → ⊥) → has q (near u numbers ids) ≡ false
-  no_near u q other = absent (has q (near u numbers ids)) (λ h. other (near_plain u numbers ids q h))
+  no_near u q other = false_from_ne_true (has q (near u numbers ids)) (λ h. other (near_plain u numbers ids q h))
 
   of_plain : (q : Conflict) → IsPlain q → (part_of q.code ≡ of_links → ⊥) → (part_of q.code ≡ of_timelines → ⊥) → has q after ≡ has q (conflicts_of t)
   of_plain q plain no_link no_time =

@@ -1,8 +1,8 @@
 -- The links that are kept of a plan with nothing in it.
 use Rattle.std.proofs.Common.{◌≡◌, [], map, ap, sym, ◌∙◌}
 use Rattle.pl_links.specs.Kept.{Kept, kept_of}
-use Rattle.pl_world.specs.Links.{placed_in, placed_of}
-use Rattle.pl_world.specs.declared.plan_state.PlanState.{PlanState}
+use Rattle.pl_semantics.specs.Links.{placed_in, placed_of}
+use Rattle.pl_semantics.specs.declared.plan_state.PlanState.{PlanState}
 
 -- nothing planned breaks nothing
 pub kept_none : (s : PlanState) (kept : Kept) → s.plan.activities ≡ [] → kept.items ≡ [] → kept.broken ≡ [] → kept ≡ kept_of s.model (placed_in s)

@@ -1,21 +1,23 @@
 -- A replacement in which each id that goes is named once.
-use Rattle.std.proofs.Common.{◌≡◌, ℕ, eqb, Bool, true, false, List, [], ◌∷◌, ◌++◌, map, refl, sym, ap, ◌∙◌, subst, arith}
+use Rattle.std.proofs.Common.{◌≡◌, ℕ, eqb, Bool, true, false, List, [], ◌∷◌, map, refl, sym, ap, ◌∙◌, subst, arith}
 use Rattle.std.specs.Prelude.{◌||◌, All, if◌then◌else◌, None}
 use Rattle.std.specs.List.Sorted.{IsStrictlyIncreasing}
 use Rattle.std.proofs.lemmas.Bool.{eqb-true, eq-eqb}
 use Rattle.std.proofs.lemmas.List.Elements.{All-nil, All-cons, All-head, All-tail, All-weaker}
 use Rattle.std.proofs.lemmas.List.Kept.{AllPairs-from_increasing}
+use Rattle.std.proofs.Math.Bool.{or-true}
 use Rattle.pl_plan.specs.declared.activity.Activity.{Activity}
 use Rattle.pl_plan.specs.Activities.{IsLive, activity_of}
 use Rattle.pl_plan.specs.Trees.{id_of}
 use Rattle.pl_plan.proofs.LookUpLaws.{same_activities}
-use Rattle.pl_world.specs.declared.plan_state.PlanState.{PlanState}
-use Rattle.pl_world.specs.PlanStates.{among}
-use Rattle.pl_world.specs.Whole.{IsWhole}
-use Rattle.pl_changes.specs.Replaced.{taken, put, replaced, touched, CanReplace, with_plan}
-use Rattle.pl_changes.proofs.Putting.{rising-taken, found-taken}
-use Rattle.pl_near.specs.Near.{HoldSame}
-use Rattle.pl_lines.specs.Laws.{AreOnce}
+use Rattle.pl_semantics.specs.declared.plan_state.PlanState.{PlanState}
+use Rattle.pl_semantics.specs.PlanStates.{among}
+use Rattle.pl_semantics.specs.Whole.{IsWhole}
+use Rattle.pl_update.specs.Changes.Replaced.{taken, put, replaced, touched, CanReplace, with_plan}
+use Rattle.pl_update.proofs.AboutChanges.Putting.{rising-taken, found-taken}
+use Rattle.pl_update.specs.GoalsAndActivities.Near.{HoldSame}
+use Rattle.pl_update.proofs.AboutLinks.Nearby.{among-append}
+use Rattle.pl_update.specs.Timelines.Laws.{AreOnce}
 
 pub once_rising : (ids : List ℕ) → IsStrictlyIncreasing ids → AreOnce ids
 once_rising ids rising i j d lt within = let less = AllPairs-from_increasing ids rising i j d lt within in (λ same. omega (arith, less, same))
@@ -28,21 +30,9 @@ among_all P (x ∷ xs) all i e = cases (eqb x i) refl (among_all P xs (All-tail 
     cases true f more = subst P (eqb-true x i f) (All-head P x xs all)
     cases false f more = more (rw f at e)
 
-or_true : (b : Bool) → (b || true) ≡ true
-or_true true = refl
-or_true false = refl
-
 all_among : (P : ℕ → Type 0) (xs : List ℕ) → ((i : ℕ) → among i xs ≡ true → P i) → All P xs
 all_among P [] each = All-nil P
-all_among P (x ∷ xs) each = All-cons P x xs (each x (rw (eq-eqb x x refl) refl)) (all_among P xs (λ i e. each i (rw e (or_true (eqb x i)))))
-
-among-append : (i : ℕ) (xs ys : List ℕ) → among i (xs ++ ys) ≡ (among i xs || among i ys)
-among-append i [] ys = refl
-among-append i (x ∷ xs) ys = ap (λ b. eqb x i || b) (among-append i xs ys) ∙ assoc (eqb x i) (among i xs) (among i ys)
-  where
-    assoc : (a b c : Bool) → (a || (b || c)) ≡ ((a || b) || c)
-    assoc true b c = refl
-    assoc false b c = refl
+all_among P (x ∷ xs) each = All-cons P x xs (each x (rw (eq-eqb x x refl) refl)) (all_among P xs (λ i e. each i (rw e (or-true (eqb x i)))))
 
 module _ (s : PlanState) (gone once : List ℕ) (more : List Activity) (whole : IsWhole s) (same : HoldSame once gone) where
   taken_once : taken s.plan.activities once ≡ taken s.plan.activities gone

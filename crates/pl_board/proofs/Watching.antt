@@ -1,10 +1,10 @@
 -- What stands after each change of a plan state that is watched.
 use Rattle.std.proofs.Common.{◌≡◌, ℕ, ◌<◌, List, [], ◌∷◌, ◌++◌, length, refl, sym, ap, ◌∙◌, subst, Bool, true, false, arith}
 use Rattle.std.proofs.lemmas.List.{length-map}
-use Rattle.pl_demands.proofs.Bounded.{length-numbered}
-use Rattle.pl_world.specs.Timelines.{lines_of}
-use Rattle.pl_linked.specs.Passing.{ShowsLinks}
-use Rattle.pl_linked.proofs.Keeping.{shows_links}
+use Rattle.pl_detect.proofs.Bounded.{length-numbered}
+use Rattle.pl_semantics.specs.Timelines.{lines_of}
+use Rattle.pl_update.specs.Links.Passing.{ShowsLinks}
+use Rattle.pl_update.proofs.AboutLinks.Keeping.{shows_links}
 use Rattle.std.specs.Prelude.{◌&&◌, ◌||◌, not}
 use Rattle.std.specs.List.Sorted.{IsStrictlyIncreasing}
 use Rattle.pl_conflict.specs.declared.conflict.Conflict.{Conflict}
@@ -12,26 +12,26 @@ use Rattle.pl_conflict.specs.Order.{has}
 use Rattle.pl_conflict.specs.Sorting.{exchanged, AreInOrder}
 use Rattle.pl_conflict.proofs.OrderLaws.{conflict_unique, conflict_exact}
 use Rattle.pl_conflict.proofs.Sorting.{has-exchanged, ordered-exchanged}
-use Rattle.pl_world.proofs.Standing.{ordered}
+use Rattle.pl_semantics.proofs.Standing.{ordered}
 use Rattle.pl_plan.specs.declared.activity.Activity.{Activity}
-use Rattle.pl_world.specs.declared.plan_state.PlanState.{PlanState}
-use Rattle.pl_world.specs.Conflicts.{conflicts_of}
-use Rattle.pl_world.specs.Parts.{part_of, of_links, of_timelines}
-use Rattle.pl_world.specs.Whole.{IsWhole}
-use Rattle.pl_changes.specs.Replaced.{CanReplace, with_plan}
-use Rattle.pl_changes.proofs.Keeping.{whole_replaced}
-use Rattle.pl_lines.specs.declared.line.Line.{Line}
-use Rattle.pl_lines.specs.Framed.{AreLinesOf, bare, idle}
-use Rattle.pl_lines.specs.Held.{asked_at}
-use Rattle.pl_lines.specs.Laws.{gone_from, coming_to}
-use Rattle.pl_lines.specs.Mending.{IsMended, IsMoved, less}
-use Rattle.pl_lines.specs.Told.{IsTold}
-use Rattle.pl_lines.proofs.StandingLines.{told_all, all_told}
-use Rattle.pl_lines.proofs.ReplacingLines.{rest_told, lines_after}
-use Rattle.pl_near.specs.Near.{near, HoldSame, Follows}
-use Rattle.pl_near.specs.Touched.{touched_goals, touched_ids}
-use Rattle.pl_near.proofs.Touching.{follows_plan, follows_same}
-use Rattle.pl_linked.specs.Mended.{MendsLinks, KeepsLinks}
+use Rattle.pl_semantics.specs.declared.plan_state.PlanState.{PlanState}
+use Rattle.pl_semantics.specs.Conflicts.{conflicts_of}
+use Rattle.pl_semantics.specs.Parts.{part_of, of_links, of_timelines}
+use Rattle.pl_semantics.specs.Whole.{IsWhole}
+use Rattle.pl_update.specs.Changes.Replaced.{CanReplace, with_plan}
+use Rattle.pl_update.proofs.AboutChanges.Keeping.{whole_replaced}
+use Rattle.pl_update.specs.declared.timelines.line.Line.{Line}
+use Rattle.pl_update.specs.Timelines.Framed.{AreLinesOf, bare, idle}
+use Rattle.pl_update.specs.Timelines.Held.{asked_at}
+use Rattle.pl_update.specs.Timelines.Laws.{gone_from, coming_to}
+use Rattle.pl_update.specs.Timelines.Mending.{IsMended, IsMoved, less}
+use Rattle.pl_update.specs.Timelines.Told.{IsTold}
+use Rattle.pl_update.proofs.AboutTimelines.StandingLines.{told_all, all_told}
+use Rattle.pl_update.proofs.AboutTimelines.ReplacingLines.{rest_told, lines_after}
+use Rattle.pl_update.specs.GoalsAndActivities.Near.{near, HoldSame, Follows}
+use Rattle.pl_update.specs.GoalsAndActivities.Touched.{touched_goals, touched_ids}
+use Rattle.pl_update.proofs.AboutGoalsAndActivities.Touching.{follows_plan, follows_same}
+use Rattle.pl_update.specs.Links.Mended.{MendsLinks, KeepsLinks}
 use Rattle.pl_board.proofs.Once.{can_once, once_rising}
 use Rattle.pl_board.proofs.Joining.{turned_set, timelines_say}
 

@@ -1,12 +1,12 @@
 -- What a board is seen as, and what holds of it.
 use Rattle.std.specs.Prelude.{◌≡◌, Bool, false}
 use Rattle.pl_links.specs.Kept.{kept_of}
-use Rattle.pl_lines.specs.Framed.{AreLinesOf}
-use Rattle.pl_world.specs.declared.plan_state.PlanState.{PlanState}
-use Rattle.pl_world.specs.Whole.{IsWhole}
-use Rattle.pl_world.specs.Links.{placed_in}
-use Rattle.pl_world.specs.Conflicts.{conflicts_of}
-use Rattle.pl_values.specs.Kept.{AreOf}
+use Rattle.pl_update.specs.Timelines.Framed.{AreLinesOf}
+use Rattle.pl_semantics.specs.declared.plan_state.PlanState.{PlanState}
+use Rattle.pl_semantics.specs.Whole.{IsWhole}
+use Rattle.pl_semantics.specs.Links.{placed_in}
+use Rattle.pl_semantics.specs.Conflicts.{conflicts_of}
+use Rattle.pl_update.specs.Evaluations.Kept.{AreOf}
 use Rattle.pl_board.specs.declared.watched.WatchedState.{WatchedState}
 
 pub record Standing : Type 0 where

@@ -2,15 +2,15 @@
 ghost use Rattle.std.specs.Prelude.{◌≡◌, ◌++◌, OnOk, IfOk, Some, All};
 ghost use Rattle.std.specs.List.{flat_map};
 ghost use Rattle.pl_plan.specs.Activities.{activity_of};
-ghost use Rattle.pl_world.specs.Whole.{IsWhole};
-ghost use Rattle.pl_world.specs.PlanStates.{found, of_found};
-ghost use Rattle.pl_world.specs.Demands.{demands_at};
-ghost use Rattle.pl_values.specs.Kept.{AreOf};
+ghost use Rattle.pl_semantics.specs.Whole.{IsWhole};
+ghost use Rattle.pl_semantics.specs.PlanStates.{found, of_found};
+ghost use Rattle.pl_semantics.specs.Demands.{demands_at};
+ghost use Rattle.pl_update.specs.Evaluations.Kept.{AreOf};
 
-use pl_demands::demands_with;
+use pl_detect::demands_with;
 use pl_plan::Activity;
-use pl_values::Evaluations;
-use pl_world::{Demand, PlanState};
+use pl_semantics::{Demand, PlanState};
+use pl_update::evaluations::Evaluations;
 use std::alloc::{AllocError, Global};
 
 fn add_asked(

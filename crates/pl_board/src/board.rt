@@ -2,11 +2,11 @@ ghost use Rattle.std.specs.Prelude.{◌≡◌, OnOk, OnErr, IfOk, IsErr, true, f
 ghost use Rattle.std.specs.Arc.{arc_value};
 ghost use Rattle.pl_facts.specs.Goals.{goal_of};
 ghost use Rattle.pl_model.specs.Checked.{IsChecked};
-ghost use Rattle.pl_world.specs.Conflicts.{conflicts_of};
-ghost use Rattle.pl_world.specs.Whole.{IsWhole, IsGoalOf, IsIdBelow};
+ghost use Rattle.pl_semantics.specs.Conflicts.{conflicts_of};
+ghost use Rattle.pl_semantics.specs.Whole.{IsWhole, IsGoalOf, IsIdBelow};
 ghost use Rattle.pl_board.specs.Boards.{after, IsWatched};
-ghost use Rattle.pl_changes.specs.Changes.{first_state, with_goal, without_goal, moved_on, told_now, committed_to, with_next, CanTell, IsOpenIn};
-ghost use Rattle.pl_changes.specs.Replaced.{CanReplace, with_plan};
+ghost use Rattle.pl_update.specs.Changes.Changes.{first_state, with_goal, without_goal, moved_on, told_now, committed_to, with_next, CanTell, IsOpenIn};
+ghost use Rattle.pl_update.specs.Changes.Replaced.{CanReplace, with_plan};
 
 use crate::watched::WatchedState;
 use pl_conflict::ConflictSet;
@@ -15,7 +15,7 @@ use pl_lists::Copied;
 use pl_model::Model;
 use pl_plan::{Activity, Plan};
 use pl_points::{Ledger, Steps};
-use pl_world::{PlanState, SharedModel};
+use pl_semantics::{PlanState, SharedModel};
 use std::alloc::{AllocError, Global};
 use std::sync::Arc;
 

@@ -3,8 +3,8 @@ ghost use Rattle.std.specs.Prelude.{◌≡◌, false};
 ghost use Rattle.std.specs.List.{list_any};
 ghost use Rattle.std.specs.Option.{option_map};
 ghost use Rattle.pl_links.specs.Broken.{is_partner};
-ghost use Rattle.pl_world.specs.Links.{placed_of, placed_in};
-ghost use Rattle.pl_world.specs.PlanStates.{found};
+ghost use Rattle.pl_semantics.specs.Links.{placed_of, placed_in};
+ghost use Rattle.pl_semantics.specs.PlanStates.{found};
 
 use crate::board::Board;
 use pl_links::Placed;

@@ -1,8 +1,8 @@
 ghost use Rattle.std.specs.Prelude.{◌≡◌, ◌≤◌, ◌<◌, false, slice_get};
 ghost use Rattle.pl_model.specs.Checked.{IsCapacityLine, IsLevelLine};
-ghost use Rattle.pl_world.specs.Demands.{use_at, level_at, state_at};
-ghost use Rattle.pl_demands.specs.Based.{IsStateLine};
-ghost use Rattle.pl_world.specs.PlanStates.{floor_of};
+ghost use Rattle.pl_semantics.specs.Demands.{use_at, level_at, state_at};
+ghost use Rattle.pl_detect.specs.Based.{IsStateLine};
+ghost use Rattle.pl_semantics.specs.PlanStates.{floor_of};
 
 use crate::board::Board;
 use pl_facts::{Bases, Goals};

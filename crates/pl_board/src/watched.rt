@@ -1,30 +1,29 @@
 //! A plan state with what is kept of it, mended near each change.
 ghost use Rattle.std.specs.Prelude.{◌≡◌, OnOk, IfOk, None, ◌≤◌, ◌<◌, [], ◌∷◌, ◌++◌, slice_get, IsTrue, All, false};
 ghost use Rattle.pl_conflict.specs.Sorting.{exchanged};
-ghost use Rattle.pl_near.specs.Near.{near, HoldSame};
+ghost use Rattle.pl_update.specs.GoalsAndActivities.Near.{near, HoldSame};
 ghost use Rattle.std.specs.List.Sorted.{IsStrictlyIncreasing};
-ghost use Rattle.pl_world.specs.Grants.{touches_before};
+ghost use Rattle.pl_semantics.specs.Grants.{touches_before};
 ghost use Rattle.pl_facts.specs.Goals.{goal_of};
-ghost use Rattle.pl_world.specs.Whole.{IsWhole, IsGoalOf};
-ghost use Rattle.pl_changes.specs.Changes.{with_goal, without_goal, moved_on, told_now, committed_to, CanTell, IsOpenIn};
-ghost use Rattle.pl_changes.specs.Replaced.{CanReplace, with_plan};
-ghost use Rattle.pl_values.specs.Kept.{AreOf};
+ghost use Rattle.pl_semantics.specs.Whole.{IsWhole, IsGoalOf};
+ghost use Rattle.pl_update.specs.Changes.Changes.{with_goal, without_goal, moved_on, told_now, committed_to, CanTell, IsOpenIn};
+ghost use Rattle.pl_update.specs.Changes.Replaced.{CanReplace, with_plan};
+ghost use Rattle.pl_update.specs.Evaluations.Kept.{AreOf};
 ghost use Rattle.pl_board.specs.Boards.{IsWatched};
 
 use crate::asking::{asked_by, asked_of};
 use pl_conflict::{Conflict, ConflictSet};
-use pl_demands::demands;
-use pl_detect::detect;
+use pl_detect::{demands, detect};
 use pl_facts::Goal;
-use pl_lines::Lines;
-use pl_linked::Mended;
 use pl_links::Links;
 use pl_lists::Copied;
-use pl_near::{Touched, each_once, near_kept, passed_by, touched_by};
 use pl_plan::Activity;
 use pl_points::{Ledger, Steps};
-use pl_values::Evaluations;
-use pl_world::PlanState;
+use pl_semantics::PlanState;
+use pl_update::evaluations::Evaluations;
+use pl_update::goals_and_activities::{Touched, each_once, near_kept, passed_by, touched_by};
+use pl_update::links::Mended;
+use pl_update::timelines::Lines;
 use std::alloc::{AllocError, Global};
 
 /// A plan state with what its activities come to, its timelines, the store of its links, and all that is wrong with it.
@@ -114,7 +113,7 @@ impl WatchedState {
         let given = asked_by(alloc, &self.state, &self.values, &gone)?;
         self.lines
             .give_back(&self.state, &given, &mut self.conflicts, steps)?;
-        let mended = pl_linked::replace(
+        let mended = pl_update::links::replace(
             alloc,
             &mut self.state,
             &mut self.values,
@@ -173,7 +172,7 @@ impl WatchedState {
         self.lines
             .advance(&self.state, now, &mut self.conflicts, steps)?;
         self.state.moment = now;
-        let mended = pl_linked::pass(alloc, &self.state, &self.conflicts)?;
+        let mended = pl_update::links::pass(alloc, &self.state, &self.conflicts)?;
         self.turn(alloc, &touched, &went, &mended)?;
         Ok(())
     }

@@ -3,21 +3,15 @@
 use Rattle.std.proofs.Common.{◌≡◌, ℕ, zero, suc, ◌≤◌, Bool, true, false, List, [], ◌∷◌, length, take, refl, sym, ap, ◌∙◌, subst, arith}
 use Rattle.std.specs.Prelude.{filter, ◌||◌}
 use Rattle.std.specs.List.{list_any}
+use Rattle.std.proofs.lemmas.Bool.{or_right, or_from}
+use Rattle.pl_lists.proofs.Tests.{or_weaker}
 use Rattle.pl_plan.specs.declared.repair.RepairMove.{RepairMove}
-use Rattle.pl_world.specs.Candidates.{same_move, once_from}
+use Rattle.pl_semantics.specs.Candidates.{same_move, once_from}
 use Rattle.pl_cand.proofs.Same.{one_move}
 
 either : (a b : Bool) → (a || b) ≡ true → (a ≡ true → b ≡ true) → b ≡ true
 either true b e via = via refl
 either false b e via = e
-
-or_right : (a b : Bool) → b ≡ true → (a || b) ≡ true
-or_right true b e = refl
-or_right false b e = e
-
-or_false : (a b : Bool) → a ≡ false → b ≡ false → (a || b) ≡ false
-or_false true b e f = absurd (cc)
-or_false false b e f = f
 
 clash : (a : Bool) → a ≡ true → a ≡ false → {X : Type 0} → X
 clash true e f = absurd (cc)
@@ -33,11 +27,7 @@ take_all (suc n) (x ∷ xs) le = ap (λ l. x ∷ l) (take_all n xs (omega (arith
 any_more : (P : RepairMove → Bool) (n : ℕ) (xs : List RepairMove) → list_any P (take n xs) ≡ true → list_any P (take (suc n) xs) ≡ true
 any_more P zero xs e = absurd (cc)
 any_more P (suc n) [] e = absurd (cc)
-any_more P (suc n) (x ∷ xs) e = cases (P x) (list_any P (take n xs)) (list_any P (take (suc n) xs)) e (any_more P n xs)
-  where
-    cases : (a b c : Bool) → (a || b) ≡ true → (b ≡ true → c ≡ true) → (a || c) ≡ true
-    cases true b c e on = refl
-    cases false b c e on = on e
+any_more P (suc n) (x ∷ xs) e = or_weaker (P x) (list_any P (take n xs)) (list_any P (take (suc n) xs)) e (any_more P n xs)
 
 module _ (W : RepairMove → Bool) (m : RepairMove) where
   -- ---- the first that are tried
@@ -60,7 +50,7 @@ module _ (W : RepairMove → Bool) (m : RepairMove) where
       by true true true e f g past new = clash (list_any (same_move m) seen) (ap (λ y. list_any (same_move y) seen) (one_move m x g) ∙ f) unseen
       by true true false e f g past new = rw (e, f) (any_more (same_move m) n (once_from seen (filter W more)) (past (rest g)))
       by true false true e f g past new = rw (e, f, g) refl
-      by true false false e f g past new = rw (e, f) (or_right (same_move m x) _ (new (or_false (same_move m x) (list_any (same_move m) seen) g unseen) (rest g)))
+      by true false false e f g past new = rw (e, f) (or_right (same_move m x) _ (new (or_from (same_move m x) (list_any (same_move m) seen) g unseen) (rest g)))
 
   -- ---- all that are tried
 

@@ -2,8 +2,8 @@
 use Rattle.std.proofs.Common.{◌≡◌, ℕ, ℤ, ◌≤◌, Bool, true, false, List, [], ◌∷◌, length, Option, Some, None, refl, sym, subst, arith}
 use Rattle.std.specs.Prelude.{All, slice_get, option_and_then}
 use Rattle.std.proofs.lemmas.Int.{ints}
-use Rattle.std.proofs.lemmas.Option.{slice_get_within, get_or_from_slice_get}
 use Rattle.std.proofs.lemmas.List.Elements.{All-nil, All-head, All-tail, All-weaker}
+use Rattle.pl_lists.proofs.Elements.{all_at}
 use Rattle.pl_facts.specs.declared.goal.Goal.{Goal}
 use Rattle.pl_facts.specs.Goals.{is_numbered, goal_of}
 use Rattle.pl_model.specs.declared.parameters.Param.{Param}
@@ -22,16 +22,12 @@ use Rattle.pl_plan.specs.Fitting.{kind_of, alternatives_of}
 use Rattle.pl_plan.specs.Serving.{served_in}
 use Rattle.pl_plan.proofs.FirmSteps.{checked_kind}
 use Rattle.pl_links.specs.Broken.{links_of, links_in, orders_in}
-use Rattle.pl_world.specs.declared.plan_state.PlanState.{PlanState}
-use Rattle.pl_world.specs.PlanStates.{goal_at, served_by, reservations_in}
-use Rattle.pl_world.specs.Whole.{IsWhole, IsGoalOf, IsBase}
-use Rattle.pl_world.specs.Links.{placed_of, order_at}
+use Rattle.pl_semantics.specs.declared.plan_state.PlanState.{PlanState}
+use Rattle.pl_semantics.specs.PlanStates.{goal_at, served_by, reservations_in}
+use Rattle.pl_semantics.specs.Whole.{IsWhole, IsGoalOf, IsBase}
+use Rattle.pl_semantics.specs.Links.{placed_of, order_at}
 use Rattle.pl_cand.specs.Near.{IsNear, AreNear, AreClose}
 use Rattle.pl_cand.specs.Levels.{HasBase, IsOfLevel, IsToldAt}
-
--- what holds of all holds of what stands at an index
-pub all_at : {X : Type 0} (P : X → Type 0) (xs : List X) (i : ℕ) (x : X) → All P xs → slice_get xs i ≡ Some x → P x
-all_at P xs i x all is = subst P (get_or_from_slice_get xs i x x is) (all i x (slice_get_within xs i x is))
 
 -- ---- levels
 

@@ -1,23 +1,24 @@
 -- The first so many of those that pass a test, and moves where they first stand.
-use Rattle.std.proofs.Common.{◌≡◌, ℕ, zero, suc, ◌+◌, ◌-◌, ◌<◌, ◌≤◌, Bool, true, false, List, [], ◌∷◌, ◌++◌, length, take, drop, get_or, map, add-one, drop-cons, refl, sym, ap, ◌∙◌, arith, append_assoc, append-nil, length-append, eqb, Option, Some, None}
-use Rattle.std.proofs.lemmas.Bool.{eqb-true}
-use Rattle.std.specs.Prelude.{filter, ◌||◌, ◌&&◌}
+use Rattle.std.proofs.Common.{◌≡◌, ℕ, zero, suc, ◌+◌, ◌-◌, ◌<◌, ◌≤◌, Bool, true, false, List, [], ◌∷◌, ◌++◌, length, take, drop, get_or, map, add-one, drop-cons, refl, sym, ap, ◌∙◌, arith, append_assoc, append-nil, length-append, eqb}
+use Rattle.std.proofs.lemmas.Bool.{eqb-true, and_parts}
+use Rattle.std.specs.Prelude.{filter, ◌||◌}
 use Rattle.std.specs.List.{list_any}
 use Rattle.std.proofs.lemmas.List.Folds.{list_any-append}
 use Rattle.pl_plan.specs.declared.repair.RepairMove.{RepairMove}
 use Rattle.pl_plan.specs.declared.repair.RepairMove.TheVariants.{Add, Delete, Shift, Detail, Abstract, Assign, Drop}
-use Rattle.pl_world.specs.Moves.{is_proper}
-use Rattle.pl_world.specs.Candidates.{same_move, same_number, is_worth, once_from}
+use Rattle.pl_semantics.specs.Moves.{is_proper}
+use Rattle.pl_semantics.specs.Candidates.{same_move, same_number, is_worth, once_from}
 use Rattle.pl_plan.specs.declared.activity.Activity.{Activity}
 use Rattle.pl_plan.specs.Trees.{id_of}
-use Rattle.pl_world.specs.declared.plan_state.PlanState.{PlanState}
+use Rattle.pl_semantics.specs.declared.plan_state.PlanState.{PlanState}
 use Rattle.pl_cand.specs.declared.role.Role.{Role}
 use Rattle.pl_cand.specs.Tests.{is_user, users_with}
 use Rattle.pl_model.specs.declared.kinds.Kind.{Kind}
-use Rattle.pl_world.specs.PlanStates.{numbered}
+use Rattle.pl_semantics.specs.PlanStates.{numbered}
 use Rattle.pl_cand.specs.declared.help.Help.{Help}
 use Rattle.pl_cand.specs.Helping.{helpers_with, is_helper, number_of}
 use Rattle.pl_cand.specs.Cuts.{once_after, standing, are_alike}
+use Rattle.pl_cand.proofs.Same.{one_number}
 
 -- ---- the first so many
 
@@ -137,20 +138,10 @@ nothing_left (x ∷ xs) (suc i) le = nothing_left xs i (omega (arith, le))
 
 -- ---- moves that are worth as much
 
-same_number_is : (m n : Option ℕ) → same_number m n ≡ true → m ≡ n
-same_number_is None None e = refl
-same_number_is None (Some n) e = absurd (cc)
-same_number_is (Some m) None e = absurd (cc)
-same_number_is (Some m) (Some n) e = ap (λ (k : ℕ). Some k) (eqb-true m n e)
-
 pub alike_worth : (s : PlanState) (m n : RepairMove) → are_alike m n ≡ true → is_worth s m ≡ is_worth s n
 unfolding is_proper
-alike_worth s (Add kind start goal) (Add k t g) e = same (both (eqb kind k) (same_number goal g) e)
+alike_worth s (Add kind start goal) (Add k t g) e = same (and_parts (eqb kind k) (same_number goal g) e)
   where
-    both : (a b : Bool) → (a && b) ≡ true → (a ≡ true) × (b ≡ true)
-    both true b e = (refl, e)
-    both false b e = absurd (cc)
-
     same : (eqb kind k ≡ true) × (same_number goal g ≡ true) → is_worth s (Add kind start goal) ≡ is_worth s (Add k t g)
-    same h = ap (λ x. is_worth s (Add x start goal)) (eqb-true kind k h.0) ∙ ap (λ x. is_worth s (Add k start x)) (same_number_is goal g h.1)
+    same h = ap (λ x. is_worth s (Add x start goal)) (eqb-true kind k h.0) ∙ ap (λ x. is_worth s (Add k start x)) (one_number goal g h.1)
 alike_worth s _ _ e = absurd (cc)

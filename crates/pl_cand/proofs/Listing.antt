@@ -2,29 +2,22 @@
 use Rattle.std.proofs.Common.{◌≡◌, ℕ, zero, suc, ◌+◌, ◌<◌, eqb, Bool, true, false, List, [], ◌∷◌, ◌++◌, append-nil, refl, sym, ap, ◌∙◌, arith}
 use Rattle.std.specs.Prelude.{filter, slice_get}
 use Rattle.std.specs.List.{flat_map}
-use Rattle.std.proofs.lemmas.Bool.{eq-eqb, eqb-true}
+use Rattle.std.proofs.lemmas.Bool.{eq-eqb, ne_eqb}
 use Rattle.pl_model.specs.declared.expressions.Expr.{Expr}
 use Rattle.pl_model.specs.declared.parameters.Param.{Param}
 use Rattle.pl_plan.specs.declared.activity.Activity.{Activity}
 use Rattle.pl_plan.specs.declared.repair.RepairMove.{RepairMove}
-use Rattle.pl_world.specs.PlanStates.{numbered, of_found}
-use Rattle.pl_world.specs.Moves.{is_free}
-use Rattle.pl_world.specs.Repairs.{assigns, assigns_one}
+use Rattle.pl_semantics.specs.PlanStates.{numbered, of_found}
+use Rattle.pl_semantics.specs.Moves.{is_free}
+use Rattle.pl_semantics.specs.Repairs.{assigns, assigns_one}
 use Rattle.pl_cand.specs.Details.{assigns_as, assigns_if_free}
 
 -- ---- by number
 
-eqb_apart : (a b : ℕ) → (a ≡ b → ⊥) → eqb a b ≡ false
-eqb_apart a b apart = cases (eqb a b) refl
-  where
-    cases : (t : Bool) → eqb a b ≡ t → eqb a b ≡ false
-    cases true e = absurd (apart (eqb-true a b e))
-    cases false e = e
-
 -- the item of one number, of numbered ones
 numbered_past : (f : ℕ × Param → List RepairMove) (m n : ℕ) (xs : List Param) → m < n → ((p : ℕ × Param) → eqb p.0 m ≡ false → f p ≡ []) → flat_map f (numbered n xs) ≡ []
 numbered_past f m n [] lt none = refl
-numbered_past f m n (x ∷ xs) lt none = rw (none (n, x) (eqb_apart n m (λ e. omega (arith, lt, e)))) (numbered_past f m (suc n) xs (omega (arith, lt)) none)
+numbered_past f m n (x ∷ xs) lt none = rw (none (n, x) (ne_eqb n m (λ e. omega (arith, lt, e)))) (numbered_past f m (suc n) xs (omega (arith, lt)) none)
 
 numbered_at : (f : ℕ × Param → List RepairMove) (g : Param → List RepairMove) (n i : ℕ) (xs : List Param) → ((p : Param) → f (n + i, p) ≡ g p) → ((p : ℕ × Param) → eqb p.0 (n + i) ≡ false → f p ≡ []) → flat_map f (numbered n xs) ≡ of_found g (slice_get xs i)
 numbered_at f g n i [] here none = refl
@@ -35,7 +28,7 @@ numbered_at f g n zero (x ∷ xs) here none =
     rw (one, rest) (append-nil (g x))
 numbered_at f g n (suc i) (x ∷ xs) here none =
     let at : n + suc i ≡ suc n + i = omega arith in
-    let skip : f (n, x) ≡ [] = none (n, x) (eqb_apart n (n + suc i) (λ e. omega (arith, e))) in
+    let skip : f (n, x) ≡ [] = none (n, x) (ne_eqb n (n + suc i) (λ e. omega (arith, e))) in
     rw skip (numbered_at f g (suc n) i xs (λ p. ap (λ k. f (k, p)) (sym at) ∙ here p) (λ p e. none p (ap (eqb p.0) at ∙ e)))
 
 pub assigns_at : (a : Activity) (n : ℕ) (xs : List Param) → flat_map (assigns_one a n) (numbered 0 xs) ≡ of_found (assigns_as a.id n) (slice_get xs n)

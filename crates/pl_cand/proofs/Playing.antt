@@ -1,9 +1,11 @@
 -- Tests one by one, and activities by their ids.
 use Rattle.std.proofs.Common.{◌≡◌, ℕ, zero, suc, ◌≤◌, eqb, Bool, true, false, List, [], ◌∷◌, ◌++◌, length, map, Option, Some, None, IfSome, refl, ap, ◌∙◌, arith}
 use Rattle.std.specs.Prelude.{All, slice_index_or, ◌&&◌, ◌||◌, nat_lt, int_lt, pos}
-use Rattle.pl_world.specs.Activities.{value_in}
+use Rattle.pl_semantics.specs.Activities.{value_in}
 use Rattle.std.specs.List.{flat_map, list_any}
 use Rattle.std.proofs.lemmas.List.Elements.{All-nil, All-head, All-tail, All-filter, All-take}
+use Rattle.std.proofs.Math.Bool.{and-false}
+use Rattle.pl_lists.proofs.Elements.{any_agree}
 use Rattle.pl_model.specs.declared.expressions.Expr.{Expr}
 use Rattle.pl_model.specs.declared.reservations.Point.{Point}
 use Rattle.pl_model.specs.declared.reservations.Reservation.{Reservation}
@@ -14,19 +16,19 @@ use Rattle.pl_plan.specs.Activities.{activity_of}
 use Rattle.pl_plan.specs.Trees.{id_of}
 use Rattle.pl_plan.specs.Fitting.{kind_of}
 use Rattle.pl_plan.proofs.Kept.{each_found}
-use Rattle.pl_world.specs.declared.plan_state.PlanState.{PlanState}
-use Rattle.pl_world.specs.PlanStates.{found, numbered, of_found, reservations_in, row_of, end_at}
-use Rattle.pl_world.specs.Whole.{IsWhole}
-use Rattle.pl_world.specs.LineRepairs.{around, takes_in, first_eight, lowers_below, raises_below}
+use Rattle.pl_semantics.specs.declared.plan_state.PlanState.{PlanState}
+use Rattle.pl_semantics.specs.PlanStates.{found, numbered, of_found, reservations_in, row_of, end_at}
+use Rattle.pl_semantics.specs.Whole.{IsWhole}
+use Rattle.pl_semantics.specs.LineRepairs.{around, takes_in, first_eight, lowers_below, raises_below}
 use Rattle.pl_plan.specs.Values.{Row}
-use Rattle.pl_world.specs.Demands.{amount_in, asked_for, demands_at}
+use Rattle.pl_semantics.specs.Demands.{amount_in, asked_for, demands_at}
 use Rattle.pl_model.specs.declared.kinds.Kind.{Kind}
 use Rattle.pl_model.specs.Values.{NamesBelow}
 use Rattle.pl_model.specs.Checked.{params_of}
 use Rattle.pl_plan.specs.Firm.{amount_of}
 use Rattle.pl_plan.proofs.FirmSteps.{checked_kind, amounts_named}
 use Rattle.pl_plan.proofs.ValueLaws.{values_solve}
-use Rattle.pl_world.specs.Starts.{moves_of}
+use Rattle.pl_semantics.specs.Starts.{moves_of}
 use Rattle.pl_cand.specs.ById.{around_id, moves_of_id}
 use Rattle.pl_cand.specs.Tests.{lowers_at, may_take, raises_at, uses_in, is_used_of}
 
@@ -52,16 +54,8 @@ around_by_ids s whole a b test = first_by_ids s whole (around s a b) test
 
 -- ---- one by one
 
-and_false : (b : Bool) → (b && false) ≡ false
-and_false true = refl
-and_false false = refl
-
-any_same : {X : Type 0} (f g : X → Bool) → ((x : X) → f x ≡ g x) → (xs : List X) → list_any f xs ≡ list_any g xs
-any_same f g same [] = refl
-any_same f g same (x ∷ xs) = ap (λ b. b || list_any f xs) (same x) ∙ ap (λ b. g x || b) (any_same f g same xs)
-
 any_by : (f g : Reservation → Bool) → ((l : ℕ) (e : Expr) → f (Take l e) ≡ g (Take l e)) → ((l : ℕ) (e : Expr) (p : Point) → f (Raise l e p) ≡ g (Raise l e p)) → ((l : ℕ) (e : Expr) (p : Point) → f (Lower l e p) ≡ g (Lower l e p)) → ((l state : ℕ) (p : Point) → f (Put l state p) ≡ g (Put l state p)) → ((l state : ℕ) → f (Must l state) ≡ g (Must l state)) → (rs : List Reservation) → list_any f rs ≡ list_any g rs
-any_by f g of_take of_raise of_lower of_put of_must rs = any_same f g each rs
+any_by f g of_take of_raise of_lower of_put of_must rs = any_agree f g each rs
   where
     each : (r : Reservation) → f r ≡ g r
     each (Take l e) = of_take l e
@@ -80,10 +74,10 @@ raises_any s line b a = any_by _ (raises_at s line b a) (λ l e. refl) (λ l e p
 module _ (line a b id start end : ℕ) (values : Row) where
   pub use_one : (n : ℕ) (r : Reservation) → is_used_of line a b (asked_for id start end values (n, r)) ≡ uses_in line a b start end values r
   use_one n (Take l e) = refl
-  use_one n (Raise l e p) = and_false (eqb l line)
-  use_one n (Lower l e p) = and_false (eqb l line)
-  use_one n (Put l state p) = and_false (eqb l line)
-  use_one n (Must l state) = and_false (eqb l line)
+  use_one n (Raise l e p) = and-false (eqb l line)
+  use_one n (Lower l e p) = and-false (eqb l line)
+  use_one n (Put l state p) = and-false (eqb l line)
+  use_one n (Must l state) = and-false (eqb l line)
 
   pub use_any : (n : ℕ) (rs : List Reservation) → list_any (is_used_of line a b) (map (asked_for id start end values) (numbered n rs)) ≡ list_any (uses_in line a b start end values) rs
   use_any n [] = refl

@@ -4,17 +4,15 @@ use Rattle.std.specs.Prelude.{All, ℤ, pos, ◌+ℤ◌, ◌≤ℤ◌, int_le}
 use Rattle.std.specs.Int.{int_max}
 use Rattle.std.proofs.lemmas.Int.{ints, clamps}
 use Rattle.std.proofs.lemmas.List.Elements.{All-nil, All-cons}
+use Rattle.pl_lists.proofs.Numbers.{le_from_test}
 use Rattle.pl_facts.specs.declared.goal.Goal.{Goal}
 use Rattle.pl_plan.specs.declared.activity.Activity.{Activity}
-use Rattle.pl_world.specs.declared.plan_state.PlanState.{PlanState}
-use Rattle.pl_world.specs.PlanStates.{served_by}
-use Rattle.pl_world.specs.Starts.{steps_from, stride_of, spread, floor_at, last_of, window_of, places_of}
-use Rattle.pl_world.specs.Whole.{IsWhole, IsGoalOf}
+use Rattle.pl_semantics.specs.declared.plan_state.PlanState.{PlanState}
+use Rattle.pl_semantics.specs.PlanStates.{served_by}
+use Rattle.pl_semantics.specs.Starts.{steps_from, stride_of, spread, floor_at, last_of, window_of, places_of}
+use Rattle.pl_semantics.specs.Whole.{IsWhole, IsGoalOf}
 use Rattle.pl_cand.proofs.Checks.{served_of_model, present_most}
 use Rattle.pl_cand.specs.Near.{IsSmall}
-
-le_from_test : (a b : ℤ) → int_le a b ≡ true → a ≤ℤ b
-le_from_test a b e = grind (arith, ints)
 
 steps_small : (n : ℕ) (low high : ℤ) (step : ℕ) → pos 0 ≤ℤ low → high ≤ℤ pos 4294967295 → All IsSmall (steps_from n low high step)
 steps_small zero low high step from to = All-nil IsSmall

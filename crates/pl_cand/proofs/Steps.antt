@@ -1,27 +1,21 @@
 -- Numbers stepped from a low one up to a high one.
-use Rattle.std.proofs.Common.{◌≡◌, ℕ, zero, suc, ◌-◌, ◌<◌, ◌≤◌, List, [], ◌∷◌, ◌++◌, append_assoc, refl, sym, ap, ◌∙◌, arith, true, false}
-use Rattle.std.specs.Prelude.{ℤ, pos, ◌+ℤ◌, ◌-ℤ◌, ◌≤ℤ◌, ◌<ℤ◌, int_le}
-use Rattle.std.proofs.lemmas.Int.{ints}
-use Rattle.pl_world.specs.PlanStates.{natural}
-use Rattle.pl_world.specs.Starts.{steps_from, stride, spread}
-
-le_true : (a b : ℤ) → a ≤ℤ b → int_le a b ≡ true
-le_true a b h = grind (arith, ints)
-
-le_false : (a b : ℤ) → b <ℤ a → int_le a b ≡ false
-le_false a b h = grind (arith, ints)
+use Rattle.std.proofs.Common.{◌≡◌, ℕ, zero, suc, ◌-◌, ◌<◌, ◌≤◌, List, [], ◌∷◌, ◌++◌, append_assoc, refl, sym, ap, ◌∙◌, arith}
+use Rattle.std.specs.Prelude.{ℤ, pos, ◌+ℤ◌, ◌-ℤ◌, ◌≤ℤ◌, ◌<ℤ◌}
+use Rattle.pl_lists.proofs.Numbers.{le_to_test, lt_to_test}
+use Rattle.pl_semantics.specs.PlanStates.{natural}
+use Rattle.pl_semantics.specs.Starts.{steps_from, stride, spread}
 
 -- one number more
 pub step_more : (n : ℕ) (low high : ℤ) (step : ℕ) → 0 < n → low ≤ℤ high → steps_from n low high step ≡ low ∷ steps_from (n - 1) (low +ℤ pos step) high step
 step_more zero low high step some le = absurd (omega (arith, some))
 step_more (suc n) low high step some le =
     let less : suc n - 1 ≡ n = omega arith in
-    rw (le_true low high le, less) refl
+    rw (le_to_test low high le, less) refl
 
 -- no number more
 pub step_past : (n : ℕ) (low high : ℤ) (step : ℕ) → high <ℤ low → steps_from n low high step ≡ []
 step_past zero low high step gt = refl
-step_past (suc n) low high step gt = rw (le_false low high gt) refl
+step_past (suc n) low high step gt = rw (lt_to_test low high gt) refl
 
 pub none_left : (n : ℕ) (low high : ℤ) (step : ℕ) → n ≤ 0 → steps_from n low high step ≡ []
 none_left zero low high step le = refl

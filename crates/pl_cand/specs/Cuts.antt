@@ -3,7 +3,7 @@ use Rattle.std.specs.Prelude.{◌-◌, ◌==◌, ◌&&◌, Bool, false, List, []
 use Rattle.std.specs.List.{list_any}
 use Rattle.pl_plan.specs.declared.repair.RepairMove.{RepairMove}
 use Rattle.pl_plan.specs.declared.repair.RepairMove.TheVariants.{Add}
-use Rattle.pl_world.specs.Candidates.{same_move, same_number}
+use Rattle.pl_semantics.specs.Candidates.{same_move, same_number}
 
 abbrev pub once_after : List RepairMove → List RepairMove → List RepairMove
 once_after kept [] = []

@@ -8,10 +8,10 @@ use Rattle.pl_model.specs.declared.expressions.Expr.{Expr}
 use Rattle.pl_model.specs.declared.parameters.Param.{Param}
 use Rattle.pl_plan.specs.declared.repair.RepairMove.{RepairMove}
 use Rattle.pl_plan.specs.declared.repair.RepairMove.TheVariants.{Add, Assign, Detail}
-use Rattle.pl_world.specs.declared.plan_state.PlanState.{PlanState}
-use Rattle.pl_world.specs.Starts.{floor_at, last_of, spread, starting}
-use Rattle.pl_world.specs.Moves.{is_free}
-use Rattle.pl_world.specs.Repairs.{assigns}
+use Rattle.pl_semantics.specs.declared.plan_state.PlanState.{PlanState}
+use Rattle.pl_semantics.specs.Starts.{floor_at, last_of, spread, starting}
+use Rattle.pl_semantics.specs.Moves.{is_free}
+use Rattle.pl_semantics.specs.Repairs.{assigns}
 
 abbrev pub detail_of : ℕ → ℕ × Alternative → RepairMove
 detail_of id k = Detail id k.0

@@ -3,7 +3,7 @@ use Rattle.std.specs.Prelude.{ℕ, ℤ, pos, ◌≤ℤ◌, Option, None, Some}
 use Rattle.pl_model.specs.declared.reservations.Reservation.{Reservation}
 use Rattle.pl_model.specs.declared.reservations.Reservation.TheVariants.{Raise, Lower}
 use Rattle.pl_facts.specs.Bases.{base_of}
-use Rattle.pl_world.specs.declared.plan_state.PlanState.{PlanState}
+use Rattle.pl_semantics.specs.declared.plan_state.PlanState.{PlanState}
 
 -- told at this moment or before
 abbrev pub IsToldAt : ℕ → Option (ℤ × ℤ) → Type 0

@@ -1,8 +1,8 @@
 pub use Rattle.pl_plan.specs.Activities
-pub use Rattle.pl_world.specs.Candidates
-pub use Rattle.pl_world.specs.Legal
-pub use Rattle.pl_world.specs.Moves
-pub use Rattle.pl_world.specs.Starts
+pub use Rattle.pl_semantics.specs.Candidates
+pub use Rattle.pl_semantics.specs.Legal
+pub use Rattle.pl_semantics.specs.Moves
+pub use Rattle.pl_semantics.specs.Starts
 pub use Rattle.pl_board.specs.Boards
 pub mod Near
 pub mod Details

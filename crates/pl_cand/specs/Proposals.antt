@@ -1,9 +1,9 @@
 -- What may be proposed, and what making it comes to.
 use Rattle.std.specs.Prelude.{◌≡◌, true, Contains, Option, Some, None}
-use Rattle.pl_world.specs.declared.plan_state.PlanState.{PlanState}
-use Rattle.pl_world.specs.Conflicts.{conflicts_of}
-use Rattle.pl_world.specs.Legal.{legal_for, is_stuck}
-use Rattle.pl_world.specs.Moves.{applied}
+use Rattle.pl_semantics.specs.declared.plan_state.PlanState.{PlanState}
+use Rattle.pl_semantics.specs.Conflicts.{conflicts_of}
+use Rattle.pl_semantics.specs.Legal.{legal_for, is_stuck}
+use Rattle.pl_semantics.specs.Moves.{applied}
 use Rattle.pl_board.specs.Boards.{Standing, after}
 use Rattle.pl_cand.specs.declared.proposal.Proposal.{Proposal}
 

@@ -5,11 +5,11 @@ use Rattle.pl_model.specs.declared.reservations.Reservation.TheVariants.{Take, R
 use Rattle.pl_plan.specs.declared.activity.Activity.{Activity}
 use Rattle.pl_plan.specs.Trees.{id_of}
 use Rattle.pl_plan.specs.Values.{Row}
-use Rattle.pl_world.specs.declared.plan_state.PlanState.{PlanState}
-use Rattle.pl_world.specs.PlanStates.{is_committed}
-use Rattle.pl_world.specs.declared.demand.Demand.{Demand}
-use Rattle.pl_world.specs.Demands.{amount_in}
-use Rattle.pl_world.specs.LineRepairs.{raises, lowers, sets_state, sets_any, is_used_in, takes_in, lowers_below, raises_below, point_counts}
+use Rattle.pl_semantics.specs.declared.plan_state.PlanState.{PlanState}
+use Rattle.pl_semantics.specs.PlanStates.{is_committed}
+use Rattle.pl_semantics.specs.declared.demand.Demand.{Demand}
+use Rattle.pl_semantics.specs.Demands.{amount_in}
+use Rattle.pl_semantics.specs.LineRepairs.{raises, lowers, sets_state, sets_any, is_used_in, takes_in, lowers_below, raises_below, point_counts}
 use Rattle.pl_cand.specs.declared.help.Help.{Help}
 use Rattle.pl_cand.specs.declared.help.Help.TheVariants as help
 use Rattle.pl_cand.specs.declared.role.Role.{Role}

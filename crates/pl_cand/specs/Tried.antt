@@ -5,10 +5,10 @@ use Rattle.pl_conflict.specs.declared.conflict.Code.{Code}
 use Rattle.pl_conflict.specs.declared.conflict.Code.TheVariants as code
 use Rattle.pl_plan.specs.declared.activity.Activity.{Activity}
 use Rattle.pl_plan.specs.declared.repair.RepairMove.{RepairMove}
-use Rattle.pl_world.specs.declared.plan_state.PlanState.{PlanState}
-use Rattle.pl_world.specs.Starts.{moves_of}
-use Rattle.pl_world.specs.Repairs.{for_unset, for_bad_value, for_undetailed, for_overrun, for_temporal, for_linked}
-use Rattle.pl_world.specs.LineRepairs.{for_must, for_bad_step}
+use Rattle.pl_semantics.specs.declared.plan_state.PlanState.{PlanState}
+use Rattle.pl_semantics.specs.Starts.{moves_of}
+use Rattle.pl_semantics.specs.Repairs.{for_unset, for_bad_value, for_undetailed, for_overrun, for_temporal, for_linked}
+use Rattle.pl_semantics.specs.LineRepairs.{for_must, for_bad_step}
 
 abbrev pub tried_with : PlanState → Activity → Conflict → Code → List RepairMove
 tried_with s a k code.OpenGoal = []

@@ -1,13 +1,13 @@
 //! Moves for what is wrong with an activity.
 ghost use Rattle.std.specs.Prelude.{◌≡◌, ◌≤◌, ◌++◌, pos, map, length, slice_get, All, OnOk, Some};
 ghost use Rattle.pl_plan.specs.Activities.{activity_of};
-ghost use Rattle.pl_world.specs.Whole.{IsWhole};
+ghost use Rattle.pl_semantics.specs.Whole.{IsWhole};
 ghost use Rattle.std.specs.List.{flat_map};
 ghost use Rattle.std.specs.Option.{option_copied};
-ghost use Rattle.pl_world.specs.PlanStates.{numbered, of_found};
-ghost use Rattle.pl_world.specs.Activities.{bindings_of, params_at};
-ghost use Rattle.pl_world.specs.Moves.{alternatives_at};
-ghost use Rattle.pl_world.specs.Repairs.{all_assigns, assigns, assigns_one, end_by, for_bad_value, for_overrun, for_undetailed, for_unset, parent_at};
+ghost use Rattle.pl_semantics.specs.PlanStates.{numbered, of_found};
+ghost use Rattle.pl_semantics.specs.Activities.{bindings_of, params_at};
+ghost use Rattle.pl_semantics.specs.Moves.{alternatives_at};
+ghost use Rattle.pl_semantics.specs.Repairs.{all_assigns, assigns, assigns_one, end_by, for_bad_value, for_overrun, for_undetailed, for_unset, parent_at};
 ghost use Rattle.pl_cand.specs.Near.{AreNear};
 ghost use Rattle.pl_cand.specs.Details.{assign_to, assigns_as, assigns_if_free, detail_of};
 
@@ -18,7 +18,7 @@ use crate::strides::spread;
 use pl_model::{Expr, Param};
 use pl_moves::is_free;
 use pl_plan::{Activity, RepairMove};
-use pl_world::PlanState;
+use pl_semantics::PlanState;
 use std::alloc::{AllocError, Global};
 
 // Each of these values for one parameter.

@@ -1,6 +1,6 @@
 ghost use Rattle.std.specs.Prelude.{◌≡◌, ◌≤◌, IfOk, IfSome, OnOk, OnErr, true, false, Option, ◌⊎◌};
-ghost use Rattle.pl_world.specs.declared.plan_state.PlanState.{PlanState};
-ghost use Rattle.pl_world.specs.Legal.{is_stuck};
+ghost use Rattle.pl_semantics.specs.declared.plan_state.PlanState.{PlanState};
+ghost use Rattle.pl_semantics.specs.Legal.{is_stuck};
 ghost use Rattle.pl_cand.specs.declared.proposal.Proposal.{Proposal};
 ghost use Rattle.pl_cand.specs.Proposals.{IsProposal, mended};
 

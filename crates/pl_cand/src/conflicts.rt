@@ -1,10 +1,10 @@
 //! The candidates for a conflict.
 ghost use Rattle.std.specs.Prelude.{◌≡◌, ◌++◌, IfOk, OnOk, Some, false};
 ghost use Rattle.pl_plan.specs.Activities.{activity_of};
-ghost use Rattle.pl_world.specs.Whole.{IsWhole};
-ghost use Rattle.pl_world.specs.PlanStates.{found, goal_at, of_found};
-ghost use Rattle.pl_world.specs.Repairs.{for_goal};
-ghost use Rattle.pl_world.specs.Candidates.{candidates_of, tried_for};
+ghost use Rattle.pl_semantics.specs.Whole.{IsWhole};
+ghost use Rattle.pl_semantics.specs.PlanStates.{found, goal_at, of_found};
+ghost use Rattle.pl_semantics.specs.Repairs.{for_goal};
+ghost use Rattle.pl_semantics.specs.Candidates.{candidates_of, tried_for};
 ghost use Rattle.pl_cand.specs.Tried.{tried_with};
 
 use crate::activities::{for_bad_value, for_overrun, for_undetailed, for_unset};
@@ -16,7 +16,7 @@ use crate::timelines::{for_bad_step, for_high, for_low, for_must, for_over};
 use pl_board::Board;
 use pl_conflict::{Code, Conflict};
 use pl_plan::{Activity, RepairMove};
-use pl_world::PlanState;
+use pl_semantics::PlanState;
 use std::alloc::{AllocError, Global};
 
 fn for_open_goal(
@@ -99,7 +99,7 @@ pub(crate) fn tried(
 const ROOM: usize = 17;
 
 /// The moves that are tried for a conflict, in order: 256 at most, each proper, none twice.
-#[tactic(auto, unfolding(pl_world::specs::Candidates::candidates_of))]
+#[tactic(auto, unfolding(pl_semantics::specs::Candidates::candidates_of))]
 pub fn candidates(alloc: Global, board: &Board, k: &Conflict) -> Result<Vec<RepairMove>, AllocError>
     requires { board.now.spoiled ≡ false }
     ensures { IfOk result (λ all. all.items ≡ candidates_of board.now.state k.now) }

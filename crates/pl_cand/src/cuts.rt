@@ -3,13 +3,13 @@ ghost use Rattle.std.specs.Prelude.{◌≡◌, Bool, List, [], ◌∷◌, take, 
 ghost use Rattle.std.specs.List.{list_any};
 ghost use Rattle.pl_plan.specs.declared.repair.RepairMove.{RepairMove};
 ghost use Rattle.pl_plan.specs.declared.repair.RepairMove.TheVariants.{Shift};
-ghost use Rattle.pl_world.specs.Whole.{IsWhole};
-ghost use Rattle.pl_world.specs.Candidates.{is_worth, once_from, same_move};
+ghost use Rattle.pl_semantics.specs.Whole.{IsWhole};
+ghost use Rattle.pl_semantics.specs.Candidates.{is_worth, once_from, same_move};
 ghost use Rattle.pl_cand.specs.Cuts.{are_alike, standing};
 
 use crate::worth::is_worth;
 use pl_plan::RepairMove;
-use pl_world::PlanState;
+use pl_semantics::PlanState;
 use std::alloc::{AllocError, Global};
 
 /// The most candidates.

@@ -1,7 +1,7 @@
 //! Moves for a goal that is open.
 ghost use Rattle.std.specs.Prelude.{◌≡◌, ◌++◌, OnOk};
-ghost use Rattle.pl_world.specs.Whole.{IsWhole};
-ghost use Rattle.pl_world.specs.Repairs.{for_goal};
+ghost use Rattle.pl_semantics.specs.Whole.{IsWhole};
+ghost use Rattle.pl_semantics.specs.Repairs.{for_goal};
 ghost use Rattle.pl_cand.specs.Details.{serving};
 
 use crate::reading::{from_floor, to_last};
@@ -9,7 +9,7 @@ use crate::starts::add_news;
 use crate::strides::spread;
 use pl_facts::Goal;
 use pl_plan::RepairMove;
-use pl_world::PlanState;
+use pl_semantics::PlanState;
 use std::alloc::{AllocError, Global};
 
 // An activity that serves the goal, from start to start.

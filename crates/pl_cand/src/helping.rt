@@ -2,8 +2,8 @@
 ghost use Rattle.std.specs.Prelude.{◌≡◌, ℕ, List, ◌∷◌, ◌++◌, map, pos, IfOk, OnOk};
 ghost use Rattle.std.specs.Int.{int_min, int_max};
 ghost use Rattle.std.specs.List.{flat_map, list_any};
-ghost use Rattle.pl_world.specs.Whole.{IsWhole};
-ghost use Rattle.pl_world.specs.Starts.{adds_of, floor_at, help_until, helpers, last_of, spread};
+ghost use Rattle.pl_semantics.specs.Whole.{IsWhole};
+ghost use Rattle.pl_semantics.specs.Starts.{adds_of, floor_at, help_until, helpers, last_of, spread};
 ghost use Rattle.pl_model.specs.declared.kinds.Kind.{Kind};
 ghost use Rattle.pl_cand.specs.Tests.{helps};
 ghost use Rattle.pl_cand.specs.Helping.{helpers_with, number_of};
@@ -14,7 +14,7 @@ use crate::starts::add_news;
 use crate::strides::spread;
 use pl_model::{Kind, Reservation};
 use pl_plan::RepairMove;
-use pl_world::PlanState;
+use pl_semantics::PlanState;
 use std::alloc::{AllocError, Global};
 
 /// How many kinds may help.

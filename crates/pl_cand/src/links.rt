@@ -3,12 +3,12 @@ ghost use Rattle.std.specs.Prelude.{◌≡◌, ◌++◌, ◌<◌, ◌≤◌, ◌
 ghost use Rattle.std.specs.Option.{option_copied};
 ghost use Rattle.pl_plan.specs.Activities.{activity_of};
 ghost use Rattle.pl_links.specs.Broken.{moment_of, links_of};
-ghost use Rattle.pl_world.specs.Whole.{IsWhole};
-ghost use Rattle.pl_world.specs.PlanStates.{of_found};
-ghost use Rattle.pl_world.specs.Links.{order_at, place_in, placed_of};
-ghost use Rattle.pl_world.specs.Repairs.{for_linked, for_order, for_temporal, kind_at, least_of, order_shifts, partner_start, partners_for, partners_from, shift_one, shifts_apart, shifts_between};
+ghost use Rattle.pl_semantics.specs.Whole.{IsWhole};
+ghost use Rattle.pl_semantics.specs.PlanStates.{of_found};
+ghost use Rattle.pl_semantics.specs.Links.{order_at, place_in, placed_of};
+ghost use Rattle.pl_semantics.specs.Repairs.{for_linked, for_order, for_temporal, kind_at, least_of, order_shifts, partner_start, partners_for, partners_from, shift_one, shifts_apart, shifts_between};
 ghost use Rattle.std.specs.Int.{int_max, int_min};
-ghost use Rattle.pl_world.specs.Starts.{floor_at, last_of};
+ghost use Rattle.pl_semantics.specs.Starts.{floor_at, last_of};
 ghost use Rattle.pl_cand.specs.Near.{AreClose, IsClose, IsNear};
 
 use crate::reading::{checked_order, floor, last, links_of, moment_of};
@@ -17,7 +17,7 @@ use crate::starts::{add_news, add_shift};
 use crate::strides::spread;
 use pl_model::{Link, Order, Point};
 use pl_plan::{Activity, RepairMove};
-use pl_world::PlanState;
+use pl_semantics::PlanState;
 use std::alloc::{AllocError, Global};
 
 // The least duration of a kind.

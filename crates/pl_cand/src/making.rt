@@ -1,6 +1,6 @@
 //! Makes what was proposed.
 ghost use Rattle.std.specs.Prelude.{◌≡◌, ◌≤◌, false, true, Some, IfOk, OnOk, OnErr};
-ghost use Rattle.pl_world.specs.Moves.{applied};
+ghost use Rattle.pl_semantics.specs.Moves.{applied};
 ghost use Rattle.pl_board.specs.Boards.{after};
 ghost use Rattle.pl_cand.specs.Proposals.{IsProposal, mended};
 

@@ -1,8 +1,8 @@
 //! Whether a move is a candidate. It is seldom needed to leave out what stands twice.
 ghost use Rattle.std.specs.Prelude.{◌≡◌, [], take, filter, IfOk, false};
 ghost use Rattle.std.specs.List.{list_any};
-ghost use Rattle.pl_world.specs.Whole.{IsWhole};
-ghost use Rattle.pl_world.specs.Candidates.{candidates_of, is_worth, once_from, same_move};
+ghost use Rattle.pl_semantics.specs.Whole.{IsWhole};
+ghost use Rattle.pl_semantics.specs.Candidates.{candidates_of, is_worth, once_from, same_move};
 
 use crate::conflicts::tried;
 use crate::cuts::{MOST, cut, is_same};
@@ -10,7 +10,7 @@ use crate::worth::is_worth;
 use pl_board::Board;
 use pl_conflict::Conflict;
 use pl_plan::RepairMove;
-use pl_world::PlanState;
+use pl_semantics::PlanState;
 use std::alloc::{AllocError, Global};
 
 /// Whether a move is one of these.
@@ -56,7 +56,7 @@ fn is_left(
 }
 
 /// Whether the move is a candidate for the conflict.
-#[tactic(auto, unfolding(pl_world::specs::Candidates::candidates_of))]
+#[tactic(auto, unfolding(pl_semantics::specs::Candidates::candidates_of))]
 pub fn is_candidate(
     alloc: Global,
     board: &Board,

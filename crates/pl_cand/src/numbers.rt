@@ -1,8 +1,8 @@
 //! The numbers and the starts that are tried, as numbers from 0 on.
 ghost use Rattle.std.specs.Prelude.{◌≡◌, false, pos, map, All, IfOk};
 ghost use Rattle.pl_plan.specs.Activities.{IsLive};
-ghost use Rattle.pl_world.specs.Whole.{IsWhole};
-ghost use Rattle.pl_world.specs.Starts.{places_at, spread};
+ghost use Rattle.pl_semantics.specs.Whole.{IsWhole};
+ghost use Rattle.pl_semantics.specs.Starts.{places_at, spread};
 ghost use Rattle.pl_cand.specs.Near.{IsSmall};
 
 use crate::{repairs, strides};

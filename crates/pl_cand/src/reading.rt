@@ -6,17 +6,17 @@ ghost use Rattle.pl_model.specs.Checked.{params_of};
 ghost use Rattle.pl_plan.specs.Activities.{activity_of};
 ghost use Rattle.pl_plan.specs.Fitting.{kind_of};
 ghost use Rattle.pl_links.specs.Broken.{moment_of, links_of};
-ghost use Rattle.pl_world.specs.Whole.{IsWhole};
-ghost use Rattle.pl_world.specs.PlanStates.{end_at, is_committed, reservations_in};
-ghost use Rattle.pl_world.specs.Links.{order_at, placed_of};
-ghost use Rattle.pl_world.specs.Moves.{alternatives_at};
-ghost use Rattle.pl_world.specs.Starts.{floor_at, last_of};
+ghost use Rattle.pl_semantics.specs.Whole.{IsWhole};
+ghost use Rattle.pl_semantics.specs.PlanStates.{end_at, is_committed, reservations_in};
+ghost use Rattle.pl_semantics.specs.Links.{order_at, placed_of};
+ghost use Rattle.pl_semantics.specs.Moves.{alternatives_at};
+ghost use Rattle.pl_semantics.specs.Starts.{floor_at, last_of};
 ghost use Rattle.pl_cand.specs.Near.{AreClose, AreNear, IsNear};
 ghost use Rattle.pl_cand.specs.Levels.{IsOfLevel};
 
 use pl_model::{Alternative, Link, Order, Param, Point, Reservation};
 use pl_plan::Activity;
-use pl_world::PlanState;
+use pl_semantics::PlanState;
 
 /// The least start that a repair may give.
 pub(crate) fn floor(s: &PlanState) -> i64

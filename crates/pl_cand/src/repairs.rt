@@ -2,16 +2,16 @@
 ghost use Rattle.std.specs.Prelude.{◌≡◌, ◌++◌, IfOk, OnOk, Some};
 ghost use Rattle.std.specs.Option.{option_copied};
 ghost use Rattle.pl_plan.specs.Activities.{activity_of};
-ghost use Rattle.pl_world.specs.Whole.{IsWhole};
-ghost use Rattle.pl_world.specs.PlanStates.{of_found, served_by};
-ghost use Rattle.pl_world.specs.Starts.{above_it, delete_root, moves_of, places_of, shifts_of, window_of};
+ghost use Rattle.pl_semantics.specs.Whole.{IsWhole};
+ghost use Rattle.pl_semantics.specs.PlanStates.{of_found, served_by};
+ghost use Rattle.pl_semantics.specs.Starts.{above_it, delete_root, moves_of, places_of, shifts_of, window_of};
 
 use crate::reading::{floor, from_floor, last};
 use crate::starts::add_shifts;
 use crate::strides::spread;
 use pl_facts::Goal;
 use pl_plan::{Activity, RepairMove};
-use pl_world::PlanState;
+use pl_semantics::PlanState;
 use std::alloc::{AllocError, Global};
 
 // The goal that an activity serves.
@@ -115,7 +115,7 @@ pub(crate) fn add_deletion(
 }
 
 /// Appends the moves of a live activity: its shifts, those of its root where it is none, and that the root goes.
-#[tactic(auto, unfolding(pl_world::specs::Starts::moves_of))]
+#[tactic(auto, unfolding(pl_semantics::specs::Starts::moves_of))]
 pub(crate) fn add_moves(
     alloc: Global,
     s: &PlanState,

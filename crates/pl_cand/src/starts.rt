@@ -4,10 +4,10 @@ ghost use Rattle.std.specs.List.{flat_map};
 ghost use Rattle.std.specs.Option.{option_map, option_to_list};
 ghost use Rattle.pl_plan.specs.declared.repair.RepairMove.{RepairMove};
 ghost use Rattle.pl_plan.specs.declared.repair.RepairMove.TheVariants.{Add};
-ghost use Rattle.pl_world.specs.Starts.{starting, shift_to};
+ghost use Rattle.pl_semantics.specs.Starts.{starting, shift_to};
 
 use pl_plan::RepairMove;
-use pl_world::PlanState;
+use pl_semantics::PlanState;
 use std::alloc::AllocError;
 
 // The moment, where an activity may start then: from 1 to one before the horizon.

@@ -1,7 +1,7 @@
 //! The numbers between two that are tried.
 ghost use Rattle.std.specs.Prelude.{◌≡◌, ◌≤◌, ◌-ℤ◌, IfOk};
-ghost use Rattle.pl_world.specs.PlanStates.{natural};
-ghost use Rattle.pl_world.specs.Starts.{spread, stride, steps_from};
+ghost use Rattle.pl_semantics.specs.PlanStates.{natural};
+ghost use Rattle.pl_semantics.specs.Starts.{spread, stride, steps_from};
 ghost use Rattle.pl_cand.specs.Near.{IsNear};
 
 use std::alloc::{AllocError, Global};

@@ -1,9 +1,9 @@
 //! Whether anything can be repaired.
 ghost use Rattle.std.specs.Prelude.{◌≡◌, IfOk, All, true, false};
 ghost use Rattle.std.specs.List.{list_any};
-ghost use Rattle.pl_world.specs.Moves.{is_proper};
-ghost use Rattle.pl_world.specs.Conflicts.{conflicts_of};
-ghost use Rattle.pl_world.specs.Legal.{is_legal, has_repair, is_stuck};
+ghost use Rattle.pl_semantics.specs.Moves.{is_proper};
+ghost use Rattle.pl_semantics.specs.Conflicts.{conflicts_of};
+ghost use Rattle.pl_semantics.specs.Legal.{is_legal, has_repair, is_stuck};
 
 use crate::conflicts::candidates;
 use pl_board::Board;
@@ -49,7 +49,7 @@ fn any_repair(alloc: Global, board: &Board) -> Result<bool, AllocError>
 }
 
 /// Whether no conflict that stands has a legal candidate. An error is want of memory.
-#[tactic(auto, unfolding(pl_world::specs::Legal::is_stuck))]
+#[tactic(auto, unfolding(pl_semantics::specs::Legal::is_stuck))]
 pub fn is_stuck(alloc: Global, board: &Board) -> Result<bool, AllocError>
     requires { board.now.spoiled ≡ false }
     ensures { IfOk result (λ stuck. stuck ≡ is_stuck board.now.state) }

@@ -3,9 +3,9 @@ ghost use Rattle.std.specs.Prelude.{◌≡◌, ◌++◌, OnOk, Some};
 ghost use Rattle.std.specs.List.{flat_map};
 ghost use Rattle.std.specs.Option.{option_copied};
 ghost use Rattle.pl_plan.specs.Activities.{activity_of};
-ghost use Rattle.pl_world.specs.Whole.{IsWhole};
-ghost use Rattle.pl_world.specs.PlanStates.{of_found};
-ghost use Rattle.pl_world.specs.LineRepairs.{for_bad_step, for_high, for_low, for_must, for_over, help_must, help_step, reservation_at};
+ghost use Rattle.pl_semantics.specs.Whole.{IsWhole};
+ghost use Rattle.pl_semantics.specs.PlanStates.{of_found};
+ghost use Rattle.pl_semantics.specs.LineRepairs.{for_bad_step, for_high, for_low, for_must, for_over, help_must, help_step, reservation_at};
 ghost use Rattle.pl_cand.specs.ById.{around_id, moves_of_id};
 
 use crate::activities::end_by;
@@ -17,7 +17,7 @@ use crate::starts::add_shift;
 use crate::users::first_users;
 use pl_model::Reservation;
 use pl_plan::{Activity, RepairMove};
-use pl_world::PlanState;
+use pl_semantics::PlanState;
 use std::alloc::{AllocError, Global};
 
 // Behind the span, and before it.

@@ -6,9 +6,9 @@ ghost use Rattle.pl_plan.specs.declared.activity.Activity.{Activity};
 ghost use Rattle.pl_plan.specs.Activities.{activity_of};
 ghost use Rattle.pl_plan.specs.Firm.{amount_of};
 ghost use Rattle.pl_plan.specs.Trees.{id_of};
-ghost use Rattle.pl_world.specs.Whole.{IsWhole};
-ghost use Rattle.pl_world.specs.Demands.{amount_in, moment_of_base, since};
-ghost use Rattle.pl_world.specs.LineRepairs.{first_eight, lowers_below, point_counts, raises_below, takes_in};
+ghost use Rattle.pl_semantics.specs.Whole.{IsWhole};
+ghost use Rattle.pl_semantics.specs.Demands.{amount_in, moment_of_base, since};
+ghost use Rattle.pl_semantics.specs.LineRepairs.{first_eight, lowers_below, point_counts, raises_below, takes_in};
 ghost use Rattle.pl_cand.specs.Tests.{is_user, lowers_at, may_take, plays, raises_at, users_with, uses_in};
 ghost use Rattle.pl_cand.specs.Levels.{HasBase, IsOfLevel};
 
@@ -16,7 +16,7 @@ use crate::reading::{is_committed, moment_of, reservations_of};
 use crate::role::Role;
 use pl_model::{Expr, Point, Reservation, eval};
 use pl_plan::Activity;
-use pl_world::PlanState;
+use pl_semantics::PlanState;
 use std::alloc::{AllocError, Global};
 
 /// How many activities are shifted away.
@@ -94,7 +94,7 @@ fn any_may_take(line: u32, b: u32, start: u32, reservations: &[Reservation]) -> 
 }
 
 // Its values are worked out only where its kind takes of the timeline at all.
-#[tactic(auto, unfolding(pl_world::specs::Demands::demands_at))]
+#[tactic(auto, unfolding(pl_semantics::specs::Demands::demands_at))]
 fn takes_in(
     alloc: Global,
     s: &PlanState,

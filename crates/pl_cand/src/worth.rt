@@ -1,14 +1,14 @@
 //! Which moves make sense and change something.
 ghost use Rattle.std.specs.Prelude.{◌≡◌, Some};
 ghost use Rattle.pl_plan.specs.Activities.{activity_of};
-ghost use Rattle.pl_world.specs.Whole.{IsWhole};
-ghost use Rattle.pl_world.specs.PlanStates.{found};
-ghost use Rattle.pl_world.specs.Activities.{value_in};
-ghost use Rattle.pl_world.specs.Candidates.{changes_nothing, has_start, has_value, is_value, is_worth};
+ghost use Rattle.pl_semantics.specs.Whole.{IsWhole};
+ghost use Rattle.pl_semantics.specs.PlanStates.{found};
+ghost use Rattle.pl_semantics.specs.Activities.{value_in};
+ghost use Rattle.pl_semantics.specs.Candidates.{changes_nothing, has_start, has_value, is_value, is_worth};
 
 use pl_moves::is_proper;
 use pl_plan::{Activity, RepairMove};
-use pl_world::PlanState;
+use pl_semantics::PlanState;
 
 fn has_start(s: &PlanState, id: u32, start: u32) -> bool
     ensures { result ≡ has_start start (found s.now id) }

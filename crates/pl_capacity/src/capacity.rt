@@ -179,6 +179,7 @@ impl<P: Points> Capacity<P> {
         &self.spans
     }
 
+    /// Whether a change failed for want of memory: the spans then say nothing, and each further change fails.
     pub fn spoiled(&self) -> bool
         ensures { result ≡ self.now.spoiled }
     {
@@ -189,9 +190,9 @@ impl<P: Points> Capacity<P> {
 impl<P: Points + Copied> Copied for Capacity<P> {
     fn copy(&self, alloc: Global) -> Result<Capacity<P>, AllocError> {
         let points = self.points.copy(alloc)?;
-        let spans = Vec::from_slice(self.alloc, self.spans.as_slice())?;
+        let spans = Vec::from_slice(alloc, self.spans.as_slice())?;
         Ok(Capacity {
-            alloc: self.alloc,
+            alloc,
             horizon: self.horizon,
             most: self.most,
             moment: self.moment,

@@ -1,7 +1,6 @@
 -- Where every row passes the check answers a model, or runs out of memory.
-use Rattle.std.proofs.Common.{◌≡◌, ℕ, ℤ, List, All, Some, slice_get, Ok, Err, subst}
-use Rattle.std.proofs.lemmas.List.Elements.{All-get_or}
-use Rattle.std.proofs.lemmas.Option.{slice_get_within, get_or_from_slice_get}
+use Rattle.std.proofs.Common.{ℕ, ℤ, List, All, Ok, Err, subst}
+use Rattle.pl_lists.proofs.Elements.{all_at}
 use Rattle.pl_syntax.specs.declared.whole.Ast.{Ast}
 use Rattle.pl_model.specs.declared.whole.Model.{Model}
 use Rattle.pl_check.specs.declared.fault.ModelFault.TheVariants as fault
@@ -14,22 +13,18 @@ use Rattle.pl_check.specs.Networks.{span_of}
 use Rattle.pl_check.specs.Schedules.{HasSchedule, IsScheduled, IsFirstUnscheduled}
 use Rattle.pl_check.specs.Checked.{spans_in, AnswersDrafts, AnswersJudged, Answers, PassesEachRow, IsModelOrMemory}
 
--- what holds of each holds of the one at a place
-at_place : {X : Type 0} (P : X → Type 0) (xs : List X) (i : ℕ) (x : X) → All P xs → slice_get xs i ≡ Some x → P x
-at_place P xs i x h e = subst P (get_or_from_slice_get xs i x x e) (All-get_or P xs i x (slice_get_within xs i x e) h)
-
-not_circular : (kinds : List DraftKind) (name param : List ℕ) → AreWellFounded kinds → IsFirstCircular kinds name param → ⊥
+pub not_circular : (kinds : List DraftKind) (name param : List ℕ) → AreWellFounded kinds → IsFirstCircular kinds name param → ⊥
 not_circular kinds name param w f =
-    let kind = at_place IsWellFounded kinds f.place f.kind w f.found in
+    let kind = all_at IsWellFounded kinds f.place f.kind w f.found in
     kind.acyclic.each f.first.number f.first.first.vertex f.first.first.cyclic
 
-not_recursive : (kinds : List DraftKind) (name : List ℕ) → AreUncontained kinds → IsFirstRecursive kinds name → ⊥
+pub not_recursive : (kinds : List DraftKind) (name : List ℕ) → AreUncontained kinds → IsFirstRecursive kinds name → ⊥
 not_recursive kinds name u f = u.each f.place f.first.vertex f.first.cyclic
 
 not_unscheduled : (horizon : ℤ) (spans : List (ℤ × ℤ)) (kinds : List DraftKind) (name : List ℕ) (number : ℕ) (cycle : List ℕ) → All (IsScheduled horizon spans) kinds → IsFirstUnscheduled horizon spans kinds name number cycle → ⊥
 not_unscheduled horizon spans kinds name number cycle s f =
-    let kind = at_place (IsScheduled horizon spans) kinds f.place f.kind s f.found in
-    let scheduled = at_place (HasSchedule spans (span_of horizon f.kind)) f.kind.alternatives number f.first.alternative kind f.first.found in
+    let kind = all_at (IsScheduled horizon spans) kinds f.place f.kind s f.found in
+    let scheduled = all_at (HasSchedule spans (span_of horizon f.kind)) f.kind.alternatives number f.first.alternative kind f.first.found in
     f.first.conflict.1 scheduled.0 scheduled.1
 
 accepted_drafts : (ast : Ast) (drafts : List Draft) → AreWellFounded (kinds_in drafts) → AreUncontained (kinds_in drafts) → All (IsScheduled ast.horizon (spans_in ast.horizon drafts)) (kinds_in drafts) → (result : Judged Model) → AnswersDrafts ast drafts result → IsModelOrMemory result

@@ -3,6 +3,7 @@ use Rattle.std.proofs.Common.{◌≡◌, ◌≢◌, ℕ, ℤ, List, [], ◌∷�
 use Rattle.std.specs.Cmp.Lexicographic.{bytes_decides}
 use Rattle.std.proofs.lemmas.List.Elements.{All-nil, All-cons, All-head, All-tail, All-append, All-weaker}
 use Rattle.std.proofs.lemmas.List.Kept.{AllPairs-cons}
+use Rattle.std.proofs.lemmas.Bool.{and_parts}
 use Rattle.pl_syntax.specs.declared.whole.Item.{Item}
 use Rattle.pl_syntax.specs.declared.whole.Item.TheVariants as item
 use Rattle.pl_syntax.specs.declared.timelines.AstTimeline.{AstTimeline}
@@ -30,7 +31,7 @@ use Rattle.pl_check.specs.Numbering.{numbered, numbered_line, numbered_step, num
 use Rattle.pl_lists.specs.Lists.{Pairwise}
 use Rattle.pl_check.specs.Networks.{FinishesAlternative, FinishesKind, span_of}
 use Rattle.pl_check.proofs.SizeLemmas.{then_passes}
-use Rattle.pl_check.proofs.RangeLemmas.{both_true, each_passes}
+use Rattle.pl_check.proofs.RangeLemmas.{each_passes}
 use Rattle.pl_lists.proofs.Judging.{bind_ok}
 use Rattle.pl_check.proofs.PairLemmas.{known_ok, ok_same, placed_at, pair_all, pair_map, each_pairs, Makes}
 use Rattle.pl_check.proofs.MadeLemmas.{written_kinds, written_lines}
@@ -153,8 +154,8 @@ module _ (params of_slot : List AstParam) where
       let first = placed_at (is_bindable_named m) of_slot p h in
       let second = placed_at (is_bindable_named n) of_slot p (k ∙ ap Some (sym e)) in
       let found : first.0 ≡ second.0 = let same : Some first.0 ≡ Some second.0 = sym first.1 ∙ second.1 in cc in
-      let of_first : first.0.name ≡ m = (bytes_decides first.0.name m).0 (both_true (bytes_eq first.0.name m) (is_unequalled first.0.origin) first.2).0 in
-      let of_second : second.0.name ≡ n = (bytes_decides second.0.name n).0 (both_true (bytes_eq second.0.name n) (is_unequalled second.0.origin) second.2).0 in
+      let of_first : first.0.name ≡ m = (bytes_decides first.0.name m).0 (and_parts (bytes_eq first.0.name m) (is_unequalled first.0.origin) first.2).0 in
+      let of_second : second.0.name ≡ n = (bytes_decides second.0.name n).0 (and_parts (bytes_eq second.0.name n) (is_unequalled second.0.origin) second.2).0 in
       sym of_first ∙ ap (λ (x : AstParam). x.name) found ∙ of_second
 
   bindings_differ : (bs : List (Name × AstExpr)) (xs : List (ℕ × Expr)) → each_made (numbered_binding params of_slot) bs ≡ Ok xs → Differ (map binding_name bs) → Differ (map bound_number xs)

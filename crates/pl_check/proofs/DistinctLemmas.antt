@@ -1,10 +1,10 @@
 -- Names that are new one after another differ.
 use Rattle.std.proofs.Common.{◌≡◌, ◌≢◌, ℕ, suc, Bool, true, false, List, [], ◌∷◌, ◌++◌, Err, All, Contains, bytes_eq, map, refl, sym, cond, arith}
-use Rattle.std.specs.Prelude.{◌||◌}
 use Rattle.std.specs.List.{list_any}
 use Rattle.std.specs.Cmp.Lexicographic.{bytes_decides}
 use Rattle.std.proofs.lemmas.List.Elements.{All-nil, All-cons, All-weaker, All-map, All-contains, All-contains_itself, Contains-append_left, Contains-push}
 use Rattle.std.proofs.lemmas.List.Kept.{AllPairs-cons}
+use Rattle.std.proofs.lemmas.Bool.{or_parts}
 use Rattle.pl_model.specs.Names.{Differ}
 use Rattle.pl_check.specs.declared.fault.ModelFault.TheVariants as fault
 use Rattle.pl_check.specs.Judgements.{Judgement, pass, ◌>>◌}
@@ -16,10 +16,6 @@ use Rattle.pl_check.proofs.PairLemmas.{pair_all}
 -- none of the names is this one
 abbrev pub Lacks : List Name → Name → Type 0
 Lacks before name = All (λ b. b ≢ name) before
-
-neither : (a b : Bool) → (a || b) ≡ false → (a ≡ false) × (b ≡ false)
-neither true b h = absurd (cc)
-neither false b h = (refl, h)
 
 unequal : (name b : Name) → bytes_eq name b ≡ false → b ≢ name
 unequal name b h e = let t : bytes_eq name b ≡ true = (bytes_decides name b).1 (sym e) in absurd (cc)
@@ -39,7 +35,7 @@ lacks_front xs ys name l = All-from_contains xs (λ b c. All-contains (λ z. z �
 lacks : (before : List Name) (name : Name) → is_among before name ≡ false → Lacks before name
 lacks [] name h = All-nil (λ b. b ≢ name)
 lacks (b ∷ before) name h =
-    let both = neither (bytes_eq name b) (list_any (bytes_eq name) before) h in
+    let both = or_parts (bytes_eq name b) (list_any (bytes_eq name) before) h in
     All-cons (λ c. c ≢ name) b before (unequal name b both.0) (lacks before name both.1)
 
 new_lacks : (before : List Name) (name : Name) → is_new before name ≡ pass → Lacks before name

@@ -1,8 +1,8 @@
 -- The expressions of a kind of the text, and of its draft.
-use Rattle.std.proofs.Common.{◌≡◌, ℕ, suc, ◌≤◌, ℤ, Bool, true, List, [], ◌∷◌, ◌++◌, Ok, All, length, map, max, refl, sym, ap, subst, ◌∙◌, arith}
+use Rattle.std.proofs.Common.{◌≡◌, ℕ, suc, ◌≤◌, ℤ, Bool, true, List, [], ◌∷◌, ◌++◌, Ok, length, map, max, refl, sym, ap, subst, ◌∙◌, arith}
 use Rattle.std.specs.Prelude.{◌&&◌}
 use Rattle.std.specs.List.{flat_map}
-use Rattle.std.proofs.lemmas.List.Elements.{All-nil, All-cons, All-head, All-tail, All-append, All-map, All-weaker}
+use Rattle.std.proofs.lemmas.List.Elements.{All-cons, All-map, All-weaker}
 use Rattle.pl_syntax.specs.declared.whole.Item.{Item}
 use Rattle.pl_syntax.specs.declared.kinds.AstKind.{AstKind}
 use Rattle.pl_syntax.specs.declared.parameters.AstParam.{AstParam}
@@ -48,10 +48,6 @@ module _ {U V : Type 0} (S : U → V → Type 0) where
     pair_flat f g k [] (y ∷ ys) h = absurd h
     pair_flat f g k (x ∷ xs) [] h = absurd h
     pair_flat f g k (x ∷ xs) (y ∷ ys) h = pair_append (f x) (g y) (flat_map f xs) (flat_map g ys) (k x y h.0) (pair_flat f g k xs ys h.1)
-
-pub all_flat : {X U : Type 0} (P : U → Type 0) (f : X → List U) (xs : List X) → All (λ x. All P (f x)) xs → All P (flat_map f xs)
-all_flat P f [] h = All-nil P
-all_flat P f (x ∷ xs) h = All-append P (f x) (flat_map f xs) (All-head (λ y. All P (f y)) x xs h) (all_flat P f xs (All-tail (λ y. All P (f y)) x xs h))
 
 -- ---- the expressions of the text
 

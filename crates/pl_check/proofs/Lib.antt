@@ -1,3 +1,7 @@
+pub mod Texts
+pub mod Refusing
+pub mod Apart
+pub mod OneLine
 pub mod NameLemmas
 pub mod SizeLemmas
 pub mod CycleLemmas

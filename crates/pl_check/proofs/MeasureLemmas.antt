@@ -43,9 +43,10 @@ use Rattle.std.specs.Prelude.{int_le}
 use Rattle.pl_check.proofs.SizeLemmas.{then_passes, few}
 use Rattle.pl_check.proofs.RangeLemmas.{test_passes, each_passes}
 use Rattle.pl_lists.proofs.Judging.{bind_ok}
+use Rattle.pl_lists.proofs.Elements.{all_flat}
 use Rattle.pl_check.proofs.PairLemmas.{known_ok, ok_same}
 use Rattle.pl_check.proofs.ExpressionLemmas.{written, numbered-num, numbered-name, numbered-apply}
-use Rattle.pl_check.proofs.ExprListLemmas.{all_flat, origin_written, param_written, reservation_written, binding_written, slot_written, alternative_written, exprs_written, draft_exprs, exprs_drafted}
+use Rattle.pl_check.proofs.ExprListLemmas.{origin_written, param_written, reservation_written, binding_written, slot_written, alternative_written, exprs_written, draft_exprs, exprs_drafted}
 
 module _ {A : Type 0} (at : AstExpr-F A → A) where
   ast_num : (n : ℤ) → fold-AstExpr A at (Num n) ≡ at (AstExpr-F.Num n)

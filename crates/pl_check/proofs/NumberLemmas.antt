@@ -2,6 +2,7 @@
 use Rattle.std.proofs.Common.{◌≡◌, ℕ, ◌<◌, true, List, Option, Some, None, Ok, All, length, slice_get, sym, ap, subst, ◌∙◌}
 use Rattle.std.specs.Prelude.{bytes_eq}
 use Rattle.std.proofs.lemmas.Option.{slice_get_within}
+use Rattle.std.proofs.lemmas.Bool.{and_parts}
 use Rattle.pl_syntax.specs.declared.whole.Item.{Item}
 use Rattle.pl_syntax.specs.declared.timelines.AstTimeline.{AstTimeline}
 use Rattle.pl_syntax.specs.declared.timelines.AstTimeline.TheVariants as line
@@ -32,7 +33,6 @@ use Rattle.pl_lists.proofs.Judging.{bind_ok}
 use Rattle.pl_check.proofs.PairLemmas.{known_ok, ok_same, and_then_some, placed_at, pair_at, pair_all, all_such, each_pairs, Makes}
 use Rattle.pl_check.proofs.MadeLemmas.{written_kinds, written_lines, kind_found, line_found}
 use Rattle.pl_check.proofs.ExpressionLemmas.{names_made}
-use Rattle.pl_check.proofs.RangeLemmas.{both_true}
 
 -- the kinds and the timelines of a model by the numbers of those of the text
 pub record IsMadeOf (items : List Item) (model : Model) : Type 0 where
@@ -61,7 +61,7 @@ binding_made params of_slot made a b m h =
     let right = bind_ok (numbered params a.1) _ b left.2 in
     let place = placed_at (is_bindable_named a.0) of_slot left.0 (known_ok a.0 (bindable_named of_slot a.0) left.0 left.1) in
     let stands = pair_at (Makes (numbered_param of_slot)) of_slot made left.0 place.0 (params_made of_slot made m) place.1 in
-    let free = (both_true (bytes_eq place.0.name a.0) (is_unequalled place.0.origin) place.2).1 in
+    let free = (and_parts (bytes_eq place.0.name a.0) (is_unequalled place.0.origin) place.2).1 in
     let whole : IsBinding (length params) made (left.0, right.0) = record {
       number = slice_get_within made left.0 stands.0 stands.1;
       set = subst IsSetParam (sym stands.1) (set_origin of_slot place.0.origin stands.0.origin (origin_made of_slot place.0 stands.0 stands.2) free);

@@ -2,6 +2,7 @@
 use Rattle.std.proofs.Common.{◌≡◌, ℕ, ◌<◌, ℤ, pos, neg_ℤ, true, List, Some, None, Ok, All, length, sym, ap, subst, ◌∙◌, arith}
 use Rattle.std.specs.Prelude.{int_le, ◌&&◌}
 use Rattle.std.proofs.lemmas.Option.{slice_get_within}
+use Rattle.std.proofs.lemmas.Bool.{and_parts}
 use Rattle.pl_syntax.specs.declared.whole.Item.{Item}
 use Rattle.pl_syntax.specs.declared.timelines.AstTimeline.{AstTimeline}
 use Rattle.pl_syntax.specs.declared.timelines.AstTimeline.TheVariants as line
@@ -34,9 +35,10 @@ use Rattle.pl_check.specs.Numbering.{numbered, numbered_line, numbered_step, num
 use Rattle.pl_check.specs.Ranges.{is_between, is_amount, is_level, is_default, is_distance, range_in_line, range_in_param, range_in_origin, range_in_link, range_in_slot, range_in_order, range_in_alternative}
 use Rattle.pl_check.specs.Networks.{FinishesAlternative}
 use Rattle.pl_check.proofs.SizeLemmas.{then_passes}
-use Rattle.pl_check.proofs.RangeLemmas.{test_passes, each_passes, both_true, le_from_test, between}
+use Rattle.pl_check.proofs.RangeLemmas.{test_passes, each_passes, between}
 use Rattle.pl_lists.proofs.Judging.{bind_ok}
 use Rattle.pl_lists.proofs.Listing.{pairwise_length}
+use Rattle.pl_lists.proofs.Numbers.{le_from_test}
 use Rattle.pl_check.proofs.PairLemmas.{known_ok, ok_same, pair_all, pair_with, all_such, each_pairs, Makes}
 use Rattle.pl_check.proofs.MadeLemmas.{kind_found}
 use Rattle.pl_check.proofs.ExpressionLemmas.{names_made}
@@ -50,8 +52,8 @@ level n h = between (pos 0) (pos 1000000000000) n h
 
 distance : (horizon : ℕ) (low high : ℤ) → is_distance (pos horizon) low high ≡ true → IsDistance horizon low high
 distance horizon low high h =
-    let both = both_true (is_between (neg_ℤ (pos horizon)) (pos horizon) low && is_between (neg_ℤ (pos horizon)) (pos horizon) high) (int_le low high) h in
-    let ends = both_true (is_between (neg_ℤ (pos horizon)) (pos horizon) low) (is_between (neg_ℤ (pos horizon)) (pos horizon) high) both.0 in
+    let both = and_parts (is_between (neg_ℤ (pos horizon)) (pos horizon) low && is_between (neg_ℤ (pos horizon)) (pos horizon) high) (int_le low high) h in
+    let ends = and_parts (is_between (neg_ℤ (pos horizon)) (pos horizon) low) (is_between (neg_ℤ (pos horizon)) (pos horizon) high) both.0 in
     ((between (neg_ℤ (pos horizon)) (pos horizon) low ends.0).0, le_from_test low high both.1, (between (neg_ℤ (pos horizon)) (pos horizon) high ends.1).1)
 
 -- ---- timelines
@@ -60,9 +62,9 @@ pub line_checked : (a : AstTimeline) (t : Timeline) → IsSmallLine a → number
 line_checked a (Capacity name most) small h r = amount most (test_passes (is_amount most) (fault.Range what.Capacity) r)
 line_checked a (Level name least most start) small h r =
     let all = test_passes (is_level least && is_level most && is_level start && int_le least most) (fault.Range what.Level) r in
-    let ordered_too = both_true (is_level least && is_level most && is_level start) (int_le least most) all in
-    let start_too = both_true (is_level least && is_level most) (is_level start) ordered_too.0 in
-    let most_too = both_true (is_level least) (is_level most) start_too.0 in
+    let ordered_too = and_parts (is_level least && is_level most && is_level start) (int_le least most) all in
+    let start_too = and_parts (is_level least && is_level most) (is_level start) ordered_too.0 in
+    let most_too = and_parts (is_level least) (is_level most) start_too.0 in
     (level least most_too.0, level most most_too.1, level start start_too.1, le_from_test least most ordered_too.1)
 line_checked (line.Capacity n m) (States name states start any steps) small h r = absurd (cc h)
 line_checked (line.Level n l m s) (States name states start any steps) small h r = absurd (cc h)
@@ -88,9 +90,9 @@ pub param_checked : (params : List AstParam) (a : AstParam) (p : Param) → numb
 param_checked params a p h r =
     let numbers = then_passes (unless (is_amount p.low && is_amount p.high && int_le p.low p.high && is_default p.low p.high p.origin) (fault.Range what.Param)) (range_in_origin p.origin) tt r in
     let all = test_passes (is_amount p.low && is_amount p.high && int_le p.low p.high && is_default p.low p.high p.origin) (fault.Range what.Param) numbers.0 in
-    let default_too = both_true (is_amount p.low && is_amount p.high && int_le p.low p.high) (is_default p.low p.high p.origin) all in
-    let ordered_too = both_true (is_amount p.low && is_amount p.high) (int_le p.low p.high) default_too.0 in
-    let high_too = both_true (is_amount p.low) (is_amount p.high) ordered_too.0 in
+    let default_too = and_parts (is_amount p.low && is_amount p.high && int_le p.low p.high) (is_default p.low p.high p.origin) all in
+    let ordered_too = and_parts (is_amount p.low && is_amount p.high) (int_le p.low p.high) default_too.0 in
+    let high_too = and_parts (is_amount p.low) (is_amount p.high) ordered_too.0 in
     record {
       least = amount p.low high_too.0;
       greatest = amount p.high high_too.1;

@@ -3,6 +3,8 @@ use Rattle.std.proofs.Common.{◌≡◌, ℕ, ℤ, pos, neg_ℤ, ◌≤ℤ◌, B
 use Rattle.std.specs.Prelude.{int_le, ◌&&◌}
 use Rattle.std.proofs.lemmas.Int.{ints}
 use Rattle.std.proofs.lemmas.List.Elements.{All-nil, All-cons, All-head, All-tail, All-weaker}
+use Rattle.std.proofs.lemmas.Bool.{and_parts}
+use Rattle.pl_lists.proofs.Numbers.{le_from_test}
 use Rattle.pl_model.specs.declared.alternatives.Order.{Order}
 use Rattle.pl_check.specs.declared.fault.ModelFault.{ModelFault}
 use Rattle.pl_check.specs.declared.fault.ModelFault.TheVariants as fault
@@ -26,16 +28,9 @@ pub each_passes : {X : Type 0} (judge : X → Judgement) (xs : List X) → each 
 each_passes judge [] h = All-nil (λ x. judge x ≡ pass)
 each_passes judge (x ∷ xs) h = let both = then_passes (judge x) (each judge xs) tt h in All-cons (λ y. judge y ≡ pass) x xs both.0 (each_passes judge xs both.1)
 
-pub both_true : (a b : Bool) → (a && b) ≡ true → (a ≡ true) × (b ≡ true)
-both_true true b h = (refl, h)
-both_true false b h = absurd (cc)
-
-pub le_from_test : (a b : ℤ) → int_le a b ≡ true → a ≤ℤ b
-le_from_test a b h = grind (arith, ints)
-
 pub between : (low high n : ℤ) → is_between low high n ≡ true → (low ≤ℤ n) × (n ≤ℤ high)
 unfolding is_between
-between low high n h = let both = both_true (int_le low n) (int_le n high) h in (le_from_test low n both.0, le_from_test n high both.1)
+between low high n h = let both = and_parts (int_le low n) (int_le n high) h in (le_from_test low n both.0, le_from_test n high both.1)
 
 near_number : (horizon n : ℤ) → IsHorizon horizon → (neg_ℤ horizon ≤ℤ n) × (n ≤ℤ horizon) → IsNear n
 near_number horizon n h b = (omega (arith, ints, h.0, h.1, b.0), omega (arith, ints, h.1, b.1))
@@ -44,8 +39,8 @@ near_order : (horizon : ℤ) → IsHorizon horizon → (o : Order) → range_in_
 unfolding range_in_order
 near_order horizon h o p =
     let test = test_passes (is_distance horizon o.low o.high) (fault.Range what.Order) p in
-    let two = both_true (is_between (neg_ℤ horizon) horizon o.low && is_between (neg_ℤ horizon) horizon o.high) (int_le o.low o.high) test in
-    let ends = both_true (is_between (neg_ℤ horizon) horizon o.low) (is_between (neg_ℤ horizon) horizon o.high) two.0 in
+    let two = and_parts (is_between (neg_ℤ horizon) horizon o.low && is_between (neg_ℤ horizon) horizon o.high) (int_le o.low o.high) test in
+    let ends = and_parts (is_between (neg_ℤ horizon) horizon o.low) (is_between (neg_ℤ horizon) horizon o.high) two.0 in
     (near_number horizon o.low h (between (neg_ℤ horizon) horizon o.low ends.0), near_number horizon o.high h (between (neg_ℤ horizon) horizon o.high ends.1))
 
 near_alternative : (horizon : ℤ) → IsHorizon horizon → (a : DraftAlternative) → range_in_alternative horizon a ≡ pass → IsNearAlternative a

@@ -4,6 +4,7 @@ use Rattle.std.proofs.lemmas.Int.{ints, clamps}
 use Rattle.std.proofs.lemmas.List.Elements.{All-nil, All-cons, All-head, All-tail, All-weaker}
 use Rattle.std.specs.Prelude.{nat_le, int_le, IfOk}
 use Rattle.std.specs.Int.{int_max}
+use Rattle.std.proofs.lemmas.Bool.{and_parts}
 use Rattle.pl_syntax.specs.declared.whole.Ast.{Ast}
 use Rattle.pl_syntax.specs.declared.whole.Item.{Item}
 use Rattle.pl_syntax.specs.declared.whole.Item.TheVariants as item
@@ -49,9 +50,10 @@ use Rattle.pl_lists.specs.Lists.{Pairwise}
 use Rattle.pl_check.specs.Networks.{FinishesAlternative, FinishesKind, cut_to, span_of}
 use Rattle.pl_check.specs.Checked.{drafted, ranged, spans_in, IsModelOf, AnswersJudged, Answers, IsChecked as IsAnswered}
 use Rattle.pl_check.proofs.SizeLemmas.{then_passes, not_too_many, below_from_test, few, small_line, small_alternative}
-use Rattle.pl_check.proofs.RangeLemmas.{each_passes, both_true, le_from_test, of_kinds, horizon_passes, lead_passes}
+use Rattle.pl_check.proofs.RangeLemmas.{each_passes, of_kinds, horizon_passes, lead_passes}
 use Rattle.pl_lists.proofs.Judging.{bind_ok}
 use Rattle.pl_lists.proofs.Listing.{pairwise_length}
+use Rattle.pl_lists.proofs.Numbers.{le_from_test}
 use Rattle.pl_check.proofs.PairLemmas.{ok_same, pair_all, pair_with, pair_at, all_both, all_such, each_pairs, Makes}
 use Rattle.pl_check.proofs.DraftLemmas.{Numbers, numbers_kind}
 use Rattle.pl_check.proofs.MadeLemmas.{written_kinds, written_lines, kinds_such, lines_such, made_kinds, made_lines}
@@ -154,7 +156,7 @@ span_same : (horizon : ℕ) (spans : List (ℤ × ℤ)) (d : DraftKind) (m : Kin
 span_same horizon spans d m f = ap (λ (b : ℤ × ℤ). (cut_to (pos horizon) b.0, cut_to (pos horizon) b.1)) (bounds_same (pos horizon) spans d m f)
 
 possible_bounds : (horizon : ℕ) (b : ℤ × ℤ) → is_possible (pos horizon) b ≡ true → IsPossible horizon b
-possible_bounds horizon b h = let both = both_true (int_le (pos 1) b.1) (int_le b.0 (pos horizon)) h in (le_from_test (pos 1) b.1 both.0, le_from_test b.0 (pos horizon) both.1)
+possible_bounds horizon b h = let both = and_parts (int_le (pos 1) b.1) (int_le b.0 (pos horizon)) h in (le_from_test (pos 1) b.1 both.0, le_from_test b.0 (pos horizon) both.1)
 
 least_is : (horizon n : ℕ) (x : ℤ) → 1 ≤ horizon → x ≤ℤ pos horizon → pos n ≡ cut_to (pos horizon) x → pos n ≡ int_max x (pos 1)
 least_is horizon n x one le e = omega (arith, ints, clamps, e, one, le)

@@ -1,9 +1,11 @@
+pub use Rattle.pl_model.specs.Checked as ModelChecked
+pub use Rattle.pl_syntax.specs.Answers
 pub use Rattle.pl_model.specs.Values
 pub use Rattle.pl_model.specs.Bounds
-pub use Rattle.pl_model.specs.Checked as ModelChecked
 pub use Rattle.pl_stn.specs.Nets
 pub use Rattle.pl_syntax.specs.Grammar
-pub use Rattle.pl_syntax.specs.Answers as Reading
+pub mod Refusals
+pub mod Accepting
 pub mod Judgements
 pub mod Names
 pub mod Counts

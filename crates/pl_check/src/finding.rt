@@ -82,6 +82,7 @@ fn line_named<'a>(names: &Names, items: &'a [Item], name: &[u8]) -> Option<(u32,
     line_at(items, place)
 }
 
+/// The number of the capacity timeline of this name.
 pub fn capacity_named(names: &Names, items: &[Item], name: &[u8]) -> Option<u32>
     requires { IsScope names.now items.now }
     ensures { result ≡ capacity_named items.now name.now }
@@ -93,6 +94,7 @@ pub fn capacity_named(names: &Names, items: &[Item], name: &[u8]) -> Option<u32>
     }
 }
 
+/// The number of the level timeline of this name.
 pub fn level_named(names: &Names, items: &[Item], name: &[u8]) -> Option<u32>
     requires { IsScope names.now items.now }
     ensures { result ≡ level_named items.now name.now }
@@ -117,6 +119,7 @@ pub fn states_named<'a>(names: &Names, items: &'a [Item], name: &[u8]) -> Option
     }
 }
 
+/// The place of the parameter of this name in its kind, from 0.
 pub fn param_named(params: &[AstParam], name: &[u8]) -> Option<u8>
     requires { length params.now ≤ 16 }
     ensures value { result ≡ param_named params.now name.now }
@@ -130,6 +133,7 @@ pub fn param_named(params: &[AstParam], name: &[u8]) -> Option<u8>
     None
 }
 
+/// The place of the slot of this name in its alternative, from 0.
 pub fn slot_named(slots: &[AstSlot], name: &[u8]) -> Option<u32>
     requires { length slots.now ≤ 16 }
     ensures value { result ≡ slot_named slots.now name.now }

@@ -1,6 +1,7 @@
-//! The checks of a model: the tree of a model text becomes a model, its names numbered, or its first fault is told.
+//! A text becomes a checked model, or its first fault is told.
 #![tactic(auto)]
 
+mod accepting;
 mod checking;
 mod counts;
 mod cycles;
@@ -9,15 +10,19 @@ mod drafting;
 mod drafts;
 mod fault;
 mod finding;
+mod laws;
 mod names;
 mod networks;
 mod numbering;
 mod ranges;
+mod refusals;
 mod repeats;
 mod schedule;
 mod schedules;
 mod sharing;
 
+pub use accepting::{Accepted, accept, too_long};
 pub use checking::check;
 pub use fault::{ModelFault, What};
+pub use laws::texts_are_told_apart;
 pub use sharing::shared_types;

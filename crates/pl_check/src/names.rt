@@ -23,6 +23,7 @@ impl Names {
     ghost use Rattle.std.specs.Prelude.{◌≡◌, [], ◌∷◌, ◌++◌, IfOk, OnErr, not, if◌then◌else◌};
     ghost use Rattle.pl_check.specs.Names.{is_among, place_of};
 
+    /// No names.
     pub fn new(alloc: Global) -> Names
         ensures { result ≡ [] }
     {
@@ -40,6 +41,7 @@ impl Names {
         Ok(new)
     }
 
+    /// Where the name stands in the order in which names were put, from 0.
     pub fn place(&self, name: &[u8]) -> Option<usize>
         ensures { result ≡ place_of self.now name.now }
     {

@@ -23,6 +23,7 @@ pub fn known<T: Drop>(alloc: Global, name: &Name, found: Option<T>) -> Result<T,
     }
 }
 
+/// The expression, its names replaced by the places of the kind's parameters.
 pub fn number_expr(alloc: Global, params: &[AstParam], expr: &AstExpr) -> Result<Expr, ModelFault>
     requires { length params.now ≤ 16 }
     ensures gives { Gives result (numbered params.now expr.now) }
@@ -42,6 +43,7 @@ pub fn number_expr(alloc: Global, params: &[AstParam], expr: &AstExpr) -> Result
     }
 }
 
+/// The place of the state of this name among the states of its timeline, from 0.
 pub fn number_state(alloc: Global, states: &[Name], name: &Name) -> Result<u32, ModelFault>
     requires { length states.now ≤ 32 }
     ensures { Gives result (state_number states.now name.now) }
@@ -78,6 +80,7 @@ fn number_steps(
     Ok(all)
 }
 
+/// The timeline, the names in its start and steps replaced by the places of its states.
 pub fn number_line(alloc: Global, line: &AstTimeline) -> Result<Timeline, ModelFault>
     requires { IsSmallLine line.now }
     ensures { Gives result (numbered_line line.now) }
@@ -146,6 +149,7 @@ fn number_param(alloc: Global, params: &[AstParam], param: &AstParam) -> Result<
     })
 }
 
+/// The parameters of a kind, the names in their expressions replaced by the parameters' places.
 #[tactic(auto, using(crate::proofs::LoopLemmas::made_whole), unfolding(crate::specs::Numbering::numbered_params))]
 pub fn number_params(alloc: Global, params: &[AstParam]) -> Result<Items<Param>, ModelFault>
     requires { length params.now ≤ 16 }

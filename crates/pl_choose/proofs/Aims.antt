@@ -3,10 +3,10 @@ use Rattle.std.proofs.Common.{◌≡◌, ℕ, ◌+◌, ◌≤◌, ◌<◌, Bool,
 use Rattle.std.specs.Prelude.{All, IfSome, Option, Some, None, nat_lt, if◌then◌else◌}
 use Rattle.std.proofs.lemmas.List.Elements.{All-nil, All-cons, All-head, All-tail, All-weaker, All-more}
 use Rattle.pl_plan.specs.declared.repair.RepairMove.{RepairMove}
-use Rattle.pl_world.specs.declared.plan_state.PlanState.{PlanState}
-use Rattle.pl_world.specs.Legal.{left_after}
+use Rattle.pl_semantics.specs.declared.plan_state.PlanState.{PlanState}
+use Rattle.pl_semantics.specs.Legal.{left_after}
 use Rattle.pl_board.specs.Boards.{Standing}
-use Rattle.pl_outlook.specs.Bounds.{AreLeast}
+use Rattle.pl_bounds.specs.Bounds.{AreLeast}
 use Rattle.pl_moves.specs.Attempts.{is_enough}
 use Rattle.pl_moves.proofs.Enough.{at_most}
 use Rattle.pl_choose.specs.declared.best.Best.{Best}

@@ -1,21 +1,14 @@
 -- What a search finds.
-use Rattle.std.proofs.Common.{◌≡◌, ℕ, ◌<◌, Bool, true, false, cond, List, [], ◌∷◌, ◌++◌, length, get_or, refl, sym, subst, ap, ◌∙◌, append_assoc, append-nil, drop, drop-cons, add-one, ◌+◌, arith}
+use Rattle.std.proofs.Common.{◌≡◌, ℕ, ◌<◌, Bool, true, false, cond, List, [], ◌∷◌, ◌++◌, length, get_or, refl, sym, subst, ap, ◌∙◌, append_assoc, append-nil, arith}
 use Rattle.std.specs.Prelude.{find, filter, Contains, ◌||◌, ◌==◌, ◌%◌, not, is_some, Option, Some, None, slice_get}
 use Rattle.std.specs.List.{list_any}
 use Rattle.std.proofs.lemmas.Grind.{common_steps}
 use Rattle.std.proofs.lemmas.Bool.Decides.{nat_tests}
 use Rattle.std.proofs.lemmas.Option.{slice_get-get_or, slice_get_within, get_or_from_slice_get}
-use Rattle.std.proofs.lemmas.List.Elements.{All-contains, All-contains_itself, All-filter, filter_passes, filter-append}
+use Rattle.std.proofs.lemmas.List.Elements.{filter-append}
 
 pub get_contains : {X : Type 0} (xs : List X) (i : ℕ) (x : X) → slice_get xs i ≡ Some x → Contains xs x
 get_contains xs i x e = (i, slice_get_within xs i x e, get_or_from_slice_get xs i x x e)
-
--- what passes, of a list
-pub filter_contains : {X : Type 0} (p : X → Bool) (xs : List X) (x : X) → Contains (filter p xs) x → Contains xs x
-filter_contains p xs x here = All-contains (Contains xs) (filter p xs) x (All-filter p (Contains xs) xs (All-contains_itself xs)) here
-
-pub filter_passing : {X : Type 0} (p : X → Bool) (xs : List X) (x : X) → Contains (filter p xs) x → p x ≡ true
-filter_passing p xs x here = All-contains (λ y. p y ≡ true) (filter p xs) x (filter_passes p xs) here
 
 -- the first that passes is the first of those that pass
 pub find_is : {X : Type 0} (p : X → Bool) (xs : List X) → find p xs ≡ slice_get (filter p xs) 0
@@ -94,11 +87,3 @@ nonempty p (x ∷ more) e = by_test x (filter p more) (list_any p more) (p x) (�
     by_test : {X : Type 0} (x : X) (ys : List X) (rest : Bool) (b : Bool) → (rest ≡ true → HasFirst ys) → (b || rest) ≡ true → HasFirst (cond b (x ∷ ys) ys)
     by_test x ys rest true so h = (x, ys, refl)
     by_test x ys rest false so h = so h
-
--- the next element of a list, and the ones behind it
-pub drop_next : {X : Type 0} (xs : List X) (k : ℕ) (d : X) → k < length xs → drop k xs ≡ get_or xs k d ∷ drop (k + 1) xs
-drop_next xs k d within = rw (add-one, drop-cons xs k d) refl
-
-pub empty_if : {X : Type 0} (xs : List X) → length xs ≡ 0 → xs ≡ []
-empty_if [] e = refl
-empty_if (x ∷ more) e = absurd (omega (arith, e))

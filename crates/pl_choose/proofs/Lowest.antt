@@ -2,20 +2,13 @@
 use Rattle.std.proofs.Common.{◌≡◌, ℕ, ◌≤◌, ◌<◌, Bool, true, false, cond, List, [], ◌∷◌, refl, sym, ◌∙◌, arith}
 use Rattle.std.specs.Prelude.{find, nat_le, nat_lt, ◌&&◌, Option, Some}
 use Rattle.std.specs.List.{list_all}
-use Rattle.std.proofs.lemmas.Bool.{ltb-true, ltb-false, leb-true, le-leb, lt-leb}
+use Rattle.std.proofs.lemmas.Bool.{ltb-true, ltb-false, leb-true, le-leb, lt-leb, and_parts}
+use Rattle.std.proofs.Math.Bool.{and-false}
 use Rattle.pl_choose.specs.Found.{lowest}
 
 -- its number is no higher than any of theirs
 abbrev pub is_lowest : {X : Type 0} → (X → ℕ) → List X → X → Bool
 is_lowest f xs x = list_all (λ y. nat_le (f x) (f y)) xs
-
-and_false : (b : Bool) → (b && false) ≡ false
-and_false true = refl
-and_false false = refl
-
-both_true : (a b : Bool) → (a && b) ≡ true → (a ≡ true) × (b ≡ true)
-both_true true b e = (refl, e)
-both_true false b e = absurd (cc)
 
 find_same : {X : Type 0} (p q : X → Bool) → ((x : X) → p x ≡ q x) → (xs : List X) → find p xs ≡ find q xs
 find_same p q same [] = refl
@@ -27,7 +20,7 @@ under_second a m n r lt = cases (nat_le a n) refl
   where
     cases : (b : Bool) → nat_le a n ≡ b → (nat_le a m && (b && r)) ≡ (b && r)
     cases true e = let le : a ≤ n = leb-true a n e in let up : nat_le a m ≡ true = le-leb a m (omega arith) in rw up refl
-    cases false e = and_false (nat_le a m)
+    cases false e = and-false (nat_le a m)
 
 under_first : (a m n : ℕ) (r : Bool) → m ≤ n → (nat_le a m && (nat_le a n && r)) ≡ (nat_le a m && r)
 under_first a m n r le = cases (nat_le a m) refl
@@ -39,7 +32,7 @@ under_first a m n r le = cases (nat_le a m) refl
 -- what is lower than one is no higher than all that this one is no higher than
 higher_step : (m n k : ℕ) (a b : Bool) → m ≤ n → (a ≡ true → b ≡ true) → (nat_le n k && a) ≡ true → (nat_le m k && b) ≡ true
 higher_step m n k a b le so e =
-    let parts : (nat_le n k ≡ true) × (a ≡ true) = both_true (nat_le n k) a e in
+    let parts : (nat_le n k ≡ true) × (a ≡ true) = and_parts (nat_le n k) a e in
     let below : n ≤ k = leb-true n k parts.0 in
     let up : nat_le m k ≡ true = le-leb m k (omega arith) in
     rw (up, so parts.1) refl
@@ -50,7 +43,7 @@ all_higher f x y (z ∷ more) le e = higher_step (f x) (f y) (f z) (list_all (λ
 
 level_if : (m n : ℕ) (a b : Bool) → (a ≡ true → b ≡ true) → b ≡ false → (nat_le n m && a) ≡ false
 level_if m n true b so e = absurd (let h : b ≡ true = so refl in cc)
-level_if m n false b so e = and_false (nat_le n m)
+level_if m n false b so e = and-false (nat_le n m)
 
 is_level : (n : ℕ) (r : Bool) → (nat_le n n && r) ≡ r
 is_level n r = let e : nat_le n n ≡ true = le-leb n n (omega arith) in rw e refl

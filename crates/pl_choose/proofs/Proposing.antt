@@ -1,17 +1,18 @@
 -- What is proposed may be proposed.
 use Rattle.std.proofs.Common.{◌≡◌, ℕ, true, false, List, ◌∷◌, [], length, refl, sym, subst, ap, ◌∙◌}
-use Rattle.std.specs.Prelude.{find, filter, All, Contains, not, ◌==◌, ◌%◌, is_none, is_some, Option, Some, None, IfSome, option_and_then}
+use Rattle.std.specs.Prelude.{find, filter, All, Contains, not, ◌==◌, ◌%◌, is_some, Option, Some, None, IfSome, option_and_then}
 use Rattle.std.specs.List.{list_any}
 use Rattle.std.proofs.lemmas.List.Elements.{All-nil, All-cons, All-head, All-tail, All-filter, filter_passes}
 use Rattle.std.specs.Option.{option_map}
+use Rattle.pl_lists.proofs.Elements.{filter_contains, filter_passing, none_from_test}
 use Rattle.pl_conflict.specs.declared.conflict.Conflict.{Conflict}
 use Rattle.pl_plan.specs.declared.repair.RepairMove.{RepairMove}
-use Rattle.pl_world.specs.declared.plan_state.PlanState.{PlanState}
-use Rattle.pl_world.specs.Conflicts.{conflicts_of}
-use Rattle.pl_world.specs.Candidates.{candidates_of}
-use Rattle.pl_world.specs.Legal.{is_legal, has_repair, legal_for, left_after, repairable, is_stuck}
-use Rattle.pl_world.specs.Moves.{refusal_of}
-use Rattle.pl_world.proofs.Sifting.{proper}
+use Rattle.pl_semantics.specs.declared.plan_state.PlanState.{PlanState}
+use Rattle.pl_semantics.specs.Conflicts.{conflicts_of}
+use Rattle.pl_semantics.specs.Candidates.{candidates_of}
+use Rattle.pl_semantics.specs.Legal.{is_legal, has_repair, legal_for, left_after, repairable, is_stuck}
+use Rattle.pl_semantics.specs.Moves.{refusal_of}
+use Rattle.pl_semantics.proofs.Sifting.{proper}
 use Rattle.pl_cand.specs.declared.proposal.Proposal.{Proposal}
 use Rattle.pl_cand.specs.Proposals.{IsProposal}
 use Rattle.pl_choose.specs.declared.draw.Draw.{Draw}
@@ -21,7 +22,7 @@ use Rattle.pl_choose.specs.Found.{IsProper, IsAllowed, AreFirst}
 use Rattle.pl_choose.specs.Picks.{proposal, leaves_fewest, fewest, fewest_for, least_pick, picked_by, random_pick, pick_by}
 use Rattle.pl_choose.specs.Found.{lowest}
 use Rattle.pl_choose.proofs.Lowest.{first_lowest}
-use Rattle.pl_choose.proofs.Finding.{HasFirst, nonempty, any_is, any_find, find_passing, filter_contains, filter_passing, get_contains, picked_some}
+use Rattle.pl_choose.proofs.Finding.{HasFirst, nonempty, any_is, any_find, find_passing, get_contains, picked_some}
 
 -- a legal candidate of the conflict, by this rule
 abbrev Chosen : PlanState → (Conflict → Option RepairMove) → Conflict → Type 0
@@ -123,15 +124,11 @@ pub one_legal : (s : PlanState) (k : Conflict) (ms : List RepairMove) → ms ≡
 unfolding legal_for
 one_legal s k ms is e = any_is (is_legal s) (candidates_of s k) ∙ ap (λ xs. not (length xs == 0)) (sym is) ∙ ap not e
 
-none_if : {X : Type 0} (o : Option X) → is_none o ≡ true → o ≡ None
-none_if None e = refl
-none_if (Some x) e = absurd (cc)
-
 both_all : (s : PlanState) (ms : List RepairMove) → All (IsProper s) ms → All (λ m. is_legal s m ≡ true) ms → All (IsAllowed s) ms
 both_all s [] one other = All-nil (IsAllowed s)
 both_all s (m ∷ more) one other =
     All-cons (IsAllowed s) m more
-    (record { proper = All-head (IsProper s) m more one; allowed = none_if (refusal_of s m) (All-head (λ m. is_legal s m ≡ true) m more other) })
+    (record { proper = All-head (IsProper s) m more one; allowed = none_from_test (refusal_of s m) (All-head (λ m. is_legal s m ≡ true) m more other) })
     (both_all s more (All-tail (IsProper s) m more one) (All-tail (λ m. is_legal s m ≡ true) m more other))
 
 -- the legal candidates make sense, and nothing refuses them

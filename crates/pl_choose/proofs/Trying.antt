@@ -2,18 +2,17 @@
 use Rattle.std.proofs.Common.{◌≡◌, ℕ, zero, suc, ◌+◌, ◌≤◌, ◌<◌, Bool, true, false, cond, List, [], ◌∷◌, ◌++◌, length, get_or, take, drop, refl, sym, ap, subst, ◌∙◌, append_assoc, append-nil, arith, inl, inr}
 use Rattle.std.specs.Prelude.{◌⊎◌, All, Some, nat_lt, if◌then◌else◌}
 use Rattle.std.proofs.lemmas.Bool.{ltb-false, lt-ltb, le-ltb, ltb-true}
-use Rattle.std.proofs.lemmas.List.{take-append-drop, drop_all}
+use Rattle.std.proofs.lemmas.List.{take-append-drop, drop_all, drop_more}
 use Rattle.std.proofs.Math.Seq.{take-add}
 use Rattle.std.proofs.lemmas.List.Elements.{All-nil, All-cons, All-head, All-tail}
 use Rattle.pl_plan.specs.declared.repair.RepairMove.{RepairMove}
-use Rattle.pl_world.specs.declared.plan_state.PlanState.{PlanState}
-use Rattle.pl_world.specs.Legal.{left_after}
-use Rattle.pl_outlook.specs.Bounds.{AreLeast}
+use Rattle.pl_semantics.specs.declared.plan_state.PlanState.{PlanState}
+use Rattle.pl_semantics.specs.Legal.{left_after}
+use Rattle.pl_bounds.specs.Bounds.{AreLeast}
 use Rattle.pl_choose.specs.declared.best.Best.{Best}
 use Rattle.pl_choose.specs.Found.{IsAllowed, lowest}
 use Rattle.pl_choose.specs.Picks.{fewest}
 use Rattle.pl_choose.specs.Tried.{above, better_of, best_of, below, AreHopes}
-use Rattle.pl_choose.proofs.Finding.{drop_next}
 use Rattle.pl_choose.proofs.Lowest.{first_lowest}
 
 abbrev pub best : RepairMove → ℕ → Best
@@ -128,7 +127,7 @@ pub below_next : {X : Type 0} (most k : ℕ) (ns : List ℕ) (xs kept more w : L
 below_next {X = X} most k ns xs kept more w d e lt in_it grown is =
     let P : List ℕ → Type 0 = λ zs. kept ++ below most zs (drop k xs) ≡ w in
     let Q : List X → Type 0 = λ zs. kept ++ below most (get_or ns k d ∷ drop (k + 1) ns) zs ≡ w in
-    let one : kept ++ below most (get_or ns k d ∷ drop (k + 1) ns) (get_or xs k e ∷ drop (k + 1) xs) ≡ w = subst Q (drop_next xs k e in_it) (subst P (drop_next ns k d lt) is) in
+    let one : kept ++ below most (get_or ns k d ∷ drop (k + 1) ns) (get_or xs k e ∷ drop (k + 1) xs) ≡ w = subst Q (drop_more xs k e in_it) (subst P (drop_more ns k d lt) is) in
     rw (grown, append_assoc) (ap (λ zs. kept ++ zs) (split (nat_lt (get_or ns k d) most)) ∙ one)
   where
     split : (c : Bool) → cond c (get_or xs k e ∷ []) [] ++ below most (drop (k + 1) ns) (drop (k + 1) xs) ≡ cond c (get_or xs k e ∷ below most (drop (k + 1) ns) (drop (k + 1) xs)) (below most (drop (k + 1) ns) (drop (k + 1) xs))
@@ -144,7 +143,7 @@ below_end {X = X} most k ns xs kept w over out is =
 pub next_tried : (f : RepairMove → ℕ) (ms : List RepairMove) (k left : ℕ) (d : RepairMove) (b c w : Best) → k < length ms → left ≡ f (get_or ms k d) → c ≡ better_of b (get_or ms k d) left → best_of f b (drop k ms) ≡ w → best_of f c (drop (k + 1) ms) ≡ w
 next_tried f ms k left d b c w lt counted is leads =
     let P : List RepairMove → Type 0 = λ zs. best_of f b zs ≡ w in
-    ap (λ z. best_of f z (drop (k + 1) ms)) (is ∙ ap (λ n. better_of b (get_or ms k d) n) counted) ∙ subst P (drop_next ms k d lt) leads
+    ap (λ z. best_of f z (drop (k + 1) ms)) (is ∙ ap (λ n. better_of b (get_or ms k d) n) counted) ∙ subst P (drop_more ms k d lt) leads
 
 pub all_tried : (f : RepairMove → ℕ) (ms : List RepairMove) (k : ℕ) (b w : Best) → length ms ≤ k → best_of f b (drop k ms) ≡ w → b ≡ w
 all_tried f ms k b w over leads =
@@ -213,7 +212,7 @@ pub in_place : (f : RepairMove → ℕ) (ms : List RepairMove) (k : ℕ) (d : Re
 in_place f ms k d b front lt one =
     let P : List RepairMove → Type 0 = λ zs. best_of f front zs ≡ best_of f b ms in
     let whole : best_of f front (drop k ms) ≡ best_of f b ms = ap (λ c. best_of f c (drop k ms)) one ∙ sym (best_of_both f b (take k ms) (drop k ms)) ∙ ap (λ zs. best_of f b zs) (take-append-drop k ms) in
-    subst P (drop_next ms k d lt) whole
+    subst P (drop_more ms k d lt) whole
 
 -- whichever it is, the best of all is found
 from_aim : (f : RepairMove → ℕ) (b : Best) (ms : List RepairMove) (k : ℕ) (d : RepairMove) → k < length ms → best_of f (above b (get_or ms k d) (f (get_or ms k d))) ms ≡ best_of f b ms

@@ -1,8 +1,8 @@
 -- What comes of the aim.
 use Rattle.std.specs.Prelude.{◌≡◌, ◌≤◌, List, drop, length}
 use Rattle.pl_plan.specs.declared.repair.RepairMove.{RepairMove}
-use Rattle.pl_world.specs.Moves.{applied}
-use Rattle.pl_world.specs.Legal.{left_after}
+use Rattle.pl_semantics.specs.Moves.{applied}
+use Rattle.pl_semantics.specs.Legal.{left_after}
 use Rattle.pl_board.specs.Boards.{Standing, after}
 use Rattle.pl_choose.specs.declared.aiming.Aimed.{Aimed}
 use Rattle.pl_choose.specs.declared.aiming.Aimed.TheVariants.{Made, Passed}

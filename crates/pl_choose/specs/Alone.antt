@@ -1,8 +1,8 @@
 -- A move that is tried alone, and stays made where it leaves few enough conflicts.
 use Rattle.std.specs.Prelude.{◌≡◌, ℕ, ◌≤◌, ◌<◌, ◌^◌, Option, Some, None}
 use Rattle.pl_plan.specs.declared.repair.RepairMove.{RepairMove}
-use Rattle.pl_world.specs.Moves.{applied}
-use Rattle.pl_world.specs.Legal.{left_after}
+use Rattle.pl_semantics.specs.Moves.{applied}
+use Rattle.pl_semantics.specs.Legal.{left_after}
 use Rattle.pl_board.specs.Boards.{Standing, after}
 use Rattle.pl_choose.specs.declared.alone.Alone.{Alone}
 use Rattle.pl_choose.specs.declared.alone.Alone.TheVariants.{Made, Undone}

@@ -2,10 +2,10 @@
 use Rattle.std.specs.Prelude.{◌≡◌, ℕ, nat_lt, cond, true, false, find, List, [], ◌∷◌, Option, Some, None}
 use Rattle.pl_conflict.specs.declared.conflict.Conflict.{Conflict}
 use Rattle.pl_plan.specs.declared.repair.RepairMove.{RepairMove}
-use Rattle.pl_world.specs.declared.plan_state.PlanState.{PlanState}
-use Rattle.pl_world.specs.Conflicts.{conflicts_of}
-use Rattle.pl_world.specs.Moves.{is_proper}
-use Rattle.pl_world.specs.Legal.{has_repair, legal_for}
+use Rattle.pl_semantics.specs.declared.plan_state.PlanState.{PlanState}
+use Rattle.pl_semantics.specs.Conflicts.{conflicts_of}
+use Rattle.pl_semantics.specs.Moves.{is_proper}
+use Rattle.pl_semantics.specs.Legal.{has_repair, legal_for}
 use Rattle.pl_moves.specs.Runs.{CanBeMade}
 use Rattle.pl_choose.specs.declared.repairs.Repairs.{Repairs}
 

@@ -1,7 +1,7 @@
 -- What is chosen, and the board behind it.
 use Rattle.std.specs.Prelude.{◌≡◌, ℕ, List, Option, Some, None}
 use Rattle.pl_plan.specs.declared.repair.RepairMove.{RepairMove}
-use Rattle.pl_world.specs.Moves.{applied}
+use Rattle.pl_semantics.specs.Moves.{applied}
 use Rattle.pl_board.specs.Boards.{Standing, after}
 use Rattle.pl_cand.specs.declared.proposal.Proposal.{Proposal}
 use Rattle.pl_cand.specs.Proposals.{mended}

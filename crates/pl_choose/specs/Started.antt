@@ -1,7 +1,7 @@
 -- What comes of the first of some moves.
 use Rattle.std.specs.Prelude.{◌≡◌, ℕ, ◌≤◌}
 use Rattle.pl_plan.specs.declared.repair.RepairMove.{RepairMove}
-use Rattle.pl_world.specs.Legal.{left_after}
+use Rattle.pl_semantics.specs.Legal.{left_after}
 use Rattle.pl_board.specs.Boards.{Standing}
 use Rattle.pl_choose.specs.declared.fewest.Started.{Started}
 use Rattle.pl_choose.specs.declared.fewest.Started.TheVariants.{Settled, Open}

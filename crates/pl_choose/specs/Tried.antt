@@ -1,9 +1,9 @@
 -- Moves that are tried in turn, each against the best so far.
 use Rattle.std.specs.Prelude.{◌≡◌, ℕ, ◌+◌, ◌≤◌, nat_lt, cond, List, [], ◌∷◌, length, All, if◌then◌else◌}
 use Rattle.pl_plan.specs.declared.repair.RepairMove.{RepairMove}
-use Rattle.pl_world.specs.declared.plan_state.PlanState.{PlanState}
-use Rattle.pl_world.specs.Legal.{left_after}
-use Rattle.pl_outlook.specs.Bounds.{AreLeast}
+use Rattle.pl_semantics.specs.declared.plan_state.PlanState.{PlanState}
+use Rattle.pl_semantics.specs.Legal.{left_after}
+use Rattle.pl_bounds.specs.Bounds.{AreLeast}
 use Rattle.pl_choose.specs.declared.best.Best.{Best}
 use Rattle.pl_choose.specs.Found.{IsAllowed}
 

@@ -1,8 +1,8 @@
 //! The aim: that one of some moves which by what is known of them may leave the fewest conflicts. It is tried before the others, so
 //! that none is tried that is known to leave more than it.
 ghost use Rattle.std.specs.Prelude.{◌≡◌, ◌≤◌, ◌<◌, ◌+◌, ◌^◌, true, false, All, IfOk, IfSome, OnErr, take, drop, length};
-ghost use Rattle.pl_world.specs.Legal.{left_after};
-ghost use Rattle.pl_outlook.specs.Bounds.{AreLeast};
+ghost use Rattle.pl_semantics.specs.Legal.{left_after};
+ghost use Rattle.pl_bounds.specs.Bounds.{AreLeast};
 ghost use Rattle.pl_choose.specs.Aimed.{IsAimed};
 ghost use Rattle.pl_choose.specs.Found.{IsAllowed};
 ghost use Rattle.pl_choose.specs.Tried.{above, best_of};

@@ -1,7 +1,7 @@
 //! Moves of which numbers are known that they leave at least.
 ghost use Rattle.std.specs.Prelude.{◌≡◌, ◌<◌, ◌≤◌, false, true, All, IfOk, OnOk, OnErr, length};
-ghost use Rattle.pl_world.specs.Legal.{left_after};
-ghost use Rattle.pl_outlook.specs.Bounds.{AreLeast};
+ghost use Rattle.pl_semantics.specs.Legal.{left_after};
+ghost use Rattle.pl_bounds.specs.Bounds.{AreLeast};
 ghost use Rattle.pl_choose.specs.Found.{IsAllowed};
 ghost use Rattle.pl_choose.specs.Tried.{best_of};
 
@@ -9,7 +9,7 @@ use crate::best::Best;
 use crate::hopes::hopes_of;
 use crate::tries::try_until_better;
 use pl_board::Board;
-use pl_outlook::least_of_each;
+use pl_bounds::least_of_each;
 use pl_plan::RepairMove;
 use std::alloc::{AllocError, Global};
 

@@ -1,6 +1,6 @@
 //! The move that leaves the fewest conflicts. It is looked for by trying moves on the board, so one that is the best may stay made.
 ghost use Rattle.std.specs.Prelude.{◌≡◌, ◌<◌, ◌≤◌, ◌∷◌, true, false, All, Some, IfOk, OnErr};
-ghost use Rattle.pl_world.specs.Legal.{left_after};
+ghost use Rattle.pl_semantics.specs.Legal.{left_after};
 ghost use Rattle.pl_choose.specs.Found.{IsAllowed};
 ghost use Rattle.pl_choose.specs.Picked.{IsPicked, IsFewest};
 ghost use Rattle.pl_choose.specs.Picks.{fewest};

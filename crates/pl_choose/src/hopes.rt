@@ -2,7 +2,7 @@
 ghost use Rattle.std.specs.Prelude.{◌≡◌, ◌∷◌, ◌++◌, [], true, All, IfOk, OnOk, OnErr, length};
 ghost use Rattle.pl_choose.specs.Tried.{below, AreHopes};
 ghost use Rattle.pl_choose.specs.Found.{IsAllowed};
-ghost use Rattle.pl_outlook.specs.Bounds.{AreLeast};
+ghost use Rattle.pl_bounds.specs.Bounds.{AreLeast};
 
 use crate::best::Best;
 use pl_board::Board;

@@ -1,6 +1,6 @@
 ghost use Rattle.std.specs.Prelude.{◌≡◌, ◌++◌, ◌∷◌, [], true, false, All, filter, IfOk, OnOk};
-ghost use Rattle.pl_world.specs.Moves.{is_proper};
-ghost use Rattle.pl_world.specs.Legal.{is_legal, legal_for};
+ghost use Rattle.pl_semantics.specs.Moves.{is_proper};
+ghost use Rattle.pl_semantics.specs.Legal.{is_legal, legal_for};
 ghost use Rattle.pl_choose.specs.Found.{IsProper};
 
 use pl_board::Board;
@@ -40,7 +40,7 @@ fn legal_among(
 }
 
 /// The legal candidates of a conflict, in their order.
-#[tactic(auto, unfolding(pl_world::specs::Legal::legal_for))]
+#[tactic(auto, unfolding(pl_semantics::specs::Legal::legal_for))]
 pub(crate) fn legal_moves(
     alloc: Global,
     board: &Board,

@@ -1,5 +1,5 @@
 ghost use Rattle.std.specs.Prelude.{◌≡◌, ◌∷◌, [], ◌++◌, false, filter, IfOk, OnOk};
-ghost use Rattle.pl_world.specs.Legal.{has_repair, repairable};
+ghost use Rattle.pl_semantics.specs.Legal.{has_repair, repairable};
 ghost use Rattle.pl_choose.specs.Found.{AreFor, AreFirst};
 
 use crate::legality::legal_moves;
@@ -66,7 +66,7 @@ fn add_if_repairable(
 }
 
 /// The conflicts that have a legal candidate, in their order.
-#[tactic(auto, unfolding(pl_world::specs::Legal::repairable))]
+#[tactic(auto, unfolding(pl_semantics::specs::Legal::repairable))]
 pub(crate) fn repairable(alloc: Global, board: &Board) -> Result<Vec<Conflict>, AllocError>
     requires { board.now.spoiled ≡ false }
     ensures { IfOk result (λ all. all.items ≡ repairable board.now.state) }

@@ -1,5 +1,5 @@
 ghost use Rattle.std.specs.Prelude.{◌≡◌, ◌≤◌, ◌<◌, ◌^◌, true, false, IfOk, OnOk, OnErr};
-ghost use Rattle.pl_world.specs.Legal.{left_after};
+ghost use Rattle.pl_semantics.specs.Legal.{left_after};
 ghost use Rattle.pl_moves.specs.Runs.{counted};
 ghost use Rattle.pl_choose.specs.Found.{IsAllowed};
 
@@ -10,7 +10,7 @@ use pl_points::{Quiet, Steps};
 use std::alloc::{AllocError, Global};
 
 // Makes the move on a copy, and counts there. Nothing refuses it, so an error is want of memory.
-#[tactic(auto, unfolding(pl_world::specs::Legal::left_after))]
+#[tactic(auto, unfolding(pl_semantics::specs::Legal::left_after))]
 fn count_on_copy(alloc: Global, board: &Board, mv: &RepairMove) -> Result<usize, AllocError>
     requires unspoiled { board.now.spoiled ≡ false }
     requires allowed { IsAllowed board.now.state mv.now }

@@ -1,6 +1,6 @@
 //! Moves that are tried one after another, each against the best so far.
 ghost use Rattle.std.specs.Prelude.{◌≡◌, ◌<◌, ◌≤◌, ◌+◌, false, true, All, IfOk, OnOk, OnErr, map, take, length};
-ghost use Rattle.pl_world.specs.Legal.{left_after};
+ghost use Rattle.pl_semantics.specs.Legal.{left_after};
 ghost use Rattle.pl_moves.specs.Runs.{counted};
 ghost use Rattle.pl_choose.specs.Found.{IsAllowed};
 ghost use Rattle.pl_choose.specs.Tried.{better_of, best_of};

@@ -11,7 +11,11 @@ use Rattle.std.specs.Set.{remove_key}
 use Rattle.std.specs.BTreeMap.{is_at}
 use Rattle.std.proofs.lemmas.List.{append_assoc, append-nil, take_more}
 use Rattle.std.proofs.lemmas.List.Folds.{list_any-append}
-use Rattle.pl_lists.proofs.Tests.{or_swap, or_again, or_false, or_true, and_true, and_false, without_both, both_true}
+use Rattle.std.proofs.Math.Bool.{or_comm, or-false, and-true, and-false}
+use Rattle.std.proofs.lemmas.Bool.{not-true, and_parts}
+use Rattle.std.proofs.lemmas.Cmp.{tied_itself}
+use Rattle.pl_lists.proofs.Tests.{or_swap, or_again, without_both}
+use Rattle.pl_lists.proofs.Orderings.{equal_from_test}
 use Rattle.pl_conflict.specs.declared.conflict.Conflict.{Conflict}
 use Rattle.pl_conflict.specs.Order.{conflict_cmp, has}
 use Rattle.pl_conflict.specs.Sorting.{AreInOrder, sorted, left_by, exchanged}
@@ -21,12 +25,10 @@ abbrev pub same : Conflict → Conflict → Bool
 same q k = is_at (conflict_cmp q) k
 
 pub same_is : (q k : Conflict) → same q k ≡ true → q ≡ k
-same_is q k e = conflict_exact q k (tied (conflict_cmp q k) e)
-  where
-    tied : (r : Ordering) → is_eq r ≡ true → r ≡ Equal
-    tied Equal e = refl
-    tied Less e = absurd (cc)
-    tied Greater e = absurd (cc)
+same_is q k e = conflict_exact q k (equal_from_test (conflict_cmp q k) e)
+
+pub same_itself : (q : Conflict) → same q q ≡ true
+same_itself q = ap is_eq (tied_itself conflict_total q)
 
 -- ---- insertion
 
@@ -72,7 +74,7 @@ same_sym q k = ap is_eq (conflict_total.antisymm q k) ∙ turned (conflict_cmp k
     turned Equal = refl
     turned Greater = refl
 
-absent : (k : Conflict) (ks : List Conflict) → AllByRecursion (λ y. conflict_cmp k y ≡ Less) ks → has k ks ≡ false
+pub absent : (k : Conflict) (ks : List Conflict) → AllByRecursion (λ y. conflict_cmp k y ≡ Less) ks → has k ks ≡ false
 absent k [] all = refl
 absent k (y ∷ ks) all = rw all.0 (absent k ks all.1)
 
@@ -99,8 +101,8 @@ has-remove [] k q ordered = refl
 has-remove (x ∷ ks) k q ordered = cases (same k x) refl (has-remove ks k q ordered.1)
   where
     gone : (b : Bool) → same k q ≡ b → has x ks ≡ false → k ≡ x → has q ks ≡ (has q (x ∷ ks) && not (same k q))
-    gone true e none is = rw e (ap (λ y. has y ks) (sym (same_is k q e) ∙ is) ∙ none ∙ sym (and_false (has q (x ∷ ks))))
-    gone false e none is = let apart : same q x ≡ false = ap (λ y. same q y) (sym is) ∙ same_sym q k ∙ e in rw (e, apart) (sym (and_true (has q ks)))
+    gone true e none is = rw e (ap (λ y. has y ks) (sym (same_is k q e) ∙ is) ∙ none ∙ sym (and-false (has q (x ∷ ks))))
+    gone false e none is = let apart : same q x ≡ false = ap (λ y. same q y) (sym is) ∙ same_sym q k ∙ e in rw (e, apart) (sym (and-true (has q ks)))
 
     stays : (b : Bool) → same q x ≡ b → same k x ≡ false → has q (remove_key (same k) ks) ≡ (has q ks && not (same k q)) → (same q x || has q (remove_key (same k) ks)) ≡ (has q (x ∷ ks) && not (same k q))
     stays true e apart more = let here : same k q ≡ false = ap (λ y. same k y) (same_is q x e) ∙ apart in rw (e, here) refl
@@ -139,7 +141,7 @@ has-left went [] q = refl
 has-left went (x ∷ ks) q = cases (has x went) refl (same q x) refl (has-left went ks q)
   where
     cases : (g : Bool) → has x went ≡ g → (b : Bool) → same q x ≡ b → has q (left_by went ks) ≡ (has q ks && not (has q went)) → has q (left_by went (x ∷ ks)) ≡ ((same q x || has q ks) && not (has q went))
-    cases true gone true e more = let here : has q went ≡ true = ap (λ y. has y went) (same_is q x e) ∙ gone in rw (gone, e) (more ∙ rw here (and_false (has q ks)))
+    cases true gone true e more = let here : has q went ≡ true = ap (λ y. has y went) (same_is q x e) ∙ gone in rw (gone, e) (more ∙ rw here (and-false (has q ks)))
     cases true gone false e more = rw (gone, e) more
     cases false stays true e more = let here : has q went ≡ false = ap (λ y. has y went) (same_is q x e) ∙ stays in rw (stays, e) (rw here refl)
     cases false stays false e more = rw (stays, e) more
@@ -171,17 +173,13 @@ left-more went ks k ordered =
     let left : AreInOrder (left_by went ks) = ordered-left went ks ordered in
     conflict_unique conflict_exact (remove_key (same k) (left_by went ks)) (left_by (went ++ k ∷ []) ks) (ordered-remove (left_by went ks) k left) (ordered-left (went ++ k ∷ []) ks ordered)
     (λ q. has-remove (left_by went ks) k q left ∙ ap (λ b. b && not (same k q)) (has-left went ks q) ∙ without_both (has q ks) (has q went) (same k q)
-    ∙ ap (λ b. has q ks && not b) (sym (has-append went (k ∷ []) q ∙ ap (λ b. has q went || b) (or_false (same q k) ∙ same_sym q k))) ∙ sym (has-left (went ++ k ∷ []) ks q))
+    ∙ ap (λ b. has q ks && not b) (sym (has-append went (k ∷ []) q ∙ ap (λ b. has q went || b) (or-false (same q k) ∙ same_sym q k))) ∙ sym (has-left (went ++ k ∷ []) ks q))
 
 -- one more comes
 pub sorted-more : (ks : List Conflict) (k : Conflict) → insert_key conflict_cmp (sorted ks) k ≡ sorted (ks ++ k ∷ [])
 sorted-more ks k =
     conflict_unique conflict_exact (insert_key conflict_cmp (sorted ks) k) (sorted (ks ++ k ∷ [])) (ordered-insert (sorted ks) k (ordered-sorted ks)) (ordered-sorted (ks ++ k ∷ []))
-    (λ q. has-insert (sorted ks) k q ∙ ap (λ b. same q k || b) (has-sorted ks q) ∙ turned (same q k) (has q ks) ∙ ap (λ b. has q ks || b) (sym (or_false (same q k))) ∙ sym (has-append ks (k ∷ []) q) ∙ sym (has-sorted (ks ++ k ∷ []) q))
-  where
-    turned : (a b : Bool) → (a || b) ≡ (b || a)
-    turned true b = sym (or_true b)
-    turned false b = sym (or_false b)
+    (λ q. has-insert (sorted ks) k q ∙ ap (λ b. same q k || b) (has-sorted ks q) ∙ or_comm (same q k) (has q ks) ∙ ap (λ b. has q ks || b) (sym (or-false (same q k))) ∙ sym (has-append ks (k ∷ []) q) ∙ sym (has-sorted (ks ++ k ∷ []) q))
 
 -- ---- one after the other, as a loop goes
 
@@ -251,11 +249,7 @@ left_sorted went ks = left_alike (sorted went) went ks (has-sorted went)
 
 -- none of what is new stands in the list
 pub new_is_absent : (ks came : List Conflict) (q : Conflict) → has q (left_by ks came) ≡ true → has q ks ≡ false
-new_is_absent ks came q is = by (has q ks) (both_true (has q came) (not (has q ks)) (sym (has-left ks came q) ∙ is)).1
-  where
-    by : (b : Bool) → not b ≡ true → b ≡ false
-    by true e = absurd (cc)
-    by false e = refl
+new_is_absent ks came q is = not-true (has q ks) (and_parts (has q came) (not (has q ks)) (sym (has-left ks came q) ∙ is)).1
 
 -- what was put in and not there before is taken out again
 pub put_back : (ks came : List Conflict) (i : ℕ) → AreInOrder ks → ((q : Conflict) → has q came ≡ true → has q ks ≡ false) → left_by (take i came) (sorted (ks ++ take i came)) ≡ ks
@@ -269,7 +263,7 @@ put_back ks came i ordered absent =
 
     cases : (q : Conflict) (b : Bool) → has q (take i came) ≡ b → ((has q ks || has q (take i came)) && not (has q (take i came))) ≡ has q ks
     cases q true is = rw (is, absent q (within q is)) refl
-    cases q false is = rw is (and_true (has q ks || false) ∙ or_false (has q ks))
+    cases q false is = rw is (and-true (has q ks || false) ∙ or-false (has q ks))
 
 -- an exchange of what went for what came leaves the sorted conflicts
 pub exchanged_sorted : (old new went came : List Conflict) → ((q : Conflict) → has q new ≡ ((has q old && not (has q went)) || has q came)) → exchanged (sorted old) went came ≡ sorted new

@@ -12,19 +12,40 @@ use std::cmp::Ordering;
 /// What is wrong, in the order in which conflicts at one moment are listed.
 #[derive(Clone, Copy, Debug, PartialEq, Eq)]
 pub enum Code {
+    /// No root stands for a goal that is not dropped and may still start. From its latest start;
+    /// `subject` is the goal, `a` to `b` its window.
     OpenGoal,
+    /// A root starts outside the window of its goal. From the lesser of its start and the latest start;
+    /// `subject` is the root, `detail` the goal, `a` to `b` the window.
     OffGoal,
+    /// The start of an uncommitted activity has come. From there; `subject` is the activity.
     Late,
+    /// A free parameter has no value. From the start; `subject` is the activity, `detail` the parameter.
     Unset,
+    /// A value is out of its range, or an expression has none though all that it names has. From the start;
+    /// `subject` is the activity, `detail` the parameter, 16 for the duration, 17 + r for the amount of reservation r.
     BadValue,
+    /// No alternative is chosen, and the kind has some. From the start; `subject` is the activity.
     Undetailed,
+    /// A firm activity ends past the horizon. From its start; `subject` is the activity, `a` its end.
     Overrun,
+    /// No other activity stands where a link asks for one. From the start of the one that asks;
+    /// `subject` is that activity, `detail` the link of its kind.
     Temporal,
+    /// An order of a chosen alternative is not met. From the least start of the parent and the two;
+    /// `subject` is the parent, `detail` the order.
     Linked,
+    /// More of a capacity is in use than there is. From `a`; `subject` is the timeline, `a` up to `b` the span.
     Over,
+    /// A level is below its least. From `a`; `subject` is the timeline, `a` up to `b` the span.
     Low,
+    /// A level is above its most. From `a`; `subject` is the timeline, `a` up to `b` the span.
     High,
+    /// A state is not the one that an activity needs. From the start of the activity;
+    /// `subject` is the activity, `detail` the reservation of its kind, `a` up to `b` the span.
     Must,
+    /// A set is a step that its timeline does not allow. From the start of the activity;
+    /// `subject` is the activity, `detail` the reservation of its kind, `a` the moment of the set.
     BadStep,
 }
 

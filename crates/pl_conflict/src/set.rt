@@ -38,6 +38,7 @@ impl std::marker::Model for ConflictSet {
 }
 
 impl ConflictSet {
+    /// No conflicts.
     pub fn new(alloc: Global) -> ConflictSet
         ensures { result ≡ [] }
     {
@@ -68,6 +69,7 @@ impl ConflictSet {
         self.all.remove(k)
     }
 
+    /// Whether this very conflict is in: one that differs in a single field is another.
     pub fn has(&self, k: &Conflict) -> bool
         ensures there { result ≡ has k.now self.now }
         ensures sorted { IsStrictlySortedBy conflict_cmp self.now }
@@ -91,6 +93,7 @@ impl ConflictSet {
         self.all.len().min(u32::MAX as usize) as u32
     }
 
+    /// Whether nothing is wrong.
     pub fn is_empty(&self) -> bool
         ensures empty { result ≡ (length self.now == 0) }
         ensures sorted { IsStrictlySortedBy conflict_cmp self.now }
@@ -128,6 +131,7 @@ impl ConflictSet {
         self.all.iter()
     }
 
+    /// A copy of the conflicts as a list, the least first.
     pub fn list(&self, alloc: Global) -> Result<Vec<Conflict>, AllocError>
         ensures items { IfOk result (λ all. all.items ≡ self.now) }
         ensures sorted { IsStrictlySortedBy conflict_cmp self.now }

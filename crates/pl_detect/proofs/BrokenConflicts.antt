@@ -14,9 +14,9 @@ use Rattle.pl_links.specs.declared.broken.Broken.{Broken}
 use Rattle.pl_links.specs.Broken.{when, is_link_broken, is_order_broken, broken_at, broken_below, broken_by, broken_of, links_of, orders_of}
 use Rattle.pl_links.specs.Kept.{Kept, kept_of}
 use Rattle.pl_links.proofs.BrokenLaws.{all_when}
-use Rattle.pl_world.specs.declared.plan_state.PlanState.{PlanState}
-use Rattle.pl_world.specs.PlanStates.{of_found}
-use Rattle.pl_world.specs.Links.{placed_of, placed_in, conflict_of, links_at, link_conflicts}
+use Rattle.pl_semantics.specs.declared.plan_state.PlanState.{PlanState}
+use Rattle.pl_semantics.specs.PlanStates.{of_found}
+use Rattle.pl_semantics.specs.Links.{placed_of, placed_in, conflict_of, links_at, link_conflicts}
 use Rattle.pl_detect.specs.Broken.{conflict_by, broken_conflict}
 
 abbrev IsOf : ℕ → Broken → Type 0

@@ -21,10 +21,10 @@ use Rattle.pl_plan.specs.Firm.{is_within, are_in_range, is_amount, has_amount, a
 use Rattle.pl_plan.specs.Known.{is_known, lacks_value, is_outside, is_bad, lacks_by, is_bad_param, is_bad_amount_of, is_unset}
 use Rattle.pl_plan.proofs.ValueLaws.{values_solve}
 use Rattle.pl_plan.proofs.FirmSteps.{end_is}
-use Rattle.pl_world.specs.declared.plan_state.PlanState.{PlanState}
-use Rattle.pl_world.specs.PlanStates.{row_of, end_at, numbered, reservations_in, of_found, when}
-use Rattle.pl_world.specs.Whole.{IsWhole}
-use Rattle.pl_world.specs.Activities.{at_start, bindings_of, row_above, unset_one, unset_at, bad_param, bad_duration, bad_amount, bad_values_at}
+use Rattle.pl_semantics.specs.declared.plan_state.PlanState.{PlanState}
+use Rattle.pl_semantics.specs.PlanStates.{row_of, end_at, numbered, reservations_in, of_found, when}
+use Rattle.pl_semantics.specs.Whole.{IsWhole}
+use Rattle.pl_semantics.specs.Activities.{at_start, bindings_of, row_above, unset_one, unset_at, bad_param, bad_duration, bad_amount, bad_values_at}
 
 -- ---- one value
 

@@ -1,4 +1,7 @@
-pub use Rattle.pl_world.proofs.Found
+pub use Rattle.pl_semantics.proofs.Found
+pub mod Bounded
+pub mod Grounds
+pub mod Giving
 pub mod Named
 pub mod Stored
 pub mod BrokenConflicts

@@ -14,13 +14,13 @@ use Rattle.pl_plan.specs.Activities.{activity_of}
 use Rattle.pl_plan.specs.Fitting.{kind_of, alternatives_of, slots_of, chosen_slots_of}
 use Rattle.pl_plan.specs.Values.{Row, BindsBelow, bindings_in, bindings_at, values_of}
 use Rattle.pl_plan.specs.Firm.{amount_of}
-use Rattle.pl_world.specs.declared.plan_state.PlanState.{PlanState}
-use Rattle.pl_world.specs.PlanStates.{row_of}
-use Rattle.pl_world.specs.Whole.{IsWhole}
-use Rattle.pl_world.specs.Activities.{bindings_of, row_above}
+use Rattle.pl_semantics.specs.declared.plan_state.PlanState.{PlanState}
+use Rattle.pl_semantics.specs.PlanStates.{row_of}
+use Rattle.pl_semantics.specs.Whole.{IsWhole}
+use Rattle.pl_semantics.specs.Activities.{bindings_of, row_above}
 use Rattle.pl_plan.proofs.FirmSteps.{checked_kind, amounts_named}
 use Rattle.pl_plan.proofs.ValueLaws.{values_solve}
-use Rattle.pl_world.proofs.Found.{parent_live}
+use Rattle.pl_semantics.proofs.Found.{parent_live}
 
 slot_named : (model : Model) (n : ℕ) (slots : List Slot) → All (IsCheckedSlot model n) slots → (i : ℕ) → All (BindsBelow n) (bindings_in (slice_get slots i))
 slot_named model n [] all i = All-nil (BindsBelow n)

@@ -11,10 +11,10 @@ use Rattle.pl_plan.proofs.Ids.{next_absent, next_placed}
 use Rattle.pl_plan.proofs.ByLookUps.{is_this_slot}
 use Rattle.pl_links.specs.Items as links
 use Rattle.pl_links.specs.Kept.{Kept, kept_of}
-use Rattle.pl_world.specs.declared.plan_state.PlanState.{PlanState}
-use Rattle.pl_world.specs.Whole.{IsWhole}
-use Rattle.pl_world.specs.Links.{placed_of}
-use Rattle.pl_world.proofs.Found.{found_id, all_found}
+use Rattle.pl_semantics.specs.declared.plan_state.PlanState.{PlanState}
+use Rattle.pl_semantics.specs.Whole.{IsWhole}
+use Rattle.pl_semantics.specs.Links.{placed_of}
+use Rattle.pl_semantics.proofs.Found.{found_id, all_found}
 
 -- ---- look-ups in the store are look-ups in the plan
 

@@ -3,9 +3,9 @@ use Rattle.std.specs.Prelude.{List}
 use Rattle.pl_conflict.specs.declared.conflict.Conflict.{Conflict}
 use Rattle.pl_plan.specs.declared.activity.Activity.{Activity}
 use Rattle.pl_links.specs.declared.broken.Broken.{Broken}
-use Rattle.pl_world.specs.declared.plan_state.PlanState.{PlanState}
-use Rattle.pl_world.specs.PlanStates.{found, of_found}
-use Rattle.pl_world.specs.Links.{conflict_of}
+use Rattle.pl_semantics.specs.declared.plan_state.PlanState.{PlanState}
+use Rattle.pl_semantics.specs.PlanStates.{found, of_found}
+use Rattle.pl_semantics.specs.Links.{conflict_of}
 
 abbrev pub conflict_by : PlanState → Broken → Activity → List Conflict
 conflict_by s b a = conflict_of s a b

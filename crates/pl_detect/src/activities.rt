@@ -4,9 +4,9 @@ ghost use Rattle.pl_model.specs.Checked.{IsCheckedKind};
 ghost use Rattle.pl_plan.specs.Activities.{activity_of};
 ghost use Rattle.pl_plan.specs.Fitting.{alternatives_of, kind_of};
 ghost use Rattle.pl_plan.specs.Values.{BindsBelow};
-ghost use Rattle.pl_world.specs.Whole.{IsWhole};
-ghost use Rattle.pl_world.specs.PlanStates.{end_at, row_of};
-ghost use Rattle.pl_world.specs.Activities.{activity_conflicts, bad_values_at, bindings_of, overrun_at, row_above, undetailed_at, unset_at, wrong_at};
+ghost use Rattle.pl_semantics.specs.Whole.{IsWhole};
+ghost use Rattle.pl_semantics.specs.PlanStates.{end_at, row_of};
+ghost use Rattle.pl_semantics.specs.Activities.{activity_conflicts, bad_values_at, bindings_of, overrun_at, row_above, undetailed_at, unset_at, wrong_at};
 
 use crate::amounts::{add_bad_amounts, add_bad_duration};
 use crate::filing::{add_when, at_start};
@@ -15,7 +15,7 @@ use crate::valuation::{evaluate, kind_at, row_above};
 use pl_conflict::{Code, Conflict};
 use pl_model::Kind;
 use pl_plan::{Activity, Evaluated};
-use pl_world::PlanState;
+use pl_semantics::PlanState;
 use std::alloc::{AllocError, Global};
 
 fn add_bad_values(
@@ -102,7 +102,7 @@ fn add_overrun(
 
 /// Appends what is wrong with one live activity, by what it comes to and by the values above it: late, without a
 /// value, with bad values, not detailed, or past the horizon. With a committed one nothing is.
-#[tactic(auto, unfolding(pl_world::specs::Activities::wrong_at))]
+#[tactic(auto, unfolding(pl_semantics::specs::Activities::wrong_at))]
 pub fn wrong_with(
     s: &PlanState,
     a: &Activity,
@@ -129,7 +129,7 @@ pub fn wrong_with(
 }
 
 /// The same of an activity that is evaluated first, where it is not committed.
-#[tactic(auto, unfolding(pl_world::specs::Activities::wrong_at))]
+#[tactic(auto, unfolding(pl_semantics::specs::Activities::wrong_at))]
 pub fn wrong_at(
     alloc: Global,
     s: &PlanState,

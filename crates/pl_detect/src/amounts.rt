@@ -7,15 +7,15 @@ ghost use Rattle.pl_model.specs.Values.{NamesBelow};
 ghost use Rattle.pl_plan.specs.Firm.{amount_of};
 ghost use Rattle.pl_plan.specs.Fitting.{kind_of};
 ghost use Rattle.pl_plan.specs.Known.{is_bad_amount};
-ghost use Rattle.pl_world.specs.Whole.{IsWhole};
-ghost use Rattle.pl_world.specs.PlanStates.{reservations_of, row_of};
-ghost use Rattle.pl_world.specs.Activities.{bad_amount, bad_duration};
+ghost use Rattle.pl_semantics.specs.Whole.{IsWhole};
+ghost use Rattle.pl_semantics.specs.PlanStates.{reservations_of, row_of};
+ghost use Rattle.pl_semantics.specs.Activities.{bad_amount, bad_duration};
 
 use crate::filing::{add_when, at_start};
 use pl_conflict::{Code, Conflict};
 use pl_model::{Expr, Kind, Reservation};
 use pl_plan::{Activity, is_bad};
-use pl_world::PlanState;
+use pl_semantics::PlanState;
 use std::alloc::AllocError;
 
 /// The greatest amount.

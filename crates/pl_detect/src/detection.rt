@@ -1,20 +1,20 @@
 //! All that is wrong with a plan.
 ghost use Rattle.std.specs.Prelude.{◌≡◌, ◌++◌, IfOk, OnOk};
 ghost use Rattle.pl_conflict.specs.Sorting.{sorted};
-ghost use Rattle.pl_world.specs.Demands.{demands_of};
-ghost use Rattle.pl_world.specs.Whole.{IsWhole};
-ghost use Rattle.pl_world.specs.Goals.{goal_conflicts};
-ghost use Rattle.pl_world.specs.Activities.{activity_conflicts};
-ghost use Rattle.pl_world.specs.Links.{link_conflicts};
-ghost use Rattle.pl_world.specs.Timelines.{timeline_conflicts};
-ghost use Rattle.pl_world.specs.Conflicts.{conflicts_of};
+ghost use Rattle.pl_semantics.specs.Demands.{demands_of};
+ghost use Rattle.pl_semantics.specs.Whole.{IsWhole};
+ghost use Rattle.pl_semantics.specs.Goals.{goal_conflicts};
+ghost use Rattle.pl_semantics.specs.Activities.{activity_conflicts};
+ghost use Rattle.pl_semantics.specs.Links.{link_conflicts};
+ghost use Rattle.pl_semantics.specs.Timelines.{timeline_conflicts};
+ghost use Rattle.pl_semantics.specs.Conflicts.{conflicts_of};
 
 use crate::activities::activity_conflicts;
 use crate::goals::goal_conflicts;
 use crate::links::link_conflicts;
+use crate::timeline_conflicts;
 use pl_conflict::{Conflict, ConflictSet};
-use pl_demands::timeline_conflicts;
-use pl_world::{Demand, PlanState};
+use pl_semantics::{Demand, PlanState};
 use std::alloc::{AllocError, Global};
 
 /// Appends the conflicts of goals, of activities, and of links and orders.
@@ -41,7 +41,7 @@ fn sorted(alloc: Global, conflicts: &[Conflict]) -> Result<ConflictSet, AllocErr
 }
 
 /// All that is wrong with a plan, given the conflicts of its timelines.
-#[tactic(auto, unfolding(pl_world::specs::Conflicts::conflicts_of))]
+#[tactic(auto, unfolding(pl_semantics::specs::Conflicts::conflicts_of))]
 pub fn detect_with(
     alloc: Global,
     s: &PlanState,

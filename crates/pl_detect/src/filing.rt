@@ -1,8 +1,8 @@
 //! Conflicts put at the end of a list.
 ghost use Rattle.std.specs.Prelude.{◌≡◌, ◌++◌, OnOk};
 ghost use Rattle.std.specs.Option.{option_to_list};
-ghost use Rattle.pl_world.specs.PlanStates.{when};
-ghost use Rattle.pl_world.specs.Activities.{at_start};
+ghost use Rattle.pl_semantics.specs.PlanStates.{when};
+ghost use Rattle.pl_semantics.specs.Activities.{at_start};
 
 use pl_conflict::{Code, Conflict};
 use pl_plan::Activity;

@@ -2,19 +2,19 @@
 ghost use Rattle.std.specs.Prelude.{◌≡◌, ◌++◌, OnOk};
 ghost use Rattle.std.specs.List.{flat_map};
 ghost use Rattle.std.specs.Option.{option_copied, option_to_list};
-ghost use Rattle.pl_world.specs.Whole.{IsWhole};
-ghost use Rattle.pl_world.specs.PlanStates.{served_by};
-ghost use Rattle.pl_world.specs.Goals.{open_at, off_from, off_at, goal_conflicts};
+ghost use Rattle.pl_semantics.specs.Whole.{IsWhole};
+ghost use Rattle.pl_semantics.specs.PlanStates.{served_by};
+ghost use Rattle.pl_semantics.specs.Goals.{open_at, off_from, off_at, goal_conflicts};
 
 use crate::filing::add;
 use pl_conflict::{Code, Conflict};
 use pl_facts::Goal;
 use pl_plan::Activity;
-use pl_world::PlanState;
+use pl_semantics::PlanState;
 use std::alloc::AllocError;
 
 /// The conflict of a goal that is open and can still be met.
-#[tactic(auto, unfolding(pl_world::specs::Goals::open_at))]
+#[tactic(auto, unfolding(pl_semantics::specs::Goals::open_at))]
 pub fn open_at(s: &PlanState, goal: &Goal) -> Option<Conflict>
     requires { IsWhole s.now }
     ensures { option_to_list result ≡ open_at s.now goal.now }
@@ -60,7 +60,7 @@ fn off_from(a: &Activity, goal: &Goal) -> Option<Conflict>
 }
 
 /// The conflict of an uncommitted root that starts outside what its goal allows.
-#[tactic(auto, unfolding(pl_world::specs::Goals::off_at))]
+#[tactic(auto, unfolding(pl_semantics::specs::Goals::off_at))]
 pub fn off_at(s: &PlanState, a: &Activity) -> Option<Conflict>
     ensures { option_to_list result ≡ off_at s.now a.now }
 {

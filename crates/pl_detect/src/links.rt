@@ -3,9 +3,9 @@ ghost use Rattle.std.specs.Prelude.{◌≡◌, ◌++◌, OnOk, Some};
 ghost use Rattle.std.specs.List.{flat_map};
 ghost use Rattle.std.specs.Option.{option_copied};
 ghost use Rattle.pl_plan.specs.Activities.{activity_of};
-ghost use Rattle.pl_world.specs.Whole.{IsWhole};
-ghost use Rattle.pl_world.specs.PlanStates.{is_ahead, of_found};
-ghost use Rattle.pl_world.specs.Links.{conflict_of, link_conflicts, lone, order_at, unmet_by, unmet_from, unmet_order};
+ghost use Rattle.pl_semantics.specs.Whole.{IsWhole};
+ghost use Rattle.pl_semantics.specs.PlanStates.{is_ahead, of_found};
+ghost use Rattle.pl_semantics.specs.Links.{conflict_of, link_conflicts, lone, order_at, unmet_by, unmet_from, unmet_order};
 ghost use Rattle.pl_detect.specs.Broken.{broken_conflict};
 
 use crate::filing::add_when;
@@ -14,7 +14,7 @@ use pl_conflict::{Code, Conflict};
 use pl_links::Broken;
 use pl_model::Order;
 use pl_plan::Activity;
-use pl_world::PlanState;
+use pl_semantics::PlanState;
 use std::alloc::{AllocError, Global};
 
 fn is_ahead(s: &PlanState, a: &Activity) -> bool

@@ -7,15 +7,15 @@ ghost use Rattle.pl_model.specs.Values.{NamesBelow};
 ghost use Rattle.pl_plan.specs.Fitting.{kind_of};
 ghost use Rattle.pl_plan.specs.Values.{BindsBelow, binding_of};
 ghost use Rattle.pl_plan.specs.Known.{is_outside, is_unset, is_bad_param, lacks_by};
-ghost use Rattle.pl_world.specs.PlanStates.{row_of};
-ghost use Rattle.pl_world.specs.Activities.{bad_param, bindings_of, params_at, row_above, unset_at};
+ghost use Rattle.pl_semantics.specs.PlanStates.{row_of};
+ghost use Rattle.pl_semantics.specs.Activities.{bad_param, bindings_of, params_at, row_above, unset_at};
 
 use crate::bindings::binding_of;
 use crate::filing::{add_when, at_start};
 use pl_conflict::{Code, Conflict};
 use pl_model::{Expr, Kind, Origin, Param};
 use pl_plan::{Activity, lacks_value};
-use pl_world::PlanState;
+use pl_semantics::PlanState;
 use std::alloc::AllocError;
 
 fn is_unset(binding: Option<&Expr>, origin: &Origin, value: Option<i64>) -> bool

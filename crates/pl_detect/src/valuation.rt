@@ -4,14 +4,14 @@ ghost use Rattle.pl_model.specs.Checked.{IsCheckedKind, params_of};
 ghost use Rattle.pl_plan.specs.Activities.{activity_of};
 ghost use Rattle.pl_plan.specs.Fitting.{kind_of};
 ghost use Rattle.pl_plan.specs.Values.{BindsBelow};
-ghost use Rattle.pl_world.specs.Whole.{IsWhole};
-ghost use Rattle.pl_world.specs.PlanStates.{row_of, end_at};
-ghost use Rattle.pl_world.specs.Activities.{bindings_of, row_above};
+ghost use Rattle.pl_semantics.specs.Whole.{IsWhole};
+ghost use Rattle.pl_semantics.specs.PlanStates.{row_of, end_at};
+ghost use Rattle.pl_semantics.specs.Activities.{bindings_of, row_above};
 
 use pl_lists::Items;
 use pl_model::Kind;
 use pl_plan::{Activity, Evaluated, laws_of_values};
-use pl_world::PlanState;
+use pl_semantics::PlanState;
 use std::alloc::{AllocError, Global};
 
 /// The kind of a live activity.

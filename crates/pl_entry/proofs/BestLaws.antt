@@ -2,16 +2,13 @@
 use Rattle.std.proofs.Common.{◌≡◌, ℕ, ◌≤◌, List, [], ◌∷◌, min, slice_get, arith}
 use Rattle.std.specs.List.Sorted.{IsStrictlySortedBy}
 use Rattle.std.specs.declared.cmp.Ordering.TheVariants.{Less}
-use Rattle.std.proofs.lemmas.Grind.{common_steps}
 use Rattle.std.proofs.lemmas.List.Elements.{All-nil, All-cons, All-head, All-weaker}
 use Rattle.std.proofs.lemmas.Map.Views.{All-after_first}
 use Rattle.pl_model.specs.declared.whole.Model.{Model}
 use Rattle.pl_conflict.specs.declared.conflict.Conflict.{Conflict}
 use Rattle.pl_conflict.specs.Order.{conflict_cmp}
+use Rattle.pl_conflict.proofs.OrderLaws.{from_rises}
 use Rattle.pl_entry.specs.Horizon.{target_of, best_of, IsBest}
-
-from_rises : (k q : Conflict) → conflict_cmp k q ≡ Less → k.from ≤ q.from
-from_rises k q e = grind (arith, common_steps)
 
 pub best_is : (model : Model) (now : ℕ) (ks : List Conflict) → IsStrictlySortedBy conflict_cmp ks → IsBest model now ks (best_of model now (slice_get ks 0))
 best_is model now [] sorted = record { within = omega arith; untouched = All-nil (λ q. target_of model now ≤ q.from); furthest = λ other le all. le }

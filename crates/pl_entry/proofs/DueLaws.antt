@@ -15,6 +15,7 @@ use Rattle.std.proofs.lemmas.List.Elements.{All-nil, All-cons, All-head, All-tai
 use Rattle.std.proofs.lemmas.List.Kept.{AllPairs-cons}
 use Rattle.std.proofs.lemmas.Map.Views.{All-insert_key}
 use Rattle.std.proofs.lemmas.Map.Lookups.{exact_pairs, exact_unsigned}
+use Rattle.std.proofs.lemmas.Option.{same_Some}
 use Rattle.pl_model.specs.declared.whole.Model.{Model}
 use Rattle.pl_plan.specs.declared.activity.Activity.{Activity}
 use Rattle.pl_plan.specs.Activities.{AreRising, activity_of}
@@ -174,12 +175,9 @@ earlier s t e = by (cases_lt s.0 t.0)
     by (inl lt) = inl lt
     by (inr le) = inr (grind (arith, common_steps, e, le), grind (arith, common_steps, e, le))
 
-some_same : (a b : Activity) → Some a ≡ Some b → a ≡ b
-some_same a b e = cc
-
 goes_before : (xs : List Activity) (Q : Activity → Type 0) (s t : ℕ × ℕ) → start_cmp s t ≡ Less → IsStartOf xs Q s → IsStartOf xs Q t → Before xs s.1 t.1
 goes_before xs Q s t e (a, ea, sa, ia, da) (b, eb, sb, ib, db) x y fx fy =
-    subst (λ z. StartsBefore z y) (some_same a x (sym ea ∙ fx)) (subst (λ z. StartsBefore a z) (some_same b y (sym eb ∙ fy)) (by (earlier s t e)))
+    subst (λ z. StartsBefore z y) (same_Some a x (sym ea ∙ fx)) (subst (λ z. StartsBefore a z) (same_Some b y (sym eb ∙ fy)) (by (earlier s t e)))
   where
     by : ((s.0 < t.0) ⊎ ((s.0 ≡ t.0) × (s.1 < t.1))) → StartsBefore a b
     by (inl lt) = inl (omega (arith, lt, sa, sb))

@@ -4,6 +4,7 @@ use Rattle.std.specs.Prelude.{All, AllPairs, Contains}
 use Rattle.std.proofs.lemmas.Bool.{cases_lt, and_parts, and_from, ltb-true, lt-ltb}
 use Rattle.std.proofs.lemmas.List.Elements.{All-append, All-head, All-tail, All-weaker, All-contains_itself, Contains-append_left, Contains-append_right, Contains-append_cases}
 use Rattle.std.proofs.lemmas.List.Kept.{AllPairs-cons}
+use Rattle.std.proofs.lemmas.Option.{same_Some}
 use Rattle.pl_model.specs.declared.whole.Model.{Model}
 use Rattle.pl_plan.specs.declared.activity.Activity.{Activity}
 use Rattle.pl_plan.specs.Activities.{AreRising, activity_of}
@@ -27,9 +28,6 @@ pairs_joined R [] ys rx ry across = ry
 pairs_joined R (x ∷ xs) ys rx ry across =
     AllPairs-cons R x (xs ++ ys) (All-append (R x) xs ys (all_behind R x xs rx) (All-head (λ z. All (R z) ys) x xs across))
     (pairs_joined R xs ys (pairs_behind R x xs rx) ry (All-tail (λ z. All (R z) ys) x xs across))
-
-some_is : (a b : Activity) → Some a ≡ Some b → a ≡ b
-some_is a b e = cc
 
 module _ (model : Model) (xs : List Activity) (rising : AreRising xs) (before now c : ℕ) (le : before ≤ now) where
   abbrev old : List ℕ
@@ -74,8 +72,8 @@ module _ (model : Model) (xs : List Activity) (rising : AreRising xs) (before no
   apart m n hm hn a b ea eb =
       let w = (old_is.members m).0 hm in
       let v = new_there n hn in
-      let one = ap (λ (x : Activity). x.start) (some_is a w.0 (sym ea ∙ w.1)) in
-      let two = ap (λ (x : Activity). x.start) (some_is b v.0 (sym eb ∙ v.1)) in
+      let one = ap (λ (x : Activity). x.start) (same_Some a w.0 (sym ea ∙ w.1)) in
+      let two = ap (λ (x : Activity). x.start) (same_Some b v.0 (sym eb ∙ v.1)) in
       let begun = w.2.started in
       let later = v.2.0 in
       inl (omega (arith, one, two, begun, later))

@@ -41,7 +41,7 @@ passing_first p (x ∷ xs) pairs = by (p x) refl (passing_first p xs (pairs_behi
 abbrev Goes : List Activity → ℕ → ℕ → Type 0
 Goes xs m n = (a b : Activity) → activity_of m xs ≡ Some a → activity_of n xs ≡ Some b → StartsBefore a b
 
-starts_rise : (a b : Activity) → StartsBefore a b → a.start ≤ b.start
+pub starts_rise : (a b : Activity) → StartsBefore a b → a.start ≤ b.start
 starts_rise a b (inl lt) = omega (arith, lt)
 starts_rise a b (inr (is, lt)) = omega (arith, is)
 

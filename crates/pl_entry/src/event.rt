@@ -10,12 +10,19 @@ pub type Bytes = Items<u8>;
 /// What the machine was asked to do. An input of `None` is the end of the input.
 #[derive(Debug, Drop)]
 pub enum Event {
+    /// The limits of the run: the first entry of a log, and no other.
     Opened(Options),
+    /// A message, as it came, or the end of the input. But for the end it opens a round.
     Input(Option<Bytes>),
+    /// To repair the conflict by the move.
     Fix(Conflict, RepairMove),
+    /// To end the repairs of the round.
     Rest,
+    /// To fix for good what starts before the moment.
     Commit(u32),
+    /// To send the next command that is due.
     Dispatch,
+    /// To end the round.
     Close,
 }
 

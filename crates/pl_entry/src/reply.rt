@@ -22,26 +22,47 @@ impl Copied for Reason {
 /// What the machine answered.
 #[derive(Debug, Drop)]
 pub enum Reply {
+    /// It was done; a message was taken.
     Done,
+    /// The run is over: the end line, or the end of the input.
     Ended,
+    /// The line has none of the forms of a message.
     BadLine,
+    /// The model has nothing of this name that may stand there, or a state is told as a number.
     UnknownName,
+    /// A number of the message is out of its range, or a level is told by a name.
     Range,
+    /// A goal of this number was taken before, and perhaps dropped.
     DuplicateGoal,
+    /// The latest start of the goal lies below the floor.
     TooLate,
+    /// The moment of the tick is the present, or before it.
     TickBack,
+    /// The moment of the tick is past the horizon.
     TickBeyond,
+    /// As many goals as the run may have were taken.
     TooManyGoals,
+    /// The conflict does not stand.
     Stale,
+    /// The move is none of the candidates of the conflict.
     NotFor,
+    /// The move would change the activity of this id, which is committed.
     Locked(u32),
+    /// The move would put the activity of this id below the floor.
     Behind(u32),
+    /// The move would put the activity of this id at the horizon or later.
     Beyond(u32),
+    /// After the move more activities would stand than may.
     Full,
+    /// Repair rests in this round, for this reason.
     Rested(Reason),
+    /// The moment of the commit is not later than the present, or not than what is committed.
     CommitBehind,
+    /// The moment of the commit is past the horizon.
     CommitBeyond,
+    /// This is the first conflict, and it begins before the moment of the commit.
     Held(Conflict),
+    /// The command of an activity, with a place for each parameter of its kind.
     Sent {
         id: u32,
         kind: u32,

@@ -54,6 +54,7 @@ impl Bases {
         self.bases[line as usize].unwrap()
     }
 
+    /// Puts what telemetry told at the moment in place of the base; a state is told by its number.
     pub fn set(&mut self, line: u32, moment: i64, value: i64)
         requires { IsSome (base_of line self.old) }
         ensures base { self.new ≡ slice_set self.old line (Some (moment, value)) }

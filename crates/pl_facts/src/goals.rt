@@ -29,6 +29,7 @@ impl Model for Goals {
 }
 
 impl Goals {
+    /// No goals.
     pub fn new(alloc: Global) -> Goals
         ensures { result ≡ [] }
     {
@@ -77,6 +78,7 @@ impl Goals {
         self.goals.len().min(u32::MAX as usize) as u32
     }
 
+    /// Whether no goal was ever put: a dropped one counts.
     pub fn is_empty(&self) -> bool
         ensures { result ≡ (length self.now == 0) }
     {

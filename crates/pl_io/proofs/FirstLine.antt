@@ -1,7 +1,13 @@
 -- The first line of bytes, and what bytes at the front of an input show of it.
 use Rattle.std.proofs.Common.{◌≡◌, ℕ, zero, suc, ◌+◌, ◌<◌, ◌≤◌, true, false, cond, ◌==◌, List, [], ◌∷◌, ◌++◌, length, take, drop, refl, ap, arith, add-one}
+use Rattle.std.specs.List.{position_or_len}
 use Rattle.std.proofs.lemmas.Grind.{common_steps}
 use Rattle.pl_io.specs.Lines.{has_newline, first_line, after_line, judged, next_of, given, line_too_long, input_too_long}
+
+-- as many bytes stand before the first newline
+pub line_len : (bytes : List ℕ) → position_or_len (λ byte. byte == 10) bytes ≡ length (first_line bytes)
+line_len [] = refl
+line_len (byte ∷ bytes) = grind (arith, common_steps, line_len bytes)
 
 -- a newline in the front is the first of the whole
 pub first_line-append : (front rest : List ℕ) → has_newline front ≡ true → first_line (front ++ rest) ≡ first_line front

@@ -1,6 +1,6 @@
 //! What held bytes show of the next line.
-ghost use Rattle.std.specs.Prelude.{◌≡◌, length, take};
-ghost use Rattle.pl_io.specs.Lines.{first_line};
+ghost use Rattle.std.specs.Prelude.{◌≡◌, ◌==◌, take};
+ghost use Rattle.std.specs.List.{position_or_len};
 ghost use Rattle.pl_io.specs.Reading.{Shows};
 
 /// What bytes at the front of the input show, whatever follows them.
@@ -43,12 +43,7 @@ fn front(bytes: &[u8], count: usize) -> &[u8]
 }
 
 fn line_len(bytes: &[u8]) -> usize
-    ensures { result ≡ length (first_line bytes.now) }
+    ensures { result ≡ position_or_len (λ byte. byte == 10) bytes.now }
 {
-    for (i, byte) in bytes.iter().enumerate() {
-        if *byte == b'\n' {
-            return i;
-        }
-    }
-    bytes.len()
+    bytes.iter().take_while(|byte| **byte != b'\n').count()
 }

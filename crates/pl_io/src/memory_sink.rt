@@ -54,6 +54,7 @@ impl MemSink {
         })
     }
 
+    /// What was written so far.
     pub fn bytes(&self) -> &[u8]
         ensures { result.now ≡ self.now.held }
     {

@@ -16,6 +16,7 @@ pub struct StdSink<W> {
 }
 
 impl<W> StdSink<W> {
+    /// Takes the writer over, and counts its faults from here.
     pub fn new(writer: W) -> StdSink<W>
         ensures writer { result.writer ≡ writer }
         ensures faults { result.faults ≡ 0 }

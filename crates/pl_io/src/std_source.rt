@@ -13,6 +13,7 @@ pub struct StdSource<R> {
 }
 
 impl<R> StdSource<R> {
+    /// Takes the reader over, and counts its faults from here.
     pub fn new(reader: R) -> StdSource<R>
         ensures reader { result.reader ≡ reader }
         ensures faults { result.faults ≡ 0 }

@@ -20,6 +20,7 @@ impl Model for SureSource {
 }
 
 impl SureSource {
+    /// Over a copy of the bytes.
     pub fn new(alloc: Global, bytes: &[u8]) -> Result<SureSource, AllocError>
         ensures { IfOk result (λ source. source ≡ bytes.now) }
     {

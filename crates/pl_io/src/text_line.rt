@@ -20,6 +20,7 @@ impl Model for Line {
 }
 
 impl Line {
+    /// The bytes of the line, without its newline.
     pub fn bytes(&self) -> &[u8]
         ensures { result.now ≡ self.now.bytes }
     {

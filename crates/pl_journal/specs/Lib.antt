@@ -1,9 +1,5 @@
-pub use Rattle.pl_render.specs.Lines
 pub use Rattle.pl_entry.specs.Bounds
 pub use Rattle.pl_model.specs.Checked
-pub mod Journal
-pub mod Reads
-pub mod Words
-pub mod Moves
-pub mod Replies
-pub mod Entries
+pub mod Parsing
+pub mod Rendering
+pub mod Written

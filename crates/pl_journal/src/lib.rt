@@ -1,20 +1,13 @@
-//! The lines of a journal read back.
+//! The lines of a journal: rendered from entries, written to a sink, and parsed back.
 #![tactic(auto)]
 
-mod commands;
-mod conflicts;
-mod counts;
-mod entries;
-mod fault;
-mod inputs;
-mod moves;
-mod names;
-mod openings;
-mod reading;
-mod replies;
-mod sharing;
-mod words;
+mod parsing;
+mod rendering;
+mod writing;
 
-pub use fault::EntryFault;
-pub use reading::{has_line, read_entry};
-pub use sharing::shared_types;
+pub use parsing::{EntryFault, has_line, read_entry, shared_types};
+pub use rendering::{
+    kind_name, laws_of_length, laws_of_telling, push_conflict, push_count, push_labelled,
+    push_reply, push_word, render, text_laws,
+};
+pub use writing::write_entries;

@@ -1,8 +1,9 @@
 -- How long a log is in which each commit comes once repair rests, as in every log of one thread.
 use Rattle.std.proofs.Common.{◌≡◌, ℕ, suc, ◌+◌, ◌-◌, ◌<◌, ◌≤◌, max, List, [], ◌∷◌, length, Bool, true, false, not, ◌&&◌, ◌||◌, nat_lt, Option, Some, None, refl, sym, ◌∙◌, ap, subst, arith, length-append}
 use Rattle.std.specs.Prelude.{if◌then◌else◌, slice_get, is_some}
-use Rattle.std.proofs.lemmas.Bool.{ltb-true, le-ltb}
+use Rattle.std.proofs.lemmas.Bool.{ltb-true, le-ltb, not-true}
 use Rattle.std.proofs.lemmas.List.Elements.{All-weaker}
+use Rattle.pl_lists.proofs.Tests.{and_first}
 use Rattle.pl_conflict.specs.declared.conflict.Conflict.{Conflict}
 use Rattle.pl_model.specs.declared.whole.Model.{Model}
 use Rattle.pl_model.specs.Checked.{IsChecked}
@@ -15,11 +16,11 @@ use Rattle.pl_entry.specs.declared.entry.Entry.{Entry}
 use Rattle.pl_entry.specs.Bounds.{IsDispatchReply, IsReplyTo}
 use Rattle.pl_entry.specs.Horizon.{target_of, best_of, IsBest}
 use Rattle.pl_entry.proofs.BestLaws.{best_is}
-use Rattle.pl_world.specs.declared.plan_state.PlanState.{PlanState}
-use Rattle.pl_world.specs.Conflicts.{conflicts_of}
-use Rattle.pl_world.specs.Grants.{touches_before, IsGrantable}
-use Rattle.pl_world.proofs.Standing.{ordered}
-use Rattle.pl_changes.specs.Changes.{committed_to}
+use Rattle.pl_semantics.specs.declared.plan_state.PlanState.{PlanState}
+use Rattle.pl_semantics.specs.Conflicts.{conflicts_of}
+use Rattle.pl_semantics.specs.Grants.{touches_before, IsGrantable}
+use Rattle.pl_semantics.proofs.Standing.{ordered}
+use Rattle.pl_update.specs.Changes.Changes.{committed_to}
 use Rattle.pl_machine.specs.declared.choice.Choice.TheVariants as choice
 use Rattle.pl_machine.specs.World.{World, fresh_world, due_in, reason_of}
 use Rattle.pl_machine.specs.Step.{behind_of, target_in, best_in, commit_reply, is_enabled, reply_of, after_input, after_fix, after_commit, after_dispatch, after}
@@ -29,7 +30,7 @@ use Rattle.pl_machine.specs.Solo.{Picks, IsSoloEvent, solo_from, SoloBy}
 use Rattle.pl_machine.proofs.Granting.{grants}
 use Rattle.pl_laws.specs.Laws.{IsChosen, chosen_from, AreCommitsChosen, LengthIsBounded}
 use Rattle.pl_machine.proofs.Granted.{granted_same}
-use Rattle.pl_laws.proofs.Spending.{Spends, Pays, is_false, first_true, repairs_on, log_bounded}
+use Rattle.pl_laws.proofs.Spending.{Spends, Pays, repairs_on, log_bounded}
 
 -- ---- what may still follow in a round, but for commands
 
@@ -136,7 +137,7 @@ event_pays : (turns : ℕ) (w : World) (happened : Event) (answer : Reply) → w
     → Pays budget (turns + 4) w happened
 event_pays turns w (event.Opened o) answer is enabled replies answers chosen = tt
 event_pays turns w (event.Input line) answer is enabled replies answers chosen =
-    let few : budget (after w (event.Input line)) ≤ w.options.turns + 3 = input_budget w line (reply_of w (event.Input line)) (first_true w.closed (not w.done) enabled) in
+    let few : budget (after w (event.Input line)) ≤ w.options.turns + 3 = input_budget w line (reply_of w (event.Input line)) (and_first w.closed (not w.done) enabled) in
     omega (arith, few, is)
 event_pays turns w (event.Fix k m) answer is enabled replies answers chosen =
     let on = repairs_on w.closed w.rested (nat_lt w.turn w.options.turns) enabled in
@@ -144,12 +145,12 @@ event_pays turns w (event.Fix k m) answer is enabled replies answers chosen =
 event_pays turns w event.Rest answer is enabled replies answers chosen =
     let on = repairs_on w.closed w.rested (is_some (reason_of w)) enabled in
     rest_step w.closed w.rested (more_of w.state) (w.options.turns - w.turn) (length w.dispatched) on.0 on.1
-event_pays turns w (event.Commit h) answer is enabled replies answers chosen = commit_spends w h (is_false w.closed enabled) chosen.0 chosen.1
+event_pays turns w (event.Commit h) answer is enabled replies answers chosen = commit_spends w h (not-true w.closed enabled) chosen.0 chosen.1
 event_pays turns w event.Dispatch answer is enabled replies answers chosen =
     let sent : IsDispatchReply w.state.model (reply_of w event.Dispatch) = subst (λ (r : Reply). IsDispatchReply w.state.model r) answers replies in
     dispatch_spends w w.state.model (reply_of w event.Dispatch) sent
 event_pays turns w event.Close answer is enabled replies answers chosen =
-    close_step w.closed w.rested (more_of w.state) (w.options.turns - w.turn) (length w.dispatched) (is_false w.closed (first_true (not w.closed) _ enabled))
+    close_step w.closed w.rested (more_of w.state) (w.options.turns - w.turn) (length w.dispatched) (not-true w.closed (and_first (not w.closed) _ enabled))
 
 entry_pays : (turns : ℕ) (w : World) (e : Entry) (es : List Entry) → w.options.turns ≡ turns → MayFollow w e → chosen_from w (e ∷ es) → Pays budget (turns + 4) w e.event × chosen_from (after w e.event) es
 entry_pays turns w e es is follows chosen = (event_pays turns w e.event e.reply is follows.enabled follows.reply follows.answers chosen.0, chosen.1)

@@ -20,11 +20,11 @@ use Rattle.pl_entry.specs.declared.event.Event.{Event}
 use Rattle.pl_entry.specs.declared.event.Event.TheVariants as event
 use Rattle.pl_entry.specs.declared.reply.Reply.{Reply}
 use Rattle.pl_entry.specs.declared.reply.Reply.TheVariants as reply
-use Rattle.pl_world.specs.declared.plan_state.PlanState.{PlanState}
-use Rattle.pl_world.specs.Moves.{is_proper, refusal_of, applied}
-use Rattle.pl_world.specs.Whole.{IsWhole, IsGoalOf}
-use Rattle.pl_changes.specs.Changes.{with_goal, told_now, moved_on, committed_to, CanTell}
-use Rattle.pl_changes.proofs.Keeping.{whole_with_goal, whole_without_goal, whole_moved_on, whole_told, whole_replaced}
+use Rattle.pl_semantics.specs.declared.plan_state.PlanState.{PlanState}
+use Rattle.pl_semantics.specs.Moves.{is_proper, refusal_of, applied}
+use Rattle.pl_semantics.specs.Whole.{IsWhole, IsGoalOf}
+use Rattle.pl_update.specs.Changes.Changes.{with_goal, told_now, moved_on, committed_to, CanTell}
+use Rattle.pl_update.proofs.AboutChanges.Keeping.{whole_with_goal, whole_without_goal, whole_moved_on, whole_told, whole_replaced, whole_committed}
 use Rattle.pl_moves.specs.Changes.{gone_by, placed_by, IsOfActivities}
 use Rattle.pl_moves.specs.Keeping.{KeepsCommitted}
 use Rattle.pl_moves.proofs.Made.{made, can_replace}
@@ -49,7 +49,7 @@ pub record Kept (s s2 : PlanState) : Type 0 where
 
 -- ---- nothing changes
 
-stays_itself : (s : PlanState) → StaysCommitted s s
+pub stays_itself : (s : PlanState) → StaysCommitted s s
 stays_itself s = record { committed = omega arith; stands = λ id a here c. here; still = λ id a here c. c; values = λ id a here c. refl; ends = λ id a here c. refl }
 
 standing_itself : (s : PlanState) → KeepsStanding s s
@@ -65,23 +65,6 @@ more_committed start c h le early = let lt = ltb-true start c early in lt-ltb st
 
 stays_commit : (s : PlanState) (h : ℕ) → s.committed ≤ h → StaysCommitted s (committed_to h s)
 stays_commit s h le = record { committed = le; stands = λ id a here c. here; still = λ id a here c. more_committed a.start s.committed h le c; values = λ id a here c. refl; ends = λ id a here c. refl }
-
-whole_commit : (s : PlanState) (h : ℕ) → IsWhole s → h ≤ s.model.horizon → IsWhole (committed_to h s)
-whole_commit s h w le = record {
-  checked = w.checked;
-  rising = w.rising;
-  fits = w.fits;
-  goals = w.goals;
-  distinct = w.distinct;
-  carried = w.carried;
-  bases = w.bases;
-  present = w.present;
-  horizon = le;
-  ids = w.ids;
-  next = w.next;
-  limit = w.limit;
-  live = w.live;
-}
 
 stays_repair : (s s2 : PlanState) → KeepsCommitted s s2 → StaysCommitted s s2
 stays_repair s s2 keeps = record {
@@ -116,7 +99,7 @@ kept_tick : (s : PlanState) (moment : ℕ) → IsWhole s → s.moment < moment �
 kept_tick s moment whole later within = record { whole = whole_moved_on s moment whole later within; standing = keeps_tick s moment whole.rising later; stays = record { committed = omega arith; stands = λ id a here c. here; still = λ id a here c. c; values = λ id a here c. refl; ends = λ id a here c. refl } }
 
 kept_grant : (s : PlanState) (h : ℕ) → IsWhole s → commit_reply s h ≡ reply.Done → Kept s (committed_to h s)
-kept_grant s h whole done = let bounds = commit_bounds s h done in record { whole = whole_commit s h whole bounds.1; standing = keeps_commit s h whole done; stays = stays_commit s h bounds.0 }
+kept_grant s h whole done = let bounds = commit_bounds s h done in record { whole = whole_committed s h whole bounds.1; standing = keeps_commit s h whole done; stays = stays_commit s h bounds.0 }
 
 kept_repair : (s : PlanState) (m : RepairMove) → IsWhole s → s.next_id ≤ 3999999000 → is_proper s m ≡ true → refusal_of s m ≡ None → Kept s (applied s m)
 kept_repair s m whole few proper allowed = record { whole = whole_applied s m whole few proper allowed; standing = keeps_applied s m whole proper allowed; stays = stays_repair s (applied s m) (keeps s m whole proper allowed) }

@@ -1,5 +1,5 @@
 -- A legal log, its fronts and what stands behind them.
-use Rattle.std.proofs.Common.{◌≡◌, suc, ◌+◌, ◌≤◌, List, [], ◌∷◌, ◌++◌, length, Option, Some, None, refl, arith, length-append}
+use Rattle.std.proofs.Common.{◌≡◌, suc, ◌+◌, ◌≤◌, List, [], ◌∷◌, ◌++◌, length, Option, Some, None, arith, length-append}
 use Rattle.std.specs.Prelude.{unwrap_or}
 use Rattle.pl_model.specs.declared.whole.Model.{Model}
 use Rattle.pl_facts.specs.declared.options.Options.{Options}
@@ -9,15 +9,12 @@ use Rattle.pl_entry.specs.declared.entry.Entry.{Entry}
 use Rattle.pl_machine.specs.World.{World, fresh_world}
 use Rattle.pl_machine.specs.Step.{after}
 use Rattle.pl_machine.specs.Legal.{MayFollow, legal_from, world_from, options_in, IsOpenedRun, Legal, no_options, world_of}
+use Rattle.pl_machine.proofs.Runs.{world_append}
 use Rattle.pl_laws.specs.Laws.{with_entry}
 
 pub legal_split : (w : World) (es more : List Entry) → legal_from w (es ++ more) → legal_from w es × legal_from (world_from w es) more
 legal_split w [] more legal = (tt, legal)
 legal_split w (e ∷ es) more legal = let rest = legal_split (after w e.event) es more legal.1 in ((legal.0, rest.0), rest.1)
-
-pub world_split : (w : World) (es more : List Entry) → world_from w (es ++ more) ≡ world_from (world_from w es) more
-world_split w [] more = refl
-world_split w (e ∷ es) more = world_split (after w e.event) es more
 
 -- a front of a legal log, and the rest behind it
 pub record GoesOn (m : Model) (log more : List Entry) : Type 0 where
@@ -40,7 +37,7 @@ pub goes_on : (m : Model) (first : Entry) (es more : List Entry) → Legal m (fi
 unfolding world_of
 goes_on m first es more legal =
     let parts = opened_on m (options_in first.event) first.reply es more legal in
-    record { front = parts.0; rest = parts.1; world = world_split (fresh_world m (unwrap_or (options_in first.event) no_options)) es more; bounded = parts.2 }
+    record { front = parts.0; rest = parts.1; world = world_append (fresh_world m (unwrap_or (options_in first.event) no_options)) es more; bounded = parts.2 }
 
 -- an entry behind a legal log
 pub record LastEntry (m : Model) (log : List Entry) (happened : Event) (answer : Reply) : Type 0 where

@@ -11,8 +11,8 @@ use Rattle.pl_entry.specs.declared.event.Event.TheVariants as event
 use Rattle.pl_entry.specs.declared.reply.Reply.{Reply}
 use Rattle.pl_entry.specs.declared.reply.Reply.TheVariants as reply
 use Rattle.pl_entry.specs.declared.entry.Entry.{Entry}
-use Rattle.pl_world.specs.declared.plan_state.PlanState.{PlanState}
-use Rattle.pl_world.specs.Moves.{applied}
+use Rattle.pl_semantics.specs.declared.plan_state.PlanState.{PlanState}
+use Rattle.pl_semantics.specs.Moves.{applied}
 use Rattle.pl_machine.specs.World.{World}
 use Rattle.pl_machine.specs.Messages.{told, told_by, told_line}
 use Rattle.pl_machine.specs.Step.{commit_reply, fix_reply, reply_of, after_input, after_fix, after_commit, after_dispatch, after}

@@ -9,3 +9,6 @@ pub mod Worlds
 pub mod Spending
 pub mod Budgets
 pub mod PairBudgets
+pub mod Chosen
+pub mod Bounded
+pub mod Paired

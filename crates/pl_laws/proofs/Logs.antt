@@ -1,12 +1,13 @@
 -- The laws that hold of each step by itself, of the world before an entry and the world after it.
-use Rattle.std.proofs.Common.{◌≡◌, ◌≤◌, [], ◌∷◌, Bool, true, false, not, ◌&&◌, nat_le, refl, sym, ◌∙◌, ap, subst}
+use Rattle.std.proofs.Common.{◌≡◌, ◌≤◌, [], ◌∷◌, not, nat_le, sym, ◌∙◌, ap, subst}
 use lib.Pointwise.{bytes_decides}
+use Rattle.pl_lists.proofs.Tests.{and_third}
 use Rattle.pl_model.specs.declared.whole.Model.{Model}
 use Rattle.pl_entry.specs.declared.event.Event.TheVariants as event
 use Rattle.pl_entry.specs.declared.reply.Reply.{Reply}
 use Rattle.pl_entry.specs.declared.reply.Reply.TheVariants as reply
-use Rattle.pl_world.specs.Conflicts.{conflicts_of}
-use Rattle.pl_changes.specs.Changes.{committed_to}
+use Rattle.pl_semantics.specs.Conflicts.{conflicts_of}
+use Rattle.pl_update.specs.Changes.Changes.{committed_to}
 use Rattle.pl_machine.specs.World.{World, due_in}
 use Rattle.pl_machine.specs.Step.{all_sent, best_in, behind_of, commit_reply, after_commit}
 use Rattle.pl_machine.specs.Legal.{world_of}
@@ -26,17 +27,11 @@ never_less m (first ∷ es) more front legal =
     let w = world_of m (first ∷ es) in
     subst (λ (v : World). w.state.committed ≤ v.state.committed) (sym on.world) (lasts_on w more).committed
 
-third_of : (a b c d : Bool) → (a && (b && (c && d))) ≡ true → c ≡ true
-third_of true true true d e = refl
-third_of true true false d e = e
-third_of true false c d e = absurd (cc)
-third_of false b c d e = absurd (cc)
-
 pub sent_at_close : (m : Model) → AllIsSentAtClose m
 sent_at_close m log answer legal =
     let last = last_entry m log event.Close answer (λ begun. begun) legal in
     let w = world_of m log in
-    let all : w.dispatched ≡ due_in w.state = (bytes_decides w.dispatched (due_in w.state)).0 (third_of (not w.closed) w.rested (all_sent w) (nat_le (best_in w.state) (behind_of w.state)) last.follows.enabled) in
+    let all : w.dispatched ≡ due_in w.state = (bytes_decides w.dispatched (due_in w.state)).0 (and_third (not w.closed) w.rested (all_sent w) (nat_le (best_in w.state) (behind_of w.state)) last.follows.enabled) in
     subst (λ (v : World). v.dispatched ≡ due_in v.state) (sym last.leaves) all
 
 pub grants_same : (m : Model) → GrantsChangeNoConflict m

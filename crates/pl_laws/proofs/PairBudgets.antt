@@ -1,7 +1,8 @@
 -- How long a log is in which each commit is what the executive chooses, also before repair rests, as where a planner repairs beside it.
 use Rattle.std.proofs.Common.{◌≡◌, ℕ, suc, ◌+◌, ◌-◌, ◌*◌, ◌<◌, ◌≤◌, max, List, [], ◌∷◌, length, Bool, true, false, not, ◌&&◌, ◌||◌, nat_lt, Option, Some, None, refl, sym, subst, arith, length-append, nat_le}
 use Rattle.std.specs.Prelude.{if◌then◌else◌, is_some}
-use Rattle.std.proofs.lemmas.Bool.{ltb-true, le-ltb, lt-leb}
+use Rattle.std.proofs.lemmas.Bool.{ltb-true, le-ltb, lt-leb, and_right, not-true}
+use Rattle.pl_lists.proofs.Tests.{and_first, and_second}
 use Rattle.pl_conflict.specs.declared.conflict.Conflict.{Conflict}
 use Rattle.pl_model.specs.declared.whole.Model.{Model}
 use Rattle.pl_model.specs.Checked.{IsChecked}
@@ -12,7 +13,7 @@ use Rattle.pl_entry.specs.declared.reply.Reply.{Reply}
 use Rattle.pl_entry.specs.declared.reply.Reply.TheVariants as reply
 use Rattle.pl_entry.specs.declared.entry.Entry.{Entry}
 use Rattle.pl_entry.specs.Bounds.{IsDispatchReply, IsReplyTo}
-use Rattle.pl_world.specs.declared.plan_state.PlanState.{PlanState}
+use Rattle.pl_semantics.specs.declared.plan_state.PlanState.{PlanState}
 use Rattle.pl_machine.specs.declared.choice.Choice.TheVariants as choice
 use Rattle.pl_machine.specs.World.{World, fresh_world, due_in, reason_of}
 use Rattle.pl_machine.specs.Step.{behind_of, target_in, best_in, commit_reply, is_enabled, reply_of, after_input, after_fix, after_commit, after_dispatch, after, held_reply, first_conflict, round_begun}
@@ -21,7 +22,7 @@ use Rattle.pl_machine.specs.Legal.{options_of, entries_behind, MayFollow}
 use Rattle.pl_machine.proofs.Granting.{grants}
 use Rattle.pl_laws.specs.Laws.{IsChosen, chosen_from, IsExecutiveChoice, executive_from, PairLengthIsBounded, ChosenAreOfExecutive}
 use Rattle.pl_machine.specs.Messages.{told_line}
-use Rattle.pl_laws.proofs.Spending.{Spends, Pays, is_false, first_true, second_true, repairs_on, log_bounded}
+use Rattle.pl_laws.proofs.Spending.{Spends, Pays, repairs_on, log_bounded}
 use Rattle.pl_laws.proofs.Budgets.{more_of, chosen_commit, best_grantable, no_more}
 
 -- ---- what may still follow in a round, but for commands
@@ -132,13 +133,9 @@ target_reply s further =
     let less = ltb-true (behind_of s) (target_in s) further in
     in_reach (nat_le (target_in s) (behind_of s)) (nat_lt s.model.horizon (target_in s)) (held_reply (first_conflict s) (target_in s)) (lt-leb (target_in s) (behind_of s) less) (le-ltb s.model.horizon (target_in s) (omega arith))
 
-second_false : (a b : Bool) → b ≡ false → (a && b) ≡ false
-second_false true b e = e
-second_false false b e = refl
-
 -- no commit to the target follows one that was granted
 reached : (w : World) → early_of (after_commit w (target_in w.state) reply.Done) ≡ false
-reached w = second_false (not w.held) (nat_lt (max (target_in w.state) w.state.moment) (target_in w.state)) (le-ltb (max (target_in w.state) w.state.moment) (target_in w.state) (omega arith))
+reached w = and_right (not w.held) (nat_lt (max (target_in w.state) w.state.moment) (target_in w.state)) (le-ltb (max (target_in w.state) w.state.moment) (target_in w.state) (omega arith))
 
 granted_spends : (w : World) → w.closed ≡ false → w.rested ≡ false → early_of w ≡ true → Spends pair_budget w (after_commit w (target_in w.state) reply.Done)
 granted_spends w closed rested early =
@@ -159,7 +156,7 @@ asked_spends w (Some k) closed rested early = by (nat_lt k.from (target_in w.sta
 early_spends : (w : World) (h : ℕ) → w.closed ≡ false → w.rested ≡ false → exec_choice_of w ≡ Some (choice.Commit h) → Spends pair_budget w (after w (event.Commit h))
 early_spends w h closed rested chosen =
     let is = chosen_early w h rested chosen in
-    let answers = target_reply w.state (second_true (not w.held) (nat_lt (behind_of w.state) (target_in w.state)) is.0) in
+    let answers = target_reply w.state (and_second (not w.held) (nat_lt (behind_of w.state) (target_in w.state)) is.0) in
     let one = asked_spends w (first_conflict w.state) closed rested is.0 in
     let two : Spends pair_budget w (after_commit w (target_in w.state) (commit_reply w.state (target_in w.state))) = subst (λ (r : Reply). Spends pair_budget w (after_commit w (target_in w.state) r)) (sym answers) one in
     subst (λ (n : ℕ). Spends pair_budget w (after_commit w n (commit_reply w.state n))) is.1 two
@@ -193,7 +190,7 @@ event_pays : (turns : ℕ) (w : World) (happened : Event) (answer : Reply) → w
     → Pays pair_budget (2 * turns + 5) w happened
 event_pays turns w (event.Opened o) answer is enabled replies answers chosen = tt
 event_pays turns w (event.Input line) answer is enabled replies answers chosen =
-    let few : pair_budget (after w (event.Input line)) ≤ 2 * w.options.turns + 4 = input_budget w line (reply_of w (event.Input line)) (first_true w.closed (not w.done) enabled) in
+    let few : pair_budget (after w (event.Input line)) ≤ 2 * w.options.turns + 4 = input_budget w line (reply_of w (event.Input line)) (and_first w.closed (not w.done) enabled) in
     omega (arith, few, is)
 event_pays turns w (event.Fix k m) answer is enabled replies answers chosen =
     let on = repairs_on w.closed w.rested (nat_lt w.turn w.options.turns) enabled in
@@ -201,12 +198,12 @@ event_pays turns w (event.Fix k m) answer is enabled replies answers chosen =
 event_pays turns w event.Rest answer is enabled replies answers chosen =
     let on = repairs_on w.closed w.rested (is_some (reason_of w)) enabled in
     rest_step w.closed w.rested (more_of w.state) (early_of w) (w.options.turns - w.turn) (length w.dispatched) on.0 on.1
-event_pays turns w (event.Commit h) answer is enabled replies answers chosen = commit_spends w h (is_false w.closed enabled) chosen
+event_pays turns w (event.Commit h) answer is enabled replies answers chosen = commit_spends w h (not-true w.closed enabled) chosen
 event_pays turns w event.Dispatch answer is enabled replies answers chosen =
     let sent : IsDispatchReply w.state.model (reply_of w event.Dispatch) = subst (λ (r : Reply). IsDispatchReply w.state.model r) answers replies in
     dispatch_spends w w.state.model (reply_of w event.Dispatch) sent
 event_pays turns w event.Close answer is enabled replies answers chosen =
-    close_step w.closed w.rested (more_of w.state) (early_of w) (w.options.turns - w.turn) (length w.dispatched) (is_false w.closed (first_true (not w.closed) _ enabled))
+    close_step w.closed w.rested (more_of w.state) (early_of w) (w.options.turns - w.turn) (length w.dispatched) (not-true w.closed (and_first (not w.closed) _ enabled))
 
 entry_pays : (turns : ℕ) (w : World) (e : Entry) (es : List Entry) → w.options.turns ≡ turns → MayFollow w e → executive_from w (e ∷ es) → Pays pair_budget (2 * turns + 5) w e.event × executive_from (after w e.event) es
 entry_pays turns w e es is follows chosen = (event_pays turns w e.event e.reply is follows.enabled follows.reply follows.answers chosen.0, chosen.1)

@@ -1,9 +1,10 @@
 -- What stands of every world of a legal log.
-use Rattle.std.proofs.Common.{◌≡◌, ℕ, suc, ◌+◌, ◌*◌, ◌≤◌, List, [], ◌∷◌, ◌++◌, length, Bool, true, false, Option, Some, None, nat_lt, slice_get, Contains, refl, sym, ◌∙◌, ap, subst, arith, append_assoc, append-nil}
-use Rattle.std.specs.Prelude.{not, ◌&&◌, option_and_then, unwrap_or}
+use Rattle.std.proofs.Common.{◌≡◌, ℕ, suc, ◌+◌, ◌*◌, ◌≤◌, List, [], ◌∷◌, ◌++◌, length, true, Option, Some, None, nat_lt, slice_get, Contains, refl, sym, ◌∙◌, ap, subst, arith, append_assoc, append-nil}
+use Rattle.std.specs.Prelude.{not, option_and_then, unwrap_or}
 use Rattle.std.proofs.lemmas.Bool.{ltb-true, lt-ltb}
 use Rattle.std.proofs.lemmas.List.Elements.{Contains-get_or}
 use Rattle.std.proofs.lemmas.Option.{slice_get_within, get_or_from_slice_get}
+use Rattle.pl_lists.proofs.Tests.{and_second}
 use Rattle.pl_model.specs.declared.whole.Model.{Model}
 use Rattle.pl_model.specs.Checked.{IsChecked}
 use Rattle.pl_facts.specs.declared.options.Options.{Options}
@@ -19,9 +20,9 @@ use Rattle.pl_entry.specs.declared.entry.Entry.{Entry}
 use Rattle.pl_entry.specs.Bounds.{AreOptions}
 use Rattle.pl_entry.specs.Due.{due_of}
 use Rattle.pl_entry.proofs.DueLaws.{due_meets}
-use Rattle.pl_world.specs.PlanStates.{found, is_committed}
-use Rattle.pl_world.specs.Whole.{IsWhole}
-use Rattle.pl_changes.proofs.Keeping.{whole_first}
+use Rattle.pl_semantics.specs.PlanStates.{found, is_committed}
+use Rattle.pl_semantics.specs.Whole.{IsWhole}
+use Rattle.pl_update.proofs.AboutChanges.Keeping.{whole_first}
 use Rattle.pl_machine.specs.World.{World, fresh_world, due_in}
 use Rattle.pl_machine.specs.Step.{next_due, sent_reply, is_enabled, reply_of, after_input, after_fix, after_commit, after_dispatch, after}
 use Rattle.pl_machine.specs.Legal.{legal_from, world_from, options_in, IsOpenedRun, Legal, no_options, world_of}
@@ -92,16 +93,12 @@ commit_sent w h reply.Done = refl
 commit_sent w h (reply.Held k) = refl
 commit_sent w h _ = refl
 
-second_true : (a b : Bool) → (a && b) ≡ true → b ≡ true
-second_true true b e = e
-second_true false b e = absurd (cc)
-
 one_longer : (xs : List ℕ) (x : ℕ) (rest : List ℕ) → xs ++ x ∷ rest ≡ (xs ++ x ∷ []) ++ rest
 one_longer [] x rest = refl
 one_longer (y ∷ xs) x rest = ap (λ (ys : List ℕ). y ∷ ys) (one_longer xs x rest)
 
 pub next_of : (w : World) → IsWhole w.state → IsFrontOfDue w → is_enabled w event.Dispatch ≡ true → NextSent w
-next_of w whole sent enabled = next_sent w whole sent (second_true (not w.closed) (nat_lt (length w.dispatched) (length (due_in w.state))) enabled)
+next_of w whole sent enabled = next_sent w whole sent (and_second (not w.closed) (nat_lt (length w.dispatched) (length (due_in w.state))) enabled)
 
 sent_after : (w : World) (e : Event) → IsWhole w.state → IsFrontOfDue w → Kept w.state (after w e).state → is_enabled w e ≡ true → IsFrontOfDue (after w e)
 sent_after w (event.Opened o) whole sent kept enabled = sent

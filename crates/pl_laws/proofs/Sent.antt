@@ -15,8 +15,9 @@ use Rattle.pl_entry.specs.declared.entry.Entry.{Entry}
 use Rattle.pl_entry.specs.Bounds.{IsInputReply, IsLineReply, IsFixReply, IsRestReply, IsCommitReply, IsReplyTo}
 use Rattle.pl_entry.specs.Due.{StartsBefore}
 use Rattle.pl_entry.proofs.DueLaws.{due_meets, all_behind, pairs_behind, contains_first}
-use Rattle.pl_world.specs.PlanStates.{found, is_committed}
-use Rattle.pl_world.specs.Whole.{IsWhole}
+use Rattle.pl_entry.proofs.Growth.{starts_rise}
+use Rattle.pl_semantics.specs.PlanStates.{found, is_committed}
+use Rattle.pl_semantics.specs.Whole.{IsWhole}
 use Rattle.pl_machine.specs.World.{World, fresh_world}
 use Rattle.pl_machine.specs.Step.{sent_reply, is_enabled, reply_of, after_dispatch, after}
 use Rattle.pl_machine.specs.Legal.{MayFollow, legal_from, options_in, IsOpenedRun}
@@ -109,10 +110,6 @@ sends_if w event.Close r whole next enabled replies answers = inl (ap start_sent
 
 sends : {m : Model} {count : ℕ} {w : World} (e : Entry) → Stands m count w → MayFollow w e → (start_sent e.reply ≡ None) ⊎ Sends w e.event e.reply
 sends {m} {count} {w} e stands follows = sends_if w e.event e.reply stands.whole (next_of w stands.whole stands.sent) follows.enabled follows.reply follows.answers
-
-starts_rise : (a b : Activity) → StartsBefore a b → a.start ≤ b.start
-starts_rise a b (inl lt) = omega (arith, lt)
-starts_rise a b (inr (is, lt)) = omega (arith, is)
 
 -- it starts no earlier than one that was sent
 no_earlier : {m : Model} {count : ℕ} {w : World} (a : Activity) → Stands m count w → WasSent w a → (n : NextSent w) → a.start ≤ n.a.start

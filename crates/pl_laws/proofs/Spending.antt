@@ -88,18 +88,6 @@ Pays left each w event.Close = Spends left w (after w event.Close)
 
 -- ---- where an event is enabled
 
-pub is_false : (a : Bool) → not a ≡ true → a ≡ false
-is_false true e = absurd (cc)
-is_false false e = refl
-
-pub first_true : (a b : Bool) → (a && b) ≡ true → a ≡ true
-first_true true b e = refl
-first_true false b e = absurd (cc)
-
-pub second_true : (a b : Bool) → (a && b) ≡ true → b ≡ true
-second_true true b e = e
-second_true false b e = absurd (cc)
-
 -- repair is not over
 pub repairs_on : (closed rested more : Bool) → (not closed && (not rested && more)) ≡ true → (closed ≡ false) × (rested ≡ false) × (more ≡ true)
 repairs_on true rested more e = absurd (cc)

@@ -8,25 +8,22 @@ use Rattle.pl_entry.specs.declared.event.Event.TheVariants as event
 use Rattle.pl_entry.specs.declared.reply.Reply.{Reply}
 use Rattle.pl_entry.specs.declared.reply.Reply.TheVariants as reply
 use Rattle.pl_entry.specs.declared.entry.Entry.{Entry}
-use Rattle.pl_world.specs.declared.plan_state.PlanState.{PlanState}
-use Rattle.pl_world.specs.Whole.{IsWhole}
+use Rattle.pl_semantics.specs.declared.plan_state.PlanState.{PlanState}
+use Rattle.pl_semantics.specs.Whole.{IsWhole}
 use Rattle.pl_moves.specs.Keeping.{KeepsCommitted}
 use Rattle.pl_moves.proofs.Keeping.{keeps}
 use Rattle.pl_machine.specs.World.{World}
 use Rattle.pl_machine.specs.Step.{fix_reply, after_fix, after}
 use Rattle.pl_machine.specs.Legal.{legal_from, world_from, world_of}
-use Rattle.pl_machine.proofs.Handed.{can_repair}
+use Rattle.pl_machine.proofs.Handed.{can_repair, keeps_itself}
 use Rattle.pl_laws.specs.Standing.{StaysCommitted}
 use Rattle.pl_laws.specs.Laws.{RepairsKeepCommitted, CommittedStays, SentIsInFront}
 use Rattle.pl_laws.proofs.Fronts.{goes_on, last_entry}
-use Rattle.pl_laws.proofs.Changing.{Kept}
+use Rattle.pl_laws.proofs.Changing.{Kept, stays_itself}
 use Rattle.pl_laws.proofs.Running.{Stands, few_ids, kept_of, stands_after, stands_of}
 
 pub front_of_due : (m : Model) → IsChecked m → SentIsInFront m
 front_of_due m checked log legal = (stands_of m log checked legal).sent
-
-keeps_itself : (s : PlanState) → KeepsCommitted s s
-keeps_itself s = record { model = refl; moment = refl; committed = refl; bases = refl; live_limit = refl; stands = λ id a here c. here; values = λ id a here c. refl; ends = λ id a here c. refl; no_other = λ id a here c. here }
 
 fix_keeps : (w : World) (k : Conflict) (mv : RepairMove) (r : Reply) → IsWhole w.state → w.state.next_id ≤ 3999999000 → fix_reply w.state k mv ≡ r → KeepsCommitted w.state (after_fix w mv r).state
 fix_keeps w k mv reply.Done whole few is = let can = can_repair w.state k mv is few in keeps w.state mv whole can.0 can.1
@@ -41,9 +38,6 @@ repairs_keep m checked log k mv answer legal =
     subst (λ (v : World). KeepsCommitted w.state v.state) (sym last.leaves) (fix_keeps w k mv (fix_reply w.state k mv) stands.whole (few_ids stands (omega (arith, most))) refl)
 
 -- ---- a log that goes on
-
-stays_itself : (s : PlanState) → StaysCommitted s s
-stays_itself s = record { committed = omega arith; stands = λ id a here c. here; still = λ id a here c. c; values = λ id a here c. refl; ends = λ id a here c. refl }
 
 stays_through : (s s2 s3 : PlanState) → StaysCommitted s s2 → StaysCommitted s2 s3 → StaysCommitted s s3
 stays_through s s2 s3 one two = record {

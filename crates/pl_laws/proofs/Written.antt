@@ -11,9 +11,9 @@ use Rattle.pl_entry.specs.Bounds.{AreOptions, IsEventInRange, IsReplyTo, IsNumbe
 use Rattle.pl_machine.specs.World.{World, fresh_world}
 use Rattle.pl_machine.specs.Step.{is_enabled, after}
 use Rattle.pl_machine.specs.Legal.{legal_from, options_in, IsOpenedRun}
-use Rattle.pl_render.specs.Lines.{AreEntries}
-use Rattle.pl_render.proofs.Telling.{logs_told}
-use Rattle.pl_render.proofs.Naming.{told_apart}
+use Rattle.pl_journal.specs.Rendering.Lines.{AreEntries}
+use Rattle.pl_journal.proofs.AboutRendering.Telling.{logs_told}
+use Rattle.pl_journal.proofs.AboutRendering.Naming.{told_apart}
 use Rattle.pl_laws.specs.Laws.{MayBeWritten, AreToldApart}
 use Rattle.pl_laws.proofs.Lasting.{lasts_after}
 

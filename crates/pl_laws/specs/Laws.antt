@@ -10,8 +10,8 @@ use Rattle.pl_entry.specs.declared.event.Event.TheVariants as event
 use Rattle.pl_entry.specs.declared.reply.Reply.{Reply}
 use Rattle.pl_entry.specs.declared.reply.Reply.TheVariants as reply
 use Rattle.pl_entry.specs.declared.entry.Entry.{Entry}
-use Rattle.pl_world.specs.declared.plan_state.PlanState.{PlanState}
-use Rattle.pl_world.specs.Conflicts.{conflicts_of}
+use Rattle.pl_semantics.specs.declared.plan_state.PlanState.{PlanState}
+use Rattle.pl_semantics.specs.Conflicts.{conflicts_of}
 use Rattle.pl_moves.specs.Keeping.{KeepsCommitted}
 use Rattle.pl_machine.specs.declared.choice.Choice.TheVariants as choice
 use Rattle.pl_machine.specs.World.{World, fresh_world, due_in}
@@ -19,7 +19,7 @@ use Rattle.pl_machine.specs.Step.{after}
 use Rattle.pl_machine.specs.Choices.{exec_choice_of}
 use Rattle.pl_machine.specs.Legal.{Legal, options_of, entries_behind, world_of}
 use Rattle.pl_machine.specs.Finished.{inputs_of}
-use Rattle.pl_render.specs.Lines.{text_of_log, AreEntries}
+use Rattle.pl_journal.specs.Rendering.Lines.{text_of_log, AreEntries}
 use Rattle.pl_laws.specs.Standing.{IsFrontOfDue, StaysCommitted}
 
 abbrev pub with_entry : List Entry → Event → Reply → List Entry

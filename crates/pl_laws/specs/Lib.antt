@@ -1,9 +1,10 @@
 pub use Rattle.pl_machine.specs.World
 pub use Rattle.pl_machine.specs.Legal
 pub use Rattle.pl_machine.specs.Finished
-pub use Rattle.pl_world.specs.Conflicts
-pub use Rattle.pl_render.specs.Lines
+pub use Rattle.pl_semantics.specs.Conflicts
+pub use Rattle.pl_journal.specs.Rendering.Lines
 pub use Rattle.pl_moves.specs.Keeping
 pub use Rattle.pl_model.specs.Checked
 pub mod Standing
 pub mod Laws
+pub mod Lengths

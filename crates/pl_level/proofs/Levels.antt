@@ -5,8 +5,10 @@ use Rattle.std.specs.Prelude.{int_lt}
 use Rattle.std.proofs.lemmas.Bool.{cond_both, eqb-true, true≢false, and_parts, leb-true, leb-false, lt-ltb, le-ltb, le-leb}
 use Rattle.std.proofs.lemmas.Bool.Decides.{Decides-int_eq}
 use Rattle.std.proofs.lemmas.Int.{ints, to_z-of_z}
+use Rattle.std.proofs.Math.Bool.{and-false, and-true, or-false}
 use mir.Val.{to_z, of_z, SFits}
 use mir.Syntax.{w64}
+use Rattle.pl_lists.proofs.Numbers.{add_nothing}
 use Rattle.pl_points.specs.declared.span.Span.{Span}
 use Rattle.pl_points.specs.declared.limit.Limit.TheVariants.{Below, Above}
 use Rattle.pl_points.specs.Sums.{total, IsSmall}
@@ -19,7 +21,7 @@ use Rattle.pl_points.specs.Standing.{Each, stands, without}
 use Rattle.pl_points.proofs.PointLists.{sum_to-merged, rising-merged, same_points}
 use Rattle.pl_points.specs.Counting.{walk_steps, points_with, points_after, goes_outside}
 use Rattle.pl_points.proofs.Strolls.{walk_less, after_all, after_same}
-use Rattle.pl_points.proofs.Spanning.{within_true, or_nil}
+use Rattle.pl_points.proofs.Spanning.{within_true}
 use Rattle.pl_points.proofs.Cuts.{within_yes}
 use Rattle.pl_points.proofs.Maximal.{is_spans_of, remaximal, later_maximal, maximal_apart}
 use Rattle.pl_points.proofs.Totals.{total_bounds, each-all, IsAmount, total-push, total-without}
@@ -189,12 +191,8 @@ module _ (spoiled : Bool) (h : ℕ) (least most : ℤ) (moment base : ℕ) (valu
       let none : (ltb base at && leb at t) ≡ false = cases (leb at base) (leb at t) refl refl apart in
       omega (arith, ints, adds (λ n. ltb base n && leb n t), ap (λ v. cond v d (pos 0)) none)
     where
-      and_no : (v : Bool) → (v && false) ≡ false
-      and_no true = refl
-      and_no false = refl
-
       cases : (v w : Bool) → leb at base ≡ v → leb at t ≡ w → within (cond v h (min (max at moment) h)) h t ≡ false → (ltb base at && w) ≡ false
-      cases v false e f no_window = and_no (ltb base at)
+      cases v false e f no_window = and-false (ltb base at)
       cases true true e f no_window = let g : ltb base at ≡ false = le-ltb base at (leb-true at base e) in rw g refl
       cases false true e f no_window =
           let k = within_true moment h t in_time in
@@ -327,16 +325,8 @@ same_state v h least most moment base value l k e f = ap (make false h least mos
 
 -- a property that holds at all moments or at none
 steady : (v : Bool) (h : ℕ) → 0 < h → AreMaximal (λ t. v) 0 h (cond v (span 0 h ∷ []) [])
-steady true h lt = record { apart = (omega arith, lt, omega arith, tt); exact = λ t. or_nil (within 0 h t) ∙ sym (and_yes (within 0 h t)) }
-  where
-    and_yes : (b : Bool) → (b && true) ≡ b
-    and_yes true = refl
-    and_yes false = refl
-steady false h lt = record { apart = tt; exact = λ t. sym (and_no (within 0 h t)) }
-  where
-    and_no : (b : Bool) → (b && false) ≡ false
-    and_no true = refl
-    and_no false = refl
+steady true h lt = record { apart = (omega arith, lt, omega arith, tt); exact = λ t. or-false (within 0 h t) ∙ sym (and-true (within 0 h t)) }
+steady false h lt = record { apart = tt; exact = λ t. sym (and-false (within 0 h t)) }
 
 steadily : (P : ℕ → Bool) (v : Bool) (h : ℕ) (s : List Span) → 0 < h → ((t : ℕ) → P t ≡ v) → s ≡ cond v (span 0 h ∷ []) [] → AreMaximal P 0 h s
 steadily P v h s lt same is =
@@ -360,9 +350,6 @@ sound_new h least most value xs ps low high lt fits is_least is_most is_value no
         tied = λ t. ap (λ l. sum_to l t) points;
         before = refl;
       };
-      low = steadily (is_low (make false h least most 0 0 value [])) (int_lt value least) h low lt (λ t. ap (λ z. int_lt z least) (plus_none value)) is_low_list;
-      high = steadily (is_high (make false h least most 0 0 value [])) (int_lt most value) h high lt (λ t. ap (int_lt most) (plus_none value)) is_high_list;
+      low = steadily (is_low (make false h least most 0 0 value [])) (int_lt value least) h low lt (λ t. ap (λ z. int_lt z least) (add_nothing value)) is_low_list;
+      high = steadily (is_high (make false h least most 0 0 value [])) (int_lt most value) h high lt (λ t. ap (int_lt most) (add_nothing value)) is_high_list;
     })
-  where
-    plus_none : (v : ℤ) → v +ℤ pos 0 ≡ v
-    plus_none v = omega (arith, ints)

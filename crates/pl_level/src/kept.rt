@@ -112,12 +112,12 @@ impl Kept {
 }
 
 impl Copied for Kept {
-    fn copy(&self, _alloc: Global) -> Result<Kept, AllocError> {
+    fn copy(&self, alloc: Global) -> Result<Kept, AllocError> {
         Ok(Kept {
-            alloc: self.alloc,
+            alloc,
             whole: self.whole,
             first: self.first,
-            spans: Vec::from_slice(self.alloc, self.spans.as_slice())?,
+            spans: Vec::from_slice(alloc, self.spans.as_slice())?,
         })
     }
 }

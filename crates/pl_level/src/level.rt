@@ -252,6 +252,7 @@ impl<P: Points> Level<P> {
         self.high.as_slice()
     }
 
+    /// Whether a change failed for want of memory: the spans then say nothing, and each further change fails.
     pub fn spoiled(&self) -> bool
         ensures { result ≡ self.now.spoiled }
     {
@@ -265,7 +266,7 @@ impl<P: Points + Copied> Copied for Level<P> {
         let low = self.low.copy(alloc)?;
         let high = self.high.copy(alloc)?;
         Ok(Level {
-            alloc: self.alloc,
+            alloc,
             horizon: self.horizon,
             least: self.least,
             most: self.most,

@@ -1,14 +1,9 @@
 -- Tests that some item of a list passes.
-use Rattle.std.proofs.Common.{◌≡◌, ℕ, Bool, true, false, cond, List, [], ◌∷◌, refl, sym, ap, ◌∙◌, subst, arith, rules}
+use Rattle.std.proofs.Common.{◌≡◌, ℕ, Bool, true, false, cond, List, [], ◌∷◌, refl, ap, ◌∙◌, subst, arith, rules}
 use Rattle.std.specs.Prelude.{◌&&◌, ◌||◌, filter, All, Contains}
 use Rattle.std.specs.List.{list_any}
 use Rattle.std.proofs.lemmas.Bool.{or_left, or_right}
 use Rattle.std.proofs.lemmas.List.Elements.{All-head, All-tail, All-contains, All-cons, All-nil, All-weaker, Contains-append_right}
-
-pub same_when : (a b : Bool) → (a ≡ true → b ≡ true) → (b ≡ true → a ≡ true) → a ≡ b
-same_when true b there back = sym (there refl)
-same_when false true there back = back refl
-same_when false false there back = refl
 
 module _ {X : Type 0} where
   pub passing : (f : X → Bool) (xs : List X) → All (λ x. f x ≡ true → list_any f xs ≡ true) xs

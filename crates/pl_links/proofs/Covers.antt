@@ -6,6 +6,7 @@ use Rattle.std.specs.List.{list_any}
 use Rattle.std.specs.BTreeMap.{is_at}
 use Rattle.std.proofs.lemmas.Bool.{and_parts, and_from, eqb-true, eqb-false, eq-eqb, ne_eqb, not-true, or_left, or_right, or_parts, cases_lt, false_from_ne_true, and_left}
 use Rattle.std.proofs.lemmas.List.Folds.{list_any-append}
+use Rattle.pl_lists.proofs.Tests.{same_test}
 use Rattle.pl_model.specs.declared.reservations.Point.{Point}
 use Rattle.pl_model.specs.declared.reservations.Point.TheVariants.{Start, End}
 use Rattle.pl_model.specs.declared.links.Link.{Link}
@@ -24,7 +25,7 @@ use Rattle.pl_links.specs.Filed.{AreFiles, point_place}
 use Rattle.pl_links.specs.Standing.{stands_at, stands}
 use Rattle.pl_links.specs.Sets.{broken_cmp, has}
 use Rattle.pl_links.specs.Near.{all_below, all_of, parent_of, keys_at, owners_at, owners_of, owners_in, owners_among, near}
-use Rattle.pl_links.proofs.Anys.{same_when, any_from, any_found, any_filter}
+use Rattle.pl_links.proofs.Anys.{any_from, any_found, any_filter}
 use Rattle.pl_links.proofs.Keyed.{key, contained}
 use Rattle.pl_links.proofs.Filed.{item-without}
 use Rattle.pl_links.proofs.Left.{item_is, has_filed, place_at}

@@ -7,9 +7,11 @@ use Rattle.std.specs.List.Sorted.{IsStrictlySortedBy}
 use Rattle.std.proofs.lemmas.Bool.{and_parts, and_from, not-true}
 use Rattle.std.proofs.lemmas.List.Folds.{list_any_more}
 use Rattle.std.proofs.lemmas.List.Elements.{All-contains, All-take, All-weaker, filter_passes}
+use Rattle.std.proofs.Math.Bool.{and-true}
+use Rattle.pl_lists.proofs.Tests.{same_test}
 use Rattle.pl_links.specs.declared.broken.Broken.{Broken}
 use Rattle.pl_links.specs.Sets.{broken_cmp, has}
-use Rattle.pl_links.proofs.Anys.{same_when, any_filter, any_from, any_found}
+use Rattle.pl_links.proofs.Anys.{any_filter, any_from, any_found}
 use Rattle.pl_links.proofs.Marks.{itself, same_broken, held, has_held, only_list}
 
 pub ok_at : {T E : Type 0} (r : Result T E) (P : Type 0) → is_err r ≡ false → OnOk r P → P
@@ -22,7 +24,7 @@ err_at (Err x) P e h = h
 
 flipped : (a b : Broken) → is_at (broken_cmp a) b ≡ is_at (broken_cmp b) a
 flipped a b =
-    same_when (is_at (broken_cmp a) b) (is_at (broken_cmp b) a)
+    same_test (is_at (broken_cmp a) b) (is_at (broken_cmp b) a)
     (λ e. subst (λ x. is_at (broken_cmp x) a ≡ true) (same_broken a b e) (itself a))
     (λ e. subst (λ x. is_at (broken_cmp x) b ≡ true) (same_broken b a e) (itself b))
 
@@ -68,7 +70,7 @@ undone old came i b mid absent is =
 -- ---- what comes and what goes, among what is near
 
 has_filter : (f : Broken → Bool) (b : Broken) (xs : List Broken) → has b (filter f xs) ≡ (f b && has b xs)
-has_filter f b xs = any_filter f (is_at (broken_cmp b)) xs ∙ same_when (list_any (λ x. f x && is_at (broken_cmp b) x) xs) (f b && has b xs)
+has_filter f b xs = any_filter f (is_at (broken_cmp b)) xs ∙ same_test (list_any (λ x. f x && is_at (broken_cmp b) x) xs) (f b && has b xs)
     (λ e. let found = any_found (λ x. f x && is_at (broken_cmp b) x) xs e in
     let parts = and_parts (f found.0) (is_at (broken_cmp b) found.0) found.2 in
     let is : found.0 ≡ b = sym (same_broken b found.0 parts.1) in
@@ -79,11 +81,7 @@ has_filter f b xs = any_filter f (is_at (broken_cmp b)) xs ∙ same_when (list_a
 -- where only what is near may change, the exchange leaves what stands
 module _ (f g : Broken → Bool) (old near : List Broken) (b : Broken) (is : has b old ≡ f b) (kept : has b near ≡ false → f b ≡ g b) where
   came_is : (o s n : Bool) → (n ≡ false → o ≡ s) → ((s && not o) && n) ≡ (s && not o)
-  came_is o true true same = and_yes (not o)
-    where
-      and_yes : (b : Bool) → (b && true) ≡ b
-      and_yes true = refl
-      and_yes false = refl
+  came_is o true true same = and-true (not o)
   came_is true true false same = refl
   came_is false true false same = same refl
   came_is o false n same = refl

@@ -2,6 +2,7 @@
 use Rattle.std.proofs.Common.{◌≡◌, ℕ, eqb, ltb, suc, ◌≤◌, Bool, true, false, cond, List, [], ◌∷◌, Option, Some, None, refl, sym, ap, ◌∙◌, subst, arith, rules}
 use Rattle.std.specs.Prelude.{◌&&◌, ◌||◌, not}
 use Rattle.std.proofs.lemmas.Bool.{eqb-true, eqb-false, eq-eqb, ne_eqb, ltb-true}
+use Rattle.std.proofs.Math.Bool.{or-false, and-not_self, and-true}
 use Rattle.pl_links.specs.declared.keys.Key.{Key}
 use Rattle.pl_links.specs.declared.placed.Placed.{Placed}
 use Rattle.pl_links.specs.Items.{is_slot, RiseFrom, AreRising, item_of, with_item, without}
@@ -66,11 +67,7 @@ module _ (place : Placed → Option (ℕ × ℕ)) (items : List Placed) (p : Pla
     where
       cases : (b : Bool) → eqb p.id k.id ≡ b → (is_filed place (item_of k.id items) k || (b && is_slot k.group k.number (place p))) ≡ is_filed place (cond b (Some p) (item_of k.id items)) k
       cases true e = let none : item_of k.id items ≡ None = subst (λ i. item_of i items ≡ None) (eqb-true p.id k.id e) absent in rw none refl
-      cases false e = or_none (is_filed place (item_of k.id items) k)
-        where
-          or_none : (b : Bool) → (b || false) ≡ b
-          or_none true = refl
-          or_none false = refl
+      cases false e = or-false (is_filed place (item_of k.id items) k)
 
   pub index_back : (old new back : List Key) → ((k : Key) → has_key k new ≡ (has_key k old || is_key_of (place p) p.id k)) → ((k : Key) → has_key k back ≡ (has_key k new && not (is_key_of (place p) p.id k))) → item_of p.id items ≡ None → IsIndexOf place items old → IsIndexOf place items back
   index_back old new back adds drops absent index k =
@@ -94,14 +91,6 @@ module _ (place : Placed → Option (ℕ × ℕ)) (items : List Placed) (p : Pla
   index_without old new changes rising placed index k =
       changes k ∙ rw (index k, item-without p.id k.id 0 items rising, ← filed_here k (eqb p.id k.id) refl) (cases (eqb p.id k.id) refl)
     where
-      none : (s : Bool) → (s && not s) ≡ false
-      none true = refl
-      none false = refl
-
-      stays : (a : Bool) → (a && true) ≡ a
-      stays true = refl
-      stays false = refl
-
       cases : (b : Bool) → eqb p.id k.id ≡ b → (is_filed place (item_of k.id items) k && not (b && is_slot k.group k.number (place p))) ≡ is_filed place (cond b None (item_of k.id items)) k
-      cases true e = let here : item_of k.id items ≡ Some p = subst (λ i. item_of i items ≡ Some p) (eqb-true p.id k.id e) placed in rw here (none (is_slot k.group k.number (place p)))
-      cases false e = stays (is_filed place (item_of k.id items) k)
+      cases true e = let here : item_of k.id items ≡ Some p = subst (λ i. item_of i items ≡ Some p) (eqb-true p.id k.id e) placed in rw here (and-not_self (is_slot k.group k.number (place p)))
+      cases false e = and-true (is_filed place (item_of k.id items) k)

@@ -6,6 +6,7 @@ use Rattle.std.specs.Ordering.{nat_cmp, bool_cmp, ordering_then}
 use Rattle.std.specs.List.Sorted.{IsStrictlySortedBy}
 use Rattle.std.proofs.lemmas.Bool.{lt-ltb, le-ltb, eq-eqb}
 use Rattle.std.proofs.lemmas.Map.Keys.{sorted_from_all_adjacent}
+use Rattle.pl_lists.proofs.Tests.{same_test}
 use Rattle.pl_model.specs.declared.whole.Model.{Model}
 use Rattle.pl_links.specs.declared.placed.Placed.{Placed}
 use Rattle.pl_links.specs.declared.broken.Broken.{Broken}
@@ -16,7 +17,6 @@ use Rattle.pl_links.specs.Standing.{stands_at, stands}
 use Rattle.pl_links.specs.Sets.{broken_cmp, has}
 use Rattle.pl_links.specs.Filed.{left}
 use Rattle.pl_links.specs.Kept.{Kept, before}
-use Rattle.pl_links.proofs.Anys.{same_when}
 use Rattle.pl_links.proofs.BrokenLaws.{broken, exactly_the_broken}
 use Rattle.pl_links.proofs.BrokenOrder.{broken_in_order}
 use Rattle.pl_links.proofs.Keyed.{cmp_less, cmp_equal}
@@ -59,7 +59,7 @@ broken_from model items b e = cases (item_of b.id items) refl
 -- what is listed as broken is what stands
 pub listed_stands : (model : Model) (items : List Placed) (b : Broken) → AreRising items → has b (broken_of model items) ≡ stands model items b
 listed_stands model items b rising =
-    same_when (has b (broken_of model items)) (stands model items b)
+    same_test (has b (broken_of model items)) (stands model items b)
     (λ e. stands_from model items b rising ((exactly_the_broken model items b).0 (held b (broken_of model items) e)))
     (λ e. has_held b (broken_of model items) ((exactly_the_broken model items b).1 (broken_from model items b e)))
 

@@ -2,7 +2,6 @@
 use Rattle.std.proofs.Common.{◌≡◌, ℕ, ◌<◌, ◌≤◌, ◌^◌, eqb, leb, Bool, true, false, cond, List, [], ◌∷◌, Option, Some, None, refl, sym, ap, ◌∙◌, subst, ⊎_elim, arith, rules}
 use Rattle.std.specs.Prelude.{◌&&◌, ◌||◌, not, filter, All, Contains}
 use Rattle.std.specs.List.{list_any}
-use Rattle.std.specs.declared.cmp.Ordering.{Ordering}
 use Rattle.std.specs.declared.cmp.Ordering.TheVariants.{Less, Equal, Greater}
 use Rattle.std.specs.declared.ops.Bound.TheVariants.{Included}
 use Rattle.std.specs.Cmp.{IsTotalOrder, then_total, on_total, nat_cmp_total}
@@ -14,10 +13,12 @@ use Rattle.std.proofs.lemmas.Bool.{and_parts, and_from, eqb-true, eq-eqb, ne_eqb
 use Rattle.std.proofs.lemmas.Bool.Decides.{nat_tests}
 use Rattle.std.proofs.lemmas.Cmp.{tied_itself}
 use Rattle.std.proofs.lemmas.List.Elements.{All-weaker, All-contains}
+use Rattle.pl_lists.proofs.Tests.{same_test}
+use Rattle.pl_lists.proofs.Orderings.{equal_from_test}
 use Rattle.pl_links.specs.declared.keys.Key.{Key}
 use Rattle.pl_links.specs.Keys.{key_cmp, has_key, is_key_of, lies, lies_in, IsShort, AreShort}
 use Rattle.pl_links.specs.Windows.{in_window}
-use Rattle.pl_links.proofs.Anys.{same_when, any_from, any_found, filter_alike, any_alike_in}
+use Rattle.pl_links.proofs.Anys.{any_from, any_found, filter_alike, any_alike_in}
 
 pub key_total : IsTotalOrder key_cmp
 key_total = then_total (on_total (λ (k : Key). k.group) nat_cmp_total) (then_total (on_total (λ (k : Key). k.number) nat_cmp_total) (on_total (λ (k : Key). k.id) nat_cmp_total))
@@ -28,13 +29,8 @@ key_exact x y e = grind (arith, common_steps)
 abbrev pub key : ℕ → ℕ → ℕ → Key
 key group number id = record { group = group; number = number; id = id }
 
-pub eq_is : (o : Ordering) → is_eq o ≡ true → o ≡ Equal
-eq_is Less e = absurd (let h : false ≡ true = e in (cc))
-eq_is Equal e = refl
-eq_is Greater e = absurd (let h : false ≡ true = e in (cc))
-
 pub same_key : (k q : Key) → is_at (key_cmp k) q ≡ true → k ≡ q
-same_key k q e = key_exact k q (eq_is (key_cmp k q) e)
+same_key k q e = key_exact k q (equal_from_test (key_cmp k q) e)
 
 pub key_itself : (k : Key) → is_at (key_cmp k) k ≡ true
 key_itself k = ap is_eq (tied_itself key_total k)
@@ -62,7 +58,7 @@ is_key group number id = and_from (eqb id id) (eqb group group && eqb number num
 
 pub at_key : (group number id : ℕ) (k : Key) → is_at (key_cmp (key group number id)) k ≡ is_key_of (Some (group, number)) id k
 at_key group number id k =
-    same_when (is_at (key_cmp (key group number id)) k) (is_key_of (Some (group, number)) id k)
+    same_test (is_at (key_cmp (key group number id)) k) (is_key_of (Some (group, number)) id k)
     (λ e. subst (λ q. is_key_of (Some (group, number)) id q ≡ true) (same_key (key group number id) k e) (is_key group number id))
     (λ e. subst (λ q. is_at (key_cmp (key group number id)) q ≡ true) (is_of group number id k e) (key_itself (key group number id)))
 

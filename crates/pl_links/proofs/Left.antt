@@ -6,6 +6,8 @@ use Rattle.std.specs.List.{list_any}
 use Rattle.std.proofs.lemmas.List.Folds.{list_any_none}
 use Rattle.std.proofs.lemmas.Bool.{and_parts, and_from, eqb-true, eqb-false, eq-eqb, ne_eqb, not-true, not_from_false, and_right}
 use Rattle.std.proofs.lemmas.List.Elements.{All-contains, Contains-append_right}
+use Rattle.std.proofs.Math.Bool.{and-true}
+use Rattle.pl_lists.proofs.Tests.{same_test}
 use Rattle.pl_model.specs.declared.reservations.Point.{Point}
 use Rattle.pl_model.specs.declared.links.Link.{Link}
 use Rattle.pl_links.specs.declared.keys.Key.{Key}
@@ -17,7 +19,7 @@ use Rattle.pl_links.specs.Filed.{point_place, parent_place, left}
 use Rattle.pl_links.proofs.Ids.{found_at, rising-without}
 use Rattle.pl_links.proofs.Slots.{apart-without, only_child, place_is, slot_is}
 use Rattle.pl_links.proofs.Filed.{item-without}
-use Rattle.pl_links.proofs.Anys.{same_when, any_from, any_found}
+use Rattle.pl_links.proofs.Anys.{any_from, any_found}
 use Rattle.pl_links.proofs.Keyed.{key, contained, has_contained}
 
 pub rising-left : (gone : Option ℕ) (items : List Placed) → AreRising items → AreRising (left gone items)
@@ -77,11 +79,7 @@ left_is_left (Some g) id items p rising e = cases (eqb g id) refl (sym (item-wit
     cases false t h = not_from_false (eqb id g) (ne_eqb id g (λ f. eqb-false g id t (sym f)))
 
 pub other_is : (own : ℕ) (gone : Option ℕ) (id : ℕ) → is_other own gone id ≡ (not (eqb id own) && is_left gone id)
-other_is own None id = and_true (not (eqb id own))
-  where
-    and_true : (b : Bool) → b ≡ (b && true)
-    and_true true = refl
-    and_true false = refl
+other_is own None id = sym (and-true (not (eqb id own)))
 other_is own (Some g) id = refl
 
 -- ---- what an index says
@@ -200,7 +198,7 @@ module _ (gone : Option ℕ) (items : List Placed) (keys : List Key) (rising : A
 
   pub partner_found : list_any (λ k. (eqb k.group kind && is_apart low high mine k.number) && is_other own gone k.id) keys ≡ list_any (partners own kind low high mine point) (left gone items)
   partner_found =
-      same_when (list_any passes keys) (list_any (partners own kind low high mine point) (left gone items))
+      same_test (list_any passes keys) (list_any (partners own kind low high mine point) (left gone items))
       (λ e. let found = any_found passes keys e in key_partner found.0 (has_contained found.0 keys found.1) found.2)
       (λ e. let found = any_found (partners own kind low high mine point) (left gone items) e in partner_key found.0 found.1 found.2)
 

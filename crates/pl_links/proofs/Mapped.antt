@@ -9,16 +9,17 @@ use Rattle.std.specs.BTreeMap.{is_at, insert_entry}
 use Rattle.std.proofs.lemmas.Bool.{eqb-true, eq-eqb, ne_eqb, lt-ltb, le-ltb, cases_order}
 use Rattle.std.proofs.lemmas.List.Elements.{All-nil, All-cons, All-head, All-tail}
 use Rattle.std.proofs.lemmas.Map.Lookups.{exact_unsigned}
+use Rattle.pl_lists.proofs.Tests.{same_test}
+use Rattle.pl_lists.proofs.Orderings.{equal_from_test}
 use Rattle.pl_links.specs.declared.placed.Placed.{Placed}
 use Rattle.pl_links.specs.Items.{item_of, with_item, without}
 use Rattle.pl_links.specs.Filed.{IsUnderId, AreUnderIds}
-use Rattle.pl_links.proofs.Anys.{same_when}
-use Rattle.pl_links.proofs.Keyed.{eq_is, cmp_less, cmp_equal, cmp_greater}
+use Rattle.pl_links.proofs.Keyed.{cmp_less, cmp_equal, cmp_greater}
 
 test_is : (id k : ℕ) → is_at (nat_cmp id) k ≡ eqb k id
 test_is id k =
-    same_when (is_at (nat_cmp id) k) (eqb k id)
-    (λ e. eq-eqb k id (sym (exact_unsigned id k (eq_is (nat_cmp id k) e))))
+    same_test (is_at (nat_cmp id) k) (eqb k id)
+    (λ e. eq-eqb k id (sym (exact_unsigned id k (equal_from_test (nat_cmp id k) e))))
     (λ e. subst (λ n. is_at (nat_cmp id) n ≡ true) (sym (eqb-true k id e)) (ap is_eq (cmp_equal id)))
 
 tested : (id : ℕ) (e : ℕ × Placed) → IsUnderId e → is_at (nat_cmp id) e.0 ≡ eqb e.1.id id

@@ -1,8 +1,7 @@
 -- The order of what is broken is total and tells all apart.
-use Rattle.std.proofs.Common.{◌≡◌, Bool, true, false, List, ap, arith, sym, subst, refl}
+use Rattle.std.proofs.Common.{◌≡◌, Bool, true, List, ap, arith, sym, subst}
 use Rattle.std.specs.Prelude.{Contains}
-use Rattle.std.specs.declared.cmp.Ordering.{Ordering}
-use Rattle.std.specs.declared.cmp.Ordering.TheVariants.{Less, Equal, Greater}
+use Rattle.std.specs.declared.cmp.Ordering.TheVariants.{Equal}
 use Rattle.std.specs.Cmp.{IsTotalOrder, then_total, on_total, nat_cmp_total, bool_cmp_total}
 use Rattle.std.specs.Ordering.{is_eq}
 use Rattle.std.specs.BTreeMap.{is_at}
@@ -10,6 +9,7 @@ use Rattle.std.specs.List.Sorted.{IsStrictlySortedBy}
 use Rattle.std.proofs.lemmas.Grind.{common_steps}
 use Rattle.std.proofs.lemmas.Cmp.{tied_itself}
 use Rattle.std.proofs.lemmas.Map.Lookups.{btree_set_from_contains}
+use Rattle.pl_lists.proofs.Orderings.{equal_from_test}
 use Rattle.pl_links.specs.declared.broken.Broken.{Broken}
 use Rattle.pl_links.specs.Sets.{broken_cmp, has}
 use Rattle.pl_links.proofs.Anys.{any_from, any_found}
@@ -20,16 +20,11 @@ broken_total = then_total (on_total (λ (b : Broken). b.id) nat_cmp_total) (then
 pub broken_exact : (x y : Broken) → broken_cmp x y ≡ Equal → x ≡ y
 broken_exact x y e = grind (arith, common_steps)
 
-eq_is : (o : Ordering) → is_eq o ≡ true → o ≡ Equal
-eq_is Less e = absurd (let h : false ≡ true = e in (cc))
-eq_is Equal e = refl
-eq_is Greater e = absurd (let h : false ≡ true = e in (cc))
-
 pub itself : (b : Broken) → is_at (broken_cmp b) b ≡ true
 itself b = ap is_eq (tied_itself broken_total b)
 
 pub same_broken : (b x : Broken) → is_at (broken_cmp b) x ≡ true → b ≡ x
-same_broken b x e = broken_exact b x (eq_is (broken_cmp b x) e)
+same_broken b x e = broken_exact b x (equal_from_test (broken_cmp b x) e)
 
 pub has_held : (b : Broken) (bs : List Broken) → Contains bs b → has b bs ≡ true
 has_held b bs within = any_from (is_at (broken_cmp b)) bs b within (itself b)

@@ -1,7 +1,8 @@
 -- The links of activities in whose window a moment lies.
-use Rattle.std.proofs.Common.{◌≡◌, ℕ, ◌<◌, ◌^◌, eqb, Bool, true, false, List, [], ◌∷◌, Option, Some, None, refl, sym, ap, ◌∙◌, arith, map, filter}
+use Rattle.std.proofs.Common.{◌≡◌, ℕ, ◌<◌, ◌^◌, eqb, Bool, List, [], ◌∷◌, Option, Some, None, refl, sym, ap, ◌∙◌, arith, map, filter}
 use Rattle.std.specs.Prelude.{◌&&◌, All}
 use Rattle.std.proofs.lemmas.List.Elements.{All-weaker}
+use Rattle.std.proofs.Math.Bool.{and-false}
 use Rattle.pl_links.specs.declared.keys.Key.{Key}
 use Rattle.pl_links.specs.declared.broken.Broken.{Broken}
 use Rattle.pl_links.specs.Windows.{in_window}
@@ -17,8 +18,4 @@ filter_within group w lies keys short within =
 
 pub filter_none : (group : ℕ) (keys : List Key) → filter (lies_in group None) keys ≡ []
 filter_none group [] = refl
-filter_none group (k ∷ keys) = rw (none (eqb k.group group)) (filter_none group keys)
-  where
-    none : (b : Bool) → (b && false) ≡ false
-    none true = refl
-    none false = refl
+filter_none group (k ∷ keys) = rw (and-false (eqb k.group group)) (filter_none group keys)

@@ -21,6 +21,7 @@ fn point_place(point: Point, item: &Placed) -> Option<(u32, u32)>
 }
 
 impl Files {
+    /// No activity is filed.
     pub fn new(alloc: Global) -> Files
         ensures { AreFiles [] result }
     {

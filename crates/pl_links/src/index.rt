@@ -32,6 +32,7 @@ impl std::marker::Model for Index {
 }
 
 impl Index {
+    /// No activity is filed.
     pub fn new(alloc: Global) -> Index
         ensures { result ≡ [] }
     {

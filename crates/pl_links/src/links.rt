@@ -39,6 +39,7 @@ impl std::marker::Model for Links {
 }
 
 impl Links {
+    /// No activity is placed, and no link or order is broken.
     pub fn new(alloc: Global) -> Links
         ensures items { result.items ≡ [] }
         ensures broken { result.broken ≡ [] }

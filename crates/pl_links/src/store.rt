@@ -43,6 +43,7 @@ impl std::marker::Model for Store {
 }
 
 impl Store {
+    /// No activity is placed.
     pub fn new(alloc: Global) -> Store
         ensures { result ≡ [] }
     {
@@ -52,6 +53,7 @@ impl Store {
         }
     }
 
+    /// Places an activity of a new id, in a slot that is free.
     pub fn place(&mut self, item: &Placed) -> Result<(), AllocError>
         requires absent { item_of item.now.id self.old ≡ None }
         requires slot { IfSome item.now.parent (λ q. child_of q.0 q.1 self.old ≡ None) }
@@ -70,6 +72,7 @@ impl Store {
         }
     }
 
+    /// Takes the activity of this id out.
     pub fn take(&mut self, id: u32)
         requires { IsPlaced id self.old }
         ensures after { self.new ≡ without id self.old }

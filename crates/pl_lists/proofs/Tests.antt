@@ -1,18 +1,7 @@
 -- Laws of tests.
-use Rattle.std.proofs.Common.{◌≡◌, Bool, true, false, refl}
+use Rattle.std.proofs.Common.{◌≡◌, Bool, true, false, refl, sym}
 use Rattle.std.specs.Prelude.{◌||◌, ◌&&◌, not}
-
-pub or_false : (a : Bool) → (a || false) ≡ a
-or_false true = refl
-or_false false = refl
-
-pub or_true : (a : Bool) → (a || true) ≡ true
-or_true true = refl
-or_true false = refl
-
-pub or_assoc : (a b c : Bool) → ((a || b) || c) ≡ (a || (b || c))
-or_assoc true b c = refl
-or_assoc false b c = refl
+use Rattle.std.proofs.lemmas.Bool.{and_parts, or_parts, not-false}
 
 pub or_again : (a b : Bool) → (a || b) ≡ (a || (a || b))
 or_again true b = refl
@@ -29,20 +18,43 @@ or_turn true false c = refl
 or_turn false true c = refl
 or_turn false false c = refl
 
-pub and_true : (a : Bool) → (a && true) ≡ a
-and_true true = refl
-and_true false = refl
-
-pub and_false : (a : Bool) → (a && false) ≡ false
-and_false true = refl
-and_false false = refl
-
 -- without b, and without c
 pub without_both : (a b c : Bool) → ((a && not b) && not c) ≡ (a && not (b || c))
 without_both true true c = refl
 without_both true false c = refl
 without_both false b c = refl
 
-pub both_true : (a b : Bool) → (a && b) ≡ true → (a ≡ true) × (b ≡ true)
-both_true true b e = (refl, e)
-both_true false b e = absurd (cc)
+-- ---- the parts of a test, by its answer
+
+pub and_first : (a b : Bool) → (a && b) ≡ true → a ≡ true
+and_first a b e = (and_parts a b e).0
+
+pub and_second : (a b : Bool) → (a && b) ≡ true → b ≡ true
+and_second a b e = (and_parts a b e).1
+
+pub and_third : (a b c d : Bool) → (a && (b && (c && d))) ≡ true → c ≡ true
+and_third a b c d e = and_first c d (and_second b (c && d) (and_second a (b && (c && d)) e))
+
+pub or_first_false : (a b : Bool) → (a || b) ≡ false → a ≡ false
+or_first_false a b e = (or_parts a b e).0
+
+pub or_second_false : (a b : Bool) → (a || b) ≡ false → b ≡ false
+or_second_false a b e = (or_parts a b e).1
+
+-- the second holds where the first cannot
+pub or_second_true : (a b : Bool) → (a || b) ≡ true → (a ≡ true → ⊥) → b ≡ true
+or_second_true true b e never = absurd (never refl)
+or_second_true false b e never = e
+
+pub or_weaker : (a b c : Bool) → (a || b) ≡ true → (b ≡ true → c ≡ true) → (a || c) ≡ true
+or_weaker true b c e weaker = refl
+or_weaker false b c e weaker = weaker e
+
+pub not_and_parts : (a b : Bool) → not (a && b) ≡ false → (a ≡ true) × (b ≡ true)
+not_and_parts a b e = and_parts a b (not-false (a && b) e)
+
+-- tests that follow from each other are the same
+pub same_test : (a b : Bool) → (a ≡ true → b ≡ true) → (b ≡ true → a ≡ true) → a ≡ b
+same_test true b there back = sym (there refl)
+same_test false true there back = back refl
+same_test false false there back = refl

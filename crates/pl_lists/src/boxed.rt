@@ -18,12 +18,14 @@ impl<T> Model for Boxed<T> {
 }
 
 impl<T> Boxed<T> {
+    /// The value in the box.
     pub fn get(&self) -> &T
         ensures { result.now ≡ self.now }
     {
         &self.inner
     }
 
+    /// Moves the value out of the box.
     pub fn into_inner(self) -> T
         ensures { result ≡ self }
     {

@@ -3,11 +3,12 @@ use Rattle.std.proofs.Common.{◌≡◌, ℕ, ◌<◌, ◌≤◌, eqb, leb, ltb,
 use Rattle.std.specs.Prelude.{filter}
 use Rattle.std.proofs.lemmas.Bool.{leb-true, le-leb, ltb-true, ltb-false}
 use Rattle.std.proofs.lemmas.List.Elements.{All-nil, All-cons, All-head, All-tail, All-weaker}
+use Rattle.pl_lists.proofs.Tests.{same_test}
 use Rattle.pl_model.specs.declared.whole.Model.{Model}
 use Rattle.pl_plan.specs.declared.activity.Activity.{Activity}
 use Rattle.pl_plan.specs.Fitting.{kind_of, alternatives_of}
 use Rattle.pl_entry.specs.Due.{is_due, start_of, with_starts, due_of}
-use Rattle.pl_world.specs.declared.plan_state.PlanState.{PlanState}
+use Rattle.pl_semantics.specs.declared.plan_state.PlanState.{PlanState}
 use Rattle.pl_machine.specs.World.{due_in, due_at}
 use Rattle.pl_machine.specs.declared.ahead.Ahead.{Ahead}
 use Rattle.pl_machine.specs.declared.change.Change.{Change}
@@ -44,15 +45,10 @@ early_by : (start before now next : ℕ) → now < next → (start ≤ before) �
 early_by start before now next lt (inl early) le = early
 early_by start before now next lt (inr late) le = absurd (omega (arith, lt, late, le))
 
-same_truth : (a b : Bool) → (a ≡ true → b ≡ true) → (b ≡ true → a ≡ true) → a ≡ b
-same_truth true b there back = sym (there refl)
-same_truth false true there back = back refl
-same_truth false false there back = refl
-
 module _ (model : Model) (c before now next : ℕ) (le : before ≤ now) (lt : now < next) where
   one_due : (a : Activity) → (a.start ≤ before) ⊎ (next ≤ a.start) → is_due model now c a ≡ is_due model before c a
   one_due a is =
-      let same : leb a.start now ≡ leb a.start before = same_truth (leb a.start now) (leb a.start before)
+      let same : leb a.start now ≡ leb a.start before = same_test (leb a.start now) (leb a.start before)
       (λ e. le-leb a.start before (early_by a.start before now next lt is (leb-true a.start now e)))
       (λ e. let early = leb-true a.start before e in le-leb a.start now (omega (arith, le, early))) in
       ap (λ (b : Bool). ltb a.start c && (b && eqb (length (alternatives_of (kind_of model a))) 0)) same

@@ -5,9 +5,9 @@ use Rattle.std.proofs.lemmas.Result.{on_ok_weaker}
 use Rattle.pl_facts.specs.declared.goal.Goal.{Goal}
 use Rattle.pl_plan.specs.Activities.{AreRising}
 use Rattle.pl_entry.proofs.Growth.{due_grows}
-use Rattle.pl_world.specs.declared.plan_state.PlanState.{PlanState}
+use Rattle.pl_semantics.specs.declared.plan_state.PlanState.{PlanState}
 use Rattle.pl_board.specs.Boards.{Standing, after}
-use Rattle.pl_changes.specs.Changes.{with_goal, told_now, moved_on}
+use Rattle.pl_update.specs.Changes.Changes.{with_goal, told_now, moved_on}
 use Rattle.pl_machine.specs.World.{due_in}
 use Rattle.pl_machine.specs.declared.change.Change.{Change}
 use Rattle.pl_machine.specs.declared.change.Change.TheVariants.{Tick}

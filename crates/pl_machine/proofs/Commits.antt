@@ -4,7 +4,7 @@ use Rattle.std.specs.Prelude.{Result, OnOk}
 use Rattle.pl_entry.specs.declared.event.Event.TheVariants as event
 use Rattle.pl_entry.specs.declared.reply.Reply.{Reply}
 use Rattle.pl_entry.specs.declared.reply.Reply.TheVariants as reply
-use Rattle.pl_world.specs.Conflicts.{conflicts_of}
+use Rattle.pl_semantics.specs.Conflicts.{conflicts_of}
 use Rattle.pl_machine.specs.declared.stop.Stop.{Stop}
 use Rattle.pl_machine.specs.World.{World}
 use Rattle.pl_machine.specs.Step.{commit_reply, after_commit}

@@ -1,6 +1,8 @@
 -- An open round is not done: the input ends only between rounds.
 use Rattle.std.proofs.Common.{◌≡◌, ℕ, List, [], ◌∷◌, Bool, true, false, Option, Some, None, unwrap_or, refl, sym, ◌∙◌, subst}
-use Rattle.std.specs.Prelude.{not, ◌&&◌}
+use Rattle.std.specs.Prelude.{not}
+use Rattle.std.proofs.lemmas.Bool.{not-true}
+use Rattle.pl_lists.proofs.Tests.{and_first, and_second}
 use Rattle.pl_facts.specs.declared.options.Options.{Options}
 use Rattle.pl_plan.specs.declared.repair.RepairMove.{RepairMove}
 use Rattle.pl_entry.specs.declared.event.Event.{Event}
@@ -17,18 +19,6 @@ use Rattle.pl_machine.specs.Legal.{legal_from, world_from, options_in, IsOpenedR
 
 abbrev pub Goes : World → Type 0
 Goes w = w.closed ≡ false → w.done ≡ false
-
-pub first_true : (a b : Bool) → (a && b) ≡ true → a ≡ true
-first_true true b e = refl
-first_true false b e = absurd (cc)
-
-pub both_true : (a b : Bool) → (a && b) ≡ true → b ≡ true
-both_true true b e = e
-both_true false b e = absurd (cc)
-
-pub is_false : (a : Bool) → not a ≡ true → a ≡ false
-is_false true e = absurd (cc)
-is_false false e = refl
 
 input_goes : (w : World) (line : Option (List ℕ)) (r : Reply) → w.closed ≡ true → w.done ≡ false → Goes (after_input w line r)
 input_goes w line reply.Ended closed going begun = absurd (let both : true ≡ false = sym closed ∙ begun in cc)
@@ -52,12 +42,12 @@ dispatch_done w _ = refl
 pub step_goes : (w : World) (e : Event) → is_enabled w e ≡ true → Goes w → Goes (after w e)
 step_goes w (event.Opened o) enabled goes begun = absurd (cc)
 step_goes w (event.Input line) enabled goes begun =
-    input_goes w line (reply_of w (event.Input line)) (first_true w.closed (not w.done) enabled) (is_false w.done (both_true w.closed (not w.done) enabled)) begun
-step_goes w (event.Fix k m) enabled goes begun = fix_done w m (reply_of w (event.Fix k m)) ∙ goes (is_false w.closed (first_true (not w.closed) _ enabled))
-step_goes w event.Rest enabled goes begun = goes (is_false w.closed (first_true (not w.closed) _ enabled))
-step_goes w (event.Commit h) enabled goes begun = commit_done w h (reply_of w (event.Commit h)) ∙ goes (is_false w.closed enabled)
-step_goes w event.Dispatch enabled goes begun = dispatch_done w (reply_of w event.Dispatch) ∙ goes (is_false w.closed (first_true (not w.closed) _ enabled))
-step_goes w event.Close enabled goes begun = goes (is_false w.closed (first_true (not w.closed) _ enabled))
+    input_goes w line (reply_of w (event.Input line)) (and_first w.closed (not w.done) enabled) (not-true w.done (and_second w.closed (not w.done) enabled)) begun
+step_goes w (event.Fix k m) enabled goes begun = fix_done w m (reply_of w (event.Fix k m)) ∙ goes (not-true w.closed (and_first (not w.closed) _ enabled))
+step_goes w event.Rest enabled goes begun = goes (not-true w.closed (and_first (not w.closed) _ enabled))
+step_goes w (event.Commit h) enabled goes begun = commit_done w h (reply_of w (event.Commit h)) ∙ goes (not-true w.closed enabled)
+step_goes w event.Dispatch enabled goes begun = dispatch_done w (reply_of w event.Dispatch) ∙ goes (not-true w.closed (and_first (not w.closed) _ enabled))
+step_goes w event.Close enabled goes begun = goes (not-true w.closed (and_first (not w.closed) _ enabled))
 
 pub run_goes : (w : World) (es : List Entry) → legal_from w es → Goes w → Goes (world_from w es)
 run_goes w [] legal goes = goes

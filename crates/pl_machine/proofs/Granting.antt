@@ -1,15 +1,17 @@
 -- What is committed can be sent: a commit is granted only where no value of what it commits is out of range.
-use Rattle.std.proofs.Common.{◌≡◌, ℕ, zero, suc, ◌+◌, ◌<◌, ◌≤◌, ℤ, ◌≤ℤ◌, List, [], ◌∷◌, ◌++◌, length, Bool, true, false, not, ◌&&◌, ◌||◌, int_le, nat_lt, nat_le, All, Option, Some, None, IfSome, Result, Ok, Err, IfOk, ◌↔◌, if◌then◌else◌, refl, sym, ◌∙◌, subst, arith}
+use Rattle.std.proofs.Common.{◌≡◌, ℕ, zero, suc, ◌+◌, ◌<◌, ◌≤◌, ℤ, List, [], ◌∷◌, ◌++◌, length, Bool, true, false, ◌||◌, int_le, nat_lt, nat_le, All, Option, Some, None, IfSome, Result, Ok, Err, IfOk, ◌↔◌, if◌then◌else◌, refl, sym, ◌∙◌, subst, arith}
 use Rattle.std.specs.List.{flat_map}
-use Rattle.std.proofs.lemmas.Bool.{leb-false, ltb-false, ltb-true, lt-leb, le-leb, le-ltb}
+use Rattle.std.proofs.lemmas.Bool.{leb-false, ltb-false, ltb-true, lt-leb, le-leb, le-ltb, or_left, or_right}
 use Rattle.std.proofs.lemmas.Grind.{common_steps}
 use Rattle.std.proofs.lemmas.Int.{ints}
 use Rattle.std.proofs.lemmas.List.Elements.{All-nil, All-cons, All-head, All-tail, All-get_or, All-from_get_or, All-weaker}
 use Rattle.std.proofs.lemmas.Option.{get_or_from_slice_get}
+use Rattle.pl_lists.proofs.Tests.{not_and_parts, or_first_false}
+use Rattle.pl_lists.proofs.Numbers.{le_from_test}
 use Rattle.pl_conflict.specs.declared.conflict.Conflict.{Conflict}
 use Rattle.pl_conflict.specs.declared.conflict.Code.TheVariants.{BadValue, Late}
 use Rattle.pl_conflict.specs.Order.{has}
-use Rattle.pl_conflict.proofs.Sorting.{same, same_is, has-append}
+use Rattle.pl_conflict.proofs.Sorting.{same, has-append}
 use Rattle.pl_model.specs.declared.parameters.Param.{Param}
 use Rattle.pl_model.specs.declared.kinds.Kind.{Kind}
 use Rattle.pl_model.specs.declared.whole.Model.{Model}
@@ -18,15 +20,15 @@ use Rattle.pl_plan.specs.declared.activity.Activity.{Activity}
 use Rattle.pl_plan.specs.Fitting.{FitsAlone, kind_of}
 use Rattle.pl_plan.specs.Values.{binding_of}
 use Rattle.pl_plan.specs.Known.{is_outside, is_bad_param}
-use Rattle.pl_world.specs.declared.plan_state.PlanState.{PlanState}
-use Rattle.pl_world.specs.PlanStates.{found, is_committed, row_of, numbered, of_found, reservations_of}
-use Rattle.pl_world.specs.Activities.{at_start, bindings_of, params_at, value_in, row_above, bad_param, bad_duration, bad_amount, bad_values_at, late_at, unset_at, undetailed_at, overrun_at, wrong_at, wrong_of, activity_conflicts}
-use Rattle.pl_world.specs.Goals.{goal_conflicts}
-use Rattle.pl_world.specs.Links.{link_conflicts}
-use Rattle.pl_world.specs.Timelines.{timeline_conflicts}
-use Rattle.pl_world.specs.Conflicts.{conflicts_of}
-use Rattle.pl_world.specs.Grants.{touches_before, IsGrantable}
-use Rattle.pl_world.specs.Whole.{IsWhole}
+use Rattle.pl_semantics.specs.declared.plan_state.PlanState.{PlanState}
+use Rattle.pl_semantics.specs.PlanStates.{found, is_committed, row_of, numbered, of_found, reservations_of}
+use Rattle.pl_semantics.specs.Activities.{at_start, bindings_of, params_at, value_in, row_above, bad_param, bad_duration, bad_amount, bad_values_at, late_at, unset_at, undetailed_at, overrun_at, wrong_at, wrong_of, activity_conflicts}
+use Rattle.pl_semantics.specs.Goals.{goal_conflicts}
+use Rattle.pl_semantics.specs.Links.{link_conflicts}
+use Rattle.pl_semantics.specs.Timelines.{timeline_conflicts}
+use Rattle.pl_semantics.specs.Conflicts.{conflicts_of}
+use Rattle.pl_semantics.specs.Grants.{touches_before, IsGrantable}
+use Rattle.pl_semantics.specs.Whole.{IsWhole}
 use Rattle.pl_plan.proofs.Climbs.{all_at}
 use Rattle.pl_plan.proofs.ValueLaws.{values_solve}
 use Rattle.pl_entry.proofs.Growth.{due_grows}
@@ -36,22 +38,15 @@ use Rattle.pl_machine.specs.World.{due_in}
 use Rattle.pl_entry.specs.declared.event.Event.TheVariants as event
 use Rattle.pl_entry.specs.declared.reply.Reply.{Reply}
 use Rattle.pl_entry.specs.declared.reply.Reply.TheVariants as reply
-use Rattle.pl_world.proofs.Standing.{members, activities_by_subject}
-use Rattle.pl_world.proofs.Granting.{untouched}
-use Rattle.pl_changes.specs.Changes.{committed_to}
+use Rattle.pl_semantics.proofs.Standing.{members, activities_by_subject}
+use Rattle.pl_semantics.proofs.Granting.{untouched}
+use Rattle.pl_update.specs.Changes.Changes.{committed_to}
+use Rattle.pl_update.proofs.AboutGoalsAndActivities.Granted.{each_case}
 use Rattle.pl_machine.specs.declared.stop.Stop.{Stop}
 use Rattle.pl_machine.specs.Sound.{State}
 use Rattle.pl_machine.specs.Taking.{Answers}
 use Rattle.pl_machine.specs.Keeping.{AreSendable, KeepsStanding}
 use Rattle.pl_machine.specs.Step.{behind_of, first_conflict, held_reply, commit_reply}
-
-or_left : (b c : Bool) → b ≡ true → (b || c) ≡ true
-or_left true c e = refl
-or_left false c e = absurd (cc)
-
-or_right : (b c : Bool) → c ≡ true → (b || c) ≡ true
-or_right true c e = refl
-or_right false c e = e
 
 has-left : (xs ys : List Conflict) (q : Conflict) → has q xs ≡ true → has q (xs ++ ys) ≡ true
 has-left xs ys q e = has-append xs ys q ∙ or_left (has q xs) (has q ys) e
@@ -100,20 +95,12 @@ stands s a whole here planned p e =
 
 -- ---- amounts
 
-both_true : (b c : Bool) → not (b && c) ≡ false → (b ≡ true) × (c ≡ true)
-both_true true true e = (refl, refl)
-both_true true false e = absurd (cc)
-both_true false c e = absurd (cc)
-
-le_from_test : (a b : ℤ) → int_le a b ≡ true → a ≤ℤ b
-le_from_test a b e = grind (arith, ints)
-
 in_range : (low high v : ℤ) → IsAmount low → IsAmount high → int_le low v ≡ true → int_le v high ≡ true → IsAmount v
 in_range low high v least most above below = let up = le_from_test low v above in let down = le_from_test v high below in (omega (arith, ints, least.0, up), omega (arith, ints, most.1, down))
 
 amount_of : (low high : ℤ) (v : Option ℤ) → IsAmount low → IsAmount high → is_outside low high v ≡ false → IfSome v IsAmount
 amount_of low high None least most e = tt
-amount_of low high (Some v) least most e = let both = both_true (int_le low v) (int_le v high) e in in_range low high v least most both.0 both.1
+amount_of low high (Some v) least most e = let both = not_and_parts (int_le low v) (int_le v high) e in in_range low high v least most both.0 both.1
 
 -- the values of parameters that are not out of range
 amounts_from : (values : ℕ → Option ℤ) (n count : ℕ) (ps : List Param) → All (IsCheckedParam count) ps → All (λ (p : ℕ × Param). is_outside p.1.low p.1.high (values p.0) ≡ false) (numbered n ps)
@@ -129,14 +116,6 @@ amounts_from values n count (p ∷ ps) checked ok (suc i) lt =
     subst (λ k. IfSome (values k) IsAmount) same (amounts_from values (suc n) count ps (All-tail (IsCheckedParam count) p ps checked) (All-tail (λ (q : ℕ × Param). is_outside q.1.low q.1.high (values q.0) ≡ false) (n, p) (numbered (suc n) ps) ok) i (omega (arith, lt)))
 
 -- ---- a granted commit
-
-left_false : (b c : Bool) → (b || c) ≡ false → b ≡ false
-left_false true c e = absurd (cc)
-left_false false c e = refl
-
-each_case : (P : Conflict → Type 0) (k q : Conflict) (rest b : Bool) → same q k ≡ b → P k → (rest ≡ true → P q) → (b || rest) ≡ true → P q
-each_case P k q rest true e first more h = subst P (sym (same_is q k e)) first
-each_case P k q rest false e first more h = more h
 
 all_each : (P : Conflict → Type 0) (ks : List Conflict) → All P ks → (q : Conflict) → has q ks ≡ true → P q
 all_each P [] all q h = absurd (cc)
@@ -157,7 +136,7 @@ module _ (s : PlanState) (h : ℕ) (whole : IsWhole s) (untouched : All (λ (k :
       none_bad s a (params_at s a) (λ p e.
       let free : nat_lt a.start h ≡ false = all_each (λ (k : Conflict). touches_before h k ≡ false) (conflicts_of s) untouched (at_start a BadValue p.0 0) (stands s a whole here new p e) in
       let late = ltb-false a.start h free in absurd (omega (arith, early, late))) in
-      let inside = All-weaker (λ (p : ℕ × Param). is_bad_at s a p ≡ false) (λ (p : ℕ × Param). is_outside p.1.low p.1.high (value_in s a p.0) ≡ false) (λ p e. left_false _ _ e) (params_at s a) ok in
+      let inside = All-weaker (λ (p : ℕ × Param). is_bad_at s a p ≡ false) (λ (p : ℕ × Param). is_outside p.1.low p.1.high (value_in s a p.0) ≡ false) (λ p e. or_first_false _ _ e) (params_at s a) ok in
       let alone = (all_at (FitsAlone s.model) s.plan.activities a.id a whole.fits.each here).0 in
       let checked = kind_at s.model a (kind_of s.model a) whole.checked.kinds alone.kind refl in
       let places = (values_solve s.model s.plan.activities whole.checked whole.fits.rooted).places a.id a here in

@@ -12,19 +12,19 @@ use Rattle.pl_plan.specs.declared.repair.RepairMove.TheVariants as repair
 use Rattle.pl_entry.specs.Bounds.{IsMoveInRange}
 use Rattle.pl_entry.specs.declared.reply.Reply.{Reply}
 use Rattle.pl_entry.specs.declared.reply.Reply.TheVariants as reply
-use Rattle.pl_world.specs.declared.plan_state.PlanState.{PlanState}
-use Rattle.pl_world.specs.declared.refusal.Refusal.{Refusal}
-use Rattle.pl_world.specs.declared.refusal.Refusal.TheVariants as refusal
-use Rattle.pl_world.specs.Conflicts.{conflicts_of}
-use Rattle.pl_world.specs.Moves.{is_proper, refusal_of}
-use Rattle.pl_world.specs.Candidates.{candidates_of, same_move}
-use Rattle.pl_world.proofs.Sifting.{proper}
+use Rattle.pl_semantics.specs.declared.plan_state.PlanState.{PlanState}
+use Rattle.pl_semantics.specs.declared.refusal.Refusal.{Refusal}
+use Rattle.pl_semantics.specs.declared.refusal.Refusal.TheVariants as refusal
+use Rattle.pl_semantics.specs.Conflicts.{conflicts_of}
+use Rattle.pl_semantics.specs.Moves.{is_proper, refusal_of}
+use Rattle.pl_semantics.specs.Candidates.{candidates_of, same_move}
+use Rattle.pl_semantics.proofs.Sifting.{proper}
 use Rattle.pl_cand.proofs.Same.{one_move}
 use Rattle.pl_machine.specs.declared.change.Change.TheVariants.{Repair}
 use Rattle.pl_machine.specs.Repairs.{IsMoveOf, FitsTypes}
 use Rattle.pl_machine.specs.Changes.{CanChange}
 use Rattle.pl_entry.specs.declared.event.Event.TheVariants as event
-use Rattle.pl_world.specs.Whole.{IsWhole}
+use Rattle.pl_semantics.specs.Whole.{IsWhole}
 use Rattle.pl_moves.specs.Keeping.{KeepsCommitted}
 use Rattle.pl_moves.proofs.Keeping.{keeps}
 use Rattle.pl_machine.specs.declared.stop.Stop.{Stop}

@@ -18,9 +18,9 @@ use Rattle.pl_msg.specs.Messages.{message_of}
 use Rattle.pl_msg.specs.Limits.{IsNumbered, HasFewStates, FitParams, IsGoalFor, IsLevel, HasState}
 use Rattle.pl_entry.specs.declared.reply.Reply.{Reply}
 use Rattle.pl_entry.specs.declared.reply.Reply.TheVariants as reply
-use Rattle.pl_world.specs.declared.plan_state.PlanState.{PlanState}
-use Rattle.pl_world.specs.Whole.{IsGoalOf}
-use Rattle.pl_changes.specs.Changes.{CanTell}
+use Rattle.pl_semantics.specs.declared.plan_state.PlanState.{PlanState}
+use Rattle.pl_semantics.specs.Whole.{IsGoalOf}
+use Rattle.pl_update.specs.Changes.Changes.{CanTell}
 use Rattle.pl_machine.specs.Changes.{CanChange}
 use Rattle.pl_machine.specs.declared.change.Change.TheVariants.{Accept, Tell, Tick}
 use Rattle.pl_entry.specs.Bounds.{IsLineReply}

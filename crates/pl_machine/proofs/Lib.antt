@@ -20,3 +20,4 @@ mod Ticking
 pub mod Calm
 mod Settled
 mod Mended
+pub mod ShortLogs

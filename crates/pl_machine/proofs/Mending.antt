@@ -1,16 +1,15 @@
 -- One turn of repair.
 use Rattle.std.proofs.Common.{◌≡◌, ℕ, zero, suc, ◌<◌, ◌≤◌, List, [], ◌∷◌, length, get_or, Bool, true, false, not, ◌&&◌, ◌||◌, Option, Some, None, Ok, Err, refl, sym, ◌∙◌, ap, subst, ◌⊎◌, inl, inr, eq-eqb, arith}
-use Rattle.std.specs.Prelude.{Contains, is_none, is_some, nat_lt, ◌==◌, filter, if◌then◌else◌}
-use Rattle.std.specs.declared.cmp.Ordering.{Ordering}
-use Rattle.std.specs.declared.cmp.Ordering.TheVariants.{Less, Equal, Greater}
-use Rattle.std.specs.Ordering.{ordering_reverse, is_eq}
+use Rattle.std.specs.Prelude.{Contains, is_none, is_some, nat_lt, ◌==◌, if◌then◌else◌}
+use Rattle.std.specs.Ordering.{is_eq}
 use Rattle.std.specs.Cmp.{int_eq_equiv}
 use Rattle.std.specs.List.{list_any}
-use Rattle.std.proofs.lemmas.Bool.{lt-ltb}
-use Rattle.std.proofs.lemmas.List.Elements.{All-contains, All-contains_itself, All-filter, filter_passes}
+use Rattle.std.proofs.lemmas.Bool.{lt-ltb, and_from}
+use Rattle.std.proofs.Math.Bool.{or-true}
+use Rattle.pl_lists.proofs.Elements.{filter_contains, filter_passing}
 use Rattle.pl_conflict.specs.declared.conflict.Conflict.{Conflict}
 use Rattle.pl_conflict.specs.Order.{conflict_cmp, has}
-use Rattle.pl_conflict.proofs.OrderLaws.{conflict_total}
+use Rattle.pl_conflict.proofs.Sorting.{same_itself}
 use Rattle.pl_plan.specs.declared.repair.RepairMove.{RepairMove}
 use Rattle.pl_plan.specs.declared.repair.RepairMove.TheVariants as repair
 use Rattle.pl_entry.specs.declared.event.Event.{Event}
@@ -18,12 +17,12 @@ use Rattle.pl_entry.specs.declared.event.Event.TheVariants as event
 use Rattle.pl_entry.specs.declared.reply.Reply.{Reply}
 use Rattle.pl_entry.specs.declared.reply.Reply.TheVariants as reply
 use Rattle.pl_entry.specs.declared.reply.Reason.{Reason}
-use Rattle.pl_world.specs.declared.plan_state.PlanState.{PlanState}
-use Rattle.pl_world.specs.declared.refusal.Refusal.{Refusal}
-use Rattle.pl_world.specs.Conflicts.{conflicts_of}
-use Rattle.pl_world.specs.Moves.{refusal_of}
-use Rattle.pl_world.specs.Candidates.{candidates_of, same_move, same_number}
-use Rattle.pl_world.specs.Legal.{is_legal, has_repair, legal_for, is_stuck}
+use Rattle.pl_semantics.specs.declared.plan_state.PlanState.{PlanState}
+use Rattle.pl_semantics.specs.declared.refusal.Refusal.{Refusal}
+use Rattle.pl_semantics.specs.Conflicts.{conflicts_of}
+use Rattle.pl_semantics.specs.Moves.{refusal_of}
+use Rattle.pl_semantics.specs.Candidates.{candidates_of, same_move, same_number}
+use Rattle.pl_semantics.specs.Legal.{is_legal, has_repair, legal_for, is_stuck}
 use Rattle.pl_moves.specs.Keeping.{KeepsCommitted}
 use Rattle.pl_cand.specs.declared.proposal.Proposal.{Proposal}
 use Rattle.pl_cand.specs.Proposals.{IsProposal}
@@ -41,49 +40,27 @@ use Rattle.pl_machine.specs.Mending.{is_repairing, HasMended, IsAskedAtMost, Sto
 
 -- ---- what is among the legal ones is in the list, and legal
 
-or_true : (b : Bool) → (b || true) ≡ true
-or_true true = refl
-or_true false = refl
-
 any_at : {X : Type 0} (p : X → Bool) (xs : List X) (k : ℕ) (x : X) → k < length xs → get_or xs k x ≡ x → p x ≡ true → list_any p xs ≡ true
 any_at p [] k x lt here h = absurd (omega arith)
 any_at p (y ∷ xs) zero x lt here h = ap (λ (b : Bool). b || list_any p xs) (ap p here ∙ h)
-any_at p (y ∷ xs) (suc k) x lt here h = ap (λ (b : Bool). p y || b) (any_at p xs k x (omega arith) here h) ∙ or_true (p y)
+any_at p (y ∷ xs) (suc k) x lt here h = ap (λ (b : Bool). p y || b) (any_at p xs k x (omega arith) here h) ∙ or-true (p y)
 
 contained : {X : Type 0} (p : X → Bool) (xs : List X) (x : X) → Contains xs x → p x ≡ true → list_any p xs ≡ true
 contained p xs x here h = any_at p xs here.0 x here.1 here.2 h
 
-among : {X : Type 0} (p : X → Bool) (xs : List X) (x : X) → Contains (filter p xs) x → Contains xs x
-among p xs x here = All-contains (Contains xs) (filter p xs) x (All-filter p (Contains xs) xs (All-contains_itself xs)) here
-
-passing : {X : Type 0} (p : X → Bool) (xs : List X) (x : X) → Contains (filter p xs) x → p x ≡ true
-passing p xs x here = All-contains (λ y. p y ≡ true) (filter p xs) x (filter_passes p xs) here
-
 -- ---- each is itself
-
-by_reverse : (o : Ordering) → o ≡ ordering_reverse o → is_eq o ≡ true
-by_reverse Less e = absurd (cc)
-by_reverse Equal e = refl
-by_reverse Greater e = absurd (cc)
-
-same_conflict : (k : Conflict) → is_eq (conflict_cmp k k) ≡ true
-same_conflict k = by_reverse (conflict_cmp k k) (conflict_total.antisymm k k)
-
-both_are : (a b : Bool) → a ≡ true → b ≡ true → (a && b) ≡ true
-both_are true b e f = f
-both_are false b e f = absurd (cc)
 
 same_number_self : (n : Option ℕ) → same_number n n ≡ true
 same_number_self None = refl
 same_number_self (Some n) = eq-eqb n n refl
 
 same_move_self : (m : RepairMove) → same_move m m ≡ true
-same_move_self (repair.Add kind start goal) = both_are _ _ (eq-eqb kind kind refl) (both_are _ _ (eq-eqb start start refl) (same_number_self goal))
+same_move_self (repair.Add kind start goal) = and_from _ _ (eq-eqb kind kind refl) (and_from _ _ (eq-eqb start start refl) (same_number_self goal))
 same_move_self (repair.Delete id) = eq-eqb id id refl
-same_move_self (repair.Shift id start) = both_are _ _ (eq-eqb id id refl) (eq-eqb start start refl)
-same_move_self (repair.Detail id alternative) = both_are _ _ (eq-eqb id id refl) (eq-eqb alternative alternative refl)
+same_move_self (repair.Shift id start) = and_from _ _ (eq-eqb id id refl) (eq-eqb start start refl)
+same_move_self (repair.Detail id alternative) = and_from _ _ (eq-eqb id id refl) (eq-eqb alternative alternative refl)
 same_move_self (repair.Abstract id) = eq-eqb id id refl
-same_move_self (repair.Assign id param value) = both_are _ _ (eq-eqb id id refl) (both_are _ _ (eq-eqb param param refl) (int_eq_equiv.refl value))
+same_move_self (repair.Assign id param value) = and_from _ _ (eq-eqb id id refl) (and_from _ _ (eq-eqb param param refl) (int_eq_equiv.refl value))
 same_move_self (repair.Drop number) = eq-eqb number number refl
 
 -- ---- what is proposed is answered by ok
@@ -102,11 +79,11 @@ unfolding fix_reply legal_for
 proposed_done s p proposal =
     let k = p.conflict in
     let m = p.mv in
-    let candidate : Contains (candidates_of s k) m = among (is_legal s) (candidates_of s k) m proposal.1 in
+    let candidate : Contains (candidates_of s k) m = filter_contains (is_legal s) (candidates_of s k) m proposal.1 in
     made_if (has k (conflicts_of s)) (is_candidate s k m) (refusal_reply (refusal_of s m))
-    (contained (λ q. is_eq (conflict_cmp k q)) (conflicts_of s) k proposal.0 (same_conflict k))
+    (contained (λ q. is_eq (conflict_cmp k q)) (conflicts_of s) k proposal.0 (same_itself k))
     (contained (same_move m) (candidates_of s k) m candidate (same_move_self m))
-    (no_refusal (refusal_of s m) (passing (is_legal s) (candidates_of s k) m proposal.1))
+    (no_refusal (refusal_of s m) (filter_passing (is_legal s) (candidates_of s k) m proposal.1))
 
 -- ---- where repair goes on
 
@@ -119,7 +96,7 @@ by_reason (k ∷ ks) false false e = (refl, refl)
 -- what is proposed shows that some conflict has a legal candidate
 proposed_repair : (s : PlanState) (k : Conflict) (m : RepairMove) → Contains (legal_for s k) m → has_repair s k ≡ true
 unfolding legal_for
-proposed_repair s k m legal = contained (is_legal s) (candidates_of s k) m (among (is_legal s) (candidates_of s k) m legal) (passing (is_legal s) (candidates_of s k) m legal)
+proposed_repair s k m legal = contained (is_legal s) (candidates_of s k) m (filter_contains (is_legal s) (candidates_of s k) m legal) (filter_passing (is_legal s) (candidates_of s k) m legal)
 
 pub not_stuck : (s : PlanState) (p : Proposal) → IsProposal s (Some p) → is_stuck s ≡ false
 unfolding is_stuck

@@ -1,11 +1,10 @@
 -- What is proposed is a move of the model.
-use Rattle.std.proofs.Common.{◌≡◌, ℕ, ℤ, ◌≤ℤ◌, Bool, true, ◌&&◌, List, length, All, Option, Some, None, IfSome, refl, sym, subst, arith}
+use Rattle.std.proofs.Common.{◌≡◌, ℕ, ℤ, Bool, true, ◌&&◌, List, length, All, Option, Some, None, IfSome, refl, sym, subst, arith}
 use Rattle.std.specs.Prelude.{slice_get, nat_lt, int_le}
-use Rattle.std.proofs.lemmas.Bool.{ltb-true}
+use Rattle.std.proofs.lemmas.Bool.{ltb-true, and_parts}
 use Rattle.std.proofs.lemmas.Int.{ints}
-use Rattle.std.proofs.lemmas.List.Elements.{All-get_or}
-use Rattle.std.proofs.lemmas.Option.{slice_get_within, get_or_from_slice_get}
-use Rattle.pl_lists.proofs.Tests.{both_true}
+use Rattle.pl_lists.proofs.Elements.{all_at}
+use Rattle.pl_lists.proofs.Numbers.{le_from_test}
 use Rattle.pl_model.specs.declared.parameters.Param.{Param}
 use Rattle.pl_model.specs.declared.kinds.Kind.{Kind}
 use Rattle.pl_model.specs.declared.whole.Model.{Model}
@@ -15,24 +14,18 @@ use Rattle.pl_plan.specs.declared.repair.RepairMove.{RepairMove}
 use Rattle.pl_plan.specs.declared.repair.RepairMove.TheVariants as repair
 use Rattle.pl_plan.specs.Fitting.{kind_of}
 use Rattle.pl_plan.specs.Firm.{is_within}
-use Rattle.pl_world.specs.declared.plan_state.PlanState.{PlanState}
-use Rattle.pl_world.specs.PlanStates.{found}
-use Rattle.pl_world.specs.Activities.{bindings_of}
-use Rattle.pl_world.specs.Moves.{is_free, is_wanted, holds, takes_value, is_proper}
+use Rattle.pl_semantics.specs.declared.plan_state.PlanState.{PlanState}
+use Rattle.pl_semantics.specs.PlanStates.{found}
+use Rattle.pl_semantics.specs.Activities.{bindings_of}
+use Rattle.pl_semantics.specs.Moves.{is_free, is_wanted, holds, takes_value, is_proper}
 use Rattle.pl_cand.specs.declared.proposal.Proposal.{Proposal}
 use Rattle.pl_cand.specs.Proposals.{IsProposal}
 use Rattle.pl_cand.proofs.Proposed.{proposed_proper}
 use Rattle.pl_machine.specs.Repairs.{IsMoveOf}
 
-got : {X : Type 0} (P : X → Type 0) (xs : List X) (i : ℕ) (x : X) → All P xs → slice_get xs i ≡ Some x → P x
-got P xs i x all is = subst P (get_or_from_slice_get xs i x x is) (All-get_or P xs i x (slice_get_within xs i x is) all)
-
-le_from_test : (a b : ℤ) → int_le a b ≡ true → a ≤ℤ b
-le_from_test a b e = grind (arith, ints)
-
 within_amounts : (low high v : ℤ) → IsAmount low → IsAmount high → is_within low high (Some v) ≡ true → IsAmount v
 within_amounts low high v least most e =
-    let both = both_true (int_le low v) (int_le v high) e in
+    let both = and_parts (int_le low v) (int_le v high) e in
     let up = le_from_test low v both.0 in
     let down = le_from_test v high both.1 in
     (omega (arith, ints, least.0, up), omega (arith, ints, most.1, down))
@@ -44,8 +37,8 @@ taken free value kinds m n k None checked is None here e = absurd (cc)
 taken free value kinds m n k None checked is (Some p) here e = absurd (cc)
 taken free value kinds m n k (Some kind) checked is None here e = absurd (cc)
 taken free value kinds m n k (Some kind) checked is (Some p) here e =
-    let param = got (IsCheckedParam (length kind.params)) kind.params n p (got (IsCheckedKind m) kinds k kind checked is).params here in
-    within_amounts p.low p.high value param.least param.greatest (both_true (free p) (is_within p.low p.high (Some value)) e).1
+    let param = all_at (IsCheckedParam (length kind.params)) kind.params n p (all_at (IsCheckedKind m) kinds k kind checked is).params here in
+    within_amounts p.low p.high value param.least param.greatest (and_parts (free p) (is_within p.low p.high (Some value)) e).1
 
 assigned : (s : PlanState) (n : ℕ) (value : ℤ) (o : Option Activity) → IsChecked s.model → holds (λ a. takes_value s a n value) o ≡ true → IsAmount value
 assigned s n value None checked e = absurd (cc)
@@ -55,7 +48,7 @@ assigned s n value (Some a) checked e =
 -- a proper move may be handed in
 pub proper_move : (s : PlanState) (m : RepairMove) → IsChecked s.model → is_proper s m ≡ true → IsMoveOf s.model m
 unfolding is_proper
-proper_move s (repair.Add kind start goal) checked e = ltb-true kind (length s.model.kinds) (both_true (nat_lt kind (length s.model.kinds)) (is_wanted s kind goal) e).0
+proper_move s (repair.Add kind start goal) checked e = ltb-true kind (length s.model.kinds) (and_parts (nat_lt kind (length s.model.kinds)) (is_wanted s kind goal) e).0
 proper_move s (repair.Delete id) checked e = tt
 proper_move s (repair.Shift id start) checked e = tt
 proper_move s (repair.Detail id alternative) checked e = tt

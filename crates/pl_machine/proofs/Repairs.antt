@@ -10,11 +10,11 @@ use Rattle.pl_plan.specs.declared.repair.RepairMove.{RepairMove}
 use Rattle.pl_plan.specs.Activities.{AreRising, activity_of}
 use Rattle.pl_entry.specs.Due.{AreDue, due_of}
 use Rattle.pl_entry.proofs.DueLaws.{due_meets, due_only}
-use Rattle.pl_world.specs.declared.plan_state.PlanState.{PlanState}
-use Rattle.pl_world.specs.PlanStates.{found, is_committed}
+use Rattle.pl_semantics.specs.declared.plan_state.PlanState.{PlanState}
+use Rattle.pl_semantics.specs.PlanStates.{found, is_committed}
 use Rattle.pl_machine.specs.World.{due_in}
-use Rattle.pl_world.specs.Moves.{is_proper, refusal_of, applied}
-use Rattle.pl_world.specs.Whole.{IsWhole}
+use Rattle.pl_semantics.specs.Moves.{is_proper, refusal_of, applied}
+use Rattle.pl_semantics.specs.Whole.{IsWhole}
 use Rattle.pl_moves.specs.Keeping.{GivesIds, KeepsCommitted}
 use Rattle.pl_moves.proofs.Keeping.{keeps, gives}
 use Rattle.pl_machine.specs.Keeping.{KeepsStanding}

@@ -4,8 +4,8 @@ use Rattle.std.specs.Prelude.{◌==◌}
 use Rattle.pl_conflict.specs.declared.conflict.Conflict.{Conflict}
 use Rattle.pl_entry.specs.declared.reply.Reason.{Reason}
 use Rattle.pl_entry.specs.declared.reply.Reason.TheVariants as reason
-use Rattle.pl_world.specs.Conflicts.{conflicts_of}
-use Rattle.pl_world.specs.Legal.{is_stuck}
+use Rattle.pl_semantics.specs.Conflicts.{conflicts_of}
+use Rattle.pl_semantics.specs.Legal.{is_stuck}
 use Rattle.pl_machine.specs.World.{World, reason_by, plain_reason_of, reason_of}
 
 plain_by : (ks : List Conflict) (spent stuck : Bool) (r : Reason) → reason_by ks spent false ≡ Some r → reason_by ks spent stuck ≡ Some r

@@ -10,7 +10,7 @@ use Rattle.pl_entry.specs.declared.reply.Reply.{Reply}
 use Rattle.pl_entry.specs.declared.entry.Entry.{Entry}
 use Rattle.pl_entry.specs.Bounds.{AreOptions, IsEventInRange, IsReplyTo}
 use Rattle.pl_entry.specs.Due.{due_of}
-use Rattle.pl_world.specs.declared.plan_state.PlanState.{PlanState}
+use Rattle.pl_semantics.specs.declared.plan_state.PlanState.{PlanState}
 use Rattle.pl_machine.specs.World.{World, fresh_world, due_in}
 use Rattle.pl_machine.specs.Step.{after, reply_of}
 use Rattle.pl_machine.specs.Legal.{MayFollow, legal_from, world_from, opening, options_in, IsOpenedRun, Legal, no_options, options_of, world_of, IsHistory}
@@ -23,6 +23,10 @@ use Rattle.pl_machine.specs.declared.round.Round.{Round}
 use Rattle.pl_machine.specs.declared.change.Change.{Change}
 use Rattle.pl_machine.specs.Changes.{changed}
 use Rattle.pl_machine.specs.Taking.{IsOpen, Takes, Spoils, with_round, with_state}
+
+pub world_append : (w : World) (xs ys : List Entry) → world_from w (xs ++ ys) ≡ world_from (world_from w xs) ys
+world_append w [] ys = refl
+world_append w (x ∷ xs) ys = world_append (after w x.event) xs ys
 
 pub legal_from_push : (w : World) (es : List Entry) (e : Entry) → legal_from w es → MayFollow (world_from w es) e → legal_from w (es ++ e ∷ [])
 legal_from_push w [] e legal follows = (follows, tt)

@@ -7,6 +7,7 @@ use Rattle.std.proofs.lemmas.List.{length-take, take_more}
 use Rattle.std.proofs.lemmas.List.Elements.{Contains-get_or}
 use Rattle.std.proofs.lemmas.Option.{slice_get_within, slice_get-get_or, get_or_from_slice_get}
 use lib.Pointwise.{pointwise}
+use Rattle.pl_lists.proofs.Tests.{and_second}
 use Rattle.pl_model.specs.declared.whole.Model.{Model}
 use Rattle.pl_entry.specs.declared.entry.Entry.{Entry}
 use Rattle.pl_machine.specs.declared.ahead.Ahead.{Ahead}
@@ -24,9 +25,9 @@ use Rattle.pl_entry.specs.declared.reply.Reply.TheVariants as reply
 use Rattle.pl_entry.specs.Bounds.{IsWord, IsSent, IsDispatchReply}
 use Rattle.pl_model.specs.declared.kinds.Kind.{Kind}
 use Rattle.pl_model.specs.Checked.{IsAmount, params_of}
-use Rattle.pl_world.specs.declared.plan_state.PlanState.{PlanState}
-use Rattle.pl_world.specs.PlanStates.{found, is_committed, row_of}
-use Rattle.pl_world.specs.Whole.{IsWhole}
+use Rattle.pl_semantics.specs.declared.plan_state.PlanState.{PlanState}
+use Rattle.pl_semantics.specs.PlanStates.{found, is_committed, row_of}
+use Rattle.pl_semantics.specs.Whole.{IsWhole}
 use Rattle.pl_machine.specs.Taking.{IsOpen, Takes}
 use Rattle.pl_machine.specs.Sound.{State, IsSound}
 use Rattle.pl_machine.proofs.Runs.{sound_step}
@@ -160,14 +161,10 @@ sent_world : (m : Model) (w : World) (answer : Reply) (o : Option Activity) → 
 sent_world m w answer None is replies answers = absurd (subst (IsDispatchReply m) answers replies)
 sent_world m w answer (Some a) is replies answers = (a, is, ap (after_dispatch w) answers)
 
-second_true : (a b : Bool) → (a && b) ≡ true → b ≡ true
-second_true true b e = e
-second_true false b e = absurd (cc)
-
 pub left_of_open : (s : State) {spoiled : Bool} {m : Model} {log : List Entry} {w : World} {due : List ℕ} {sent : ℕ} {ahead : Ahead} → record { spoiled = spoiled; model = m; log = log; world = w } ≡ s → IsSound spoiled m log w due sent ahead
     → w.dispatched ≡ take sent due → IsOpen s event.Dispatch → sent < length due
 left_of_open s {spoiled} {m} {log} {w} {due} {sent} is sound dispatched may =
-    ltb-true sent (length due) (left_count s is sound may.unspoiled dispatched ∙ second_true (not s.world.closed) (nat_lt (length s.world.dispatched) (length (due_in s.world.state))) may.enabled)
+    ltb-true sent (length due) (left_count s is sound may.unspoiled dispatched ∙ and_second (not s.world.closed) (nat_lt (length s.world.dispatched) (length (due_in s.world.state))) may.enabled)
 
 sent_more : (s : State) {spoiled : Bool} {m : Model} {log : List Entry} {w : World} {due : List ℕ} {sent : ℕ} {ahead : Ahead} (answer : Reply)
     → record { spoiled = spoiled; model = m; log = log; world = w } ≡ s → IsSound spoiled m log w due sent ahead → w.dispatched ≡ take sent due → IsWhole w.state → IsOpen s event.Dispatch

@@ -2,7 +2,7 @@
 use Rattle.std.proofs.Common.{◌≡◌, ℕ, zero, suc, ◌+◌, ◌<◌, ◌≤◌, eqb, leb, ltb, Bool, true, false, ◌&&◌, List, [], ◌∷◌, ◌++◌, length, take, drop, map, get_or, Some, None, Option, ◌⊎◌, inl, refl, sym, ◌∙◌, ap, subst, arith, add-one}
 use Rattle.std.specs.Prelude.{ℤ, All, filter, not, ◌||◌, Result, IfOk, Ok, Err, if◌then◌else◌}
 use Rattle.std.proofs.Math.Seq.{take-add}
-use Rattle.std.proofs.lemmas.Bool.{and_parts, and_from, leb-true, le-leb, ltb-true, lt-ltb, le-ltb}
+use Rattle.std.proofs.lemmas.Bool.{and_parts, and_from, leb-true, le-leb, ltb-true, lt-ltb, le-ltb, not_from_false, or_right}
 use Rattle.std.proofs.lemmas.List.{length-drop, take-append-drop}
 use Rattle.std.proofs.lemmas.List.Elements.{All-nil, All-cons, All-head, All-tail, All-weaker, All-append, All-drop}
 use Rattle.pl_model.specs.declared.whole.Model.{Model}
@@ -16,12 +16,12 @@ use Rattle.pl_plan.specs.Trees.{descends}
 use Rattle.pl_plan.proofs.Climbs.{all_at}
 use Rattle.pl_entry.specs.Due.{is_due, is_due_since, start_of, with_starts, due_since}
 use Rattle.pl_entry.proofs.DueOn.{due_goes_on}
-use Rattle.pl_world.specs.declared.plan_state.PlanState.{PlanState}
-use Rattle.pl_world.specs.PlanStates.{found, is_committed}
-use Rattle.pl_world.specs.Whole.{IsWhole}
-use Rattle.pl_world.specs.Legal.{MayBeMade}
-use Rattle.pl_world.specs.Moves.{applied, is_under, moved, shifted, root_for, children_for, detailed, with_value, has_id}
-use Rattle.pl_world.proofs.Refusing.{may}
+use Rattle.pl_semantics.specs.declared.plan_state.PlanState.{PlanState}
+use Rattle.pl_semantics.specs.PlanStates.{found, is_committed}
+use Rattle.pl_semantics.specs.Whole.{IsWhole}
+use Rattle.pl_semantics.specs.Legal.{MayBeMade}
+use Rattle.pl_semantics.specs.Moves.{applied, is_under, moved, shifted, root_for, children_for, detailed, with_value, has_id}
+use Rattle.pl_semantics.proofs.Refusing.{may}
 use Rattle.pl_board.specs.Boards.{Standing, after}
 use Rattle.pl_machine.specs.World.{due_in, due_at}
 use Rattle.pl_machine.specs.declared.ahead.Ahead.{Ahead}
@@ -96,14 +96,6 @@ unlocked_not : (under started early : Bool) → (under && early) ≡ false → (
 unlocked_not true started early free settled = absurd (let is : early ≡ true = (and_parts started early settled).1 in let bad : true ≡ false = sym is ∙ free in cc)
 unlocked_not false started early free settled = refl
 
-not_not : (b : Bool) → b ≡ false → not b ≡ true
-not_not true e = absurd (cc)
-not_not false e = refl
-
-or_right : (b c : Bool) → c ≡ true → (b || c) ≡ true
-or_right true c e = refl
-or_right false c e = e
-
 module _ (s : PlanState) (k : ℕ) (front : Front (is_settled s.moment s.committed) k s.plan.activities) where
   abbrev xs : List Activity
   xs = s.plan.activities
@@ -153,7 +145,7 @@ module _ (s : PlanState) (k : ℕ) (front : Front (is_settled s.moment s.committ
   settled_repair (Add kind start goal) whole may = front_append p k xs (root_for s kind start goal ∷ []) front
   settled_repair (Delete id) whole may =
       front_filter p (λ a. not (descends xs id a.id)) k xs
-      (All-weaker (λ (a : Activity). p a ≡ true → is_under s id a ≡ false) (λ (a : Activity). p a ≡ true → not (descends xs id a.id) ≡ true) (λ a stays passes. not_not (descends xs id a.id) (stays passes)) xs (apart id may.unlocked)) front
+      (All-weaker (λ (a : Activity). p a ≡ true → is_under s id a ≡ false) (λ (a : Activity). p a ≡ true → not (descends xs id a.id) ≡ true) (λ a stays passes. not_from_false (descends xs id a.id) (stays passes)) xs (apart id may.unlocked)) front
   settled_repair (Shift id start) whole may = shifted_front whole id start may.unlocked (found s id) refl
   settled_repair (Detail id alternative) whole may =
       front_append p k (map (λ a. if has_id id a then detailed alternative a else a) xs) (children_for s alternative (found s id))
@@ -161,7 +153,7 @@ module _ (s : PlanState) (k : ℕ) (front : Front (is_settled s.moment s.committ
   settled_repair (Abstract id) whole may =
       let stays : Front p k (filter (λ a. eqb a.id id || not (descends xs id a.id)) xs) =
       front_filter p (λ a. eqb a.id id || not (descends xs id a.id)) k xs
-      (All-weaker (λ (a : Activity). p a ≡ true → is_under s id a ≡ false) (λ (a : Activity). p a ≡ true → (eqb a.id id || not (descends xs id a.id)) ≡ true) (λ a stays passes. or_right (eqb a.id id) (not (descends xs id a.id)) (not_not (descends xs id a.id) (stays passes))) xs (apart id may.unlocked)) front in
+      (All-weaker (λ (a : Activity). p a ≡ true → is_under s id a ≡ false) (λ (a : Activity). p a ≡ true → (eqb a.id id || not (descends xs id a.id)) ≡ true) (λ a stays passes. or_right (eqb a.id id) (not (descends xs id a.id)) (not_from_false (descends xs id a.id) (stays passes))) xs (apart id may.unlocked)) front in
       same_starts (abstracted id) (abstracted_start id) (filter (λ a. eqb a.id id || not (descends xs id a.id)) xs) stays
   settled_repair (Assign id n value) whole may = same_starts (λ a. if has_id id a then with_value n value a else a) (assigned_start id n value) xs front
   settled_repair (Drop number) whole may = front

@@ -1,17 +1,17 @@
 -- What is sent next starts no earlier than what was sent.
-use Rattle.std.proofs.Common.{◌≡◌, ℕ, ◌<◌, ◌≤◌, inl, inr, List, length, take, Option, Some, None, get_or, Bool, sym, ◌∙◌, ap, subst, arith}
+use Rattle.std.proofs.Common.{◌≡◌, ℕ, ◌<◌, ◌≤◌, List, length, take, Option, Some, None, get_or, Bool, sym, ◌∙◌, ap, subst, arith}
 use Rattle.std.proofs.lemmas.Grind.{get_or_default_zero}
 use Rattle.std.proofs.lemmas.List.{length-take, get_or-take}
 use Rattle.pl_model.specs.declared.whole.Model.{Model}
-use Rattle.pl_entry.specs.Due.{StartsBefore}
 use Rattle.pl_entry.proofs.DueLaws.{due_meets}
 use Rattle.pl_entry.specs.declared.entry.Entry.{Entry}
 use Rattle.pl_entry.specs.declared.event.Event.TheVariants as event
 use Rattle.pl_entry.specs.declared.reply.Reply.{Reply}
+use Rattle.pl_entry.proofs.Growth.{starts_rise}
 use Rattle.pl_plan.specs.declared.activity.Activity.{Activity}
-use Rattle.pl_world.specs.declared.plan_state.PlanState.{PlanState}
-use Rattle.pl_world.specs.PlanStates.{found}
-use Rattle.pl_world.specs.Whole.{IsWhole}
+use Rattle.pl_semantics.specs.declared.plan_state.PlanState.{PlanState}
+use Rattle.pl_semantics.specs.PlanStates.{found}
+use Rattle.pl_semantics.specs.Whole.{IsWhole}
 use Rattle.pl_machine.specs.declared.ahead.Ahead.{Ahead}
 use Rattle.pl_machine.specs.World.{World, due_in}
 use Rattle.pl_machine.specs.Step.{next_due, sent_reply, reply_of}
@@ -20,13 +20,9 @@ use Rattle.pl_machine.specs.Sound.{State, IsSound}
 use Rattle.pl_machine.specs.Taking.{IsOpen}
 use Rattle.pl_machine.proofs.Sends.{left_of_open, next_found, next_live}
 
-rise : (a b : Activity) → StartsBefore a b → a.start ≤ b.start
-rise a b (inl lt) = omega (arith, lt)
-rise a b (inr (same, lt)) = omega (arith, same)
-
 -- of two places in what is due, the later one starts no earlier
 later_start : (s : PlanState) (i j : ℕ) (a b : Activity) → IsWhole s → i < j → j < length (due_in s) → found s (get_or (due_in s) i 0) ≡ Some a → found s (get_or (due_in s) j 0) ≡ Some b → a.start ≤ b.start
-later_start s i j a b whole lt within one other = rise a b ((due_meets s.model s.plan.activities whole.rising s.moment s.committed).order i j 0 lt within a b one other)
+later_start s i j a b whole lt within one other = starts_rise a b ((due_meets s.model s.plan.activities whole.rising s.moment s.committed).order i j 0 lt within a b one other)
 
 last_at : (w : World) (due : List ℕ) (sent : ℕ) (b : Activity) → IsWhole w.state → due ≡ due_in w.state → w.dispatched ≡ take sent due → sent < length due → found w.state (get_or due sent 0) ≡ Some b → IsLastStart w b.start
 last_at w due sent b whole listed dispatched lt next id a (k, less, is) here =

@@ -1,6 +1,6 @@
 -- What is due as the present moves on.
 use Rattle.std.proofs.Common.{◌≡◌, ◌≤◌, true, refl, arith}
-use Rattle.pl_world.specs.declared.plan_state.PlanState.{PlanState}
+use Rattle.pl_semantics.specs.declared.plan_state.PlanState.{PlanState}
 use Rattle.pl_machine.specs.World.{due_at, due_in}
 use Rattle.pl_machine.specs.declared.change.Change.{Change}
 use Rattle.pl_machine.specs.declared.change.Change.TheVariants.{Accept, Tell, Tick, Commit, Repair}

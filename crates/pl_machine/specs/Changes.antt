@@ -1,10 +1,10 @@
 -- The changes that events make of the plan state.
 use Rattle.std.specs.Prelude.{◌≡◌, ◌<◌, ◌≤◌, Bool, false, true, None, slice_get}
 use Rattle.pl_facts.specs.Goals.{goal_of}
-use Rattle.pl_world.specs.declared.plan_state.PlanState.{PlanState}
-use Rattle.pl_world.specs.Whole.{IsGoalOf}
-use Rattle.pl_world.specs.Moves.{is_proper, refusal_of, applied}
-use Rattle.pl_changes.specs.Changes.{with_goal, told_now, moved_on, committed_to, CanTell}
+use Rattle.pl_semantics.specs.declared.plan_state.PlanState.{PlanState}
+use Rattle.pl_semantics.specs.Whole.{IsGoalOf}
+use Rattle.pl_semantics.specs.Moves.{is_proper, refusal_of, applied}
+use Rattle.pl_update.specs.Changes.Changes.{with_goal, told_now, moved_on, committed_to, CanTell}
 use Rattle.pl_entry.specs.declared.reply.Reply.TheVariants as reply
 use Rattle.pl_machine.specs.World.{due_in}
 use Rattle.pl_machine.specs.Step.{commit_reply}

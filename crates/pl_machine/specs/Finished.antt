@@ -6,7 +6,7 @@ use Rattle.pl_entry.specs.declared.event.Event.{Event}
 use Rattle.pl_entry.specs.declared.event.Event.TheVariants as event
 use Rattle.pl_entry.specs.declared.entry.Entry.{Entry}
 use Rattle.pl_machine.specs.Legal.{Legal, world_of}
-use Rattle.pl_machine.specs.Lines.{split_of}
+use Rattle.pl_input.specs.Words.{split_of}
 
 abbrev pub input_in : Event → Option (Option (List ℕ))
 input_in (event.Opened o) = None

@@ -2,8 +2,8 @@
 use Rattle.std.specs.Prelude.{◌≡◌, ℕ, ◌≤◌, ◌+◌, ◌++◌, true, List, All, Some, IfSome}
 use Rattle.pl_model.specs.Checked.{IsAmount}
 use Rattle.pl_plan.specs.declared.activity.Activity.{Activity}
-use Rattle.pl_world.specs.declared.plan_state.PlanState.{PlanState}
-use Rattle.pl_world.specs.PlanStates.{found, is_committed, row_of}
+use Rattle.pl_semantics.specs.declared.plan_state.PlanState.{PlanState}
+use Rattle.pl_semantics.specs.PlanStates.{found, is_committed, row_of}
 use Rattle.pl_machine.specs.World.{due_in}
 
 -- the values of each committed activity are from 0 to 1,000,000,000 where they are there, as a command says them

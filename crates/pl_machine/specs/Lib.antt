@@ -3,16 +3,14 @@ pub use Rattle.pl_plan.specs.State
 pub use Rattle.pl_plan.specs.Activities
 pub use Rattle.pl_entry.specs.Bounds
 pub use Rattle.pl_entry.specs.Due
-pub use Rattle.pl_world.specs.PlanStates
-pub use Rattle.pl_world.specs.Conflicts
-pub use Rattle.pl_world.specs.Moves
+pub use Rattle.pl_semantics.specs.PlanStates
+pub use Rattle.pl_semantics.specs.Conflicts
+pub use Rattle.pl_semantics.specs.Moves
 pub use Rattle.pl_board.specs.Boards
 pub use Rattle.pl_model.specs.Checked
-pub use Rattle.pl_world.specs.Grants
+pub use Rattle.pl_semantics.specs.Grants
 pub use Rattle.pl_moves.specs.Keeping as KeptByMoves
 pub use Rattle.pl_cand.specs.Proposals
-pub mod Lines
-pub mod Reading
 pub mod World
 pub mod Messages
 pub mod Step

@@ -11,9 +11,9 @@ use Rattle.pl_msg.specs.Reads.{Read}
 use Rattle.pl_msg.specs.Messages.{message_of}
 use Rattle.pl_entry.specs.declared.reply.Reply.{Reply}
 use Rattle.pl_entry.specs.declared.reply.Reply.TheVariants as reply
-use Rattle.pl_world.specs.declared.plan_state.PlanState.{PlanState}
-use Rattle.pl_world.specs.PlanStates.{floor_of}
-use Rattle.pl_changes.specs.Changes.{with_goal, told_now, moved_on}
+use Rattle.pl_semantics.specs.declared.plan_state.PlanState.{PlanState}
+use Rattle.pl_semantics.specs.PlanStates.{floor_of}
+use Rattle.pl_update.specs.Changes.Changes.{with_goal, told_now, moved_on}
 
 -- ---- replies
 

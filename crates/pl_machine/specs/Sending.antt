@@ -3,7 +3,7 @@ use Rattle.std.specs.Prelude.{◌≡◌, ℕ, ◌≤◌, Contains, Some}
 use Rattle.pl_plan.specs.declared.activity.Activity.{Activity}
 use Rattle.pl_entry.specs.declared.reply.Reply.{Reply}
 use Rattle.pl_entry.specs.declared.reply.Reply.TheVariants as reply
-use Rattle.pl_world.specs.PlanStates.{found}
+use Rattle.pl_semantics.specs.PlanStates.{found}
 use Rattle.pl_machine.specs.World.{World}
 
 -- no activity whose command was sent starts after this moment

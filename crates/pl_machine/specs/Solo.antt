@@ -4,7 +4,7 @@ use Rattle.pl_model.specs.declared.whole.Model.{Model}
 use Rattle.pl_entry.specs.declared.event.Event.{Event}
 use Rattle.pl_entry.specs.declared.event.Event.TheVariants as event
 use Rattle.pl_entry.specs.declared.entry.Entry.{Entry}
-use Rattle.pl_world.specs.declared.plan_state.PlanState.{PlanState}
+use Rattle.pl_semantics.specs.declared.plan_state.PlanState.{PlanState}
 use Rattle.pl_cand.specs.declared.proposal.Proposal.{Proposal}
 use Rattle.pl_machine.specs.declared.choice.Choice.TheVariants as choice
 use Rattle.pl_machine.specs.World.{World, fresh_world, reason_of}

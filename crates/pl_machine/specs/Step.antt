@@ -12,14 +12,14 @@ use Rattle.pl_entry.specs.declared.reply.Reply.{Reply}
 use Rattle.pl_entry.specs.declared.reply.Reply.TheVariants as reply
 use Rattle.pl_entry.specs.declared.reply.Reason.{Reason}
 use Rattle.pl_entry.specs.Horizon.{target_of, best_of}
-use Rattle.pl_world.specs.declared.plan_state.PlanState.{PlanState}
-use Rattle.pl_world.specs.declared.refusal.Refusal.{Refusal}
-use Rattle.pl_world.specs.declared.refusal.Refusal.TheVariants as refusal
-use Rattle.pl_world.specs.PlanStates.{found, row_of}
-use Rattle.pl_world.specs.Conflicts.{conflicts_of}
-use Rattle.pl_world.specs.Moves.{refusal_of, applied}
-use Rattle.pl_world.specs.Candidates.{candidates_of, same_move}
-use Rattle.pl_changes.specs.Changes.{committed_to}
+use Rattle.pl_semantics.specs.declared.plan_state.PlanState.{PlanState}
+use Rattle.pl_semantics.specs.declared.refusal.Refusal.{Refusal}
+use Rattle.pl_semantics.specs.declared.refusal.Refusal.TheVariants as refusal
+use Rattle.pl_semantics.specs.PlanStates.{found, row_of}
+use Rattle.pl_semantics.specs.Conflicts.{conflicts_of}
+use Rattle.pl_semantics.specs.Moves.{refusal_of, applied}
+use Rattle.pl_semantics.specs.Candidates.{candidates_of, same_move}
+use Rattle.pl_update.specs.Changes.Changes.{committed_to}
 use Rattle.pl_machine.specs.Messages.{line_reply, told_line}
 use Rattle.pl_machine.specs.World.{World, due_in, reason_of}
 

@@ -6,10 +6,10 @@ use Rattle.pl_facts.specs.declared.options.Options.{Options}
 use Rattle.pl_entry.specs.declared.reply.Reason.{Reason}
 use Rattle.pl_entry.specs.declared.reply.Reason.TheVariants as reason
 use Rattle.pl_entry.specs.Due.{due_of}
-use Rattle.pl_world.specs.declared.plan_state.PlanState.{PlanState}
-use Rattle.pl_world.specs.Conflicts.{conflicts_of}
-use Rattle.pl_world.specs.Legal.{is_stuck}
-use Rattle.pl_changes.specs.Changes.{first_state}
+use Rattle.pl_semantics.specs.declared.plan_state.PlanState.{PlanState}
+use Rattle.pl_semantics.specs.Conflicts.{conflicts_of}
+use Rattle.pl_semantics.specs.Legal.{is_stuck}
+use Rattle.pl_update.specs.Changes.Changes.{first_state}
 
 pub record World : Type 0 where
   pub state : PlanState

@@ -4,7 +4,6 @@
 mod ahead;
 mod change;
 mod choice;
-mod lines;
 mod machine;
 mod ranges;
 mod repaired;
@@ -14,7 +13,6 @@ mod starting;
 mod stop;
 
 pub use choice::Choice;
-pub use lines::{is_begin_line, is_blank_line};
 pub use machine::Machine;
 pub use repaired::Repaired;
 pub use sharing::shared_types;

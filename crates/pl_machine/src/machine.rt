@@ -25,7 +25,7 @@ use pl_board::Board;
 use pl_entry::{Entry, Event, Reply};
 use pl_facts::Options;
 use pl_model::Model;
-use pl_world::SharedModel;
+use pl_semantics::SharedModel;
 use std::alloc::{AllocError, Global};
 use std::sync::Arc;
 

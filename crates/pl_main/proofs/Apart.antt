@@ -2,16 +2,17 @@
 use Rattle.std.proofs.Common.{◌≡◌, ℕ, ◌+◌, ◌⊎◌, inl, inr, List, [], ◌∷◌, ◌++◌, not, Option, Some, None, refl, sym, ◌∙◌, ap, subst}
 use Rattle.std.proofs.lemmas.List.{append-nil}
 use Rattle.std.proofs.lemmas.List.Elements.{filter-append}
+use Rattle.std.proofs.lemmas.Option.{same_Some}
 use Rattle.pl_io.specs.Lines.{lines_of}
 use Rattle.pl_model.specs.declared.whole.Model.{Model}
 use Rattle.pl_entry.specs.declared.entry.Entry.{Entry}
-use Rattle.pl_machine.specs.Lines.{is_blank_line, model_text_of, lines_behind, split_of}
+use Rattle.pl_input.specs.Words.{is_blank_line, model_text_of, lines_behind, split_of}
 use Rattle.pl_machine.specs.Legal.{Legal}
-use Rattle.pl_render.specs.Lines.{text_of}
-use Rattle.pl_accept.specs.Accepting.{IsModelText}
-use Rattle.pl_accept.proofs.Apart.{one_model, checked_model}
-use Rattle.pl_stream.proofs.Reading.{gave_lines}
-use Rattle.pl_stream.proofs.Comparing.{GoesOn, goes_on, all_or_stuck}
+use Rattle.pl_journal.specs.Rendering.Lines.{text_of}
+use Rattle.pl_check.specs.Accepting.{IsModelText}
+use Rattle.pl_check.proofs.Apart.{one_model, checked_model}
+use Rattle.pl_input.proofs.Reading.{gave_lines}
+use Rattle.pl_input.proofs.Comparing.{GoesOn, goes_on, all_or_stuck}
 use Rattle.pl_replay.specs.declared.verdict.Verdict.{Verdict}
 use Rattle.pl_replay.specs.Journals.{entry_lines, lines_from, IsJournalOf, IsWrongAtLast}
 use Rattle.pl_replay.proofs.Verdicts.{never_begins}
@@ -26,9 +27,6 @@ use Rattle.pl_main.proofs.Causes.{no_model_of, text_then_limit, no_text, head_no
 
 abbrev Lines : Type 0
 Lines = List (List ℕ)
-
-some_same : (x y : List ℕ) → Some x ≡ Some y → x ≡ y
-some_same x y e = cc
 
 -- ---- lines of entries
 
@@ -69,7 +67,7 @@ all_taken input words behind left read = taken_lines input words behind [] left 
 -- two models of one input
 model_same : (input words others : List ℕ) (m n : Model) → (split_of input).text ≡ Some words → (split_of input).text ≡ Some others → IsModelText words m → IsModelText others n → n ≡ m
 model_same input words others m n is also accepted accepted2 =
-    one_model words n m (subst (λ (w : List ℕ). IsModelText w n) (some_same others words (sym also ∙ is)) accepted2) accepted
+    one_model words n m (subst (λ (w : List ℕ). IsModelText w n) (same_Some others words (sym also ∙ is)) accepted2) accepted
 
 -- ---- a journal that is legal
 

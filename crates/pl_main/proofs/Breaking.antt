@@ -7,28 +7,29 @@ use Rattle.pl_io.specs.Lines.{ahead, lines_of}
 use Rattle.pl_io.specs.Writes.{AppendsFront}
 use Rattle.pl_model.specs.declared.whole.Model.{Model}
 use Rattle.pl_entry.specs.declared.entry.Entry.{Entry}
-use Rattle.pl_machine.specs.Lines.{messages_of, split_of}
+use Rattle.pl_input.specs.Words.{messages_of, split_of}
 use Rattle.pl_machine.specs.World.{World}
 use Rattle.pl_machine.specs.Legal.{Legal, opening, world_from, world_of}
 use Rattle.pl_main.specs.Solo.{solo_from, Solo}
 use Rattle.pl_machine.specs.Finished.{inputs_of}
 use Rattle.pl_machine.specs.Sound.{State}
 use Rattle.pl_driver.specs.Rounds.{SameRun}
-use Rattle.pl_render.specs.Lines.{line_of, text_from, text_of_log}
-use Rattle.pl_accept.specs.Accepting.{IsModelText}
-use Rattle.pl_stream.specs.declared.halt.Halt.TheVariants as halt
-use Rattle.pl_stream.specs.Reads.{Gave}
-use Rattle.pl_stream.specs.Heads.{IsHead, IsBegun}
-use Rattle.pl_stream.specs.Written.{Adds, IsCutShort, opens, answers}
+use Rattle.pl_journal.specs.Rendering.Lines.{line_of, text_from, text_of_log}
+use Rattle.pl_check.specs.Accepting.{IsModelText}
+use Rattle.pl_input.specs.declared.halt.Halt.TheVariants as halt
+use Rattle.pl_input.specs.Reads.{Gave}
+use Rattle.pl_input.specs.Heads.{IsHead, IsBegun}
+use Rattle.pl_driver.specs.CutShort.{IsCutShort, opens, answers}
+use Rattle.pl_journal.specs.Written.{Adds}
 use Rattle.pl_main.specs.Tells.{Told, ToldInPart}
-use Rattle.pl_stream.specs.Places.{Place}
-use Rattle.pl_stream.specs.Waits.{line_in}
+use Rattle.pl_input.specs.Places.{Place}
+use Rattle.pl_input.specs.Waits.{line_in}
 use Rattle.pl_main.specs.Plays.{Plays, unread, unheard, unwritten, StepLacks, PlaysInPart}
 use Rattle.pl_main.specs.Runs.{fresh_state, unopened, in_opening, in_play, IsKeptModel, unjudged, in_fault, in_run, TextBreaks}
 use Rattle.pl_main.specs.Top.{program_options, line_limit, total_limit, fresh_reader, faulty, HasRead, WasGiven, HasBegun, IsShort, in_journal, in_refusal, IsOutOfMemory, nothing, in_entry, behind_entry}
-use Rattle.pl_stream.proofs.Reading.{gave_append, gave_lines, known}
-use Rattle.pl_stream.proofs.Beginning.{head_then}
-use Rattle.pl_stream.proofs.Writing.{adds_then, appends_then}
+use Rattle.pl_input.proofs.Reading.{gave_append, gave_lines, known}
+use Rattle.pl_input.proofs.Beginning.{head_then}
+use Rattle.pl_journal.proofs.AboutWriting.{adds_then, appends_then, some_held}
 use Rattle.pl_main.proofs.Playing.{messages_append, inputs_append, added_text, joined, joined_front}
 use Rattle.pl_main.proofs.Ending.{split_is, logged, BeginsAt, got_next, has_read, all_messages, head_read, begins_at, behind_text}
 
@@ -119,11 +120,6 @@ opened_front : (m : Model) (first : Entry) (entries : List Entry) (held opened n
 opened_front m first entries held opened now adds front =
     subst (λ (t : List ℕ). AppendsFront held now (t ++ text_from m 1 entries)) (append-nil (line_of m 0 first)) (appends_then held opened now (text_from m 0 (first ∷ [])) (text_from m 1 entries) adds front)
 
--- what nothing is added to
-adds_none : (held : Option (List ℕ)) → Adds held held []
-adds_none None = tt
-adds_none (Some bytes) = ap Some (sym (append-nil bytes))
-
 -- a front of the open entry's line was written
 cut_opening : (turns : ℕ) (m : Model) (held now : Option (List ℕ)) → AppendsFront held now (text_from m 0 (opening (program_options turns) ∷ [])) → IsCutShort m (opening (program_options turns) ∷ []) held now
 cut_opening turns m held now front = record {
@@ -132,7 +128,7 @@ cut_opening turns m held now front = record {
   parts = refl;
   round = opens refl refl;
   written = held;
-  whole = adds_none held;
+  whole = some_held held;
   part = front;
   front = front;
 }

@@ -1,29 +1,30 @@
 -- No input has the causes of two statuses.
 use Rattle.std.proofs.Common.{◌≡◌, ℕ, ◌+◌, ◌<◌, ◌≤◌, suc, List, [], ◌∷◌, ◌++◌, length, take, true, false, All, Option, Some, None, inl, inr, refl, sym, ◌∙◌, ap, subst, append_assoc, arith}
 use Rattle.std.proofs.lemmas.List.{take_all}
+use Rattle.std.proofs.lemmas.Option.{same_Some}
 use Rattle.pl_io.specs.Lines.{lines_of, first_line, after_line, given, line_too_long, input_too_long}
 use Rattle.pl_io.proofs.FirstLine.{next_of-judged, judged-last}
 use Rattle.pl_io.proofs.LineLaws.{lines_of-front}
 use Rattle.pl_model.specs.declared.whole.Model.{Model}
-use Rattle.pl_machine.specs.Lines.{model_text_of, lines_behind, messages_of, split_of}
+use Rattle.pl_input.specs.Words.{model_text_of, lines_behind, messages_of, split_of}
 use Rattle.pl_machine.specs.World.{World}
 use Rattle.pl_machine.specs.Legal.{Legal, world_of}
 use Rattle.pl_main.specs.Solo.{Solo}
 use Rattle.pl_machine.specs.Finished.{inputs_of}
-use Rattle.pl_accept.specs.Accepting.{IsModelText, IsRefusedAs}
-use Rattle.pl_accept.proofs.Apart.{apart, one_model}
+use Rattle.pl_check.specs.Accepting.{IsModelText, IsRefusedAs}
+use Rattle.pl_check.proofs.Apart.{apart, one_model}
 use Rattle.pl_main.specs.declared.command.Task.TheVariants as task
-use Rattle.pl_stream.specs.Reads.{Gave}
-use Rattle.pl_stream.specs.Stops.{IsStuck}
+use Rattle.pl_input.specs.Reads.{Gave}
+use Rattle.pl_input.specs.Stops.{IsStuck}
 use Rattle.pl_main.specs.Top.{line_limit, total_limit, program_options, IsDone, IsNoModel, no_begin, faulty, WaitsBehind, IsPastLimit, IsFull, IsFound, IsPastHead}
 use Rattle.pl_report.specs.Demonstration.{demo_text}
 use Rattle.pl_main.specs.Demos.{demo_turns, IsShown, IsShownInPart}
 use Rattle.pl_main.specs.Limits.{IsWithinLimits, CanRun, CanCheck, IsDoneBy}
 use Rattle.pl_main.specs.Statuses.{SaysRan, SaysChecked, SaysShown}
-use Rattle.pl_stream.proofs.Reading.{gave_lines}
+use Rattle.pl_input.proofs.Reading.{gave_lines}
 use Rattle.pl_main.proofs.Jobs.{IsJobStatus, is_done, is_refused, is_read, is_write, is_limit, is_full, is_wrong, is_memory}
 use Rattle.pl_main.proofs.Playing.{messages_append, not_single}
-use Rattle.pl_stream.proofs.Comparing.{end_is_no_limit, goes_on, all_or_stuck}
+use Rattle.pl_input.proofs.Comparing.{end_is_no_limit, goes_on, all_or_stuck}
 use Rattle.pl_main.proofs.OneInput.{text_goes_on, behind_goes_on, split_text, split_messages, Ends, messages_end, messages_last, Front, front_of, longer}
 use Rattle.pl_main.proofs.OneLog.{opened_with, full_and_closed}
 
@@ -33,15 +34,12 @@ Lines = List (List ℕ)
 abbrev Message : Type 0
 Message = Option (List ℕ)
 
-some_same : (x y : List ℕ) → Some x ≡ Some y → x ≡ y
-some_same x y e = cc
-
 -- ---- a model's text
 
 pub no_model_of : (limit : ℕ) (input words : List ℕ) (m : Model) (left held now : Option (List ℕ)) → (split_of input).text ≡ Some words → IsModelText words m → IsNoModel limit input left held now → ⊥
 no_model_of limit input words m left held now text accepted (no_begin lines room gave none source adds) = (let h : Some words ≡ None = sym text ∙ none in (cc))
 no_model_of limit input words m left held now text accepted (faulty others line head refused adds) =
-    apart words line m accepted (subst (λ (w : List ℕ). IsRefusedAs w line) (some_same others words (sym head.text ∙ text)) refused)
+    apart words line m accepted (subst (λ (w : List ℕ). IsRefusedAs w line) (same_Some others words (sym head.text ∙ text)) refused)
 
 -- ---- the model's text and a limit
 
@@ -153,7 +151,7 @@ done_not_past turns input left held now other_left other_held other_now done pas
 
 model_same : (words others : List ℕ) (m n : Model) (t : Option (List ℕ)) → t ≡ Some words → t ≡ Some others → IsModelText words m → IsModelText others n → n ≡ m
 model_same words others m n t is also accepted accepted2 =
-    one_model words n m (subst (λ (w : List ℕ). IsModelText w n) (some_same others words (sym also ∙ is)) accepted2) accepted
+    one_model words n m (subst (λ (w : List ℕ). IsModelText w n) (same_Some others words (sym also ∙ is)) accepted2) accepted
 
 pub done_not_full : (turns : ℕ) (input : List ℕ) (left held now other_left other_held other_now : Option (List ℕ)) → IsDone turns input left held now → IsFull turns input other_left other_held other_now → ⊥
 done_not_full turns input left held now other_left other_held other_now done full =

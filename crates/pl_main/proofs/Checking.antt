@@ -8,19 +8,19 @@ use Rattle.pl_io.specs.Lines.{ahead}
 use Rattle.pl_io.specs.Reader.{Reader}
 use Rattle.pl_io.specs.Writes.{AppendsFront}
 use Rattle.pl_model.specs.declared.whole.Model.{Model}
-use Rattle.pl_accept.specs.declared.accepting.Accepted.TheVariants as accepted
-use Rattle.pl_stream.specs.declared.halt.Halt.{Halt}
-use Rattle.pl_stream.specs.declared.halt.Halt.TheVariants as halt
+use Rattle.pl_check.specs.declared.accepting.Accepted.TheVariants as accepted
+use Rattle.pl_input.specs.declared.halt.Halt.{Halt}
+use Rattle.pl_input.specs.declared.halt.Halt.TheVariants as halt
 use Rattle.pl_main.specs.declared.outcome.Outcome.{Outcome}
 use Rattle.pl_main.specs.declared.outcome.Outcome.TheVariants as outcome
-use Rattle.pl_stream.specs.Heads.{IsBegun, HasNoBegin, HeadHalts}
-use Rattle.pl_stream.specs.Stops.{HaltFor}
-use Rattle.pl_stream.specs.Written.{Adds, WriteStops}
+use Rattle.pl_input.specs.Heads.{IsBegun, HasNoBegin, HeadHalts}
+use Rattle.pl_input.specs.Stops.{HaltFor}
+use Rattle.pl_journal.specs.Written.{Adds, WriteStops}
 use Rattle.pl_main.specs.Runs.{AcceptsKept, TextChecks}
 use Rattle.pl_main.specs.Runs as runs
 use Rattle.pl_main.specs.Top as top
 use Rattle.pl_main.specs.Top.{line_limit, fresh_reader, no_begin_line, model_ok_line, faulty, IsPastHead, IsHeadFault, ChecksKnown}
-use Rattle.pl_stream.proofs.Stopping.{never_full}
+use Rattle.pl_input.proofs.Stopping.{never_full, never_writes}
 use Rattle.pl_main.proofs.Ending.{begins_at, begins_nowhere, head_stopped, fresh_begun, fresh_nowhere, fresh_halts}
 
 pub texts_joined : (xs ys zs : List ℕ) → xs ++ ys ++ zs ≡ xs ++ (ys ++ zs)
@@ -113,19 +113,12 @@ head_fault limit new input source_left held f head is =
     let s = head_stopped limit new input source_left f halt.Read head is in
     record { lines = s.lines; left = s.left; rest = s.rest; gave = s.gave; source = s.source refl; none = s.none; silent = refl }
 
--- reading meets no fault of writing
-no_write : (f : LineFault) → HaltFor f halt.Write → ⊥
-no_write fault.Read is = (let h : halt.Write ≡ halt.Read = is in (cc))
-no_write (fault.Long n) is = (let h : halt.Write ≡ halt.Limit = is in (cc))
-no_write fault.Total is = (let h : halt.Write ≡ halt.Limit = is in (cc))
-no_write fault.Memory is = (let h : halt.Write ≡ halt.Memory = is in (cc))
-
 head_ran : (new : Reader) (input source_left held : Option (List ℕ)) (f : LineFault) (e : Halt) → HeadHalts (fresh_reader line_limit) input f new (ahead new.held source_left) → HaltFor f e → ChecksKnown input source_left held held (Err e)
 head_ran new None source_left held f e head is = tt
 head_ran new (Some input) source_left held f halt.Limit head is = past_head line_limit new input source_left held f head is
 head_ran new (Some input) source_left held f halt.Full head is = absurd (never_full f is)
 head_ran new (Some input) source_left held f halt.Read head is = head_fault line_limit new input source_left held f head is
-head_ran new (Some input) source_left held f halt.Write head is = absurd (no_write f is)
+head_ran new (Some input) source_left held f halt.Write head is = absurd (never_writes f is)
 head_ran new (Some input) source_left held f halt.Memory head is = refl
 
 pub head_checks : (old new : Reader) (left source_left held : Option (List ℕ)) (f : LineFault) (e : Halt) → old ≡ fresh_reader line_limit → HeadHalts old (ahead old.held left) f new (ahead new.held source_left) → HaltFor f e → ChecksKnown left source_left held held (Err e)

@@ -10,35 +10,37 @@ use Rattle.pl_io.specs.Sparing.{read_size}
 use Rattle.pl_io.specs.Writes.{AppendsFront}
 use Rattle.pl_model.specs.declared.whole.Model.{Model}
 use Rattle.pl_entry.specs.declared.entry.Entry.{Entry}
-use Rattle.pl_machine.specs.Lines.{is_blank_line, is_line_of, end_word, model_text_of, lines_behind, messages_of, split_of}
+use Rattle.pl_input.specs.Words.{is_blank_line, is_line_of, end_word, model_text_of, lines_behind, messages_of, split_of}
 use Rattle.pl_machine.specs.World.{World, fresh_world}
 use Rattle.pl_machine.specs.Legal.{Legal, opening, world_from, world_of}
 use Rattle.pl_main.specs.Solo.{solo_from, Solo}
 use Rattle.pl_machine.specs.Finished.{inputs_of}
 use Rattle.pl_machine.specs.Sound.{State}
 use Rattle.pl_driver.specs.Rounds.{SameRun}
-use Rattle.pl_render.specs.Lines.{line_of, text_from, text_of_log}
-use Rattle.pl_accept.specs.declared.accepting.Accepted.TheVariants as accepted
-use Rattle.pl_accept.specs.Accepting.{IsModelText}
-use Rattle.pl_stream.specs.declared.halt.Halt.{Halt}
-use Rattle.pl_stream.specs.declared.halt.Halt.TheVariants as halt
+use Rattle.pl_journal.specs.Rendering.Lines.{line_of, text_from, text_of_log}
+use Rattle.pl_check.specs.declared.accepting.Accepted.TheVariants as accepted
+use Rattle.pl_check.specs.Accepting.{IsModelText}
+use Rattle.pl_input.specs.declared.halt.Halt.{Halt}
+use Rattle.pl_input.specs.declared.halt.Halt.TheVariants as halt
 use Rattle.pl_main.specs.declared.outcome.Outcome.{Outcome}
 use Rattle.pl_main.specs.declared.outcome.Outcome.TheVariants as outcome
-use Rattle.pl_stream.specs.Reads.{Gave, IsUsedUp, AreBlank}
-use Rattle.pl_stream.specs.Stops.{HaltFor, ReadLeaves, LimitLeaves, StopsBy}
-use Rattle.pl_stream.specs.Waits.{MessageGives, line_in}
-use Rattle.pl_stream.specs.Heads.{IsHead, IsBegun, HasNoBegin, HeadHalts}
+use Rattle.pl_input.specs.Reads.{Gave, IsUsedUp, AreBlank}
+use Rattle.pl_input.specs.Stops.{HaltFor, ReadLeaves, LimitLeaves, StopsBy}
+use Rattle.pl_input.specs.Waits.{MessageGives, line_in}
+use Rattle.pl_input.specs.Heads.{IsHead, IsBegun, HasNoBegin, HeadHalts}
 use Rattle.pl_main.specs.Tells.{FillsUp, at_once, within}
-use Rattle.pl_stream.specs.Written.{Adds, WriteStops}
-use Rattle.pl_stream.specs.Places.{Place}
+use Rattle.pl_journal.specs.Written.{Adds, WriteStops}
+use Rattle.pl_input.specs.Places.{Place}
 use Rattle.pl_main.specs.Plays.{Plays, EndsWith, by_end, by_line, EndsAll, PlaysOut, PlayHalts, PlayFills, Playing}
 use Rattle.pl_main.specs.Runs.{fresh_state, unopened, in_opening, in_play, ModelRuns, AcceptsKept, IsKeptModel, unjudged, in_fault, in_run, TextRuns}
 use Rattle.pl_main.specs.Top.{IsReadTo, ShowsNoLine, ShowsLimit, program_options, line_limit, total_limit, fresh_reader, IsDone, HasHead, no_begin_line, IsNoModel, no_begin, WaitsBehind, IsReadFault, IsPastLimit, HasRead, IsFull}
-use Rattle.pl_stream.proofs.Reading.{gave_append, gave_lines, known}
-use Rattle.pl_stream.proofs.Stopping.{read_leaves, limit_leaves, stops_by}
-use Rattle.pl_stream.proofs.Beginning.{head_then}
-use Rattle.pl_stream.proofs.Writing.{adds_then, log_is_short}
-use Rattle.pl_main.proofs.Playing.{blanks_first, message_first, end_first, none_left, not_single, messages_append, inputs_append, joined}
+use Rattle.pl_input.proofs.Reading.{gave_append, gave_lines, known}
+use Rattle.pl_input.proofs.Stopping.{read_leaves, limit_leaves, stops_by}
+use Rattle.pl_input.proofs.Beginning.{head_then}
+use Rattle.pl_machine.proofs.ShortLogs.{log_is_short}
+use Rattle.pl_journal.proofs.AboutWriting.{adds_then}
+use Rattle.pl_pair.proofs.Saying.{skip_blanks, message_next, end_next, none_left}
+use Rattle.pl_main.proofs.Playing.{not_single, messages_append, inputs_append, joined}
 
 -- ---- a run over a model
 
@@ -281,8 +283,8 @@ pub record BeginsWith (next : Option (List ℕ)) (all : List (Option (List ℕ))
   pub is : all ≡ next ∷ more
 
 first_message : (line : List ℕ) (lines : List (List ℕ)) → is_blank_line line ≡ false → (b : Bool) → is_line_of end_word line ≡ b → BeginsWith (Some line) (messages_of (line ∷ lines))
-first_message line lines message true ends = record { more = []; is = end_first line lines message ends }
-first_message line lines message false ends = record { more = messages_of lines; is = message_first line lines message ends }
+first_message line lines message true ends = record { more = []; is = end_next line lines message ends }
+first_message line lines message false ends = record { more = messages_of lines; is = message_next line lines message ends }
 
 -- messages of which this is the first, and the only one but for the end of the lines
 pub record BeginsAlone (next : Option (List ℕ)) (all : List (Option (List ℕ))) : Type 0 where
@@ -291,11 +293,11 @@ pub record BeginsAlone (next : Option (List ℕ)) (all : List (Option (List ℕ)
   pub no_others : (more ≡ []) ⊎ (more ≡ None ∷ [])
 
 first_alone : (line : List ℕ) → is_blank_line line ≡ false → (b : Bool) → is_line_of end_word line ≡ b → BeginsAlone (Some line) (messages_of (line ∷ []))
-first_alone line message true ends = record { more = []; is = end_first line [] message ends; no_others = inl refl }
-first_alone line message false ends = record { more = None ∷ []; is = message_first line [] message ends ∙ ap (λ (ns : List (Option (List ℕ))). Some line ∷ ns) none_left; no_others = inr refl }
+first_alone line message true ends = record { more = []; is = end_next line [] message ends; no_others = inl refl }
+first_alone line message false ends = record { more = None ∷ []; is = message_next line [] message ends ∙ ap (λ (ns : List (Option (List ℕ))). Some line ∷ ns) none_left; no_others = inr refl }
 
 behind_blanks : (blanks lines : List (List ℕ)) (next : Option (List ℕ)) → AreBlank blanks → BeginsWith next (messages_of lines) → BeginsWith next (messages_of (blanks ++ lines))
-behind_blanks blanks lines next blank begins = record { more = begins.more; is = blanks_first blanks lines blank ∙ begins.is }
+behind_blanks blanks lines next blank begins = record { more = begins.more; is = skip_blanks blanks lines blank ∙ begins.is }
 
 -- the lines in which the next message was found
 pub record GotNext (next : Option (List ℕ)) (room : ℕ) (bytes : List ℕ) (behind : Place) : Type 0 where
@@ -319,7 +321,7 @@ got_next before behind bytes (Some line) starts is_ahead gets =
       rest = k.rest;
       gave = k.gave;
       read = (let first = first_alone line.bytes gets.message (is_line_of end_word line.bytes) refl in
-          record { more = first.more; is = blanks_first gets.lines (line.bytes ∷ []) gets.blank ∙ first.is; no_others = first.no_others });
+          record { more = first.more; is = skip_blanks gets.lines (line.bytes ∷ []) gets.blank ∙ first.is; no_others = first.no_others });
       all = subst (λ (ls : List (List ℕ)). BeginsWith (Some line.bytes) (messages_of ls)) (sym (append_assoc gets.lines (line.bytes ∷ []) (lines_of k.rest)))
           (behind_blanks gets.lines (line.bytes ∷ lines_of k.rest) (Some line.bytes) gets.blank (first_message line.bytes (lines_of k.rest) gets.message (is_line_of end_word line.bytes) refl));
       used_up = λ e. absurd (let h : Some line.bytes ≡ None = e in (cc));
@@ -331,7 +333,7 @@ got_next before behind bytes None starts is_ahead gets =
     let k = known before.reader.limit before.reader.room line_limit before.reader.room before.ahead bytes gets.lines behind.reader.room behind.ahead starts.limit refl is_ahead gets.took.gave in
     let used = subst (λ (b : Option (List ℕ)). IsUsedUp b behind.ahead) is_ahead gets.used_up in
     let none : k.rest ≡ [] = (let h : Some k.rest ≡ Some [] = sym k.is ∙ used in (cc)) in
-    let alone : messages_of gets.lines ≡ None ∷ [] = ap messages_of (sym (append-nil gets.lines)) ∙ blanks_first gets.lines [] gets.blank ∙ none_left in
+    let alone : messages_of gets.lines ≡ None ∷ [] = ap messages_of (sym (append-nil gets.lines)) ∙ skip_blanks gets.lines [] gets.blank ∙ none_left in
     let begins : BeginsWith None (messages_of gets.lines) = record { more = []; is = alone } in
     record {
       lines = gets.lines;

@@ -4,14 +4,14 @@ use Rattle.std.specs.Prelude.{All, Contains}
 use Rattle.std.proofs.lemmas.Bool.{ltb-true}
 use Rattle.std.proofs.lemmas.List.Elements.{All-nil, All-cons, All-contains, Contains-get_or}
 use Rattle.pl_io.specs.declared.errors.LineFault.{LineFault}
-use Rattle.pl_stream.specs.declared.halt.Halt.{Halt}
-use Rattle.pl_stream.specs.declared.halt.Halt.TheVariants as halt
-use Rattle.pl_stream.specs.Stops.{HaltFor}
-use Rattle.pl_stream.specs.Written.{WriteStops}
-use Rattle.pl_stream.specs.Places.{Place}
+use Rattle.pl_input.specs.declared.halt.Halt.{Halt}
+use Rattle.pl_input.specs.declared.halt.Halt.TheVariants as halt
+use Rattle.pl_input.specs.Stops.{HaltFor}
+use Rattle.pl_journal.specs.Written.{WriteStops}
+use Rattle.pl_input.specs.Places.{Place}
 use Rattle.std.specs.declared.vec.Vec.{Vec}
 use Rattle.std.specs.declared.alloc.Global.{Global}
-use Rattle.pl_stream.proofs.Stopping.{never_full}
+use Rattle.pl_input.proofs.Stopping.{never_full}
 use Rattle.pl_main.specs.declared.command.Task.{Task}
 use Rattle.pl_main.specs.declared.command.Task.TheVariants as task
 use Rattle.pl_main.specs.declared.outcome.Outcome.{Outcome}

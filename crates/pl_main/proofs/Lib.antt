@@ -1,4 +1,3 @@
-pub mod Digits
 pub mod Leasts
 pub mod Telling
 pub mod Playing

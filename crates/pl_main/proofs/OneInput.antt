@@ -1,10 +1,10 @@
 -- What two readings of one input have in common.
 use Rattle.std.proofs.Common.{◌≡◌, ℕ, ◌+◌, List, [], ◌∷◌, ◌++◌, length, Bool, true, false, if◌then◌else◌, Option, Some, None, ◌⊎◌, inl, inr, refl, sym, ◌∙◌, ap, subst, length-append, arith}
 use Rattle.pl_io.specs.Lines.{lines_of}
-use Rattle.pl_machine.specs.Lines.{is_blank_line, is_line_of, begin_word, end_word, text_before, model_text_of, lines_behind, messages_from, messages_of, split_of}
-use Rattle.pl_stream.specs.Reads.{Gave}
+use Rattle.pl_input.specs.Words.{is_blank_line, is_line_of, begin_word, end_word, text_before, model_text_of, lines_behind, messages_from, messages_of, split_of}
+use Rattle.pl_input.specs.Reads.{Gave}
 use Rattle.pl_main.specs.Top.{total_limit}
-use Rattle.pl_stream.proofs.Reading.{gave_lines}
+use Rattle.pl_input.proofs.Reading.{gave_lines}
 
 abbrev Lines : Type 0
 Lines = List (List ℕ)

@@ -3,6 +3,7 @@ use Rattle.std.proofs.Common.{◌≡◌, ℕ, ◌+◌, ◌≤◌, List, [], ◌�
 use Rattle.std.specs.Prelude.{unwrap_or}
 use Rattle.std.specs.List.{cons_option}
 use Rattle.std.proofs.lemmas.List.{append-nil}
+use Rattle.std.proofs.lemmas.Bool.{not-true}
 use Rattle.pl_model.specs.declared.whole.Model.{Model}
 use Rattle.pl_facts.specs.declared.options.Options.{Options}
 use Rattle.pl_entry.specs.declared.event.Event.{Event}
@@ -14,6 +15,7 @@ use Rattle.pl_machine.specs.Step.{is_enabled, reply_of, after}
 use Rattle.pl_machine.specs.Legal.{MayFollow, legal_from, world_from, Legal, IsOpenedRun, options_in, options_of, no_options, entries_behind, world_of}
 use Rattle.pl_main.specs.Solo.{solo_event, IsSoloEvent, solo_from, Solo}
 use Rattle.pl_machine.specs.Finished.{input_in, inputs_of}
+use Rattle.pl_pair.proofs.Ending.{legal_behind}
 use Rattle.pl_main.proofs.Playing.{inputs_append}
 
 abbrev Message : Type 0
@@ -44,22 +46,18 @@ both_true true true e = (refl, refl)
 both_true true false e = absurd (let h : false ≡ true = e in (cc))
 both_true false b e = absurd (let h : false ≡ true = e in (cc))
 
-not_true : (a : Bool) → not a ≡ true → a ≡ false
-not_true true e = absurd (let h : false ≡ true = e in (cc))
-not_true false e = refl
-
 -- where an event that is no input is enabled, a round is open
 in_round : (w : World) (e : Event) → input_in e ≡ None → is_enabled w e ≡ true → w.closed ≡ false
 in_round w (event.Opened o) none on = absurd (let h : false ≡ true = on in (cc))
 in_round w (event.Input line) none on = absurd (let h : Some line ≡ None = none in (cc))
-in_round w (event.Fix k m) none on = not_true w.closed (both_true (not w.closed) _ on).0
-in_round w event.Rest none on = not_true w.closed (both_true (not w.closed) _ on).0
-in_round w (event.Commit h) none on = not_true w.closed on
-in_round w event.Dispatch none on = not_true w.closed (both_true (not w.closed) _ on).0
-in_round w event.Close none on = not_true w.closed (both_true (not w.closed) _ on).0
+in_round w (event.Fix k m) none on = not-true w.closed (both_true (not w.closed) _ on).0
+in_round w event.Rest none on = not-true w.closed (both_true (not w.closed) _ on).0
+in_round w (event.Commit h) none on = not-true w.closed on
+in_round w event.Dispatch none on = not-true w.closed (both_true (not w.closed) _ on).0
+in_round w event.Close none on = not-true w.closed (both_true (not w.closed) _ on).0
 
 waits_closed : (w : World) (line : Message) → is_enabled w (event.Input line) ≡ true → (w.closed ≡ true) × (w.done ≡ false)
-waits_closed w line on = let both = both_true w.closed (not w.done) on in (both.0, not_true w.done both.1)
+waits_closed w line on = let both = both_true w.closed (not w.done) on in (both.0, not-true w.done both.1)
 
 closed_not : (w : World) → w.closed ≡ true → w.closed ≡ false → ⊥
 closed_not w yes_ no_ = (let h : true ≡ false = sym yes_ ∙ no_ in (cc))
@@ -119,10 +117,6 @@ are_one w (x ∷ xs) (y ∷ ys) more l1 l2 s1 s2 e =
     let entries : x ≡ y = entries_same x.event y.event x.reply y.reply same replies in
     let rest : inputs_of ys ≡ inputs_of xs ++ more = rest_agrees (input_in x.event) (input_in y.event) (inputs_of xs) (inputs_of ys) more (ap (λ (v : Event). input_in v) same) e in
     one_more x y xs ys entries (are_one (after w x.event) xs ys more l1.1 (subst (λ (v : Event). legal_from (after w v) ys) (sym same) l2.1) s1.1 (subst (λ (v : Event). solo_from (after w v) ys) (sym same) s2.1) rest)
-
-legal_rest : (w : World) (xs ys : List Entry) → legal_from w (xs ++ ys) → legal_from (world_from w xs) ys
-legal_rest w [] ys l = l
-legal_rest w (x ∷ xs) ys l = legal_rest (after w x.event) xs ys l.1
 
 -- the first entry behind a closed round is an input, and there is none behind the end
 first_behind : (w : World) (z : Entry) (a : Option Message) → input_in z.event ≡ a → MayFollow w z → w.closed ≡ true → (line : Message) × (a ≡ Some line) × (w.done ≡ false)
@@ -205,7 +199,7 @@ full_and_closed m o full other more first second e long closed = by_one (logs_ar
     by_more : (zs : List Entry) → entries_behind full ≡ entries_behind other ++ zs → (world_of m full ≡ world_of m other) × (more ≡ [])
     by_more [] is = same_log (is ∙ append-nil (entries_behind other))
     by_more (z ∷ zs) is =
-        let rest = legal_rest (fresh_world m o) (entries_behind other) (z ∷ zs) (subst (λ (es : List Entry). legal_from (fresh_world m o) es) is first.steps) in
+        let rest = legal_behind (fresh_world m o) (entries_behind other) (z ∷ zs) (subst (λ (es : List Entry). legal_from (fresh_world m o) es) is first.steps) in
         let shut : (world_from (fresh_world m o) (entries_behind other)).closed ≡ true = ap (λ (w : World). w.closed) (sym second.world) ∙ closed in
         let next = first_behind (world_from (fresh_world m o) (entries_behind other)) z (input_in z.event) refl rest.0 shut in
         let whole : inputs_of full ≡ inputs_of other ++ (next.0 ∷ inputs_of zs) =

@@ -1,8 +1,8 @@
 -- No input has the causes of two statuses of a pair, and a run of one that can be done is done.
 use Rattle.std.proofs.Common.{◌≡◌, ℕ, inl, inr, List, [], ◌∷◌, ◌++◌, Option, Some, None, sym, ◌∙◌, ap}
-use Rattle.pl_machine.specs.Lines.{lines_behind, messages_of}
+use Rattle.pl_input.specs.Words.{lines_behind, messages_of}
 use Rattle.pl_machine.specs.Finished.{inputs_of}
-use Rattle.pl_stream.proofs.Comparing.{goes_on, all_or_stuck}
+use Rattle.pl_input.proofs.Comparing.{goes_on, all_or_stuck}
 use Rattle.pl_main.specs.Top.{line_limit, total_limit, IsNoModel}
 use Rattle.pl_main.specs.Pairs.{IsPairDone, IsPairPastLimit, IsPairFull}
 use Rattle.pl_main.specs.Limits.{IsWithinLimits, CompletesPair}

@@ -1,5 +1,5 @@
 -- The end of a run of a pair over an input: from its head, and from what the pair did.
-use Rattle.std.proofs.Common.{◌≡◌, ℕ, ◌<◌, ◌≤◌, List, [], ◌∷◌, ◌++◌, length, false, OnOk, OnErr, IfOk, IfErr, Option, Some, None, inl, inr, Result, Ok, Err, refl, sym, ◌∙◌, ap, subst, append_assoc, arith}
+use Rattle.std.proofs.Common.{◌≡◌, ℕ, ◌<◌, ◌≤◌, List, [], ◌∷◌, ◌++◌, length, false, OnOk, OnErr, IfOk, IfErr, Option, Some, None, inl, inr, Result, Ok, Err, refl, sym, ◌∙◌, ap, subst, arith}
 use mathlib.Core.List.{IsPrefix}
 use Rattle.std.specs.declared.vec.Vec.{Vec}
 use Rattle.std.specs.declared.alloc.Global.{Global}
@@ -12,21 +12,22 @@ use Rattle.pl_io.specs.Writes.{AppendsFront}
 use Rattle.pl_model.specs.declared.whole.Model.{Model}
 use Rattle.pl_model.specs.Checked.{IsChecked}
 use Rattle.pl_entry.specs.declared.entry.Entry.{Entry}
-use Rattle.pl_machine.specs.Lines.{lines_behind, messages_of, split_of, model_text_of}
+use Rattle.pl_input.specs.Words.{lines_behind, messages_of, split_of, model_text_of}
 use Rattle.pl_machine.specs.Legal.{options_of}
 use Rattle.pl_machine.specs.Finished.{inputs_of}
-use Rattle.pl_accept.specs.declared.accepting.Accepted.TheVariants as accepted
-use Rattle.pl_accept.specs.Accepting.{IsModelText}
-use Rattle.pl_stream.specs.declared.halt.Halt.{Halt}
-use Rattle.pl_stream.specs.declared.halt.Halt.TheVariants as halt
-use Rattle.pl_stream.specs.Heads.{IsBegun, HasNoBegin, HeadHalts}
-use Rattle.pl_stream.specs.Reads.{Gave, IsUsedUp, StopsAt}
-use Rattle.pl_stream.specs.Stops.{HaltFor, IsStuck, ReadLeaves, LimitLeaves}
-use Rattle.pl_stream.specs.Written.{Adds, IsCutShort}
-use Rattle.pl_stream.proofs.Reading.{known, gave_append, gave_lines}
+use Rattle.pl_check.specs.declared.accepting.Accepted.TheVariants as accepted
+use Rattle.pl_check.specs.Accepting.{IsModelText}
+use Rattle.pl_input.specs.declared.halt.Halt.{Halt}
+use Rattle.pl_input.specs.declared.halt.Halt.TheVariants as halt
+use Rattle.pl_input.specs.Heads.{IsBegun, HasNoBegin, HeadHalts}
+use Rattle.pl_input.specs.Reads.{Gave, IsUsedUp, StopsAt}
+use Rattle.pl_input.specs.Stops.{HaltFor, IsStuck, ReadLeaves, LimitLeaves}
+use Rattle.pl_driver.specs.CutShort.{IsCutShort}
+use Rattle.pl_journal.specs.Written.{Adds}
+use Rattle.pl_input.proofs.Reading.{known, gave_append, gave_lines}
 use Rattle.pl_pair.specs.declared.ended.Ended.{Ended}
 use Rattle.pl_pair.specs.declared.ended.Ended.TheVariants as ended
-use Rattle.pl_stream.specs.Places.{Place, place_of}
+use Rattle.pl_input.specs.Places.{Place, place_of}
 use Rattle.pl_pair.specs.Runs.{InMessages, HadLimit, WhyNone, IsCauseOf, StoppedBy, ReadUpTo, RunsUntil, IsWrittenInPart, ReadsShort, one_behind, one_unread, RunsShort, in_lines, all_lines, behind_lines, PairRun}
 use Rattle.pl_pair.proofs.Cutting.{cut_short}
 use Rattle.pl_pair.proofs.Running.{runs_none}
@@ -35,9 +36,9 @@ use Rattle.pl_main.specs.declared.outcome.Outcome.TheVariants as outcome
 use Rattle.pl_main.specs.Runs.{fresh_state, AcceptsKept}
 use Rattle.pl_main.specs.Top.{line_limit, total_limit, fresh_reader, no_begin_line, HasRead, ShowsNoLine, ShowsLimit, faulty, WasGiven}
 use Rattle.pl_main.specs.Pairs.{IsPaired, IsPairDone, PairWaitsBehind, IsPairFull, HasPairBegun, IsPairTorn, torn_refusal, torn_run, ReadsInPart, to_next, at_next, IsPairShort, silent, in_part, in_round, between_rounds, Paired, PairedKnown, outcome_of, PairTextTorn, in_refusal, in_writing, PairTextShort, at_once, in_run, PairTextRuns}
-use Rattle.pl_stream.proofs.Stopping.{never_full, never_writes, limit_stops}
-use Rattle.pl_stream.proofs.Beginning.{head_then}
-use Rattle.pl_main.proofs.Ending.{split_is, begins_at, begins_nowhere, head_stopped, shows_none, shows_limit, fresh_begun, fresh_nowhere, fresh_halts}
+use Rattle.pl_input.proofs.Stopping.{never_full, never_writes, limit_stops}
+use Rattle.pl_input.proofs.Beginning.{head_then}
+use Rattle.pl_main.proofs.Ending.{split_is, begins_at, begins_nowhere, head_stopped, shows_none, shows_limit, fresh_begun, fresh_nowhere, fresh_halts, ends_behind}
 
 -- ---- a machine that was not opened
 
@@ -147,10 +148,6 @@ opened turns seed m place held e last now run = record {
 
 -- ---- how runs end
 
--- lines in front of lines that end with this one
-lines_end : (xs ys before : List (List ℕ)) (line : List ℕ) → ys ≡ before ++ line ∷ [] → (front : List (List ℕ)) × (xs ++ ys ≡ front ++ line ∷ [])
-lines_end xs ys before line is = (xs ++ before, ap (λ (ls : List (List ℕ)). xs ++ ls) is ∙ sym (append_assoc xs before (line ∷ [])))
-
 -- how far the input was read
 read_of : (input words : List ℕ) (place last : Place) (messages : List (Option (List ℕ))) (source_left : Option (List ℕ)) → IsBehind input words place → ahead last.reader.held source_left ≡ last.ahead → ReadUpTo place messages last
     → HasRead words messages input source_left
@@ -166,7 +163,7 @@ read_of input words place last messages source_left behind same read =
       text = both.0;
       behind = ap messages_of both.1 ∙ read.said;
       no_others = read.no_others;
-      no_further = λ front line e. (let found = read.no_further front line e in lines_end behind.heads read.lines found.0 line found.1);
+      no_further = λ front line e. (let found = read.no_further front line e in ends_behind behind.heads read.lines found.0 line found.1);
       used_up = λ front e.
           (let used : last.ahead ≡ Some [] = subst (λ (b : Option (List ℕ)). IsUsedUp b last.ahead) behind.is (read.used_up front e) in
           let h : Some k.rest ≡ Some [] = sym k.is ∙ used in (cc));

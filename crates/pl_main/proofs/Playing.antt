@@ -7,7 +7,7 @@ use Rattle.pl_io.specs.Reader.{NumberedLine}
 use Rattle.pl_io.specs.Writes.{AppendsFront}
 use Rattle.pl_model.specs.declared.whole.Model.{Model}
 use Rattle.pl_entry.specs.declared.entry.Entry.{Entry}
-use Rattle.pl_machine.specs.Lines.{is_blank_line, is_line_of, end_word, messages_from, messages_of}
+use Rattle.pl_input.specs.Words.{is_blank_line, is_line_of, end_word, messages_from, messages_of}
 use Rattle.pl_machine.specs.World.{World}
 use Rattle.pl_machine.specs.Step.{after}
 use Rattle.pl_entry.specs.Bounds.{IsMessageLine}
@@ -15,21 +15,23 @@ use Rattle.pl_machine.specs.Legal.{Legal, world_from}
 use Rattle.pl_main.specs.Solo.{solo_from}
 use Rattle.pl_machine.specs.Finished.{inputs_of, input_in}
 use Rattle.pl_machine.specs.Sound.{State}
+use Rattle.pl_machine.proofs.Runs.{world_append}
 use Rattle.pl_driver.specs.Rounds.{SameRun}
-use Rattle.pl_render.specs.Lines.{text_from}
-use Rattle.pl_render.proofs.Texts.{text_joined}
-use Rattle.pl_stream.specs.declared.halt.Halt.{Halt}
-use Rattle.pl_stream.specs.declared.halt.Halt.TheVariants as halt
-use Rattle.pl_stream.specs.Reads.{GaveKnown, IsUsedUp, AreBlank}
-use Rattle.pl_stream.specs.Stops.{HaltFor, ReadLeaves, LimitLeaves, StopsBy}
-use Rattle.pl_stream.specs.Waits.{GetsFault, MessageGives, line_in}
+use Rattle.pl_journal.specs.Rendering.Lines.{text_from}
+use Rattle.pl_journal.proofs.AboutRendering.Texts.{text_joined}
+use Rattle.pl_input.specs.declared.halt.Halt.{Halt}
+use Rattle.pl_input.specs.declared.halt.Halt.TheVariants as halt
+use Rattle.pl_input.specs.Reads.{GaveKnown, IsUsedUp, AreBlank}
+use Rattle.pl_input.specs.Stops.{HaltFor, ReadLeaves, LimitLeaves, StopsBy}
+use Rattle.pl_input.specs.Waits.{GetsFault, MessageGives, line_in}
 use Rattle.pl_main.specs.Tells.{IsReady, Told, ToldInPart, FillsUp, at_once, within}
-use Rattle.pl_stream.specs.Written.{Adds, WriteStops}
-use Rattle.pl_stream.specs.Places.{Place}
+use Rattle.pl_journal.specs.Written.{Adds, WriteStops}
+use Rattle.pl_input.specs.Places.{Place}
 use Rattle.pl_main.specs.Plays.{Plays, EndsAll, by_end, by_line, PlaysOut, PlayHalts, Answered, Filled, untold, told_in_part, Answering, StepsOn, StepFills, StepHalts, unread, unheard, unwritten, PlayFills, Steps, Playing}
-use Rattle.pl_stream.proofs.Reading.{took_none, took_more, gave_later}
-use Rattle.pl_stream.proofs.Stopping.{never_full, never_writes, read_leaves, limit_leaves, stops_by}
-use Rattle.pl_stream.proofs.Writing.{some_held, adds_then, appends_then}
+use Rattle.pl_input.proofs.Reading.{took_none, took_more, gave_later}
+use Rattle.pl_input.proofs.Stopping.{never_full, never_writes, read_leaves, limit_leaves, stops_by}
+use Rattle.pl_journal.proofs.AboutWriting.{some_held, adds_then, appends_then}
+use Rattle.pl_pair.proofs.Saying.{skip_blanks, message_next, end_next, none_left}
 
 pub input_fits : (start place : Place) (message : Option NumberedLine) (line : Option (List ℕ)) → start.reader.limit ≡ 4096 → line ≡ line_in message → IfSome line (λ bytes. All (λ byte. byte < 256) bytes)
     → MessageGives start.reader start.ahead (Ok message) place.reader place.ahead → IfSome line IsMessageLine
@@ -106,26 +108,6 @@ step_stops old start place held f halt.Memory gets is = unread refl refl
 
 -- ---- messages of lines
 
-blank_first : (line : List ℕ) (lines : List (List ℕ)) → is_blank_line line ≡ true → messages_of (line ∷ lines) ≡ messages_of lines
-unfolding messages_of
-blank_first line lines blank = rw blank refl
-
-pub blanks_first : (blanks lines : List (List ℕ)) → AreBlank blanks → messages_of (blanks ++ lines) ≡ messages_of lines
-blanks_first [] lines all = refl
-blanks_first (x ∷ xs) lines all = blank_first x (xs ++ lines) all.0 ∙ blanks_first xs lines all.1
-
-pub message_first : (line : List ℕ) (lines : List (List ℕ)) → is_blank_line line ≡ false → is_line_of end_word line ≡ false → messages_of (line ∷ lines) ≡ Some line ∷ messages_of lines
-unfolding messages_of
-message_first line lines message other = rw (message, other) refl
-
-pub end_first : (line : List ℕ) (lines : List (List ℕ)) → is_blank_line line ≡ false → is_line_of end_word line ≡ true → messages_of (line ∷ lines) ≡ Some line ∷ []
-unfolding messages_of
-end_first line lines message ends = rw (message, ends) refl
-
-pub none_left : messages_of [] ≡ None ∷ []
-unfolding messages_of
-none_left = refl
-
 pub not_single : {A : Type 0} (x y : A) (xs : List A) → x ∷ [] ≡ xs ++ y ∷ [] → (xs ≡ []) × (x ≡ y)
 not_single x y [] e = (refl, let h : x ∷ [] ≡ y ∷ [] = e in (cc))
 not_single x y (z ∷ []) e = absurd (cc)
@@ -154,13 +136,6 @@ messages_append (line ∷ lines) more ms e =
 solo_append : (w : World) (xs ys : List Entry) → solo_from w xs → solo_from (world_from w xs) ys → solo_from w (xs ++ ys)
 solo_append w [] ys first second = second
 solo_append w (x ∷ xs) ys first second = (first.0, solo_append (after w x.event) xs ys first.1 second)
-
-world_append : (w : World) (xs ys : List Entry) → world_from w (xs ++ ys) ≡ world_from (world_from w xs) ys
-world_append w [] ys = refl
-world_append w (x ∷ xs) ys = world_append (after w x.event) xs ys
-
-text_append : (m : Model) (n : ℕ) (xs ys : List Entry) → text_from m n (xs ++ ys) ≡ text_from m n xs ++ text_from m (n + length xs) ys
-text_append m n xs ys = text_joined m n xs ys
 
 drop_front : (xs ys : List Entry) → drop (length xs) (xs ++ ys) ≡ ys
 drop_front [] ys = refl
@@ -213,21 +188,21 @@ joined old mid new held written now before added log solo world same text log2 s
       solo = solo_append old.world before added solo (subst (λ (w : World). solo_from w added) world solo2);
       world = world2 ∙ ap (λ (w : World). world_from w added) world ∙ sym (world_append old.world before added);
       same = record { model = same2.model ∙ same.model; options = same2.options ∙ same.options };
-      text = subst (λ (t : List ℕ). Adds held now t) (sym (text_append old.model (length old.log) before added)) (adds_then held written now (text_from old.model (length old.log) before) (text_from old.model (length old.log + length before) added) text (subst (λ (t : List ℕ). Adds written now t) text_is text2));
+      text = subst (λ (t : List ℕ). Adds held now t) (sym (text_joined old.model (length old.log) before added)) (adds_then held written now (text_from old.model (length old.log) before) (text_from old.model (length old.log + length before) added) text (subst (λ (t : List ℕ). Adds written now t) text_is text2));
     }
 
 -- a front of the lines of a message's entries, behind those before it
 pub joined_front : (old mid new : State) (held written now : Option (List ℕ)) (before added : List Entry) → mid.log ≡ old.log ++ before → SameRun old mid → Adds held written (text_from old.model (length old.log) before) → new.log ≡ mid.log ++ added
     → AppendsFront written now (text_from mid.model (length mid.log) (drop (length mid.log) new.log)) → AppendsFront held now (text_from old.model (length old.log) (before ++ added))
 joined_front old mid new held written now before added log same text log2 front =
-    subst (λ (t : List ℕ). AppendsFront held now t) (sym (text_append old.model (length old.log) before added))
+    subst (λ (t : List ℕ). AppendsFront held now t) (sym (text_joined old.model (length old.log) before added))
     (appends_then held written now (text_from old.model (length old.log) before) (text_from old.model (length old.log + length before) added) text (subst (λ (t : List ℕ). AppendsFront written now t) (added_text old mid new before added log same log2) front))
 
 -- the messages of a line that doesn't end the run
 message_goes : (lines blanks : List (List ℕ)) (line : List ℕ) (ms : List (Option (List ℕ))) → messages_of lines ≡ ms ++ None ∷ [] → AreBlank blanks → is_blank_line line ≡ false → is_line_of end_word line ≡ false
     → messages_of (lines ++ (blanks ++ line ∷ [])) ≡ (ms ++ Some line ∷ []) ++ None ∷ []
 message_goes lines blanks line ms so_far blank message other =
-    messages_append lines (blanks ++ line ∷ []) ms so_far ∙ ap (λ (ns : List (Option (List ℕ))). ms ++ ns) (blanks_first blanks (line ∷ []) blank ∙ message_first line [] message other ∙ ap (λ (ns : List (Option (List ℕ))). Some line ∷ ns) none_left)
+    messages_append lines (blanks ++ line ∷ []) ms so_far ∙ ap (λ (ns : List (Option (List ℕ))). ms ++ ns) (skip_blanks blanks (line ∷ []) blank ∙ message_next line [] message other ∙ ap (λ (ns : List (Option (List ℕ))). Some line ∷ ns) none_left)
     ∙ sym (append_assoc ms (Some line ∷ []) (None ∷ []))
 
 -- the messages where a line ends the run
@@ -235,13 +210,13 @@ message_ends : (lines blanks more : List (List ℕ)) (line : List ℕ) (ms : Lis
     → messages_of ((lines ++ (blanks ++ line ∷ [])) ++ more) ≡ ms ++ Some line ∷ []
 message_ends lines blanks more line ms so_far blank message ends =
     ap messages_of (append_assoc lines (blanks ++ line ∷ []) more ∙ ap (λ (ls : List (List ℕ)). lines ++ ls) (append_assoc blanks (line ∷ []) more))
-    ∙ messages_append lines (blanks ++ line ∷ more) ms so_far ∙ ap (λ (ns : List (Option (List ℕ))). ms ++ ns) (blanks_first blanks (line ∷ more) blank ∙ end_first line more message ends)
+    ∙ messages_append lines (blanks ++ line ∷ more) ms so_far ∙ ap (λ (ns : List (Option (List ℕ))). ms ++ ns) (skip_blanks blanks (line ∷ more) blank ∙ end_next line more message ends)
 
 -- the messages where the input ends
 input_ends : (lines blanks : List (List ℕ)) (ms : List (Option (List ℕ))) → messages_of lines ≡ ms ++ None ∷ [] → AreBlank blanks → messages_of ((lines ++ blanks) ++ []) ≡ ms ++ None ∷ []
 input_ends lines blanks ms so_far blank =
     ap messages_of (append-nil (lines ++ blanks)) ∙ messages_append lines blanks ms so_far
-    ∙ ap (λ (ns : List (Option (List ℕ))). ms ++ ns) (ap messages_of (sym (append-nil blanks)) ∙ blanks_first blanks [] blank ∙ none_left)
+    ∙ ap (λ (ns : List (Option (List ℕ))). ms ++ ns) (ap messages_of (sym (append-nil blanks)) ∙ skip_blanks blanks [] blank ∙ none_left)
 
 pub plays_on : (old mid new : State) (start middle place : Place) (held written now : Option (List ℕ)) → Plays old start held mid middle written → StepsOn mid middle written new place now → new.world.done ≡ false → Plays old start held new place now
 plays_on old mid new start middle place held written now plays step going = by_message step.message step.gets step.told
@@ -341,7 +316,7 @@ plays_halt e old mid new start middle place held written now plays step =
       solo = plays.solo;
       world = ap (λ (t : State). t.world) step.same ∙ plays.world;
       messages = messages_append plays.lines step.fault.lines (inputs_of plays.entries) plays.messages
-          ∙ ap (λ (ns : List (Option (List ℕ))). inputs_of plays.entries ++ ns) (ap messages_of (sym (append-nil step.fault.lines)) ∙ blanks_first step.fault.lines [] step.fault.blank ∙ none_left);
+          ∙ ap (λ (ns : List (Option (List ℕ))). inputs_of plays.entries ++ ns) (ap messages_of (sym (append-nil step.fault.lines)) ∙ skip_blanks step.fault.lines [] step.fault.blank ∙ none_left);
       ready = subst (λ (t : State). IsReady t) (sym step.same) plays.ready;
       same = subst (λ (t : State). SameRun old t) (sym step.same) plays.same;
       written = subst (λ (h : Option (List ℕ)). Adds held h (text_from old.model (length old.log) plays.entries)) (sym step.written) plays.written;

@@ -7,20 +7,20 @@ use Rattle.pl_io.specs.Lines.{ahead}
 use Rattle.pl_io.specs.Reader.{Reader}
 use Rattle.pl_io.specs.Writes.{AppendsFront}
 use Rattle.pl_model.specs.declared.whole.Model.{Model}
-use Rattle.pl_machine.specs.Lines.{model_text_of}
+use Rattle.pl_input.specs.Words.{model_text_of}
 use Rattle.pl_machine.specs.World.{World}
 use Rattle.pl_machine.specs.Legal.{Legal, world_of}
 use Rattle.pl_machine.specs.Sound.{State}
-use Rattle.pl_accept.specs.declared.accepting.Accepted.TheVariants as accepted
-use Rattle.pl_stream.specs.declared.halt.Halt.{Halt}
-use Rattle.pl_stream.specs.declared.halt.Halt.TheVariants as halt
-use Rattle.pl_stream.specs.Reads.{Gave, Took, IsUsedUp}
-use Rattle.pl_stream.specs.Stops.{HaltFor, ReadLeaves, LimitLeaves, StopsBy}
-use Rattle.pl_stream.specs.Heads.{IsBegun, HasNoBegin, HeadHalts}
-use Rattle.pl_stream.specs.Written.{Adds}
-use Rattle.pl_stream.proofs.Reading.{gave_append, known, IsKnown}
-use Rattle.pl_stream.proofs.Beginning.{head_then}
-use Rattle.pl_stream.proofs.Stopping.{never_full, never_writes, read_leaves, limit_leaves, stops_by}
+use Rattle.pl_check.specs.declared.accepting.Accepted.TheVariants as accepted
+use Rattle.pl_input.specs.declared.halt.Halt.{Halt}
+use Rattle.pl_input.specs.declared.halt.Halt.TheVariants as halt
+use Rattle.pl_input.specs.Reads.{Gave, Took, IsUsedUp}
+use Rattle.pl_input.specs.Stops.{HaltFor, ReadLeaves, LimitLeaves, StopsBy}
+use Rattle.pl_input.specs.Heads.{IsBegun, HasNoBegin, HeadHalts}
+use Rattle.pl_journal.specs.Written.{Adds}
+use Rattle.pl_input.proofs.Reading.{gave_append, known, IsKnown}
+use Rattle.pl_input.proofs.Beginning.{head_then}
+use Rattle.pl_input.proofs.Stopping.{never_full, never_writes, read_leaves, limit_leaves, stops_by}
 use Rattle.pl_replay.specs.declared.verdict.Verdict.{Verdict}
 use Rattle.pl_replay.specs.declared.verdict.Verdict.TheVariants as verdict
 use Rattle.pl_replay.specs.Journals.{entry_lines, lines_from, IsWrongAtLast}
@@ -29,7 +29,7 @@ use Rattle.pl_report.specs.Verdicts.{verdict_line}
 use Rattle.pl_main.specs.declared.form.Form.{Form}
 use Rattle.pl_main.specs.declared.judgement.Judgement.{Judgement}
 use Rattle.pl_main.specs.declared.judgement.Judgement.TheVariants as judged
-use Rattle.pl_stream.specs.Places.{Place, place_of}
+use Rattle.pl_input.specs.Places.{Place, place_of}
 use Rattle.pl_main.specs.Runs.{AcceptsKept, IsKeptModel, TextFails}
 use Rattle.pl_main.specs.Top.{total_limit, fresh_reader, no_begin_line, ShowsNoLine, ShowsLimit, IsNoModel, faulty}
 use Rattle.pl_main.specs.Replays.{journal_line_limit, state_of, text_of_form, HasTaken, IsRightJournal, IsWrong, no_entry, wrong_last, IsWrongJournal, IsRightSoFar, IsJournalShort, of_right, of_wrong, of_refusal, ReadsBack, ReadsBackKnown, WritesAs, WritesJudged, RightBehind, WrongBehind, ShortBehind, right_cut, wrong_cut, ModelReads, TextCut, journal_cut, refusal_cut, TextReads}

@@ -6,18 +6,18 @@ use Rattle.pl_io.specs.declared.errors.LineFault.{LineFault}
 use Rattle.pl_io.specs.Lines.{ahead}
 use Rattle.pl_io.specs.Reader.{Reader}
 use Rattle.pl_io.specs.Writes.{AppendsFront}
-use Rattle.pl_stream.specs.declared.halt.Halt.{Halt}
-use Rattle.pl_stream.specs.declared.halt.Halt.TheVariants as halt
+use Rattle.pl_input.specs.declared.halt.Halt.{Halt}
+use Rattle.pl_input.specs.declared.halt.Halt.TheVariants as halt
 use Rattle.pl_main.specs.declared.outcome.Outcome.{Outcome}
 use Rattle.pl_main.specs.declared.outcome.Outcome.TheVariants as outcome
-use Rattle.pl_stream.specs.Stops.{HaltFor}
-use Rattle.pl_stream.specs.Heads.{IsBegun, HasNoBegin, HeadHalts}
-use Rattle.pl_stream.specs.Written.{Adds}
-use Rattle.pl_stream.specs.Places.{Place, place_of}
+use Rattle.pl_input.specs.Stops.{HaltFor}
+use Rattle.pl_input.specs.Heads.{IsBegun, HasNoBegin, HeadHalts}
+use Rattle.pl_journal.specs.Written.{Adds}
+use Rattle.pl_input.specs.Places.{Place, place_of}
 use Rattle.pl_main.specs.Runs.{TextRuns}
 use Rattle.pl_main.specs.Top.{Ran, RanKnown, line_limit, total_limit, fresh_reader, no_begin_line, faulty, in_refusal, nothing}
-use Rattle.pl_stream.proofs.Reading.{known}
-use Rattle.pl_stream.proofs.Stopping.{never_full, never_writes}
+use Rattle.pl_input.proofs.Reading.{known}
+use Rattle.pl_input.proofs.Stopping.{never_full, never_writes}
 use Rattle.pl_main.proofs.Ending.{past_limit, read_fault, stopped_ends, done_ends, full_ends, behind_text, begins_at, begins_nowhere, head_stopped, fresh_begun, fresh_nowhere, fresh_halts}
 use Rattle.pl_main.proofs.Breaking.{short_whole, memory_whole}
 

@@ -2,6 +2,7 @@
 use Rattle.std.proofs.Common.{◌≡◌, ℕ, ◌≤◌, List, [], length, All, Option, Some, None, Result, Ok, Err, refl, sym, ap, ◌∙◌, subst, arith}
 use Rattle.std.specs.declared.vec.Vec.{Vec}
 use Rattle.std.specs.declared.alloc.Global.{Global}
+use Rattle.std.proofs.lemmas.Option.{same_Some}
 use Rattle.pl_io.specs.declared.errors.LineFault.{LineFault}
 use Rattle.pl_io.specs.declared.errors.LineFault.TheVariants as fault
 use Rattle.pl_io.specs.Faults.{Rose}
@@ -13,28 +14,28 @@ use Rattle.pl_entry.specs.declared.entry.Entry.{Entry}
 use Rattle.pl_machine.specs.World.{World}
 use Rattle.pl_machine.specs.Legal.{Legal, world_of}
 use Rattle.pl_machine.specs.Sound.{State}
-use Rattle.pl_accept.specs.declared.accepting.Accepted.TheVariants as accepted
-use Rattle.pl_accept.specs.Accepting.{IsModelText}
-use Rattle.pl_accept.proofs.Apart.{apart}
+use Rattle.pl_check.specs.declared.accepting.Accepted.TheVariants as accepted
+use Rattle.pl_check.specs.Accepting.{IsModelText}
+use Rattle.pl_check.proofs.Apart.{apart}
 use Rattle.pl_report.specs.Demonstration.{demo_text}
 use Rattle.pl_report.proofs.Lines.{demo_text_lines, demo_lines_short, demo_text_short}
-use Rattle.pl_demo.specs.DemoModel.{demo_words, demo_model}
-use Rattle.pl_demo.proofs.Beginning.{demo_begins}
-use Rattle.pl_demo.proofs.Modelling.{demo_accepted}
-use Rattle.pl_stream.specs.declared.halt.Halt.{Halt}
-use Rattle.pl_stream.specs.declared.halt.Halt.TheVariants as halt
+use Rattle.pl_report.specs.DemoModel.{demo_words, demo_model}
+use Rattle.pl_report.proofs.AboutDemonstration.Beginning.{demo_begins}
+use Rattle.pl_report.proofs.AboutDemonstration.Modelling.{demo_accepted}
+use Rattle.pl_input.specs.declared.halt.Halt.{Halt}
+use Rattle.pl_input.specs.declared.halt.Halt.TheVariants as halt
 use Rattle.pl_main.specs.declared.outcome.Outcome.{Outcome}
 use Rattle.pl_main.specs.declared.outcome.Outcome.TheVariants as outcome
-use Rattle.pl_stream.specs.Stops.{HaltFor}
-use Rattle.pl_stream.specs.Heads.{IsBegun, HasNoBegin, HeadHalts}
-use Rattle.pl_stream.specs.Places.{Place, place_of}
+use Rattle.pl_input.specs.Stops.{HaltFor}
+use Rattle.pl_input.specs.Heads.{IsBegun, HasNoBegin, HeadHalts}
+use Rattle.pl_input.specs.Places.{Place, place_of}
 use Rattle.pl_main.specs.Plays.{Playing}
 use Rattle.pl_main.specs.Runs.{fresh_state, AcceptsKept, IsKeptModel}
 use Rattle.pl_main.specs.Top.{line_limit, fresh_reader, no_begin_line}
 use Rattle.pl_main.specs.Limits.{IsWithinLimits}
-use Rattle.pl_stream.specs.Written.{Adds}
+use Rattle.pl_journal.specs.Written.{Adds}
 use Rattle.pl_main.specs.Demos.{demo_turns, summary_line, IsShownShort, Shows, IsPlayed, DemoPlays, KeepsModel, ModelShown, ModelShows, TextShows}
-use Rattle.pl_stream.proofs.Stopping.{never_full, never_writes, only_reads}
+use Rattle.pl_input.proofs.Stopping.{never_full, never_writes, only_reads}
 use Rattle.pl_main.proofs.Ending.{fresh_begun, begins_at, IsDoneWith, done_with}
 use Rattle.pl_main.proofs.Running.{begun_solo, refused_solo, head_solo}
 use Rattle.pl_main.proofs.Causes.{no_model_of, run_within}
@@ -46,9 +47,6 @@ demo_within goals few = record {
   lines = subst (λ (ls : List (List ℕ)). All (λ line. length line ≤ 4096) ls) (sym (demo_text_lines goals few)) (λ k d less. omega (arith, demo_lines_short goals few k d less));
   total = omega (arith, demo_text_short goals few);
 }
-
-some_same : (x y : List ℕ) → Some x ≡ Some y → x ≡ y
-some_same x y e = cc
 
 -- a count that stands at 0 did not rise
 pub never_rose : Rose 0 0 → ⊥
@@ -164,7 +162,7 @@ model_then : (goals : ℕ) (old : Reader) (kept : Option (Vec ℕ Global)) (new 
 model_then goals old kept new after few is_fresh begun =
     let fresh = fresh_begun line_limit old kept new (Input goals) (ahead new.held after) is_fresh begun in
     let head = begins_at line_limit kept new (demo_text goals) (ahead new.held after) after fresh refl in
-    let same : demo_words ≡ fresh.words = some_same demo_words fresh.words (sym (demo_begins goals few) ∙ head.text) in
+    let same : demo_words ≡ fresh.words = same_Some demo_words fresh.words (sym (demo_begins goals few) ∙ head.text) in
     record {
       words = fresh.words;
       model = demo_model;

@@ -2,7 +2,7 @@
 use Rattle.std.proofs.Common.{◌≡◌, ℕ, List, [], ◌∷◌, ◌++◌, length, ap, ◌∙◌, append_assoc}
 use Rattle.std.specs.Prelude.{codes, decimal}
 use Rattle.pl_entry.specs.declared.entry.Entry.{Entry}
-use Rattle.pl_world.specs.Conflicts.{conflicts_of}
+use Rattle.pl_semantics.specs.Conflicts.{conflicts_of}
 use Rattle.pl_machine.specs.World.{World}
 use Rattle.pl_main.specs.Demos.{summary_line}
 

@@ -20,12 +20,8 @@ use Rattle.pl_driver.specs.Rounds.{RanTo, Rounds}
 use Rattle.pl_main.specs.Solo.{IsSoloEvent, solo_from}
 use Rattle.pl_main.specs.Tells.{is_last, Hears, Told, FillsUp, at_once, within, Telling}
 use Rattle.pl_pair.proofs.Ends.{is_ended, line_ends}
+use Rattle.pl_pair.proofs.Ending.{line_done}
 use Rattle.pl_main.proofs.Leasts.{TakesLeast, least_solo}
-
-done_by : (w : World) (line : List ℕ) (r : Reply) → w.done ≡ false → (after_input w (Some line) r).done ≡ is_ended r
-done_by w line reply.Ended going = refl
-done_by w line reply.Done going = going
-done_by w line _ going = going
 
 closed_by : (w : World) (line : List ℕ) (r : Reply) → w.closed ≡ true → (after_input w (Some line) r).closed ≡ is_ended r
 closed_by w line reply.Ended closed = closed
@@ -34,7 +30,7 @@ closed_by w line _ closed = refl
 
 input_done : (w : World) (input : Option (List ℕ)) → w.done ≡ false → (after w (event.Input input)).done ≡ is_last input
 input_done w None going = refl
-input_done w (Some line) going = done_by w line (line_reply w.state w.options.goals line) going ∙ line_ends w.state w.options.goals line
+input_done w (Some line) going = line_done w line (line_reply w.state w.options.goals line) going ∙ line_ends w.state w.options.goals line
 
 input_closed : (w : World) (input : Option (List ℕ)) → w.closed ≡ true → (after w (event.Input input)).closed ≡ is_last input
 input_closed w None closed = closed

@@ -3,24 +3,24 @@ use Rattle.std.specs.Prelude.{◌≡◌, List, [], ◌∷◌, ◌++◌, ℕ, len
 use Rattle.pl_io.specs.Writes.{AppendsFront}
 use Rattle.pl_model.specs.declared.whole.Model.{Model}
 use Rattle.pl_entry.specs.declared.entry.Entry.{Entry}
-use Rattle.pl_world.specs.Conflicts.{conflicts_of}
+use Rattle.pl_semantics.specs.Conflicts.{conflicts_of}
 use Rattle.pl_machine.specs.World.{World}
 use Rattle.pl_machine.specs.Legal.{Legal, world_of}
 use Rattle.pl_machine.specs.Sound.{State}
-use Rattle.pl_accept.specs.Accepting.{IsModelText}
+use Rattle.pl_check.specs.Accepting.{IsModelText}
 use Rattle.pl_report.specs.Demonstration.{demo_text}
 use Rattle.std.specs.declared.vec.Vec.{Vec}
 use Rattle.std.specs.declared.alloc.Global.{Global}
-use Rattle.pl_stream.specs.declared.halt.Halt.{Halt}
-use Rattle.pl_stream.specs.declared.halt.Halt.TheVariants as halt
+use Rattle.pl_input.specs.declared.halt.Halt.{Halt}
+use Rattle.pl_input.specs.declared.halt.Halt.TheVariants as halt
 use Rattle.pl_main.specs.declared.outcome.Outcome.{Outcome}
 use Rattle.pl_main.specs.declared.outcome.Outcome.TheVariants as outcome
-use Rattle.pl_stream.specs.Heads.{Keeps}
-use Rattle.pl_stream.specs.Places.{Place}
+use Rattle.pl_input.specs.Heads.{Keeps}
+use Rattle.pl_input.specs.Places.{Place}
 use Rattle.pl_main.specs.Plays.{PlaysOut}
 use Rattle.pl_main.specs.Runs.{fresh_state, ModelRun, IsKeptModel}
 use Rattle.pl_main.specs.Top.{IsDone, IsFull}
-use Rattle.pl_stream.specs.Written.{Adds}
+use Rattle.pl_journal.specs.Written.{Adds}
 
 -- the repair turns of a round
 abbrev pub demo_turns : ℕ

@@ -1,6 +1,6 @@
 pub use Rattle.pl_io.specs.Faults
 pub use Rattle.pl_io.specs.Writes
-pub use Rattle.pl_stream.specs.Written
+pub use Rattle.pl_journal.specs.Written
 pub mod Numbers
 pub mod Words
 pub mod Solo

@@ -3,8 +3,8 @@ use Rattle.std.specs.Prelude.{◌≡◌, ℕ, ◌≤◌, ◌⊎◌, List, [], �
 use Rattle.pl_io.specs.Lines.{lines_of}
 use Rattle.pl_model.specs.declared.whole.Model.{Model}
 use Rattle.pl_entry.specs.declared.entry.Entry.{Entry}
-use Rattle.pl_machine.specs.Lines.{lines_behind, split_of}
-use Rattle.pl_accept.specs.Accepting.{IsModelText}
+use Rattle.pl_input.specs.Words.{lines_behind, split_of}
+use Rattle.pl_check.specs.Accepting.{IsModelText}
 use Rattle.pl_replay.specs.declared.verdict.Verdict.{Verdict}
 use Rattle.pl_replay.specs.Journals.{entry_lines, IsJournalOf, IsWrongAtLast}
 use Rattle.pl_main.specs.declared.command.Task.{Task}

@@ -5,21 +5,22 @@ use Rattle.std.specs.declared.alloc.Global.{Global}
 use Rattle.pl_io.specs.Writes.{AppendsFront}
 use Rattle.pl_model.specs.declared.whole.Model.{Model}
 use Rattle.pl_entry.specs.declared.entry.Entry.{Entry}
-use Rattle.pl_machine.specs.Lines.{model_text_of, lines_behind, messages_of, split_of}
+use Rattle.pl_input.specs.Words.{model_text_of, lines_behind, messages_of, split_of}
 use Rattle.pl_machine.specs.Legal.{opening, world_of}
 use Rattle.pl_machine.specs.Finished.{inputs_of, Finished}
-use Rattle.pl_render.specs.Lines.{text_of_log}
-use Rattle.pl_accept.specs.Accepting.{IsModelText, IsRefusedAs}
-use Rattle.pl_stream.specs.declared.halt.Halt.{Halt}
-use Rattle.pl_stream.specs.declared.halt.Halt.TheVariants as halt
-use Rattle.pl_stream.specs.Heads.{Keeps}
-use Rattle.pl_stream.specs.Reads.{Gave}
-use Rattle.pl_stream.specs.Stops.{IsStuck}
-use Rattle.pl_stream.specs.Written.{Adds, IsCutShort}
+use Rattle.pl_journal.specs.Rendering.Lines.{text_of_log}
+use Rattle.pl_check.specs.Accepting.{IsModelText, IsRefusedAs}
+use Rattle.pl_input.specs.declared.halt.Halt.{Halt}
+use Rattle.pl_input.specs.declared.halt.Halt.TheVariants as halt
+use Rattle.pl_input.specs.Heads.{Keeps}
+use Rattle.pl_input.specs.Reads.{Gave}
+use Rattle.pl_input.specs.Stops.{IsStuck}
+use Rattle.pl_driver.specs.CutShort.{IsCutShort}
+use Rattle.pl_journal.specs.Written.{Adds}
 use Rattle.pl_shared.specs.Roles.{is_input}
 use Rattle.pl_pair.specs.declared.ended.Ended.{Ended}
 use Rattle.pl_pair.specs.declared.ended.Ended.TheVariants as ended
-use Rattle.pl_stream.specs.Places.{Place}
+use Rattle.pl_input.specs.Places.{Place}
 use Rattle.pl_pair.specs.Served.{AreOf}
 use Rattle.pl_pair.specs.Chosen.{AreChosen}
 use Rattle.pl_pair.specs.Runs.{History, PairRun}

@@ -5,21 +5,21 @@ use Rattle.pl_io.specs.Sparing.{read_size}
 use Rattle.pl_io.specs.Writes.{AppendsFront}
 use Rattle.pl_io.specs.declared.errors.LineFault.{LineFault}
 use Rattle.pl_entry.specs.declared.entry.Entry.{Entry}
-use Rattle.pl_machine.specs.Lines.{messages_of}
+use Rattle.pl_input.specs.Words.{messages_of}
 use Rattle.pl_machine.specs.Legal.{Legal, world_from}
 use Rattle.pl_main.specs.Solo.{solo_from}
 use Rattle.pl_machine.specs.Finished.{inputs_of}
 use Rattle.pl_machine.specs.Sound.{State}
 use Rattle.pl_driver.specs.Rounds.{SameRun}
-use Rattle.pl_render.specs.Lines.{text_from}
-use Rattle.pl_stream.specs.declared.halt.Halt.{Halt}
-use Rattle.pl_stream.specs.declared.halt.Halt.TheVariants as halt
-use Rattle.pl_stream.specs.Reads.{GaveKnown, Took}
+use Rattle.pl_journal.specs.Rendering.Lines.{text_from}
+use Rattle.pl_input.specs.declared.halt.Halt.{Halt}
+use Rattle.pl_input.specs.declared.halt.Halt.TheVariants as halt
+use Rattle.pl_input.specs.Reads.{GaveKnown, Took}
 use Rattle.pl_main.specs.Tells.{IsReady, Told, ToldInPart, FillsUp}
-use Rattle.pl_stream.specs.Stops.{HaltFor, ReadLeaves, LimitLeaves, StopsBy}
-use Rattle.pl_stream.specs.Waits.{MessageGives, GetsFault, line_in}
-use Rattle.pl_stream.specs.Places.{Place}
-use Rattle.pl_stream.specs.Written.{Adds}
+use Rattle.pl_input.specs.Stops.{HaltFor, ReadLeaves, LimitLeaves, StopsBy}
+use Rattle.pl_input.specs.Waits.{MessageGives, GetsFault, line_in}
+use Rattle.pl_input.specs.Places.{Place}
+use Rattle.pl_journal.specs.Written.{Adds}
 
 -- Lines were taken, their messages are the inputs of these entries, and the entries' lines were written.
 pub record Plays (old : State) (start : Place) (held : Option (List ℕ)) (new : State) (place : Place) (now : Option (List ℕ)) : Type 0 where

@@ -6,15 +6,15 @@ use Rattle.pl_io.specs.declared.errors.LineFault.{LineFault}
 use Rattle.pl_io.specs.Writes.{AppendsFront}
 use Rattle.pl_model.specs.declared.whole.Model.{Model}
 use Rattle.pl_entry.specs.declared.entry.Entry.{Entry}
-use Rattle.pl_machine.specs.Lines.{model_text_of, lines_behind}
+use Rattle.pl_input.specs.Words.{model_text_of, lines_behind}
 use Rattle.pl_machine.specs.Legal.{Legal, world_of}
 use Rattle.pl_machine.specs.Sound.{State}
-use Rattle.pl_accept.specs.Accepting.{IsModelText}
-use Rattle.pl_stream.specs.declared.halt.Halt.{Halt}
-use Rattle.pl_stream.specs.declared.halt.Halt.TheVariants as halt
-use Rattle.pl_stream.specs.Reads.{Gave, Took, IsUsedUp}
-use Rattle.pl_stream.specs.Stops.{IsStuck, HaltFor}
-use Rattle.pl_stream.specs.Written.{Adds}
+use Rattle.pl_check.specs.Accepting.{IsModelText}
+use Rattle.pl_input.specs.declared.halt.Halt.{Halt}
+use Rattle.pl_input.specs.declared.halt.Halt.TheVariants as halt
+use Rattle.pl_input.specs.Reads.{Gave, Took, IsUsedUp}
+use Rattle.pl_input.specs.Stops.{IsStuck, HaltFor}
+use Rattle.pl_journal.specs.Written.{Adds}
 use Rattle.pl_replay.specs.declared.verdict.Verdict.{Verdict}
 use Rattle.pl_replay.specs.declared.verdict.Verdict.TheVariants as verdict
 use Rattle.pl_replay.specs.Journals.{entry_lines, lines_from, IsJournalOf, IsWrongAtLast}
@@ -25,7 +25,7 @@ use Rattle.pl_main.specs.declared.form.Form.{Form}
 use Rattle.pl_main.specs.declared.form.Form.TheVariants as which
 use Rattle.pl_main.specs.declared.judgement.Judgement.{Judgement}
 use Rattle.pl_main.specs.declared.judgement.Judgement.TheVariants as judged
-use Rattle.pl_stream.specs.Places.{Place}
+use Rattle.pl_input.specs.Places.{Place}
 use Rattle.pl_main.specs.Runs.{IsKeptModel, TextFails}
 use Rattle.pl_main.specs.Top.{total_limit, IsReadTo, ShowsNoLine, ShowsLimit, IsNoModel}
 

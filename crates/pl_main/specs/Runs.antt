@@ -7,16 +7,16 @@ use Rattle.pl_model.specs.declared.whole.Model.{Model}
 use Rattle.pl_machine.specs.Legal.{Legal, opening}
 use Rattle.pl_machine.specs.World.{fresh_world}
 use Rattle.pl_machine.specs.Sound.{State}
-use Rattle.pl_render.specs.Lines.{text_from}
-use Rattle.pl_accept.specs.declared.accepting.Accepted.{Accepted}
-use Rattle.pl_accept.specs.Accepting.{IsModelText, IsRefusedAs, Accepts}
-use Rattle.pl_stream.specs.declared.halt.Halt.{Halt}
-use Rattle.pl_stream.specs.declared.halt.Halt.TheVariants as halt
+use Rattle.pl_journal.specs.Rendering.Lines.{text_from}
+use Rattle.pl_check.specs.declared.accepting.Accepted.{Accepted}
+use Rattle.pl_check.specs.Accepting.{IsModelText, IsRefusedAs, Accepts}
+use Rattle.pl_input.specs.declared.halt.Halt.{Halt}
+use Rattle.pl_input.specs.declared.halt.Halt.TheVariants as halt
 use Rattle.pl_main.specs.declared.outcome.Outcome.{Outcome}
 use Rattle.pl_main.specs.declared.outcome.Outcome.TheVariants as outcome
-use Rattle.pl_stream.specs.Heads.{Keeps}
-use Rattle.pl_stream.specs.Written.{Adds}
-use Rattle.pl_stream.specs.Places.{Place}
+use Rattle.pl_input.specs.Heads.{Keeps}
+use Rattle.pl_journal.specs.Written.{Adds}
+use Rattle.pl_input.specs.Places.{Place}
 use Rattle.pl_main.specs.Plays.{Playing}
 use Rattle.pl_main.specs.Top.{program_options, model_ok_line}
 

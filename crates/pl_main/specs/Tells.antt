@@ -4,7 +4,7 @@ use Rattle.pl_entry.specs.declared.event.Event.TheVariants as event
 use Rattle.pl_entry.specs.declared.entry.Entry.{Entry}
 use Rattle.pl_machine.specs.declared.stop.Stop.{Stop}
 use Rattle.pl_machine.specs.declared.stop.Stop.TheVariants as stop
-use Rattle.pl_machine.specs.Lines.{is_line_of, end_word}
+use Rattle.pl_input.specs.Words.{is_line_of, end_word}
 use Rattle.pl_machine.specs.Step.{after}
 use Rattle.pl_machine.specs.Legal.{world_from}
 use Rattle.pl_main.specs.Solo.{solo_from}

@@ -7,19 +7,20 @@ use Rattle.pl_io.specs.Writes.{AppendsFront}
 use Rattle.pl_model.specs.declared.whole.Model.{Model}
 use Rattle.pl_facts.specs.declared.options.Options.{Options}
 use Rattle.pl_entry.specs.declared.entry.Entry.{Entry}
-use Rattle.pl_machine.specs.Lines.{model_text_of, lines_behind, messages_of, split_of}
+use Rattle.pl_input.specs.Words.{model_text_of, lines_behind, messages_of, split_of}
 use Rattle.pl_machine.specs.Legal.{Legal, options_of, world_of}
 use Rattle.pl_main.specs.Solo.{Solo}
 use Rattle.pl_machine.specs.Finished.{inputs_of, Finished}
-use Rattle.pl_render.specs.Lines.{text_of_log}
-use Rattle.pl_accept.specs.Accepting.{IsModelText, IsRefusedAs}
-use Rattle.pl_stream.specs.declared.halt.Halt.{Halt}
-use Rattle.pl_stream.specs.declared.halt.Halt.TheVariants as halt
+use Rattle.pl_journal.specs.Rendering.Lines.{text_of_log}
+use Rattle.pl_check.specs.Accepting.{IsModelText, IsRefusedAs}
+use Rattle.pl_input.specs.declared.halt.Halt.{Halt}
+use Rattle.pl_input.specs.declared.halt.Halt.TheVariants as halt
 use Rattle.pl_main.specs.declared.outcome.Outcome.{Outcome}
 use Rattle.pl_main.specs.declared.outcome.Outcome.TheVariants as outcome
-use Rattle.pl_stream.specs.Reads.{Gave}
-use Rattle.pl_stream.specs.Stops.{IsStuck}
-use Rattle.pl_stream.specs.Written.{Adds, IsCutShort}
+use Rattle.pl_input.specs.Reads.{Gave}
+use Rattle.pl_input.specs.Stops.{IsStuck}
+use Rattle.pl_driver.specs.CutShort.{IsCutShort}
+use Rattle.pl_journal.specs.Written.{Adds}
 
 -- the limits of the program, with the turns of the words
 abbrev pub program_options : ℕ → Options

@@ -3,17 +3,18 @@ ghost use Rattle.pl_io.specs.Faults.{Rose};
 ghost use Rattle.pl_io.specs.Writes.{AppendsFront};
 ghost use Rattle.pl_main.specs.Runs.{TextChecks};
 ghost use Rattle.pl_main.specs.Top.{model_ok_line, ChecksKnown};
-ghost use Rattle.pl_stream.specs.Written.{Adds, WriteStops};
+ghost use Rattle.pl_journal.specs.Written.{Adds, WriteStops};
 
 use crate::judging::{NO_BEGIN, model_of, refuse};
 use crate::outcome::Outcome;
 use crate::whole::{LINE_LIMIT, TOTAL_LIMIT};
-use pl_accept::Accepted;
+use pl_check::Accepted;
+use pl_input::{Halt, Head, halt_of, read_head};
 use pl_io::{LineReader, Sink, Source, put};
 use pl_model::Model;
-use pl_stream::{Halt, Head, halt_of, read_head};
 use std::alloc::{AllocError, Global};
 
+/// Puts the words and then the count in decimal at the end.
 pub fn push_counted(out: &mut Vec<u8>, words: &[u8], count: usize) -> Result<(), AllocError>
     ensures { OnOk result (out.new.items ≡ out.old.items ++ (words.now ++ decimal count)) }
 {

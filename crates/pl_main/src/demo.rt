@@ -1,7 +1,7 @@
 ghost use Rattle.std.specs.Prelude.{◌≡◌, ◌≤◌, None, Some, IsErrOf, IfOk, false};
 ghost use Rattle.pl_io.specs.Faults.{Rose};
 ghost use Rattle.pl_model.specs.Checked.{IsChecked};
-ghost use Rattle.pl_stream.specs.Places.{place_of};
+ghost use Rattle.pl_input.specs.Places.{place_of};
 ghost use Rattle.pl_main.specs.Demos.{summary_line, Shows, DemoPlays, KeepsModel, ModelShows, TextShows};
 
 use crate::check::push_counted;
@@ -9,12 +9,12 @@ use crate::judging::model_of;
 use crate::outcome::Outcome;
 use crate::play::play;
 use crate::whole::{LINE_LIMIT, TOTAL_LIMIT, program_options};
-use pl_accept::Accepted;
+use pl_check::Accepted;
+use pl_input::{Halt, Head, halt_of, read_head};
 use pl_io::{LineReader, Sink, SureSink, SureSource, put};
 use pl_machine::Machine;
 use pl_model::Model;
 use pl_report::demo_input;
-use pl_stream::{Halt, Head, halt_of, read_head};
 use std::alloc::{AllocError, Global};
 use std::sync::Arc;
 

@@ -5,12 +5,12 @@ ghost use Rattle.pl_main.specs.Replays.{text_of_form, WritesAs, WritesJudged};
 
 use crate::form::Form;
 use crate::judgement::Judgement;
+use pl_input::Halt;
 use pl_io::{Sink, put};
 use pl_machine::Machine;
 use pl_model::Model;
 use pl_replay::Verdict;
 use pl_report::{report, verdict_line};
-use pl_stream::Halt;
 use std::alloc::{AllocError, Global};
 
 /// Writes a text, which says this of a journal.

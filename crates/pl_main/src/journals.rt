@@ -1,7 +1,7 @@
 ghost use Rattle.std.specs.Prelude.{◌≡◌, None, IsErrOf};
 ghost use Rattle.pl_io.specs.Faults.{Rose};
 ghost use Rattle.pl_model.specs.Checked.{IsChecked};
-ghost use Rattle.pl_stream.specs.Places.{place_of};
+ghost use Rattle.pl_input.specs.Places.{place_of};
 ghost use Rattle.pl_main.specs.Replays.{ModelReads, TextReads, ReadsBackKnown};
 
 use crate::form::Form;
@@ -9,11 +9,11 @@ use crate::journal_text::{write_judged, write_text};
 use crate::judgement::Judgement;
 use crate::judging::{NO_BEGIN, model_of};
 use crate::whole::TOTAL_LIMIT;
-use pl_accept::Accepted;
+use pl_check::Accepted;
+use pl_input::{Halt, Head, halt_of, read_head};
 use pl_io::{LineReader, Sink, Source};
 use pl_model::Model;
 use pl_replay::verify;
-use pl_stream::{Halt, Head, halt_of, read_head};
 use std::alloc::Global;
 use std::sync::Arc;
 

@@ -1,13 +1,13 @@
 ghost use Rattle.std.specs.Prelude.{◌≡◌, ◌≤◌, OnOk, OnErr, IfOk, IfErr};
 ghost use Rattle.pl_io.specs.Writes.{AppendsFront};
-ghost use Rattle.pl_accept.specs.Accepting.{HoldsChecked};
+ghost use Rattle.pl_check.specs.Accepting.{HoldsChecked};
 ghost use Rattle.pl_main.specs.Runs.{AcceptsKept};
-ghost use Rattle.pl_stream.specs.Written.{Adds, WriteStops};
+ghost use Rattle.pl_journal.specs.Written.{Adds, WriteStops};
 
 use crate::outcome::Outcome;
-use pl_accept::{Accepted, accept, too_long};
+use pl_check::{Accepted, accept, too_long};
+use pl_input::Halt;
 use pl_io::{Sink, put};
-use pl_stream::Halt;
 use std::alloc::{AllocError, Global};
 
 /// What is said of an input without a `begin` line.

@@ -11,6 +11,7 @@ mod journals;
 mod judgement;
 mod judging;
 mod laws;
+mod logs;
 mod number;
 mod outcome;
 mod paired;

@@ -3,13 +3,14 @@ ghost use Rattle.std.specs.Option.{option_copied};
 ghost use Rattle.pl_io.specs.Faults.{Rose};
 ghost use Rattle.pl_entry.specs.Bounds.{IsMessageLine};
 ghost use Rattle.pl_main.specs.Tells.{IsReady};
-ghost use Rattle.pl_stream.specs.Places.{place_of};
+ghost use Rattle.pl_input.specs.Places.{place_of};
 ghost use Rattle.pl_main.specs.Plays.{Answering, Steps, Playing};
 
 use crate::answers::tell;
+use crate::logs::write_log;
+use pl_input::{Halt, halt_of, line_in, next_message};
 use pl_io::{LineReader, Sink, Source};
 use pl_machine::{Machine, Stop};
-use pl_stream::{Halt, halt_of, line_in, next_message, write_log};
 use std::alloc::Global;
 
 /// Answers a message and writes the lines of its entries. Answers whether the run is done.

@@ -4,7 +4,7 @@ ghost use Rattle.pl_io.specs.Writes.{AppendsFront};
 ghost use Rattle.pl_main.specs.Words.{command_of};
 ghost use Rattle.pl_main.specs.Limits.{Completes, CompletesPair};
 ghost use Rattle.pl_main.specs.Statuses.{IsTask, IsStatusOf, IsPairStatus, status_of, status_of_journal, usage_line, SaysKnown, SaysPairKnown};
-ghost use Rattle.pl_stream.specs.Written.{Adds};
+ghost use Rattle.pl_journal.specs.Written.{Adds};
 
 use crate::check::check;
 use crate::command::{Command, Task};
@@ -16,8 +16,8 @@ use crate::outcome::Outcome;
 use crate::paired::paired;
 use crate::whole::solo;
 use crate::words::read_words;
+use pl_input::Halt;
 use pl_io::{Sink, Source, put};
-use pl_stream::Halt;
 use pl_turn::Gate;
 use std::alloc::Global;
 use std::sync::Wait;

@@ -1,26 +1,30 @@
 ghost use Rattle.std.specs.Prelude.{◌≡◌, ◌≤◌, None, IfOk, IsErrOf};
 ghost use Rattle.pl_io.specs.Faults.{Rose};
 ghost use Rattle.pl_model.specs.Checked.{IsChecked};
-ghost use Rattle.pl_stream.specs.Places.{place_of};
+ghost use Rattle.pl_input.specs.Places.{place_of};
 ghost use Rattle.pl_main.specs.Runs.{fresh_state, ModelRuns, TextRuns};
 ghost use Rattle.pl_main.specs.Top.{program_options, RanKnown};
 
 use crate::judging::{NO_BEGIN, model_of, refuse};
+use crate::logs::write_log;
 use crate::outcome::Outcome;
 use crate::play::play;
-use pl_accept::Accepted;
+use pl_check::Accepted;
 use pl_facts::Options;
+use pl_input::{Halt, Head, halt_of, read_head};
 use pl_io::{LineReader, Sink, Source};
 use pl_machine::Machine;
 use pl_model::Model;
-use pl_stream::{Halt, Head, halt_of, read_head, write_log};
 use std::alloc::{AllocError, Global};
 use std::sync::Arc;
 
+/// The most bytes of a line of the input, without its newline.
 pub const LINE_LIMIT: u32 = 4096;
 
+/// The most bytes of the input.
 pub const TOTAL_LIMIT: u64 = 1_073_741_824;
 
+/// The limits of a run of the program, with so many repairs a round.
 pub fn program_options(turns: u32) -> Options
     ensures { result ≡ program_options turns }
 {

@@ -1,20 +1,13 @@
 -- What follows from the parameters that an expression names.
-use Rattle.std.proofs.Common.{◌≡◌, ℕ, ◌<◌, ◌≤◌, ℤ, Bool, true, false, Option, None, List, refl, sym, ap, ◌∙◌, arith}
-use Rattle.std.specs.Prelude.{nat_lt, ◌&&◌, slice_index_or, option_and_then}
+use Rattle.std.proofs.Common.{◌≡◌, ℕ, ◌<◌, ◌≤◌, ℤ, Bool, true, Option, None, List, sym, ap, ◌∙◌, arith}
+use Rattle.std.specs.Prelude.{nat_lt, slice_index_or, option_and_then}
 use Rattle.std.proofs.lemmas.Bool.Decides.{nat_tests}
+use Rattle.std.proofs.lemmas.Bool.{and_parts, and_from}
 use Rattle.pl_model.specs.declared.expressions.Op.{Op}
 use Rattle.pl_model.specs.declared.expressions.Expr.{Expr, Num, Param, Apply, fold-Expr}
 use Rattle.pl_model.specs.Values.{limited, joined, value_at, value_of, names_at, NamesBelow}
 use Rattle.pl_model.specs.Checked.{ranked_at, NamesRanked}
 use Rattle.pl_model.proofs.Induction.{induct, fold_num, fold_param, fold_apply}
-
-pub both_hold : (a b : Bool) → (a && b) ≡ true → (a ≡ true) × (b ≡ true)
-both_hold true b h = (refl, h)
-both_hold false b h = absurd (cc)
-
-pub hold_both : (a b : Bool) → a ≡ true → b ≡ true → (a && b) ≡ true
-hold_both true b h i = i
-hold_both false b h i = absurd (cc)
 
 below_from_test : (a b : ℕ) → nat_lt a b ≡ true → a < b
 below_from_test a b h = grind (arith, nat_tests)
@@ -31,13 +24,13 @@ pub names-param : (n p : ℕ) → p < n → NamesBelow n (Param p)
 names-param n p h = fold_param Bool (names_at n) p ∙ test_from_below p n h
 
 pub names-apply : (n : ℕ) (op : Op) (a b : Expr) → NamesBelow n a → NamesBelow n b → NamesBelow n (Apply op a b)
-names-apply n op a b h i = fold_apply Bool (names_at n) op a b ∙ hold_both (fold-Expr Bool (names_at n) a) (fold-Expr Bool (names_at n) b) h i
+names-apply n op a b h i = fold_apply Bool (names_at n) op a b ∙ and_from (fold-Expr Bool (names_at n) a) (fold-Expr Bool (names_at n) b) h i
 
 pub param_names : (n p : ℕ) → NamesBelow n (Param p) → p < n
 param_names n p h = below_from_test p n (sym (fold_param Bool (names_at n) p) ∙ h)
 
 pub parts_name : (n : ℕ) (op : Op) (a b : Expr) → NamesBelow n (Apply op a b) → NamesBelow n a × NamesBelow n b
-parts_name n op a b h = both_hold (fold-Expr Bool (names_at n) a) (fold-Expr Bool (names_at n) b) (sym (fold_apply Bool (names_at n) op a b) ∙ h)
+parts_name n op a b h = and_parts (fold-Expr Bool (names_at n) a) (fold-Expr Bool (names_at n) b) (sym (fold_apply Bool (names_at n) op a b) ∙ h)
 
 -- what is below a number is below a larger one
 pub names_weaker : (m n : ℕ) → m ≤ n → (e : Expr) → NamesBelow m e → NamesBelow n e
@@ -56,13 +49,13 @@ module _ (rank : ℕ → ℕ) (r : ℕ) where
   ranked-param p h = fold_param Bool (ranked_at rank r) p ∙ test_from_below (rank p) r h
 
   pub ranked-apply : (op : Op) (a b : Expr) → NamesRanked rank r a → NamesRanked rank r b → NamesRanked rank r (Apply op a b)
-  ranked-apply op a b h i = fold_apply Bool (ranked_at rank r) op a b ∙ hold_both (fold-Expr Bool (ranked_at rank r) a) (fold-Expr Bool (ranked_at rank r) b) h i
+  ranked-apply op a b h i = fold_apply Bool (ranked_at rank r) op a b ∙ and_from (fold-Expr Bool (ranked_at rank r) a) (fold-Expr Bool (ranked_at rank r) b) h i
 
   pub param_ranked : (p : ℕ) → NamesRanked rank r (Param p) → rank p < r
   param_ranked p h = below_from_test (rank p) r (sym (fold_param Bool (ranked_at rank r) p) ∙ h)
 
   pub parts_ranked : (op : Op) (a b : Expr) → NamesRanked rank r (Apply op a b) → NamesRanked rank r a × NamesRanked rank r b
-  parts_ranked op a b h = both_hold (fold-Expr Bool (ranked_at rank r) a) (fold-Expr Bool (ranked_at rank r) b) (sym (fold_apply Bool (ranked_at rank r) op a b) ∙ h)
+  parts_ranked op a b h = and_parts (fold-Expr Bool (ranked_at rank r) a) (fold-Expr Bool (ranked_at rank r) b) (sym (fold_apply Bool (ranked_at rank r) op a b) ∙ h)
 
   -- values that agree at smaller ranks give one value to what names parameters of these ranks alone
   pub value_same : (values others : List (Option ℤ)) → ((p : ℕ) → rank p < r → slice_index_or values p None ≡ slice_index_or others p None) → (e : Expr) → NamesRanked rank r e → value_of e values ≡ value_of e others

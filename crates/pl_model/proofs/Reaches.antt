@@ -1,10 +1,11 @@
 -- The outcome of two numbers in intervals lies in the interval that these reach.
-use Rattle.std.proofs.Common.{◌≡◌, ⊎_elim, inl, inr, ◌⊎◌, ℕ, suc, ◌≤◌, ℤ, pos, negsuc, ◌*ℤ◌, ◌≤ℤ◌, Bool, true, false, Option, Some, None, refl, subst, arith}
+use Rattle.std.proofs.Common.{◌≡◌, ⊎_elim, inl, inr, ◌⊎◌, ℕ, suc, ◌≤◌, ℤ, pos, negsuc, ◌*ℤ◌, ◌≤ℤ◌, true, false, Option, Some, None, refl, subst, arith}
 use Rattle.std.specs.Prelude.{option_and_then, int_le, ◌&&◌}
 use Rattle.std.proofs.lemmas.Int.{ints, clamps}
-use Rattle.std.proofs.lemmas.Bool.{cases_Bool}
+use Rattle.std.proofs.lemmas.Bool.{cases_Bool, and_parts}
 use Rattle.std.proofs.Math.Nat.{mul-le-mul_right}
 use Rattle.std.proofs.Math.IntN.{*ℤ_comm, *ℤ-negsuc}
+use Rattle.pl_lists.proofs.Numbers.{le_from_test}
 use Rattle.pl_model.specs.declared.expressions.Op.{Op}
 use Rattle.pl_model.specs.declared.expressions.Op.TheVariants.{Add, Sub, Mul, Min, Max}
 use Rattle.pl_model.specs.Values.{limited, joined, outcome_of}
@@ -47,16 +48,9 @@ outcome_reached Mul r s x y p q = product_reached r.0 r.1 s.0 s.1 x y p q
 outcome_reached Min r s x y p q = (omega (arith, ints, clamps, p.0, q.0), omega (arith, ints, clamps, p.1, q.1))
 outcome_reached Max r s x y p q = (omega (arith, ints, clamps, p.0, q.0), omega (arith, ints, clamps, p.1, q.1))
 
-both_true : (a b : Bool) → (a && b) ≡ true → (a ≡ true) × (b ≡ true)
-both_true true b h = (refl, h)
-both_true false b h = absurd (cc)
-
-le_from_test : (a b : ℤ) → int_le a b ≡ true → a ≤ℤ b
-le_from_test a b h = grind (arith, ints)
-
 near_from_test : (n : ℤ) → (int_le (negsuc 999999999999999999) n && int_le n (pos 1000000000000000000)) ≡ true → IsWithin (negsuc 999999999999999999, pos 1000000000000000000) n
 near_from_test n h =
-    let two = both_true (int_le (negsuc 999999999999999999) n) (int_le n (pos 1000000000000000000)) h in
+    let two = and_parts (int_le (negsuc 999999999999999999) n) (int_le n (pos 1000000000000000000)) h in
     (le_from_test _ _ two.0, le_from_test _ _ two.1)
 
 -- what is limited and lies in an interval lies in the clipped one

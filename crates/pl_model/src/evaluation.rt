@@ -33,6 +33,7 @@ fn limit(number: i128) -> Option<i64>
     }
 }
 
+/// The product of two numbers of 64 bits, which does not wrap in 128.
 pub fn product(left: i128, right: i128) -> i128
     requires left { (negsuc 9223372036854775807 ≤ℤ left) × (left ≤ℤ pos 9223372036854775807) }
     requires right { (negsuc 9223372036854775807 ≤ℤ right) × (right ≤ℤ pos 9223372036854775807) }

@@ -2,16 +2,16 @@
 use Rattle.std.proofs.Common.{◌≡◌, ℕ, zero, suc, add-one, ◌+◌, ◌^◌, ◌<◌, ◌≤◌, List, [], ◌∷◌, ◌++◌, map, length, get_or, true, refl, sym, ap, ◌∙◌, subst, arith}
 use Rattle.std.specs.Prelude.{min, take, All}
 use Rattle.std.proofs.lemmas.List.Elements.{All-head, All-tail, All-cons, All-nil}
-use Rattle.std.proofs.lemmas.List.{length-map, length-take-le}
+use Rattle.std.proofs.lemmas.List.{length-map, length-take-le, get_or_default}
 use Rattle.pl_plan.specs.declared.activity.Activity.{Activity}
 use Rattle.pl_plan.specs.declared.repair.RepairMove.{RepairMove}
 use Rattle.pl_plan.specs.Trees.{id_of}
-use Rattle.pl_world.specs.declared.plan_state.PlanState.{PlanState}
-use Rattle.pl_world.specs.Conflicts.{conflicts_of}
-use Rattle.pl_world.specs.Legal.{left_after}
-use Rattle.pl_world.specs.Moves.{moved, applied}
-use Rattle.pl_world.specs.Whole.{IsWhole}
-use Rattle.pl_changes.specs.Replaced.{CanReplace, with_plan}
+use Rattle.pl_semantics.specs.declared.plan_state.PlanState.{PlanState}
+use Rattle.pl_semantics.specs.Conflicts.{conflicts_of}
+use Rattle.pl_semantics.specs.Legal.{left_after}
+use Rattle.pl_semantics.specs.Moves.{moved, applied}
+use Rattle.pl_semantics.specs.Whole.{IsWhole}
+use Rattle.pl_update.specs.Changes.Replaced.{CanReplace, with_plan}
 use Rattle.pl_board.specs.Boards.{Standing, after}
 use Rattle.pl_moves.specs.Changes.{IsOfActivities, gone_by, placed_by}
 use Rattle.pl_moves.specs.Runs.{start_of, goes_on, counted, CanBeMade, IsTrialOf, IsCountOf}
@@ -21,13 +21,8 @@ use Rattle.pl_moves.proofs.Onward.{can_go, goes, comes_back}
 
 -- ---- lists
 
-get_or_same : {X : Type 0} (xs : List X) (k : ℕ) (d e : X) → k < length xs → get_or xs k d ≡ get_or xs k e
-get_or_same [] k d e lt = absurd (omega (arith, lt))
-get_or_same (x ∷ xs) zero d e lt = refl
-get_or_same (x ∷ xs) (suc k) d e lt = get_or_same xs k d e (omega (arith, lt))
-
 pub get_or_next : {X : Type 0} (x : X) (xs : List X) (k : ℕ) (d e : X) → k < length xs → get_or xs k d ≡ get_or (x ∷ xs) (k + 1) e
-get_or_next x xs k d e lt = rw add-one (get_or_same xs k d e lt)
+get_or_next x xs k d e lt = rw add-one (get_or_default xs k d e lt)
 
 noted_suc : {X : Type 0} (f : X → ℕ) (xs : List X) (k : ℕ) (d : X) → k < length xs → map f (take k xs) ++ f (get_or xs k d) ∷ [] ≡ map f (take (suc k) xs)
 noted_suc f [] k d lt = absurd (omega (arith, lt))

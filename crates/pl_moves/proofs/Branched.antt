@@ -19,10 +19,10 @@ use Rattle.pl_plan.proofs.Climbs.{all_at}
 use Rattle.pl_plan.proofs.Detailing.{fits_detailed}
 use Rattle.pl_plan.proofs.Kept.{found-changed}
 use Rattle.pl_plan.proofs.Lookups.{none_below, found-exchanged, swapped}
-use Rattle.pl_world.specs.declared.plan_state.PlanState.{PlanState}
-use Rattle.pl_world.specs.PlanStates.{among}
-use Rattle.pl_world.specs.Whole.{IsWhole, IsCarried, IsIdBelow}
-use Rattle.pl_world.specs.Moves.{alternatives_at, child_for, children_from, detailed, has_id}
+use Rattle.pl_semantics.specs.declared.plan_state.PlanState.{PlanState}
+use Rattle.pl_semantics.specs.PlanStates.{among}
+use Rattle.pl_semantics.specs.Whole.{IsWhole, IsCarried, IsIdBelow}
+use Rattle.pl_semantics.specs.Moves.{alternatives_at, child_for, children_from, detailed, has_id}
 use Rattle.pl_moves.proofs.Swaps.{MayCome, IsSwap, swapped_at}
 use Rattle.pl_moves.proofs.Subtrees.{among_ids, rising_map}
 use Rattle.pl_moves.proofs.Grown.{found_append, rising_append, below, unused, alone_below}

@@ -9,15 +9,15 @@ use Rattle.pl_plan.specs.declared.activity.Activity.{Activity}
 use Rattle.pl_plan.specs.Activities.{activity_of}
 use Rattle.pl_plan.specs.Trees.{itself, descends, subtree_of, parent_of}
 use Rattle.pl_plan.specs.Fitting.{FitsAlone}
-use Rattle.pl_plan.specs.Moves.{KeepsTree, without_subtree, without_below, abstracted}
+use Rattle.pl_plan.specs.Moves.{without_subtree, without_below, abstracted}
 use Rattle.pl_plan.proofs.Climbs.{all_at}
 use Rattle.pl_plan.proofs.Kept.{found-kept, found-changed}
 use Rattle.pl_plan.proofs.TreeLaws.{descends_complete}
 use Rattle.pl_plan.proofs.ByLookUps.{filter_rising}
-use Rattle.pl_plan.proofs.MoveLaws.{fits_deleted, fits_abstracted}
-use Rattle.pl_world.specs.declared.plan_state.PlanState.{PlanState}
-use Rattle.pl_world.specs.PlanStates.{among}
-use Rattle.pl_world.specs.Whole.{IsWhole, IsCarried}
+use Rattle.pl_plan.proofs.MoveLaws.{fits_deleted, fits_abstracted, abstracted_keeps}
+use Rattle.pl_semantics.specs.declared.plan_state.PlanState.{PlanState}
+use Rattle.pl_semantics.specs.PlanStates.{among}
+use Rattle.pl_semantics.specs.Whole.{IsWhole, IsCarried}
 use Rattle.pl_moves.specs.Changes.{undetailed}
 use Rattle.pl_moves.proofs.Swaps.{IsSwap, swapped_at}
 use Rattle.pl_moves.proofs.Subtrees.{among_subtree, rising_map, goes_if, subtree_swap}
@@ -29,21 +29,6 @@ fewer p (x ∷ xs) = cases (p x) refl (fewer p xs)
     cases : (b : Bool) → p x ≡ b → length (filter p xs) ≤ length xs → length (filter p (x ∷ xs)) ≤ length (x ∷ xs)
     cases true e more = rw e (omega (arith, more))
     cases false e more = rw e (omega (arith, more))
-
-abstracted_keeps : (top : ℕ) → KeepsTree (abstracted top)
-abstracted_keeps top = record { id = λ a. id (eqb a.id top) a; kind = λ a. kind (eqb a.id top) a; parent = λ a. parent (eqb a.id top) a }
-  where
-    id : (b : Bool) (a : Activity) → (if b then record a { detail = None } else a).id ≡ a.id
-    id true a = refl
-    id false a = refl
-
-    kind : (b : Bool) (a : Activity) → (if b then record a { detail = None } else a).kind ≡ a.kind
-    kind true a = refl
-    kind false a = refl
-
-    parent : (b : Bool) (a : Activity) → (if b then record a { detail = None } else a).parent ≡ a.parent
-    parent true a = refl
-    parent false a = refl
 
 module _ (s : PlanState) (whole : IsWhole s) (top : ℕ) where
   abbrev xs : List Activity

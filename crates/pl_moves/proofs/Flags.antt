@@ -7,10 +7,10 @@ use Rattle.pl_facts.specs.Goals.{goal_of, is_numbered, with_dropped}
 use Rattle.pl_plan.specs.Serving.{is_served}
 use Rattle.pl_plan.specs.declared.repair.RepairMove.{RepairMove}
 use Rattle.pl_plan.specs.declared.repair.RepairMove.TheVariants.{Add, Delete, Shift, Detail, Abstract, Assign, Drop}
-use Rattle.pl_world.specs.declared.plan_state.PlanState.{PlanState}
-use Rattle.pl_world.specs.PlanStates.{goal_at, is_open}
-use Rattle.pl_world.specs.Whole.{IsWhole}
-use Rattle.pl_world.specs.Moves.{holds, is_proper, refusal_of, applied}
+use Rattle.pl_semantics.specs.declared.plan_state.PlanState.{PlanState}
+use Rattle.pl_semantics.specs.PlanStates.{goal_at, is_open}
+use Rattle.pl_semantics.specs.Whole.{IsWhole}
+use Rattle.pl_semantics.specs.Moves.{holds, is_proper, refusal_of, applied}
 use Rattle.pl_moves.specs.Keeping.{KeepsGoals, undropped}
 
 same_goals : (n : ℕ) (goals : List Goal) → map undropped (with_dropped n goals) ≡ map undropped goals

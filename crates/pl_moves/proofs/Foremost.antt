@@ -6,16 +6,15 @@ use Rattle.std.proofs.lemmas.Bool.{eq-eqb, eqb-true, ltb-true, lt-ltb, and_parts
 use Rattle.pl_plan.specs.declared.activity.Activity.{Activity}
 use Rattle.pl_plan.specs.Activities.{RiseFrom, AreRising, activity_of}
 use Rattle.pl_plan.specs.Fitting.{IsInSlot, chosen_slots_of}
-use Rattle.pl_plan.specs.Index.{is_number}
 use Rattle.pl_plan.specs.Trees.{id_of, IsRooted, parent_id, parent_in, parent_of, is_child, children_of, Descends, itself, child, descends}
 use Rattle.pl_plan.proofs.Climbs.{all_at, parent_smaller}
 use Rattle.pl_plan.proofs.Lookups.{none_below}
-use Rattle.pl_plan.proofs.Subtrees.{named_live}
+use Rattle.pl_plan.proofs.Subtrees.{named_live, number_is, is_this}
 use Rattle.pl_plan.proofs.TreeLaws.{descends_join, descends_sound, descends_complete}
-use Rattle.pl_world.specs.declared.plan_state.PlanState.{PlanState}
-use Rattle.pl_world.specs.PlanStates.{found}
-use Rattle.pl_world.specs.Whole.{IsWhole}
-use Rattle.pl_world.specs.Moves.{holds, is_under, moved, moved_with}
+use Rattle.pl_semantics.specs.declared.plan_state.PlanState.{PlanState}
+use Rattle.pl_semantics.specs.PlanStates.{found}
+use Rattle.pl_semantics.specs.Whole.{IsWhole}
+use Rattle.pl_semantics.specs.Moves.{holds, is_under, moved, moved_with}
 use Rattle.pl_moves.specs.Objections.{lesser}
 use Rattle.pl_moves.specs.Sides.{first_on, moves_to, when_so}
 use Rattle.pl_moves.specs.declared.side.Side.{Side}
@@ -174,14 +173,6 @@ below xs top q (child n p is above) = ⊎_elim
     (λ (e : p ≡ top). inr (record { branch = n; parent = is ∙ ap (λ (i : ℕ). Some i) e; under = itself }))
     (λ (b : IsBelow xs top p). inr (record { branch = b.branch; parent = b.parent; under = child n p is b.under }))
     (below xs top p above)
-
-number_is : (n : ℕ) (o : Option ℕ) → is_number n o ≡ true → o ≡ Some n
-number_is n None e = absurd (cc)
-number_is n (Some m) e = ap (λ (i : ℕ). Some i) (eqb-true m n e)
-
-is_this : (n : ℕ) (o : Option ℕ) → o ≡ Some n → is_number n o ≡ true
-is_this n None e = absurd (cc)
-is_this n (Some m) e = let same : m ≡ n = cc in eq-eqb m n same
 
 -- it is a child, and behind an id
 abbrev pub IsChildBehind : List Activity → ℕ → ℕ → ℕ → Type 0

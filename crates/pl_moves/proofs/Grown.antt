@@ -5,14 +5,15 @@ use Rattle.std.specs.Option.{option_or}
 use Rattle.std.proofs.lemmas.Bool.{eqb-true, eq-eqb, lt-ltb}
 use Rattle.std.proofs.lemmas.List.{length-append}
 use Rattle.std.proofs.lemmas.List.Elements.{All-head, All-tail, All-cons, All-nil}
+use Rattle.std.proofs.Math.Bool.{or-false}
 use Rattle.pl_plan.specs.declared.activity.Activity.{Activity}
 use Rattle.pl_plan.specs.Activities.{RiseFrom, IsLive, activity_of, placed}
 use Rattle.pl_plan.specs.Trees.{Descends, itself, child}
 use Rattle.pl_plan.specs.Fitting.{Fits, FitsAlone, chosen_slots}
 use Rattle.pl_plan.proofs.Climbs.{all_at, parent_smaller}
 use Rattle.pl_plan.proofs.LookUpLaws.{fits_added}
-use Rattle.pl_world.specs.declared.plan_state.PlanState.{PlanState}
-use Rattle.pl_world.specs.Whole.{IsWhole, IsCarried, IsIdBelow}
+use Rattle.pl_semantics.specs.declared.plan_state.PlanState.{PlanState}
+use Rattle.pl_semantics.specs.Whole.{IsWhole, IsCarried, IsIdBelow}
 use Rattle.pl_moves.proofs.Swaps.{MayCome, IsSwap, swapped_at}
 
 pub found_append : (xs zs : List Activity) (q : ℕ) → activity_of q (xs ++ zs) ≡ option_or (activity_of q xs) (activity_of q zs)
@@ -98,9 +99,5 @@ module _ (s : PlanState) (whole : IsWhole s) where
             let is : r.id ≡ p = eqb-true r.id p e in
             let none : activity_of p xs ≡ None = ap (λ n. activity_of n xs) (sym is) ∙ absent in
             let same : q ≡ p = alone_below p q none above in
-            absurd (let bad : true ≡ false = sym (eq-eqb r.id q (is ∙ sym same)) ∙ (sym (or_false (eqb r.id q)) ∙ apart) in cc)
-          where
-            or_false : (b : Bool) → (b || false) ≡ b
-            or_false true = refl
-            or_false false = refl
+            absurd (let bad : true ≡ false = sym (eq-eqb r.id q (is ∙ sym same)) ∙ (sym (or-false (eqb r.id q)) ∙ apart) in cc)
         by q apart p above false e = rw e refl

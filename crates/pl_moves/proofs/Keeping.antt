@@ -1,9 +1,10 @@
 -- What a repair leaves as it was.
-use Rattle.std.proofs.Common.{◌≡◌, ℕ, ◌+◌, ◌≤◌, eqb, ltb, Bool, true, false, cond, List, [], ◌∷◌, ◌++◌, map, filter, length, get_or, refl, sym, ap, ◌∙◌, subst, arith}
+use Rattle.std.proofs.Common.{◌≡◌, ℕ, ◌+◌, ◌≤◌, eqb, ltb, Bool, true, false, cond, List, [], ◌∷◌, map, filter, length, get_or, refl, sym, ap, ◌∙◌, subst, arith}
 use Rattle.std.specs.Prelude.{◌&&◌, All, ℤ, Option, Some, None, is_some, slice_get, if◌then◌else◌}
 use Rattle.std.specs.Option.{option_or}
 use Rattle.std.proofs.lemmas.Bool.{le-ltb, eqb-true, eq-eqb}
 use Rattle.std.proofs.lemmas.List.Elements.{All-nil, All-cons, All-map, All-weaker}
+use Rattle.pl_lists.proofs.Tests.{and_first}
 use Rattle.pl_model.specs.declared.whole.Model.{Model}
 use Rattle.pl_model.specs.declared.alternatives.Alternative.{Alternative}
 use Rattle.pl_plan.specs.declared.activity.Activity.{Activity}
@@ -19,30 +20,23 @@ use Rattle.pl_plan.proofs.Climbs.{all_at}
 use Rattle.pl_plan.proofs.Kept.{all_kept, each_found}
 use Rattle.pl_plan.proofs.LocalValues.{values_local, end_local}
 use Rattle.pl_plan.proofs.TreeLaws.{descends_complete}
-use Rattle.pl_world.specs.declared.plan_state.PlanState.{PlanState}
-use Rattle.pl_world.specs.PlanStates.{among, found, floor_of, is_committed, of_found}
-use Rattle.pl_world.specs.Whole.{IsWhole}
-use Rattle.pl_world.specs.Moves.{is_proper, refusal_of, applied, is_changed, is_locked, is_under, started_by, with_value, children_for, children_in, alternatives_at}
-use Rattle.pl_world.specs.Legal.{MayBeMade}
-use Rattle.pl_world.proofs.Refusing.{may}
-use Rattle.pl_changes.specs.Replaced.{touched}
+use Rattle.pl_semantics.specs.declared.plan_state.PlanState.{PlanState}
+use Rattle.pl_semantics.specs.PlanStates.{among, found, floor_of, is_committed, of_found}
+use Rattle.pl_semantics.specs.Whole.{IsWhole}
+use Rattle.pl_semantics.specs.Moves.{is_proper, refusal_of, applied, is_changed, is_locked, is_under, started_by, with_value, children_for, children_in, alternatives_at}
+use Rattle.pl_semantics.specs.Legal.{MayBeMade}
+use Rattle.pl_semantics.proofs.Refusing.{may}
+use Rattle.pl_update.specs.Changes.Replaced.{touched}
+use Rattle.pl_update.proofs.AboutEvaluations.Keeping.{among_neither}
 use Rattle.pl_moves.specs.Changes.{gone_by, placed_by, assigned, undetailed, with_children, IsOfActivities}
 use Rattle.pl_moves.specs.Keeping.{KeepsCommitted, GivesIds}
 use Rattle.pl_moves.proofs.Swaps.{MayCome, IsSwap}
-use Rattle.pl_moves.proofs.Subtrees.{among_ids, among_subtree, both_left}
+use Rattle.pl_moves.proofs.Subtrees.{among_ids, among_subtree}
 use Rattle.pl_moves.proofs.Offsets.{paired}
 use Rattle.pl_moves.proofs.Branched.{children_count}
 use Rattle.pl_moves.proofs.Made.{IsMadeBy, made}
 
 -- ---- lists
-
-among_append : (q : ℕ) (ids more : List ℕ) → among q ids ≡ false → among q more ≡ false → among q (ids ++ more) ≡ false
-among_append q [] more apart apart_too = apart_too
-among_append q (i ∷ ids) more apart apart_too = cases (eqb i q) refl (among_append q ids more)
-  where
-    cases : (b : Bool) → eqb i q ≡ b → (among q ids ≡ false → among q more ≡ false → among q (ids ++ more) ≡ false) → among q (i ∷ ids ++ more) ≡ false
-    cases true e rest = absurd (let bad : true ≡ false = rw e at apart in cc)
-    cases false e rest = let less : among q ids ≡ false = rw e at apart in rw e (rest less apart_too)
 
 not_both : (b c : Bool) → (b && c) ≡ false → b ≡ true → c ≡ false
 not_both true c e is = e
@@ -85,7 +79,7 @@ module _ (s : PlanState) (whole : IsWhole s) (gone : List ℕ) (more ys : List A
   same_above id a here early =
       let is_id : a.id ≡ id = (all_at (FitsAlone s.model) xs id a whole.fits.each here).1 in
       let unplaced_too : among id (map id_of more) ≡ false = among_ids more id ∙ ap is_some (unplaced id a here early) in
-      let apart : among id (touched gone more) ≡ false = among_append id gone (map id_of more) (stays id a here early) unplaced_too in
+      let apart : among id (touched gone more) ≡ false = among_neither id gone (map id_of more) (stays id a here early) unplaced_too in
       swap.above a.id (subst (λ n. among n (touched gone more) ≡ false) (sym is_id) apart)
 
   pub values : (id : ℕ) (a : Activity) → activity_of id xs ≡ Some a → is_committed s a ≡ true → values_of s.model ys a.id ≡ values_of s.model xs a.id
@@ -124,7 +118,7 @@ module _ (s : PlanState) (whole : IsWhole s) where
       under : (top : ℕ) → among q (subtree_of top live) ≡ true → is_under s top a ≡ true
       under top e =
           let both : (descends live top q && is_some (activity_of q live)) ≡ true = sym (among_subtree live top q) ∙ e in
-          subst (λ n. descends live top n ≡ true) (sym is_id) (both_left (descends live top q) (is_some (activity_of q live)) both)
+          subst (λ n. descends live top n ≡ true) (sym is_id) (and_first (descends live top q) (is_some (activity_of q live)) both)
 
       only : (id : ℕ) (b : Bool) → eqb id q ≡ b → among q (id ∷ []) ≡ true → eqb a.id id ≡ true
       only id true e h = eq-eqb a.id id (is_id ∙ sym (eqb-true id q e))

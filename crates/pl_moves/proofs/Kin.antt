@@ -3,6 +3,7 @@ use Rattle.std.proofs.Common.{◌≡◌, ℕ, zero, suc, ◌+◌, ◌-◌, ◌^�
 use Rattle.std.specs.Prelude.{◌&&◌, All, Option, Some, None, is_some}
 use Rattle.std.proofs.lemmas.Bool.{eqb-true}
 use Rattle.std.proofs.lemmas.List.Elements.{All-head, All-tail, All-cons, All-nil}
+use Rattle.pl_lists.proofs.Tests.{and_first, and_second}
 use Rattle.pl_plan.specs.declared.activity.Activity.{Activity}
 use Rattle.pl_plan.specs.declared.repair.RepairMove.{RepairMove}
 use Rattle.pl_plan.specs.declared.repair.RepairMove.TheVariants.{Add, Delete, Shift, Detail, Abstract, Assign, Drop}
@@ -11,16 +12,16 @@ use Rattle.pl_plan.specs.Trees.{id_of, descends, subtree_of}
 use Rattle.pl_plan.specs.Fitting.{FitsAlone}
 use Rattle.pl_plan.proofs.Climbs.{all_at}
 use Rattle.pl_plan.proofs.Kept.{found-kept}
-use Rattle.pl_world.specs.declared.plan_state.PlanState.{PlanState}
-use Rattle.pl_world.specs.PlanStates.{among, found, floor_of}
-use Rattle.pl_world.specs.Whole.{IsWhole}
-use Rattle.pl_world.specs.Candidates.{same_number}
-use Rattle.pl_world.specs.Moves.{is_under, moved, root_for}
-use Rattle.pl_world.proofs.Refusing.{may}
+use Rattle.pl_semantics.specs.declared.plan_state.PlanState.{PlanState}
+use Rattle.pl_semantics.specs.PlanStates.{among, found, floor_of}
+use Rattle.pl_semantics.specs.Whole.{IsWhole}
+use Rattle.pl_semantics.specs.Candidates.{same_number}
+use Rattle.pl_semantics.specs.Moves.{is_under, moved, root_for}
+use Rattle.pl_semantics.proofs.Refusing.{may}
 use Rattle.pl_moves.specs.Changes.{IsOfActivities, gone_by, placed_by}
 use Rattle.pl_moves.specs.Runs.{start_of, goes_on, CanBeMade}
 use Rattle.pl_moves.proofs.Made.{named_live, near_if}
-use Rattle.pl_moves.proofs.Subtrees.{among_ids, among_subtree, both_left, both_right}
+use Rattle.pl_moves.proofs.Subtrees.{among_ids, among_subtree}
 
 -- ---- the same but for the start
 
@@ -106,16 +107,16 @@ module _ (s : PlanState) (whole : IsWhole s) where
       by None f = absurd (let bad : false ≡ true = rw f at live in cc)
       by (Some a) f =
           let is_id : a.id ≡ id = (all_at (FitsAlone s.model) xs id a whole.fits.each f).1 in
-          let test : descends xs a.id q ≡ true = ap (λ n. descends xs n q) is_id ∙ both_left (descends xs id q) (is_some (activity_of q xs)) under in
-          let there : is_some (activity_of q xs) ≡ true = both_right (descends xs id q) (is_some (activity_of q xs)) under in
+          let test : descends xs a.id q ≡ true = ap (λ n. descends xs n q) is_id ∙ and_first (descends xs id q) (is_some (activity_of q xs)) under in
+          let there : is_some (activity_of q xs) ≡ true = and_second (descends xs id q) (is_some (activity_of q xs)) under in
           let kept : activity_of q (filter (is_under s a.id) xs) ≡ activity_of q xs = found-kept (descends xs a.id) xs q ∙ rw test refl in
           rw f (ap (λ (l : List ℕ). among q l) (moved_ids a.start start (filter (is_under s a.id) xs)) ∙ (among_ids (filter (is_under s a.id) xs) q ∙ (ap (λ (o : Option Activity). is_some o) kept ∙ there)))
 
   -- What the first one places, moved on to the other's start, is what the other places.
   pub placed_on : (first m : RepairMove) → goes_on first m ≡ true → CanBeMade s first → CanBeMade s m → placed_by s m ≡ map (moved (start_of first) (start_of m)) (placed_by s first)
   placed_on (Add kind start goal) (Add k t g) e first second =
-      let kinds : kind ≡ k = eqb-true kind k (both_left (eqb kind k) (same_number goal g) e) in
-      let goals : goal ≡ g = same_number_is goal g (both_right (eqb kind k) (same_number goal g) e) in
+      let kinds : kind ≡ k = eqb-true kind k (and_first (eqb kind k) (same_number goal g) e) in
+      let goals : goal ≡ g = same_number_is goal g (and_second (eqb kind k) (same_number goal g) e) in
       rw (sym kinds, sym goals) (added_twice kind start t goal)
   placed_on (Add kind start goal) (Delete i) e first second = absurd (cc)
   placed_on (Add kind start goal) (Shift i t) e first second = absurd (cc)

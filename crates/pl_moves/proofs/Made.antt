@@ -7,6 +7,7 @@ use Rattle.std.proofs.lemmas.List.Elements.{All-nil, All-cons, All-head, All-tai
 use Rattle.pl_facts.specs.declared.goal.Goal.{Goal}
 use Rattle.pl_facts.specs.Goals.{goal_of, is_numbered}
 use Rattle.std.proofs.lemmas.Option.{slice_get-get_or}
+use Rattle.pl_lists.proofs.Tests.{and_first, and_second}
 use Rattle.pl_model.specs.declared.alternatives.Slot.{Slot}
 use Rattle.pl_model.specs.declared.alternatives.Alternative.{Alternative}
 use Rattle.pl_model.specs.Checked.{params_of}
@@ -18,16 +19,15 @@ use Rattle.pl_plan.specs.Trees.{parent_of, parent_id, subtree_of}
 use Rattle.pl_plan.specs.Fitting.{FitsAlone}
 use Rattle.pl_plan.specs.Moves.{without_subtree, without_below, abstracted}
 use Rattle.pl_plan.proofs.Climbs.{all_at}
-use Rattle.pl_world.specs.declared.plan_state.PlanState.{PlanState}
-use Rattle.pl_world.specs.PlanStates.{found, goal_at, is_open, floor_of}
-use Rattle.pl_world.specs.Whole.{IsWhole, IsGoalOf, IsIdBelow}
-use Rattle.pl_world.specs.Moves.{holds, is_proper, is_wanted, refusal_of, applied, root_for, unset_row, presets_of, moved, is_under, alternatives_at, changed_where, children_from, detailed, has_id}
-use Rattle.pl_world.specs.Legal.{MayBeMade}
-use Rattle.pl_world.proofs.Refusing.{may}
-use Rattle.pl_changes.specs.Replaced.{CanReplace, next_after, with_plan}
+use Rattle.pl_semantics.specs.declared.plan_state.PlanState.{PlanState}
+use Rattle.pl_semantics.specs.PlanStates.{found, goal_at, is_open, floor_of}
+use Rattle.pl_semantics.specs.Whole.{IsWhole, IsGoalOf, IsIdBelow}
+use Rattle.pl_semantics.specs.Moves.{holds, is_proper, is_wanted, refusal_of, applied, root_for, unset_row, presets_of, moved, is_under, alternatives_at, changed_where, children_from, detailed, has_id}
+use Rattle.pl_semantics.specs.Legal.{MayBeMade}
+use Rattle.pl_semantics.proofs.Refusing.{may}
+use Rattle.pl_update.specs.Changes.Replaced.{CanReplace, next_after, with_plan}
 use Rattle.pl_moves.specs.Changes.{IsNamedLive, IsNear, IsOfActivities, assigned, gone_by, placed_by, undetailed}
 use Rattle.pl_moves.proofs.Swaps.{IsSwap, can_swap, swap_is, next_same}
-use Rattle.pl_moves.proofs.Subtrees.{both_left, both_right}
 use Rattle.pl_moves.proofs.Cuts.{delete_swap, abstract_swap}
 use Rattle.pl_moves.proofs.Remade.{moved_within, shifted_one, shift_swap, assign_swap, moved_keeps, assigned_keeps, below_all}
 use Rattle.pl_moves.proofs.Grown.{add_swap}
@@ -98,7 +98,7 @@ set_fits s whole kind (Some n) wanted = by (goal_at s n) refl wanted
     by : (o : Option Goal) → goal_at s n ≡ o → holds (λ g. is_open s g && (eqb g.kind kind)) o ≡ true → length (presets_of (unset_row s kind) (goal_at s n)) ≡ length (params_of (slice_get s.model.kinds kind))
     by None e h = absurd (cc)
     by (Some g) e h =
-        let is : g.kind ≡ kind = eqb-true g.kind kind (both_right (is_open s g) (eqb g.kind kind) h) in
+        let is : g.kind ≡ kind = eqb-true g.kind kind (and_second (is_open s g) (eqb g.kind kind) h) in
         let of = goal_all (IsGoalOf s.model) s.goals n g whole.goals e in
         rw e (subst (λ k. length g.presets ≡ length (params_of (slice_get s.model.kinds k))) is of.presets)
 
@@ -189,10 +189,10 @@ module _ (s : PlanState) (whole : IsWhole s) where
       test = add_test s kind start goal proper
 
       in_model : kind < length s.model.kinds
-      in_model = ltb-true kind (length s.model.kinds) (both_left (ltb kind (length s.model.kinds)) (is_wanted s kind goal) test)
+      in_model = ltb-true kind (length s.model.kinds) (and_first (ltb kind (length s.model.kinds)) (is_wanted s kind goal) test)
 
       wanted : is_wanted s kind goal ≡ true
-      wanted = both_right (ltb kind (length s.model.kinds)) (is_wanted s kind goal) test
+      wanted = and_second (ltb kind (length s.model.kinds)) (is_wanted s kind goal) test
 
       keeps : MayBeMade s (Add kind start goal)
       keeps = may s (Add kind start goal) allowed
@@ -241,7 +241,7 @@ module _ (s : PlanState) (whole : IsWhole s) where
 
       by : (o : Option Activity) → found s id ≡ o → holds (λ a. is_none a.detail && ltb alternative (length (alternatives_at s a))) o ≡ true → IsMadeBy s (Detail id alternative)
       by None e h = absurd (cc)
-      by (Some a) e h = by_chosen a e (both_left (is_none a.detail) (ltb alternative (length (alternatives_at s a))) h) (ltb-true alternative (length (alternatives_at s a)) (both_right (is_none a.detail) (ltb alternative (length (alternatives_at s a))) h)) (slice_get (alternatives_at s a) alternative) refl
+      by (Some a) e h = by_chosen a e (and_first (is_none a.detail) (ltb alternative (length (alternatives_at s a))) h) (ltb-true alternative (length (alternatives_at s a)) (and_second (is_none a.detail) (ltb alternative (length (alternatives_at s a))) h)) (slice_get (alternatives_at s a) alternative) refl
 
   pub made : (m : RepairMove) → IsOfActivities m → is_proper s m ≡ true → refusal_of s m ≡ None → IsMadeBy s m
   made (Add kind start goal) of proper allowed = add_made kind start goal proper allowed

@@ -3,36 +3,33 @@ use Rattle.std.proofs.Common.{◌≡◌, ℕ, ◌+◌, ◌-◌, eqb, Bool, true,
 use Rattle.std.specs.Prelude.{◌||◌, ◌&&◌, not, nat_lt, nat_le, Option, Some, None, if◌then◌else◌}
 use Rattle.std.specs.Option.{option_map}
 use Rattle.std.specs.Set.{remove_key}
-use Rattle.std.proofs.lemmas.Bool.{eqb-true, eq-eqb}
-use Rattle.std.specs.declared.cmp.Ordering.{Ordering}
-use Rattle.std.specs.declared.cmp.Ordering.TheVariants.{Less, Equal, Greater}
-use Rattle.std.specs.Ordering.{is_eq, ordering_reverse}
+use Rattle.std.proofs.lemmas.Bool.{eqb-true, eq-eqb, false_from_ne_true}
 use Rattle.std.proofs.lemmas.Map.Made.{length-remove_key}
-use Rattle.pl_lists.proofs.Tests.{or_false, and_true, and_false}
+use Rattle.std.proofs.Math.Bool.{or-false, and-true, and-false}
 use Rattle.pl_conflict.specs.declared.conflict.Conflict.{Conflict}
 use Rattle.pl_conflict.specs.declared.conflict.Code.TheVariants.{OpenGoal, OffGoal}
-use Rattle.pl_conflict.specs.Order.{conflict_cmp, has}
-use Rattle.pl_conflict.proofs.OrderLaws.{conflict_total, conflict_exact, conflict_unique}
-use Rattle.pl_conflict.proofs.Sorting.{same, same_is, ordered-remove, has-remove}
+use Rattle.pl_conflict.specs.Order.{has}
+use Rattle.pl_conflict.proofs.OrderLaws.{conflict_exact, conflict_unique}
+use Rattle.pl_conflict.proofs.Sorting.{same, same_is, ordered-remove, has-remove, same_itself}
 use Rattle.pl_facts.specs.declared.goal.Goal.{Goal}
 use Rattle.pl_facts.specs.Goals.{goal_of, is_numbered, with_dropped}
 use Rattle.pl_plan.specs.declared.activity.Activity.{Activity}
 use Rattle.pl_plan.specs.Serving.{served_in}
 use Rattle.pl_plan.specs.declared.repair.RepairMove.TheVariants.{Drop}
-use Rattle.pl_world.specs.declared.plan_state.PlanState.{PlanState}
-use Rattle.pl_world.specs.PlanStates.{found, floor_of, goal_at, is_committed, is_open, of_found, served_by, when}
-use Rattle.pl_world.specs.Parts.{of_goals, of_activities, of_links, of_timelines}
-use Rattle.pl_world.specs.Goals.{goal_conflicts, off_at, off_from, off_goal, off_of, open_at, open_goal, open_of}
-use Rattle.pl_world.specs.Activities.{activity_conflicts, wrong_at}
-use Rattle.pl_world.specs.Links.{link_conflicts, links_at}
-use Rattle.pl_world.specs.Timelines.{timeline_conflicts, line_conflicts}
-use Rattle.pl_world.specs.Demands.{demands_at, use_at, level_at, state_at}
-use Rattle.pl_world.specs.Conflicts.{conflicts_of}
-use Rattle.pl_world.specs.Whole.{IsWhole}
-use Rattle.pl_world.specs.Moves.{applied}
-use Rattle.pl_changes.proofs.Goals.{distinct_dropped}
-use Rattle.pl_world.proofs.Owning.{Each, each_found, each_planned, each_when}
-use Rattle.pl_world.proofs.Standing.{members, ordered, goals_by_subject, of_activities_alone, of_links_alone, of_timelines_alone}
+use Rattle.pl_semantics.specs.declared.plan_state.PlanState.{PlanState}
+use Rattle.pl_semantics.specs.PlanStates.{found, floor_of, goal_at, is_committed, is_open, of_found, served_by, when}
+use Rattle.pl_semantics.specs.Parts.{of_goals, of_activities, of_links, of_timelines}
+use Rattle.pl_semantics.specs.Goals.{goal_conflicts, off_at, off_from, off_goal, off_of, open_at, open_goal, open_of}
+use Rattle.pl_semantics.specs.Activities.{activity_conflicts, wrong_at}
+use Rattle.pl_semantics.specs.Links.{link_conflicts, links_at}
+use Rattle.pl_semantics.specs.Timelines.{timeline_conflicts, line_conflicts}
+use Rattle.pl_semantics.specs.Demands.{demands_at, use_at, level_at, state_at}
+use Rattle.pl_semantics.specs.Conflicts.{conflicts_of}
+use Rattle.pl_semantics.specs.Whole.{IsWhole}
+use Rattle.pl_semantics.specs.Moves.{applied}
+use Rattle.pl_update.proofs.AboutChanges.Goals.{distinct_dropped}
+use Rattle.pl_semantics.proofs.Owning.{Each, each_found, each_planned, each_when}
+use Rattle.pl_semantics.proofs.Standing.{members, ordered, goals_by_subject, of_activities_alone, of_links_alone, of_timelines_alone}
 
 -- ---- goals
 
@@ -58,14 +55,6 @@ has_number n (x ∷ goals) g e = cases (is_numbered n x) refl (has_number n goal
     cases : (b : Bool) → is_numbered n x ≡ b → (goal_of n goals ≡ Some g → is_numbered n g ≡ true) → is_numbered n g ≡ true
     cases true f more = let here : Some x ≡ Some g = rw f at e in let is : x ≡ g = cc in ap (is_numbered n) (sym is) ∙ f
     cases false f more = more (rw f at e)
-
-pub same_itself : (k : Conflict) → same k k ≡ true
-same_itself k = tied (conflict_cmp k k) (conflict_total.antisymm k k)
-  where
-    tied : (r : Ordering) → r ≡ ordering_reverse r → is_eq r ≡ true
-    tied Less e = absurd (cc)
-    tied Equal e = refl
-    tied Greater e = absurd (cc)
 
 -- ---- one goal less
 
@@ -111,23 +100,23 @@ module _ (s : PlanState) (whole : IsWhole s) (n : ℕ) (g : Goal) (here : goal_a
   open_at_own q h = by (is_open s g && nat_le (floor_of s) g.latest) (rw here at h)
     where
       by : (b : Bool) → has q (when b own) ≡ true → own ≡ q
-      by true e = sym (same_is q own (sym (or_false (same q own)) ∙ e))
+      by true e = sym (same_is q own (sym (or-false (same q own)) ∙ e))
       by false e = absurd (cc)
 
   open_less : (q : Conflict) → has q (open_of then_ q.subject) ≡ (has q (open_of s q.subject) && not (same own q))
   open_less q = by (eqb n q.subject) refl (same own q) refl
     where
       by : (b : Bool) → eqb n q.subject ≡ b → (d : Bool) → same own q ≡ d → has q (open_of then_ q.subject) ≡ (has q (open_of s q.subject) && not d)
-      by true e true f = let is : n ≡ q.subject = eqb-true n q.subject e in ap (λ (l : List Conflict). has q l) (ap (open_of then_) (sym is) ∙ open_here) ∙ sym (and_false (has q (open_of s q.subject)))
+      by true e true f = let is : n ≡ q.subject = eqb-true n q.subject e in ap (λ (l : List Conflict). has q l) (ap (open_of then_) (sym is) ∙ open_here) ∙ sym (and-false (has q (open_of s q.subject)))
       by true e false f =
           let is : n ≡ q.subject = eqb-true n q.subject e in
-          ap (λ (l : List Conflict). has q l) (ap (open_of then_) (sym is) ∙ open_here) ∙ sym (and_true (has q (open_of s q.subject)) ∙ absent (has q (open_of s n)) refl is)
+          ap (λ (l : List Conflict). has q l) (ap (open_of then_) (sym is) ∙ open_here) ∙ sym (and-true (has q (open_of s q.subject)) ∙ absent (has q (open_of s n)) refl is)
         where
           absent : (c : Bool) → has q (open_of s n) ≡ c → n ≡ q.subject → has q (open_of s q.subject) ≡ false
           absent false h is = ap (λ m. has q (open_of s m)) (sym is) ∙ h
           absent true h is = absurd (let own_is : own ≡ q = open_at_own q h in let bad : true ≡ false = sym (same_itself q) ∙ (ap (λ k. same k q) (sym own_is) ∙ f) in cc)
       by false e true f = absurd (let is : own ≡ q = same_is own q f in let bad : true ≡ false = sym (eq-eqb n q.subject (sym number_is ∙ ap (λ (k : Conflict). k.subject) is)) ∙ e in cc)
-      by false e false f = ap (λ (l : List Conflict). has q l) (open_elsewhere q.subject e) ∙ sym (and_true (has q (open_of s q.subject)))
+      by false e false f = ap (λ (l : List Conflict). has q l) (open_elsewhere q.subject e) ∙ sym (and-true (has q (open_of s q.subject)))
 
   -- ---- roots off their goals
 
@@ -174,21 +163,17 @@ module _ (s : PlanState) (whole : IsWhole s) (n : ℕ) (g : Goal) (here : goal_a
 
   -- ---- all
 
-  none_if : (b : Bool) → (b ≡ true → ⊥) → b ≡ false
-  none_if true other = absurd (other refl)
-  none_if false other = refl
-
   not_off : has own (off_of s own.subject) ≡ false
-  not_off = none_if (has own (off_of s own.subject)) (λ h. let code : OpenGoal ≡ OffGoal = off_code own.subject own h in absurd (cc))
+  not_off = false_from_ne_true (has own (off_of s own.subject)) (λ h. let code : OpenGoal ≡ OffGoal = off_code own.subject own h in absurd (cc))
 
   not_activity : has own (activity_conflicts s) ≡ false
-  not_activity = none_if (has own (activity_conflicts s)) (λ h. let part : of_goals ≡ of_activities = of_activities_alone s own h in absurd (cc))
+  not_activity = false_from_ne_true (has own (activity_conflicts s)) (λ h. let part : of_goals ≡ of_activities = of_activities_alone s own h in absurd (cc))
 
   not_link : has own (link_conflicts s) ≡ false
-  not_link = none_if (has own (link_conflicts s)) (λ h. let part : of_goals ≡ of_links = of_links_alone s own h in absurd (cc))
+  not_link = false_from_ne_true (has own (link_conflicts s)) (λ h. let part : of_goals ≡ of_links = of_links_alone s own h in absurd (cc))
 
   not_timeline : has own (timeline_conflicts s) ≡ false
-  not_timeline = none_if (has own (timeline_conflicts s)) (λ h. let part : of_goals ≡ of_timelines = of_timelines_alone s own h in absurd (cc))
+  not_timeline = false_from_ne_true (has own (timeline_conflicts s)) (λ h. let part : of_goals ≡ of_timelines = of_timelines_alone s own h in absurd (cc))
 
   goals_then : (q : Conflict) → has q (goal_conflicts then_) ≡ ((has q (open_of s q.subject) && not (same own q)) || has q (off_of s q.subject))
   goals_then q =
@@ -206,8 +191,8 @@ module _ (s : PlanState) (whole : IsWhole s) (n : ℕ) (g : Goal) (here : goal_a
       by true e =
           let is : own ≡ q = same_is own q e in
           let P : Conflict → Type 0 = λ k. (((has k (open_of s k.subject) && false) || has k (off_of s k.subject)) || (has k (activity_conflicts s) || (has k (link_conflicts s) || has k (timeline_conflicts s)))) ≡ (has k (conflicts_of s) && false) in
-          subst P is (rw (not_off, not_activity, not_link, not_timeline, and_false (has own (open_of s own.subject)), and_false (has own (conflicts_of s))) refl)
-      by false e = rw (and_true (has q (open_of s q.subject)), and_true (has q (conflicts_of s))) (ap (λ b. b || (has q (activity_conflicts s) || (has q (link_conflicts s) || has q (timeline_conflicts s)))) (sym (goals_by_subject s whole.distinct whole.rising q)) ∙ sym (members s q))
+          subst P is (rw (not_off, not_activity, not_link, not_timeline, and-false (has own (open_of s own.subject)), and-false (has own (conflicts_of s))) refl)
+      by false e = rw (and-true (has q (open_of s q.subject)), and-true (has q (conflicts_of s))) (ap (λ b. b || (has q (activity_conflicts s) || (has q (link_conflicts s) || has q (timeline_conflicts s)))) (sym (goals_by_subject s whole.distinct whole.rising q)) ∙ sym (members s q))
 
   then_is : conflicts_of then_ ≡ remove_key (same own) (conflicts_of s)
   then_is = conflict_unique conflict_exact (conflicts_of then_) (remove_key (same own) (conflicts_of s)) (ordered then_) (ordered-remove (conflicts_of s) own (ordered s)) (λ q. one_less q ∙ sym (has-remove (conflicts_of s) own q (ordered s)))

@@ -1,8 +1,8 @@
 -- What was placed goes on to other starts, and a board from a move to one that goes on with it.
-use Rattle.std.proofs.Common.{◌≡◌, ℕ, ◌+◌, ◌<◌, ◌≤◌, Bool, true, false, cond, List, [], ◌∷◌, map, length, get_or, refl, sym, ap, ◌∙◌, subst, arith}
+use Rattle.std.proofs.Common.{◌≡◌, ℕ, ◌+◌, ◌≤◌, Bool, true, false, cond, List, [], ◌∷◌, map, length, get_or, refl, sym, ap, ◌∙◌, subst, arith}
 use Rattle.std.specs.Prelude.{max, All, Option, Some, None, is_some}
 use Rattle.std.specs.Option.{option_or}
-use Rattle.std.proofs.lemmas.List.Elements.{All-cons, All-nil, All-map}
+use Rattle.std.proofs.lemmas.List.Elements.{All-map}
 use Rattle.pl_plan.specs.declared.activity.Activity.{Activity}
 use Rattle.pl_plan.specs.declared.repair.RepairMove.{RepairMove}
 use Rattle.pl_plan.specs.Activities.{IsLive, activity_of}
@@ -12,19 +12,21 @@ use Rattle.pl_plan.specs.Values.{values_of}
 use Rattle.pl_plan.proofs.Ids.{rises_between}
 use Rattle.pl_plan.proofs.Kept.{each_found}
 use Rattle.pl_plan.proofs.LocalValues.{values_local}
-use Rattle.pl_world.specs.declared.plan_state.PlanState.{PlanState}
-use Rattle.pl_world.specs.PlanStates.{among}
-use Rattle.pl_world.specs.Whole.{IsWhole}
-use Rattle.pl_world.specs.Moves.{moved, applied}
-use Rattle.pl_changes.specs.Replaced.{CanReplace, replaced, touched, with_plan, next_after}
-use Rattle.pl_changes.proofs.Putting.{next_grows}
+use Rattle.pl_semantics.specs.declared.plan_state.PlanState.{PlanState}
+use Rattle.pl_semantics.specs.PlanStates.{among}
+use Rattle.pl_semantics.specs.Whole.{IsWhole}
+use Rattle.pl_semantics.specs.Moves.{moved, applied}
+use Rattle.pl_update.specs.Changes.Replaced.{CanReplace, replaced, touched, with_plan, next_after}
+use Rattle.pl_update.proofs.AboutChanges.Putting.{next_above}
+use Rattle.pl_update.proofs.AboutEvaluations.Keeping.{among_neither}
+use Rattle.pl_update.proofs.AboutGoalsAndActivities.Touching.{not_left, not_right}
 use Rattle.pl_moves.specs.Changes.{gone_by, placed_by}
 use Rattle.pl_moves.specs.Runs.{start_of, goes_on, CanBeMade}
 use Rattle.pl_moves.specs.Undone.{IsUndoneBy, picked}
 use Rattle.pl_moves.proofs.Kin.{IsKin, all_come_again, kin_on, placed_on}
 use Rattle.pl_moves.proofs.Made.{IsMadeBy, made}
-use Rattle.pl_moves.proofs.Returning.{among_neither, undone_by}
-use Rattle.pl_moves.proofs.Subtrees.{among_ids, among_left, among_right}
+use Rattle.pl_moves.proofs.Returning.{undone_by}
+use Rattle.pl_moves.proofs.Subtrees.{among_ids}
 use Rattle.pl_moves.proofs.Swaps.{IsSwap, MayCome, next_same, same_replaced, swap_is, swapped_at}
 
 -- ---- the next id
@@ -38,16 +40,10 @@ next_by_ids n (a ∷ ps) (b ∷ qs) e =
     let tail : map id_of ps ≡ map id_of qs = cc in
     ap (λ k. next_after (max n (k + 1)) ps) head ∙ next_by_ids (max n (b.id + 1)) ps qs tail
 
-below_next : (n : ℕ) (ps : List Activity) → All (λ a. a.id < next_after n ps) ps
-below_next n [] = All-nil (λ (a : Activity). a.id < n)
-below_next n (a ∷ ps) =
-    let up = next_grows (max n (a.id + 1)) ps in
-    All-cons (λ (b : Activity). b.id < next_after (max n (a.id + 1)) ps) a ps (omega (arith, up)) (below_next (max n (a.id + 1)) ps)
-
 next_again : (n : ℕ) (ps qs : List Activity) → map id_of ps ≡ map id_of qs → next_after (next_after n ps) qs ≡ next_after n qs
 next_again n ps qs e =
     sym (next_by_ids (next_after n ps) ps qs e)
-    ∙ (next_same (next_after n ps) ps (below_next n ps)
+    ∙ (next_same (next_after n ps) ps (next_above n ps)
     ∙ next_by_ids n ps qs e)
 
 -- ---- others of the same ids
@@ -86,14 +82,14 @@ module _ (s : PlanState) (whole : IsWhole s) (next : s.next_id ≤ 3999999000) (
   home = ap (λ (l : List Activity). replaced l leaving qs) is ∙ same_replaced ys leaving qs zs one.rising two.rises may_again two.rising found_again
 
   apart_before : (id : ℕ) → among id (touched leaving qs) ≡ false → among id (touched gone ps) ≡ false
-  apart_before id apart = among_neither id gone leaving (by (among id gone) refl) (among_left id leaving (map id_of qs) apart)
+  apart_before id apart = among_neither id gone leaving (by (among id gone) refl) (not_left id leaving (map id_of qs) apart)
     where
       by : (b : Bool) → among id gone ≡ b → among id gone ≡ false
       by false e = e
-      by true e = absurd (let bad : true ≡ false = sym (again id e) ∙ among_left id leaving (map id_of qs) apart in cc)
+      by true e = absurd (let bad : true ≡ false = sym (again id e) ∙ not_left id leaving (map id_of qs) apart in cc)
 
   apart_then : (id : ℕ) → among id (touched leaving qs) ≡ false → among id (touched gone qs) ≡ false
-  apart_then id apart = among_neither id gone (map id_of qs) (among_left id gone leaving (apart_before id apart)) (among_right id leaving (map id_of qs) apart)
+  apart_then id apart = among_neither id gone (map id_of qs) (not_left id gone leaving (apart_before id apart)) (not_right id leaving (map id_of qs) apart)
 
   live_leaving : All (λ id. IsLive id (replaced xs gone ps)) leaving
   live_leaving = All-map (λ id. IsLive id (replaced xs gone ps)) id_of ps (λ i d lt. subst (λ (l : List Activity). IsLive (get_or ps i d).id l) (sym is) (let here : activity_of (get_or ps i d).id ys ≡ Some (get_or ps i d) = one.found (get_or ps i d).id ∙ rw (each_found ps one.rises i d lt) refl in rw here refl))

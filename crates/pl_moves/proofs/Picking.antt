@@ -9,10 +9,10 @@ use Rattle.pl_plan.proofs.ByLookUps.{filter_rising}
 use Rattle.pl_plan.proofs.Kept.{found-kept}
 use Rattle.pl_plan.proofs.LookUpLaws.{same_activities}
 use Rattle.pl_plan.proofs.RisingIds.{RiseIds}
-use Rattle.pl_world.specs.declared.plan_state.PlanState.{PlanState}
-use Rattle.pl_world.specs.PlanStates.{among, found}
-use Rattle.pl_world.specs.Whole.{IsWhole}
-use Rattle.pl_world.specs.Moves.{moved, moved_with}
+use Rattle.pl_semantics.specs.declared.plan_state.PlanState.{PlanState}
+use Rattle.pl_semantics.specs.PlanStates.{among, found}
+use Rattle.pl_semantics.specs.Whole.{IsWhole}
+use Rattle.pl_semantics.specs.Moves.{moved, moved_with}
 use Rattle.pl_moves.specs.Undone.{picked}
 use Rattle.pl_moves.proofs.Returning.{found_picked, picked_rise, subtree_rise, has_its_id}
 use Rattle.pl_moves.proofs.Subtrees.{among_subtree}

@@ -15,10 +15,10 @@ use Rattle.pl_plan.proofs.Kept.{all_kept, each_found, found-kept, found-changed}
 use Rattle.pl_plan.proofs.TreeLaws.{descends_complete}
 use Rattle.pl_plan.proofs.ByLookUps.{filter_rising}
 use Rattle.pl_plan.proofs.MoveLaws.{fits_changed}
-use Rattle.pl_world.specs.declared.plan_state.PlanState.{PlanState}
-use Rattle.pl_world.specs.PlanStates.{among, floor_of}
-use Rattle.pl_world.specs.Whole.{IsWhole, IsCarried}
-use Rattle.pl_world.specs.Moves.{is_under, moved, with_value}
+use Rattle.pl_semantics.specs.declared.plan_state.PlanState.{PlanState}
+use Rattle.pl_semantics.specs.PlanStates.{among, floor_of}
+use Rattle.pl_semantics.specs.Whole.{IsWhole, IsCarried}
+use Rattle.pl_semantics.specs.Moves.{is_under, moved, with_value}
 use Rattle.pl_moves.specs.Changes.{assigned}
 use Rattle.pl_moves.proofs.Swaps.{IsSwap, swapped_at}
 use Rattle.pl_moves.proofs.Subtrees.{among_subtree, rising_map, goes_if, subtree_swap}

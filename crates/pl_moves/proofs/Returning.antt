@@ -15,26 +15,25 @@ use Rattle.pl_plan.proofs.Kept.{each_found}
 use Rattle.pl_plan.proofs.LocalValues.{values_local}
 use Rattle.pl_plan.proofs.RisingIds.{RiseIds, filter_rises}
 use Rattle.pl_plan.proofs.Members.{ids_rise}
-use Rattle.pl_world.specs.declared.plan_state.PlanState.{PlanState}
-use Rattle.pl_world.specs.PlanStates.{among, of_found}
-use Rattle.pl_world.specs.Whole.{IsWhole, IsCarried, IsIdBelow}
-use Rattle.pl_changes.specs.Changes.{with_next}
-use Rattle.pl_changes.specs.Replaced.{CanReplace, replaced, touched, with_plan}
-use Rattle.pl_world.specs.Moves.{is_proper, refusal_of, applied}
+use Rattle.pl_semantics.specs.declared.plan_state.PlanState.{PlanState}
+use Rattle.pl_semantics.specs.PlanStates.{among, of_found}
+use Rattle.pl_semantics.specs.Whole.{IsWhole, IsCarried, IsIdBelow}
+use Rattle.pl_update.specs.Changes.Changes.{with_next}
+use Rattle.pl_update.specs.Changes.Replaced.{CanReplace, replaced, touched, with_plan}
+use Rattle.pl_semantics.specs.Moves.{is_proper, refusal_of, applied}
+use Rattle.pl_semantics.proofs.Starting.{rise_lower}
 use Rattle.pl_plan.specs.declared.repair.RepairMove.{RepairMove}
 use Rattle.pl_plan.specs.declared.repair.RepairMove.TheVariants.{Add, Delete, Shift, Detail, Abstract, Assign, Drop}
 use Rattle.pl_moves.specs.Changes.{IsOfActivities, gone_by, placed_by}
-use Rattle.pl_changes.proofs.Putting.{next_grows}
+use Rattle.pl_update.proofs.AboutChanges.Putting.{next_grows}
+use Rattle.pl_update.proofs.AboutEvaluations.Keeping.{among_neither}
+use Rattle.pl_update.proofs.AboutGoalsAndActivities.Touching.{not_left, not_right}
 use Rattle.pl_moves.specs.Undone.{IsUndoneBy, alone, picked}
 use Rattle.pl_moves.proofs.Swaps.{IsSwap, MayCome, same_replaced, swap_is, swapped_at}
 use Rattle.pl_moves.proofs.Made.{IsMadeBy, made, can_replace}
-use Rattle.pl_moves.proofs.Subtrees.{among_ids, among_left, among_right}
+use Rattle.pl_moves.proofs.Subtrees.{among_ids}
 
 -- ---- those of some ids
-
-rise_lower : (b c : ℕ) (xs : List Activity) → b ≤ c → RiseFrom c xs → RiseFrom b xs
-rise_lower b c [] le rise = tt
-rise_lower b c (x ∷ xs) le rise = (omega (arith, le, rise.0), rise.1)
 
 pub has_its_id : (xs : List Activity) (id : ℕ) (a : Activity) → activity_of id xs ≡ Some a → a.id ≡ id
 has_its_id xs id a e = (all_at (λ b. Unit {0}) xs id a (λ i d lt. tt) e).1
@@ -96,14 +95,6 @@ among_all P (i ∷ ids) q all e = cases (eqb i q) refl (among_all P ids q (All-t
     cases true f more = subst P (eqb-true i q f) (All-head P i ids all)
     cases false f more = more (rw f at e)
 
-pub among_neither : (q : ℕ) (ids more : List ℕ) → among q ids ≡ false → among q more ≡ false → among q (ids ++ more) ≡ false
-among_neither q [] more one two = two
-among_neither q (i ∷ ids) more one two = cases (eqb i q) refl (among_neither q ids more)
-  where
-    cases : (b : Bool) → eqb i q ≡ b → (among q ids ≡ false → among q more ≡ false → among q (ids ++ more) ≡ false) → among q (i ∷ (ids ++ more)) ≡ false
-    cases true f rest = absurd (let bad : true ≡ false = rw f at one in cc)
-    cases false f rest = let less : among q ids ≡ false = rw f at one in rw f (rest less two)
-
 -- ---- back
 
 module _ (s : PlanState) (whole : IsWhole s) (gone : List ℕ) (more ys : List Activity) (swap : IsSwap s gone more ys) (rise : RiseIds 0 gone) where
@@ -161,14 +152,14 @@ module _ (s : PlanState) (whole : IsWhole s) (gone : List ℕ) (more ys : List A
   home = ap (λ (l : List Activity). replaced l leaving returning) is ∙ same_replaced ys leaving returning xs swap.rising rises may_return whole.rising found_home
 
   apart_before : (id : ℕ) → among id (touched leaving returning) ≡ false → among id (touched gone more) ≡ false
-  apart_before id apart = among_neither id gone leaving (by (among id gone) refl) (among_left id leaving (map id_of returning) apart)
+  apart_before id apart = among_neither id gone leaving (by (among id gone) refl) (not_left id leaving (map id_of returning) apart)
     where
       by : (b : Bool) → among id gone ≡ b → among id gone ≡ false
       by false e = e
       by true e =
           let back : activity_of id returning ≡ activity_of id xs = found_picked xs gone id ∙ rw e refl in
           let there : among id (map id_of returning) ≡ true = among_ids returning id ∙ (rw back (live_gone id e)) in
-          absurd (let bad : true ≡ false = sym there ∙ among_right id leaving (map id_of returning) apart in cc)
+          absurd (let bad : true ≡ false = sym there ∙ not_right id leaving (map id_of returning) apart in cc)
 
   live_leaving : All (λ id. IsLive id (replaced xs gone more)) leaving
   live_leaving = All-map (λ id. IsLive id (replaced xs gone more)) id_of more (λ i d lt. subst (λ (l : List Activity). IsLive (get_or more i d).id l) (sym is) (let here : activity_of (get_or more i d).id ys ≡ Some (get_or more i d) = swap.found (get_or more i d).id ∙ rw (each_found more swap.rises i d lt) refl in rw here refl))

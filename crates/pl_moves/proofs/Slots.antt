@@ -4,8 +4,8 @@ use Rattle.std.specs.Prelude.{Some}
 use Rattle.std.proofs.lemmas.List.{drop_more}
 use Rattle.pl_model.specs.declared.alternatives.Slot.{Slot}
 use Rattle.pl_plan.specs.declared.activity.Activity.{Activity}
-use Rattle.pl_world.specs.declared.plan_state.PlanState.{PlanState}
-use Rattle.pl_world.specs.Moves.{child_for, children_from}
+use Rattle.pl_semantics.specs.declared.plan_state.PlanState.{PlanState}
+use Rattle.pl_semantics.specs.Moves.{child_for, children_from}
 use Rattle.pl_moves.specs.declared.side.Side.{Side}
 use Rattle.pl_moves.specs.Sides.{lies_on, first_on}
 

@@ -1,9 +1,11 @@
 -- When a change of a subtree is a replacement.
-use Rattle.std.proofs.Common.{◌≡◌, ℕ, suc, ◌<◌, ◌≤◌, eqb, Bool, true, false, cond, List, [], ◌∷◌, ◌++◌, map, filter, length, get_or, refl, sym, ap, ◌∙◌, subst, arith}
+use Rattle.std.proofs.Common.{◌≡◌, ℕ, suc, ◌<◌, ◌≤◌, eqb, Bool, true, false, cond, List, [], ◌∷◌, map, filter, length, get_or, refl, sym, ap, ◌∙◌, subst, arith}
 use Rattle.std.specs.Prelude.{◌&&◌, All, Option, Some, None, is_some}
 use Rattle.std.specs.Option.{option_or}
 use Rattle.std.proofs.lemmas.Bool.{eqb-true}
 use Rattle.std.proofs.lemmas.List.Elements.{All-map}
+use Rattle.std.proofs.Math.Bool.{and-false}
+use Rattle.pl_lists.proofs.Tests.{and_first, and_second}
 use Rattle.pl_plan.specs.declared.activity.Activity.{Activity}
 use Rattle.pl_plan.specs.Activities.{RiseFrom, AreRising, IsLive, activity_of}
 use Rattle.pl_plan.specs.Trees.{id_of, Descends, descends, subtree_of}
@@ -13,19 +15,16 @@ use Rattle.pl_plan.proofs.Climbs.{all_at}
 use Rattle.pl_plan.proofs.Kept.{all_kept, each_found}
 use Rattle.pl_plan.proofs.TreeLaws.{descends_join, descends_sound, descends_complete}
 use Rattle.pl_plan.proofs.Subtrees.{descends_live}
-use Rattle.pl_world.specs.declared.plan_state.PlanState.{PlanState}
-use Rattle.pl_world.specs.PlanStates.{among}
-use Rattle.pl_world.specs.Whole.{IsWhole, IsCarried, IsIdBelow}
+use Rattle.pl_semantics.specs.declared.plan_state.PlanState.{PlanState}
+use Rattle.pl_semantics.specs.PlanStates.{among}
+use Rattle.pl_semantics.specs.Whole.{IsWhole, IsCarried, IsIdBelow}
+use Rattle.pl_update.proofs.AboutGoalsAndActivities.Touching.{not_left}
 use Rattle.pl_moves.proofs.Swaps.{IsSwap, swapped_at}
 
 -- ---- ids in lists
 
 among_filter : (p : ℕ → Bool) (ids : List ℕ) (q : ℕ) → among q (filter p ids) ≡ (p q && among q ids)
-among_filter p [] q = by (p q)
-  where
-    by : (b : Bool) → false ≡ (b && false)
-    by true = refl
-    by false = refl
+among_filter p [] q = sym (and-false (p q))
 among_filter p (i ∷ ids) q = cases (p i) refl (eqb i q) refl (among_filter p ids q)
   where
     cases : (b : Bool) → p i ≡ b → (e : Bool) → eqb i q ≡ e → among q (filter p ids) ≡ (p q && among q ids) → among q (filter p (i ∷ ids)) ≡ (p q && among q (i ∷ ids))
@@ -45,30 +44,6 @@ among_ids (x ∷ xs) q = cases (eqb x.id q) refl (among_ids xs q)
 pub among_subtree : (xs : List Activity) (top q : ℕ) → among q (subtree_of top xs) ≡ (descends xs top q && is_some (activity_of q xs))
 unfolding subtree_of
 among_subtree xs top q = among_filter (descends xs top) (map id_of xs) q ∙ ap (λ b. descends xs top q && b) (among_ids xs q)
-
-pub among_left : (q : ℕ) (ids more : List ℕ) → among q (ids ++ more) ≡ false → among q ids ≡ false
-among_left q [] more apart = refl
-among_left q (i ∷ ids) more apart = cases (eqb i q) refl (among_left q ids more)
-  where
-    cases : (e : Bool) → eqb i q ≡ e → (among q (ids ++ more) ≡ false → among q ids ≡ false) → among q (i ∷ ids) ≡ false
-    cases true g rest = absurd (let bad : true ≡ false = rw g at apart in cc)
-    cases false g rest = let less : among q (ids ++ more) ≡ false = rw g at apart in rw g (rest less)
-
-pub among_right : (q : ℕ) (ids more : List ℕ) → among q (ids ++ more) ≡ false → among q more ≡ false
-among_right q [] more apart = apart
-among_right q (i ∷ ids) more apart = cases (eqb i q) refl (among_right q ids more)
-  where
-    cases : (e : Bool) → eqb i q ≡ e → (among q (ids ++ more) ≡ false → among q more ≡ false) → among q more ≡ false
-    cases true g rest = absurd (let bad : true ≡ false = rw g at apart in cc)
-    cases false g rest = let less : among q (ids ++ more) ≡ false = rw g at apart in rest less
-
-pub both_left : (a b : Bool) → (a && b) ≡ true → a ≡ true
-both_left true b e = refl
-both_left false b e = absurd (cc)
-
-pub both_right : (a b : Bool) → (a && b) ≡ true → b ≡ true
-both_right true b e = e
-both_right false b e = absurd (cc)
 
 pub rising_map : (c : Activity → Activity) → KeepsTree c → (from : ℕ) (xs : List Activity) → RiseFrom from xs → RiseFrom from (map c xs)
 rising_map c keeps from [] rising = rising
@@ -96,7 +71,7 @@ module _ (s : PlanState) (whole : IsWhole s) (top : ℕ) where
   goes : (q : ℕ) → among q gone ≡ true → (descends xs top q ≡ true) × IsLive q xs
   goes q is =
       let both : (descends xs top q && is_some (activity_of q xs)) ≡ true = sym (among_subtree xs top q) ∙ is in
-      (both_left (descends xs top q) (is_some (activity_of q xs)) both, both_right (descends xs top q) (is_some (activity_of q xs)) both)
+      (and_first (descends xs top q) (is_some (activity_of q xs)) both, and_second (descends xs top q) (is_some (activity_of q xs)) both)
 
   pub goes_if : (q : ℕ) → descends xs top q ≡ true → IsLive q xs → among q gone ≡ true
   goes_if q under live = among_subtree xs top q ∙ rw (under, live) refl
@@ -136,7 +111,7 @@ module _ (s : PlanState) (whole : IsWhole s) (top : ℕ) where
       carried = carried;
       rising = rising;
       found = found;
-      above = λ id apart q above. same_outside q (stays_above id q (among_left id gone (map id_of more) apart) above);
+      above = λ id apart q above. same_outside q (stays_above id q (not_left id gone (map id_of more) apart) above);
       fits = fits;
       few = few;
     }

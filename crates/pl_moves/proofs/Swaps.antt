@@ -13,16 +13,13 @@ use Rattle.pl_plan.proofs.Ids.{rises_above, rises_between, rising-without, risin
 use Rattle.pl_plan.proofs.Lookups.{none_below, found-placed, found-without}
 use Rattle.pl_plan.proofs.LookUpLaws.{same_activities}
 use Rattle.pl_plan.proofs.LocalValues.{values_local}
-use Rattle.pl_world.specs.declared.plan_state.PlanState.{PlanState}
-use Rattle.pl_world.specs.PlanStates.{among}
-use Rattle.pl_world.specs.Whole.{IsWhole, IsCarried}
-use Rattle.pl_changes.specs.Replaced.{CanReplace, taken, put, replaced, touched, next_after}
+use Rattle.pl_semantics.specs.declared.plan_state.PlanState.{PlanState}
+use Rattle.pl_semantics.specs.PlanStates.{among}
+use Rattle.pl_semantics.specs.Whole.{IsWhole, IsCarried}
+use Rattle.pl_update.specs.Changes.Replaced.{CanReplace, taken, put, replaced, touched, next_after}
+use Rattle.pl_update.proofs.AboutChanges.Putting.{rising-taken}
 
 -- ---- those that go
-
-rising_taken : (xs : List Activity) (gone : List ℕ) → AreRising xs → AreRising (taken xs gone)
-rising_taken xs [] rising = rising
-rising_taken xs (g ∷ gone) rising = rising_taken (without g xs) gone (rising-without g 0 xs rising)
 
 found_taken : (xs : List Activity) (gone : List ℕ) (q : ℕ) → AreRising xs → activity_of q (taken xs gone) ≡ cond (among q gone) None (activity_of q xs)
 found_taken xs [] q rising = refl
@@ -86,7 +83,7 @@ pub same_replaced : (xs : List Activity) (gone : List ℕ) (more ys : List Activ
 unfolding replaced
 same_replaced xs gone more ys rising rises may rises_then found =
     let free : All (Free (taken xs gone)) more = λ i d lt. free_then xs gone (get_or more i d) rising (may i d lt) in
-    same_activities (put (taken xs gone) more) ys (rising_put (taken xs gone) 0 more rises free (rising_taken xs gone rising)) rises_then
+    same_activities (put (taken xs gone) more) ys (rising_put (taken xs gone) 0 more rises free (rising-taken xs gone rising)) rises_then
     (λ q. found_put (taken xs gone) 0 more q rises free ∙ (ap (λ o. option_or (activity_of q more) o) (found_taken xs gone q rising) ∙ sym (found q)))
 
 -- what makes a list of activities what a replacement leaves

@@ -4,12 +4,12 @@ use Rattle.std.specs.Prelude.{min}
 use Rattle.pl_conflict.specs.declared.conflict.Conflict.{Conflict}
 use Rattle.pl_plan.specs.declared.activity.Activity.{Activity}
 use Rattle.pl_plan.specs.declared.repair.RepairMove.{RepairMove}
-use Rattle.pl_world.specs.declared.plan_state.PlanState.{PlanState}
-use Rattle.pl_world.specs.Conflicts.{conflicts_of}
-use Rattle.pl_world.specs.Legal.{left_after}
-use Rattle.pl_world.specs.Moves.{applied}
-use Rattle.pl_changes.specs.Changes.{with_next}
-use Rattle.pl_changes.specs.Replaced.{CanReplace, with_plan}
+use Rattle.pl_semantics.specs.declared.plan_state.PlanState.{PlanState}
+use Rattle.pl_semantics.specs.Conflicts.{conflicts_of}
+use Rattle.pl_semantics.specs.Legal.{left_after}
+use Rattle.pl_semantics.specs.Moves.{applied}
+use Rattle.pl_update.specs.Changes.Changes.{with_next}
+use Rattle.pl_update.specs.Changes.Replaced.{CanReplace, with_plan}
 use Rattle.pl_board.specs.Boards.{Standing, after}
 use Rattle.pl_moves.specs.Undone.{IsUndoneBy}
 

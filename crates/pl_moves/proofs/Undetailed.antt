@@ -6,32 +6,31 @@ use Rattle.std.proofs.lemmas.Bool.{le-ltb}
 use Rattle.std.proofs.lemmas.Grind.{flat_map-append}
 use Rattle.std.proofs.lemmas.List.{append-nil}
 use Rattle.std.proofs.lemmas.List.Elements.{All-head}
-use Rattle.pl_lists.proofs.Tests.{or_true}
+use Rattle.std.proofs.Math.Bool.{or-true}
 use Rattle.pl_conflict.specs.declared.conflict.Conflict.{Conflict}
 use Rattle.pl_conflict.specs.declared.conflict.Code.TheVariants.{Undetailed}
 use Rattle.pl_conflict.specs.Order.{has}
-use Rattle.pl_conflict.proofs.Sorting.{has-append}
+use Rattle.pl_conflict.proofs.Sorting.{has-append, same_itself}
 use Rattle.pl_plan.specs.declared.activity.Activity.{Activity}
 use Rattle.pl_plan.specs.declared.repair.RepairMove.{RepairMove}
 use Rattle.pl_plan.specs.declared.repair.RepairMove.TheVariants.{Add}
 use Rattle.pl_plan.specs.Fitting.{alternatives_of}
-use Rattle.pl_world.specs.declared.plan_state.PlanState.{PlanState}
-use Rattle.pl_world.specs.PlanStates.{floor_of, is_committed, if_planned}
-use Rattle.pl_world.specs.Activities.{at_start, late_at, unset_at, bad_values_at, undetailed_at, overrun_at, wrong_at, activity_conflicts}
-use Rattle.pl_world.specs.Goals.{goal_conflicts}
-use Rattle.pl_world.specs.Links.{link_conflicts}
-use Rattle.pl_world.specs.Timelines.{timeline_conflicts}
-use Rattle.pl_world.specs.Conflicts.{conflicts_of}
-use Rattle.pl_world.specs.Moves.{root_for, applied, refusal_of}
-use Rattle.pl_world.specs.Legal.{MayBeMade, left_after}
-use Rattle.pl_world.proofs.Refusing.{may}
-use Rattle.pl_world.proofs.Standing.{members}
+use Rattle.pl_semantics.specs.declared.plan_state.PlanState.{PlanState}
+use Rattle.pl_semantics.specs.PlanStates.{floor_of, is_committed, if_planned}
+use Rattle.pl_semantics.specs.Activities.{at_start, late_at, unset_at, bad_values_at, undetailed_at, overrun_at, wrong_at, activity_conflicts}
+use Rattle.pl_semantics.specs.Goals.{goal_conflicts}
+use Rattle.pl_semantics.specs.Links.{link_conflicts}
+use Rattle.pl_semantics.specs.Timelines.{timeline_conflicts}
+use Rattle.pl_semantics.specs.Conflicts.{conflicts_of}
+use Rattle.pl_semantics.specs.Moves.{root_for, applied, refusal_of}
+use Rattle.pl_semantics.specs.Legal.{MayBeMade, left_after}
+use Rattle.pl_semantics.proofs.Refusing.{may}
+use Rattle.pl_semantics.proofs.Standing.{members}
 use Rattle.pl_moves.specs.Least.{least_known}
 use Rattle.pl_moves.specs.Runs.{CanBeMade}
-use Rattle.pl_moves.proofs.OneGoalLess.{same_itself}
 
 has_between : (k : Conflict) (xs us ys : List Conflict) → has k us ≡ true → has k (xs ++ us ++ ys) ≡ true
-has_between k xs us ys e = has-append (xs ++ us) ys k ∙ ap (λ b. b || has k ys) (has-append xs us k ∙ ap (λ b. has k xs || b) e ∙ or_true (has k xs))
+has_between k xs us ys e = has-append (xs ++ us) ys k ∙ ap (λ b. b || has k ys) (has-append xs us k ∙ ap (λ b. has k xs || b) e ∙ or-true (has k xs))
 
 some_with : (k : Conflict) (ks : List Conflict) → has k ks ≡ true → 1 ≤ length ks
 some_with k [] e = absurd (cc)
@@ -63,8 +62,8 @@ undetailed_left s kind start goal allowed some =
     let last : has k (flat_map (wrong_at t) (root ∷ [])) ≡ true = ap (has k) (append-nil (wrong_at t root)) ∙ wrong in
     let among : has k (activity_conflicts t) ≡ true =
     ap (has k) (flat_map-append (wrong_at t) s.plan.activities (root ∷ [])) ∙ has-append (flat_map (wrong_at t) s.plan.activities) (flat_map (wrong_at t) (root ∷ [])) k
-    ∙ ap (λ b. has k (flat_map (wrong_at t) s.plan.activities) || b) last ∙ or_true (has k (flat_map (wrong_at t) s.plan.activities)) in
-    some_with k (conflicts_of t) (members t k ∙ ap (λ b. has k (goal_conflicts t) || (b || (has k (link_conflicts t) || has k (timeline_conflicts t)))) among ∙ or_true (has k (goal_conflicts t)))
+    ∙ ap (λ b. has k (flat_map (wrong_at t) s.plan.activities) || b) last ∙ or-true (has k (flat_map (wrong_at t) s.plan.activities)) in
+    some_with k (conflicts_of t) (members t k ∙ ap (λ b. has k (goal_conflicts t) || (b || (has k (link_conflicts t) || has k (timeline_conflicts t)))) among ∙ or-true (has k (goal_conflicts t)))
 
 -- what is known to be left is left
 pub known_least : (s : PlanState) (m : RepairMove) → CanBeMade s m → least_known s m ≤ left_after s m

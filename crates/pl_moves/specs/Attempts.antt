@@ -1,8 +1,8 @@
 -- What comes of trying a move.
 use Rattle.std.specs.Prelude.{◌≡◌, ℕ, nat_le, nat_lt, Bool, true, false, ◌&&◌, Option, Some, None}
 use Rattle.pl_plan.specs.declared.repair.RepairMove.{RepairMove}
-use Rattle.pl_world.specs.Moves.{applied}
-use Rattle.pl_world.specs.Legal.{left_after}
+use Rattle.pl_semantics.specs.Moves.{applied}
+use Rattle.pl_semantics.specs.Legal.{left_after}
 use Rattle.pl_board.specs.Boards.{Standing, after}
 use Rattle.pl_moves.specs.Runs.{counted}
 use Rattle.pl_moves.specs.declared.attempts.Attempt.{Attempt}

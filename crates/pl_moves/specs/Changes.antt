@@ -5,9 +5,9 @@ use Rattle.pl_plan.specs.declared.repair.RepairMove.{RepairMove}
 use Rattle.pl_plan.specs.declared.repair.RepairMove.TheVariants.{Add, Delete, Shift, Detail, Abstract, Assign, Drop}
 use Rattle.pl_plan.specs.Activities.{IsLive}
 use Rattle.pl_plan.specs.Trees.{subtree_of}
-use Rattle.pl_world.specs.declared.plan_state.PlanState.{PlanState}
-use Rattle.pl_world.specs.PlanStates.{found, of_found}
-use Rattle.pl_world.specs.Moves.{is_under, root_for, moved_with, detailed, children_for, with_value}
+use Rattle.pl_semantics.specs.declared.plan_state.PlanState.{PlanState}
+use Rattle.pl_semantics.specs.PlanStates.{found, of_found}
+use Rattle.pl_semantics.specs.Moves.{is_under, root_for, moved_with, detailed, children_for, with_value}
 
 -- the ids of the activities that it takes out: each one that it changes
 abbrev pub gone_by : PlanState → RepairMove → List ℕ

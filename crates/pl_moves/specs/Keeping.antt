@@ -3,8 +3,8 @@ use Rattle.std.specs.Prelude.{◌≡◌, ℕ, ◌+◌, ◌≤◌, ◌||◌, true
 use Rattle.pl_facts.specs.declared.goal.Goal.{Goal}
 use Rattle.pl_plan.specs.declared.activity.Activity.{Activity}
 use Rattle.pl_plan.specs.Activities.{AreRising}
-use Rattle.pl_world.specs.declared.plan_state.PlanState.{PlanState}
-use Rattle.pl_world.specs.PlanStates.{found, is_committed, row_of, end_at, goal_at}
+use Rattle.pl_semantics.specs.declared.plan_state.PlanState.{PlanState}
+use Rattle.pl_semantics.specs.PlanStates.{found, is_committed, row_of, end_at, goal_at}
 
 -- The model, the present, how far it is committed, what was told of timelines and how many may live stay. Each activity that is
 -- committed stands then: itself, its values and its end. None is committed then that was not.

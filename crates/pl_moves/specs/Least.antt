@@ -3,7 +3,7 @@ use Rattle.std.specs.Prelude.{ℕ, ◌==◌, length, slice_get, if◌then◌else
 use Rattle.pl_plan.specs.declared.repair.RepairMove.{RepairMove}
 use Rattle.pl_plan.specs.declared.repair.RepairMove.TheVariants.{Add}
 use Rattle.pl_plan.specs.Fitting.{alternatives_of}
-use Rattle.pl_world.specs.declared.plan_state.PlanState.{PlanState}
+use Rattle.pl_semantics.specs.declared.plan_state.PlanState.{PlanState}
 
 -- One for a new activity whose kind has alternatives, since none is chosen. Of other moves nothing is known.
 abbrev pub least_known : PlanState → RepairMove → ℕ

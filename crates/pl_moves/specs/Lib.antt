@@ -1,7 +1,7 @@
-pub use Rattle.pl_world.specs.PlanStates
-pub use Rattle.pl_world.specs.Whole
-pub use Rattle.pl_world.specs.Moves
-pub use Rattle.pl_world.specs.Legal
+pub use Rattle.pl_semantics.specs.PlanStates
+pub use Rattle.pl_semantics.specs.Whole
+pub use Rattle.pl_semantics.specs.Moves
+pub use Rattle.pl_semantics.specs.Legal
 pub use Rattle.pl_board.specs.Boards
 pub mod Sides
 pub mod Objections

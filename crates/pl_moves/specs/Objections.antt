@@ -3,9 +3,9 @@ use Rattle.std.specs.Prelude.{ℕ, Bool, ◌&&◌, Option, Some, None, find, min
 use Rattle.std.specs.Option.{option_map}
 use Rattle.pl_plan.specs.Trees.{id_of}
 use Rattle.pl_plan.specs.declared.activity.Activity.{Activity}
-use Rattle.pl_world.specs.declared.plan_state.PlanState.{PlanState}
-use Rattle.pl_world.specs.PlanStates.{is_committed}
-use Rattle.pl_world.specs.Moves.{is_under}
+use Rattle.pl_semantics.specs.declared.plan_state.PlanState.{PlanState}
+use Rattle.pl_semantics.specs.PlanStates.{is_committed}
+use Rattle.pl_semantics.specs.Moves.{is_under}
 use Rattle.pl_moves.specs.Sides.{moves_to}
 use Rattle.pl_moves.specs.declared.objection.Objection.{Objection}
 use Rattle.pl_moves.specs.declared.objection.Objection.TheVariants.{Committed, Moved}

@@ -1,8 +1,8 @@
 -- What comes of a move.
 use Rattle.std.specs.Prelude.{◌≡◌, ℕ, true, min, Some, None}
 use Rattle.pl_plan.specs.declared.repair.RepairMove.{RepairMove}
-use Rattle.pl_world.specs.Moves.{refusal_of, applied}
-use Rattle.pl_world.specs.Legal.{left_after}
+use Rattle.pl_semantics.specs.Moves.{refusal_of, applied}
+use Rattle.pl_semantics.specs.Legal.{left_after}
 use Rattle.pl_board.specs.Boards.{Standing, after}
 use Rattle.pl_moves.specs.declared.move_fault.MoveFault.{MoveFault}
 use Rattle.pl_moves.specs.declared.move_fault.MoveFault.TheVariants.{Refused, Memory}

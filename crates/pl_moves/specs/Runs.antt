@@ -4,10 +4,10 @@ use Rattle.pl_plan.specs.declared.activity.Activity.{Activity}
 use Rattle.pl_plan.specs.declared.repair.RepairMove.{RepairMove}
 use Rattle.pl_plan.specs.declared.repair.RepairMove.TheVariants.{Add, Shift}
 use Rattle.pl_plan.specs.Trees.{id_of}
-use Rattle.pl_world.specs.declared.plan_state.PlanState.{PlanState}
-use Rattle.pl_world.specs.Candidates.{same_number}
-use Rattle.pl_world.specs.Legal.{left_after}
-use Rattle.pl_world.specs.Moves.{is_proper, refusal_of}
+use Rattle.pl_semantics.specs.declared.plan_state.PlanState.{PlanState}
+use Rattle.pl_semantics.specs.Candidates.{same_number}
+use Rattle.pl_semantics.specs.Legal.{left_after}
+use Rattle.pl_semantics.specs.Moves.{is_proper, refusal_of}
 use Rattle.pl_moves.specs.Changes.{gone_by, placed_by}
 use Rattle.pl_moves.specs.Undone.{IsUndoneBy, picked}
 

@@ -5,9 +5,9 @@ use Rattle.pl_model.specs.Schedules.{IsOffset}
 use Rattle.pl_plan.specs.Trees.{id_of}
 use Rattle.pl_plan.specs.declared.activity.Activity.{Activity}
 use Rattle.pl_model.specs.declared.alternatives.Slot.{Slot}
-use Rattle.pl_world.specs.declared.plan_state.PlanState.{PlanState}
-use Rattle.pl_world.specs.PlanStates.{floor_of}
-use Rattle.pl_world.specs.Moves.{moved}
+use Rattle.pl_semantics.specs.declared.plan_state.PlanState.{PlanState}
+use Rattle.pl_semantics.specs.PlanStates.{floor_of}
+use Rattle.pl_semantics.specs.Moves.{moved}
 use Rattle.pl_moves.specs.declared.side.Side.{Side}
 use Rattle.pl_moves.specs.declared.side.Side.TheVariants.{BelowFloor, PastHorizon}
 

@@ -3,12 +3,12 @@ use Rattle.std.specs.Prelude.{◌≡◌, ℕ, ◌≤◌, List, [], ◌∷◌, �
 use Rattle.pl_plan.specs.declared.activity.Activity.{Activity}
 use Rattle.pl_plan.specs.declared.repair.RepairMove.{RepairMove}
 use Rattle.pl_plan.specs.Activities.{activity_of}
-use Rattle.pl_world.specs.declared.plan_state.PlanState.{PlanState}
-use Rattle.pl_world.specs.PlanStates.{of_found}
-use Rattle.pl_world.specs.Moves.{applied}
-use Rattle.pl_world.specs.Whole.{IsIdBelow}
-use Rattle.pl_changes.specs.Changes.{with_next}
-use Rattle.pl_changes.specs.Replaced.{CanReplace, with_plan}
+use Rattle.pl_semantics.specs.declared.plan_state.PlanState.{PlanState}
+use Rattle.pl_semantics.specs.PlanStates.{of_found}
+use Rattle.pl_semantics.specs.Moves.{applied}
+use Rattle.pl_semantics.specs.Whole.{IsIdBelow}
+use Rattle.pl_update.specs.Changes.Changes.{with_next}
+use Rattle.pl_update.specs.Changes.Replaced.{CanReplace, with_plan}
 
 abbrev pub alone : Activity → List Activity
 alone a = a ∷ []

@@ -1,6 +1,6 @@
 ghost use Rattle.std.specs.Prelude.{◌≡◌, ◌+◌, ◌≤◌, false, true, None, OnOk, OnErr, IfErr};
-ghost use Rattle.pl_world.specs.Moves.{is_proper, refusal_of, applied};
-ghost use Rattle.pl_changes.specs.Replaced.{CanReplace, with_plan};
+ghost use Rattle.pl_semantics.specs.Moves.{is_proper, refusal_of, applied};
+ghost use Rattle.pl_update.specs.Changes.Replaced.{CanReplace, with_plan};
 ghost use Rattle.pl_board.specs.Boards.{after};
 ghost use Rattle.pl_moves.specs.Changes.{IsOfActivities};
 ghost use Rattle.pl_moves.specs.Keeping.{KeepsCommitted};

@@ -1,8 +1,8 @@
 //! A move that is made, and undone where it leaves too many conflicts.
 ghost use Rattle.std.specs.Prelude.{◌≡◌, ◌≤◌, false, true, min, OnOk, OnErr, IfOk};
 ghost use Rattle.pl_plan.specs.declared.repair.RepairMove.TheVariants.{Drop};
-ghost use Rattle.pl_world.specs.Legal.{left_after};
-ghost use Rattle.pl_world.specs.Moves.{is_proper};
+ghost use Rattle.pl_semantics.specs.Legal.{left_after};
+ghost use Rattle.pl_semantics.specs.Moves.{is_proper};
 ghost use Rattle.pl_moves.specs.Attempts.{IsAttempted, is_enough};
 ghost use Rattle.pl_moves.specs.Changes.{IsOfActivities};
 ghost use Rattle.pl_moves.specs.Runs.{CanBeMade};

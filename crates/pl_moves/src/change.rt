@@ -1,8 +1,8 @@
 ghost use Rattle.std.specs.Prelude.{◌≡◌, ◌+◌, ◌^◌, ◌<◌, ◌≤◌, [], ◌∷◌, ◌++◌, IfOk, OnOk, Some, None, map, filter, slice_set};
 ghost use Rattle.pl_plan.specs.Trees.{subtree_of};
-ghost use Rattle.pl_world.specs.PlanStates.{found, of_found};
-ghost use Rattle.pl_world.specs.Whole.{IsWhole};
-ghost use Rattle.pl_world.specs.Moves.{is_under, moved, moved_with, root_for, with_value};
+ghost use Rattle.pl_semantics.specs.PlanStates.{found, of_found};
+ghost use Rattle.pl_semantics.specs.Whole.{IsWhole};
+ghost use Rattle.pl_semantics.specs.Moves.{is_under, moved, moved_with, root_for, with_value};
 ghost use Rattle.pl_moves.specs.Changes.{IsNamedLive, IsNear, assigned, gone_by, placed_by, undetailed, with_children};
 ghost use Rattle.pl_moves.specs.Undone.{alone, picked};
 
@@ -11,7 +11,7 @@ use crate::gone::gone_by;
 use crate::starts::alternative_at;
 use pl_lists::{Copied, Items};
 use pl_plan::{Activity, RepairMove};
-use pl_world::PlanState;
+use pl_semantics::PlanState;
 use std::alloc::{AllocError, Global};
 
 /// The ids of the activities that go, and the activities that come.

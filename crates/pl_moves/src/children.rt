@@ -1,14 +1,14 @@
 ghost use Rattle.std.specs.Prelude.{◌≡◌, ◌+◌, ◌^◌, ◌<◌, ◌≤◌, ◌++◌, IfOk, OnOk, None, length, replicate, slice_get, option_and_then};
 ghost use Rattle.pl_model.specs.Checked.{params_of};
-ghost use Rattle.pl_world.specs.PlanStates.{goal_at};
-ghost use Rattle.pl_world.specs.Whole.{IsWhole};
-ghost use Rattle.pl_world.specs.Moves.{child_for, children_from, presets_of, root_for, unset_row};
+ghost use Rattle.pl_semantics.specs.PlanStates.{goal_at};
+ghost use Rattle.pl_semantics.specs.Whole.{IsWhole};
+ghost use Rattle.pl_semantics.specs.Moves.{child_for, children_from, presets_of, root_for, unset_row};
 ghost use Rattle.pl_moves.specs.Sides.{ArePaired};
 
 use pl_lists::{Copied, Items};
 use pl_model::Slot;
 use pl_plan::Activity;
-use pl_world::PlanState;
+use pl_semantics::PlanState;
 use std::alloc::{AllocError, Global};
 
 fn nothing_set(alloc: Global, count: usize) -> Result<Items<Option<i64>>, AllocError>

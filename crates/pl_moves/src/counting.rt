@@ -1,6 +1,6 @@
 //! How many conflicts a move would leave.
 ghost use Rattle.std.specs.Prelude.{◌≡◌, ◌≤◌, false, true, OnOk, OnErr, IfOk, IfErr};
-ghost use Rattle.pl_world.specs.Moves.{is_proper};
+ghost use Rattle.pl_semantics.specs.Moves.{is_proper};
 ghost use Rattle.pl_moves.specs.Outcomes.{Fails, IsCounted};
 ghost use Rattle.pl_moves.specs.Runs.{CanBeMade, counted};
 

@@ -1,9 +1,9 @@
 ghost use Rattle.std.specs.Prelude.{◌≡◌, ◌-◌, false, true, length, IfOk, if◌then◌else◌};
 ghost use Rattle.pl_conflict.specs.Order.{has};
 ghost use Rattle.pl_plan.specs.declared.repair.RepairMove.TheVariants.{Drop};
-ghost use Rattle.pl_world.specs.Legal.{left_after};
-ghost use Rattle.pl_world.specs.Moves.{is_proper};
-ghost use Rattle.pl_world.specs.Goals.{open_goal};
+ghost use Rattle.pl_semantics.specs.Legal.{left_after};
+ghost use Rattle.pl_semantics.specs.Moves.{is_proper};
+ghost use Rattle.pl_semantics.specs.Goals.{open_goal};
 
 use pl_board::Board;
 use pl_conflict::{Code, Conflict, ConflictSet};

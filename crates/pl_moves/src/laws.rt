@@ -2,9 +2,9 @@
 
 ghost use Rattle.std.specs.Prelude.{◌≡◌, true, None};
 ghost use Rattle.pl_plan.specs.declared.repair.RepairMove.{RepairMove};
-ghost use Rattle.pl_world.specs.declared.plan_state.PlanState.{PlanState};
-ghost use Rattle.pl_world.specs.Moves.{is_proper, refusal_of, applied};
-ghost use Rattle.pl_world.specs.Whole.{IsWhole};
+ghost use Rattle.pl_semantics.specs.declared.plan_state.PlanState.{PlanState};
+ghost use Rattle.pl_semantics.specs.Moves.{is_proper, refusal_of, applied};
+ghost use Rattle.pl_semantics.specs.Whole.{IsWhole};
 ghost use Rattle.pl_moves.specs.Keeping.{GivesIds, KeepsCommitted, KeepsGoals};
 
 /// What a proper move that is not refused leaves as it was, of every whole plan state.

@@ -1,13 +1,13 @@
 //! How many conflicts a move leaves at least.
 ghost use Rattle.std.specs.Prelude.{◌≡◌, ◌≤◌, ◌==◌, length, slice_get, if◌then◌else◌};
 ghost use Rattle.pl_plan.specs.Fitting.{alternatives_of};
-ghost use Rattle.pl_world.specs.Legal.{left_after};
+ghost use Rattle.pl_semantics.specs.Legal.{left_after};
 ghost use Rattle.pl_moves.specs.Runs.{CanBeMade};
 ghost use Rattle.pl_moves.specs.Least.{least_known};
 
 use crate::lookups::alternatives_of_kind;
 use pl_plan::RepairMove;
-use pl_world::PlanState;
+use pl_semantics::PlanState;
 
 // A new activity whose kind has alternatives comes with none chosen.
 fn least_of_new(s: &PlanState, kind: u32) -> u32

@@ -1,10 +1,10 @@
 ghost use Rattle.std.specs.Prelude.{◌≡◌, false, true, length, find, ◌≤◌, IfOk, IfErr, Some, None};
 ghost use Rattle.std.specs.Option.{option_map};
 ghost use Rattle.pl_plan.specs.Trees.{id_of};
-ghost use Rattle.pl_world.specs.PlanStates.{found, is_committed};
-ghost use Rattle.pl_world.specs.Legal.{is_legal};
-ghost use Rattle.pl_world.specs.Whole.{IsWhole};
-ghost use Rattle.pl_world.specs.Moves.{children_for, count_of_new, holds, is_full, is_locked, is_proper, refusal_of};
+ghost use Rattle.pl_semantics.specs.PlanStates.{found, is_committed};
+ghost use Rattle.pl_semantics.specs.Legal.{is_legal};
+ghost use Rattle.pl_semantics.specs.Whole.{IsWhole};
+ghost use Rattle.pl_semantics.specs.Moves.{children_for, count_of_new, holds, is_full, is_locked, is_proper, refusal_of};
 ghost use Rattle.pl_moves.specs.Changes.{IsNamedLive};
 ghost use Rattle.pl_moves.specs.Sides.{when_so};
 
@@ -14,7 +14,7 @@ use crate::side::Side;
 use crate::starts::{alternative_at, first_started};
 use pl_board::Board;
 use pl_plan::RepairMove;
-use pl_world::{PlanState, Refusal};
+use pl_semantics::{PlanState, Refusal};
 
 // The id, where the activity of it is committed.
 fn is_committed_at(s: &PlanState, id: u32) -> bool
@@ -89,7 +89,7 @@ fn is_full(s: &PlanState, mv: &RepairMove) -> bool
 }
 
 /// Why the move is refused, if it is. Only the activities that it changes are looked at.
-#[tactic(auto, unfolding(pl_world::specs::Moves::refusal_of))]
+#[tactic(auto, unfolding(pl_semantics::specs::Moves::refusal_of))]
 pub(crate) fn refusal(s: &PlanState, mv: &RepairMove) -> Option<Refusal>
     requires whole { IsWhole s.now }
     requires named { IsNamedLive s.now mv.now }

@@ -1,4 +1,4 @@
-use pl_world::Refusal;
+use pl_semantics::Refusal;
 use std::alloc::AllocError;
 use thiserror::Error;
 

@@ -1,12 +1,12 @@
 ghost use Rattle.std.specs.Prelude.{◌≡◌};
 ghost use Rattle.pl_plan.specs.Activities.{IsLive};
-ghost use Rattle.pl_world.specs.Whole.{IsWhole};
+ghost use Rattle.pl_semantics.specs.Whole.{IsWhole};
 ghost use Rattle.pl_moves.specs.Objections.{first_objecting, lesser, objects};
 
 use crate::objection::Objection;
 use crate::sides::{lies_on, moved_start};
 use pl_plan::Activity;
-use pl_world::PlanState;
+use pl_semantics::PlanState;
 
 fn objects(s: &PlanState, objection: Objection, a: &Activity) -> bool
     requires { IsWhole s.now }

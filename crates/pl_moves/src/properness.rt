@@ -1,12 +1,12 @@
 ghost use Rattle.std.specs.Prelude.{◌≡◌, ◌&&◌, false, not, nat_lt, length, is_none, is_some};
 ghost use Rattle.pl_plan.specs.Values.{binding_of};
-ghost use Rattle.pl_world.specs.PlanStates.{found, goal_at, is_open};
-ghost use Rattle.pl_world.specs.Moves.{holds, alternatives_at, is_free, is_proper, is_set_origin, is_wanted, takes_value};
+ghost use Rattle.pl_semantics.specs.PlanStates.{found, goal_at, is_open};
+ghost use Rattle.pl_semantics.specs.Moves.{holds, alternatives_at, is_free, is_proper, is_set_origin, is_wanted, takes_value};
 
 use pl_board::Board;
 use pl_model::{Expr, Origin, Param};
 use pl_plan::{Activity, RepairMove};
-use pl_world::PlanState;
+use pl_semantics::PlanState;
 
 fn is_unbound(bindings: &[(u8, Expr)], number: u8) -> bool
     ensures { result ≡ is_none (binding_of number bindings.now) }
@@ -113,7 +113,7 @@ fn can_add(s: &PlanState, kind: u32, goal: Option<u32>) -> bool
 }
 
 /// Whether the move makes sense in this plan state, be it refused or not.
-#[tactic(auto, unfolding(pl_world::specs::Moves::is_proper))]
+#[tactic(auto, unfolding(pl_semantics::specs::Moves::is_proper))]
 pub fn is_proper(s: &PlanState, mv: &RepairMove) -> bool
     ensures { result ≡ is_proper s.now mv.now }
 {

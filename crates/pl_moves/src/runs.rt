@@ -1,9 +1,9 @@
 //! Moves that place the same activities at other starts, tried one after another.
 ghost use Rattle.std.specs.Prelude.{◌≡◌, ◌+◌, ◌^◌, ◌<◌, ◌≤◌, ◌++◌, ◌∷◌, [], false, true, min, map, length, take, All, IfOk, OnOk, OnErr};
-ghost use Rattle.pl_world.specs.Conflicts.{conflicts_of};
-ghost use Rattle.pl_world.specs.Whole.{IsWhole};
-ghost use Rattle.pl_world.specs.Moves.{moved};
-ghost use Rattle.pl_changes.specs.Replaced.{CanReplace, with_plan};
+ghost use Rattle.pl_semantics.specs.Conflicts.{conflicts_of};
+ghost use Rattle.pl_semantics.specs.Whole.{IsWhole};
+ghost use Rattle.pl_semantics.specs.Moves.{moved};
+ghost use Rattle.pl_update.specs.Changes.Replaced.{CanReplace, with_plan};
 ghost use Rattle.pl_board.specs.Boards.{after};
 ghost use Rattle.pl_moves.specs.Changes.{IsOfActivities};
 ghost use Rattle.pl_moves.specs.Runs.{start_of, goes_on, counted, CanBeMade, IsCountOf, IsTrialOf};

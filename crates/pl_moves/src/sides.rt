@@ -1,11 +1,11 @@
 ghost use Rattle.std.specs.Prelude.{◌≡◌};
-ghost use Rattle.pl_world.specs.Whole.{IsWhole};
-ghost use Rattle.pl_world.specs.Moves.{moved};
+ghost use Rattle.pl_semantics.specs.Whole.{IsWhole};
+ghost use Rattle.pl_semantics.specs.Moves.{moved};
 ghost use Rattle.pl_moves.specs.Sides.{lies_on};
 
 use crate::side::Side;
 use pl_plan::Activity;
-use pl_world::PlanState;
+use pl_semantics::PlanState;
 
 pub(crate) fn lies_on(s: &PlanState, side: Side, start: u64) -> bool
     requires { IsWhole s.now }

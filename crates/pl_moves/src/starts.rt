@@ -1,9 +1,9 @@
 ghost use Rattle.std.specs.Prelude.{◌≡◌, ◌+◌, ◌≤◌, IfSome, length, slice_get};
 ghost use Rattle.std.specs.Option.{option_copied};
 ghost use Rattle.pl_plan.specs.Activities.{IsLive};
-ghost use Rattle.pl_world.specs.PlanStates.{found};
-ghost use Rattle.pl_world.specs.Whole.{IsWhole};
-ghost use Rattle.pl_world.specs.Moves.{alternatives_at, children_for, children_from, moved_with, started_by};
+ghost use Rattle.pl_semantics.specs.PlanStates.{found};
+ghost use Rattle.pl_semantics.specs.Whole.{IsWhole};
+ghost use Rattle.pl_semantics.specs.Moves.{alternatives_at, children_for, children_from, moved_with, started_by};
 ghost use Rattle.pl_moves.specs.Sides.{ArePaired, lies_on, first_on, when_so};
 ghost use Rattle.pl_moves.specs.Changes.{IsNamedLive};
 
@@ -14,7 +14,7 @@ use crate::side::Side;
 use crate::sides::lies_on;
 use pl_model::{Alternative, Slot};
 use pl_plan::{Activity, RepairMove};
-use pl_world::PlanState;
+use pl_semantics::PlanState;
 
 // The first of the subtree that would start there.
 fn first_shifted(s: &PlanState, id: u32, to: u32, side: Side) -> Option<u32>

@@ -1,7 +1,7 @@
 ghost use Rattle.std.specs.Prelude.{◌≡◌, ◌++◌, OnOk, IfOk, map};
 ghost use Rattle.pl_plan.specs.Activities.{activity_of};
 ghost use Rattle.pl_plan.specs.Trees.{id_of};
-ghost use Rattle.pl_world.specs.PlanStates.{of_found};
+ghost use Rattle.pl_semantics.specs.PlanStates.{of_found};
 ghost use Rattle.pl_moves.specs.Undone.{alone, picked};
 
 use crate::change::Change;

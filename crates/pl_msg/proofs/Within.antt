@@ -1,8 +1,8 @@
 -- Each number of a message that is read is within its limits.
 use Rattle.std.proofs.Common.{◌≡◌, ℕ, zero, suc, ◌+◌, ◌<◌, ◌≤◌, Bool, true, false, cond, List, [], ◌∷◌, length, Ok, Err, refl, ap, subst, arith}
-use Rattle.std.specs.Prelude.{ℤ, pos, ◌≤ℤ◌, int_le, Option, Some, None, IfSome, slice_get, codes, bytes_eq, ◌&&◌, nat_le, nat_lt}
-use Rattle.std.proofs.lemmas.Option.{slice_get_within}
-use Rattle.std.proofs.lemmas.Bool.{leb-true, ltb-true}
+use Rattle.std.specs.Prelude.{ℤ, pos, int_le, Option, Some, None, IfSome, slice_get, codes, bytes_eq, ◌&&◌, nat_le, nat_lt}
+use Rattle.std.proofs.lemmas.Option.{slice_get_within, same_Some}
+use Rattle.std.proofs.lemmas.Bool.{leb-true, ltb-true, and_parts}
 use Rattle.std.proofs.lemmas.Int.{ints}
 use Rattle.std.specs.List.{list_all, position_from}
 use Rattle.pl_model.specs.declared.kinds.Kind.{Kind}
@@ -21,7 +21,7 @@ use Rattle.pl_msg.specs.declared.telemetry.Value.{Value}
 use Rattle.pl_msg.specs.declared.telemetry.Value.TheVariants as said
 use Rattle.pl_lists.specs.Judgements.{◌>>=◌, each_made}
 use Rattle.pl_lists.proofs.Judging.{bind_ok, if_ok}
-use Rattle.pl_lists.proofs.Tests.{both_true}
+use Rattle.pl_lists.proofs.Numbers.{le_from_test}
 use Rattle.pl_msg.specs.Reads.{Read}
 use Rattle.pl_msg.specs.Words.{says, number_in, name_in}
 use Rattle.pl_msg.specs.Names.{first_from, kind_named, timeline_name, timeline_named, state_named, is_free}
@@ -36,12 +36,9 @@ use Rattle.pl_model.specs.declared.timelines.Timeline.TheVariants as timeline
 abbrev Stands : {X : Type 0} → ℕ → List X → ℕ → X → Type 0
 Stands place xs n x = (k : ℕ) × (n ≡ place + k) × (slice_get xs k ≡ Some x)
 
-some_is : {X : Type 0} (x y : X) → Some x ≡ Some y → x ≡ y
-some_is x y e = cc
-
 stands_first : {X : Type 0} (passes : Bool) (place : ℕ) (y : X) (ys : List X) (later : Option (ℕ × X)) (n : ℕ) (x : X) → cond passes (Some (place, y)) later ≡ Some (n, x) → (later ≡ Some (n, x) → Stands (place + 1) ys n x) → Stands place (y ∷ ys) n x
 stands_first {X} true place y ys later n x e rest =
-    let same = some_is (place, y) (n, x) e in
+    let same = same_Some (place, y) (n, x) e in
     let at : place ≡ n = ap (λ (w : ℕ × X). w.0) same in
     (zero, omega arith, ap Some (ap (λ (w : ℕ × X). w.1) same))
 stands_first false place y ys later n x e rest = let there = rest e in let at : n ≡ (place + 1) + there.0 = there.1 in (suc there.0, omega arith, there.2)
@@ -49,9 +46,6 @@ stands_first false place y ys later n x e rest = let there = rest e in let at : 
 pub first_from-Some : {X : Type 0} (test : X → Bool) (place : ℕ) (xs : List X) (n : ℕ) (x : X) → first_from test place xs ≡ Some (n, x) → Stands place xs n x
 first_from-Some test place [] n x e = absurd (cc)
 first_from-Some test place (y ∷ ys) n x e = stands_first (test y) place y ys (first_from test (place + 1) ys) n x e (first_from-Some test (place + 1) ys n x)
-
-le_from_test : (a b : ℤ) → int_le a b ≡ true → a ≤ℤ b
-le_from_test a b h = grind (arith, ints)
 
 -- the places that are read fit the parameters
 fits_param : (line : List ℕ) (ps : List Preset) (param : Param) (value : Option ℤ) → place_in param (given line ps param) ≡ Ok value → FitsParam param value
@@ -61,7 +55,7 @@ fits_param line ps param value e = fits_by (is_free param.origin) refl e
     fits_value free None e = let none : None ≡ value = cc in subst (λ (o : Option ℤ). FitsParam param o) none tt
     fits_value free (Some n) e =
         let there = if_ok (int_le param.low (pos n) && int_le (pos n) param.high) (Ok (Some (pos n))) fault.Range value e in
-        let both = both_true (int_le param.low (pos n)) (int_le (pos n) param.high) there.0 in
+        let both = and_parts (int_le param.low (pos n)) (int_le (pos n) param.high) there.0 in
         let some : Some (pos n) ≡ value = cc in
         subst (λ (o : Option ℤ). FitsParam param o) some (free, le_from_test _ _ both.0, le_from_test _ _ both.1)
 
@@ -85,9 +79,9 @@ kind_fits model line form number kind goal there e =
     let named = if_ok (list_all (names_free line kind.params) form.presets) _ fault.UnknownName goal e in
     let ranged = if_ok (is_in_range model.horizon form) _ fault.Range goal named.1 in
     let placed = bind_ok (places_in line form.presets kind.params) (λ places. Ok (record { number = form.number; kind = number; earliest = form.earliest; latest = form.latest; must = form.must; presets = places; dropped = false })) goal ranged.1 in
-    let outer = both_true (nat_le 1 form.number && nat_le form.number 1000000000) (nat_le form.earliest form.latest && nat_lt form.latest model.horizon) ranged.0 in
-    let sizes = both_true (nat_le 1 form.number) (nat_le form.number 1000000000) outer.0 in
-    let window = both_true (nat_le form.earliest form.latest) (nat_lt form.latest model.horizon) outer.1 in
+    let outer = and_parts (nat_le 1 form.number && nat_le form.number 1000000000) (nat_le form.earliest form.latest && nat_lt form.latest model.horizon) ranged.0 in
+    let sizes = and_parts (nat_le 1 form.number) (nat_le form.number 1000000000) outer.0 in
+    let window = and_parts (nat_le form.earliest form.latest) (nat_lt form.latest model.horizon) outer.1 in
     let made : Goal = record { number = form.number; kind = number; earliest = form.earliest; latest = form.latest; must = form.must; presets = placed.0; dropped = false } in
     let same : made ≡ goal = cc (placed.2) in
     subst (λ (g : Goal). IsGoalFor model g) same (record {

@@ -13,6 +13,7 @@ pub fn says(line: &[u8], token: &Token, text: &[u8]) -> bool
     token_text(line, token) == text
 }
 
+/// The number that the token is, or else the line is bad.
 pub fn number_of(token: &Token) -> Result<u64, MsgFault>
     ensures { result ≡ number_in token.now.kind }
 {
@@ -35,6 +36,7 @@ pub fn name_of(line: &[u8], token: &Token) -> Result<Token, MsgFault>
     }
 }
 
+/// The tokens of a message line; a fault in one makes it a bad line.
 pub fn tokens_of(alloc: Global, line: &[u8]) -> Result<Vec<Token>, MsgFault>
     requires { length line.now < 2 ^ 32 }
     ensures { Shows (λ tokens. tokens.items) result (tokens_in line.now) }

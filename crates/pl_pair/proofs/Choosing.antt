@@ -4,6 +4,7 @@ use Rattle.std.specs.List.{All}
 use Rattle.std.proofs.lemmas.List.{append-nil}
 use Rattle.std.proofs.lemmas.List.Sums.{sum_by-cons, sum_by-append}
 use Rattle.std.proofs.lemmas.List.Elements.{All-nil, All-cons, All-head, All-tail, All-append}
+use Rattle.std.proofs.lemmas.Option.{same_Some}
 use Rattle.pl_turn.specs.History.{IsEachOnce, StandsFrom, StandsIn, times_at, times_in}
 use Rattle.pl_model.specs.declared.whole.Model.{Model}
 use Rattle.pl_entry.specs.declared.event.Event.{Event}
@@ -25,7 +26,7 @@ use Rattle.pl_shared.proofs.Progress.{made_worker}
 use Rattle.pl_pair.specs.Served as serving
 use Rattle.pl_pair.specs.Served.{AreOf, IsStopAtMost, AreOfUntil, MakesUntil, MakesOwn}
 use Rattle.pl_pair.specs.Chosen.{AreChosen}
-use Rattle.pl_pair.proofs.Closing.{one_at, at_other, stands_back, world_in, at_front, unwrap}
+use Rattle.pl_pair.proofs.Closing.{one_at, at_other, stands_back, world_in, at_front}
 
 -- ---- who does not make it
 
@@ -78,7 +79,7 @@ times_apart h low p e [] s fails at passes = refl
 times_apart h low p e (x ∷ xs) s fails at passes =
     let here : x.0 ≢ p = λ same.
     (let got : Some x.1 ≡ Some e = sym s.1 ∙ (ap (λ (k : ℕ). slice_get h k) same ∙ at) in
-    let is : x.1 ≡ e = unwrap x.1 e got in
+    let is : x.1 ≡ e = same_Some x.1 e got in
     let both : true ≡ false = sym passes ∙ (ap (is_entry is_executed) (sym is) ∙ All-head (λ y. is_entry is_executed y.1 ≡ false) x xs fails) in absurd (cc both)) in
     let none = at_other p x here in
     let rest = times_apart h (suc x.0) p e xs s.2 (All-tail (λ y. is_entry is_executed y.1 ≡ false) x xs fails) at passes in omega (arith, sum_by-cons (one_at p) x xs)

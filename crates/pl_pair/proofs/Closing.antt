@@ -5,12 +5,13 @@ use Rattle.std.specs.List.{All, filter_map, list_any}
 use Rattle.std.proofs.lemmas.Bool.{eqb-true}
 use Rattle.std.proofs.lemmas.List.Sums.{sum_by-cons, sum_by-append}
 use Rattle.std.proofs.lemmas.List.Elements.{All-nil, All-cons, All-head, All-tail, All-append}
-use Rattle.std.proofs.lemmas.Option.{slice_get_within}
+use Rattle.std.proofs.lemmas.Option.{slice_get_within, same_Some}
 use mathlib.Core.List.{IsPrefix}
 use Rattle.pl_turn.specs.History.{IsEachOnce, StandsFrom, StandsIn, times_at, times_in}
 use Rattle.pl_turn.specs.Passes.{seen_of, mine_of, crew_of, leads, made_by, joined_by, opening_of, lists_of}
 use Rattle.pl_turn.proofs.Histories.{prefix_trans}
 use Rattle.pl_turn.proofs.Sifting.{sifted}
+use Rattle.pl_turn.proofs.Owning.{spends_true}
 use Rattle.pl_model.specs.declared.whole.Model.{Model}
 use Rattle.pl_entry.specs.declared.event.Event.{Event}
 use Rattle.pl_entry.specs.declared.event.Event.TheVariants as event
@@ -37,9 +38,6 @@ use Rattle.pl_pair.proofs.Ending.{enabled_going, steps_behind}
 use Rattle.pl_pair.proofs.Feeding.{drop_front, entries_on}
 
 -- ---- the passes are joined
-
-pub unwrap : {X : Type 0} (x y : X) → Some x ≡ Some y → x ≡ y
-unwrap x y e = cc
 
 -- what was seen has the model of the whole
 pub same_model : (seen whole : List Noted) (m : Model) → IsPlan seen → IsPrefix seen whole → model_in whole ≡ Some m → model_in seen ≡ Some m
@@ -166,12 +164,8 @@ one_at p x = cond (nat_eq x.0 p) 1 0
 pub at_other : (p : ℕ) (x : ℕ × Noted) → x.0 ≢ p → one_at p x ≡ 0
 at_other p x ne = ap (λ (b : Bool). cond b 1 0) (ne_eqb x.0 p ne)
 
-is_one : (b : Bool) → ◌≡◌ {A = ℕ} (cond b 1 0) 1 → b ≡ true
-is_one true e = refl
-is_one false e = absurd (let h : ◌≡◌ {A = ℕ} 0 1 = e in (cc))
-
 at_same : (p : ℕ) (x : ℕ × Noted) → one_at p x ≡ 1 → x.0 ≡ p
-at_same p x e = eqb-true x.0 p (is_one (nat_eq x.0 p) e)
+at_same p x e = eqb-true x.0 p (spends_true (nat_eq x.0 p) e)
 
 -- of entries that are no inputs none stands at an input's place
 times_failing : (h : List Noted) (low p : ℕ) (e : Noted) (own : List (ℕ × Noted)) → StandsFrom h low own → All (λ x. is_entry is_input x.1 ≡ false) own → slice_get h p ≡ Some e → is_entry is_input e ≡ true → times_at p own ≡ 0
@@ -179,7 +173,7 @@ times_failing h low p e [] s fails at passes = refl
 times_failing h low p e (x ∷ xs) s fails at passes =
     let here : x.0 ≢ p = λ same.
     (let got : Some x.1 ≡ Some e = sym s.1 ∙ (ap (λ (k : ℕ). slice_get h k) same ∙ at) in
-    let is : x.1 ≡ e = unwrap x.1 e got in
+    let is : x.1 ≡ e = same_Some x.1 e got in
     let both : true ≡ false = sym passes ∙ (ap (is_entry is_input) (sym is) ∙ All-head (λ y. is_entry is_input y.1 ≡ false) x xs fails) in absurd (cc both)) in
     let none = at_other p x here in
     let rest = times_failing h (suc x.0) p e xs s.2 (All-tail (λ y. is_entry is_input y.1 ≡ false) x xs fails) at passes in omega (arith, sum_by-cons (one_at p) x xs)
@@ -463,7 +457,7 @@ world_in P seen m is here =
 -- the entries of a front of a legal log are a legal log
 pub legal_front : (front : List Noted) (m : Model) → IsPlan front → model_in front ≡ Some m → Legal m (entries_in front)
 legal_front front m plan is =
-    let same : plan.model ≡ m = unwrap plan.model m (sym (ap model_in plan.is ∙ model_in_items plan.model plan.log plan.stopped plan.legal) ∙ is) in
+    let same : plan.model ≡ m = same_Some plan.model m (sym (ap model_in plan.is ∙ model_in_items plan.model plan.log plan.stopped plan.legal) ∙ is) in
     let entries : entries_in front ≡ plan.log = ap entries_in plan.is ∙ entries_in_items plan.model plan.log plan.stopped in
     subst (λ (log : List Entry). Legal m log) (sym entries) (subst (λ (k : Model). Legal k plan.log) same plan.legal)
 

@@ -7,10 +7,11 @@ use Rattle.pl_io.specs.Writes.{AppendsFront}
 use Rattle.pl_model.specs.declared.whole.Model.{Model}
 use Rattle.pl_entry.specs.declared.entry.Entry.{Entry}
 use Rattle.pl_machine.specs.Finished.{inputs_of}
-use Rattle.pl_render.specs.Lines.{text_from, text_of_log}
-use Rattle.pl_render.proofs.Texts.{text_joined}
-use Rattle.pl_stream.specs.Written.{Adds, opens, IsCutShort}
-use Rattle.pl_stream.proofs.Writing.{some_held, appends_then}
+use Rattle.pl_journal.specs.Rendering.Lines.{text_from, text_of_log}
+use Rattle.pl_journal.proofs.AboutRendering.Texts.{text_joined}
+use Rattle.pl_driver.specs.CutShort.{opens, IsCutShort}
+use Rattle.pl_journal.specs.Written.{Adds}
+use Rattle.pl_journal.proofs.AboutWriting.{some_held, appends_then}
 use Rattle.pl_shared.specs.declared.noted.Noted.{Noted}
 use Rattle.pl_shared.specs.Items.{entry_in, entries_in}
 use Rattle.pl_pair.specs.Rounds.{lines_behind}

@@ -1,6 +1,8 @@
 -- The input ends with the last entry of a log, where it ends.
 use Rattle.std.proofs.Common.{◌≡◌, ℕ, List, [], ◌∷◌, ◌++◌, Bool, true, false, Option, Some, None, unwrap_or, refl, sym, ◌∙◌, ap}
 use Rattle.std.specs.Prelude.{not}
+use Rattle.std.proofs.lemmas.Bool.{not-true}
+use Rattle.pl_lists.proofs.Tests.{and_first, and_second}
 use Rattle.pl_facts.specs.declared.options.Options.{Options}
 use Rattle.pl_model.specs.declared.whole.Model.{Model}
 use Rattle.pl_entry.specs.declared.event.Event.{Event}
@@ -8,13 +10,14 @@ use Rattle.pl_entry.specs.declared.event.Event.TheVariants as event
 use Rattle.pl_entry.specs.declared.reply.Reply.{Reply}
 use Rattle.pl_entry.specs.declared.reply.Reply.TheVariants as reply
 use Rattle.pl_entry.specs.declared.entry.Entry.{Entry}
-use Rattle.pl_machine.specs.Lines.{is_line_of, end_word}
+use Rattle.pl_input.specs.Words.{is_line_of, end_word}
 use Rattle.pl_machine.specs.Messages.{line_reply}
 use Rattle.pl_machine.specs.World.{World, fresh_world}
 use Rattle.pl_machine.specs.Step.{is_enabled, reply_of, after_input, after}
 use Rattle.pl_machine.specs.Legal.{legal_from, world_from, no_options, options_in, IsOpenedRun, Legal, world_of}
 use Rattle.pl_machine.specs.Finished.{inputs_of}
-use Rattle.pl_machine.proofs.Going.{Goes, first_true, both_true, is_false, fix_done, commit_done, dispatch_done, step_goes}
+use Rattle.pl_machine.proofs.Going.{Goes, fix_done, commit_done, dispatch_done, step_goes}
+use Rattle.pl_machine.proofs.Runs.{world_append}
 use Rattle.pl_pair.proofs.Ends.{is_ended, line_ends}
 
 -- whether an input ends the run
@@ -40,7 +43,7 @@ EndsIf true inputs = LastEnds inputs
 
 -- ---- one step
 
-line_done : (w : World) (line : List ℕ) (r : Reply) → w.done ≡ false → (after_input w (Some line) r).done ≡ is_ended r
+pub line_done : (w : World) (line : List ℕ) (r : Reply) → w.done ≡ false → (after_input w (Some line) r).done ≡ is_ended r
 line_done w line reply.Ended going = refl
 line_done w line reply.Done going = going
 line_done w line _ going = going
@@ -52,20 +55,16 @@ input_done w (Some line) going = line_done w line (line_reply w.state w.options.
 -- an event is enabled before the input has ended alone
 pub enabled_going : (w : World) (e : Event) → is_enabled w e ≡ true → Goes w → w.done ≡ false
 enabled_going w (event.Opened o) enabled goes = absurd (cc)
-enabled_going w (event.Input line) enabled goes = is_false w.done (both_true w.closed (not w.done) enabled)
-enabled_going w (event.Fix k m) enabled goes = goes (is_false w.closed (first_true (not w.closed) _ enabled))
-enabled_going w event.Rest enabled goes = goes (is_false w.closed (first_true (not w.closed) _ enabled))
-enabled_going w (event.Commit h) enabled goes = goes (is_false w.closed enabled)
-enabled_going w event.Dispatch enabled goes = goes (is_false w.closed (first_true (not w.closed) _ enabled))
-enabled_going w event.Close enabled goes = goes (is_false w.closed (first_true (not w.closed) _ enabled))
+enabled_going w (event.Input line) enabled goes = not-true w.done (and_second w.closed (not w.done) enabled)
+enabled_going w (event.Fix k m) enabled goes = goes (not-true w.closed (and_first (not w.closed) _ enabled))
+enabled_going w event.Rest enabled goes = goes (not-true w.closed (and_first (not w.closed) _ enabled))
+enabled_going w (event.Commit h) enabled goes = goes (not-true w.closed enabled)
+enabled_going w event.Dispatch enabled goes = goes (not-true w.closed (and_first (not w.closed) _ enabled))
+enabled_going w event.Close enabled goes = goes (not-true w.closed (and_first (not w.closed) _ enabled))
 
 -- ---- a whole log
 
-world_append : (w : World) (xs ys : List Entry) → world_from w (xs ++ ys) ≡ world_from (world_from w xs) ys
-world_append w [] ys = refl
-world_append w (x ∷ xs) ys = world_append (after w x.event) xs ys
-
-legal_behind : (w : World) (xs ys : List Entry) → legal_from w (xs ++ ys) → legal_from (world_from w xs) ys
+pub legal_behind : (w : World) (xs ys : List Entry) → legal_from w (xs ++ ys) → legal_from (world_from w xs) ys
 legal_behind w [] ys legal = legal
 legal_behind w (x ∷ xs) ys legal = legal_behind (after w x.event) xs ys legal.1
 

@@ -25,9 +25,9 @@ use Rattle.pl_msg.specs.Telemetry.{value_by, level_by, state_with, state_by, tol
 use Rattle.pl_msg.specs.Messages.{tick_in, said_in, message_of}
 use Rattle.pl_entry.specs.declared.reply.Reply.{Reply}
 use Rattle.pl_entry.specs.declared.reply.Reply.TheVariants as reply
-use Rattle.pl_world.specs.declared.plan_state.PlanState.{PlanState}
-use Rattle.pl_world.specs.PlanStates.{floor_of}
-use Rattle.pl_machine.specs.Lines.{is_only, is_line_of, end_word}
+use Rattle.pl_semantics.specs.declared.plan_state.PlanState.{PlanState}
+use Rattle.pl_semantics.specs.PlanStates.{floor_of}
+use Rattle.pl_input.specs.Words.{is_only, is_line_of, end_word}
 use Rattle.pl_machine.specs.Messages.{fault_reply, read_reply, line_reply}
 
 abbrev pub is_ended : Reply → Bool

@@ -14,30 +14,30 @@ use Rattle.pl_io.specs.Reader.{NumberedLine}
 use Rattle.pl_model.specs.declared.whole.Model.{Model}
 use Rattle.pl_entry.specs.declared.event.Event.TheVariants as event
 use Rattle.pl_entry.specs.declared.entry.Entry.{Entry}
-use Rattle.pl_machine.specs.Lines.{is_blank_line}
-use Rattle.pl_render.specs.Lines.{text_from}
-use Rattle.pl_render.proofs.Texts.{text_joined}
-use Rattle.pl_stream.specs.Reads.{Took, IsUsedUp, AreBlank}
-use Rattle.pl_stream.specs.Waits.{line_in}
-use Rattle.pl_stream.specs.Written.{Adds}
-use Rattle.pl_stream.proofs.Reading.{took_more, used_later}
-use Rattle.pl_stream.proofs.Writing.{some_held, adds_then}
+use Rattle.pl_input.specs.Words.{is_blank_line}
+use Rattle.pl_journal.specs.Rendering.Lines.{text_from}
+use Rattle.pl_journal.proofs.AboutRendering.Texts.{text_joined}
+use Rattle.pl_input.specs.Reads.{Took, IsUsedUp, AreBlank}
+use Rattle.pl_input.specs.Waits.{line_in}
+use Rattle.pl_journal.specs.Written.{Adds}
+use Rattle.pl_input.proofs.Reading.{took_more, used_later}
+use Rattle.pl_journal.proofs.AboutWriting.{some_held, adds_then}
 use Rattle.pl_shared.specs.declared.noted.Noted.{Noted}
 use Rattle.pl_shared.specs.declared.noted.Noted.TheVariants.{Made, Stopped}
 use Rattle.pl_shared.specs.declared.plan.SharedPlan.{SharedPlan}
 use Rattle.pl_shared.specs.Items.{entry_in, entries_in, InWorld}
-use Rattle.pl_shared.proofs.Items.{log_is_some, entries_in_items}
 use Rattle.pl_shared.specs.Roles.{IsInputOf}
-use Rattle.pl_shared.specs.Plans.{PlanPass, IsPlan, BelongsTo}
+use Rattle.pl_shared.specs.Plans.{PlanPass, BelongsTo}
 use Rattle.pl_shared.specs.Turns.{TakesTurn, Makes, Stops}
-use Rattle.pl_shared.proofs.Progress.{from_world}
+use Rattle.pl_shared.proofs.Progress.{from_world, some_entries}
 use Rattle.pl_pair.specs.declared.cut.Cut.{Cut}
 use Rattle.pl_pair.specs.declared.cut.Cut.TheVariants as cut
 use Rattle.pl_pair.specs.declared.rounds.Stage.TheVariants as stage
 use Rattle.pl_pair.specs.Cuts.{cut_by}
 use Rattle.pl_pair.specs.Rounds.{Follows, Looks, IsBetween, lines_behind, RoundEnds}
 use Rattle.std.specs.Prelude.{IsErrOf}
-use Rattle.pl_stream.specs.Places.{Place}
+use Rattle.std.proofs.lemmas.Option.{same_Some}
+use Rattle.pl_input.specs.Places.{Place}
 use Rattle.pl_pair.specs.Asking.{Asks, HandsOn, HandsNone, Passes, PassesTo}
 use Rattle.pl_pair.specs.Feeds.{spoken, said_in, IsInput, AreInputs, Reads, unasked, asked, Heard, Tells, HandsOne, WritesAll, StepsOn, StepsOut, StepsCut, in_round, at_message, Steps, Feeding, Waiting, FeedsOut, FeedsUntil, FeedsRefused, FeedsTorn, for_lines, for_message, for_reader, refused, stopped, FeedsAll, FeedsToEnd}
 use Rattle.pl_pair.proofs.Passing.{follows_self, follows_on, entries_longer, behind_looks}
@@ -102,7 +102,7 @@ reads_on start middle place xs ys (unasked none same) took =
     subst P (sym none) (subst Q same took)
 reads_on start middle place xs ys (asked works first) took = took_more start.reader middle.reader place.reader start.ahead middle.ahead place.ahead xs ys first took
 
-works_on : (start middle : Place) (xs : List (List ℕ)) → Reads start xs middle → middle.reader.failed ≡ None → start.reader.failed ≡ None
+pub works_on : (start middle : Place) (xs : List (List ℕ)) → Reads start xs middle → middle.reader.failed ≡ None → start.reader.failed ≡ None
 works_on start middle xs (unasked none same) works = sym (ap (λ (p : Place). p.reader.failed) same) ∙ works
 works_on start middle xs (asked works first) works2 = works
 
@@ -142,9 +142,6 @@ inputs_push [] (y ∷ own) line x are is = absurd are
 inputs_push (l ∷ inputs) [] line x are is = absurd are
 inputs_push (l ∷ inputs) (y ∷ own) line x are is = (are.0, inputs_push inputs own line x are.1 is)
 
-some_bytes : (x y : List ℕ) → Some x ≡ Some y → x ≡ y
-some_bytes x y e = cc
-
 -- a message more
 pub heard_more : (start middle place : Place) (inputs : List (Option (List ℕ))) (message : Option NumberedLine) → Heard start inputs middle → Asks middle (Ok message) place → Heard start (inputs ++ line_in message ∷ []) place
 heard_more start middle place inputs None heard asks =
@@ -165,7 +162,7 @@ heard_more start middle place inputs (Some line) heard asks =
       said = said_more inputs heard.lines gets.lines line.bytes heard.said gets.blank gets.message;
       used = λ front e. absurd (let h : Some line.bytes ≡ None = last_is inputs front (Some line.bytes) None e in (cc));
       last = λ front l e.
-          let same : line.bytes ≡ l = some_bytes line.bytes l (last_is inputs front (Some line.bytes) (Some l) e) in
+          let same : line.bytes ≡ l = same_Some line.bytes l (last_is inputs front (Some line.bytes) (Some l) e) in
           (heard.lines ++ gets.lines, sym (append_assoc heard.lines gets.lines (line.bytes ∷ [])) ∙ ap (λ (x : List ℕ). (heard.lines ++ gets.lines) ++ x ∷ []) same);
       none = λ e. absurd (some_nil inputs (Some line.bytes) (sym e));
     }
@@ -227,13 +224,6 @@ not_write fault.Memory e = cc
 
 -- ---- the loop
 
--- a plan has entries
-pub plan_some : (seen : List Noted) → IsPlan seen → 0 < length (entries_in seen)
-plan_some seen plan =
-    let same = ap (λ (es : List Entry). length es) (ap entries_in plan.is ∙ entries_in_items plan.model plan.log plan.stopped) in
-    let some = log_is_some plan.model plan.log plan.legal in
-    omega arith
-
 -- nothing was read
 pub heard_none : (start : Place) → Heard start [] start
 heard_none start = record {
@@ -254,7 +244,7 @@ feeding_none plan m pass start held own new = record {
     heard = heard_none start;
     mine = (let P : List (ℕ × Noted) → Type 0 = λ xs. AreInputs [] xs in subst P (sym new) tt);
   };
-  writes = record { front = []; in_front = (seen_of pass, refl); count = refl; due = plan_some (seen_of pass) own.seen; written = some_held held; behind = inl new };
+  writes = record { front = []; in_front = (seen_of pass, refl); count = refl; due = some_entries (seen_of pass) own.seen; written = some_held held; behind = inl new };
 }
 
 module _ (plan : SharedPlan) (m : Model) (old : PlanPass) (start : Place) (held : Option (List ℕ)) (cur : PlanPass) (middle : Place) (mid : Option (List ℕ)) (from : ℕ) (feeding : Feeding plan m old start held cur middle mid from) where

@@ -5,16 +5,16 @@ use Rattle.pl_io.specs.declared.errors.LineFault.TheVariants as fault
 use Rattle.pl_io.specs.Reader.{Reader, NumberedLine, Moves, Answers, Repeats}
 use Rattle.pl_io.specs.Sparing.{read_size, IsSparing}
 use Rattle.pl_entry.specs.Bounds.{IsMessageLine}
-use Rattle.pl_machine.specs.Lines.{is_blank_line}
-use Rattle.pl_stream.specs.declared.halt.Halt.{Halt}
-use Rattle.pl_stream.specs.Stops.{HaltFor}
-use Rattle.pl_stream.specs.Reads.{GotLine}
-use Rattle.pl_stream.specs.Waits.{MessageGives, line_in}
-use Rattle.pl_stream.proofs.Reading.{next_gives, took_more, used_later, halts_later}
+use Rattle.pl_input.specs.Words.{is_blank_line}
+use Rattle.pl_input.specs.declared.halt.Halt.{Halt}
+use Rattle.pl_input.specs.Stops.{HaltFor}
+use Rattle.pl_input.specs.Reads.{GotLine}
+use Rattle.pl_input.specs.Waits.{MessageGives, line_in}
+use Rattle.pl_input.proofs.Reading.{next_gives, took_more, used_later, halts_later}
 use Rattle.pl_shared.specs.Plans.{PlanPass}
 use Rattle.pl_pair.specs.declared.cut.Cut.{Cut}
 use Rattle.pl_pair.specs.Cuts.{cut_of, cut_by}
-use Rattle.pl_stream.specs.Places.{Place}
+use Rattle.pl_input.specs.Places.{Place}
 use Rattle.pl_pair.specs.Asking.{Faults, now_failed, had_failed, FirstLine, Asks, HandsIn, Passes}
 
 err_is : {A : Type 0} (f g : LineFault) → ◌≡◌ {A = Result A LineFault} (Err f) (Err g) → f ≡ g

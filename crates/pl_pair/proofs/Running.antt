@@ -4,6 +4,8 @@ use Rattle.std.specs.Prelude.{◌||◌, if◌then◌else◌}
 use Rattle.std.specs.List.{All}
 use Rattle.std.proofs.lemmas.List.{append-nil}
 use Rattle.std.proofs.lemmas.List.Elements.{All-nil, All-cons}
+use Rattle.std.proofs.lemmas.Option.{same_Some}
+use Rattle.std.proofs.lemmas.Bool.{or_cases}
 use mathlib.Core.List.{IsPrefix}
 use Rattle.pl_turn.specs.History.{IsEachOnce, StandsIn, times_in}
 use Rattle.pl_turn.specs.Passes.{seen_of, mine_of, crew_of, leads, made_by, joined_by, opening_of}
@@ -16,18 +18,19 @@ use Rattle.pl_machine.specs.declared.stop.Stop.{Stop}
 use Rattle.pl_machine.specs.declared.stop.Stop.TheVariants as stop
 use Rattle.pl_machine.specs.World.{World}
 use Rattle.pl_machine.specs.Legal.{Legal, options_of, world_of}
-use Rattle.pl_machine.specs.Lines.{messages_of}
+use Rattle.pl_input.specs.Words.{messages_of}
 use Rattle.pl_machine.specs.Finished.{inputs_of}
 use Rattle.pl_machine.specs.Sound.{State}
 use Rattle.pl_io.specs.Lines.{lines_of}
 use Rattle.pl_io.specs.Writes.{AppendsFront}
 use Rattle.pl_io.specs.Reader.{NumberedLine}
-use Rattle.pl_stream.proofs.Reading.{took_none, halts_later}
-use Rattle.pl_render.specs.Lines.{text_from, text_of_log}
-use Rattle.pl_stream.specs.Reads.{Took, WhyKnown}
-use Rattle.pl_stream.specs.Stops.{IsStuckKnown}
-use Rattle.pl_stream.specs.Waits.{line_in}
-use Rattle.pl_stream.specs.Written.{Adds, answers, IsCutShort}
+use Rattle.pl_input.proofs.Reading.{took_none, halts_later}
+use Rattle.pl_journal.specs.Rendering.Lines.{text_from, text_of_log}
+use Rattle.pl_input.specs.Reads.{Took, WhyKnown}
+use Rattle.pl_input.specs.Stops.{IsStuckKnown}
+use Rattle.pl_input.specs.Waits.{line_in}
+use Rattle.pl_driver.specs.CutShort.{answers, IsCutShort}
+use Rattle.pl_journal.specs.Written.{Adds}
 use Rattle.pl_shared.specs.declared.noted.Noted.{Noted}
 use Rattle.pl_shared.specs.declared.noted.Noted.TheVariants.{Made, Stopped}
 use Rattle.pl_shared.specs.declared.plan.SharedPlan.{SharedPlan}
@@ -37,8 +40,9 @@ use Rattle.pl_shared.specs.declared.role.Role.TheVariants.{Planner, Executive}
 use Rattle.pl_shared.specs.Roles.{worker_of, has_event, is_entry, is_input, is_repair, is_executed}
 use Rattle.pl_shared.specs.Plans.{PlanPass, IsPlan, BelongsTo}
 use Rattle.pl_shared.specs.Turns.{TakesTurn, IsFull, Stops, was_stopped, is_stopped}
-use Rattle.pl_shared.proofs.Items.{log_is_some, entries_in_items, model_in_items, length_going, made_entries}
-use Rattle.pl_shared.proofs.Progress.{log_is_bounded, world_options, full_ends, full_on, same_world}
+use Rattle.pl_machine.proofs.ShortLogs.{log_is_some}
+use Rattle.pl_shared.proofs.Items.{entries_in_items, model_in_items, length_going, made_entries}
+use Rattle.pl_shared.proofs.Progress.{log_is_bounded, world_options, full_ends, full_on, same_world, some_entries}
 use Rattle.pl_pair.specs.declared.cut.Cut.{Cut}
 use Rattle.pl_pair.specs.declared.cut.Cut.TheVariants as cut
 use Rattle.pl_pair.specs.declared.ended.Ended.{Ended}
@@ -51,7 +55,7 @@ use Rattle.pl_pair.specs.Cuts.{cut_by}
 use Rattle.pl_pair.specs.Served as serving
 use Rattle.pl_pair.specs.Served.{AreOf, MakesOwn, IsFullRound, Refused, IsWorker}
 use Rattle.pl_pair.specs.Rounds.{Follows, IsBetween, lines_behind}
-use Rattle.pl_stream.specs.Places.{Place}
+use Rattle.pl_input.specs.Places.{Place}
 use Rattle.pl_pair.specs.Asking.{Faults, now_failed, had_failed, Asks}
 use Rattle.pl_pair.specs.Feeds.{AreInputs, Reads, unasked, asked, Tells, HandsOne, Writes, WritesAll, FeedsOut, FeedsUntil, FeedsRefused, FeedsStopped, FeedsTorn, FeedsShort, for_lines, for_message, for_reader, FeedsCut, refused, FeedsAll, FeedsToEnd}
 use Rattle.pl_pair.specs.Feeds as fed
@@ -62,7 +66,7 @@ use Rattle.pl_pair.proofs.Ending.{NoEnds, LastEnds, EndsIf, steps_behind, world_
 use Rattle.pl_pair.proofs.Working.{own_on, own_kinds}
 use Rattle.pl_pair.proofs.Saying.{told_on, told_front, told_all, told_lines, told_gave, up_to_next, up_to_last, up_to_told, if_known, asks_begins, messages_on, skip_blanks, none_left}
 use Rattle.pl_pair.proofs.Passing.{took_follows, follows_on, none_written}
-use Rattle.pl_pair.proofs.Feeding.{entries_on, own_stands, heard_none, heard_more, plan_some}
+use Rattle.pl_pair.proofs.Feeding.{entries_on, own_stands, heard_none, heard_more, works_on}
 use Rattle.pl_pair.proofs.Cutting.{twice_on, twice_is, rest_some, rest_torn, whole_torn}
 use Rattle.pl_pair.specs.Chosen.{AreChosen}
 use Rattle.pl_pair.proofs.Choosing.{are_chosen}
@@ -80,13 +84,10 @@ pub record Whole (m : Model) (before : List Entry) (first planner executive : Pl
   pub stands : All (StandsIn (items_of m log stop)) (mine_of first ∷ mine_of planner ∷ mine_of executive ∷ [])
   pub owners : IsEachOnce (length before) (length (items_of m log stop)) (λ place. times_in place (mine_of first ∷ mine_of planner ∷ mine_of executive ∷ []))
 
-unwrap : {X : Type 0} (x y : X) → Some x ≡ Some y → x ≡ y
-unwrap x y e = cc
-
 pub whole_of : (m : Model) (before : List Entry) (first planner executive : PlanPass) (machine : State) → model_in (seen_of first) ≡ Some m → opening_of first ≡ length before → ClosesAll first planner executive machine
     → Whole m before first planner executive
 whole_of m before first planner executive machine model opening closes =
-    let same : machine.model ≡ m = unwrap machine.model m (sym closes.model ∙ model) in
+    let same : machine.model ≡ m = same_Some machine.model m (sym closes.model ∙ model) in
     let lists = mine_of first ∷ mine_of planner ∷ mine_of executive ∷ [] in
     let W : Model → Type 0 = λ k. Legal k machine.log × IsPrefix (seen_of first) (items_of k machine.log closes.stopped) × IsPrefix (seen_of planner) (items_of k machine.log closes.stopped)
     × IsPrefix (seen_of executive) (items_of k machine.log closes.stopped) × All (StandsIn (items_of k machine.log closes.stopped)) lists
@@ -149,10 +150,6 @@ pub record Settled (m : Model) (held now : Option (List ℕ)) (front : List Note
   pub stands : StandsIn front own
   pub written : WritesAll m held front now
 
-one_full : (a b : Bool) → (a || b) ≡ true → (a ≡ true) ⊎ (b ≡ true)
-one_full true b e = inl refl
-one_full false b e = inr e
-
 -- What is known once the threads are joined, and nothing is said yet of how the feeder ended.
 pub record Joined (m : Model) (before : List Entry) (first : PlanPass) (w1 w2 : Worker) : Type 0 where
   pub plan : SharedPlan
@@ -210,7 +207,7 @@ module _ (m : Model) (before : List Entry) (first : PlanPass) (w1 w2 : Worker) (
 
   -- one of the workers met a full log
   met_full : (is_full w1.refusal || is_full w2.refusal) ≡ true → (r : Role) × IsFullRound r (items_of m joined.whole.log joined.whole.stop)
-  met_full is = by (one_full (is_full w1.refusal) (is_full w2.refusal) is)
+  met_full is = by (or_cases (is_full w1.refusal) (is_full w2.refusal) is)
     where
       by : (is_full w1.refusal ≡ true) ⊎ (is_full w2.refusal ≡ true) → (r : Role) × IsFullRound r (items_of m joined.whole.log joined.whole.stop)
       by (inl e) = (w1.role, refused_full w1.refusal w1.role (items_of m joined.whole.log joined.whole.stop) e why_one)
@@ -470,10 +467,6 @@ memory_by (fault.Long n) is = absurd (cc)
 memory_by fault.Total is = absurd (cc)
 memory_by fault.Memory is = refl
 
-start_works : (start place : Place) (lines : List (List ℕ)) → Reads start lines place → place.reader.failed ≡ None → start.reader.failed ≡ None
-start_works start place lines (unasked none same) works = sym (ap (λ (p : Place). p.reader.failed) same) ∙ works
-start_works start place lines (asked works took) works2 = works
-
 start_failed : (start place : Place) (lines : List (List ℕ)) (f : LineFault) → Reads start lines place → place.reader.failed ≡ Some f → start.reader.failed ≡ Some f
 start_failed start place lines f (unasked none same) failed = sym (ap (λ (p : Place). p.reader.failed) same) ∙ failed
 start_failed start place lines f (asked works took) failed = absurd (let both : None ≡ Some f = sym took.working ∙ failed in (cc))
@@ -489,7 +482,7 @@ not_both o f none some = (let both : None ≡ Some f = sym none ∙ some in (cc)
 given_by : (r : Ended) (c : Cut) (old mid : PlanPass) (place end behind : Place) (tells : Tells old place mid end) (f : LineFault) → Whys r c place → c ≡ cut_by f → NoEnds tells.inputs → Faults end f behind → Given r place tells.inputs behind
 given_by r c old mid place end behind tells f whys is none (now_failed works gets) =
     let halts = halts_later place.reader end.reader behind.reader place.ahead end.ahead behind.ahead tells.heard.lines gets.lines f (reads_took place end tells.heard.lines tells.heard.reads works) gets.halts in
-    let started = start_works place end tells.heard.lines tells.heard.reads works in
+    let started = works_on place end tells.heard.lines tells.heard.reads works in
     record {
       lines = tells.heard.lines ++ gets.lines;
       left = halts.left;
@@ -595,7 +588,7 @@ module _ (start : State) (first : PlanPass) (w1 w2 : Worker) (joined : Joined st
             earlier = entries_in writes.front;
             last = entries_in behind_front;
             parts = log_parts;
-            round = answers one.0 (plan_some writes.front handed.plan) (world_in IsBetween writes.front start.model model handed.between).0 one.1;
+            round = answers one.0 (some_entries writes.front handed.plan) (world_in IsBetween writes.front start.model model handed.between).0 one.1;
             written = so_far;
             whole = writes.written;
             part = last_torn;

@@ -6,12 +6,12 @@ use mathlib.Core.List.{IsPrefix}
 use Rattle.pl_io.specs.Lines.{lines_of}
 use Rattle.pl_io.specs.Reader.{NumberedLine}
 use Rattle.pl_io.specs.Sparing.{read_size}
-use Rattle.pl_machine.specs.Lines.{is_blank_line, is_line_of, end_word, messages_of}
-use Rattle.pl_stream.specs.Reads.{GaveKnown, IsUsedUp, AreBlank}
-use Rattle.pl_stream.specs.Waits.{line_in}
-use Rattle.pl_stream.proofs.Reading.{gave_none, known, gave_lines}
+use Rattle.pl_input.specs.Words.{is_blank_line, is_line_of, end_word, messages_of}
+use Rattle.pl_input.specs.Reads.{GaveKnown, IsUsedUp, AreBlank}
+use Rattle.pl_input.specs.Waits.{line_in}
+use Rattle.pl_input.proofs.Reading.{gave_none, known, gave_lines}
 use Rattle.pl_shared.specs.Plans.{PlanPass}
-use Rattle.pl_stream.specs.Places.{Place}
+use Rattle.pl_input.specs.Places.{Place}
 use Rattle.pl_pair.specs.Asking.{Asks}
 use Rattle.pl_pair.specs.Feeds.{spoken, said_in, Reads, unasked, asked, Heard, Tells}
 use Rattle.pl_pair.specs.Runs.{InMessages, ReadUpTo}
@@ -19,15 +19,15 @@ use Rattle.pl_pair.proofs.Ending.{is_ending, NoEnds, LastEnds, EndsIf}
 
 -- ---- one line
 
-blank_next : (line : List ℕ) (lines : List (List ℕ)) → is_blank_line line ≡ true → messages_of (line ∷ lines) ≡ messages_of lines
+pub blank_next : (line : List ℕ) (lines : List (List ℕ)) → is_blank_line line ≡ true → messages_of (line ∷ lines) ≡ messages_of lines
 unfolding messages_of
 blank_next line lines blank = rw blank refl
 
-message_next : (line : List ℕ) (lines : List (List ℕ)) → is_blank_line line ≡ false → is_line_of end_word line ≡ false → messages_of (line ∷ lines) ≡ Some line ∷ messages_of lines
+pub message_next : (line : List ℕ) (lines : List (List ℕ)) → is_blank_line line ≡ false → is_line_of end_word line ≡ false → messages_of (line ∷ lines) ≡ Some line ∷ messages_of lines
 unfolding messages_of
 message_next line lines message other = rw (message, other) refl
 
-end_next : (line : List ℕ) (lines : List (List ℕ)) → is_blank_line line ≡ false → is_line_of end_word line ≡ true → messages_of (line ∷ lines) ≡ Some line ∷ []
+pub end_next : (line : List ℕ) (lines : List (List ℕ)) → is_blank_line line ≡ false → is_line_of end_word line ≡ true → messages_of (line ∷ lines) ≡ Some line ∷ []
 unfolding messages_of
 end_next line lines message ends = rw (message, ends) refl
 

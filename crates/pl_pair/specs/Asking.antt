@@ -3,9 +3,9 @@ use Rattle.std.specs.Prelude.{◌≡◌, ℕ, List, Option, Some, None, Result, 
 use Rattle.pl_io.specs.declared.errors.LineFault.{LineFault}
 use Rattle.pl_io.specs.Reader.{NumberedLine}
 use Rattle.pl_machine.specs.declared.stop.Stop.TheVariants as stop
-use Rattle.pl_stream.specs.Reads.{OneLine}
-use Rattle.pl_stream.specs.Waits.{MessageGives, GetsFault, line_in}
-use Rattle.pl_stream.specs.Places.{Place}
+use Rattle.pl_input.specs.Reads.{OneLine}
+use Rattle.pl_input.specs.Waits.{MessageGives, GetsFault, line_in}
+use Rattle.pl_input.specs.Places.{Place}
 use Rattle.pl_shared.specs.Roles.{IsInputOf}
 use Rattle.pl_shared.specs.Plans.{PlanPass}
 use Rattle.pl_shared.specs.Turns.{Makes, MakesNothing, Feeds}

@@ -1,6 +1,6 @@
 -- Why the feeder goes no further.
-use Rattle.pl_stream.specs.declared.halt.Halt.{Halt}
-use Rattle.pl_stream.specs.declared.halt.Halt.TheVariants as halt
+use Rattle.pl_input.specs.declared.halt.Halt.{Halt}
+use Rattle.pl_input.specs.declared.halt.Halt.TheVariants as halt
 use Rattle.pl_io.specs.declared.errors.LineFault.{LineFault}
 use Rattle.pl_io.specs.declared.errors.LineFault.TheVariants as fault
 use Rattle.pl_pair.specs.declared.cut.Cut.{Cut}

@@ -8,10 +8,10 @@ use Rattle.pl_io.specs.declared.errors.LineFault.{LineFault}
 use Rattle.pl_io.specs.Writes.{AppendsFront}
 use Rattle.pl_model.specs.declared.whole.Model.{Model}
 use Rattle.pl_entry.specs.declared.event.Event.TheVariants as event
-use Rattle.pl_machine.specs.Lines.{is_blank_line}
-use Rattle.pl_render.specs.Lines.{text_from}
-use Rattle.pl_stream.specs.Reads.{Took, IsUsedUp}
-use Rattle.pl_stream.specs.Written.{Adds}
+use Rattle.pl_input.specs.Words.{is_blank_line}
+use Rattle.pl_journal.specs.Rendering.Lines.{text_from}
+use Rattle.pl_input.specs.Reads.{Took, IsUsedUp}
+use Rattle.pl_journal.specs.Written.{Adds}
 use Rattle.pl_shared.specs.declared.noted.Noted.{Noted}
 use Rattle.pl_shared.specs.declared.noted.Noted.TheVariants.{Opened, Made, Stopped}
 use Rattle.pl_shared.specs.declared.plan.SharedPlan.{SharedPlan}
@@ -23,7 +23,7 @@ use Rattle.pl_pair.specs.declared.cut.Cut.TheVariants as cut
 use Rattle.pl_pair.specs.Cuts.{cut_by}
 use Rattle.pl_pair.specs.declared.rounds.Stage.TheVariants as stage
 use Rattle.pl_pair.specs.Rounds.{Follows, Looks, IsBetween, lines_behind, RoundEnds}
-use Rattle.pl_stream.specs.Places.{Place}
+use Rattle.pl_input.specs.Places.{Place}
 use Rattle.pl_pair.specs.Asking.{Faults, HandsOn, Passes}
 
 -- ---- messages

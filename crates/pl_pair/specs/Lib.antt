@@ -1,5 +1,5 @@
 pub use Rattle.pl_io.specs.Faults
-pub use Rattle.pl_stream.specs.Places
+pub use Rattle.pl_input.specs.Places
 pub mod Duties
 pub mod Served
 pub mod Workers

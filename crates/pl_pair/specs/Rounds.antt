@@ -5,8 +5,8 @@ use Rattle.pl_io.specs.Writes.{AppendsFront}
 use Rattle.pl_turn.specs.Passes.{seen_of, mine_of, crew_of}
 use Rattle.pl_model.specs.declared.whole.Model.{Model}
 use Rattle.pl_machine.specs.World.{World}
-use Rattle.pl_render.specs.Lines.{text_from}
-use Rattle.pl_stream.specs.Written.{Adds}
+use Rattle.pl_journal.specs.Rendering.Lines.{text_from}
+use Rattle.pl_journal.specs.Written.{Adds}
 use Rattle.pl_shared.specs.declared.noted.Noted.{Noted}
 use Rattle.pl_shared.specs.declared.part.Part.{Part}
 use Rattle.pl_shared.specs.Items.{model_in, entries_in, stop_in, InWorld}

@@ -13,13 +13,14 @@ use Rattle.pl_model.specs.declared.whole.Model.{Model}
 use Rattle.pl_entry.specs.declared.entry.Entry.{Entry}
 use Rattle.pl_machine.specs.declared.stop.Stop.{Stop}
 use Rattle.pl_machine.specs.Legal.{Legal, options_of, world_of}
-use Rattle.pl_machine.specs.Lines.{messages_of}
+use Rattle.pl_input.specs.Words.{messages_of}
 use Rattle.pl_machine.specs.Finished.{inputs_of}
 use Rattle.pl_machine.specs.Sound.{State}
-use Rattle.pl_render.specs.Lines.{text_of_log}
-use Rattle.pl_stream.specs.Reads.{GaveKnown, StopsAt}
-use Rattle.pl_stream.specs.Stops.{IsStuckKnown}
-use Rattle.pl_stream.specs.Written.{Adds, IsCutShort}
+use Rattle.pl_journal.specs.Rendering.Lines.{text_of_log}
+use Rattle.pl_input.specs.Reads.{GaveKnown, StopsAt}
+use Rattle.pl_input.specs.Stops.{IsStuckKnown}
+use Rattle.pl_driver.specs.CutShort.{IsCutShort}
+use Rattle.pl_journal.specs.Written.{Adds}
 use Rattle.pl_shared.specs.declared.noted.Noted.{Noted}
 use Rattle.pl_shared.specs.Items.{items_of, model_in}
 use Rattle.pl_shared.specs.Roles.{worker_of, is_input, is_repair, is_executed}
@@ -33,7 +34,7 @@ use Rattle.pl_pair.specs.Served.{AreOf, AreOfUntil, Made, MakesOwn, Refused}
 use Rattle.pl_pair.specs.Rounds.{IsBetween}
 use Rattle.pl_pair.specs.Endings.{is_other}
 use Rattle.pl_pair.specs.Chosen.{AreChosen}
-use Rattle.pl_stream.specs.Places.{Place}
+use Rattle.pl_input.specs.Places.{Place}
 use Rattle.pl_pair.specs.Asking.{Faults}
 use Rattle.pl_pair.specs.Feeds.{EndsUsed, EndsRead}
 

@@ -1,5 +1,5 @@
 //! Why the feeder goes no further.
-use pl_stream::Halt;
+use pl_input::Halt;
 use std::alloc::AllocError;
 
 /// A read or a write failed, a line or the input is too long, the log is full, a worker stopped the plan, or memory is wanting.

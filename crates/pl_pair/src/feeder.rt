@@ -5,7 +5,7 @@ ghost use Rattle.pl_turn.specs.Passes.{seen_of, mine_of};
 ghost use Rattle.pl_shared.specs.Items.{entries_in};
 ghost use Rattle.pl_shared.specs.Plans.{BelongsTo};
 ghost use Rattle.pl_pair.specs.Workers.{AreHands, SameDuties};
-ghost use Rattle.pl_stream.specs.Places.{place_of};
+ghost use Rattle.pl_input.specs.Places.{place_of};
 ghost use Rattle.pl_pair.specs.Asking.{PassesTo};
 ghost use Rattle.pl_pair.specs.Rounds.{Follows};
 ghost use Rattle.pl_pair.specs.Feeds.{Steps, FeedsAll, FeedsToEnd};

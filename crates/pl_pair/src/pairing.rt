@@ -6,7 +6,7 @@ ghost use Rattle.pl_turn.specs.Passes.{mine_of};
 ghost use Rattle.pl_shared.specs.Plans.{BelongsTo};
 ghost use Rattle.pl_pair.specs.Served.{IsWorker};
 ghost use Rattle.pl_pair.specs.Workers.{AreHands, duty_of};
-ghost use Rattle.pl_stream.specs.Places.{place_of};
+ghost use Rattle.pl_input.specs.Places.{place_of};
 ghost use Rattle.pl_pair.specs.Feeds.{FeedsToEnd};
 
 use crate::cut::Cut;

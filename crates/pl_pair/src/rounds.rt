@@ -11,9 +11,9 @@ use crate::cut::Cut;
 use crate::hands::Hands;
 use crate::waiting::closed_round;
 use pl_io::Sink;
+use pl_journal::write_entries;
 use pl_model::Model;
 use pl_shared::{Part, Pass, SharedPlan};
-use pl_stream::write_entries;
 use std::alloc::Global;
 use std::sync::Wait;
 

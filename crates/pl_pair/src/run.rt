@@ -4,7 +4,7 @@ ghost use Rattle.pl_io.specs.Faults.{Rose};
 ghost use Rattle.pl_turn.specs.Passes.{leads, made_by, joined_by};
 ghost use Rattle.pl_machine.specs.Legal.{Legal, world_of};
 ghost use Rattle.pl_shared.specs.Plans.{BelongsTo};
-ghost use Rattle.pl_stream.specs.Places.{place_of};
+ghost use Rattle.pl_input.specs.Places.{place_of};
 ghost use Rattle.pl_pair.specs.Runs.{ClosesAll, PairRun};
 
 use crate::ended::Ended;

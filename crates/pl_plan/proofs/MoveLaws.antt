@@ -1,7 +1,7 @@
 -- Each kind of move leaves activities that fit the model.
 use Rattle.std.proofs.Common.{◌≡◌, ℕ, suc, ◌<◌, ◌≤◌, eqb, ltb, Bool, true, false, cond, not, ◌||◌, List, [], ◌∷◌, get_or, map, Option, Some, None, is_some, IfSome, refl, sym, ap, ◌∙◌, subst, arith, inl, inr}
 use Rattle.std.specs.Prelude.{All}
-use Rattle.std.proofs.lemmas.Bool.{eq-eqb, ne_eqb, lt-ltb, le-ltb, eqb-true, ltb-true, ltb-false}
+use Rattle.std.proofs.lemmas.Bool.{eq-eqb, ne_eqb, lt-ltb, le-ltb, eqb-true, ltb-true, ltb-false, not-true, or_right}
 use Rattle.pl_model.specs.declared.whole.Model.{Model}
 use Rattle.pl_plan.specs.declared.activity.Activity.{Activity}
 use Rattle.pl_plan.specs.Activities.{RiseFrom, AreRising, activity_of, IsLive, placed, without}
@@ -54,10 +54,6 @@ same_map : (xs : List Activity) → map (λ a. a) xs ≡ xs
 same_map [] = refl
 same_map (x ∷ xs) = ap (λ l. x ∷ l) (same_map xs)
 
-not_true : (b : Bool) → not b ≡ true → b ≡ false
-not_true true e = absurd (cc)
-not_true false e = refl
-
 -- ---- trees that go
 
 module _ (xs : List Activity) (rooted : IsRooted xs) (rising : AreRising xs) (top : ℕ) where
@@ -78,7 +74,7 @@ module _ (xs : List Activity) (rooted : IsRooted xs) (rising : AreRising xs) (to
   upper q p is fails other = at_child xs rooted top q p is ∙ rw (other, fails) refl
 
   closed_outside : (q p : ℕ) → parent_of q xs ≡ Some p → not (descends xs top q) ≡ true → not (descends xs top p) ≡ true
-  closed_outside q p is stay = rw (lower q p is (not_true (descends xs top q) stay)) refl
+  closed_outside q p is stay = rw (lower q p is (not-true (descends xs top q) stay)) refl
 
   parented_outside : (x : Activity) → activity_of x.id xs ≡ Some x → IsParented xs x → not (descends xs top x.id) ≡ true → IsParented (without_subtree top xs) x
   parented_outside x here holds stay = by_parent x.parent refl holds
@@ -113,9 +109,9 @@ fits_deleted model xs rising fits top root =
       where
         by_top : (q : ℕ) → parent_of q xs ≡ Some id → (b : Bool) → eqb q top ≡ b → not (descends xs top q) ≡ true
         by_top q is true e = absurd (let bad : None ≡ Some id = sym root ∙ (ap (λ n. parent_of n xs) (sym (eqb-true q top e)) ∙ is) in cc)
-        by_top q is false e = rw (upper xs fits.rooted rising top q id is (not_true (descends xs top id) stay) e) refl
+        by_top q is false e = rw (upper xs fits.rooted rising top q id is (not-true (descends xs top id) stay) e) refl
 
-abstracted_keeps : (top : ℕ) → KeepsTree (abstracted top)
+pub abstracted_keeps : (top : ℕ) → KeepsTree (abstracted top)
 abstracted_keeps top = record { id = λ a. by_id a (eqb a.id top); kind = λ a. by_kind a (eqb a.id top); parent = λ a. by_parent a (eqb a.id top) }
   where
     by_id : (a : Activity) (b : Bool) → (cond b (record a { detail = None }) a).id ≡ a.id
@@ -149,10 +145,6 @@ fits_abstracted model xs rising fits top =
         by_test true e = absurd (let le = below_top xs fits.rooted rising top p (descends_sound xs fits.rooted top p e) in let lt = (parent_smaller xs fits.rooted top p is).1 in omega (arith, le, lt))
         by_test false e = e
 
-    or_right : (b c : Bool) → c ≡ true → (b || c) ≡ true
-    or_right true c h = refl
-    or_right false c h = h
-
     closed : (q p : ℕ) → parent_of q xs ≡ Some p → outside_or xs top q ≡ true → outside_or xs top p ≡ true
     closed q p is stay = by_top (eqb q top) refl
       where
@@ -184,7 +176,7 @@ fits_abstracted model xs rising fits top =
             inl (let test : eqb a.id top ≡ false = ap (λ n. eqb n top) same ∙ e in rw test refl, λ q named. by_child q named (eqb q top) refl)
           where
             outside : descends xs top id ≡ false
-            outside = not_true (descends xs top id) (rw e at stay)
+            outside = not-true (descends xs top id) (rw e at stay)
 
             by_child : (q : ℕ) → parent_of q xs ≡ Some id → (b : Bool) → eqb q top ≡ b → outside_or xs top q ≡ true
             by_child q named true f = rw f refl

@@ -1,7 +1,6 @@
 -- Pairs of a number and an id in their order, and what stands under a number.
 use Rattle.std.proofs.Common.{◌≡◌, ℕ, zero, suc, ◌<◌, ◌≤◌, ◌^◌, eqb, ltb, Bool, true, false, not, cond, ◌&&◌, ◌||◌, List, [], ◌∷◌, map, Some, refl, sym, ◌∙◌, ap, arith, nat_cmp, is_eq, is_lt, is_le, is_gt, Ordering, Less, Equal, Greater, ◌⊎◌, ⊎_elim, BTreeSet}
 use Rattle.std.specs.Prelude.{All, filter, find, slice_get}
-use Rattle.std.specs.List.{list_any}
 use Rattle.std.specs.Ordering.{ordering_then}
 use Rattle.std.specs.List.Sorted.{IsStrictlySortedBy}
 use Rattle.std.specs.BTreeMap.{is_at}
@@ -12,6 +11,7 @@ use Rattle.std.proofs.lemmas.Bool.{lt-ltb, le-ltb, eq-eqb, ne_eqb, eqb-true, cas
 use Rattle.std.proofs.lemmas.List.Elements.{All-head, All-tail, All-weaker}
 use Rattle.std.proofs.lemmas.Map.Views.{All-after_first}
 use Rattle.std.proofs.lemmas.Map.Keys.{sorted_tail}
+use Rattle.pl_lists.proofs.Elements.{any_agree}
 use Rattle.pl_plan.specs.Index.{has_pair, ids_under, Enters, Leaves}
 use Rattle.pl_plan.proofs.RisingIds.{RiseIds, among}
 
@@ -34,10 +34,6 @@ eq_at n m = ⊎_elim
 
 at_pair : (n q : ℕ) (p : ℕ × ℕ) → is_at (pair_cmp (n, q)) p ≡ (eqb n p.0 && eqb q p.1)
 at_pair n q p = eq_then (nat_cmp n p.0) (nat_cmp q p.1) ∙ rw (eq_at n p.0, eq_at q p.1) refl
-
-pub any_agree : {X : Type 0} (f g : X → Bool) → ((x : X) → f x ≡ g x) → (xs : List X) → list_any f xs ≡ list_any g xs
-any_agree f g same [] = refl
-any_agree f g same (x ∷ xs) = rw (same x, any_agree f g same xs) refl
 
 has_at : (n q : ℕ) (s : BTreeSet (ℕ × ℕ)) → has_pair n q s.keys ≡ contains pair_cmp s (n, q)
 has_at n q s = sym (any_agree (is_at (pair_cmp (n, q))) (λ p. eqb n p.0 && eqb q p.1) (at_pair n q) s.keys)

@@ -5,7 +5,10 @@ use Rattle.std.specs.List.{list_any}
 use Rattle.std.specs.List.Sorted.{IsStrictlySortedBy}
 use Rattle.std.specs.BTreeMap.{is_at}
 use Rattle.std.specs.BTreeSet.{contains}
-use Rattle.std.proofs.lemmas.Bool.{eq-eqb, ne_eqb, eqb-true, eqb-false}
+use Rattle.std.proofs.lemmas.Bool.{eq-eqb, ne_eqb, eqb-true, eqb-false, or_left, or_right}
+use Rattle.std.proofs.Math.Bool.{or-false, and-false}
+use Rattle.pl_lists.proofs.Elements.{any_agree}
+use Rattle.pl_lists.proofs.Tests.{same_test}
 use Rattle.pl_plan.specs.declared.activity.Activity.{Activity}
 use Rattle.pl_plan.specs.Activities.{AreRising, activity_of, IsLive}
 use Rattle.pl_plan.specs.Index.{is_number}
@@ -13,23 +16,10 @@ use Rattle.pl_plan.specs.Trees.{id_of, IsRooted, parent_in, parent_of, children_
 use Rattle.pl_plan.proofs.TreeLaws.{descends_join, descends_sound, descends_complete}
 use Rattle.pl_plan.proofs.RisingIds.{among, filter_rises, same_rising, sorted_rises}
 use Rattle.pl_plan.proofs.Owned.{owned_among}
-use Rattle.pl_plan.proofs.Pairs.{eq_at, any_agree}
+use Rattle.pl_plan.proofs.Pairs.{eq_at}
 use Rattle.pl_plan.proofs.Members.{ids_rise}
 
 -- ---- tests that agree
-
-pub same_test : (a b : Bool) → (a ≡ true → b ≡ true) → (b ≡ true → a ≡ true) → a ≡ b
-same_test true b there back = sym (there refl)
-same_test false true there back = back refl
-same_test false false there back = refl
-
-pub or_left : (a b : Bool) → a ≡ true → (a || b) ≡ true
-or_left true b e = refl
-or_left false b e = absurd (cc)
-
-pub or_right : (a b : Bool) → b ≡ true → (a || b) ≡ true
-or_right true b e = refl
-or_right false b e = e
 
 any_at : (f : ℕ → Bool) (ids : List ℕ) (q : ℕ) → among q ids ≡ true → f q ≡ true → list_any f ids ≡ true
 any_at f [] q there holds = absurd (cc)
@@ -47,11 +37,11 @@ any_gives f G (i ∷ ids) holds given = by_first (f i) refl (λ h. any_gives f G
     by_first true e more = given i (or_left (eqb i i) (among i ids) (eq-eqb i i refl)) e
     by_first false e more = more (rw e at holds)
 
-number_is : (n : ℕ) (o : Option ℕ) → is_number n o ≡ true → o ≡ Some n
+pub number_is : (n : ℕ) (o : Option ℕ) → is_number n o ≡ true → o ≡ Some n
 number_is n None e = absurd (cc)
 number_is n (Some m) e = ap Some (eqb-true m n e)
 
-is_this : (n : ℕ) (o : Option ℕ) → o ≡ Some n → is_number n o ≡ true
+pub is_this : (n : ℕ) (o : Option ℕ) → o ≡ Some n → is_number n o ≡ true
 is_this n None e = absurd (cc)
 is_this n (Some m) e = let same : m ≡ n = cc in eq-eqb m n same
 
@@ -126,11 +116,7 @@ module _ (xs : List Activity) (rooted : IsRooted xs) (rising : AreRising xs) whe
   -- ---- the subtree as a list
 
   among_filter : (p : ℕ → Bool) (q : ℕ) (ids : List ℕ) → among q (filter p ids) ≡ (p q && among q ids)
-  among_filter p q [] = and_none (p q)
-    where
-      and_none : (b : Bool) → false ≡ (b && false)
-      and_none true = refl
-      and_none false = refl
+  among_filter p q [] = sym (and-false (p q))
   among_filter p q (i ∷ ids) = cases (p i) refl (eqb q i) refl (among_filter p q ids)
     where
       cases : (b : Bool) → p i ≡ b → (d : Bool) → eqb q i ≡ d → among q (filter p ids) ≡ (p q && among q ids) → among q (filter p (i ∷ ids)) ≡ (p q && among q (i ∷ ids))
@@ -172,8 +158,4 @@ inserted_one before after id q is = is ∙ rw (eq_at id q) (as_or (eqb id q))
     as_or false = refl
 
 pub found_all : (xs : List Activity) (top : ℕ) (before after : BTreeSet ℕ) (q : ℕ) → before.keys ≡ [] → contains nat_cmp after q ≡ (descends xs top q || contains nat_cmp before q) → among q after.keys ≡ descends xs top q
-found_all xs top before after q empty is = sym (contains_among q after.keys) ∙ (is ∙ (ap (λ (l : List ℕ). descends xs top q || list_any (λ k. is_eq (nat_cmp q k)) l) empty ∙ or_none (descends xs top q)))
-  where
-    or_none : (b : Bool) → (b || false) ≡ b
-    or_none true = refl
-    or_none false = refl
+found_all xs top before after q empty is = sym (contains_among q after.keys) ∙ (is ∙ (ap (λ (l : List ℕ). descends xs top q || list_any (λ k. is_eq (nat_cmp q k)) l) empty ∙ or-false (descends xs top q)))

@@ -1,7 +1,6 @@
 -- The test of descent is exact, and roots are unique.
 use Rattle.std.proofs.Common.{◌≡◌, ℕ, zero, suc, ◌<◌, ◌≤◌, eqb, Bool, true, false, List, Option, Some, None, refl, sym, ◌∙◌, subst, arith}
-use Rattle.std.specs.Prelude.{◌||◌}
-use Rattle.std.proofs.lemmas.Bool.{eq-eqb, eqb-true}
+use Rattle.std.proofs.lemmas.Bool.{eq-eqb, eqb-true, or_right}
 use Rattle.pl_plan.specs.declared.activity.Activity.{Activity}
 use Rattle.pl_plan.specs.Activities.{IsLive}
 use Rattle.pl_plan.specs.Trees.{IsRooted, parent_of, root_rule, root_of, Descends, itself, child, descent_rule, descends}
@@ -39,10 +38,6 @@ module _ (xs : List Activity) (rooted : IsRooted xs) where
   pub descends_sound : (top id : ℕ) → descends xs top id ≡ true → Descends xs top id
   descends_sound top id holds = sound_by top id id (omega arith) holds
 
-  or_true : (b c : Bool) → c ≡ true → (b || c) ≡ true
-  or_true true c h = refl
-  or_true false c h = h
-
   self_true : (top : ℕ) → descends xs top top ≡ true
   self_true top = by_parent (parent_of top xs) refl
     where
@@ -55,7 +50,7 @@ module _ (xs : List Activity) (rooted : IsRooted xs) where
 
   pub descends_complete : (top id : ℕ) → Descends xs top id → descends xs top id ≡ true
   descends_complete top id itself = self_true top
-  descends_complete top id (child n p is above) = at_child top id p is ∙ or_true (eqb id top) (descends xs top p) (descends_complete top p above)
+  descends_complete top id (child n p is above) = at_child top id p is ∙ or_right (eqb id top) (descends xs top p) (descends_complete top p above)
 
   root_by : (n id : ℕ) → id ≤ n → IsLive id xs → IsRootOf xs id (root_of id xs)
   root_by zero id le live = by_parent (parent_of id xs) refl

@@ -32,6 +32,7 @@ impl Model for Plan {
 }
 
 impl Plan {
+    /// No activities.
     pub fn new(alloc: Global) -> Plan
         ensures { result.activities ≡ [] }
     {
@@ -112,6 +113,7 @@ impl Plan {
         }
     }
 
+    /// How many activities there are.
     pub fn len(&self) -> u32
         ensures len { result ≡ length self.now.activities }
         ensures rising { AreRising self.now.activities }

@@ -69,7 +69,7 @@ stands_alike same u xs ys alike = (
   length_counted xs ∙ sum_alike (λ x. 1) xs ys alike ∙ sym (length_counted ys),
 )
 
-same_exact : (s t : Span) → same_span s t ≡ true → s ≡ t
+pub same_exact : (s t : Span) → same_span s t ≡ true → s ≡ t
 same_exact s t e =
     let h = and_parts (eqb s.from t.from) (eqb s.to t.to) e in
     ap (λ n. span n s.to) (eqb-true s.from t.from h.0) ∙ ap (span t.from) (eqb-true s.to t.to h.1)

@@ -3,24 +3,18 @@ use Rattle.std.proofs.Common.{◌≡◌, ℕ, ◌+◌, ◌*◌, ◌<◌, ◌≤�
 use Rattle.std.specs.Prelude.{int_lt}
 use Rattle.std.proofs.lemmas.Bool.{cond_both, lt-ltb, ltb-true, leb-true, leb-false}
 use Rattle.std.proofs.Math.Nat.{mul-le-mul_left}
+use Rattle.std.proofs.Math.Bool.{and-false}
+use Rattle.pl_lists.proofs.Tests.{or_first_false, or_second_false}
 use Rattle.pl_points.specs.Points.{Point, sum_to, is_out, first_outside, RiseFrom}
 use Rattle.pl_points.specs.Counting.{points_after, walk_left, walk_steps, walk_until}
 use Rattle.pl_points.specs.Spans.{within}
 use Rattle.pl_points.proofs.Strolls.{StaysInside, stays_inside, left_first}
 
 pub is_below : (least most z : ℤ) → is_out least most z ≡ false → int_lt z least ≡ false
-is_below least most z e = cases (int_lt z least) (int_lt most z) e
-  where
-    cases : (v w : Bool) → (v || w) ≡ false → v ≡ false
-    cases true w h = h
-    cases false w h = refl
+is_below least most z e = or_first_false (int_lt z least) (int_lt most z) e
 
 pub is_above : (least most z : ℤ) → is_out least most z ≡ false → int_lt most z ≡ false
-is_above least most z e = cases (int_lt z least) (int_lt most z) e
-  where
-    cases : (v w : Bool) → (v || w) ≡ false → w ≡ false
-    cases true w h = absurd (cc)
-    cases false w h = h
+is_above least most z e = or_second_false (int_lt z least) (int_lt most z) e
 
 -- the same of bounds that are equal to others
 pub stays_calm : (L M l m s : ℤ) (at : ℕ) (ps : List Point) (r : Option Point) → L ≡ l → M ≡ m → RiseFrom 0 ps → s ≡ sum_to ps at → is_out l m s ≡ false → r ≡ first_outside ps (at + 1) L M → StaysInside l m at ps r
@@ -32,14 +26,10 @@ stays_calm L M l m s at ps r low high rising is inside e =
 pub calm_before : (a m b t : ℕ) (q : ℕ → Bool) → a ≤ m → ((x : ℕ) → a ≤ x → x < m → q x ≡ false) → (within m b t && q t) ≡ (within a b t && q t)
 calm_before a m b t q le calm = cases (leb m t) refl (leb a t) refl
   where
-    and_no : (v : Bool) → false ≡ (v && false)
-    and_no true = refl
-    and_no false = refl
-
     cases : (v : Bool) → leb m t ≡ v → (w : Bool) → leb a t ≡ w → ((v && ltb t b) && q t) ≡ ((w && ltb t b) && q t)
     cases true e true f = refl
     cases true e false f = absurd (omega (arith, leb-true m t e, leb-false a t f, le))
-    cases false e true f = let none : q t ≡ false = calm t (leb-true a t f) (leb-false m t e) in rw none (and_no (ltb t b))
+    cases false e true f = let none : q t ≡ false = calm t (leb-true a t f) (leb-false m t e) in rw none (sym (and-false (ltb t b)))
     cases false e false f = refl
 
 pub until_is : (ahead : ℕ → ℕ) (look search : ℕ) (out : ℕ → Bool) (ps : List Point) (at to : ℕ) → at < to → walk_until ahead look search out ps at to ≡ walk_left ahead look search out ps at

@@ -1,6 +1,7 @@
 -- Windows in which nothing is outside and no span lies.
 use Rattle.std.proofs.Common.{◌≡◌, ℕ, ◌+◌, ◌<◌, ◌≤◌, ◌^◌, suc, Bool, true, false, ◌&&◌, ◌||◌, List, [], ◌∷◌, refl, ap, sym, ◌∙◌, arith, cond, leb, ltb}
-use Rattle.std.proofs.lemmas.Bool.{leb-true, leb-false, ltb-true, ltb-false}
+use Rattle.std.proofs.lemmas.Bool.{leb-true, leb-false, ltb-true, ltb-false, and_parts}
+use Rattle.std.proofs.Math.Bool.{and-false}
 use Rattle.pl_lists.specs.Lists.{back}
 use Rattle.pl_points.specs.declared.span.Span.{Span}
 use Rattle.pl_points.specs.Spans.{within, covers, AreApart}
@@ -17,23 +18,15 @@ pub clear_window : (a b low : ℕ) (s : List Span) → AreApart low (2 ^ 32) s �
 clear_window a b low [] apart begins t here = refl
 clear_window a b low (p ∷ s) apart begins t here = cases (leb p.to a) refl begins (clear_window a b (suc p.to) s apart.3)
   where
-    both : (v w : Bool) → (v && w) ≡ true → (v ≡ true) × (w ≡ true)
-    both true w e = (refl, e)
-    both false w e = absurd (cc)
-
     from : a ≤ t
-    from = leb-true a t (both (leb a t) (ltb t b) here).0
+    from = leb-true a t (and_parts (leb a t) (ltb t b) here).0
 
     to : t < b
-    to = ltb-true t b (both (leb a t) (ltb t b) here).1
+    to = ltb-true t b (and_parts (leb a t) (ltb t b) here).1
 
     late : (v : Bool) → ltb t p.to ≡ v → p.to ≤ a → (leb p.from t && v) ≡ false
     late true e le = absurd (omega (arith, ltb-true t p.to e, le, from))
-    late false e le = no (leb p.from t)
-      where
-        no : (v : Bool) → (v && false) ≡ false
-        no true = refl
-        no false = refl
+    late false e le = and-false (leb p.from t)
 
     early : (v : Bool) → leb p.from t ≡ v → b ≤ p.from → (v && ltb t p.to) ≡ false
     early true e le = absurd (omega (arith, leb-true p.from t e, le, to))
@@ -49,13 +42,9 @@ clear_window a b low (p ∷ s) apart begins t here = cases (leb p.to a) refl beg
 pub mended_clear : (a b : ℕ) (q : ℕ → Bool) (s : List Span) → ((t : ℕ) → within a b t ≡ true → covers s t ≡ false) → ((t : ℕ) → a ≤ t → t < b → q t ≡ false) → (t : ℕ) → covers s t ≡ mended a b q s t
 mended_clear a b q s clear calm t = cases (within a b t) refl
   where
-    both : (v w : Bool) → (v && w) ≡ true → (v ≡ true) × (w ≡ true)
-    both true w e = (refl, e)
-    both false w e = absurd (cc)
-
     cases : (v : Bool) → within a b t ≡ v → covers s t ≡ cond v (q t) (covers s t)
     cases true e =
-        let here = both (leb a t) (ltb t b) e in
+        let here = and_parts (leb a t) (ltb t b) e in
         clear t e ∙ sym (calm t (leb-true a t here.0) (ltb-true t b here.1))
     cases false e = refl
 

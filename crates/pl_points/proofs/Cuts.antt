@@ -3,8 +3,10 @@ use Rattle.std.proofs.Common.{◌≡◌, ℕ, zero, suc, ◌+◌, ◌<◌, ◌�
 use Rattle.std.proofs.lemmas.Bool.{cond_both, true≢false, ltb-true, ltb-false, leb-true, leb-false, le-ltb, lt-leb}
 use Rattle.std.proofs.lemmas.Bool.Decides.{nat_tests}
 use Rattle.std.proofs.lemmas.List.{drop_all, drop-drop}
+use Rattle.std.proofs.Math.Bool.{and-false, and-or_distrib_left}
 use Rattle.pl_points.specs.declared.span.Span.{Span}
 use Rattle.pl_lists.specs.Lists.{front, back}
+use Rattle.pl_lists.proofs.Tests.{or_second_false}
 use Rattle.pl_points.specs.Spans.{within, covers, AreApart, span, joined}
 use Rattle.pl_points.specs.Mending.{ends_before, ends_by, begins_before, reached, beyond, cut_last, before, behind}
 use Rattle.pl_points.proofs.Parting.{NonePass, IsParted, drop_next}
@@ -71,12 +73,8 @@ apart_from b c e (p ∷ s) apart none = (low, apart.1, apart.2, apart.3)
 
 pub apart_to : (c e d : ℕ) (s : List Span) → AreApart c e s → ((t : ℕ) → d ≤ t → covers s t ≡ false) → AreApart c d s
 apart_to c e d [] apart none = tt
-apart_to c e d (p ∷ s) apart none = (apart.0, apart.1, high (leb p.to d) refl, apart_to (suc p.to) e d s apart.3 (λ t le. or_parts2 (within p.from p.to t) (covers s t) (none t le)))
+apart_to c e d (p ∷ s) apart none = (apart.0, apart.1, high (leb p.to d) refl, apart_to (suc p.to) e d s apart.3 (λ t le. or_second_false (within p.from p.to t) (covers s t) (none t le)))
   where
-    or_parts2 : (x y : Bool) → (x || y) ≡ false → y ≡ false
-    or_parts2 true y f = absurd (true≢false f)
-    or_parts2 false y f = f
-
     high : (v : Bool) → leb p.to d ≡ v → p.to ≤ d
     high true f = leb-true p.to d f
     high false f = last p.to refl
@@ -158,19 +156,11 @@ apart_before at c e (p ∷ s) apart = cond_both (begins_before at p) (span p.fro
     later h = apart_later (suc (min p.to at)) (suc p.to) at (before at s) (omega arith) h
 
 pub covers_before : (at c e : ℕ) (s : List Span) (t : ℕ) → AreApart c e s → covers (before at s) t ≡ (ltb t at && covers s t)
-covers_before at c e [] t apart = sym (and_none (ltb t at))
-  where
-    and_none : (b : Bool) → (b && false) ≡ false
-    and_none true = refl
-    and_none false = refl
+covers_before at c e [] t apart = sym (and-false (ltb t at))
 covers_before at c e (p ∷ s) t apart = cases (begins_before at p) refl (covers_before at (suc p.to) e s t apart.3)
   where
     cut : p.from < at → within p.from (min p.to at) t ≡ (ltb t at && within p.from p.to t)
     cut lt = grind (arith, nat_tests)
-
-    both : (a b d : Bool) → ((a && b) || (a && d)) ≡ (a && (b || d))
-    both true b d = refl
-    both false b d = refl
 
     late : at ≤ p.from → (ltb t at && (within p.from p.to t || covers s t)) ≡ false
     late le = split (ltb t at) refl
@@ -182,7 +172,7 @@ covers_before at c e (p ∷ s) t apart = cases (begins_before at p) refl (covers
         split false f = refl
 
     cases : (v : Bool) → begins_before at p ≡ v → covers (before at s) t ≡ (ltb t at && covers s t) → covers (before at (p ∷ s)) t ≡ (ltb t at && covers (p ∷ s) t)
-    cases true f more = rw f (rw (cut (ltb-true p.from at f)) (rw more (both (ltb t at) (within p.from p.to t) (covers s t))))
+    cases true f more = rw f (rw (cut (ltb-true p.from at f)) (rw more (sym (and-or_distrib_left (ltb t at) (within p.from p.to t) (covers s t)))))
     cases false f more = rw f (sym (late (ltb-false p.from at f)))
 
 pub apart_behind : (at c e : ℕ) (s : List Span) → AreApart c e s → AreApart at e (behind at s)
@@ -192,19 +182,11 @@ apart_behind at c e (p ∷ s) apart = cond_both (ends_by at p) (behind at s) (sp
     (λ f. (omega arith, omega (arith, apart.1, leb-false p.to at f), apart.2, apart.3))
 
 pub covers_behind : (at c e : ℕ) (s : List Span) (t : ℕ) → AreApart c e s → covers (behind at s) t ≡ (leb at t && covers s t)
-covers_behind at c e [] t apart = sym (and_none (leb at t))
-  where
-    and_none : (b : Bool) → (b && false) ≡ false
-    and_none true = refl
-    and_none false = refl
+covers_behind at c e [] t apart = sym (and-false (leb at t))
 covers_behind at c e (p ∷ s) t apart = cases (ends_by at p) refl (covers_behind at (suc p.to) e s t apart.3)
   where
     cut : at < p.to → within (max p.from at) p.to t ≡ (leb at t && within p.from p.to t)
     cut lt = grind (arith, nat_tests)
-
-    both : (a b d : Bool) → ((a && b) || (a && d)) ≡ (a && (b || d))
-    both true b d = refl
-    both false b d = refl
 
     early : p.to ≤ at → (leb at t && within p.from p.to t) ≡ false
     early le = grind (arith, nat_tests)
@@ -217,10 +199,10 @@ covers_behind at c e (p ∷ s) t apart = cases (ends_by at p) refl (covers_behin
         split false f = covers_low (suc p.to) e s t apart.3 (omega (arith, lt, leb-false at t f))
 
     cases : (v : Bool) → ends_by at p ≡ v → covers (behind at s) t ≡ (leb at t && covers s t) → covers (behind at (p ∷ s)) t ≡ (leb at t && covers (p ∷ s) t)
-    cases true f more = rw f (more ∙ (ap (λ b. b || (leb at t && covers s t)) (sym (early (leb-true p.to at f))) ∙ both (leb at t) (within p.from p.to t) (covers s t)))
+    cases true f more = rw f (more ∙ (ap (λ b. b || (leb at t && covers s t)) (sym (early (leb-true p.to at f))) ∙ sym (and-or_distrib_left (leb at t) (within p.from p.to t) (covers s t))))
     cases false f more =
         let lt : at < p.to = leb-false p.to at f in
-        rw f (rw (cut lt) (ap (λ b. (leb at t && within p.from p.to t) || b) (rest lt) ∙ both (leb at t) (within p.from p.to t) (covers s t)))
+        rw f (rw (cut lt) (ap (λ b. (leb at t && within p.from p.to t) || b) (rest lt) ∙ sym (and-or_distrib_left (leb at t) (within p.from p.to t) (covers s t))))
 
 -- what lies behind a moment, by the place of the first that reaches past it
 pub behind_some : (at i : ℕ) (s : List Span) (p : Span) → drop i s ≡ back (ends_by at) s → i < length s → p ≡ get_or s i p → behind at s ≡ span (max p.from at) p.to ∷ drop (i + 1) s

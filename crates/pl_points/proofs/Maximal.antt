@@ -2,10 +2,11 @@
 use Rattle.std.proofs.Common.{◌≡◌, ℕ, zero, suc, ◌+◌, ◌-◌, ◌^◌, ◌<◌, ◌≤◌, Bool, true, false, ◌&&◌, ◌||◌, List, [], ◌∷◌, refl, ap, sym, ◌∙◌, subst, arith, eqb, ltb, leb}
 use Rattle.std.proofs.lemmas.Bool.{cond_both, eqb-true, eqb-false, true≢false, ltb-true, ltb-false, leb-true, leb-false}
 use Rattle.std.proofs.lemmas.Bool.Decides.{nat_tests}
+use Rattle.std.proofs.Math.Bool.{and-true, and-false, or-false, and-or_distrib_right, or_assoc}
 use Rattle.pl_points.specs.declared.span.Span.{Span}
 use Rattle.pl_points.specs.Spans.{within, covers, AreApart, AreMaximal, span, grown, spans_of, joined}
 use Rattle.pl_points.specs.Mending.{mended}
-use Rattle.pl_points.proofs.Spanning.{or_nil, or_assoc, apart_later, apart_wider, covers-joined, apart-joined, within_two}
+use Rattle.pl_points.proofs.Spanning.{apart_later, apart_wider, covers-joined, apart-joined, within_two}
 use Rattle.pl_points.proofs.Cuts.{covers_low, within_high, within_low, within_yes, apart_from, apart_to}
 
 apart_grown : (b : Bool) (a e : ℕ) (s : List Span) → suc a ≤ e → AreApart (suc a) e s → AreApart a e (grown b a s)
@@ -34,28 +35,20 @@ one_more : (P : ℕ → Bool) (a e t : ℕ) → suc a ≤ e → ((P a && within 
 one_more P a e t le = cases (leb a t) (ltb t (suc a)) refl refl
   where
     here : t ≡ a → (P a && true) ≡ (true && P t)
-    here h = and_one (P a) ∙ ap P (sym h)
-      where
-        and_one : (b : Bool) → (b && true) ≡ b
-        and_one true = refl
-        and_one false = refl
-
-    and_none : (b : Bool) → (b && false) ≡ false
-    and_none true = refl
-    and_none false = refl
+    here h = and-true (P a) ∙ ap P (sym h)
 
     cases : (v w : Bool) → leb a t ≡ v → ltb t (suc a) ≡ w → ((P a && within a (suc a) t) || (within (suc a) e t && P t)) ≡ (within a e t && P t)
     cases false w f g =
         let lt : t < a = leb-false a t f in
-        rw (within_low a (suc a) t lt) (rw (within_low (suc a) e t (omega (arith, lt))) (rw (within_low a e t lt) (ap (λ b. b || false) (and_none (P a)))))
+        rw (within_low a (suc a) t lt) (rw (within_low (suc a) e t (omega (arith, lt))) (rw (within_low a e t lt) (ap (λ b. b || false) (and-false (P a)))))
     cases true true f g =
         let same : t ≡ a = omega (arith, leb-true a t f, ltb-true t (suc a) g) in
         rw (within_yes a (suc a) t (leb-true a t f) (ltb-true t (suc a) g)) (rw (within_low (suc a) e t (ltb-true t (suc a) g))
-        (rw (within_yes a e t (leb-true a t f) (omega (arith, same, le))) (or_nil (P a && true) ∙ here same)))
+        (rw (within_yes a e t (leb-true a t f) (omega (arith, same, le))) (or-false (P a && true) ∙ here same)))
     cases true false f g =
         let high : suc a ≤ t = ltb-false t (suc a) g in
         let same : within (suc a) e t ≡ within a e t = grind (arith, nat_tests) in
-        rw (within_high a (suc a) t high) (rw same (ap (λ b. b || (within a e t && P t)) (and_none (P a))))
+        rw (within_high a (suc a) t high) (rw same (ap (λ b. b || (within a e t && P t)) (and-false (P a))))
 
 pub maximal_spans : (P : ℕ → Bool) (a n : ℕ) → AreMaximal P a (a + n) (spans_of P a n)
 maximal_spans P a zero =
@@ -138,14 +131,8 @@ splits P a m n =
     (λ t. whole.exact t ∙ (ap (λ b. within a b t && P t) (sym e) ∙ sym (covers-joined a (a + m) ((a + m) + n) (spans_of P a m) (spans_of P (a + m) n) one.apart other.apart t
     ∙ (ap (λ v. v || covers (spans_of P (a + m) n) t) (one.exact t) ∙ (ap (λ v. (within a (a + m) t && P t) || v) (other.exact t) ∙ both t)))))
   where
-    spread : (w v x : Bool) → ((w && x) || (v && x)) ≡ ((w || v) && x)
-    spread true true true = refl
-    spread true true false = refl
-    spread true false x = or_nil x
-    spread false v x = refl
-
     both : (t : ℕ) → ((within a (a + m) t && P t) || (within (a + m) ((a + m) + n) t && P t)) ≡ (within a ((a + m) + n) t && P t)
-    both t = spread (within a (a + m) t) (within (a + m) ((a + m) + n) t) (P t) ∙ ap (λ w. w && P t) (sym (within_two a (a + m) ((a + m) + n) t (omega arith) (omega arith)))
+    both t = sym (and-or_distrib_right (within a (a + m) t) (within (a + m) ((a + m) + n) t) (P t)) ∙ ap (λ w. w && P t) (sym (within_two a (a + m) ((a + m) + n) t (omega arith) (omega arith)))
 
 pub local : (P Q : ℕ → Bool) (a n : ℕ) → ((t : ℕ) → a ≤ t → t < a + n → P t ≡ Q t) → spans_of P a n ≡ spans_of Q a n
 local P Q a zero same = refl

@@ -1,9 +1,10 @@
 -- The first point after which a sum is outside, and how many points lie ahead.
-use Rattle.std.proofs.Common.{◌≡◌, ℕ, zero, suc, ◌+◌, ◌<◌, ◌≤◌, Bool, true, false, ◌||◌, List, [], ◌∷◌, length, get_or, drop, refl, ap, sym, ◌∙◌, subst, arith, cond, ℤ, pos, ◌+ℤ◌, leb, Some, Option}
+use Rattle.std.proofs.Common.{◌≡◌, ℕ, zero, suc, ◌+◌, ◌<◌, ◌≤◌, Bool, true, false, List, [], ◌∷◌, length, get_or, drop, refl, ap, sym, ◌∙◌, subst, arith, cond, ℤ, pos, ◌+ℤ◌, leb, Some, Option}
 use Rattle.std.proofs.lemmas.Bool.{cond_both, lt-ltb, le-ltb, ltb-true, ltb-false, le-leb, lt-leb}
 use Rattle.std.proofs.lemmas.Int.{ints}
 use Rattle.std.specs.Prelude.{int_lt}
 use Rattle.std.proofs.lemmas.List.{length-drop}
+use Rattle.std.proofs.Math.Bool.{or-true}
 use Rattle.pl_lists.specs.Lists.{back}
 use Rattle.pl_points.specs.Points.{Point, sum_to, sum_below, is_before, is_out, outside_among, first_outside, leaving, points_from, ahead_of, RiseFrom, SmallFrom}
 use Rattle.pl_points.proofs.Parting.{drop_next}
@@ -147,12 +148,8 @@ not_out least most z low high = rw low (rw high refl)
 pub low_out : (least most z : ℤ) → int_lt z least ≡ true → is_out least most z ≡ true
 low_out least most z low = rw low refl
 
-or_true : (b : Bool) → (b || true) ≡ true
-or_true true = refl
-or_true false = refl
-
 pub high_out : (least most z : ℤ) → int_lt most z ≡ true → is_out least most z ≡ true
-high_out least most z high = rw high (or_true (int_lt z least))
+high_out least most z high = rw high (or-true (int_lt z least))
 
 pub same_leaving : (L M B l m b : ℤ) (ps : List Point) → L ≡ l → M ≡ m → B ≡ b → leaving L M B ps ≡ leaving l m b ps
 same_leaving L M B l m b ps low high before = ap (λ x. leaving x M B ps) low ∙ ap (λ x. leaving l x B ps) high ∙ ap (λ x. leaving l m x ps) before

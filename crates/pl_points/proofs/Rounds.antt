@@ -1,7 +1,8 @@
 -- What a mended window leaves round it, and what is among spans that lie apart.
 use Rattle.std.proofs.Common.{◌≡◌, ℕ, suc, ◌^◌, ◌<◌, ◌≤◌, Bool, true, false, ◌&&◌, ◌||◌, cond, List, [], ◌∷◌, ◌++◌, length, get_or, drop, refl, ap, sym, ◌∙◌, subst, arith, eqb, ltb, leb, Result, Ok, Err, IfOk, OnOk}
-use Rattle.std.proofs.lemmas.Bool.{cond_both, eq-eqb, ne_eqb, ltb-true, ltb-false, leb-true, leb-false, le-leb, lt-leb}
+use Rattle.std.proofs.lemmas.Bool.{cond_both, eq-eqb, ne_eqb, ltb-true, ltb-false, leb-true, leb-false, le-leb, lt-leb, or_right}
 use Rattle.std.proofs.lemmas.List.{drop_all, append-nil}
+use Rattle.std.proofs.Math.Bool.{or-false, or_assoc}
 use Rattle.pl_points.specs.declared.span.Span.{Span}
 use Rattle.pl_lists.specs.Lists.{front, back}
 use Rattle.pl_points.specs.Spans.{within, covers, AreApart, joined}
@@ -10,7 +11,7 @@ use Rattle.pl_points.specs.Changes.{same_span, IsChange}
 use Rattle.pl_lists.specs.Lists.{is_among, left_out}
 use Rattle.pl_points.specs.declared.span.Change.{Change}
 use Rattle.pl_points.proofs.Parting.{drop_next, back_fails}
-use Rattle.pl_points.proofs.Spanning.{or_nil, or_assoc, apart_later, apart-joined, covers-joined, within_true}
+use Rattle.pl_points.proofs.Spanning.{apart_later, apart-joined, covers-joined, within_true}
 use Rattle.pl_points.proofs.Cuts.{covers_low, covers_high, within_high, within_low, within_yes, apart_from, apart_to, covers_before, apart_behind, covers_behind}
 
 other_begin : (p x : Span) → (p.from ≡ x.from → ⊥) → same_span p x ≡ false
@@ -52,7 +53,7 @@ among_some s i p x apart rest lt is =
     first : (more : List Span) → begins_before x.from p ≡ false → AreApart 0 (2 ^ 32) (p ∷ more) → is_among same_span (p ∷ more) x ≡ same_span p x
     first more f apart =
         let g : is_among same_span more x ≡ false = not_among_high (suc p.to) (2 ^ 32) more x apart.3 (omega (arith, ltb-false p.from x.from f, apart.1)) in
-        ap (λ b. same_span p x || b) g ∙ or_nil (same_span p x)
+        ap (λ b. same_span p x || b) g ∙ or-false (same_span p x)
 
 -- a window between what lies before it and what lies behind
 pub round : (a b t : ℕ) (c o : Bool) → a ≤ b → (((ltb t a && c) || (within a b t && o)) || (leb b t && c)) ≡ cond (within a b t) o c
@@ -209,7 +210,7 @@ rounded_covers a b q s f le lt apart new says t =
     cases true e whole none =
         let in_window = within_true a b t e in
         let is : covers f t ≡ q t = says t ∙ (rw e refl) in
-        rw e (rw (covers_front a s t in_window.0) (rw (none in_window.1) (or_nil (covers f t) ∙ is)))
+        rw e (rw (covers_front a s t in_window.0) (rw (none in_window.1) (or-false (covers f t) ∙ is)))
     cases false e whole none =
         let is : covers f t ≡ covers (touched a b s) t = says t ∙ (rw e refl) in
         rw e (rw is (sym whole))
@@ -223,19 +224,15 @@ abbrev AllAmong : List Span → List Span → Type 0
 AllAmong others [] = Unit {0}
 AllAmong others (x ∷ xs) = (is_among same_span others x ≡ true) × AllAmong others xs
 
-or_yes : (a b : Bool) → b ≡ true → (a || b) ≡ true
-or_yes true b e = refl
-or_yes false b e = e
-
 among_more : (p : Span) (others xs : List Span) → AllAmong others xs → AllAmong (p ∷ others) xs
 among_more p others [] all = tt
-among_more p others (x ∷ xs) all = (or_yes (same_span p x) (is_among same_span others x) all.0, among_more p others xs all.1)
+among_more p others (x ∷ xs) all = (or_right (same_span p x) (is_among same_span others x) all.0, among_more p others xs all.1)
 
 among_prefix : (ps others xs : List Span) → AllAmong others xs → AllAmong (ps ++ others) xs
 among_prefix [] others xs all = all
 among_prefix (p ∷ ps) others xs all = among_more p (ps ++ others) xs (among_prefix ps others xs all)
 
-same_self : (x : Span) → same_span x x ≡ true
+pub same_self : (x : Span) → same_span x x ≡ true
 same_self x = rw (eq-eqb x.from x.from refl) (eq-eqb x.to x.to refl)
 
 among_front : (s t : List Span) → AllAmong (s ++ t) s
@@ -278,7 +275,7 @@ left_out_mid c x s f b (p ∷ t) front_apart low tail_apart apart =
     looked =
         let not_front : is_among same_span s p ≡ false = not_among_low 0 (2 ^ 32) s p front_apart (omega (arith, low, apart.0)) in
         let not_tail : is_among same_span b p ≡ false = not_among_high (suc x) (2 ^ 32) b p tail_apart (omega (arith, apart.1, apart.2)) in
-        is_among-append s (f ++ b) p ∙ (ap (λ v. v || is_among same_span (f ++ b) p) not_front ∙ (is_among-append f b p ∙ (ap (λ v. is_among same_span f p || v) not_tail ∙ or_nil (is_among same_span f p))))
+        is_among-append s (f ++ b) p ∙ (ap (λ v. v || is_among same_span (f ++ b) p) not_front ∙ (is_among-append f b p ∙ (ap (λ v. is_among same_span f p || v) not_tail ∙ or-false (is_among same_span f p))))
 
     cases : (v : Bool) → is_among same_span f p ≡ v → is_among same_span (s ++ (f ++ b)) p ≡ is_among same_span f p → left_out same_span (s ++ (f ++ b)) t ≡ left_out same_span f t → left_out same_span (s ++ (f ++ b)) (p ∷ t) ≡ left_out same_span f (p ∷ t)
     cases true e looked more = rw (looked ∙ e) (rw e more)

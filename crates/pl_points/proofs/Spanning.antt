@@ -3,16 +3,9 @@ use Rattle.std.proofs.Common.{◌≡◌, ℕ, zero, suc, ◌<◌, ◌≤◌, Boo
 use Rattle.std.proofs.lemmas.Bool.{cond_both, eqb-true, eqb-false, eq-eqb, ne_eqb, and_parts, leb-true, ltb-true}
 use Rattle.std.proofs.lemmas.Bool.Decides.{nat_tests}
 use Rattle.std.proofs.lemmas.List.{get_or_default}
+use Rattle.std.proofs.Math.Bool.{or-false, or_assoc}
 use Rattle.pl_points.specs.declared.span.Span.{Span}
 use Rattle.pl_points.specs.Spans.{within, covers, AreApart, span, joined}
-
-pub or_nil : (b : Bool) → (b || false) ≡ b
-or_nil true = refl
-or_nil false = refl
-
-pub or_assoc : (a b c : Bool) → ((a || b) || c) ≡ (a || (b || c))
-or_assoc true b c = refl
-or_assoc false b c = refl
 
 pub within_two : (a b c x : ℕ) → a ≤ b → b ≤ c → within a c x ≡ (within a b x || within b c x)
 within_two a b c x le more = grind (arith, nat_tests)
@@ -27,12 +20,12 @@ apart_wider c e d (p ∷ s) le apart = (apart.0, apart.1, omega (arith, le, apar
 
 pub covers-joined : (c a e : ℕ) (s t : List Span) → AreApart c a s → AreApart a e t → (x : ℕ) → covers (joined s t) x ≡ (covers s x || covers t x)
 covers-joined c a e [] t left right x = refl
-covers-joined c a e (p ∷ []) [] left right x = sym (or_nil (within p.from p.to x || false))
+covers-joined c a e (p ∷ []) [] left right x = sym (or-false (within p.from p.to x || false))
 covers-joined c a e (p ∷ []) (q ∷ t) left right x =
     let goal : List Span → Type 0 = λ l. covers l x ≡ ((within p.from p.to x || false) || (within q.from q.to x || covers t x)) in
     cond_both (eqb p.to q.from) (span p.from q.to ∷ t) (p ∷ q ∷ t) goal
-    (λ e. rw (or_nil (within p.from p.to x)) (one (eqb-true p.to q.from e) ∙ or_assoc (within p.from p.to x) (within q.from q.to x) (covers t x)))
-    (λ e. rw (or_nil (within p.from p.to x)) refl)
+    (λ e. rw (or-false (within p.from p.to x)) (one (eqb-true p.to q.from e) ∙ or_assoc (within p.from p.to x) (within q.from q.to x) (covers t x)))
+    (λ e. rw (or-false (within p.from p.to x)) refl)
   where
     one : p.to ≡ q.from → (within p.from q.to x || covers t x) ≡ ((within p.from p.to x || within q.from q.to x) || covers t x)
     one e =
@@ -85,7 +78,7 @@ pub apart_piece : (a b : ℕ) (xs : List Span) → a < b → AreApart 0 a xs →
 apart_piece a b xs lt apart = apart-joined 0 a b xs (span a b ∷ []) (omega arith) (omega (arith, lt)) apart (omega arith, lt, omega arith, tt)
 
 pub covers_piece : (a b : ℕ) (xs : List Span) → a < b → AreApart 0 a xs → (t : ℕ) → covers (joined xs (span a b ∷ [])) t ≡ (covers xs t || within a b t)
-covers_piece a b xs lt apart t = covers-joined 0 a b xs (span a b ∷ []) apart (omega arith, lt, omega arith, tt) t ∙ ap (λ v. covers xs t || v) (or_nil (within a b t))
+covers_piece a b xs lt apart t = covers-joined 0 a b xs (span a b ∷ []) apart (omega arith, lt, omega arith, tt) t ∙ ap (λ v. covers xs t || v) (or-false (within a b t))
 
 pub read_same : (xs : List Span) (i : ℕ) (p q : Span) → i < length xs → p ≡ get_or xs i p → q ≡ get_or xs i q → p ≡ q
 read_same xs i p q lt e f = e ∙ get_or_default xs i p q lt ∙ sym f
@@ -102,7 +95,7 @@ either_window : (c w v x : Bool) → ((c || (w && x)) || (v && x)) ≡ (c || ((w
 either_window true w v x = refl
 either_window false true true true = refl
 either_window false true true false = refl
-either_window false true false x = or_nil x
+either_window false true false x = or-false x
 either_window false false v x = refl
 
 pub within_true : (a b t : ℕ) → within a b t ≡ true → (a ≤ t) × (t < b)

@@ -1,13 +1,14 @@
 -- What a walk finds from point to point, and what it takes.
-use Rattle.std.proofs.Common.{◌≡◌, ℕ, suc, ◌+◌, ◌*◌, ◌<◌, ◌≤◌, ◌⊎◌, Bool, true, false, not, ◌&&◌, ◌||◌, List, [], ◌∷◌, refl, ap, sym, ◌∙◌, subst, inl, inr, arith, cond, ltb, leb, ℤ, pos, ◌+ℤ◌, Some, None, Option}
+use Rattle.std.proofs.Common.{◌≡◌, ℕ, suc, ◌+◌, ◌*◌, ◌<◌, ◌≤◌, ◌⊎◌, Bool, true, false, ◌&&◌, ◌||◌, List, [], ◌∷◌, refl, ap, sym, ◌∙◌, subst, inl, inr, arith, cond, ltb, leb, ℤ, pos, ◌+ℤ◌, Some, None, Option}
 use Rattle.std.proofs.lemmas.Bool.{cond_both, lt-ltb, le-ltb, ltb-true, ltb-false, leb-true, leb-false, le-leb, lt-leb}
 use Rattle.std.proofs.lemmas.Int.{ints}
 use Rattle.std.proofs.Math.Nat.{mul-le-mul_left}
+use Rattle.std.proofs.Math.Bool.{or-false}
+use Rattle.std.proofs.lemmas.Option.{same_Some}
 use Rattle.pl_lists.specs.Lists.{back}
 use Rattle.pl_points.specs.Points.{Point, sum_to, sum_below, is_before, is_out, first_from, outside_among, first_outside, leaving, RiseFrom}
 use Rattle.pl_points.specs.Counting.{points_with, points_after, walk_left, walk_steps}
 use Rattle.pl_points.specs.Spans.{within}
-use Rattle.pl_points.proofs.Spanning.{or_nil}
 use Rattle.pl_points.proofs.Cuts.{within_high, within_low}
 use Rattle.pl_points.proofs.PointLists.{sum_before}
 use Rattle.pl_points.proofs.Outside.{rising_back, first_is_leaving}
@@ -21,22 +22,16 @@ pub first_has : (at : ℕ) (ps : List Point) (p : Point) → first_from ps at �
 first_has at [] p e = absurd (cc)
 first_has at (q ∷ ps) p e = cases (leb at q.0) (first_has at ps p) e
   where
-    same : (q p : Point) → Some q ≡ Some p → q ≡ p
-    same q p h = cc
-
     cases : (v : Bool) → (first_from ps at ≡ Some p → HasMoment p.0 ps) → cond v (Some q) (first_from ps at) ≡ Some p → HasMoment p.0 (q ∷ ps)
-    cases true more h = inl (ap (λ (x : Point). x.0) (same q p h))
+    cases true more h = inl (ap (λ (x : Point). x.0) (same_Some q p h))
     cases false more h = inr (more h)
 
 pub outside_has : (S : ℕ → ℤ) (from : ℕ) (least most : ℤ) (ps : List Point) (r : Point) → outside_among S from least most ps ≡ Some r → HasMoment r.0 ps
 outside_has S from least most [] r e = absurd (cc)
 outside_has S from least most (q ∷ ps) r e = cases (leb from q.0 && is_out least most (S q.0)) (outside_has S from least most ps r) e
   where
-    same : (x y : Point) → Some x ≡ Some y → x ≡ y
-    same x y h = cc
-
     cases : (v : Bool) → (outside_among S from least most ps ≡ Some r → HasMoment r.0 ps) → cond v (Some (q.0, S q.0)) (outside_among S from least most ps) ≡ Some r → HasMoment r.0 (q ∷ ps)
-    cases true more h = inl (ap (λ (x : Point). x.0) (same (q.0, S q.0) r h))
+    cases true more h = inl (ap (λ (x : Point). x.0) (same_Some (q.0, S q.0) r h))
     cases false more h = inr (more h)
 
 one_falls : (o : Bool) (a b n : ℕ) → a ≤ b → cond (ltb b n && o) 1 0 ≤ cond (ltb a n && o) 1 0
@@ -112,7 +107,7 @@ after_same out other at (p ∷ ps) same = omega (arith, one (ltb at p.0) refl, a
     one false e = rw e refl
 
 pub none_within : (a t : ℕ) (c o : Bool) → c ≡ (c || (within a a t && o))
-none_within a t c o = let e : within a a t ≡ false = cases (leb a t) refl in rw e (sym (or_nil c))
+none_within a t c o = let e : within a a t ≡ false = cases (leb a t) refl in rw e (sym (or-false c))
   where
     cases : (v : Bool) → leb a t ≡ v → within a a t ≡ false
     cases true e = within_high a a t (leb-true a t e)
@@ -212,11 +207,3 @@ stays_inside least most s at ps rising is here =
 
 pub same_bounds : (L M l m z : ℤ) (o : Bool) → L ≡ l → M ≡ m → is_out l m z ≡ o → is_out L M z ≡ o
 same_bounds L M l m z o low high e = ap (λ x. is_out x M z) low ∙ ap (λ x. is_out l x z) high ∙ e
-
-pub turned_true : (v : Bool) → not v ≡ true → v ≡ false
-turned_true true e = absurd (cc)
-turned_true false e = refl
-
-pub turned_false : (v : Bool) → not v ≡ false → v ≡ true
-turned_false true e = refl
-turned_false false e = absurd (cc)

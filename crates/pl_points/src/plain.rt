@@ -193,10 +193,10 @@ impl Points for PlainPoints {
 }
 
 impl Copied for PlainPoints {
-    fn copy(&self, _alloc: Global) -> Result<PlainPoints, AllocError> {
+    fn copy(&self, alloc: Global) -> Result<PlainPoints, AllocError> {
         Ok(PlainPoints {
-            points: Vec::from_slice(self.alloc, self.points.as_slice())?,
-            alloc: self.alloc,
+            points: Vec::from_slice(alloc, self.points.as_slice())?,
+            alloc,
         })
     }
 }

@@ -89,6 +89,7 @@ impl<L: Ledger> Steps<L> {
         self.near = place;
     }
 
+    /// The ledger, which was told of each step.
     pub fn ledger(&self) -> &L
         ensures { L.told result.now self.now ≡ true }
     {

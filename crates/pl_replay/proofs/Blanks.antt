@@ -1,8 +1,8 @@
 -- Lines that are to be entries, among blank ones.
 use Rattle.std.proofs.Common.{◌≡◌, ℕ, List, [], ◌∷◌, ◌++◌, true, false, not, refl, ◌∙◌, ap}
 use Rattle.std.proofs.lemmas.List.Elements.{filter-append}
-use Rattle.pl_machine.specs.Lines.{is_blank_line}
-use Rattle.pl_stream.specs.Reads.{AreBlank}
+use Rattle.pl_input.specs.Words.{is_blank_line}
+use Rattle.pl_input.specs.Reads.{AreBlank}
 use Rattle.pl_replay.specs.Journals.{entry_lines}
 
 pub entries_append : (xs ys : List (List ℕ)) → entry_lines (xs ++ ys) ≡ entry_lines xs ++ entry_lines ys

@@ -9,10 +9,10 @@ use Rattle.pl_entry.specs.declared.reply.Reply.{Reply}
 use Rattle.pl_entry.specs.declared.reply.Reply.TheVariants as reply
 use Rattle.pl_entry.specs.declared.entry.Entry.{Entry}
 use Rattle.pl_entry.specs.Bounds.{IsNumberOf, IsReplyTo}
-use Rattle.pl_journal.specs.declared.fault.EntryFault.{EntryFault}
-use Rattle.pl_journal.specs.declared.fault.EntryFault.TheVariants as fault
-use Rattle.pl_journal.specs.Journal.{IsLineOf}
-use Rattle.pl_journal.specs.Reads.{Read, Gives}
+use Rattle.pl_journal.specs.declared.parsing.fault.EntryFault.{EntryFault}
+use Rattle.pl_journal.specs.declared.parsing.fault.EntryFault.TheVariants as fault
+use Rattle.pl_journal.specs.Parsing.Journal.{IsLineOf}
+use Rattle.pl_journal.specs.Parsing.Reads.{Read, Gives}
 use Rattle.pl_machine.specs.Legal.{opening, options_in}
 use Rattle.pl_replay.specs.Journals.{IsNoLine, Opens, ReadsAt}
 

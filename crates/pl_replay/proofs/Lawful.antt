@@ -15,13 +15,13 @@ use Rattle.pl_entry.specs.declared.reply.Reply.{Reply}
 use Rattle.pl_entry.specs.declared.reply.Reply.TheVariants as reply
 use Rattle.pl_entry.specs.declared.entry.Entry.{Entry}
 use Rattle.pl_entry.specs.Bounds.{AreOptions, IsEventInRange, IsReplyTo, IsNumberOf, IsJournalEntry}
-use Rattle.pl_world.specs.declared.plan_state.PlanState.{PlanState}
-use Rattle.pl_world.specs.Moves.{applied}
+use Rattle.pl_semantics.specs.declared.plan_state.PlanState.{PlanState}
+use Rattle.pl_semantics.specs.Moves.{applied}
 use Rattle.pl_machine.specs.World.{World, fresh_world}
 use Rattle.pl_machine.specs.Messages.{told, told_by, told_line}
 use Rattle.pl_machine.specs.Step.{is_enabled, commit_reply, fix_reply, reply_of, after_input, after_fix, after_commit, after_dispatch, after}
 use Rattle.pl_machine.specs.Legal.{MayFollow, legal_from, world_from, options_in, no_options, options_of, IsOpenedRun, Legal, world_of}
-use Rattle.pl_render.specs.Lines.{AreEntries}
+use Rattle.pl_journal.specs.Rendering.Lines.{AreEntries}
 
 -- ---- an event leaves the model as it was
 

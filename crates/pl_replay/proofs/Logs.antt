@@ -1,20 +1,15 @@
 -- Legal logs are short, and their lines grow at the end.
-use Rattle.std.proofs.Common.{◌≡◌, ℕ, suc, ◌+◌, ◌<◌, ◌≤◌, ◌^◌, List, [], ◌∷◌, ◌++◌, length, Option, Some, None, ◌∙◌, ap, arith}
+use Rattle.std.proofs.Common.{◌≡◌, ℕ, suc, ◌+◌, ◌<◌, ◌^◌, List, [], ◌∷◌, ◌++◌, length, ◌∙◌, ap, arith}
 use Rattle.pl_model.specs.declared.whole.Model.{Model}
-use Rattle.pl_facts.specs.declared.options.Options.{Options}
-use Rattle.pl_entry.specs.declared.reply.Reply.{Reply}
 use Rattle.pl_entry.specs.declared.entry.Entry.{Entry}
-use Rattle.pl_render.specs.Lines.{text_of}
-use Rattle.pl_machine.specs.Legal.{Legal, IsOpenedRun, options_in}
+use Rattle.pl_journal.specs.Rendering.Lines.{text_of}
+use Rattle.pl_machine.specs.Legal.{Legal, options_in}
+use Rattle.pl_machine.proofs.ShortLogs.{opened_short}
 use Rattle.pl_replay.specs.Journals.{lines_from}
-
-run_small : (m : Model) (o : Option Options) (answer : Reply) (entries : List Entry) → IsOpenedRun m o answer entries → length entries + 1 ≤ 250000
-run_small m None answer entries run = absurd run
-run_small m (Some o) answer entries run = omega (arith, run.bounded, run.options.entries.1)
 
 pub legal_small : (m : Model) (log : List Entry) → Legal m log → length log < 2 ^ 32
 legal_small m [] legal = absurd legal
-legal_small m (first ∷ entries) legal = let few = run_small m (options_in first.event) first.reply entries legal in omega (arith, few)
+legal_small m (first ∷ entries) legal = let few = opened_short m (options_in first.event) first.reply entries legal in omega (arith, few)
 
 plus_one : (n k : ℕ) → n + 1 + k ≡ n + suc k
 plus_one n k = omega arith

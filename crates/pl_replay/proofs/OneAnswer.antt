@@ -5,18 +5,18 @@ use Rattle.std.proofs.lemmas.List.Elements.{filter-append}
 use Rattle.pl_model.specs.declared.whole.Model.{Model}
 use Rattle.pl_model.specs.Checked.{IsChecked}
 use Rattle.pl_entry.specs.declared.entry.Entry.{Entry}
-use Rattle.pl_render.specs.Lines.{text_of}
+use Rattle.pl_journal.specs.Rendering.Lines.{text_of}
 use Rattle.pl_io.specs.declared.errors.LineFault.{LineFault}
 use Rattle.pl_io.specs.declared.errors.LineFault.TheVariants as fault
 use Rattle.pl_io.specs.Lines.{after_line, Next, next_of, given, ended, line_too_long, input_too_long}
 use Rattle.pl_io.specs.Reader.{Reader}
-use Rattle.pl_machine.specs.Lines.{is_blank_line}
+use Rattle.pl_input.specs.Words.{is_blank_line}
 use Rattle.pl_machine.specs.World.{World}
 use Rattle.pl_machine.specs.Legal.{Legal, world_of}
 use Rattle.pl_machine.specs.Sound.{State}
 use Rattle.pl_replay.specs.declared.verdict.Verdict.{Verdict}
 use Rattle.pl_replay.specs.declared.verdict.Verdict.TheVariants as verdict
-use Rattle.pl_stream.specs.Reads.{GaveOne, Gave, GaveKnown, WhyKnown}
+use Rattle.pl_input.specs.Reads.{GaveOne, Gave, GaveKnown, WhyKnown}
 use Rattle.pl_replay.specs.Journals.{entry_lines, lines_from, IsJournalOf, IsWrongAtLast}
 use Rattle.pl_replay.specs.Verifying.{IsLegalJournal, IsNoJournal, Judges, Verified, Stops, Verifies}
 use Rattle.pl_replay.specs.Holding.{HoldsLegal, HoldsWrong, HoldsNothing, Tells}

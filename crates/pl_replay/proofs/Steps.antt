@@ -4,19 +4,19 @@ use Rattle.std.proofs.lemmas.List.{append-nil}
 use Rattle.pl_model.specs.declared.whole.Model.{Model}
 use Rattle.pl_facts.specs.declared.options.Options.{Options}
 use Rattle.pl_entry.specs.declared.entry.Entry.{Entry}
-use Rattle.pl_render.specs.Lines.{text_of}
+use Rattle.pl_journal.specs.Rendering.Lines.{text_of}
 use Rattle.pl_io.specs.declared.errors.LineFault.{LineFault}
 use Rattle.pl_io.specs.declared.errors.LineFault.TheVariants as fault
 use Rattle.pl_io.specs.Reader.{Reader}
-use Rattle.pl_journal.specs.Journal.{IsLineOf}
+use Rattle.pl_journal.specs.Parsing.Journal.{IsLineOf}
 use Rattle.pl_machine.specs.Legal.{Legal, opening, IsHistory, world_of}
 use Rattle.pl_machine.specs.Sound.{State}
 use Rattle.pl_replay.specs.declared.verdict.Verdict.{Verdict}
 use Rattle.pl_replay.specs.declared.verdict.Verdict.TheVariants as verdict
-use Rattle.pl_stream.specs.Waits.{GetsMessage, GetsEnd, GetsFault}
+use Rattle.pl_input.specs.Waits.{GetsMessage, GetsEnd, GetsFault}
 use Rattle.pl_replay.specs.Journals.{entry_lines, lines_from, IsNoLine, IsWrongBehind, IsWrongNext, JudgesLine}
 use Rattle.pl_replay.specs.Verifying.{IsReadSoFar, Verified, Stops, Verifies}
-use Rattle.pl_stream.proofs.Reading.{took_none, took_more, used_later, halts_later, memory_after}
+use Rattle.pl_input.proofs.Reading.{took_none, took_more, used_later, halts_later, memory_after}
 use Rattle.pl_replay.proofs.Blanks.{entries_append, no_entries, one_entry}
 use Rattle.pl_replay.proofs.Logs.{lines_push}
 

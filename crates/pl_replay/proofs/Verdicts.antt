@@ -7,11 +7,11 @@ use Rattle.pl_model.specs.Checked.{IsChecked}
 use Rattle.pl_entry.specs.declared.reply.Reply.{Reply}
 use Rattle.pl_entry.specs.declared.entry.Entry.{Entry}
 use Rattle.pl_entry.specs.Bounds.{IsJournalEntry}
-use Rattle.pl_render.specs.Lines.{text_of, AreEntries}
-use Rattle.pl_render.proofs.Told.{AreTold}
-use Rattle.pl_render.proofs.Telling.{entries_told}
-use Rattle.pl_render.proofs.Naming.{told_apart}
-use Rattle.pl_journal.specs.Journal.{IsLineOf}
+use Rattle.pl_journal.specs.Rendering.Lines.{text_of, AreEntries}
+use Rattle.pl_journal.proofs.AboutRendering.Told.{AreTold}
+use Rattle.pl_journal.proofs.AboutRendering.Telling.{entries_told}
+use Rattle.pl_journal.proofs.AboutRendering.Naming.{told_apart}
+use Rattle.pl_journal.specs.Parsing.Journal.{IsLineOf}
 use Rattle.pl_machine.specs.Step.{is_enabled, reply_of}
 use Rattle.pl_machine.specs.Legal.{Legal, options_of, world_of}
 use Rattle.pl_replay.specs.declared.verdict.Verdict.{Verdict}

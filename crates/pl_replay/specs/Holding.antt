@@ -7,7 +7,7 @@ use Rattle.pl_io.specs.declared.errors.LineFault.TheVariants as fault
 use Rattle.pl_io.specs.Reader.{Reader}
 use Rattle.pl_machine.specs.Sound.{State}
 use Rattle.pl_replay.specs.declared.verdict.Verdict.{Verdict}
-use Rattle.pl_stream.specs.Reads.{Gave}
+use Rattle.pl_input.specs.Reads.{Gave}
 use Rattle.pl_replay.specs.Journals.{entry_lines, IsJournalOf, IsWrongAtLast}
 
 -- The bytes are lines within the reader's limits. Those that are not blank are those of this legal log.

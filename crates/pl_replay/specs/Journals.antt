@@ -4,9 +4,9 @@ use Rattle.pl_model.specs.declared.whole.Model.{Model}
 use Rattle.pl_facts.specs.declared.options.Options.{Options}
 use Rattle.pl_entry.specs.declared.entry.Entry.{Entry}
 use Rattle.pl_entry.specs.declared.reply.Reply.{Reply}
-use Rattle.pl_render.specs.Lines.{text_of}
-use Rattle.pl_journal.specs.Journal.{IsLineOf}
-use Rattle.pl_machine.specs.Lines.{is_blank_line}
+use Rattle.pl_journal.specs.Rendering.Lines.{text_of}
+use Rattle.pl_journal.specs.Parsing.Journal.{IsLineOf}
+use Rattle.pl_input.specs.Words.{is_blank_line}
 use Rattle.pl_machine.specs.Step.{is_enabled, reply_of}
 use Rattle.pl_machine.specs.Legal.{Legal, opening, options_of, world_of}
 use Rattle.pl_machine.specs.Sound.{State}

@@ -4,12 +4,12 @@ use Rattle.pl_model.specs.declared.whole.Model.{Model}
 use Rattle.pl_entry.specs.declared.entry.Entry.{Entry}
 use Rattle.pl_io.specs.declared.errors.LineFault.{LineFault}
 use Rattle.pl_io.specs.Reader.{Reader}
-use Rattle.pl_machine.specs.Lines.{is_blank_line}
+use Rattle.pl_input.specs.Words.{is_blank_line}
 use Rattle.pl_machine.specs.Legal.{Legal, world_of}
 use Rattle.pl_machine.specs.Sound.{State}
 use Rattle.pl_replay.specs.declared.verdict.Verdict.{Verdict}
 use Rattle.pl_replay.specs.declared.verdict.Verdict.TheVariants as verdict
-use Rattle.pl_stream.specs.Reads.{Took, Halts, IsUsedUp}
+use Rattle.pl_input.specs.Reads.{Took, Halts, IsUsedUp}
 use Rattle.pl_replay.specs.Journals.{entry_lines, lines_from, IsJournalOf, IsWrongAtLast}
 
 -- The lines are all that there are, they are those of a legal log, and the machine stands behind it.

@@ -1,7 +1,7 @@
 ghost use Rattle.std.specs.Prelude.{◌≡◌, ◌<◌, ◌^◌, true, false, nat_eq, if◌then◌else◌, Some, None, length, IfOk};
 ghost use Rattle.pl_model.specs.Checked.{IsChecked};
 ghost use Rattle.pl_entry.specs.declared.entry.Entry.{Entry};
-ghost use Rattle.pl_render.specs.Lines.{text_of};
+ghost use Rattle.pl_journal.specs.Rendering.Lines.{text_of};
 ghost use Rattle.pl_machine.specs.Legal.{IsHistory, options_in};
 ghost use Rattle.pl_replay.specs.Journals.{IsNextLine, Opens, ReadsAt, Differs, JudgesLine};
 

@@ -8,10 +8,10 @@ ghost use Rattle.pl_replay.specs.Verifying.{IsReadSoFar, Verifies};
 
 use crate::judging::{entries_of, judge, opening_of};
 use crate::verdict::Verdict;
+use pl_input::next_message;
 use pl_io::{LineFault, LineReader, Source};
 use pl_machine::Machine;
 use pl_model::Model;
-use pl_stream::next_message;
 use std::alloc::Global;
 use std::sync::Arc;
 

@@ -1,3 +1,4 @@
+pub mod AboutDemonstration
 pub mod Texts
 pub mod Inputs
 pub mod Lines

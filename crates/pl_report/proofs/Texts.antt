@@ -1,7 +1,7 @@
 -- Texts one behind another.
 use Rattle.std.proofs.Common.{◌≡◌, ℕ, List, [], ◌∷◌, ◌++◌, append_assoc, ap, ◌∙◌}
-use Rattle.pl_render.specs.Words.{spaced}
-use Rattle.pl_render.proofs.Texts.{words_joined}
+use Rattle.pl_journal.specs.Rendering.Words.{spaced}
+use Rattle.pl_journal.proofs.AboutRendering.Texts.{words_joined}
 use Rattle.pl_report.specs.Lines.{line_with}
 
 pub texts_joined : (xs ys zs : List ℕ) → xs ++ ys ++ zs ≡ xs ++ (ys ++ zs)

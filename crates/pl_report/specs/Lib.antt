@@ -1,5 +1,6 @@
 pub use Rattle.pl_io.specs.Lines as ByteLines
 pub use Rattle.pl_machine.specs.Legal
+pub mod DemoModel
 pub mod Demonstration
 pub mod Lines
 pub mod Reports

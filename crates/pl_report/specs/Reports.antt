@@ -9,10 +9,10 @@ use Rattle.pl_entry.specs.declared.event.Event.{Event}
 use Rattle.pl_entry.specs.declared.event.Event.TheVariants as event
 use Rattle.pl_entry.specs.declared.reply.Reply.{Reply}
 use Rattle.pl_entry.specs.declared.entry.Entry.{Entry}
-use Rattle.pl_render.specs.Lines.{kind_name, conflict_words, reply_words}
-use Rattle.pl_world.specs.declared.plan_state.PlanState.{PlanState}
-use Rattle.pl_world.specs.PlanStates.{end_at, is_committed}
-use Rattle.pl_world.specs.Conflicts.{conflicts_of}
+use Rattle.pl_journal.specs.Rendering.Lines.{kind_name, conflict_words, reply_words}
+use Rattle.pl_semantics.specs.declared.plan_state.PlanState.{PlanState}
+use Rattle.pl_semantics.specs.PlanStates.{end_at, is_committed}
+use Rattle.pl_semantics.specs.Conflicts.{conflicts_of}
 use Rattle.pl_machine.specs.Sound.{State}
 use Rattle.pl_report.specs.Lines.{line_with}
 

@@ -1,7 +1,7 @@
 -- What is said of a journal, in a line.
 use Rattle.std.specs.Prelude.{ℕ, Bool, true, false, List, [], ◌∷◌, ◌++◌, codes, decimal}
 use Rattle.pl_model.specs.declared.whole.Model.{Model}
-use Rattle.pl_render.specs.Lines.{reply_words}
+use Rattle.pl_journal.specs.Rendering.Lines.{reply_words}
 use Rattle.pl_replay.specs.declared.verdict.Verdict.{Verdict}
 use Rattle.pl_replay.specs.declared.verdict.Verdict.TheVariants as verdict
 use Rattle.pl_report.specs.Lines.{line_with}

@@ -1,12 +1,12 @@
 ghost use Rattle.std.specs.Prelude.{◌≡◌, [], ◌∷◌, ◌++◌, OnOk, Some};
-ghost use Rattle.pl_render.specs.Words.{spaced};
+ghost use Rattle.pl_journal.specs.Rendering.Words.{spaced};
 ghost use Rattle.pl_plan.specs.Activities.{activity_of};
-ghost use Rattle.pl_world.specs.Whole.{IsWhole};
+ghost use Rattle.pl_semantics.specs.Whole.{IsWhole};
 ghost use Rattle.pl_report.specs.Reports.{end_word, place_words, status_word, activity_words, activity_line, activity_lines};
 
+use pl_journal::{kind_name, push_count, push_labelled, push_word};
 use pl_plan::Activity;
-use pl_render::{kind_name, push_count, push_labelled, push_word};
-use pl_world::PlanState;
+use pl_semantics::PlanState;
 use std::alloc::AllocError;
 
 fn push_end(text: &mut Vec<u8>, end: Option<u32>) -> Result<(), AllocError>
@@ -33,7 +33,7 @@ fn status_word(committed: bool) -> &'static [u8]
     if committed { b"committed" } else { b"planned" }
 }
 
-#[tactic(auto, using(pl_render::proofs::Texts::words_joined))]
+#[tactic(auto, using(pl_journal::proofs::AboutRendering::Texts::words_joined))]
 fn push_activity_words(
     text: &mut Vec<u8>,
     state: &PlanState,

@@ -1,11 +1,11 @@
 ghost use Rattle.std.specs.Prelude.{◌≡◌, ◌++◌, OnOk, codes};
-ghost use Rattle.pl_render.specs.Lines.{reply_words};
+ghost use Rattle.pl_journal.specs.Rendering.Lines.{reply_words};
 ghost use Rattle.pl_report.specs.Lines.{line_with};
 ghost use Rattle.pl_report.specs.Reports.{command_line, command_lines};
 
 use pl_entry::{Entry, Event, Reply};
+use pl_journal::push_reply;
 use pl_model::Model;
-use pl_render::push_reply;
 use std::alloc::AllocError;
 
 #[tactic(auto, using(crate::proofs::Texts::line_joined))]

@@ -2,7 +2,7 @@ ghost use Rattle.std.specs.Prelude.{◌≡◌, ◌++◌, OnOk, flat_map};
 ghost use Rattle.pl_report.specs.Reports.{conflict_line};
 
 use pl_conflict::Conflict;
-use pl_render::push_conflict;
+use pl_journal::push_conflict;
 use std::alloc::AllocError;
 
 #[tactic(auto, using(crate::proofs::Texts::line_joined))]

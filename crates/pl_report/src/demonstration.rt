@@ -22,7 +22,7 @@ fn kind_words(goal: u32) -> &'static [u8]
     if goal % 2 == 1 { b" obs " } else { b" scan " }
 }
 
-fn push_labelled(text: &mut Vec<u8>, label: &[u8], number: u32) -> Result<(), AllocError>
+fn push_text_and_number(text: &mut Vec<u8>, label: &[u8], number: u32) -> Result<(), AllocError>
     ensures { OnOk result (text.new.items ≡ text.old.items ++ (label.now ++ decimal number)) }
 {
     text.extend_from_slice(label)?;
@@ -35,9 +35,9 @@ fn push_goal(text: &mut Vec<u8>, goal: u32) -> Result<(), AllocError>
     requires { goal ≤ 4000 }
     ensures { OnOk result (text.new.items ≡ text.old.items ++ with_newline (goal_line goal)) }
 {
-    push_labelled(text, b"goal ", goal)?;
-    push_labelled(text, kind_words(goal), 20 * goal + 200)?;
-    push_labelled(text, b" ", 20 * goal + 260)?;
+    push_text_and_number(text, b"goal ", goal)?;
+    push_text_and_number(text, kind_words(goal), 20 * goal + 200)?;
+    push_text_and_number(text, b" ", 20 * goal + 260)?;
     text.extend_from_slice(b" must\n")?;
     Ok(())
 }
@@ -48,7 +48,7 @@ fn push_messages(text: &mut Vec<u8>, goal: u32) -> Result<(), AllocError>
     ensures { OnOk result (text.new.items ≡ text.old.items ++ flat_map with_newline (messages_for goal)) }
 {
     push_goal(text, goal)?;
-    push_labelled(text, b"tick ", 20 * goal)?;
+    push_text_and_number(text, b"tick ", 20 * goal)?;
     text.push(b'\n')?;
     Ok(())
 }

@@ -1,10 +1,10 @@
 ghost use Rattle.std.specs.Prelude.{◌≡◌, ◌++◌, OnOk};
-ghost use Rattle.pl_render.specs.Words.{spaced};
+ghost use Rattle.pl_journal.specs.Rendering.Words.{spaced};
 ghost use Rattle.pl_report.specs.Reports.{duty_word, service_words, standing_words, server_of, goal_words, goal_line, goal_lines};
 
 use pl_facts::Goal;
-use pl_render::{kind_name, push_count, push_labelled, push_word};
-use pl_world::PlanState;
+use pl_journal::{kind_name, push_count, push_labelled, push_word};
+use pl_semantics::PlanState;
 use std::alloc::AllocError;
 
 fn duty_word(must: bool) -> &'static [u8]
@@ -33,7 +33,7 @@ fn push_standing(text: &mut Vec<u8>, state: &PlanState, goal: &Goal) -> Result<(
     }
 }
 
-#[tactic(auto, using(pl_render::proofs::Texts::words_joined))]
+#[tactic(auto, using(pl_journal::proofs::AboutRendering::Texts::words_joined))]
 fn push_goal_words(text: &mut Vec<u8>, state: &PlanState, goal: &Goal) -> Result<(), AllocError>
     ensures { OnOk result (text.new.items ≡ text.old.items ++ spaced (goal_words state.now goal.now)) }
 {

@@ -1,13 +1,13 @@
 ghost use Rattle.std.specs.Prelude.{◌≡◌, [], ◌∷◌, ◌++◌, OnOk, decimal};
-ghost use Rattle.pl_render.specs.Words.{spaced};
+ghost use Rattle.pl_journal.specs.Rendering.Words.{spaced};
 ghost use Rattle.pl_report.specs.Reports.{heading_words, heading_line};
 
-use pl_render::{push_labelled, push_word};
-use pl_world::PlanState;
+use pl_journal::{push_labelled, push_word};
+use pl_semantics::PlanState;
 use std::alloc::AllocError;
 
 /// Appends a blank and a count.
-#[tactic(auto, using(pl_render::proofs::Texts::word_joined))]
+#[tactic(auto, using(pl_journal::proofs::AboutRendering::Texts::word_joined))]
 fn push_length(text: &mut Vec<u8>, count: usize) -> Result<(), AllocError>
     ensures { OnOk result (text.new.items ≡ text.old.items ++ spaced (decimal count ∷ [])) }
 {
@@ -19,7 +19,7 @@ fn push_length(text: &mut Vec<u8>, count: usize) -> Result<(), AllocError>
 }
 
 /// Appends a word and a count.
-#[tactic(auto, using(pl_render::proofs::Texts::words_joined))]
+#[tactic(auto, using(pl_journal::proofs::AboutRendering::Texts::words_joined))]
 fn push_counted(text: &mut Vec<u8>, label: &[u8], count: usize) -> Result<(), AllocError>
     ensures { OnOk result (text.new.items ≡ text.old.items ++ spaced (label.now ∷ decimal count ∷ [])) }
 {
@@ -28,7 +28,7 @@ fn push_counted(text: &mut Vec<u8>, label: &[u8], count: usize) -> Result<(), Al
     Ok(())
 }
 
-#[tactic(auto, using(pl_render::proofs::Texts::words_joined))]
+#[tactic(auto, using(pl_journal::proofs::AboutRendering::Texts::words_joined))]
 fn push_heading_words(
     text: &mut Vec<u8>,
     entries: usize,

@@ -1,10 +1,11 @@
-//! Printed texts: the report of a machine, the line on a journal, and the input of the demonstration.
+//! A replayed journal's report, the line of the demonstration, and the demonstration's input.
 #![tactic(auto)]
 
 mod activities;
 mod commands;
 mod conflicts;
 mod demonstration;
+mod demonstration_model;
 mod goals;
 mod heading;
 mod laws;
@@ -12,6 +13,7 @@ mod reporting;
 mod verdicts;
 
 pub use demonstration::demo_input;
+pub use demonstration_model::laws_of_demonstration;
 pub use laws::{demo_input_laws, laws_of_reports};
 pub use reporting::report;
 pub use verdicts::verdict_line;

@@ -1,11 +1,11 @@
 ghost use Rattle.std.specs.Prelude.{◌≡◌, [], ◌∷◌, ◌++◌, OnOk, IfOk, codes};
-ghost use Rattle.pl_render.specs.Words.{spaced};
-ghost use Rattle.pl_render.specs.Lines.{reply_words};
+ghost use Rattle.pl_journal.specs.Rendering.Words.{spaced};
+ghost use Rattle.pl_journal.specs.Rendering.Lines.{reply_words};
 ghost use Rattle.pl_report.specs.Verdicts.{ending_word, legal_words, legal_line, wrong_label, wrong_line, verdict_line};
 
 use pl_entry::Reply;
+use pl_journal::{push_labelled, push_reply, push_word};
 use pl_model::Model;
-use pl_render::{push_labelled, push_reply, push_word};
 use pl_replay::Verdict;
 use pl_text::push_number;
 use std::alloc::{AllocError, Global};
@@ -16,7 +16,7 @@ fn ending_word(done: bool) -> &'static [u8]
     if done { b"finished" } else { b"unfinished" }
 }
 
-#[tactic(auto, using(pl_render::proofs::Texts::words_joined))]
+#[tactic(auto, using(pl_journal::proofs::AboutRendering::Texts::words_joined))]
 fn push_legal_words(line: &mut Vec<u8>, entries: u32, done: bool) -> Result<(), AllocError>
     ensures { OnOk result (line.new.items ≡ line.old.items ++ spaced (legal_words entries done)) }
 {
@@ -56,7 +56,7 @@ fn wrong_line(alloc: Global, number: u32, wrong: &[u8]) -> Result<Vec<u8>, Alloc
     Ok(line)
 }
 
-#[tactic(auto, using(pl_render::proofs::Texts::words_joined))]
+#[tactic(auto, using(pl_journal::proofs::AboutRendering::Texts::words_joined))]
 fn push_reply_words(line: &mut Vec<u8>, model: &Model, reply: &Reply) -> Result<(), AllocError>
     ensures { OnOk result (line.new.items ≡ line.old.items ++ spaced (codes "reply is" ∷ reply_words model.now reply.now)) }
 {

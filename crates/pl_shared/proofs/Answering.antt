@@ -1,6 +1,7 @@
 -- What the machine's answers come to inside a turn.
 use Rattle.std.proofs.Common.{◌≡◌, ℕ, ◌+◌, List, [], ◌∷◌, length, Bool, true, false, Option, Some, None, Ok, Err, refl, sym, ◌∙◌, ap, subst, inl, inr, arith, length-append}
 use Rattle.std.specs.Prelude.{not, ◌&&◌, is_some}
+use Rattle.std.proofs.Math.Bool.{and-true, and-false}
 use Rattle.pl_entry.specs.declared.event.Event.{Event}
 use Rattle.pl_entry.specs.declared.event.Event.TheVariants as event
 use Rattle.pl_entry.specs.declared.reply.Reply.{Reply}
@@ -26,14 +27,6 @@ use Rattle.pl_shared.specs.declared.role.Role.TheVariants.{Planner, Executive}
 use Rattle.pl_shared.specs.declared.role.Acted.TheVariants as acted
 use Rattle.pl_shared.specs.Roles.{has_event, IsChosen, IsBy, IsAskedAtMost, IsInputOf}
 use Rattle.pl_shared.specs.Inside.{Logs, Spoiled, can_listen, FeedsIn, ActsIn}
-
-and_true : (b : Bool) → (b && true) ≡ b
-and_true true = refl
-and_true false = refl
-
-and_false : (b : Bool) → (b && false) ≡ false
-and_false true = refl
-and_false false = refl
 
 abbrev with_machine : State → Held → Held
 with_machine m h = record h { machine = m }
@@ -66,7 +59,7 @@ fed_one line old m r n going answers last = took_one (IsInputOf line) old m (eve
 
 listens : (w : World) (s b : Bool) → s ≡ false → (w.closed && not w.done) ≡ b → can_listen w s ≡ b
 listens w true b e f = absurd (cc)
-listens w false b e f = and_true (w.closed && not w.done) ∙ f
+listens w false b e f = and-true (w.closed && not w.done) ∙ f
 
 pub fed_none : (line : Option (List ℕ)) (old : Held) (m : State) (s : Stop) → old.machine.spoiled ≡ false → old.stopped ≡ false → Answers old.machine (event.Input line) (Err s) m → FeedsIn line old (Err s) (with_machine m old)
 fed_none line old m stop.Spoiled unspoiled going answers = (answers.0, same_held old m answers.1)
@@ -75,7 +68,7 @@ fed_none line old m stop.LogFull unspoiled going answers = (answers.0, listens o
 fed_none line old m stop.Memory unspoiled going answers = spoils_held old m answers.0 answers.1
 
 stopped_listens : (w : World) (s : Bool) → s ≡ true → can_listen w s ≡ false
-stopped_listens w true e = and_false (w.closed && not w.done)
+stopped_listens w true e = and-false (w.closed && not w.done)
 stopped_listens w false e = absurd (cc)
 
 pub fed_stopped : (line : Option (List ℕ)) (old : Held) → old.machine.spoiled ≡ false → old.stopped ≡ true → FeedsIn line old (Err stop.NotNow) old

@@ -6,7 +6,7 @@ use denote.Struct.Struct.{Struct}
 use Rattle.std.proofs.Crossing.{crosses}
 use Rattle.pl_model.proofs.Crossing.{model_parts}
 use Rattle.pl_model.specs.contracts.whole.Model
-use Rattle.pl_world.proofs.Crossing.{state_parts}
+use Rattle.pl_semantics.proofs.Crossing.{state_parts}
 use Rattle.pl_board.proofs.Crossing.{board_send, board_sync}
 use Rattle.pl_machine.proofs.Crossing.{machine_parts}
 use Rattle.pl_machine.specs.contracts.machine.Machine

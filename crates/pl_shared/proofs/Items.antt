@@ -4,30 +4,12 @@ use Rattle.std.specs.List.{filter_map, list_any}
 use Rattle.std.proofs.lemmas.List.{append-nil, map-append, length-map}
 use mathlib.Core.List.{IsPrefix}
 use Rattle.pl_model.specs.declared.whole.Model.{Model}
-use Rattle.pl_facts.specs.declared.options.Options.{Options}
-use Rattle.pl_entry.specs.declared.reply.Reply.{Reply}
 use Rattle.pl_entry.specs.declared.entry.Entry.{Entry}
 use Rattle.pl_machine.specs.World.{World}
-use Rattle.pl_machine.specs.Legal.{Legal, IsOpenedRun, options_in, world_of, IsHistory}
+use Rattle.pl_machine.specs.Legal.{Legal, world_of, IsHistory}
 use Rattle.pl_shared.specs.declared.noted.Noted.{Noted}
 use Rattle.pl_shared.specs.declared.noted.Noted.TheVariants.{Opened, Made, Stopped}
 use Rattle.pl_shared.specs.Items.{log_items, stop_items, items_of, entry_in, entries_in, model_in, is_stop, stop_in, OfWorld, InWorld}
-
--- ---- legal logs
-
-opened_short : (m : Model) (o : Option Options) (answer : Reply) (es : List Entry) → IsOpenedRun m o answer es → length es + 1 ≤ 250000
-opened_short m None answer es run = absurd run
-opened_short m (Some o) answer es run = omega (arith, run.bounded, run.options.entries.1)
-
--- a legal log has an entry
-pub log_is_some : (m : Model) (log : List Entry) → Legal m log → 0 < length log
-log_is_some m [] legal = absurd legal
-log_is_some m (first ∷ es) legal = omega arith
-
--- and at most as many as may be
-pub log_is_short : (m : Model) (log : List Entry) → Legal m log → length log ≤ 250000
-log_is_short m [] legal = absurd legal
-log_is_short m (first ∷ es) legal = omega (arith, opened_short m (options_in first.event) first.reply es legal)
 
 -- ---- how long a history is
 

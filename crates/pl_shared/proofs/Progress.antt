@@ -5,6 +5,7 @@ use Rattle.std.proofs.lemmas.List.Folds.{list_any-append}
 use Rattle.std.specs.Prelude.{◌||◌, not, ◌&&◌, is_some, if◌then◌else◌, unwrap_or}
 use Rattle.std.specs.List.{All}
 use Rattle.std.proofs.lemmas.List.Elements.{All-nil, All-cons, All-push, filter_map-append}
+use Rattle.std.proofs.Math.Bool.{or-true}
 use mathlib.Core.List.{IsPrefix}
 use Rattle.pl_turn.specs.Passes.{seen_of, mine_of, counted_of, crew_of}
 use Rattle.pl_turn.proofs.Histories.{prefix_self, prefix_trans, prefix_length}
@@ -36,7 +37,8 @@ use Rattle.pl_shared.specs.Plans.{PlanPass, IsPlan}
 use Rattle.pl_shared.specs.Making.{IsMadeAt, MakesAll}
 use Rattle.pl_shared.specs.Turns.{TakesTurn, Acts, Stops, was_stopped, is_stopped, IsFull, Works, WorksUntil, WasAskedAtMost, WorksOn}
 use Rattle.pl_shared.proofs.OwnEntries.{makes_all_on, makes_all_push}
-use Rattle.pl_shared.proofs.Items.{log_is_some, log_is_short, length_stopped, length_going, entries_in_items, model_in_items}
+use Rattle.pl_machine.proofs.ShortLogs.{log_is_some, log_is_short}
+use Rattle.pl_shared.proofs.Items.{length_stopped, length_going, entries_in_items, model_in_items}
 
 -- ---- which entries a role makes
 
@@ -225,10 +227,6 @@ module _ (start now new : PlanPass) (r r2 r3 : Role) (count : ℕ) (so_far : Wor
   refused stop.LogFull acts = keeps_working acts.0
   refused stop.Memory acts = keeps_working acts.0
 
-or_true : (b : Bool) → (b || true) ≡ true
-or_true true = refl
-or_true false = refl
-
 -- the stop behind a refusal, and the same own entries
 abbrev Until : (start new : PlanPass) (r r2 : Role) → List (ℕ × Noted) → Type 0
 Until start new r r2 own = (works : WorksUntil r start r2 new) × (works.own ≡ own)
@@ -254,7 +252,7 @@ until start now new r r2 count so_far on (is_stopped seen prefix going is mine) 
       made = makes_all_on (seen_of now) (seen_of new) r r2 so_far.works.own on so_far.works.made;
       kinds = so_far.works.kinds;
       behind = inr (length seen, refl);
-      stopped = ap stop_in is ∙ list_any-append is_stop seen (Stopped ∷ []) ∙ or_true (stop_in seen);
+      stopped = ap stop_in is ∙ list_any-append is_stop seen (Stopped ∷ []) ∙ or-true (stop_in seen);
       worker = so_far.works.worker;
     } in
     (works, refl)

@@ -22,7 +22,7 @@ impl Held {
     }
 
     /// The number of the last entry.
-    #[tactic(auto, using(crate::proofs::Items::log_is_some, crate::proofs::Items::log_is_short))]
+    #[tactic(auto, using(pl_machine::proofs::ShortLogs::log_is_some, pl_machine::proofs::ShortLogs::log_is_short))]
     pub(crate) fn last_number(&self) -> u32
         ensures { result + 1 ≡ length self.now.machine.log }
     {

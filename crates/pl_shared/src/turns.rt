@@ -20,7 +20,7 @@ impl Logged for Held {
 
     ghost entries = { λ h. items_of h.machine.model h.machine.log h.stopped };
 
-    #[tactic(auto, using(crate::proofs::Items::length_stopped, crate::proofs::Items::length_going, crate::proofs::Items::log_is_short))]
+    #[tactic(auto, using(crate::proofs::Items::length_stopped, crate::proofs::Items::length_going, pl_machine::proofs::ShortLogs::log_is_short))]
     fn logged(&self) -> u64 {
         let entries = self.machine.log().len() as u64;
         if self.stopped { entries + 1 } else { entries }

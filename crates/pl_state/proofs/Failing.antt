@@ -1,14 +1,11 @@
 -- Spans of a property, one piece more.
 use Rattle.std.proofs.Common.{◌≡◌, ℕ, ◌-◌, ◌<◌, ◌≤◌, Bool, true, false, ◌&&◌, ◌||◌, cond, List, [], ◌∷◌, refl, ap, sym, ◌∙◌, subst, arith, leb, min, max, Result, Ok, Err, IfOk}
 use Rattle.std.proofs.lemmas.Bool.{leb-true, leb-false}
+use Rattle.std.proofs.Math.Bool.{or-false, and-false}
 use Rattle.pl_points.specs.declared.span.Span.{Span}
 use Rattle.pl_points.specs.Spans.{within, AreApart, AreMaximal, span, joined}
-use Rattle.pl_points.proofs.Spanning.{or_nil, and_true, apart_wider, apart-joined, covers-joined, piece_more}
+use Rattle.pl_points.proofs.Spanning.{and_true, apart_wider, apart-joined, covers-joined, piece_more}
 use Rattle.pl_points.proofs.Cuts.{within_high, within_low}
-
-no_and : (b : Bool) → (b && false) ≡ false
-no_and true = refl
-no_and false = refl
 
 pub more_maximal : (P : ℕ → Bool) (a at end : ℕ) (s new : List Span) (v : Bool) → a ≤ at → at < end → AreMaximal P a at s → new ≡ cond v (joined s (span at end ∷ [])) s → ((t : ℕ) → at ≤ t → t < end → P t ≡ v) → AreMaximal P a end new
 more_maximal P a at end s new v le lt maximal is same = subst (λ l. AreMaximal P a end l) (sym is) (cases v same)
@@ -21,13 +18,13 @@ more_maximal P a at end s new v le lt maximal is same = subst (λ l. AreMaximal 
       apart = apart-joined a at end s (span at end ∷ []) le (omega (arith, lt)) maximal.apart one;
       exact = λ t. covers-joined a at end s (span at end ∷ []) maximal.apart one t
           ∙ (ap (λ b. b || (within at end t || false)) (maximal.exact t)
-          ∙ (ap (λ b. (within a at t && P t) || b) (or_nil (within at end t) ∙ and_true (within at end t) true refl)
+          ∙ (ap (λ b. (within a at t && P t) || b) (or-false (within at end t) ∙ and_true (within at end t) true refl)
           ∙ piece_more a at end t false (P t) true le (omega (arith, lt)) (same t)));
     }
     cases false same = record {
       apart = apart_wider a at end s (omega (arith, lt)) maximal.apart;
       exact = λ t. maximal.exact t
-          ∙ (sym (ap (λ b. (within a at t && P t) || b) (no_and (within at end t)) ∙ or_nil (within a at t && P t))
+          ∙ (sym (ap (λ b. (within a at t && P t) || b) (and-false (within at end t)) ∙ or-false (within a at t && P t))
           ∙ piece_more a at end t false (P t) false le (omega (arith, lt)) (same t));
     }
 

@@ -1,21 +1,14 @@
 -- Broken spans in groups, one for each must.
-use Rattle.std.proofs.Common.{◌≡◌, ℕ, zero, suc, ◌+◌, Bool, true, false, List, [], ◌∷◌, ◌++◌, drop, refl, ap, sym, ◌∙◌, arith, eqb}
+use Rattle.std.proofs.Common.{◌≡◌, ℕ, zero, suc, ◌+◌, true, List, [], ◌∷◌, ◌++◌, drop, refl, ap, sym, ◌∙◌, arith}
 use Rattle.std.proofs.lemmas.List.{append_assoc}
 use Rattle.std.proofs.Math.Seq.{drop-nil}
-use Rattle.std.proofs.lemmas.Bool.{eqb-false}
+use Rattle.pl_lists.proofs.Numbers.{eqb_itself}
 use Rattle.pl_state.specs.declared.reservation.Must.{Must}
 use Rattle.pl_state.specs.declared.answer.BrokenMust.{BrokenMust}
 use Rattle.pl_state.specs.declared.answer.BadSet.{BadSet}
 use Rattle.pl_state.specs.Musts.{broken_one, broken_all}
 use Rattle.pl_state.specs.Lines.{same_broken, same_bad}
 use Rattle.pl_state.specs.Near.{all_of}
-
-eqb_itself : (n : ℕ) → eqb n n ≡ true
-eqb_itself n = cases (eqb n n) refl
-  where
-    cases : (b : Bool) → eqb n n ≡ b → eqb n n ≡ true
-    cases true e = e
-    cases false e = absurd (eqb-false n n e refl)
 
 pub broken_itself : (x : BrokenMust) → same_broken x x ≡ true
 broken_itself x = rw (eqb_itself x.id) (rw (eqb_itself x.index) (rw (eqb_itself x.from) (eqb_itself x.to)))

@@ -4,8 +4,10 @@ use Rattle.std.specs.Ordering.{ordering_then}
 use Rattle.std.specs.List.Sorted.{IsSorted}
 use Rattle.std.proofs.lemmas.Bool.{true≢false, and_parts, eqb-true, ltb-true, lt-ltb, le-ltb}
 use Rattle.std.specs.List.{Contains}
+use Rattle.std.proofs.Math.Bool.{and-false}
 use Rattle.pl_points.specs.declared.span.Span.{Span}
 use Rattle.pl_lists.specs.Lists.{front, back}
+use Rattle.pl_lists.proofs.Numbers.{eqb_itself}
 use Rattle.pl_points.specs.Standing.{without}
 use Rattle.pl_points.proofs.Parting.{IsParted}
 use Rattle.pl_state.specs.declared.key.Key.{Key}
@@ -159,9 +161,6 @@ many_has same exact u (x ∷ xs) le = cases (same x u) refl le (many_has same ex
     cases true e l more = inl (exact x u e)
     cases false e l more = inr (more (omega (arith, l)))
 
-eqb_itself : (n : ℕ) → eqb n n ≡ true
-eqb_itself n = grind arith
-
 pub kept_has : (u : Must) (ms : List Must) (xs : List Started) → AreKept ms xs → Has u ms → Has (started u) xs
 kept_has u ms xs kept has =
     let itself : same_must u u ≡ true = rw (eqb_itself u.from) (rw (eqb_itself u.to) (rw (eqb_itself u.id) (rw (eqb_itself u.index) (eqb_itself u.state)))) in
@@ -199,11 +198,7 @@ not_before_moment s a le = rw (le-ltb s.must.from a le) (cases (eqb s.must.from 
   where
     cases : (b d : Bool) → (b && (ltb s.must.id 0 || (d && ltb s.must.index 0))) ≡ false
     cases false d = refl
-    cases true d = rw (le-ltb s.must.id 0 (omega arith)) (rw (le-ltb s.must.index 0 (omega arith)) (also d))
-      where
-        also : (d : Bool) → (d && false) ≡ false
-        also true = refl
-        also false = refl
+    cases true d = rw (le-ltb s.must.id 0 (omega arith)) (rw (le-ltb s.must.index 0 (omega arith)) (and-false d))
 
 has_touched : (near : Span) (xs : List Started) (m : Must) → touches near m ≡ true → Has (started m) xs → Has (must_key m) (touched_keys near xs)
 has_touched near [] m e has = absurd has

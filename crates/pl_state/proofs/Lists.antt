@@ -1,7 +1,7 @@
 -- Items that a list leaves out, and those that it has.
 use Rattle.std.proofs.Common.{◌≡◌, Bool, true, false, ◌||◌, cond, List, [], ◌∷◌, ◌++◌, refl, ap, sym, ◌∙◌, subst}
 use Rattle.std.proofs.lemmas.List.{append_assoc, append-nil}
-use Rattle.pl_points.proofs.Spanning.{or_assoc}
+use Rattle.std.proofs.Math.Bool.{or-true, or_assoc}
 use Rattle.pl_lists.specs.Lists.{is_among, left_out}
 
 -- each item is in the list
@@ -21,10 +21,6 @@ pub held_none : {T : Type 0} (same : T → T → Bool) (all xs : List T) → Hel
 held_none same all [] held = refl
 held_none same all (x ∷ xs) held = rw held.0 (held_none same all xs held.1)
 
-or_yes : (b : Bool) → (b || true) ≡ true
-or_yes true = refl
-or_yes false = refl
-
 pub in_append : {T : Type 0} (same : T → T → Bool) (xs ys : List T) (x : T) → is_among same (xs ++ ys) x ≡ (is_among same xs x || is_among same ys x)
 in_append same [] ys x = refl
 in_append same (z ∷ zs) ys x = ap (λ b. same z x || b) (in_append same zs ys x) ∙ sym (or_assoc (same z x) (is_among same zs x) (is_among same ys x))
@@ -32,14 +28,14 @@ in_append same (z ∷ zs) ys x = ap (λ b. same z x || b) (in_append same zs ys 
 pub held_wide : {T : Type 0} (same : T → T → Bool) (p all q xs : List T) → Held same all xs → Held same (p ++ (all ++ q)) xs
 held_wide same p all q [] held = tt
 held_wide same p all q (x ∷ xs) held = (
-  in_append same p (all ++ q) x ∙ (ap (λ b. is_among same p x || b) (in_append same all q x ∙ ap (λ b. b || is_among same q x) held.0) ∙ or_yes (is_among same p x)),
+  in_append same p (all ++ q) x ∙ (ap (λ b. is_among same p x || b) (in_append same all q x ∙ ap (λ b. b || is_among same q x) held.0) ∙ or-true (is_among same p x)),
   held_wide same p all q xs held.1,
 )
 
 pub held_self : {T : Type 0} (same : T → T → Bool) → ((x : T) → same x x ≡ true) → (p xs : List T) → Held same (p ++ xs) xs
 held_self same itself p [] = tt
 held_self same itself p (x ∷ xs) = (
-  in_append same p (x ∷ xs) x ∙ (ap (λ b. is_among same p x || (b || is_among same xs x)) (itself x) ∙ or_yes (is_among same p x)),
+  in_append same p (x ∷ xs) x ∙ (ap (λ b. is_among same p x || (b || is_among same xs x)) (itself x) ∙ or-true (is_among same p x)),
   subst (λ l. Held same l xs) (append_assoc p (x ∷ []) xs) (held_self same itself (p ++ x ∷ []) xs),
 )
 

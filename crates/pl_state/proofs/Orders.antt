@@ -2,6 +2,7 @@
 use Rattle.std.proofs.Common.{◌≡◌, ℕ, zero, suc, ◌<◌, ◌≤◌, Bool, true, false, ◌&&◌, cond, List, [], ◌∷◌, ◌++◌, length, get_or, take, drop, refl, ap, sym, ◌∙◌, arith, eqb, ltb, leb, inl, inr}
 use Rattle.std.proofs.lemmas.Bool.{cond_both, or_cases, and_parts, or_parts, eqb-true, ltb-true, ltb-false, leb-true, leb-false, le-ltb, le-leb, lt-leb}
 use Rattle.std.proofs.lemmas.List.{drop_all}
+use Rattle.std.proofs.Math.Bool.{and-false}
 use Rattle.pl_lists.specs.Lists.{front, back}
 use Rattle.pl_points.specs.Standing.{without}
 use Rattle.pl_points.proofs.Parting.{drop_next, back_fails}
@@ -41,12 +42,8 @@ pub state_later : (base t v c : ℕ) (xs : List Setting) → AreInOrder c xs →
 state_later base t v c [] ordered lt = refl
 state_later base t v c (x ∷ xs) ordered lt =
     let e : leb x.at t ≡ false = lt-leb x.at t (omega (arith, lt, ordered.0)) in
-    let f : (ltb base x.at && leb x.at t) ≡ false = rw e (no_and (ltb base x.at)) in
+    let f : (ltb base x.at && leb x.at t) ≡ false = rw e (and-false (ltb base x.at)) in
     ap (λ b. state_from base t (cond b x.state v) xs) f ∙ state_later base t v x.at xs ordered.1 (omega (arith, lt, ordered.0))
-  where
-    no_and : (b : Bool) → (b && false) ≡ false
-    no_and true = refl
-    no_and false = refl
 
 -- from a moment on, before the next set
 pub state_stays : (base v c at t : ℕ) (xs : List Setting) → AreInOrder c xs → at ≤ t → ((p : Setting) (more : List Setting) → back (is_passed at) xs ≡ p ∷ more → t < p.at) → state_from base t v xs ≡ state_from base at v xs

@@ -1,6 +1,7 @@
 -- Sorted lists, and where musts are broken, cut by a test of the key.
 use Rattle.std.proofs.Common.{◌≡◌, ℕ, ◌-◌, ◌==◌, ◌||◌, not, Bool, true, false, cond, List, [], ◌∷◌, ◌++◌, refl, ap, sym, ◌∙◌, subst, min, max, eqb}
 use Rattle.std.proofs.lemmas.Bool.{true≢false, and_parts, eqb-true}
+use Rattle.std.proofs.Math.Bool.{or-false}
 use Rattle.pl_points.specs.declared.span.Span.{Span}
 use Rattle.pl_lists.specs.Lists.{front, back, is_among, left_out}
 use Rattle.pl_points.specs.Spans.{spans_of}
@@ -76,14 +77,10 @@ in_failing same p alike (y ∷ ys) x none e = cases (same y x) refl (in_failing 
     cases true f more = absurd (true≢false (sym e ∙ (sym (alike y x f) ∙ none.0)))
     cases false f more = more
 
-or_no : (b : Bool) → (b || false) ≡ b
-or_no true = refl
-or_no false = refl
-
 left_passing : {T : Type 0} (same : T → T → Bool) (p : T → Bool) → PassAlike same p → (ys zs xs : List T) → NonePass p zs → AllPass p xs → left_out same (ys ++ zs) xs ≡ left_out same ys xs
 left_passing same p alike ys zs [] none all = refl
 left_passing same p alike ys zs (x ∷ xs) none all =
-    let e : is_among same (ys ++ zs) x ≡ is_among same ys x = in_append same ys zs x ∙ (ap (λ b. is_among same ys x || b) (in_failing same p alike zs x none all.0) ∙ or_no (is_among same ys x)) in
+    let e : is_among same (ys ++ zs) x ≡ is_among same ys x = in_append same ys zs x ∙ (ap (λ b. is_among same ys x || b) (in_failing same p alike zs x none all.0) ∙ or-false (is_among same ys x)) in
     ap (λ b. cond b (left_out same (ys ++ zs) xs) (x ∷ left_out same (ys ++ zs) xs)) e ∙ ap (λ l. cond (is_among same ys x) l (x ∷ l)) (left_passing same p alike ys zs xs none all.1)
 
 left_failing : {T : Type 0} (same : T → T → Bool) (p : T → Bool) → PassAlike same p → (ys zs xs : List T) → AllPass p ys → NonePass p xs → left_out same (ys ++ zs) xs ≡ left_out same zs xs

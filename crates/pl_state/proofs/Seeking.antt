@@ -1,7 +1,8 @@
 -- A search for an item of a sorted list.
-use Rattle.std.proofs.Common.{◌≡◌, ℕ, ◌+◌, ◌-◌, ◌<◌, ◌≤◌, Bool, true, false, cond, List, [], ◌∷◌, ◌++◌, length, take, drop, get_or, refl, ap, sym, ◌∙◌, subst, arith, zero, suc}
+use Rattle.std.proofs.Common.{◌≡◌, ℕ, ◌+◌, ◌-◌, ◌<◌, ◌≤◌, Bool, true, false, cond, List, [], ◌∷◌, ◌++◌, length, take, drop, get_or, refl, ap, sym, ◌∙◌, subst, arith, suc}
 use Rattle.std.proofs.lemmas.Bool.{true≢false}
 use Rattle.std.proofs.lemmas.List.{append_assoc, take-append-drop, drop_all}
+use Rattle.std.proofs.Math.Seq.{take-suc}
 use Rattle.pl_lists.specs.Lists.{front, back, is_among}
 use Rattle.pl_points.specs.Standing.{without}
 use Rattle.pl_points.proofs.Parting.{drop_next}
@@ -51,15 +52,10 @@ sought_begin key same known u xs i before rest =
       rest = ap (rest_after same u) rest ∙ all.2;
     }
 
-pub take_next : {T : Type 0} (xs : List T) (i : ℕ) (d : T) → i < length xs → take (suc i) xs ≡ take i xs ++ get_or xs i d ∷ []
-take_next [] i d lt = absurd (omega (arith, lt))
-take_next (x ∷ xs) zero d lt = refl
-take_next (x ∷ xs) (suc i) d lt = ap (λ l. x ∷ l) (take_next xs i d (omega (arith, lt)))
-
 pub sought_next : {T : Type 0} (same : T → T → Bool) (u : T) (xs : List T) (i : ℕ) (p : T) → IsSought same u xs i → i < length xs → p ≡ get_or xs i p → same p u ≡ false → IsSought same u xs (suc i)
 sought_next same u xs i p sought lt is other =
     let e : drop i xs ≡ p ∷ drop (suc i) xs = drop_next xs i p lt ∙ ap (λ q. q ∷ drop (suc i) xs) (sym is) in
-    let f : take (suc i) xs ≡ take i xs ++ p ∷ [] = take_next xs i p lt ∙ ap (λ q. take i xs ++ q ∷ []) (sym is) in
+    let f : take (suc i) xs ≡ take i xs ++ p ∷ [] = take-suc xs i p lt ∙ ap (λ q. take i xs ++ q ∷ []) (sym is) in
     let a : is_among same (p ∷ drop (suc i) xs) u ≡ is_among same (drop (suc i) xs) u = rw other refl in
     let b : without same u (p ∷ drop (suc i) xs) ≡ p ∷ without same u (drop (suc i) xs) = rw other refl in
     let c : rest_after same u (p ∷ drop (suc i) xs) ≡ rest_after same u (drop (suc i) xs) = rw other refl in

@@ -1,6 +1,7 @@
 -- Where the state stays as it was when a set comes or goes, or the base is set, and which musts keep their spans.
 use Rattle.std.proofs.Common.{◌≡◌, ℕ, ◌+◌, ◌-◌, ◌<◌, ◌≤◌, ◌==◌, ◌&&◌, not, Bool, true, false, cond, List, [], ◌∷◌, refl, ap, sym, ◌∙◌, arith, eqb, ltb, leb, min, max}
 use Rattle.std.proofs.lemmas.Bool.{and_parts, eqb-true, ltb-false, leb-false, lt-ltb, le-ltb, le-leb, lt-leb}
+use Rattle.std.proofs.Math.Bool.{and-false}
 use Rattle.pl_points.specs.declared.span.Span.{Span}
 use Rattle.pl_lists.specs.Lists.{back}
 use Rattle.pl_points.specs.Spans.{spans_of, span}
@@ -13,10 +14,6 @@ use Rattle.pl_state.specs.Musts.{broken_spans, broken_one}
 use Rattle.pl_state.specs.Near.{touches, next_moment, rest_after}
 use Rattle.pl_state.proofs.Orders.{not_before}
 
-pub no_and : (b : Bool) → (b && false) ≡ false
-no_and true = refl
-no_and false = refl
-
 pub same_at : (x u : Setting) → same_setting x u ≡ true → x.at ≡ u.at
 same_at x u e = eqb-true x.at u.at (and_parts (eqb x.at u.at) _ e).0
 
@@ -24,7 +21,7 @@ same_at x u e = eqb-true x.at u.at (and_parts (eqb x.at u.at) _ e).0
 skip_early : (base t v : ℕ) (u : Setting) (b : List Setting) → t < u.at → state_from base t v (u ∷ b) ≡ state_from base t v b
 skip_early base t v u b lt =
     let e : leb u.at t ≡ false = lt-leb u.at t lt in
-    let f : (ltb base u.at && leb u.at t) ≡ false = ap (λ c. ltb base u.at && c) e ∙ no_and (ltb base u.at) in
+    let f : (ltb base u.at && leb u.at t) ≡ false = ap (λ c. ltb base u.at && c) e ∙ and-false (ltb base u.at) in
     ap (λ c. state_from base t (cond c u.state v) b) f
 
 -- nor of those from the next set on

@@ -2,13 +2,13 @@
 use Rattle.std.proofs.Common.{◌≡◌, ℕ, zero, suc, drop, ◌<◌, ◌≤◌, ◌&&◌, not, Bool, true, false, cond, List, [], ◌∷◌, ◌++◌, refl, ap, sym, ◌∙◌, arith, ltb, leb}
 use Rattle.std.proofs.lemmas.Bool.{and_parts, ltb-true, ltb-false, leb-true, leb-false, lt-ltb, le-ltb, le-leb, lt-leb}
 use Rattle.std.proofs.lemmas.List.{append_assoc}
+use Rattle.std.proofs.Math.Bool.{and-false}
 use Rattle.pl_lists.specs.Lists.{front, back}
 use Rattle.pl_points.proofs.Parting.{NonePass, IsParted}
 use Rattle.pl_state.specs.declared.reservation.Setting.{Setting}
 use Rattle.pl_state.specs.declared.answer.BadSet.{BadSet}
 use Rattle.pl_state.specs.Sets.{AreInOrder, is_passed, is_counted, state_from, bad_set, bad_from}
 use Rattle.pl_state.specs.Near.{comes_before, bad_before, bad_by, AreBadInOrder, state_before}
-use Rattle.pl_state.proofs.Staying.{no_and}
 
 -- whether a set is told
 abbrev pub told : (ℕ → ℕ → Bool) → ℕ → ℕ → ℕ → ℕ → Setting → Bool
@@ -40,7 +40,7 @@ front_same p false q l k e = e
 pub none_late : (al : ℕ → ℕ → Bool) (base h mo s c : ℕ) (xs : List Setting) → AreInOrder c xs → h ≤ c → bad_from al base h mo s xs ≡ []
 none_late al base h mo s c [] ordered le = refl
 none_late al base h mo s c (x ∷ xs) ordered le =
-    let e : is_counted base h x ≡ false = ap (λ b. ltb base x.at && b) (le-ltb x.at h (omega (arith, le, ordered.0))) ∙ no_and (ltb base x.at) in
+    let e : is_counted base h x ≡ false = ap (λ b. ltb base x.at && b) (le-ltb x.at h (omega (arith, le, ordered.0))) ∙ and-false (ltb base x.at) in
     ap (λ b. cond (b && (leb mo x.at && not (al s x.state))) (bad_set x ∷ []) [] ++ bad_from al base h mo (cond b x.state s) xs) e ∙ none_late al base h mo s x.at xs ordered.1 (omega (arith, le, ordered.0))
 
 pub front_none : (al : ℕ → ℕ → Bool) (base h mo s a c : ℕ) (xs : List Setting) → AreInOrder c xs → a ≤ c → front (bad_before a) (bad_from al base h mo s xs) ≡ []
@@ -101,14 +101,14 @@ back_both a z (x ∷ l) le = cases (ltb x.at a) refl (back_both a z l le)
 state_before_late : (base a s c : ℕ) (xs : List Setting) → AreInOrder c xs → a ≤ c → state_before base a s xs ≡ s
 state_before_late base a s c [] ordered le = refl
 state_before_late base a s c (x ∷ xs) ordered le =
-    let e : (ltb base x.at && ltb x.at a) ≡ false = ap (λ b. ltb base x.at && b) (le-ltb x.at a (omega (arith, le, ordered.0))) ∙ no_and (ltb base x.at) in
+    let e : (ltb base x.at && ltb x.at a) ≡ false = ap (λ b. ltb base x.at && b) (le-ltb x.at a (omega (arith, le, ordered.0))) ∙ and-false (ltb base x.at) in
     ap (λ b. state_before base a (cond b x.state s) xs) e ∙ state_before_late base a s x.at xs ordered.1 (omega (arith, le, ordered.0))
 
 -- nothing comes before the moment 0
 pub state_before_none : (base s : ℕ) (xs : List Setting) → state_before base 0 s xs ≡ s
 state_before_none base s [] = refl
 state_before_none base s (x ∷ xs) =
-    let e : (ltb base x.at && ltb x.at 0) ≡ false = ap (λ b. ltb base x.at && b) (le-ltb x.at 0 (omega arith)) ∙ no_and (ltb base x.at) in
+    let e : (ltb base x.at && ltb x.at 0) ≡ false = ap (λ b. ltb base x.at && b) (le-ltb x.at 0 (omega arith)) ∙ and-false (ltb base x.at) in
     ap (λ b. state_before base 0 (cond b x.state s) xs) e ∙ state_before_none base s xs
 
 -- the state before a moment is the one at the moment before it
@@ -184,5 +184,5 @@ bad_parts al base h mo s a z c (x ∷ xs) ordered le under = cases (ltb x.at a) 
         let high : a ≤ x.at = ltb-false x.at a e in
         let all : AreInOrder x.at (x ∷ xs) = (omega arith, ordered.1) in
         bad_two al base h mo s z x.at (x ∷ xs) all
-        ∙ (ap (λ k. bad_from al base h mo k (front (is_passed z) (x ∷ xs)) ++ back (bad_by z) (head ++ rest)) (sym (ap (λ b. state_before base a (cond b x.state s) xs) (no_and (ltb base x.at)) ∙ state_before_late base a s x.at xs ordered.1 high))
+        ∙ (ap (λ k. bad_from al base h mo k (front (is_passed z) (x ∷ xs)) ++ back (bad_by z) (head ++ rest)) (sym (ap (λ b. state_before base a (cond b x.state s) xs) (and-false (ltb base x.at)) ∙ state_before_late base a s x.at xs ordered.1 high))
         ∙ ap (λ l. l ++ (bad_from al base h mo (state_before base a (cond (ltb base x.at && false) x.state s) xs) (front (is_passed z) (x ∷ xs)) ++ back (bad_by z) (head ++ rest))) (sym (front_none al base h mo s a x.at (x ∷ xs) all high)))

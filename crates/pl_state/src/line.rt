@@ -398,6 +398,7 @@ impl StateLine {
         &self.told.bad
     }
 
+    /// Whether a change failed for want of memory: what is told then says nothing, and each further change fails.
     pub fn spoiled(&self) -> bool
         ensures { result ≡ self.now.spoiled }
     {
@@ -406,14 +407,14 @@ impl StateLine {
 }
 
 impl Copied for StateLine {
-    fn copy(&self, _alloc: Global) -> Result<StateLine, AllocError> {
-        let steps = Vec::from_slice(self.alloc, self.steps.as_slice())?;
-        let sets = self.sets.copy(self.alloc)?;
-        let musts = self.musts.copy(self.alloc)?;
-        let broken = Vec::from_slice(self.alloc, self.told.broken.as_slice())?;
-        let bad = Vec::from_slice(self.alloc, self.told.bad.as_slice())?;
+    fn copy(&self, alloc: Global) -> Result<StateLine, AllocError> {
+        let steps = Vec::from_slice(alloc, self.steps.as_slice())?;
+        let sets = self.sets.copy(alloc)?;
+        let musts = self.musts.copy(alloc)?;
+        let broken = Vec::from_slice(alloc, self.told.broken.as_slice())?;
+        let bad = Vec::from_slice(alloc, self.told.bad.as_slice())?;
         Ok(StateLine {
-            alloc: self.alloc,
+            alloc,
             horizon: self.horizon,
             any: self.any,
             steps,

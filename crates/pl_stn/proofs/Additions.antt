@@ -19,7 +19,7 @@ well_formed_more net e w room joins small = record {
   after_origin = λ p away within. Contains-append_left net.edges (e ∷ []) _ (w.after_origin p away within);
 }
 
-length-edges_to_origin : (n : ℕ) → length (edges_to_origin n) ≡ n
+pub length-edges_to_origin : (n : ℕ) → length (edges_to_origin n) ≡ n
 length-edges_to_origin zero = refl
 length-edges_to_origin (suc n) = omega (arith, length-append (edges_to_origin n) (record { from = suc n; to = 0; most = pos 0 } ∷ []), length-edges_to_origin n)
 

@@ -5,6 +5,7 @@ ghost use Rattle.pl_stn.specs.Causes.{AreCauses, IsLoop, EndsFrom, cause_of};
 use crate::net::{Edge, Net};
 use std::alloc::{AllocError, Global};
 
+/// The edge of this number, from 0.
 pub fn edge_at(net: &Net, number: u32) -> Edge
     requires net { IsWellFormed net.now }
     requires number { number < length net.now.edges }
@@ -15,6 +16,7 @@ pub fn edge_at(net: &Net, number: u32) -> Edge
     net.edges.as_slice()[number as usize]
 }
 
+/// The number of the edge for which the point was last raised, if it was.
 pub fn cause_at(causes: &[Option<u32>], point: u32) -> Option<u32>
     requires { point < length causes.now }
     ensures { result ≡ cause_of causes.now point }

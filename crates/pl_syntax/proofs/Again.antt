@@ -2,10 +2,10 @@
 use Rattle.std.proofs.Common.{◌≡◌, ℕ, zero, suc, ℤ, pos, negsuc, max, ◌<◌, ◌≤◌, ◌^◌, true, List, [], ◌∷◌, ◌++◌, refl, sym, ap, subst, ◌∙◌, arith}
 use Rattle.pl_text.specs.declared.word.Word.TheVariants as word
 use Rattle.pl_text.specs.Words.{is_name}
-use Rattle.pl_rules.specs.declared.token.Token.{Token}
-use Rattle.pl_rules.specs.declared.token.Token.TheVariants as token
-use Rattle.pl_rules.specs.declared.symbol.Symbol.TheVariants as symbol
-use Rattle.pl_rules.specs.Tokens.{AreReal}
+use Rattle.pl_syntax.specs.declared.token.Token.{Token}
+use Rattle.pl_syntax.specs.declared.token.Token.TheVariants as token
+use Rattle.pl_syntax.specs.declared.symbol.Symbol.TheVariants as symbol
+use Rattle.pl_syntax.specs.Tokens.{AreReal}
 use Rattle.pl_model.specs.declared.expressions.Op.{Op}
 use Rattle.pl_model.specs.declared.expressions.Op.TheVariants as op
 use Rattle.pl_syntax.specs.declared.expressions.AstExpr.{AstExpr, fold-AstExpr, roll-AstExpr}

@@ -1,11 +1,11 @@
 -- The canonical form of each part of a model.
 use Rattle.std.proofs.Common.{◌≡◌, ℕ, zero, suc, ℤ, pos, ◌≤◌, Bool, false, List, [], ◌∷◌, ◌++◌, map, flat_map, Option, Some, None, refl, ap, ◌∙◌}
 use Rattle.pl_text.specs.declared.word.Word.TheVariants as word
-use Rattle.pl_rules.specs.declared.token.Token.{Token}
-use Rattle.pl_rules.specs.declared.token.Token.TheVariants as token
-use Rattle.pl_rules.specs.declared.symbol.Symbol.TheVariants as symbol
-use Rattle.pl_rules.specs.Tokens.{AreReal}
-use Rattle.pl_rules.specs.Spelling.{spell_many, AllFit}
+use Rattle.pl_syntax.specs.declared.token.Token.{Token}
+use Rattle.pl_syntax.specs.declared.token.Token.TheVariants as token
+use Rattle.pl_syntax.specs.declared.symbol.Symbol.TheVariants as symbol
+use Rattle.pl_syntax.specs.Tokens.{AreReal}
+use Rattle.pl_syntax.specs.Spelling.{spell_many, AllFit}
 use Rattle.pl_model.specs.declared.reservations.Point.{Point}
 use Rattle.pl_model.specs.declared.reservations.Point.TheVariants as point
 use Rattle.pl_syntax.specs.declared.expressions.AstExpr.{AstExpr}

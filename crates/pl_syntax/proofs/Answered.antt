@@ -2,8 +2,8 @@
 use Rattle.std.proofs.Common.{◌≡◌, ℕ, zero, suc, ◌-◌, ◌<◌, ◌≤◌, List, [], ◌∷◌, length, get_or, Result, Ok, Err, refl, sym, ap, subst, ◌∙◌, arith}
 use Rattle.pl_text.specs.declared.token.Token.{Token as Piece}
 use Rattle.pl_text.specs.Tokens.{tokens_of}
-use Rattle.pl_rules.specs.declared.token.Token.{Token}
-use Rattle.pl_rules.specs.Faults.{Trouble, too_deep, unexpected, Stop, Judged, IsFirstBad}
+use Rattle.pl_syntax.specs.declared.token.Token.{Token}
+use Rattle.pl_syntax.specs.Faults.{Trouble, too_deep, unexpected, Stop, Judged, IsFirstBad}
 use Rattle.pl_syntax.specs.declared.whole.Ast.{Ast}
 use Rattle.pl_syntax.specs.declared.fault.SyntaxFault.{SyntaxFault}
 use Rattle.pl_syntax.specs.declared.fault.SyntaxFault.TheVariants as fault
@@ -15,7 +15,7 @@ use Rattle.pl_syntax.specs.Reading.{read_all}
 use Rattle.pl_syntax.specs.Gives.{Fails}
 use Rattle.pl_syntax.specs.Marks.{marks_of, place_of}
 use Rattle.pl_syntax.specs.Answers.{ReadsText, IsFirstBadAt, AnswersShort, IsTree, placed}
-use Rattle.pl_rules.proofs.Places.{first_bad}
+use Rattle.pl_syntax.proofs.Places.{first_bad}
 use Rattle.pl_syntax.proofs.ReadExact.{read_exact}
 
 abbrev Read : List Token → Result Ast Stop → Type 0
@@ -24,7 +24,7 @@ Read ts r = Judged (Reads limits) ReadsFree ts r
 judged : (ts : List Token) (r : Result Ast Stop) → read_all 32 32 ts ≡ r → Read ts r
 judged ts r e = subst (Read ts) e (read_exact 32 32 (omega arith) ts)
 
-same_tokens : (text : List ℕ) (ts us : List Piece) → tokens_of text ≡ Ok ts → tokens_of text ≡ Ok us → ts ≡ us
+pub same_tokens : (text : List ℕ) (ts us : List Piece) → tokens_of text ≡ Ok ts → tokens_of text ≡ Ok us → ts ≡ us
 same_tokens text ts us e f = let g = sym e ∙ f in cc
 
 same_reads : (text : List ℕ) (ts : List Piece) (other : Ast) → tokens_of text ≡ Ok ts → ReadsText text other → Reads limits (marks_of text ts) other

@@ -1,20 +1,20 @@
 -- Expressions are read exactly, whatever follows them.
 use Rattle.std.proofs.Common.{◌≡◌, ℕ, pos, zero, suc, ◌-◌, ◌≤◌, ◌<◌, ◌^◌, Bool, true, false, ltb, if◌then◌else◌, List, [], ◌∷◌, length, Result, Ok, Err, refl, sym, subst, ap, arith}
 use Rattle.std.proofs.lemmas.Bool.{ltb-true, ltb-false}
-use Rattle.pl_rules.specs.declared.token.Token.{Token}
-use Rattle.pl_rules.specs.declared.token.Token.TheVariants as token
+use Rattle.pl_syntax.specs.declared.token.Token.{Token}
+use Rattle.pl_syntax.specs.declared.token.Token.TheVariants as token
 use Rattle.pl_text.specs.declared.word.Word.TheVariants as word
-use Rattle.pl_rules.specs.declared.symbol.Symbol.TheVariants as symbol
+use Rattle.pl_syntax.specs.declared.symbol.Symbol.TheVariants as symbol
 use Rattle.pl_syntax.specs.declared.expressions.AstExpr.TheVariants as tree
 use Rattle.pl_model.specs.declared.expressions.Op.TheVariants as op
 use Rattle.pl_syntax.specs.Expressions.{Sign, plus, minus, Pick, least, most, sign_op, pick_op, sign_token, pick_token, Factor, Expr, Products, Sums, number, named, group, pick, expr, no_product, times, no_sum, joined, spell_factor, Measured, apply, factor_tree, expr_tree, products_tree, sums_tree, factor_nests, expr_nests, products_nest, sums_nest}
-use Rattle.pl_rules.specs.Faults.{too_deep, Stop, Language, Begins, Judged}
-use Rattle.pl_rules.specs.Parsing.{Parser, follow, ◌>>=◌, ◌>>◌, pure, expect}
+use Rattle.pl_syntax.specs.Faults.{too_deep, Stop, Language, Begins, Judged}
+use Rattle.pl_syntax.specs.Parsing.{Parser, follow, ◌>>=◌, ◌>>◌, pure, expect}
 use Rattle.pl_syntax.specs.ReadingExpressions.{group_by, pick_by, inner_at, group_with, pick_with, factor_with, operand, products_by, sums_by, term_with, expr_with, expr_at}
-use Rattle.pl_rules.proofs.Judging.{judged_behind, judged_stuck, judged_deep, judged_ended, judged_here, judged_end, judged_same}
+use Rattle.pl_syntax.proofs.Judging.{judged_behind, judged_stuck, judged_deep, judged_ended, judged_here, judged_end, judged_same}
 use Rattle.pl_syntax.proofs.ExprLanguages.{FactorThen, ExprThen, ProductsThen, SumsThen, TermThen, number_down, number_up, named_down, named_up, Grouped, group_down, group_up, Picked, pick_down, pick_up, no_pick, Multiplied, times_down, times_up, no_times_down, products_end_down, no_product_up, Summed, sign_down, sign_up, no_sign_down, sums_end_down, no_sum_up, Parted, expr_down, expr_up}
-use Rattle.pl_rules.proofs.Steps.{After, Exact, Exact-less, Exact-alive, judged_in_row, in_turn, judged_in_turn, expect_carries, after_lives}
-use Rattle.pl_rules.proofs.TokenTests.{same_symbol}
+use Rattle.pl_syntax.proofs.Steps.{After, Exact, Exact-less, Exact-alive, judged_in_row, in_turn, judged_in_turn, expect_carries, after_lives}
+use Rattle.pl_syntax.proofs.TokenTests.{same_symbol}
 use Rattle.pl_syntax.proofs.ExprLevels.{products_grow, sums_grow, expr_some}
 
 -- a number of a text

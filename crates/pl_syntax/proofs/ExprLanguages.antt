@@ -1,13 +1,13 @@
 -- The languages of what is still to be read, and how they split at a token.
 use Rattle.std.proofs.Common.{◌≡◌, ℕ, pos, List, [], ◌∷◌, refl, ap, ◌∙◌}
-use Rattle.pl_rules.specs.declared.token.Token.{Token}
-use Rattle.pl_rules.specs.declared.token.Token.TheVariants as token
-use Rattle.pl_rules.specs.declared.symbol.Symbol.TheVariants as symbol
+use Rattle.pl_syntax.specs.declared.token.Token.{Token}
+use Rattle.pl_syntax.specs.declared.token.Token.TheVariants as token
+use Rattle.pl_syntax.specs.declared.symbol.Symbol.TheVariants as symbol
 use Rattle.pl_syntax.specs.declared.expressions.AstExpr.TheVariants as tree
 use Rattle.pl_model.specs.declared.expressions.Op.TheVariants as op
 use Rattle.pl_syntax.specs.Expressions.{Sign, plus, minus, Pick, least, most, sign_op, pick_op, sign_token, pick_token, Factor, Expr, Products, Sums, number, named, group, pick, expr, no_product, times, no_sum, joined, spell_factor, spell_expr, spell_products, spell_sums, Measured, apply, factor_tree, expr_tree, products_tree, sums_tree}
-use Rattle.pl_rules.specs.Faults.{Language}
-use Rattle.pl_rules.proofs.Steps.{After}
+use Rattle.pl_syntax.specs.Faults.{Language}
+use Rattle.pl_syntax.proofs.Steps.{After}
 
 -- a form of the grammar, and then R of its tree
 pub record FactorThen {D : Type 0} (ok : Factor → Type 0) (R : Measured → Language D) (ts : List Token) (d : D) : Type 0 where

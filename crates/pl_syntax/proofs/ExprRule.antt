@@ -1,15 +1,15 @@
 -- An expression as a rule: whatever follows but an operator.
 use Rattle.std.proofs.Common.{◌≡◌, ℕ, ◌≤◌, ◌<◌, ◌^◌, true, false, List, [], ◌∷◌, refl, arith}
-use Rattle.pl_rules.specs.declared.token.Token.{Token}
-use Rattle.pl_rules.specs.declared.token.Token.TheVariants as token
-use Rattle.pl_rules.specs.declared.symbol.Symbol.TheVariants as symbol
-use Rattle.pl_rules.specs.Faults.{Language}
-use Rattle.pl_rules.specs.Parsing.{follow}
-use Rattle.pl_rules.proofs.Judging.{judged_same}
-use Rattle.pl_rules.proofs.Loops.{FormThen, RuleExact, Any}
-use Rattle.pl_rules.proofs.Rules.{Guards, SpellsReal}
-use Rattle.pl_rules.proofs.Sets.{Set, has, nothing, within, within-is, nothing-has}
-use Rattle.pl_rules.proofs.Grammars.{Rule, not_taken}
+use Rattle.pl_syntax.specs.declared.token.Token.{Token}
+use Rattle.pl_syntax.specs.declared.token.Token.TheVariants as token
+use Rattle.pl_syntax.specs.declared.symbol.Symbol.TheVariants as symbol
+use Rattle.pl_syntax.specs.Faults.{Language}
+use Rattle.pl_syntax.specs.Parsing.{follow}
+use Rattle.pl_syntax.proofs.Judging.{judged_same}
+use Rattle.pl_syntax.proofs.Loops.{FormThen, RuleExact, Any}
+use Rattle.pl_syntax.proofs.Rules.{Guards, SpellsReal}
+use Rattle.pl_syntax.proofs.Sets.{Set, has, nothing, within, within-is, nothing-has}
+use Rattle.pl_syntax.proofs.Grammars.{Rule, not_taken}
 use Rattle.pl_syntax.specs.Expressions.{Sign, plus, minus, sign_token, Expr, expr, number, no_product, no_sum, spell_expr, Measured, expr_tree}
 use Rattle.pl_syntax.specs.ReadingExpressions.{expr_at}
 use Rattle.pl_syntax.proofs.ExprLanguages.{ExprThen}

@@ -1,15 +1,15 @@
 -- A turn of a loop is a step of the recursion on the turns that are left.
 use Rattle.std.proofs.Common.{◌≡◌, ℕ, ◌+◌, ◌-◌, ◌≤◌, ◌<◌, List, Some, None, Ok, Err, refl}
-use Rattle.pl_rules.specs.declared.token.Token.{Token}
-use Rattle.pl_rules.specs.declared.token.Token.TheVariants as token
-use Rattle.pl_rules.specs.declared.symbol.Symbol.TheVariants as symbol
+use Rattle.pl_syntax.specs.declared.token.Token.{Token}
+use Rattle.pl_syntax.specs.declared.token.Token.TheVariants as token
+use Rattle.pl_syntax.specs.declared.symbol.Symbol.TheVariants as symbol
 use Rattle.pl_model.specs.declared.expressions.Op.{Op}
 use Rattle.pl_model.specs.declared.expressions.Op.TheVariants as op
 use Rattle.pl_syntax.specs.Expressions.{Measured}
-use Rattle.pl_rules.specs.Faults.{Stop}
-use Rattle.pl_rules.specs.Parsing.{Parser, eats}
+use Rattle.pl_syntax.specs.Faults.{Stop}
+use Rattle.pl_syntax.specs.Parsing.{Parser, eats}
 use Rattle.pl_syntax.specs.ReadingExpressions.{eats_sign, operand, products_by, sums_by}
-use Rattle.pl_rules.proofs.Turns.{turn, done}
+use Rattle.pl_syntax.proofs.Turns.{turn, done}
 
 module _ (f : ℕ → Parser Measured) (n at l : ℕ) (v : Measured) (ts us : List Token) where
   pub products_goes : (w : Measured) (ws : List Token) → at < n → eats (token.Symbol symbol.Times) ts ≡ Some us → operand l op.Mul v f us ≡ Ok (w, ws) → products_by f (n - at) l v ts ≡ products_by f (n - (at + 1)) l w ws

@@ -3,7 +3,7 @@ use Rattle.std.proofs.Common.{◌≡◌, ℕ, zero, suc, pos, negsuc, ◌+◌, �
 use Rattle.std.specs.List.{list_all}
 use Rattle.std.specs.Fmt.{decimal}
 use Rattle.std.specs.Int.{IsInRange}
-use Rattle.std.proofs.lemmas.Bool.{ltb-true}
+use Rattle.std.proofs.lemmas.Bool.{ltb-true, and_parts, and_from}
 use Rattle.std.proofs.lemmas.Fmt.{decimal_nonempty, digits_decimal, digits_value-decimal, length-decimal-le}
 use Rattle.std.proofs.lemmas.Str.Parse.{IsDigitsTest, FoldsDigits, IsNumeralModel, numerals_by_fold}
 use Rattle.pl_text.specs.declared.class.Class.TheVariants as class
@@ -16,12 +16,12 @@ use Rattle.pl_text.specs.Tokens.{read_on, tokens_of}
 use Rattle.pl_text.specs.Pieces.{Piece, blank, word, number, symbol, spell_piece, spell, Stops, IsPiece, ArePieces, tokens_in}
 use Rattle.pl_text.proofs.Digits.{digit_range}
 use Rattle.pl_text.proofs.PieceLemmas.{made_of}
-use Rattle.pl_rules.specs.declared.token.Token.{Token}
-use Rattle.pl_rules.specs.declared.token.Token.TheVariants as token
-use Rattle.pl_rules.specs.declared.symbol.Symbol.{Symbol}
-use Rattle.pl_rules.specs.declared.symbol.Symbol.TheVariants as symbols
-use Rattle.pl_rules.specs.Symbols.{symbol_byte, symbol_of}
-use Rattle.pl_rules.specs.Tokens.{AreReal}
+use Rattle.pl_syntax.specs.declared.token.Token.{Token}
+use Rattle.pl_syntax.specs.declared.token.Token.TheVariants as token
+use Rattle.pl_syntax.specs.declared.symbol.Symbol.{Symbol}
+use Rattle.pl_syntax.specs.declared.symbol.Symbol.TheVariants as symbols
+use Rattle.pl_syntax.specs.Symbols.{symbol_byte, symbol_of}
+use Rattle.pl_syntax.specs.Tokens.{AreReal}
 use Rattle.pl_syntax.specs.Marks.{word_or_name, symbol_or_none, marks_of}
 use Rattle.pl_syntax.specs.Canonical.{token_text, breaks, in_states_behind, laid, text_of}
 use Rattle.pl_syntax.proofs.Again.{spread, spread_append}
@@ -109,21 +109,14 @@ digit_is c h =
     let P : ℕ → Type 0 = λ x. is_number_byte x ≡ true in
     subst P (sym e) (digit_class (c - 48) (omega (arith, h)))
 
-both : (a b : Bool) → (a && b) ≡ true → (a ≡ true) × (b ≡ true)
-both true b e = (refl, e)
-both false b e = absurd cc
-
-both_back : (a b : Bool) → a ≡ true → b ≡ true → (a && b) ≡ true
-both_back a b e f = rw (e, f) refl
-
 abbrev AreDigits : List ℕ → Type 0
 AreDigits ds = list_all is_number_byte ds ≡ true
 
 digits_test : IsDigitsTest AreDigits
 digits_test = record {
   empty = refl;
-  parts = λ c cs h. let p = both (is_number_byte c) (list_all is_number_byte cs) h in (digit_range c p.0, p.1);
-  more = λ c cs h g. both_back (is_number_byte c) (list_all is_number_byte cs) (digit_is c h) g;
+  parts = λ c cs h. let p = and_parts (is_number_byte c) (list_all is_number_byte cs) h in (digit_range c p.0, p.1);
+  more = λ c cs h g. and_from (is_number_byte c) (list_all is_number_byte cs) (digit_is c h) g;
 }
 
 folds : FoldsDigits read_on
@@ -180,14 +173,14 @@ digit_class_of b e = by (class_of b) e
 word_proper : (bs rest : List ℕ) → is_word bs ≡ true → Apart rest → ArePieces (word_pieces bs) rest
 word_proper [] rest e apart = tt
 word_proper (b ∷ bs) rest e apart =
-    let first = both (is_letter_class (class_of b)) (ltb (length bs) 32 && list_all is_name_byte bs) e in
-    let second = both (ltb (length bs) 32) (list_all is_name_byte bs) first.1 in
+    let first = and_parts (is_letter_class (class_of b)) (ltb (length bs) 32 && list_all is_name_byte bs) e in
+    let second = and_parts (ltb (length bs) 32) (list_all is_name_byte bs) first.1 in
     ((letter_class b first.0, ltb-true (length bs) 32 second.0, (second.1, apart.0)), tt)
 
 number_proper : (n : ℕ) (ds rest : List ℕ) → IsDecimal n ds → Apart rest → ArePieces (number_pieces ds) rest
 number_proper n [] rest d apart = tt
 number_proper n (c ∷ ds) rest d apart =
-    let all = both (is_number_byte c) (list_all is_number_byte ds) d.digits in
+    let all = and_parts (is_number_byte c) (list_all is_number_byte ds) d.digits in
     ((digit_class_of c all.0, omega (arith, d.short), (all.1, apart.1)), tt)
 
 word_text_is : (w : Word) → is_word (word_text w) ≡ true
@@ -226,7 +219,7 @@ can_write (token.Symbol s ∷ ts) h = (tt, can_write ts h.1)
 
 token_proper : (t : Token) (rest : List ℕ) → CanWrite t → Apart rest → ArePieces (token_pieces t) rest
 token_proper (token.Word w) rest can apart = word_proper (word_text w) rest (word_text_is w) apart
-token_proper (token.Name n) rest can apart = word_proper n rest (both (is_word n) (is_none (word_of n)) can).0 apart
+token_proper (token.Name n) rest can apart = word_proper n rest (and_parts (is_word n) (is_none (word_of n)) can).0 apart
 token_proper (token.Number (pos n)) rest can apart = number_proper n (decimal n) rest (decimal_is n can) apart
 token_proper (token.Number (negsuc n)) rest can apart = (minus_class, (gap_blank false, number_proper (suc n) (decimal (suc n)) rest (decimal_is (suc n) can) apart))
 token_proper (token.Symbol s) rest can apart = (symbol_class s, tt)
@@ -262,7 +255,7 @@ no_word (Some w) bs e = absurd cc
 
 name_mark : (n : List ℕ) → is_name n ≡ true → piece_marks (word_pieces n) ≡ token.Name n ∷ []
 name_mark [] e = absurd cc
-name_mark (b ∷ bs) e = ap (λ (t : Token). t ∷ []) (no_word (word_of (b ∷ bs)) (b ∷ bs) (both (is_word (b ∷ bs)) (is_none (word_of (b ∷ bs))) e).1)
+name_mark (b ∷ bs) e = ap (λ (t : Token). t ∷ []) (no_word (word_of (b ∷ bs)) (b ∷ bs) (and_parts (is_word (b ∷ bs)) (is_none (word_of (b ∷ bs))) e).1)
 
 number_mark : (n : ℕ) (ds : List ℕ) → IsDecimal n ds → piece_marks (number_pieces ds) ≡ token.Number (pos n) ∷ []
 number_mark n [] d = let none = d.some in absurd (omega (arith, none))

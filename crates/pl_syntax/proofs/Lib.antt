@@ -1,3 +1,13 @@
+pub mod TokenTests
+pub mod Judging
+pub mod Steps
+pub mod Loops
+pub mod Rules
+pub mod Grammars
+pub mod Classes
+pub mod Sets
+pub mod Places
+pub mod Turns
 pub mod ExprLanguages
 pub mod ExprLevels
 pub mod ExprExact

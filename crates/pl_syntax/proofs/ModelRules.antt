@@ -1,9 +1,9 @@
 -- The grammar of a model by rules that are read exactly.
 use Rattle.std.proofs.Common.{◌≡◌, ℕ, ℤ, ◌≤◌, Bool, true, false, List, [], ◌∷◌, map, Option, Some, None, ◌⊎◌, inl, inr, refl, ap}
-use Rattle.pl_rules.specs.declared.token.Token.{Token}
-use Rattle.pl_rules.specs.declared.token.Token.TheVariants as token
+use Rattle.pl_syntax.specs.declared.token.Token.{Token}
+use Rattle.pl_syntax.specs.declared.token.Token.TheVariants as token
 use Rattle.pl_text.specs.declared.word.Word.TheVariants as word
-use Rattle.pl_rules.specs.declared.symbol.Symbol.TheVariants as symbol
+use Rattle.pl_syntax.specs.declared.symbol.Symbol.TheVariants as symbol
 use Rattle.pl_model.specs.declared.reservations.Point.{Point}
 use Rattle.pl_model.specs.declared.reservations.Point.TheVariants as point
 use Rattle.pl_syntax.specs.declared.timelines.AstTimeline.{AstTimeline}
@@ -18,17 +18,17 @@ use Rattle.pl_syntax.specs.declared.alternatives.AstAlternative.{AstAlternative}
 use Rattle.pl_syntax.specs.declared.kinds.AstKind.{AstKind}
 use Rattle.pl_syntax.specs.declared.whole.Item.{Item}
 use Rattle.pl_syntax.specs.declared.whole.Ast.{Ast}
-use Rattle.pl_rules.specs.Tokens.{is_word, is_symbol}
-use Rattle.pl_rules.specs.Spelling.{AllFit}
+use Rattle.pl_syntax.specs.Tokens.{is_word, is_symbol}
+use Rattle.pl_syntax.specs.Spelling.{AllFit}
 use Rattle.pl_syntax.specs.Expressions.{Expr, Measured, Limits}
 use Rattle.pl_syntax.specs.Forms.{Name, SignedForm, bare, negative, spell_signed, point_token, place_token, StepForm, StepsForm, any_step, only, StatesForm, TimelineForm, capacity, level, states, spell_step, spell_steps, spell_states, spell_timeline, OriginForm, plain, default, equals, ParamForm, spell_origin, spell_param, ReservationForm, take, raise, lower, put, must, spell_reservation, LinkForm, spell_link, BindingForm, BindingsForm, no_binding, bindings, SlotForm, OrderForm, AlternativeForm, spell_binding, spell_further, spell_bindings, spell_slot, spell_order, spell_alternative, KindForm, spell_kind, ItemForm, timeline, kind, ModelForm, spell_item, spell_model}
 use Rattle.pl_syntax.specs.Trees.{signed_value, step_tree, steps_tree, states_tree, timeline_tree, origin_tree, param_tree, reservation_tree, link_tree, binding_tree, bindings_tree, slot_tree, order_tree, alternative_tree, kind_tree, item_tree, model_tree}
 use Rattle.pl_syntax.specs.Grammar.{OriginFits, ParamFits, ReservationFits, BindingFits, BindingsFit, SlotFits, AlternativeFits, KindFits, ItemFits}
 use Rattle.pl_syntax.specs.Reading.{natural, negated, point_of, place_of, list_of, pair, any_steps, only_steps, is_name_token, capacity_of, level_of, states_of, is_origin, defaulted, valued, origin_or_plain, param_of, take_of, raise_of, lower_of, put_of, must_of, is_reservation, link_of, binding_of, or_none, slot_of, order_of, alternative_of, kind_of, kind_item, timeline_item, is_item, model_of}
-use Rattle.pl_rules.proofs.Loops.{Any}
-use Rattle.pl_rules.proofs.Sets.{Set, has, nothing, told_word, told_symbol}
-use Rattle.pl_rules.proofs.Grammars.{Rule, word as a_word, symbol as a_symbol, seq, second, first, many, renamed, mapped, choice, optional}
-use Rattle.pl_rules.proofs.Classes.{class, name, number, only_names}
+use Rattle.pl_syntax.proofs.Loops.{Any}
+use Rattle.pl_syntax.proofs.Sets.{Set, has, nothing, told_word, told_symbol}
+use Rattle.pl_syntax.proofs.Grammars.{Rule, word as a_word, symbol as a_symbol, seq, second, first, many, renamed, mapped, choice, optional}
+use Rattle.pl_syntax.proofs.Classes.{class, name, number, only_names}
 use Rattle.pl_syntax.proofs.ExprRule.{operators, expression}
 
 -- ---- numbers, points, places

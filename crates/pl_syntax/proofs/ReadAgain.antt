@@ -1,8 +1,8 @@
 -- The canonical text of a tree that was read is a text of that tree.
 use Rattle.std.proofs.Common.{ℕ, ◌≤◌, List, [], sym, subst, ◌∙◌, arith}
-use Rattle.pl_rules.specs.declared.token.Token.{Token}
-use Rattle.pl_rules.specs.Tokens.{AreReal}
-use Rattle.pl_rules.specs.Spelling.{AllFit}
+use Rattle.pl_syntax.specs.declared.token.Token.{Token}
+use Rattle.pl_syntax.specs.Tokens.{AreReal}
+use Rattle.pl_syntax.specs.Spelling.{AllFit}
 use Rattle.pl_syntax.specs.declared.whole.Ast.{Ast}
 use Rattle.pl_syntax.specs.Expressions.{limits}
 use Rattle.pl_syntax.specs.Forms.{ModelForm, spell_model}

@@ -1,19 +1,19 @@
 -- A model is read exactly: the tree of a text of the grammar, or the first bad token.
 use Rattle.std.proofs.Common.{◌≡◌, ℕ, ◌≤◌, true, List, [], ◌∷◌, length, refl, sym, ap, ◌∙◌, arith}
-use Rattle.pl_rules.specs.declared.token.Token.{Token}
-use Rattle.pl_rules.specs.Faults.{Language, Judged}
-use Rattle.pl_rules.specs.Parsing.{follow, ended}
-use Rattle.pl_rules.specs.Spelling.{AllFit}
+use Rattle.pl_syntax.specs.declared.token.Token.{Token}
+use Rattle.pl_syntax.specs.Faults.{Language, Judged}
+use Rattle.pl_syntax.specs.Parsing.{follow, ended}
+use Rattle.pl_syntax.specs.Spelling.{AllFit}
 use Rattle.pl_syntax.specs.declared.whole.Ast.{Ast}
 use Rattle.pl_syntax.specs.Expressions.{Limits}
 use Rattle.pl_syntax.specs.Forms.{ModelForm, spell_model}
 use Rattle.pl_syntax.specs.Trees.{model_tree}
 use Rattle.pl_syntax.specs.Grammar.{ItemFits, Reads, ReadsFree}
 use Rattle.pl_syntax.specs.Reading.{signed_at, step_at, steps_list_at, steps_at, names_at, capacity_at, level_at, states_at, timeline_at, origin_at, param_at, params_at, take_at, when_at, raise_at, lower_at, put_at, must_at, reservation_at, reservations_at, link_at, links_at, binding_at, further_at, given_at, bindings_at, slot_at, order_at, slots_at, orders_at, alternative_at, alternatives_at, kind_at, item_at, items_at, model_at, read_all}
-use Rattle.pl_rules.proofs.Judging.{judged_stuck, judged_same}
-use Rattle.pl_rules.proofs.Steps.{Exact}
-use Rattle.pl_rules.proofs.Loops.{Any, FormThen, Onward, RuleExact}
-use Rattle.pl_rules.proofs.Sets.{Set, has}
+use Rattle.pl_syntax.proofs.Judging.{judged_stuck, judged_same}
+use Rattle.pl_syntax.proofs.Steps.{Exact}
+use Rattle.pl_syntax.proofs.Loops.{Any, FormThen, Onward, RuleExact}
+use Rattle.pl_syntax.proofs.Sets.{Set, has}
 use Rattle.pl_syntax.proofs.ModelRules.{a_model}
 
 -- ---- the end

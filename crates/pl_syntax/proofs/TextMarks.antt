@@ -1,8 +1,8 @@
 -- The tokens of a text are marks of the grammar, and tokens that a text can have.
-use Rattle.std.proofs.Common.{◌≡◌, ℕ, zero, suc, pos, ◌+◌, ◌-◌, ◌*◌, ◌^◌, ◌<◌, ◌≤◌, Bool, true, false, ◌&&◌, ◌||◌, if◌then◌else◌, ltb, List, [], ◌∷◌, ◌++◌, length, map, get_or, Option, Some, None, Result, Ok, refl, sym, ap, subst, ◌∙◌, append_assoc, arith}
+use Rattle.std.proofs.Common.{◌≡◌, ℕ, zero, suc, pos, ◌+◌, ◌-◌, ◌*◌, ◌^◌, ◌<◌, ◌≤◌, Bool, true, false, ◌||◌, if◌then◌else◌, ltb, List, [], ◌∷◌, ◌++◌, length, map, get_or, Option, Some, None, Result, Ok, refl, sym, ap, subst, ◌∙◌, append_assoc, arith}
 use Rattle.std.specs.List.{list_all, All}
 use Rattle.std.specs.Option.{IsSome}
-use Rattle.std.proofs.lemmas.Bool.{lt-ltb}
+use Rattle.std.proofs.lemmas.Bool.{lt-ltb, and_parts}
 use Rattle.std.proofs.lemmas.List.{length-append}
 use Rattle.std.proofs.Math.Seq.{take-append_seam, drop-append_seam}
 use Rattle.std.proofs.Math.Nat.{mul-le-mul_right}
@@ -16,20 +16,16 @@ use Rattle.pl_text.specs.Tokens.{read_on, number_value, tokens_of}
 use Rattle.pl_text.specs.Pieces.{Piece, blank, comment, word, number, symbol, spell_piece, spell, IsPiece, ArePieces, size, token_of, tokens_in, Lexes, AreInOrder}
 use Rattle.pl_text.proofs.Digits.{digit_range, power_step, power_below}
 use Rattle.pl_text.proofs.PieceLemmas.{lexes, ordered}
-use Rattle.pl_rules.specs.declared.token.Token.{Token}
-use Rattle.pl_rules.specs.declared.token.Token.TheVariants as token
-use Rattle.pl_rules.specs.declared.symbol.Symbol.{Symbol}
-use Rattle.pl_rules.specs.declared.symbol.Symbol.TheVariants as symbols
-use Rattle.pl_rules.specs.Symbols.{symbol_of}
-use Rattle.pl_rules.specs.Spelling.{AllFit}
-use Rattle.pl_rules.specs.Tokens.{IsReal, AreReal}
+use Rattle.pl_syntax.specs.declared.token.Token.{Token}
+use Rattle.pl_syntax.specs.declared.token.Token.TheVariants as token
+use Rattle.pl_syntax.specs.declared.symbol.Symbol.{Symbol}
+use Rattle.pl_syntax.specs.declared.symbol.Symbol.TheVariants as symbols
+use Rattle.pl_syntax.specs.Symbols.{symbol_of}
+use Rattle.pl_syntax.specs.Spelling.{AllFit}
+use Rattle.pl_syntax.specs.Tokens.{IsReal, AreReal}
 use Rattle.pl_syntax.specs.Marks.{bytes_of, word_or_name, symbol_or_none, mark_of, marks_of, HasMark, IsMarked}
 
 -- ---- numbers are small
-
-split : (a b : Bool) → (a && b) ≡ true → (a ≡ true) × (b ≡ true)
-split true b e = (refl, e)
-split false b e = absurd cc
 
 grow : (n d p q : ℕ) → d ≤ 9 → q ≡ 10 * p → (n * 10 + d + 1) * p ≤ (n + 1) * q
 grow n d p q le e = rw e (omega (arith, mul-le-mul_right p (small n d le)))
@@ -40,7 +36,7 @@ grow n d p q le e = rw e (omega (arith, mul-le-mul_right p (small n d le)))
 read_on_bound : (n : ℕ) (ds : List ℕ) → list_all is_number_byte ds ≡ true → read_on n ds < (n + 1) * 10 ^ length ds
 read_on_bound n [] all = omega arith
 read_on_bound n (d ∷ ds) all =
-    let parts = split (is_number_byte d) (list_all is_number_byte ds) all in
+    let parts = and_parts (is_number_byte d) (list_all is_number_byte ds) all in
     let range = digit_range d parts.0 in
     let ih = read_on_bound (n * 10 + (d - 48)) ds parts.1 in
     let e : length ds + 1 ≡ suc (length ds) = omega arith in
@@ -169,7 +165,7 @@ piece_real (word b bs) rest is = (word_real b bs (word_of (b ∷ bs)) refl is.0 
 piece_real (number d ds) rest is = (short_number d ds (digit_byte d is.0) is.2.0 is.1, tt)
 piece_real (symbol b) rest is = symbol_real (symbol_of b) (symbol_some b is)
 
-real_append : (ts us : List Token) → AreReal ts → AreReal us → AreReal (ts ++ us)
+pub real_append : (ts us : List Token) → AreReal ts → AreReal us → AreReal (ts ++ us)
 real_append [] us h g = g
 real_append (t ∷ ts) us h g = (h.0, real_append ts us h.1 g)
 

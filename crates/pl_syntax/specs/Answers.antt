@@ -4,7 +4,7 @@ use Rattle.pl_text.specs.declared.token.Token.{Token as Piece}
 use Rattle.pl_text.specs.declared.fault.TextFault.{TextFault}
 use Rattle.pl_text.specs.declared.fault.TextFault.TheVariants as text_fault
 use Rattle.pl_text.specs.Tokens.{tokens_of}
-use Rattle.pl_rules.specs.Faults.{Trouble, too_deep, unexpected, IsFirstBad}
+use Rattle.pl_syntax.specs.Faults.{Trouble, too_deep, unexpected, IsFirstBad}
 use Rattle.pl_syntax.specs.declared.whole.Ast.{Ast}
 use Rattle.pl_syntax.specs.declared.fault.SyntaxFault.{SyntaxFault}
 use Rattle.pl_syntax.specs.declared.fault.SyntaxFault.TheVariants as fault

@@ -4,11 +4,11 @@ use Rattle.std.specs.Fmt.{decimal}
 use Rattle.pl_text.specs.declared.word.Word.{Word}
 use Rattle.pl_text.specs.declared.word.Word.TheVariants as word
 use Rattle.pl_text.specs.Words.{word_text}
-use Rattle.pl_rules.specs.declared.token.Token.{Token}
-use Rattle.pl_rules.specs.declared.token.Token.TheVariants as token
-use Rattle.pl_rules.specs.declared.symbol.Symbol.{Symbol}
-use Rattle.pl_rules.specs.declared.symbol.Symbol.TheVariants as symbol
-use Rattle.pl_rules.specs.Symbols.{symbol_byte}
+use Rattle.pl_syntax.specs.declared.token.Token.{Token}
+use Rattle.pl_syntax.specs.declared.token.Token.TheVariants as token
+use Rattle.pl_syntax.specs.declared.symbol.Symbol.{Symbol}
+use Rattle.pl_syntax.specs.declared.symbol.Symbol.TheVariants as symbol
+use Rattle.pl_syntax.specs.Symbols.{symbol_byte}
 use Rattle.pl_model.specs.declared.expressions.Op.{Op}
 use Rattle.pl_model.specs.declared.expressions.Op.TheVariants as op
 use Rattle.pl_model.specs.declared.reservations.Point.{Point}

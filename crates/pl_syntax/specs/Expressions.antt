@@ -1,9 +1,9 @@
 -- Expressions. A form is a text of the grammar by its parts, brackets among them; `spell form rest` is its tokens with `rest` behind them.
 use Rattle.std.specs.Prelude.{ℕ, zero, suc, pos, ◌≤◌, max, List, ◌∷◌}
-use Rattle.pl_rules.specs.declared.token.Token.{Token}
-use Rattle.pl_rules.specs.declared.token.Token.TheVariants as token
+use Rattle.pl_syntax.specs.declared.token.Token.{Token}
+use Rattle.pl_syntax.specs.declared.token.Token.TheVariants as token
 use Rattle.pl_text.specs.declared.word.Word.TheVariants as word
-use Rattle.pl_rules.specs.declared.symbol.Symbol.TheVariants as symbol
+use Rattle.pl_syntax.specs.declared.symbol.Symbol.TheVariants as symbol
 use Rattle.pl_syntax.specs.declared.expressions.AstExpr.{AstExpr}
 use Rattle.pl_syntax.specs.declared.expressions.AstExpr.TheVariants as tree
 use Rattle.pl_model.specs.declared.expressions.Op.{Op}

@@ -1,12 +1,12 @@
 -- The grammar of a model text. A form is a text of the grammar by its parts; `spell form rest` is its tokens with `rest` behind them.
 use Rattle.std.specs.Prelude.{ℕ, pos, List, ◌∷◌, Option, Some, None}
-use Rattle.pl_rules.specs.declared.token.Token.{Token}
-use Rattle.pl_rules.specs.declared.token.Token.TheVariants as token
+use Rattle.pl_syntax.specs.declared.token.Token.{Token}
+use Rattle.pl_syntax.specs.declared.token.Token.TheVariants as token
 use Rattle.pl_text.specs.declared.word.Word.TheVariants as word
-use Rattle.pl_rules.specs.declared.symbol.Symbol.TheVariants as symbol
+use Rattle.pl_syntax.specs.declared.symbol.Symbol.TheVariants as symbol
 use Rattle.pl_model.specs.declared.reservations.Point.{Point}
 use Rattle.pl_model.specs.declared.reservations.Point.TheVariants as point
-use Rattle.pl_rules.specs.Spelling.{spell_many}
+use Rattle.pl_syntax.specs.Spelling.{spell_many}
 use Rattle.pl_syntax.specs.Expressions.{Expr, spell_expr}
 
 abbrev pub Name : Type 0

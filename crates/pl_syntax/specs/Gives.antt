@@ -1,9 +1,9 @@
 -- What a function of the reader returned is what reading gives, unless memory ran out.
 use Rattle.std.specs.Prelude.{◌≡◌, Bool, true, false, Option, Some, None, List, Result, Ok, Err}
-use Rattle.pl_rules.specs.declared.token.Token.{Token}
+use Rattle.pl_syntax.specs.declared.token.Token.{Token}
 use Rattle.pl_syntax.specs.declared.fault.Stopped.{Stopped}
 use Rattle.pl_syntax.specs.declared.fault.Stopped.TheVariants as stopped
-use Rattle.pl_rules.specs.Faults.{Stop, too_deep, unexpected}
+use Rattle.pl_syntax.specs.Faults.{Stop, too_deep, unexpected}
 
 abbrev pub Fails : {Y : Type 0} → Stopped → Result Y Stop → Type 0
 Fails (stopped.TooDeep left) read = read ≡ Err (too_deep, left)

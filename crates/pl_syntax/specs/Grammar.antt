@@ -1,7 +1,7 @@
 -- The texts of a model, by their tokens, and the tree of each: with the two depth limits of expressions, and without them.
 use Rattle.std.specs.Prelude.{◌≡◌, List, []}
-use Rattle.pl_rules.specs.declared.token.Token.{Token}
-use Rattle.pl_rules.specs.Spelling.{AllFit}
+use Rattle.pl_syntax.specs.declared.token.Token.{Token}
+use Rattle.pl_syntax.specs.Spelling.{AllFit}
 use Rattle.pl_syntax.specs.declared.whole.Ast.{Ast}
 use Rattle.pl_syntax.specs.Expressions.{Limits, Fits}
 use Rattle.pl_syntax.specs.Forms.{OriginForm, plain, default, equals, ParamForm, ReservationForm, take, raise, lower, put, must, BindingForm, BindingsForm, no_binding, bindings, SlotForm, AlternativeForm, KindForm, ItemForm, timeline, kind, ModelForm, spell_model}

@@ -1,10 +1,10 @@
 pub use Rattle.pl_text.specs.Words
 pub use Rattle.pl_text.specs.Tokens as TextTokens
-pub use Rattle.pl_rules.specs.Symbols
-pub use Rattle.pl_rules.specs.Tokens as RuleTokens
-pub use Rattle.pl_rules.specs.Spelling
-pub use Rattle.pl_rules.specs.Faults
-pub use Rattle.pl_rules.specs.Parsing
+pub mod Symbols
+pub mod Tokens
+pub mod Faults
+pub mod Parsing
+pub mod Spelling
 pub mod Expressions
 pub mod Forms
 pub mod Trees

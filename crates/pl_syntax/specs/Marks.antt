@@ -5,10 +5,10 @@ use Rattle.pl_text.specs.declared.token.TokenKind.{TokenKind}
 use Rattle.pl_text.specs.declared.token.TokenKind.TheVariants as kind
 use Rattle.pl_text.specs.declared.word.Word.{Word}
 use Rattle.pl_text.specs.Words.{word_of}
-use Rattle.pl_rules.specs.declared.token.Token.{Token}
-use Rattle.pl_rules.specs.declared.token.Token.TheVariants as token
-use Rattle.pl_rules.specs.declared.symbol.Symbol.{Symbol}
-use Rattle.pl_rules.specs.Symbols.{symbol_of}
+use Rattle.pl_syntax.specs.declared.token.Token.{Token}
+use Rattle.pl_syntax.specs.declared.token.Token.TheVariants as token
+use Rattle.pl_syntax.specs.declared.symbol.Symbol.{Symbol}
+use Rattle.pl_syntax.specs.Symbols.{symbol_of}
 
 abbrev pub bytes_of : List ℕ → ℕ → ℕ → List ℕ
 bytes_of text from to = take (to - from) (drop from text)

@@ -1,9 +1,9 @@
 -- Reading a model from left to right, part by part. `deep` and `levels` are the limits of expressions.
 use Rattle.std.specs.Prelude.{ℕ, pos, neg_ℤ, ℤ, Bool, true, false, List, [], ◌∷◌, length, Option, Some, None, Result}
-use Rattle.pl_rules.specs.declared.token.Token.{Token}
-use Rattle.pl_rules.specs.declared.token.Token.TheVariants as token
+use Rattle.pl_syntax.specs.declared.token.Token.{Token}
+use Rattle.pl_syntax.specs.declared.token.Token.TheVariants as token
 use Rattle.pl_text.specs.declared.word.Word.TheVariants as word
-use Rattle.pl_rules.specs.declared.symbol.Symbol.TheVariants as symbol
+use Rattle.pl_syntax.specs.declared.symbol.Symbol.TheVariants as symbol
 use Rattle.pl_model.specs.declared.reservations.Point.{Point}
 use Rattle.pl_model.specs.declared.reservations.Point.TheVariants as point
 use Rattle.pl_syntax.specs.declared.timelines.AstTimeline.{AstTimeline}
@@ -22,9 +22,9 @@ use Rattle.pl_syntax.specs.declared.kinds.AstKind.{AstKind}
 use Rattle.pl_syntax.specs.declared.whole.Item.{Item}
 use Rattle.pl_syntax.specs.declared.whole.Item.TheVariants as item
 use Rattle.pl_syntax.specs.declared.whole.Ast.{Ast}
-use Rattle.pl_rules.specs.Faults.{Stop}
-use Rattle.pl_rules.specs.Tokens.{is_word, is_symbol}
-use Rattle.pl_rules.specs.Parsing.{Parser, follow, both, made, after, before, expect, many_by, either, option, class_at, name_of, number_of, ended}
+use Rattle.pl_syntax.specs.Faults.{Stop}
+use Rattle.pl_syntax.specs.Tokens.{is_word, is_symbol}
+use Rattle.pl_syntax.specs.Parsing.{Parser, follow, both, made, after, before, expect, many_by, either, option, class_at, name_of, number_of, ended}
 use Rattle.pl_syntax.specs.Expressions.{Measured}
 use Rattle.pl_syntax.specs.ReadingExpressions.{expr_at}
 use Rattle.pl_syntax.specs.Forms.{Name}

@@ -1,15 +1,15 @@
 -- Reading an expression from left to right, with so many levels and brackets left.
 use Rattle.std.specs.Prelude.{ℕ, zero, suc, pos, ◌-◌, List, ◌∷◌, length, Option, Some, None, Ok, Err, nat_lt, if◌then◌else◌}
-use Rattle.pl_rules.specs.declared.token.Token.{Token}
-use Rattle.pl_rules.specs.declared.token.Token.TheVariants as token
+use Rattle.pl_syntax.specs.declared.token.Token.{Token}
+use Rattle.pl_syntax.specs.declared.token.Token.TheVariants as token
 use Rattle.pl_text.specs.declared.word.Word.TheVariants as word
-use Rattle.pl_rules.specs.declared.symbol.Symbol.TheVariants as symbol
+use Rattle.pl_syntax.specs.declared.symbol.Symbol.TheVariants as symbol
 use Rattle.pl_syntax.specs.declared.expressions.AstExpr.TheVariants as tree
 use Rattle.pl_model.specs.declared.expressions.Op.{Op}
 use Rattle.pl_model.specs.declared.expressions.Op.TheVariants as op
 use Rattle.pl_syntax.specs.Expressions.{plus, minus, Pick, least, most, pick_op, sign_op, Measured, apply}
-use Rattle.pl_rules.specs.Faults.{too_deep}
-use Rattle.pl_rules.specs.Parsing.{Parser, ◌>>=◌, ◌>>◌, pure, stuck, expect, eats, go_or_stop, natural_of}
+use Rattle.pl_syntax.specs.Faults.{too_deep}
+use Rattle.pl_syntax.specs.Parsing.{Parser, ◌>>=◌, ◌>>◌, pure, stuck, expect, eats, go_or_stop, natural_of}
 
 -- a factor, given how to read the inside of brackets, if another bracket may be opened
 abbrev pub group_by : Parser Measured → Parser Measured

@@ -3,8 +3,8 @@ ghost use Rattle.std.specs.List.{All};
 ghost use Rattle.pl_text.specs.declared.token.TokenKind.TheVariants as kind;
 ghost use Rattle.pl_syntax.specs.Marks.{bytes_of, mark_of, marks_of, mark_by, place_of, IsMarked, HasMark};
 
+use crate::{Symbol, Token};
 use pl_lists::Items;
-use pl_rules::{Symbol, Token};
 use pl_text::{TokenKind, word_of};
 use std::alloc::{AllocError, Global};
 
@@ -36,6 +36,7 @@ fn mark(alloc: Global, text: &[u8], token: &pl_text::Token) -> Result<Token, All
     }
 }
 
+/// The tokens as the grammar sees them, in their order.
 pub fn marks(
     alloc: Global,
     text: &[u8],

@@ -21,6 +21,7 @@ impl Copied for AstOrigin {
     }
 }
 
+/// A parameter of a kind as it is written: `low` and `high` are both within its range.
 #[derive(Debug, Drop)]
 pub struct AstParam {
     pub name: Name,

@@ -1,7 +1,7 @@
 ghost use Rattle.std.specs.Prelude.{◌≡◌, ◌<◌, ◌^◌, ◌+◌, ◌∷◌, length, IfOk, IfSome};
-ghost use Rattle.pl_rules.specs.declared.token.Token.TheVariants as token;
-ghost use Rattle.pl_rules.specs.Tokens.{is_word, is_symbol};
-ghost use Rattle.pl_rules.specs.Parsing.{natural_of, number_of, name_of, class_at, decoded, expect, eats, next_is};
+ghost use Rattle.pl_syntax.specs.declared.token.Token.TheVariants as token;
+ghost use Rattle.pl_syntax.specs.Tokens.{is_word, is_symbol};
+ghost use Rattle.pl_syntax.specs.Parsing.{natural_of, number_of, name_of, class_at, decoded, expect, eats, next_is};
 ghost use Rattle.pl_syntax.specs.Reading.{name_at, number_at, signed_at, point_at, place_at, is_name_token};
 ghost use Rattle.pl_syntax.specs.Gives.{Gives, Ate};
 
@@ -13,9 +13,9 @@ mod timelines;
 mod whole;
 
 use crate::fault::Stopped;
+use crate::{Symbol, Token};
 use pl_lists::Copied;
 use pl_model::{Name, Point};
-use pl_rules::{Symbol, Token};
 use pl_text::Word;
 use std::alloc::Global;
 
@@ -38,6 +38,7 @@ fn natural_of(number: i64) -> Option<u64>
 }
 
 impl<'a> Reader<'a> {
+    /// Over all tokens of a text.
     pub fn new(alloc: Global, tokens: &'a [Token]) -> Self
         ensures { result.rest.now ≡ tokens.now }
     {

@@ -5,11 +5,13 @@ use crate::kinds::AstKind;
 use crate::links::AstLink;
 use crate::parameters::{AstOrigin, AstParam};
 use crate::reservations::AstReservation;
+use crate::symbol::Symbol;
 use crate::timelines::AstTimeline;
+use crate::token::Token;
 use crate::whole::{Ast, Item};
 use pl_lists::may_be_shared;
 
-/// Trees and faults may be sent to other threads and be read by several at once.
+/// Tokens, trees and faults may be sent to other threads and be read by several at once.
 pub fn shared_types() {
     may_be_shared::<Ast>();
     may_be_shared::<Item>();
@@ -24,4 +26,6 @@ pub fn shared_types() {
     may_be_shared::<AstOrder>();
     may_be_shared::<AstExpr>();
     may_be_shared::<SyntaxFault>();
+    may_be_shared::<Token>();
+    may_be_shared::<Symbol>();
 }

@@ -3,6 +3,7 @@ use crate::timelines::AstTimeline;
 use pl_lists::{Copied, Items};
 use std::alloc::{AllocError, Global};
 
+/// What a model is made of, behind its horizon and lead.
 #[derive(Debug, Drop)]
 pub enum Item {
     Timeline(AstTimeline),

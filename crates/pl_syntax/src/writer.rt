@@ -1,6 +1,6 @@
 ghost use Rattle.std.specs.Prelude.{List, ◌≡◌, ◌++◌, ◌∷◌, [], flat_map, OnOk};
-ghost use Rattle.pl_rules.specs.declared.token.Token.{Token};
-ghost use Rattle.pl_rules.specs.declared.token.Token.TheVariants as token;
+ghost use Rattle.pl_syntax.specs.declared.token.Token.{Token};
+ghost use Rattle.pl_syntax.specs.declared.token.Token.TheVariants as token;
 ghost use Rattle.pl_syntax.specs.Forms.{point_token, place_token};
 
 mod alternatives;
@@ -10,10 +10,10 @@ mod layout;
 mod timelines;
 mod whole;
 
+use crate::{Symbol, Token};
 pub use layout::lay_out;
 use pl_lists::{Copied, Items};
 use pl_model::{Name, Point};
-use pl_rules::{Symbol, Token};
 use pl_text::Word;
 use std::alloc::{AllocError, Global};
 pub use whole::model_tokens;

@@ -1,7 +1,7 @@
 -- Digits are from 48 to 57, and the value of so many of them is below a power of ten.
-use Rattle.std.proofs.Common.{◌≡◌, ℕ, suc, ◌+◌, ◌*◌, ◌^◌, ◌≤◌, ◌<◌, Bool, true, false, ◌&&◌, leb, List, take, refl, arith}
+use Rattle.std.proofs.Common.{◌≡◌, ℕ, suc, ◌+◌, ◌*◌, ◌^◌, ◌≤◌, ◌<◌, Bool, true, false, leb, List, take, refl, arith}
 use Rattle.std.specs.List.{prefix_len, AllPass}
-use Rattle.std.proofs.lemmas.Bool.{leb-true}
+use Rattle.std.proofs.lemmas.Bool.{leb-true, and_parts}
 use Rattle.std.proofs.lemmas.List.{get_or-take}
 use Rattle.std.proofs.lemmas.List.Folds.{length-prefix_len}
 use Rattle.std.proofs.lemmas.List.Sums.{prefix_len_passes}
@@ -16,14 +16,10 @@ digit_by false false false true symbol e = refl
 digit_by false false false false true e = absurd cc
 digit_by false false false false false e = absurd cc
 
-both_true : (a b : Bool) → (a && b) ≡ true → (a ≡ true) × (b ≡ true)
-both_true true b e = (refl, e)
-both_true false b e = absurd cc
-
 pub digit_range : (b : ℕ) → is_number_byte b ≡ true → (48 ≤ b) × (b ≤ 57)
 unfolding class_of
 digit_range b e =
-    let parts = both_true (leb 48 b) (leb b 57) (digit_by _ _ _ _ _ e) in
+    let parts = and_parts (leb 48 b) (leb b 57) (digit_by _ _ _ _ _ e) in
     (leb-true 48 b parts.0, leb-true b 57 parts.1)
 
 pub power_step : (k : ℕ) → 10 ^ (k + 1) ≡ 10 * 10 ^ k

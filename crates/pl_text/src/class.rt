@@ -12,6 +12,7 @@ pub enum Class {
     Bad,
 }
 
+/// What the byte begins, where it stands in no comment and in no token.
 #[tactic(auto, unfolding(crate::specs::Bytes::class_of))]
 pub fn class_of(byte: u8) -> Class
     ensures { result ≡ class_of byte }

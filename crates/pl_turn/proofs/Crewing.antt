@@ -2,6 +2,7 @@
 use Rattle.std.proofs.Common.{◌≡◌, ◌≢◌, ℕ, ◌+◌, ◌<◌, true, false, Bool, cond, List, [], ◌∷◌, ◌++◌, length, set, None, refl, sym, ap, ◌∙◌, subst, ⊎_elim, arith, length-set, length-append}
 use Rattle.std.specs.List.{sum_by}
 use Rattle.std.proofs.lemmas.List.Sums.{sum_by-cons, sum_by_push}
+use Rattle.std.proofs.lemmas.Bool.{false_from_ne_true}
 use Rattle.atomic_table.specs.Table.{Splits, Joins}
 use Rattle.atomic_table.proofs.Lists.{at_snoc, at_longer, set_else}
 use Rattle.pl_turn.specs.declared.known.Known.{Known}
@@ -13,10 +14,6 @@ use Rattle.pl_turn.proofs.Once.{once_same}
 use Rattle.pl_turn.proofs.Histories.{prefix_none}
 use Rattle.pl_turn.proofs.Views.{views_set, nobody_before}
 use Rattle.pl_turn.proofs.Turning.{never_spent}
-
-never_leads : (b : Bool) → (b ≡ true → ⊥) → b ≡ false
-never_leads true never = absurd (never refl)
-never_leads false never = refl
 
 module _ {V I : Type 0} (entries : V → List I) (id : ℕ) (v : Known I) (leads : v.crew.leads ≡ true) (out : v.served ≡ false) (unspent : v.spent ≡ false) where
   -- a pass is split off
@@ -84,7 +81,7 @@ module _ {V I : Type 0} (entries : V → List I) (id : ℕ) (v : Known I) (leads
       let crew = fit.leads leads in
       let there : IsViewOf s.views other w = sym (set_else s.views id other both apart) ∙ at' in
       let fit' = kept.each_view other w there in
-      let follows : w.crew.leads ≡ false = never_leads w.crew.leads (λ h. apart ((fit'.leads h).0 ∙ sym crew.0)) in
+      let follows : w.crew.leads ≡ false = false_from_ne_true w.crew.leads (λ h. apart ((fit'.leads h).0 ∙ sym crew.0)) in
       let alone : w.crew.joined ≡ [] = fit'.follows follows in
       let same : (f : Known I → ℕ) → f both + f gone ≡ f v + f w → sum_by f views ≡ sum_by f s.views =
       λ f e. (let a = sum_set f once other w gone at' in let b = sum_set f s.views id v both at in omega arith) in

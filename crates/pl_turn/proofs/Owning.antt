@@ -1,6 +1,7 @@
 -- The rule as the lock is made, and what it says as the lock is taken apart.
 use Rattle.std.proofs.Common.{◌≡◌, ◌≢◌, ℕ, zero, suc, ◌+◌, ◌≤◌, true, false, Bool, cond, List, [], ◌∷◌, length, Option, Some, None, refl, sym, ap, ◌∙◌, subst, arith}
 use Rattle.std.specs.List.{sum_by}
+use Rattle.std.proofs.lemmas.Option.{same_Some}
 use mathlib.Core.Option.{some, some-injective, some-ne-none}
 use mathlib.Core.List.{IsPrefix}
 use mathlib.Core.Logic.{dite}
@@ -17,12 +18,9 @@ use Rattle.pl_turn.proofs.Histories.{prefix_self, prefix_none}
 spends_most : {I : Type 0} (k : Known I) → spends k ≤ 1
 spends_most k = elim k.spent as (λ b. cond b 1 0 ≤ 1) [ true ↦ omega arith | false ↦ omega arith ]
 
-spends_true : (b : Bool) → ◌≡◌ {A = ℕ} (cond b 1 0) 1 → b ≡ true
+pub spends_true : (b : Bool) → ◌≡◌ {A = ℕ} (cond b 1 0) 1 → b ≡ true
 spends_true true e = refl
 spends_true false e = absurd (omega arith)
-
-unwrapped : {V : Type 0} (x y : V) → Some x ≡ Some y → x ≡ y
-unwrapped x y e = cc
 
 module _ {V I : Type 0} (entries : V → List I) where
   first_fits : (x : V) (j : ℕ) (k : Known I) → IsViewOf (starting (entries x) ∷ []) j k → Fits (entries x) (length (entries x)) 0 0 0 j k
@@ -125,5 +123,5 @@ module _ {V I : Type 0} (entries : V → List I) where
 
     pub closes_as : (y : V) → o ≡ Some y → Closes v y
     closes_as y is =
-        let e : closing.0 ≡ y = unwrapped closing.0 y (sym closing.1 ∙ is) in
+        let e : closing.0 ≡ y = same_Some closing.0 y (sym closing.1 ∙ is) in
         subst (λ (z : V). Closes v z) e closing.2

@@ -3,7 +3,8 @@ use Rattle.std.proofs.Common.{◌≡◌, ◌≢◌, ℕ, zero, suc, ◌+◌, ◌
 use Rattle.std.specs.List.{All, filter}
 use Rattle.std.proofs.lemmas.List.Sums.{sum_by-cons, sum_by-append}
 use Rattle.std.proofs.lemmas.List.Elements.{All-nil, All-cons, All-head, All-tail}
-use Rattle.std.proofs.lemmas.Option.{slice_get_within}
+use Rattle.std.proofs.lemmas.Option.{slice_get_within, same_Some}
+use Rattle.std.proofs.lemmas.Bool.{false_from_ne_true}
 use mathlib.Core.Logic.{dite}
 use native.Mathlib.Decide.{ℕ_discrete, dec_le}
 use Rattle.pl_turn.specs.History.{IsEachOnce, StandsFrom, StandsIn, times_at, times_in}
@@ -15,13 +16,6 @@ front_of P (x ∷ xs) ys all = All-cons P x xs (All-head P x (xs ++ ys) all) (fr
 back_of : {X : Type 0} (P : X → Type 0) (xs ys : List X) → All P (xs ++ ys) → All P ys
 back_of P [] ys all = all
 back_of P (x ∷ xs) ys all = back_of P xs ys (All-tail P x (xs ++ ys) all)
-
-unwrap : {X : Type 0} (x y : X) → Some x ≡ Some y → x ≡ y
-unwrap x y e = cc
-
-not_true : (b : Bool) → (b ≡ true → ⊥) → b ≡ false
-not_true true never = absurd (never refl)
-not_true false never = refl
 
 module _ {I : Type 0} where
   abbrev one_at : ℕ → ℕ × I → ℕ
@@ -46,7 +40,7 @@ module _ {I : Type 0} where
   times_failing test h low p e (x ∷ xs) s fails at passes =
       let here : x.0 ≢ p = λ same.
       (let got : Some x.1 ≡ Some e = sym s.1 ∙ (ap (λ (k : ℕ). slice_get h k) same ∙ at) in
-      let is : x.1 ≡ e = unwrap x.1 e got in
+      let is : x.1 ≡ e = same_Some x.1 e got in
       let both : true ≡ false = sym passes ∙ (ap test (sym is) ∙ All-head (λ y. test y.1 ≡ false) x xs fails) in absurd (cc both)) in
       let none = at_other p x here in
       let rest = times_failing test h (suc x.0) p e xs s.2 (All-tail (λ y. test y.1 ≡ false) x xs fails) at passes in omega (arith, sum_by-cons (one_at p) x xs)
@@ -69,7 +63,7 @@ module _ {I : Type 0} where
       let none : None ≡ Some x.1 = same (x.0 - n) ∙ (ap (λ (k : ℕ). slice_get h k) there ∙ s.1) in absurd (cc none)
   sifts test h (e ∷ rest) n [] same s passes covers =
       let here : slice_get h n ≡ Some e = ap (λ (k : ℕ). slice_get h k) (let z : n ≡ n + 0 = omega arith in z) ∙ sym (same 0) in
-      let fails : test e ≡ false = not_true (test e) (λ t. let one = covers n e (omega arith) here t in omega arith) in
+      let fails : test e ≡ false = false_from_ne_true (test e) (λ t. let one = covers n e (omega arith) here t in omega arith) in
       let P : Bool → Type 0 = λ b. [] ≡ cond b (e ∷ filter test rest) (filter test rest) in
       subst P (sym fails) (sifts test h rest (suc n) [] (λ i. same (suc i) ∙ ap (λ (k : ℕ). slice_get h k) (let z : n + suc i ≡ suc n + i = omega arith in z)) tt passes
       (λ p e' le at t. covers p e' (omega arith) at t))
@@ -79,7 +73,7 @@ module _ {I : Type 0} where
       let f : List I = filter test rest in
       dite (ℕ_discrete x.0 n)
       (λ (at : x.0 ≡ n).
-      let is : x.1 ≡ e = unwrap x.1 e (sym s.1 ∙ (ap (λ (k : ℕ). slice_get h k) at ∙ here)) in
+      let is : x.1 ≡ e = same_Some x.1 e (sym s.1 ∙ (ap (λ (k : ℕ). slice_get h k) at ∙ here)) in
       let yes' : test e ≡ true = ap test (sym is) ∙ All-head (λ y. test y.1 ≡ true) x xs passes in
       let from : StandsFrom h (suc n) xs = subst (λ (k : ℕ). StandsFrom h (suc k) xs) at s.2 in
       let more : map (λ y. y.1) xs ≡ f = sifts test h rest (suc n) xs on from (All-tail (λ y. test y.1 ≡ true) x xs passes)
@@ -89,7 +83,7 @@ module _ {I : Type 0} where
       (λ (ne : x.0 ≢ n).
       let le = s.0 in
       let past : StandsFrom h (suc n) (x ∷ xs) = (omega arith, s.1, s.2) in
-      let fails : test e ≡ false = not_true (test e) (λ t. let one = covers n e (omega arith) here t in let none = times_before h (suc n) n (x ∷ xs) past (omega arith) in omega arith) in
+      let fails : test e ≡ false = false_from_ne_true (test e) (λ t. let one = covers n e (omega arith) here t in let none = times_before h (suc n) n (x ∷ xs) past (omega arith) in omega arith) in
       let P : Bool → Type 0 = λ b. x.1 ∷ map (λ y. y.1) xs ≡ cond b (e ∷ f) f in
       subst P (sym fails) (sifts test h rest (suc n) (x ∷ xs) on past passes (λ p e' le' found t. covers p e' (omega arith) found t)))
 

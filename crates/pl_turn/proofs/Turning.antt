@@ -4,6 +4,7 @@ use Rattle.std.specs.Prelude.{slice_index}
 use Rattle.std.specs.List.{sum_by}
 use Rattle.std.proofs.Math.Nat.{mod-add-mod}
 use Rattle.std.proofs.lemmas.List.Sums.{sum_by-cons, sum_by_push}
+use Rattle.std.proofs.lemmas.Option.{same_Some}
 use mathlib.Core.Option.{some, some-injective, some-ne-none}
 use mathlib.Core.List.{IsPrefix}
 use mathlib.Core.Logic.{dite}
@@ -22,9 +23,6 @@ use Rattle.pl_turn.proofs.Views.{views_set, nobody_before, somebody, this_ticket
 
 pub never_spent : {A : Type 0} (b : Bool) → b ≡ false → b ≡ true → A
 never_spent b no' yes' = absurd (cc (sym no' ∙ yes'))
-
-same_ticket : (t u : ℕ) → Some t ≡ Some u → t ≡ u
-same_ticket t u e = cc
 
 value_or : {V : Type 0} → V → Option V → V
 value_or d None = d
@@ -138,7 +136,7 @@ module _ {V I : Type 0} (entries : V → List I) (slots id : ℕ) (me : Me (Opti
             (let P : List I → Type 0 = λ ys. IsPrefix me.0.seen ys in subst P (sym full) fit.seen),
             omega (arith, fit.counted, ap length full),
           )),
-          (λ ne. absurd (ne (ap (λ (k : ℕ). k % 2 ^ 64) (same_ticket u t (sym h ∙ has)) ∙ e))),
+          (λ ne. absurd (ne (ap (λ (k : ℕ). k % 2 ^ 64) (same_Some u t (sym h ∙ has)) ∙ e))),
         )),
       ))
       (λ (ne : t % 2 ^ 64 ≢ n). (
@@ -147,7 +145,7 @@ module _ {V I : Type 0} (entries : V → List I) (slots id : ℕ) (me : Me (Opti
         tt,
         waits_on s kept at,
         (λ u h. (
-          (λ e'. absurd (ne (ap (λ (k : ℕ). k % 2 ^ 64) (same_ticket t u (sym has ∙ h)) ∙ e'))),
+          (λ e'. absurd (ne (ap (λ (k : ℕ). k % 2 ^ 64) (same_Some t u (sym has ∙ h)) ∙ e'))),
           (λ ne'. refl),
         )),
       ))

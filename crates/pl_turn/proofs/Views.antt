@@ -1,5 +1,6 @@
 -- What the rule says of the views, where one of them changes.
 use Rattle.std.proofs.Common.{◌≡◌, ◌≢◌, ℕ, ◌+◌, ◌%◌, ◌^◌, ◌≤◌, ◌<◌, true, false, Bool, cond, List, set, Option, Some, None, refl, sym, ap, ◌∙◌, subst, ⊎_elim, arith, eq-eqb, ne_eqb}
+use Rattle.std.proofs.lemmas.Bool.{false_from_ne_true}
 use mathlib.Core.Option.{some-injective}
 use mathlib.Core.Logic.{dite}
 use native.Mathlib.Decide.{ℕ_discrete, dec_le}
@@ -19,10 +20,6 @@ other_ticket t u ne = ap (λ (b : Bool). cond b 1 0) (ne_eqb u t (λ e. ne (sym 
 is_ticket_most : (o : Option ℕ) → is_ticket o ≤ 1
 is_ticket_most None = omega arith
 is_ticket_most (Some u) = omega arith
-
-unserved : (b : Bool) → (b ≡ true → ⊥) → b ≡ false
-unserved true never = absurd (never refl)
-unserved false never = refl
 
 le_by_cases : (a b : ℕ) → (b < a → ⊥) → a ≤ b
 le_by_cases a b never = dite (dec_le a b) (λ (h : a ≤ b). h) (λ (h : a ≤ b → ⊥). absurd (never (omega arith)))
@@ -92,4 +89,4 @@ module _ {V I : Type 0} (entries : V → List I) (s : State (Option V) (Known I)
       (λ (same : j ≡ id).
       let there' : IsViewOf s.views id k = subst (λ (i : ℕ). IsViewOf s.views i k) same there in
       let is : v ≡ k = some-injective v k (sym at ∙ there') in subst (λ (u : Known I). u.served ≡ false) is out)
-      (λ (ne : j ≢ id). unserved k.served (λ yes. served_alone has j k ne there yes))
+      (λ (ne : j ≢ id). false_from_ne_true k.served (λ yes. served_alone has j k ne there yes))

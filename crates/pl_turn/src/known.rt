@@ -12,6 +12,7 @@ pub struct Crew<I> {
     pub joined: LinkedList<LinkedList<(u64, I)>>,
 }
 
+/// What a pass knows of its own turns and of the history, and the first pass of the others too.
 pub struct Known<I> {
     /// Tickets are numbered on without end. The words of the lock have them modulo 2^64.
     pub ticket: Option<u64>,

@@ -1,6 +1,6 @@
 ghost use Rattle.std.specs.Prelude.{◌≡◌, ◌<◌, ◌^◌, ◌≤◌, [], ◌∷◌, ◌++◌, false, true, length, drop, vec_len, vec_capacity, IfOk, OnOk, OnErr};
 ghost use Rattle.pl_entry.specs.Bounds.{IsEventInRange, IsReplyTo};
-ghost use Rattle.pl_world.specs.Whole.{IsWhole};
+ghost use Rattle.pl_semantics.specs.Whole.{IsWhole};
 ghost use Rattle.pl_board.specs.Boards.{after as board_of};
 ghost use Rattle.pl_machine.specs.World.{due_at, due_in};
 ghost use Rattle.pl_machine.specs.Calm.{AreSettled, IsAheadAt, IsAhead};

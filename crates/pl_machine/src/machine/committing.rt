@@ -1,8 +1,8 @@
 ghost use Rattle.std.specs.Prelude.{◌≡◌, ◌≤◌, ◌⊎◌, ◌↔◌, false, IfOk, OnOk};
 ghost use Rattle.pl_entry.specs.Bounds.{IsConflictInRange, IsCommitReply};
-ghost use Rattle.pl_world.specs.Conflicts.{conflicts_of};
-ghost use Rattle.pl_world.specs.Grants.{IsGrantable};
-ghost use Rattle.pl_world.specs.Whole.{IsWhole};
+ghost use Rattle.pl_semantics.specs.Conflicts.{conflicts_of};
+ghost use Rattle.pl_semantics.specs.Grants.{IsGrantable};
+ghost use Rattle.pl_semantics.specs.Whole.{IsWhole};
 ghost use Rattle.pl_machine.specs.Step.{behind_of, target_in, best_in, first_conflict, commit_reply, held_reply};
 ghost use Rattle.pl_machine.specs.Taking.{IsOpen, Answers};
 

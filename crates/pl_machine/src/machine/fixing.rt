@@ -1,7 +1,7 @@
 ghost use Rattle.std.specs.Prelude.{◌≡◌, ◌≢◌, ◌≤◌, not, ◌&&◌, nat_lt, false, true, IfOk, OnOk, Some};
 ghost use Rattle.pl_entry.specs.Bounds.{IsConflictInRange, IsMoveInRange, IsFixReply};
-ghost use Rattle.pl_world.specs.Moves.{is_proper, refusal_of};
-ghost use Rattle.pl_world.specs.Whole.{IsWhole};
+ghost use Rattle.pl_semantics.specs.Moves.{is_proper, refusal_of};
+ghost use Rattle.pl_semantics.specs.Whole.{IsWhole};
 ghost use Rattle.pl_moves.specs.Keeping.{KeepsCommitted};
 ghost use Rattle.pl_machine.specs.Changes.{CanChange};
 ghost use Rattle.pl_machine.specs.Repairs.{IsMoveOf};
@@ -19,7 +19,7 @@ use pl_conflict::Conflict;
 use pl_entry::{Event, Reply};
 use pl_moves::legal;
 use pl_plan::RepairMove;
-use pl_world::{PlanState, Refusal};
+use pl_semantics::{PlanState, Refusal};
 use std::alloc::AllocError;
 
 fn refusal_reply(refusal: Refusal) -> Reply

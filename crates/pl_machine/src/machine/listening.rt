@@ -5,7 +5,7 @@ ghost use Rattle.pl_facts.specs.Goals.{is_numbered};
 ghost use Rattle.pl_entry.specs.Bounds.{IsMessageLine, IsInputReply, IsEventInRange, IsReplyTo};
 ghost use Rattle.pl_msg.specs.Messages.{message_of};
 ghost use Rattle.pl_msg.specs.Limits.{IsWithin};
-ghost use Rattle.pl_world.specs.Whole.{IsWhole};
+ghost use Rattle.pl_semantics.specs.Whole.{IsWhole};
 ghost use Rattle.pl_machine.specs.Changes.{changed, CanChange};
 ghost use Rattle.pl_machine.specs.Messages.{goal_reply, tick_reply, message_reply, line_reply, told_line};
 ghost use Rattle.pl_machine.specs.Step.{input_reply, reply_of, after};
@@ -20,7 +20,7 @@ use pl_entry::{Bytes, Event, Reply};
 use pl_facts::{Goal, Goals};
 use pl_lists::Items;
 use pl_msg::{Message, MsgFault, read_message};
-use pl_world::PlanState;
+use pl_semantics::PlanState;
 use std::alloc::{AllocError, Global};
 
 fn line_bytes(alloc: Global, line: &[u8]) -> Result<Bytes, AllocError>

@@ -1,6 +1,6 @@
 ghost use Rattle.std.specs.Prelude.{◌≡◌, ◌<◌, ◌≤◌, length, vec_len, vec_capacity, false, true, None, Some, IfOk, IfErr, IfSome, OnOk, OnErr, ◌⊎◌};
 ghost use Rattle.pl_entry.specs.Bounds.{IsConflictInRange};
-ghost use Rattle.pl_world.specs.Legal.{is_stuck};
+ghost use Rattle.pl_semantics.specs.Legal.{is_stuck};
 ghost use Rattle.pl_moves.specs.Keeping.{KeepsCommitted};
 ghost use Rattle.pl_cand.specs.Proposals.{IsProposal, mended};
 ghost use Rattle.pl_machine.specs.Repairs.{FitsTypes};

@@ -21,6 +21,7 @@ impl Machine {
         self.log.as_slice()
     }
 
+    /// The model that it was opened with: no call changes it.
     pub fn model(&self) -> &Model
         ensures value { result.now ≡ self.now.model }
         ensures checked { IsChecked self.now.model }
@@ -28,12 +29,14 @@ impl Machine {
         self.model.get()
     }
 
+    /// The plan as it stands, with its timelines and conflicts, for those who choose a repair.
     pub fn board(&self) -> &Board
         ensures { result.now ≡ record { spoiled = self.now.spoiled; state = self.now.world.state } }
     {
         &self.board
     }
 
+    /// The limits of the run: no call changes them.
     pub fn options(&self) -> &Options
         ensures value { result.now ≡ self.now.world.options }
         ensures turns { self.now.world.turn ≤ self.now.world.options.turns }

@@ -1,7 +1,7 @@
 ghost use Rattle.std.specs.Prelude.{◌≡◌, ◌<◌, not, nat_lt, IfOk, Some, length, true, false};
 ghost use Rattle.pl_entry.specs.Bounds.{IsDispatchReply};
-ghost use Rattle.pl_world.specs.PlanStates.{found, is_committed};
-ghost use Rattle.pl_world.specs.Whole.{IsWhole};
+ghost use Rattle.pl_semantics.specs.PlanStates.{found, is_committed};
+ghost use Rattle.pl_semantics.specs.Whole.{IsWhole};
 ghost use Rattle.pl_machine.specs.World.{due_in};
 ghost use Rattle.pl_machine.specs.Step.{all_sent, is_enabled, sent_of, reply_of};
 ghost use Rattle.pl_machine.specs.Sending.{StartsLast};

@@ -1,18 +1,18 @@
 ghost use Rattle.std.specs.Prelude.{◌≡◌};
-ghost use Rattle.pl_rules.specs.declared.symbol.Symbol.TheVariants as symbol;
+ghost use Rattle.pl_syntax.specs.declared.symbol.Symbol.TheVariants as symbol;
 ghost use Rattle.pl_text.specs.declared.word.Word.TheVariants as word;
-ghost use Rattle.pl_rules.specs.Tokens.{is_word, is_symbol};
-ghost use Rattle.pl_rules.specs.Parsing.{made};
+ghost use Rattle.pl_syntax.specs.Tokens.{is_word, is_symbol};
+ghost use Rattle.pl_syntax.specs.Parsing.{made};
 ghost use Rattle.pl_syntax.specs.Reading.{list_of, many_at, binding_at, further_at, given_at, bindings_at, slot_at, order_at, slots_at, orders_at, alternative_at, alternatives_at};
 ghost use Rattle.pl_syntax.specs.Gives.{Gives};
 
 use super::Reader;
+use crate::Symbol;
 use crate::alternatives::{AstAlternative, AstOrder, AstSlot};
 use crate::expressions::AstExpr;
 use crate::fault::Stopped;
 use pl_lists::Items;
 use pl_model::Name;
-use pl_rules::Symbol;
 use pl_text::Word;
 
 impl<'a> Reader<'a> {
@@ -27,7 +27,7 @@ impl<'a> Reader<'a> {
     }
 
     /// The bindings behind the first.
-    #[tactic(auto, using(pl_rules::proofs::Turns::many_goes, pl_rules::proofs::Turns::many_fails, pl_rules::proofs::Turns::many_stops, pl_rules::proofs::Turns::many_ends))]
+    #[tactic(auto, using(crate::proofs::Turns::many_goes, crate::proofs::Turns::many_fails, crate::proofs::Turns::many_stops, crate::proofs::Turns::many_ends))]
     fn other_bindings(&mut self, first: (Name, AstExpr)) -> Result<Items<(Name, AstExpr)>, Stopped>
         ensures { Gives result self.new.rest.now (made (list_of first) (many_at (is_symbol symbol.Comma) (further_at 32 32)) self.old.rest.now) }
     {
@@ -90,7 +90,7 @@ impl<'a> Reader<'a> {
     }
 
     /// The slots behind the first.
-    #[tactic(auto, using(pl_rules::proofs::Turns::many_goes, pl_rules::proofs::Turns::many_fails, pl_rules::proofs::Turns::many_stops, pl_rules::proofs::Turns::many_ends))]
+    #[tactic(auto, using(crate::proofs::Turns::many_goes, crate::proofs::Turns::many_fails, crate::proofs::Turns::many_stops, crate::proofs::Turns::many_ends))]
     fn other_slots(&mut self, first: AstSlot) -> Result<Items<AstSlot>, Stopped>
         ensures { Gives result self.new.rest.now (made (list_of first) (many_at (is_word word.Slot) (slot_at 32 32)) self.old.rest.now) }
     {
@@ -136,7 +136,7 @@ impl<'a> Reader<'a> {
         })
     }
 
-    #[tactic(auto, using(pl_rules::proofs::Turns::many_goes, pl_rules::proofs::Turns::many_fails, pl_rules::proofs::Turns::many_stops, pl_rules::proofs::Turns::many_ends), unfolding(crate::specs::Reading::orders_at))]
+    #[tactic(auto, using(crate::proofs::Turns::many_goes, crate::proofs::Turns::many_fails, crate::proofs::Turns::many_stops, crate::proofs::Turns::many_ends), unfolding(crate::specs::Reading::orders_at))]
     fn orders(&mut self) -> Result<Items<AstOrder>, Stopped>
         ensures { Gives result self.new.rest.now (orders_at self.old.rest.now) }
     {
@@ -163,7 +163,8 @@ impl<'a> Reader<'a> {
         Ok(AstAlternative { slots, orders })
     }
 
-    #[tactic(auto, using(pl_rules::proofs::Turns::many_goes, pl_rules::proofs::Turns::many_fails, pl_rules::proofs::Turns::many_stops, pl_rules::proofs::Turns::many_ends), unfolding(crate::specs::Reading::alternatives_at))]
+    /// Takes alternatives as long as one begins.
+    #[tactic(auto, using(crate::proofs::Turns::many_goes, crate::proofs::Turns::many_fails, crate::proofs::Turns::many_stops, crate::proofs::Turns::many_ends), unfolding(crate::specs::Reading::alternatives_at))]
     pub fn alternatives(&mut self) -> Result<Items<AstAlternative>, Stopped>
         ensures { Gives result self.new.rest.now (alternatives_at 32 32 self.old.rest.now) }
     {

@@ -1,9 +1,9 @@
 ghost use Rattle.std.specs.Prelude.{List, ◌≡◌, ◌≤◌, ◌<◌, ◌^◌, ◌+◌, length, IfOk, IfErr};
-ghost use Rattle.pl_rules.specs.declared.token.Token.TheVariants as token;
-ghost use Rattle.pl_rules.specs.declared.symbol.Symbol.TheVariants as symbol;
+ghost use Rattle.pl_syntax.specs.declared.token.Token.TheVariants as token;
+ghost use Rattle.pl_syntax.specs.declared.symbol.Symbol.TheVariants as symbol;
 ghost use Rattle.pl_model.specs.declared.expressions.Op.TheVariants as ops;
 ghost use Rattle.pl_syntax.specs.declared.fault.Stopped.TheVariants.{Memory};
-ghost use Rattle.pl_rules.specs.Parsing.{natural_of};
+ghost use Rattle.pl_syntax.specs.Parsing.{natural_of};
 ghost use Rattle.pl_syntax.specs.Expressions.{apply, Pick, pick_op, pick_token};
 ghost use Rattle.pl_syntax.specs.ReadingExpressions.{leaf_of, group_by, operand, eats_sign, inner_at, group_with, pick_with, factor_with, products_by, sums_by, term_with, expr_at};
 ghost use Rattle.pl_syntax.specs.Gives.{Gives};
@@ -11,9 +11,9 @@ ghost use Rattle.pl_syntax.specs.Gives.{Gives};
 use super::Reader;
 use crate::expressions::AstExpr;
 use crate::fault::Stopped;
+use crate::{Symbol, Token};
 use pl_lists::{Boxed, Copied};
 use pl_model::Op;
-use pl_rules::{Symbol, Token};
 use pl_text::Word;
 use std::alloc::Global;
 
@@ -239,6 +239,7 @@ impl<'a> Reader<'a> {
         Ok(left)
     }
 
+    /// Takes an expression of at most so many levels, with brackets at most so deep, and tells how many levels it has.
     #[cycle(expr)]
     #[tactic(auto, using(crate::proofs::ExprExact::expr_at_is), unfolding(crate::specs::ReadingExpressions::expr_with))]
     pub fn expr(&mut self, levels: u32, brackets: u32) -> Result<(AstExpr, u32), Stopped>

@@ -6,8 +6,8 @@ use super::Reader;
 use crate::fault::Stopped;
 use crate::kinds::AstKind;
 use crate::parameters::{AstOrigin, AstParam};
+use crate::{Symbol, Token};
 use pl_lists::Items;
-use pl_rules::{Symbol, Token};
 use pl_text::Word;
 
 impl<'a> Reader<'a> {
@@ -47,7 +47,7 @@ impl<'a> Reader<'a> {
         })
     }
 
-    #[tactic(auto, using(pl_rules::proofs::Turns::many_goes, pl_rules::proofs::Turns::many_fails, pl_rules::proofs::Turns::many_stops, pl_rules::proofs::Turns::many_ends), unfolding(crate::specs::Reading::params_at))]
+    #[tactic(auto, using(crate::proofs::Turns::many_goes, crate::proofs::Turns::many_fails, crate::proofs::Turns::many_stops, crate::proofs::Turns::many_ends), unfolding(crate::specs::Reading::params_at))]
     fn params(&mut self) -> Result<Items<AstParam>, Stopped>
         ensures { Gives result self.new.rest.now (params_at 32 32 self.old.rest.now) }
     {
@@ -62,6 +62,7 @@ impl<'a> Reader<'a> {
         Ok(params)
     }
 
+    /// Takes a kind of activity.
     #[tactic(auto, unfolding(crate::specs::Reading::kind_at))]
     pub fn kind(&mut self) -> Result<AstKind, Stopped>
         ensures { Gives result self.new.rest.now (kind_at 32 32 self.old.rest.now) }

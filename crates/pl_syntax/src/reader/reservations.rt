@@ -1,15 +1,15 @@
 ghost use Rattle.std.specs.Prelude.{◌≡◌};
-ghost use Rattle.pl_rules.specs.Parsing.{next_is};
+ghost use Rattle.pl_syntax.specs.Parsing.{next_is};
 ghost use Rattle.pl_syntax.specs.Reading.{take_at, when_at, raise_at, lower_at, put_at, must_at, is_reservation, reservation_at, reservations_at, link_at, links_at};
 ghost use Rattle.pl_syntax.specs.Gives.{Gives};
 
 use super::Reader;
+use crate::Token;
 use crate::fault::Stopped;
 use crate::links::AstLink;
 use crate::reservations::AstReservation;
 use pl_lists::Items;
 use pl_model::Point;
-use pl_rules::Token;
 use pl_text::Word;
 
 impl<'a> Reader<'a> {
@@ -100,7 +100,8 @@ impl<'a> Reader<'a> {
         }
     }
 
-    #[tactic(auto, using(pl_rules::proofs::Turns::many_goes, pl_rules::proofs::Turns::many_fails, pl_rules::proofs::Turns::many_stops, pl_rules::proofs::Turns::many_ends), unfolding(crate::specs::Reading::reservations_at))]
+    /// Takes reservations as long as one begins.
+    #[tactic(auto, using(crate::proofs::Turns::many_goes, crate::proofs::Turns::many_fails, crate::proofs::Turns::many_stops, crate::proofs::Turns::many_ends), unfolding(crate::specs::Reading::reservations_at))]
     pub fn reservations(&mut self) -> Result<Items<AstReservation>, Stopped>
         ensures { Gives result self.new.rest.now (reservations_at 32 32 self.old.rest.now) }
     {
@@ -134,7 +135,8 @@ impl<'a> Reader<'a> {
         })
     }
 
-    #[tactic(auto, using(pl_rules::proofs::Turns::many_goes, pl_rules::proofs::Turns::many_fails, pl_rules::proofs::Turns::many_stops, pl_rules::proofs::Turns::many_ends), unfolding(crate::specs::Reading::links_at))]
+    /// Takes links as long as one begins.
+    #[tactic(auto, using(crate::proofs::Turns::many_goes, crate::proofs::Turns::many_fails, crate::proofs::Turns::many_stops, crate::proofs::Turns::many_ends), unfolding(crate::specs::Reading::links_at))]
     pub fn links(&mut self) -> Result<Items<AstLink>, Stopped>
         ensures { Gives result self.new.rest.now (links_at self.old.rest.now) }
     {

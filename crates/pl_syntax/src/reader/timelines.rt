@@ -1,19 +1,19 @@
 ghost use Rattle.std.specs.Prelude.{◌≡◌};
-ghost use Rattle.pl_rules.specs.Parsing.{made};
+ghost use Rattle.pl_syntax.specs.Parsing.{made};
 ghost use Rattle.pl_syntax.specs.Reading.{name_at, list_of, many_at, is_name_token, names_at, step_at, steps_list_at, steps_at, capacity_at, level_at, states_at, timeline_at};
 ghost use Rattle.pl_syntax.specs.Gives.{Gives};
 
 use super::Reader;
 use crate::fault::Stopped;
 use crate::timelines::AstTimeline;
+use crate::{Symbol, Token};
 use pl_lists::Items;
 use pl_model::Name;
-use pl_rules::{Symbol, Token};
 use pl_text::Word;
 
 impl<'a> Reader<'a> {
     /// The names behind the first.
-    #[tactic(auto, using(pl_rules::proofs::Turns::many_goes, pl_rules::proofs::Turns::many_fails, pl_rules::proofs::Turns::many_stops, pl_rules::proofs::Turns::many_ends))]
+    #[tactic(auto, using(crate::proofs::Turns::many_goes, crate::proofs::Turns::many_fails, crate::proofs::Turns::many_stops, crate::proofs::Turns::many_ends))]
     fn other_names(&mut self, first: Name) -> Result<Items<Name>, Stopped>
         ensures { Gives result self.new.rest.now (made (list_of first) (many_at is_name_token name_at) self.old.rest.now) }
     {
@@ -48,7 +48,7 @@ impl<'a> Reader<'a> {
         Ok((from, to))
     }
 
-    #[tactic(auto, using(pl_rules::proofs::Turns::many_goes, pl_rules::proofs::Turns::many_fails, pl_rules::proofs::Turns::many_stops, pl_rules::proofs::Turns::many_ends), unfolding(crate::specs::Reading::steps_list_at))]
+    #[tactic(auto, using(crate::proofs::Turns::many_goes, crate::proofs::Turns::many_fails, crate::proofs::Turns::many_stops, crate::proofs::Turns::many_ends), unfolding(crate::specs::Reading::steps_list_at))]
     fn steps_list(&mut self) -> Result<Items<(Name, Name)>, Stopped>
         ensures { Gives result self.new.rest.now (steps_list_at self.old.rest.now) }
     {
@@ -124,6 +124,7 @@ impl<'a> Reader<'a> {
         })
     }
 
+    /// Takes a timeline of any sort.
     #[tactic(auto, unfolding(crate::specs::Reading::timeline_at))]
     pub fn timeline(&mut self) -> Result<AstTimeline, Stopped>
         ensures { Gives result self.new.rest.now (timeline_at self.old.rest.now) }

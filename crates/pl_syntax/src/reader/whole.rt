@@ -1,13 +1,13 @@
 ghost use Rattle.std.specs.Prelude.{◌≡◌};
-ghost use Rattle.pl_rules.specs.Parsing.{next_is};
+ghost use Rattle.pl_syntax.specs.Parsing.{next_is};
 ghost use Rattle.pl_syntax.specs.Reading.{is_item, item_at, items_at, model_at, read_all};
 ghost use Rattle.pl_syntax.specs.Gives.{Gives, GivesAll};
 
 use super::Reader;
+use crate::Token;
 use crate::fault::Stopped;
 use crate::whole::{Ast, Item};
 use pl_lists::Items;
-use pl_rules::Token;
 use pl_text::Word;
 
 impl<'a> Reader<'a> {
@@ -35,7 +35,7 @@ impl<'a> Reader<'a> {
         }
     }
 
-    #[tactic(auto, using(pl_rules::proofs::Turns::many_goes, pl_rules::proofs::Turns::many_fails, pl_rules::proofs::Turns::many_stops, pl_rules::proofs::Turns::many_ends), unfolding(crate::specs::Reading::items_at))]
+    #[tactic(auto, using(crate::proofs::Turns::many_goes, crate::proofs::Turns::many_fails, crate::proofs::Turns::many_stops, crate::proofs::Turns::many_ends), unfolding(crate::specs::Reading::items_at))]
     fn items(&mut self) -> Result<Items<Item>, Stopped>
         ensures { Gives result self.new.rest.now (items_at 32 32 self.old.rest.now) }
     {

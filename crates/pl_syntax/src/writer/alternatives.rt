@@ -6,9 +6,9 @@ use super::{
 };
 use crate::alternatives::{AstAlternative, AstOrder, AstSlot};
 use crate::expressions::AstExpr;
+use crate::{Symbol, Token};
 use pl_lists::Items;
 use pl_model::Name;
-use pl_rules::{Symbol, Token};
 use pl_text::Word;
 use std::alloc::{AllocError, Global};
 

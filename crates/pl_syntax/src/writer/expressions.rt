@@ -3,9 +3,9 @@ ghost use Rattle.pl_syntax.specs.Canonical.{between, front, expr_tokens};
 
 use super::{Written, push_name, push_number, push_symbol, push_word};
 use crate::expressions::AstExpr;
+use crate::{Symbol, Token};
 use pl_lists::Items;
 use pl_model::Op;
-use pl_rules::{Symbol, Token};
 use pl_text::Word;
 use std::alloc::{AllocError, Global};
 

@@ -6,9 +6,9 @@ use crate::kinds::AstKind;
 use crate::links::AstLink;
 use crate::parameters::{AstOrigin, AstParam};
 use crate::reservations::AstReservation;
+use crate::{Symbol, Token};
 use pl_lists::Items;
 use pl_model::Point;
-use pl_rules::{Symbol, Token};
 use pl_text::Word;
 use std::alloc::{AllocError, Global};
 

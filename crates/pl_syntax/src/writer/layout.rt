@@ -1,9 +1,9 @@
 ghost use Rattle.std.specs.Prelude.{◌≡◌, ◌++◌, ◌∷◌, [], OnOk, IfOk, if◌then◌else◌, unsigned_abs};
 ghost use Rattle.std.specs.Fmt.{decimal};
-ghost use Rattle.pl_rules.specs.declared.token.Token.TheVariants as token;
+ghost use Rattle.pl_syntax.specs.declared.token.Token.TheVariants as token;
 ghost use Rattle.pl_syntax.specs.Canonical.{token_text, begins_line, breaks, in_states_behind, laid, text_of};
 
-use pl_rules::{Symbol, Token};
+use crate::{Symbol, Token};
 use pl_text::Word;
 use std::alloc::{AllocError, Global};
 

@@ -3,9 +3,9 @@ ghost use Rattle.pl_syntax.specs.Canonical.{step_tokens, steps_tokens, timeline_
 
 use super::{Written, push_each, push_name, push_number, push_symbol, push_word};
 use crate::timelines::AstTimeline;
+use crate::{Symbol, Token};
 use pl_lists::Items;
 use pl_model::Name;
-use pl_rules::{Symbol, Token};
 use pl_text::Word;
 use std::alloc::{AllocError, Global};
 

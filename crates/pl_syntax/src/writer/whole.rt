@@ -2,9 +2,9 @@ ghost use Rattle.std.specs.Prelude.{◌≡◌, IfOk};
 ghost use Rattle.pl_syntax.specs.Canonical.{item_tokens, model_tokens};
 
 use super::{Written, push_each, push_number, push_word};
+use crate::Token;
 use crate::whole::{Ast, Item};
 use pl_lists::Items;
-use pl_rules::Token;
 use pl_text::Word;
 use std::alloc::{AllocError, Global};
 

@@ -4,12 +4,13 @@ use mir.Val.{to_z, of_z}
 use mir.Syntax.{w64}
 use Rattle.std.proofs.lemmas.Int.{to_z-of_z}
 use Rattle.std.proofs.lemmas.List.{length-drop}
+use Rattle.std.proofs.lemmas.Bool.{or_left, or_right, or_from}
 use Rattle.pl_points.specs.Sums.{IsSmall}
 use Rattle.pl_points.specs.Points.{leaving, SmallFrom}
 use Rattle.pl_points.proofs.Outside.{same_leaving}
 use Rattle.pl_blocks.specs.Blocks.{together, change_of, least_sum, greatest_sum}
 use Rattle.pl_blocks.proofs.Rows.{small_sum, small_split, small_head, drop_block, sized_at}
-use Rattle.pl_blocks.proofs.Summaries.{either_out, out_there, leaving_first, leaving_later, or_left, or_right, or_neither}
+use Rattle.pl_blocks.proofs.Summaries.{either_out, out_there, leaving_first, leaving_later}
 use Rattle.pl_blocks.proofs.Searches.{small_fronts, ahead_there}
 use Rattle.pl_blocks.proofs.blocks.leaving_blocks.Goals as goal
 use Rattle.pl_blocks.proofs.blocks.leaving_blocks.Goals.{then-sum-least-via-then-sum-least, then-sum-least-via-else-sum-least+then-most-sum}
@@ -111,7 +112,7 @@ loop-block-preserved g c =
     let low = (small_sum s c.least.result (small_head s b small.0) (subst (λ z. IsSmall (s +ℤ z)) (sym c.least.ensures) fronts.0)).1 ∙ ap (λ z. s +ℤ z) c.least.ensures in
     let high = (small_sum s c.greatest.result (small_head s b small.0) (subst (λ z. IsSmall (s +ℤ z)) (sym c.greatest.ensures) fronts.1)).1 ∙ ap (λ z. s +ℤ z) c.greatest.ensures in
     let value : to_z w64 (of_z w64 (s +ℤ to_z w64 (of_z w64 c.sum-sum.result))) ≡ s +ℤ change_of b = (small_sum s c.sum-sum.result (small_head s b small.0) (subst (λ z. IsSmall (s +ℤ z)) (sym c.sum-sum.ensures) (small_head (s +ℤ change_of b) more small.1))).1 ∙ ap (λ z. s +ℤ z) c.sum-sum.ensures in
-    let inside : either_out L M (s +ℤ least_sum b) (s +ℤ greatest_sum b) ≡ false = or_neither (int_lt (s +ℤ least_sum b) L) (int_lt M (s +ℤ greatest_sum b)) (ap (λ z. int_lt z L) (sym low) ∙ c.if-sum-least.false) (ap (int_lt M) (sym high) ∙ c.if-most-sum.false) in
+    let inside : either_out L M (s +ℤ least_sum b) (s +ℤ greatest_sum b) ≡ false = or_from (int_lt (s +ℤ least_sum b) L) (int_lt M (s +ℤ greatest_sum b)) (ap (λ z. int_lt z L) (sym low) ∙ c.if-sum-least.false) (ap (int_lt M) (sym high) ∙ c.if-most-sum.false) in
     let none : is_some (leaving L M s b) ≡ false = sym (out_there L M s b some) ∙ inside in
     let here : leaving L M s (together (drop i bs)) ≡ leaving L M (s +ℤ change_of b) more = ap (λ l. leaving L M s (together l)) cut ∙ leaving_later L M s b more none in
     record {

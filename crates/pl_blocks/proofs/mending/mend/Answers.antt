@@ -1,13 +1,12 @@
 use Rattle.std.proofs.Common.{rules, ◌≡◌, ◌-◌, ◌++◌, ◌∷◌, [], suc, ap, ◌∙◌, arith, length, take, drop, get_or, set}
-use Rattle.std.proofs.lemmas.List.{set_split}
-use Rattle.pl_blocks.proofs.Searches.{no_items}
+use Rattle.std.proofs.lemmas.List.{set_split, nil_from_length}
 use Rattle.pl_blocks.proofs.Mends.{one_part, mended_none, mended_one, size_before}
 use Rattle.pl_blocks.proofs.mending.mend.Goals as goal
 
 pub returns-then-count-eq0-clause-ok : goal.returns-then-count-eq0-clause-ok
 returns-then-count-eq0-clause-ok g c =
     let bs = c.args.blocks.now.items in
-    let none : c.args.points.items ≡ [] = no_items c.args.points.items (search (rules, c.if-count-eq0.true, c.len-count.ensures)) in
+    let none : c.args.points.items ≡ [] = nil_from_length c.args.points.items (search (rules, c.if-count-eq0.true, c.len-count.ensures)) in
     mended_none bs c.args.place c.args.points.items c.remove.new.self.items c.requires none c.remove.ensures.items
 
 pub new-requires-clause-rising : goal.new-requires-clause-rising

@@ -1,6 +1,6 @@
 use Rattle.std.proofs.Common.{ap}
 use Rattle.pl_plan.specs.declared.evaluated.Evaluated.{Evaluated}
-use Rattle.pl_values.proofs.Reading.{kept_is, none_kept}
+use Rattle.pl_update.proofs.AboutEvaluations.Reading.{kept_is, none_kept}
 use Rattle.pl_board.proofs.asking.add_asked.Goals as goal
 
 pub demands_with-requires-clause-amounts : goal.demands_with-requires-clause-amounts

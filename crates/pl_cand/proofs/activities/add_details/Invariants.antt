@@ -1,6 +1,6 @@
 use Rattle.std.proofs.Common.{◌≡◌, ◌++◌, drop, map}
-use Rattle.pl_world.specs.PlanStates.{numbered}
-use Rattle.pl_world.specs.Moves.{alternatives_at}
+use Rattle.pl_semantics.specs.PlanStates.{numbered}
+use Rattle.pl_semantics.specs.Moves.{alternatives_at}
 use Rattle.pl_cand.specs.Details.{detail_of}
 use Rattle.pl_cand.proofs.activities.add_details.Given as goal
 

@@ -1,6 +1,6 @@
 use Rattle.std.proofs.Common.{◌≡◌, ◌++◌, drop}
 use Rattle.std.specs.List.{flat_map}
-use Rattle.pl_world.specs.PlanStates.{numbered}
+use Rattle.pl_semantics.specs.PlanStates.{numbered}
 use Rattle.pl_cand.specs.Details.{assigns_if_free}
 use Rattle.pl_cand.proofs.activities.add_free_assigns.Given as goal
 

@@ -1,7 +1,7 @@
 use Rattle.std.proofs.Common.{◌≡◌, ◌<◌, ◌++◌, ◌∷◌, [], length, true, false, rules, arith, sym, ◌∙◌}
 use Rattle.std.specs.List.{list_any}
 use Rattle.std.proofs.lemmas.Grind.{common_steps}
-use Rattle.pl_world.specs.Candidates.{same_move}
+use Rattle.pl_semantics.specs.Candidates.{same_move}
 use Rattle.pl_cand.proofs.Keeping.{stand_new}
 use Rattle.pl_cand.proofs.cuts.add_if_new.Goals as goal
 

@@ -1,6 +1,6 @@
 use Rattle.std.proofs.Common.{◌≡◌, drop}
 use Rattle.std.specs.List.{list_any}
-use Rattle.pl_world.specs.Candidates.{same_move}
+use Rattle.pl_semantics.specs.Candidates.{same_move}
 use Rattle.pl_cand.proofs.cuts.contains_same.Given as goal
 
 -- none so far

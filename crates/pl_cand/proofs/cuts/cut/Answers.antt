@@ -1,5 +1,5 @@
 use Rattle.std.proofs.Common.{◌≤◌, drop, length, take, filter, rules, arith, sym, ap, ◌∙◌}
-use Rattle.pl_world.specs.Candidates.{is_worth}
+use Rattle.pl_semantics.specs.Candidates.{is_worth}
 use Rattle.pl_cand.proofs.Keeping.{stand_end, once_is, nothing_left}
 use Rattle.pl_cand.proofs.cuts.cut.Goals as goal
 

@@ -1,5 +1,5 @@
 use Rattle.std.proofs.Common.{◌≡◌, [], drop, IfSome}
-use Rattle.pl_world.specs.Candidates.{is_worth}
+use Rattle.pl_semantics.specs.Candidates.{is_worth}
 use Rattle.pl_cand.specs.Cuts.{standing}
 use Rattle.pl_cand.proofs.cuts.cut.Given as goal
 

@@ -1,6 +1,6 @@
 use Rattle.std.proofs.Common.{◌≡◌, ◌++◌, take}
 use Rattle.std.specs.List.{flat_map}
-use Rattle.pl_world.specs.Starts.{adds_of}
+use Rattle.pl_semantics.specs.Starts.{adds_of}
 use Rattle.pl_cand.proofs.helping.add_each.Given as goal
 
 abbrev pub invariant-loop-kind : goal.invariant-loop-kind

@@ -1,5 +1,5 @@
 use Rattle.std.proofs.Common.{◌+◌, drop, sym, ap, ◌∙◌}
-use Rattle.pl_world.specs.PlanStates.{numbered}
+use Rattle.pl_semantics.specs.PlanStates.{numbered}
 use Rattle.pl_cand.specs.Helping.{helpers_with}
 use Rattle.pl_cand.proofs.Keeping.{numbered_here}
 use Rattle.pl_cand.proofs.helping.first_helpers.Goals as goal

@@ -1,7 +1,7 @@
 use Rattle.std.proofs.Common.{◌≡◌, List, ◌++◌, append_assoc, rules, to_z, of_z, w64}
 use Rattle.std.specs.Prelude.{pos, ◌+ℤ◌, ◌-ℤ◌}
 use Rattle.pl_plan.specs.declared.repair.RepairMove.{RepairMove}
-use Rattle.pl_world.specs.Repairs.{shift_one}
+use Rattle.pl_semantics.specs.Repairs.{shift_one}
 use Rattle.pl_cand.proofs.links.add_order_shifts.Goals as goal
 
 -- four lists, each put behind what is there

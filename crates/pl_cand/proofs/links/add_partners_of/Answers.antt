@@ -3,7 +3,7 @@ use Rattle.std.proofs.lemmas.Grind.{common_steps}
 use Rattle.std.proofs.lemmas.Option.{slice_get_past}
 use Rattle.pl_model.specs.declared.links.Link.{Link}
 use Rattle.pl_links.specs.Broken.{links_of}
-use Rattle.pl_world.specs.Links.{placed_of}
+use Rattle.pl_semantics.specs.Links.{placed_of}
 use Rattle.pl_cand.proofs.links.add_partners_of.Goals as goal
 
 pub returns-in-None : goal.returns-in-None

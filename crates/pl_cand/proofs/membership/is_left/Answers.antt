@@ -1,7 +1,7 @@
 use Rattle.std.proofs.Common.{◌≡◌, true, false, take, rules, sym, ap, arith, ◌∙◌}
 use Rattle.std.proofs.lemmas.Grind.{common_steps}
 use Rattle.std.specs.List.{list_any}
-use Rattle.pl_world.specs.Candidates.{is_worth, same_move}
+use Rattle.pl_semantics.specs.Candidates.{is_worth, same_move}
 use Rattle.pl_cand.proofs.Among.{early_left, untried_left, worthless_left}
 use Rattle.pl_cand.proofs.membership.is_left.Goals as goal
 

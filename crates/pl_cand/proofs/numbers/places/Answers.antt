@@ -1,7 +1,7 @@
 use Rattle.std.proofs.Common.{◌≡◌, ◌∙◌}
 use Rattle.std.proofs.lemmas.List.Elements.{All-same}
-use Rattle.pl_world.specs.Starts.{places_of}
-use Rattle.pl_world.specs.Whole.{IsWhole}
+use Rattle.pl_semantics.specs.Starts.{places_of}
+use Rattle.pl_semantics.specs.Whole.{IsWhole}
 use Rattle.pl_cand.specs.Near.{IsSmall}
 use Rattle.pl_cand.proofs.Small.{places_small}
 use Rattle.pl_cand.proofs.numbers.places.Goals as goal

@@ -2,7 +2,7 @@ use Rattle.std.proofs.Common.{◌≡◌, rules, arith, pos}
 use Rattle.std.specs.Prelude.{◌≤ℤ◌}
 use Rattle.std.proofs.lemmas.Int.{ints}
 use Rattle.std.proofs.lemmas.List.Elements.{All-same}
-use Rattle.pl_world.specs.Starts.{spread}
+use Rattle.pl_semantics.specs.Starts.{spread}
 use Rattle.pl_cand.specs.Near.{IsSmall}
 use Rattle.pl_cand.proofs.Small.{spread_small}
 use Rattle.pl_cand.proofs.numbers.spread.Goals as goal

@@ -1,7 +1,7 @@
-use Rattle.pl_world.specs.Links.{order_at}
+use Rattle.pl_semantics.specs.Links.{order_at}
 use Rattle.pl_model.specs.declared.alternatives.Order.{Order}
 use Rattle.pl_cand.specs.Near.{IsNear}
-use Rattle.pl_world.proofs.Found.{known_by}
+use Rattle.pl_semantics.proofs.Found.{known_by}
 use Rattle.pl_cand.proofs.Checks.{order_is_near}
 use Rattle.pl_cand.proofs.reading.checked_order.Goals as goal
 

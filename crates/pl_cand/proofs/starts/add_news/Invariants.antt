@@ -1,7 +1,7 @@
 use Rattle.std.proofs.Common.{◌≡◌, ◌++◌, take}
 use Rattle.std.specs.List.{flat_map}
 use Rattle.pl_plan.specs.declared.repair.RepairMove.TheVariants.{Add}
-use Rattle.pl_world.specs.Starts.{starting}
+use Rattle.pl_semantics.specs.Starts.{starting}
 use Rattle.pl_cand.proofs.starts.add_news.Given as goal
 
 abbrev pub invariant-loop-start : goal.invariant-loop-start

@@ -1,6 +1,6 @@
 use Rattle.std.proofs.Common.{◌≡◌, ◌++◌, take}
 use Rattle.std.specs.List.{flat_map}
-use Rattle.pl_world.specs.Starts.{starting, shift_to}
+use Rattle.pl_semantics.specs.Starts.{starting, shift_to}
 use Rattle.pl_cand.proofs.starts.add_shifts.Given as goal
 
 abbrev pub invariant-loop-start : goal.invariant-loop-start

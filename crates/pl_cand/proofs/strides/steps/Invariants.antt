@@ -1,5 +1,5 @@
 use Rattle.std.proofs.Common.{◌≡◌, ◌++◌}
-use Rattle.pl_world.specs.Starts.{steps_from}
+use Rattle.pl_semantics.specs.Starts.{steps_from}
 use Rattle.pl_cand.proofs.strides.steps.Given as goal
 
 -- what is there and what the other steps give

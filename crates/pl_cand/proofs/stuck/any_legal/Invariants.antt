@@ -1,6 +1,6 @@
 use Rattle.std.proofs.Common.{◌≡◌, drop}
 use Rattle.std.specs.List.{list_any}
-use Rattle.pl_world.specs.Legal.{is_legal}
+use Rattle.pl_semantics.specs.Legal.{is_legal}
 use Rattle.pl_cand.proofs.stuck.any_legal.Given as goal
 
 -- none so far

@@ -3,8 +3,8 @@ use Rattle.std.specs.List.{list_any}
 use Rattle.std.specs.Map.Iter.{deref}
 use Rattle.std.proofs.lemmas.Map.Iter.{rest_more, rest_all}
 use Rattle.pl_conflict.specs.declared.conflict.Conflict.{Conflict}
-use Rattle.pl_world.specs.Conflicts.{conflicts_of}
-use Rattle.pl_world.specs.Legal.{has_repair}
+use Rattle.pl_semantics.specs.Conflicts.{conflicts_of}
+use Rattle.pl_semantics.specs.Legal.{has_repair}
 use Rattle.pl_cand.proofs.Search.{any_step, any_here, any_end}
 use Rattle.pl_cand.proofs.stuck.any_repair.Goals as goal
 

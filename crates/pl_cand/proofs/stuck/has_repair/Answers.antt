@@ -1,4 +1,4 @@
-use Rattle.pl_world.proofs.Sifting.{proper}
+use Rattle.pl_semantics.proofs.Sifting.{proper}
 use Rattle.pl_cand.proofs.stuck.has_repair.Goals as goal
 
 pub any_legal-requires-clause-proper : goal.any_legal-requires-clause-proper

@@ -1,8 +1,8 @@
 use Rattle.std.proofs.Common.{◌≡◌, ◌++◌, map, append_assoc, refl, ◌∙◌}
 use Rattle.std.specs.List.{flat_map}
 use Rattle.pl_plan.specs.Trees.{id_of}
-use Rattle.pl_world.specs.Starts.{help_until, helpers}
-use Rattle.pl_world.specs.LineRepairs.{first_eight, raises, lowers_below}
+use Rattle.pl_semantics.specs.Starts.{help_until, helpers}
+use Rattle.pl_semantics.specs.LineRepairs.{first_eight, raises, lowers_below}
 use Rattle.pl_cand.specs.ById.{moves_of_id}
 use Rattle.pl_cand.proofs.Playing.{moves_by_ids}
 use Rattle.pl_cand.proofs.timelines.for_low.Goals as goal

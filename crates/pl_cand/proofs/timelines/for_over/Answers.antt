@@ -1,7 +1,7 @@
 use Rattle.std.proofs.Common.{◌≡◌, ◌++◌, map, append_assoc, refl, ◌∙◌}
 use Rattle.std.specs.List.{flat_map}
 use Rattle.pl_plan.specs.Trees.{id_of}
-use Rattle.pl_world.specs.LineRepairs.{first_eight, takes_in}
+use Rattle.pl_semantics.specs.LineRepairs.{first_eight, takes_in}
 use Rattle.pl_cand.specs.ById.{around_id, moves_of_id}
 use Rattle.pl_cand.proofs.Playing.{around_by_ids, moves_by_ids}
 use Rattle.pl_cand.proofs.timelines.for_over.Goals as goal

@@ -1,4 +1,4 @@
-use Rattle.pl_world.proofs.Found.{found_here}
+use Rattle.pl_semantics.proofs.Found.{found_here}
 use Rattle.pl_cand.proofs.users.first_users.Goals as goal
 
 pub add_if_user-requires-clause-live : goal.add_if_user-requires-clause-live

@@ -1,8 +1,8 @@
 use Rattle.std.proofs.Common.{◌≡◌, ◌∙◌, Some, false, sym, rules}
-use Rattle.pl_world.specs.PlanStates.{end_at}
+use Rattle.pl_semantics.specs.PlanStates.{end_at}
 use Rattle.std.specs.List.{list_any}
 use Rattle.pl_plan.specs.Fitting.{kind_of}
-use Rattle.pl_world.specs.PlanStates.{reservations_in}
+use Rattle.pl_semantics.specs.PlanStates.{reservations_in}
 use Rattle.pl_cand.specs.Tests.{may_take}
 use Rattle.pl_cand.proofs.Playing.{amounts_here, takes_never, takes_some}
 use Rattle.pl_cand.proofs.users.takes_in.Goals as goal

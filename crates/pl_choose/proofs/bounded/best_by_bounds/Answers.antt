@@ -1,7 +1,7 @@
 use Rattle.std.proofs.Common.{◌≡◌, ◌<◌, ◌≤◌, ◌-◌, ◌∙◌, List, length, take, drop, ℕ, arith}
 use Rattle.std.proofs.lemmas.List.{take_rest, length-drop}
 use Rattle.pl_plan.specs.declared.repair.RepairMove.{RepairMove}
-use Rattle.pl_world.specs.Legal.{left_after}
+use Rattle.pl_semantics.specs.Legal.{left_after}
 use Rattle.pl_choose.specs.declared.best.Best.{Best}
 use Rattle.pl_choose.specs.Tried.{best_of, AreHopes}
 use Rattle.pl_choose.proofs.Trying.{least_drop, run_tried}

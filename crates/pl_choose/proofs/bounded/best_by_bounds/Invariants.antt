@@ -1,8 +1,8 @@
 -- the best so far and those that are left lead to the best of all
 use Rattle.std.proofs.Common.{◌≡◌, length}
 use Rattle.std.specs.Prelude.{All}
-use Rattle.pl_world.specs.Legal.{left_after}
-use Rattle.pl_outlook.specs.Bounds.{AreLeast}
+use Rattle.pl_semantics.specs.Legal.{left_after}
+use Rattle.pl_bounds.specs.Bounds.{AreLeast}
 use Rattle.pl_choose.specs.Found.{IsAllowed}
 use Rattle.pl_choose.specs.Tried.{best_of}
 use Rattle.pl_choose.proofs.bounded.best_by_bounds.Given as goal

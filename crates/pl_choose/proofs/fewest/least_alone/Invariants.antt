@@ -1,6 +1,6 @@
 -- no higher than what those so far leave
 use Rattle.std.specs.Prelude.{◌≤◌, All, take}
-use Rattle.pl_world.specs.Legal.{left_after}
+use Rattle.pl_semantics.specs.Legal.{left_after}
 use Rattle.pl_choose.proofs.fewest.least_alone.Given as goal
 
 abbrev pub invariant-loop-mv : goal.invariant-loop-mv

@@ -1,10 +1,11 @@
 use Rattle.std.proofs.Common.{◌+◌, drop, get_or, None}
 use Rattle.std.proofs.lemmas.List.Elements.{All-contains, Contains-get_or}
 use Rattle.std.specs.Prelude.{filter}
+use Rattle.std.proofs.lemmas.List.{drop_more}
 use Rattle.pl_plan.specs.declared.repair.RepairMove.TheVariants.{Add}
-use Rattle.pl_world.specs.Legal.{is_legal}
+use Rattle.pl_semantics.specs.Legal.{is_legal}
 use Rattle.pl_choose.specs.Found.{IsProper}
-use Rattle.pl_choose.proofs.Finding.{drop_next, filter_step}
+use Rattle.pl_choose.proofs.Finding.{filter_step}
 use Rattle.pl_choose.proofs.legality.legal_among.Goals as goal
 
 pub add_if_legal-requires-clause-proper : goal.add_if_legal-requires-clause-proper
@@ -15,4 +16,4 @@ loop-mv-preserved c =
     let tried = c.args.tried.now in
     let i = c.loop-mv.mv-index in
     let p = is_legal c.args.board.now.state in
-    filter_step p (drop i tried) (drop (i + 1) tried) c.loop-mv.all.items c.add_if_legal.new.all.items (get_or tried i (Add 0 0 None)) (filter p tried) (drop_next tried i (Add 0 0 None) c.loop-mv-test.true) c.in_ok-add_if_legal.ensures c.loop-mv.invariant
+    filter_step p (drop i tried) (drop (i + 1) tried) c.loop-mv.all.items c.add_if_legal.new.all.items (get_or tried i (Add 0 0 None)) (filter p tried) (drop_more tried i (Add 0 0 None) c.loop-mv-test.true) c.in_ok-add_if_legal.ensures c.loop-mv.invariant

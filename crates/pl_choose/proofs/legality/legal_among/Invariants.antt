@@ -1,6 +1,6 @@
 use Rattle.std.proofs.Common.{◌≡◌, ◌++◌, drop}
 use Rattle.std.specs.Prelude.{filter}
-use Rattle.pl_world.specs.Legal.{is_legal}
+use Rattle.pl_semantics.specs.Legal.{is_legal}
 use Rattle.pl_choose.proofs.legality.legal_among.Given as goal
 
 -- what is kept and what comes of the other moves

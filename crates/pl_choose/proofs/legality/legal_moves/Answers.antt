@@ -1,5 +1,5 @@
-use Rattle.pl_world.specs.Legal.{legal_for}
-use Rattle.pl_world.proofs.Sifting.{proper}
+use Rattle.pl_semantics.specs.Legal.{legal_for}
+use Rattle.pl_semantics.proofs.Sifting.{proper}
 use Rattle.pl_choose.proofs.legality.legal_moves.Goals as goal
 
 pub legal_among-requires-clause-proper : goal.legal_among-requires-clause-proper

@@ -1,7 +1,7 @@
 use Rattle.std.proofs.Common.{◌≡◌, List, Option, IfOk, sym, subst, ap, ◌∙◌}
 use Rattle.std.specs.Prelude.{option_and_then}
 use Rattle.pl_conflict.specs.declared.conflict.Conflict.{Conflict}
-use Rattle.pl_world.specs.Legal.{repairable}
+use Rattle.pl_semantics.specs.Legal.{repairable}
 use Rattle.pl_cand.specs.declared.proposal.Proposal.{Proposal}
 use Rattle.pl_choose.specs.Picks.{picked_by, picked_for, random_pick}
 use Rattle.pl_choose.proofs.picking.pick.Goals as goal

@@ -1,7 +1,7 @@
 use Rattle.std.proofs.Common.{◌≡◌, List, Option, sym, subst, ap, ◌∙◌}
 use Rattle.std.specs.Option.{option_map}
 use Rattle.pl_plan.specs.declared.repair.RepairMove.{RepairMove}
-use Rattle.pl_world.specs.Legal.{legal_for}
+use Rattle.pl_semantics.specs.Legal.{legal_for}
 use Rattle.pl_choose.specs.Picks.{proposal, picked_by}
 use Rattle.pl_choose.proofs.picking.pick_repair.Goals as goal
 

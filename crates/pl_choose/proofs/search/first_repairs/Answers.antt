@@ -2,8 +2,8 @@ use Rattle.std.proofs.Common.{◌≡◌, false, Option, Some, find, sym, subst, 
 use Rattle.std.specs.Map.Iter.{deref}
 use Rattle.std.proofs.lemmas.Map.Iter.{rest_more, rest_all}
 use Rattle.pl_conflict.specs.declared.conflict.Conflict.{Conflict}
-use Rattle.pl_world.specs.Conflicts.{conflicts_of}
-use Rattle.pl_world.specs.Legal.{has_repair, legal_for}
+use Rattle.pl_semantics.specs.Conflicts.{conflicts_of}
+use Rattle.pl_semantics.specs.Legal.{has_repair, legal_for}
 use Rattle.pl_choose.specs.declared.repairs.Repairs.{Repairs}
 use Rattle.pl_choose.specs.Found.{AreFor}
 use Rattle.pl_choose.proofs.Finding.{find_step, find_here, find_end}

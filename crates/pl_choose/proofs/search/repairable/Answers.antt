@@ -1,8 +1,8 @@
 use Rattle.std.specs.Prelude.{filter}
 use Rattle.std.specs.Map.Iter.{deref}
 use Rattle.std.proofs.lemmas.Map.Iter.{rest_more, rest_all}
-use Rattle.pl_world.specs.Conflicts.{conflicts_of}
-use Rattle.pl_world.specs.Legal.{has_repair, repairable}
+use Rattle.pl_semantics.specs.Conflicts.{conflicts_of}
+use Rattle.pl_semantics.specs.Legal.{has_repair, repairable}
 use Rattle.pl_choose.proofs.Finding.{filter_step, filter_end}
 use Rattle.pl_choose.proofs.search.repairable.Goals as goal
 

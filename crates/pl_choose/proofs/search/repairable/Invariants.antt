@@ -1,7 +1,7 @@
 use Rattle.std.proofs.Common.{◌≡◌, ◌++◌}
 use Rattle.std.specs.Prelude.{filter}
-use Rattle.pl_world.specs.Conflicts.{conflicts_of}
-use Rattle.pl_world.specs.Legal.{has_repair}
+use Rattle.pl_semantics.specs.Conflicts.{conflicts_of}
+use Rattle.pl_semantics.specs.Legal.{has_repair}
 use Rattle.pl_choose.proofs.search.repairable.Given as goal
 
 -- those so far, and what comes of the others

@@ -2,7 +2,7 @@ use Rattle.std.proofs.Common.{◌≡◌, get_or, None, ◌∙◌}
 use Rattle.std.proofs.lemmas.List.{get_or-map}
 use Rattle.pl_plan.specs.declared.repair.RepairMove.{RepairMove}
 use Rattle.pl_plan.specs.declared.repair.RepairMove.TheVariants.{Add}
-use Rattle.pl_world.specs.Legal.{left_after}
+use Rattle.pl_semantics.specs.Legal.{left_after}
 use Rattle.pl_moves.specs.Runs.{counted}
 use Rattle.pl_choose.proofs.Trying.{next_tried, all_tried}
 use Rattle.pl_choose.proofs.tries.best_among.Goals as goal

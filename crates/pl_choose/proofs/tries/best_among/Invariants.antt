@@ -1,6 +1,6 @@
 -- the best so far leads to the best of all
 use Rattle.std.proofs.Common.{◌≡◌, drop}
-use Rattle.pl_world.specs.Legal.{left_after}
+use Rattle.pl_semantics.specs.Legal.{left_after}
 use Rattle.pl_choose.specs.Tried.{best_of}
 use Rattle.pl_choose.proofs.tries.best_among.Given as goal
 

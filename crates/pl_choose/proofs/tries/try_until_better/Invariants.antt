@@ -1,6 +1,6 @@
 -- the best so far, of so many of them
 use Rattle.std.proofs.Common.{◌≡◌, ◌<◌, ◌≤◌, ◌-◌, length, take}
-use Rattle.pl_world.specs.Legal.{left_after}
+use Rattle.pl_semantics.specs.Legal.{left_after}
 use Rattle.pl_choose.specs.Tried.{best_of}
 use Rattle.pl_choose.proofs.tries.try_until_better.Given as goal
 

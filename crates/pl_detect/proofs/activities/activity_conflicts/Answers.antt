@@ -1,4 +1,4 @@
-use Rattle.pl_world.proofs.Found.{found_here}
+use Rattle.pl_semantics.proofs.Found.{found_here}
 use Rattle.pl_detect.proofs.activities.activity_conflicts.Goals as goal
 
 pub wrong_at-requires-clause-live : goal.wrong_at-requires-clause-live

@@ -1,6 +1,6 @@
 use Rattle.std.proofs.Common.{◌≡◌, ◌++◌, take}
 use Rattle.std.specs.List.{flat_map}
-use Rattle.pl_world.specs.Activities.{wrong_at}
+use Rattle.pl_semantics.specs.Activities.{wrong_at}
 use Rattle.pl_detect.proofs.activities.activity_conflicts.Given as goal
 
 abbrev pub invariant-loop-activity : goal.invariant-loop-activity

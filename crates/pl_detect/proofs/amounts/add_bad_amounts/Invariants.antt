@@ -1,7 +1,7 @@
 use Rattle.std.proofs.Common.{◌≡◌, ◌++◌, drop}
 use Rattle.std.specs.List.{flat_map}
-use Rattle.pl_world.specs.PlanStates.{numbered, reservations_of}
-use Rattle.pl_world.specs.Activities.{bad_amount}
+use Rattle.pl_semantics.specs.PlanStates.{numbered, reservations_of}
+use Rattle.pl_semantics.specs.Activities.{bad_amount}
 use Rattle.pl_detect.proofs.amounts.add_bad_amounts.Given as goal
 
 -- what was added and what the other reservations give

@@ -1,6 +1,6 @@
 use Rattle.std.proofs.Common.{◌≡◌, ◌++◌, take}
 use Rattle.std.specs.List.{flat_map}
-use Rattle.pl_world.specs.Goals.{open_at}
+use Rattle.pl_semantics.specs.Goals.{open_at}
 use Rattle.pl_detect.proofs.goals.add_open.Given as goal
 
 abbrev pub invariant-loop-goal : goal.invariant-loop-goal

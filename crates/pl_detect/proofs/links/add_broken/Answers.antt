@@ -1,5 +1,5 @@
 use Rattle.std.proofs.Common.{sym}
-use Rattle.pl_world.proofs.Found.{found_live}
+use Rattle.pl_semantics.proofs.Found.{found_live}
 use Rattle.pl_detect.proofs.links.add_broken.Goals as goal
 
 pub add_conflict_of-requires-clause-live : goal.add_conflict_of-requires-clause-live

@@ -1,7 +1,7 @@
 use Rattle.std.proofs.Common.{◌≡◌, ◌++◌, drop}
 use Rattle.std.specs.List.{flat_map}
-use Rattle.pl_world.specs.PlanStates.{numbered}
-use Rattle.pl_world.specs.Activities.{unset_at, unset_one}
+use Rattle.pl_semantics.specs.PlanStates.{numbered}
+use Rattle.pl_semantics.specs.Activities.{unset_at, unset_one}
 use Rattle.pl_detect.proofs.parameters.add_unset.Given as goal
 
 -- what was added and what the other parameters give

@@ -1,5 +1,5 @@
 use Rattle.std.proofs.Common.{◌∙◌}
-use Rattle.pl_world.proofs.Found.{found_here}
+use Rattle.pl_semantics.proofs.Found.{found_here}
 use Rattle.pl_detect.proofs.Stored.{fits_next, kept_next}
 use Rattle.pl_detect.proofs.placing.placed_in.Goals as goal
 

@@ -1,6 +1,6 @@
 use Rattle.std.proofs.Common.{◌≡◌, map, take}
 use Rattle.pl_links.specs.Kept.{kept_of}
-use Rattle.pl_world.specs.Links.{placed_of}
+use Rattle.pl_semantics.specs.Links.{placed_of}
 use Rattle.pl_detect.proofs.placing.placed_in.Given as goal
 
 abbrev pub invariant-loop-activity : goal.invariant-loop-activity

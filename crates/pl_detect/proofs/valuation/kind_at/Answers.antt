@@ -1,7 +1,7 @@
 use Rattle.std.proofs.Common.{◌≡◌, ◌∙◌, ap}
 use Rattle.pl_model.specs.declared.whole.Model.{Model}
 use Rattle.pl_plan.proofs.FirmSteps.{checked_kind}
-use Rattle.pl_world.proofs.Found.{kind_here, kind_within}
+use Rattle.pl_semantics.proofs.Found.{kind_here, kind_within}
 use Rattle.pl_detect.proofs.valuation.kind_at.Goals as goal
 
 pub bounds-as_slice-a : goal.bounds-as_slice-a

@@ -4,8 +4,8 @@ use Rattle.pl_model.specs.Checked.{params_of}
 use Rattle.pl_plan.specs.Activities.{activity_of}
 use Rattle.pl_plan.specs.Fitting.{kind_of}
 use Rattle.pl_plan.specs.Values.{BindsBelow}
-use Rattle.pl_world.specs.Activities.{bindings_of}
-use Rattle.pl_world.proofs.Found.{parent_live}
+use Rattle.pl_semantics.specs.Activities.{bindings_of}
+use Rattle.pl_semantics.proofs.Found.{parent_live}
 use Rattle.pl_detect.proofs.Named.{row_named}
 use Rattle.pl_detect.proofs.valuation.row_above.Goals as goal
 

@@ -1,6 +1,6 @@
 use denote.Param.Send.{sendable}
 use Rattle.std.proofs.Crossing.{crosses}
-use Rattle.pl_world.proofs.Crossing.{state_parts}
+use Rattle.pl_semantics.proofs.Crossing.{state_parts}
 use Rattle.pl_board.proofs.Crossing.{board_send, board_sync}
 use Rattle.pl_machine.proofs.Crossing.{machine_parts}
 use Rattle.pl_machine.proofs.sharing.shared_types.Goals as goal

@@ -1,7 +1,7 @@
 use Rattle.std.proofs.Common.{ℕ, List, length, ap, ◌∙◌}
 use Rattle.pl_conflict.specs.declared.conflict.Conflict.{Conflict}
 use Rattle.pl_entry.specs.declared.entry.Entry.{Entry}
-use Rattle.pl_world.specs.Conflicts.{conflicts_of}
+use Rattle.pl_semantics.specs.Conflicts.{conflicts_of}
 use Rattle.pl_board.specs.Boards.{Standing}
 use Rattle.pl_main.proofs.Summing.{summed}
 use Rattle.pl_main.proofs.demo.summary_line.Goals as goal

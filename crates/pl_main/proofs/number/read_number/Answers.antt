@@ -1,5 +1,5 @@
 use Rattle.std.proofs.Common.{arith}
-use Rattle.pl_main.proofs.Digits.{power_below}
+use Rattle.pl_text.proofs.Digits.{power_below}
 use Rattle.pl_main.proofs.number.read_number.Goals as goal
 
 pub overflow_mul-value : goal.overflow_mul-value

@@ -1,5 +1,5 @@
 use Rattle.std.proofs.Common.{◌≤◌}
-use Rattle.pl_stream.specs.Places.{place_of}
+use Rattle.pl_input.specs.Places.{place_of}
 use Rattle.pl_main.specs.Plays.{Plays}
 use Rattle.pl_main.proofs.play.play.Given as goal
 

@@ -1,7 +1,7 @@
 use Rattle.std.proofs.Common.{◌≡◌, ◌+◌, ◌≤◌, None, sym, ap, subst, rules}
-use Rattle.pl_world.specs.declared.plan_state.PlanState.{PlanState}
-use Rattle.pl_world.specs.Moves.{refusal_of, applied}
-use Rattle.pl_world.specs.Whole.{IsWhole}
+use Rattle.pl_semantics.specs.declared.plan_state.PlanState.{PlanState}
+use Rattle.pl_semantics.specs.Moves.{refusal_of, applied}
+use Rattle.pl_semantics.specs.Whole.{IsWhole}
 use Rattle.pl_board.specs.Boards.{Standing}
 use Rattle.pl_moves.specs.Keeping.{KeepsCommitted}
 use Rattle.pl_moves.proofs.Keeping.{keeps, gives}

@@ -1,6 +1,6 @@
 use Rattle.std.proofs.Common.{◌≡◌, true, subst}
 use Rattle.pl_plan.specs.declared.repair.RepairMove.{RepairMove}
-use Rattle.pl_world.specs.Moves.{is_proper}
+use Rattle.pl_semantics.specs.Moves.{is_proper}
 use Rattle.pl_moves.proofs.Drops.{open_if, dropped_is}
 use Rattle.pl_moves.proofs.application.make.Goals as goal
 

@@ -1,6 +1,6 @@
 use Rattle.std.proofs.Common.{sym, subst}
-use Rattle.pl_world.specs.declared.plan_state.PlanState.{PlanState}
-use Rattle.pl_world.specs.Whole.{IsWhole}
+use Rattle.pl_semantics.specs.declared.plan_state.PlanState.{PlanState}
+use Rattle.pl_semantics.specs.Whole.{IsWhole}
 use Rattle.pl_moves.specs.Changes.{IsNamedLive}
 use Rattle.pl_moves.proofs.Made.{IsMadeBy, named_live, near_if, made, can_replace}
 use Rattle.pl_moves.proofs.application.replace_by.Goals as goal

@@ -1,6 +1,6 @@
 use Rattle.std.proofs.Common.{true, false, ap, ◌∙◌, sym, subst}
 use Rattle.pl_board.specs.Boards.{Standing, after}
-use Rattle.pl_changes.specs.Changes.{IsOpenIn, without_goal}
+use Rattle.pl_update.specs.Changes.Changes.{IsOpenIn, without_goal}
 use Rattle.pl_moves.proofs.Drops.{open_if, dropped_is}
 use Rattle.pl_moves.proofs.Enough.{told}
 use Rattle.pl_moves.proofs.attempting.attempt_drop.Goals as goal

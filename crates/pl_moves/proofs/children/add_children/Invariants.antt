@@ -1,6 +1,6 @@
 -- what was added and what the other slots give
 use Rattle.std.proofs.Common.{◌≡◌, ◌++◌, drop}
-use Rattle.pl_world.specs.Moves.{children_from}
+use Rattle.pl_semantics.specs.Moves.{children_from}
 use Rattle.pl_moves.proofs.children.add_children.Given as goal
 
 abbrev pub invariant-loop-number : goal.invariant-loop-number

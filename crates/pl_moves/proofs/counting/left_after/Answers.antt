@@ -1,5 +1,5 @@
 use Rattle.std.proofs.Common.{sym, subst}
-use Rattle.pl_world.specs.declared.plan_state.PlanState.{PlanState}
+use Rattle.pl_semantics.specs.declared.plan_state.PlanState.{PlanState}
 use Rattle.pl_moves.specs.Changes.{IsNamedLive}
 use Rattle.pl_moves.proofs.Made.{named_live}
 use Rattle.pl_moves.proofs.counting.left_after.Goals as goal

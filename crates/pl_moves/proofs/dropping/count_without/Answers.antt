@@ -1,7 +1,7 @@
 use Rattle.std.proofs.Common.{◌≡◌, Some, None, true, false, sym}
-use Rattle.pl_world.specs.PlanStates.{goal_at, is_open}
-use Rattle.pl_world.specs.Legal.{left_after}
-use Rattle.pl_world.specs.Moves.{holds}
+use Rattle.pl_semantics.specs.PlanStates.{goal_at, is_open}
+use Rattle.pl_semantics.specs.Legal.{left_after}
+use Rattle.pl_semantics.specs.Moves.{holds}
 use Rattle.pl_moves.proofs.Drops.{open_if}
 use Rattle.pl_moves.proofs.OneGoalLess.{length_dropped}
 use Rattle.pl_moves.proofs.dropping.count_without.Goals as goal

@@ -1,5 +1,5 @@
 use Rattle.std.proofs.Common.{sym, ◌∙◌}
-use Rattle.pl_world.specs.PlanStates.{is_committed}
+use Rattle.pl_semantics.specs.PlanStates.{is_committed}
 use Rattle.pl_moves.proofs.Foremost.{first_none, first_alone}
 use Rattle.pl_moves.proofs.legality.first_locked.Goals as goal
 

@@ -1,7 +1,7 @@
 use Rattle.std.proofs.Common.{◌≡◌, ◌<◌, ℕ, true, false, Option, Some, None, find, ltb, sym, subst, arith, rules}
 use Rattle.pl_plan.specs.Trees.{children_of}
 use Rattle.pl_plan.proofs.Subtrees.{named_live}
-use Rattle.pl_world.specs.PlanStates.{found}
+use Rattle.pl_semantics.specs.PlanStates.{found}
 use Rattle.pl_moves.specs.Objections.{objects}
 use Rattle.pl_moves.proofs.Foremost.{IsLeast, IsSoFar, first_itself, first_of_leaf, first_of_all, none_so_far, more_so_far, next_is, childless, child_id}
 use Rattle.pl_moves.proofs.objecting.+first_objecting.Goals as goal

@@ -1,7 +1,7 @@
 -- the move that is made, and what those up to it leave
 use Rattle.std.proofs.Common.{◌≡◌, ◌∷◌, ◌≤◌, ◌-◌, map, length, get_or}
 use Rattle.std.specs.Prelude.{take}
-use Rattle.pl_world.specs.Moves.{applied}
+use Rattle.pl_semantics.specs.Moves.{applied}
 use Rattle.pl_board.specs.Boards.{after}
 use Rattle.pl_moves.specs.Runs.{counted}
 use Rattle.pl_moves.proofs.runs.count_along.Given as goal

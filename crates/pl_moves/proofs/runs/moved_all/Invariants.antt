@@ -1,6 +1,6 @@
 -- what was gathered and what the rest gives
 use Rattle.std.proofs.Common.{◌≡◌, ◌++◌, drop, map}
-use Rattle.pl_world.specs.Moves.{moved}
+use Rattle.pl_semantics.specs.Moves.{moved}
 use Rattle.pl_moves.proofs.runs.moved_all.Given as goal
 
 abbrev pub invariant-loop-a : goal.invariant-loop-a

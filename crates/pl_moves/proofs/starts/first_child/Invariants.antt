@@ -1,6 +1,6 @@
 -- the rest gives the whole
 use Rattle.std.proofs.Common.{◌≡◌, drop}
-use Rattle.pl_world.specs.Moves.{children_from}
+use Rattle.pl_semantics.specs.Moves.{children_from}
 use Rattle.pl_moves.specs.Sides.{first_on}
 use Rattle.pl_moves.proofs.starts.first_child.Given as goal
 

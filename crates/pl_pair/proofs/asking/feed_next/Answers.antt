@@ -1,6 +1,6 @@
 use Rattle.std.proofs.Common.{Err, sym, subst}
 use Rattle.pl_pair.specs.declared.cut.Cut.{Cut}
-use Rattle.pl_stream.specs.Places.{place_of}
+use Rattle.pl_input.specs.Places.{place_of}
 use Rattle.pl_pair.specs.Asking.{Passes}
 use Rattle.pl_pair.proofs.Messages.{passes_none}
 use Rattle.pl_pair.proofs.asking.feed_next.Goals as goal

@@ -1,6 +1,6 @@
 use Rattle.std.proofs.Common.{rules, ◌≡◌, true, Some, Ok, subst}
-use Rattle.pl_machine.specs.Lines.{is_blank_line}
-use Rattle.pl_stream.specs.Places.{place_of}
+use Rattle.pl_input.specs.Words.{is_blank_line}
+use Rattle.pl_input.specs.Places.{place_of}
 use Rattle.pl_pair.specs.Asking.{FirstLine}
 use Rattle.pl_pair.proofs.Messages.{asks_behind}
 use Rattle.pl_pair.proofs.asking.take_message.Goals as goal

@@ -1,6 +1,6 @@
 use Rattle.std.proofs.Common.{◌≤◌}
 use Rattle.pl_pair.specs.Workers.{AreHands, SameDuties}
-use Rattle.pl_stream.specs.Places.{place_of}
+use Rattle.pl_input.specs.Places.{place_of}
 use Rattle.pl_pair.specs.Feeds.{Feeding}
 use Rattle.pl_pair.proofs.feeder.feed_all.Given as goal
 

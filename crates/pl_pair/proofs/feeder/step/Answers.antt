@@ -1,4 +1,4 @@
-use Rattle.pl_stream.specs.Places.{place_of}
+use Rattle.pl_input.specs.Places.{place_of}
 use Rattle.pl_pair.proofs.Feeding.{step_behind}
 use Rattle.pl_pair.proofs.feeder.step.Goals as goal
 

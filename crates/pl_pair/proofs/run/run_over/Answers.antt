@@ -1,5 +1,5 @@
 use Rattle.std.proofs.Common.{subst, sym}
-use Rattle.pl_stream.specs.Places.{place_of}
+use Rattle.pl_input.specs.Places.{place_of}
 use Rattle.pl_pair.specs.Runs.{PairRun}
 use Rattle.pl_pair.proofs.Running.{runs_whole}
 use Rattle.pl_pair.proofs.run.run_over.Goals as goal

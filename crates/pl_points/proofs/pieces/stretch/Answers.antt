@@ -2,9 +2,10 @@ use Rattle.std.proofs.Common.{rules, ◌≡◌, ℕ, true, not, ap, sym, ◌∙�
 use mir.Val.{to_z, of_z, SFits}
 use mir.Syntax.{w64}
 use Rattle.std.proofs.lemmas.Int.{to_z-of_z}
+use Rattle.std.proofs.lemmas.Bool.{not-true, not-false}
 use Rattle.pl_points.specs.Points.{sum_to, is_out}
 use Rattle.pl_points.specs.Limits.{is_outside}
-use Rattle.pl_points.proofs.Strolls.{same_bounds, turned_true, turned_false}
+use Rattle.pl_points.proofs.Strolls.{same_bounds}
 use Rattle.pl_points.proofs.pieces.stretch.Goals as goal
 
 pub calm_piece-requires-clause-inside : goal.calm_piece-requires-clause-inside
@@ -29,7 +30,7 @@ returns-clause-same g c =
     let fits_low : SFits w64 c.bounds_beyond-least.result.0 = search rules in
     let fits_high : SFits w64 c.bounds_beyond-least.result.1 = search rules in
     let same : (t : ℕ) → is_out L M (sum_to ps t) ≡ not (is_outside c.args.limit (sum_to ps t)) = λ t. same_bounds L M c.bounds_beyond-least.result.0 c.bounds_beyond-least.result.1 (sum_to ps t) (not (is_outside c.args.limit (sum_to ps t))) (to_z-of_z w64 c.bounds_beyond-least.result.0 fits_low) (to_z-of_z w64 c.bounds_beyond-least.result.1 fits_high) (c.bounds_beyond-least.ensures (sum_to ps t) (c.requires.small.small t)) in
-    λ t low high. turned_false (is_outside c.args.limit (sum_to ps t)) (sym (same t) ∙ c.calm_piece.ensures.inside t low high)
+    λ t low high. not-false (is_outside c.args.limit (sum_to ps t)) (sym (same t) ∙ c.calm_piece.ensures.inside t low high)
 
 pub returns-clause-leaves : goal.returns-clause-leaves
 returns-clause-leaves g c =
@@ -40,4 +41,4 @@ returns-clause-leaves g c =
     let fits_low : SFits w64 c.bounds_beyond-least.result.0 = search rules in
     let fits_high : SFits w64 c.bounds_beyond-least.result.1 = search rules in
     let same : (t : ℕ) → is_out L M (sum_to ps t) ≡ not (is_outside c.args.limit (sum_to ps t)) = λ t. same_bounds L M c.bounds_beyond-least.result.0 c.bounds_beyond-least.result.1 (sum_to ps t) (not (is_outside c.args.limit (sum_to ps t))) (to_z-of_z w64 c.bounds_beyond-least.result.0 fits_low) (to_z-of_z w64 c.bounds_beyond-least.result.1 fits_high) (c.bounds_beyond-least.ensures (sum_to ps t) (c.requires.small.small t)) in
-    λ lt. turned_true (is_outside c.args.limit (sum_to ps c.calm_piece.result.0)) (sym (same c.calm_piece.result.0) ∙ c.calm_piece.ensures.leaves lt)
+    λ lt. not-true (is_outside c.args.limit (sum_to ps c.calm_piece.result.0)) (sym (same c.calm_piece.result.0) ∙ c.calm_piece.ensures.leaves lt)

@@ -1,12 +1,10 @@
-use Rattle.std.proofs.Common.{◌≡◌, suc, ℕ, ◌+◌, get_or, arith, subst, false, pos}
+use Rattle.std.proofs.Common.{◌≡◌, get_or, arith, subst, false, pos}
 use Rattle.std.proofs.lemmas.Bool.{leb-true, lt-ltb, le-ltb}
+use Rattle.std.proofs.Math.Numerals.{add-one}
 use Rattle.pl_points.specs.Points.{Point, is_before}
 use Rattle.pl_points.proofs.Parting.{last_passing}
 use Rattle.pl_points.proofs.PointLists.{parted_points}
 use Rattle.pl_points.proofs.plain.is_last_before.Goals as goal
-
-step : (n : ℕ) → n + 1 ≡ suc n
-step n = omega arith
 
 abbrev none : Point
 none = (0, pos 0)
@@ -21,8 +19,8 @@ returns-then-place-points-2-clause-rest c =
 
 pub returns-clause-before : goal.returns-clause-before
 returns-clause-before c =
-    λ e. (last_passing (is_before c.args.at) c.args.place none c.args.points.now (parted_points c.args.at 0 c.args.points.now c.requires) (omega (arith, c.if-place-points.false)) (lt-ltb _ c.args.at (omega (arith, c.if-points-place.false))) (λ _. subst (λ n. is_before c.args.at (get_or c.args.points.now n none) ≡ false) (step c.args.place) (le-ltb _ c.args.at (leb-true c.args.at _ e)))).0
+    λ e. (last_passing (is_before c.args.at) c.args.place none c.args.points.now (parted_points c.args.at 0 c.args.points.now c.requires) (omega (arith, c.if-place-points.false)) (lt-ltb _ c.args.at (omega (arith, c.if-points-place.false))) (λ _. subst (λ n. is_before c.args.at (get_or c.args.points.now n none) ≡ false) (add-one c.args.place) (le-ltb _ c.args.at (leb-true c.args.at _ e)))).0
 
 pub returns-clause-rest : goal.returns-clause-rest
 returns-clause-rest c =
-    λ e. (last_passing (is_before c.args.at) c.args.place none c.args.points.now (parted_points c.args.at 0 c.args.points.now c.requires) (omega (arith, c.if-place-points.false)) (lt-ltb _ c.args.at (omega (arith, c.if-points-place.false))) (λ _. subst (λ n. is_before c.args.at (get_or c.args.points.now n none) ≡ false) (step c.args.place) (le-ltb _ c.args.at (leb-true c.args.at _ e)))).1
+    λ e. (last_passing (is_before c.args.at) c.args.place none c.args.points.now (parted_points c.args.at 0 c.args.points.now c.requires) (omega (arith, c.if-place-points.false)) (lt-ltb _ c.args.at (omega (arith, c.if-points-place.false))) (λ _. subst (λ n. is_before c.args.at (get_or c.args.points.now n none) ≡ false) (add-one c.args.place) (le-ltb _ c.args.at (leb-true c.args.at _ e)))).1

@@ -3,7 +3,7 @@ use Rattle.std.proofs.lemmas.Grind.{common_steps}
 use Rattle.pl_io.specs.declared.errors.LineFault.TheVariants as fault
 use Rattle.pl_io.specs.Lines.{ahead}
 use Rattle.pl_replay.specs.declared.verdict.Verdict.{Verdict}
-use Rattle.pl_stream.specs.Waits.{GetsMessage}
+use Rattle.pl_input.specs.Waits.{GetsMessage}
 use Rattle.pl_replay.specs.Journals.{GoesOn, JudgesLine}
 use Rattle.pl_replay.proofs.Steps.{goes_on, wrong_behind, all_right, stops_behind, memory_behind, gives_stops}
 use Rattle.pl_replay.proofs.verifying.follow.Goals as goal

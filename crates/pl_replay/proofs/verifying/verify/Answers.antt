@@ -4,7 +4,7 @@ use Rattle.pl_io.specs.declared.errors.LineFault.TheVariants as fault
 use Rattle.std.specs.Arc.{arc_value}
 use Rattle.pl_model.specs.declared.whole.Model.{Model}
 use Rattle.pl_facts.specs.declared.options.Options.{Options}
-use Rattle.pl_journal.specs.Journal.{IsLineOf}
+use Rattle.pl_journal.specs.Parsing.Journal.{IsLineOf}
 use Rattle.pl_machine.specs.Legal.{opening}
 use Rattle.pl_machine.specs.Sound.{State}
 use Rattle.pl_replay.specs.Journals.{Opens}

@@ -1,6 +1,6 @@
 -- The longer words.
 use Rattle.std.proofs.Common.{ℕ, List, [], ◌∷◌, ◌++◌, codes, decimal, ap, ◌∙◌}
-use Rattle.pl_render.specs.Words.{spaced}
+use Rattle.pl_journal.specs.Rendering.Words.{spaced}
 use Rattle.pl_report.proofs.Texts.{five_joined}
 use Rattle.pl_report.proofs.heading.push_heading_words.Goals as goal
 

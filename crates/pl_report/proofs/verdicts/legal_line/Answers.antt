@@ -1,6 +1,6 @@
 -- The longer label.
 use Rattle.std.proofs.Common.{ℕ, List, [], ◌∷◌, ◌++◌, codes, ap, ◌∙◌}
-use Rattle.pl_render.specs.Words.{spaced}
+use Rattle.pl_journal.specs.Rendering.Words.{spaced}
 use Rattle.pl_report.specs.Verdicts.{legal_words}
 use Rattle.pl_report.proofs.Texts.{line_begun}
 use Rattle.pl_report.proofs.verdicts.legal_line.Goals as goal

@@ -1,5 +1,5 @@
 use Rattle.std.proofs.Common.{◌≡◌, sym, ◌∙◌, subst, List, ap}
-use Rattle.pl_rules.specs.declared.token.Token.{Token}
+use Rattle.pl_syntax.specs.declared.token.Token.{Token}
 use Rattle.pl_syntax.specs.Gives.{Fails}
 use Rattle.pl_syntax.specs.Reading.{read_all}
 use Rattle.pl_syntax.specs.Marks.{marks_of}

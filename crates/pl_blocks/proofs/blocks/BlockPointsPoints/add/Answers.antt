@@ -3,12 +3,13 @@ use mir.Val.{to_z, of_z}
 use mir.Syntax.{w64}
 use Rattle.std.proofs.lemmas.Int.{to_z-of_z}
 use Rattle.std.proofs.lemmas.Result.{on_ok_weaker}
+use Rattle.std.proofs.lemmas.List.{nil_from_length}
 use Rattle.pl_lists.specs.Lists.{front, back}
 use Rattle.pl_points.specs.Points.{merged, AreSmall, IsNear}
 use Rattle.pl_points.proofs.PointLists.{merged_small, either}
 use Rattle.pl_blocks.specs.Blocks.{together, is_past, AreBlocks}
 use Rattle.pl_blocks.proofs.Rows.{parts_most}
-use Rattle.pl_blocks.proofs.Searches.{fits_there, mended_blocks, none_blocks, begun_blocks, no_items, three}
+use Rattle.pl_blocks.proofs.Searches.{fits_there, mended_blocks, none_blocks, begun_blocks, three}
 use Rattle.pl_blocks.proofs.blocks.BlockPointsPoints.add.Goals as goal
 
 pub begin-requires-clause-near : goal.begin-requires-clause-near
@@ -29,7 +30,7 @@ pub invariant_of-self : goal.invariant_of-self
 invariant_of-self g c =
     let bs = c.self.inside.blocks.items in
     let is : to_z w64 (of_z w64 c.args.delta) ≡ c.args.delta = to_z-of_z w64 c.args.delta c.ranges.delta in
-    let none : bs ≡ [] = no_items bs (search (rules, c.if-count-eq0.true, c.len-count.ensures)) in
+    let none : bs ≡ [] = nil_from_length bs (search (rules, c.if-count-eq0.true, c.len-count.ensures)) in
     let new : AreSmall (merged c.args.at c.args.delta []) = subst (λ l. AreSmall (merged c.args.at c.args.delta (together l))) (sym c.self.view_is ∙ none) c.requires in
     let small : AreSmall (merged c.args.at (to_z w64 (of_z w64 c.args.delta)) []) = subst (λ d. AreSmall (merged c.args.at d [])) (sym is) new in
     three c.begin.result c.begin.ensures.ok c.begin.ensures.sized c.begin.ensures.one c.begin.ensures.err

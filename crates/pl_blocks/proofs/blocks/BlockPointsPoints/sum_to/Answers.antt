@@ -7,8 +7,9 @@ use Rattle.pl_points.specs.Sums.{IsSmall}
 use Rattle.pl_points.specs.Points.{sum_to, sum_below, SmallFrom, RiseFrom}
 use Rattle.pl_points.proofs.PointLists.{small_along}
 use Rattle.pl_points.proofs.Outside.{back_le}
+use Rattle.pl_points.proofs.Strolls.{sum_is_below}
 use Rattle.pl_blocks.specs.Blocks.{together, is_past, blocks_from, change_of, AreSized, AreFull}
-use Rattle.pl_blocks.proofs.Rows.{sum_is_below, small_below, small_sum, small_split, small_head, drop_block, below_here, below_past, blocks_passed, blocks_fall, parts_most, rising_rest}
+use Rattle.pl_blocks.proofs.Rows.{small_below, small_sum, small_split, small_head, drop_block, below_here, below_past, blocks_passed, blocks_fall, parts_most, rising_rest}
 use Rattle.pl_blocks.proofs.blocks.BlockPointsPoints.sum_to.Goals as goal
 
 pub loop-block-init : goal.loop-block-init

@@ -2,8 +2,8 @@ use Rattle.std.proofs.Common.{◌∙◌, ap}
 use Rattle.std.specs.List.{list_any}
 use Rattle.pl_links.specs.Broken.{is_partner}
 use Rattle.pl_links.specs.Kept.{Kept}
-use Rattle.pl_world.specs.declared.plan_state.PlanState.{PlanState}
-use Rattle.pl_world.specs.Links.{placed_in}
+use Rattle.pl_semantics.specs.declared.plan_state.PlanState.{PlanState}
+use Rattle.pl_semantics.specs.Links.{placed_in}
 use Rattle.pl_board.proofs.board.Board.has_partner.Goals as goal
 
 pub returns : goal.returns

@@ -1,11 +1,11 @@
 use Rattle.std.proofs.Common.{◌≡◌, ◌∙◌, ap}
-use Rattle.pl_lines.proofs.StandingReadings.{level_readable, level_read}
+use Rattle.pl_update.proofs.AboutTimelines.StandingReadings.{level_readable, level_read}
 use Rattle.std.proofs.Common.{rules}
 use mir.Syntax.{w64}
 use mir.Val.{SFits}
 use Rattle.std.proofs.lemmas.Int.{to_z-of_z}
-use Rattle.pl_world.specs.declared.plan_state.PlanState.{PlanState}
-use Rattle.pl_world.specs.Demands as Demands
+use Rattle.pl_semantics.specs.declared.plan_state.PlanState.{PlanState}
+use Rattle.pl_semantics.specs.Demands as Demands
 use Rattle.pl_board.proofs.board.Board.level_at.Goals as goal
 
 pub level_at-requires : goal.level_at-requires

@@ -1,8 +1,8 @@
 use Rattle.std.proofs.Common.{◌∙◌, ap}
 use Rattle.pl_links.specs.Items.{item_of}
 use Rattle.pl_links.specs.Kept.{Kept}
-use Rattle.pl_world.specs.declared.plan_state.PlanState.{PlanState}
-use Rattle.pl_world.specs.Links.{placed_in}
+use Rattle.pl_semantics.specs.declared.plan_state.PlanState.{PlanState}
+use Rattle.pl_semantics.specs.Links.{placed_in}
 use Rattle.pl_detect.proofs.Stored.{item_is}
 use Rattle.pl_board.proofs.board.Board.placed.Goals as goal
 

@@ -1,5 +1,5 @@
-use Rattle.pl_changes.proofs.Keeping.{whole_with_next, conflicts_next}
-use Rattle.pl_lines.proofs.StandingLater.{lines_next}
+use Rattle.pl_update.proofs.AboutChanges.Keeping.{whole_with_next, conflicts_next}
+use Rattle.pl_update.proofs.AboutTimelines.StandingLater.{lines_next}
 use Rattle.pl_board.proofs.board.Board.reset_next.Goals as goal
 
 pub invariant_of-self : goal.invariant_of-self

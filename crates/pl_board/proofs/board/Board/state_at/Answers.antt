@@ -1,7 +1,7 @@
 use Rattle.std.proofs.Common.{◌≡◌, ◌∙◌, ap}
-use Rattle.pl_lines.proofs.StandingReadings.{state_readable, state_read}
-use Rattle.pl_world.specs.declared.plan_state.PlanState.{PlanState}
-use Rattle.pl_world.specs.Demands as Demands
+use Rattle.pl_update.proofs.AboutTimelines.StandingReadings.{state_readable, state_read}
+use Rattle.pl_semantics.specs.declared.plan_state.PlanState.{PlanState}
+use Rattle.pl_semantics.specs.Demands as Demands
 use Rattle.pl_board.proofs.board.Board.state_at.Goals as goal
 
 pub state_at-requires : goal.state_at-requires

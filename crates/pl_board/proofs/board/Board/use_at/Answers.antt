@@ -1,11 +1,11 @@
 use Rattle.std.proofs.Common.{◌≡◌, ◌∙◌, ap}
-use Rattle.pl_lines.proofs.StandingReadings.{capacity_at, used_at}
+use Rattle.pl_update.proofs.AboutTimelines.StandingReadings.{capacity_at, used_at}
 use Rattle.std.proofs.Common.{rules}
 use mir.Syntax.{w64}
 use mir.Val.{SFits}
 use Rattle.std.proofs.lemmas.Int.{to_z-of_z}
-use Rattle.pl_world.specs.declared.plan_state.PlanState.{PlanState}
-use Rattle.pl_world.specs.Demands as Demands
+use Rattle.pl_semantics.specs.declared.plan_state.PlanState.{PlanState}
+use Rattle.pl_semantics.specs.Demands as Demands
 use Rattle.pl_board.proofs.board.Board.use_at.Goals as goal
 
 pub use_at-requires : goal.use_at-requires

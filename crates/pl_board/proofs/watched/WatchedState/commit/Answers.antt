@@ -1,10 +1,10 @@
 use Rattle.std.proofs.Common.{◌≡◌, ◌∙◌, sym, subst, false}
 use Rattle.std.specs.Prelude.{All}
 use Rattle.pl_conflict.specs.declared.conflict.Conflict.{Conflict}
-use Rattle.pl_world.specs.Grants.{touches_before}
-use Rattle.pl_near.proofs.Granted.{committed_same}
-use Rattle.pl_lines.proofs.StandingLater.{lines_committed}
-use Rattle.pl_changes.proofs.Keeping.{whole_committed}
+use Rattle.pl_semantics.specs.Grants.{touches_before}
+use Rattle.pl_update.proofs.AboutGoalsAndActivities.Granted.{committed_same}
+use Rattle.pl_update.proofs.AboutTimelines.StandingLater.{lines_committed}
+use Rattle.pl_update.proofs.AboutChanges.Keeping.{whole_committed}
 use Rattle.pl_board.proofs.watched.WatchedState.commit.Goals as goal
 
 pub returns-then-is_clear-clause-watched : goal.returns-then-is_clear-clause-watched

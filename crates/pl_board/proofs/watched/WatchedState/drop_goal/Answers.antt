@@ -1,9 +1,9 @@
 use Rattle.std.proofs.Common.{◌≡◌, ◌∙◌, ap}
-use Rattle.pl_changes.proofs.Keeping.{whole_without_goal}
-use Rattle.pl_changes.specs.Changes.{without_goal}
-use Rattle.pl_lines.proofs.StandingLater.{lines_without_goal, told_without_goal}
-use Rattle.pl_near.proofs.OfGoals.{follows_no_goal}
-use Rattle.pl_linked.proofs.Keeping.{keeps_without_goal}
+use Rattle.pl_update.proofs.AboutChanges.Keeping.{whole_without_goal}
+use Rattle.pl_update.specs.Changes.Changes.{without_goal}
+use Rattle.pl_update.proofs.AboutTimelines.StandingLater.{lines_without_goal, told_without_goal}
+use Rattle.pl_update.proofs.AboutGoalsAndActivities.OfGoals.{follows_no_goal}
+use Rattle.pl_update.proofs.AboutLinks.Keeping.{keeps_without_goal}
 use Rattle.pl_board.specs.declared.watched.WatchedState.{WatchedState}
 use Rattle.pl_board.proofs.Watching.{stands_goal}
 use Rattle.pl_board.proofs.watched.WatchedState.drop_goal.Goals as goal

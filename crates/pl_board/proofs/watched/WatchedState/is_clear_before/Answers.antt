@@ -3,9 +3,9 @@ use Rattle.std.proofs.Common.{sym, ap, subst, ◌∙◌, List, Some, false}
 use Rattle.std.specs.Prelude.{All, slice_get}
 use Rattle.std.proofs.lemmas.Bool.{leb-true}
 use Rattle.pl_conflict.specs.declared.conflict.Conflict.{Conflict}
-use Rattle.pl_world.specs.Conflicts.{conflicts_of}
-use Rattle.pl_world.specs.Grants.{touches_before}
-use Rattle.pl_world.proofs.Granting.{untouched}
+use Rattle.pl_semantics.specs.Conflicts.{conflicts_of}
+use Rattle.pl_semantics.specs.Grants.{touches_before}
+use Rattle.pl_semantics.proofs.Granting.{untouched}
 use Rattle.pl_board.proofs.watched.WatchedState.is_clear_before.Goals as goal
 
 pub returns-in-Some : goal.returns-in-Some

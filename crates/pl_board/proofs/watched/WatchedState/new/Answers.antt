@@ -1,5 +1,5 @@
-use Rattle.pl_values.proofs.Keeping.{are_none}
-use Rattle.pl_lines.proofs.StandingLater.{lines_first}
+use Rattle.pl_update.proofs.AboutEvaluations.Keeping.{are_none}
+use Rattle.pl_update.proofs.AboutTimelines.StandingLater.{lines_first}
 use Rattle.pl_board.proofs.Linking.{kept_none}
 use Rattle.pl_board.proofs.watched.WatchedState.new.Goals as goal
 

@@ -2,24 +2,24 @@ use Rattle.std.proofs.Common.{◌≡◌, ◌∙◌, sym, ap, subst, List}
 use Rattle.std.specs.Prelude.{All}
 use Rattle.pl_plan.specs.declared.activity.Activity.{Activity}
 use Rattle.pl_plan.specs.Activities.{activity_of}
-use Rattle.pl_world.specs.declared.plan_state.PlanState.{PlanState}
-use Rattle.pl_world.specs.declared.demand.Demand.{Demand}
-use Rattle.pl_changes.specs.Replaced.{with_plan}
-use Rattle.pl_changes.proofs.Keeping.{whole_replaced}
-use Rattle.pl_lines.specs.Held.{HoldAll, HaveRoom, asked_at}
-use Rattle.pl_lines.specs.Laws.{gone_from, coming_to}
-use Rattle.pl_lines.specs.Mending.{CanAsk, IsMoved, less}
-use Rattle.pl_lines.specs.Named.{AreNamed}
-use Rattle.pl_lines.proofs.StandingNamed.{are_named}
-use Rattle.pl_lines.proofs.Replacing.{found_placed}
-use Rattle.pl_lines.proofs.ReplacingLines.{gone_askable, gone_held, come_askable, rest_room, rest_named}
+use Rattle.pl_semantics.specs.declared.plan_state.PlanState.{PlanState}
+use Rattle.pl_semantics.specs.declared.demand.Demand.{Demand}
+use Rattle.pl_update.specs.Changes.Replaced.{with_plan}
+use Rattle.pl_update.proofs.AboutChanges.Keeping.{whole_replaced}
+use Rattle.pl_update.specs.Timelines.Held.{HoldAll, HaveRoom, asked_at}
+use Rattle.pl_update.specs.Timelines.Laws.{gone_from, coming_to}
+use Rattle.pl_update.specs.Timelines.Mending.{CanAsk, IsMoved, less}
+use Rattle.pl_update.specs.Timelines.Named.{AreNamed}
+use Rattle.pl_update.proofs.AboutTimelines.StandingNamed.{are_named}
+use Rattle.pl_update.proofs.AboutTimelines.Replacing.{found_placed}
+use Rattle.pl_update.proofs.AboutTimelines.ReplacingLines.{gone_askable, gone_held, come_askable, rest_room, rest_named}
 use Rattle.pl_board.proofs.Once.{can_once, once_rising, plan_once}
 use Rattle.pl_board.proofs.Watching.{stands_replaced}
 use Rattle.std.proofs.Common.{ℕ, ◌++◌, Some}
 use Rattle.pl_conflict.specs.Sorting.{exchanged}
-use Rattle.pl_near.specs.Near.{near, HoldSame}
-use Rattle.pl_near.specs.Touched.{touched_goals, touched_ids}
-use Rattle.pl_values.specs.Kept.{AreOf}
+use Rattle.pl_update.specs.GoalsAndActivities.Near.{near, HoldSame}
+use Rattle.pl_update.specs.GoalsAndActivities.Touched.{touched_goals, touched_ids}
+use Rattle.pl_update.specs.Evaluations.Kept.{AreOf}
 use Rattle.pl_board.specs.declared.watched.WatchedState.{WatchedState}
 use Rattle.pl_board.proofs.watched.WatchedState.replace.Goals as goal
 

@@ -2,21 +2,21 @@ use Rattle.std.proofs.Common.{◌≡◌, ◌∙◌, refl, ap, arith}
 use Rattle.std.specs.Prelude.{slice_get}
 use mir.Syntax.{w64}
 use Rattle.std.proofs.lemmas.Int.{to_z-of_z}
-use Rattle.pl_changes.specs.Changes.{told_now}
-use Rattle.pl_changes.proofs.Telling.{can_set}
-use Rattle.pl_changes.proofs.Keeping.{whole_told}
-use Rattle.pl_lines.proofs.StandingNamed.{are_named}
-use Rattle.pl_lines.proofs.StandingReadings.{can_have}
-use Rattle.pl_lines.proofs.StandingLater.{lines_rebased, told_told}
-use Rattle.pl_near.proofs.OfGoals.{follows_told}
-use Rattle.pl_linked.proofs.Keeping.{keeps_told}
+use Rattle.pl_update.specs.Changes.Changes.{told_now}
+use Rattle.pl_update.proofs.AboutChanges.Telling.{can_set}
+use Rattle.pl_update.proofs.AboutChanges.Keeping.{whole_told}
+use Rattle.pl_update.proofs.AboutTimelines.StandingNamed.{are_named}
+use Rattle.pl_update.proofs.AboutTimelines.StandingReadings.{can_have}
+use Rattle.pl_update.proofs.AboutTimelines.StandingLater.{lines_rebased, told_told}
+use Rattle.pl_update.proofs.AboutGoalsAndActivities.OfGoals.{follows_told}
+use Rattle.pl_update.proofs.AboutLinks.Keeping.{keeps_told}
 use Rattle.pl_board.proofs.Watching.{stands_told}
 use Rattle.std.proofs.Common.{Some, pos}
 use Rattle.std.specs.Prelude.{slice_set}
-use Rattle.pl_world.specs.Whole.{IsWhole}
-use Rattle.pl_world.specs.Conflicts.{conflicts_of}
-use Rattle.pl_lines.specs.Moments.{rebased_in}
-use Rattle.pl_lines.specs.Framed.{AreLinesOf}
+use Rattle.pl_semantics.specs.Whole.{IsWhole}
+use Rattle.pl_semantics.specs.Conflicts.{conflicts_of}
+use Rattle.pl_update.specs.Timelines.Moments.{rebased_in}
+use Rattle.pl_update.specs.Timelines.Framed.{AreLinesOf}
 use Rattle.pl_board.proofs.watched.WatchedState.tell.Goals as goal
 
 pub rebase-requires-clause-based : goal.rebase-requires-clause-based

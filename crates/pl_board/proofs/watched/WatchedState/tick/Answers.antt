@@ -1,16 +1,16 @@
 use Rattle.std.proofs.Common.{◌≡◌, ◌∙◌, ap, arith}
-use Rattle.pl_changes.specs.Changes.{moved_on}
-use Rattle.pl_changes.proofs.Keeping.{whole_moved_on}
-use Rattle.pl_lines.proofs.StandingNamed.{are_named}
-use Rattle.pl_lines.proofs.StandingReadings.{may_reach}
-use Rattle.pl_lines.proofs.StandingLater.{lines_moved, told_moved}
+use Rattle.pl_update.specs.Changes.Changes.{moved_on}
+use Rattle.pl_update.proofs.AboutChanges.Keeping.{whole_moved_on}
+use Rattle.pl_update.proofs.AboutTimelines.StandingNamed.{are_named}
+use Rattle.pl_update.proofs.AboutTimelines.StandingReadings.{may_reach}
+use Rattle.pl_update.proofs.AboutTimelines.StandingLater.{lines_moved, told_moved}
 use Rattle.pl_board.proofs.Watching.{few_lines, shown_after, stands_moved}
 use Rattle.std.proofs.Common.{◌++◌}
 use Rattle.pl_conflict.specs.Sorting.{exchanged}
-use Rattle.pl_lines.specs.Framed.{AreLinesOf}
-use Rattle.pl_near.specs.Near.{near, Follows}
-use Rattle.pl_near.proofs.Passing.{follows_moved}
-use Rattle.pl_linked.proofs.Keeping.{before_moved_on}
+use Rattle.pl_update.specs.Timelines.Framed.{AreLinesOf}
+use Rattle.pl_update.specs.GoalsAndActivities.Near.{near, Follows}
+use Rattle.pl_update.proofs.AboutGoalsAndActivities.Passing.{follows_moved}
+use Rattle.pl_update.proofs.AboutLinks.Keeping.{before_moved_on}
 use Rattle.pl_board.specs.declared.watched.WatchedState.{WatchedState}
 use Rattle.pl_board.proofs.watched.WatchedState.tick.Goals as goal
 

@@ -1,6 +1,6 @@
 use Rattle.std.proofs.Common.{◌∙◌, sym, refl, ap, subst}
 use Rattle.pl_board.specs.Boards.{Standing}
-use Rattle.pl_world.specs.Whole.{IsWhole}
+use Rattle.pl_semantics.specs.Whole.{IsWhole}
 use Rattle.pl_machine.specs.Changes.{CanChange}
 use Rattle.pl_machine.specs.Sound.{State}
 use Rattle.pl_machine.proofs.Runs.{sound_spoiled, sound_carried, took_carried}

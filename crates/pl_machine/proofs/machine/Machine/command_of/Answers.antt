@@ -3,9 +3,9 @@ use Rattle.pl_model.specs.declared.whole.Model.{Model}
 use Rattle.pl_plan.specs.Values.{values_of}
 use Rattle.pl_entry.specs.declared.reply.Reply.TheVariants as reply
 use Rattle.pl_entry.specs.Bounds.{IsDispatchReply}
-use Rattle.pl_world.specs.declared.plan_state.PlanState.{PlanState}
-use Rattle.pl_world.specs.PlanStates.{found, is_committed, row_of}
-use Rattle.pl_world.specs.Whole.{IsWhole}
+use Rattle.pl_semantics.specs.declared.plan_state.PlanState.{PlanState}
+use Rattle.pl_semantics.specs.PlanStates.{found, is_committed, row_of}
+use Rattle.pl_semantics.specs.Whole.{IsWhole}
 use Rattle.pl_machine.specs.Sound.{State}
 use Rattle.pl_machine.proofs.Sends.{is_command}
 use Rattle.pl_machine.proofs.machine.Machine.command_of.Goals as goal

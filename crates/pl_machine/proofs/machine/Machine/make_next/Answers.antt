@@ -1,5 +1,5 @@
 use Rattle.std.proofs.Common.{◌≡◌, ◌≤◌, ◌∙◌, true, false, Option, Some, IfSome, ◌⊎◌, ap, sym, subst, arith}
-use Rattle.pl_world.specs.Legal.{is_stuck}
+use Rattle.pl_semantics.specs.Legal.{is_stuck}
 use Rattle.pl_cand.specs.declared.proposal.Proposal.{Proposal}
 use Rattle.pl_cand.specs.Proposals.{IsProposal}
 use Rattle.pl_moves.specs.Keeping.{KeepsCommitted}

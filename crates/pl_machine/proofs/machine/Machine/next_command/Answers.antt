@@ -1,8 +1,8 @@
 use Rattle.std.proofs.Common.{◌≡◌, true, false, Some, None, refl, sym, ◌∙◌, ap, subst}
 use Rattle.pl_plan.specs.declared.activity.Activity.{Activity}
-use Rattle.pl_world.specs.declared.plan_state.PlanState.{PlanState}
-use Rattle.pl_world.specs.PlanStates.{found, is_committed}
-use Rattle.pl_world.specs.Whole.{IsWhole}
+use Rattle.pl_semantics.specs.declared.plan_state.PlanState.{PlanState}
+use Rattle.pl_semantics.specs.PlanStates.{found, is_committed}
+use Rattle.pl_semantics.specs.Whole.{IsWhole}
 use Rattle.std.proofs.lemmas.Result.{IfOk-weaker}
 use Rattle.pl_entry.specs.declared.event.Event.TheVariants as event
 use Rattle.pl_machine.specs.Step.{sent_of, sent_reply, reply_of}

@@ -1,5 +1,5 @@
 use Rattle.std.proofs.Common.{◌≡◌, ◌≤◌, ◌+◌, ◌∙◌, false, arith, refl, sym, ap, subst}
-use Rattle.pl_world.specs.Moves.{applied}
+use Rattle.pl_semantics.specs.Moves.{applied}
 use Rattle.pl_entry.specs.declared.reply.Reply.TheVariants as reply
 use Rattle.pl_machine.specs.Step.{after_fix}
 use Rattle.pl_machine.specs.Taking.{with_round, with_state}

@@ -1,5 +1,5 @@
 use Rattle.std.proofs.Common.{◌≡◌, ◌≤◌, false, ◌∙◌, ap, subst, arith}
-use Rattle.pl_world.specs.Whole.{IsWhole}
+use Rattle.pl_semantics.specs.Whole.{IsWhole}
 use Rattle.pl_machine.specs.Sound.{State}
 use Rattle.pl_machine.proofs.machine.Machine.standing.Goals as goal
 

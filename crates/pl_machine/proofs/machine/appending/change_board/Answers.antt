@@ -2,8 +2,8 @@ use Rattle.std.proofs.Common.{refl, subst, rules}
 use mir.Syntax.{w64}
 use mir.Val.{SFits, to_z, of_z}
 use Rattle.std.proofs.lemmas.Int.{to_z-of_z}
-use Rattle.pl_changes.specs.Changes.{with_goal, told_now, moved_on, committed_to}
-use Rattle.pl_world.specs.Moves.{applied}
+use Rattle.pl_update.specs.Changes.Changes.{with_goal, told_now, moved_on, committed_to}
+use Rattle.pl_semantics.specs.Moves.{applied}
 use Rattle.pl_machine.specs.Changes.{CanChange}
 use Rattle.pl_machine.proofs.Changes.{due_on, due_tick, keeps_accept, keeps_tell, keeps_tick, keeps_on}
 use Rattle.pl_machine.proofs.Granting.{due_committed, keeps_commit, commit_bounds}

@@ -2,8 +2,8 @@ use Rattle.std.proofs.Common.{◌≡◌, List, drop, IfOk, subst}
 use Rattle.pl_model.specs.declared.whole.Model.{Model}
 use Rattle.pl_plan.specs.declared.activity.Activity.{Activity}
 use Rattle.pl_entry.specs.Due.{due_since}
-use Rattle.pl_world.specs.declared.plan_state.PlanState.{PlanState}
-use Rattle.pl_world.specs.Whole.{IsWhole}
+use Rattle.pl_semantics.specs.declared.plan_state.PlanState.{PlanState}
+use Rattle.pl_semantics.specs.Whole.{IsWhole}
 use Rattle.pl_machine.proofs.Settled.{fit_behind, due_behind}
 use Rattle.pl_machine.proofs.machine.appending.due_since_on.Goals as goal
 

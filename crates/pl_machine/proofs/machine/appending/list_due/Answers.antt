@@ -1,5 +1,5 @@
 use Rattle.std.proofs.Common.{◌<◌, subst}
-use Rattle.pl_world.specs.declared.plan_state.PlanState.{PlanState}
+use Rattle.pl_semantics.specs.declared.plan_state.PlanState.{PlanState}
 use Rattle.pl_machine.proofs.Calm.{due_still}
 use Rattle.pl_machine.proofs.Settled.{ahead_later}
 use Rattle.pl_machine.proofs.machine.appending.list_due.Goals as goal

@@ -1,7 +1,7 @@
 use Rattle.std.proofs.Common.{◌≡◌, ◌-◌, length, []}
 use Rattle.pl_text.specs.declared.word.Word.TheVariants as word
-use Rattle.pl_rules.specs.Tokens.{is_word}
-use Rattle.pl_rules.specs.Parsing.{many_by}
+use Rattle.pl_syntax.specs.Tokens.{is_word}
+use Rattle.pl_syntax.specs.Parsing.{many_by}
 use Rattle.pl_syntax.specs.Reading.{alternative_at}
 use Rattle.pl_syntax.proofs.reader.Reader.alternatives.Given as goal
 

@@ -1,8 +1,8 @@
 use Rattle.std.proofs.Common.{◌≡◌, ◌-◌, length, [], arith}
-use Rattle.pl_rules.specs.declared.symbol.Symbol.TheVariants as symbol
-use Rattle.pl_rules.specs.Tokens.{is_symbol}
+use Rattle.pl_syntax.specs.declared.symbol.Symbol.TheVariants as symbol
+use Rattle.pl_syntax.specs.Tokens.{is_symbol}
 use Rattle.pl_syntax.specs.Reading.{further_at}
-use Rattle.pl_rules.proofs.Turns.{many_behind}
+use Rattle.pl_syntax.proofs.Turns.{many_behind}
 use Rattle.pl_syntax.proofs.reader.Reader.other_bindings.Goals as goal
 
 pub bindings-init : goal.bindings-init

@@ -1,7 +1,7 @@
 use Rattle.std.proofs.Common.{◌≡◌, ◌-◌, length, []}
-use Rattle.pl_rules.specs.declared.symbol.Symbol.TheVariants as symbol
-use Rattle.pl_rules.specs.Tokens.{is_symbol}
-use Rattle.pl_rules.specs.Parsing.{many_by, made}
+use Rattle.pl_syntax.specs.declared.symbol.Symbol.TheVariants as symbol
+use Rattle.pl_syntax.specs.Tokens.{is_symbol}
+use Rattle.pl_syntax.specs.Parsing.{many_by, made}
 use Rattle.pl_syntax.specs.Reading.{further_at, list_of}
 use Rattle.pl_syntax.proofs.reader.Reader.other_bindings.Given as goal
 

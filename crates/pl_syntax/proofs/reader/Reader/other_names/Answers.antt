@@ -1,6 +1,6 @@
 use Rattle.std.proofs.Common.{◌≡◌, ◌-◌, length, [], arith}
 use Rattle.pl_syntax.specs.Reading.{is_name_token, name_at}
-use Rattle.pl_rules.proofs.Turns.{many_behind}
+use Rattle.pl_syntax.proofs.Turns.{many_behind}
 use Rattle.pl_syntax.proofs.reader.Reader.other_names.Goals as goal
 
 pub names-init : goal.names-init

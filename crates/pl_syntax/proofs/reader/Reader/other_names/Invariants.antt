@@ -1,5 +1,5 @@
 use Rattle.std.proofs.Common.{◌≡◌, ◌-◌, length, []}
-use Rattle.pl_rules.specs.Parsing.{many_by, made}
+use Rattle.pl_syntax.specs.Parsing.{many_by, made}
 use Rattle.pl_syntax.specs.Reading.{is_name_token, name_at, list_of}
 use Rattle.pl_syntax.proofs.reader.Reader.other_names.Given as goal
 

@@ -1,8 +1,8 @@
 use Rattle.std.proofs.Common.{◌≡◌, ◌-◌, length, [], arith}
 use Rattle.pl_text.specs.declared.word.Word.TheVariants as word
-use Rattle.pl_rules.specs.Tokens.{is_word}
+use Rattle.pl_syntax.specs.Tokens.{is_word}
 use Rattle.pl_syntax.specs.Reading.{slot_at}
-use Rattle.pl_rules.proofs.Turns.{many_behind}
+use Rattle.pl_syntax.proofs.Turns.{many_behind}
 use Rattle.pl_syntax.proofs.reader.Reader.other_slots.Goals as goal
 
 pub slots-init : goal.slots-init

@@ -1,5 +1,5 @@
 use Rattle.std.proofs.Common.{◌≡◌, ◌-◌, length, []}
-use Rattle.pl_rules.specs.Parsing.{many_by}
+use Rattle.pl_syntax.specs.Parsing.{many_by}
 use Rattle.pl_syntax.specs.Reading.{reservation_at, is_reservation}
 use Rattle.pl_syntax.proofs.reader.Reader.reservations.Given as goal
 

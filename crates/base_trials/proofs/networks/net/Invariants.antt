@@ -1,5 +1,0 @@
-use Rattle.pl_stn.specs.Nets.{IsWellFormed}
-use Rattle.base_trials.proofs.networks.net.Given as goal
-
-abbrev pub invariant-loop-word : goal.invariant-loop-word
-invariant-loop-word g l = IsWellFormed l.net

@@ -1,6 +1,0 @@
--- so many uses stand
-use Rattle.std.proofs.Common.{◌≡◌, length}
-use Rattle.line_trials.proofs.blocks.one_use_more_of_ten_thousand.Given as goal
-
-abbrev pub invariant-loop-i : goal.invariant-loop-i
-invariant-loop-i g l = length l.capacity.uses ≡ l.i

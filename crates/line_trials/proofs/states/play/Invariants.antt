@@ -1,6 +1,0 @@
--- the horizon and the moment stay
-use Rattle.std.proofs.Common.{◌≡◌}
-use Rattle.line_trials.proofs.states.play.Given as goal
-
-abbrev pub invariant-loop-row : goal.invariant-loop-row
-invariant-loop-row g l = record { horizon : l.line.horizon ≡ 100; moment : l.line.moment ≡ l.moment }

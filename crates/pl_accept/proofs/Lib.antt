@@ -1,4 +1,0 @@
-pub mod Texts
-pub mod Refusing
-pub mod Apart
-pub mod OneLine

@@ -1,0 +1,230 @@
+-- How many conflicts of goals and activities a move leaves at least.
+use Rattle.std.proofs.Common.{◌≡◌, ℕ, ℤ, suc, ◌+◌, ◌-◌, ◌≤◌, eqb, Bool, true, false, cond, List, [], ◌∷◌, filter, length, Option, Some, None, refl, sym, ap, ◌∙◌, subst, inl, inr, arith}
+use Rattle.std.specs.Prelude.{◌||◌, slice_get}
+use Rattle.std.specs.Option.{option_to_list}
+use Rattle.std.proofs.lemmas.Bool.{eqb-true, and_parts, false_from_ne_true}
+use Rattle.pl_conflict.specs.declared.conflict.Conflict.{Conflict}
+use Rattle.pl_conflict.specs.declared.conflict.Code.TheVariants.{Undetailed}
+use Rattle.pl_conflict.specs.declared.conflict.Code.TheVariants as code
+use Rattle.pl_conflict.specs.Order.{has}
+use Rattle.pl_conflict.proofs.Sorting.{same, same_is}
+use Rattle.pl_moves.specs.Runs.{CanBeMade, goes_on}
+use Rattle.pl_update.specs.GoalsAndActivities.Near.{near, HoldSame}
+use Rattle.pl_update.specs.GoalsAndActivities.Touched.{touched_goals, touched_ids}
+use Rattle.pl_update.proofs.AboutGoalsAndActivities.Touching.{follows_same}
+use Rattle.pl_plan.specs.declared.repair.RepairMove.{RepairMove}
+use Rattle.pl_plan.specs.declared.repair.RepairMove.TheVariants.{Add, Delete, Shift, Detail, Abstract, Assign, Drop}
+use Rattle.pl_plan.specs.Fitting.{alternatives_of}
+use Rattle.pl_plan.specs.Trees.{subtree_of}
+use Rattle.pl_semantics.specs.declared.plan_state.PlanState.{PlanState}
+use Rattle.pl_semantics.specs.Activities.{at_start, wrong_of}
+use Rattle.pl_semantics.specs.Candidates.{same_number}
+use Rattle.pl_semantics.specs.Conflicts.{conflicts_of}
+use Rattle.pl_semantics.specs.Moves.{applied, root_for}
+use Rattle.pl_semantics.specs.Parts.{part_of, of_activities}
+use Rattle.pl_semantics.specs.Whole.{IsWhole}
+use Rattle.pl_bounds.specs.Asked.{IsAlike}
+use Rattle.pl_bounds.specs.Counts.{AreApart}
+use Rattle.pl_bounds.specs.Plain.{is_plain, is_plain_part, count_of_plain}
+use Rattle.pl_bounds.specs.Standing.{HasUnset, IsKnown, IsLeftByNew, IsOpenWithout, IsStandingOf, IsUnsetThen}
+use Rattle.pl_bounds.specs.declared.standing.Standing.{Standing}
+use Rattle.pl_bounds.proofs.Assigned.{assign_left}
+use Rattle.pl_bounds.proofs.Differing.{has_passing}
+use Rattle.pl_bounds.proofs.Following.{all_but_wrong, is_kept, kept_stays, near_new, none_wrong_new}
+use Rattle.pl_bounds.proofs.Made.{follows, whole_then}
+use Rattle.pl_bounds.proofs.Reopened.{again, is_new, stands_again}
+use Rattle.pl_bounds.proofs.Shifted.{shift_left}
+use Rattle.pl_bounds.proofs.Leaving.{left_are_few, standing_apart}
+use Rattle.pl_bounds.proofs.Opens.{wrong_stands}
+use Rattle.pl_bounds.proofs.Unchosen.{unchosen}
+use Rattle.pl_bounds.proofs.Alike.{alike_delete, alike_shift, alike_add}
+
+-- ---- moves that place the same
+
+same_number_is : (m n : Option ℕ) → same_number m n ≡ true → m ≡ n
+same_number_is None None e = refl
+same_number_is None (Some n) e = absurd (cc)
+same_number_is (Some m) None e = absurd (cc)
+same_number_is (Some m) (Some n) e = ap (λ (k : ℕ). Some k) (eqb-true m n e)
+
+on_add : (kind start : ℕ) (goal : Option ℕ) (m : RepairMove) → goes_on (Add kind start goal) m ≡ true → (t : ℕ) × (m ≡ Add kind t goal)
+on_add kind start goal (Add k t g) e =
+    let both = and_parts (eqb kind k) (same_number goal g) e in
+    (t, ap (λ (j : ℕ). Add j t g) (sym (eqb-true kind k both.0)) ∙ ap (λ (h : Option ℕ). Add kind t h) (sym (same_number_is goal g both.1)))
+on_add kind start goal (Delete i) e = absurd (cc)
+on_add kind start goal (Shift i t) e = absurd (cc)
+on_add kind start goal (Detail i a) e = absurd (cc)
+on_add kind start goal (Abstract i) e = absurd (cc)
+on_add kind start goal (Assign i p v) e = absurd (cc)
+on_add kind start goal (Drop g) e = absurd (cc)
+
+on_shift : (id start : ℕ) (m : RepairMove) → goes_on (Shift id start) m ≡ true → (t : ℕ) × (m ≡ Shift id t)
+on_shift id start (Shift i t) e = (t, ap (λ (j : ℕ). Shift j t) (sym (eqb-true id i e)))
+on_shift id start (Add k t g) e = absurd (cc)
+on_shift id start (Delete i) e = absurd (cc)
+on_shift id start (Detail i a) e = absurd (cc)
+on_shift id start (Abstract i) e = absurd (cc)
+on_shift id start (Assign i p v) e = absurd (cc)
+on_shift id start (Drop g) e = absurd (cc)
+
+pub alike_assign : (id param : ℕ) (value : ℤ) (m : RepairMove) → IsAlike (Assign id param value) m → m ≡ Assign id param value
+alike_assign id param value m (inl e) = e
+alike_assign id param value m (inr e) = absurd (cc)
+
+-- ---- conflicts that are left
+
+record AreLeft (t : PlanState) (ks : List Conflict) : Type 0 where
+  apart : AreApart ks
+  each : (q : Conflict) → has q ks ≡ true → (has q (conflicts_of t) ≡ true) × (is_plain q ≡ true)
+
+left_few : (t : PlanState) (ks : List Conflict) → AreLeft t ks → length ks ≤ count_of_plain t
+left_few t ks are = left_are_few t ks are.apart are.each
+
+with_one : (t : PlanState) (ks : List Conflict) → AreLeft t ks → (k : Conflict) → has k ks ≡ false → has k (conflicts_of t) ≡ true → is_plain k ≡ true → AreLeft t (k ∷ ks)
+with_one t ks are k none stands plain = record { apart = (none, are.apart); each = λ q h. by q (same q k) refl h }
+  where
+    by : (q : Conflict) (b : Bool) → same q k ≡ b → (b || has q ks) ≡ true → (has q (conflicts_of t) ≡ true) × (is_plain q ≡ true)
+    by q true e there = subst (λ (z : Conflict). (has z (conflicts_of t) ≡ true) × (is_plain z ≡ true)) (sym (same_is q k e)) (stands, plain)
+    by q false e there = are.each q there
+
+-- ---- a deletion
+
+module _ (s : PlanState) (whole : IsWhole s) (next : s.next_id ≤ 3999999000) (id : ℕ) (can : CanBeMade s (Delete id)) (numbers ids : List ℕ) (same_numbers : HoldSame numbers (touched_goals s (subtree_of id s.plan.activities) [])) (same_ids : HoldSame ids (touched_ids s (subtree_of id s.plan.activities) [])) where
+  abbrev gone : PlanState
+  gone = applied s (Delete id)
+
+  abbrev others_than : List Conflict
+  others_than = filter (is_kept (near s numbers ids)) (conflicts_of s)
+
+  whole_gone : IsWhole gone
+  whole_gone = whole_then s whole next (Delete id) tt can
+
+  stay_then : (q : Conflict) → has q others_than ≡ true → (has q (conflicts_of gone) ≡ true) × (is_plain q ≡ true)
+  stay_then =
+      kept_stays s gone whole whole_gone numbers ids
+      (follows_same s gone (touched_goals s (subtree_of id s.plan.activities) []) (touched_ids s (subtree_of id s.plan.activities) []) numbers ids (follows s whole next (Delete id) tt can) same_numbers same_ids)
+
+  others_stay : length others_than ≤ count_of_plain gone
+  others_stay = left_are_few gone others_than (standing_apart s (is_kept (near s numbers ids))) stay_then
+
+  -- where its goal is open again
+  one_comes : IsOpenWithout s id → suc (length others_than) ≤ count_of_plain gone
+  one_comes of = left_are_few gone (again s whole id of whole_gone ∷ others_than) (not_there, standing_apart s (is_kept (near s numbers ids))) each
+    where
+      not_there : has (again s whole id of whole_gone) others_than ≡ false
+      not_there = false_from_ne_true (has (again s whole id of whole_gone) others_than) (λ h. absurd (
+          let there = (has_passing (is_kept (near s numbers ids)) (conflicts_of s) (again s whole id of whole_gone) h).0 in
+          let bad : true ≡ false = sym there ∙ is_new s whole id of whole_gone in
+          cc))
+
+      each : (q : Conflict) → has q (again s whole id of whole_gone ∷ others_than) ≡ true → (has q (conflicts_of gone) ≡ true) × (is_plain q ≡ true)
+      each q h = by_first (same q (again s whole id of whole_gone)) refl h
+        where
+          by_first : (b : Bool) → same q (again s whole id of whole_gone) ≡ b → (b || has q others_than) ≡ true → (has q (conflicts_of gone) ≡ true) × (is_plain q ≡ true)
+          by_first true e there =
+              let is : again s whole id of whole_gone ≡ q = sym (same_is q (again s whole id of whole_gone) e) in
+              subst (λ (k : Conflict). (has k (conflicts_of gone) ≡ true) × (is_plain k ≡ true)) is (stands_again s whole id of whole_gone, refl)
+          by_first false e there = stay_then q there
+
+  pub delete_left : (most : ℕ) → most ≤ count_of_plain s → (b : Bool) → (b ≡ true → IsOpenWithout s id) → (most - length (near s numbers ids)) + cond b 1 0 ≤ count_of_plain gone
+  delete_left most low b reopened = by b reopened
+    where
+      enough : most ≤ length others_than + length (near s numbers ids)
+      enough = let all = all_but_wrong s (near s numbers ids) in omega (arith, all, low)
+
+      by : (b : Bool) → (b ≡ true → IsOpenWithout s id) → (most - length (near s numbers ids)) + cond b 1 0 ≤ count_of_plain gone
+      by true so = let left = one_comes (so refl) in omega (arith, enough, left)
+      by false so = let left = others_stay in omega (arith, enough, left)
+
+-- ---- a new root
+
+module _ (s : PlanState) (whole : IsWhole s) (next : s.next_id ≤ 3999999000) (kind start : ℕ) (goal : Option ℕ) (can : CanBeMade s (Add kind start goal)) where
+  abbrev then_ : PlanState
+  then_ = applied s (Add kind start goal)
+
+  -- what stands near it
+  abbrev wrong : List Conflict
+  wrong = near s (touched_goals s [] (root_for s kind start goal ∷ [])) (touched_ids s [] (root_for s kind start goal ∷ []))
+
+  abbrev others : List Conflict
+  others = filter (is_kept wrong) (conflicts_of s)
+
+  -- what stands for the new root
+  abbrev new : Conflict
+  new = at_start (root_for s kind start goal) Undetailed 0 0
+
+  stay : (q : Conflict) → has q others ≡ true → (has q (conflicts_of then_) ≡ true) × (is_plain q ≡ true)
+  stay = kept_stays s then_ whole (whole_then s whole next (Add kind start goal) tt can) (touched_goals s [] (root_for s kind start goal ∷ [])) (touched_ids s [] (root_for s kind start goal ∷ [])) (follows s whole next (Add kind start goal) tt can)
+
+  -- an activity that is not there yet has no conflicts
+  none_of_new : (q : Conflict) → part_of q.code ≡ of_activities → q.subject ≡ s.next_id → has q others ≡ false
+  none_of_new q is subject = false_from_ne_true (has q others) (λ h. absurd (
+      let there : has q (conflicts_of s) ≡ true = (has_passing (is_kept wrong) (conflicts_of s) q h).0 in
+      let own : has q (wrong_of s q.subject) ≡ true = wrong_stands s whole q is there in
+      let none : wrong_of s q.subject ≡ [] = ap (wrong_of s) subject ∙ none_wrong_new s whole in
+      let bad : false ≡ true = sym (ap (λ (ks : List Conflict). has q ks) none) ∙ own in
+      cc))
+
+  others_left : AreLeft then_ others
+  others_left = record { apart = standing_apart s (is_kept wrong); each = stay }
+
+  -- one more where the kind has alternatives
+  abbrev first : Bool → List Conflict
+  first true = others
+  first false = new ∷ others
+
+  first_left : (b : Bool) → eqb (length (alternatives_of (slice_get s.model.kinds kind))) 0 ≡ b → AreLeft then_ (first b)
+  first_left true e = others_left
+  first_left false e = with_one then_ others others_left new (none_of_new new refl refl) (unchosen s kind start goal can.allowed e) refl
+
+  -- and one more where a value is not set
+  second_left : (b : Bool) → eqb (length (alternatives_of (slice_get s.model.kinds kind))) 0 ≡ b → (u : HasUnset then_ s.next_id) → AreLeft then_ (u.q ∷ first b)
+  second_left b e u = with_one then_ (first b) (first_left b e) u.q (apart_of b) u.there (ap (λ c. is_plain_part (part_of c)) u.why)
+    where
+      of_part : part_of u.q.code ≡ of_activities
+      of_part = ap part_of u.why
+
+      differ : same u.q new ≡ false
+      differ = false_from_ne_true (same u.q new) (λ h. absurd (let is : u.q ≡ new = same_is u.q new h in let bad : code.Unset ≡ code.Undetailed = sym u.why ∙ ap (λ (k : Conflict). k.code) is in cc))
+
+      apart_of : (b : Bool) → has u.q (first b) ≡ false
+      apart_of true = none_of_new u.q of_part u.of
+      apart_of false = ap (λ x. x || has u.q others) differ ∙ none_of_new u.q of_part u.of
+
+  enough : (most : ℕ) → most ≤ count_of_plain s → most ≤ length others + length (option_to_list goal)
+  enough most low = let all = all_but_wrong s wrong in let few = near_new s whole kind start goal in omega (arith, all, few, low)
+
+  add_left : (most n : ℕ) → most ≤ count_of_plain s → IsLeftByNew s most kind start goal n → n ≤ count_of_plain then_
+  add_left most n low by = by_both (eqb (length (alternatives_of (slice_get s.model.kinds kind))) 0) refl by.unset by.when_unset by.few
+    where
+      by_both : (b : Bool) → eqb (length (alternatives_of (slice_get s.model.kinds kind))) 0 ≡ b → (u : Bool) → (u ≡ true → IsUnsetThen s kind goal) → n ≤ ((most - length (option_to_list goal)) + cond b 0 1) + cond u 1 0 → n ≤ count_of_plain then_
+      by_both true e true so few = let left = left_few then_ _ (second_left true e (so refl start can)) in let more = enough most low in omega (arith, more, left, few)
+      by_both true e false so few = let left = left_few then_ _ (first_left true e) in let more = enough most low in omega (arith, more, left, few)
+      by_both false e true so few = let left = left_few then_ _ (second_left false e (so refl start can)) in let more = enough most low in omega (arith, more, left, few)
+      by_both false e false so few = let left = left_few then_ _ (first_left false e) in let more = enough most low in omega (arith, more, left, few)
+
+-- ---- all of them
+
+pub steady_left : (s : PlanState) → IsWhole s → s.next_id ≤ 3999999000 → (o : Standing) → IsStandingOf s o → (mv : RepairMove) (n : ℕ) → IsKnown s o mv n → (m : RepairMove) → CanBeMade s m → IsAlike mv m → n ≤ count_of_plain (applied s m)
+steady_left s whole next o of (Add kind start goal) n known m can alike =
+    let on = alike_add kind start goal m alike in
+    let now : CanBeMade s (Add kind on.0 goal) = subst (λ (k : RepairMove). CanBeMade s k) on.1 can in
+    let by : IsLeftByNew s o.wrong kind on.0 goal n = record { unset = known.unset; when_unset = known.when_unset; few = known.few } in
+    subst (λ (k : RepairMove). n ≤ count_of_plain (applied s k)) (sym on.1) (add_left s whole next kind on.0 goal now o.wrong n of.plain by)
+steady_left s whole next o of (Delete id) n known m can alike =
+    subst (λ (k : RepairMove). n ≤ count_of_plain (applied s k)) (sym (alike_delete id m alike)) known
+steady_left s whole next o of (Shift id start) n known m can alike =
+    let on = alike_shift id start m alike in
+    let now : CanBeMade s (Shift id on.0) = subst (λ (k : RepairMove). CanBeMade s k) on.1 can in
+    let left = shift_left s whole next id on.0 now in
+    let most = of.unmoved in
+    subst (λ (k : RepairMove). n ≤ count_of_plain (applied s k)) (sym on.1) (omega (arith, known, most, left))
+steady_left s whole next o of (Detail id alternative) n known m can alike = omega (arith, known)
+steady_left s whole next o of (Abstract id) n known m can alike = omega (arith, known)
+steady_left s whole next o of (Assign id param value) n known m can alike =
+    let is = alike_assign id param value m alike in
+    let now : CanBeMade s (Assign id param value) = subst (λ (k : RepairMove). CanBeMade s k) is can in
+    let left = assign_left s whole next id param value now in
+    let most = of.valueless in
+    subst (λ (k : RepairMove). n ≤ count_of_plain (applied s k)) (sym is) (omega (arith, known, most, left))
+steady_left s whole next o of (Drop number) n known m can alike = omega (arith, known)

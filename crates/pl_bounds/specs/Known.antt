@@ -1,0 +1,18 @@
+-- What is known of moves that place the same at other starts.
+use Rattle.std.specs.Prelude.{◌≤◌, IfSome}
+use Rattle.pl_plan.specs.declared.repair.RepairMove.{RepairMove}
+use Rattle.pl_semantics.specs.declared.plan_state.PlanState.{PlanState}
+use Rattle.pl_semantics.specs.Moves.{applied}
+use Rattle.pl_moves.specs.Changes.{gone_by, placed_by}
+use Rattle.pl_moves.specs.Runs.{CanBeMade, start_of}
+use Rattle.pl_bounds.specs.Asked.{IsAlike, IsAskedBy}
+use Rattle.pl_bounds.specs.Plain.{count_of_plain}
+use Rattle.pl_bounds.specs.Ties.{lone_then, count_of_links}
+use Rattle.pl_bounds.specs.declared.known.Known.{Known}
+
+-- Of each move alike that can be made: how many conflicts of goals and activities it leaves at least, an activity whose links are
+-- conflicts where they find no partner at the move's start, and what it asks for, if that is known.
+pub record IsKnownOf (s : PlanState) (k : Known) : Type 0 where
+  pub steady : (m : RepairMove) → CanBeMade s m → IsAlike k.first m → k.steady ≤ count_of_plain (applied s m)
+  pub alone : (m : RepairMove) → CanBeMade s m → IsAlike k.first m → lone_then s (start_of m) k.alone ≤ count_of_links (applied s m)
+  pub asking : IfSome k.asking (λ a. (m : RepairMove) → CanBeMade s m → IsAlike k.first m → IsAskedBy s (gone_by s m) (placed_by s m) a (start_of m))

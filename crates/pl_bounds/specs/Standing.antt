@@ -1,0 +1,101 @@
+-- Conflicts of goals and of activities that stand, and how many of them a move leaves at least.
+use Rattle.std.specs.Prelude.{◌≡◌, ℕ, ◌+◌, ◌-◌, ◌≤◌, ◌==◌, Bool, true, false, [], ◌∷◌, Option, Some, filter, length, if◌then◌else◌}
+use Rattle.std.specs.Option.{option_to_list}
+use Rattle.pl_conflict.specs.declared.conflict.Conflict.{Conflict}
+use Rattle.pl_conflict.specs.declared.conflict.Code.{Code}
+use Rattle.pl_conflict.specs.Codes.{code_number}
+use Rattle.pl_conflict.specs.Order.{has}
+use Rattle.pl_conflict.specs.declared.conflict.Code.TheVariants as code
+use Rattle.pl_plan.specs.declared.repair.RepairMove.{RepairMove}
+use Rattle.pl_plan.specs.declared.repair.RepairMove.TheVariants.{Add, Delete, Shift, Assign}
+use Rattle.pl_moves.specs.Least.{least_known}
+use Rattle.pl_moves.specs.Runs.{CanBeMade}
+use Rattle.pl_semantics.specs.declared.plan_state.PlanState.{PlanState}
+use Rattle.pl_facts.specs.declared.goal.Goal.{Goal}
+use Rattle.pl_plan.specs.declared.activity.Activity.{Activity}
+use Rattle.pl_plan.specs.Serving.{served_in, serving}
+use Rattle.pl_semantics.specs.PlanStates.{floor_of, found, goal_at}
+use Rattle.pl_semantics.specs.Conflicts.{conflicts_of}
+use Rattle.pl_semantics.specs.Moves.{applied}
+use Rattle.pl_bounds.specs.Plain.{count_of_plain}
+use Rattle.pl_bounds.specs.declared.standing.Standing.{Standing}
+
+-- a shift changes at most from when it is told: an open goal, or what is wrong with an activity but for its start
+abbrev pub is_unmoved : Code → Bool
+is_unmoved code.OpenGoal = true
+is_unmoved code.Unset = true
+is_unmoved code.BadValue = true
+is_unmoved code.Undetailed = true
+is_unmoved _ = false
+
+abbrev pub is_unmoved_one : Conflict → Bool
+is_unmoved_one q = is_unmoved q.code
+
+-- how many of them stand
+abbrev pub count_of_unmoved : PlanState → ℕ
+count_of_unmoved s = length (filter is_unmoved_one (conflicts_of s))
+
+-- an assignment changes neither which goals are open nor which alternatives are chosen
+abbrev pub is_valueless : Code → Bool
+is_valueless code.OpenGoal = true
+is_valueless code.Undetailed = true
+is_valueless _ = false
+
+abbrev pub is_valueless_one : Conflict → Bool
+is_valueless_one q = is_valueless q.code
+
+-- how many of them stand
+abbrev pub count_of_valueless : PlanState → ℕ
+count_of_valueless s = length (filter is_valueless_one (conflicts_of s))
+
+-- no more than stand
+pub record IsStandingOf (s : PlanState) (o : Standing) : Type 0 where
+  pub plain : o.wrong ≤ count_of_plain s
+  pub unmoved : o.unmoved ≤ count_of_unmoved s
+  pub valueless : o.valueless ≤ count_of_valueless s
+
+-- the goal that the activity of this id serves
+pub record IsServedBy (s : PlanState) (id : ℕ) (g : Goal) : Type 0 where
+  pub a : Activity
+  pub here : found s id ≡ Some a
+  pub serves : served_in a ≡ Some g.number
+  pub goal : goal_at s g.number ≡ Some g
+
+-- It is not dropped, can still be met, and no other root serves it: it is open once the activity is gone.
+pub record IsOpenWithout (s : PlanState) (id : ℕ) : Type 0 where
+  pub g : Goal
+  pub served : IsServedBy s id g
+  pub stays : g.dropped ≡ false
+  pub ahead : floor_of s ≤ g.latest
+  pub alone : serving g.number s.plan.activities ≡ id ∷ []
+
+-- it tells that a value is not set
+abbrev pub is_unset_one : Conflict → Bool
+is_unset_one q = code_number q.code == code_number code.Unset
+
+-- one of the activity of this id stands
+pub record HasUnset (t : PlanState) (id : ℕ) : Type 0 where
+  pub q : Conflict
+  pub there : has q (conflicts_of t) ≡ true
+  pub why : q.code ≡ code.Unset
+  pub of : q.subject ≡ id
+
+-- of a root of this kind for this goal, whenever it starts
+abbrev pub IsUnsetThen : PlanState → ℕ → Option ℕ → Type 0
+IsUnsetThen s kind goal = (t : ℕ) → CanBeMade s (Add kind t goal) → HasUnset (applied s (Add kind t goal)) s.next_id
+
+-- A new root leaves all but the goal that it serves, one more where its kind has alternatives, since none is chosen, and one more
+-- where a value of it is not set.
+pub record IsLeftByNew (s : PlanState) (wrong kind start : ℕ) (goal : Option ℕ) (n : ℕ) : Type 0 where
+  pub unset : Bool
+  pub when_unset : unset ≡ true → IsUnsetThen s kind goal
+  pub few : n ≤ ((wrong - length (option_to_list goal)) + least_known s (Add kind start goal)) + (if unset then 1 else 0)
+
+-- What is known of a move. A shift leaves as many open goals, and as many that are wrong with activities but for their starts. An
+-- assignment leaves the open goals, and the activities that lack an alternative.
+abbrev pub IsKnown : PlanState → Standing → RepairMove → ℕ → Type 0
+IsKnown s o (Add kind start goal) n = IsLeftByNew s o.wrong kind start goal n
+IsKnown s o (Delete id) n = n ≤ count_of_plain (applied s (Delete id))
+IsKnown s o (Shift id start) n = n ≤ o.unmoved
+IsKnown s o (Assign id param value) n = n ≤ o.valueless
+IsKnown s o _ n = n ≤ 0

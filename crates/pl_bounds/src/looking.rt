@@ -1,0 +1,89 @@
+//! Looks at a timeline where it is past its limit, and a moment before and behind.
+ghost use Rattle.std.specs.Prelude.{◌≡◌, false, IfOk, OnOk};
+ghost use Rattle.pl_bounds.specs.Looks.{IsLimited, AreLooksAt};
+ghost use Rattle.pl_bounds.specs.Sides.{code_of};
+
+use crate::outside::{Look, Side};
+use crate::reading::value_at;
+use pl_board::Board;
+use pl_conflict::{Code, Conflict};
+use std::alloc::{AllocError, Global};
+
+// Looks by rising moments, and the first moment behind them.
+#[derive(Drop)]
+struct Looking {
+    looks: Vec<Look>,
+    next: u32,
+}
+
+fn code_of(side: Side) -> Code
+    ensures { result ≡ code_of side }
+{
+    match side {
+        Side::Over => Code::Over,
+        Side::Low => Code::Low,
+        Side::High => Code::High,
+    }
+}
+
+impl Looking {
+    // Looks at a moment, if it lies ahead and behind those that were looked at.
+    fn look(&mut self, board: &Board, side: Side, line: u32, at: u32) -> Result<(), AllocError>
+        requires unspoiled { board.now.spoiled ≡ false }
+        requires limited { IsLimited board.now.state side line }
+        requires looks { AreLooksAt board.now.state side line self.old.next self.old.looks.items }
+        ensures { OnOk result (AreLooksAt board.now.state side line self.new.next self.new.looks.items) }
+    {
+        if at < self.next || board.model().horizon <= at {
+            return Ok(());
+        }
+        let value = value_at(board, side, line, at);
+        self.looks.push(Look { at, value })?;
+        self.next = at + 1;
+        Ok(())
+    }
+
+    // Looks where a span begins and where it ends.
+    fn look_round(
+        &mut self,
+        board: &Board,
+        side: Side,
+        line: u32,
+        conflict: &Conflict,
+    ) -> Result<(), AllocError>
+        requires unspoiled { board.now.spoiled ≡ false }
+        requires limited { IsLimited board.now.state side line }
+        requires looks { AreLooksAt board.now.state side line self.old.next self.old.looks.items }
+        ensures { OnOk result (AreLooksAt board.now.state side line self.new.next self.new.looks.items) }
+    {
+        self.look(board, side, line, conflict.a.saturating_sub(1))?;
+        self.look(board, side, line, conflict.a)?;
+        self.look(board, side, line, conflict.b.saturating_sub(1))?;
+        self.look(board, side, line, conflict.b)?;
+        Ok(())
+    }
+}
+
+/// What a timeline comes to round its spans that are past the limit.
+pub(crate) fn looks_at(
+    alloc: Global,
+    board: &Board,
+    side: Side,
+    line: u32,
+) -> Result<Vec<Look>, AllocError>
+    requires unspoiled { board.now.spoiled ≡ false }
+    requires limited { IsLimited board.now.state side line }
+    ensures { IfOk result (λ looks. AreLooksAt board.now.state side line board.now.state.model.horizon looks.items) }
+{
+    let s = board.state();
+    let mut looking = Looking {
+        looks: Vec::new(alloc),
+        next: s.moment,
+    };
+    for conflict in board.conflicts().iter() {
+        if conflict.subject == line && conflict.code == code_of(side) {
+            looking.look_round(board, side, line, conflict)?;
+        }
+    }
+    Ok(looking.looks)
+}

@@ -1,8 +1,0 @@
-//! Changes of a plan state: what each comes to, and that it leaves the state whole.
-#![tactic(auto)]
-
-mod laws;
-mod replacement;
-
-pub use laws::laws_of_plan_changes;
-pub use replacement::{next_after, replace};

@@ -1,6 +1,0 @@
-use Rattle.std.proofs.Common.{◌≡◌, ◌++◌, take, map}
-use Rattle.pl_world.specs.Timelines.{unmet_must}
-use Rattle.pl_demands.proofs.outside.add_musts.Given as goal
-
-abbrev pub invariant-loop-must : goal.invariant-loop-must
-invariant-loop-must l = l.out.items ≡ l.initial.out.items ++ map (unmet_must l.s) (take l.must-index l.musts)

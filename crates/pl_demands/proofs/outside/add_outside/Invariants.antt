@@ -1,6 +1,0 @@
-use Rattle.std.proofs.Common.{◌≡◌, ◌++◌, take, map}
-use Rattle.pl_world.specs.Timelines.{outside}
-use Rattle.pl_demands.proofs.outside.add_outside.Given as goal
-
-abbrev pub invariant-loop-span : goal.invariant-loop-span
-invariant-loop-span l = l.out.items ≡ l.initial.out.items ++ map (outside l.code l.line) (take l.span-index l.spans)

@@ -1,0 +1,6 @@
+pub mod Journal
+pub mod Reads
+pub mod Words
+pub mod Moves
+pub mod Replies
+pub mod Entries

@@ -1,0 +1,31 @@
+-- How long the journal of a run is.
+use Rattle.std.specs.Prelude.{ℕ, ◌+◌, ◌*◌, ◌≤◌, List, length, Option}
+use Rattle.pl_model.specs.declared.whole.Model.{Model}
+use Rattle.pl_entry.specs.declared.entry.Entry.{Entry}
+use Rattle.pl_input.specs.Words.{split_of}
+use Rattle.pl_machine.specs.Legal.{Legal, options_of}
+use Rattle.pl_machine.specs.Finished.{inputs_of}
+use Rattle.pl_main.specs.Solo.{Solo}
+use Rattle.pl_main.specs.Top.{IsFull}
+use Rattle.pl_main.specs.Pairs.{IsPaired, IsPairFull}
+
+-- A log of one thread has, beside its opening, ten thousand commands at most, and for each input four entries and as many
+-- as a round has turns.
+abbrev pub SoloIsBounded : Model → Type 0
+SoloIsBounded m = (log : List Entry) → Legal m log → Solo m log
+    → length log ≤ 10001 + length (inputs_of log) * ((options_of log).turns + 4)
+
+-- So has the log of a run of a pair, with twice as many turns.
+abbrev pub PairIsBounded : Model → Type 0
+PairIsBounded m = (turns seed : ℕ) (log : List Entry) → IsPaired turns seed m log
+    → length log ≤ 10001 + length (inputs_of log) * (2 * turns + 6)
+
+-- A run whose log is full has so many messages that its log may be as long.
+abbrev pub FullHasMany : Type 0
+FullHasMany = (turns : ℕ) (input : List ℕ) (left held now : Option (List ℕ)) → IsFull turns input left held now
+    → 250000 ≤ 10001 + length (split_of input).messages * (turns + 4)
+
+-- So has a run of a pair, with twice as many turns.
+abbrev pub PairFullHasMany : Type 0
+PairFullHasMany = (turns seed : ℕ) (input : List ℕ) (left held now : Option (List ℕ)) → IsPairFull turns seed input left held now
+    → 250000 ≤ 10001 + length (split_of input).messages * (2 * turns + 6)

@@ -1,8 +1,0 @@
-use Rattle.std.proofs.Common.{◌≡◌, ◌++◌, map, take, drop}
-use Rattle.pl_lines.specs.Named.{AreNamed}
-use Rattle.pl_lines.specs.Mending.{IsMended}
-use Rattle.pl_lines.specs.Moments.{at_moment}
-use Rattle.pl_lines.proofs.lines.Lines.advance.Given as goal
-
-abbrev pub invariant-loop-line : goal.invariant-loop-line
-invariant-loop-line g l = record { mended : IsMended l.s l.fn.self l.self l.fn.set l.set; moved : l.self ≡ map (at_moment l.now) (take l.line l.fn.self) ++ drop l.line l.fn.self; named : AreNamed l.s l.self }

@@ -1,0 +1,28 @@
+ghost use Rattle.std.specs.Prelude.{◌≤◌, OnOk, OnErr, IfErr, length, drop};
+ghost use Rattle.pl_io.specs.Writes.{AppendsFront};
+ghost use Rattle.pl_journal.specs.Rendering.Lines.{text_from};
+ghost use Rattle.pl_journal.specs.Written.{Adds, WriteStops};
+
+use pl_input::Halt;
+use pl_io::Sink;
+use pl_journal::write_entries;
+use pl_machine::Machine;
+use std::alloc::Global;
+
+/// Writes the lines of a log from an entry on.
+#[tactic(auto, using(pl_machine::proofs::ShortLogs::log_is_short))]
+pub fn write_log<O: Sink>(
+    alloc: Global,
+    machine: &Machine,
+    from: usize,
+    out: &mut O,
+) -> Result<(), Halt>
+    requires { from ≤ length machine.now.log }
+    ensures text { OnOk result (Adds (O.held out.old) (O.held out.new) (text_from machine.now.model from (drop from machine.now.log))) }
+    ensures front { OnErr result (AppendsFront (O.held out.old) (O.held out.new) (text_from machine.now.model from (drop from machine.now.log))) }
+    ensures cause { IfErr result (WriteStops (O.faults out.old) (O.faults out.new)) }
+    ensures later { O.faults out.old ≤ O.faults out.new }
+{
+    let log = machine.log();
+    write_entries(alloc, machine.model(), from as u32, &log[from..], out)
+}

@@ -1,7 +1,0 @@
--- what was gathered and what the rest gives
-use Rattle.std.proofs.Common.{◌≡◌, ◌++◌, drop}
-use Rattle.pl_lines.specs.Laws.{gone_from}
-use Rattle.pl_outlook.proofs.asking.asked_by.Given as goal
-
-abbrev pub invariant-loop-id : goal.invariant-loop-id
-invariant-loop-id l = l.all.items ++ gone_from l.s (drop l.id-index l.ids) ≡ gone_from l.s l.ids

@@ -1,7 +1,0 @@
--- what was counted and what the rest may be
-use Rattle.std.proofs.Common.{◌+◌, ◌≤◌, drop}
-use Rattle.pl_outlook.specs.Afterwards.{times_with}
-use Rattle.pl_outlook.proofs.bounding.past_after.Given as goal
-
-abbrev pub invariant-loop-outside : goal.invariant-loop-outside
-invariant-loop-outside l = (l.times + times_with l.board.state l.asking l.start (drop l.outside-index l.outsides)) ≤ times_with l.board.state l.asking l.start l.outsides

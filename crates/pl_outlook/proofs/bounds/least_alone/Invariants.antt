@@ -1,7 +1,0 @@
--- the numbers of those up to this move
-use Rattle.std.specs.Prelude.{take}
-use Rattle.pl_outlook.specs.Bounds.{AreLeast}
-use Rattle.pl_outlook.proofs.bounds.least_alone.Given as goal
-
-abbrev pub invariant-moves : goal.invariant-moves
-invariant-moves l = AreLeast l.board.state (take l.mv-index l.moves) l.bounds.items

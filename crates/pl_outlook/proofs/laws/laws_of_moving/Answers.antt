@@ -1,5 +1,0 @@
-use Rattle.pl_outlook.proofs.Moving.{demands_moved}
-use Rattle.pl_outlook.proofs.laws.laws_of_moving.Goals as goal
-
-pub returns : goal.returns
-returns c = λ s gone more a from to here there row low. demands_moved from to s gone more a here there row low

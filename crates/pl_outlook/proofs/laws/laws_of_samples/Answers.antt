@@ -1,5 +1,0 @@
-use Rattle.pl_outlook.proofs.Rising.{rises_few}
-use Rattle.pl_outlook.proofs.laws.laws_of_samples.Goals as goal
-
-pub returns : goal.returns
-returns c = rises_few

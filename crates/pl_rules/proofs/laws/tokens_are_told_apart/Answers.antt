@@ -1,5 +1,0 @@
-use Rattle.pl_rules.proofs.TokenTests.{same-is}
-use Rattle.pl_rules.proofs.laws.tokens_are_told_apart.Goals as goal
-
-pub returns : goal.returns
-returns c = λ t wanted e. same-is t wanted e

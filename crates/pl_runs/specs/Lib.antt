@@ -1,2 +1,0 @@
-pub use Rattle.pl_model.specs.Checked
-pub mod Lengths

@@ -1,0 +1,16 @@
+use denote.Param.Send.{sendable}
+use Rattle.std.proofs.Crossing.{crosses}
+use Rattle.pl_semantics.proofs.Crossing.{shared_send, shared_sync, state_parts}
+use Rattle.pl_semantics.proofs.sharing.shared_types.Goals as goal
+
+pub may_be_shared-requires-3-send-T : goal.may_be_shared-requires-3-send-T
+may_be_shared-requires-3-send-T c κs = search (state_parts, sendable, crosses) depth 40 fits 6000
+
+pub may_be_shared-requires-3-sync-T : goal.may_be_shared-requires-3-sync-T
+may_be_shared-requires-3-sync-T c κs = search (state_parts, sendable, crosses) depth 40 fits 6000
+
+pub may_be_shared-requires-5-send-T : goal.may_be_shared-requires-5-send-T
+may_be_shared-requires-5-send-T c κs = search (shared_send, sendable, crosses) depth 40 fits 6000
+
+pub may_be_shared-requires-5-sync-T : goal.may_be_shared-requires-5-sync-T
+may_be_shared-requires-5-sync-T c κs = search (shared_sync, sendable, crosses) depth 40 fits 6000

@@ -1,6 +1,0 @@
-pub mod Reading
-pub mod Beginning
-pub mod Skipping
-pub mod Stopping
-pub mod Writing
-pub mod Comparing

@@ -1,0 +1,7 @@
+pub mod Keeping
+pub mod Reading
+pub mod Copying
+pub mod Still
+pub mod Moving
+pub mod Alike
+pub mod Coming

@@ -1,0 +1,5 @@
+pub mod AboutChanges
+pub mod AboutTimelines
+pub mod AboutLinks
+pub mod AboutGoalsAndActivities
+pub mod AboutEvaluations

@@ -1,0 +1,6 @@
+use Rattle.std.proofs.Common.{sym}
+use Rattle.pl_detect.proofs.Found.{found_live}
+use Rattle.pl_update.proofs.goals_and_activities.kept.add_wrong_of.Goals as goal
+
+pub add_wrong_at-requires-clause-live : goal.add_wrong_at-requires-clause-live
+add_wrong_at-requires-clause-live c = found_live c.args.id c.args.s.now.plan.activities c.in-Some.a.now (sym c.in-Some.ensures.value)

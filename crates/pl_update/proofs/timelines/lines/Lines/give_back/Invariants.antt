@@ -1,0 +1,7 @@
+use Rattle.std.proofs.Common.{take}
+use Rattle.pl_update.specs.Timelines.Named.{AreNamed}
+use Rattle.pl_update.specs.Timelines.Mending.{IsMended, IsMoved, less}
+use Rattle.pl_update.proofs.timelines.lines.Lines.give_back.Given as goal
+
+abbrev pub invariant-loop-demand : goal.invariant-loop-demand
+invariant-loop-demand g l = record { mended : IsMended l.s l.fn.self l.self l.fn.set l.set; moved : IsMoved l.fn.self l.self (less (take l.demand-index l.demands)); named : AreNamed l.s l.self }

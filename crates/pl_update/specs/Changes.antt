@@ -1,0 +1,4 @@
+pub mod Changes
+pub mod Replaced
+pub mod Putting
+pub mod Renewed

@@ -1,0 +1,9 @@
+pub mod Held
+pub mod Framed
+pub mod Told
+pub mod Named
+pub mod Mending
+pub mod Changed
+pub mod Moments
+pub mod Readings
+pub mod Laws

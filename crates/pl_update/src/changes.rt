@@ -1,0 +1,7 @@
+//! Changes of a plan state: what each comes to, and that it leaves the state whole.
+
+mod laws;
+mod replacement;
+
+pub use laws::laws_of_plan_changes;
+pub use replacement::{next_after, replace};

@@ -1,0 +1,11 @@
+//! What each live activity comes to, kept by its id and mended near each change.
+
+mod evaluations;
+mod mending;
+mod replacement;
+mod sharing;
+mod shifting;
+
+pub use evaluations::Evaluations;
+pub use replacement::replace;
+pub use sharing::shared_types;

@@ -1,5 +1,0 @@
-use Rattle.pl_values.proofs.Keeping.{keeps_up}
-use Rattle.pl_values.proofs.evaluations.Evaluations.replace.Goals as goal
-
-pub returns : goal.returns
-returns c = keeps_up c.args.s.now c.args.gone.now c.args.placed.now c.args.self.now c.forget_all.new.self c.evaluate_all.new.self c.forget_all.ensures c.in_ok-evaluate_all.ensures

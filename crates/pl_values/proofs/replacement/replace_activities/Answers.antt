@@ -1,8 +1,0 @@
-use Rattle.pl_changes.proofs.Putting.{puttable}
-use Rattle.pl_values.proofs.replacement.replace_activities.Goals as goal
-
-pub replace-requires : goal.replace-requires
-replace-requires c = record {
-  rising = c.requires.whole.rising;
-  can = puttable c.args.s.now.plan.activities c.args.gone.now c.args.placed.now c.requires.whole.rising c.requires.can.once c.requires.can.free;
-}

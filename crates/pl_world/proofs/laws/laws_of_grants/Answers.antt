@@ -1,5 +1,0 @@
-use Rattle.pl_world.proofs.Granting.{untouched}
-use Rattle.pl_world.proofs.laws.laws_of_grants.Goals as goal
-
-pub returns : goal.returns
-returns c = record { first = untouched }

@@ -1,7 +1,0 @@
-use Rattle.std.proofs.Common.{◌≡◌, drop}
-use Rattle.pl_world.specs.Slots.{first_filling}
-use Rattle.pl_world.proofs.slots.first_filling.Given as goal
-
--- none so far
-abbrev pub invariant-loop-id : goal.invariant-loop-id
-invariant-loop-id l = first_filling l.s.plan.activities l.parent l.slot (drop l.id-index l.ids) ≡ first_filling l.s.plan.activities l.parent l.slot l.ids

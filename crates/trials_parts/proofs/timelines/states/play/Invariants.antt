@@ -1,0 +1,6 @@
+-- the horizon and the moment stay
+use Rattle.std.proofs.Common.{◌≡◌}
+use Rattle.trials_parts.proofs.timelines.states.play.Given as goal
+
+abbrev pub invariant-loop-row : goal.invariant-loop-row
+invariant-loop-row g l = record { horizon : l.line.horizon ≡ 100; moment : l.line.moment ≡ l.moment }

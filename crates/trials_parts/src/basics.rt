@@ -1,0 +1,10 @@
+//! Tests of the crates that stand lowest: lists, conflicts, lines, tokens, rules, networks, turns.
+
+mod asserting;
+mod conflicts;
+mod lines;
+mod lists;
+mod networks;
+mod rules;
+mod tokens;
+mod turns;

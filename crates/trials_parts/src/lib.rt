@@ -1,0 +1,9 @@
+//! Tests of the parts: lists, lines, tokens, models, messages, plans, timelines.
+#![tactic(auto)]
+
+#[cfg(test)]
+mod basics;
+#[cfg(test)]
+mod model;
+#[cfg(test)]
+mod timelines;

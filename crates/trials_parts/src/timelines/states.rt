@@ -1,0 +1,203 @@
+//! Scripts of calls of a state timeline, each with its answer.
+ghost use Rattle.std.specs.Prelude.{◌≡◌, ◌<◌, ◌≤◌, OnOk};
+
+use crate::timelines::asserting::{holds, is_copied};
+use pl_lists::Copied;
+use pl_state::{BadSet, BrokenMust, Must, Setting, StateChange, StateLine};
+use std::alloc::{AllocError, Global};
+use std::process::Abort;
+
+const STEPS: [(u32, u32); 3] = [(0, 1), (1, 2), (2, 0)];
+
+// States off, warm and on, with the horizon 100; off at first.
+fn camera(rt: &impl Abort, alloc: Global) -> StateLine
+    ensures horizon { result.horizon ≡ 100 }
+    ensures moment { result.moment ≡ 0 }
+{
+    let line = StateLine::new(alloc, 100, 3, 0, false, STEPS.as_slice());
+    line.expect(rt, "memory")
+}
+
+// Takes the first word off; nothing is left where there is no space.
+fn word<'a>(rest: &mut &'a str) -> &'a str {
+    let (first, more) = rest.split_once(' ').unwrap_or((*rest, ""));
+    *rest = more;
+    first
+}
+
+// Takes a number off, 0 where the first word is none.
+fn number(rest: &mut &str) -> u32 {
+    word(rest).parse().unwrap_or(0)
+}
+
+// Puts a set: its moment, its id and its state.
+fn put(rt: &impl Abort, line: &mut StateLine, rest: &mut &str) -> Result<StateChange, AllocError>
+    ensures horizon { OnOk result (line.new.horizon ≡ line.old.horizon) }
+    ensures moment { OnOk result (line.new.moment ≡ line.old.moment) }
+{
+    let at = number(rest);
+    holds(rt, "a moment", 1 <= at);
+    line.put(at, number(rest), 0, number(rest))
+}
+
+// Makes a change: a set comes or goes, a must of 5 comes or goes, or the base is told.
+fn change(
+    rt: &impl Abort,
+    line: &mut StateLine,
+    name: &str,
+    rest: &mut &str,
+) -> Result<StateChange, AllocError>
+    ensures horizon { OnOk result (line.new.horizon ≡ line.old.horizon) }
+    ensures moment { OnOk result (line.new.moment ≡ line.old.moment) }
+{
+    match name {
+        "put" => put(rt, line, rest),
+        "take" => line.take(number(rest), number(rest), 0, number(rest)),
+        "need" => line.need(number(rest), number(rest), 5, 1, number(rest)),
+        "free" => line.free(number(rest), number(rest), 5, 1, number(rest)),
+        _ => line.rebase(number(rest)),
+    }
+}
+
+fn at(rt: &impl Abort, line: &StateLine, moment: u32, t: u32) -> u32
+    requires horizon { line.now.horizon ≡ 100 }
+    requires moment { line.now.moment ≡ moment }
+{
+    holds(rt, "a moment ahead", moment <= t && t < 100);
+    line.at(t)
+}
+
+// What a call answers: a state, what is wrong, or a change.
+fn answer(
+    rt: &impl Abort,
+    alloc: Global,
+    line: &mut StateLine,
+    moment: u32,
+    call: &str,
+) -> Result<String, AllocError>
+    requires horizon { line.old.horizon ≡ 100 }
+    requires moment { line.old.moment ≡ moment }
+    ensures horizon { OnOk result (line.new.horizon ≡ 100) }
+    ensures moment { OnOk result (line.new.moment ≡ moment) }
+{
+    let mut rest = call;
+    match word(&mut rest) {
+        "at" => format!(in alloc; "{}", at(rt, line, moment, number(&mut rest))),
+        "wrong" => format!(in alloc; "{:?} {:?}", line.broken_musts(), line.bad_steps()),
+        name => {
+            let change = change(rt, line, name, &mut rest)?;
+            format!(in alloc; "{:?}", change.copy(alloc)?)
+        }
+    }
+}
+
+// Makes the calls of a script one after the other. Each line has a call and how its answer begins, as it is printed.
+fn play(rt: &impl Abort, alloc: Global, line: &mut StateLine, moment: u32, script: &str)
+    requires horizon { line.old.horizon ≡ 100 }
+    requires moment { line.old.moment ≡ moment }
+    ensures horizon { line.new.horizon ≡ 100 }
+    ensures moment { line.new.moment ≡ moment }
+{
+    for row in script.lines() {
+        let (call, wanted) = row.split_once(" = ").unwrap_or((row, ""));
+        let text = answer(rt, alloc, line, moment, call).expect(rt, "memory");
+        assert!(rt; text.starts_with(wanted), "{row}: {text}");
+    }
+    holds(rt, "enough memory", !line.spoiled());
+}
+
+const LOW_ID_FIRST: &str = "put 10 7 2
+put 10 3 1
+at 9 = 0
+at 10 = 2
+wrong = [] []";
+
+#[test]
+fn two_sets_at_one_moment(rt: HostRuntime) {
+    let mut line = camera(&rt, rt.alloc());
+    play(&rt, rt.alloc(), &mut line, 0, LOW_ID_FIRST);
+}
+
+const LOW_ID_LAST: &str = "put 10 3 2
+put 10 7 1 = StateChange { musts_went: Items { items: [] }, musts_came: Items { items: [] }, steps_went: Items { items: [] }, steps_came: Items { items: [BadSet { at: 10, id: 7, index: 0 }] } }
+at 10 = 1
+wrong = [] [BadSet { at: 10, id: 3, index: 0 }, BadSet { at: 10, id: 7, index: 0 }]
+take 10 3 2 = StateChange { musts_went: Items { items: [] }, musts_came: Items { items: [] }, steps_went: Items { items: [BadSet { at: 10, id: 3, index: 0 }, BadSet { at: 10, id: 7, index: 0 }] }, steps_came: Items { items: [] } }
+wrong = [] []";
+
+#[test]
+fn two_sets_the_other_way(rt: HostRuntime) {
+    let mut line = camera(&rt, rt.alloc());
+    play(&rt, rt.alloc(), &mut line, 0, LOW_ID_LAST);
+}
+
+// A must from 20 up to 40 whose state comes at 25.
+const LATE: &str = "need 20 40 1
+put 25 2 1
+wrong = [BrokenMust { id: 5, index: 1, from: 20, to: 25 }] []";
+
+const TAKEN: &str =
+    "take 25 2 1 = StateChange { musts_went: Items { items: [BrokenMust { id: 5, index: 1, from: 20, to: 25 }] }, musts_came: Items { items: [BrokenMust { id: 5, index: 1, from: 20, to: 40 }] }, steps_went";
+
+const BROKEN: &str = "wrong = [BrokenMust { id: 5, index: 1, from: 20, to: 40 }] []";
+
+#[test]
+fn a_must(rt: HostRuntime) {
+    let alloc = rt.alloc();
+    let mut line = camera(&rt, alloc);
+    play(&rt, alloc, &mut line, 0, LATE);
+    play(&rt, alloc, &mut line, 0, TAKEN);
+    let mut copy = line.copy(alloc).expect(&rt, "memory");
+    play(&rt, alloc, &mut line, 0, "free 20 40 1\nwrong = [] []");
+    play(&rt, alloc, &mut copy, 0, BROKEN);
+}
+
+const AT_22: &str = "wrong = [BrokenMust { id: 5, index: 1, from: 22, to: 25 }] []
+rebase 1
+wrong = [] []
+at 22 = 1";
+
+#[test]
+fn a_must_and_the_base(rt: HostRuntime) {
+    let alloc = rt.alloc();
+    let mut line = camera(&rt, alloc);
+    play(&rt, alloc, &mut line, 0, LATE);
+    line.advance(22).expect(&rt, "memory");
+    play(&rt, alloc, &mut line, 22, AT_22);
+}
+
+#[test]
+fn a_set_and_a_must_are_copied(rt: HostRuntime) {
+    let (at, id, index, state) = (1, 2, 3, 0);
+    let set = Setting {
+        at,
+        id,
+        index,
+        state,
+    };
+    holds(&rt, "a set", is_copied(&rt, rt.alloc(), &set));
+    let (from, to) = (1, 2);
+    let must = Must {
+        from,
+        to,
+        id,
+        index,
+        state,
+    };
+    holds(&rt, "a must", is_copied(&rt, rt.alloc(), &must));
+}
+
+#[test]
+fn what_is_wrong_is_copied(rt: HostRuntime) {
+    let (at, id, index) = (1, 2, 0);
+    let bad = BadSet { at, id, index };
+    holds(&rt, "a bad step", is_copied(&rt, rt.alloc(), &bad));
+    let (from, to) = (3, 40);
+    let broken = BrokenMust {
+        id,
+        index,
+        from,
+        to,
+    };
+    holds(&rt, "a broken must", is_copied(&rt, rt.alloc(), &broken));
+}

@@ -1,0 +1,7 @@
+//! Tests of the planner: boards, repairs, choosers, the machine.
+#![tactic(auto)]
+
+#[cfg(test)]
+mod board;
+#[cfg(test)]
+mod machine;

@@ -1,0 +1,6 @@
+//! Tests of the planning machine's calls.
+
+mod asserting;
+mod calls;
+mod mending;
+mod reading;

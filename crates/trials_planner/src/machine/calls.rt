@@ -1,0 +1,292 @@
+//! Scripts of calls of the machine, each with its reply.
+ghost use Rattle.std.specs.Prelude.{◌≡◌, ◌==◌};
+ghost use Rattle.std.specs.List.{list_any};
+ghost use Rattle.pl_entry.specs.Bounds.{AreOptions};
+
+use crate::machine::asserting::holds;
+use crate::machine::reading::{model, number, word};
+use pl_cand::is_stuck;
+use pl_choose::Least;
+use pl_conflict::{Code, Conflict};
+use pl_entry::{Entry, Reply};
+use pl_facts::Options;
+use pl_input::is_begin_line;
+use pl_machine::{Choice, Machine, Stop};
+use pl_plan::RepairMove;
+use std::alloc::{AllocError, Global};
+use std::process::Abort;
+use std::sync::Arc;
+
+const MODEL: &str = "horizon 100 lead 30 kind obs { duration 5 }";
+
+pub(crate) const BOUNDS: Options = Options {
+    turns: 8,
+    live: 10000,
+    goals: 20000,
+    entries: 250000,
+};
+
+pub(crate) fn fresh(rt: &impl Abort, alloc: Global, options: Options) -> Machine
+    requires { AreOptions options }
+{
+    let model = Arc::new(alloc, model(rt, alloc, MODEL)).expect(rt, "memory");
+    Machine::fresh(alloc, model, options).expect(rt, "memory")
+}
+
+pub(crate) fn open_goal(number: u32, earliest: u32, latest: u32) -> Conflict {
+    Conflict {
+        from: latest,
+        code: Code::OpenGoal,
+        subject: number,
+        detail: 0,
+        a: earliest,
+        b: latest,
+    }
+}
+
+fn has_newline(line: &[u8]) -> bool
+    ensures { result ≡ list_any (λ byte. byte == 10) line.now }
+{
+    line.iter().any(|byte| *byte == b'\n')
+}
+
+fn tell(rt: &impl Abort, machine: &mut Machine, line: &[u8]) -> Result<Reply, Stop> {
+    holds(rt, "few bytes", line.len() <= 4096);
+    holds(rt, "one line", !has_newline(line));
+    machine.input(Some(line))
+}
+
+/// Adds an activity of the model's kind for a goal.
+fn fix(
+    rt: &impl Abort,
+    machine: &mut Machine,
+    conflict: Conflict,
+    start: u32,
+) -> Result<Reply, Stop> {
+    holds(rt, "a kind", machine.model().kinds.len() > 0);
+    let goal = Some(conflict.subject);
+    machine.fix(
+        &conflict,
+        &RepairMove::Add {
+            kind: 0,
+            start,
+            goal,
+        },
+    )
+}
+
+/// A call, with its number, or a message.
+fn make(rt: &impl Abort, machine: &mut Machine, call: &str) -> Result<Reply, Stop> {
+    let mut rest = call;
+    match word(&mut rest) {
+        "add-for-1" => fix(rt, machine, open_goal(1, 10, 20), number(&mut rest)),
+        "add-for-2" => fix(rt, machine, open_goal(2, 40, 50), number(&mut rest)),
+        "rest" => machine.rest(),
+        "commit" => machine.commit(number(&mut rest)),
+        "dispatch" => machine.dispatch(),
+        "close" => machine.close(),
+        "eof" => machine.input(None),
+        _ => tell(rt, machine, call.as_bytes()),
+    }
+}
+
+fn choice(rt: &impl Abort, machine: &Machine) -> Option<Choice> {
+    holds(rt, "enough memory", !machine.spoiled());
+    machine.exec_choice()
+}
+
+fn stuck(rt: &impl Abort, alloc: Global, machine: &Machine) -> Result<bool, AllocError> {
+    let board = machine.board();
+    holds(rt, "enough memory", !board.spoiled());
+    is_stuck(alloc, board)
+}
+
+/// The places of the entries that send a command.
+fn sent_at(alloc: Global, log: &[Entry]) -> Result<Vec<usize>, AllocError> {
+    let mut places = Vec::new(alloc);
+    for (place, entry) in log.iter().enumerate() {
+        if matches!(&entry.reply, Reply::Sent { .. }) {
+            places.push(place)?;
+        }
+    }
+    Ok(places)
+}
+
+fn logged(alloc: Global, machine: &Machine) -> Result<String, AllocError> {
+    let sent = sent_at(alloc, machine.log())?;
+    let count = machine.log().len();
+    format!(in alloc;
+        "{count}, sent at {sent:?}, closed {}, done {}",
+        machine.closed(),
+        machine.done()
+    )
+}
+
+/// What is printed of a question's answer, or of the reply to a call or a message.
+fn said(
+    rt: &impl Abort,
+    alloc: Global,
+    machine: &mut Machine,
+    call: &str,
+) -> Result<String, AllocError> {
+    match call {
+        "choice" => format!(in alloc; "{:?}", choice(rt, machine)),
+        "propose" => format!(in alloc; "{:?}", machine.propose(&mut Least)),
+        "stuck" => format!(in alloc; "{}", stuck(rt, alloc, machine)?),
+        "log" => logged(alloc, machine),
+        _ => format!(in alloc; "{:?}", make(rt, machine, call)),
+    }
+}
+
+/// Makes the calls of a script one after the other. Each line has a call and how its reply begins, as it is printed.
+fn play(rt: &impl Abort, alloc: Global, machine: &mut Machine, script: &str) {
+    for line in script.lines() {
+        let (call, wanted) = line.split_once(" = ").unwrap_or((line, ""));
+        let text = said(rt, alloc, machine, call).expect(rt, "memory");
+        assert!(rt; text.starts_with(wanted), "{line}: {text}");
+    }
+}
+
+/// Plays two scripts, one behind the other, from the first call on.
+fn assert_plays(rt: &impl Abort, alloc: Global, options: Options, first: &str, then: &str)
+    requires { AreOptions options }
+{
+    let mut machine = fresh(rt, alloc, options);
+    play(rt, alloc, &mut machine, first);
+    play(rt, alloc, &mut machine, then);
+}
+
+const COMMITTED: &str = "goal 1 obs 10 20 must = Ok(Done)
+add-for-1 10 = Ok(Done)
+rest = Ok(Rested(Clear))
+commit 30 = Ok(Done)";
+
+const CAUSES: &str = "commit 30 = Ok(CommitBehind)
+commit 101 = Ok(CommitBeyond)
+commit 100 = Ok(Done)";
+
+#[test]
+fn tells_why_a_commit_is_refused(rt: HostRuntime) {
+    assert_plays(&rt, rt.alloc(), BOUNDS, COMMITTED, CAUSES);
+}
+
+const FULL_PLAN: Options = Options {
+    turns: 8,
+    live: 1,
+    goals: 20000,
+    entries: 250000,
+};
+
+const STUCK: &str = "close = Ok(Done)
+goal 2 obs 40 50 must = Ok(Done)
+add-for-1 10 = Ok(Stale)
+add-for-2 39 = Ok(NotFor)
+add-for-2 40 = Ok(Full)
+rest = Ok(Rested(Stuck))";
+
+#[test]
+fn is_stuck_where_the_plan_is_full(rt: HostRuntime) {
+    assert_plays(&rt, rt.alloc(), FULL_PLAN, COMMITTED, STUCK);
+}
+
+const ONE_GOAL: Options = Options {
+    turns: 8,
+    live: 10000,
+    goals: 1,
+    entries: 250000,
+};
+
+const REFUSED: &str = "close = Ok(Done)
+goal 2 obs 40 50 must = Ok(TooManyGoals)";
+
+#[test]
+fn takes_so_many_goals(rt: HostRuntime) {
+    assert_plays(&rt, rt.alloc(), ONE_GOAL, COMMITTED, REFUSED);
+}
+
+const CLOSED: &str = "rest = Err(NotNow)
+dispatch = Err(NotNow)
+close = Err(NotNow)
+commit 1 = Err(NotNow)
+add-for-1 10 = Err(NotNow)";
+
+#[test]
+fn waits_for_a_message(rt: HostRuntime) {
+    assert_plays(&rt, rt.alloc(), BOUNDS, CLOSED, "");
+}
+
+const TWO_ENTRIES: Options = Options {
+    turns: 8,
+    live: 10000,
+    goals: 20000,
+    entries: 2,
+};
+
+#[test]
+fn stops_where_the_log_is_full(rt: HostRuntime) {
+    let full = "tick 3 = Ok(Done)\nrest = Err(LogFull)";
+    assert_plays(&rt, rt.alloc(), TWO_ENTRIES, full, "");
+}
+
+const HELD: &str = "goal 1 obs 10 20 must = Ok(Done)
+commit 20 = Ok(Done)
+commit 21 = Ok(Held(Conflict { from: 20, code: OpenGoal, subject: 1, detail: 0, a: 10, b: 20 }))";
+
+#[test]
+fn holds_a_commit_for_its_conflict(rt: HostRuntime) {
+    assert_plays(&rt, rt.alloc(), BOUNDS, HELD, "");
+}
+
+const BEHIND: &str = "close = Ok(Done)
+tick 10 = Ok(Done)
+rest = Ok(Rested(Clear))
+close = Err(NotNow)
+dispatch = Ok(Sent { id: 1, kind: 0, start: 10, values: Items { items: [] } })
+dispatch = Err(NotNow)
+close = Err(NotNow)
+commit 40 = Ok(Done)
+close = Ok(Done)
+tick 10 = Ok(TickBack)
+rest = Ok(Rested(Clear))
+close = Ok(Done)
+end = Ok(Ended)
+eof = Err(NotNow)
+log = 15, sent at [8], closed true, done true";
+
+#[test]
+fn sends_a_command_in_its_round(rt: HostRuntime) {
+    assert_plays(&rt, rt.alloc(), BOUNDS, COMMITTED, BEHIND);
+}
+
+#[test]
+fn has_nothing_to_do_at_first(rt: HostRuntime) {
+    let nothing = "choice = None\npropose = Ok(None)";
+    assert_plays(&rt, rt.alloc(), BOUNDS, nothing, "");
+}
+
+const ASKED: &str = "goal 1 obs 10 20 must = Ok(Done)";
+
+const NEXT: &str = "choice = Some(Commit(30))
+propose = Ok(Some(Proposal { conflict: Conflict { from: 20, code: OpenGoal, subject: 1, detail: 0, a: 10, b: 20 }, mv: Add { kind: 0, start: 10, goal: Some(1) } }))
+stuck = false";
+
+#[test]
+fn knows_what_is_next_while_a_goal_is_open(rt: HostRuntime) {
+    assert_plays(&rt, rt.alloc(), BOUNDS, ASKED, NEXT);
+}
+
+/// A machine with one open goal.
+pub(crate) fn asked(rt: &impl Abort, alloc: Global) -> Machine {
+    let mut machine = fresh(rt, alloc, BOUNDS);
+    play(rt, alloc, &mut machine, ASKED);
+    machine
+}
+
+#[test]
+fn tells_begin_lines(rt: HostRuntime) {
+    let alloc = rt.alloc();
+    let one = is_begin_line(alloc, b" begin # now").expect(&rt, "memory");
+    holds(&rt, "one begin", one);
+    let two = is_begin_line(alloc, b"begin begin").expect(&rt, "memory");
+    holds(&rt, "no two", !two);
+}

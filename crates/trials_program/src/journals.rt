@@ -1,0 +1,7 @@
+//! Tests of journals read back and verified, and of the plan that several callers act on.
+
+mod asserting;
+mod lines;
+mod models;
+mod shared;
+mod verdicts;

@@ -1,0 +1,9 @@
+//! Tests of the program: runs by one thread and by two, journals, reports, the command line.
+#![tactic(auto)]
+
+#[cfg(test)]
+mod journals;
+#[cfg(test)]
+mod pair;
+#[cfg(test)]
+mod program;

@@ -1,0 +1,5 @@
+//! Tests of a planner and an executive in threads of their own, through the top call.
+
+mod meeting;
+mod missions;
+mod runs;

@@ -1,0 +1,61 @@
+use crate::program::running::words_of;
+use pl_main::{Command, Task, read_words};
+
+/// What the words ask for: the turns of a run, 0 for a check, 1,001 for a replay and 1,002 for a report, the goals of a
+/// demonstration, the turns and the seed of a pair added up, nothing where they are no command.
+fn number_of(words: &[String]) -> Option<u64> {
+    match read_words(words)? {
+        Command::Pair { turns, seed } => seed.checked_add(u64::from(turns)),
+        Command::Alone(Task::Solo { turns }) => Some(u64::from(turns)),
+        Command::Alone(Task::Check) => Some(0),
+        Command::Alone(Task::Replay) => Some(1001),
+        Command::Alone(Task::Report) => Some(1002),
+        Command::Alone(Task::Demo { goals }) => Some(u64::from(goals)),
+    }
+}
+
+const WORDS: &str = "check = 0
+Check = none
+check 8 = none
+replay = 1001
+report = 1002
+replay 8 = none
+Report = none
+run solo 8 = 8
+run solo 1 = 1
+run solo 1000 = 1000
+run solo 000000000000000008 = 8
+run solo 0000000000000000008 = none
+run solo 0 = none
+run solo 1001 = none
+run solo +8 = none
+run solo = none
+run solo 8 9 = none
+run pair 8 = none
+run pair 8 7 = 15
+run pair 1000 999999999999999999 = 1000000000000000999
+run pair 1 000000000000000000 = 1
+run pair 8 1000000000000000000 = none
+run pair 0 7 = none
+run pair 1001 7 = none
+run pair 8 -7 = none
+run pair 8 7 9 = none
+run Pair 8 7 = none
+Run solo 8 = none
+demo 1 = 1
+demo 4000 = 4000
+demo 0 = none
+demo 4001 = none
+demo = none
+demo 1 2 = none
+demo one = none";
+
+#[test]
+fn reads_words(rt: HostRuntime) {
+    for line in WORDS.lines() {
+        let (text, wanted) = line.split_once(" = ").unwrap_or((line, ""));
+        let words = words_of(&rt, rt.alloc(), text);
+        assert!(rt; number_of(&words) == wanted.parse().ok(), "{line}");
+    }
+    assert!(rt; number_of(&[]).is_none());
+}

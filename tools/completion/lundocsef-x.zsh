@@ -1,0 +1,22 @@
+#compdef lundocsef-x
+# Completion of lundocsef-x for zsh: lundocsef-x --completion zsh > a folder of $fpath/_lundocsef-x
+
+_lundocsef_x() {
+    local curcontext=$curcontext state line
+    local -A opt_args
+    _arguments -C \
+        '--help[show the help]' \
+        '--version[say which program is called]' \
+        '--completion[write the completion for this shell]:shell:(bash zsh)' \
+        '--program[the planner]:program:_files' \
+        '1:command:((run\:"plan, and write the journal" check\:"say whether a text is a model" replay\:"say whether a journal is legal" report\:"write the plan behind a journal" demo\:"plan N built-in goals"))' \
+        '*::argument:->arguments'
+    [[ $state == arguments ]] || return
+    case $line[1] in
+        run) _arguments '--turns[the most repairs for a message]:N:(2 4 8 16)' '--seed[plan with two threads]:seed:' '1:model:_files' '2:messages:_files' ;;
+        check) _arguments '1:model:_files' ;;
+        replay|report) _arguments '1:model:_files' '2:journal:_files' ;;
+        demo) _arguments '1:N:' ;;
+    esac
+}
+_lundocsef_x "$@"
