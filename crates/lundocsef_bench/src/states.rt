@@ -3,7 +3,7 @@ ghost use Rattle.std.specs.Prelude.{◌≡◌, ◌≤◌, ◌<◌, ◌*◌};
 use crate::places::place_of;
 use crate::report::{Cost, Found, nanos_each, show};
 use anyhow::Result;
-use pl_state::{BadSet, BrokenMust, Must, Setting, StateLine};
+use pl_state::{BadSet, BrokenMust, Must, Setting, StateTimeline};
 use std::alloc::{AllocError, Global};
 use std::time::CpuClock;
 
@@ -61,10 +61,10 @@ fn extra_at(place: u32) -> Setting
     }
 }
 
-fn filled(alloc: Global, count: u32) -> Result<StateLine, AllocError>
+fn filled(alloc: Global, count: u32) -> Result<StateTimeline, AllocError>
     requires { count ≤ 10000 }
 {
-    let mut line = StateLine::new(alloc, count * SPACING, 3, START, false, STEPS.as_slice())?;
+    let mut line = StateTimeline::new(alloc, count * SPACING, 3, START, false, STEPS.as_slice())?;
     for index in 0..count {
         let new = setting_at(place_of(index, count));
         line.put(new.at, new.id, new.index, new.state)?;
@@ -97,7 +97,7 @@ fn listed_musts(alloc: Global, count: u32) -> Result<Vec<Must>, AllocError>
 }
 
 // One set comes and goes.
-fn change(line: &mut StateLine, new: Setting) -> Result<(), AllocError>
+fn change(line: &mut StateTimeline, new: Setting) -> Result<(), AllocError>
     requires { 1 ≤ new.at }
 {
     line.put(new.at, new.id, new.index, new.state)?;
@@ -106,7 +106,7 @@ fn change(line: &mut StateLine, new: Setting) -> Result<(), AllocError>
 }
 
 // Changes at so many of the places.
-fn changed(line: &mut StateLine, count: u32, changes: u32) -> Result<(), AllocError>
+fn changed(line: &mut StateTimeline, count: u32, changes: u32) -> Result<(), AllocError>
     requires count { count ≤ 10000 }
     requires changes { changes ≤ 2 * count }
 {
@@ -244,7 +244,7 @@ fn recomputed_twice(
 fn measure(
     rt: &impl CpuClock,
     alloc: Global,
-    line: &mut StateLine,
+    line: &mut StateTimeline,
     sets: &mut Vec<Setting>,
     musts: &[Must],
     count: u32,
@@ -268,7 +268,7 @@ fn measure(
 // Holds what the timeline tells against what is recomputed.
 fn compare(
     alloc: Global,
-    line: &StateLine,
+    line: &StateTimeline,
     sets: &[Setting],
     musts: &[Must],
     horizon: u32,
@@ -286,7 +286,7 @@ fn compare(
 fn try_out(
     rt: &(impl Print + CpuClock),
     alloc: Global,
-    line: &mut StateLine,
+    line: &mut StateTimeline,
     sets: &mut Vec<Setting>,
     musts: &[Must],
     count: u32,

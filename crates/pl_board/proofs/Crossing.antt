@@ -6,7 +6,7 @@ use denote.RattleType.{RattleType}
 use denote.Param.Send.{IsSend, IsSync, part_keyless, sendable}
 use Rattle.pl_points.specs.contracts.told.Told
 use Rattle.pl_update.specs.contracts.timelines.lines.Lines
-use Rattle.pl_state.specs.contracts.line.StateLine
+use Rattle.pl_state.specs.contracts.timeline.StateTimeline
 use Rattle.pl_state.specs.contracts.sets.Sets
 use Rattle.pl_state.specs.contracts.starts.Starts
 use Rattle.pl_state.specs.contracts.musts.Musts
@@ -49,10 +49,10 @@ musts_send = search (starts_send, starts_sync, sendable, crosses) depth 60 fits 
 musts_sync : IsSync Musts.the_field.row
 musts_sync = search (starts_send, starts_sync, sendable, crosses) depth 60 fits 12000
 
-state_line_send : IsSend StateLine.the_field.row
+state_line_send : IsSend StateTimeline.the_field.row
 state_line_send = search (sets_send, sets_sync, musts_send, musts_sync, told_send, told_sync, sendable, crosses) depth 100 fits 20000
 
-state_line_sync : IsSync StateLine.the_field.row
+state_line_sync : IsSync StateTimeline.the_field.row
 state_line_sync = search (sets_send, sets_sync, musts_send, musts_sync, told_send, told_sync, sendable, crosses) depth 100 fits 20000
 
 pub lines_send : IsSend Lines.the_field.row

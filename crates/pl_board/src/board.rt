@@ -19,6 +19,20 @@ use pl_semantics::{PlanState, SharedModel};
 use std::alloc::{AllocError, Global};
 use std::sync::Arc;
 
+// Makes a change of what is watched. Until the change is whole the board counts as spoiled, and a spoiled board
+// refuses it.
+macro_rules! guarded {
+    ($board:expr, $change:expr) => {{
+        if $board.spoiled {
+            return Err(AllocError);
+        }
+        $board.spoiled = true;
+        $change?;
+        $board.spoiled = false;
+        Ok(())
+    }};
+}
+
 /// A plan state with its conflicts, which are mended near each change. After want of memory a board is spoiled for good.
 #[derive(Drop)]
 pub struct Board {
@@ -79,13 +93,7 @@ impl Board {
         ensures err { OnErr result (self.new.spoiled ≡ true) }
         ensures after_spoil { self.old.spoiled ≡ true → IsErr result }
     {
-        if self.spoiled {
-            return Err(AllocError);
-        }
-        self.spoiled = true;
-        self.watched.replace(self.alloc, gone, placed, steps)?;
-        self.spoiled = false;
-        Ok(())
+        guarded!(self, self.watched.replace(self.alloc, gone, placed, steps))
     }
 
     /// Accepts a goal.
@@ -97,13 +105,7 @@ impl Board {
         ensures err { OnErr result (self.new.spoiled ≡ true) }
         ensures after_spoil { self.old.spoiled ≡ true → IsErr result }
     {
-        if self.spoiled {
-            return Err(AllocError);
-        }
-        self.spoiled = true;
-        self.watched.add_goal(self.alloc, goal)?;
-        self.spoiled = false;
-        Ok(())
+        guarded!(self, self.watched.add_goal(self.alloc, goal))
     }
 
     /// Drops an open goal.
@@ -113,13 +115,7 @@ impl Board {
         ensures err { OnErr result (self.new.spoiled ≡ true) }
         ensures after_spoil { self.old.spoiled ≡ true → IsErr result }
     {
-        if self.spoiled {
-            return Err(AllocError);
-        }
-        self.spoiled = true;
-        self.watched.drop_goal(self.alloc, number)?;
-        self.spoiled = false;
-        Ok(())
+        guarded!(self, self.watched.drop_goal(self.alloc, number))
     }
 
     /// Moves the present on.
@@ -130,13 +126,7 @@ impl Board {
         ensures err { OnErr result (self.new.spoiled ≡ true) }
         ensures after_spoil { self.old.spoiled ≡ true → IsErr result }
     {
-        if self.spoiled {
-            return Err(AllocError);
-        }
-        self.spoiled = true;
-        self.watched.tick(self.alloc, now, steps)?;
-        self.spoiled = false;
-        Ok(())
+        guarded!(self, self.watched.tick(self.alloc, now, steps))
     }
 
     /// Tells the value of a level, or the state of a state timeline, at the present.
@@ -151,13 +141,7 @@ impl Board {
         ensures err { OnErr result (self.new.spoiled ≡ true) }
         ensures after_spoil { self.old.spoiled ≡ true → IsErr result }
     {
-        if self.spoiled {
-            return Err(AllocError);
-        }
-        self.spoiled = true;
-        self.watched.tell(line, value, steps)?;
-        self.spoiled = false;
-        Ok(())
+        guarded!(self, self.watched.tell(line, value, steps))
     }
 
     /// Commits what starts before `h`.
@@ -168,13 +152,7 @@ impl Board {
         ensures err { OnErr result (self.new.spoiled ≡ true) }
         ensures after_spoil { self.old.spoiled ≡ true → IsErr result }
     {
-        if self.spoiled {
-            return Err(AllocError);
-        }
-        self.spoiled = true;
-        self.watched.commit(self.alloc, h)?;
-        self.spoiled = false;
-        Ok(())
+        guarded!(self, self.watched.commit(self.alloc, h))
     }
 
     /// Makes an id, above every live one, the next one again. It takes no memory.

@@ -12,43 +12,43 @@ use std::alloc::AllocError;
 
 /// `Capacity::add` over block points: it reads summaries, and points only near what is above the most.
 pub fn add_bounded<L: Ledger>(
-    line: &mut Capacity<BlockPoints>,
+    timeline: &mut Capacity<BlockPoints>,
     from: u32,
     to: u32,
     amount: i64,
     steps: &mut Steps<L>,
 ) -> Result<Change, AllocError>
     requires is_use { IsUse (use_of from to amount) }
-    requires few { line.old.spoiled ≡ false → length line.old.uses ≤ 319999 }
-    ensures ok { OnOk result (line.new ≡ record line.old { uses = line.old.uses ++ use_of from to amount ∷ [] }) }
-    ensures change { IfOk result (λ c. IsChange (spans_now line.old) (spans_now line.new) c) }
-    ensures unspoiled { OnOk result (line.old.spoiled ≡ false) }
-    ensures err { OnErr result (line.new.spoiled ≡ true) }
-    ensures after_spoil { line.old.spoiled ≡ true → IsErr result }
-    ensures cost { line.old.spoiled ≡ false → steps.new ≤ steps.old + bound line.old.most (points_of line.old.uses) (points_with_use (use_of from to amount) line.old.uses) }
-    ensures idle { line.old.spoiled ≡ true → steps.new ≡ steps.old }
+    requires few { timeline.old.spoiled ≡ false → length timeline.old.uses ≤ 319999 }
+    ensures ok { OnOk result (timeline.new ≡ record timeline.old { uses = timeline.old.uses ++ use_of from to amount ∷ [] }) }
+    ensures change { IfOk result (λ c. IsChange (spans_now timeline.old) (spans_now timeline.new) c) }
+    ensures unspoiled { OnOk result (timeline.old.spoiled ≡ false) }
+    ensures err { OnErr result (timeline.new.spoiled ≡ true) }
+    ensures after_spoil { timeline.old.spoiled ≡ true → IsErr result }
+    ensures cost { timeline.old.spoiled ≡ false → steps.new ≤ steps.old + bound timeline.old.most (points_of timeline.old.uses) (points_with_use (use_of from to amount) timeline.old.uses) }
+    ensures idle { timeline.old.spoiled ≡ true → steps.new ≡ steps.old }
 {
     laws_of_steps();
-    line.add(from, to, amount, steps)
+    timeline.add(from, to, amount, steps)
 }
 
 /// `Capacity::remove` over block points.
 pub fn remove_bounded<L: Ledger>(
-    line: &mut Capacity<BlockPoints>,
+    timeline: &mut Capacity<BlockPoints>,
     from: u32,
     to: u32,
     amount: i64,
     steps: &mut Steps<L>,
 ) -> Result<Change, AllocError>
-    requires { line.old.spoiled ≡ false → stands same_use (use_of from to amount) line.old.uses ≡ true }
-    ensures ok { OnOk result (line.new ≡ record line.old { uses = without same_use (use_of from to amount) line.old.uses }) }
-    ensures change { IfOk result (λ c. IsChange (spans_now line.old) (spans_now line.new) c) }
-    ensures unspoiled { OnOk result (line.old.spoiled ≡ false) }
-    ensures err { OnErr result (line.new.spoiled ≡ true) }
-    ensures after_spoil { line.old.spoiled ≡ true → IsErr result }
-    ensures cost { line.old.spoiled ≡ false → steps.new ≤ steps.old + bound line.old.most (points_of line.old.uses) (points_less_use (use_of from to amount) line.old.uses) }
-    ensures idle { line.old.spoiled ≡ true → steps.new ≡ steps.old }
+    requires { timeline.old.spoiled ≡ false → stands same_use (use_of from to amount) timeline.old.uses ≡ true }
+    ensures ok { OnOk result (timeline.new ≡ record timeline.old { uses = without same_use (use_of from to amount) timeline.old.uses }) }
+    ensures change { IfOk result (λ c. IsChange (spans_now timeline.old) (spans_now timeline.new) c) }
+    ensures unspoiled { OnOk result (timeline.old.spoiled ≡ false) }
+    ensures err { OnErr result (timeline.new.spoiled ≡ true) }
+    ensures after_spoil { timeline.old.spoiled ≡ true → IsErr result }
+    ensures cost { timeline.old.spoiled ≡ false → steps.new ≤ steps.old + bound timeline.old.most (points_of timeline.old.uses) (points_less_use (use_of from to amount) timeline.old.uses) }
+    ensures idle { timeline.old.spoiled ≡ true → steps.new ≡ steps.old }
 {
     laws_of_steps();
-    line.remove(from, to, amount, steps)
+    timeline.remove(from, to, amount, steps)
 }

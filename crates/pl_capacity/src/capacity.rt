@@ -1,6 +1,7 @@
 ghost use Rattle.std.specs.Prelude.{◌≡◌, ◌<◌, ◌≤◌, ◌+◌, ◌≤ℤ◌, neg_ℤ, ◌^◌, pos, true, false, [], ◌∷◌, ◌++◌, length, OnOk, OnErr, IfOk, IsErr};
 ghost use Rattle.pl_points.specs.Changes.{IsChange};
-ghost use Rattle.pl_points.specs.Standing.{without, stands};
+ghost use Rattle.pl_points.specs.Standing.{without, stands, noted};
+ghost use Rattle.pl_capacity.specs.Soundness.{IsShift};
 ghost use Rattle.pl_capacity.specs.Uses.{IsUse, use_of, same_use, used, spans_now, use_steps};
 
 use crate::reservation::Use;
@@ -75,26 +76,13 @@ impl<P: Points> Capacity<P> {
         if self.spoiled {
             return Err(AllocError);
         }
-        self.spoiled = true;
-        let window = Span {
-            from: self.moment,
-            to: self.horizon,
-        };
-        let change = shift(
-            self.alloc,
-            &mut self.points,
-            &mut self.spans,
-            self.most,
-            window,
+        self.changed(
             from,
             to,
             amount,
-            -amount,
+            Noted::Came(Use { from, to, amount }),
             steps,
-        )?;
-        self.notes = self.notes.with(&Noted::Came(Use { from, to, amount }));
-        self.spoiled = false;
-        Ok(change)
+        )
     }
 
     /// Gives back a use that stands. On want of memory the timeline is spoiled.
@@ -117,6 +105,31 @@ impl<P: Points> Capacity<P> {
         if self.spoiled {
             return Err(AllocError);
         }
+        self.changed(
+            from,
+            to,
+            -amount,
+            Noted::Went(Use { from, to, amount }),
+            steps,
+        )
+    }
+
+    // Notes a use that came or went, which adds the amount to what is in use from `from` up to but not at `to`.
+    fn changed<L: Ledger>(
+        &mut self,
+        from: u32,
+        to: u32,
+        added: i64,
+        note: Noted<Use>,
+        steps: &mut Steps<L>,
+    ) -> Result<Change, AllocError>
+        requires unspoiled { self.old.spoiled ≡ false }
+        requires shift { IsShift from to added self.old.uses (noted same_use self.old.uses note) }
+        ensures ok { OnOk result (self.new ≡ record self.old { uses = noted same_use self.old.uses note }) }
+        ensures change { IfOk result (λ c. IsChange (spans_now self.old) (spans_now self.new) c) }
+        ensures err { OnErr result (self.new.spoiled ≡ true) }
+        ensures cost { steps.new ≤ steps.old + use_steps P.parts P.change_steps P.look_steps P.search_steps self.old from to added (neg_ℤ added) }
+    {
         self.spoiled = true;
         let window = Span {
             from: self.moment,
@@ -130,11 +143,11 @@ impl<P: Points> Capacity<P> {
             window,
             from,
             to,
-            -amount,
-            amount,
+            added,
+            -added,
             steps,
         )?;
-        self.notes = self.notes.with(&Noted::Went(Use { from, to, amount }));
+        self.notes = self.notes.with(&note);
         self.spoiled = false;
         Ok(change)
     }

@@ -3,11 +3,12 @@ ghost use Rattle.std.specs.Prelude.{◌≡◌, ◌≤ℤ◌, pos, All, IfOk, map
 ghost use Rattle.pl_model.specs.Schedules.{param_range};
 ghost use Rattle.pl_check.specs.declared.fault.ModelFault.TheVariants as fault;
 ghost use Rattle.pl_check.specs.Judgements.{Judgement, Gives, unless, each};
-ghost use Rattle.pl_check.specs.Ranges.{is_between, is_amount, is_level, literals_fit, range_in_expr, range_in_line, is_default, range_in_origin, range_in_param, duration_bounds, is_possible, range_in_reservation, is_distance, range_in_link, range_in_binding, range_in_slot, range_in_order, range_in_alternative, range_in_duration, range_in_kind, range_in_draft, range_in, NamesOwn, NamesOwnIn};
+ghost use Rattle.pl_check.specs.Ranges.{is_between, is_amount, is_level, literals_fit, range_in_expr, range_in_line, is_default, range_in_origin, range_in_param, duration_bounds, range_in_reservation, range_in_binding, range_in_slot, range_in_duration, range_in_kind, range_in_draft, range_in, NamesOwn, NamesOwnIn};
 
-use crate::drafts::{Draft, DraftAlternative, DraftKind};
+use crate::distances::{judge_alternatives, judge_links};
+use crate::drafts::{Draft, DraftKind};
 use crate::fault::{ModelFault, What};
-use pl_model::{Expr, Link, Order, Origin, Param, Reservation, Slot, Timeline, bounds};
+use pl_model::{Expr, Origin, Param, Reservation, Slot, Timeline, bounds};
 use std::alloc::{AllocError, Global};
 
 const MOST_AMOUNT: i64 = 1_000_000_000;
@@ -19,14 +20,15 @@ const LEAST_HORIZON: i64 = 2;
 const MOST_HORIZON: i64 = 10_000_000;
 
 /// What may hold numbers out of range, whatever the horizon.
-trait Ranged {
+pub trait Ranged {
     ghost ranged: { Self → Judgement };
 
     fn judge(&self) -> Result<(), ModelFault>
         ensures { Gives result (ranged self.now) };
 }
 
-fn each<T: Ranged>(items: &[T]) -> Result<(), ModelFault>
+/// Answers the first of them that has a number out of range.
+pub fn each<T: Ranged>(items: &[T]) -> Result<(), ModelFault>
     ensures { Gives result (each T.ranged items.now) }
 {
     for item in items {
@@ -35,7 +37,8 @@ fn each<T: Ranged>(items: &[T]) -> Result<(), ModelFault>
     Ok(())
 }
 
-fn unless(test: bool, what: What) -> Result<(), ModelFault>
+/// Answers that a number is out of range, unless a test says otherwise.
+pub fn unless(test: bool, what: What) -> Result<(), ModelFault>
     ensures { Gives result (unless test (fault.Range what)) }
 {
     if test {
@@ -46,7 +49,8 @@ fn unless(test: bool, what: What) -> Result<(), ModelFault>
 }
 
 #[tactic(auto, unfolding(crate::specs::Ranges::is_between))]
-fn is_between(low: i64, high: i64, number: i64) -> bool
+/// Says whether a number lies between two bounds, both included.
+pub fn is_between(low: i64, high: i64, number: i64) -> bool
     ensures { result ≡ is_between low high number }
 {
     low <= number && number <= high
@@ -165,70 +169,6 @@ impl Ranged for Slot {
     fn judge(&self) -> Result<(), ModelFault> {
         each(self.bindings.as_slice())
     }
-}
-
-fn is_distance(horizon: i64, low: i64, high: i64) -> bool
-    requires { pos 0 ≤ℤ horizon }
-    ensures { result ≡ is_distance horizon low high }
-{
-    let low_fits = is_between(-horizon, horizon, low);
-    let high_fits = is_between(-horizon, horizon, high);
-    low_fits && high_fits && low <= high
-}
-
-#[tactic(auto, unfolding(crate::specs::Ranges::range_in_link))]
-fn judge_link(horizon: i64, link: &Link) -> Result<(), ModelFault>
-    requires { pos 0 ≤ℤ horizon }
-    ensures { Gives result (range_in_link horizon link.now) }
-{
-    unless(is_distance(horizon, link.low, link.high), What::Link)
-}
-
-fn judge_links(horizon: i64, links: &[Link]) -> Result<(), ModelFault>
-    requires { pos 0 ≤ℤ horizon }
-    ensures { Gives result (each (range_in_link horizon) links.now) }
-{
-    for link in links {
-        judge_link(horizon, link)?;
-    }
-    Ok(())
-}
-
-#[tactic(auto, unfolding(crate::specs::Ranges::range_in_order))]
-fn judge_order(horizon: i64, order: &Order) -> Result<(), ModelFault>
-    requires { pos 0 ≤ℤ horizon }
-    ensures { Gives result (range_in_order horizon order.now) }
-{
-    unless(is_distance(horizon, order.low, order.high), What::Order)
-}
-
-fn judge_orders(horizon: i64, orders: &[Order]) -> Result<(), ModelFault>
-    requires { pos 0 ≤ℤ horizon }
-    ensures { Gives result (each (range_in_order horizon) orders.now) }
-{
-    for order in orders {
-        judge_order(horizon, order)?;
-    }
-    Ok(())
-}
-
-fn judge_alternative(horizon: i64, alternative: &DraftAlternative) -> Result<(), ModelFault>
-    requires { pos 0 ≤ℤ horizon }
-    ensures { Gives result (range_in_alternative horizon alternative.now) }
-{
-    each(alternative.slots.as_slice())?;
-    judge_orders(horizon, alternative.orders.as_slice())?;
-    Ok(())
-}
-
-fn judge_alternatives(horizon: i64, alternatives: &[DraftAlternative]) -> Result<(), ModelFault>
-    requires { pos 0 ≤ℤ horizon }
-    ensures { Gives result (each (range_in_alternative horizon) alternatives.now) }
-{
-    for alternative in alternatives {
-        judge_alternative(horizon, alternative)?;
-    }
-    Ok(())
 }
 
 fn param_ranges(alloc: Global, params: &[Param]) -> Result<Vec<(i64, i64)>, AllocError>

@@ -3,7 +3,7 @@ use Rattle.std.specs.Prelude.{ℕ, ℤ, false, Bool, List}
 use Rattle.std.specs.List.{fold}
 use Rattle.pl_capacity.specs.Uses as capacity
 use Rattle.pl_level.specs.Effects as level
-use Rattle.pl_state.specs.Lines as states
+use Rattle.pl_state.specs.Timelines as states
 use Rattle.pl_state.specs.declared.reservation.Setting.{Setting}
 use Rattle.pl_state.specs.declared.reservation.Must.{Must}
 use Rattle.pl_state.specs.Sets.{with_set}

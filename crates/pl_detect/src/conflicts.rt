@@ -16,7 +16,7 @@ use pl_level::Level;
 use pl_model::Timeline;
 use pl_points::PlainPoints;
 use pl_semantics::{Demand, PlanState};
-use pl_state::StateLine;
+use pl_state::StateTimeline;
 use std::alloc::{AllocError, Global};
 
 /// Appends the conflicts of all timelines, by their numbers, over what all activities ask for.
@@ -116,7 +116,7 @@ fn add_states(
     line: u32,
     any: bool,
     steps: &[(u32, u32)],
-    states: &StateLine,
+    states: &StateTimeline,
     out: &mut Vec<Conflict>,
 ) -> Result<(), AllocError>
     requires { states.now ≡ states_of s.now line any steps.now }
@@ -165,7 +165,7 @@ fn add_unmet(
     line: u32,
     any: bool,
     steps: &[(u32, u32)],
-    states: &StateLine,
+    states: &StateTimeline,
     out: &mut Vec<Conflict>,
 ) -> Result<(), AllocError>
     requires { states.now ≡ states_of s.now line any steps.now }
@@ -181,7 +181,7 @@ fn add_bad(
     line: u32,
     any: bool,
     steps: &[(u32, u32)],
-    states: &StateLine,
+    states: &StateTimeline,
     out: &mut Vec<Conflict>,
 ) -> Result<(), AllocError>
     requires { states.now ≡ states_of s.now line any steps.now }

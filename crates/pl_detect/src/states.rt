@@ -11,7 +11,7 @@ ghost use Rattle.pl_detect.specs.Fresh.{states_of, with_sets, with_musts};
 
 use crate::bases::{since, told_state};
 use pl_semantics::{Asked, Demand, PlanState};
-use pl_state::StateLine;
+use pl_state::StateTimeline;
 use std::alloc::{AllocError, Global};
 
 /// The timeline of this number, which has so many states, with its base, its sets and its musts.
@@ -23,7 +23,7 @@ pub(crate) fn states_of(
     count: u32,
     any: bool,
     steps: &[(u32, u32)],
-) -> Result<StateLine, AllocError>
+) -> Result<StateTimeline, AllocError>
     requires whole { IsWhole s.now }
     requires demands { demands.now ≡ demands_of s.now }
     requires base { HasBase s.now line 32 }
@@ -31,7 +31,7 @@ pub(crate) fn states_of(
 {
     let horizon = s.model.get().horizon;
     let state = told_state(s, line);
-    let mut states = StateLine::new(alloc, horizon, count, state, any, steps)?;
+    let mut states = StateTimeline::new(alloc, horizon, count, state, any, steps)?;
     states.advance(since(s, line))?;
     states.rebase(state)?;
     add_all(&mut states, demands, line)?;
@@ -39,7 +39,7 @@ pub(crate) fn states_of(
     Ok(states)
 }
 
-fn add_all(states: &mut StateLine, demands: &[Demand], line: u32) -> Result<(), AllocError>
+fn add_all(states: &mut StateTimeline, demands: &[Demand], line: u32) -> Result<(), AllocError>
     requires { All (λ d. IsBounded d.asked) demands.now }
     ensures { OnOk result (states.new ≡ record states.old { sets = with_sets states.old.sets (flat_map (asked_of set_in line) demands.now); musts = with_musts states.old.musts (flat_map (asked_of must_in line) demands.now) }) }
 {
@@ -49,7 +49,7 @@ fn add_all(states: &mut StateLine, demands: &[Demand], line: u32) -> Result<(), 
     Ok(())
 }
 
-fn add_one(states: &mut StateLine, demand: &Demand, line: u32) -> Result<(), AllocError>
+fn add_one(states: &mut StateTimeline, demand: &Demand, line: u32) -> Result<(), AllocError>
     requires { IsBounded demand.now.asked }
     ensures { OnOk result (states.new ≡ record states.old { sets = with_sets states.old.sets (asked_of set_in line demand.now); musts = with_musts states.old.musts (asked_of must_in line demand.now) }) }
 {

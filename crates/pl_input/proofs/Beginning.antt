@@ -8,8 +8,8 @@ use Rattle.pl_io.specs.declared.errors.LineFault.{LineFault}
 use Rattle.pl_io.specs.Reader.{Reader}
 use Rattle.pl_io.specs.Lines.{with_newline}
 use Rattle.pl_input.specs.Words.{is_line_of, begin_word, text_before, model_text_of, lines_behind}
-use Rattle.pl_input.specs.Reads.{Took, Halts, IsUsedUp}
-use Rattle.pl_input.specs.Heads.{Keeps, IsHead, text_of_lines, IsBefore, IsBegun, HasNoBegin, HeadHalts, LooksOn, SeesBegin}
+use Rattle.pl_input.specs.Reads.{ReadsLines, Halts, IsUsedUp}
+use Rattle.pl_input.specs.Heads.{Keeps, IsHead, text_of_lines, IsBefore, IsBegun, HasNoBegin, HeadHalts, ReadsTextLine, ReadsBeginLine}
 use Rattle.pl_input.proofs.Reading.{took_none, took_more, used_later, halts_later}
 
 -- ---- lists of lines
@@ -60,7 +60,7 @@ head_then (x ∷ xs) words more head = by_begin (is_line_of begin_word x) x xs w
 pub before_none : (old : Reader) (before : Option (List ℕ)) (kept : Option (Vec ℕ Global)) → old.failed ≡ None → Keeps kept [] → IsBefore old before kept old before
 before_none old before kept working keeps = record { lines = []; took = took_none old before working; none = refl; keeps = keeps }
 
-pub before_on : (old mid new : Reader) (before middle after : Option (List ℕ)) (kept more : Option (Vec ℕ Global)) → IsBefore old before kept mid middle → LooksOn mid middle kept more new after → IsBefore old before more new after
+pub before_on : (old mid new : Reader) (before middle after : Option (List ℕ)) (kept more : Option (Vec ℕ Global)) → IsBefore old before kept mid middle → ReadsTextLine mid middle kept more new after → IsBefore old before more new after
 before_on old mid new before middle after kept more so_far on = record {
   lines = so_far.lines ++ on.line ∷ [];
   took = took_more old mid new before middle after so_far.lines (on.line ∷ []) so_far.took on.took;
@@ -68,7 +68,7 @@ before_on old mid new before middle after kept more so_far on = record {
   keeps = rw (text_more so_far.lines on.line) (on.keeps (text_of_lines so_far.lines) so_far.keeps);
 }
 
-pub before_begun : (old mid new : Reader) (before middle after : Option (List ℕ)) (kept whole : Option (Vec ℕ Global)) → IsBefore old before kept mid middle → SeesBegin mid middle kept whole new after → IsBegun old before whole new after
+pub before_begun : (old mid new : Reader) (before middle after : Option (List ℕ)) (kept whole : Option (Vec ℕ Global)) → IsBefore old before kept mid middle → ReadsBeginLine mid middle kept whole new after → IsBegun old before whole new after
 before_begun old mid new before middle after kept whole so_far sees = record {
   lines = so_far.lines ++ sees.line ∷ [];
   words = text_of_lines so_far.lines;
@@ -77,7 +77,7 @@ before_begun old mid new before middle after kept whole so_far sees = record {
   keeps = sees.keeps (text_of_lines so_far.lines) so_far.keeps;
 }
 
-pub before_ended : (old mid new : Reader) (before middle after : Option (List ℕ)) (kept : Option (Vec ℕ Global)) → IsBefore old before kept mid middle → Took mid middle [] new after × IsUsedUp middle after → HasNoBegin old before new after
+pub before_ended : (old mid new : Reader) (before middle after : Option (List ℕ)) (kept : Option (Vec ℕ Global)) → IsBefore old before kept mid middle → ReadsLines mid middle [] new after × IsUsedUp middle after → HasNoBegin old before new after
 before_ended old mid new before middle after kept so_far ends = record {
   lines = so_far.lines ++ [];
   took = took_more old mid new before middle after so_far.lines [] so_far.took ends.0;

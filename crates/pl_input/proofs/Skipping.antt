@@ -4,7 +4,7 @@ use Rattle.std.proofs.lemmas.List.{append-nil}
 use Rattle.pl_io.specs.declared.errors.LineFault.{LineFault}
 use Rattle.pl_io.specs.Reader.{Reader, NumberedLine}
 use Rattle.pl_input.specs.Words.{is_blank_line}
-use Rattle.pl_input.specs.Reads.{Took, Halts, IsUsedUp, GotLine, AreBlank}
+use Rattle.pl_input.specs.Reads.{ReadsLines, Halts, IsUsedUp, GotLine, AreBlank}
 use Rattle.pl_input.specs.Waits.{Skips, GetsMessage, GetsEnd, GetsFault}
 use Rattle.pl_input.proofs.Reading.{took_none, took_more, used_later, halts_later}
 
@@ -34,7 +34,7 @@ skips_message old mid new before middle after line skips got other = record {
   no_newline = got.no_newline;
 }
 
-pub skips_end : (old mid new : Reader) (before middle after : Option (List ℕ)) → Skips old before mid middle → Took mid middle [] new after × IsUsedUp middle after → GetsEnd old before new after
+pub skips_end : (old mid new : Reader) (before middle after : Option (List ℕ)) → Skips old before mid middle → ReadsLines mid middle [] new after × IsUsedUp middle after → GetsEnd old before new after
 skips_end old mid new before middle after skips ends = record {
   lines = skips.lines ++ [];
   took = took_more old mid new before middle after skips.lines [] skips.took ends.0;

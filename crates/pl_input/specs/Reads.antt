@@ -8,28 +8,28 @@ use Rattle.pl_io.specs.Sparing.{read_size}
 use Rattle.pl_input.specs.Words.{is_blank_line}
 
 -- One line, within this many bytes, and the room that it leaves.
-pub record GaveOne (limit room : ℕ) (bytes line : List ℕ) (left : ℕ) : Type 0 where
+pub record GivesLine (limit room : ℕ) (bytes line : List ℕ) (left : ℕ) : Type 0 where
   pub next : next_of limit room bytes ≡ given line (after_line bytes)
   pub leaves : left + length bytes ≡ room + length (after_line bytes)
 
 -- these lines one after another, with this room and these bytes behind them
-abbrev pub Gave : (limit room : ℕ) → List ℕ → List (List ℕ) → ℕ → List ℕ → Type 0
-Gave limit room bytes [] left rest = (left ≡ room) × (rest ≡ bytes)
-Gave limit room bytes (line ∷ lines) left rest = (mid : ℕ) × GaveOne limit room bytes line mid × Gave limit mid (after_line bytes) lines left rest
+abbrev pub GivesLines : (limit room : ℕ) → List ℕ → List (List ℕ) → ℕ → List ℕ → Type 0
+GivesLines limit room bytes [] left rest = (left ≡ room) × (rest ≡ bytes)
+GivesLines limit room bytes (line ∷ lines) left rest = (mid : ℕ) × GivesLine limit room bytes line mid × GivesLines limit mid (after_line bytes) lines left rest
 
 -- where the bytes are known, the reader gave these lines of them
-abbrev pub GaveKnown : (limit room : ℕ) → Option (List ℕ) → List (List ℕ) → ℕ → Option (List ℕ) → Type 0
-GaveKnown limit room None lines left after = ⊤
-GaveKnown limit room (Some bytes) lines left None = ⊥
-GaveKnown limit room (Some bytes) lines left (Some rest) = Gave limit room bytes lines left rest
+abbrev pub GivesLinesKnown : (limit room : ℕ) → Option (List ℕ) → List (List ℕ) → ℕ → Option (List ℕ) → Type 0
+GivesLinesKnown limit room None lines left after = ⊤
+GivesLinesKnown limit room (Some bytes) lines left None = ⊥
+GivesLinesKnown limit room (Some bytes) lines left (Some rest) = GivesLines limit room bytes lines left rest
 
 -- The reader gave these lines, at its own limits, counted them, and works on. It holds fewer bytes than one read asks for, if it did before.
-pub record Took (old : Reader) (before : Option (List ℕ)) (lines : List (List ℕ)) (new : Reader) (after : Option (List ℕ)) : Type 0 where
+pub record ReadsLines (old : Reader) (before : Option (List ℕ)) (lines : List (List ℕ)) (new : Reader) (after : Option (List ℕ)) : Type 0 where
   pub limit : new.limit ≡ old.limit
   pub working : new.failed ≡ None
   pub number : new.number ≡ old.number + length lines
   pub few : length old.held < read_size → length new.held < read_size
-  pub gave : GaveKnown old.limit old.room before lines new.room after
+  pub gave : GivesLinesKnown old.limit old.room before lines new.room after
 
 -- why a line is not given
 abbrev pub Why : (limit room : ℕ) → List ℕ → LineFault → Type 0
@@ -60,7 +60,7 @@ pub record StopsAt (old : Reader) (lines : List (List ℕ)) (left : ℕ) (rest :
 pub record Halts (old : Reader) (before : Option (List ℕ)) (lines : List (List ℕ)) (f : LineFault) (new : Reader) (after : Option (List ℕ)) : Type 0 where
   pub left : ℕ
   pub rest : Option (List ℕ)
-  pub gave : GaveKnown old.limit old.room before lines left rest
+  pub gave : GivesLinesKnown old.limit old.room before lines left rest
   pub why : WhyKnown old.limit left rest f
   pub stops : (f ≡ fault.Memory → ⊥) → StopsAt old lines left rest f new after
 
@@ -75,7 +75,7 @@ IsUsedUp (Some bytes) after = after ≡ Some []
 
 -- A line was given, and is told by its number.
 pub record GotLine (old : Reader) (before : Option (List ℕ)) (line : NumberedLine) (new : Reader) (after : Option (List ℕ)) : Type 0 where
-  pub took : Took old before (line.bytes ∷ []) new after
+  pub took : ReadsLines old before (line.bytes ∷ []) new after
   pub numbered : line.number ≡ new.number
   pub less : new.room < old.room
   pub fits : length line.bytes ≤ old.limit
@@ -84,5 +84,5 @@ pub record GotLine (old : Reader) (before : Option (List ℕ)) (line : NumberedL
 -- what one call of a working reader does
 abbrev pub OneLine : Reader → Option (List ℕ) → Result (Option NumberedLine) LineFault → Reader → Option (List ℕ) → Type 0
 OneLine old before (Ok (Some line)) new after = GotLine old before line new after
-OneLine old before (Ok None) new after = Took old before [] new after × IsUsedUp before after
+OneLine old before (Ok None) new after = ReadsLines old before [] new after × IsUsedUp before after
 OneLine old before (Err f) new after = Halts old before [] f new after

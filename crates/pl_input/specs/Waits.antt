@@ -4,19 +4,19 @@ use Rattle.pl_io.specs.declared.errors.LineFault.{LineFault}
 use Rattle.pl_io.specs.Lines.{has_newline}
 use Rattle.pl_io.specs.Reader.{Reader, NumberedLine}
 use Rattle.pl_input.specs.Words.{is_blank_line}
-use Rattle.pl_input.specs.Reads.{Took, Halts, IsUsedUp, AreBlank}
+use Rattle.pl_input.specs.Reads.{ReadsLines, Halts, IsUsedUp, AreBlank}
 
 -- Blank lines so far.
 pub record Skips (old : Reader) (before : Option (List ℕ)) (new : Reader) (after : Option (List ℕ)) : Type 0 where
   pub lines : List (List ℕ)
-  pub took : Took old before lines new after
+  pub took : ReadsLines old before lines new after
   pub blank : AreBlank lines
   pub room : new.room ≤ old.room
 
 -- Blank lines, and then one that is not.
 pub record GetsMessage (old : Reader) (before : Option (List ℕ)) (line : List ℕ) (new : Reader) (after : Option (List ℕ)) : Type 0 where
   pub lines : List (List ℕ)
-  pub took : Took old before (lines ++ line ∷ []) new after
+  pub took : ReadsLines old before (lines ++ line ∷ []) new after
   pub blank : AreBlank lines
   pub message : is_blank_line line ≡ false
   pub less : new.room < old.room
@@ -26,7 +26,7 @@ pub record GetsMessage (old : Reader) (before : Option (List ℕ)) (line : List 
 -- Blank lines up to the end.
 pub record GetsEnd (old : Reader) (before : Option (List ℕ)) (new : Reader) (after : Option (List ℕ)) : Type 0 where
   pub lines : List (List ℕ)
-  pub took : Took old before lines new after
+  pub took : ReadsLines old before lines new after
   pub blank : AreBlank lines
   pub used_up : IsUsedUp before after
 

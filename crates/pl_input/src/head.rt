@@ -1,7 +1,7 @@
 ghost use Rattle.std.specs.Prelude.{◌≡◌, ◌≤◌, ◌<◌, ◌++◌, ◌^◌, None, IfOk, IsErrOf, length, List, ℕ};
 ghost use Rattle.pl_io.specs.Faults.{Rose};
 ghost use Rattle.pl_io.specs.Lines.{ahead, with_newline};
-ghost use Rattle.pl_input.specs.Heads.{Keeps, LooksAt, Looks, HeadGives};
+ghost use Rattle.pl_input.specs.Heads.{Keeps, FindsInLine, ReadsHeadLine, HeadGives};
 
 use crate::found::{Found, Head};
 use crate::is_begin_line;
@@ -27,7 +27,7 @@ fn keep(kept: Option<Vec<u8>>, line: &[u8]) -> Result<Option<Vec<u8>>, AllocErro
 
 fn look_at(alloc: Global, line: &[u8], kept: Option<Vec<u8>>) -> Result<Found, AllocError>
     requires { length line.now < 2 ^ 32 }
-    ensures { IfOk result (LooksAt line.now kept) }
+    ensures { IfOk result (FindsInLine line.now kept) }
 {
     if is_begin_line(alloc, line)? {
         Ok(Found::Text(kept))
@@ -47,7 +47,7 @@ fn look<S: Source>(
 ) -> Result<Found, LineFault>
     requires limit { lines.old.limit < 2 ^ 32 }
     requires working { lines.old.failed ≡ None }
-    ensures line { Looks lines.old (ahead lines.old.held (S.left src.old)) kept result lines.new (ahead lines.new.held (S.left src.new)) }
+    ensures line { ReadsHeadLine lines.old (ahead lines.old.held (S.left src.old)) kept result lines.new (ahead lines.new.held (S.left src.new)) }
     ensures cause { IsErrOf result LineFault.Read → Rose (S.faults src.old) (S.faults src.new) }
     ensures later { S.faults src.old ≤ S.faults src.new }
 {

@@ -5,4 +5,5 @@ pub mod KindNames
 pub mod Valued
 pub mod Back
 pub mod Bounded
+pub mod BoundedMoves
 pub mod Reread

@@ -22,7 +22,8 @@ use Rattle.pl_laws.proofs.PairBudgets.{pair_bounded}
 use Rattle.pl_shared.specs.Roles.{is_executed, IsChosen}
 use Rattle.pl_pair.specs.Chosen.{AreChosen}
 use Rattle.pl_main.specs.Top.{program_options}
-use Rattle.pl_main.specs.Pairs.{IsPaired, IsPairFull}
+use Rattle.pl_main.specs.Endings.{IsFull}
+use Rattle.pl_main.specs.RunKinds.{IsPaired, pair_run}
 
 -- an event that was chosen, and is a commit
 commit_is : (o : Option Choice) (h : ℕ) → IsChosen o (event.Commit h) → o ≡ Some (choice.Commit h)
@@ -58,11 +59,11 @@ paired_bounded m checked turns seed log paired =
     let more : n * (2 * turns + 5) ≤ n * (2 * turns + 6) = mul-le-mul_left n (omega arith) in
     subst (λ (l : List Entry). length l ≤ 10001 + length (inputs_of l) * (2 * turns + 6)) (sym paired.opened) (omega (arith, short, more))
 
-pub pair_full_bounded : (turns seed : ℕ) (input : List ℕ) (left held now : Option (List ℕ)) → IsPairFull turns seed input left held now
+pub pair_full_bounded : (turns seed : ℕ) (input : List ℕ) (left held now : Option (List ℕ)) → IsFull (pair_run turns seed) input left held now
     → 250000 ≤ 10001 + length (split_of input).messages * (2 * turns + 6)
 pair_full_bounded turns seed input left held now full =
     let checked : IsChecked full.model = checked_model full.words full.model full.accepted in
-    let short : length full.log ≤ 10001 + length (inputs_of full.log) * (2 * turns + 6) = paired_bounded full.model checked turns seed full.log full.paired in
+    let short : length full.log ≤ 10001 + length (inputs_of full.log) * (2 * turns + 6) = paired_bounded full.model checked turns seed full.log full.says in
     let all = ap (λ (ms : List (Option (List ℕ))). length ms) full.messages in
     let few : length (inputs_of full.log) ≤ length (split_of input).messages = omega (arith, all, length-append (inputs_of full.log) full.unanswered) in
     let more : length (inputs_of full.log) * (2 * turns + 6) ≤ length (split_of input).messages * (2 * turns + 6) = mul-le-mul_right (2 * turns + 6) few in

@@ -6,8 +6,8 @@ use Rattle.pl_input.specs.Words.{split_of}
 use Rattle.pl_machine.specs.Legal.{Legal, options_of}
 use Rattle.pl_machine.specs.Finished.{inputs_of}
 use Rattle.pl_main.specs.Solo.{Solo}
-use Rattle.pl_main.specs.Top.{IsFull}
-use Rattle.pl_main.specs.Pairs.{IsPaired, IsPairFull}
+use Rattle.pl_main.specs.Endings.{IsFull}
+use Rattle.pl_main.specs.RunKinds.{solo_run, IsPaired, pair_run}
 
 -- A log of one thread has, beside its opening, ten thousand commands at most, and for each input four entries and as many
 -- as a round has turns.
@@ -22,10 +22,10 @@ PairIsBounded m = (turns seed : ℕ) (log : List Entry) → IsPaired turns seed 
 
 -- A run whose log is full has so many messages that its log may be as long.
 abbrev pub FullHasMany : Type 0
-FullHasMany = (turns : ℕ) (input : List ℕ) (left held now : Option (List ℕ)) → IsFull turns input left held now
+FullHasMany = (turns : ℕ) (input : List ℕ) (left held now : Option (List ℕ)) → IsFull (solo_run turns) input left held now
     → 250000 ≤ 10001 + length (split_of input).messages * (turns + 4)
 
 -- So has a run of a pair, with twice as many turns.
 abbrev pub PairFullHasMany : Type 0
-PairFullHasMany = (turns seed : ℕ) (input : List ℕ) (left held now : Option (List ℕ)) → IsPairFull turns seed input left held now
+PairFullHasMany = (turns seed : ℕ) (input : List ℕ) (left held now : Option (List ℕ)) → IsFull (pair_run turns seed) input left held now
     → 250000 ≤ 10001 + length (split_of input).messages * (2 * turns + 6)

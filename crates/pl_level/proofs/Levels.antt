@@ -6,6 +6,7 @@ use Rattle.std.proofs.lemmas.Bool.{cond_both, eqb-true, true≢false, and_parts,
 use Rattle.std.proofs.lemmas.Bool.Decides.{Decides-int_eq}
 use Rattle.std.proofs.lemmas.Int.{ints, to_z-of_z}
 use Rattle.std.proofs.Math.Bool.{and-false, and-true, or-false}
+use Rattle.std.proofs.lemmas.List.{length-append}
 use mir.Val.{to_z, of_z, SFits}
 use mir.Syntax.{w64}
 use Rattle.pl_lists.proofs.Numbers.{add_nothing}
@@ -24,11 +25,11 @@ use Rattle.pl_points.proofs.Strolls.{walk_less, after_all, after_same}
 use Rattle.pl_points.proofs.Spanning.{within_true}
 use Rattle.pl_points.proofs.Cuts.{within_yes}
 use Rattle.pl_points.proofs.Maximal.{is_spans_of, remaximal, later_maximal, maximal_apart}
-use Rattle.pl_points.proofs.Totals.{total_bounds, each-all, IsAmount, total-push, total-without}
+use Rattle.pl_points.proofs.Totals.{total_bounds, each-all, each-push, each-stands, each-without, length-without, IsAmount, total-push, total-without}
 use Rattle.pl_level.specs.declared.reservation.Effect.{Effect}
 use Rattle.pl_level.specs.declared.reservation.LevelChange.{LevelChange}
 use Rattle.pl_level.specs.Effects.{Standing, IsEffect, IsValue, effect_of, same_effect, counted, level, is_low, is_high, low_now, high_now, points_of, effect_steps}
-use Rattle.pl_level.specs.Soundness.{summed, IsTied, IsSound, AreChanges}
+use Rattle.pl_level.specs.Soundness.{summed, IsTied, IsSound, IsShift, AreChanges}
 
 pub amount_of : (u : Effect) → IsEffect u → IsAmount u.delta
 amount_of u is = (is.1, is.2)
@@ -120,11 +121,27 @@ remend_high s s' b ps high high' from tied maximal apart says le same most =
 abbrev pub make : Bool → ℕ → ℤ → ℤ → ℕ → ℕ → ℤ → List Effect → Standing
 make spoiled h least most moment base value effects = record { spoiled = spoiled; horizon = h; least = least; most = most; moment = moment; base = base; value = value; effects = effects }
 
+-- amounts as a program holds them
+pub raw : (a : ℤ) → IsSmall a → to_z w64 (of_z w64 a) ≡ a
+raw a am = let fits : SFits w64 a = omega (arith, ints, am.0, am.1) in to_z-of_z w64 a fits
+
+pub raw_back : (a : ℤ) → IsAmount a → to_z w64 (of_z w64 (pos 0 -ℤ to_z w64 (of_z w64 a))) ≡ neg_ℤ a
+raw_back a am =
+    let fits : SFits w64 (pos 0 -ℤ a) = omega (arith, ints, am.0, am.1) in
+    let e : pos 0 -ℤ a ≡ neg_ℤ a = omega (arith, ints) in
+    rw (raw a (amount_small a am)) (to_z-of_z w64 (pos 0 -ℤ a) fits ∙ e)
+
+pub neg_fits : (a : ℤ) → IsAmount a → SFits w64 (pos 0 -ℤ to_z w64 (of_z w64 a))
+neg_fits a am = rw (raw a (amount_small a am)) (omega (arith, ints, am.0, am.1))
+
+pub neg_amount : (a : ℤ) → IsAmount a → IsAmount (neg_ℤ a)
+neg_amount a am = (omega (arith, ints, am.1), omega (arith, ints, am.0))
+
 -- other effects, which add a delta from a moment on
-abbrev pub Adds : ℕ → ℤ → List Effect → List Effect → Type 0
+abbrev Adds : ℕ → ℤ → List Effect → List Effect → Type 0
 Adds at d xs ys = (v : ℕ → Bool) → total (λ (e : Effect). cond (v e.at) e.delta (pos 0)) ys ≡ total (λ (e : Effect). cond (v e.at) e.delta (pos 0)) xs +ℤ cond (v at) d (pos 0)
 
-pub adds_more : (xs : List Effect) (u : Effect) → Adds u.at u.delta xs (xs ++ u ∷ [])
+adds_more : (xs : List Effect) (u : Effect) → Adds u.at u.delta xs (xs ++ u ∷ [])
 adds_more xs u v = total-push (λ (e : Effect). cond (v e.at) e.delta (pos 0)) xs u
 
 pub same_exact : (u v : Effect) → same_effect u v ≡ true → u ≡ v
@@ -134,13 +151,35 @@ same_exact u v e =
     let delta : u.delta ≡ v.delta = (Decides-int_eq u.delta v.delta).0 h.1 in
     ap (λ n. effect_of n u.delta) at ∙ ap (effect_of v.at) delta
 
-pub adds_less : (xs : List Effect) (u : Effect) → stands same_effect u xs ≡ true → Adds u.at (neg_ℤ u.delta) xs (without same_effect u xs)
+adds_less : (xs : List Effect) (u : Effect) → stands same_effect u xs ≡ true → Adds u.at (neg_ℤ u.delta) xs (without same_effect u xs)
 adds_less xs u has v = cases (v u.at) refl (total-without same_effect same_exact (λ (e : Effect). cond (v e.at) e.delta (pos 0)) xs u has)
   where
     cases : (w : Bool) → v u.at ≡ w → total (λ (e : Effect). cond (v e.at) e.delta (pos 0)) (without same_effect u xs) +ℤ cond (v u.at) u.delta (pos 0) ≡ total (λ (e : Effect). cond (v e.at) e.delta (pos 0)) xs
         → total (λ (e : Effect). cond (v e.at) e.delta (pos 0)) (without same_effect u xs) ≡ total (λ (e : Effect). cond (v e.at) e.delta (pos 0)) xs +ℤ cond w (neg_ℤ u.delta) (pos 0)
     cases true e m = let f : cond (v u.at) u.delta (pos 0) ≡ u.delta = rw e refl in omega (arith, ints, m, f)
     cases false e m = let f : cond (v u.at) u.delta (pos 0) ≡ pos 0 = rw e refl in omega (arith, ints, m, f)
+
+-- an effect more
+pub shift_more : (xs : List Effect) (u : Effect) → IsEffect u → length xs ≤ 319999 → Each IsEffect xs → IsShift u.at u.delta xs (xs ++ u ∷ [])
+shift_more xs u is few bounded = record {
+  low = is.1;
+  high = is.2;
+  few = omega (arith, few, length-append xs (u ∷ []));
+  bounded = each-push IsEffect xs u bounded is;
+  adds = adds_more xs u;
+}
+
+-- an effect less
+pub shift_less : (xs : List Effect) (u : Effect) → stands same_effect u xs ≡ true → length xs ≤ 320000 → Each IsEffect xs → IsShift u.at (neg_ℤ u.delta) xs (without same_effect u xs)
+shift_less xs u has few bounded =
+    let am = neg_amount u.delta (amount_of u (each-stands IsEffect same_effect same_exact xs u bounded has)) in
+    record {
+      low = am.0;
+      high = am.1;
+      few = omega (arith, few, length-without same_effect xs u);
+      bounded = each-without IsEffect same_effect xs u bounded;
+      adds = adds_less xs u has;
+    }
 
 -- where a mend begins
 abbrev pub begin : ℕ → ℕ → ℕ → ℕ → ℕ
@@ -171,19 +210,19 @@ change_cost parts change look search before after s ys b ps at d tied cost =
     omega (arith, cost, e)
 
 module _ (spoiled : Bool) (h : ℕ) (least most : ℤ) (moment base : ℕ) (value : ℤ) (xs ys : List Effect) (b : ℤ) (ps : List Point) (at : ℕ) (d : ℤ) where
-  pub tied_shifted : IsTied (make spoiled h least most moment base value xs) b ps → length ys ≤ 320000 → Each IsEffect ys → Adds at d xs ys → IsTied (make false h least most moment base value ys) (b +ℤ cond (leb at base) d (pos 0)) (merged at d ps)
-  tied_shifted tied few bounded adds = record {
+  pub tied_shifted : IsTied (make spoiled h least most moment base value xs) b ps → IsShift at d xs ys → IsTied (make false h least most moment base value ys) (b +ℤ cond (leb at base) d (pos 0)) (merged at d ps)
+  tied_shifted tied shift = record {
     in_time = tied.in_time;
     fits = tied.fits;
     based = tied.based;
     least = tied.least;
     most = tied.most;
     value = tied.value;
-    few = few;
-    bounded = bounded;
+    few = shift.few;
+    bounded = shift.bounded;
     rising = rising-merged 0 at d ps (omega arith) tied.rising;
-    tied = λ t. sum_to-merged at d ps t ∙ (ap (λ z. z +ℤ cond (leb at t) d (pos 0)) (tied.tied t) ∙ sym (adds (λ n. leb n t)));
-    before = ap (λ z. z +ℤ cond (leb at base) d (pos 0)) tied.before ∙ sym (adds (λ n. leb n base));
+    tied = λ t. sum_to-merged at d ps t ∙ (ap (λ z. z +ℤ cond (leb at t) d (pos 0)) (tied.tied t) ∙ sym (shift.adds (λ n. leb n t)));
+    before = ap (λ z. z +ℤ cond (leb at base) d (pos 0)) tied.before ∙ sym (shift.adds (λ n. leb n base));
   }
 
   pub level_stays : Adds at d xs ys → (t : ℕ) → within (begin h moment base at) h t ≡ false → within moment h t ≡ true → level (make spoiled h least most moment base value xs) t ≡ level (make false h least most moment base value ys) t
@@ -198,30 +237,30 @@ module _ (spoiled : Bool) (h : ℕ) (least most : ℤ) (moment base : ℕ) (valu
           let k = within_true moment h t in_time in
           absurd (true≢false (sym (within_yes (min (max at moment) h) h t (omega (arith, k.0, leb-true at t f)) k.1) ∙ no_window))
 
-  pub sound_shifted : (low low' high high' : List Span) (ps' : List Point) (b' l m : ℤ) → IsSound (make spoiled h least most moment base value xs) b ps low high → length ys ≤ 320000 → Each IsEffect ys → Adds at d xs ys
+  pub sound_shifted : (low low' high high' : List Span) (ps' : List Point) (b' l m : ℤ) → IsSound (make spoiled h least most moment base value xs) b ps low high → IsShift at d xs ys
       → ps' ≡ merged at d ps → b' ≡ b +ℤ cond (leb at base) d (pos 0) → l ≡ (least -ℤ value) +ℤ b' → m ≡ (most -ℤ value) +ℤ b' → AreSpans low' → AreSpans high'
       → ((t : ℕ) → covers low' t ≡ mended (begin h moment base at) h (λ x. is_outside (Below l) (sum_to ps' x)) low t)
       → ((t : ℕ) → covers high' t ≡ mended (begin h moment base at) h (λ x. is_outside (Above m) (sum_to ps' x)) high t)
       → IsSound (make false h least most moment base value ys) b' ps' low' high'
-  sound_shifted low low' high high' ps' b' l m sound few bounded adds points before is_l is_m apart_low apart_high says_low says_high =
+  sound_shifted low low' high high' ps' b' l m sound shift points before is_l is_m apart_low apart_high says_low says_high =
       let s' = make false h least most moment base value ys in
-      let tied : IsTied s' b' ps' = subst (λ q. IsTied s' b' q) (sym points) (subst (λ z. IsTied s' z (merged at d ps)) (sym before) (tied_shifted sound.tied few bounded adds)) in
+      let tied : IsTied s' b' ps' = subst (λ q. IsTied s' b' q) (sym points) (subst (λ z. IsTied s' z (merged at d ps)) (sym before) (tied_shifted sound.tied shift)) in
       record {
         tied = tied;
         low = remend_low (make spoiled h least most moment base value xs) s' b' ps' low low' (begin h moment base at) tied sound.low apart_low
-            (λ t. subst (λ z. covers low' t ≡ mended (begin h moment base at) h (λ x. is_outside (Below z) (sum_to ps' x)) low t) is_l (says_low t)) (begin_late h moment base at sound.tied.in_time) (level_stays adds) refl;
+            (λ t. subst (λ z. covers low' t ≡ mended (begin h moment base at) h (λ x. is_outside (Below z) (sum_to ps' x)) low t) is_l (says_low t)) (begin_late h moment base at sound.tied.in_time) (level_stays shift.adds) refl;
         high = remend_high (make spoiled h least most moment base value xs) s' b' ps' high high' (begin h moment base at) tied sound.high apart_high
-            (λ t. subst (λ z. covers high' t ≡ mended (begin h moment base at) h (λ x. is_outside (Above z) (sum_to ps' x)) high t) is_m (says_high t)) (begin_late h moment base at sound.tied.in_time) (level_stays adds) refl;
+            (λ t. subst (λ z. covers high' t ≡ mended (begin h moment base at) h (λ x. is_outside (Above z) (sum_to ps' x)) high t) is_m (says_high t)) (begin_late h moment base at sound.tied.in_time) (level_stays shift.adds) refl;
       }
 
   -- what a change takes, in terms of the effects
-  pub level_cost : (parts : ℕ → ℕ) (change look search before mid after from : ℕ) (ps' : List Point) (b' l m : ℤ) → IsTied (make spoiled h least most moment base value xs) b ps → length ys ≤ 320000 → Each IsEffect ys → Adds at d xs ys
+  pub level_cost : (parts : ℕ → ℕ) (change look search before mid after from : ℕ) (ps' : List Point) (b' l m : ℤ) → IsTied (make spoiled h least most moment base value xs) b ps → IsShift at d xs ys
       → ps' ≡ merged at d ps → b' ≡ b +ℤ cond (leb at base) d (pos 0) → l ≡ (least -ℤ value) +ℤ b' → m ≡ (most -ℤ value) +ℤ b' → base ≤ from → mid ≤ before + parts (length ps) + change
       → after ≤ mid + (walk_steps parts look search (length ps') (points_after (goes_outside (Below l) ps') from ps') + walk_steps parts look search (length ps') (points_after (goes_outside (Above m) ps') from ps'))
       → after ≤ before + effect_steps parts change look search (make spoiled h least most moment base value xs) ys at d
-  level_cost parts change look search before mid after from ps' b' l m tied few bounded adds points is_b is_l is_m le cost walks =
+  level_cost parts change look search before mid after from ps' b' l m tied shift points is_b is_l is_m le cost walks =
       let s' = make false h least most moment base value ys in
-      let tied' : IsTied s' b' ps' = subst (λ q. IsTied s' b' q) (sym points) (subst (λ z. IsTied s' z (merged at d ps)) (sym is_b) (tied_shifted tied few bounded adds)) in
+      let tied' : IsTied s' b' ps' = subst (λ q. IsTied s' b' q) (sym points) (subst (λ z. IsTied s' z (merged at d ps)) (sym is_b) (tied_shifted tied shift)) in
       let low : points_after (goes_outside (Below l) ps') from ps' ≡ points_after (is_low s') from ps' = after_same (goes_outside (Below l) ps') (is_low s') from ps' (λ t lt.
       ap (int_lt (sum_to ps' t)) is_l ∙ low_test (sum_to ps' t) value least b' ∙ ap (λ z. int_lt z least) (sym (level_is s' b' ps' t tied' (omega (arith, le, lt))))) in
       let high : points_after (goes_outside (Above m) ps') from ps' ≡ points_after (is_high s') from ps' = after_same (goes_outside (Above m) ps') (is_high s') from ps' (λ t lt.
@@ -303,22 +342,6 @@ sound_changes s s' b b' ps ps' low low' high high' change one other is = record 
   low = subst (λ l. IsChange (low_now s) l change.low) (sound_low s' b' ps' low' high' other) (subst (λ l. IsChange l low' change.low) (sound_low s b ps low high one) is.low);
   high = subst (λ l. IsChange (high_now s) l change.high) (sound_high s' b' ps' low' high' other) (subst (λ l. IsChange l high' change.high) (sound_high s b ps low high one) is.high);
 }
-
--- amounts as a program holds them
-pub raw : (a : ℤ) → IsSmall a → to_z w64 (of_z w64 a) ≡ a
-raw a am = let fits : SFits w64 a = omega (arith, ints, am.0, am.1) in to_z-of_z w64 a fits
-
-pub raw_back : (a : ℤ) → IsAmount a → to_z w64 (of_z w64 (pos 0 -ℤ to_z w64 (of_z w64 a))) ≡ neg_ℤ a
-raw_back a am =
-    let fits : SFits w64 (pos 0 -ℤ a) = omega (arith, ints, am.0, am.1) in
-    let e : pos 0 -ℤ a ≡ neg_ℤ a = omega (arith, ints) in
-    rw (raw a (amount_small a am)) (to_z-of_z w64 (pos 0 -ℤ a) fits ∙ e)
-
-pub neg_fits : (a : ℤ) → IsAmount a → SFits w64 (pos 0 -ℤ to_z w64 (of_z w64 a))
-neg_fits a am = rw (raw a (amount_small a am)) (omega (arith, ints, am.0, am.1))
-
-pub neg_amount : (a : ℤ) → IsAmount a → IsAmount (neg_ℤ a)
-neg_amount a am = (omega (arith, ints, am.1), omega (arith, ints, am.0))
 
 pub same_state : (v : Bool) (h : ℕ) (least most : ℤ) (moment base : ℕ) (value : ℤ) (l k : List Effect) → v ≡ false → l ≡ k → make false h least most moment base value l ≡ make v h least most moment base value k
 same_state v h least most moment base value l k e f = ap (make false h least most moment base value) f ∙ ap (λ w. make w h least most moment base value k) (sym e)

@@ -1,5 +1,5 @@
 -- What a level that is not spoiled keeps.
-use Rattle.std.specs.Prelude.{◌≡◌, ℕ, ◌≤◌, ◌<◌, List, ℤ, pos, nat_le, length, ◌^◌, if◌then◌else◌}
+use Rattle.std.specs.Prelude.{◌≡◌, ℕ, ◌≤◌, ◌<◌, Bool, List, ℤ, pos, neg_ℤ, ◌+ℤ◌, ◌≤ℤ◌, nat_le, length, ◌^◌, if◌then◌else◌}
 use Rattle.pl_points.specs.declared.span.Span.{Span}
 use Rattle.pl_points.specs.Sums.{total}
 use Rattle.pl_points.specs.Points.{sum_to, RiseFrom}
@@ -31,6 +31,14 @@ pub record IsSound (state : Standing) (sum : ℤ) (points : List (ℕ × ℤ)) (
   pub tied : IsTied state sum points
   pub low : AreMaximal (is_low state) state.moment state.horizon below
   pub high : AreMaximal (is_high state) state.moment state.horizon above
+
+-- A change of the effects: the level is higher by this amount from the moment on.
+pub record IsShift (at : ℕ) (added : ℤ) (before after : List Effect) : Type 0 where
+  pub low : neg_ℤ (pos (10 ^ 9)) ≤ℤ added
+  pub high : added ≤ℤ pos (10 ^ 9)
+  pub few : length after ≤ 320000
+  pub bounded : Each IsEffect after
+  pub adds : (counts : ℕ → Bool) → total (λ (u : Effect). if counts u.at then u.delta else pos 0) after ≡ total (λ (u : Effect). if counts u.at then u.delta else pos 0) before +ℤ (if counts at then added else pos 0)
 
 -- what left and came into both lists
 pub record AreChanges (below below' above above' : List Span) (change : LevelChange) : Type 0 where

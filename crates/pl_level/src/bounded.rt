@@ -13,41 +13,41 @@ use std::alloc::AllocError;
 
 /// `Level::add` over block points: it reads summaries, and points only near what is outside.
 pub fn add_bounded<L: Ledger>(
-    line: &mut Level<BlockPoints>,
+    timeline: &mut Level<BlockPoints>,
     at: u32,
     delta: i64,
     steps: &mut Steps<L>,
 ) -> Result<LevelChange, AllocError>
     requires is_effect { IsEffect (effect_of at delta) }
-    requires few { line.old.spoiled ≡ false → length line.old.effects ≤ 319999 }
-    ensures ok { OnOk result (line.new ≡ record line.old { effects = line.old.effects ++ effect_of at delta ∷ [] }) }
-    ensures change { IfOk result (λ c. AreChanges (low_now line.old) (low_now line.new) (high_now line.old) (high_now line.new) c) }
-    ensures unspoiled { OnOk result (line.old.spoiled ≡ false) }
-    ensures err { OnErr result (line.new.spoiled ≡ true) }
-    ensures after_spoil { line.old.spoiled ≡ true → IsErr result }
-    ensures cost { line.old.spoiled ≡ false → steps.new ≤ steps.old + bound line.old (line.old.effects ++ effect_of at delta ∷ []) at delta }
-    ensures idle { line.old.spoiled ≡ true → steps.new ≡ steps.old }
+    requires few { timeline.old.spoiled ≡ false → length timeline.old.effects ≤ 319999 }
+    ensures ok { OnOk result (timeline.new ≡ record timeline.old { effects = timeline.old.effects ++ effect_of at delta ∷ [] }) }
+    ensures change { IfOk result (λ c. AreChanges (low_now timeline.old) (low_now timeline.new) (high_now timeline.old) (high_now timeline.new) c) }
+    ensures unspoiled { OnOk result (timeline.old.spoiled ≡ false) }
+    ensures err { OnErr result (timeline.new.spoiled ≡ true) }
+    ensures after_spoil { timeline.old.spoiled ≡ true → IsErr result }
+    ensures cost { timeline.old.spoiled ≡ false → steps.new ≤ steps.old + bound timeline.old (timeline.old.effects ++ effect_of at delta ∷ []) at delta }
+    ensures idle { timeline.old.spoiled ≡ true → steps.new ≡ steps.old }
 {
     laws_of_steps();
-    line.add(at, delta, steps)
+    timeline.add(at, delta, steps)
 }
 
 /// `Level::remove` over block points.
 pub fn remove_bounded<L: Ledger>(
-    line: &mut Level<BlockPoints>,
+    timeline: &mut Level<BlockPoints>,
     at: u32,
     delta: i64,
     steps: &mut Steps<L>,
 ) -> Result<LevelChange, AllocError>
-    requires { line.old.spoiled ≡ false → stands same_effect (effect_of at delta) line.old.effects ≡ true }
-    ensures ok { OnOk result (line.new ≡ record line.old { effects = without same_effect (effect_of at delta) line.old.effects }) }
-    ensures change { IfOk result (λ c. AreChanges (low_now line.old) (low_now line.new) (high_now line.old) (high_now line.new) c) }
-    ensures unspoiled { OnOk result (line.old.spoiled ≡ false) }
-    ensures err { OnErr result (line.new.spoiled ≡ true) }
-    ensures after_spoil { line.old.spoiled ≡ true → IsErr result }
-    ensures cost { line.old.spoiled ≡ false → steps.new ≤ steps.old + bound line.old (without same_effect (effect_of at delta) line.old.effects) at (neg_ℤ delta) }
-    ensures idle { line.old.spoiled ≡ true → steps.new ≡ steps.old }
+    requires { timeline.old.spoiled ≡ false → stands same_effect (effect_of at delta) timeline.old.effects ≡ true }
+    ensures ok { OnOk result (timeline.new ≡ record timeline.old { effects = without same_effect (effect_of at delta) timeline.old.effects }) }
+    ensures change { IfOk result (λ c. AreChanges (low_now timeline.old) (low_now timeline.new) (high_now timeline.old) (high_now timeline.new) c) }
+    ensures unspoiled { OnOk result (timeline.old.spoiled ≡ false) }
+    ensures err { OnErr result (timeline.new.spoiled ≡ true) }
+    ensures after_spoil { timeline.old.spoiled ≡ true → IsErr result }
+    ensures cost { timeline.old.spoiled ≡ false → steps.new ≤ steps.old + bound timeline.old (without same_effect (effect_of at delta) timeline.old.effects) at (neg_ℤ delta) }
+    ensures idle { timeline.old.spoiled ≡ true → steps.new ≡ steps.old }
 {
     laws_of_steps();
-    line.remove(at, delta, steps)
+    timeline.remove(at, delta, steps)
 }

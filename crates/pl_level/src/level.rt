@@ -1,12 +1,12 @@
 ghost use Rattle.std.specs.Prelude.{◌≡◌, ◌<◌, ◌≤◌, ◌+◌, neg_ℤ, true, false, [], ◌∷◌, ◌++◌, length, OnOk, OnErr, IfOk, IsErr};
 ghost use Rattle.pl_points.specs.Changes.{IsChange};
-ghost use Rattle.pl_points.specs.Standing.{without, stands};
+ghost use Rattle.pl_points.specs.Standing.{without, stands, noted};
 ghost use Rattle.pl_level.specs.Effects.{IsEffect, IsValue, effect_of, same_effect, level, low_now, high_now, effect_steps};
-ghost use Rattle.pl_level.specs.Soundness.{AreChanges};
+ghost use Rattle.pl_level.specs.Soundness.{AreChanges, IsShift};
 
 use crate::kept::Kept;
 use crate::reservation::{Effect, LevelChange};
-use crate::windows::{forget_both, limit_for, mend_both, sum_before, value_for, window_of};
+use crate::windows::{forget_both, mend_both, sum_before, sums_for, value_for, window_of};
 use pl_lists::Copied;
 use pl_points::{Ledger, Noted, Points, Span, Steps, Told};
 use std::alloc::{AllocError, Global};
@@ -101,26 +101,7 @@ impl<P: Points> Level<P> {
         if self.spoiled {
             return Err(AllocError);
         }
-        self.spoiled = true;
-        let added = delta;
-        self.points.add(at, added, steps)?;
-        self.before = sum_before(self.before, self.base, at, added);
-        let present = Span {
-            from: self.moment,
-            to: self.horizon,
-        };
-        let change = mend_both(
-            &self.points,
-            &mut self.low,
-            &mut self.high,
-            limit_for(self.least, self.value, self.before),
-            limit_for(self.most, self.value, self.before),
-            window_of(present, self.base, at),
-            steps,
-        )?;
-        self.notes = self.notes.with(&Noted::Came(Effect { at, delta }));
-        self.spoiled = false;
-        Ok(change)
+        self.changed(at, delta, Noted::Came(Effect { at, delta }), steps)
     }
 
     /// Takes out an effect that stands. On want of memory the timeline is spoiled.
@@ -142,24 +123,42 @@ impl<P: Points> Level<P> {
         if self.spoiled {
             return Err(AllocError);
         }
+        self.changed(at, -delta, Noted::Went(Effect { at, delta }), steps)
+    }
+
+    // Notes what came or went, which adds the amount to the level from the moment on, and mends both lists there.
+    fn changed<L: Ledger>(
+        &mut self,
+        at: u32,
+        added: i64,
+        note: Noted<Effect>,
+        steps: &mut Steps<L>,
+    ) -> Result<LevelChange, AllocError>
+        requires unspoiled { self.old.spoiled ≡ false }
+        requires shift { IsShift at added self.old.effects (noted same_effect self.old.effects note) }
+        ensures ok { OnOk result (self.new ≡ record self.old { effects = noted same_effect self.old.effects note }) }
+        ensures change { IfOk result (λ c. AreChanges (low_now self.old) (low_now self.new) (high_now self.old) (high_now self.new) c) }
+        ensures err { OnErr result (self.new.spoiled ≡ true) }
+        ensures cost { steps.new ≤ steps.old + effect_steps P.parts P.change_steps P.look_steps P.search_steps self.old (noted same_effect self.old.effects note) at added }
+    {
         self.spoiled = true;
-        let added = -delta;
         self.points.add(at, added, steps)?;
         self.before = sum_before(self.before, self.base, at, added);
+        let sums = sums_for(self.least, self.most, self.value, self.before);
         let present = Span {
             from: self.moment,
             to: self.horizon,
         };
+        let near = window_of(present, self.base, at);
         let change = mend_both(
             &self.points,
             &mut self.low,
             &mut self.high,
-            limit_for(self.least, self.value, self.before),
-            limit_for(self.most, self.value, self.before),
-            window_of(present, self.base, at),
+            sums,
+            near,
             steps,
         )?;
-        self.notes = self.notes.with(&Noted::Went(Effect { at, delta }));
+        self.notes = self.notes.with(&note);
         self.spoiled = false;
         Ok(change)
     }
@@ -186,12 +185,12 @@ impl<P: Points> Level<P> {
             from: self.moment,
             to: self.horizon,
         };
+        let sums = sums_for(self.least, self.most, value, self.before);
         let change = mend_both(
             &self.points,
             &mut self.low,
             &mut self.high,
-            limit_for(self.least, value, self.before),
-            limit_for(self.most, value, self.before),
+            sums,
             present,
             steps,
         )?;

@@ -41,14 +41,26 @@ pub(crate) fn sum_before(before: i64, base: u32, at: u32, delta: i64) -> i64
     if at <= base { before + delta } else { before }
 }
 
-// The sum of points at which the level is the limit.
-pub(crate) fn limit_for(limit: i64, value: i64, before: i64) -> i64
-    requires limit { IsSmall limit }
+// Between which sums of the points the level is within its limits.
+#[derive(Clone, Copy, Debug)]
+pub(crate) struct Sums {
+    pub(crate) least: i64,
+    pub(crate) most: i64,
+}
+
+// The sums at which the level is its least and its most.
+pub(crate) fn sums_for(least: i64, most: i64, value: i64, before: i64) -> Sums
+    requires least { IsSmall least }
+    requires most { IsSmall most }
     requires value { IsSmall value }
     requires before { IsSmall before }
-    ensures { result ≡ (limit -ℤ value) +ℤ before }
+    ensures least { result.least ≡ (least -ℤ value) +ℤ before }
+    ensures most { result.most ≡ (most -ℤ value) +ℤ before }
 {
-    limit - value + before
+    Sums {
+        least: least - value + before,
+        most: most - value + before,
+    }
 }
 
 // The value of the level where the points add up to the sum.
@@ -66,8 +78,7 @@ pub(crate) fn mend_both<P: Points, L: Ledger>(
     points: &P,
     low: &mut Kept,
     high: &mut Kept,
-    least: i64,
-    most: i64,
+    sums: Sums,
     window: Span,
     steps: &mut Steps<L>,
 ) -> Result<LevelChange, AllocError>
@@ -76,14 +87,14 @@ pub(crate) fn mend_both<P: Points, L: Ledger>(
     requires high { AreSpans high.old }
     ensures low_apart { OnOk result (AreSpans low.new) }
     ensures high_apart { OnOk result (AreSpans high.new) }
-    ensures low_covers { OnOk result ((t : ℕ) → covers low.new t ≡ mended window.from window.to (λ x. is_outside (Below least) (sum_to (P.points points.now) x)) low.old t) }
-    ensures high_covers { OnOk result ((t : ℕ) → covers high.new t ≡ mended window.from window.to (λ x. is_outside (Above most) (sum_to (P.points points.now) x)) high.old t) }
+    ensures low_covers { OnOk result ((t : ℕ) → covers low.new t ≡ mended window.from window.to (λ x. is_outside (Below sums.least) (sum_to (P.points points.now) x)) low.old t) }
+    ensures high_covers { OnOk result ((t : ℕ) → covers high.new t ≡ mended window.from window.to (λ x. is_outside (Above sums.most) (sum_to (P.points points.now) x)) high.old t) }
     ensures changes { IfOk result (λ c. AreChanges low.old low.new high.old high.new c) }
-    ensures cost { steps.new ≤ steps.old + (walk_steps P.parts P.look_steps P.search_steps (length (P.points points.now)) (points_after (goes_outside (Below least) (P.points points.now)) window.from (P.points points.now)) + walk_steps P.parts P.look_steps P.search_steps (length (P.points points.now)) (points_after (goes_outside (Above most) (P.points points.now)) window.from (P.points points.now))) }
+    ensures cost { steps.new ≤ steps.old + (walk_steps P.parts P.look_steps P.search_steps (length (P.points points.now)) (points_after (goes_outside (Below sums.least) (P.points points.now)) window.from (P.points points.now)) + walk_steps P.parts P.look_steps P.search_steps (length (P.points points.now)) (points_after (goes_outside (Above sums.most) (P.points points.now)) window.from (P.points points.now))) }
 {
-    let mark = calm_until(points, least, most, window, steps);
-    let below = low.mend(points, Limit::Below(least), window, mark, steps)?;
-    let above = high.mend(points, Limit::Above(most), window, mark, steps)?;
+    let mark = calm_until(points, sums.least, sums.most, window, steps);
+    let below = low.mend(points, Limit::Below(sums.least), window, mark, steps)?;
+    let above = high.mend(points, Limit::Above(sums.most), window, mark, steps)?;
     Ok(LevelChange {
         low: below,
         high: above,

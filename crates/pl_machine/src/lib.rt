@@ -8,6 +8,7 @@ mod machine;
 mod ranges;
 mod repaired;
 mod round;
+mod schedule;
 mod sharing;
 mod starting;
 mod stop;

@@ -19,8 +19,8 @@ ghost use Rattle.pl_entry.specs.Bounds.{AreOptions};
 ghost use Rattle.pl_machine.specs.World.{fresh_world};
 ghost use Rattle.pl_machine.specs.Legal.{opening};
 
-use crate::ahead::Ahead;
 use crate::round::Round;
+use crate::schedule::Schedule;
 use pl_board::Board;
 use pl_entry::{Entry, Event, Reply};
 use pl_facts::Options;
@@ -37,10 +37,9 @@ pub struct Machine {
     model: SharedModel,
     board: Board,
     options: Options,
-    // The ids of what is due, in start order, of which so many were sent.
-    due: Vec<u32>,
+    schedule: Schedule,
+    // How many of those that are due were sent.
     sent: usize,
-    ahead: Ahead,
     round: Round,
     done: bool,
     log: Vec<Entry>,
@@ -56,9 +55,9 @@ impl std::marker::Model for Machine {
 
     ghost coded = { Prim.hlevel (codes, e.the_row.coded) };
 
-    ghost view = { λ m. record { spoiled = m.board.spoiled; model = m.model; log = m.log.items; world = record { state = m.board.state; options = m.options; dispatched = take m.sent m.due.items; turn = m.round.turn; rested = m.round.rested; held = m.round.held; closed = m.round.closed; done = m.done } } };
+    ghost view = { λ m. record { spoiled = m.board.spoiled; model = m.model; log = m.log.items; world = record { state = m.board.state; options = m.options; dispatched = take m.sent m.schedule.due.items; turn = m.round.turn; rested = m.round.rested; held = m.round.held; closed = m.round.closed; done = m.done } } };
 
-    ghost invariant = { λ m. IsSound m.board.spoiled m.model m.log.items (record { state = m.board.state; options = m.options; dispatched = take m.sent m.due.items; turn = m.round.turn; rested = m.round.rested; held = m.round.held; closed = m.round.closed; done = m.done }) m.due.items m.sent m.ahead };
+    ghost invariant = { λ m. IsSound m.board.spoiled m.model m.log.items (record { state = m.board.state; options = m.options; dispatched = take m.sent m.schedule.due.items; turn = m.round.turn; rested = m.round.rested; held = m.round.held; closed = m.round.closed; done = m.done }) m.schedule.due.items m.sent m.schedule.ahead };
 }
 
 impl Machine {
@@ -81,12 +80,8 @@ impl Machine {
             model: shared,
             board,
             options,
-            due: Vec::new(alloc),
+            schedule: Schedule::new(alloc),
             sent: 0,
-            ahead: Ahead {
-                next_start: 0,
-                settled: 0,
-            },
             round: Round::closed(),
             done: false,
             log,

@@ -1,5 +1,5 @@
 -- A run that is cut short, by a write that failed or for want of memory.
-use Rattle.std.proofs.Common.{arith, ◌≡◌, ℕ, ◌+◌, List, [], ◌∷◌, ◌++◌, length, true, false, Option, Some, None, ◌⊎◌, inl, inr, refl, sym, ◌∙◌, ap, subst, append_assoc}
+use Rattle.std.proofs.Common.{Ok, Err, arith, ◌≡◌, ℕ, ◌+◌, List, [], ◌∷◌, ◌++◌, length, true, false, Option, Some, None, ◌⊎◌, inl, inr, refl, sym, ◌∙◌, ap, subst, append_assoc}
 use Rattle.std.proofs.lemmas.List.{append-nil}
 use Rattle.std.specs.declared.vec.Vec.{Vec}
 use Rattle.std.specs.declared.alloc.Global.{Global}
@@ -17,21 +17,26 @@ use Rattle.pl_driver.specs.Rounds.{SameRun}
 use Rattle.pl_journal.specs.Rendering.Lines.{line_of, text_from, text_of_log}
 use Rattle.pl_check.specs.Accepting.{IsModelText}
 use Rattle.pl_input.specs.declared.halt.Halt.TheVariants as halt
-use Rattle.pl_input.specs.Reads.{Gave}
+use Rattle.pl_input.specs.Reads.{GivesLines}
 use Rattle.pl_input.specs.Heads.{IsHead, IsBegun}
 use Rattle.pl_driver.specs.CutShort.{IsCutShort, opens, answers}
 use Rattle.pl_journal.specs.Written.{Adds}
-use Rattle.pl_main.specs.Tells.{Told, ToldInPart}
+use Rattle.pl_main.specs.Tells.{AnswersMessage, AnswersMessageInPart}
 use Rattle.pl_input.specs.Places.{Place}
 use Rattle.pl_input.specs.Waits.{line_in}
-use Rattle.pl_main.specs.Plays.{Plays, unread, unheard, unwritten, StepLacks, PlaysInPart}
-use Rattle.pl_main.specs.Runs.{fresh_state, unopened, in_opening, in_play, IsKeptModel, unjudged, in_fault, in_run, TextBreaks}
-use Rattle.pl_main.specs.Top.{program_options, line_limit, total_limit, fresh_reader, faulty, HasRead, WasGiven, HasBegun, IsShort, in_journal, in_refusal, IsOutOfMemory, nothing, in_entry, behind_entry}
+use Rattle.pl_main.specs.Plays.{AnswersMessages, unread, unheard, unwritten, LacksMemoryForNext, AnswersAllInPart}
+use Rattle.pl_main.specs.Runs.{fresh_state, unopened, in_opening, in_play, IsKeptModel, ModelBreaks, ModelRuns}
+use Rattle.pl_main.specs.Top.{program_options, line_limit, total_limit, fresh_reader, HasRead, WasGiven}
 use Rattle.pl_input.proofs.Reading.{gave_append, gave_lines, known}
 use Rattle.pl_input.proofs.Beginning.{head_then}
 use Rattle.pl_journal.proofs.AboutWriting.{adds_then, appends_then, some_held}
 use Rattle.pl_main.proofs.Playing.{messages_append, inputs_append, added_text, joined, joined_front}
-use Rattle.pl_main.proofs.Ending.{split_is, logged, BeginsAt, got_next, has_read, all_messages, head_read, begins_at, behind_text}
+use Rattle.pl_main.proofs.Ending.{logged, done_ends, full_ends, past_limit, read_fault, stopped_ends}
+use Rattle.pl_main.proofs.LastLines.{BeginsAt, all_messages, behind_text, got_next, has_read, head_read}
+use Rattle.pl_main.proofs.Running.{EndsOver}
+use Rattle.pl_main.specs.Endings.{HasBegun, IsOutOfMemory, IsShort, behind_entry, in_entry, in_journal, nothing}
+use Rattle.pl_main.proofs.Heading.{begins_at, split_is}
+use Rattle.pl_main.specs.RunKinds.{solo_run}
 
 abbrev Message : Type 0
 Message = Option (List ℕ)
@@ -42,17 +47,15 @@ opened_solo : (turns : ℕ) (m : Model) → Solo m (opening (program_options tur
 unfolding Solo
 opened_solo turns m = tt
 
-abbrev opened_run : (turns : ℕ) (input words rest : List ℕ) (heads : List (List ℕ)) (room : ℕ) (m : Model) → IsHead heads words → Gave line_limit total_limit input heads room rest → IsModelText words m
-    → Legal m (opening (program_options turns) ∷ []) → HasBegun turns input
+abbrev opened_run : (turns : ℕ) (input words rest : List ℕ) (heads : List (List ℕ)) (room : ℕ) (m : Model) → IsHead heads words → GivesLines line_limit total_limit input heads room rest → IsModelText words m
+    → Legal m (opening (program_options turns) ∷ []) → HasBegun (solo_run turns) input
 opened_run turns input words rest heads room m head gave accepted legal = record {
   model = m;
   log = opening (program_options turns) ∷ [];
   words = words;
   text = (split_is input heads words (lines_of rest) head (gave_lines line_limit total_limit input heads room rest gave)).text;
   accepted = accepted;
-  legal = legal;
-  solo = opened_solo turns m;
-  options = refl;
+  says = record { legal = legal; solo = opened_solo turns m; options = refl };
   unanswered = (split_of input).messages;
   messages = refl;
 }
@@ -60,15 +63,15 @@ opened_run turns input words rest heads room m head gave accepted legal = record
 -- ---- a log that waits for a message
 
 record HasWaited (turns : ℕ) (input : List ℕ) (held now : Option (List ℕ)) : Type 0 where
-  run : HasBegun turns input
+  run : HasBegun (solo_run turns) input
   given : WasGiven run.words (inputs_of run.log) input
   closed : (world_of run.model run.log).closed ≡ true
   going : (world_of run.model run.log).done ≡ false
   written : Adds held now (text_of_log run.model run.log)
 
 waited : (turns : ℕ) (input words heads_rest : List ℕ) (heads : List (List ℕ)) (m : Model) (start middle : Place) (held opened written : Option (List ℕ)) (mid : State)
-    → IsHead heads words → Gave line_limit total_limit input heads start.reader.room heads_rest → start.ahead ≡ Some heads_rest → BeginsAt start → IsModelText words m
-    → Adds held opened (text_from m 0 (opening (program_options turns) ∷ [])) → Plays (fresh_state turns m) start opened mid middle written → Legal mid.model mid.log → HasWaited turns input held written
+    → IsHead heads words → GivesLines line_limit total_limit input heads start.reader.room heads_rest → start.ahead ≡ Some heads_rest → BeginsAt start → IsModelText words m
+    → Adds held opened (text_from m 0 (opening (program_options turns) ∷ [])) → AnswersMessages (fresh_state turns m) start opened mid middle written → Legal mid.model mid.log → HasWaited turns input held written
 waited turns input words heads_rest heads m start middle held opened written mid head gave is_ahead begins accepted first plays legal =
     let k = known start.reader.limit start.reader.room line_limit start.reader.room start.ahead heads_rest plays.lines middle.reader.room middle.ahead begins.limit refl is_ahead plays.took.gave in
     let split = split_is input heads words (lines_of heads_rest) head (gave_lines line_limit total_limit input heads start.reader.room heads_rest gave) in
@@ -81,9 +84,7 @@ waited turns input words heads_rest heads m start middle held opened written mid
         words = words;
         text = split.text;
         accepted = accepted;
-        legal = l.legal;
-        solo = l.solo;
-        options = refl;
+        says = record { legal = l.legal; solo = l.solo; options = refl };
         unanswered = messages_of (lines_of k.rest);
         messages = split.messages ∙ ap messages_of (gave_lines line_limit start.reader.room heads_rest plays.lines middle.reader.room k.rest k.gave) ∙ messages_append plays.lines (lines_of k.rest) (inputs_of plays.entries) plays.messages;
       };
@@ -112,7 +113,7 @@ record Added (mid new : State) (input : Message) : Type 0 where
   same : SameRun mid new
   inputs : inputs_of entries ≡ input ∷ []
 
-added : (mid new : State) (input : Message) → Told mid input new ⊎ ToldInPart mid input new → Added mid new input
+added : (mid new : State) (input : Message) → AnswersMessage mid input new ⊎ AnswersMessageInPart mid input new → Added mid new input
 added mid new input (inl told) = record { entries = told.entries; log = told.log; solo = told.solo; world = told.world; same = told.same; inputs = told.inputs }
 added mid new input (inr told) = record { entries = told.entries; log = told.log; solo = told.solo; world = told.world; same = told.same; inputs = told.inputs }
 
@@ -135,12 +136,12 @@ cut_opening turns m held now front = record {
 
 -- the last line that was asked for is the last message of the log
 record HasBroken (turns : ℕ) (input : List ℕ) (source_left held now : Option (List ℕ)) : Type 0 where
-  run : HasBegun turns input
+  run : HasBegun (solo_run turns) input
   read : HasRead run.words (inputs_of run.log) input source_left
   cut : IsCutShort run.model run.log held now
 
 -- All entries before a message were written, and a front of the lines of those that the message brought.
-cut_in_round : (turns : ℕ) (m : Model) (start place : Place) (held opened now : Option (List ℕ)) (new : State) (plays : PlaysInPart (fresh_state turns m) start opened new place now) (last : Added plays.waiting new (line_in plays.step.message))
+cut_in_round : (turns : ℕ) (m : Model) (start place : Place) (held opened now : Option (List ℕ)) (new : State) (plays : AnswersAllInPart (fresh_state turns m) start opened new place now) (last : Added plays.waiting new (line_in plays.step.message))
     → Adds held opened (text_from m 0 (opening (program_options turns) ∷ [])) → IsCutShort m (opening (program_options turns) ∷ (plays.plays.entries ++ last.entries)) held now
 unfolding world_of
 cut_in_round turns m start place held opened now new plays last first =
@@ -161,8 +162,8 @@ cut_in_round turns m start place held opened now new plays last first =
     }
 
 broken : (turns : ℕ) (input words heads_rest : List ℕ) (heads : List (List ℕ)) (m : Model) (start place : Place) (source_left held opened now : Option (List ℕ)) (new : State)
-    → IsHead heads words → Gave line_limit total_limit input heads start.reader.room heads_rest → start.ahead ≡ Some heads_rest → BeginsAt start → IsModelText words m
-    → Adds held opened (text_from m 0 (opening (program_options turns) ∷ [])) → PlaysInPart (fresh_state turns m) start opened new place now → Legal new.model new.log → ahead place.reader.held source_left ≡ place.ahead → HasBroken turns input source_left held now
+    → IsHead heads words → GivesLines line_limit total_limit input heads start.reader.room heads_rest → start.ahead ≡ Some heads_rest → BeginsAt start → IsModelText words m
+    → Adds held opened (text_from m 0 (opening (program_options turns) ∷ [])) → AnswersAllInPart (fresh_state turns m) start opened new place now → Legal new.model new.log → ahead place.reader.held source_left ≡ place.ahead → HasBroken turns input source_left held now
 broken turns input words heads_rest heads m start place source_left held opened now new head gave is_ahead begins accepted first plays legal behind =
     let so_far = plays.plays in
     let next = line_in plays.step.message in
@@ -184,9 +185,7 @@ broken turns input words heads_rest heads m start place source_left held opened 
         words = words;
         text = (split_is input heads words (lines_of heads_rest) head (gave_lines line_limit total_limit input heads start.reader.room heads_rest gave)).text;
         accepted = accepted;
-        legal = l.legal;
-        solo = l.solo;
-        options = refl;
+        says = record { legal = l.legal; solo = l.solo; options = refl };
         unanswered = got.all.more;
         messages = all ∙ sym (append_assoc (inputs_of so_far.entries) (next ∷ []) got.all.more) ∙ ap (λ (ns : List Message). ns ++ got.all.more) inputs;
       };
@@ -197,7 +196,7 @@ broken turns input words heads_rest heads m start place source_left held opened 
 -- ---- behind the model's text
 
 abbrev run_opened : (turns : ℕ) (kept : Option (Vec ℕ Global)) (start : Place) (input : List ℕ) (m : Model) → IsBegun (fresh_reader line_limit) (Some input) kept start.reader start.ahead → IsKeptModel kept m
-    → Legal m (opening (program_options turns) ∷ []) → HasBegun turns input
+    → Legal m (opening (program_options turns) ∷ []) → HasBegun (solo_run turns) input
 run_opened turns kept start input m begun text legal =
     let k = known line_limit total_limit line_limit total_limit (Some input) input begun.lines start.reader.room start.ahead refl refl refl begun.took.gave in
     opened_run turns input begun.words k.rest begun.lines start.reader.room m begun.head k.gave (text begun.words begun.keeps) legal
@@ -209,39 +208,35 @@ opened_read kept start place input source_left begun same behind =
     head_read input begun.words source_left (begins_at line_limit kept start.reader input start.ahead source_left begun (subst (λ (p : Place). ahead p.reader.held source_left ≡ p.ahead) same behind))
 
 run_waited : (turns : ℕ) (kept : Option (Vec ℕ Global)) (start middle : Place) (input : List ℕ) (held opened written : Option (List ℕ)) (m : Model) (mid : State) → IsBegun (fresh_reader line_limit) (Some input) kept start.reader start.ahead → IsKeptModel kept m
-    → Adds held opened (text_from m 0 (opening (program_options turns) ∷ [])) → Plays (fresh_state turns m) start opened mid middle written → Legal mid.model mid.log → HasWaited turns input held written
+    → Adds held opened (text_from m 0 (opening (program_options turns) ∷ [])) → AnswersMessages (fresh_state turns m) start opened mid middle written → Legal mid.model mid.log → HasWaited turns input held written
 run_waited turns kept start middle input held opened written m mid begun text first plays legal =
     let k = known line_limit total_limit line_limit total_limit (Some input) input begun.lines start.reader.room start.ahead refl refl refl begun.took.gave in
     waited turns input begun.words k.rest begun.lines m start middle held opened written mid begun.head k.gave k.is (behind_text kept start (Some input) begun) (text begun.words begun.keeps) first plays legal
 
 run_broken : (turns : ℕ) (kept : Option (Vec ℕ Global)) (start place : Place) (input : List ℕ) (source_left held opened now : Option (List ℕ)) (m : Model) (new : State) → IsBegun (fresh_reader line_limit) (Some input) kept start.reader start.ahead → IsKeptModel kept m
-    → Adds held opened (text_from m 0 (opening (program_options turns) ∷ [])) → PlaysInPart (fresh_state turns m) start opened new place now → Legal new.model new.log → ahead place.reader.held source_left ≡ place.ahead → HasBroken turns input source_left held now
+    → Adds held opened (text_from m 0 (opening (program_options turns) ∷ [])) → AnswersAllInPart (fresh_state turns m) start opened new place now → Legal new.model new.log → ahead place.reader.held source_left ≡ place.ahead → HasBroken turns input source_left held now
 run_broken turns kept start place input source_left held opened now m new begun text first plays legal behind =
     let k = known line_limit total_limit line_limit total_limit (Some input) input begun.lines start.reader.room start.ahead refl refl refl begun.took.gave in
     broken turns input begun.words k.rest begun.lines m start place source_left held opened now new begun.head k.gave k.is (behind_text kept start (Some input) begun) (text begun.words begun.keeps) first plays legal behind
 
 -- a write failed
-pub short_whole : (turns : ℕ) (kept : Option (Vec ℕ Global)) (start place : Place) (input : List ℕ) (source_left held now : Option (List ℕ)) → IsBegun (fresh_reader line_limit) (Some input) kept start.reader start.ahead
-    → TextBreaks halt.Write turns kept start held place now → ahead place.reader.held source_left ≡ place.ahead → IsShort turns input source_left held now
-short_whole turns kept start place input source_left held now begun (unjudged is same) behind = absurd (let h : halt.Write ≡ halt.Memory = is in (cc))
-short_whole turns kept start place input source_left held now begun (in_fault is fails front same) behind =
-    let begins = begins_at line_limit kept start.reader input start.ahead source_left begun (subst (λ (p : Place). ahead p.reader.held source_left ≡ p.ahead) same behind) in
-    in_refusal fails.line (faulty begun.words fails.line begins (fails.refused begun.words begun.keeps) refl) front
-short_whole turns kept start place input source_left held now begun (in_run m text (unopened is same)) behind = absurd (let h : halt.Write ≡ halt.Memory = is in (cc))
-short_whole turns kept start place input source_left held now begun (in_run m text (in_opening legal front same)) behind =
+solo_short : (turns : ℕ) (kept : Option (Vec ℕ Global)) (start place : Place) (input : List ℕ) (source_left held now : Option (List ℕ)) (m : Model) → IsBegun (fresh_reader line_limit) (Some input) kept start.reader start.ahead → IsKeptModel kept m
+    → ModelBreaks halt.Write turns m start held place now → ahead place.reader.held source_left ≡ place.ahead → IsShort (solo_run turns) input source_left held now
+solo_short turns kept start place input source_left held now m begun text (unopened is same) behind = absurd (let h : halt.Write ≡ halt.Memory = is in (cc))
+solo_short turns kept start place input source_left held now m begun text (in_opening legal front same) behind =
     in_journal (run_opened turns kept start input m begun text legal) (opened_read kept start place input source_left begun same behind) (cut_opening turns m held now front)
-short_whole turns kept start place input source_left held now begun (in_run m text (in_play run)) behind =
+solo_short turns kept start place input source_left held now m begun text (in_play run) behind =
     let b = run_broken turns kept start place input source_left held run.opened now m run.new begun text run.first run.playing run.legal behind in
     in_journal b.run b.read b.cut
 
 -- all that was written is the journal of a log that waits for a message
-waits_whole : (turns : ℕ) (input : List ℕ) (source_left held written now : Option (List ℕ)) → HasWaited turns input held written → now ≡ written → IsOutOfMemory turns input source_left held now
+waits_whole : (turns : ℕ) (input : List ℕ) (source_left held written now : Option (List ℕ)) → HasWaited turns input held written → now ≡ written → IsOutOfMemory (solo_run turns) input source_left held now
 waits_whole turns input source_left held written now waits same =
-    behind_entry waits.run waits.given waits.closed waits.going (subst (λ (o : Option (List ℕ)). Adds held o (text_of_log waits.run.model waits.run.log)) (sym same) waits.written)
+    behind_entry waits.run (record { given = waits.given; closed = waits.closed }) waits.going (subst (λ (o : Option (List ℕ)). Adds held o (text_of_log waits.run.model waits.run.log)) (sym same) waits.written)
 
 play_lacks : (turns : ℕ) (kept : Option (Vec ℕ Global)) (start place middle : Place) (input : List ℕ) (source_left held opened written now : Option (List ℕ)) (m : Model) (mid new : State) → IsBegun (fresh_reader line_limit) (Some input) kept start.reader start.ahead → IsKeptModel kept m
-    → Adds held opened (text_from m 0 (opening (program_options turns) ∷ [])) → Plays (fresh_state turns m) start opened mid middle written → StepLacks mid middle written new place now → Legal new.model new.log → ahead place.reader.held source_left ≡ place.ahead
-    → IsOutOfMemory turns input source_left held now
+    → Adds held opened (text_from m 0 (opening (program_options turns) ∷ [])) → AnswersMessages (fresh_state turns m) start opened mid middle written → LacksMemoryForNext mid middle written new place now → Legal new.model new.log → ahead place.reader.held source_left ≡ place.ahead
+    → IsOutOfMemory (solo_run turns) input source_left held now
 play_lacks turns kept start place middle input source_left held opened written now m mid new begun text first plays (unread same_state same) legal behind =
     waits_whole turns input source_left held written now (run_waited turns kept start middle input held opened written m mid begun text first plays (subst (λ (s : State). Legal s.model s.log) same_state legal)) same
 play_lacks turns kept start place middle input source_left held opened written now m mid new begun text first plays (unheard before same) legal behind =
@@ -250,14 +245,30 @@ play_lacks turns kept start place middle input source_left held opened written n
     let b = run_broken turns kept start place input source_left held opened now m new begun text first (record { waiting = mid; middle = middle; written = written; plays = plays; step = step }) legal behind in
     in_entry b.run b.read b.cut
 
--- memory was wanting
-pub memory_whole : (turns : ℕ) (kept : Option (Vec ℕ Global)) (start place : Place) (input : List ℕ) (source_left held now : Option (List ℕ)) → IsBegun (fresh_reader line_limit) (Some input) kept start.reader start.ahead
-    → TextBreaks halt.Memory turns kept start held place now → ahead place.reader.held source_left ≡ place.ahead → IsOutOfMemory turns input source_left held now
-memory_whole turns kept start place input source_left held now begun (unjudged is same) behind = nothing same
-memory_whole turns kept start place input source_left held now begun (in_fault is fails front same) behind = absurd (let h : halt.Memory ≡ halt.Write = is in (cc))
-memory_whole turns kept start place input source_left held now begun (in_run m text (unopened is same)) behind = nothing same
-memory_whole turns kept start place input source_left held now begun (in_run m text (in_opening legal front same)) behind =
+-- memory ran out
+solo_memory : (turns : ℕ) (kept : Option (Vec ℕ Global)) (start place : Place) (input : List ℕ) (source_left held now : Option (List ℕ)) (m : Model) → IsBegun (fresh_reader line_limit) (Some input) kept start.reader start.ahead → IsKeptModel kept m
+    → ModelBreaks halt.Memory turns m start held place now → ahead place.reader.held source_left ≡ place.ahead → IsOutOfMemory (solo_run turns) input source_left held now
+solo_memory turns kept start place input source_left held now m begun text (unopened is same) behind = nothing same
+solo_memory turns kept start place input source_left held now m begun text (in_opening legal front same) behind =
     in_entry (run_opened turns kept start input m begun text legal) (opened_read kept start place input source_left begun same behind) (cut_opening turns m held now front)
-memory_whole turns kept start place input source_left held now begun (in_run m text (in_play run)) behind =
+solo_memory turns kept start place input source_left held now m begun text (in_play run) behind =
     let lacks = run.playing in
     play_lacks turns kept start place lacks.middle input source_left held run.opened lacks.written now m lacks.waiting run.new begun text run.first lacks.plays lacks.step run.legal behind
+
+-- ---- how a run of one thread ends
+
+pub ends_solo : (turns : ℕ) → EndsOver (solo_run turns) (ModelRuns turns)
+ends_solo turns kept start place input source_left held now m (Ok u) begun text run behind =
+    let k = known line_limit total_limit line_limit total_limit (Some input) input begun.lines start.reader.room start.ahead refl refl refl begun.took.gave in
+    done_ends turns input begun.words k.rest begun.lines m start place source_left held run.opened now run.new begun.head k.gave k.is (behind_text kept start (Some input) begun) (text begun.words begun.keeps) run.first run.playing run.legal behind
+ends_solo turns kept start place input source_left held now m (Err halt.Limit) begun text run behind =
+    let k = known line_limit total_limit line_limit total_limit (Some input) input begun.lines start.reader.room start.ahead refl refl refl begun.took.gave in
+    past_limit turns input source_left held now (stopped_ends halt.Limit turns input begun.words k.rest begun.lines m start place source_left held run.opened now run.new begun.head k.gave k.is (behind_text kept start (Some input) begun) (text begun.words begun.keeps) run.first run.playing run.legal behind)
+ends_solo turns kept start place input source_left held now m (Err halt.Read) begun text run behind =
+    let k = known line_limit total_limit line_limit total_limit (Some input) input begun.lines start.reader.room start.ahead refl refl refl begun.took.gave in
+    read_fault turns input source_left held now (stopped_ends halt.Read turns input begun.words k.rest begun.lines m start place source_left held run.opened now run.new begun.head k.gave k.is (behind_text kept start (Some input) begun) (text begun.words begun.keeps) run.first run.playing run.legal behind)
+ends_solo turns kept start place input source_left held now m (Err halt.Full) begun text run behind =
+    let k = known line_limit total_limit line_limit total_limit (Some input) input begun.lines start.reader.room start.ahead refl refl refl begun.took.gave in
+    full_ends turns input begun.words k.rest begun.lines m start place source_left held run.opened now run.new begun.head k.gave k.is (behind_text kept start (Some input) begun) (text begun.words begun.keeps) run.first run.playing run.legal behind
+ends_solo turns kept start place input source_left held now m (Err halt.Write) begun text run behind = solo_short turns kept start place input source_left held now m begun text run behind
+ends_solo turns kept start place input source_left held now m (Err halt.Memory) begun text run behind = solo_memory turns kept start place input source_left held now m begun text run behind

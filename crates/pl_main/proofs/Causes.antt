@@ -14,19 +14,21 @@ use Rattle.pl_machine.specs.Finished.{inputs_of}
 use Rattle.pl_check.specs.Accepting.{IsModelText, IsRefusedAs}
 use Rattle.pl_check.proofs.Apart.{apart, one_model}
 use Rattle.pl_main.specs.declared.command.Task.TheVariants as task
-use Rattle.pl_input.specs.Reads.{Gave}
+use Rattle.pl_input.specs.Reads.{GivesLines}
 use Rattle.pl_input.specs.Stops.{IsStuck}
-use Rattle.pl_main.specs.Top.{line_limit, total_limit, program_options, IsDone, IsNoModel, no_begin, faulty, WaitsBehind, IsPastLimit, IsFull, IsFound, IsPastHead}
+use Rattle.pl_main.specs.Top.{line_limit, total_limit, program_options, IsNoModel, no_begin, faulty, IsFound, IsPastHead}
 use Rattle.pl_report.specs.Demonstration.{demo_text}
 use Rattle.pl_main.specs.Demos.{demo_turns, IsShown, IsShownInPart}
-use Rattle.pl_main.specs.Limits.{IsWithinLimits, CanRun, CanCheck, IsDoneBy}
-use Rattle.pl_main.specs.Statuses.{SaysRan, SaysChecked, SaysShown}
+use Rattle.pl_main.specs.Limits.{IsWithinLimits, CanCheck, IsDoneBy, CompletesRun}
+use Rattle.pl_main.specs.Statuses.{SaysChecked, SaysShown, SaysEndedKnown}
 use Rattle.pl_input.proofs.Reading.{gave_lines}
 use Rattle.pl_main.proofs.Jobs.{IsJobStatus, is_done, is_refused, is_read, is_write, is_limit, is_full, is_wrong, is_memory}
 use Rattle.pl_main.proofs.Playing.{messages_append, not_single}
 use Rattle.pl_input.proofs.Comparing.{end_is_no_limit, goes_on, all_or_stuck}
 use Rattle.pl_main.proofs.OneInput.{text_goes_on, behind_goes_on, split_text, split_messages, Ends, messages_end, messages_last, Front, front_of, longer}
 use Rattle.pl_main.proofs.OneLog.{opened_with, full_and_closed}
+use Rattle.pl_main.specs.Endings.{IsDone, IsFull, IsPastLimit, RunKind, WaitsBehind}
+use Rattle.pl_main.specs.RunKinds.{solo_run}
 
 abbrev Lines : Type 0
 Lines = List (List ℕ)
@@ -43,7 +45,7 @@ no_model_of limit input words m left held now text accepted (faulty others line 
 
 -- ---- the model's text and a limit
 
-pub text_then_limit : (limit : ℕ) (input : List ℕ) (xs ys : Lines) (left1 : ℕ) (rest1 : List ℕ) (left2 : ℕ) (rest2 words : List ℕ) → IsStuck limit left1 rest1 → Gave limit total_limit input xs left1 rest1 → Gave limit total_limit input ys left2 rest2
+pub text_then_limit : (limit : ℕ) (input : List ℕ) (xs ys : Lines) (left1 : ℕ) (rest1 : List ℕ) (left2 : ℕ) (rest2 words : List ℕ) → IsStuck limit left1 rest1 → GivesLines limit total_limit input xs left1 rest1 → GivesLines limit total_limit input ys left2 rest2
     → model_text_of ys ≡ Some words → model_text_of xs ≡ Some words
 text_then_limit limit input xs ys left1 rest1 left2 rest2 words stuck g h text =
     let on = goes_on limit total_limit input xs ys left1 rest1 left2 rest2 stuck g h in
@@ -53,7 +55,7 @@ pub no_text : (xs : Lines) (words : List ℕ) → model_text_of xs ≡ Some word
 no_text xs words some none = (let h : Some words ≡ None = sym some ∙ none in (cc))
 
 -- the reading that a limit stops, while no `begin` was read
-pub head_not_past : (limit : ℕ) (input : List ℕ) (xs : Lines) (room : ℕ) (rest : List ℕ) (left held now : Option (List ℕ)) → IsStuck limit room rest → Gave limit total_limit input xs room rest → model_text_of xs ≡ None → IsNoModel limit input left held now → ⊥
+pub head_not_past : (limit : ℕ) (input : List ℕ) (xs : Lines) (room : ℕ) (rest : List ℕ) (left held now : Option (List ℕ)) → IsStuck limit room rest → GivesLines limit total_limit input xs room rest → model_text_of xs ≡ None → IsNoModel limit input left held now → ⊥
 head_not_past limit input xs room rest left held now stuck gave none (no_begin lines room2 gave2 none2 source adds) =
     all_or_stuck limit xs lines room rest room2 [] (goes_on limit total_limit input xs lines room rest room2 [] stuck gave gave2) refl stuck
 head_not_past limit input xs room rest left held now stuck gave none (faulty words line head refused adds) =
@@ -71,14 +73,14 @@ found_not_refused input left held now other_left other_held other_now found none
 
 -- ---- a run that is refused
 
-pub done_not_refused : (turns : ℕ) (input : List ℕ) (left held now other_left other_held other_now : Option (List ℕ)) → IsDone turns input left held now → IsNoModel line_limit input other_left other_held other_now → ⊥
-done_not_refused turns input left held now other_left other_held other_now done refused = no_model_of line_limit input done.words done.model other_left other_held other_now done.text done.accepted refused
+pub done_not_refused : (kind : RunKind) (input : List ℕ) (left held now other_left other_held other_now : Option (List ℕ)) → IsDone kind input left held now → IsNoModel line_limit input other_left other_held other_now → ⊥
+done_not_refused kind input left held now other_left other_held other_now done refused = no_model_of line_limit input done.words done.model other_left other_held other_now done.text done.accepted refused
 
-pub refused_not_full : (turns : ℕ) (input : List ℕ) (left held now other_left other_held other_now : Option (List ℕ)) → IsNoModel line_limit input left held now → IsFull turns input other_left other_held other_now → ⊥
-refused_not_full turns input left held now other_left other_held other_now refused full = no_model_of line_limit input full.words full.model left held now full.text full.accepted refused
+pub refused_not_full : (kind : RunKind) (input : List ℕ) (left held now other_left other_held other_now : Option (List ℕ)) → IsNoModel line_limit input left held now → IsFull kind input other_left other_held other_now → ⊥
+refused_not_full kind input left held now other_left other_held other_now refused full = no_model_of line_limit input full.words full.model left held now full.text full.accepted refused
 
-pub refused_not_past : (turns : ℕ) (input : List ℕ) (left held now other_left other_held other_now : Option (List ℕ)) → IsNoModel line_limit input left held now → IsPastLimit turns input other_left other_held other_now → ⊥
-refused_not_past turns input left held now other_left other_held other_now refused past =
+pub refused_not_past : (kind : RunKind) (input : List ℕ) (left held now other_left other_held other_now : Option (List ℕ)) → IsNoModel line_limit input left held now → IsPastLimit kind input other_left other_held other_now → ⊥
+refused_not_past kind input left held now other_left other_held other_now refused past =
     elim past.asked [
       | inl none ↦ head_not_past line_limit input past.lines past.left past.rest left held now past.why past.gave none.0 refused
       | inr waits ↦ no_model_of line_limit input waits.words waits.model left held now (split_text line_limit input past.lines past.left past.rest waits.words past.gave waits.text) waits.accepted refused
@@ -133,8 +135,8 @@ done_before input ys zs messages more inputs rest whole behind all no_end = by_e
           | inr q ↦ longer messages q.0 (lines_of rest) (whole ∙ messages_append ys (lines_of rest) p.0 p.1 ∙ ap (λ (ns : List Message). ns ++ messages_of (lines_of rest)) q.1)
         ]
 
-pub done_not_past : (turns : ℕ) (input : List ℕ) (left held now other_left other_held other_now : Option (List ℕ)) → IsDone turns input left held now → IsPastLimit turns input other_left other_held other_now → ⊥
-done_not_past turns input left held now other_left other_held other_now done past =
+pub done_not_past : (kind : RunKind) (input : List ℕ) (left held now other_left other_held other_now : Option (List ℕ)) → IsDone kind input left held now → IsPastLimit kind input other_left other_held other_now → ⊥
+done_not_past kind input left held now other_left other_held other_now done past =
     elim past.asked [
       | inl none ↦ no_text past.lines done.words (text_then_limit line_limit input past.lines done.read.lines past.left past.rest done.read.left done.read.rest done.words past.why past.gave done.read.gave done.read.text) none.0
       | inr waits ↦ (
@@ -153,11 +155,11 @@ model_same : (words others : List ℕ) (m n : Model) (t : Option (List ℕ)) →
 model_same words others m n t is also accepted accepted2 =
     one_model words n m (subst (λ (w : List ℕ). IsModelText w n) (same_Some others words (sym also ∙ is)) accepted2) accepted
 
-pub done_not_full : (turns : ℕ) (input : List ℕ) (left held now other_left other_held other_now : Option (List ℕ)) → IsDone turns input left held now → IsFull turns input other_left other_held other_now → ⊥
+pub done_not_full : (turns : ℕ) (input : List ℕ) (left held now other_left other_held other_now : Option (List ℕ)) → IsDone (solo_run turns) input left held now → IsFull (solo_run turns) input other_left other_held other_now → ⊥
 done_not_full turns input left held now other_left other_held other_now done full =
     let same : full.model ≡ done.model = model_same done.words full.words done.model full.model (split_of input).text done.text full.text done.accepted full.accepted in
-    let first = opened_with done.model (program_options turns) full.log (subst (λ (m : Model). Legal m full.log) same full.legal) (subst (λ (m : Model). Solo m full.log) same full.solo) full.options in
-    let second = opened_with done.model (program_options turns) done.log done.finished.legal done.solo done.options in
+    let first = opened_with done.model (program_options turns) full.log (subst (λ (m : Model). Legal m full.log) same full.says.legal) (subst (λ (m : Model). Solo m full.log) same full.says.solo) full.says.options in
+    let second = opened_with done.model (program_options turns) done.log done.finished.legal done.says.solo done.says.options in
     let both = full_and_closed done.model (program_options turns) full.log done.log full.unanswered first second (done.finished.inputs ∙ full.messages) full.full done.closed in
     let going : (world_of done.model full.log).done ≡ false = ap (λ (m : Model). (world_of m full.log).done) (sym same) ∙ full.going in
     (let h : true ≡ false = sym done.finished.done ∙ ap (λ (w : World). w.done) (sym both.0) ∙ going in (cc))
@@ -166,14 +168,14 @@ no_pending : (pending more : List Message) → pending ++ more ≡ [] → pendin
 no_pending [] more e = refl
 no_pending (p ∷ pending) more e = (let h : p ∷ (pending ++ more) ≡ [] = e in (cc))
 
-pub past_not_full : (turns : ℕ) (input : List ℕ) (left held now other_left other_held other_now : Option (List ℕ)) → IsPastLimit turns input left held now → IsFull turns input other_left other_held other_now → ⊥
+pub past_not_full : (turns : ℕ) (input : List ℕ) (left held now other_left other_held other_now : Option (List ℕ)) → IsPastLimit (solo_run turns) input left held now → IsFull (solo_run turns) input other_left other_held other_now → ⊥
 past_not_full turns input left held now other_left other_held other_now past full =
     elim past.asked [
       | inl none ↦ no_text past.lines full.words (text_then_limit line_limit input past.lines full.read.lines past.left past.rest full.read.left full.read.rest full.words past.why past.gave full.read.gave full.read.text) none.0
       | inr waits ↦ waiting_not_full waits
     ]
   where
-    waiting_not_full : WaitsBehind turns past.lines held now → ⊥
+    waiting_not_full : WaitsBehind (solo_run turns) past.lines held now → ⊥
     waiting_not_full waits =
         let on = goes_on line_limit total_limit input past.lines full.read.lines past.left past.rest full.read.left full.read.rest past.why past.gave full.read.gave in
         let all : messages_of (lines_behind full.read.lines ++ on.more) ≡ inputs_of waits.log ++ None ∷ [] =
@@ -181,13 +183,13 @@ past_not_full turns input left held now other_left other_held other_now past ful
         let before = are_before (lines_behind full.read.lines) on.more (inputs_of full.log ++ full.pending) full.read.more (inputs_of waits.log) full.read.behind all
         (λ front e. all_or_stuck line_limit past.lines full.read.lines past.left past.rest full.read.left full.read.rest on (full.read.used_up front e) past.why) in
         let same : full.model ≡ waits.model = model_same waits.words full.words waits.model full.model (split_of input).text (split_text line_limit input past.lines past.left past.rest waits.words past.gave waits.text) full.text waits.accepted full.accepted in
-        let first = opened_with waits.model (program_options turns) full.log (subst (λ (m : Model). Legal m full.log) same full.legal) (subst (λ (m : Model). Solo m full.log) same full.solo) full.options in
-        let second = opened_with waits.model (program_options turns) waits.log waits.legal waits.solo waits.options in
+        let first = opened_with waits.model (program_options turns) full.log (subst (λ (m : Model). Legal m full.log) same full.says.legal) (subst (λ (m : Model). Solo m full.log) same full.says.solo) full.says.options in
+        let second = opened_with waits.model (program_options turns) waits.log waits.says.legal waits.says.solo waits.says.options in
         let both = full_and_closed waits.model (program_options turns) full.log waits.log (full.pending ++ before.more) first second (before.is ∙ append_assoc (inputs_of full.log) full.pending before.more) full.full waits.closed in
         let closed : (world_of full.model full.log).closed ≡ true = ap (λ (m : Model). (world_of m full.log).closed) same ∙ ap (λ (w : World). w.closed) both.0 ∙ waits.closed in
         elim full.due [
           | inl open_round ↦ (let h : true ≡ false = sym closed ∙ open_round.0 in (cc))
-          | inr one ↦ (let h : one.1.0 ∷ [] ≡ [] = sym one.1.1 ∙ no_pending full.pending before.more both.1 in (cc))
+          | inr one ↦ (let h : one.1.0 ∷ [] ≡ [] = sym one.1.1.0 ∙ no_pending full.pending before.more both.1 in (cc))
         ]
 
 -- ---- an input within the limits
@@ -199,7 +201,7 @@ in_the_middle : (limit : ℕ) (xs ys : Lines) (y : List ℕ) → All (IsShort li
 in_the_middle limit [] ys y all = all 0 [] (omega arith)
 in_the_middle limit (x ∷ xs) ys y all = in_the_middle limit xs ys y (λ k d less. all (suc k) d (omega (arith, less)))
 
-room_left : (limit room : ℕ) (bytes : List ℕ) (lines : Lines) (left : ℕ) (rest : List ℕ) → Gave limit room bytes lines left rest → left + length bytes ≡ room + length rest
+room_left : (limit room : ℕ) (bytes : List ℕ) (lines : Lines) (left : ℕ) (rest : List ℕ) → GivesLines limit room bytes lines left rest → left + length bytes ≡ room + length rest
 room_left limit room bytes [] left rest gave =
     let same : length rest ≡ length bytes = ap (λ (b : List ℕ). length b) gave.1 in
     omega (arith, gave.0, same)
@@ -222,29 +224,29 @@ within_rest limit lines left (b ∷ bs) short room stuck =
     let first : IsShort limit (first_line (b ∷ bs)) = in_the_middle limit lines (lines_of (after_line (b ∷ bs))) (first_line (b ∷ bs)) (subst (λ (ls : Lines). All (IsShort limit) (lines ++ ls)) front short) in
     next_fits limit left (b ∷ bs) (omega arith) room first stuck
 
-pub is_within : (limit : ℕ) (input : List ℕ) (lines : Lines) (left : ℕ) (rest : List ℕ) → IsWithinLimits limit input → Gave limit total_limit input lines left rest → IsStuck limit left rest → ⊥
+pub is_within : (limit : ℕ) (input : List ℕ) (lines : Lines) (left : ℕ) (rest : List ℕ) → IsWithinLimits limit input → GivesLines limit total_limit input lines left rest → IsStuck limit left rest → ⊥
 is_within limit input lines left rest within gave stuck =
     within_rest limit lines left rest (subst (λ (ls : Lines). All (IsShort limit) ls) (gave_lines limit total_limit input lines left rest gave) within.lines)
     (omega (arith, room_left limit total_limit input lines left rest gave, within.total)) stuck
 
-pub run_within : (turns : ℕ) (input : List ℕ) (left held now : Option (List ℕ)) → IsWithinLimits line_limit input → IsPastLimit turns input left held now → ⊥
-run_within turns input left held now within past = is_within line_limit input past.lines past.left past.rest within past.gave past.why
+pub run_within : (kind : RunKind) (input : List ℕ) (left held now : Option (List ℕ)) → IsWithinLimits line_limit input → IsPastLimit kind input left held now → ⊥
+run_within kind input left held now within past = is_within line_limit input past.lines past.left past.rest within past.gave past.why
 
 pub head_within : (input : List ℕ) (left held now : Option (List ℕ)) → IsWithinLimits line_limit input → IsPastHead line_limit input left held now → ⊥
 head_within input left held now within past = is_within line_limit input past.lines past.left past.rest within past.gave past.why
 
 -- ---- a job that can be done is done
 
-pub run_completes : (turns : ℕ) (input : List ℕ) (left held now : Option (List ℕ)) (status : ℕ) → SaysRan turns input left held now status → IsJobStatus status → CanRun turns input
-    → (status ≡ 4 → ⊥) → (status ≡ 5 → ⊥) → IsDoneBy (task.Solo turns) status
-run_completes turns input left held now status says (is_done e) can no_read no_write = inl e
-run_completes turns input left held now status says (is_refused e) can no_read no_write = absurd (no_model_of line_limit input can.words can.model left held now can.text can.accepted (says.refused e))
-run_completes turns input left held now status says (is_read e) can no_read no_write = absurd (no_read e)
-run_completes turns input left held now status says (is_write e) can no_read no_write = absurd (no_write e)
-run_completes turns input left held now status says (is_limit e) can no_read no_write = absurd (can.no_limit left held now (says.limit e))
-run_completes turns input left held now status says (is_full e) can no_read no_write = inr (inl e)
-run_completes turns input left held now status says (is_wrong e) can no_read no_write = absurd (says.never_wrong e)
-run_completes turns input left held now status says (is_memory e) can no_read no_write = inr (inr e)
+pub run_completes : (kind : RunKind) (input left held now : Option (List ℕ)) (status : ℕ) → SaysEndedKnown kind input left held now status → IsJobStatus status → (status ≡ 4 → ⊥) → (status ≡ 5 → ⊥) → CompletesRun kind input status
+run_completes kind None left held now status says is no_read no_write = tt
+run_completes kind (Some input) left held now status says (is_done e) no_read no_write = λ can. inl e
+run_completes kind (Some input) left held now status says (is_refused e) no_read no_write = λ can. absurd (no_model_of line_limit input can.words can.model left held now can.text can.accepted (says.refused e))
+run_completes kind (Some input) left held now status says (is_read e) no_read no_write = λ can. absurd (no_read e)
+run_completes kind (Some input) left held now status says (is_write e) no_read no_write = λ can. absurd (no_write e)
+run_completes kind (Some input) left held now status says (is_limit e) no_read no_write = λ can. absurd (can.no_limit left held now (says.limit e))
+run_completes kind (Some input) left held now status says (is_full e) no_read no_write = λ can. inr (inl e)
+run_completes kind (Some input) left held now status says (is_wrong e) no_read no_write = λ can. absurd (says.never_wrong e)
+run_completes kind (Some input) left held now status says (is_memory e) no_read no_write = λ can. inr (inr e)
 
 pub check_completes : (input : List ℕ) (left held now : Option (List ℕ)) (status : ℕ) → SaysChecked input left held now status → IsJobStatus status → CanCheck input
     → (status ≡ 4 → ⊥) → (status ≡ 5 → ⊥) → IsDoneBy task.Check status

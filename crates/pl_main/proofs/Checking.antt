@@ -21,7 +21,7 @@ use Rattle.pl_main.specs.Runs as runs
 use Rattle.pl_main.specs.Top as top
 use Rattle.pl_main.specs.Top.{line_limit, fresh_reader, no_begin_line, model_ok_line, faulty, IsPastHead, IsHeadFault, ChecksKnown}
 use Rattle.pl_input.proofs.Stopping.{never_full, never_writes}
-use Rattle.pl_main.proofs.Ending.{begins_at, begins_nowhere, head_stopped, fresh_begun, fresh_nowhere, fresh_halts}
+use Rattle.pl_main.proofs.Heading.{begins_at, begins_nowhere, head_stopped, fresh_begun, fresh_nowhere, fresh_halts}
 
 pub texts_joined : (xs ys zs : List ℕ) → xs ++ ys ++ zs ≡ xs ++ (ys ++ zs)
 texts_joined xs ys zs = append_assoc xs ys zs

@@ -8,15 +8,15 @@ use Rattle.pl_main.specs.Statuses.{SaysKnown}
 use Rattle.pl_main.proofs.Jobs.{IsJobStatus}
 use Rattle.pl_main.proofs.Causes.{run_completes, check_completes, demo_completes}
 use Rattle.pl_main.proofs.Apart.{decides}
+use Rattle.pl_main.specs.RunKinds.{solo_run}
 
 pub completes : (t : Task) (input : Option (List ℕ)) (left held now : Option (List ℕ)) (status : ℕ) → SaysKnown t input left held now status → IsJobStatus status → (status ≡ 4 → ⊥) → (status ≡ 5 → ⊥)
     → Completes t input status
-completes (task.Solo turns) None left held now status says is no_read no_write = tt
 completes task.Check None left held now status says is no_read no_write = tt
 completes task.Replay None left held now status says is no_read no_write = tt
 completes task.Replay (Some input) left held now status says is no_read no_write = decides which.Replay input left held now status says is no_read no_write
 completes task.Report None left held now status says is no_read no_write = tt
 completes task.Report (Some input) left held now status says is no_read no_write = decides which.Report input left held now status says is no_read no_write
-completes (task.Solo turns) (Some input) left held now status says is no_read no_write = λ can. run_completes turns input left held now status says is can no_read no_write
+completes (task.Solo turns) input left held now status says is no_read no_write = run_completes (solo_run turns) input left held now status says is no_read no_write
 completes task.Check (Some input) left held now status says is no_read no_write = λ can. check_completes input left held now status says is can no_read no_write
 completes (task.Demo goals) input left held now status says is no_read no_write = demo_completes goals held now status says is no_write

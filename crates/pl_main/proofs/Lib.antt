@@ -1,9 +1,12 @@
 pub mod Leasts
 pub mod Telling
 pub mod Playing
+pub mod Heading
+pub mod LastLines
+pub mod Texting
+pub mod Running
 pub mod Ending
 pub mod Breaking
-pub mod Running
 pub mod Checking
 pub mod Showing
 pub mod Summing
@@ -15,5 +18,4 @@ pub mod OneInput
 pub mod OneLog
 pub mod Causes
 pub mod Apart
-pub mod PairCauses
 pub mod Completing

@@ -2,7 +2,7 @@
 use Rattle.std.proofs.Common.{◌≡◌, ℕ, ◌+◌, List, [], ◌∷◌, ◌++◌, length, Bool, true, false, if◌then◌else◌, Option, Some, None, ◌⊎◌, inl, inr, refl, sym, ◌∙◌, ap, subst, length-append, arith}
 use Rattle.pl_io.specs.Lines.{lines_of}
 use Rattle.pl_input.specs.Words.{is_blank_line, is_line_of, begin_word, end_word, text_before, model_text_of, lines_behind, messages_from, messages_of, split_of}
-use Rattle.pl_input.specs.Reads.{Gave}
+use Rattle.pl_input.specs.Reads.{GivesLines}
 use Rattle.pl_main.specs.Top.{total_limit}
 use Rattle.pl_input.proofs.Reading.{gave_lines}
 
@@ -33,10 +33,10 @@ pub behind_goes_on : (lines more : Lines) (words : List ℕ) → model_text_of l
 behind_goes_on [] more words e = absurd (let h : None ≡ Some words = e in (cc))
 behind_goes_on (x ∷ xs) more words e = behind_step (is_line_of begin_word x) x xs more (model_text_of xs) words e (λ w h. behind_goes_on xs more w h)
 
-pub split_text : (limit : ℕ) (input : List ℕ) (lines : Lines) (left : ℕ) (rest words : List ℕ) → Gave limit total_limit input lines left rest → model_text_of lines ≡ Some words → (split_of input).text ≡ Some words
+pub split_text : (limit : ℕ) (input : List ℕ) (lines : Lines) (left : ℕ) (rest words : List ℕ) → GivesLines limit total_limit input lines left rest → model_text_of lines ≡ Some words → (split_of input).text ≡ Some words
 split_text limit input lines left rest words gave e = ap model_text_of (gave_lines limit total_limit input lines left rest gave) ∙ text_goes_on lines (lines_of rest) words e
 
-pub split_messages : (limit : ℕ) (input : List ℕ) (lines : Lines) (left : ℕ) (rest words : List ℕ) → Gave limit total_limit input lines left rest → model_text_of lines ≡ Some words
+pub split_messages : (limit : ℕ) (input : List ℕ) (lines : Lines) (left : ℕ) (rest words : List ℕ) → GivesLines limit total_limit input lines left rest → model_text_of lines ≡ Some words
     → (split_of input).messages ≡ messages_of (lines_behind lines ++ lines_of rest)
 split_messages limit input lines left rest words gave e =
     ap (λ (ls : Lines). messages_of (lines_behind ls)) (gave_lines limit total_limit input lines left rest gave) ∙ ap messages_of (behind_goes_on lines (lines_of rest) words e)

@@ -21,13 +21,13 @@ use Rattle.pl_journal.specs.Rendering.Lines.{text_from}
 use Rattle.pl_journal.proofs.AboutRendering.Texts.{text_joined}
 use Rattle.pl_input.specs.declared.halt.Halt.{Halt}
 use Rattle.pl_input.specs.declared.halt.Halt.TheVariants as halt
-use Rattle.pl_input.specs.Reads.{GaveKnown, IsUsedUp, AreBlank}
+use Rattle.pl_input.specs.Reads.{GivesLinesKnown, IsUsedUp, AreBlank}
 use Rattle.pl_input.specs.Stops.{HaltFor, ReadLeaves, LimitLeaves, StopsBy}
 use Rattle.pl_input.specs.Waits.{GetsFault, MessageGives, line_in}
-use Rattle.pl_main.specs.Tells.{IsReady, Told, ToldInPart, FillsUp, at_once, within}
+use Rattle.pl_main.specs.Tells.{IsReady, AnswersMessage, AnswersMessageInPart, FillsUp, at_once, within}
 use Rattle.pl_journal.specs.Written.{Adds, WriteStops}
 use Rattle.pl_input.specs.Places.{Place}
-use Rattle.pl_main.specs.Plays.{Plays, EndsAll, by_end, by_line, PlaysOut, PlayHalts, Answered, Filled, untold, told_in_part, Answering, StepsOn, StepFills, StepHalts, unread, unheard, unwritten, PlayFills, Steps, Playing}
+use Rattle.pl_main.specs.Plays.{AnswersMessages, EndsAll, by_end, by_line, AnswersAll, AnswersUntilHalt, Answered, Filled, untold, told_in_part, Answering, AnswersNext, AnswersNextUntilFull, HaltsBeforeNext, unread, unheard, unwritten, AnswersUntilFull, AnswersNextOrStops, AnswersAllOrStops}
 use Rattle.pl_input.proofs.Reading.{took_none, took_more, gave_later}
 use Rattle.pl_input.proofs.Stopping.{never_full, never_writes, read_leaves, limit_leaves, stops_by}
 use Rattle.pl_journal.proofs.AboutWriting.{some_held, adds_then, appends_then}
@@ -45,18 +45,18 @@ input_fits start place (Some message) (Some line) limit is bytes gets =
 -- ---- a message whose lines were not written whole
 
 -- a log that grew was not full when the message came
-grown : (old new : State) (input : Option (List ℕ)) → FillsUp old input new → length old.log < length new.log → ToldInPart old input new
+grown : (old new : State) (input : Option (List ℕ)) → FillsUp old input new → length old.log < length new.log → AnswersMessageInPart old input new
 grown old new input (at_once full is) more = absurd (let same : length new.log ≡ length old.log = ap (λ (s : State). length s.log) is in omega (arith, more, same))
 grown old new input (within told) more = told
 
-cut_off : (old new : State) (input held now : Option (List ℕ)) (e : Halt) (faults later : ℕ) → Told old input new ⊎ ToldInPart old input new → AppendsFront held now (text_from old.model (length old.log) (drop (length old.log) new.log)) → WriteStops faults later e → Answering old input held (Err e) new now
+cut_off : (old new : State) (input held now : Option (List ℕ)) (e : Halt) (faults later : ℕ) → AnswersMessage old input new ⊎ AnswersMessageInPart old input new → AppendsFront held now (text_from old.model (length old.log) (drop (length old.log) new.log)) → WriteStops faults later e → Answering old input held (Err e) new now
 cut_off old new input held now halt.Write faults later told front cause = record { told = told; written = front }
 cut_off old new input held now halt.Memory faults later told front cause = told_in_part (record { told = told; written = front })
 cut_off old new input held now halt.Read faults later told front cause = absurd cause
 cut_off old new input held now halt.Limit faults later told front cause = absurd cause
 cut_off old new input held now halt.Full faults later told front cause = absurd cause
 
-pub told_cut : (old new : State) (input held now : Option (List ℕ)) (e : Halt) (from faults later : ℕ) → Told old input new → from ≡ length old.log → AppendsFront held now (text_from new.model from (drop from new.log)) → WriteStops faults later e → Answering old input held (Err e) new now
+pub told_cut : (old new : State) (input held now : Option (List ℕ)) (e : Halt) (from faults later : ℕ) → AnswersMessage old input new → from ≡ length old.log → AppendsFront held now (text_from new.model from (drop from new.log)) → WriteStops faults later e → Answering old input held (Err e) new now
 told_cut old new input held now e from faults later told is front cause =
     cut_off old new input held now e faults later (inl told) (subst (λ (m : Model). AppendsFront held now (text_from m (length old.log) (drop (length old.log) new.log))) told.same.model (subst (λ n. AppendsFront held now (text_from new.model n (drop n new.log))) is front)) cause
 
@@ -78,15 +78,15 @@ not_told old new input held legal = untold legal refl
 -- ---- a message that is read, and then answered
 
 pub step_on : (old new : State) (start place : Place) (held now : Option (List ℕ)) (message : Option NumberedLine) → MessageGives start.reader start.ahead (Ok message) place.reader place.ahead
-    → Answered old (line_in message) held new now → StepsOn old start held new place now
+    → Answered old (line_in message) held new now → AnswersNext old start held new place now
 step_on old new start place held now message gets answered = record { message = message; gets = gets; told = answered.told; written = answered.written }
 
 pub step_fills : (old new : State) (start place : Place) (held now : Option (List ℕ)) (message : Option NumberedLine) → MessageGives start.reader start.ahead (Ok message) place.reader place.ahead
-    → Filled old (line_in message) held new now → StepFills old start held new place now
+    → Filled old (line_in message) held new now → AnswersNextUntilFull old start held new place now
 step_fills old new start place held now message gets filled = record { message = message; gets = gets; fills = filled.fills; written = filled.written }
 
 step_by : (old new : State) (start place : Place) (held now : Option (List ℕ)) (message : Option NumberedLine) (r : Result Bool Halt) → MessageGives start.reader start.ahead (Ok message) place.reader place.ahead
-    → Answering old (line_in message) held r new now → Steps old start held r new place now
+    → Answering old (line_in message) held r new now → AnswersNextOrStops old start held r new place now
 step_by old new start place held now message (Ok done) gets answers = (step_on old new start place held now message gets answers.0, answers.1)
 step_by old new start place held now message (Err halt.Full) gets answers = step_fills old new start place held now message gets answers
 step_by old new start place held now message (Err halt.Limit) gets answers = absurd answers
@@ -96,10 +96,10 @@ step_by old new start place held now message (Err halt.Memory) gets (untold lega
 step_by old new start place held now message (Err halt.Memory) gets (told_in_part answered) = unwritten (record { message = message; gets = gets; answered = answered })
 
 pub step_answers : (old new : State) (start place : Place) (held now line : Option (List ℕ)) (message : Option NumberedLine) (r : Result Bool Halt) → MessageGives start.reader start.ahead (Ok message) place.reader place.ahead
-    → line ≡ line_in message → Answering old line held r new now → Steps old start held r new place now
+    → line ≡ line_in message → Answering old line held r new now → AnswersNextOrStops old start held r new place now
 step_answers old new start place held now line message r gets is answers = step_by old new start place held now message r gets (subst (λ (l : Option (List ℕ)). Answering old l held r new now) is answers)
 
-pub step_stops : (old : State) (start place : Place) (held : Option (List ℕ)) (f : LineFault) (e : Halt) → GetsFault start.reader start.ahead f place.reader place.ahead → HaltFor f e → Steps old start held (Err e) old place held
+pub step_stops : (old : State) (start place : Place) (held : Option (List ℕ)) (f : LineFault) (e : Halt) → GetsFault start.reader start.ahead f place.reader place.ahead → HaltFor f e → AnswersNextOrStops old start held (Err e) old place held
 step_stops old start place held f halt.Limit gets is = record { reason = f; fault = gets; halts = is; same = refl; written = refl }
 step_stops old start place held f halt.Read gets is = record { reason = f; fault = gets; halts = is; same = refl; written = refl }
 step_stops old start place held f halt.Full gets is = absurd (never_full f is)
@@ -146,7 +146,7 @@ inputs_append xs ys = filter_map-append (λ (e : Entry). input_in e.event) xs ys
 
 -- ---- the whole of a play
 
-pub plays_none : (old : State) (start : Place) (held : Option (List ℕ)) → IsReady old → start.reader.failed ≡ None → Plays old start held old start held
+pub plays_none : (old : State) (start : Place) (held : Option (List ℕ)) → IsReady old → start.reader.failed ≡ None → AnswersMessages old start held old start held
 plays_none old start held ready working = record {
   lines = [];
   entries = [];
@@ -218,10 +218,10 @@ input_ends lines blanks ms so_far blank =
     ap messages_of (append-nil (lines ++ blanks)) ∙ messages_append lines blanks ms so_far
     ∙ ap (λ (ns : List (Option (List ℕ))). ms ++ ns) (ap messages_of (sym (append-nil blanks)) ∙ skip_blanks blanks [] blank ∙ none_left)
 
-pub plays_on : (old mid new : State) (start middle place : Place) (held written now : Option (List ℕ)) → Plays old start held mid middle written → StepsOn mid middle written new place now → new.world.done ≡ false → Plays old start held new place now
+pub plays_on : (old mid new : State) (start middle place : Place) (held written now : Option (List ℕ)) → AnswersMessages old start held mid middle written → AnswersNext mid middle written new place now → new.world.done ≡ false → AnswersMessages old start held new place now
 plays_on old mid new start middle place held written now plays step going = by_message step.message step.gets step.told
   where
-    by_message : (message : Option NumberedLine) → MessageGives middle.reader middle.ahead (Ok message) place.reader place.ahead → Told mid (line_in message) new → Plays old start held new place now
+    by_message : (message : Option NumberedLine) → MessageGives middle.reader middle.ahead (Ok message) place.reader place.ahead → AnswersMessage mid (line_in message) new → AnswersMessages old start held new place now
     by_message None gets told = absurd (let h : true ≡ false = sym told.done ∙ going in (cc))
     by_message (Some line) gets told =
         let j = joined old mid new held written now plays.entries told.entries plays.log plays.solo plays.world plays.same plays.written told.log told.solo told.world told.same step.written in
@@ -245,7 +245,7 @@ ends_known None after lines inputs front line so_far last is all = tt
 ends_known (Some bytes) None lines inputs front line so_far last is all = tt
 ends_known (Some bytes) (Some rest) lines inputs front line so_far last is all = by_line front line so_far last is all
 
-ends_used : (limit room : ℕ) (before middle : Option (List ℕ)) (xs : List (List ℕ)) (mid : ℕ) (after : Option (List ℕ)) (lines : List (List ℕ)) (inputs front : List (Option (List ℕ))) → inputs ≡ front ++ None ∷ [] → GaveKnown limit room before xs mid middle → IsUsedUp middle after
+ends_used : (limit room : ℕ) (before middle : Option (List ℕ)) (xs : List (List ℕ)) (mid : ℕ) (after : Option (List ℕ)) (lines : List (List ℕ)) (inputs front : List (Option (List ℕ))) → inputs ≡ front ++ None ∷ [] → GivesLinesKnown limit room before xs mid middle → IsUsedUp middle after
     → messages_of (lines ++ []) ≡ inputs → EndsAll before after lines inputs
 ends_used limit room None middle xs mid after lines inputs front last gave used all = tt
 ends_used limit room (Some bytes) None xs mid after lines inputs front last gave used all = absurd gave
@@ -253,10 +253,10 @@ ends_used limit room (Some bytes) (Some m) xs mid None lines inputs front last g
 ends_used limit room (Some bytes) (Some m) xs mid (Some rest) lines inputs front last gave used all =
     by_end front last (let h : Some rest ≡ Some [] = used in (cc)) (ap messages_of (sym (append-nil lines)) ∙ all)
 
-pub plays_out : (old mid new : State) (start middle place : Place) (held written now : Option (List ℕ)) → Plays old start held mid middle written → StepsOn mid middle written new place now → new.world.done ≡ true → PlaysOut old start held new place now
+pub plays_out : (old mid new : State) (start middle place : Place) (held written now : Option (List ℕ)) → AnswersMessages old start held mid middle written → AnswersNext mid middle written new place now → new.world.done ≡ true → AnswersAll old start held new place now
 plays_out old mid new start middle place held written now plays step done = by_message step.message step.gets step.told
   where
-    by_message : (message : Option NumberedLine) → MessageGives middle.reader middle.ahead (Ok message) place.reader place.ahead → Told mid (line_in message) new → PlaysOut old start held new place now
+    by_message : (message : Option NumberedLine) → MessageGives middle.reader middle.ahead (Ok message) place.reader place.ahead → AnswersMessage mid (line_in message) new → AnswersAll old start held new place now
     by_message None gets told =
         let j = joined old mid new held written now plays.entries told.entries plays.log plays.solo plays.world plays.same plays.written told.log told.solo told.world told.same step.written in
         let inputs : inputs_of plays.entries ++ None ∷ [] ≡ inputs_of (plays.entries ++ told.entries) = sym (inputs_append plays.entries told.entries ∙ ap (λ (ns : List (Option (List ℕ))). inputs_of plays.entries ++ ns) told.inputs) in
@@ -296,7 +296,7 @@ plays_out old mid new start middle place held written now plays step done = by_m
           written = j.text;
         }
 
-pub plays_halt : (e : Halt) (old mid new : State) (start middle place : Place) (held written now : Option (List ℕ)) → Plays old start held mid middle written → StepHalts e mid middle written new place now → PlayHalts e old start held new place now
+pub plays_halt : (e : Halt) (old mid new : State) (start middle place : Place) (held written now : Option (List ℕ)) → AnswersMessages old start held mid middle written → HaltsBeforeNext e mid middle written new place now → AnswersUntilHalt e old start held new place now
 plays_halt e old mid new start middle place held written now plays step =
     let halts = step.fault.halts in
     record {
@@ -322,10 +322,10 @@ plays_halt e old mid new start middle place held written now plays step =
       written = subst (λ (h : Option (List ℕ)). Adds held h (text_from old.model (length old.log) plays.entries)) (sym step.written) plays.written;
     }
 
-pub plays_fill : (old mid new : State) (start middle place : Place) (held written now : Option (List ℕ)) → Plays old start held mid middle written → StepFills mid middle written new place now → PlayFills old start held new place now
+pub plays_fill : (old mid new : State) (start middle place : Place) (held written now : Option (List ℕ)) → AnswersMessages old start held mid middle written → AnswersNextUntilFull mid middle written new place now → AnswersUntilFull old start held new place now
 plays_fill old mid new start middle place held written now plays step = record { waiting = mid; middle = middle; written = written; plays = plays; step = step }
 
-pub plays_stop : (old mid new : State) (start middle place : Place) (held written now : Option (List ℕ)) (e : Halt) → Plays old start held mid middle written → Steps mid middle written (Err e) new place now → Playing old start held (Err e) new place now
+pub plays_stop : (old mid new : State) (start middle place : Place) (held written now : Option (List ℕ)) (e : Halt) → AnswersMessages old start held mid middle written → AnswersNextOrStops mid middle written (Err e) new place now → AnswersAllOrStops old start held (Err e) new place now
 plays_stop old mid new start middle place held written now halt.Read plays step = plays_halt halt.Read old mid new start middle place held written now plays step
 plays_stop old mid new start middle place held written now halt.Write plays step = record { waiting = mid; middle = middle; written = written; plays = plays; step = step }
 plays_stop old mid new start middle place held written now halt.Limit plays step = plays_halt halt.Limit old mid new start middle place held written now plays step

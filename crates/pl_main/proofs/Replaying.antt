@@ -14,7 +14,7 @@ use Rattle.pl_machine.specs.Sound.{State}
 use Rattle.pl_check.specs.declared.accepting.Accepted.TheVariants as accepted
 use Rattle.pl_input.specs.declared.halt.Halt.{Halt}
 use Rattle.pl_input.specs.declared.halt.Halt.TheVariants as halt
-use Rattle.pl_input.specs.Reads.{Gave, Took, IsUsedUp}
+use Rattle.pl_input.specs.Reads.{GivesLines, ReadsLines, IsUsedUp}
 use Rattle.pl_input.specs.Stops.{HaltFor, ReadLeaves, LimitLeaves, StopsBy}
 use Rattle.pl_input.specs.Heads.{IsBegun, HasNoBegin, HeadHalts}
 use Rattle.pl_journal.specs.Written.{Adds}
@@ -33,7 +33,7 @@ use Rattle.pl_input.specs.Places.{Place, place_of}
 use Rattle.pl_main.specs.Runs.{AcceptsKept, IsKeptModel, TextFails}
 use Rattle.pl_main.specs.Top.{total_limit, fresh_reader, no_begin_line, ShowsNoLine, ShowsLimit, IsNoModel, faulty}
 use Rattle.pl_main.specs.Replays.{journal_line_limit, state_of, text_of_form, HasTaken, IsRightJournal, IsWrong, no_entry, wrong_last, IsWrongJournal, IsRightSoFar, IsJournalShort, of_right, of_wrong, of_refusal, ReadsBack, ReadsBackKnown, WritesAs, WritesJudged, RightBehind, WrongBehind, ShortBehind, right_cut, wrong_cut, ModelReads, TextCut, journal_cut, refusal_cut, TextReads}
-use Rattle.pl_main.proofs.Ending.{begins_at, begins_nowhere, shows_none, shows_limit, head_stopped, fresh_begun, fresh_nowhere, fresh_halts}
+use Rattle.pl_main.proofs.Heading.{begins_at, begins_nowhere, shows_none, shows_limit, head_stopped, fresh_begun, fresh_nowhere, fresh_halts}
 
 -- ---- what is written
 
@@ -53,7 +53,7 @@ machine_is m s unspoiled model world =
     ∙ ap (λ (w : World). record { spoiled = false; model = m; log = s.log; world = w }) world
 
 abbrev right_behind : (form : Form) (m : Model) (start : Place) (held : Option (List ℕ)) (place : Place) (now : Option (List ℕ)) (v : Verdict) (lines : List (List ℕ)) (s : State)
-    → Took start.reader start.ahead lines place.reader place.ahead → IsLegalJournal m (entry_lines lines) v s start.ahead place.ahead → Adds held now (text_of_form form s) → RightBehind form m start held place now
+    → ReadsLines start.reader start.ahead lines place.reader place.ahead → IsLegalJournal m (entry_lines lines) v s start.ahead place.ahead → Adds held now (text_of_form form s) → RightBehind form m start held place now
 right_behind form m start held place now v lines s took legal adds = record {
   lines = lines;
   log = s.log;
@@ -67,7 +67,7 @@ no_text : (text : List ℕ) → Adds None None text
 no_text text = tt
 
 right_ends : (form : Form) (m : Model) (start : Place) (held : Option (List ℕ)) (place : Place) (now : Option (List ℕ)) (v : Verdict) (lines : List (List ℕ)) (s : State) (r : Result Judgement Halt)
-    → Took start.reader start.ahead lines place.reader place.ahead → IsLegalJournal m (entry_lines lines) v s start.ahead place.ahead → WritesAs judged.Right (text_of_form form s) held r now → ModelReads form m start held r place now
+    → ReadsLines start.reader start.ahead lines place.reader place.ahead → IsLegalJournal m (entry_lines lines) v s start.ahead place.ahead → WritesAs judged.Right (text_of_form form s) held r now → ModelReads form m start held r place now
 right_ends form m start held place now v lines s (Ok judged.Right) took legal writes = right_behind form m start held place now v lines s took legal writes.1
 right_ends form m start held place now v lines s (Ok judged.Wrong) took legal writes = absurd (let h : judged.Wrong ≡ judged.Right = writes.0 in (cc))
 right_ends form m start held place now v lines s (Ok judged.Refused) took legal writes = absurd (let h : judged.Refused ≡ judged.Right = writes.0 in (cc))
@@ -80,7 +80,7 @@ right_ends form m start held place now v lines s (Err halt.Write) took legal wri
     (subst (λ (x : State). AppendsFront held now (text_of_form form x)) (machine_is m s legal.unspoiled legal.model legal.world) writes)
 
 wrong_ends : (form : Form) (m : Model) (start : Place) (held : Option (List ℕ)) (place : Place) (now : Option (List ℕ)) (v : Verdict) (lines : List (List ℕ)) (r : Result Judgement Halt)
-    → Took start.reader start.ahead lines place.reader place.ahead → IsNoJournal (entry_lines lines) v start.ahead place.ahead ⊎ IsWrongAtLast m (entry_lines lines) v → (entry_lines lines ≡ []) ⊎ EndsInEntry lines
+    → ReadsLines start.reader start.ahead lines place.reader place.ahead → IsNoJournal (entry_lines lines) v start.ahead place.ahead ⊎ IsWrongAtLast m (entry_lines lines) v → (entry_lines lines ≡ []) ⊎ EndsInEntry lines
     → WritesAs judged.Wrong (verdict_line m v) held r now → ModelReads form m start held r place now
 wrong_ends form m start held place now v lines (Ok judged.Wrong) took wrong last writes = record { lines = lines; verdict = v; took = took; wrong = wrong; no_further = last; written = writes.1 }
 wrong_ends form m start held place now v lines (Ok judged.Right) took wrong last writes = absurd (let h : judged.Right ≡ judged.Wrong = writes.0 in (cc))
@@ -147,7 +147,7 @@ record Taken (input words : List ℕ) (lines : List (List ℕ)) (place : Place) 
   taken : HasTaken input words lines rest source_left
 
 taken_behind : (kept : Option (Vec ℕ Global)) (start place : Place) (input : List ℕ) (source_left : Option (List ℕ)) (lines : List (List ℕ))
-    → (begun : IsBegun (fresh_reader journal_line_limit) (Some input) kept start.reader start.ahead) → Took start.reader start.ahead lines place.reader place.ahead → ahead place.reader.held source_left ≡ place.ahead
+    → (begun : IsBegun (fresh_reader journal_line_limit) (Some input) kept start.reader start.ahead) → ReadsLines start.reader start.ahead lines place.reader place.ahead → ahead place.reader.held source_left ≡ place.ahead
     → Taken input begun.words lines place source_left
 taken_behind kept start place input source_left lines begun took behind =
     let k = known journal_line_limit total_limit journal_line_limit total_limit (Some input) input begun.lines start.reader.room start.ahead refl refl refl begun.took.gave in
@@ -225,7 +225,7 @@ record IsJournalStopped (e : Halt) (input : List ℕ) (source_left : Option (Lis
   lines : List (List ℕ)
   left : ℕ
   rest : List ℕ
-  gave : Gave journal_line_limit total_limit input lines left rest
+  gave : GivesLines journal_line_limit total_limit input lines left rest
   why : StopsBy e journal_line_limit left (Some rest)
   source : e ≡ halt.Read → ShowsNoLine journal_line_limit left rest source_left
   past : e ≡ halt.Limit → ShowsLimit journal_line_limit left rest source_left

@@ -29,16 +29,19 @@ use Rattle.pl_main.specs.declared.outcome.Outcome.TheVariants as outcome
 use Rattle.pl_input.specs.Stops.{HaltFor}
 use Rattle.pl_input.specs.Heads.{IsBegun, HasNoBegin, HeadHalts}
 use Rattle.pl_input.specs.Places.{Place, place_of}
-use Rattle.pl_main.specs.Plays.{Playing}
-use Rattle.pl_main.specs.Runs.{fresh_state, AcceptsKept, IsKeptModel}
+use Rattle.pl_main.specs.Plays.{AnswersAllOrStops}
+use Rattle.pl_main.specs.Runs.{fresh_state, AcceptsKept, IsKeptModel, ModelRuns}
 use Rattle.pl_main.specs.Top.{line_limit, fresh_reader, no_begin_line}
 use Rattle.pl_main.specs.Limits.{IsWithinLimits}
 use Rattle.pl_journal.specs.Written.{Adds}
 use Rattle.pl_main.specs.Demos.{demo_turns, summary_line, IsShownShort, Shows, IsPlayed, DemoPlays, KeepsModel, ModelShown, ModelShows, TextShows}
 use Rattle.pl_input.proofs.Stopping.{never_full, never_writes, only_reads}
-use Rattle.pl_main.proofs.Ending.{fresh_begun, begins_at, IsDoneWith, done_with}
-use Rattle.pl_main.proofs.Running.{begun_solo, refused_solo, head_solo}
+use Rattle.pl_main.proofs.Ending.{IsDoneWith, done_with}
+use Rattle.pl_main.proofs.Running.{begun_run, refused_run, head_run}
 use Rattle.pl_main.proofs.Causes.{no_model_of, run_within}
+use Rattle.pl_main.proofs.Heading.{begins_at, fresh_begun}
+use Rattle.pl_main.proofs.Breaking.{ends_solo}
+use Rattle.pl_main.specs.RunKinds.{solo_run}
 
 -- ---- the demonstration's input
 
@@ -55,7 +58,7 @@ never_rose rose = omega (arith, rose)
 -- ---- a demonstration over a model
 
 stopped_out : (m : Model) (start place : Place) (e : Halt) (new : State)
-    → Playing (fresh_state demo_turns m) start None (Err e) new place None → Legal new.model new.log → (e ≡ halt.Read → ⊥) → (e ≡ halt.Write → ⊥) → DemoPlays m start (Err e) place
+    → AnswersAllOrStops (fresh_state demo_turns m) start None (Err e) new place None → Legal new.model new.log → (e ≡ halt.Read → ⊥) → (e ≡ halt.Write → ⊥) → DemoPlays m start (Err e) place
 stopped_out m start place halt.Limit new playing legal no_read no_write = record { opened = None; new = new; first = tt; playing = playing; legal = legal }
 stopped_out m start place halt.Full new playing legal no_read no_write = record { opened = None; new = new; first = tt; playing = playing; legal = legal }
 stopped_out m start place halt.Read new playing legal no_read no_write = absurd (no_read refl)
@@ -63,9 +66,9 @@ stopped_out m start place halt.Write new playing legal no_read no_write = absurd
 stopped_out m start place halt.Memory new playing legal no_read no_write = tt
 
 pub out_stops : (m : Model) (start place : Place) (r : Result (Unit {0}) Halt) (e : Halt) (new : State) → r ≡ Err e
-    → Playing (fresh_state demo_turns m) start None r new place None → Legal new.model new.log → (r ≡ Err halt.Read → Rose 0 0) → (r ≡ Err halt.Write → Rose 0 0) → DemoPlays m start (Err e) place
+    → AnswersAllOrStops (fresh_state demo_turns m) start None r new place None → Legal new.model new.log → (r ≡ Err halt.Read → Rose 0 0) → (r ≡ Err halt.Write → Rose 0 0) → DemoPlays m start (Err e) place
 out_stops m start place r e new is playing legal reads writes =
-    stopped_out m start place e new (subst (λ (x : Result (Unit {0}) Halt). Playing (fresh_state demo_turns m) start None x new place None) is playing) legal
+    stopped_out m start place e new (subst (λ (x : Result (Unit {0}) Halt). AnswersAllOrStops (fresh_state demo_turns m) start None x new place None) is playing) legal
     (λ same. never_rose (reads (is ∙ ap (λ (x : Halt). Err x) same))) (λ same. never_rose (writes (is ∙ ap (λ (x : Halt). Err x) same)))
 
 model_stopped : (goals : ℕ) (m : Model) (start place : Place) (held : Option (List ℕ)) (e : Halt) → DemoPlays m start (Err e) place → ModelShows goals m start held (Err e) place held
@@ -139,12 +142,12 @@ begun_then goals old kept new last after left held now (Ok outcome.Done) few is_
     }
 begun_then goals old kept new last after left held now (Ok outcome.Refused) few is_fresh begun text = absurd text
 begun_then goals old kept new last after left held now (Err halt.Limit) few is_fresh begun text =
-    run_within demo_turns (demo_text goals) left None None (demo_within goals few)
-    (begun_solo demo_turns old kept new last (Input goals) after left None None (Err halt.Limit) is_fresh begun record { model = text.model; text = text.text; run = text.shows.run })
+    run_within (solo_run demo_turns) (demo_text goals) left None None (demo_within goals few)
+    (begun_run (solo_run demo_turns) (ModelRuns demo_turns) (ends_solo demo_turns) old kept new last (Input goals) after left None None (Err halt.Limit) is_fresh begun record { model = text.model; text = text.text; run = text.shows.run })
 begun_then goals old kept new last after left held now (Err halt.Full) few is_fresh begun text =
     record {
       left = left;
-      full = begun_solo demo_turns old kept new last (Input goals) after left None None (Err halt.Full) is_fresh begun record { model = text.model; text = text.text; run = text.shows.run };
+      full = begun_run (solo_run demo_turns) (ModelRuns demo_turns) (ends_solo demo_turns) old kept new last (Input goals) after left None None (Err halt.Full) is_fresh begun record { model = text.model; text = text.text; run = text.shows.run };
       silent = text.shows.silent;
     }
 begun_then goals old kept new last after left held now (Err halt.Read) few is_fresh begun text = absurd text
@@ -180,7 +183,7 @@ begin_then : (goals : ℕ) (old new : Reader) (left : Option (List ℕ)) → goa
     → HasNoBegin old (ahead old.held (Input goals)) new (ahead new.held left) → ⊥
 begin_then goals old new left few is_fresh head =
     no_model_of line_limit (demo_text goals) demo_words demo_model left (Some []) (Some no_begin_line) (demo_begins goals few) demo_accepted
-    (refused_solo demo_turns old new (Input goals) left (Some []) (Some no_begin_line) (Ok outcome.Refused) is_fresh head refl refl tt tt)
+    (refused_run (solo_run demo_turns) old new (Input goals) left (Some []) (Some no_begin_line) (Ok outcome.Refused) is_fresh head refl refl tt tt)
 
 pub has_begin : (goals : ℕ) (text : List ℕ) (old new : Reader) (left : Option (List ℕ)) → goals ≤ 4000 → text ≡ demo_text goals → old ≡ fresh_reader line_limit
     → HasNoBegin old (ahead old.held (Some text)) new (ahead new.held left) → ⊥
@@ -195,7 +198,7 @@ never_reads f is no_read = no_read (only_reads f is)
 head_then : (goals : ℕ) (old new : Reader) (left held : Option (List ℕ)) (f : LineFault) (e : Halt) → goals ≤ 4000 → old ≡ fresh_reader line_limit
     → HeadHalts old (ahead old.held (Input goals)) f new (ahead new.held left) → HaltFor f e → (f ≡ fault.Read → ⊥) → Shows goals held held (Err e)
 head_then goals old new left held f halt.Limit few is_fresh head is no_read =
-    run_within demo_turns (demo_text goals) left None None (demo_within goals few) (head_solo demo_turns old new (Input goals) left None f halt.Limit is_fresh head is)
+    run_within (solo_run demo_turns) (demo_text goals) left None None (demo_within goals few) (head_run (solo_run demo_turns) old new (Input goals) left None f halt.Limit is_fresh head is)
 head_then goals old new left held f halt.Full few is_fresh head is no_read = absurd (never_full f is)
 head_then goals old new left held f halt.Read few is_fresh head is no_read = absurd (never_reads f is no_read)
 head_then goals old new left held f halt.Write few is_fresh head is no_read = absurd (never_writes f is)

@@ -18,7 +18,7 @@ use Rattle.pl_machine.specs.Legal.{world_from}
 use Rattle.pl_machine.specs.Solo.{Picks, Drawn}
 use Rattle.pl_driver.specs.Rounds.{RanTo, Rounds}
 use Rattle.pl_main.specs.Solo.{IsSoloEvent, solo_from}
-use Rattle.pl_main.specs.Tells.{is_last, Hears, Told, FillsUp, at_once, within, Telling}
+use Rattle.pl_main.specs.Tells.{is_last, LogsInput, AnswersMessage, FillsUp, at_once, within, AnswersMessageOrStops}
 use Rattle.pl_pair.proofs.Ends.{is_ended, line_ends}
 use Rattle.pl_pair.proofs.Ending.{line_done}
 use Rattle.pl_main.proofs.Leasts.{TakesLeast, least_solo}
@@ -36,7 +36,7 @@ input_closed : (w : World) (input : Option (List ℕ)) → w.closed ≡ true →
 input_closed w None closed = closed
 input_closed w (Some line) closed = closed_by w line (line_reply w.state w.options.goals line) closed ∙ line_ends w.state w.options.goals line
 
-pub takes_hears : (old new : State) (input : Option (List ℕ)) (answer : Reply) → old.world.closed ≡ true → old.world.done ≡ false → Takes old (event.Input input) answer new → Hears old input new
+pub takes_hears : (old new : State) (input : Option (List ℕ)) (answer : Reply) → old.world.closed ≡ true → old.world.done ≡ false → Takes old (event.Input input) answer new → LogsInput old input new
 takes_hears old new input answer closed going takes = record {
   entry = record { event = event.Input input; reply = answer };
   is_input = refl;
@@ -57,7 +57,7 @@ input_and e input es is none = rw (is, none) refl
 input_is_solo : (w : World) (e : Entry) (input : Option (List ℕ)) → e.event ≡ event.Input input → IsSoloEvent w e.event
 input_is_solo w e input is = subst (λ (x : Event). IsSoloEvent w x) (sym is) tt
 
-pub told_last : (old new : State) (input : Option (List ℕ)) → Hears old input new → new.world.done ≡ true → Told old input new
+pub told_last : (old new : State) (input : Option (List ℕ)) → LogsInput old input new → new.world.done ≡ true → AnswersMessage old input new
 told_last old new input hears done = record {
   entries = hears.entry ∷ [];
   log = hears.log;
@@ -70,7 +70,7 @@ told_last old new input hears done = record {
   same = hears.same;
 }
 
-told_round : {C : Type 0} (picks : Picks C) (old mid new : State) (c c2 : C) (input : Option (List ℕ)) → TakesLeast picks → Hears old input mid → mid.world.done ≡ false → RanTo picks mid c new c2 → new.world.closed ≡ true → Told old input new
+told_round : {C : Type 0} (picks : Picks C) (old mid new : State) (c c2 : C) (input : Option (List ℕ)) → TakesLeast picks → LogsInput old input mid → mid.world.done ≡ false → RanTo picks mid c new c2 → new.world.closed ≡ true → AnswersMessage old input new
 told_round picks old mid new c c2 input least hears going ran closed =
     let led : mid.world ≡ after old.world hears.entry.event = hears.world ∙ ap (λ (x : Event). after old.world x) (sym hears.is_input) in
     record {
@@ -85,7 +85,7 @@ told_round picks old mid new c c2 input least hears going ran closed =
       same = record { model = ran.same.model ∙ hears.same.model; options = ran.same.options ∙ hears.same.options };
     }
 
-told_in_part : {C : Type 0} (picks : Picks C) (old mid new : State) (c c2 : C) (input : Option (List ℕ)) → TakesLeast picks → Hears old input mid → mid.world.done ≡ false → RanTo picks mid c new c2 → new.world.closed ≡ false → mid.world.options.entries ≤ length new.log → FillsUp old input new
+told_in_part : {C : Type 0} (picks : Picks C) (old mid new : State) (c c2 : C) (input : Option (List ℕ)) → TakesLeast picks → LogsInput old input mid → mid.world.done ≡ false → RanTo picks mid c new c2 → new.world.closed ≡ false → mid.world.options.entries ≤ length new.log → FillsUp old input new
 told_in_part picks old mid new c c2 input least hears going ran open_round full =
     let led : mid.world ≡ after old.world hears.entry.event = hears.world ∙ ap (λ (x : Event). after old.world x) (sym hears.is_input) in
     within (record {
@@ -102,7 +102,7 @@ told_in_part picks old mid new c c2 input least hears going ran open_round full 
     })
 
 -- a message, and then its round
-pub tells : {C : Type 0} (picks : Picks C) (drawn : Drawn C) (old mid new : State) (c c2 : C) (input : Option (List ℕ)) (r : Result (Unit {0}) Stop) → Hears old input mid → mid.world.done ≡ false → Rounds picks drawn mid c r new c2 → TakesLeast picks → Telling old input r new
+pub tells : {C : Type 0} (picks : Picks C) (drawn : Drawn C) (old mid new : State) (c c2 : C) (input : Option (List ℕ)) (r : Result (Unit {0}) Stop) → LogsInput old input mid → mid.world.done ≡ false → Rounds picks drawn mid c r new c2 → TakesLeast picks → AnswersMessageOrStops old input r new
 tells picks drawn old mid new c c2 input (Ok u) hears going rounds least = told_round picks old mid new c c2 input least hears going rounds.0 rounds.1
 tells picks drawn old mid new c c2 input (Err stop.NotNow) hears going rounds least = absurd rounds
 tells picks drawn old mid new c c2 input (Err stop.LogFull) hears going rounds least = told_in_part picks old mid new c c2 input least hears going rounds.0 rounds.1 rounds.2

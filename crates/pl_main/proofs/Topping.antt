@@ -20,30 +20,20 @@ use Rattle.pl_main.specs.declared.form.Form.TheVariants as which
 use Rattle.pl_main.specs.declared.judgement.Judgement.{Judgement}
 use Rattle.pl_main.specs.declared.judgement.Judgement.TheVariants as judged
 use Rattle.pl_main.specs.Replays.{ReadsBack, ReadsBackKnown}
-use Rattle.pl_main.specs.Statuses.{IsTask, status_of, status_of_journal, SaysReadBack, SaysKnown, SaysPairKnown}
+use Rattle.pl_main.specs.Statuses.{IsTask, status_of, status_of_journal, SaysReadBack, SaysKnown, SaysEndedKnown}
 use Rattle.pl_main.specs.Demos.{Shows}
-use Rattle.pl_main.specs.Pairs.{PairedKnown}
-use Rattle.pl_main.specs.Top.{RanKnown, ChecksKnown}
+use Rattle.pl_main.specs.Top.{ChecksKnown}
+use Rattle.pl_main.specs.Endings.{EndedAsKnown, RunKind}
 
-pub says_of : (turns : ℕ) (input source_left held now : Option (List ℕ)) (r : Result Outcome Halt) → RanKnown turns input source_left held now r → SaysKnown (task.Solo turns) input source_left held now (status_of r)
-says_of turns None source_left held now r ran = tt
-says_of turns (Some input) source_left held now (Ok outcome.Done) ran = record { done = λ e. ran; refused = λ e. absurd (omega (arith, e)); read_fault = λ e. absurd (omega (arith, e)); short = λ e. absurd (omega (arith, e)); limit = λ e. absurd (omega (arith, e)); full = λ e. absurd (omega (arith, e)); never_wrong = λ e. omega (arith, e); memory = λ e. absurd (omega (arith, e)) }
-says_of turns (Some input) source_left held now (Ok outcome.Refused) ran = record { done = λ e. absurd (omega (arith, e)); refused = λ e. ran; read_fault = λ e. absurd (omega (arith, e)); short = λ e. absurd (omega (arith, e)); limit = λ e. absurd (omega (arith, e)); full = λ e. absurd (omega (arith, e)); never_wrong = λ e. omega (arith, e); memory = λ e. absurd (omega (arith, e)) }
-says_of turns (Some input) source_left held now (Err halt.Limit) ran = record { done = λ e. absurd (omega (arith, e)); refused = λ e. absurd (omega (arith, e)); read_fault = λ e. absurd (omega (arith, e)); short = λ e. absurd (omega (arith, e)); limit = λ e. ran; full = λ e. absurd (omega (arith, e)); never_wrong = λ e. omega (arith, e); memory = λ e. absurd (omega (arith, e)) }
-says_of turns (Some input) source_left held now (Err halt.Full) ran = record { done = λ e. absurd (omega (arith, e)); refused = λ e. absurd (omega (arith, e)); read_fault = λ e. absurd (omega (arith, e)); short = λ e. absurd (omega (arith, e)); limit = λ e. absurd (omega (arith, e)); full = λ e. ran; never_wrong = λ e. omega (arith, e); memory = λ e. absurd (omega (arith, e)) }
-says_of turns (Some input) source_left held now (Err halt.Read) ran = record { done = λ e. absurd (omega (arith, e)); refused = λ e. absurd (omega (arith, e)); read_fault = λ e. ran; short = λ e. absurd (omega (arith, e)); limit = λ e. absurd (omega (arith, e)); full = λ e. absurd (omega (arith, e)); never_wrong = λ e. omega (arith, e); memory = λ e. absurd (omega (arith, e)) }
-says_of turns (Some input) source_left held now (Err halt.Write) ran = record { done = λ e. absurd (omega (arith, e)); refused = λ e. absurd (omega (arith, e)); read_fault = λ e. absurd (omega (arith, e)); short = λ e. ran; limit = λ e. absurd (omega (arith, e)); full = λ e. absurd (omega (arith, e)); never_wrong = λ e. omega (arith, e); memory = λ e. absurd (omega (arith, e)) }
-says_of turns (Some input) source_left held now (Err halt.Memory) ran = record { done = λ e. absurd (omega (arith, e)); refused = λ e. absurd (omega (arith, e)); read_fault = λ e. absurd (omega (arith, e)); short = λ e. absurd (omega (arith, e)); limit = λ e. absurd (omega (arith, e)); full = λ e. absurd (omega (arith, e)); never_wrong = λ e. omega (arith, e); memory = λ e. ran }
-
-pub says_paired : (turns seed : ℕ) (input source_left held now : Option (List ℕ)) (r : Result Outcome Halt) → PairedKnown turns seed input source_left held now r → SaysPairKnown turns seed input source_left held now (status_of r)
-says_paired turns seed None source_left held now r ran = tt
-says_paired turns seed (Some input) source_left held now (Ok outcome.Done) ran = record { done = λ e. ran; refused = λ e. absurd (omega (arith, e)); read_fault = λ e. absurd (omega (arith, e)); short = λ e. absurd (omega (arith, e)); limit = λ e. absurd (omega (arith, e)); full = λ e. absurd (omega (arith, e)); never_wrong = λ e. omega (arith, e); memory = λ e. absurd (omega (arith, e)) }
-says_paired turns seed (Some input) source_left held now (Ok outcome.Refused) ran = record { done = λ e. absurd (omega (arith, e)); refused = λ e. ran; read_fault = λ e. absurd (omega (arith, e)); short = λ e. absurd (omega (arith, e)); limit = λ e. absurd (omega (arith, e)); full = λ e. absurd (omega (arith, e)); never_wrong = λ e. omega (arith, e); memory = λ e. absurd (omega (arith, e)) }
-says_paired turns seed (Some input) source_left held now (Err halt.Limit) ran = record { done = λ e. absurd (omega (arith, e)); refused = λ e. absurd (omega (arith, e)); read_fault = λ e. absurd (omega (arith, e)); short = λ e. absurd (omega (arith, e)); limit = λ e. ran; full = λ e. absurd (omega (arith, e)); never_wrong = λ e. omega (arith, e); memory = λ e. absurd (omega (arith, e)) }
-says_paired turns seed (Some input) source_left held now (Err halt.Full) ran = record { done = λ e. absurd (omega (arith, e)); refused = λ e. absurd (omega (arith, e)); read_fault = λ e. absurd (omega (arith, e)); short = λ e. absurd (omega (arith, e)); limit = λ e. absurd (omega (arith, e)); full = λ e. ran; never_wrong = λ e. omega (arith, e); memory = λ e. absurd (omega (arith, e)) }
-says_paired turns seed (Some input) source_left held now (Err halt.Read) ran = record { done = λ e. absurd (omega (arith, e)); refused = λ e. absurd (omega (arith, e)); read_fault = λ e. ran; short = λ e. absurd (omega (arith, e)); limit = λ e. absurd (omega (arith, e)); full = λ e. absurd (omega (arith, e)); never_wrong = λ e. omega (arith, e); memory = λ e. absurd (omega (arith, e)) }
-says_paired turns seed (Some input) source_left held now (Err halt.Write) ran = record { done = λ e. absurd (omega (arith, e)); refused = λ e. absurd (omega (arith, e)); read_fault = λ e. absurd (omega (arith, e)); short = λ e. ran; limit = λ e. absurd (omega (arith, e)); full = λ e. absurd (omega (arith, e)); never_wrong = λ e. omega (arith, e); memory = λ e. absurd (omega (arith, e)) }
-says_paired turns seed (Some input) source_left held now (Err halt.Memory) ran = record { done = λ e. absurd (omega (arith, e)); refused = λ e. absurd (omega (arith, e)); read_fault = λ e. absurd (omega (arith, e)); short = λ e. absurd (omega (arith, e)); limit = λ e. absurd (omega (arith, e)); full = λ e. absurd (omega (arith, e)); never_wrong = λ e. omega (arith, e); memory = λ e. ran }
+pub says_of : (kind : RunKind) (input source_left held now : Option (List ℕ)) (r : Result Outcome Halt) → EndedAsKnown kind input source_left held now r → SaysEndedKnown kind input source_left held now (status_of r)
+says_of kind None source_left held now r ran = tt
+says_of kind (Some input) source_left held now (Ok outcome.Done) ran = record { done = λ e. ran; refused = λ e. absurd (omega (arith, e)); read_fault = λ e. absurd (omega (arith, e)); short = λ e. absurd (omega (arith, e)); limit = λ e. absurd (omega (arith, e)); full = λ e. absurd (omega (arith, e)); never_wrong = λ e. omega (arith, e); memory = λ e. absurd (omega (arith, e)) }
+says_of kind (Some input) source_left held now (Ok outcome.Refused) ran = record { done = λ e. absurd (omega (arith, e)); refused = λ e. ran; read_fault = λ e. absurd (omega (arith, e)); short = λ e. absurd (omega (arith, e)); limit = λ e. absurd (omega (arith, e)); full = λ e. absurd (omega (arith, e)); never_wrong = λ e. omega (arith, e); memory = λ e. absurd (omega (arith, e)) }
+says_of kind (Some input) source_left held now (Err halt.Limit) ran = record { done = λ e. absurd (omega (arith, e)); refused = λ e. absurd (omega (arith, e)); read_fault = λ e. absurd (omega (arith, e)); short = λ e. absurd (omega (arith, e)); limit = λ e. ran; full = λ e. absurd (omega (arith, e)); never_wrong = λ e. omega (arith, e); memory = λ e. absurd (omega (arith, e)) }
+says_of kind (Some input) source_left held now (Err halt.Full) ran = record { done = λ e. absurd (omega (arith, e)); refused = λ e. absurd (omega (arith, e)); read_fault = λ e. absurd (omega (arith, e)); short = λ e. absurd (omega (arith, e)); limit = λ e. absurd (omega (arith, e)); full = λ e. ran; never_wrong = λ e. omega (arith, e); memory = λ e. absurd (omega (arith, e)) }
+says_of kind (Some input) source_left held now (Err halt.Read) ran = record { done = λ e. absurd (omega (arith, e)); refused = λ e. absurd (omega (arith, e)); read_fault = λ e. ran; short = λ e. absurd (omega (arith, e)); limit = λ e. absurd (omega (arith, e)); full = λ e. absurd (omega (arith, e)); never_wrong = λ e. omega (arith, e); memory = λ e. absurd (omega (arith, e)) }
+says_of kind (Some input) source_left held now (Err halt.Write) ran = record { done = λ e. absurd (omega (arith, e)); refused = λ e. absurd (omega (arith, e)); read_fault = λ e. absurd (omega (arith, e)); short = λ e. ran; limit = λ e. absurd (omega (arith, e)); full = λ e. absurd (omega (arith, e)); never_wrong = λ e. omega (arith, e); memory = λ e. absurd (omega (arith, e)) }
+says_of kind (Some input) source_left held now (Err halt.Memory) ran = record { done = λ e. absurd (omega (arith, e)); refused = λ e. absurd (omega (arith, e)); read_fault = λ e. absurd (omega (arith, e)); short = λ e. absurd (omega (arith, e)); limit = λ e. absurd (omega (arith, e)); full = λ e. absurd (omega (arith, e)); never_wrong = λ e. omega (arith, e); memory = λ e. ran }
 
 pub says_checked : (input source_left held now : Option (List ℕ)) (r : Result Outcome Halt) → ChecksKnown input source_left held now r → SaysKnown task.Check input source_left held now (status_of r)
 says_checked None source_left held now r ran = tt

@@ -17,9 +17,10 @@ use Rattle.pl_main.specs.declared.outcome.Outcome.{Outcome}
 use Rattle.pl_main.specs.declared.outcome.Outcome.TheVariants as outcome
 use Rattle.pl_input.specs.Heads.{Keeps}
 use Rattle.pl_input.specs.Places.{Place}
-use Rattle.pl_main.specs.Plays.{PlaysOut}
+use Rattle.pl_main.specs.Plays.{AnswersAll}
 use Rattle.pl_main.specs.Runs.{fresh_state, ModelRun, IsKeptModel}
-use Rattle.pl_main.specs.Top.{IsDone, IsFull}
+use Rattle.pl_main.specs.Endings.{IsDone, IsFull}
+use Rattle.pl_main.specs.RunKinds.{solo_run}
 use Rattle.pl_journal.specs.Written.{Adds}
 
 -- the repair turns of a round
@@ -39,19 +40,19 @@ summary_line goals log w =
 -- the world after it. Nothing of the journal was written.
 pub record IsShown (goals : ℕ) (held now : Option (List ℕ)) : Type 0 where
   pub left : Option (List ℕ)
-  pub done : IsDone demo_turns (demo_text goals) left None None
+  pub done : IsDone (solo_run demo_turns) (demo_text goals) left None None
   pub written : Adds held now (summary_line goals done.log (world_of done.model done.log))
 
 -- The log of the demonstration's run is full, and an entry is due. Nothing was written.
 pub record IsShownInPart (goals : ℕ) (held now : Option (List ℕ)) : Type 0 where
   pub left : Option (List ℕ)
-  pub full : IsFull demo_turns (demo_text goals) left None None
+  pub full : IsFull (solo_run demo_turns) (demo_text goals) left None None
   pub silent : now ≡ held
 
 -- A write failed. What went out is a front of the summary of the run.
 pub record IsShownShort (goals : ℕ) (held now : Option (List ℕ)) : Type 0 where
   pub left : Option (List ℕ)
-  pub done : IsDone demo_turns (demo_text goals) left None None
+  pub done : IsDone (solo_run demo_turns) (demo_text goals) left None None
   pub front : AppendsFront held now (summary_line goals done.log (world_of done.model done.log))
 
 -- how a demonstration ended
@@ -75,7 +76,7 @@ pub record KeepsModel (kept : Option (Vec ℕ Global)) : Type 0 where
 
 -- All messages were answered, by a journal that nobody reads.
 pub record IsPlayed (model : Model) (start : Place) (new : State) (place : Place) : Type 0 where
-  pub plays : PlaysOut (fresh_state demo_turns model) start None new place None
+  pub plays : AnswersAll (fresh_state demo_turns model) start None new place None
   pub legal : Legal new.model new.log
 
 abbrev pub DemoPlays : Model → Place → Result State Halt → Place → Type 0

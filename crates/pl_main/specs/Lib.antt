@@ -7,9 +7,10 @@ pub mod Solo
 pub mod Tells
 pub mod Plays
 pub mod Top
+pub mod Endings
+pub mod RunKinds
 pub mod Runs
 pub mod Demos
 pub mod Replays
-pub mod Pairs
 pub mod Limits
 pub mod Statuses

@@ -9,9 +9,10 @@ use Rattle.pl_replay.specs.declared.verdict.Verdict.{Verdict}
 use Rattle.pl_replay.specs.Journals.{entry_lines, IsJournalOf, IsWrongAtLast}
 use Rattle.pl_main.specs.declared.command.Task.{Task}
 use Rattle.pl_main.specs.declared.command.Task.TheVariants as task
-use Rattle.pl_main.specs.Pairs.{IsPairPastLimit}
 use Rattle.pl_main.specs.Replays.{IsPastJournal}
-use Rattle.pl_main.specs.Top.{line_limit, total_limit, IsPastLimit, IsPastHead}
+use Rattle.pl_main.specs.Top.{line_limit, total_limit, IsPastHead}
+use Rattle.pl_main.specs.Endings.{RunKind, IsPastLimit}
+use Rattle.pl_main.specs.RunKinds.{solo_run}
 
 -- Each line is within the line limit, and the input within the total limit.
 pub record IsWithinLimits (limit : ℕ) (input : List ℕ) : Type 0 where
@@ -19,22 +20,14 @@ pub record IsWithinLimits (limit : ℕ) (input : List ℕ) : Type 0 where
   pub total : length input ≤ total_limit
 
 -- The input begins with the text of a model, and no line that is asked for passes a limit.
-pub record CanRun (turns : ℕ) (input : List ℕ) : Type 0 where
+pub record CanRun (kind : RunKind) (input : List ℕ) : Type 0 where
   pub words : List ℕ
   pub model : Model
   pub text : (split_of input).text ≡ Some words
   pub accepted : IsModelText words model
-  pub no_limit : (left held now : Option (List ℕ)) → IsPastLimit turns input left held now → ⊥
+  pub no_limit : (left held now : Option (List ℕ)) → IsPastLimit kind input left held now → ⊥
 
--- The same for a pair.
-pub record CanPair (turns seed : ℕ) (input : List ℕ) : Type 0 where
-  pub words : List ℕ
-  pub model : Model
-  pub text : (split_of input).text ≡ Some words
-  pub accepted : IsModelText words model
-  pub no_limit : (left held now : Option (List ℕ)) → IsPairPastLimit turns seed input left held now → ⊥
-
--- The same for a check, which runs nothing.
+-- For a check: the input begins with the text of a model, and no line that is asked for passes a limit.
 pub record CanCheck (input : List ℕ) : Type 0 where
   pub words : List ℕ
   pub model : Model
@@ -73,6 +66,10 @@ IsDoneBy task.Replay status = (status ≡ 0) ⊎ (status ≡ 9)
 IsDoneBy task.Report status = (status ≡ 0) ⊎ (status ≡ 9)
 IsDoneBy (task.Demo goals) status = (status ≡ 0) ⊎ ((status ≡ 7) ⊎ (status ≡ 9))
 
+-- a run that can be done is done, or memory ran out, or the log is full
+abbrev pub CompletesRun : RunKind → Option (List ℕ) → ℕ → Type 0
+CompletesRun kind input status = IfSome input (λ bytes. CanRun kind bytes → (status ≡ 0) ⊎ ((status ≡ 7) ⊎ (status ≡ 9)))
+
 -- what the journal is decides between 0 and 8, but for want of memory
 pub record Decides (input : List ℕ) (status : ℕ) : Type 0 where
   pub right : HasRightJournal input → (status ≡ 0) ⊎ (status ≡ 9)
@@ -81,12 +78,8 @@ pub record Decides (input : List ℕ) (status : ℕ) : Type 0 where
 -- a job that can be done is done, where the input's bytes are known, if the task reads them
 abbrev pub Completes : Task → Option (List ℕ) → ℕ → Type 0
 Completes (task.Solo turns) input status =
-    IfSome input (λ bytes. CanRun turns bytes → IsDoneBy (task.Solo turns) status)
+    CompletesRun (solo_run turns) input status
 Completes task.Check input status = IfSome input (λ bytes. CanCheck bytes → IsDoneBy task.Check status)
 Completes task.Replay input status = IfSome input (λ bytes. Decides bytes status)
 Completes task.Report input status = IfSome input (λ bytes. Decides bytes status)
 Completes (task.Demo goals) input status = IsDoneBy (task.Demo goals) status
-
--- a run of a pair that can be done is done, or memory is wanting, or the log is full
-abbrev pub CompletesPair : (turns seed : ℕ) → Option (List ℕ) → ℕ → Type 0
-CompletesPair turns seed input status = IfSome input (λ bytes. CanPair turns seed bytes → (status ≡ 0) ⊎ ((status ≡ 7) ⊎ (status ≡ 9)))

@@ -14,18 +14,18 @@ use Rattle.pl_driver.specs.Rounds.{SameRun}
 use Rattle.pl_journal.specs.Rendering.Lines.{text_from}
 use Rattle.pl_input.specs.declared.halt.Halt.{Halt}
 use Rattle.pl_input.specs.declared.halt.Halt.TheVariants as halt
-use Rattle.pl_input.specs.Reads.{GaveKnown, Took}
-use Rattle.pl_main.specs.Tells.{IsReady, Told, ToldInPart, FillsUp}
+use Rattle.pl_input.specs.Reads.{GivesLinesKnown, ReadsLines}
+use Rattle.pl_main.specs.Tells.{IsReady, AnswersMessage, AnswersMessageInPart, FillsUp}
 use Rattle.pl_input.specs.Stops.{HaltFor, ReadLeaves, LimitLeaves, StopsBy}
 use Rattle.pl_input.specs.Waits.{MessageGives, GetsFault, line_in}
 use Rattle.pl_input.specs.Places.{Place}
 use Rattle.pl_journal.specs.Written.{Adds}
 
 -- Lines were taken, their messages are the inputs of these entries, and the entries' lines were written.
-pub record Plays (old : State) (start : Place) (held : Option (List ℕ)) (new : State) (place : Place) (now : Option (List ℕ)) : Type 0 where
+pub record AnswersMessages (old : State) (start : Place) (held : Option (List ℕ)) (new : State) (place : Place) (now : Option (List ℕ)) : Type 0 where
   pub lines : List (List ℕ)
   pub entries : List Entry
-  pub took : Took start.reader start.ahead lines place.reader place.ahead
+  pub took : ReadsLines start.reader start.ahead lines place.reader place.ahead
   pub log : new.log ≡ old.log ++ entries
   pub solo : solo_from old.world entries
   pub world : new.world ≡ world_from old.world entries
@@ -47,10 +47,10 @@ EndsAll None after lines inputs = ⊤
 EndsAll (Some bytes) after lines inputs = IfSome after (λ rest. EndsWith rest lines inputs)
 
 -- All messages were taken.
-pub record PlaysOut (old : State) (start : Place) (held : Option (List ℕ)) (new : State) (place : Place) (now : Option (List ℕ)) : Type 0 where
+pub record AnswersAll (old : State) (start : Place) (held : Option (List ℕ)) (new : State) (place : Place) (now : Option (List ℕ)) : Type 0 where
   pub lines : List (List ℕ)
   pub entries : List Entry
-  pub gave : GaveKnown start.reader.limit start.reader.room start.ahead lines place.reader.room place.ahead
+  pub gave : GivesLinesKnown start.reader.limit start.reader.room start.ahead lines place.reader.room place.ahead
   pub log : new.log ≡ old.log ++ entries
   pub solo : solo_from old.world entries
   pub world : new.world ≡ world_from old.world entries
@@ -63,12 +63,12 @@ pub record PlaysOut (old : State) (start : Place) (held : Option (List ℕ)) (ne
   pub written : Adds held now (text_from old.model (length old.log) entries)
 
 -- The next line is not given, while the machine waits for a message.
-pub record PlayHalts (e : Halt) (old : State) (start : Place) (held : Option (List ℕ)) (new : State) (place : Place) (now : Option (List ℕ)) : Type 0 where
+pub record AnswersUntilHalt (e : Halt) (old : State) (start : Place) (held : Option (List ℕ)) (new : State) (place : Place) (now : Option (List ℕ)) : Type 0 where
   pub lines : List (List ℕ)
   pub entries : List Entry
   pub left : ℕ
   pub rest : Option (List ℕ)
-  pub gave : GaveKnown start.reader.limit start.reader.room start.ahead lines left rest
+  pub gave : GivesLinesKnown start.reader.limit start.reader.room start.ahead lines left rest
   pub why : StopsBy e start.reader.limit left rest
   pub leaves : e ≡ halt.Read → ReadLeaves start.reader.limit left rest place.reader.held place.ahead
   pub past : e ≡ halt.Limit → length start.reader.held < read_size → LimitLeaves start.reader.limit left rest place.reader.held place.ahead
@@ -82,7 +82,7 @@ pub record PlayHalts (e : Halt) (old : State) (start : Place) (held : Option (Li
 
 -- The message was answered.
 pub record Answered (old : State) (input : Option (List ℕ)) (held : Option (List ℕ)) (new : State) (now : Option (List ℕ)) : Type 0 where
-  pub told : Told old input new
+  pub told : AnswersMessage old input new
   pub written : Adds held now (text_from old.model (length old.log) (drop (length old.log) new.log))
 
 -- The log is full.
@@ -92,7 +92,7 @@ pub record Filled (old : State) (input : Option (List ℕ)) (held : Option (List
 
 -- The message was logged, and a front of the lines of its entries was written, and not all of them.
 pub record AnsweredInPart (old : State) (input : Option (List ℕ)) (held : Option (List ℕ)) (new : State) (now : Option (List ℕ)) : Type 0 where
-  pub told : Told old input new ⊎ ToldInPart old input new
+  pub told : AnswersMessage old input new ⊎ AnswersMessageInPart old input new
   pub written : AppendsFront held now (text_from old.model (length old.log) (drop (length old.log) new.log))
 
 -- Memory was wanting: for the message or its round, and then nothing of it was written, or for a line of its entries.
@@ -109,21 +109,21 @@ Answering old input held (Err halt.Write) new now = AnsweredInPart old input hel
 Answering old input held (Err halt.Memory) new now = Unanswered old input held new now
 
 -- A message was answered, and its entries' lines were written.
-pub record StepsOn (old : State) (start : Place) (held : Option (List ℕ)) (new : State) (place : Place) (now : Option (List ℕ)) : Type 0 where
+pub record AnswersNext (old : State) (start : Place) (held : Option (List ℕ)) (new : State) (place : Place) (now : Option (List ℕ)) : Type 0 where
   pub message : Option NumberedLine
   pub gets : MessageGives start.reader start.ahead (Ok message) place.reader place.ahead
-  pub told : Told old (line_in message) new
+  pub told : AnswersMessage old (line_in message) new
   pub written : Adds held now (text_from old.model (length old.log) (drop (length old.log) new.log))
 
 -- The log is full while an entry is due.
-pub record StepFills (old : State) (start : Place) (held : Option (List ℕ)) (new : State) (place : Place) (now : Option (List ℕ)) : Type 0 where
+pub record AnswersNextUntilFull (old : State) (start : Place) (held : Option (List ℕ)) (new : State) (place : Place) (now : Option (List ℕ)) : Type 0 where
   pub message : Option NumberedLine
   pub gets : MessageGives start.reader start.ahead (Ok message) place.reader place.ahead
   pub fills : FillsUp old (line_in message) new
   pub written : Adds held now (text_from old.model (length old.log) (drop (length old.log) new.log))
 
 -- The next line is not given.
-pub record StepHalts (e : Halt) (old : State) (start : Place) (held : Option (List ℕ)) (new : State) (place : Place) (now : Option (List ℕ)) : Type 0 where
+pub record HaltsBeforeNext (e : Halt) (old : State) (start : Place) (held : Option (List ℕ)) (new : State) (place : Place) (now : Option (List ℕ)) : Type 0 where
   pub reason : LineFault
   pub fault : GetsFault start.reader start.ahead reason place.reader place.ahead
   pub halts : HaltFor reason e
@@ -131,56 +131,56 @@ pub record StepHalts (e : Halt) (old : State) (start : Place) (held : Option (Li
   pub written : now ≡ held
 
 -- A front of a message's lines was written.
-pub record StepsInPart (old : State) (start : Place) (held : Option (List ℕ)) (new : State) (place : Place) (now : Option (List ℕ)) : Type 0 where
+pub record AnswersNextInPart (old : State) (start : Place) (held : Option (List ℕ)) (new : State) (place : Place) (now : Option (List ℕ)) : Type 0 where
   pub message : Option NumberedLine
   pub gets : MessageGives start.reader start.ahead (Ok message) place.reader place.ahead
   pub answered : AnsweredInPart old (line_in message) held new now
 
 -- Memory was wanting: for a line, for a message or its round, or for a line of the message's entries.
-pub data StepLacks (old : State) (start : Place) (held : Option (List ℕ)) (new : State) (place : Place) (now : Option (List ℕ)) : Type 0 where
-  unread : new ≡ old → now ≡ held → StepLacks old start held new place now
-  unheard : Legal old.model old.log → now ≡ held → StepLacks old start held new place now
-  unwritten : StepsInPart old start held new place now → StepLacks old start held new place now
+pub data LacksMemoryForNext (old : State) (start : Place) (held : Option (List ℕ)) (new : State) (place : Place) (now : Option (List ℕ)) : Type 0 where
+  unread : new ≡ old → now ≡ held → LacksMemoryForNext old start held new place now
+  unheard : Legal old.model old.log → now ≡ held → LacksMemoryForNext old start held new place now
+  unwritten : AnswersNextInPart old start held new place now → LacksMemoryForNext old start held new place now
 
-abbrev pub Steps : State → Place → Option (List ℕ) → Result Bool Halt → State → Place → Option (List ℕ) → Type 0
-Steps old start held (Ok done) new place now = StepsOn old start held new place now × (done ≡ new.world.done)
-Steps old start held (Err halt.Limit) new place now = StepHalts halt.Limit old start held new place now
-Steps old start held (Err halt.Full) new place now = StepFills old start held new place now
-Steps old start held (Err halt.Read) new place now = StepHalts halt.Read old start held new place now
-Steps old start held (Err halt.Write) new place now = StepsInPart old start held new place now
-Steps old start held (Err halt.Memory) new place now = StepLacks old start held new place now
+abbrev pub AnswersNextOrStops : State → Place → Option (List ℕ) → Result Bool Halt → State → Place → Option (List ℕ) → Type 0
+AnswersNextOrStops old start held (Ok done) new place now = AnswersNext old start held new place now × (done ≡ new.world.done)
+AnswersNextOrStops old start held (Err halt.Limit) new place now = HaltsBeforeNext halt.Limit old start held new place now
+AnswersNextOrStops old start held (Err halt.Full) new place now = AnswersNextUntilFull old start held new place now
+AnswersNextOrStops old start held (Err halt.Read) new place now = HaltsBeforeNext halt.Read old start held new place now
+AnswersNextOrStops old start held (Err halt.Write) new place now = AnswersNextInPart old start held new place now
+AnswersNextOrStops old start held (Err halt.Memory) new place now = LacksMemoryForNext old start held new place now
 
 -- The log got full.
-pub record PlayFills (old : State) (start : Place) (held : Option (List ℕ)) (new : State) (place : Place)
+pub record AnswersUntilFull (old : State) (start : Place) (held : Option (List ℕ)) (new : State) (place : Place)
     (now : Option (List ℕ)) : Type 0 where
   pub waiting : State
   pub middle : Place
   pub written : Option (List ℕ)
-  pub plays : Plays old start held waiting middle written
-  pub step : StepFills waiting middle written new place now
+  pub plays : AnswersMessages old start held waiting middle written
+  pub step : AnswersNextUntilFull waiting middle written new place now
 
 -- A front of a message's lines was written behind those before it.
-pub record PlaysInPart (old : State) (start : Place) (held : Option (List ℕ)) (new : State) (place : Place)
+pub record AnswersAllInPart (old : State) (start : Place) (held : Option (List ℕ)) (new : State) (place : Place)
     (now : Option (List ℕ)) : Type 0 where
   pub waiting : State
   pub middle : Place
   pub written : Option (List ℕ)
-  pub plays : Plays old start held waiting middle written
-  pub step : StepsInPart waiting middle written new place now
+  pub plays : AnswersMessages old start held waiting middle written
+  pub step : AnswersNextInPart waiting middle written new place now
 
 -- Memory was wanting behind these messages.
-pub record PlayLacks (old : State) (start : Place) (held : Option (List ℕ)) (new : State) (place : Place)
+pub record AnswersUntilMemory (old : State) (start : Place) (held : Option (List ℕ)) (new : State) (place : Place)
     (now : Option (List ℕ)) : Type 0 where
   pub waiting : State
   pub middle : Place
   pub written : Option (List ℕ)
-  pub plays : Plays old start held waiting middle written
-  pub step : StepLacks waiting middle written new place now
+  pub plays : AnswersMessages old start held waiting middle written
+  pub step : LacksMemoryForNext waiting middle written new place now
 
-abbrev pub Playing : State → Place → Option (List ℕ) → Result (Unit {0}) Halt → State → Place → Option (List ℕ) → Type 0
-Playing old start held (Ok u) new place now = PlaysOut old start held new place now
-Playing old start held (Err halt.Limit) new place now = PlayHalts halt.Limit old start held new place now
-Playing old start held (Err halt.Full) new place now = PlayFills old start held new place now
-Playing old start held (Err halt.Read) new place now = PlayHalts halt.Read old start held new place now
-Playing old start held (Err halt.Write) new place now = PlaysInPart old start held new place now
-Playing old start held (Err halt.Memory) new place now = PlayLacks old start held new place now
+abbrev pub AnswersAllOrStops : State → Place → Option (List ℕ) → Result (Unit {0}) Halt → State → Place → Option (List ℕ) → Type 0
+AnswersAllOrStops old start held (Ok u) new place now = AnswersAll old start held new place now
+AnswersAllOrStops old start held (Err halt.Limit) new place now = AnswersUntilHalt halt.Limit old start held new place now
+AnswersAllOrStops old start held (Err halt.Full) new place now = AnswersUntilFull old start held new place now
+AnswersAllOrStops old start held (Err halt.Read) new place now = AnswersUntilHalt halt.Read old start held new place now
+AnswersAllOrStops old start held (Err halt.Write) new place now = AnswersAllInPart old start held new place now
+AnswersAllOrStops old start held (Err halt.Memory) new place now = AnswersUntilMemory old start held new place now

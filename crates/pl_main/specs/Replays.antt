@@ -12,7 +12,7 @@ use Rattle.pl_machine.specs.Sound.{State}
 use Rattle.pl_check.specs.Accepting.{IsModelText}
 use Rattle.pl_input.specs.declared.halt.Halt.{Halt}
 use Rattle.pl_input.specs.declared.halt.Halt.TheVariants as halt
-use Rattle.pl_input.specs.Reads.{Gave, Took, IsUsedUp}
+use Rattle.pl_input.specs.Reads.{GivesLines, ReadsLines, IsUsedUp}
 use Rattle.pl_input.specs.Stops.{IsStuck, HaltFor}
 use Rattle.pl_journal.specs.Written.{Adds}
 use Rattle.pl_replay.specs.declared.verdict.Verdict.{Verdict}
@@ -47,7 +47,7 @@ text_of_form which.Report s = report_of s
 pub record HasTaken (input words : List ℕ) (taken : List (List ℕ)) (rest : List ℕ) (source_left : Option (List ℕ)) : Type 0 where
   pub lines : List (List ℕ)
   pub left : ℕ
-  pub gave : Gave journal_line_limit total_limit input lines left rest
+  pub gave : GivesLines journal_line_limit total_limit input lines left rest
   pub text : model_text_of lines ≡ Some words
   pub behind : lines_behind lines ≡ taken
   pub source : IsReadTo rest source_left
@@ -95,7 +95,7 @@ pub record IsPastJournal (input : List ℕ) (source_left held now : Option (List
   pub lines : List (List ℕ)
   pub left : ℕ
   pub rest : List ℕ
-  pub gave : Gave journal_line_limit total_limit input lines left rest
+  pub gave : GivesLines journal_line_limit total_limit input lines left rest
   pub why : IsStuck journal_line_limit left rest
   pub source : ShowsLimit journal_line_limit left rest source_left
   pub asked : (model_text_of lines ≡ None) ⊎ IsRightSoFar lines
@@ -106,7 +106,7 @@ pub record IsJournalFault (input : List ℕ) (source_left held now : Option (Lis
   pub lines : List (List ℕ)
   pub left : ℕ
   pub rest : List ℕ
-  pub gave : Gave journal_line_limit total_limit input lines left rest
+  pub gave : GivesLines journal_line_limit total_limit input lines left rest
   pub source : ShowsNoLine journal_line_limit left rest source_left
   pub asked : (model_text_of lines ≡ None) ⊎ IsRightSoFar lines
   pub silent : now ≡ held
@@ -155,7 +155,7 @@ WritesJudged form m v None held r now = WritesAs judged.Wrong (verdict_line m v)
 pub record RightBehind (form : Form) (m : Model) (start : Place) (held : Option (List ℕ)) (place : Place) (now : Option (List ℕ)) : Type 0 where
   pub lines : List (List ℕ)
   pub log : List Entry
-  pub took : Took start.reader start.ahead lines place.reader place.ahead
+  pub took : ReadsLines start.reader start.ahead lines place.reader place.ahead
   pub journal : IsJournalOf m (entry_lines lines) log
   pub used_up : IsUsedUp start.ahead place.ahead
   pub written : Adds held now (text_of_form form (state_of m log))
@@ -164,7 +164,7 @@ pub record RightBehind (form : Form) (m : Model) (start : Place) (held : Option 
 pub record WrongBehind (m : Model) (start : Place) (held : Option (List ℕ)) (place : Place) (now : Option (List ℕ)) : Type 0 where
   pub lines : List (List ℕ)
   pub verdict : Verdict
-  pub took : Took start.reader start.ahead lines place.reader place.ahead
+  pub took : ReadsLines start.reader start.ahead lines place.reader place.ahead
   pub wrong : IsNoJournal (entry_lines lines) verdict start.ahead place.ahead ⊎ IsWrongAtLast m (entry_lines lines) verdict
   pub no_further : (entry_lines lines ≡ []) ⊎ EndsInEntry lines
   pub written : Adds held now (verdict_line m verdict)

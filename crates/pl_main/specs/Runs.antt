@@ -17,8 +17,9 @@ use Rattle.pl_main.specs.declared.outcome.Outcome.TheVariants as outcome
 use Rattle.pl_input.specs.Heads.{Keeps}
 use Rattle.pl_journal.specs.Written.{Adds}
 use Rattle.pl_input.specs.Places.{Place}
-use Rattle.pl_main.specs.Plays.{Playing}
+use Rattle.pl_main.specs.Plays.{AnswersAllOrStops}
 use Rattle.pl_main.specs.Top.{program_options, model_ok_line}
+use Rattle.pl_pair.specs.Runs.{PairRun}
 
 abbrev pub fresh_state : ℕ → Model → State
 fresh_state turns m = record { spoiled = false; model = m; log = opening (program_options turns) ∷ []; world = fresh_world m (program_options turns) }
@@ -29,7 +30,7 @@ pub record ModelRun (turns : ℕ) (model : Model) (start : Place) (held : Option
   pub opened : Option (List ℕ)
   pub new : State
   pub first : Adds held opened (text_from model 0 (opening (program_options turns) ∷ []))
-  pub playing : Playing (fresh_state turns model) start opened r new place now
+  pub playing : AnswersAllOrStops (fresh_state turns model) start opened r new place now
   pub legal : Legal new.model new.log
 
 -- A run over a model that was cut short: memory was wanting before its journal, or a front of the open entry's line was
@@ -56,6 +57,10 @@ ModelRuns turns model start held (Err halt.Write) place now =
 ModelRuns turns model start held (Err halt.Memory) place now =
     ModelBreaks halt.Memory turns model start held place now
 
+-- what a run of a planner and an executive comes to over a model
+abbrev pub PairRuns : (turns seed : ℕ) → Model → Place → Option (List ℕ) → Result (Unit {0}) Halt → Place → Option (List ℕ) → Type 0
+PairRuns turns seed model start held r place now = PairRun seed (fresh_state turns model) start held r place now
+
 -- what the text that is kept is
 abbrev pub AcceptsKept : Option (Vec ℕ Global) → Accepted → Type 0
 AcceptsKept kept accepted = (words : List ℕ) → Keeps kept words → Accepts words accepted
@@ -63,11 +68,16 @@ AcceptsKept kept accepted = (words : List ℕ) → Keeps kept words → Accepts 
 abbrev pub IsKeptModel : Option (Vec ℕ Global) → Model → Type 0
 IsKeptModel kept model = (words : List ℕ) → Keeps kept words → IsModelText words model
 
-pub record TextRun (turns : ℕ) (kept : Option (Vec ℕ Global)) (start : Place) (held : Option (List ℕ))
+-- what a kind of run comes to over a model, from a place on
+abbrev pub RunsOver : Type 1
+RunsOver = Model → Place → Option (List ℕ) → Result (Unit {0}) Halt → Place → Option (List ℕ) → Type 0
+
+-- The text is a model's, and a run over it came to this.
+pub record TextRun (Over : RunsOver) (kept : Option (Vec ℕ Global)) (start : Place) (held : Option (List ℕ))
     (r : Result (Unit {0}) Halt) (place : Place) (now : Option (List ℕ)) : Type 0 where
   pub model : Model
   pub text : IsKeptModel kept model
-  pub run : ModelRun turns model start held r place now
+  pub run : Over model start held r place now
 
 -- The text is no model's, and its fault was written.
 pub record TextFails (kept : Option (Vec ℕ Global)) (held now : Option (List ℕ)) : Type 0 where
@@ -75,32 +85,25 @@ pub record TextFails (kept : Option (Vec ℕ Global)) (held now : Option (List �
   pub refused : (words : List ℕ) → Keeps kept words → IsRefusedAs words line
   pub written : Adds held now line
 
--- A run over a text that was cut short: memory was wanting to judge the text, or a front of the line that refuses it was
+-- A run over a text that was cut short: memory ran out before the text was judged, or a front of the line that refuses it was
 -- written, or the run over its model was cut short.
-pub data TextBreaks (e : Halt) (turns : ℕ) (kept : Option (Vec ℕ Global)) (start : Place) (held : Option (List ℕ))
+pub data TextBreaks (Over : RunsOver) (e : Halt) (kept : Option (Vec ℕ Global)) (start : Place) (held : Option (List ℕ))
     (place : Place) (now : Option (List ℕ)) : Type 0 where
-  unjudged : e ≡ halt.Memory → now ≡ held → TextBreaks e turns kept start held place now
+  unjudged : e ≡ halt.Memory → now ≡ held → TextBreaks Over e kept start held place now
   in_fault : e ≡ halt.Write → (fails : TextFails kept None None) → AppendsFront held now fails.line → place ≡ start
-      → TextBreaks e turns kept start held place now
-  in_run : (model : Model) → IsKeptModel kept model → ModelBreaks e turns model start held place now
-      → TextBreaks e turns kept start held place now
+      → TextBreaks Over e kept start held place now
+  in_run : TextRun Over kept start held (Err e) place now → TextBreaks Over e kept start held place now
 
 -- Behind a text that is refused no line is asked for.
-abbrev pub TextRuns : ℕ → Option (Vec ℕ Global) → Place → Option (List ℕ) → Result Outcome Halt → Place
+abbrev pub TextRuns : RunsOver → Option (Vec ℕ Global) → Place → Option (List ℕ) → Result Outcome Halt → Place
     → Option (List ℕ) → Type 0
-TextRuns turns kept start held (Ok outcome.Refused) place now =
-    TextFails kept held now × (place ≡ start)
-TextRuns turns kept start held (Ok outcome.Done) place now =
-    TextRun turns kept start held (Ok tt) place now
-TextRuns turns kept start held (Err halt.Limit) place now =
-    TextRun turns kept start held (Err halt.Limit) place now
-TextRuns turns kept start held (Err halt.Full) place now =
-    TextRun turns kept start held (Err halt.Full) place now
-TextRuns turns kept start held (Err halt.Read) place now =
-    TextRun turns kept start held (Err halt.Read) place now
-TextRuns turns kept start held (Err halt.Write) place now = TextBreaks halt.Write turns kept start held place now
-TextRuns turns kept start held (Err halt.Memory) place now =
-    TextBreaks halt.Memory turns kept start held place now
+TextRuns Over kept start held (Ok outcome.Refused) place now = TextFails kept held now × (place ≡ start)
+TextRuns Over kept start held (Ok outcome.Done) place now = TextRun Over kept start held (Ok tt) place now
+TextRuns Over kept start held (Err halt.Limit) place now = TextRun Over kept start held (Err halt.Limit) place now
+TextRuns Over kept start held (Err halt.Full) place now = TextRun Over kept start held (Err halt.Full) place now
+TextRuns Over kept start held (Err halt.Read) place now = TextRun Over kept start held (Err halt.Read) place now
+TextRuns Over kept start held (Err halt.Write) place now = TextBreaks Over halt.Write kept start held place now
+TextRuns Over kept start held (Err halt.Memory) place now = TextBreaks Over halt.Memory kept start held place now
 
 -- The text is a model's, and this was written.
 pub record TextPasses (kept : Option (Vec ℕ Global)) (held now : Option (List ℕ)) : Type 0 where

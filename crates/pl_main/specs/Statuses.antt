@@ -11,8 +11,9 @@ use Rattle.pl_main.specs.declared.form.Form.TheVariants as which
 use Rattle.pl_main.specs.declared.judgement.Judgement.{Judgement}
 use Rattle.pl_main.specs.declared.judgement.Judgement.TheVariants as judged
 use Rattle.pl_main.specs.Replays.{journal_line_limit, IsRightJournal, IsWrongJournal, IsPastJournal, IsJournalFault, IsJournalShort}
-use Rattle.pl_main.specs.Top.{line_limit, IsDone, IsReadFault, IsPastLimit, IsFull, IsShort, IsOutOfMemory, IsFound, IsNoModel, IsHeadFault, IsPastHead, IsCheckShort}
-use Rattle.pl_main.specs.Pairs.{IsPairDone, IsPairReadFault, IsPairPastLimit, IsPairFull, IsPairTorn, IsPairShort}
+use Rattle.pl_main.specs.Top.{line_limit, IsFound, IsNoModel, IsHeadFault, IsPastHead, IsCheckShort}
+use Rattle.pl_main.specs.Endings.{RunKind, IsDone, IsReadFault, IsPastLimit, IsFull, IsShort, IsOutOfMemory}
+use Rattle.pl_main.specs.RunKinds.{solo_run}
 use Rattle.pl_main.specs.Demos.{IsShown, IsShownInPart, IsShownShort}
 
 -- 0 done, 3 the model is refused, 4 a read failed, 5 a write failed, 6 a line or the input is too long, 7 the log is full, 8 the journal is wrong, 9 memory
@@ -40,16 +41,20 @@ IsTask task.Report = ⊤
 IsTask (task.Demo goals) = (1 ≤ goals) × (goals ≤ 4000)
 
 -- What the status of a run says where the input's bytes are known. Only what was written needs those of the sink.
-pub record SaysRan (turns : ℕ) (input : List ℕ) (source_left held now : Option (List ℕ)) (status : ℕ)
+pub record SaysEnded (kind : RunKind) (input : List ℕ) (source_left held now : Option (List ℕ)) (status : ℕ)
     : Type 0 where
-  pub done : status ≡ 0 → IsDone turns input source_left held now
+  pub done : status ≡ 0 → IsDone kind input source_left held now
   pub refused : status ≡ 3 → IsNoModel line_limit input source_left held now
-  pub read_fault : status ≡ 4 → IsReadFault turns input source_left held now
-  pub short : status ≡ 5 → IsShort turns input source_left held now
-  pub limit : status ≡ 6 → IsPastLimit turns input source_left held now
-  pub full : status ≡ 7 → IsFull turns input source_left held now
+  pub read_fault : status ≡ 4 → IsReadFault kind input source_left held now
+  pub short : status ≡ 5 → IsShort kind input source_left held now
+  pub limit : status ≡ 6 → IsPastLimit kind input source_left held now
+  pub full : status ≡ 7 → IsFull kind input source_left held now
   pub never_wrong : status ≡ 8 → ⊥
-  pub memory : status ≡ 9 → IsOutOfMemory turns input source_left held now
+  pub memory : status ≡ 9 → IsOutOfMemory kind input source_left held now
+
+abbrev pub SaysEndedKnown : RunKind → (input source_left held now : Option (List ℕ)) → ℕ → Type 0
+SaysEndedKnown kind None source_left held now status = ⊤
+SaysEndedKnown kind (Some input) source_left held now status = SaysEnded kind input source_left held now status
 
 -- what the status of a check says
 pub record SaysChecked (input : List ℕ) (source_left held now : Option (List ℕ)) (status : ℕ)
@@ -89,9 +94,7 @@ pub record SaysShown (goals : ℕ) (held now : Option (List ℕ)) (status : ℕ)
 
 -- what a status says where the input's bytes are known, if the task reads them
 abbrev pub SaysKnown : Task → (input source_left held now : Option (List ℕ)) → ℕ → Type 0
-SaysKnown (task.Solo turns) None source_left held now status = ⊤
-SaysKnown (task.Solo turns) (Some input) source_left held now status =
-    SaysRan turns input source_left held now status
+SaysKnown (task.Solo turns) input source_left held now status = SaysEndedKnown (solo_run turns) input source_left held now status
 SaysKnown task.Check None source_left held now status = ⊤
 SaysKnown task.Check (Some input) source_left held now status =
     SaysChecked input source_left held now status
@@ -102,22 +105,6 @@ SaysKnown task.Report None source_left held now status = ⊤
 SaysKnown task.Report (Some input) source_left held now status =
     SaysReadBack which.Report input source_left held now status
 SaysKnown (task.Demo goals) input source_left held now status = SaysShown goals held now status
-
--- what the status of a run of a pair says, where the input's bytes are known
-pub record SaysPaired (turns seed : ℕ) (input : List ℕ) (source_left held now : Option (List ℕ)) (status : ℕ)
-    : Type 0 where
-  pub done : status ≡ 0 → IsPairDone turns seed input source_left held now
-  pub refused : status ≡ 3 → IsNoModel line_limit input source_left held now
-  pub read_fault : status ≡ 4 → IsPairReadFault turns seed input source_left held now
-  pub short : status ≡ 5 → IsPairTorn turns seed input source_left held now
-  pub limit : status ≡ 6 → IsPairPastLimit turns seed input source_left held now
-  pub full : status ≡ 7 → IsPairFull turns seed input source_left held now
-  pub never_wrong : status ≡ 8 → ⊥
-  pub memory : status ≡ 9 → IsPairShort turns seed input source_left held now
-
-abbrev pub SaysPairKnown : (turns seed : ℕ) → (input source_left held now : Option (List ℕ)) → ℕ → Type 0
-SaysPairKnown turns seed None source_left held now status = ⊤
-SaysPairKnown turns seed (Some input) source_left held now status = SaysPaired turns seed input source_left held now status
 
 -- The statuses that a job of one thread can end with, whatever is told of its input: 3, 4 and 6 come of a job that reads its
 -- input, 7 of one that makes a log, 8 of one that reads a log back.

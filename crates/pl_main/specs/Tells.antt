@@ -24,7 +24,7 @@ pub record IsReady (s : State) : Type 0 where
   pub going : s.world.done ≡ false
 
 -- The input was logged. Its round is open, unless it ends the run.
-pub record Hears (old : State) (input : Option (List ℕ)) (new : State) : Type 0 where
+pub record LogsInput (old : State) (input : Option (List ℕ)) (new : State) : Type 0 where
   pub entry : Entry
   pub is_input : entry.event ≡ event.Input input
   pub log : new.log ≡ old.log ++ entry ∷ []
@@ -34,15 +34,15 @@ pub record Hears (old : State) (input : Option (List ℕ)) (new : State) : Type 
   pub closed : new.world.closed ≡ is_last input
   pub same : SameRun old new
 
-abbrev pub Hearing : State → Option (List ℕ) → Result (Unit {0}) Stop → State → Type 0
-Hearing old input (Ok u) new = Hears old input new
-Hearing old input (Err stop.NotNow) new = ⊥
-Hearing old input (Err stop.LogFull) new = (old.world.options.entries ≤ length old.log) × (new ≡ old)
-Hearing old input (Err stop.Spoiled) new = ⊥
-Hearing old input (Err stop.Memory) new = ⊤
+abbrev pub LogsInputOrStops : State → Option (List ℕ) → Result (Unit {0}) Stop → State → Type 0
+LogsInputOrStops old input (Ok u) new = LogsInput old input new
+LogsInputOrStops old input (Err stop.NotNow) new = ⊥
+LogsInputOrStops old input (Err stop.LogFull) new = (old.world.options.entries ≤ length old.log) × (new ≡ old)
+LogsInputOrStops old input (Err stop.Spoiled) new = ⊥
+LogsInputOrStops old input (Err stop.Memory) new = ⊤
 
 -- The entries of a message and its round.
-pub record Told (old : State) (input : Option (List ℕ)) (new : State) : Type 0 where
+pub record AnswersMessage (old : State) (input : Option (List ℕ)) (new : State) : Type 0 where
   pub entries : List Entry
   pub log : new.log ≡ old.log ++ entries
   pub inputs : inputs_of entries ≡ input ∷ []
@@ -54,7 +54,7 @@ pub record Told (old : State) (input : Option (List ℕ)) (new : State) : Type 0
   pub same : SameRun old new
 
 -- The log got full within the round of the message.
-pub record ToldInPart (old : State) (input : Option (List ℕ)) (new : State) : Type 0 where
+pub record AnswersMessageInPart (old : State) (input : Option (List ℕ)) (new : State) : Type 0 where
   pub entries : List Entry
   pub log : new.log ≡ old.log ++ entries
   pub inputs : inputs_of entries ≡ input ∷ []
@@ -69,11 +69,11 @@ pub record ToldInPart (old : State) (input : Option (List ℕ)) (new : State) : 
 -- The log was full when the message came, or it got full within its round.
 pub data FillsUp (old : State) (input : Option (List ℕ)) (new : State) : Type 0 where
   at_once : old.world.options.entries ≤ length old.log → new ≡ old → FillsUp old input new
-  within : ToldInPart old input new → FillsUp old input new
+  within : AnswersMessageInPart old input new → FillsUp old input new
 
-abbrev pub Telling : State → Option (List ℕ) → Result (Unit {0}) Stop → State → Type 0
-Telling old input (Ok u) new = Told old input new
-Telling old input (Err stop.NotNow) new = ⊥
-Telling old input (Err stop.LogFull) new = FillsUp old input new
-Telling old input (Err stop.Spoiled) new = ⊥
-Telling old input (Err stop.Memory) new = ⊤
+abbrev pub AnswersMessageOrStops : State → Option (List ℕ) → Result (Unit {0}) Stop → State → Type 0
+AnswersMessageOrStops old input (Ok u) new = AnswersMessage old input new
+AnswersMessageOrStops old input (Err stop.NotNow) new = ⊥
+AnswersMessageOrStops old input (Err stop.LogFull) new = FillsUp old input new
+AnswersMessageOrStops old input (Err stop.Spoiled) new = ⊥
+AnswersMessageOrStops old input (Err stop.Memory) new = ⊤

@@ -1,7 +1,7 @@
 ghost use Rattle.std.specs.Prelude.{IfSome};
 ghost use Rattle.std.specs.Option.{option_copied};
 ghost use Rattle.pl_entry.specs.Bounds.{IsMessageLine};
-ghost use Rattle.pl_main.specs.Tells.{IsReady, Hearing, Telling};
+ghost use Rattle.pl_main.specs.Tells.{IsReady, LogsInputOrStops, AnswersMessageOrStops};
 
 use pl_choose::Least;
 use pl_driver::solo_round;
@@ -12,7 +12,7 @@ use std::alloc::Global;
 fn hear(machine: &mut Machine, line: Option<&[u8]>) -> Result<(), Stop>
     requires ready { IsReady machine.old }
     requires fits { IfSome (option_copied line) IsMessageLine }
-    ensures { Hearing machine.old (option_copied line.entry) result machine.new }
+    ensures { LogsInputOrStops machine.old (option_copied line.entry) result machine.new }
 {
     machine.input(line)?;
     Ok(())
@@ -23,7 +23,7 @@ fn hear(machine: &mut Machine, line: Option<&[u8]>) -> Result<(), Stop>
 pub fn tell(alloc: Global, machine: &mut Machine, line: Option<&[u8]>) -> Result<(), Stop>
     requires ready { IsReady machine.old }
     requires fits { IfSome (option_copied line) IsMessageLine }
-    ensures { Telling machine.old (option_copied line.entry) result machine.new }
+    ensures { AnswersMessageOrStops machine.old (option_copied line.entry) result machine.new }
 {
     hear(machine, line)?;
     if machine.done() {

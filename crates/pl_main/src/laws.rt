@@ -1,7 +1,8 @@
 //! No input has the causes of two statuses.
 ghost use Rattle.std.specs.Prelude.{ℕ, List, Option};
-ghost use Rattle.pl_main.specs.Top.{line_limit, IsDone, IsPastLimit, IsFull, IsFound, IsNoModel, IsPastHead};
-ghost use Rattle.pl_main.specs.Pairs.{IsPairDone, IsPairPastLimit, IsPairFull};
+ghost use Rattle.pl_main.specs.Top.{line_limit, IsFound, IsNoModel, IsPastHead};
+ghost use Rattle.pl_main.specs.Endings.{IsDone, IsPastLimit, IsFull};
+ghost use Rattle.pl_main.specs.RunKinds.{solo_run, pair_run};
 ghost use Rattle.pl_main.specs.Demos.{IsShown, IsShownInPart};
 ghost use Rattle.pl_main.specs.declared.form.Form.{Form};
 ghost use Rattle.pl_main.specs.Replays.{journal_line_limit, IsRightJournal, IsWrongJournal, IsPastJournal};
@@ -12,17 +13,17 @@ ghost use Rattle.pl_main.specs.Limits.{IsWithinLimits};
 /// demonstration. Of a pair that of 3 stands apart from those of 0, 6 and 7, and those of 0 and 6 from one another. An input within the limits has no cause of 6.
 pub fn statuses_are_told_apart()
     ensures done_not_refused { (turns : ℕ) (input : List ℕ) (left held now other_left other_held other_now : Option (List ℕ))
-        → IsDone turns input left held now → IsNoModel line_limit input other_left other_held other_now → ⊥ }
+        → IsDone (solo_run turns) input left held now → IsNoModel line_limit input other_left other_held other_now → ⊥ }
     ensures done_not_past { (turns : ℕ) (input : List ℕ) (left held now other_left other_held other_now : Option (List ℕ))
-        → IsDone turns input left held now → IsPastLimit turns input other_left other_held other_now → ⊥ }
+        → IsDone (solo_run turns) input left held now → IsPastLimit (solo_run turns) input other_left other_held other_now → ⊥ }
     ensures done_not_full { (turns : ℕ) (input : List ℕ) (left held now other_left other_held other_now : Option (List ℕ))
-        → IsDone turns input left held now → IsFull turns input other_left other_held other_now → ⊥ }
+        → IsDone (solo_run turns) input left held now → IsFull (solo_run turns) input other_left other_held other_now → ⊥ }
     ensures refused_not_past { (turns : ℕ) (input : List ℕ) (left held now other_left other_held other_now : Option (List ℕ))
-        → IsNoModel line_limit input left held now → IsPastLimit turns input other_left other_held other_now → ⊥ }
+        → IsNoModel line_limit input left held now → IsPastLimit (solo_run turns) input other_left other_held other_now → ⊥ }
     ensures refused_not_full { (turns : ℕ) (input : List ℕ) (left held now other_left other_held other_now : Option (List ℕ))
-        → IsNoModel line_limit input left held now → IsFull turns input other_left other_held other_now → ⊥ }
+        → IsNoModel line_limit input left held now → IsFull (solo_run turns) input other_left other_held other_now → ⊥ }
     ensures past_not_full { (turns : ℕ) (input : List ℕ) (left held now other_left other_held other_now : Option (List ℕ))
-        → IsPastLimit turns input left held now → IsFull turns input other_left other_held other_now → ⊥ }
+        → IsPastLimit (solo_run turns) input left held now → IsFull (solo_run turns) input other_left other_held other_now → ⊥ }
     ensures found_not_refused { (input : List ℕ) (left held now other_left other_held other_now : Option (List ℕ))
         → IsFound input left held now → IsNoModel line_limit input other_left other_held other_now → ⊥ }
     ensures found_not_past { (input : List ℕ) (left held now other_left other_held other_now : Option (List ℕ))
@@ -32,13 +33,13 @@ pub fn statuses_are_told_apart()
     ensures shown_not_full { (goals : ℕ) (held now other_held other_now : Option (List ℕ))
         → IsShown goals held now → IsShownInPart goals other_held other_now → ⊥ }
     ensures pair_done_not_refused { (turns seed : ℕ) (input : List ℕ) (left held now other_left other_held other_now : Option (List ℕ))
-        → IsPairDone turns seed input left held now → IsNoModel line_limit input other_left other_held other_now → ⊥ }
+        → IsDone (pair_run turns seed) input left held now → IsNoModel line_limit input other_left other_held other_now → ⊥ }
     ensures pair_done_not_past { (turns seed : ℕ) (input : List ℕ) (left held now other_left other_held other_now : Option (List ℕ))
-        → IsPairDone turns seed input left held now → IsPairPastLimit turns seed input other_left other_held other_now → ⊥ }
+        → IsDone (pair_run turns seed) input left held now → IsPastLimit (pair_run turns seed) input other_left other_held other_now → ⊥ }
     ensures pair_refused_not_past { (turns seed : ℕ) (input : List ℕ) (left held now other_left other_held other_now : Option (List ℕ))
-        → IsNoModel line_limit input left held now → IsPairPastLimit turns seed input other_left other_held other_now → ⊥ }
+        → IsNoModel line_limit input left held now → IsPastLimit (pair_run turns seed) input other_left other_held other_now → ⊥ }
     ensures pair_refused_not_full { (turns seed : ℕ) (input : List ℕ) (left held now other_left other_held other_now : Option (List ℕ))
-        → IsNoModel line_limit input left held now → IsPairFull turns seed input other_left other_held other_now → ⊥ }
+        → IsNoModel line_limit input left held now → IsFull (pair_run turns seed) input other_left other_held other_now → ⊥ }
     ensures right_not_wrong { (form : Form) (input : List ℕ) (left held now other_left other_held other_now : Option (List ℕ))
         → IsRightJournal form input left held now → IsWrongJournal input other_left other_held other_now → ⊥ }
     ensures right_not_refused { (form : Form) (input : List ℕ) (left held now other_left other_held other_now : Option (List ℕ))
@@ -52,9 +53,9 @@ pub fn statuses_are_told_apart()
     ensures no_journal_not_past { (input : List ℕ) (left held now other_left other_held other_now : Option (List ℕ))
         → IsNoModel journal_line_limit input left held now → IsPastJournal input other_left other_held other_now → ⊥ }
     ensures within { (turns : ℕ) (input : List ℕ) (left held now : Option (List ℕ))
-        → IsWithinLimits line_limit input → IsPastLimit turns input left held now → ⊥ }
+        → IsWithinLimits line_limit input → IsPastLimit (solo_run turns) input left held now → ⊥ }
     ensures pair_within { (turns seed : ℕ) (input : List ℕ) (left held now : Option (List ℕ))
-        → IsWithinLimits line_limit input → IsPairPastLimit turns seed input left held now → ⊥ }
+        → IsWithinLimits line_limit input → IsPastLimit (pair_run turns seed) input left held now → ⊥ }
     ensures head_within { (input : List ℕ) (left held now : Option (List ℕ))
         → IsWithinLimits line_limit input → IsPastHead line_limit input left held now → ⊥ }
     ensures journal_within { (input : List ℕ) (left held now : Option (List ℕ))

@@ -3,9 +3,9 @@ ghost use Rattle.std.specs.Prelude.{◌≡◌, ◌≤◌, None, IsErrOf};
 ghost use Rattle.pl_io.specs.Faults.{Rose};
 ghost use Rattle.pl_model.specs.Checked.{IsChecked};
 ghost use Rattle.pl_input.specs.Places.{place_of};
-ghost use Rattle.pl_pair.specs.Runs.{PairRun};
-ghost use Rattle.pl_main.specs.Runs.{fresh_state};
-ghost use Rattle.pl_main.specs.Pairs.{outcome_of, PairTextRuns, PairedKnown};
+ghost use Rattle.pl_main.specs.Endings.{EndedAsKnown};
+ghost use Rattle.pl_main.specs.RunKinds.{pair_run};
+ghost use Rattle.pl_main.specs.Runs.{PairRuns, TextRuns};
 
 use crate::judging::{NO_BEGIN, model_of, refuse};
 use crate::outcome::Outcome;
@@ -14,25 +14,11 @@ use pl_check::Accepted;
 use pl_input::{Halt, Head, halt_of, read_head};
 use pl_io::{LineReader, Sink, Source};
 use pl_model::Model;
-use pl_pair::{Ended, run_pair};
+use pl_pair::run_pair;
 use pl_turn::Gate;
 use std::alloc::Global;
 use std::sync::Wait;
 use std::thread::Threads;
-
-/// How a run of a pair ended, told as that of one thread.
-fn outcome_of(ended: Ended) -> Result<Outcome, Halt>
-    ensures { result ≡ outcome_of ended }
-{
-    match ended {
-        Ended::Finished => Ok(Outcome::Done),
-        Ended::ReadFault => Err(Halt::Read),
-        Ended::WriteFault => Err(Halt::Write),
-        Ended::InputLimit => Err(Halt::Limit),
-        Ended::LogFull => Err(Halt::Full),
-        Ended::Memory => Err(Halt::Memory),
-    }
-}
 
 /// Opens a journal over a model, and has the messages answered.
 #[tactic(auto, using(crate::proofs::Pairing::none_opened))]
@@ -46,23 +32,23 @@ fn run_model<R: Threads + Wait + Sync, S: Source, O: Sink, G: Gate + Sync>(
     lines: &mut LineReader,
     src: &mut S,
     out: &mut O,
-) -> Ended
+) -> Result<(), Halt>
     requires checked { IsChecked model }
     requires turns { (1 ≤ turns) × (turns ≤ 1000) }
     requires limit { lines.old.limit ≡ 4096 }
     requires working { lines.old.failed ≡ None }
-    ensures run { PairRun seed (fresh_state turns model) (place_of lines.old (S.left src.old)) (O.held out.old) result
+    ensures run { PairRuns turns seed model (place_of lines.old (S.left src.old)) (O.held out.old) result
         (place_of lines.new (S.left src.new)) (O.held out.new) }
-    ensures read { result ≡ Ended.ReadFault → Rose (S.faults src.old) (S.faults src.new) }
-    ensures write { result ≡ Ended.WriteFault → Rose (O.faults out.old) (O.faults out.new) }
+    ensures read { IsErrOf result Halt.Read → Rose (S.faults src.old) (S.faults src.new) }
+    ensures write { IsErrOf result Halt.Write → Rose (O.faults out.old) (O.faults out.new) }
 {
     match open_machine(alloc, turns, model) {
         Ok(machine) => run_pair(rt, alloc, machine, seed, gate, lines, src, out),
-        Err(_) => Ended::Memory,
+        Err(_) => Err(Halt::Memory),
     }
 }
 
-#[tactic(auto, using(crate::proofs::Pairing::text_short, crate::proofs::Pairing::text_refused, crate::proofs::Pairing::text_ran, crate::proofs::Pairing::was_read, crate::proofs::Pairing::was_write))]
+#[tactic(auto, using(crate::proofs::Texting::text_unjudged, crate::proofs::Texting::text_refused, crate::proofs::Texting::text_ran, crate::proofs::Texting::text_stops))]
 fn run_text<R: Threads + Wait + Sync, S: Source, O: Sink, G: Gate + Sync>(
     rt: &R,
     alloc: Global,
@@ -77,22 +63,25 @@ fn run_text<R: Threads + Wait + Sync, S: Source, O: Sink, G: Gate + Sync>(
     requires turns { (1 ≤ turns) × (turns ≤ 1000) }
     requires limit { lines.old.limit ≡ 4096 }
     requires working { lines.old.failed ≡ None }
-    ensures run { PairTextRuns turns seed kept (place_of lines.old (S.left src.old)) (O.held out.old) result
+    ensures run { TextRuns (PairRuns turns seed) kept (place_of lines.old (S.left src.old)) (O.held out.old) result
         (place_of lines.new (S.left src.new)) (O.held out.new) }
     ensures read { IsErrOf result Halt.Read → Rose (S.faults src.old) (S.faults src.new) }
     ensures write { IsErrOf result Halt.Write → Rose (O.faults out.old) (O.faults out.new) }
 {
     match model_of(alloc, &kept)? {
         Accepted::Refused(line) => refuse(out, line.as_slice()),
-        Accepted::Model(model) => outcome_of(run_model(
+        Accepted::Model(model) => match run_model(
             rt, alloc, turns, seed, model, gate, lines, src, out,
-        )),
+        ) {
+            Ok(()) => Ok(Outcome::Done),
+            Err(halt) => Err(halt),
+        },
     }
 }
 
 /// Reads a model, and has its messages answered by a planner and an executive in threads of their own, while the journal is
 /// written. It waits for its threads.
-#[tactic(auto, using(crate::proofs::Pairing::paired_memory, crate::proofs::Pairing::head_paired))]
+#[tactic(auto, using(crate::proofs::Running::no_reader, crate::proofs::Running::head_run))]
 pub fn paired<R: Threads + Wait + Sync, S: Source, O: Sink, G: Gate + Sync>(
     rt: &R,
     alloc: Global,
@@ -103,7 +92,7 @@ pub fn paired<R: Threads + Wait + Sync, S: Source, O: Sink, G: Gate + Sync>(
     gate: &G,
 ) -> Result<Outcome, Halt>
     requires turns { (1 ≤ turns) × (turns ≤ 1000) }
-    ensures ran { PairedKnown turns seed (S.left src.old) (S.left src.new) (O.held out.old) (O.held out.new)
+    ensures ran { EndedAsKnown (pair_run turns seed) (S.left src.old) (S.left src.new) (O.held out.old) (O.held out.new)
         result }
     ensures read { IsErrOf result Halt.Read → Rose (S.faults src.old) (S.faults src.new) }
     ensures write { IsErrOf result Halt.Write → Rose (O.faults out.old) (O.faults out.new) }

@@ -4,7 +4,7 @@ ghost use Rattle.pl_io.specs.Faults.{Rose};
 ghost use Rattle.pl_entry.specs.Bounds.{IsMessageLine};
 ghost use Rattle.pl_main.specs.Tells.{IsReady};
 ghost use Rattle.pl_input.specs.Places.{place_of};
-ghost use Rattle.pl_main.specs.Plays.{Answering, Steps, Playing};
+ghost use Rattle.pl_main.specs.Plays.{Answering, AnswersNextOrStops, AnswersAllOrStops};
 
 use crate::answers::tell;
 use crate::logs::write_log;
@@ -55,7 +55,7 @@ fn step<S: Source, O: Sink>(
     requires ready { IsReady machine.old }
     requires limit { lines.old.limit ≡ 4096 }
     requires working { lines.old.failed ≡ None }
-    ensures step { Steps machine.old (place_of lines.old (S.left src.old)) (O.held out.old) result machine.new (place_of lines.new (S.left src.new)) (O.held out.new) }
+    ensures step { AnswersNextOrStops machine.old (place_of lines.old (S.left src.old)) (O.held out.old) result machine.new (place_of lines.new (S.left src.new)) (O.held out.new) }
     ensures read { IsErrOf result Halt.Read → Rose (S.faults src.old) (S.faults src.new) }
     ensures write { IsErrOf result Halt.Write → Rose (O.faults out.old) (O.faults out.new) }
     ensures later { (S.faults src.old ≤ S.faults src.new) × (O.faults out.old ≤ O.faults out.new) }
@@ -78,7 +78,7 @@ pub fn play<S: Source, O: Sink>(
     requires ready { IsReady machine.old }
     requires limit { lines.old.limit ≡ 4096 }
     requires working { lines.old.failed ≡ None }
-    ensures play { Playing machine.old (place_of lines.old (S.left src.old)) (O.held out.old) result machine.new (place_of lines.new (S.left src.new)) (O.held out.new) }
+    ensures play { AnswersAllOrStops machine.old (place_of lines.old (S.left src.old)) (O.held out.old) result machine.new (place_of lines.new (S.left src.new)) (O.held out.new) }
     ensures read { IsErrOf result Halt.Read → Rose (S.faults src.old) (S.faults src.new) }
     ensures write { IsErrOf result Halt.Write → Rose (O.faults out.old) (O.faults out.new) }
     ensures later { (S.faults src.old ≤ S.faults src.new) × (O.faults out.old ≤ O.faults out.new) }

@@ -2,8 +2,9 @@ ghost use Rattle.std.specs.Prelude.{◌≡◌, ◌≤◌, ◌⊎◌, ℕ, None, 
 ghost use Rattle.pl_io.specs.Faults.{Rose};
 ghost use Rattle.pl_io.specs.Writes.{AppendsFront};
 ghost use Rattle.pl_main.specs.Words.{command_of};
-ghost use Rattle.pl_main.specs.Limits.{Completes, CompletesPair};
-ghost use Rattle.pl_main.specs.Statuses.{IsTask, IsStatusOf, IsPairStatus, status_of, status_of_journal, usage_line, SaysKnown, SaysPairKnown};
+ghost use Rattle.pl_main.specs.Limits.{Completes, CompletesRun};
+ghost use Rattle.pl_main.specs.RunKinds.{pair_run};
+ghost use Rattle.pl_main.specs.Statuses.{IsTask, IsStatusOf, IsPairStatus, status_of, status_of_journal, usage_line, SaysKnown, SaysEndedKnown};
 ghost use Rattle.pl_journal.specs.Written.{Adds};
 
 use crate::check::check;
@@ -100,7 +101,7 @@ fn usage<O: Sink>(out: &mut O) -> u8
 }
 
 /// Does the job of a planner and an executive in threads of their own, and answers its status.
-#[tactic(auto, using(crate::proofs::Topping::says_paired, crate::proofs::Jobs::pair_status))]
+#[tactic(auto, using(crate::proofs::Topping::says_of, crate::proofs::Jobs::pair_status))]
 fn pair<R: Threads + Wait + Sync, I: Source, O: Sink, G: Gate + Sync>(
     rt: &R,
     alloc: Global,
@@ -114,10 +115,10 @@ fn pair<R: Threads + Wait + Sync, I: Source, O: Sink, G: Gate + Sync>(
     ensures status { IsPairStatus result }
     ensures read { result ≡ 4 → Rose (I.faults input.old) (I.faults input.new) }
     ensures write { result ≡ 5 → Rose (O.faults out.old) (O.faults out.new) }
-    ensures says { SaysPairKnown turns seed (I.left input.old) (I.left input.new) (O.held out.old) (O.held out.new) result }
+    ensures says { SaysEndedKnown (pair_run turns seed) (I.left input.old) (I.left input.new) (O.held out.old) (O.held out.new) result }
     ensures complete { (Rose (I.faults input.old) (I.faults input.new) → ⊥)
         → (Rose (O.faults out.old) (O.faults out.new) → ⊥)
-        → CompletesPair turns seed (I.left input.old) result }
+        → CompletesRun (pair_run turns seed) (I.left input.old) result }
 {
     status_of(paired(rt, alloc, turns, seed, input, out, gate))
 }
@@ -150,11 +151,11 @@ pub fn run<R: Threads + Wait + Sync, I: Source, O: Sink, G: Gate + Sync>(
         → (Rose (O.faults out.old) (O.faults out.new) → ⊥)
         → Completes task (I.left input.old) result }
     ensures pair { (turns seed : ℕ) → command_of words.now ≡ Some (Command.Pair turns seed)
-        → SaysPairKnown turns seed (I.left input.old) (I.left input.new) (O.held out.old) (O.held out.new) result }
+        → SaysEndedKnown (pair_run turns seed) (I.left input.old) (I.left input.new) (O.held out.old) (O.held out.new) result }
     ensures pair_complete { (turns seed : ℕ) → command_of words.now ≡ Some (Command.Pair turns seed)
         → (Rose (I.faults input.old) (I.faults input.new) → ⊥)
         → (Rose (O.faults out.old) (O.faults out.new) → ⊥)
-        → CompletesPair turns seed (I.left input.old) result }
+        → CompletesRun (pair_run turns seed) (I.left input.old) result }
 {
     match read_words(words) {
         None => usage(out),

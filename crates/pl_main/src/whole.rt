@@ -3,7 +3,9 @@ ghost use Rattle.pl_io.specs.Faults.{Rose};
 ghost use Rattle.pl_model.specs.Checked.{IsChecked};
 ghost use Rattle.pl_input.specs.Places.{place_of};
 ghost use Rattle.pl_main.specs.Runs.{fresh_state, ModelRuns, TextRuns};
-ghost use Rattle.pl_main.specs.Top.{program_options, RanKnown};
+ghost use Rattle.pl_main.specs.Top.{program_options};
+ghost use Rattle.pl_main.specs.Endings.{EndedAsKnown};
+ghost use Rattle.pl_main.specs.RunKinds.{solo_run};
 
 use crate::judging::{NO_BEGIN, model_of, refuse};
 use crate::logs::write_log;
@@ -76,7 +78,7 @@ fn run_model<S: Source, O: Sink>(
     }
 }
 
-#[tactic(auto, using(crate::proofs::Ending::text_unjudged, crate::proofs::Ending::text_refused, crate::proofs::Ending::text_ran, crate::proofs::Ending::text_stops))]
+#[tactic(auto, using(crate::proofs::Texting::text_unjudged, crate::proofs::Texting::text_refused, crate::proofs::Texting::text_ran, crate::proofs::Texting::text_stops))]
 fn run_text<S: Source, O: Sink>(
     alloc: Global,
     turns: u32,
@@ -88,7 +90,7 @@ fn run_text<S: Source, O: Sink>(
     requires turns { (1 ≤ turns) × (turns ≤ 1000) }
     requires limit { lines.old.limit ≡ 4096 }
     requires working { lines.old.failed ≡ None }
-    ensures run { TextRuns turns kept (place_of lines.old (S.left src.old)) (O.held out.old) result
+    ensures run { TextRuns (ModelRuns turns) kept (place_of lines.old (S.left src.old)) (O.held out.old) result
         (place_of lines.new (S.left src.new)) (O.held out.new) }
     ensures read { IsErrOf result Halt.Read → Rose (S.faults src.old) (S.faults src.new) }
     ensures write { IsErrOf result Halt.Write → Rose (O.faults out.old) (O.faults out.new) }
@@ -103,7 +105,7 @@ fn run_text<S: Source, O: Sink>(
 }
 
 /// Reads a model and its messages, and writes the journal.
-#[tactic(auto, using(crate::proofs::Running::no_reader, crate::proofs::Running::head_solo))]
+#[tactic(auto, using(crate::proofs::Running::no_reader, crate::proofs::Running::head_run))]
 pub fn solo<S: Source, O: Sink>(
     alloc: Global,
     turns: u32,
@@ -111,7 +113,7 @@ pub fn solo<S: Source, O: Sink>(
     out: &mut O,
 ) -> Result<Outcome, Halt>
     requires turns { (1 ≤ turns) × (turns ≤ 1000) }
-    ensures ran { RanKnown turns (S.left src.old) (S.left src.new) (O.held out.old) (O.held out.new)
+    ensures ran { EndedAsKnown (solo_run turns) (S.left src.old) (S.left src.new) (O.held out.old) (O.held out.new)
         result }
     ensures read { IsErrOf result Halt.Read → Rose (S.faults src.old) (S.faults src.new) }
     ensures write { IsErrOf result Halt.Write → Rose (O.faults out.old) (O.faults out.new) }

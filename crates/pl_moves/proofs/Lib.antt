@@ -5,10 +5,10 @@ mod Subtrees
 mod Returning
 mod Picking
 mod Foremost
-mod Trying
+pub mod Trying
 mod Kin
 mod Onward
-mod Along
+pub mod Along
 pub mod Enough
 mod Cuts
 mod Remade

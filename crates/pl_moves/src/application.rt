@@ -15,7 +15,7 @@ use pl_points::{Ledger, Steps};
 use std::alloc::{AllocError, Global};
 
 /// Takes out what a change takes out, and puts in what it places.
-pub(crate) fn make_change<L: Ledger>(
+pub fn make_change<L: Ledger>(
     board: &mut Board,
     change: &Change,
     steps: &mut Steps<L>,

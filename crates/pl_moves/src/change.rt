@@ -16,9 +16,9 @@ use std::alloc::{AllocError, Global};
 
 /// The ids of the activities that go, and the activities that come.
 #[derive(Drop)]
-pub(crate) struct Change {
-    pub(crate) gone: Vec<u32>,
-    pub(crate) placed: Vec<Activity>,
+pub struct Change {
+    pub gone: Vec<u32>,
+    pub placed: Vec<Activity>,
 }
 
 fn single(alloc: Global, a: Activity) -> Result<Vec<Activity>, AllocError>
@@ -29,7 +29,7 @@ fn single(alloc: Global, a: Activity) -> Result<Vec<Activity>, AllocError>
     Ok(all)
 }
 
-// A copy that is moved along with an activity that goes from `from` to `to`.
+/// A copy that is moved along with an activity that goes from `from` to `to`.
 pub(crate) fn moved(alloc: Global, a: &Activity, from: u32, to: u32) -> Result<Activity, AllocError>
     requires { a.now.start + to < 2 ^ 32 }
     ensures { IfOk result (λ b. b ≡ moved from to a.now) }

@@ -54,8 +54,8 @@ pub fn goes_on(first: &RepairMove, mv: &RepairMove) -> bool
     }
 }
 
-// How many of the moves go on with what the first one places.
-fn run_length(first: &RepairMove, moves: &[RepairMove]) -> usize
+/// How many of the moves go on with what the first one places, from the front.
+pub fn run_length(first: &RepairMove, moves: &[RepairMove]) -> usize
     ensures few { result ≤ length moves.now }
     ensures alike { All (λ m. goes_on first.now m ≡ true) (take result moves.now) }
 {
@@ -101,8 +101,8 @@ fn note(board: &mut Board, counts: &mut Vec<u32>) -> Result<u32, AllocError>
     }
 }
 
-// Takes what a move has placed on to another start.
-fn go_on<L: Ledger>(
+/// Takes what a move has placed on to another start. Want of memory spoils the board.
+pub fn go_on<L: Ledger>(
     alloc: Global,
     board: &mut Board,
     trial: &Trial,

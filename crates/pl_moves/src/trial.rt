@@ -11,14 +11,15 @@ use pl_plan::RepairMove;
 use pl_semantics::PlanState;
 use std::alloc::{AllocError, Global};
 
-// A change, and the one that undoes it.
+/// A change, and the one that undoes it.
 #[derive(Drop)]
-pub(crate) struct Trial {
-    pub(crate) change: Change,
-    pub(crate) undo: Change,
+pub struct Trial {
+    pub change: Change,
+    pub undo: Change,
 }
 
-pub(crate) fn trial_of(alloc: Global, s: &PlanState, mv: &RepairMove) -> Result<Trial, AllocError>
+/// What a move of activities changes, and how that is undone. The move is proper, and nothing refuses it.
+pub fn trial_of(alloc: Global, s: &PlanState, mv: &RepairMove) -> Result<Trial, AllocError>
     requires whole { IsWhole s.now }
     requires proper { is_proper s.now mv.now ≡ true }
     requires allowed { refusal_of s.now mv.now ≡ None }

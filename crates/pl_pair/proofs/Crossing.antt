@@ -6,7 +6,6 @@ use base.Fml.{Lft}
 use denote.RattleType.{RattleType}
 use denote.Exit
 use denote.Ref.{ShrRef}
-use denote.Builtin.{u64}
 use denote.Param.{param, arg}
 use denote.Param.Send.{IsSend, IsSync, AllSend, param_send, arg_send, struct_send, recorded_send, shr_send, sendable}
 use denote.Struct.Declared.{shape}
@@ -25,6 +24,7 @@ use Rattle.pl_shared.proofs.Crossing.{held_whole, plan_sync, pass_send}
 use Rattle.pl_shared.specs.contracts.held.Held
 use Rattle.pl_shared.specs.contracts.noted.Noted
 use Rattle.pl_shared.specs.contracts.plan.SharedPlan
+use Rattle.pl_pair.specs.contracts.duty.Duty
 use Rattle.pl_pair.specs.contracts.worker.Worker
 
 pass_fields : IsSend (Pass.the_field Held.the_row Noted.the_row).row
@@ -32,9 +32,6 @@ pass_fields = pass.the_field_send Held.the_row Noted.the_row held_whole
 
 pub worker_send : IsSend Worker.the_field.row
 worker_send = struct_send (shape Worker.the_type) (pass_fields, (role.the_field_send, (duty.the_field_send, (search (stop.the_send, sendable, crosses) depth 40 fits 6000, tt))))
-
-seed_send : IsSend u64
-seed_send = search (sendable, crosses) depth 40 fits 6000
 
 heap_send : IsSend Heap.the_row
 heap_send = search (sendable, crosses) depth 40 fits 6000
@@ -55,21 +52,12 @@ closure_send i Ts s =
     param_send i (arg ty_unit denote.Exit.no (TupleAt [] Ts)) (arg_send ty_unit denote.Exit.no (TupleAt [] Ts) (recorded_send (Struct (shape T)) T.D T.to T.to_one (struct_send (shape T) (captures_send Ts s))))
 
 module _ (a b c d : Lft) (R G : RattleType) (r : IsSync R) (g : IsSync G) where
-  abbrev pub planner_has : List RattleType
-  planner_has =
-      ShrRef (named 0) a R ∷ Heap.the_row ∷ ShrRef (named 0) b SharedPlan.the_row ∷ ShrRef (named 0) c G ∷ Pass.the_row Held.the_row Noted.the_row ∷ u64 ∷ ShrRef (named 0) d AtomicBool.the_row ∷ []
+  abbrev pub worker_has : List RattleType
+  worker_has =
+      ShrRef (named 0) a R ∷ Heap.the_row ∷ ShrRef (named 0) b SharedPlan.the_row ∷ ShrRef (named 0) c G ∷ Pass.the_row Held.the_row Noted.the_row ∷ Duty.the_row ∷ ShrRef (named 0) d AtomicBool.the_row ∷ []
 
-  pub planner_send : IsSend (param 2 (arg ty_unit denote.Exit.no (TupleAt [] planner_has)))
-  planner_send = closure_send 2 planner_has (
+  pub hired_send : IsSend (param 2 (arg ty_unit denote.Exit.no (TupleAt [] worker_has)))
+  hired_send = closure_send 2 worker_has (
     shr_send (named 0) a R r,
-    (heap_send, (shr_send (named 0) b SharedPlan.the_row plan_sync, (shr_send (named 0) c G g, (pass_send, (seed_send, (shr_send (named 0) d AtomicBool.the_row flag_sync, tt)))))),
-  )
-
-  abbrev pub executive_has : List RattleType
-  executive_has = ShrRef (named 0) a R ∷ Heap.the_row ∷ ShrRef (named 0) b SharedPlan.the_row ∷ ShrRef (named 0) c G ∷ Pass.the_row Held.the_row Noted.the_row ∷ ShrRef (named 0) d AtomicBool.the_row ∷ []
-
-  pub executive_send : IsSend (param 2 (arg ty_unit denote.Exit.no (TupleAt [] executive_has)))
-  executive_send = closure_send 2 executive_has (
-    shr_send (named 0) a R r,
-    (heap_send, (shr_send (named 0) b SharedPlan.the_row plan_sync, (shr_send (named 0) c G g, (pass_send, (shr_send (named 0) d AtomicBool.the_row flag_sync, tt))))),
+    (heap_send, (shr_send (named 0) b SharedPlan.the_row plan_sync, (shr_send (named 0) c G g, (pass_send, (duty.the_send, (shr_send (named 0) d AtomicBool.the_row flag_sync, tt)))))),
   )

@@ -17,7 +17,7 @@ use Rattle.pl_entry.specs.declared.entry.Entry.{Entry}
 use Rattle.pl_input.specs.Words.{is_blank_line}
 use Rattle.pl_journal.specs.Rendering.Lines.{text_from}
 use Rattle.pl_journal.proofs.AboutRendering.Texts.{text_joined}
-use Rattle.pl_input.specs.Reads.{Took, IsUsedUp, AreBlank}
+use Rattle.pl_input.specs.Reads.{ReadsLines, IsUsedUp, AreBlank}
 use Rattle.pl_input.specs.Waits.{line_in}
 use Rattle.pl_journal.specs.Written.{Adds}
 use Rattle.pl_input.proofs.Reading.{took_more, used_later}
@@ -34,12 +34,12 @@ use Rattle.pl_pair.specs.declared.cut.Cut.{Cut}
 use Rattle.pl_pair.specs.declared.cut.Cut.TheVariants as cut
 use Rattle.pl_pair.specs.declared.rounds.Stage.TheVariants as stage
 use Rattle.pl_pair.specs.Cuts.{cut_by}
-use Rattle.pl_pair.specs.Rounds.{Follows, Looks, IsBetween, lines_behind, RoundEnds}
+use Rattle.pl_pair.specs.Rounds.{Follows, LooksAtPlan, IsBetween, lines_behind, RoundEnds}
 use Rattle.std.specs.Prelude.{IsErrOf}
 use Rattle.std.proofs.lemmas.Option.{same_Some}
 use Rattle.pl_input.specs.Places.{Place}
 use Rattle.pl_pair.specs.Asking.{Asks, HandsOn, HandsNone, Passes, PassesTo}
-use Rattle.pl_pair.specs.Feeds.{spoken, said_in, IsInput, AreInputs, Reads, unasked, asked, Heard, Tells, HandsOne, WritesAll, StepsOn, StepsOut, StepsCut, in_round, at_message, Steps, Feeding, Waiting, FeedsOut, FeedsUntil, FeedsRefused, FeedsTorn, for_lines, for_message, for_reader, refused, stopped, FeedsAll, FeedsToEnd}
+use Rattle.pl_pair.specs.Feeds.{spoken, said_in, IsInput, AreInputs, Reads, unasked, asked, Heard, HandsOnMessages, HandsOne, WritesAll, FeedsRound, FeedsLastRound, StepsCut, in_round, at_message, FeedsRoundOrStops, Feeding, Waiting, FeedsOut, FeedsUntil, FeedsRefused, FeedsTorn, for_lines, for_message, for_reader, refused, stopped, FeedsAll, FeedsToEnd}
 use Rattle.pl_pair.proofs.Passing.{follows_self, follows_on, entries_longer, behind_looks}
 
 -- ---- lists
@@ -87,7 +87,7 @@ wrote_on m held mid now front seen from on count first second =
 
 -- ---- what was told
 
-tells_on : (old mid new : PlanPass) (start place : Place) → Tells old start mid place → Follows mid new → mine_of new ≡ mine_of mid → Tells old start new place
+tells_on : (old mid new : PlanPass) (start place : Place) → HandsOnMessages old start mid place → Follows mid new → mine_of new ≡ mine_of mid → HandsOnMessages old start new place
 tells_on old mid new start place tells follows same = record {
   follows = follows_on old mid new tells.follows follows;
   inputs = tells.inputs;
@@ -95,10 +95,10 @@ tells_on old mid new start place tells follows same = record {
   mine = (let P : List (ℕ × Noted) → Type 0 = λ xs. AreInputs tells.inputs xs in subst P (sym same) tells.mine);
 }
 
-reads_on : (start middle place : Place) (xs ys : List (List ℕ)) → Reads start xs middle → Took middle.reader middle.ahead ys place.reader place.ahead → Took start.reader start.ahead (xs ++ ys) place.reader place.ahead
+reads_on : (start middle place : Place) (xs ys : List (List ℕ)) → Reads start xs middle → ReadsLines middle.reader middle.ahead ys place.reader place.ahead → ReadsLines start.reader start.ahead (xs ++ ys) place.reader place.ahead
 reads_on start middle place xs ys (unasked none same) took =
-    let P : List (List ℕ) → Type 0 = λ zs. Took start.reader start.ahead (zs ++ ys) place.reader place.ahead in
-    let Q : Place → Type 0 = λ p. Took p.reader p.ahead ys place.reader place.ahead in
+    let P : List (List ℕ) → Type 0 = λ zs. ReadsLines start.reader start.ahead (zs ++ ys) place.reader place.ahead in
+    let Q : Place → Type 0 = λ p. ReadsLines p.reader p.ahead ys place.reader place.ahead in
     subst P (sym none) (subst Q same took)
 reads_on start middle place xs ys (asked works first) took = took_more start.reader middle.reader place.reader start.ahead middle.ahead place.ahead xs ys first took
 
@@ -168,7 +168,7 @@ heard_more start middle place inputs (Some line) heard asks =
     }
 
 -- and it was handed on
-tells_more : (plan : SharedPlan) (old mid new : PlanPass) (start middle place : Place) → Tells old start mid middle → Follows mid new → HandsOn middle mid (Ok tt) place new → Tells old start new place
+tells_more : (plan : SharedPlan) (old mid new : PlanPass) (start middle place : Place) → HandsOnMessages old start mid middle → Follows mid new → HandsOn middle mid (Ok tt) place new → HandsOnMessages old start new place
 tells_more plan old mid new start middle place tells follows step =
     let line = line_in step.message in
     let makes = step.hands.1 in
@@ -248,13 +248,13 @@ feeding_none plan m pass start held own new = record {
 }
 
 module _ (plan : SharedPlan) (m : Model) (old : PlanPass) (start : Place) (held : Option (List ℕ)) (cur : PlanPass) (middle : Place) (mid : Option (List ℕ)) (from : ℕ) (feeding : Feeding plan m old start held cur middle mid from) where
-  on_to : (new : PlanPass) → Looks cur new → IsPrefix feeding.writes.front (seen_of new)
+  on_to : (new : PlanPass) → LooksAtPlan cur new → IsPrefix feeding.writes.front (seen_of new)
   on_to new looks = prefix_trans feeding.writes.front (seen_of cur) (seen_of new) feeding.writes.in_front looks.follows.longer
 
-  told_to : (new : PlanPass) → Looks cur new → Tells old start new middle
+  told_to : (new : PlanPass) → LooksAtPlan cur new → HandsOnMessages old start new middle
   told_to new looks = tells_on old cur new start middle feeding.tells looks.follows looks.mine
 
-  waits : (new : PlanPass) (now : Option (List ℕ)) (next : ℕ) → BelongsTo plan new → Looks cur new → RoundEnds m from mid (Ok (stage.Waits next)) (seen_of new) now → Waiting plan m old start held new middle now
+  waits : (new : PlanPass) (now : Option (List ℕ)) (next : ℕ) → BelongsTo plan new → LooksAtPlan cur new → RoundEnds m from mid (Ok (stage.Waits next)) (seen_of new) now → Waiting plan m old start held new middle now
   waits new now next own looks ends = record {
     own = own;
     tells = told_to new looks;
@@ -263,7 +263,7 @@ module _ (plan : SharedPlan) (m : Model) (old : PlanPass) (start : Place) (held 
   }
 
   -- the pass sees more, and its lines are still to be written
-  still : (new : PlanPass) → BelongsTo plan new → Looks cur new → Feeding plan m old start held new middle mid from
+  still : (new : PlanPass) → BelongsTo plan new → LooksAtPlan cur new → Feeding plan m old start held new middle mid from
   still new own looks =
       let writes = feeding.writes in
       let P : List (ℕ × Noted) → Type 0 = λ own. (own ≡ []) ⊎ HandsOne old writes.front own in
@@ -273,13 +273,13 @@ module _ (plan : SharedPlan) (m : Model) (old : PlanPass) (start : Place) (held 
         writes = record { front = writes.front; in_front = on_to new looks; count = writes.count; due = behind_looks from cur new writes.due looks; written = writes.written; behind = subst P (sym looks.mine) writes.behind };
       }
 
-  torn_to : (new : PlanPass) (place : Place) (now : Option (List ℕ)) → BelongsTo plan new → Looks cur new → AppendsFront mid now (lines_behind m from (seen_of new)) → place ≡ middle → FeedsTorn plan m old start held new place now
+  torn_to : (new : PlanPass) (place : Place) (now : Option (List ℕ)) → BelongsTo plan new → LooksAtPlan cur new → AppendsFront mid now (lines_behind m from (seen_of new)) → place ≡ middle → FeedsTorn plan m old start held new place now
   torn_to new place now own looks torn same =
       let P : Place → Type 0 = λ p. Feeding plan m old start held new p mid from in
       record { next = from; so_far = mid; feeding = subst P (sym same) (still new own looks); torn = torn }
 
   -- the lines were written, and a message was handed on
-  pub feeds_on : (new : PlanPass) (place : Place) (now : Option (List ℕ)) (next : ℕ) → BelongsTo plan new → StepsOn plan m from middle cur mid next place new now → Feeding plan m old start held new place now next
+  pub feeds_on : (new : PlanPass) (place : Place) (now : Option (List ℕ)) (next : ℕ) → BelongsTo plan new → FeedsRound plan m from middle cur mid next place new now → Feeding plan m old start held new place now next
   feeds_on new place now next own step =
       let waiting = waits step.mid now next step.own step.looks step.ends in
       record {
@@ -296,9 +296,9 @@ module _ (plan : SharedPlan) (m : Model) (old : PlanPass) (start : Place) (held 
       }
 
   -- the input had ended
-  pub feeds_out : (new : PlanPass) (place : Place) (now : Option (List ℕ)) → BelongsTo plan new → StepsOut m from middle cur mid place new now → FeedsOut plan m old start held new place now
+  pub feeds_out : (new : PlanPass) (place : Place) (now : Option (List ℕ)) → BelongsTo plan new → FeedsLastRound m from middle cur mid place new now → FeedsOut plan m old start held new place now
   feeds_out new place now own step =
-      let P : Place → Type 0 = λ p. Tells old start new p in
+      let P : Place → Type 0 = λ p. HandsOnMessages old start new p in
       record {
         own = own;
         tells = subst P (sym step.same) (told_to new step.looks);
@@ -307,14 +307,14 @@ module _ (plan : SharedPlan) (m : Model) (old : PlanPass) (start : Place) (held 
       }
 
   -- cut short in a round
-  cut_round : (c : Cut) (new : PlanPass) (place : Place) (now : Option (List ℕ)) → BelongsTo plan new → Looks cur new → RoundEnds m from mid (Err c) (seen_of new) now → place ≡ middle → FeedsAll plan m old start held (Err c) new place now
+  cut_round : (c : Cut) (new : PlanPass) (place : Place) (now : Option (List ℕ)) → BelongsTo plan new → LooksAtPlan cur new → RoundEnds m from mid (Err c) (seen_of new) now → place ≡ middle → FeedsAll plan m old start held (Err c) new place now
   cut_round cut.Read new place now own looks ends same = absurd ends
   cut_round cut.Limit new place now own looks ends same = absurd ends
   cut_round cut.Full new place now own looks ends same = absurd ends
   cut_round cut.Write new place now own looks ends same = torn_to new place now own looks ends same
   cut_round cut.Memory new place now own looks ends same = for_lines (torn_to new place now own looks ends same)
   cut_round cut.Stopped new place now own looks ends same =
-      let P : Place → Type 0 = λ p. Tells old start new p in
+      let P : Place → Type 0 = λ p. HandsOnMessages old start new p in
       stopped (record {
         own = own;
         tells = subst P (sym same) (told_to new looks);
@@ -377,15 +377,15 @@ feeding_works plan m old new start place held now next feeding works = reads_wor
 
 -- ---- one round and the next message
 
-pub step_out : (plan : SharedPlan) (m : Model) (from : ℕ) (start : Place) (old new : PlanPass) (held now : Option (List ℕ)) → Looks old new → RoundEnds m from held (Ok stage.Ended) (seen_of new) now → Steps plan m from start old held (Ok None) start new now
+pub step_out : (plan : SharedPlan) (m : Model) (from : ℕ) (start : Place) (old new : PlanPass) (held now : Option (List ℕ)) → LooksAtPlan old new → RoundEnds m from held (Ok stage.Ended) (seen_of new) now → FeedsRoundOrStops plan m from start old held (Ok None) start new now
 step_out plan m from start old new held now looks ends = record { looks = looks; ends = ends; same = refl }
 
-pub step_round : (plan : SharedPlan) (m : Model) (from : ℕ) (start : Place) (old new : PlanPass) (held now : Option (List ℕ)) (c : Cut) → Looks old new → RoundEnds m from held (Err c) (seen_of new) now → Steps plan m from start old held (Err c) start new now
+pub step_round : (plan : SharedPlan) (m : Model) (from : ℕ) (start : Place) (old new : PlanPass) (held now : Option (List ℕ)) (c : Cut) → LooksAtPlan old new → RoundEnds m from held (Err c) (seen_of new) now → FeedsRoundOrStops plan m from start old held (Err c) start new now
 step_round plan m from start old new held now c looks ends = in_round looks ends refl
 
 -- a round, and what came of the next message
-pub step_behind : (plan : SharedPlan) (m : Model) (from next : ℕ) (start place : Place) (old mid new : PlanPass) (held now : Option (List ℕ)) (r : Result (Option ℕ) Cut) → BelongsTo plan mid → Looks old mid → RoundEnds m from held (Ok (stage.Waits next)) (seen_of mid) now
-    → PassesTo next start mid r place new → Follows mid new → Steps plan m from start old held r place new now
+pub step_behind : (plan : SharedPlan) (m : Model) (from next : ℕ) (start place : Place) (old mid new : PlanPass) (held now : Option (List ℕ)) (r : Result (Option ℕ) Cut) → BelongsTo plan mid → LooksAtPlan old mid → RoundEnds m from held (Ok (stage.Waits next)) (seen_of mid) now
+    → PassesTo next start mid r place new → Follows mid new → FeedsRoundOrStops plan m from start old held r place new now
 step_behind plan m from next start place old mid new held now (Ok (Some n)) own looks ends passes follows =
     let P : ℕ → Type 0 = λ k. RoundEnds m from held (Ok (stage.Waits k)) (seen_of mid) now in
     record { mid = mid; own = own; looks = looks; ends = subst P (sym passes.0) ends; passes = passes.1; follows = follows }

@@ -8,5 +8,8 @@ pub mod Saying
 pub mod Closing
 pub mod Choosing
 pub mod Cutting
+pub mod Joining
+pub mod Causes
+pub mod FeederEnds
 pub mod Running
 pub mod Crossing

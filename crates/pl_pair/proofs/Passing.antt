@@ -29,7 +29,7 @@ use Rattle.pl_pair.specs.declared.cut.Cut.TheVariants as cut
 use Rattle.pl_pair.specs.declared.rounds.Stage.{Stage}
 use Rattle.pl_pair.specs.declared.rounds.Stage.TheVariants as stage
 use Rattle.pl_pair.specs.Cuts.{cut_of}
-use Rattle.pl_pair.specs.Rounds.{Follows, Looks, IsBetween, IsRound, StageOf, lines_behind, RoundEnds}
+use Rattle.pl_pair.specs.Rounds.{Follows, LooksAtPlan, IsBetween, IsRound, StageOf, lines_behind, RoundEnds}
 
 -- ---- passes
 
@@ -46,13 +46,13 @@ follows_on old mid new first second = record {
   crew = second.crew ∙ first.crew;
 }
 
-pub looks_self : (pass : PlanPass) → Looks pass pass
+pub looks_self : (pass : PlanPass) → LooksAtPlan pass pass
 looks_self pass = record { follows = follows_self pass; mine = refl }
 
-pub looks_on : (old mid new : PlanPass) → Looks old mid → Looks mid new → Looks old new
+pub looks_on : (old mid new : PlanPass) → LooksAtPlan old mid → LooksAtPlan mid new → LooksAtPlan old new
 looks_on old mid new first second = record { follows = follows_on old mid new first.follows second.follows; mine = second.mine ∙ first.mine }
 
-pub looks_more : (old mid new : PlanPass) → Looks old mid → TakesTurn mid new → mine_of new ≡ mine_of mid → Looks old new
+pub looks_more : (old mid new : PlanPass) → LooksAtPlan old mid → TakesTurn mid new → mine_of new ≡ mine_of mid → LooksAtPlan old new
 looks_more old mid new first takes same = looks_on old mid new first (record { follows = took_follows mid new takes; mine = same })
 
 -- ---- entries
@@ -102,14 +102,14 @@ copied_within from old new part le takes copies =
 pub copied_few : (plan : SharedPlan) (from : ℕ) (old new : PlanPass) (part : Part) → from ≤ length (entries_in (seen_of old)) → TakesTurn old new → BelongsTo plan new → Copies from (seen_of new) part → from + length part.entries ≤ 250000
 copied_few plan from old new part le takes own copies = copied_short from (seen_of new) part (within_later from old new le (took_follows old new takes)) own.seen copies
 
-pub within_looks : (n : ℕ) (old new : PlanPass) → n ≤ length (entries_in (seen_of old)) → Looks old new → n ≤ length (entries_in (seen_of new))
+pub within_looks : (n : ℕ) (old new : PlanPass) → n ≤ length (entries_in (seen_of old)) → LooksAtPlan old new → n ≤ length (entries_in (seen_of new))
 within_looks n old new le looks = within_later n old new le looks.follows
 
 pub within : (n : ℕ) (pass : PlanPass) → n < length (entries_in (seen_of pass)) → n ≤ length (entries_in (seen_of pass))
 within n pass less = omega arith
 
 -- entries stand behind a number
-pub behind_looks : (n : ℕ) (old new : PlanPass) → n < length (entries_in (seen_of old)) → Looks old new → n < length (entries_in (seen_of new))
+pub behind_looks : (n : ℕ) (old new : PlanPass) → n < length (entries_in (seen_of old)) → LooksAtPlan old new → n < length (entries_in (seen_of new))
 behind_looks n old new less looks = (let more = entries_longer (seen_of old) (seen_of new) looks.follows.longer in omega arith)
 
 -- ---- the lines of a round
@@ -158,7 +158,7 @@ none_of (Some before) text less = (0, less, ap (λ (bytes : List ℕ). Some byte
 pub none_written : (m : Model) (n : ℕ) (held : Option (List ℕ)) (es : List Entry) → 0 < length es → AppendsFront held held (text_from m n es)
 none_written m n held es less = none_of held (text_from m n es) (text_some m n es less)
 
-pub nothing_written : (m : Model) (from : ℕ) (held : Option (List ℕ)) (old new : PlanPass) → from < length (entries_in (seen_of old)) → Looks old new → AppendsFront held held (lines_behind m from (seen_of new))
+pub nothing_written : (m : Model) (from : ℕ) (held : Option (List ℕ)) (old new : PlanPass) → from < length (entries_in (seen_of old)) → LooksAtPlan old new → AppendsFront held held (lines_behind m from (seen_of new))
 nothing_written m from held old new less looks =
     let more = behind_looks from old new less looks in
     none_written m from held (drop from (entries_in (seen_of new))) (omega (arith, more, length-drop from (entries_in (seen_of new))))
@@ -182,5 +182,5 @@ write_rose halt.Read before after stops is = absurd stops
 write_rose halt.Limit before after stops is = absurd stops
 write_rose halt.Full before after stops is = absurd stops
 
-pub round_short : (plan : SharedPlan) (from : ℕ) (old new : PlanPass) (part : Part) → from < length (entries_in (seen_of old)) → Looks old new → BelongsTo plan new → IsRound from (seen_of new) part → from + length part.entries ≤ 250000
+pub round_short : (plan : SharedPlan) (from : ℕ) (old new : PlanPass) (part : Part) → from < length (entries_in (seen_of old)) → LooksAtPlan old new → BelongsTo plan new → IsRound from (seen_of new) part → from + length part.entries ≤ 250000
 round_short plan from old new part less looks own round = copied_short from (seen_of new) part (within_looks from old new (omega arith) looks) own.seen round.0

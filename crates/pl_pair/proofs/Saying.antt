@@ -7,13 +7,13 @@ use Rattle.pl_io.specs.Lines.{lines_of}
 use Rattle.pl_io.specs.Reader.{NumberedLine}
 use Rattle.pl_io.specs.Sparing.{read_size}
 use Rattle.pl_input.specs.Words.{is_blank_line, is_line_of, end_word, messages_of}
-use Rattle.pl_input.specs.Reads.{GaveKnown, IsUsedUp, AreBlank}
+use Rattle.pl_input.specs.Reads.{GivesLinesKnown, IsUsedUp, AreBlank}
 use Rattle.pl_input.specs.Waits.{line_in}
 use Rattle.pl_input.proofs.Reading.{gave_none, known, gave_lines}
 use Rattle.pl_shared.specs.Plans.{PlanPass}
 use Rattle.pl_input.specs.Places.{Place}
 use Rattle.pl_pair.specs.Asking.{Asks}
-use Rattle.pl_pair.specs.Feeds.{spoken, said_in, Reads, unasked, asked, Heard, Tells}
+use Rattle.pl_pair.specs.Feeds.{spoken, said_in, Reads, unasked, asked, Heard, HandsOnMessages}
 use Rattle.pl_pair.specs.Runs.{InMessages, ReadUpTo}
 use Rattle.pl_pair.proofs.Ending.{is_ending, NoEnds, LastEnds, EndsIf}
 
@@ -123,10 +123,10 @@ messages_to (line ∷ lines) more last ends front none said = to_by (is_blank_li
 
 -- ---- what a reader gave
 
-reads_gave : (start place : Place) (lines : List (List ℕ)) → Reads start lines place → GaveKnown start.reader.limit start.reader.room start.ahead lines place.reader.room place.ahead
+reads_gave : (start place : Place) (lines : List (List ℕ)) → Reads start lines place → GivesLinesKnown start.reader.limit start.reader.room start.ahead lines place.reader.room place.ahead
 reads_gave start place lines (unasked none same) =
-    let P : List (List ℕ) → Type 0 = λ ls. GaveKnown start.reader.limit start.reader.room start.ahead ls place.reader.room place.ahead in
-    let Q : Place → Type 0 = λ p. GaveKnown start.reader.limit start.reader.room start.ahead [] p.reader.room p.ahead in
+    let P : List (List ℕ) → Type 0 = λ ls. GivesLinesKnown start.reader.limit start.reader.room start.ahead ls place.reader.room place.ahead in
+    let Q : Place → Type 0 = λ p. GivesLinesKnown start.reader.limit start.reader.room start.ahead [] p.reader.room p.ahead in
     subst P (sym none) (subst Q (sym same) (gave_none start.reader.limit start.reader.room start.ahead))
 reads_gave start place lines (asked works took) = took.gave
 
@@ -146,7 +146,7 @@ pub if_known : (o : Option (List ℕ)) (P : List ℕ → Type 0) → ((bytes : L
 if_known None P f = tt
 if_known (Some bytes) P f = f bytes refl
 
-module _ (old new : PlanPass) (start place : Place) (tells : Tells old start new place) where
+module _ (old new : PlanPass) (start place : Place) (tells : HandsOnMessages old start new place) where
   -- inputs that do not end the run are followed by the messages of what is left
   pub told_on : NoEnds tells.inputs → (bytes : List ℕ) → start.ahead ≡ Some bytes → (rest : List ℕ) × (place.ahead ≡ Some rest) × (messages_of (lines_of bytes) ≡ tells.inputs ++ messages_of (lines_of rest))
   told_on none bytes is =
@@ -189,7 +189,7 @@ module _ (old new : PlanPass) (start place : Place) (tells : Tells old start new
   pub told_lines : NoEnds tells.inputs → messages_of tells.heard.lines ≡ tells.inputs ++ None ∷ []
   told_lines none = ap messages_of (sym (append-nil tells.heard.lines)) ∙ messages_on tells.heard.lines [] tells.inputs none tells.heard.said ∙ ap (λ (ms : List (Option (List ℕ))). tells.inputs ++ ms) none_left
 
-  pub told_gave : GaveKnown start.reader.limit start.reader.room start.ahead tells.heard.lines place.reader.room place.ahead
+  pub told_gave : GivesLinesKnown start.reader.limit start.reader.room start.ahead tells.heard.lines place.reader.room place.ahead
   told_gave = reads_gave start place tells.heard.lines tells.heard.reads
 
 -- ---- how far was read

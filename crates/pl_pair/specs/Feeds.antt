@@ -10,7 +10,7 @@ use Rattle.pl_model.specs.declared.whole.Model.{Model}
 use Rattle.pl_entry.specs.declared.event.Event.TheVariants as event
 use Rattle.pl_input.specs.Words.{is_blank_line}
 use Rattle.pl_journal.specs.Rendering.Lines.{text_from}
-use Rattle.pl_input.specs.Reads.{Took, IsUsedUp}
+use Rattle.pl_input.specs.Reads.{ReadsLines, IsUsedUp}
 use Rattle.pl_journal.specs.Written.{Adds}
 use Rattle.pl_shared.specs.declared.noted.Noted.{Noted}
 use Rattle.pl_shared.specs.declared.noted.Noted.TheVariants.{Opened, Made, Stopped}
@@ -22,7 +22,7 @@ use Rattle.pl_pair.specs.declared.cut.Cut.{Cut}
 use Rattle.pl_pair.specs.declared.cut.Cut.TheVariants as cut
 use Rattle.pl_pair.specs.Cuts.{cut_by}
 use Rattle.pl_pair.specs.declared.rounds.Stage.TheVariants as stage
-use Rattle.pl_pair.specs.Rounds.{Follows, Looks, IsBetween, lines_behind, RoundEnds}
+use Rattle.pl_pair.specs.Rounds.{Follows, LooksAtPlan, IsBetween, lines_behind, RoundEnds}
 use Rattle.pl_input.specs.Places.{Place}
 use Rattle.pl_pair.specs.Asking.{Faults, HandsOn, Passes}
 
@@ -52,7 +52,7 @@ AreInputs (line ∷ inputs) (x ∷ own) = IsInput line x.1 × AreInputs inputs o
 -- The reader gave these lines, or it was not asked yet.
 pub data Reads (start : Place) (lines : List (List ℕ)) (place : Place) : Type 0 where
   unasked : lines ≡ [] → place ≡ start → Reads start lines place
-  asked : start.reader.failed ≡ None → Took start.reader start.ahead lines place.reader place.ahead → Reads start lines place
+  asked : start.reader.failed ≡ None → ReadsLines start.reader start.ahead lines place.reader place.ahead → Reads start lines place
 
 -- where the last input is the end of the input, the bytes were used up
 abbrev pub EndsUsed : Place → List (Option (List ℕ)) → Place → Type 0
@@ -72,7 +72,7 @@ pub record Heard (start : Place) (inputs : List (Option (List ℕ))) (place : Pl
   pub none : inputs ≡ [] → lines ≡ []
 
 -- Messages were read, and each was handed to the plan, as the pass's own entry.
-pub record Tells (old : PlanPass) (start : Place) (new : PlanPass) (place : Place) : Type 0 where
+pub record HandsOnMessages (old : PlanPass) (start : Place) (new : PlanPass) (place : Place) : Type 0 where
   pub follows : Follows old new
   pub inputs : List (Option (List ℕ))
   pub heard : Heard start inputs place
@@ -106,50 +106,50 @@ WritesAll m held seen now = Adds held now (text_from m 0 (entries_in seen))
 -- ---- one round and the next message
 
 -- The round's lines were written, and the next message was handed to the plan.
-pub record StepsOn (plan : SharedPlan) (m : Model) (from : ℕ) (start : Place) (old : PlanPass) (held : Option (List ℕ)) (next : ℕ) (place : Place) (new : PlanPass) (now : Option (List ℕ)) : Type 0 where
+pub record FeedsRound (plan : SharedPlan) (m : Model) (from : ℕ) (start : Place) (old : PlanPass) (held : Option (List ℕ)) (next : ℕ) (place : Place) (new : PlanPass) (now : Option (List ℕ)) : Type 0 where
   pub mid : PlanPass
   pub own : BelongsTo plan mid
-  pub looks : Looks old mid
+  pub looks : LooksAtPlan old mid
   pub ends : RoundEnds m from held (Ok (stage.Waits next)) (seen_of mid) now
   pub passes : Passes start mid (Ok tt) place new
   pub follows : Follows mid new
 
 -- The round's lines were written, and the input had ended.
-pub record StepsOut (m : Model) (from : ℕ) (start : Place) (old : PlanPass) (held : Option (List ℕ)) (place : Place) (new : PlanPass) (now : Option (List ℕ)) : Type 0 where
-  pub looks : Looks old new
+pub record FeedsLastRound (m : Model) (from : ℕ) (start : Place) (old : PlanPass) (held : Option (List ℕ)) (place : Place) (new : PlanPass) (now : Option (List ℕ)) : Type 0 where
+  pub looks : LooksAtPlan old new
   pub ends : RoundEnds m from held (Ok stage.Ended) (seen_of new) now
   pub same : place ≡ start
 
 -- The run is cut short before the next message, or at it.
 pub data StepsCut (plan : SharedPlan) (m : Model) (from : ℕ) (start : Place) (old : PlanPass) (held : Option (List ℕ)) (c : Cut) (place : Place) (new : PlanPass) (now : Option (List ℕ)) : Type 0 where
-  in_round : Looks old new → RoundEnds m from held (Err c) (seen_of new) now → place ≡ start → StepsCut plan m from start old held c place new now
-  at_message : (mid : PlanPass) (next : ℕ) → BelongsTo plan mid → Looks old mid → RoundEnds m from held (Ok (stage.Waits next)) (seen_of mid) now → Passes start mid (Err c) place new → Follows mid new
+  in_round : LooksAtPlan old new → RoundEnds m from held (Err c) (seen_of new) now → place ≡ start → StepsCut plan m from start old held c place new now
+  at_message : (mid : PlanPass) (next : ℕ) → BelongsTo plan mid → LooksAtPlan old mid → RoundEnds m from held (Ok (stage.Waits next)) (seen_of mid) now → Passes start mid (Err c) place new → Follows mid new
       → StepsCut plan m from start old held c place new now
 
-abbrev pub Steps : SharedPlan → Model → ℕ → Place → PlanPass → Option (List ℕ) → Result (Option ℕ) Cut → Place → PlanPass → Option (List ℕ) → Type 0
-Steps plan m from start old held (Ok (Some next)) place new now = StepsOn plan m from start old held next place new now
-Steps plan m from start old held (Ok None) place new now = StepsOut m from start old held place new now
-Steps plan m from start old held (Err c) place new now = StepsCut plan m from start old held c place new now
+abbrev pub FeedsRoundOrStops : SharedPlan → Model → ℕ → Place → PlanPass → Option (List ℕ) → Result (Option ℕ) Cut → Place → PlanPass → Option (List ℕ) → Type 0
+FeedsRoundOrStops plan m from start old held (Ok (Some next)) place new now = FeedsRound plan m from start old held next place new now
+FeedsRoundOrStops plan m from start old held (Ok None) place new now = FeedsLastRound m from start old held place new now
+FeedsRoundOrStops plan m from start old held (Err c) place new now = StepsCut plan m from start old held c place new now
 
 -- ---- the whole
 
 -- Behind a message: the lines of its round are to be written.
 pub record Feeding (plan : SharedPlan) (m : Model) (old : PlanPass) (start : Place) (held : Option (List ℕ)) (new : PlanPass) (place : Place) (now : Option (List ℕ)) (next : ℕ) : Type 0 where
   pub own : BelongsTo plan new
-  pub tells : Tells old start new place
+  pub tells : HandsOnMessages old start new place
   pub writes : Writes m old held new now next
 
 -- Behind a round: what was seen was written, and the round is closed.
 pub record Waiting (plan : SharedPlan) (m : Model) (old : PlanPass) (start : Place) (held : Option (List ℕ)) (new : PlanPass) (place : Place) (now : Option (List ℕ)) : Type 0 where
   pub own : BelongsTo plan new
-  pub tells : Tells old start new place
+  pub tells : HandsOnMessages old start new place
   pub written : WritesAll m held (seen_of new) now
   pub between : InWorld (seen_of new) IsBetween
 
 -- The input has ended, and all was written.
 pub record FeedsOut (plan : SharedPlan) (m : Model) (old : PlanPass) (start : Place) (held : Option (List ℕ)) (new : PlanPass) (place : Place) (now : Option (List ℕ)) : Type 0 where
   pub own : BelongsTo plan new
-  pub tells : Tells old start new place
+  pub tells : HandsOnMessages old start new place
   pub written : WritesAll m held (seen_of new) now
   pub done : InWorld (seen_of new) (λ w. w.done ≡ true)
 
@@ -173,7 +173,7 @@ pub record FeedsRefused (plan : SharedPlan) (m : Model) (c : Cut) (old : PlanPas
 -- A worker stopped the plan in an open round, and all was written.
 pub record FeedsStopped (plan : SharedPlan) (m : Model) (old : PlanPass) (start : Place) (held : Option (List ℕ)) (new : PlanPass) (place : Place) (now : Option (List ℕ)) : Type 0 where
   pub own : BelongsTo plan new
-  pub tells : Tells old start new place
+  pub tells : HandsOnMessages old start new place
   pub written : WritesAll m held (seen_of new) now
   pub stopped : stop_in (seen_of new) ≡ true
   pub going : InWorld (seen_of new) (λ w. w.done ≡ false)

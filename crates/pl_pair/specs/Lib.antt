@@ -3,6 +3,7 @@ pub use Rattle.pl_input.specs.Places
 pub mod Duties
 pub mod Served
 pub mod Workers
+pub mod Joins
 pub mod Cuts
 pub mod Rounds
 pub mod Asking

@@ -24,7 +24,7 @@ pub record Follows (old new : PlanPass) : Type 0 where
   pub crew : crew_of new ≡ crew_of old
 
 -- The same, and the pass made nothing.
-pub record Looks (old new : PlanPass) : Type 0 where
+pub record LooksAtPlan (old new : PlanPass) : Type 0 where
   pub follows : Follows old new
   pub mine : mine_of new ≡ mine_of old
 

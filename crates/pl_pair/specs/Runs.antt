@@ -1,5 +1,5 @@
 -- What a run of a pair comes to.
-use Rattle.std.specs.Prelude.{◌≡◌, ◌<◌, ◌||◌, ℕ, List, [], ◌∷◌, ◌++◌, length, Bool, true, false, Option, Some, None, IfSome, ◌⊎◌, ⊤}
+use Rattle.std.specs.Prelude.{◌≡◌, ◌<◌, ◌||◌, ℕ, List, [], ◌∷◌, ◌++◌, length, Bool, true, false, Option, Some, None, Result, Ok, Err, IfSome, ◌⊎◌, ⊤}
 use Rattle.std.specs.List.{All}
 use mathlib.Core.List.{IsPrefix}
 use Rattle.pl_turn.specs.History.{IsEachOnce, StandsIn, times_in}
@@ -17,7 +17,7 @@ use Rattle.pl_input.specs.Words.{messages_of}
 use Rattle.pl_machine.specs.Finished.{inputs_of}
 use Rattle.pl_machine.specs.Sound.{State}
 use Rattle.pl_journal.specs.Rendering.Lines.{text_of_log}
-use Rattle.pl_input.specs.Reads.{GaveKnown, StopsAt}
+use Rattle.pl_input.specs.Reads.{GivesLinesKnown, StopsAt}
 use Rattle.pl_input.specs.Stops.{IsStuckKnown}
 use Rattle.pl_driver.specs.CutShort.{IsCutShort}
 use Rattle.pl_journal.specs.Written.{Adds}
@@ -27,8 +27,8 @@ use Rattle.pl_shared.specs.Roles.{worker_of, is_input, is_repair, is_executed}
 use Rattle.pl_shared.specs.declared.role.Role.{Role}
 use Rattle.pl_shared.specs.declared.role.Role.TheVariants.{Planner, Executive}
 use Rattle.pl_shared.specs.Plans.{PlanPass}
-use Rattle.pl_pair.specs.declared.ended.Ended.{Ended}
-use Rattle.pl_pair.specs.declared.ended.Ended.TheVariants as ended
+use Rattle.pl_input.specs.declared.halt.Halt.{Halt}
+use Rattle.pl_input.specs.declared.halt.Halt.TheVariants as halt
 use Rattle.pl_pair.specs.Duties.{chooser_of}
 use Rattle.pl_pair.specs.Served.{AreOf, AreOfUntil, Made, MakesOwn, Refused}
 use Rattle.pl_pair.specs.Rounds.{IsBetween}
@@ -98,36 +98,35 @@ MayFault (Some fault.Total) = ⊥
 MayFault (Some fault.Memory) = ⊥
 
 -- why no line was given behind those that were
-abbrev pub WhyNone : Ended → Place → (left : ℕ) → Option (List ℕ) → Type 0
-WhyNone ended.InputLimit place left rest = IsStuckKnown place.reader.limit left rest ⊎ HadLimit place.reader.failed
-WhyNone ended.ReadFault place left rest = MayFault place.reader.failed
-WhyNone ended.Finished place left rest = ⊥
-WhyNone ended.WriteFault place left rest = ⊥
-WhyNone ended.LogFull place left rest = ⊥
-WhyNone ended.Memory place left rest = ⊥
+abbrev pub WhyNone : Halt → Place → (left : ℕ) → Option (List ℕ) → Type 0
+WhyNone halt.Limit place left rest = IsStuckKnown place.reader.limit left rest ⊎ HadLimit place.reader.failed
+WhyNone halt.Read place left rest = MayFault place.reader.failed
+WhyNone halt.Write place left rest = ⊥
+WhyNone halt.Full place left rest = ⊥
+WhyNone halt.Memory place left rest = ⊥
 
 -- which faults of a reader end the run so
-abbrev pub IsCauseOf : Ended → LineFault → Type 0
-IsCauseOf ended.ReadFault fault.Read = ⊤
-IsCauseOf ended.InputLimit (fault.Long n) = ⊤
-IsCauseOf ended.InputLimit fault.Total = ⊤
+abbrev pub IsCauseOf : Halt → LineFault → Type 0
+IsCauseOf halt.Read fault.Read = ⊤
+IsCauseOf halt.Limit (fault.Long n) = ⊤
+IsCauseOf halt.Limit fault.Total = ⊤
 IsCauseOf _ _ = ⊥
 
 -- What such a fault leaves of the reader: it answers the fault from now on.
-pub record StoppedBy (r : Ended) (place : Place) (lines : List (List ℕ)) (left : ℕ) (rest : Option (List ℕ)) (behind : Place) : Type 0 where
+pub record StoppedBy (e : Halt) (place : Place) (lines : List (List ℕ)) (left : ℕ) (rest : Option (List ℕ)) (behind : Place) : Type 0 where
   pub reason : LineFault
-  pub cause : IsCauseOf r reason
+  pub cause : IsCauseOf e reason
   pub stops : StopsAt place.reader lines left rest reason behind.reader behind.ahead
 
 -- These lines were given, and their messages are these inputs, none of which ends the run. Then the reader met a fault, or it had failed before, and is as it was.
-pub record Given (r : Ended) (place : Place) (inputs : List (Option (List ℕ))) (behind : Place) : Type 0 where
+pub record Given (e : Halt) (place : Place) (inputs : List (Option (List ℕ))) (behind : Place) : Type 0 where
   pub lines : List (List ℕ)
   pub left : ℕ
   pub rest : Option (List ℕ)
-  pub gave : GaveKnown place.reader.limit place.reader.room place.ahead lines left rest
-  pub why : WhyNone r place left rest
+  pub gave : GivesLinesKnown place.reader.limit place.reader.room place.ahead lines left rest
+  pub why : WhyNone e place left rest
   pub messages : messages_of lines ≡ inputs ++ None ∷ []
-  pub stopped : place.reader.failed ≡ None → StoppedBy r place lines left rest behind
+  pub stopped : place.reader.failed ≡ None → StoppedBy e place lines left rest behind
   pub still : (f : LineFault) → place.reader.failed ≡ Some f → behind.reader ≡ place.reader
 
 -- ---- how far the input was read
@@ -137,7 +136,7 @@ pub record Given (r : Ended) (place : Place) (inputs : List (Option (List ℕ)))
 pub record ReadUpTo (place : Place) (messages : List (Option (List ℕ))) (behind : Place) : Type 0 where
   pub lines : List (List ℕ)
   pub more : List (Option (List ℕ))
-  pub gave : GaveKnown place.reader.limit place.reader.room place.ahead lines behind.reader.room behind.ahead
+  pub gave : GivesLinesKnown place.reader.limit place.reader.room place.ahead lines behind.reader.room behind.ahead
   pub few : length place.reader.held < read_size → length behind.reader.held < read_size
   pub said : messages_of lines ≡ messages ++ more
   pub no_others : (more ≡ []) ⊎ (more ≡ None ∷ [])
@@ -160,9 +159,9 @@ pub record RunsOut (m : Model) (log entries : List Entry) (place : Place) (held 
   pub written : WritesLog m log held now
 
 -- No further message was read, between two rounds.
-pub record RunsUntil (r : Ended) (m : Model) (log entries : List Entry) (place : Place) (held : Option (List ℕ)) (behind : Place) (now : Option (List ℕ)) : Type 0 where
+pub record RunsUntil (e : Halt) (m : Model) (log entries : List Entry) (place : Place) (held : Option (List ℕ)) (behind : Place) (now : Option (List ℕ)) : Type 0 where
   pub between : IsBetween (world_of m log)
-  pub given : Given r place (inputs_of entries) behind
+  pub given : Given e place (inputs_of entries) behind
   pub written : WritesLog m log held now
 
 -- one message, which is the next behind these inputs
@@ -199,22 +198,22 @@ pub data RunsShort (m : Model) (log entries : List Entry) (place : Place) (held 
   all_lines : ReadUpTo place (inputs_of entries) behind → (world_of m log).done ≡ false → WritesLog m log held now → RunsShort m log entries place held behind now
   behind_lines : IsBetween (world_of m log) → ReadsShort place (inputs_of entries) behind → WritesLog m log held now → RunsShort m log entries place held behind now
 
-abbrev pub RunEnds : Ended → Model → List Entry → List Entry → Place → Option (List ℕ) → Place → Option (List ℕ) → Type 0
-RunEnds ended.Finished m log entries place held behind now = RunsOut m log entries place held behind now
-RunEnds ended.ReadFault m log entries place held behind now = RunsUntil ended.ReadFault m log entries place held behind now
-RunEnds ended.InputLimit m log entries place held behind now = RunsUntil ended.InputLimit m log entries place held behind now
-RunEnds ended.LogFull m log entries place held behind now = RunsFull m log entries place held behind now
-RunEnds ended.WriteFault m log entries place held behind now = RunsTorn m log entries place held behind now
-RunEnds ended.Memory m log entries place held behind now = RunsShort m log entries place held behind now
+abbrev pub RunEnds : Result (Unit {0}) Halt → Model → List Entry → List Entry → Place → Option (List ℕ) → Place → Option (List ℕ) → Type 0
+RunEnds (Ok u) m log entries place held behind now = RunsOut m log entries place held behind now
+RunEnds (Err halt.Read) m log entries place held behind now = RunsUntil halt.Read m log entries place held behind now
+RunEnds (Err halt.Limit) m log entries place held behind now = RunsUntil halt.Limit m log entries place held behind now
+RunEnds (Err halt.Full) m log entries place held behind now = RunsFull m log entries place held behind now
+RunEnds (Err halt.Write) m log entries place held behind now = RunsTorn m log entries place held behind now
+RunEnds (Err halt.Memory) m log entries place held behind now = RunsShort m log entries place held behind now
 
--- A run: one history, its further inputs a front of the messages, and what its answer says. The feeder stops the plan where it met a fault, a limit or a refusal: which of them, that is the answer. It is `LogFull` only where no worker met another refusal.
-pub record PairRun (seed : ℕ) (start : State) (place : Place) (held : Option (List ℕ)) (r : Ended) (behind : Place) (now : Option (List ℕ)) : Type 0 where
+-- A run: one history, its further inputs a front of the messages, and what its answer says. The feeder stops the plan where it met a fault, a limit or a refusal: which of them, that is the answer. It is that of a full log only where no worker met another refusal.
+pub record PairRun (seed : ℕ) (start : State) (place : Place) (held : Option (List ℕ)) (r : Result (Unit {0}) Halt) (behind : Place) (now : Option (List ℕ)) : Type 0 where
   pub log : List Entry
   pub entries : List Entry
   pub begins : log ≡ start.log ++ entries
   pub history : History seed start.model start.log log
   pub chosen : AreChosen start.model start.log entries
-  pub feeder_goes : r ≡ ended.Finished → AreOf is_input history.feeder
-  pub refused : r ≡ ended.LogFull → (is_other history.planner_met || is_other history.executive_met) ≡ false
+  pub feeder_goes : r ≡ Ok tt → AreOf is_input history.feeder
+  pub refused : r ≡ Err halt.Full → (is_other history.planner_met || is_other history.executive_met) ≡ false
   pub messages : InMessages place (λ messages. IsPrefix (inputs_of entries) messages)
   pub ends : RunEnds r start.model log entries place held behind now

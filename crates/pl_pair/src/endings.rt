@@ -3,7 +3,7 @@ ghost use Rattle.std.specs.Prelude.{◌≡◌};
 ghost use Rattle.pl_pair.specs.Endings.{is_full, is_other, refusal_of, ended_of};
 
 use crate::cut::Cut;
-use crate::ended::Ended;
+use pl_input::Halt;
 use pl_machine::Stop;
 
 /// Whether a worker's refusal was a full log.
@@ -27,15 +27,15 @@ fn is_other(met: &Option<Stop>) -> bool
 }
 
 /// What stopped the plan: a full log only where nobody met another refusal.
-fn refusal_of(full: bool, planner: &Option<Stop>, executive: &Option<Stop>) -> Ended
+fn refusal_of(full: bool, planner: &Option<Stop>, executive: &Option<Stop>) -> Halt
     ensures { result ≡ refusal_of full planner.now executive.now }
 {
     if is_other(planner) || is_other(executive) {
-        Ended::Memory
+        Halt::Memory
     } else if full || is_full(planner) || is_full(executive) {
-        Ended::LogFull
+        Halt::Full
     } else {
-        Ended::Memory
+        Halt::Memory
     }
 }
 
@@ -44,16 +44,16 @@ pub(crate) fn ended(
     fed: &Result<(), Cut>,
     planner: &Option<Stop>,
     executive: &Option<Stop>,
-) -> Ended
+) -> Result<(), Halt>
     ensures { result ≡ ended_of fed.now planner.now executive.now }
 {
     match fed {
-        Ok(()) => Ended::Finished,
-        Err(Cut::Read) => Ended::ReadFault,
-        Err(Cut::Write) => Ended::WriteFault,
-        Err(Cut::Limit) => Ended::InputLimit,
-        Err(Cut::Memory) => Ended::Memory,
-        Err(Cut::Full) => refusal_of(true, planner, executive),
-        Err(Cut::Stopped) => refusal_of(false, planner, executive),
+        Ok(()) => Ok(()),
+        Err(Cut::Read) => Err(Halt::Read),
+        Err(Cut::Write) => Err(Halt::Write),
+        Err(Cut::Limit) => Err(Halt::Limit),
+        Err(Cut::Memory) => Err(Halt::Memory),
+        Err(Cut::Full) => Err(refusal_of(true, planner, executive)),
+        Err(Cut::Stopped) => Err(refusal_of(false, planner, executive)),
     }
 }

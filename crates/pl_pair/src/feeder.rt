@@ -8,7 +8,7 @@ ghost use Rattle.pl_pair.specs.Workers.{AreHands, SameDuties};
 ghost use Rattle.pl_input.specs.Places.{place_of};
 ghost use Rattle.pl_pair.specs.Asking.{PassesTo};
 ghost use Rattle.pl_pair.specs.Rounds.{Follows};
-ghost use Rattle.pl_pair.specs.Feeds.{Steps, FeedsAll, FeedsToEnd};
+ghost use Rattle.pl_pair.specs.Feeds.{FeedsRoundOrStops, FeedsAll, FeedsToEnd};
 
 use crate::asking::feed_next;
 use crate::cut::Cut;
@@ -64,7 +64,7 @@ fn step<R: Wait, S: Source, O: Sink>(
     ensures own { BelongsTo plan.now pass.new }
     ensures hands { AreHands plan.now hands.new }
     ensures duties { SameDuties hands.old hands.new }
-    ensures steps { Steps plan.now model.now from (place_of lines.old (S.left src.old)) pass.old (O.held out.old) result
+    ensures steps { FeedsRoundOrStops plan.now model.now from (place_of lines.old (S.left src.old)) pass.old (O.held out.old) result
         (place_of lines.new (S.left src.new)) pass.new (O.held out.new) }
     ensures read { IsErrOf result Cut.Read → lines.old.failed ≡ None → Rose (S.faults src.old) (S.faults src.new) }
     ensures write { IsErrOf result Cut.Write → Rose (O.faults out.old) (O.faults out.new) }

@@ -4,17 +4,13 @@
 mod asking;
 mod cut;
 mod duty;
-mod ended;
 mod endings;
 mod feeder;
 mod hands;
 mod pairing;
 mod rounds;
 mod run;
-mod sharing;
 mod waiting;
 mod worker;
 
-pub use ended::Ended;
 pub use run::run_pair;
-pub use sharing::shared_types;

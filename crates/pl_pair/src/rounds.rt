@@ -5,7 +5,7 @@ ghost use Rattle.pl_turn.specs.Passes.{seen_of};
 ghost use Rattle.pl_shared.specs.Items.{entries_in};
 ghost use Rattle.pl_shared.specs.Plans.{BelongsTo};
 ghost use Rattle.pl_pair.specs.Workers.{AreHands, SameDuties};
-ghost use Rattle.pl_pair.specs.Rounds.{Looks, StageOf, RoundEnds};
+ghost use Rattle.pl_pair.specs.Rounds.{LooksAtPlan, StageOf, RoundEnds};
 
 use crate::cut::Cut;
 use crate::hands::Hands;
@@ -54,7 +54,7 @@ pub(crate) fn write_round<R: Wait, O: Sink>(
     ensures own { BelongsTo plan.now pass.new }
     ensures hands { AreHands plan.now hands.new }
     ensures duties { SameDuties hands.old hands.new }
-    ensures looks { Looks pass.old pass.new }
+    ensures looks { LooksAtPlan pass.old pass.new }
     ensures ends { RoundEnds model.now from (O.held out.old) result (seen_of pass.new) (O.held out.new) }
     ensures write { IsErrOf result Cut.Write → Rose (O.faults out.old) (O.faults out.new) }
     ensures later { O.faults out.old ≤ O.faults out.new }

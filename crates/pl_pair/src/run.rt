@@ -1,5 +1,5 @@
 //! The whole run.
-ghost use Rattle.std.specs.Prelude.{◌≡◌, ◌≤◌, [], true, false, None};
+ghost use Rattle.std.specs.Prelude.{◌≡◌, ◌≤◌, [], true, false, None, IsErrOf};
 ghost use Rattle.pl_io.specs.Faults.{Rose};
 ghost use Rattle.pl_turn.specs.Passes.{leads, made_by, joined_by};
 ghost use Rattle.pl_machine.specs.Legal.{Legal, world_of};
@@ -7,9 +7,9 @@ ghost use Rattle.pl_shared.specs.Plans.{BelongsTo};
 ghost use Rattle.pl_input.specs.Places.{place_of};
 ghost use Rattle.pl_pair.specs.Runs.{ClosesAll, PairRun};
 
-use crate::ended::Ended;
 use crate::endings::ended;
-use crate::pairing::{Ran, run_workers};
+use crate::pairing::{Remains, run_workers};
+use pl_input::Halt;
 use pl_io::{LineReader, Sink, Source};
 use pl_lists::Copied;
 use pl_machine::Machine;
@@ -35,7 +35,7 @@ fn close(plan: SharedPlan, mut pass: Pass, planner: Pass, executive: Pass) -> Ma
 }
 
 /// A run over a model that is the machine's.
-#[tactic(auto, using(crate::proofs::Running::runs_none))]
+#[tactic(auto, using(crate::proofs::Running::runs_none, crate::proofs::Causes::ended_read, crate::proofs::Causes::ended_write))]
 fn run_over<R: Threads + Wait + Sync, S: Source, O: Sink, G: Gate + Sync>(
     rt: &R,
     alloc: Global,
@@ -46,30 +46,30 @@ fn run_over<R: Threads + Wait + Sync, S: Source, O: Sink, G: Gate + Sync>(
     lines: &mut LineReader,
     src: &mut S,
     out: &mut O,
-) -> Ended
+) -> Result<(), Halt>
     requires legal { Legal machine.model machine.log }
     requires going { (world_of machine.model machine.log).done ≡ false }
     requires model { model.now ≡ machine.model }
     requires limit { lines.old.limit ≤ 4096 }
     ensures run { PairRun seed machine (place_of lines.old (S.left src.old)) (O.held out.old) result
         (place_of lines.new (S.left src.new)) (O.held out.new) }
-    ensures read { result ≡ Ended.ReadFault → lines.old.failed ≡ None → Rose (S.faults src.old) (S.faults src.new) }
-    ensures write { result ≡ Ended.WriteFault → Rose (O.faults out.old) (O.faults out.new) }
+    ensures read { IsErrOf result Halt.Read → lines.old.failed ≡ None → Rose (S.faults src.old) (S.faults src.new) }
+    ensures write { IsErrOf result Halt.Write → Rose (O.faults out.old) (O.faults out.new) }
 {
     let Ok((plan, mut pass)) = SharedPlan::new(alloc, machine) else {
-        return Ended::Memory;
+        return Err(Halt::Memory);
     };
     let one = plan.split(alloc, &mut pass).unwrap();
     let two = plan.split(alloc, &mut pass).unwrap();
-    let ran = run_workers(
+    let remains = run_workers(
         rt, alloc, &plan, gate, model, pass, one, two, seed, lines, src, out,
     );
-    let Ran {
+    let Remains {
         pass,
         planner,
         executive,
         fed,
-    } = ran;
+    } = remains;
     let answer = ended(&fed, &planner.refusal, &executive.refusal);
     let _machine = close(plan, pass, planner.pass, executive.pass);
     answer
@@ -87,17 +87,17 @@ pub fn run_pair<R: Threads + Wait + Sync, I: Source, O: Sink, G: Gate + Sync>(
     lines: &mut LineReader,
     src: &mut I,
     out: &mut O,
-) -> Ended
+) -> Result<(), Halt>
     requires going { machine.world.done ≡ false }
     requires limit { lines.old.limit ≤ 4096 }
     ensures run { PairRun seed machine (place_of lines.old (I.left src.old)) (O.held out.old) result
         (place_of lines.new (I.left src.new)) (O.held out.new) }
-    ensures read { result ≡ Ended.ReadFault → (lines.old.failed ≡ None) → Rose (I.faults src.old) (I.faults src.new) }
-    ensures write { result ≡ Ended.WriteFault → Rose (O.faults out.old) (O.faults out.new) }
+    ensures read { IsErrOf result Halt.Read → (lines.old.failed ≡ None) → Rose (I.faults src.old) (I.faults src.new) }
+    ensures write { IsErrOf result Halt.Write → Rose (O.faults out.old) (O.faults out.new) }
 {
     let _log = machine.log();
     match machine.model().copy(alloc) {
         Ok(model) => run_over(rt, alloc, machine, &model, seed, gate, lines, src, out),
-        Err(_) => Ended::Memory,
+        Err(_) => Err(Halt::Memory),
     }
 }

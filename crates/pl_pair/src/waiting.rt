@@ -4,7 +4,7 @@ ghost use Rattle.pl_turn.specs.Passes.{seen_of};
 ghost use Rattle.pl_shared.specs.Items.{entries_in};
 ghost use Rattle.pl_shared.specs.Plans.{BelongsTo};
 ghost use Rattle.pl_pair.specs.Workers.{AreHands, SameDuties};
-ghost use Rattle.pl_pair.specs.Rounds.{Looks, IsRound};
+ghost use Rattle.pl_pair.specs.Rounds.{LooksAtPlan, IsRound};
 
 use crate::hands::Hands;
 use pl_shared::{Part, Pass, SharedPlan};
@@ -33,7 +33,7 @@ fn wait_closed<R: Wait>(
     ensures own { BelongsTo plan.now pass.new }
     ensures hands { AreHands plan.now hands.new }
     ensures duties { SameDuties hands.old hands.new }
-    ensures looks { Looks pass.old pass.new }
+    ensures looks { LooksAtPlan pass.old pass.new }
 {
     let mut seen = from;
     for _ in rt.forever() {
@@ -66,7 +66,7 @@ pub(crate) fn closed_round<R: Wait>(
     ensures own { BelongsTo plan.now pass.new }
     ensures hands { AreHands plan.now hands.new }
     ensures duties { SameDuties hands.old hands.new }
-    ensures looks { Looks pass.old pass.new }
+    ensures looks { LooksAtPlan pass.old pass.new }
     ensures round { IfOk result (IsRound from (seen_of pass.new)) }
 {
     for _ in rt.forever() {

@@ -101,12 +101,9 @@ fn have_amounts(reservations: &[Reservation], values: &[Option<i64>]) -> bool
     requires { All (λ r. IfSome (amount_of r) (NamesBelow (length values.now))) reservations.now }
     ensures { result ≡ list_all (has_amount values.now) reservations.now }
 {
-    for reservation in reservations {
-        if !has_amount(reservation, values) {
-            return false;
-        }
-    }
-    true
+    reservations
+        .iter()
+        .all(|reservation| has_amount(reservation, values))
 }
 
 fn moments(horizon: u32, duration: Option<i64>) -> Option<u32>

@@ -4,6 +4,9 @@ use Rattle.std.specs.Prelude.{int_lt}
 use Rattle.std.proofs.lemmas.Bool.{cond_both, lt-ltb, ltb-true, leb-true, leb-false}
 use Rattle.std.proofs.Math.Nat.{mul-le-mul_left}
 use Rattle.std.proofs.Math.Bool.{and-false}
+use mir.Val.{to_z, of_z, SFits}
+use mir.Syntax.{w64}
+use Rattle.std.proofs.lemmas.Int.{to_z-of_z}
 use Rattle.pl_lists.proofs.Tests.{or_first_false, or_second_false}
 use Rattle.pl_points.specs.Points.{Point, sum_to, is_out, first_outside, RiseFrom}
 use Rattle.pl_points.specs.Counting.{points_after, walk_left, walk_steps, walk_until}
@@ -21,6 +24,10 @@ pub stays_calm : (L M l m s : ℤ) (at : ℕ) (ps : List Point) (r : Option Poin
 stays_calm L M l m s at ps r low high rising is inside e =
     let same : r ≡ first_outside ps (at + 1) l m = e ∙ (ap (λ x. first_outside ps (at + 1) x M) low ∙ ap (λ x. first_outside ps (at + 1) l x) high) in
     subst (λ q. StaysInside l m at ps q) (sym same) (stays_inside l m s at ps rising is inside)
+
+-- the same, with bounds as the program holds them
+pub crossing : (l m s : ℤ) (at : ℕ) (ps : List Point) (r : Option Point) → SFits w64 l → SFits w64 m → RiseFrom 0 ps → s ≡ sum_to ps at → is_out l m s ≡ false → r ≡ first_outside ps (at + 1) (to_z w64 (of_z w64 l)) (to_z w64 (of_z w64 m)) → StaysInside l m at ps r
+crossing l m s at ps r low high = stays_calm (to_z w64 (of_z w64 l)) (to_z w64 (of_z w64 m)) l m s at ps r (to_z-of_z w64 l low) (to_z-of_z w64 m high)
 
 -- where the property holds nowhere before m, the moments from there on are all that have it
 pub calm_before : (a m b t : ℕ) (q : ℕ → Bool) → a ≤ m → ((x : ℕ) → a ≤ x → x < m → q x ≡ false) → (within m b t && q t) ≡ (within a b t && q t)

@@ -12,3 +12,4 @@ pub mod Clearing
 pub mod Maximal
 pub mod Totals
 pub mod Alike
+pub mod Passages

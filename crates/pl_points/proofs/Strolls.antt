@@ -78,10 +78,10 @@ left_search ahead look search s t at m out ps e f less cost falls =
     omega (arith, h, same, other)
 
 -- a look to a point outside, and a search from there to one inside
-pub left_stretch : (ahead : ℕ → ℕ) (look search s u t at m n : ℕ) (out : ℕ → Bool) (ps : List Point) → out at ≡ true → out m ≡ true → out n ≡ false → cond (out m) 1 0 + points_after out m ps ≤ points_after out at ps → cond (out n) 1 0 + points_after out n ps ≤ points_after out m ps
+pub left_return : (ahead : ℕ → ℕ) (look search s u t at m n : ℕ) (out : ℕ → Bool) (ps : List Point) → out at ≡ true → out m ≡ true → out n ≡ false → cond (out m) 1 0 + points_after out m ps ≤ points_after out at ps → cond (out n) 1 0 + points_after out n ps ≤ points_after out m ps
     → u + ahead m ≤ s + ahead (at + 1) + look → t + ahead n ≤ u + ahead (m + 1) + search → ahead (at + 1) ≤ ahead at → ahead (m + 1) ≤ ahead m
     → t + walk_left ahead look search out ps n ≤ s + walk_left ahead look search out ps at
-left_stretch ahead look search s u t at m n out ps e f h first second one two falls step =
+left_return ahead look search s u t at m n out ps e f h first second one two falls step =
     let here : cond (out at) look 0 ≡ look = ap (λ v. cond v look 0) e in
     let gone : cond (out n) look 0 ≡ 0 = ap (λ v. cond v look 0) h in
     let counts : ◌≡◌ {A = ℕ} (cond (out m) 1 0) 1 = ap (λ v. cond v 1 0) f in

@@ -8,3 +8,4 @@ pub mod Mending
 pub mod Changes
 pub mod Laws
 pub mod Standing
+pub mod Passing

@@ -4,6 +4,7 @@ ghost use Rattle.pl_points.specs.Points.{sum_to, is_out, ArePoints};
 ghost use Rattle.pl_points.specs.Limits.{is_outside};
 ghost use Rattle.pl_points.specs.declared.limit.Limit.TheVariants.{Below, Above};
 ghost use Rattle.pl_points.specs.Counting.{walk_steps, walk_until, goes_outside, points_after};
+ghost use Rattle.pl_points.specs.Passing.{Passes, IsLook};
 
 use crate::mark::Mark;
 use crate::points::Points;
@@ -16,9 +17,9 @@ fn is_out(least: i64, most: i64, value: i64) -> bool
     value < least || most < value
 }
 
-// Up to the next point after which the sum is out of the bounds, between which it is now, and the
-// sum there if it lies in the window.
-pub(crate) fn calm_piece<P: Points, L: Ledger>(
+// From between the bounds, goes to the next point after which the sum is out of them, or to the end.
+// The sum there is told where it lies in the window.
+pub(crate) fn next_crossing<P: Points, L: Ledger>(
     points: &P,
     least: i64,
     most: i64,
@@ -31,14 +32,9 @@ pub(crate) fn calm_piece<P: Points, L: Ledger>(
     requires sum { sum ≡ sum_to (P.points points.now) at }
     requires small { ArePoints (P.points points.now) }
     requires inside { is_out least most sum ≡ false }
-    ensures later { at < result.0 }
-    ensures bound { result.0 ≤ to }
-    ensures inside { (t : ℕ) → at ≤ t → t < result.0 → is_out least most (sum_to (P.points points.now) t) ≡ false }
-    ensures next { result.0 < to → result.1 ≡ sum_to (P.points points.now) result.0 }
+    ensures passes { Passes (λ z. is_out least most z ≡ false) (P.points points.now) at to result.0 result.1 }
+    ensures cost { IsLook (P.ahead points.now) P.search_steps (P.points points.now) at to result.0 steps.old steps.new }
     ensures leaves { result.0 < to → is_out least most (sum_to (P.points points.now) result.0) ≡ true }
-    ensures fewer { result.0 < to → (out : ℕ → Bool) → (if out result.0 then 1 else 0) + points_after out result.0 (P.points points.now) ≤ points_after out at (P.points points.now) }
-    ensures spent { steps.new ≤ steps.old + P.ahead points.now (at + 1) + P.search_steps }
-    ensures left { result.0 < to → steps.new + P.ahead points.now result.0 ≤ steps.old + P.ahead points.now (at + 1) + P.search_steps }
 {
     match points.first_outside(at + 1, sum, least, most, steps) {
         Some((moment, after)) => {
@@ -78,6 +74,6 @@ pub fn calm_until<P: Points, L: Ledger>(
     if is_out(least, most, sum) {
         return Mark { at: from, sum };
     }
-    let (at, after) = calm_piece(points, least, most, from, sum, window.to, steps);
+    let (at, after) = next_crossing(points, least, most, from, sum, window.to, steps);
     Mark { at, sum: after }
 }

@@ -1,11 +1,12 @@
 ghost use Rattle.std.specs.Prelude.{◌≡◌, ◌<◌, ◌≤◌, ◌+◌, ◌&&◌, ◌||◌, not, true, false, ℕ, ℤ, Bool, [], ◌∷◌, OnOk, if◌then◌else◌};
 ghost use Rattle.pl_points.specs.Sums.{IsSmall};
 ghost use Rattle.pl_points.specs.Points.{sum_to, is_out, ArePoints};
-ghost use Rattle.pl_points.specs.Counting.{walk_left, walk_until, goes_outside, points_after};
+ghost use Rattle.pl_points.specs.Counting.{walk_until, goes_outside};
+ghost use Rattle.pl_points.specs.Passing.{Passes, IsLook, IsPart};
 ghost use Rattle.pl_points.specs.Spans.{AreApart, covers, joined, span, within};
 ghost use Rattle.pl_points.specs.Limits.{is_outside};
 
-use crate::calm::calm_piece;
+use crate::calm::next_crossing;
 use crate::limit::Limit;
 use crate::mark::Mark;
 use crate::points::Points;
@@ -57,8 +58,8 @@ fn bounds_beyond(limit: Limit) -> (i64, i64)
     }
 }
 
-// Up to the next point, and the sum there if it lies in the window.
-fn next_piece<P: Points, L: Ledger>(
+// Goes to the next point, or to the end. The sum there is told where it lies in the window.
+fn next_point<P: Points, L: Ledger>(
     points: &P,
     at: u32,
     sum: i64,
@@ -67,13 +68,8 @@ fn next_piece<P: Points, L: Ledger>(
 ) -> (u32, i64)
     requires some { at < to }
     requires sum { sum ≡ sum_to (P.points points.now) at }
-    ensures later { at < result.0 }
-    ensures bound { result.0 ≤ to }
-    ensures same { (t : ℕ) → at ≤ t → t < result.0 → sum_to (P.points points.now) t ≡ sum }
-    ensures next { result.0 < to → result.1 ≡ sum_to (P.points points.now) result.0 }
-    ensures fewer { result.0 < to → (out : ℕ → Bool) → (if out result.0 then 1 else 0) + points_after out result.0 (P.points points.now) ≤ points_after out at (P.points points.now) }
-    ensures spent { steps.new ≤ steps.old + P.ahead points.now (at + 1) + P.look_steps }
-    ensures left { result.0 < to → steps.new + P.ahead points.now result.0 ≤ steps.old + P.ahead points.now (at + 1) + P.look_steps }
+    ensures passes { Passes (λ z. z ≡ sum_to (P.points points.now) at) (P.points points.now) at to result.0 result.1 }
+    ensures cost { IsLook (P.ahead points.now) P.look_steps (P.points points.now) at to result.0 steps.old steps.new }
 {
     match points.first_from(at + 1, steps) {
         Some((moment, delta)) => {
@@ -87,8 +83,8 @@ fn next_piece<P: Points, L: Ledger>(
     }
 }
 
-// Up to the next point inside, where the sum is outside.
-fn stretch<P: Points, L: Ledger>(
+// From outside the limit, goes to the next point after which the sum is inside, or to the end.
+fn next_return<P: Points, L: Ledger>(
     points: &P,
     limit: Limit,
     at: u32,
@@ -100,22 +96,17 @@ fn stretch<P: Points, L: Ledger>(
     requires sum { sum ≡ sum_to (P.points points.now) at }
     requires small { ArePoints (P.points points.now) }
     requires outside { is_outside limit sum ≡ true }
-    ensures later { at < result.0 }
-    ensures bound { result.0 ≤ to }
-    ensures same { (t : ℕ) → at ≤ t → t < result.0 → is_outside limit (sum_to (P.points points.now) t) ≡ true }
-    ensures next { result.0 < to → result.1 ≡ sum_to (P.points points.now) result.0 }
+    ensures passes { Passes (λ z. is_outside limit z ≡ true) (P.points points.now) at to result.0 result.1 }
+    ensures cost { IsLook (P.ahead points.now) P.search_steps (P.points points.now) at to result.0 steps.old steps.new }
     ensures leaves { result.0 < to → is_outside limit (sum_to (P.points points.now) result.0) ≡ false }
-    ensures fewer { result.0 < to → (out : ℕ → Bool) → (if out result.0 then 1 else 0) + points_after out result.0 (P.points points.now) ≤ points_after out at (P.points points.now) }
-    ensures spent { steps.new ≤ steps.old + P.ahead points.now (at + 1) + P.search_steps }
-    ensures left { result.0 < to → steps.new + P.ahead points.now result.0 ≤ steps.old + P.ahead points.now (at + 1) + P.search_steps }
 {
     let (least, most) = bounds_beyond(limit);
-    calm_piece(points, least, most, at, sum, to, steps)
+    next_crossing(points, least, most, at, sum, to, steps)
 }
 
-// Up to the next point, where the sum is outside, or to where it is inside again. A stretch of many
-// points outside is passed over by a search.
-fn outside_piece<P: Points, L: Ledger>(
+// From outside the limit, goes to the next point. If the sum is outside there too, it goes on to the
+// next point after which the sum is inside, by a search that passes over many points at once.
+fn pass_outside<P: Points, L: Ledger>(
     points: &P,
     limit: Limit,
     at: u32,
@@ -128,25 +119,21 @@ fn outside_piece<P: Points, L: Ledger>(
     requires small { ArePoints (P.points points.now) }
     requires outside { is_outside limit sum ≡ true }
     requires falls { (a b : ℕ) → a ≤ b → P.ahead points.now b ≤ P.ahead points.now a }
-    ensures later { at < result.0 }
-    ensures bound { result.0 ≤ to }
-    ensures same { (t : ℕ) → at ≤ t → t < result.0 → is_outside limit (sum_to (P.points points.now) t) ≡ is_outside limit sum }
-    ensures next { result.0 < to → result.1 ≡ sum_to (P.points points.now) result.0 }
-    ensures spent { steps.new ≤ steps.old + walk_left (P.ahead points.now) P.look_steps P.search_steps (goes_outside limit (P.points points.now)) (P.points points.now) at }
-    ensures left { result.0 < to → steps.new + walk_left (P.ahead points.now) P.look_steps P.search_steps (goes_outside limit (P.points points.now)) (P.points points.now) result.0 ≤ steps.old + walk_left (P.ahead points.now) P.look_steps P.search_steps (goes_outside limit (P.points points.now)) (P.points points.now) at }
+    ensures passes { Passes (λ z. is_outside limit z ≡ true) (P.points points.now) at to result.0 result.1 }
+    ensures cost { IsPart (P.ahead points.now) P.look_steps P.search_steps (goes_outside limit (P.points points.now)) (P.points points.now) at to result.0 steps.old steps.new }
 {
-    let (moment, after) = next_piece(points, at, sum, to, steps);
+    let (moment, after) = next_point(points, at, sum, to, steps);
     if moment == to {
         return (to, 0);
     }
     if !is_outside(limit, after) {
         return (moment, after);
     }
-    stretch(points, limit, moment, after, to, steps)
+    next_return(points, limit, moment, after, to, steps)
 }
 
-// Up to the next point outside, where the sum is inside.
-fn inside_piece<P: Points, L: Ledger>(
+// From inside the limit, goes to the next point after which the sum is outside, or to the end.
+fn pass_inside<P: Points, L: Ledger>(
     points: &P,
     limit: Limit,
     at: u32,
@@ -159,19 +146,15 @@ fn inside_piece<P: Points, L: Ledger>(
     requires small { ArePoints (P.points points.now) }
     requires inside { is_outside limit sum ≡ false }
     requires falls { (a b : ℕ) → a ≤ b → P.ahead points.now b ≤ P.ahead points.now a }
-    ensures later { at < result.0 }
-    ensures bound { result.0 ≤ to }
-    ensures same { (t : ℕ) → at ≤ t → t < result.0 → is_outside limit (sum_to (P.points points.now) t) ≡ is_outside limit sum }
-    ensures next { result.0 < to → result.1 ≡ sum_to (P.points points.now) result.0 }
-    ensures spent { steps.new ≤ steps.old + walk_left (P.ahead points.now) P.look_steps P.search_steps (goes_outside limit (P.points points.now)) (P.points points.now) at }
-    ensures left { result.0 < to → steps.new + walk_left (P.ahead points.now) P.look_steps P.search_steps (goes_outside limit (P.points points.now)) (P.points points.now) result.0 ≤ steps.old + walk_left (P.ahead points.now) P.look_steps P.search_steps (goes_outside limit (P.points points.now)) (P.points points.now) at }
+    ensures passes { Passes (λ z. is_outside limit z ≡ false) (P.points points.now) at to result.0 result.1 }
+    ensures cost { IsPart (P.ahead points.now) P.look_steps P.search_steps (goes_outside limit (P.points points.now)) (P.points points.now) at to result.0 steps.old steps.new }
 {
     let (least, most) = bounds_of(limit);
-    calm_piece(points, least, most, at, sum, to, steps)
+    next_crossing(points, least, most, at, sum, to, steps)
 }
 
-// Up to where the sum stays outside, or inside.
-fn piece<P: Points, L: Ledger>(
+// Goes on while the sum stays on its side of the limit.
+fn pass_side<P: Points, L: Ledger>(
     points: &P,
     limit: Limit,
     at: u32,
@@ -183,22 +166,18 @@ fn piece<P: Points, L: Ledger>(
     requires sum { sum ≡ sum_to (P.points points.now) at }
     requires small { ArePoints (P.points points.now) }
     requires falls { (a b : ℕ) → a ≤ b → P.ahead points.now b ≤ P.ahead points.now a }
-    ensures later { at < result.0 }
-    ensures bound { result.0 ≤ to }
-    ensures same { (t : ℕ) → at ≤ t → t < result.0 → is_outside limit (sum_to (P.points points.now) t) ≡ is_outside limit sum }
-    ensures next { result.0 < to → result.1 ≡ sum_to (P.points points.now) result.0 }
-    ensures spent { steps.new ≤ steps.old + walk_left (P.ahead points.now) P.look_steps P.search_steps (goes_outside limit (P.points points.now)) (P.points points.now) at }
-    ensures left { result.0 < to → steps.new + walk_left (P.ahead points.now) P.look_steps P.search_steps (goes_outside limit (P.points points.now)) (P.points points.now) result.0 ≤ steps.old + walk_left (P.ahead points.now) P.look_steps P.search_steps (goes_outside limit (P.points points.now)) (P.points points.now) at }
+    ensures passes { Passes (λ z. is_outside limit z ≡ is_outside limit (sum_to (P.points points.now) at)) (P.points points.now) at to result.0 result.1 }
+    ensures cost { IsPart (P.ahead points.now) P.look_steps P.search_steps (goes_outside limit (P.points points.now)) (P.points points.now) at to result.0 steps.old steps.new }
 {
     if is_outside(limit, sum) {
-        outside_piece(points, limit, at, sum, to, steps)
+        pass_outside(points, limit, at, sum, to, steps)
     } else {
-        inside_piece(points, limit, at, sum, to, steps)
+        pass_inside(points, limit, at, sum, to, steps)
     }
 }
 
-// Puts the piece after the others if its value is outside.
-fn push_piece(
+// Puts a span after the others if the sum is outside the limit in it.
+fn push_if_outside(
     spans: &mut Vec<Span>,
     limit: Limit,
     value: i64,
@@ -238,8 +217,8 @@ pub(crate) fn push_outside<P: Points, L: Ledger>(
     let mut at = mark.at;
     let mut sum = mark.sum;
     'pieces: while at < to {
-        let (end, after) = piece(points, limit, at, sum, to, steps);
-        push_piece(spans, limit, sum, at, end)?;
+        let (end, after) = pass_side(points, limit, at, sum, to, steps);
+        push_if_outside(spans, limit, sum, at, end)?;
         at = end;
         sum = after;
     }
@@ -270,6 +249,6 @@ pub(crate) fn calm_mark<P: Points, L: Ledger>(
     if is_outside(limit, mark.sum) {
         return mark;
     }
-    let (at, sum) = inside_piece(points, limit, mark.at, mark.sum, to, steps);
+    let (at, sum) = pass_inside(points, limit, mark.at, mark.sum, to, steps);
     Mark { at, sum }
 }

@@ -16,7 +16,7 @@ use Rattle.pl_machine.specs.Legal.{Legal, world_of}
 use Rattle.pl_machine.specs.Sound.{State}
 use Rattle.pl_replay.specs.declared.verdict.Verdict.{Verdict}
 use Rattle.pl_replay.specs.declared.verdict.Verdict.TheVariants as verdict
-use Rattle.pl_input.specs.Reads.{GaveOne, Gave, GaveKnown, WhyKnown}
+use Rattle.pl_input.specs.Reads.{GivesLine, GivesLines, GivesLinesKnown, WhyKnown}
 use Rattle.pl_replay.specs.Journals.{entry_lines, lines_from, IsJournalOf, IsWrongAtLast}
 use Rattle.pl_replay.specs.Verifying.{IsLegalJournal, IsNoJournal, Judges, Verified, Stops, Verifies}
 use Rattle.pl_replay.specs.Holding.{HoldsLegal, HoldsWrong, HoldsNothing, Tells}
@@ -30,23 +30,23 @@ given_line x y rest same = cc
 put_line : (x y : List ℕ) (xs ys : List (List ℕ)) → x ≡ y → xs ≡ ys → x ∷ xs ≡ y ∷ ys
 put_line x y xs ys first rest = cc
 
-one_room : (limit room : ℕ) (bytes x y : List ℕ) (left other : ℕ) → GaveOne limit room bytes x left → GaveOne limit room bytes y other → other ≡ left
+one_room : (limit room : ℕ) (bytes x y : List ℕ) (left other : ℕ) → GivesLine limit room bytes x left → GivesLine limit room bytes y other → other ≡ left
 one_room limit room bytes x y left other one two = omega (arith, one.leaves, two.leaves)
 
 -- where some of the lines were read, these are read behind them
 record GoesOn (limit left : ℕ) (rest : List ℕ) (xs ys : List (List ℕ)) (last : ℕ) (end : List ℕ) : Type 0 where
   more : List (List ℕ)
   is : ys ≡ xs ++ more
-  took : Gave limit left rest more last end
+  took : GivesLines limit left rest more last end
 
-fronts : (limit room : ℕ) (bytes : List ℕ) (xs ys : List (List ℕ)) (left last : ℕ) (rest end : List ℕ) → Gave limit room bytes xs left rest → Gave limit room bytes ys last end
+fronts : (limit room : ℕ) (bytes : List ℕ) (xs ys : List (List ℕ)) (left last : ℕ) (rest end : List ℕ) → GivesLines limit room bytes xs left rest → GivesLines limit room bytes ys last end
     → GoesOn limit left rest xs ys last end ⊎ GoesOn limit last end ys xs left rest
 fronts limit room bytes [] ys left last rest end one other =
-    inl (record { more = ys; is = refl; took = subst (λ k. Gave limit k rest ys last end) (sym one.0) (subst (λ (b : List ℕ). Gave limit room b ys last end) (sym one.1) other) })
+    inl (record { more = ys; is = refl; took = subst (λ k. GivesLines limit k rest ys last end) (sym one.0) (subst (λ (b : List ℕ). GivesLines limit room b ys last end) (sym one.1) other) })
 fronts limit room bytes (x ∷ xs) [] left last rest end one other =
-    inr (record { more = x ∷ xs; is = refl; took = subst (λ k. Gave limit k end (x ∷ xs) left rest) (sym other.0) (subst (λ (b : List ℕ). Gave limit room b (x ∷ xs) left rest) (sym other.1) one) })
+    inr (record { more = x ∷ xs; is = refl; took = subst (λ k. GivesLines limit k end (x ∷ xs) left rest) (sym other.0) (subst (λ (b : List ℕ). GivesLines limit room b (x ∷ xs) left rest) (sym other.1) one) })
 fronts limit room bytes (x ∷ xs) (y ∷ ys) left last rest end one other =
-    by_rest (fronts limit one.0 (after_line bytes) xs ys left last rest end one.2 (subst (λ k. Gave limit k (after_line bytes) ys last end) (one_room limit room bytes x y one.0 other.0 one.1 other.1) other.2))
+    by_rest (fronts limit one.0 (after_line bytes) xs ys left last rest end one.2 (subst (λ k. GivesLines limit k (after_line bytes) ys last end) (one_room limit room bytes x y one.0 other.0 one.1 other.1) other.2))
   where
     same : x ≡ y
     same = given_line x y (after_line bytes) (sym one.1.next ∙ other.1.next)
@@ -59,7 +59,7 @@ none_given : (limit room : ℕ) (line rest : List ℕ) → next_of limit room []
 unfolding next_of
 none_given limit room line rest is = let over : ended ≡ given line rest = is in (cc)
 
-no_more : (limit left last : ℕ) (more : List (List ℕ)) (end : List ℕ) → Gave limit left [] more last end → more ≡ []
+no_more : (limit left last : ℕ) (more : List (List ℕ)) (end : List ℕ) → GivesLines limit left [] more last end → more ≡ []
 no_more limit left last [] end took = refl
 no_more limit left last (line ∷ more) end took = absurd (none_given limit left line (after_line []) took.1.next)
 
@@ -68,9 +68,9 @@ no_more limit left last (line ∷ more) end took = absurd (none_given limit left
 record GaveLines (old : Reader) (bytes : List ℕ) (lines : List (List ℕ)) (left : ℕ) (after : Option (List ℕ)) : Type 0 where
   rest : List ℕ
   is : after ≡ Some rest
-  took : Gave old.limit old.room bytes lines left rest
+  took : GivesLines old.limit old.room bytes lines left rest
 
-gave : (old : Reader) (bytes : List ℕ) (lines : List (List ℕ)) (left : ℕ) (after : Option (List ℕ)) → GaveKnown old.limit old.room (Some bytes) lines left after → GaveLines old bytes lines left after
+gave : (old : Reader) (bytes : List ℕ) (lines : List (List ℕ)) (left : ℕ) (after : Option (List ℕ)) → GivesLinesKnown old.limit old.room (Some bytes) lines left after → GaveLines old bytes lines left after
 gave old bytes lines left None took = absurd took
 gave old bytes lines left (Some rest) took = record { rest = rest; is = refl; took = took }
 
@@ -99,7 +99,7 @@ all_read old bytes xs ys left last after end one used other = by_front (fronts o
   where
     by_front : GoesOn old.limit left one.rest xs ys last other.rest ⊎ GoesOn old.limit last other.rest ys xs left one.rest → IsFront (entry_lines ys) (entry_lines xs)
     by_front (inl on) =
-        let none : on.more ≡ [] = no_more old.limit left last on.more other.rest (subst (λ (b : List ℕ). Gave old.limit left b on.more last other.rest) (none_left one.rest after one.is used) on.took) in
+        let none : on.more ≡ [] = no_more old.limit left last on.more other.rest (subst (λ (b : List ℕ). GivesLines old.limit left b on.more last other.rest) (none_left one.rest after one.is used) on.took) in
         entries_front ys xs [] (sym (append-nil xs) ∙ (ap (λ (ls : List (List ℕ)). xs ++ ls) (sym none) ∙ (sym on.is ∙ sym (append-nil ys))))
     by_front (inr on) = entries_front ys xs on.more on.is
 
@@ -150,7 +150,7 @@ record IsJudged (m : Model) (old : Reader) (bytes : List ℕ) (v : Verdict) (mac
   lines : List (List ℕ)
   left : ℕ
   after : Option (List ℕ)
-  took : GaveKnown old.limit old.room (Some bytes) lines left after
+  took : GivesLinesKnown old.limit old.room (Some bytes) lines left after
   judged : Judges m (entry_lines lines) v machine (Some bytes) after
 
 judged_of : (m : Model) (old new : Reader) (bytes : List ℕ) (after : Option (List ℕ)) (v : Verdict) (machine : Option State) → Verified m old (Some bytes) v machine new after → IsJudged m old bytes v machine
@@ -235,7 +235,7 @@ barred limit left rest why = record {
   some = λ none. apart_ended (next_of limit left rest) why (ended_here limit left rest none);
 }
 
-barred_no_more : (limit left last : ℕ) (rest end : List ℕ) (more : List (List ℕ)) → IsBarred limit left rest → Gave limit left rest more last end → more ≡ []
+barred_no_more : (limit left last : ℕ) (rest end : List ℕ) (more : List (List ℕ)) → IsBarred limit left rest → GivesLines limit left rest more last end → more ≡ []
 barred_no_more limit left last rest end [] bar took = refl
 barred_no_more limit left last rest end (line ∷ more) bar took = absurd (bar.no_line line (after_line rest) took.1.next)
 
@@ -250,7 +250,7 @@ up_to_bar old bytes xs ys left last after end stop bar other = by_front (fronts 
         entries_front ys xs [] (sym (append-nil xs) ∙ (ap (λ (ls : List (List ℕ)). xs ++ ls) (sym none) ∙ (sym on.is ∙ sym (append-nil ys))))
     by_front (inr on) = entries_front ys xs on.more on.is
 
-none_behind : (limit left last : ℕ) (rest end : List ℕ) (more : List (List ℕ)) → more ≡ [] → Gave limit left rest more last end → end ≡ rest
+none_behind : (limit left last : ℕ) (rest end : List ℕ) (more : List (List ℕ)) → more ≡ [] → GivesLines limit left rest more last end → end ≡ rest
 none_behind limit left last rest end [] none took = took.1
 none_behind limit left last rest end (line ∷ more) none took = absurd (cc)
 
@@ -265,7 +265,7 @@ not_all_read old bytes xs ys left last after end stop bar other used = by_front 
     by_front (inl on) =
         bar.some (sym (none_behind old.limit left last stop.rest other.rest on.more (barred_no_more old.limit left last stop.rest other.rest on.more bar on.took) on.took) ∙ over)
     by_front (inr on) =
-        let took : Gave old.limit last [] on.more left stop.rest = subst (λ (b : List ℕ). Gave old.limit last b on.more left stop.rest) over on.took in
+        let took : GivesLines old.limit last [] on.more left stop.rest = subst (λ (b : List ℕ). GivesLines old.limit last b on.more left stop.rest) over on.took in
         bar.some (none_behind old.limit last left [] stop.rest on.more (no_more old.limit last left on.more stop.rest took) took)
 
 never_barred : (m : Model) (old : Reader) (bytes : List ℕ) (v : Verdict) (machine : Option State) (log : List Entry) (lines : List (List ℕ)) (left : ℕ) (rest : Option (List ℕ))
@@ -284,7 +284,7 @@ never_barred m old bytes v None log lines left rest checked a right shown stop b
         right_never_begins m log (entry_lines a.lines) front.more v checked right wrong (sym shown ∙ front.is)
 
 stops_barred : (m : Model) (old : Reader) (bytes : List ℕ) (v : Verdict) (machine : Option State) (f : LineFault) (log : List Entry) (lines : List (List ℕ)) (left : ℕ) (rest : Option (List ℕ))
-    → IsChecked m → IsJudged m old bytes v machine → IsRight m log → entry_lines lines ≡ lines_from m 0 log → GaveKnown old.limit old.room (Some bytes) lines left rest → WhyKnown old.limit left rest f
+    → IsChecked m → IsJudged m old bytes v machine → IsRight m log → entry_lines lines ≡ lines_from m 0 log → GivesLinesKnown old.limit old.room (Some bytes) lines left rest → WhyKnown old.limit left rest f
     → (f ≡ fault.Read) ⊎ (f ≡ fault.Memory)
 stops_barred m old bytes v machine f log lines left None checked a right shown took why = absurd took
 stops_barred m old bytes v machine fault.Read log lines left (Some rest) checked a right shown took why = inl refl

@@ -9,7 +9,7 @@ use Rattle.pl_machine.specs.Legal.{Legal, world_of}
 use Rattle.pl_machine.specs.Sound.{State}
 use Rattle.pl_replay.specs.declared.verdict.Verdict.{Verdict}
 use Rattle.pl_replay.specs.declared.verdict.Verdict.TheVariants as verdict
-use Rattle.pl_input.specs.Reads.{Took, Halts, IsUsedUp}
+use Rattle.pl_input.specs.Reads.{ReadsLines, Halts, IsUsedUp}
 use Rattle.pl_replay.specs.Journals.{entry_lines, lines_from, IsJournalOf, IsWrongAtLast}
 
 -- The lines are all that there are, they are those of a legal log, and the machine stands behind it.
@@ -46,14 +46,14 @@ StopsAtWrong None lines = (entry_lines lines ≡ []) ⊎ EndsInEntry lines
 
 pub record Verified (m : Model) (old : Reader) (before : Option (List ℕ)) (v : Verdict) (machine : Option State) (new : Reader) (after : Option (List ℕ)) : Type 0 where
   pub lines : List (List ℕ)
-  pub took : Took old before lines new after
+  pub took : ReadsLines old before lines new after
   pub judged : Judges m (entry_lines lines) v machine before after
   pub no_further : StopsAtWrong machine lines
 
 -- The lines so far are those of this log.
 pub record IsReadSoFar (m : Model) (log : List Entry) (old : Reader) (before : Option (List ℕ)) (new : Reader) (after : Option (List ℕ)) : Type 0 where
   pub lines : List (List ℕ)
-  pub took : Took old before lines new after
+  pub took : ReadsLines old before lines new after
   pub entries : entry_lines lines ≡ lines_from m 0 log
 
 -- No line so far was wrong, and the next is not given. A want of memory may also come behind a line.

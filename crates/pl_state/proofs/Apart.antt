@@ -8,7 +8,7 @@ use Rattle.pl_state.specs.declared.reservation.Setting.{Setting}
 use Rattle.pl_state.specs.declared.answer.BadSet.{BadSet}
 use Rattle.pl_state.specs.declared.answer.BrokenMust.{BrokenMust}
 use Rattle.pl_state.specs.Sets.{same_setting, set_key}
-use Rattle.pl_state.specs.Lines.{same_bad, same_broken}
+use Rattle.pl_state.specs.Timelines.{same_bad, same_broken}
 use Rattle.pl_state.specs.Keys.{KnowsKey, key_of}
 use Rattle.pl_state.specs.Sorted.{NoneHas, AreDistinct}
 

@@ -1,5 +1,5 @@
 -- What a mending needs to know of the lists before it, for each change.
-use Rattle.std.proofs.Common.{◌≡◌, ℕ, ◌+◌, ◌-◌, ◌≤◌, Bool, true, false, List, ◌++◌, take, drop, ap, sym, ◌∙◌, subst, refl, arith, min, max}
+use Rattle.std.proofs.Common.{◌≡◌, ℕ, ◌+◌, ◌-◌, ◌≤◌, Bool, true, false, List, [], ◌∷◌, ◌++◌, take, drop, ap, sym, ◌∙◌, subst, refl, arith, min, max}
 use Rattle.std.proofs.lemmas.List.{take-append-drop}
 use Rattle.pl_points.specs.declared.span.Span.{Span}
 use Rattle.pl_lists.specs.Lists.{front, back, left_out}
@@ -11,11 +11,15 @@ use Rattle.pl_state.specs.declared.reservation.Must.{Must}
 use Rattle.pl_state.specs.declared.answer.BadSet.{BadSet}
 use Rattle.pl_state.specs.declared.answer.BrokenMust.{BrokenMust}
 use Rattle.pl_state.specs.Sets.{set_before, same_setting, with_set, AreInOrder, is_passed, is_allowed, state_from, bad_from}
-use Rattle.pl_state.specs.Musts.{broken_one, broken_all}
-use Rattle.pl_state.specs.Near.{touches, next_moment, rest_after, comes_before, bad_before, bad_by, state_before}
+use Rattle.pl_state.specs.declared.key.Key.{Key}
+use Rattle.pl_state.specs.Keys.{AreSorted}
+use Rattle.pl_state.specs.Musts.{must_key, same_must, with_must, broken_one, broken_all}
+use Rattle.pl_state.specs.Near.{touches, next_moment, rest_after, comes_before, bad_before, bad_by, state_before, all_of, group_key, AreRightBut}
 use Rattle.pl_state.specs.Present.{present_of, group_at, bad_at, IsRightBut}
 use Rattle.pl_state.proofs.Lists.{left_middle}
 use Rattle.pl_state.proofs.Grouping.{all_is, drop_drop}
+use Rattle.pl_state.proofs.Parts.{one_keyed, knows_must, all_sorted}
+use Rattle.pl_state.proofs.Renewing.{right_with, right_without}
 use Rattle.pl_state.proofs.Orders.{order_with, order_without}
 use Rattle.pl_state.proofs.Staying.{one_near, one_later, put_early, put_late, take_early, take_late, rebase_late}
 use Rattle.pl_state.proofs.Steps.{bad_parts, back_both, front_past}
@@ -161,3 +165,25 @@ advance_right any steps steps' mo now h base value xs ms b old ordered is_steps 
   before = advance_before (is_allowed any steps) (is_allowed any steps') base h mo now value xs xs old later is_bad;
   behind = advance_behind (is_allowed any steps) (is_allowed any steps') base h mo now value xs xs old ordered later refl (ap (λ l. is_allowed any l) is_steps) is_bad;
 }
+
+-- what is broken is sorted, and right but for a must that came or went
+pub broken_sorted : (p : Present) (sets : List Setting) (ms : List Must) (b : List BrokenMust) → b ≡ broken_all (λ t. state_from p.base t p.value sets) p.moment p.horizon ms → AreSorted must_key ms → AreSorted group_key b
+broken_sorted p sets ms b is sorted =
+    let state : ℕ → ℕ = λ t. state_from p.base t p.value sets in
+    subst (λ l. AreSorted group_key l) (sym (is ∙ all_is state p.moment p.horizon ms)) (all_sorted (group_at p sets) (one_keyed state p.moment p.horizon) ms sorted)
+
+pub need_right : (p : Present) (sets : List Setting) (u : Must) (k : Key) (ms ms' : List Must) (b : List BrokenMust) → b ≡ broken_all (λ t. state_from p.base t p.value sets) p.moment p.horizon ms → AreSorted must_key ms
+    → ms' ≡ with_must u ms → k ≡ must_key u → AreRightBut (k ∷ []) (group_at p sets) ms' b
+need_right p sets u k ms ms' b is sorted is_musts is_key =
+    let state : ℕ → ℕ = λ t. state_from p.base t p.value sets in
+    subst (λ l. AreRightBut (k ∷ []) (group_at p sets) l b) (sym is_musts)
+    (subst (λ l. AreRightBut (k ∷ []) (group_at p sets) (with_must u ms) l) (sym (is ∙ all_is state p.moment p.horizon ms))
+    (subst (λ j. AreRightBut (j ∷ []) (group_at p sets) (with_must u ms) (all_of (group_at p sets) ms)) (sym is_key) (right_with (group_at p sets) (one_keyed state p.moment p.horizon) u ms sorted)))
+
+pub free_right : (p : Present) (sets : List Setting) (u : Must) (k : Key) (ms ms' : List Must) (b : List BrokenMust) → b ≡ broken_all (λ t. state_from p.base t p.value sets) p.moment p.horizon ms → AreSorted must_key ms
+    → ms' ≡ without same_must u ms → k ≡ must_key u → AreRightBut (k ∷ []) (group_at p sets) ms' b
+free_right p sets u k ms ms' b is sorted is_musts is_key =
+    let state : ℕ → ℕ = λ t. state_from p.base t p.value sets in
+    subst (λ l. AreRightBut (k ∷ []) (group_at p sets) l b) (sym is_musts)
+    (subst (λ l. AreRightBut (k ∷ []) (group_at p sets) (without same_must u ms) l) (sym (is ∙ all_is state p.moment p.horizon ms))
+    (subst (λ j. AreRightBut (j ∷ []) (group_at p sets) (without same_must u ms) (all_of (group_at p sets) ms)) (sym is_key) (right_without (group_at p sets) (one_keyed state p.moment p.horizon) knows_must u ms sorted)))

@@ -7,7 +7,7 @@ use Rattle.pl_state.specs.declared.reservation.Must.{Must}
 use Rattle.pl_state.specs.declared.answer.BrokenMust.{BrokenMust}
 use Rattle.pl_state.specs.declared.answer.BadSet.{BadSet}
 use Rattle.pl_state.specs.Musts.{broken_one, broken_all}
-use Rattle.pl_state.specs.Lines.{same_broken, same_bad}
+use Rattle.pl_state.specs.Timelines.{same_broken, same_bad}
 use Rattle.pl_state.specs.Near.{all_of}
 
 pub broken_itself : (x : BrokenMust) → same_broken x x ≡ true

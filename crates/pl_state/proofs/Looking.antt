@@ -13,7 +13,7 @@ use Rattle.std.proofs.lemmas.List.Folds.{list_any_at, list_any_none}
 use Rattle.std.proofs.lemmas.List.Elements.{All-from_all_within}
 use Rattle.pl_lists.specs.Lists.{is_among, left_out}
 use Rattle.pl_state.specs.declared.answer.BrokenMust.{BrokenMust}
-use Rattle.pl_state.specs.Lines.{same_broken}
+use Rattle.pl_state.specs.Timelines.{same_broken}
 use Rattle.pl_state.specs.Sorted.{broken_cmp}
 use Rattle.pl_state.proofs.Grouping.{broken_itself}
 use Rattle.pl_state.proofs.Apart.{broken_exact}

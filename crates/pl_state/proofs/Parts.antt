@@ -11,7 +11,7 @@ use Rattle.pl_state.specs.declared.reservation.Must.{Must}
 use Rattle.pl_state.specs.declared.answer.BrokenMust.{BrokenMust}
 use Rattle.pl_state.specs.Keys.{key_of, key_before, NoneBefore, AreSorted}
 use Rattle.pl_state.specs.Musts.{must_key, same_must, broken_spans, broken_one}
-use Rattle.pl_state.specs.Lines.{same_broken}
+use Rattle.pl_state.specs.Timelines.{same_broken}
 use Rattle.pl_state.specs.Near.{all_of, group_key, AllHave, IsKeyed}
 use Rattle.pl_state.proofs.Keys.{before_itself}
 use Rattle.pl_state.proofs.Lists.{in_append, left_append}

@@ -11,7 +11,7 @@ use Rattle.pl_state.specs.declared.reservation.Must.{Must}
 use Rattle.pl_state.specs.declared.answer.BrokenMust.{BrokenMust}
 use Rattle.pl_state.specs.Keys.{key_before, is_before, is_up_to, AreSorted, IsRun, AreRising, KnowsKey, Has}
 use Rattle.pl_state.specs.Musts.{must_key, same_must, with_must}
-use Rattle.pl_state.specs.Lines.{same_broken}
+use Rattle.pl_state.specs.Timelines.{same_broken}
 use Rattle.pl_state.specs.Near.{all_of, group_key, IsKeyed, AreRightBut, IsBegun}
 use Rattle.pl_state.proofs.Keys.{before_itself, parted_before, parted_upto, sorted_drop}
 use Rattle.pl_state.proofs.Seeking.{earlier_other, none_same}

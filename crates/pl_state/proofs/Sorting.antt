@@ -13,7 +13,7 @@ use Rattle.pl_state.specs.Keys.{key_of, key_before, NoneBefore, Has, AreSorted}
 use Rattle.pl_state.specs.Sorted.{NoneHas, AreDistinct, bad_key, broken_key}
 use Rattle.pl_state.specs.Sets.{set_key, is_counted, bad_set, bad_from}
 use Rattle.pl_state.specs.Musts.{must_key, broken_spans, broken_one, broken_all}
-use Rattle.pl_state.specs.Lines.{same_bad}
+use Rattle.pl_state.specs.Timelines.{same_bad}
 use Rattle.pl_state.specs.Near.{AreBadInOrder}
 use Rattle.pl_state.proofs.Keys.{Follows, follows, not_before}
 use Rattle.pl_state.proofs.Steps.{told}

@@ -9,5 +9,6 @@ pub mod Musts
 pub mod Starts
 pub mod Near
 pub mod Present
-pub mod Lines
+pub mod Timelines
 pub mod Sorted
+pub mod Keeping

@@ -10,7 +10,7 @@ use Rattle.pl_state.specs.declared.reservation.Started.{Started}
 use Rattle.pl_state.specs.declared.key.Key.{Key}
 use Rattle.pl_state.specs.Keys.{key_of, is_before, is_up_to}
 use Rattle.pl_state.specs.Musts.{must_key}
-use Rattle.pl_state.specs.Lines.{same_broken}
+use Rattle.pl_state.specs.Timelines.{same_broken}
 
 -- whether a must has moments of the window
 abbrev pub touches : Span → Must → Bool

@@ -5,7 +5,7 @@ ghost use Rattle.pl_state.specs.declared.reservation.Must.{Must};
 ghost use Rattle.pl_state.specs.declared.answer.BrokenMust.{BrokenMust};
 ghost use Rattle.pl_state.specs.Keys.{AreSorted};
 ghost use Rattle.pl_state.specs.Sets.{AreInOrder};
-ghost use Rattle.pl_state.specs.Lines.{same_broken};
+ghost use Rattle.pl_state.specs.Timelines.{same_broken};
 ghost use Rattle.pl_lists.specs.Lists.{left_out};
 ghost use Rattle.pl_state.specs.Near.{group_key, IsKeyed, AreRightBut, IsBegun};
 ghost use Rattle.pl_state.specs.Present.{group_at, broken_at};

@@ -10,7 +10,7 @@ ghost use Rattle.pl_state.specs.Sorted.{AreDistinct, NoneHas, bad_key, broken_ke
 ghost use Rattle.pl_state.specs.declared.answer.BadSet.{BadSet};
 ghost use Rattle.pl_state.specs.declared.answer.BrokenMust.{BrokenMust};
 ghost use Rattle.pl_state.specs.declared.answer.StateChange.{StateChange};
-ghost use Rattle.pl_state.specs.Lines.{Standing, AreChanges, bad_now, broken_now, same_bad, same_broken};
+ghost use Rattle.pl_state.specs.Timelines.{Standing, AreChanges, bad_now, broken_now, same_bad, same_broken};
 
 /// Sets stay sorted by (moment, id, index) and musts by (id, index) as they come and go.
 pub fn order_laws()

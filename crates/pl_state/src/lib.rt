@@ -3,12 +3,14 @@
 
 mod answer;
 mod bound;
+mod change;
 mod finding;
 mod groups;
+mod kept;
 mod key;
 mod laws;
-mod line;
 mod listed;
+mod making;
 mod missing;
 mod musts;
 mod near;
@@ -19,9 +21,10 @@ mod rows;
 mod sets;
 mod sharing;
 mod starts;
+mod timeline;
 
 pub use answer::{BadSet, BrokenMust, StateChange};
 pub use laws::{change_laws, distinct_laws, order_laws, same_standing, told_in_order};
-pub use line::StateLine;
 pub use reservation::{Must, Setting};
 pub use sharing::shared_types;
+pub use timeline::StateTimeline;

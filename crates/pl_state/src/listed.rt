@@ -9,7 +9,7 @@ use std::alloc::{AllocError, Global};
 
 impl Keyed for BrokenMust {
     ghost use Rattle.pl_state.specs.Near.{group_key};
-    ghost use Rattle.pl_state.specs.Lines.{same_broken};
+    ghost use Rattle.pl_state.specs.Timelines.{same_broken};
 
     ghost key = { group_key };
 
@@ -31,7 +31,7 @@ impl Keyed for BrokenMust {
 
 impl Keyed for BadSet {
     ghost use Rattle.pl_state.specs.Sorted.{bad_key};
-    ghost use Rattle.pl_state.specs.Lines.{same_bad};
+    ghost use Rattle.pl_state.specs.Timelines.{same_bad};
 
     ghost key = { bad_key };
 

@@ -3,7 +3,7 @@ ghost use Rattle.std.specs.Prelude.{◌≡◌, ◌++◌, List, OnOk, IfOk};
 ghost use Rattle.std.specs.List.Sorted.{IsSorted};
 ghost use Rattle.pl_lists.specs.Lists.{is_among, left_out};
 ghost use Rattle.pl_state.specs.declared.answer.BrokenMust.{BrokenMust};
-ghost use Rattle.pl_state.specs.Lines.{same_broken};
+ghost use Rattle.pl_state.specs.Timelines.{same_broken};
 ghost use Rattle.pl_state.specs.Sorted.{broken_cmp};
 
 use crate::answer::BrokenMust;

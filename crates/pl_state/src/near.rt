@@ -1,29 +1,25 @@
 //! Both lists mended near a change.
-ghost use Rattle.std.specs.Prelude.{◌≡◌, ◌≤◌, length, take, drop, OnOk, IfOk};
+ghost use Rattle.std.specs.Prelude.{◌≡◌, ◌≤◌, [], ◌∷◌, false, length, take, drop, OnOk, IfOk};
 ghost use Rattle.pl_lists.specs.Lists.{front, back, left_out};
 ghost use Rattle.pl_state.specs.Keys.{AreSorted};
 ghost use Rattle.pl_state.specs.Sets.{AreInOrder};
 ghost use Rattle.pl_state.specs.Sorted.{bad_key};
-ghost use Rattle.pl_state.specs.Lines.{AreChanges, same_bad, same_broken};
-ghost use Rattle.pl_state.specs.Near.{bad_before, bad_by, AreBadInOrder};
-ghost use Rattle.pl_state.specs.Present.{broken_at, bad_at, WasRight, IsRightBut};
+ghost use Rattle.pl_state.specs.Timelines.{bad_now, same_bad, same_broken};
+ghost use Rattle.pl_state.specs.Near.{bad_before, bad_by, group_key, AreBadInOrder, AreRightBut};
+ghost use Rattle.pl_state.specs.Present.{broken_at, bad_at, group_at, WasRight, IsRightBut};
+ghost use Rattle.pl_state.specs.Keeping.{state_of, IsMended};
 
 use crate::answer::{BadSet, BrokenMust, StateChange};
 use crate::groups::renew;
+use crate::kept::Kept;
+use crate::key::Key;
 use crate::listed::{Difference, answer, exchange};
 use crate::musts::Musts;
 use crate::present::Present;
 use crate::sets::{Sets, bad_near};
+use pl_lists::Items;
 use pl_points::Span;
 use std::alloc::{AllocError, Global};
-
-/// Where musts are broken, the spans of each must behind those of the one before it, and the steps that are not
-/// allowed.
-#[derive(Drop)]
-pub(crate) struct Told {
-    pub(crate) broken: Vec<BrokenMust>,
-    pub(crate) bad: Vec<BadSet>,
-}
 
 // How many of them come before the moment.
 fn begun_count(bad: &[BadSet], at: u32) -> usize
@@ -109,27 +105,72 @@ fn mend_musts(
     Ok(difference)
 }
 
-/// Mends both lists in the window, and leaves what they have elsewhere as it was.
-pub(crate) fn mend(
-    alloc: Global,
-    any: bool,
-    steps: &[(u32, u32)],
-    present: Present,
-    near: Span,
-    sets: &Sets,
-    musts: &Musts,
-    told: &mut Told,
-) -> Result<StateChange, AllocError>
-    requires right { IsRightBut near any steps.now present sets.now musts.now told.old.broken.items
-        told.old.bad.items }
-    requires sorted { AreSorted bad_key told.old.bad.items }
-    ensures broken { OnOk result (told.new.broken.items ≡ broken_at present sets.now musts.now) }
-    ensures bad { OnOk result (told.new.bad.items ≡ bad_at any steps.now present sets.now) }
-    ensures sorted { OnOk result (AreSorted bad_key told.new.bad.items) }
-    ensures change { IfOk result (λ c. AreChanges told.old.broken.items told.new.broken.items
-        told.old.bad.items told.new.bad.items c) }
+// Steps that stay as they are.
+fn no_steps(alloc: Global) -> Difference<BadSet>
+    ensures went { result.went ≡ [] }
+    ensures came { result.came ≡ [] }
 {
-    let of_musts = mend_musts(alloc, present, near, sets, musts, &mut told.broken)?;
-    let of_steps = mend_steps(alloc, any, steps, present, near, sets, &mut told.bad)?;
-    Ok(answer(of_musts, of_steps))
+    Difference {
+        went: Items::new(alloc),
+        came: Items::new(alloc),
+    }
+}
+
+impl Kept {
+    /// Moves to the present, and mends both lists in the window. Elsewhere they are right as they stand.
+    pub(crate) fn mend_near(
+        &mut self,
+        present: Present,
+        near: Span,
+    ) -> Result<StateChange, AllocError>
+        requires time { present.moment ≤ present.horizon }
+        requires based { present.base ≤ present.moment }
+        requires right { IsRightBut near self.old.any self.old.steps.items present self.old.sets
+            self.old.musts self.old.told.broken.items self.old.told.bad.items }
+        requires sorted { AreSorted bad_key self.old.told.bad.items }
+        ensures { IfOk result (λ told. IsMended present self.old self.new told) }
+    {
+        let of_musts = mend_musts(
+            self.alloc,
+            present,
+            near,
+            &self.sets,
+            &self.musts,
+            &mut self.told.broken,
+        )?;
+        let of_steps = mend_steps(
+            self.alloc,
+            self.any,
+            &self.steps,
+            present,
+            near,
+            &self.sets,
+            &mut self.told.bad,
+        )?;
+        self.present = present;
+        Ok(answer(of_musts, of_steps))
+    }
+
+    /// Works out anew where the musts with the key are broken. All others are right as they stand.
+    pub(crate) fn mend_must(&mut self, key: Key) -> Result<StateChange, AllocError>
+        requires time { self.old.present.moment ≤ self.old.present.horizon }
+        requires based { self.old.present.base ≤ self.old.present.moment }
+        requires ordered { AreInOrder 0 self.old.sets }
+        requires sorted { AreSorted group_key self.old.told.broken.items }
+        requires right { AreRightBut (key ∷ []) (group_at self.old.present self.old.sets)
+            self.old.musts self.old.told.broken.items }
+        requires steps { self.old.told.bad.items ≡ bad_now (state_of false self.old) }
+        requires steps_sorted { AreSorted bad_key self.old.told.bad.items }
+        ensures { IfOk result (λ told. IsMended self.old.present self.old self.new told) }
+    {
+        let of_musts = renew(
+            self.alloc,
+            &self.sets,
+            self.present,
+            &self.musts,
+            &[key],
+            &mut self.told.broken,
+        )?;
+        Ok(answer(of_musts, no_steps(self.alloc)))
+    }
 }

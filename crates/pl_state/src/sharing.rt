@@ -1,6 +1,6 @@
 use crate::answer::{BadSet, BrokenMust, StateChange};
-use crate::line::StateLine;
 use crate::reservation::{Must, Setting};
+use crate::timeline::StateTimeline;
 use pl_lists::may_be_shared;
 
 /// A state timeline, what it holds and what it answers may be shared between threads.
@@ -10,5 +10,5 @@ pub fn shared_types() {
     may_be_shared::<BrokenMust>();
     may_be_shared::<BadSet>();
     may_be_shared::<StateChange>();
-    may_be_shared::<StateLine>();
+    may_be_shared::<StateTimeline>();
 }

@@ -14,6 +14,7 @@ pub mod ExprExact
 pub mod ExprRule
 pub mod ExprTurns
 pub mod ModelRules
+pub mod TimelineRules
 pub mod ReadExact
 pub mod Answered
 pub mod TextMarks

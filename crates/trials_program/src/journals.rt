@@ -2,6 +2,6 @@
 
 mod asserting;
 mod lines;
-mod models;
+pub mod models;
 mod shared;
 mod verdicts;

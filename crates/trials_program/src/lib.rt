@@ -2,8 +2,12 @@
 #![tactic(auto)]
 
 #[cfg(test)]
+mod breaking;
+#[cfg(test)]
 mod journals;
 #[cfg(test)]
 mod pair;
 #[cfg(test)]
 mod program;
+#[cfg(test)]
+mod running;

@@ -1,5 +1,8 @@
 //! Tests of a planner and an executive in threads of their own, through the top call.
 
+mod faults;
+mod gates;
+mod limits;
 mod meeting;
 mod missions;
 mod runs;

@@ -1,7 +1,9 @@
 //! Tests of the top call and of the program's words: whole runs and demonstrations.
 
 mod demonstrations;
+mod faults;
+mod hostile;
 mod journals;
-mod running;
+mod limits;
 mod runs;
 mod words;

@@ -1,25 +1,24 @@
-ghost use Rattle.std.specs.Prelude.{◌≡◌, ◌<◌, ◌^◌, ◌≤◌, [], ◌∷◌, ◌++◌, false, true, length, drop, vec_len, vec_capacity, IfOk, OnOk, OnErr};
+ghost use Rattle.std.specs.Prelude.{◌≡◌, ◌<◌, ◌≤◌, [], ◌∷◌, ◌++◌, false, true, vec_len, vec_capacity, IfOk, OnOk, OnErr};
 ghost use Rattle.pl_entry.specs.Bounds.{IsEventInRange, IsReplyTo};
 ghost use Rattle.pl_semantics.specs.Whole.{IsWhole};
 ghost use Rattle.pl_board.specs.Boards.{after as board_of};
-ghost use Rattle.pl_machine.specs.World.{due_at, due_in};
-ghost use Rattle.pl_machine.specs.Calm.{AreSettled, IsAheadAt, IsAhead};
+ghost use Rattle.pl_machine.specs.World.{due_in};
+ghost use Rattle.pl_machine.specs.Calm.{IsAhead};
 ghost use Rattle.pl_machine.specs.Changes.{changed, is_tick, CanChange, KeepsDue};
 ghost use Rattle.pl_machine.specs.Keeping.{KeepsStanding};
 ghost use Rattle.pl_machine.specs.Step.{reply_of, after};
 ghost use Rattle.pl_machine.specs.Taking.{IsOpen, Spoils, Answers, with_round, with_state};
 
-use crate::ahead::Ahead;
 use crate::change::Change;
 use crate::machine::Machine;
 use crate::round::Round;
-use crate::starting::{ahead_after, next_start, settled_front};
+use crate::schedule::Schedule;
+use crate::starting::ahead_after;
 use crate::stop::Stop;
 use pl_board::Board;
-use pl_entry::{Entry, Event, Reply, due_since_among};
+use pl_entry::{Entry, Event, Reply};
 use pl_lists::Copied;
 use pl_moves::make;
-use pl_plan::Activity;
 use pl_points::{Quiet, Steps};
 use std::alloc::{AllocError, Global};
 
@@ -107,129 +106,7 @@ fn change_board(board: &mut Board, alloc: Global, change: Change) -> Result<(), 
     }
 }
 
-/// The activities of a board behind so many at the front.
-fn behind(board: &Board, settled: usize) -> &[Activity]
-    requires { settled ≤ length board.now.state.plan.activities }
-    ensures rest { result.now ≡ drop settled board.now.state.plan.activities }
-    ensures few { length board.now.state.plan.activities < 2 ^ 32 }
-{
-    &board.state().plan.activities()[settled..]
-}
-
-/// The ids of what has come to be due on a board since an earlier moment, in start order. What was settled then is passed over.
-fn due_since_on(
-    board: &Board,
-    alloc: Global,
-    before: u32,
-    settled: usize,
-) -> Result<Vec<u32>, AllocError>
-    requires unspoiled { board.now.spoiled ≡ false }
-    requires later { before ≤ board.now.state.moment }
-    requires settled { AreSettled before board.now.state.committed settled board.now.state.plan.activities }
-    ensures { IfOk result (λ more. due_in board.now.state ≡ due_at before board.now.state ++ more.items) }
-{
-    let state = board.state();
-    due_since_among(
-        alloc,
-        state.model.get(),
-        behind(board, settled),
-        before,
-        state.moment,
-        state.committed,
-    )
-}
-
-/// Lists what has come to be due on a board behind what was due at an earlier moment.
-fn extend_due(
-    board: &Board,
-    due: &mut Vec<u32>,
-    alloc: Global,
-    before: u32,
-    settled: usize,
-) -> Result<(), AllocError>
-    requires unspoiled { board.now.spoiled ≡ false }
-    requires later { before ≤ board.now.state.moment }
-    requires settled { AreSettled before board.now.state.committed settled board.now.state.plan.activities }
-    requires listed { due.old.items ≡ due_at before board.now.state }
-    ensures ok { OnOk result (due.new.items ≡ due_in board.now.state) }
-    ensures err { OnErr result (due.new.items ≡ due.old.items) }
-{
-    let more = due_since_on(board, alloc, before, settled)?;
-    due.extend_from_slice(&more)?;
-    Ok(())
-}
-
-/// How far ahead a board is looked at, given how far it was at an earlier moment.
-fn ahead_on(board: &Board, before: u32, ahead: Ahead) -> Ahead
-    requires later { before ≤ board.now.state.moment }
-    requires ahead { IsAheadAt before board.now.state ahead }
-    ensures { IsAhead board.now.state result }
-{
-    let state = board.state();
-    let rest = behind(board, ahead.settled);
-    let next_start = next_start(state.moment, rest);
-    let more = settled_front(state.moment, state.committed, rest);
-    Ahead {
-        next_start,
-        settled: ahead.settled + more,
-    }
-}
-
-/// The same, and looks ahead. Where memory is wanting the board is spoiled.
-fn list_next(
-    board: &mut Board,
-    due: &mut Vec<u32>,
-    ahead: &mut Ahead,
-    alloc: Global,
-    before: u32,
-) -> Result<(), AllocError>
-    requires unspoiled { board.old.spoiled ≡ false }
-    requires later { before ≤ board.old.state.moment }
-    requires listed { due.old.items ≡ due_at before board.old.state }
-    requires ahead { IsAheadAt before board.old.state ahead.old }
-    ensures same { OnOk result (board.new ≡ board.old) }
-    ensures due { OnOk result (due.new.items ≡ due_in board.old.state) }
-    ensures ahead { OnOk result (IsAhead board.old.state ahead.new) }
-    ensures err { OnErr result (due.new.items ≡ due.old.items) }
-    ensures spoils { OnErr result (board.new.spoiled ≡ true) }
-{
-    match extend_due(board, due, alloc, before, ahead.settled) {
-        Ok(()) => {
-            *ahead = ahead_on(board, before, *ahead);
-            Ok(())
-        }
-        Err(fault) => {
-            board.spoil();
-            Err(fault)
-        }
-    }
-}
-
-/// The same. Where nothing started since the earlier moment nothing is looked at.
-fn list_due(
-    board: &mut Board,
-    due: &mut Vec<u32>,
-    ahead: &mut Ahead,
-    alloc: Global,
-    before: u32,
-) -> Result<(), AllocError>
-    requires unspoiled { board.old.spoiled ≡ false }
-    requires later { before ≤ board.old.state.moment }
-    requires listed { due.old.items ≡ due_at before board.old.state }
-    requires ahead { IsAheadAt before board.old.state ahead.old }
-    ensures same { OnOk result (board.new ≡ board.old) }
-    ensures due { OnOk result (due.new.items ≡ due_in board.old.state) }
-    ensures ahead { OnOk result (IsAhead board.old.state ahead.new) }
-    ensures err { OnErr result (due.new.items ≡ due.old.items) }
-    ensures spoils { OnErr result (board.new.spoiled ≡ true) }
-{
-    if board.state().moment < ahead.next_start {
-        return Ok(());
-    }
-    list_next(board, due, ahead, alloc, before)
-}
-
-/// Whether something may come to be due by it.
+/// Whether more may come to be due by the change.
 fn is_tick(change: &Change) -> bool
     ensures { result ≡ is_tick change.now }
 {
@@ -239,45 +116,43 @@ fn is_tick(change: &Change) -> bool
     }
 }
 
-/// Makes a change of a board, and keeps the list of what is due, which only a tick changes, and how far ahead was looked. Where memory
-/// is wanting the board is spoiled.
+/// Makes a change of a board, and keeps the schedule up, in which only a tick makes more due. Where memory is
+/// wanting the board is spoiled.
 fn change_due(
     board: &mut Board,
-    due: &mut Vec<u32>,
-    ahead: &mut Ahead,
+    schedule: &mut Schedule,
     alloc: Global,
     change: Change,
 ) -> Result<(), AllocError>
     requires unspoiled { board.old.spoiled ≡ false }
     requires whole { IsWhole board.old.state }
     requires can { CanChange board.old.state change }
-    requires listed { due.old.items ≡ due_in board.old.state }
-    requires ahead { IsAhead board.old.state ahead.old }
+    requires listed { schedule.old.due.items ≡ due_in board.old.state }
+    requires ahead { IsAhead board.old.state schedule.old.ahead }
     ensures ok { OnOk result (board.new ≡ board_of (changed change board.old.state)) }
     ensures keeps { OnOk result (KeepsStanding board.old.state board.new.state) }
-    ensures due { OnOk result (due.new.items ≡ due_in board.new.state) }
-    ensures ahead { OnOk result (IsAhead board.new.state ahead.new) }
-    ensures same { OnErr result (due.new.items ≡ due.old.items) }
+    ensures due { OnOk result (schedule.new.due.items ≡ due_in board.new.state) }
+    ensures ahead { OnOk result (IsAhead board.new.state schedule.new.ahead) }
+    ensures same { OnErr result (schedule.new.due.items ≡ schedule.old.due.items) }
     ensures err { OnErr result (board.new.spoiled ≡ true) }
 {
     let ticks = is_tick(&change);
     let before = board.state().moment;
-    let kept = ahead_after(&change, *ahead);
+    let ahead = ahead_after(&change, schedule.ahead);
     change_board(board, alloc, change)?;
-    *ahead = kept;
+    schedule.ahead = ahead;
     if ticks {
-        list_due(board, due, ahead, alloc, before)
+        schedule.keep_up(board, alloc, before)
     } else {
         Ok(())
     }
 }
 
-/// Makes a change of a board, appends its entry, and keeps the list of what is due. The place in the log is reserved first.
+/// Makes a change of a board, keeps the schedule up, and appends the entry, whose place in the log is reserved first.
 fn push_change(
     log: &mut Vec<Entry>,
     board: &mut Board,
-    due: &mut Vec<u32>,
-    ahead: &mut Ahead,
+    schedule: &mut Schedule,
     alloc: Global,
     event: Event,
     change: Change,
@@ -285,19 +160,19 @@ fn push_change(
     requires unspoiled { board.old.spoiled ≡ false }
     requires whole { IsWhole board.old.state }
     requires can { CanChange board.old.state change }
-    requires listed { due.old.items ≡ due_in board.old.state }
-    requires ahead { IsAhead board.old.state ahead.old }
+    requires listed { schedule.old.due.items ≡ due_in board.old.state }
+    requires ahead { IsAhead board.old.state schedule.old.ahead }
     ensures ok { OnOk result (log.new.items ≡ log.old.items ++ record { event = event; reply = Reply.Done } ∷ []) }
     ensures changed { OnOk result (board.new ≡ board_of (changed change board.old.state)) }
     ensures keeps { OnOk result (KeepsStanding board.old.state board.new.state) }
-    ensures due { OnOk result (due.new.items ≡ due_in board.new.state) }
-    ensures ahead { OnOk result (IsAhead board.new.state ahead.new) }
+    ensures due { OnOk result (schedule.new.due.items ≡ due_in board.new.state) }
+    ensures ahead { OnOk result (IsAhead board.new.state schedule.new.ahead) }
     ensures err { OnErr result (log.new.items ≡ log.old.items) }
-    ensures same { OnErr result (due.new.items ≡ due.old.items) }
+    ensures same { OnErr result (schedule.new.due.items ≡ schedule.old.due.items) }
     ensures spoils { OnErr result (board.new.spoiled ≡ true) }
 {
     reserve_entry(log, board)?;
-    change_due(board, due, ahead, alloc, change)?;
+    change_due(board, schedule, alloc, change)?;
     push_done(log, event);
     Ok(())
 }
@@ -346,8 +221,7 @@ impl Machine {
         push_change(
             &mut self.log,
             &mut self.board,
-            &mut self.due,
-            &mut self.ahead,
+            &mut self.schedule,
             self.alloc,
             event,
             change,

@@ -83,7 +83,7 @@ impl Machine {
         match push_repair(
             &mut self.log,
             &mut self.board,
-            &mut self.ahead,
+            &mut self.schedule.ahead,
             self.alloc,
             chooser,
         )? {

@@ -48,7 +48,7 @@ impl Machine {
     pub fn dispatched(&self) -> &[u32]
         ensures { result.now ≡ self.now.world.dispatched }
     {
-        &self.due[..self.sent]
+        &self.schedule.due[..self.sent]
     }
 
     /// The repairs of this round so far.

@@ -22,7 +22,7 @@ impl Machine {
         ensures sent { result ≡ all_sent self.now.world }
         ensures due { result ≡ not (nat_lt (length self.now.world.dispatched) (length (due_in self.now.world.state))) }
     {
-        self.due.len() <= self.sent
+        self.schedule.due.len() <= self.sent
     }
 
     /// The command of an activity.
@@ -67,7 +67,7 @@ impl Machine {
         ensures whole { IfOk result (λ _. IsWhole self.now.world.state) }
     {
         let state = self.board.state();
-        let id = self.due[self.sent];
+        let id = self.schedule.due[self.sent];
         match state.plan.get(id) {
             Some(activity) => self.command_of(activity),
             None => unreachable!(),
@@ -79,7 +79,7 @@ impl Machine {
         requires { self.now.spoiled ≡ false }
         ensures { result ≡ nat_lt (length self.now.world.dispatched) (length (due_in self.now.world.state)) }
     {
-        self.sent < self.due.len()
+        self.sent < self.schedule.due.len()
     }
 
     /// Whether a command is to be sent.

@@ -30,7 +30,7 @@ use Rattle.pl_semantics.specs.Parts.{part_of, of_links}
 use Rattle.pl_semantics.specs.Links.{placed_in, lone, place_in, order_at, unmet_by, unmet_from, unmet_order, link_conflict, link_conflicts}
 use Rattle.pl_semantics.proofs.Standing.{of_links_alone}
 use Rattle.pl_detect.specs.Broken.{conflict_by, broken_conflict}
-use Rattle.pl_update.specs.Links.Owned.{owner_of, is_of_link, is_of_order}
+use Rattle.pl_update.specs.Links.Owned.{owner_of, is_of_links}
 use Rattle.pl_update.specs.Links.Mended.{MendsLinks}
 use Rattle.pl_update.specs.Links.Passing.{IsBefore, ShowsLinks, is_settled, is_of_part, passed}
 use Rattle.pl_update.proofs.AboutLinks.Owning.{has-flat, flat_of_links, has-links, any-filter}
@@ -127,7 +127,9 @@ module _ (s : PlanState) (m c : ℕ) (present : s.moment ≤ m) (horizon : s.com
 
 -- ---- what passed
 
-of_part : (k : Code) → (is_of_link k || is_of_order k) ≡ true → part_of k ≡ of_links
+of_part : (k : Code) → is_of_links k ≡ true → part_of k ≡ of_links
+of_part code.Temporal e = refl
+of_part code.Linked e = refl
 of_part code.OpenGoal e = absurd (cc)
 of_part code.OffGoal e = absurd (cc)
 of_part code.Late e = absurd (cc)
@@ -135,15 +137,15 @@ of_part code.Unset e = absurd (cc)
 of_part code.BadValue e = absurd (cc)
 of_part code.Undetailed e = absurd (cc)
 of_part code.Overrun e = absurd (cc)
-of_part code.Temporal e = refl
-of_part code.Linked e = refl
 of_part code.Over e = absurd (cc)
 of_part code.Low e = absurd (cc)
 of_part code.High e = absurd (cc)
 of_part code.Must e = absurd (cc)
 of_part code.BadStep e = absurd (cc)
 
-is_part : (k : Code) → part_of k ≡ of_links → (is_of_link k || is_of_order k) ≡ true
+is_part : (k : Code) → part_of k ≡ of_links → is_of_links k ≡ true
+is_part code.Temporal e = refl
+is_part code.Linked e = refl
 is_part code.OpenGoal e = absurd (cc)
 is_part code.OffGoal e = absurd (cc)
 is_part code.Late e = absurd (cc)
@@ -151,8 +153,6 @@ is_part code.Unset e = absurd (cc)
 is_part code.BadValue e = absurd (cc)
 is_part code.Undetailed e = absurd (cc)
 is_part code.Overrun e = absurd (cc)
-is_part code.Temporal e = refl
-is_part code.Linked e = refl
 is_part code.Over e = absurd (cc)
 is_part code.Low e = absurd (cc)
 is_part code.High e = absurd (cc)

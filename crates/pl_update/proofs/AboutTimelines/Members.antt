@@ -22,7 +22,7 @@ use Rattle.pl_level.specs.Soundness.{AreChanges as AreLevelChanges}
 use Rattle.pl_state.specs.declared.answer.BrokenMust.{BrokenMust}
 use Rattle.pl_state.specs.declared.answer.BadSet.{BadSet}
 use Rattle.pl_state.specs.declared.answer.StateChange.{StateChange}
-use Rattle.pl_state.specs.Lines.{AreChanges, same_broken, same_bad}
+use Rattle.pl_state.specs.Timelines.{AreChanges, same_broken, same_bad}
 use Rattle.pl_state.proofs.Apart.{broken_exact, bad_exact}
 use Rattle.pl_state.proofs.Grouping.{bad_itself, broken_itself}
 use Rattle.pl_semantics.specs.declared.plan_state.PlanState.{PlanState}

@@ -21,7 +21,7 @@ use Rattle.pl_state.specs.declared.reservation.Setting.{Setting}
 use Rattle.pl_state.specs.declared.reservation.Must.{Must}
 use Rattle.pl_state.specs.Sets.{set_key, set_before, same_setting, with_set}
 use Rattle.pl_state.specs.Musts.{must_key, must_before, same_must, with_must}
-use Rattle.pl_state.specs.Lines.{Standing as StateStanding}
+use Rattle.pl_state.specs.Timelines.{Standing as StateStanding}
 use Rattle.pl_state.proofs.Keys.{sorted_with, sorted_without}
 use Rattle.pl_state.proofs.Indexing.{exact_must}
 use Rattle.pl_semantics.specs.declared.plan_state.PlanState.{PlanState}

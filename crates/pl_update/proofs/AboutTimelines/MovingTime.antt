@@ -5,7 +5,7 @@ use Rattle.std.proofs.lemmas.Int.{ints}
 use Rattle.std.proofs.lemmas.Option.{slice_get_within, slice_get-get_or}
 use Rattle.std.proofs.lemmas.List.Elements.{All-append, All-map, All-weaker, All-take, All-drop}
 use Rattle.pl_level.specs.Effects.{Standing as LevelStanding}
-use Rattle.pl_state.specs.Lines.{Standing as StateStanding}
+use Rattle.pl_state.specs.Timelines.{Standing as StateStanding}
 use Rattle.pl_semantics.specs.declared.plan_state.PlanState.{PlanState}
 use Rattle.pl_semantics.specs.Demands.{since, moment_of_base}
 use Rattle.pl_facts.specs.Bases.{base_of}

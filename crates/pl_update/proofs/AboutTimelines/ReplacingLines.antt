@@ -13,7 +13,7 @@ use Rattle.pl_model.specs.declared.reservations.Reservation.{Reservation}
 use Rattle.pl_model.specs.declared.reservations.Reservation.TheVariants as reservation
 use Rattle.pl_capacity.specs.Uses as capacity
 use Rattle.pl_level.specs.Effects as level
-use Rattle.pl_state.specs.Lines as state_lines
+use Rattle.pl_state.specs.Timelines as state_lines
 use Rattle.pl_state.specs.declared.reservation.Setting.{Setting}
 use Rattle.pl_state.specs.declared.reservation.Must.{Must}
 use Rattle.pl_state.specs.declared.answer.BrokenMust.{BrokenMust}

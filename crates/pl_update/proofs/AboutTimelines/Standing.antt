@@ -11,7 +11,7 @@ use Rattle.pl_level.specs.declared.reservation.Effect.{Effect}
 use Rattle.pl_level.specs.Effects as level
 use Rattle.pl_state.specs.declared.reservation.Setting.{Setting}
 use Rattle.pl_state.specs.declared.reservation.Must.{Must}
-use Rattle.pl_state.specs.Lines as states
+use Rattle.pl_state.specs.Timelines as states
 use Rattle.pl_state.specs.Sets.{set_before, with_set}
 use Rattle.pl_state.specs.Musts.{must_before, with_must}
 use Rattle.pl_semantics.specs.declared.demand.Demand.{Demand}

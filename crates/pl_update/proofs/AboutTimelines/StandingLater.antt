@@ -15,7 +15,7 @@ use Rattle.pl_facts.specs.Bases.{base_of}
 use Rattle.pl_model.specs.declared.timelines.Timeline.{Timeline}
 use Rattle.pl_model.specs.declared.timelines.Timeline.TheVariants as timeline
 use Rattle.pl_level.specs.Effects as level
-use Rattle.pl_state.specs.Lines as state_lines
+use Rattle.pl_state.specs.Timelines as state_lines
 use Rattle.pl_plan.specs.declared.activity.Activity.{Activity}
 use Rattle.pl_semantics.specs.declared.plan_state.PlanState.{PlanState}
 use Rattle.pl_semantics.specs.declared.demand.Demand.{Demand}

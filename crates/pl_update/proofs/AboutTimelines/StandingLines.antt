@@ -15,7 +15,7 @@ use Rattle.pl_model.specs.declared.timelines.Timeline.{Timeline}
 use Rattle.pl_model.specs.declared.timelines.Timeline.TheVariants as timeline
 use Rattle.pl_capacity.specs.Uses as capacity
 use Rattle.pl_level.specs.Effects as level
-use Rattle.pl_state.specs.Lines as states
+use Rattle.pl_state.specs.Timelines as states
 use Rattle.pl_state.specs.declared.reservation.Setting.{Setting}
 use Rattle.pl_state.specs.declared.reservation.Must.{Must}
 use Rattle.pl_plan.specs.Activities.{AreRising}

@@ -10,7 +10,7 @@ use Rattle.pl_model.specs.declared.timelines.Timeline.TheVariants as timeline
 use Rattle.pl_model.specs.Checked.{IsCheckedLine, IsCapacityLine, IsLevelLine}
 use Rattle.pl_capacity.specs.Uses as capacity
 use Rattle.pl_level.specs.Effects as level
-use Rattle.pl_state.specs.Lines as state_lines
+use Rattle.pl_state.specs.Timelines as state_lines
 use Rattle.pl_plan.specs.Activities.{AreRising}
 use Rattle.pl_semantics.specs.declared.plan_state.PlanState.{PlanState}
 use Rattle.pl_semantics.specs.Whole.{IsWhole, IsStateOf}

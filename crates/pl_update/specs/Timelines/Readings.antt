@@ -2,7 +2,7 @@
 use Rattle.std.specs.Prelude.{◌≡◌, ℕ, ◌≤◌, ◌<◌, false, ℤ, pos, Option, Some}
 use Rattle.pl_capacity.specs.Uses.{used}
 use Rattle.pl_level.specs.Effects.{level}
-use Rattle.pl_state.specs.Lines.{state_at}
+use Rattle.pl_state.specs.Timelines.{state_at}
 use Rattle.pl_update.specs.declared.timelines.line.Line.{Line}
 use Rattle.pl_update.specs.declared.timelines.line.Line.TheVariants.{Capacity, Level, States}
 

@@ -5,7 +5,7 @@ use Rattle.pl_conflict.specs.declared.conflict.Code.TheVariants as code
 use Rattle.pl_conflict.specs.Order.{has}
 use Rattle.pl_capacity.specs.Uses.{spans_now}
 use Rattle.pl_level.specs.Effects.{low_now, high_now}
-use Rattle.pl_state.specs.Lines.{broken_now, bad_now}
+use Rattle.pl_state.specs.Timelines.{broken_now, bad_now}
 use Rattle.pl_semantics.specs.declared.plan_state.PlanState.{PlanState}
 use Rattle.pl_semantics.specs.PlanStates.{of_found}
 use Rattle.pl_semantics.specs.Parts.{part_of, of_timelines}

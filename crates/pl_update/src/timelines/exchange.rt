@@ -5,7 +5,7 @@ ghost use Rattle.pl_points.specs.Changes.{IsChange};
 ghost use Rattle.pl_level.specs.Soundness.{AreChanges as AreLevelChanges};
 ghost use Rattle.pl_state.specs.declared.answer.BrokenMust.{BrokenMust};
 ghost use Rattle.pl_state.specs.declared.answer.BadSet.{BadSet};
-ghost use Rattle.pl_state.specs.Lines.{AreChanges};
+ghost use Rattle.pl_state.specs.Timelines.{AreChanges};
 ghost use Rattle.pl_semantics.specs.Timelines.{outside, unmet_must, bad_step};
 ghost use Rattle.pl_update.specs.Timelines.Changed.{IsExchanged};
 

@@ -20,7 +20,7 @@ ghost use Rattle.pl_update.specs.Timelines.Told.{wrong_at, IsTold};
 ghost use Rattle.pl_detect.specs.Based.{IsStateLine};
 ghost use Rattle.pl_model.specs.Checked.{IsCapacityLine, IsLevelLine};
 ghost use Rattle.pl_plan.specs.declared.activity.Activity.{Activity};
-ghost use Rattle.pl_state.specs.Lines as states;
+ghost use Rattle.pl_state.specs.Timelines as states;
 ghost use Rattle.pl_semantics.specs.Demands.{use_at, level_at, state_at};
 ghost use Rattle.pl_semantics.specs.Parts.{part_of, of_timelines};
 ghost use Rattle.pl_semantics.specs.Timelines.{lines_of, line_conflicts_of, timeline_conflicts};

@@ -15,7 +15,7 @@ use pl_capacity::Capacity;
 use pl_level::Level;
 use pl_model::Timeline;
 use pl_semantics::PlanState;
-use pl_state::StateLine;
+use pl_state::StateTimeline;
 use std::alloc::{AllocError, Global};
 
 impl Lines {
@@ -86,14 +86,14 @@ fn idle_states(
     count: u32,
     any: bool,
     steps: &[(u32, u32)],
-) -> Result<StateLine, AllocError>
+) -> Result<StateTimeline, AllocError>
     requires first { s.now.moment ≡ 0 }
     requires base { HasBase s.now line 32 }
     ensures { IfOk result (λ l. l ≡ record { spoiled = false; horizon = s.now.model.horizon; any = any; steps = steps.now; moment = s.now.moment; base = since s.now line; value = natural (told s.now line); sets = []; musts = [] }) }
 {
     let horizon = s.model.get().horizon;
     let state = told_state(s, line);
-    StateLine::new(alloc, horizon, count, state, any, steps)
+    StateTimeline::new(alloc, horizon, count, state, any, steps)
 }
 
 fn told(s: &PlanState, line: u32) -> i64

@@ -4,7 +4,7 @@ ghost use Rattle.std.specs.Prelude.{◌≡◌, ◌≤◌};
 use crate::timelines::asserting::holds_for;
 use crate::timelines::plain::{CHANGES, HORIZON, are_left_out, below, grow, push};
 use pl_points::Span;
-use pl_state::{BadSet, BrokenMust, Must, Setting, StateChange, StateLine};
+use pl_state::{BadSet, BrokenMust, Must, Setting, StateChange, StateTimeline};
 use rand_pcg::Pcg32;
 use std::alloc::{AllocError, Global};
 use std::process::Abort;
@@ -143,7 +143,7 @@ impl Plain {
 
 fn put(
     rt: &impl Abort,
-    line: &mut StateLine,
+    line: &mut StateTimeline,
     plain: &mut Plain,
     words: &mut Pcg32,
 ) -> Option<StateChange>
@@ -171,7 +171,7 @@ fn put(
 
 fn take(
     rt: &impl Abort,
-    line: &mut StateLine,
+    line: &mut StateTimeline,
     plain: &mut Plain,
     words: &mut Pcg32,
 ) -> Option<StateChange>
@@ -192,7 +192,7 @@ fn take(
 
 fn need(
     rt: &impl Abort,
-    line: &mut StateLine,
+    line: &mut StateTimeline,
     plain: &mut Plain,
     words: &mut Pcg32,
 ) -> Option<StateChange>
@@ -222,7 +222,7 @@ fn need(
 
 fn free(
     rt: &impl Abort,
-    line: &mut StateLine,
+    line: &mut StateTimeline,
     plain: &mut Plain,
     words: &mut Pcg32,
 ) -> Option<StateChange>
@@ -243,7 +243,7 @@ fn free(
 
 fn set_base(
     rt: &impl Abort,
-    line: &mut StateLine,
+    line: &mut StateTimeline,
     plain: &mut Plain,
     words: &mut Pcg32,
 ) -> Option<StateChange>
@@ -260,7 +260,7 @@ fn set_base(
 
 fn go_on(
     rt: &impl Abort,
-    line: &mut StateLine,
+    line: &mut StateTimeline,
     plain: &mut Plain,
     words: &mut Pcg32,
 ) -> Option<StateChange>
@@ -280,7 +280,7 @@ fn go_on(
 // One change of any kind, or None where the drawn one asks for what does not stand or stands already.
 fn change(
     rt: &impl Abort,
-    line: &mut StateLine,
+    line: &mut StateTimeline,
     plain: &mut Plain,
     words: &mut Pcg32,
 ) -> Option<StateChange>
@@ -301,7 +301,7 @@ fn change(
     }
 }
 
-fn tells(line: &StateLine, plain: &Plain) -> bool
+fn tells(line: &StateTimeline, plain: &Plain) -> bool
     requires moment { line.now.moment ≡ plain.now.moment }
     requires horizon { line.now.horizon ≡ 20 }
 {
@@ -329,7 +329,7 @@ fn is_answer(answer: &Option<StateChange>, old: &Told, new: &Told) -> bool {
 }
 
 /// Whether the timeline tells this, and the states.
-fn has(line: &StateLine, plain: &Plain, told: &Told) -> bool
+fn has(line: &StateTimeline, plain: &Plain, told: &Told) -> bool
     requires moment { line.now.moment ≡ plain.now.moment }
     requires horizon { line.now.horizon ≡ 20 }
 {
@@ -342,7 +342,7 @@ fn has(line: &StateLine, plain: &Plain, told: &Told) -> bool
 fn step(
     rt: &impl Abort,
     alloc: Global,
-    line: &mut StateLine,
+    line: &mut StateTimeline,
     plain: &mut Plain,
     before: &Told,
     any: bool,
@@ -364,11 +364,11 @@ fn step(
     after
 }
 
-fn started(rt: &impl Abort, alloc: Global, start: u32, any: bool) -> StateLine
+fn started(rt: &impl Abort, alloc: Global, start: u32, any: bool) -> StateTimeline
     ensures moment { result.moment ≡ 0 }
     ensures horizon { result.horizon ≡ 20 }
 {
-    let line = StateLine::new(alloc, HORIZON, STATES, start, any, STEPS.as_slice());
+    let line = StateTimeline::new(alloc, HORIZON, STATES, start, any, STEPS.as_slice());
     line.expect(rt, "memory")
 }
 

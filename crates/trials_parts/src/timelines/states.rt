@@ -3,18 +3,18 @@ ghost use Rattle.std.specs.Prelude.{◌≡◌, ◌<◌, ◌≤◌, OnOk};
 
 use crate::timelines::asserting::{holds, is_copied};
 use pl_lists::Copied;
-use pl_state::{BadSet, BrokenMust, Must, Setting, StateChange, StateLine};
+use pl_state::{BadSet, BrokenMust, Must, Setting, StateChange, StateTimeline};
 use std::alloc::{AllocError, Global};
 use std::process::Abort;
 
 const STEPS: [(u32, u32); 3] = [(0, 1), (1, 2), (2, 0)];
 
 // States off, warm and on, with the horizon 100; off at first.
-fn camera(rt: &impl Abort, alloc: Global) -> StateLine
+fn camera(rt: &impl Abort, alloc: Global) -> StateTimeline
     ensures horizon { result.horizon ≡ 100 }
     ensures moment { result.moment ≡ 0 }
 {
-    let line = StateLine::new(alloc, 100, 3, 0, false, STEPS.as_slice());
+    let line = StateTimeline::new(alloc, 100, 3, 0, false, STEPS.as_slice());
     line.expect(rt, "memory")
 }
 
@@ -31,7 +31,11 @@ fn number(rest: &mut &str) -> u32 {
 }
 
 // Puts a set: its moment, its id and its state.
-fn put(rt: &impl Abort, line: &mut StateLine, rest: &mut &str) -> Result<StateChange, AllocError>
+fn put(
+    rt: &impl Abort,
+    line: &mut StateTimeline,
+    rest: &mut &str,
+) -> Result<StateChange, AllocError>
     ensures horizon { OnOk result (line.new.horizon ≡ line.old.horizon) }
     ensures moment { OnOk result (line.new.moment ≡ line.old.moment) }
 {
@@ -43,7 +47,7 @@ fn put(rt: &impl Abort, line: &mut StateLine, rest: &mut &str) -> Result<StateCh
 // Makes a change: a set comes or goes, a must of 5 comes or goes, or the base is told.
 fn change(
     rt: &impl Abort,
-    line: &mut StateLine,
+    line: &mut StateTimeline,
     name: &str,
     rest: &mut &str,
 ) -> Result<StateChange, AllocError>
@@ -59,7 +63,7 @@ fn change(
     }
 }
 
-fn at(rt: &impl Abort, line: &StateLine, moment: u32, t: u32) -> u32
+fn at(rt: &impl Abort, line: &StateTimeline, moment: u32, t: u32) -> u32
     requires horizon { line.now.horizon ≡ 100 }
     requires moment { line.now.moment ≡ moment }
 {
@@ -71,7 +75,7 @@ fn at(rt: &impl Abort, line: &StateLine, moment: u32, t: u32) -> u32
 fn answer(
     rt: &impl Abort,
     alloc: Global,
-    line: &mut StateLine,
+    line: &mut StateTimeline,
     moment: u32,
     call: &str,
 ) -> Result<String, AllocError>
@@ -92,7 +96,7 @@ fn answer(
 }
 
 // Makes the calls of a script one after the other. Each line has a call and how its answer begins, as it is printed.
-fn play(rt: &impl Abort, alloc: Global, line: &mut StateLine, moment: u32, script: &str)
+fn play(rt: &impl Abort, alloc: Global, line: &mut StateTimeline, moment: u32, script: &str)
     requires horizon { line.old.horizon ≡ 100 }
     requires moment { line.old.moment ≡ moment }
     ensures horizon { line.new.horizon ≡ 100 }

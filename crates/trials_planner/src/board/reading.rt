@@ -17,10 +17,18 @@ pub fn number(rest: &mut &str) -> u32 {
 fn code(name: &str) -> Code {
     match name {
         "open-goal" => Code::OpenGoal,
+        "off-goal" => Code::OffGoal,
+        "late" => Code::Late,
+        "unset" => Code::Unset,
         "bad-value" => Code::BadValue,
+        "undetailed" => Code::Undetailed,
+        "overrun" => Code::Overrun,
+        "temporal" => Code::Temporal,
         "link" => Code::Linked,
         "over" => Code::Over,
         "low" => Code::Low,
+        "high" => Code::High,
+        "must" => Code::Must,
         _ => Code::BadStep,
     }
 }
@@ -45,7 +53,10 @@ pub fn repair(line: &str) -> RepairMove {
         "add" => RepairMove::Add {
             kind: number(&mut rest),
             start: number(&mut rest),
-            goal: None,
+            goal: match word(&mut rest) {
+                "goal" => Some(number(&mut rest)),
+                _ => None,
+            },
         },
         "delete" => RepairMove::Delete {
             id: number(&mut rest),

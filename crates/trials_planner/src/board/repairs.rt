@@ -1,27 +1,11 @@
 use crate::board::asserting::{assert_is, assert_printed, holds};
 use crate::board::boards::changed;
-use crate::board::reading::{conflict, repair};
 use crate::board::values::{assert_conflicts, assert_values};
 use pl_board::Board;
-use pl_cand::{candidates, places, spread};
-use pl_moves::{is_legal, legal, proper};
-use pl_plan::{Evaluated, RepairMove};
-use pl_semantics::Refusal;
+use pl_cand::{places, spread};
+use pl_plan::Evaluated;
 use std::alloc::Global;
 use std::process::Abort;
-
-/// Why a proper move is refused.
-fn refusal(rt: &impl Abort, board: &Board, mv: &RepairMove) -> Option<Refusal> {
-    holds(rt, "enough memory", !board.spoiled());
-    holds(rt, "a proper move", proper(board, mv));
-    let refused = legal(board, mv).err();
-    holds(
-        rt,
-        "the same told",
-        is_legal(board, mv) == refused.is_none(),
-    );
-    refused
-}
 
 fn copied(rt: &impl Abort, alloc: Global, board: &Board) -> Board {
     holds(rt, "enough memory", !board.spoiled());
@@ -32,13 +16,6 @@ const SCAN: &str = "horizon 100 lead 30 kind shot { duration 5 }
 kind scan { duration 10 alternative { slot a shot slot b shot order a end b start 0 3 } }";
 
 const COMMITTED: &str = "add 1 40\ndetail 1 0\nshift 2 25\ncommit 30";
-
-#[test]
-fn locks_what_is_committed(rt: HostRuntime) {
-    let board = changed(&rt, rt.alloc(), SCAN, COMMITTED);
-    let refused = refusal(&rt, &board, &repair("shift 1 45"));
-    holds(&rt, "locked", refused == Some(Refusal::Locked(2)));
-}
 
 #[test]
 fn copies_what_is_wrong(rt: HostRuntime) {
@@ -74,39 +51,6 @@ fn uses_nothing_where_a_value_is_bad(rt: HostRuntime) {
 }
 
 const SEEN: &str = "horizon 100 lead 30 kind obs { duration 5 }";
-
-/// Adding an activity for goal 1 at each start of its window.
-fn adds(rt: &impl Abort, alloc: Global) -> Vec<RepairMove> {
-    let mut moves = Vec::new(alloc);
-    for start in 10..21 {
-        let add = RepairMove::Add {
-            kind: 0,
-            start,
-            goal: Some(1),
-        };
-        moves.push(add).expect(rt, "memory");
-    }
-    moves
-}
-
-/// Asserts which moves are tried while the goal is open.
-fn assert_tried(rt: &impl Abort, alloc: Global, goal: &str, wanted: &[RepairMove]) {
-    let board = changed(rt, alloc, SEEN, goal);
-    holds(rt, "enough memory", !board.spoiled());
-    let open = conflict("20 open-goal 1 0 10 20");
-    let moves = candidates(alloc, &board, &open).expect(rt, "memory");
-    holds(rt, goal, moves.as_slice() == wanted);
-}
-
-#[test]
-fn tries_each_start_of_a_window(rt: HostRuntime) {
-    let alloc = rt.alloc();
-    let mut wanted = adds(&rt, alloc);
-    assert_tried(&rt, alloc, "goal 1 10 20 must", wanted.as_slice());
-    let drop = RepairMove::Drop { goal: 1 };
-    wanted.push(drop).expect(&rt, "memory");
-    assert_tried(&rt, alloc, "goal 1 10 20 may", wanted.as_slice());
-}
 
 /// The starts that are tried for a live activity.
 fn starts(rt: &impl Abort, alloc: Global, board: &Board, id: u32) -> Vec<u32> {

@@ -26,6 +26,24 @@ pub const JOURNAL: &str = "0 open turns 8 live 10000 goals 20000 entries 250000
 11 in end : end
 ";
 
+/// The model up to the messages.
+pub const HEAD: &str = "horizon 100 lead 30 kind obs { duration 5 }\nbegin\n";
+
+/// The first line of a run of eight turns.
+pub const OPEN: &str = "0 open turns 8 live 10000 goals 20000 entries 250000\n";
+
+/// The input of that run.
+pub const INPUT: &str = "horizon 100
+lead 30
+kind obs {
+duration 5
+}
+begin
+goal 1 obs 10 20 must
+tick 10
+end
+";
+
 /// The model of a text.
 pub fn model(rt: &impl Abort, alloc: Global, text: &str) -> Model
     ensures { IsChecked result }

@@ -1,49 +1,11 @@
 use crate::pair::meeting::Meeting;
 use crate::pair::missions::{GOAL, IMAGE, LARGE, SMALL};
-use pl_io::{MemSink, MemSource};
-use pl_main::run;
-use pl_turn::{Gate, NoGate};
+use crate::running::{NONE, does, joined};
+use pl_turn::NoGate;
 use std::alloc::Global;
 use std::process::Abort;
 use std::sync::Wait;
 use std::thread::Threads;
-
-/// The room of a journal, in bytes.
-const ROOM: usize = 20_000;
-
-/// A status, and what was written.
-type Ended = (u8, MemSink);
-
-/// What some words do with an input. The reads and the writes of these numbers, from 1, fail.
-fn does<R: Abort + Threads + Wait + Sync, G: Gate + Sync>(
-    rt: &R,
-    alloc: Global,
-    words: &str,
-    input: &[u8],
-    failing: (&[u64], &[u64]),
-    gate: &G,
-) -> Ended {
-    let owned = words_of(rt, alloc, words);
-    let mut source = MemSource::new(alloc, input, failing.0).expect(rt, "memory");
-    let mut sink = MemSink::new(alloc, ROOM, failing.1).expect(rt, "memory");
-    let status = run(rt, alloc, &owned, &mut source, &mut sink, gate);
-    (status, sink)
-}
-
-fn words_of(rt: &impl Abort, alloc: Global, text: &str) -> Vec<String> {
-    let mut words = Vec::new(alloc);
-    for word in text.split_whitespace() {
-        let owned = String::from_str(alloc, word).expect(rt, "memory");
-        words.push(owned).expect(rt, "memory");
-    }
-    words
-}
-
-fn joined(rt: &impl Abort, alloc: Global, front: &str, rest: &[u8]) -> Vec<u8> {
-    let mut bytes = Vec::from_slice(alloc, front.as_bytes()).expect(rt, "memory");
-    bytes.extend_from_slice(rest).expect(rt, "memory");
-    bytes
-}
 
 /// The status of `replay` over a model and the journal that was written.
 fn replayed<R: Abort + Threads + Wait + Sync>(
@@ -53,7 +15,7 @@ fn replayed<R: Abort + Threads + Wait + Sync>(
     journal: &[u8],
 ) -> u8 {
     let input = joined(rt, alloc, model, journal);
-    let (status, _) = does(rt, alloc, "replay", &input, (&[], &[]), &NoGate);
+    let (status, _) = does(rt, alloc, "replay", &input, NONE, &NoGate);
     status
 }
 
@@ -63,7 +25,7 @@ fn two_threads_meet(rt: HostRuntime) {
     let alloc = rt.alloc();
     let gate = Meeting::new();
     let input = joined(&rt, alloc, SMALL, GOAL.as_bytes());
-    let (status, out) = does(&rt, alloc, "run pair 8 1", &input, (&[], &[]), &gate);
+    let (status, out) = does(&rt, alloc, "run pair 8 1", &input, NONE, &gate);
     assert!(rt; status == 0 && gate.was_held());
     assert!(rt; replayed(&rt, alloc, SMALL, out.bytes()) == 0);
 }
@@ -82,7 +44,7 @@ fn has_entry(journal: &[u8], wanted: &str) -> bool {
 /// Asserts that a pair with this seed makes this entry.
 fn assert_makes<R: Abort + Threads + Wait + Sync>(rt: &R, alloc: Global, words: &str, entry: &str) {
     let input = joined(rt, alloc, SMALL, GOAL.as_bytes());
-    let (status, out) = does(rt, alloc, words, &input, (&[], &[]), &NoGate);
+    let (status, out) = does(rt, alloc, words, &input, NONE, &NoGate);
     assert!(rt; status == 0 && has_entry(out.bytes(), entry), "{words}");
 }
 
@@ -104,7 +66,7 @@ fn assert_legal<R: Abort + Threads + Wait + Sync>(
     messages: &str,
 ) {
     let input = joined(rt, alloc, model, messages.as_bytes());
-    let (status, out) = does(rt, alloc, "run pair 8 7", &input, (&[], &[]), &NoGate);
+    let (status, out) = does(rt, alloc, "run pair 8 7", &input, NONE, &NoGate);
     assert!(rt; status == 0, "{messages}");
     assert!(rt; replayed(rt, alloc, model, out.bytes()) == 0, "{messages}");
 }
@@ -138,13 +100,6 @@ fn stops_at_faults_of_the_input(rt: HostRuntime) {
     assert_stops(&rt, alloc, "goal 1 obs 10 20 must\n", (&[2], &[]), 4);
 }
 
-#[test]
-fn stops_at_faults_of_the_output(rt: HostRuntime) {
-    for write in [2, 5, 8] {
-        assert_stops(&rt, rt.alloc(), GOAL, (&[], &[write]), 5);
-    }
-}
-
 /// Asserts that a text is refused so.
 fn assert_refused<R: Abort + Threads + Wait + Sync>(
     rt: &R,
@@ -153,7 +108,7 @@ fn assert_refused<R: Abort + Threads + Wait + Sync>(
     said: &[u8],
 ) {
     let input = text.as_bytes();
-    let (status, out) = does(rt, alloc, "run pair 8 7", input, (&[], &[]), &NoGate);
+    let (status, out) = does(rt, alloc, "run pair 8 7", input, NONE, &NoGate);
     assert!(rt; status == 3 && out.bytes() == said, "{text}");
 }
 

@@ -1,5 +1,5 @@
 //! The demonstration: its input, its one line, and its statuses.
-use crate::program::running::{NONE, assert_does};
+use crate::running::{NONE, assert_does, count_newlines};
 use pl_report::demo_input;
 
 const INPUT: &str = "horizon 1000000
@@ -24,16 +24,6 @@ const USAGE: &str = "usage: run solo N | run pair N SEED | check | replay | repo
 fn makes_the_worked_input(rt: HostRuntime) {
     let input = demo_input(rt.alloc(), 2).expect(&rt, "memory");
     assert!(rt; input.as_slice() == INPUT.as_bytes());
-}
-
-fn count_newlines(bytes: &[u8]) -> usize {
-    let mut count = 0usize;
-    for byte in bytes {
-        if *byte == b'\n' {
-            count = count.wrapping_add(1);
-        }
-    }
-    count
 }
 
 #[test]

@@ -1,5 +1,5 @@
 //! The commands over a journal: what they say of a legal one and of a wrong one, and their statuses.
-use crate::program::running::{Failing, NONE, assert_does, joined};
+use crate::running::{Failing, NONE, assert_does, joined};
 use std::alloc::Global;
 use std::process::Abort;
 use std::sync::Wait;

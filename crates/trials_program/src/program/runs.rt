@@ -1,4 +1,5 @@
-use crate::program::running::{Failing, NONE, assert_does, joined, lines};
+use crate::journals::models::OPEN;
+use crate::running::{Failing, NONE, assert_does, joined, lines};
 use std::alloc::Global;
 use std::process::Abort;
 use std::sync::Wait;
@@ -7,8 +8,6 @@ use std::thread::Threads;
 const TEXT: &str = "horizon 100\nlead 30\nkind obs {\nduration 5\n}\n";
 
 const MODEL: &str = "horizon 100\nlead 30\nkind obs {\nduration 5\n}\nbegin\n";
-
-const OPEN: &str = "0 open turns 8 live 10000 goals 20000 entries 250000\n";
 
 /// Asserts that `run solo 8` ends with this status over this input and writes this text.
 fn assert_ends<R: Abort + Threads + Wait + Sync>(

@@ -1,4 +1,4 @@
-use crate::program::running::words_of;
+use crate::running::words_of;
 use pl_main::{Command, Task, read_words};
 
 /// What the words ask for: the turns of a run, 0 for a check, 1,001 for a replay and 1,002 for a report, the goals of a

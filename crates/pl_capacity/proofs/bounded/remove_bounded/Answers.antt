@@ -9,7 +9,7 @@ use Rattle.pl_capacity.proofs.bounded.remove_bounded.Goals as goal
 
 pub returns-clause-cost : goal.returns-clause-cost
 returns-clause-cost g c = λ e.
-    let old = c.args.line.now in
+    let old = c.args.timeline.now in
     let from = c.args.from in
     let to = c.args.to in
     let raw = to_z w64 (of_z w64 c.args.amount) in

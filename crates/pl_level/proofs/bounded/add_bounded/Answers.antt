@@ -9,7 +9,7 @@ use Rattle.pl_level.proofs.bounded.add_bounded.Goals as goal
 
 pub returns-clause-cost : goal.returns-clause-cost
 returns-clause-cost g c = λ e.
-    let s = c.args.line.now in
+    let s = c.args.timeline.now in
     let at = c.args.at in
     let raw = to_z w64 (of_z w64 c.args.delta) in
     let effects = s.effects ++ effect_of at raw ∷ [] in

@@ -10,7 +10,7 @@ use Rattle.pl_level.proofs.bounded.remove_bounded.Goals as goal
 
 pub returns-clause-cost : goal.returns-clause-cost
 returns-clause-cost g c = λ e.
-    let s = c.args.line.now in
+    let s = c.args.timeline.now in
     let at = c.args.at in
     let raw = to_z w64 (of_z w64 c.args.delta) in
     let effects = without same_effect (effect_of at raw) s.effects in

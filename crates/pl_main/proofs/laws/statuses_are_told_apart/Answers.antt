@@ -1,23 +1,23 @@
 use Rattle.pl_main.specs.Top.{line_limit}
+use Rattle.pl_main.specs.RunKinds.{solo_run, pair_run}
 use Rattle.pl_main.proofs.Causes.{done_not_refused, done_not_past, done_not_full, refused_not_past, refused_not_full, past_not_full, found_not_refused, found_not_past, no_model_not_past, shown_not_full, run_within, head_within}
 use Rattle.pl_main.proofs.Apart.{right_not_wrong, right_not_refused, right_not_past, wrong_not_refused, wrong_not_past, no_journal_not_past, journal_within}
-use Rattle.pl_main.proofs.PairCauses.{pair_done_not_refused, pair_done_not_past, pair_refused_not_past, pair_refused_not_full, pair_within}
 use Rattle.pl_main.proofs.laws.statuses_are_told_apart.Goals as goal
 
 pub returns-clause-done_not_refused : goal.returns-clause-done_not_refused
-returns-clause-done_not_refused c = done_not_refused
+returns-clause-done_not_refused c = λ turns. done_not_refused (solo_run turns)
 
 pub returns-clause-done_not_past : goal.returns-clause-done_not_past
-returns-clause-done_not_past c = done_not_past
+returns-clause-done_not_past c = λ turns. done_not_past (solo_run turns)
 
 pub returns-clause-done_not_full : goal.returns-clause-done_not_full
 returns-clause-done_not_full c = done_not_full
 
 pub returns-clause-refused_not_past : goal.returns-clause-refused_not_past
-returns-clause-refused_not_past c = refused_not_past
+returns-clause-refused_not_past c = λ turns. refused_not_past (solo_run turns)
 
 pub returns-clause-refused_not_full : goal.returns-clause-refused_not_full
-returns-clause-refused_not_full c = refused_not_full
+returns-clause-refused_not_full c = λ turns. refused_not_full (solo_run turns)
 
 pub returns-clause-past_not_full : goal.returns-clause-past_not_full
 returns-clause-past_not_full c = past_not_full
@@ -35,7 +35,7 @@ pub returns-clause-shown_not_full : goal.returns-clause-shown_not_full
 returns-clause-shown_not_full c = shown_not_full
 
 pub returns-clause-within : goal.returns-clause-within
-returns-clause-within c = run_within
+returns-clause-within c = λ turns. run_within (solo_run turns)
 
 pub returns-clause-head_within : goal.returns-clause-head_within
 returns-clause-head_within c = head_within
@@ -62,16 +62,16 @@ pub returns-clause-journal_within : goal.returns-clause-journal_within
 returns-clause-journal_within c = journal_within
 
 pub returns-clause-pair_done_not_refused : goal.returns-clause-pair_done_not_refused
-returns-clause-pair_done_not_refused c = pair_done_not_refused
+returns-clause-pair_done_not_refused c = λ turns seed. done_not_refused (pair_run turns seed)
 
 pub returns-clause-pair_done_not_past : goal.returns-clause-pair_done_not_past
-returns-clause-pair_done_not_past c = pair_done_not_past
+returns-clause-pair_done_not_past c = λ turns seed. done_not_past (pair_run turns seed)
 
 pub returns-clause-pair_refused_not_past : goal.returns-clause-pair_refused_not_past
-returns-clause-pair_refused_not_past c = pair_refused_not_past
+returns-clause-pair_refused_not_past c = λ turns seed. refused_not_past (pair_run turns seed)
 
 pub returns-clause-pair_refused_not_full : goal.returns-clause-pair_refused_not_full
-returns-clause-pair_refused_not_full c = pair_refused_not_full
+returns-clause-pair_refused_not_full c = λ turns seed. refused_not_full (pair_run turns seed)
 
 pub returns-clause-pair_within : goal.returns-clause-pair_within
-returns-clause-pair_within c = pair_within
+returns-clause-pair_within c = λ turns seed. run_within (pair_run turns seed)

@@ -1,6 +1,6 @@
 use Rattle.pl_shared.specs.Plans.{BelongsTo}
 use Rattle.pl_pair.specs.Workers.{AreHands, SameDuties}
-use Rattle.pl_pair.specs.Rounds.{Looks}
+use Rattle.pl_pair.specs.Rounds.{LooksAtPlan}
 use Rattle.pl_pair.proofs.waiting.closed_round.Given as goal
 
 -- the round is not over yet
@@ -9,5 +9,5 @@ invariant-loop g l = record {
   own : BelongsTo l.plan l.pass;
   hands : AreHands l.plan l.hands;
   duties : SameDuties l.initial.hands l.hands;
-  looks : Looks l.initial.pass l.pass;
+  looks : LooksAtPlan l.initial.pass l.pass;
 }

@@ -1,7 +1,7 @@
-use Rattle.std.proofs.Common.{◌≡◌, ◌<◌, ◌≤◌, ℕ, Bool, false, arith, ap, sym, ◌∙◌}
+use Rattle.std.proofs.Common.{ℕ, Bool, arith, ap, sym, ◌∙◌}
 use Rattle.pl_points.specs.Points.{sum_to}
 use Rattle.pl_points.specs.Limits.{is_outside}
-use Rattle.pl_points.specs.Spans.{covers, within}
+use Rattle.pl_points.specs.Spans.{covers}
 use Rattle.pl_points.proofs.Clearing.{calm_on, mended_clear}
 use Rattle.pl_points.proofs.mending.mend_from.Goals as goal
 

@@ -1,4 +1,4 @@
-use Rattle.std.proofs.Common.{rules, arith, ap, ◌∙◌, ◌||◌, ◌&&◌}
+use Rattle.std.proofs.Common.{rules, arith, ap, sym, ◌∙◌, ◌||◌, ◌&&◌}
 use mir.Val.{to_z, SFits}
 use mir.Syntax.{w64}
 use Rattle.std.proofs.lemmas.Int.{to_z-of_z}
@@ -32,23 +32,23 @@ pieces-preserved g c =
     let ps = g.P.Points.points c.args.points.now in
     let s = to_z w64 c.pieces.sum-bits in
     let at = c.pieces.at in
-    let end = c.piece-end.result.0 in
+    let end = c.pass_side-end.result.0 in
     let inv = c.pieces.invariant in
-    let fits : SFits w64 c.piece-end.result.1 = search rules in
+    let fits : SFits w64 c.pass_side-end.result.1 = search rules in
     let left = inv.left c.pieces-test.true in
     record {
-      low = omega (arith, inv.low, c.piece-end.ensures.later);
-      high = c.piece-end.ensures.bound;
-      sum = λ lt. to_z-of_z w64 c.piece-end.result.1 fits ∙ c.piece-end.ensures.next lt;
+      low = omega (arith, inv.low, c.pass_side-end.ensures.passes.later);
+      high = c.pass_side-end.ensures.passes.bound;
+      sum = λ lt. to_z-of_z w64 c.pass_side-end.result.1 fits ∙ c.pass_side-end.ensures.passes.next lt;
       sound = inv.sound;
       falls = inv.falls;
-      apart = c.in_ok-push_piece.ensures.apart;
+      apart = c.in_ok-push_if_outside.ensures.apart;
       covers = λ t.
-          let came = c.in_ok-push_piece.ensures.covers t in
+          let came = c.in_ok-push_if_outside.ensures.covers t in
           let old = inv.covers t in
           came ∙ (ap (λ b. b || (within at end t && is_outside c.args.limit s)) old
-          ∙ piece_more c.args.mark.at at end t (covers c.args.spans.now.items t) (is_outside c.args.limit (sum_to ps t)) (is_outside c.args.limit s) inv.low (omega (arith, c.piece-end.ensures.later))
-          (λ low high. c.piece-end.ensures.same t low high));
-      spent = omega (arith, left, c.piece-end.ensures.spent);
-      left = λ lt. omega (arith, left, c.piece-end.ensures.left lt);
+          ∙ piece_more c.args.mark.at at end t (covers c.args.spans.now.items t) (is_outside c.args.limit (sum_to ps t)) (is_outside c.args.limit s) inv.low (omega (arith, c.pass_side-end.ensures.passes.later))
+          (λ low high. c.pass_side-end.ensures.passes.meets t low high ∙ ap (is_outside c.args.limit) (sym (inv.sum c.pieces-test.true))));
+      spent = omega (arith, left, c.pass_side-end.ensures.cost.spent);
+      left = λ lt. omega (arith, left, c.pass_side-end.ensures.cost.left lt);
     }

@@ -1,6 +1,6 @@
 use Rattle.std.proofs.Common.{◌-◌, ◌++◌, take, drop, refl, ap, ◌∙◌, arith}
 use Rattle.pl_state.specs.Sets.{state_from}
-use Rattle.pl_state.specs.Lines.{same_broken}
+use Rattle.pl_state.specs.Timelines.{same_broken}
 use Rattle.pl_lists.specs.Lists.{left_out}
 use Rattle.pl_state.specs.Present.{group_at, broken_at}
 use Rattle.pl_state.proofs.Parts.{one_keyed}

@@ -1,5 +1,5 @@
 use Rattle.pl_points.proofs.Alike.{exchange}
-use Rattle.pl_state.specs.Lines.{same_bad, same_broken}
+use Rattle.pl_state.specs.Timelines.{same_bad, same_broken}
 use Rattle.pl_state.proofs.Apart.{bad_exact, broken_exact}
 use Rattle.pl_state.proofs.laws.change_laws.Goals as goal
 

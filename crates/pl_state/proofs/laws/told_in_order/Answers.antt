@@ -1,5 +1,5 @@
 use Rattle.pl_state.specs.Sets.{is_allowed}
-use Rattle.pl_state.specs.Lines.{state_at}
+use Rattle.pl_state.specs.Timelines.{state_at}
 use Rattle.pl_state.proofs.Sorting.{bad_sorted, broken_sorted}
 use Rattle.pl_state.proofs.laws.told_in_order.Goals as goal
 

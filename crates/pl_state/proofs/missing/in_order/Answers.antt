@@ -1,6 +1,6 @@
 use Rattle.std.proofs.Common.{ap, ◌∙◌}
 use Rattle.pl_lists.specs.Lists.{left_out}
-use Rattle.pl_state.specs.Lines.{same_broken}
+use Rattle.pl_state.specs.Timelines.{same_broken}
 use Rattle.pl_state.proofs.Looking.{left_sorted}
 use Rattle.pl_state.proofs.missing.in_order.Goals as goal
 

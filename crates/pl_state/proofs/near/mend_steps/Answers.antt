@@ -4,7 +4,7 @@ use Rattle.pl_lists.specs.Lists.{front, back}
 use Rattle.pl_state.specs.Keys.{AreSorted}
 use Rattle.pl_state.specs.Sets.{is_allowed}
 use Rattle.pl_state.specs.Sorted.{bad_key}
-use Rattle.pl_state.specs.Lines.{same_bad}
+use Rattle.pl_state.specs.Timelines.{same_bad}
 use Rattle.pl_state.specs.Near.{bad_before, bad_by, AreBadInOrder}
 use Rattle.pl_state.specs.Present.{bad_at}
 use Rattle.pl_state.proofs.Steps.{bad_order_drop}

@@ -1,208 +1,34 @@
-use Rattle.pl_points.specs.Spans.{covers}
-use Rattle.std.proofs.Common.{rules, min, max, ◌≡◌, ◌≤◌, [], ◌∷◌, ◌++◌, length, arith, ap, sym, ◌∙◌, refl, subst, pos, ◌-ℤ◌, neg_ℤ, true, false}
-use mir.Val.{to_z, of_z, SFits}
-use mir.Syntax.{w64}
-use Rattle.std.proofs.lemmas.Int.{ints, to_z-of_z}
-use Rattle.pl_points.specs.Standing.{standing}
-use Rattle.pl_points.specs.declared.noted.Noted.TheVariants.{Went}
-use Rattle.pl_points.proofs.Totals.{IsAmount, standing-push, each-without, each-stands, length-without}
-use Rattle.pl_capacity.specs.Uses.{Standing, state_of, IsUse, used, use_of, same_use, spans_now}
-use Rattle.pl_capacity.specs.Soundness.{IsSound}
-use Rattle.pl_capacity.proofs.Shifts.{small_one, small_both, sound_apart, sound_change, sound_shifted, same_exact, used_less, raw, raw_back, neg_fits, make, same_state, amount_of, use_cost}
-use Rattle.pl_points.specs.Points.{merged, sum_to, AreSmall}
-use Rattle.pl_points.specs.Limits.{is_outside}
-use Rattle.pl_points.specs.declared.limit.Limit.TheVariants.{Above}
-use Rattle.pl_points.specs.Mending.{mended}
-use Rattle.pl_points.specs.Standing.{Each, stands, without}
-use Rattle.pl_points.specs.Changes.{IsChange}
-use Rattle.pl_capacity.specs.declared.reservation.Use.{Use}
+use Rattle.std.proofs.Common.{◌≡◌, ◌≤◌, ◌+◌, true, neg_ℤ, pos, ◌-ℤ◌, arith, sym, subst, false}
+use Rattle.std.proofs.lemmas.Int.{ints}
+use Rattle.pl_points.specs.Standing.{standing, stands, without}
+use Rattle.pl_capacity.specs.Uses.{Standing, use_of, same_use, use_steps}
+use Rattle.pl_capacity.specs.Soundness.{IsShift}
+use Rattle.pl_capacity.proofs.Shifts.{held, neg_fits, raw_back, amount_went, went}
 use Rattle.pl_capacity.proofs.capacity.Capacity.remove.Goals as goal
 
 pub overflow_sub-amount : goal.overflow_sub-amount
 overflow_sub-amount g c =
-    let ps = g.P.Points.points c.self.inside.points in
-    let spans = c.self.inside.spans.items in
-    let s : Standing = state_of c.self.inside.spoiled c.self.inside.horizon c.self.inside.most c.self.inside.moment c.self.inside.notes.items in
-    let sound : IsSound s ps spans = c.self.invariant c.if-self.false in
-    let a = c.args.amount in
-    let u : Use = use_of c.args.from c.args.to a in
-    let has : stands same_use u s.uses ≡ true = subst (λ (v : Standing). v.spoiled ≡ false → stands same_use u v.uses ≡ true) (sym c.self.view_is) c.requires c.if-self.false in
-    let is : IsUse u = each-stands IsUse same_use same_exact s.uses u sound.bounded has in
-    let am : IsAmount a = amount_of u is in
-    let nam : IsAmount (neg_ℤ a) = (omega (arith, ints, am.1), omega (arith, ints, am.0)) in
-    let le : c.args.from ≤ c.args.to = omega (arith, is.0) in
-    let neg2 : a ≡ neg_ℤ (neg_ℤ a) = omega (arith, ints) in
-    neg_fits a am
+    let xs = standing same_use c.self.inside.notes.items in
+    let u = use_of c.args.from c.args.to c.args.amount in
+    let has : stands same_use u xs ≡ true = subst (λ (v : Standing). v.spoiled ≡ false → stands same_use u v.uses ≡ true) (sym c.self.view_is) c.requires c.if-self.false in
+    neg_fits c.args.amount (amount_went xs c.args.from c.args.to c.args.amount has (c.self.invariant c.if-self.false).bounded)
 
-pub shift-requires-clause-back : goal.shift-requires-clause-back
-shift-requires-clause-back g c =
-    let ps = g.P.Points.points c.self.inside.points in
-    let spans = c.self.inside.spans.items in
-    let s : Standing = state_of c.self.inside.spoiled c.self.inside.horizon c.self.inside.most c.self.inside.moment c.self.inside.notes.items in
-    let sound : IsSound s ps spans = c.self.invariant c.if-self.false in
-    let a = c.args.amount in
-    let u : Use = use_of c.args.from c.args.to a in
-    let has : stands same_use u s.uses ≡ true = subst (λ (v : Standing). v.spoiled ≡ false → stands same_use u v.uses ≡ true) (sym c.self.view_is) c.requires c.if-self.false in
-    let is : IsUse u = each-stands IsUse same_use same_exact s.uses u sound.bounded has in
-    let am : IsAmount a = amount_of u is in
-    let nam : IsAmount (neg_ℤ a) = (omega (arith, ints, am.1), omega (arith, ints, am.0)) in
-    let le : c.args.from ≤ c.args.to = omega (arith, is.0) in
-    let neg2 : a ≡ neg_ℤ (neg_ℤ a) = omega (arith, ints) in
-    raw a am ∙ (neg2 ∙ ap neg_ℤ (sym (raw_back a am)))
-
-pub shift-requires-clause-one : goal.shift-requires-clause-one
-shift-requires-clause-one g c =
-    let ps = g.P.Points.points c.self.inside.points in
-    let spans = c.self.inside.spans.items in
-    let s : Standing = state_of c.self.inside.spoiled c.self.inside.horizon c.self.inside.most c.self.inside.moment c.self.inside.notes.items in
-    let sound : IsSound s ps spans = c.self.invariant c.if-self.false in
-    let a = c.args.amount in
-    let u : Use = use_of c.args.from c.args.to a in
-    let has : stands same_use u s.uses ≡ true = subst (λ (v : Standing). v.spoiled ≡ false → stands same_use u v.uses ≡ true) (sym c.self.view_is) c.requires c.if-self.false in
-    let is : IsUse u = each-stands IsUse same_use same_exact s.uses u sound.bounded has in
-    let am : IsAmount a = amount_of u is in
-    let nam : IsAmount (neg_ℤ a) = (omega (arith, ints, am.1), omega (arith, ints, am.0)) in
-    let le : c.args.from ≤ c.args.to = omega (arith, is.0) in
-    let neg2 : a ≡ neg_ℤ (neg_ℤ a) = omega (arith, ints) in
-    subst (λ d. AreSmall (merged c.args.from d ps)) (sym (raw_back a am)) (small_one s ps spans c.args.from (neg_ℤ a) sound nam)
-
-pub shift-requires-clause-both : goal.shift-requires-clause-both
-shift-requires-clause-both g c =
-    let ps = g.P.Points.points c.self.inside.points in
-    let spans = c.self.inside.spans.items in
-    let s : Standing = state_of c.self.inside.spoiled c.self.inside.horizon c.self.inside.most c.self.inside.moment c.self.inside.notes.items in
-    let sound : IsSound s ps spans = c.self.invariant c.if-self.false in
-    let a = c.args.amount in
-    let u : Use = use_of c.args.from c.args.to a in
-    let has : stands same_use u s.uses ≡ true = subst (λ (v : Standing). v.spoiled ≡ false → stands same_use u v.uses ≡ true) (sym c.self.view_is) c.requires c.if-self.false in
-    let is : IsUse u = each-stands IsUse same_use same_exact s.uses u sound.bounded has in
-    let am : IsAmount a = amount_of u is in
-    let nam : IsAmount (neg_ℤ a) = (omega (arith, ints, am.1), omega (arith, ints, am.0)) in
-    let le : c.args.from ≤ c.args.to = omega (arith, is.0) in
-    let neg2 : a ≡ neg_ℤ (neg_ℤ a) = omega (arith, ints) in
-    subst (λ d. AreSmall (merged c.args.to (to_z w64 (of_z w64 a)) (merged c.args.from d ps))) (sym (raw_back a am)) (subst (λ b. AreSmall (merged c.args.to b (merged c.args.from (neg_ℤ a) ps))) (sym (raw a am)) (small_both s ps spans c.args.from c.args.to (neg_ℤ a) a sound nam le neg2))
-
-pub shift-requires-clause-apart : goal.shift-requires-clause-apart
-shift-requires-clause-apart g c =
-    let ps = g.P.Points.points c.self.inside.points in
-    let spans = c.self.inside.spans.items in
-    let s : Standing = state_of c.self.inside.spoiled c.self.inside.horizon c.self.inside.most c.self.inside.moment c.self.inside.notes.items in
-    let sound : IsSound s ps spans = c.self.invariant c.if-self.false in
-    let a = c.args.amount in
-    let u : Use = use_of c.args.from c.args.to a in
-    let has : stands same_use u s.uses ≡ true = subst (λ (v : Standing). v.spoiled ≡ false → stands same_use u v.uses ≡ true) (sym c.self.view_is) c.requires c.if-self.false in
-    let is : IsUse u = each-stands IsUse same_use same_exact s.uses u sound.bounded has in
-    let am : IsAmount a = amount_of u is in
-    let nam : IsAmount (neg_ℤ a) = (omega (arith, ints, am.1), omega (arith, ints, am.0)) in
-    let le : c.args.from ≤ c.args.to = omega (arith, is.0) in
-    let neg2 : a ≡ neg_ℤ (neg_ℤ a) = omega (arith, ints) in
-    sound_apart s ps spans sound
-
-pub invariant_of-self-2 : goal.invariant_of-self-2
-invariant_of-self-2 g c =
-    let ps = g.P.Points.points c.self.inside.points in
-    let spans = c.self.inside.spans.items in
-    let s : Standing = state_of c.self.inside.spoiled c.self.inside.horizon c.self.inside.most c.self.inside.moment c.self.inside.notes.items in
-    let sound : IsSound s ps spans = c.self.invariant c.if-self.false in
-    let a = c.args.amount in
-    let u : Use = use_of c.args.from c.args.to a in
-    let has : stands same_use u s.uses ≡ true = subst (λ (v : Standing). v.spoiled ≡ false → stands same_use u v.uses ≡ true) (sym c.self.view_is) c.requires c.if-self.false in
-    let is : IsUse u = each-stands IsUse same_use same_exact s.uses u sound.bounded has in
-    let am : IsAmount a = amount_of u is in
-    let nam : IsAmount (neg_ℤ a) = (omega (arith, ints, am.1), omega (arith, ints, am.0)) in
-    let le : c.args.from ≤ c.args.to = omega (arith, is.0) in
-    let neg2 : a ≡ neg_ℤ (neg_ℤ a) = omega (arith, ints) in
-    let noted : c.with-self-inside.result.items ≡ c.self.inside.notes.items ++ Went u ∷ [] = c.with-self-inside.ensures ∙ ap (λ z. c.self.inside.notes.items ++ Went (use_of c.args.from c.args.to z) ∷ []) (raw a am) in
-    let uses : standing same_use c.with-self-inside.result.items ≡ without same_use u s.uses = ap (standing same_use) noted ∙ standing-push same_use [] c.self.inside.notes.items (Went u) in
-    let few2 : length (without same_use u s.uses) ≤ 320000 = omega (arith, sound.few, length-without same_use s.uses u) in
-    let bounded : Each IsUse (without same_use u s.uses) = each-without IsUse same_use s.uses u sound.bounded in
-    let s2 : Standing = state_of false c.self.inside.horizon c.self.inside.most c.self.inside.moment c.with-self-inside.result.items in
-    let fits : SFits w64 c.self.inside.most = search rules in
-    let is_most : to_z w64 (of_z w64 c.self.inside.most) ≡ c.self.inside.most = to_z-of_z w64 c.self.inside.most fits in
-    let points : g.P.Points.points c.shift.new.points ≡ merged c.args.to a (merged c.args.from (neg_ℤ a) ps) =
-    c.in_ok-change.ensures.points ∙ (ap (λ d. merged c.args.to (to_z w64 (of_z w64 a)) (merged c.args.from d ps)) (raw_back a am) ∙ ap (λ b. merged c.args.to b (merged c.args.from (neg_ℤ a) ps)) (raw a am)) in
-    let sound2 : IsSound s2 (g.P.Points.points c.shift.new.points) c.shift.new.spans.items =
-    sound_shifted s s2 ps (g.P.Points.points c.shift.new.points) spans c.shift.new.spans.items c.args.from c.args.to (neg_ℤ a) a sound le neg2 refl refl refl
-    (subst (λ l. length l ≤ 320000) (sym uses) few2) (subst (λ l. Each IsUse l) (sym uses) bounded) (λ t. ap (λ l. used l t) uses ∙ used_less s.uses u (neg_ℤ a) t refl has) points c.in_ok-change.ensures.apart
-    (λ t. subst (λ m. covers c.shift.new.spans.items t ≡ mended (max s.moment c.args.from) (max (max s.moment c.args.from) (min c.args.to s.horizon)) (λ x. is_outside (Above m) (sum_to (g.P.Points.points c.shift.new.points) x)) spans t) is_most (c.in_ok-change.ensures.covers t)) in
-    λ e. sound2
-
-pub returns-clause-ok : goal.returns-clause-ok
-returns-clause-ok g c =
-    let ps = g.P.Points.points c.self.inside.points in
-    let spans = c.self.inside.spans.items in
-    let s : Standing = state_of c.self.inside.spoiled c.self.inside.horizon c.self.inside.most c.self.inside.moment c.self.inside.notes.items in
-    let sound : IsSound s ps spans = c.self.invariant c.if-self.false in
-    let a = c.args.amount in
-    let u : Use = use_of c.args.from c.args.to a in
-    let has : stands same_use u s.uses ≡ true = subst (λ (v : Standing). v.spoiled ≡ false → stands same_use u v.uses ≡ true) (sym c.self.view_is) c.requires c.if-self.false in
-    let is : IsUse u = each-stands IsUse same_use same_exact s.uses u sound.bounded has in
-    let am : IsAmount a = amount_of u is in
-    let nam : IsAmount (neg_ℤ a) = (omega (arith, ints, am.1), omega (arith, ints, am.0)) in
-    let le : c.args.from ≤ c.args.to = omega (arith, is.0) in
-    let neg2 : a ≡ neg_ℤ (neg_ℤ a) = omega (arith, ints) in
-    let noted : c.with-self-inside.result.items ≡ c.self.inside.notes.items ++ Went u ∷ [] = c.with-self-inside.ensures ∙ ap (λ z. c.self.inside.notes.items ++ Went (use_of c.args.from c.args.to z) ∷ []) (raw a am) in
-    let uses : standing same_use c.with-self-inside.result.items ≡ without same_use u s.uses = ap (standing same_use) noted ∙ standing-push same_use [] c.self.inside.notes.items (Went u) in
-    subst (λ (v : Standing). make false s.horizon s.most s.moment (standing same_use c.with-self-inside.result.items) ≡ make v.spoiled v.horizon v.most v.moment (without same_use u v.uses)) c.self.view_is
-    (same_state s.spoiled s.horizon s.most s.moment (standing same_use c.with-self-inside.result.items) (without same_use u s.uses) c.if-self.false uses)
-
-pub returns-clause-change : goal.returns-clause-change
-returns-clause-change g c =
-    let ps = g.P.Points.points c.self.inside.points in
-    let spans = c.self.inside.spans.items in
-    let s : Standing = state_of c.self.inside.spoiled c.self.inside.horizon c.self.inside.most c.self.inside.moment c.self.inside.notes.items in
-    let sound : IsSound s ps spans = c.self.invariant c.if-self.false in
-    let a = c.args.amount in
-    let u : Use = use_of c.args.from c.args.to a in
-    let has : stands same_use u s.uses ≡ true = subst (λ (v : Standing). v.spoiled ≡ false → stands same_use u v.uses ≡ true) (sym c.self.view_is) c.requires c.if-self.false in
-    let is : IsUse u = each-stands IsUse same_use same_exact s.uses u sound.bounded has in
-    let am : IsAmount a = amount_of u is in
-    let nam : IsAmount (neg_ℤ a) = (omega (arith, ints, am.1), omega (arith, ints, am.0)) in
-    let le : c.args.from ≤ c.args.to = omega (arith, is.0) in
-    let neg2 : a ≡ neg_ℤ (neg_ℤ a) = omega (arith, ints) in
-    let noted : c.with-self-inside.result.items ≡ c.self.inside.notes.items ++ Went u ∷ [] = c.with-self-inside.ensures ∙ ap (λ z. c.self.inside.notes.items ++ Went (use_of c.args.from c.args.to z) ∷ []) (raw a am) in
-    let uses : standing same_use c.with-self-inside.result.items ≡ without same_use u s.uses = ap (standing same_use) noted ∙ standing-push same_use [] c.self.inside.notes.items (Went u) in
-    let few2 : length (without same_use u s.uses) ≤ 320000 = omega (arith, sound.few, length-without same_use s.uses u) in
-    let bounded : Each IsUse (without same_use u s.uses) = each-without IsUse same_use s.uses u sound.bounded in
-    let s2 : Standing = state_of false c.self.inside.horizon c.self.inside.most c.self.inside.moment c.with-self-inside.result.items in
-    let fits : SFits w64 c.self.inside.most = search rules in
-    let is_most : to_z w64 (of_z w64 c.self.inside.most) ≡ c.self.inside.most = to_z-of_z w64 c.self.inside.most fits in
-    let points : g.P.Points.points c.shift.new.points ≡ merged c.args.to a (merged c.args.from (neg_ℤ a) ps) =
-    c.in_ok-change.ensures.points ∙ (ap (λ d. merged c.args.to (to_z w64 (of_z w64 a)) (merged c.args.from d ps)) (raw_back a am) ∙ ap (λ b. merged c.args.to b (merged c.args.from (neg_ℤ a) ps)) (raw a am)) in
-    let sound2 : IsSound s2 (g.P.Points.points c.shift.new.points) c.shift.new.spans.items =
-    sound_shifted s s2 ps (g.P.Points.points c.shift.new.points) spans c.shift.new.spans.items c.args.from c.args.to (neg_ℤ a) a sound le neg2 refl refl refl
-    (subst (λ l. length l ≤ 320000) (sym uses) few2) (subst (λ l. Each IsUse l) (sym uses) bounded) (λ t. ap (λ l. used l t) uses ∙ used_less s.uses u (neg_ℤ a) t refl has) points c.in_ok-change.ensures.apart
-    (λ t. subst (λ m. covers c.shift.new.spans.items t ≡ mended (max s.moment c.args.from) (max (max s.moment c.args.from) (min c.args.to s.horizon)) (λ x. is_outside (Above m) (sum_to (g.P.Points.points c.shift.new.points) x)) spans t) is_most (c.in_ok-change.ensures.covers t)) in
-    subst (λ (v : Standing). IsChange (spans_now v) (spans_now s2) c.in_ok-change.change) c.self.view_is (sound_change s s2 ps (g.P.Points.points c.shift.new.points) spans c.shift.new.spans.items c.in_ok-change.change sound sound2 c.in_ok-change.ensures.change)
-
-pub returns-in_err-change-clause-cost : goal.returns-in_err-change-clause-cost
-returns-in_err-change-clause-cost g c =
-    λ _.
-    let ps = g.P.Points.points c.self.inside.points in
-    let spans = c.self.inside.spans.items in
-    let s : Standing = state_of c.self.inside.spoiled c.self.inside.horizon c.self.inside.most c.self.inside.moment c.self.inside.notes.items in
-    let sound : IsSound s ps spans = c.self.invariant c.if-self.false in
-    let a = c.args.amount in
-    let u : Use = use_of c.args.from c.args.to a in
-    let has : stands same_use u s.uses ≡ true = subst (λ (v : Standing). v.spoiled ≡ false → stands same_use u v.uses ≡ true) (sym c.self.view_is) c.requires c.if-self.false in
-    let is : IsUse u = each-stands IsUse same_use same_exact s.uses u sound.bounded has in
-    let am : IsAmount a = amount_of u is in
-    let fits : SFits w64 c.self.inside.most = search rules in
-    use_cost g.P.Points.parts g.P.Points.change_steps g.P.Points.look_steps g.P.Points.search_steps c.args.steps.now c.shift.new.steps c.args.from c.args.to s c.args.self.now ps spans (neg_ℤ a) a (to_z w64 (of_z w64 (pos 0 -ℤ to_z w64 (of_z w64 a)))) (to_z w64 (of_z w64 a)) (to_z w64 (of_z w64 c.self.inside.most))
-    sound c.self.view_is (to_z-of_z w64 c.self.inside.most fits) (raw_back a am) (raw a am) c.shift.ensures.cost
+pub changed-requires-clause-shift : goal.changed-requires-clause-shift
+changed-requires-clause-shift g c =
+    let xs = standing same_use c.self.inside.notes.items in
+    let u = use_of c.args.from c.args.to c.args.amount in
+    let has : stands same_use u xs ≡ true = subst (λ (v : Standing). v.spoiled ≡ false → stands same_use u v.uses ≡ true) (sym c.self.view_is) c.requires c.if-self.false in
+    let sound = c.self.invariant c.if-self.false in
+    subst (λ (v : Standing). IsShift c.args.from c.args.to (held (pos 0 -ℤ held c.args.amount)) v.uses (without same_use (use_of c.args.from c.args.to (held c.args.amount)) v.uses)) c.self.view_is
+    (went xs c.args.from c.args.to c.args.amount has sound.few sound.bounded)
 
 pub returns-clause-cost : goal.returns-clause-cost
-returns-clause-cost g c =
-    λ _.
-    let ps = g.P.Points.points c.self.inside.points in
-    let spans = c.self.inside.spans.items in
-    let s : Standing = state_of c.self.inside.spoiled c.self.inside.horizon c.self.inside.most c.self.inside.moment c.self.inside.notes.items in
-    let sound : IsSound s ps spans = c.self.invariant c.if-self.false in
-    let a = c.args.amount in
-    let u : Use = use_of c.args.from c.args.to a in
-    let has : stands same_use u s.uses ≡ true = subst (λ (v : Standing). v.spoiled ≡ false → stands same_use u v.uses ≡ true) (sym c.self.view_is) c.requires c.if-self.false in
-    let is : IsUse u = each-stands IsUse same_use same_exact s.uses u sound.bounded has in
-    let am : IsAmount a = amount_of u is in
-    let fits : SFits w64 c.self.inside.most = search rules in
-    use_cost g.P.Points.parts g.P.Points.change_steps g.P.Points.look_steps g.P.Points.search_steps c.args.steps.now c.shift.new.steps c.args.from c.args.to s c.args.self.now ps spans (neg_ℤ a) a (to_z w64 (of_z w64 (pos 0 -ℤ to_z w64 (of_z w64 a)))) (to_z w64 (of_z w64 a)) (to_z w64 (of_z w64 c.self.inside.most))
-    sound c.self.view_is (to_z-of_z w64 c.self.inside.most fits) (raw_back a am) (raw a am) c.shift.ensures.cost
+returns-clause-cost g c = λ _.
+    let xs = standing same_use c.self.inside.notes.items in
+    let u = use_of c.args.from c.args.to c.args.amount in
+    let has : stands same_use u xs ≡ true = subst (λ (v : Standing). v.spoiled ≡ false → stands same_use u v.uses ≡ true) (sym c.self.view_is) c.requires c.if-self.false in
+    let back = raw_back c.args.amount (amount_went xs c.args.from c.args.to c.args.amount has (c.self.invariant c.if-self.false).bounded) in
+    let again : neg_ℤ (neg_ℤ c.args.amount) ≡ c.args.amount = omega (arith, ints) in
+    let points = g.P.Points in
+    subst (λ z. c.changed.new.steps ≤ c.args.steps.now + use_steps points.parts points.change_steps points.look_steps points.search_steps c.args.self.now c.args.from c.args.to (neg_ℤ c.args.amount) z) again
+    (subst (λ z. c.changed.new.steps ≤ c.args.steps.now + use_steps points.parts points.change_steps points.look_steps points.search_steps c.args.self.now c.args.from c.args.to z (neg_ℤ z)) back c.changed.ensures.cost)

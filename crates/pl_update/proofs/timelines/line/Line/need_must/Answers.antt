@@ -3,7 +3,7 @@ use Rattle.pl_semantics.specs.declared.demand.Asked.TheVariants as asked
 use Rattle.pl_update.specs.declared.timelines.line.Line.{Line}
 use Rattle.pl_update.specs.declared.timelines.line.Line.TheVariants.{States}
 use Rattle.pl_update.specs.Timelines.Changed.{IsLineChanged, more_by}
-use Rattle.pl_state.specs.Lines.{broken_now, bad_now}
+use Rattle.pl_state.specs.Timelines.{broken_now, bad_now}
 use Rattle.pl_update.proofs.AboutTimelines.MovingOne.{ok_then, must_came}
 use Rattle.pl_update.proofs.timelines.line.Line.need_must.Goals as goal
 

@@ -1,0 +1,67 @@
+-- The two kinds of run: of one thread, and of a planner and an executive in threads of their own.
+use Rattle.std.specs.Prelude.{◌≡◌, ℕ, List, [], ◌∷◌, ◌++◌, true, Option}
+use Rattle.pl_model.specs.declared.whole.Model.{Model}
+use Rattle.pl_entry.specs.declared.entry.Entry.{Entry}
+use Rattle.pl_machine.specs.Legal.{Legal, opening, options_of, world_of}
+use Rattle.pl_machine.specs.Finished.{inputs_of}
+use Rattle.pl_shared.specs.Roles.{is_input}
+use Rattle.pl_pair.specs.Served.{AreOf}
+use Rattle.pl_pair.specs.Chosen.{AreChosen}
+use Rattle.pl_pair.specs.Runs.{History}
+use Rattle.pl_main.specs.Solo.{Solo}
+use Rattle.pl_main.specs.Top.{program_options, HasRead, WasGiven}
+use Rattle.pl_main.specs.Endings.{RunKind}
+
+-- ---- one thread
+
+-- A legal log that was opened with the turns of the words and the limits of the program. Behind the open entry, each event
+-- that is no input is fixed by the world before it.
+pub record IsSolo (turns : ℕ) (m : Model) (log : List Entry) : Type 0 where
+  pub legal : Legal m log
+  pub solo : Solo m log
+  pub options : options_of log ≡ program_options turns
+
+-- Memory ran out between two rounds: these messages were read. Nothing is said of what the source has left, since memory
+-- may have run out while the next line was read.
+pub record IsBetweenRounds (words : List ℕ) (m : Model) (log : List Entry) (input : List ℕ) : Type 0 where
+  pub given : WasGiven words (inputs_of log) input
+  pub closed : (world_of m log).closed ≡ true
+
+abbrev pub solo_run : ℕ → RunKind
+solo_run turns = record {
+  log = IsSolo turns;
+  done_log = IsSolo turns;
+  pause = λ words m log unanswered input source_left. IsBetweenRounds words m log input;
+}
+
+-- ---- a planner and an executive in threads of their own
+
+-- A legal log that was opened with the turns of the words and the limits of the program. Behind the open entry, inputs are the feeder's own entries, fixes and rests the planner's,
+-- commits, dispatches and closes the executive's. Each of the planner's is what its chooser, made from the seed, proposes in the world before it, or a rest, and each of the executive's what it chooses there.
+pub record IsPaired (turns seed : ℕ) (m : Model) (log : List Entry) : Type 0 where
+  pub entries : List Entry
+  pub opened : log ≡ opening (program_options turns) ∷ entries
+  pub history : History seed m (opening (program_options turns) ∷ []) log
+  pub chosen : AreChosen m (opening (program_options turns) ∷ []) entries
+
+-- Such a log, of which the feeder's own entries are inputs and nothing else: nobody stopped the plan.
+pub record IsPairedToEnd (turns seed : ℕ) (m : Model) (log : List Entry) : Type 0 where
+  pub paired : IsPaired turns seed m log
+  pub feeder : AreOf is_input paired.history.feeder
+
+-- How far was read where memory ran out for the message behind these: it is the last line that was asked for. Or memory ran out while it was read, and then nothing is said of what the source has left.
+pub data ReadsInPart (words : List ℕ) (messages unanswered : List (Option (List ℕ))) (input : List ℕ) (source_left : Option (List ℕ)) : Type 0 where
+  to_next : (next : Option (List ℕ)) (more : List (Option (List ℕ))) → unanswered ≡ next ∷ more → HasRead words (messages ++ next ∷ []) input source_left → ReadsInPart words messages unanswered input source_left
+  at_next : WasGiven words messages input → ReadsInPart words messages unanswered input source_left
+
+-- Memory ran out within a round, and the last line that was asked for is the last message; or between two rounds, for the next message.
+pub data IsWithinOrBetween (words : List ℕ) (m : Model) (log : List Entry) (unanswered : List (Option (List ℕ))) (input : List ℕ) (source_left : Option (List ℕ)) : Type 0 where
+  in_round : HasRead words (inputs_of log) input source_left → IsWithinOrBetween words m log unanswered input source_left
+  between_rounds : ReadsInPart words (inputs_of log) unanswered input source_left → (world_of m log).closed ≡ true → IsWithinOrBetween words m log unanswered input source_left
+
+abbrev pub pair_run : (turns seed : ℕ) → RunKind
+pair_run turns seed = record {
+  log = IsPaired turns seed;
+  done_log = IsPairedToEnd turns seed;
+  pause = IsWithinOrBetween;
+}

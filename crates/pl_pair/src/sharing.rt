@@ -1,9 +1,0 @@
-//! Which types may be shared among threads.
-
-use crate::ended::Ended;
-use pl_lists::may_be_shared;
-
-/// Shows that threads may share this crate's types, as long as this compiles.
-pub fn shared_types() {
-    may_be_shared::<Ended>();
-}

@@ -1,0 +1,57 @@
+use Rattle.std.proofs.Common.{rules, ◌≡◌, ℕ, ◌+◌, false, arith, ap, sym, ◌∙◌}
+use mir.Val.{to_z, of_z, SFits}
+use mir.Syntax.{w64}
+use Rattle.std.proofs.lemmas.Int.{to_z-of_z}
+use Rattle.pl_points.specs.Points.{sum_to, is_out}
+use Rattle.pl_points.specs.Limits.{is_outside}
+use Rattle.pl_points.specs.Counting.{goes_outside}
+use Rattle.pl_points.proofs.Strolls.{left_search, same_bounds}
+use Rattle.pl_points.proofs.pieces.pass_inside.Goals as goal
+
+pub next_crossing-requires-clause-inside : goal.next_crossing-requires-clause-inside
+next_crossing-requires-clause-inside g c =
+    let ps = g.P.Points.points c.args.points.now in
+    let at = c.args.at in
+    let L = to_z w64 (of_z w64 c.bounds_of-least.result.0) in
+    let M = to_z w64 (of_z w64 c.bounds_of-least.result.1) in
+    let fits_low : SFits w64 c.bounds_of-least.result.0 = search rules in
+    let fits_high : SFits w64 c.bounds_of-least.result.1 = search rules in
+    let same : (t : ℕ) → is_out L M (sum_to ps t) ≡ is_outside c.args.limit (sum_to ps t) = λ t. same_bounds L M c.bounds_of-least.result.0 c.bounds_of-least.result.1 (sum_to ps t) (is_outside c.args.limit (sum_to ps t)) (to_z-of_z w64 c.bounds_of-least.result.0 fits_low) (to_z-of_z w64 c.bounds_of-least.result.1 fits_high) (c.bounds_of-least.ensures (sum_to ps t) (c.requires.small.small t)) in
+    let inside_there : is_outside c.args.limit (sum_to ps at) ≡ false = ap (is_outside c.args.limit) (sym c.requires.sum) ∙ c.requires.inside in
+    let sum : to_z w64 (of_z w64 c.args.sum) ≡ sum_to ps at = to_z-of_z w64 c.args.sum c.ranges.sum ∙ c.requires.sum in
+    ap (is_out L M) sum ∙ same at ∙ inside_there
+
+pub returns-clause-passes : goal.returns-clause-passes
+returns-clause-passes g c =
+    let ps = g.P.Points.points c.args.points.now in
+    let at = c.args.at in
+    let L = to_z w64 (of_z w64 c.bounds_of-least.result.0) in
+    let M = to_z w64 (of_z w64 c.bounds_of-least.result.1) in
+    let fits_low : SFits w64 c.bounds_of-least.result.0 = search rules in
+    let fits_high : SFits w64 c.bounds_of-least.result.1 = search rules in
+    let same : (t : ℕ) → is_out L M (sum_to ps t) ≡ is_outside c.args.limit (sum_to ps t) = λ t. same_bounds L M c.bounds_of-least.result.0 c.bounds_of-least.result.1 (sum_to ps t) (is_outside c.args.limit (sum_to ps t)) (to_z-of_z w64 c.bounds_of-least.result.0 fits_low) (to_z-of_z w64 c.bounds_of-least.result.1 fits_high) (c.bounds_of-least.ensures (sum_to ps t) (c.requires.small.small t)) in
+    let passes = c.next_crossing.ensures.passes in
+    record {
+      later = passes.later;
+      bound = passes.bound;
+      meets = λ t low high. sym (same t) ∙ passes.meets t low high;
+      next = passes.next;
+    }
+
+pub returns-clause-cost : goal.returns-clause-cost
+returns-clause-cost g c =
+    let ps = g.P.Points.points c.args.points.now in
+    let at = c.args.at in
+    let L = to_z w64 (of_z w64 c.bounds_of-least.result.0) in
+    let M = to_z w64 (of_z w64 c.bounds_of-least.result.1) in
+    let fits_low : SFits w64 c.bounds_of-least.result.0 = search rules in
+    let fits_high : SFits w64 c.bounds_of-least.result.1 = search rules in
+    let same : (t : ℕ) → is_out L M (sum_to ps t) ≡ is_outside c.args.limit (sum_to ps t) = λ t. same_bounds L M c.bounds_of-least.result.0 c.bounds_of-least.result.1 (sum_to ps t) (is_outside c.args.limit (sum_to ps t)) (to_z-of_z w64 c.bounds_of-least.result.0 fits_low) (to_z-of_z w64 c.bounds_of-least.result.1 fits_high) (c.bounds_of-least.ensures (sum_to ps t) (c.requires.small.small t)) in
+    let inside_there : is_outside c.args.limit (sum_to ps at) ≡ false = ap (is_outside c.args.limit) (sym c.requires.sum) ∙ c.requires.inside in
+    let m = c.next_crossing.result.0 in
+    let cost = c.next_crossing.ensures.cost in
+    let falls = c.requires.falls at (at + 1) (omega arith) in
+    record {
+      spent = omega (arith, cost.spent, falls);
+      left = λ lt. left_search (g.P.Points.ahead c.args.points.now) g.P.Points.look_steps g.P.Points.search_steps c.args.steps.now c.next_crossing.new.steps at m (goes_outside c.args.limit ps) ps inside_there (sym (same m) ∙ c.next_crossing.ensures.leaves lt) (cost.fewer lt (goes_outside c.args.limit ps)) (cost.left lt) falls;
+    }

@@ -1,0 +1,66 @@
+//! A pair whose log is full.
+ghost use Rattle.std.specs.Prelude.{◌≤◌};
+
+use crate::journals::models::{HEAD, shared_model};
+use crate::running::{NONE, ROOM, assert_does, count_newlines, joined};
+use pl_facts::Options;
+use pl_input::Halt;
+use pl_io::{LineReader, MemSink, MemSource};
+use pl_machine::Machine;
+use pl_pair::run_pair;
+use pl_turn::NoGate;
+use std::alloc::Global;
+use std::process::Abort;
+use std::sync::Wait;
+use std::thread::Threads;
+
+/// How a pair ends over the worked messages, with room for so many entries.
+fn ended<R: Abort + Threads + Wait + Sync>(
+    rt: &R,
+    alloc: Global,
+    entries: u32,
+    sink: &mut MemSink,
+) -> Result<(), Halt>
+    requires some { 1 ≤ entries }
+    requires bounded { entries ≤ 250000 }
+{
+    let options = Options {
+        turns: 8,
+        live: 10000,
+        goals: 20000,
+        entries,
+    };
+    let machine = Machine::fresh(alloc, shared_model(rt, alloc), options).expect(rt, "memory");
+    let mut lines = LineReader::new(alloc, 4096, 10_000).expect(rt, "memory");
+    let messages = b"goal 1 obs 10 20 must\ntick 10\nend\n";
+    let mut source = MemSource::new(alloc, messages.as_slice(), &[]).expect(rt, "memory");
+    run_pair(
+        rt,
+        alloc,
+        machine,
+        7,
+        &NoGate,
+        &mut lines,
+        &mut source,
+        sink,
+    )
+}
+
+/// Twelve entries are due at least.
+#[test]
+fn stops_at_a_full_log(rt: HostRuntime) {
+    let alloc = rt.alloc();
+    for entries in 1..12 {
+        let mut sink = MemSink::new(alloc, ROOM, &[]).expect(&rt, "memory");
+        let ended = ended(&rt, alloc, entries, &mut sink);
+        assert!(rt; matches!(ended, Err(Halt::Full)), "{entries}");
+        assert!(rt;
+            count_newlines(sink.bytes()) == entries as usize,
+            "{entries}"
+        );
+        let input = joined(&rt, alloc, HEAD, sink.bytes());
+        let line = format!(in alloc; "journal ok: entries {entries} unfinished\n");
+        let line = line.expect(&rt, "memory");
+        assert_does(&rt, alloc, "replay", NONE, &input, 0, line.as_bytes());
+    }
+}

@@ -1,0 +1,184 @@
+//! Texts that are made to be refused, through the program: models, messages, journals.
+use crate::journals::models::{HEAD, JOURNAL, OPEN};
+use crate::running::{NONE, assert_does, joined, lines};
+use std::alloc::Global;
+use std::process::Abort;
+use std::sync::Wait;
+use std::thread::Threads;
+
+/// A piece so many times, and in each its number, from 0, in the place of `#`.
+fn repeated(rt: &impl Abort, alloc: Global, piece: &str, times: usize) -> String {
+    if !piece.contains('#') {
+        return piece.repeat(alloc, times).expect(rt, "memory");
+    }
+    let mut text = String::new(alloc);
+    for number in 0..times {
+        let (front, rest) = piece.split_once('#').unwrap_or((piece, ""));
+        let next = format!(in alloc; "{front}{number}{rest}").expect(rt, "memory");
+        text.push_str(next.as_str()).expect(rt, "memory");
+    }
+    text
+}
+
+/// A text of pieces with a bar between two; `32*(` is a piece of 32 brackets, and `;` is a newline.
+fn text_of(rt: &impl Abort, alloc: Global, pieces: &str) -> String {
+    let mut text = String::new(alloc);
+    for piece in pieces.split('|') {
+        let (times, piece) = piece.split_once('*').unwrap_or(("1", piece));
+        let times = times.parse().unwrap_or(0);
+        let next = repeated(rt, alloc, piece, times);
+        text.push_str(next.as_str()).expect(rt, "memory");
+    }
+    lines(rt, alloc, text.as_str())
+}
+
+/// The texts of models, and what `check` says of each.
+const MODELS: &str =
+    "horizon 100 lead 30 kind a { duration |32*(|5|32*)| } => model ok: timelines 0 kinds 1
+horizon 100 lead 30 kind a { duration |33*(|5|33*)| } => model: too deep at 70
+horizon 100 lead 30 kind a { duration 1|31*+1| } => model ok: timelines 0 kinds 1
+horizon 100 lead 30 kind a { duration 1|32*+1| } => model: too deep at 101
+horizon 100 lead 30 kind a { duration 101 } => model: out of range: duration
+horizon 100 lead 30 kind |33*x => model: bad name at 25
+horizon 1000000000000000000 lead 1 => model: bad number at 8
+$ => model: bad byte at 0
+horizon 1 lead 1 => model: out of range: horizon
+horizon 100 lead 101 => model: out of range: lead
+horizon 100 lead 30 kind a { duration 5 use cam 1 } => model: unknown name: cam
+horizon 100 lead 30 kind a { param x 1 9 = y param y 1 9 = x duration 5 } => model: circular: kind a, parameter x
+horizon 100 lead 30 kind a { duration 5 alternative { slot s a } } => model: recursive: kind a
+horizon 100 lead 30 kind a { |16*param p# 1 9 |duration 5 } => model ok: timelines 0 kinds 1
+horizon 100 lead 30 kind a { |17*param p# 1 9 |duration 5 } => model: too many: params
+horizon 100 lead 30|256*;kind k# { duration 5 } => model ok: timelines 0 kinds 256
+horizon 100 lead 30|257*;kind k# { duration 5 } => model: too many: kinds";
+
+/// Asserts what `check` says of a model's text.
+fn assert_checked<R: Abort + Threads + Wait + Sync>(
+    rt: &R,
+    alloc: Global,
+    model: &str,
+    line: &str,
+) {
+    let input = format!(in alloc; "{model}\nbegin\n").expect(rt, "memory");
+    let text = format!(in alloc; "{line}\n").expect(rt, "memory");
+    let status = if line.starts_with("model ok") { 0 } else { 3 };
+    let (input, text) = (input.as_bytes(), text.as_bytes());
+    assert_does(rt, alloc, "check", NONE, input, status, text);
+}
+
+#[test]
+fn checks_hostile_models(rt: HostRuntime) {
+    let alloc = rt.alloc();
+    for row in MODELS.lines() {
+        let (pieces, line) = row.split_once(" => ").unwrap_or((row, ""));
+        let model = text_of(&rt, alloc, pieces);
+        assert_checked(&rt, alloc, model.as_str(), line);
+    }
+}
+
+/// The model's text behind newlines has 1,048,576 bytes, and then one more.
+#[test]
+fn checks_long_models(rt: HostRuntime) {
+    let alloc = rt.alloc();
+    let model = "horizon 100\nlead 30\nkind obs {\nduration 5\n}";
+    let lines = [
+        (1_048_532, "model ok: timelines 0 kinds 1"),
+        (1_048_533, "model: too long"),
+    ];
+    for (count, line) in lines {
+        let blanks = "\n".repeat(alloc, count).expect(&rt, "memory");
+        let text = format!(in alloc; "{blanks}{model}").expect(&rt, "memory");
+        assert_checked(&rt, alloc, text.as_str(), line);
+    }
+}
+
+/// Messages at the present 0, and the entries that each leads to; `;` is a newline.
+const MESSAGES: &str = "goal 0 obs 1 2 must => range
+goal 1 obs 1 100 must => range
+goal 1000000001 obs 1 99 must => range
+tick 101 => tick-beyond
+tick 999999999999999999 => tick-beyond
+tick 0 => tick-back
+tick => bad-line
+tick 3 3 => bad-line
+end now => bad-line
+tick 1000000000000000000 => bad-line";
+
+/// The rest of the journal of a message that is refused.
+const REFUSED: &str = "2 rest clear;3 commit 30 : ok;4 close;5 in eof;";
+
+/// Messages that are taken, and the rest of the journal of each.
+const TAKEN: &str =
+    "goal 1000000000 obs 1 99 must => 2 fix 99 open-goal 1000000000 0 1 99 by add obs 1 goal 1000000000 : ok;3 rest clear;4 commit 30 : ok;5 close;6 in eof;
+tick 100 => 2 rest clear;3 close;4 in eof;";
+
+/// Asserts what `run solo 8` makes of one message.
+fn assert_answers<R: Abort + Threads + Wait + Sync>(
+    rt: &R,
+    alloc: Global,
+    message: &str,
+    reply: &str,
+    rest: &str,
+) {
+    let line = format!(in alloc; "{message}\n").expect(rt, "memory");
+    let rest = lines(rt, alloc, rest);
+    let text = format!(in alloc; "1 in {reply} : {message}\n{rest}").expect(rt, "memory");
+    let input = joined(rt, alloc, HEAD, line.as_bytes());
+    let text = joined(rt, alloc, OPEN, text.as_bytes());
+    assert_does(rt, alloc, "run solo 8", NONE, &input, 0, &text);
+}
+
+#[test]
+fn answers_hostile_messages(rt: HostRuntime) {
+    let alloc = rt.alloc();
+    for row in MESSAGES.lines() {
+        let (message, reply) = row.split_once(" => ").unwrap_or((row, ""));
+        assert_answers(&rt, alloc, message, reply, REFUSED);
+    }
+    for row in TAKEN.lines() {
+        let (message, rest) = row.split_once(" => ").unwrap_or((row, ""));
+        assert_answers(&rt, alloc, message, "ok", rest);
+    }
+}
+
+/// Asserts what both commands over a journal say of one.
+fn assert_judged<R: Abort + Threads + Wait + Sync>(
+    rt: &R,
+    alloc: Global,
+    journal: &str,
+    status: u8,
+    text: &str,
+) {
+    let input = joined(rt, alloc, HEAD, journal.as_bytes());
+    let text = text.as_bytes();
+    assert_does(rt, alloc, "replay", NONE, &input, status, text);
+    assert_does(rt, alloc, "report", NONE, &input, status, text);
+}
+
+/// A text of the worked journal, what stands in its place, and what is said of the first wrong entry.
+const JOURNALS: &str = "turns 8 => turns 0 => 0: not a line
+entries 250000 => entries 3 => 3: log full
+2 fix => 3 fix => 2: not a line
+open-goal 1 => open-goal 2 => 2: reply is stale
+rest clear => rest spent => 3: reply is clear
+commit 30 => commit 101 => 4: reply is beyond
+commit 30 => commit 100 => 9: reply is behind";
+
+#[test]
+fn judges_hostile_journals(rt: HostRuntime) {
+    let alloc = rt.alloc();
+    for row in JOURNALS.lines() {
+        let (from, rest) = row.split_once(" => ").unwrap_or((row, ""));
+        let (to, said) = rest.split_once(" => ").unwrap_or((rest, ""));
+        let (front, behind) = JOURNAL.split_once(from).unwrap_or(("no such text", ""));
+        let journal = format!(in alloc; "{front}{to}{behind}").expect(&rt, "memory");
+        let text = format!(in alloc; "journal: entry {said}\n").expect(&rt, "memory");
+        assert_judged(&rt, alloc, journal.as_str(), 8, text.as_str());
+    }
+    let first = "journal: entry 0: not a line\n";
+    assert_judged(&rt, alloc, "", 8, first);
+    let longest = "x".repeat(alloc, 4160).expect(&rt, "memory");
+    assert_judged(&rt, alloc, longest.as_str(), 8, first);
+    let longer = "x".repeat(alloc, 4161).expect(&rt, "memory");
+    assert_judged(&rt, alloc, longer.as_str(), 6, "");
+}

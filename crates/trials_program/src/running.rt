@@ -1,0 +1,95 @@
+//! Runs of the program over memory.
+use pl_io::{MemSink, MemSource, Source};
+use pl_main::run;
+use pl_turn::{Gate, NoGate};
+use std::alloc::Global;
+use std::process::Abort;
+use std::sync::Wait;
+use std::thread::Threads;
+
+/// What fails: the reads and the writes of these numbers, from 1.
+pub type Failing<'a> = (&'a [u64], &'a [u64]);
+
+pub const NONE: Failing<'static> = (&[], &[]);
+
+/// The room of an output, in bytes.
+pub const ROOM: usize = 20_000;
+
+/// A status, and what was written.
+pub type Ended = (u8, MemSink);
+
+/// The words of a text.
+pub fn words_of(rt: &impl Abort, alloc: Global, text: &str) -> Vec<String> {
+    let mut words = Vec::new(alloc);
+    for word in text.split_whitespace() {
+        let owned = String::from_str(alloc, word).expect(rt, "memory");
+        words.push(owned).expect(rt, "memory");
+    }
+    words
+}
+
+pub fn joined(rt: &impl Abort, alloc: Global, front: &str, rest: &[u8]) -> Vec<u8> {
+    let mut bytes = Vec::from_slice(alloc, front.as_bytes()).expect(rt, "memory");
+    bytes.extend_from_slice(rest).expect(rt, "memory");
+    bytes
+}
+
+/// The text with a newline for each `;`.
+pub fn lines(rt: &impl Abort, alloc: Global, text: &str) -> String {
+    text.replace(alloc, ";", "\n").expect(rt, "memory")
+}
+
+pub fn count_newlines(bytes: &[u8]) -> usize {
+    let mut count = 0usize;
+    for byte in bytes {
+        if *byte == b'\n' {
+            count = count.wrapping_add(1);
+        }
+    }
+    count
+}
+
+/// What some words do with a source. The sink has room for so many bytes.
+pub fn does_within<R: Abort + Threads + Wait + Sync, S: Source>(
+    rt: &R,
+    alloc: Global,
+    words: &str,
+    source: &mut S,
+    room: usize,
+) -> Ended {
+    let owned = words_of(rt, alloc, words);
+    let mut sink = MemSink::new(alloc, room, &[]).expect(rt, "memory");
+    let status = run(rt, alloc, &owned, source, &mut sink, &NoGate);
+    (status, sink)
+}
+
+/// What some words do with an input.
+pub fn does<R: Abort + Threads + Wait + Sync, G: Gate + Sync>(
+    rt: &R,
+    alloc: Global,
+    words: &str,
+    input: &[u8],
+    failing: Failing<'_>,
+    gate: &G,
+) -> Ended {
+    let owned = words_of(rt, alloc, words);
+    let mut source = MemSource::new(alloc, input, failing.0).expect(rt, "memory");
+    let mut sink = MemSink::new(alloc, ROOM, failing.1).expect(rt, "memory");
+    let status = run(rt, alloc, &owned, &mut source, &mut sink, gate);
+    (status, sink)
+}
+
+/// Asserts that these words end with this status over this input and write this text.
+pub fn assert_does<R: Abort + Threads + Wait + Sync>(
+    rt: &R,
+    alloc: Global,
+    words: &str,
+    failing: Failing<'_>,
+    input: &[u8],
+    status: u8,
+    text: &[u8],
+) {
+    let (found, sink) = does(rt, alloc, words, input, failing, &NoGate);
+    assert!(rt; found == status, "{words}: {found}");
+    assert!(rt; sink.bytes() == text, "{words}");
+}
