@@ -5,14 +5,16 @@
 # written; with status 0, as where it did without the memory, all of it. Of `run pair`, whose journal no second run need make
 # again, `replay` has to accept the lines that were written whole.
 # A C compiler is wanted, for the few lines that stand in front of the allocator.
-# Say where the program is, or leave it to crates/lundocsef/out/lundocsef.
+# Say where the program is, or leave it to crates/lundocsef/out/lundocsef; then the forms that are to be tried, or leave it to all.
 set -u
 here=$(cd "$(dirname "$0")" && pwd)
 program=${1:-$here/../crates/lundocsef/out/lundocsef}
+[ $# -gt 1 ] && forms=("${@:2}") || forms=('run solo 8' 'run pair 8 7' check replay report 'demo 2')
 made=$(mktemp -d); trap 'rm -rf "$made"' EXIT
 
 # FIRST and LAST are the numbers of the allocations that fail. Each of them leaves a byte in the file 9.
 cc -shared -fPIC -O1 -o "$made/failing.so" -x c - << 'END' || exit 2
+#include <errno.h>
 #include <stdatomic.h>
 #include <stdlib.h>
 #include <unistd.h>
@@ -21,7 +23,9 @@ static atomic_long asked;
 static int fails(void) {
     const char *first = getenv("FIRST"), *last = getenv("LAST");
     long number = atomic_fetch_add(&asked, 1) + 1;
-    return first && last && atol(first) <= number && number <= atol(last) && write(9, "x", 1) == 1;
+    if (!first || !last || number < atol(first) || atol(last) < number || write(9, "x", 1) != 1) return 0;
+    errno = ENOMEM;
+    return 1;
 }
 void *malloc(size_t size) { return fails() ? NULL : __libc_malloc(size); }
 void *calloc(size_t count, size_t size) { return fails() ? NULL : __libc_calloc(count, size); }
@@ -56,7 +60,7 @@ try() {
   [ -s "$made/marks" ]
 }
 
-for words in 'run solo 8' 'run pair 8 7' check replay report 'demo 2'; do
+for words in "${forms[@]}"; do
   file=$made/input
   case $words in replay | report) file=$made/journal ;; esac
   "$program" $words < "$file" > "$made/whole"
