@@ -34,6 +34,7 @@ def lines_of_examples(program):
     lines, complaints = set(), []
     for path in [*TOP.glob("examples/*.txt"), *TOP.glob("examples/pages/*.txt")]:
         lines.update(run(program, ["run", "solo", "8"], path.read_text()).splitlines())
+    lines.update((TOP / "examples/lookahead/imager.journal").read_text().splitlines())
     for path in TOP.glob("examples/pages/replay/*.txt"):
         verdict = run(program, ["replay"], path.read_text())
         if not verdict.startswith("journal ok"):

@@ -6,6 +6,7 @@ from .failure import Failure
 
 REPOSITORY = os.path.dirname(os.path.dirname(os.path.dirname(os.path.abspath(__file__))))
 BUILT = os.path.join(REPOSITORY, 'crates', 'lundocsef', 'out', 'lundocsef')
+LOOKAHEAD = os.path.join(REPOSITORY, 'crates', 'lookahead', 'out', 'lookahead')
 STATUSES = {
     2: 'the words of the command line have no form that it knows',
     3: 'the model is missing or wrong',
@@ -33,6 +34,14 @@ def find_program(given=None):
         return BUILT
     raise Failure('the planner was not found. Name it by --program PATH or by the variable LUNDOCSEF, '
                   'or build it: cd %s && rt run' % os.path.dirname(os.path.dirname(BUILT)))
+
+
+def find_lookahead():
+    """The path of the planner that looks ahead: $LOOKAHEAD, else the one that the repository's build leaves, else None."""
+    for path in (os.environ.get('LOOKAHEAD'), LOOKAHEAD):
+        if path and os.access(path, os.X_OK):
+            return path
+    return None
 
 
 def call(program, words, text):

@@ -95,6 +95,9 @@ class Shell:
         names = os.path.join(folder, '.names')
         os.mkdir(names)
         os.symlink(program, os.path.join(names, 'lundocsef'))
+        self.lookahead = programs.find_lookahead()
+        if self.lookahead:
+            os.symlink(self.lookahead, os.path.join(names, 'lookahead'))
         os.symlink(os.path.join(os.path.dirname(tools), 'examples'), os.path.join(folder, 'examples'))
         self.environment = dict(os.environ, LUNDOCSEF=program, PATH=os.pathsep.join([names, tools, os.environ['PATH']]), COLUMNS='100')
 
@@ -105,8 +108,11 @@ class Shell:
         return None
 
     def run(self, block):
-        """Runs each `$ ` line, and compares what it writes with the lines below it."""
+        """Runs each `$ ` line, and compares what it writes with the lines below it. Without the program `lookahead`, lines
+        that call it are left out."""
         for command, wanted in self.commands(block):
+            if re.search(r'\blookahead run\b', command) and not self.lookahead:
+                continue
             done = subprocess.run(['bash', '-c', command], cwd=self.folder, env=self.environment, stdin=subprocess.DEVNULL,
                                   stdout=subprocess.PIPE, stderr=subprocess.STDOUT, timeout=120)
             found = done.stdout.decode('utf-8', 'replace').rstrip('\n').split('\n') if done.stdout.strip() else []

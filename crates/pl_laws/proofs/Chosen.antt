@@ -14,7 +14,7 @@ use Rattle.pl_machine.specs.World.{World, fresh_world, reason_of}
 use Rattle.pl_machine.specs.Step.{after}
 use Rattle.pl_machine.specs.Choices.{exec_choice_of, event_of}
 use Rattle.pl_machine.specs.Legal.{options_of, entries_behind}
-use Rattle.pl_main.specs.Solo.{repair_event, IsSoloEvent, solo_from, Solo}
+use Rattle.pl_main.specs.Solo.{repair_event, IsSoloEvent, FollowsAll, solo_from, Solo}
 use Rattle.pl_laws.specs.Laws.{IsChosen, chosen_from, AreCommitsChosen}
 
 chosen_is : (o : Option Choice) (h : ℕ) → option_map event_of o ≡ Some (event.Commit h) → o ≡ Some (choice.Commit h)
@@ -47,5 +47,5 @@ all_chosen w [] solo = tt
 all_chosen w (e ∷ es) solo = (one_chosen w e.event solo.0, all_chosen (after w e.event) es solo.1)
 
 pub solo_chosen : (m : Model) (log : List Entry) → Solo m log → AreCommitsChosen m log
-unfolding Solo
+unfolding FollowsAll
 solo_chosen m log solo = all_chosen (fresh_world m (options_of log)) (entries_behind log) solo

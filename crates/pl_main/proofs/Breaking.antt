@@ -10,7 +10,7 @@ use Rattle.pl_entry.specs.declared.entry.Entry.{Entry}
 use Rattle.pl_input.specs.Words.{messages_of, split_of}
 use Rattle.pl_machine.specs.World.{World}
 use Rattle.pl_machine.specs.Legal.{Legal, opening, world_from, world_of}
-use Rattle.pl_main.specs.Solo.{solo_from, Solo}
+use Rattle.pl_main.specs.Solo.{Rule, follows, FollowsAll}
 use Rattle.pl_machine.specs.Finished.{inputs_of}
 use Rattle.pl_machine.specs.Sound.{State}
 use Rattle.pl_driver.specs.Rounds.{SameRun}
@@ -36,42 +36,42 @@ use Rattle.pl_main.proofs.LastLines.{BeginsAt, all_messages, behind_text, got_ne
 use Rattle.pl_main.proofs.Running.{EndsOver}
 use Rattle.pl_main.specs.Endings.{HasBegun, IsOutOfMemory, IsShort, behind_entry, in_entry, in_journal, nothing}
 use Rattle.pl_main.proofs.Heading.{begins_at, split_is}
-use Rattle.pl_main.specs.RunKinds.{solo_run}
+use Rattle.pl_main.specs.RunKinds.{run_by}
 
 abbrev Message : Type 0
 Message = Option (List ℕ)
 
 -- ---- a log of the open entry alone
 
-opened_solo : (turns : ℕ) (m : Model) → Solo m (opening (program_options turns) ∷ [])
-unfolding Solo
-opened_solo turns m = tt
+opened_solo : (R : Rule) (turns : ℕ) (m : Model) → FollowsAll R m (opening (program_options turns) ∷ [])
+unfolding FollowsAll
+opened_solo R turns m = tt
 
-abbrev opened_run : (turns : ℕ) (input words rest : List ℕ) (heads : List (List ℕ)) (room : ℕ) (m : Model) → IsHead heads words → GivesLines line_limit total_limit input heads room rest → IsModelText words m
-    → Legal m (opening (program_options turns) ∷ []) → HasBegun (solo_run turns) input
-opened_run turns input words rest heads room m head gave accepted legal = record {
+abbrev opened_run : {R : Rule} (turns : ℕ) (input words rest : List ℕ) (heads : List (List ℕ)) (room : ℕ) (m : Model) → IsHead heads words → GivesLines line_limit total_limit input heads room rest → IsModelText words m
+    → Legal m (opening (program_options turns) ∷ []) → HasBegun (run_by R turns) input
+opened_run {R} turns input words rest heads room m head gave accepted legal = record {
   model = m;
   log = opening (program_options turns) ∷ [];
   words = words;
   text = (split_is input heads words (lines_of rest) head (gave_lines line_limit total_limit input heads room rest gave)).text;
   accepted = accepted;
-  says = record { legal = legal; solo = opened_solo turns m; options = refl };
+  says = record { legal = legal; solo = opened_solo R turns m; options = refl };
   unanswered = (split_of input).messages;
   messages = refl;
 }
 
 -- ---- a log that waits for a message
 
-record HasWaited (turns : ℕ) (input : List ℕ) (held now : Option (List ℕ)) : Type 0 where
-  run : HasBegun (solo_run turns) input
+record HasWaited (R : Rule) (turns : ℕ) (input : List ℕ) (held now : Option (List ℕ)) : Type 0 where
+  run : HasBegun (run_by R turns) input
   given : WasGiven run.words (inputs_of run.log) input
   closed : (world_of run.model run.log).closed ≡ true
   going : (world_of run.model run.log).done ≡ false
   written : Adds held now (text_of_log run.model run.log)
 
-waited : (turns : ℕ) (input words heads_rest : List ℕ) (heads : List (List ℕ)) (m : Model) (start middle : Place) (held opened written : Option (List ℕ)) (mid : State)
+waited : {R : Rule} (turns : ℕ) (input words heads_rest : List ℕ) (heads : List (List ℕ)) (m : Model) (start middle : Place) (held opened written : Option (List ℕ)) (mid : State)
     → IsHead heads words → GivesLines line_limit total_limit input heads start.reader.room heads_rest → start.ahead ≡ Some heads_rest → BeginsAt start → IsModelText words m
-    → Adds held opened (text_from m 0 (opening (program_options turns) ∷ [])) → AnswersMessages (fresh_state turns m) start opened mid middle written → Legal mid.model mid.log → HasWaited turns input held written
+    → Adds held opened (text_from m 0 (opening (program_options turns) ∷ [])) → AnswersMessages R (fresh_state turns m) start opened mid middle written → Legal mid.model mid.log → HasWaited R turns input held written
 waited turns input words heads_rest heads m start middle held opened written mid head gave is_ahead begins accepted first plays legal =
     let k = known start.reader.limit start.reader.room line_limit start.reader.room start.ahead heads_rest plays.lines middle.reader.room middle.ahead begins.limit refl is_ahead plays.took.gave in
     let split = split_is input heads words (lines_of heads_rest) head (gave_lines line_limit total_limit input heads start.reader.room heads_rest gave) in
@@ -105,15 +105,15 @@ waited turns input words heads_rest heads m start middle held opened written mid
 -- ---- a log whose last entries were not written whole
 
 -- the entries of a message, as far as they were made: it is their one input
-record Added (mid new : State) (input : Message) : Type 0 where
+record Added (R : Rule) (mid new : State) (input : Message) : Type 0 where
   entries : List Entry
   log : new.log ≡ mid.log ++ entries
-  solo : solo_from mid.world entries
+  solo : follows R mid.world entries
   world : new.world ≡ world_from mid.world entries
   same : SameRun mid new
   inputs : inputs_of entries ≡ input ∷ []
 
-added : (mid new : State) (input : Message) → AnswersMessage mid input new ⊎ AnswersMessageInPart mid input new → Added mid new input
+added : {R : Rule} (mid new : State) (input : Message) → AnswersMessage R mid input new ⊎ AnswersMessageInPart R mid input new → Added R mid new input
 added mid new input (inl told) = record { entries = told.entries; log = told.log; solo = told.solo; world = told.world; same = told.same; inputs = told.inputs }
 added mid new input (inr told) = record { entries = told.entries; log = told.log; solo = told.solo; world = told.world; same = told.same; inputs = told.inputs }
 
@@ -135,13 +135,13 @@ cut_opening turns m held now front = record {
 }
 
 -- the last line that was asked for is the last message of the log
-record HasBroken (turns : ℕ) (input : List ℕ) (source_left held now : Option (List ℕ)) : Type 0 where
-  run : HasBegun (solo_run turns) input
+record HasBroken (R : Rule) (turns : ℕ) (input : List ℕ) (source_left held now : Option (List ℕ)) : Type 0 where
+  run : HasBegun (run_by R turns) input
   read : HasRead run.words (inputs_of run.log) input source_left
   cut : IsCutShort run.model run.log held now
 
 -- All entries before a message were written, and a front of the lines of those that the message brought.
-cut_in_round : (turns : ℕ) (m : Model) (start place : Place) (held opened now : Option (List ℕ)) (new : State) (plays : AnswersAllInPart (fresh_state turns m) start opened new place now) (last : Added plays.waiting new (line_in plays.step.message))
+cut_in_round : {R : Rule} (turns : ℕ) (m : Model) (start place : Place) (held opened now : Option (List ℕ)) (new : State) (plays : AnswersAllInPart R (fresh_state turns m) start opened new place now) (last : Added R plays.waiting new (line_in plays.step.message))
     → Adds held opened (text_from m 0 (opening (program_options turns) ∷ [])) → IsCutShort m (opening (program_options turns) ∷ (plays.plays.entries ++ last.entries)) held now
 unfolding world_of
 cut_in_round turns m start place held opened now new plays last first =
@@ -161,9 +161,9 @@ cut_in_round turns m start place held opened now new plays last first =
           (joined_front (fresh_state turns m) plays.waiting new opened plays.written now so_far.entries last.entries so_far.log so_far.same so_far.written last.log answered.written);
     }
 
-broken : (turns : ℕ) (input words heads_rest : List ℕ) (heads : List (List ℕ)) (m : Model) (start place : Place) (source_left held opened now : Option (List ℕ)) (new : State)
+broken : {R : Rule} (turns : ℕ) (input words heads_rest : List ℕ) (heads : List (List ℕ)) (m : Model) (start place : Place) (source_left held opened now : Option (List ℕ)) (new : State)
     → IsHead heads words → GivesLines line_limit total_limit input heads start.reader.room heads_rest → start.ahead ≡ Some heads_rest → BeginsAt start → IsModelText words m
-    → Adds held opened (text_from m 0 (opening (program_options turns) ∷ [])) → AnswersAllInPart (fresh_state turns m) start opened new place now → Legal new.model new.log → ahead place.reader.held source_left ≡ place.ahead → HasBroken turns input source_left held now
+    → Adds held opened (text_from m 0 (opening (program_options turns) ∷ [])) → AnswersAllInPart R (fresh_state turns m) start opened new place now → Legal new.model new.log → ahead place.reader.held source_left ≡ place.ahead → HasBroken R turns input source_left held now
 broken turns input words heads_rest heads m start place source_left held opened now new head gave is_ahead begins accepted first plays legal behind =
     let so_far = plays.plays in
     let next = line_in plays.step.message in
@@ -195,8 +195,8 @@ broken turns input words heads_rest heads m start place source_left held opened 
 
 -- ---- behind the model's text
 
-abbrev run_opened : (turns : ℕ) (kept : Option (Vec ℕ Global)) (start : Place) (input : List ℕ) (m : Model) → IsBegun (fresh_reader line_limit) (Some input) kept start.reader start.ahead → IsKeptModel kept m
-    → Legal m (opening (program_options turns) ∷ []) → HasBegun (solo_run turns) input
+abbrev run_opened : {R : Rule} (turns : ℕ) (kept : Option (Vec ℕ Global)) (start : Place) (input : List ℕ) (m : Model) → IsBegun (fresh_reader line_limit) (Some input) kept start.reader start.ahead → IsKeptModel kept m
+    → Legal m (opening (program_options turns) ∷ []) → HasBegun (run_by R turns) input
 run_opened turns kept start input m begun text legal =
     let k = known line_limit total_limit line_limit total_limit (Some input) input begun.lines start.reader.room start.ahead refl refl refl begun.took.gave in
     opened_run turns input begun.words k.rest begun.lines start.reader.room m begun.head k.gave (text begun.words begun.keeps) legal
@@ -207,21 +207,21 @@ opened_read : (kept : Option (Vec ℕ Global)) (start place : Place) (input : Li
 opened_read kept start place input source_left begun same behind =
     head_read input begun.words source_left (begins_at line_limit kept start.reader input start.ahead source_left begun (subst (λ (p : Place). ahead p.reader.held source_left ≡ p.ahead) same behind))
 
-run_waited : (turns : ℕ) (kept : Option (Vec ℕ Global)) (start middle : Place) (input : List ℕ) (held opened written : Option (List ℕ)) (m : Model) (mid : State) → IsBegun (fresh_reader line_limit) (Some input) kept start.reader start.ahead → IsKeptModel kept m
-    → Adds held opened (text_from m 0 (opening (program_options turns) ∷ [])) → AnswersMessages (fresh_state turns m) start opened mid middle written → Legal mid.model mid.log → HasWaited turns input held written
+run_waited : {R : Rule} (turns : ℕ) (kept : Option (Vec ℕ Global)) (start middle : Place) (input : List ℕ) (held opened written : Option (List ℕ)) (m : Model) (mid : State) → IsBegun (fresh_reader line_limit) (Some input) kept start.reader start.ahead → IsKeptModel kept m
+    → Adds held opened (text_from m 0 (opening (program_options turns) ∷ [])) → AnswersMessages R (fresh_state turns m) start opened mid middle written → Legal mid.model mid.log → HasWaited R turns input held written
 run_waited turns kept start middle input held opened written m mid begun text first plays legal =
     let k = known line_limit total_limit line_limit total_limit (Some input) input begun.lines start.reader.room start.ahead refl refl refl begun.took.gave in
     waited turns input begun.words k.rest begun.lines m start middle held opened written mid begun.head k.gave k.is (behind_text kept start (Some input) begun) (text begun.words begun.keeps) first plays legal
 
-run_broken : (turns : ℕ) (kept : Option (Vec ℕ Global)) (start place : Place) (input : List ℕ) (source_left held opened now : Option (List ℕ)) (m : Model) (new : State) → IsBegun (fresh_reader line_limit) (Some input) kept start.reader start.ahead → IsKeptModel kept m
-    → Adds held opened (text_from m 0 (opening (program_options turns) ∷ [])) → AnswersAllInPart (fresh_state turns m) start opened new place now → Legal new.model new.log → ahead place.reader.held source_left ≡ place.ahead → HasBroken turns input source_left held now
+run_broken : {R : Rule} (turns : ℕ) (kept : Option (Vec ℕ Global)) (start place : Place) (input : List ℕ) (source_left held opened now : Option (List ℕ)) (m : Model) (new : State) → IsBegun (fresh_reader line_limit) (Some input) kept start.reader start.ahead → IsKeptModel kept m
+    → Adds held opened (text_from m 0 (opening (program_options turns) ∷ [])) → AnswersAllInPart R (fresh_state turns m) start opened new place now → Legal new.model new.log → ahead place.reader.held source_left ≡ place.ahead → HasBroken R turns input source_left held now
 run_broken turns kept start place input source_left held opened now m new begun text first plays legal behind =
     let k = known line_limit total_limit line_limit total_limit (Some input) input begun.lines start.reader.room start.ahead refl refl refl begun.took.gave in
     broken turns input begun.words k.rest begun.lines m start place source_left held opened now new begun.head k.gave k.is (behind_text kept start (Some input) begun) (text begun.words begun.keeps) first plays legal behind
 
 -- a write failed
-solo_short : (turns : ℕ) (kept : Option (Vec ℕ Global)) (start place : Place) (input : List ℕ) (source_left held now : Option (List ℕ)) (m : Model) → IsBegun (fresh_reader line_limit) (Some input) kept start.reader start.ahead → IsKeptModel kept m
-    → ModelBreaks halt.Write turns m start held place now → ahead place.reader.held source_left ≡ place.ahead → IsShort (solo_run turns) input source_left held now
+solo_short : {R : Rule} (turns : ℕ) (kept : Option (Vec ℕ Global)) (start place : Place) (input : List ℕ) (source_left held now : Option (List ℕ)) (m : Model) → IsBegun (fresh_reader line_limit) (Some input) kept start.reader start.ahead → IsKeptModel kept m
+    → ModelBreaks R halt.Write turns m start held place now → ahead place.reader.held source_left ≡ place.ahead → IsShort (run_by R turns) input source_left held now
 solo_short turns kept start place input source_left held now m begun text (unopened is same) behind = absurd (let h : halt.Write ≡ halt.Memory = is in (cc))
 solo_short turns kept start place input source_left held now m begun text (in_opening legal front same) behind =
     in_journal (run_opened turns kept start input m begun text legal) (opened_read kept start place input source_left begun same behind) (cut_opening turns m held now front)
@@ -230,13 +230,13 @@ solo_short turns kept start place input source_left held now m begun text (in_pl
     in_journal b.run b.read b.cut
 
 -- all that was written is the journal of a log that waits for a message
-waits_whole : (turns : ℕ) (input : List ℕ) (source_left held written now : Option (List ℕ)) → HasWaited turns input held written → now ≡ written → IsOutOfMemory (solo_run turns) input source_left held now
+waits_whole : {R : Rule} (turns : ℕ) (input : List ℕ) (source_left held written now : Option (List ℕ)) → HasWaited R turns input held written → now ≡ written → IsOutOfMemory (run_by R turns) input source_left held now
 waits_whole turns input source_left held written now waits same =
     behind_entry waits.run (record { given = waits.given; closed = waits.closed }) waits.going (subst (λ (o : Option (List ℕ)). Adds held o (text_of_log waits.run.model waits.run.log)) (sym same) waits.written)
 
-play_lacks : (turns : ℕ) (kept : Option (Vec ℕ Global)) (start place middle : Place) (input : List ℕ) (source_left held opened written now : Option (List ℕ)) (m : Model) (mid new : State) → IsBegun (fresh_reader line_limit) (Some input) kept start.reader start.ahead → IsKeptModel kept m
-    → Adds held opened (text_from m 0 (opening (program_options turns) ∷ [])) → AnswersMessages (fresh_state turns m) start opened mid middle written → LacksMemoryForNext mid middle written new place now → Legal new.model new.log → ahead place.reader.held source_left ≡ place.ahead
-    → IsOutOfMemory (solo_run turns) input source_left held now
+play_lacks : {R : Rule} (turns : ℕ) (kept : Option (Vec ℕ Global)) (start place middle : Place) (input : List ℕ) (source_left held opened written now : Option (List ℕ)) (m : Model) (mid new : State) → IsBegun (fresh_reader line_limit) (Some input) kept start.reader start.ahead → IsKeptModel kept m
+    → Adds held opened (text_from m 0 (opening (program_options turns) ∷ [])) → AnswersMessages R (fresh_state turns m) start opened mid middle written → LacksMemoryForNext R mid middle written new place now → Legal new.model new.log → ahead place.reader.held source_left ≡ place.ahead
+    → IsOutOfMemory (run_by R turns) input source_left held now
 play_lacks turns kept start place middle input source_left held opened written now m mid new begun text first plays (unread same_state same) legal behind =
     waits_whole turns input source_left held written now (run_waited turns kept start middle input held opened written m mid begun text first plays (subst (λ (s : State). Legal s.model s.log) same_state legal)) same
 play_lacks turns kept start place middle input source_left held opened written now m mid new begun text first plays (unheard before same) legal behind =
@@ -246,8 +246,8 @@ play_lacks turns kept start place middle input source_left held opened written n
     in_entry b.run b.read b.cut
 
 -- memory ran out
-solo_memory : (turns : ℕ) (kept : Option (Vec ℕ Global)) (start place : Place) (input : List ℕ) (source_left held now : Option (List ℕ)) (m : Model) → IsBegun (fresh_reader line_limit) (Some input) kept start.reader start.ahead → IsKeptModel kept m
-    → ModelBreaks halt.Memory turns m start held place now → ahead place.reader.held source_left ≡ place.ahead → IsOutOfMemory (solo_run turns) input source_left held now
+solo_memory : {R : Rule} (turns : ℕ) (kept : Option (Vec ℕ Global)) (start place : Place) (input : List ℕ) (source_left held now : Option (List ℕ)) (m : Model) → IsBegun (fresh_reader line_limit) (Some input) kept start.reader start.ahead → IsKeptModel kept m
+    → ModelBreaks R halt.Memory turns m start held place now → ahead place.reader.held source_left ≡ place.ahead → IsOutOfMemory (run_by R turns) input source_left held now
 solo_memory turns kept start place input source_left held now m begun text (unopened is same) behind = nothing same
 solo_memory turns kept start place input source_left held now m begun text (in_opening legal front same) behind =
     in_entry (run_opened turns kept start input m begun text legal) (opened_read kept start place input source_left begun same behind) (cut_opening turns m held now front)
@@ -257,18 +257,18 @@ solo_memory turns kept start place input source_left held now m begun text (in_p
 
 -- ---- how a run of one thread ends
 
-pub ends_solo : (turns : ℕ) → EndsOver (solo_run turns) (ModelRuns turns)
-ends_solo turns kept start place input source_left held now m (Ok u) begun text run behind =
+pub ends_solo : (R : Rule) (turns : ℕ) → EndsOver (run_by R turns) (ModelRuns R turns)
+ends_solo R turns kept start place input source_left held now m (Ok u) begun text run behind =
     let k = known line_limit total_limit line_limit total_limit (Some input) input begun.lines start.reader.room start.ahead refl refl refl begun.took.gave in
     done_ends turns input begun.words k.rest begun.lines m start place source_left held run.opened now run.new begun.head k.gave k.is (behind_text kept start (Some input) begun) (text begun.words begun.keeps) run.first run.playing run.legal behind
-ends_solo turns kept start place input source_left held now m (Err halt.Limit) begun text run behind =
+ends_solo R turns kept start place input source_left held now m (Err halt.Limit) begun text run behind =
     let k = known line_limit total_limit line_limit total_limit (Some input) input begun.lines start.reader.room start.ahead refl refl refl begun.took.gave in
     past_limit turns input source_left held now (stopped_ends halt.Limit turns input begun.words k.rest begun.lines m start place source_left held run.opened now run.new begun.head k.gave k.is (behind_text kept start (Some input) begun) (text begun.words begun.keeps) run.first run.playing run.legal behind)
-ends_solo turns kept start place input source_left held now m (Err halt.Read) begun text run behind =
+ends_solo R turns kept start place input source_left held now m (Err halt.Read) begun text run behind =
     let k = known line_limit total_limit line_limit total_limit (Some input) input begun.lines start.reader.room start.ahead refl refl refl begun.took.gave in
     read_fault turns input source_left held now (stopped_ends halt.Read turns input begun.words k.rest begun.lines m start place source_left held run.opened now run.new begun.head k.gave k.is (behind_text kept start (Some input) begun) (text begun.words begun.keeps) run.first run.playing run.legal behind)
-ends_solo turns kept start place input source_left held now m (Err halt.Full) begun text run behind =
+ends_solo R turns kept start place input source_left held now m (Err halt.Full) begun text run behind =
     let k = known line_limit total_limit line_limit total_limit (Some input) input begun.lines start.reader.room start.ahead refl refl refl begun.took.gave in
     full_ends turns input begun.words k.rest begun.lines m start place source_left held run.opened now run.new begun.head k.gave k.is (behind_text kept start (Some input) begun) (text begun.words begun.keeps) run.first run.playing run.legal behind
-ends_solo turns kept start place input source_left held now m (Err halt.Write) begun text run behind = solo_short turns kept start place input source_left held now m begun text run behind
-ends_solo turns kept start place input source_left held now m (Err halt.Memory) begun text run behind = solo_memory turns kept start place input source_left held now m begun text run behind
+ends_solo R turns kept start place input source_left held now m (Err halt.Write) begun text run behind = solo_short turns kept start place input source_left held now m begun text run behind
+ends_solo R turns kept start place input source_left held now m (Err halt.Memory) begun text run behind = solo_memory turns kept start place input source_left held now m begun text run behind

@@ -10,7 +10,7 @@ use Rattle.pl_entry.specs.declared.entry.Entry.{Entry}
 use Rattle.pl_input.specs.Words.{model_text_of, messages_of, split_of}
 use Rattle.pl_machine.specs.World.{World, fresh_world}
 use Rattle.pl_machine.specs.Legal.{Legal, opening, world_from, world_of}
-use Rattle.pl_main.specs.Solo.{solo_from, Solo}
+use Rattle.pl_main.specs.Solo.{Rule, follows, FollowsAll}
 use Rattle.pl_machine.specs.Finished.{inputs_of}
 use Rattle.pl_machine.specs.Sound.{State}
 use Rattle.pl_driver.specs.Rounds.{SameRun}
@@ -35,45 +35,45 @@ use Rattle.pl_main.proofs.Playing.{inputs_append, joined}
 use Rattle.pl_main.proofs.LastLines.{BeginsAt, GotNext, all_messages, behind_text, ends_all, ends_behind, ends_last, ends_read, ends_some, ends_used_up, got_next, has_read, read_to}
 use Rattle.pl_main.specs.Endings.{IsDone, IsFull, IsPastLimit, IsReadFault, WaitsBehind}
 use Rattle.pl_main.proofs.Heading.{shows_limit, shows_none, split_is}
-use Rattle.pl_main.specs.RunKinds.{solo_run}
+use Rattle.pl_main.specs.RunKinds.{run_by}
 use Rattle.pl_machine.proofs.ShortLogs.{log_is_short}
 
 -- ---- a run over a model
 
-pub run_stops : (turns : ℕ) (m : Model) (start place : Place) (held opened now : Option (List ℕ)) (e : Halt) (new : State)
-    → Adds held opened (text_from m 0 (opening (program_options turns) ∷ [])) → AnswersAllOrStops (fresh_state turns m) start opened (Err e) new place now → Legal new.model new.log → ModelRuns turns m start held (Err e) place now
-run_stops turns m start place held opened now halt.Limit new first playing legal = record { opened = opened; new = new; first = first; playing = playing; legal = legal }
-run_stops turns m start place held opened now halt.Full new first playing legal = record { opened = opened; new = new; first = first; playing = playing; legal = legal }
-run_stops turns m start place held opened now halt.Read new first playing legal = record { opened = opened; new = new; first = first; playing = playing; legal = legal }
-run_stops turns m start place held opened now halt.Write new first playing legal = in_play (record { opened = opened; new = new; first = first; playing = playing; legal = legal })
-run_stops turns m start place held opened now halt.Memory new first playing legal = in_play (record { opened = opened; new = new; first = first; playing = playing; legal = legal })
+pub run_stops : (R : Rule) (turns : ℕ) (m : Model) (start place : Place) (held opened now : Option (List ℕ)) (e : Halt) (new : State)
+    → Adds held opened (text_from m 0 (opening (program_options turns) ∷ [])) → AnswersAllOrStops R (fresh_state turns m) start opened (Err e) new place now → Legal new.model new.log → ModelRuns R turns m start held (Err e) place now
+run_stops R turns m start place held opened now halt.Limit new first playing legal = record { opened = opened; new = new; first = first; playing = playing; legal = legal }
+run_stops R turns m start place held opened now halt.Full new first playing legal = record { opened = opened; new = new; first = first; playing = playing; legal = legal }
+run_stops R turns m start place held opened now halt.Read new first playing legal = record { opened = opened; new = new; first = first; playing = playing; legal = legal }
+run_stops R turns m start place held opened now halt.Write new first playing legal = in_play (record { opened = opened; new = new; first = first; playing = playing; legal = legal })
+run_stops R turns m start place held opened now halt.Memory new first playing legal = in_play (record { opened = opened; new = new; first = first; playing = playing; legal = legal })
 
 -- memory was wanting for the machine
-pub run_unopened : (turns : ℕ) (m : Model) (start : Place) (held : Option (List ℕ)) → ModelRuns turns m start held (Err halt.Memory) start held
+pub run_unopened : {R : Rule} (turns : ℕ) (m : Model) (start : Place) (held : Option (List ℕ)) → ModelRuns R turns m start held (Err halt.Memory) start held
 run_unopened turns m start held = unopened refl refl
 
 -- the open entry's line was not written whole
-pub run_unwritten : (turns : ℕ) (m : Model) (start : Place) (held now : Option (List ℕ)) (e : Halt) (faults later : ℕ) → Legal m (opening (program_options turns) ∷ []) → AppendsFront held now (text_from m 0 (opening (program_options turns) ∷ []))
-    → WriteStops faults later e → ModelRuns turns m start held (Err e) start now
-run_unwritten turns m start held now halt.Write faults later legal front cause = in_opening legal front refl
-run_unwritten turns m start held now halt.Memory faults later legal front cause = in_opening legal front refl
-run_unwritten turns m start held now halt.Read faults later legal front cause = absurd cause
-run_unwritten turns m start held now halt.Limit faults later legal front cause = absurd cause
-run_unwritten turns m start held now halt.Full faults later legal front cause = absurd cause
+pub run_unwritten : (R : Rule) (turns : ℕ) (m : Model) (start : Place) (held now : Option (List ℕ)) (e : Halt) (faults later : ℕ) → Legal m (opening (program_options turns) ∷ []) → AppendsFront held now (text_from m 0 (opening (program_options turns) ∷ []))
+    → WriteStops faults later e → ModelRuns R turns m start held (Err e) start now
+run_unwritten R turns m start held now halt.Write faults later legal front cause = in_opening legal front refl
+run_unwritten R turns m start held now halt.Memory faults later legal front cause = in_opening legal front refl
+run_unwritten R turns m start held now halt.Read faults later legal front cause = absurd cause
+run_unwritten R turns m start held now halt.Limit faults later legal front cause = absurd cause
+run_unwritten R turns m start held now halt.Full faults later legal front cause = absurd cause
 
 -- ---- what was logged
 
-pub record IsLogged (turns : ℕ) (m : Model) (new : State) (held now : Option (List ℕ)) (entries : List Entry) : Type 0 where
+pub record IsLogged (R : Rule) (turns : ℕ) (m : Model) (new : State) (held now : Option (List ℕ)) (entries : List Entry) : Type 0 where
   pub legal : Legal m (opening (program_options turns) ∷ entries)
-  pub solo : Solo m (opening (program_options turns) ∷ entries)
+  pub solo : FollowsAll R m (opening (program_options turns) ∷ entries)
   pub world : new.world ≡ world_of m (opening (program_options turns) ∷ entries)
   pub text : Adds held now (text_of_log m (opening (program_options turns) ∷ entries))
 
-pub logged : (turns : ℕ) (m : Model) (new : State) (held opened now : Option (List ℕ)) (entries : List Entry)
+pub logged : {R : Rule} (turns : ℕ) (m : Model) (new : State) (held opened now : Option (List ℕ)) (entries : List Entry)
     → Legal new.model new.log → SameRun (fresh_state turns m) new → new.log ≡ opening (program_options turns) ∷ entries
-    → solo_from (fresh_world m (program_options turns)) entries → new.world ≡ world_from (fresh_world m (program_options turns)) entries
-    → Adds held opened (text_from m 0 (opening (program_options turns) ∷ [])) → Adds opened now (text_from m 1 entries) → IsLogged turns m new held now entries
-unfolding Solo world_of
+    → follows R (fresh_world m (program_options turns)) entries → new.world ≡ world_from (fresh_world m (program_options turns)) entries
+    → Adds held opened (text_from m 0 (opening (program_options turns) ∷ [])) → Adds opened now (text_from m 1 entries) → IsLogged R turns m new held now entries
+unfolding FollowsAll world_of
 logged turns m new held opened now entries legal same log solo world first text = record {
   legal = subst (λ (x : Model). Legal x (opening (program_options turns) ∷ entries)) same.model (subst (λ (l : List Entry). Legal new.model l) log legal);
   solo = solo;
@@ -83,9 +83,9 @@ logged turns m new held opened now entries legal same log solo world first text 
 
 -- ---- how runs end
 
-abbrev pub done_ends : (turns : ℕ) (input words heads_rest : List ℕ) (heads : List (List ℕ)) (m : Model) (start place : Place) (source_left held opened now : Option (List ℕ)) (new : State)
+abbrev pub done_ends : {R : Rule} (turns : ℕ) (input words heads_rest : List ℕ) (heads : List (List ℕ)) (m : Model) (start place : Place) (source_left held opened now : Option (List ℕ)) (new : State)
     → IsHead heads words → GivesLines line_limit total_limit input heads start.reader.room heads_rest → start.ahead ≡ Some heads_rest → BeginsAt start → IsModelText words m
-    → Adds held opened (text_from m 0 (opening (program_options turns) ∷ [])) → AnswersAll (fresh_state turns m) start opened new place now → Legal new.model new.log → ahead place.reader.held source_left ≡ place.ahead → IsDone (solo_run turns) input source_left held now
+    → Adds held opened (text_from m 0 (opening (program_options turns) ∷ [])) → AnswersAll R (fresh_state turns m) start opened new place now → Legal new.model new.log → ahead place.reader.held source_left ≡ place.ahead → IsDone (run_by R turns) input source_left held now
 done_ends turns input words heads_rest heads m start place source_left held opened now new head gave is_ahead begins accepted first plays legal behind =
     let k = known start.reader.limit start.reader.room line_limit start.reader.room start.ahead heads_rest plays.lines place.reader.room place.ahead begins.limit refl is_ahead plays.gave in
     let ends = subst (λ (a : Option (List ℕ)). EndsAll (Some heads_rest) a plays.lines (inputs_of plays.entries)) k.is (subst (λ (b : Option (List ℕ)). EndsAll b place.ahead plays.lines (inputs_of plays.entries)) is_ahead plays.messages) in
@@ -123,7 +123,7 @@ done_ends turns input words heads_rest heads m start place source_left held open
     }
 
 -- the lines behind which no line was given
-pub record IsStopped (e : Halt) (turns : ℕ) (input : List ℕ) (source_left held now : Option (List ℕ)) : Type 0 where
+pub record IsStopped (R : Rule) (e : Halt) (turns : ℕ) (input : List ℕ) (source_left held now : Option (List ℕ)) : Type 0 where
   pub lines : List (List ℕ)
   pub left : ℕ
   pub rest : List ℕ
@@ -131,17 +131,17 @@ pub record IsStopped (e : Halt) (turns : ℕ) (input : List ℕ) (source_left he
   pub why : StopsBy e line_limit left (Some rest)
   pub source : e ≡ halt.Read → ShowsNoLine line_limit left rest source_left
   pub past : e ≡ halt.Limit → ShowsLimit line_limit left rest source_left
-  pub asked : ((model_text_of lines ≡ None) × (now ≡ held)) ⊎ WaitsBehind (solo_run turns) lines held now
+  pub asked : ((model_text_of lines ≡ None) × (now ≡ held)) ⊎ WaitsBehind (run_by R turns) lines held now
 
-pub past_limit : (turns : ℕ) (input : List ℕ) (source_left held now : Option (List ℕ)) → IsStopped halt.Limit turns input source_left held now → IsPastLimit (solo_run turns) input source_left held now
+pub past_limit : {R : Rule} (turns : ℕ) (input : List ℕ) (source_left held now : Option (List ℕ)) → IsStopped R halt.Limit turns input source_left held now → IsPastLimit (run_by R turns) input source_left held now
 past_limit turns input source_left held now s = record { lines = s.lines; left = s.left; rest = s.rest; gave = s.gave; why = s.why; source = s.past refl; asked = s.asked }
 
-pub read_fault : (turns : ℕ) (input : List ℕ) (source_left held now : Option (List ℕ)) → IsStopped halt.Read turns input source_left held now → IsReadFault (solo_run turns) input source_left held now
+pub read_fault : {R : Rule} (turns : ℕ) (input : List ℕ) (source_left held now : Option (List ℕ)) → IsStopped R halt.Read turns input source_left held now → IsReadFault (run_by R turns) input source_left held now
 read_fault turns input source_left held now s = record { lines = s.lines; left = s.left; rest = s.rest; gave = s.gave; source = s.source refl; asked = s.asked }
 
-pub stopped_ends : (e : Halt) (turns : ℕ) (input words heads_rest : List ℕ) (heads : List (List ℕ)) (m : Model) (start place : Place) (source_left held opened now : Option (List ℕ)) (new : State)
+pub stopped_ends : {R : Rule} (e : Halt) (turns : ℕ) (input words heads_rest : List ℕ) (heads : List (List ℕ)) (m : Model) (start place : Place) (source_left held opened now : Option (List ℕ)) (new : State)
     → IsHead heads words → GivesLines line_limit total_limit input heads start.reader.room heads_rest → start.ahead ≡ Some heads_rest → BeginsAt start → IsModelText words m
-    → Adds held opened (text_from m 0 (opening (program_options turns) ∷ [])) → AnswersUntilHalt e (fresh_state turns m) start opened new place now → Legal new.model new.log → ahead place.reader.held source_left ≡ place.ahead → IsStopped e turns input source_left held now
+    → Adds held opened (text_from m 0 (opening (program_options turns) ∷ [])) → AnswersUntilHalt R e (fresh_state turns m) start opened new place now → Legal new.model new.log → ahead place.reader.held source_left ≡ place.ahead → IsStopped R e turns input source_left held now
 stopped_ends e turns input words heads_rest heads m start place source_left held opened now new head gave is_ahead begins accepted first plays legal behind =
     let k = known start.reader.limit start.reader.room line_limit start.reader.room start.ahead heads_rest plays.lines plays.left plays.rest begins.limit refl is_ahead plays.gave in
     let both = head_then heads words plays.lines head in
@@ -175,10 +175,10 @@ stopped_ends e turns input words heads_rest heads m start place source_left held
 -- ---- a log that is full
 
 -- what the log of a filled run holds
-record IsFilled (turns : ℕ) (m : Model) (new : State) (opened now : Option (List ℕ)) (before : List (Option (List ℕ))) (next : Option (List ℕ)) : Type 0 where
+record IsFilled (R : Rule) (turns : ℕ) (m : Model) (new : State) (opened now : Option (List ℕ)) (before : List (Option (List ℕ))) (next : Option (List ℕ)) : Type 0 where
   entries : List Entry
   log : new.log ≡ opening (program_options turns) ∷ entries
-  solo : solo_from (fresh_world m (program_options turns)) entries
+  solo : follows R (fresh_world m (program_options turns)) entries
   world : new.world ≡ world_from (fresh_world m (program_options turns)) entries
   same : SameRun (fresh_state turns m) new
   going : new.world.done ≡ false
@@ -186,8 +186,8 @@ record IsFilled (turns : ℕ) (m : Model) (new : State) (opened now : Option (Li
   text : Adds opened now (text_from m 1 entries)
   due : ((new.world.closed ≡ false) × (inputs_of entries ≡ before ++ next ∷ [])) ⊎ ((new.world.closed ≡ true) × (inputs_of entries ≡ before))
 
-filled : (turns : ℕ) (m : Model) (start place behind : Place) (opened written now : Option (List ℕ)) (mid new : State) (input : Option (List ℕ))
-    → (plays : AnswersMessages (fresh_state turns m) start opened mid place written) → FillsUp mid input new → Adds written now (text_from mid.model (length mid.log) (drop (length mid.log) new.log)) → IsFilled turns m new opened now (inputs_of plays.entries) input
+filled : {R : Rule} (turns : ℕ) (m : Model) (start place behind : Place) (opened written now : Option (List ℕ)) (mid new : State) (input : Option (List ℕ))
+    → (plays : AnswersMessages R (fresh_state turns m) start opened mid place written) → FillsUp R mid input new → Adds written now (text_from mid.model (length mid.log) (drop (length mid.log) new.log)) → IsFilled R turns m new opened now (inputs_of plays.entries) input
 filled turns m start place behind opened written now mid new input plays (at_once full is) text =
     let j = joined (fresh_state turns m) mid new opened written now plays.entries [] plays.log plays.solo plays.world plays.same plays.written
     (ap (λ (s : State). s.log) is ∙ sym (append-nil mid.log)) tt (ap (λ (s : State). s.world) is)
@@ -255,9 +255,9 @@ leaves_more m log input heads lines words room mid heads_rest bytes before next 
       due = inr (both.0, (next, (refl, (got.all.more, refl))));
     }
 
-pub full_ends : (turns : ℕ) (input words heads_rest : List ℕ) (heads : List (List ℕ)) (m : Model) (start place : Place) (source_left held opened now : Option (List ℕ)) (new : State)
+pub full_ends : {R : Rule} (turns : ℕ) (input words heads_rest : List ℕ) (heads : List (List ℕ)) (m : Model) (start place : Place) (source_left held opened now : Option (List ℕ)) (new : State)
     → IsHead heads words → GivesLines line_limit total_limit input heads start.reader.room heads_rest → start.ahead ≡ Some heads_rest → BeginsAt start → IsModelText words m
-    → Adds held opened (text_from m 0 (opening (program_options turns) ∷ [])) → AnswersUntilFull (fresh_state turns m) start opened new place now → Legal new.model new.log → ahead place.reader.held source_left ≡ place.ahead → IsFull (solo_run turns) input source_left held now
+    → Adds held opened (text_from m 0 (opening (program_options turns) ∷ [])) → AnswersUntilFull R (fresh_state turns m) start opened new place now → Legal new.model new.log → ahead place.reader.held source_left ≡ place.ahead → IsFull (run_by R turns) input source_left held now
 full_ends turns input words heads_rest heads m start place source_left held opened now new head gave is_ahead begins accepted first plays legal behind =
     let f = filled turns m start plays.middle place opened plays.written now plays.waiting new (line_in plays.step.message) plays.plays plays.step.fills plays.step.written in
     let split = split_is input heads words (lines_of heads_rest) head (gave_lines line_limit total_limit input heads start.reader.room heads_rest gave) in
@@ -285,14 +285,14 @@ full_ends turns input words heads_rest heads m start place source_left held open
     }
 
 -- a run that is done, with the log and the world that its machine is left with
-pub record IsDoneWith (turns : ℕ) (input : List ℕ) (source_left : Option (List ℕ)) (new : State) : Type 0 where
-  pub done : IsDone (solo_run turns) input source_left None None
+pub record IsDoneWith (R : Rule) (turns : ℕ) (input : List ℕ) (source_left : Option (List ℕ)) (new : State) : Type 0 where
+  pub done : IsDone (run_by R turns) input source_left None None
   pub log : new.log ≡ done.log
   pub world : new.world ≡ world_of done.model done.log
 
-pub done_with : (turns : ℕ) (kept : Option (Vec ℕ Global)) (start place : Place) (input : List ℕ) (source_left : Option (List ℕ)) (m : Model) (new : State)
-    → IsBegun (fresh_reader line_limit) (Some input) kept start.reader start.ahead → IsKeptModel kept m → AnswersAll (fresh_state turns m) start None new place None → Legal new.model new.log → ahead place.reader.held source_left ≡ place.ahead
-    → IsDoneWith turns input source_left new
+pub done_with : {R : Rule} (turns : ℕ) (kept : Option (Vec ℕ Global)) (start place : Place) (input : List ℕ) (source_left : Option (List ℕ)) (m : Model) (new : State)
+    → IsBegun (fresh_reader line_limit) (Some input) kept start.reader start.ahead → IsKeptModel kept m → AnswersAll R (fresh_state turns m) start None new place None → Legal new.model new.log → ahead place.reader.held source_left ≡ place.ahead
+    → IsDoneWith R turns input source_left new
 done_with turns kept start place input source_left m new begun text plays legal behind =
     let k = known line_limit total_limit line_limit total_limit (Some input) input begun.lines start.reader.room start.ahead refl refl refl begun.took.gave in
     let l = logged turns m new None None None plays.entries legal plays.same plays.log plays.solo plays.world tt plays.written in

@@ -1,4 +1,3 @@
-pub mod Leasts
 pub mod Telling
 pub mod Playing
 pub mod Heading
@@ -19,3 +18,4 @@ pub mod OneLog
 pub mod Causes
 pub mod Apart
 pub mod Completing
+pub mod AboutAhead

@@ -13,7 +13,7 @@ use Rattle.pl_entry.specs.declared.entry.Entry.{Entry}
 use Rattle.pl_machine.specs.World.{World, fresh_world}
 use Rattle.pl_machine.specs.Step.{is_enabled, reply_of, after}
 use Rattle.pl_machine.specs.Legal.{MayFollow, legal_from, world_from, Legal, IsOpenedRun, options_in, options_of, no_options, entries_behind, world_of}
-use Rattle.pl_main.specs.Solo.{solo_event, IsSoloEvent, solo_from, Solo}
+use Rattle.pl_main.specs.Solo.{solo_event, IsSoloEvent, FollowsAll, solo_from, Solo}
 use Rattle.pl_machine.specs.Finished.{input_in, inputs_of}
 use Rattle.pl_pair.proofs.Ending.{legal_behind}
 use Rattle.pl_main.proofs.Playing.{inputs_append}
@@ -144,7 +144,7 @@ pub record IsOpened (m : Model) (o : Options) (log : List Entry) : Type 0 where
   pub world : world_of m log ≡ world_from (fresh_world m o) (entries_behind log)
 
 opened_by : (m : Model) (first : Entry) (entries : List Entry) (o : Option Options) → options_in first.event ≡ o → IsOpenedRun m o first.reply entries → Solo m (first ∷ entries) → IsOpened m (unwrap_or o no_options) (first ∷ entries)
-unfolding Solo world_of
+unfolding FollowsAll world_of
 opened_by m first entries None is run solo = absurd run
 opened_by m first entries (Some o) is run solo = record {
   steps = run.steps;

@@ -12,7 +12,7 @@ use Rattle.pl_machine.specs.World.{World}
 use Rattle.pl_machine.specs.Step.{after}
 use Rattle.pl_entry.specs.Bounds.{IsMessageLine}
 use Rattle.pl_machine.specs.Legal.{Legal, world_from}
-use Rattle.pl_main.specs.Solo.{solo_from}
+use Rattle.pl_main.specs.Solo.{Rule, follows}
 use Rattle.pl_machine.specs.Finished.{inputs_of, input_in}
 use Rattle.pl_machine.specs.Sound.{State}
 use Rattle.pl_machine.proofs.Runs.{world_append}
@@ -45,66 +45,66 @@ input_fits start place (Some message) (Some line) limit is bytes gets =
 -- ---- a message whose lines were not written whole
 
 -- a log that grew was not full when the message came
-grown : (old new : State) (input : Option (List ℕ)) → FillsUp old input new → length old.log < length new.log → AnswersMessageInPart old input new
+grown : {R : Rule} (old new : State) (input : Option (List ℕ)) → FillsUp R old input new → length old.log < length new.log → AnswersMessageInPart R old input new
 grown old new input (at_once full is) more = absurd (let same : length new.log ≡ length old.log = ap (λ (s : State). length s.log) is in omega (arith, more, same))
 grown old new input (within told) more = told
 
-cut_off : (old new : State) (input held now : Option (List ℕ)) (e : Halt) (faults later : ℕ) → AnswersMessage old input new ⊎ AnswersMessageInPart old input new → AppendsFront held now (text_from old.model (length old.log) (drop (length old.log) new.log)) → WriteStops faults later e → Answering old input held (Err e) new now
+cut_off : {R : Rule} (old new : State) (input held now : Option (List ℕ)) (e : Halt) (faults later : ℕ) → AnswersMessage R old input new ⊎ AnswersMessageInPart R old input new → AppendsFront held now (text_from old.model (length old.log) (drop (length old.log) new.log)) → WriteStops faults later e → Answering R old input held (Err e) new now
 cut_off old new input held now halt.Write faults later told front cause = record { told = told; written = front }
 cut_off old new input held now halt.Memory faults later told front cause = told_in_part (record { told = told; written = front })
 cut_off old new input held now halt.Read faults later told front cause = absurd cause
 cut_off old new input held now halt.Limit faults later told front cause = absurd cause
 cut_off old new input held now halt.Full faults later told front cause = absurd cause
 
-pub told_cut : (old new : State) (input held now : Option (List ℕ)) (e : Halt) (from faults later : ℕ) → AnswersMessage old input new → from ≡ length old.log → AppendsFront held now (text_from new.model from (drop from new.log)) → WriteStops faults later e → Answering old input held (Err e) new now
+pub told_cut : {R : Rule} (old new : State) (input held now : Option (List ℕ)) (e : Halt) (from faults later : ℕ) → AnswersMessage R old input new → from ≡ length old.log → AppendsFront held now (text_from new.model from (drop from new.log)) → WriteStops faults later e → Answering R old input held (Err e) new now
 told_cut old new input held now e from faults later told is front cause =
     cut_off old new input held now e faults later (inl told) (subst (λ (m : Model). AppendsFront held now (text_from m (length old.log) (drop (length old.log) new.log))) told.same.model (subst (λ n. AppendsFront held now (text_from new.model n (drop n new.log))) is front)) cause
 
-pub filled_cut : (old new : State) (input held now : Option (List ℕ)) (e : Halt) (from faults later : ℕ) → FillsUp old input new → from ≡ length old.log → from < length new.log → AppendsFront held now (text_from new.model from (drop from new.log)) → WriteStops faults later e
-    → Answering old input held (Err e) new now
+pub filled_cut : {R : Rule} (old new : State) (input held now : Option (List ℕ)) (e : Halt) (from faults later : ℕ) → FillsUp R old input new → from ≡ length old.log → from < length new.log → AppendsFront held now (text_from new.model from (drop from new.log)) → WriteStops faults later e
+    → Answering R old input held (Err e) new now
 filled_cut old new input held now e from faults later fills is more front cause =
     let told = grown old new input fills (omega (arith, is, more)) in
     cut_off old new input held now e faults later (inr told) (subst (λ (m : Model). AppendsFront held now (text_from m (length old.log) (drop (length old.log) new.log))) told.same.model (subst (λ n. AppendsFront held now (text_from new.model n (drop n new.log))) is front)) cause
 
 -- of a message that came to a full log nothing is to be written
-pub filled_before : (old new : State) (input held : Option (List ℕ)) (from : ℕ) → FillsUp old input new → from ≡ length old.log → length new.log ≤ from → Answering old input held (Err halt.Full) new held
+pub filled_before : {R : Rule} (old new : State) (input held : Option (List ℕ)) (from : ℕ) → FillsUp R old input new → from ≡ length old.log → length new.log ≤ from → Answering R old input held (Err halt.Full) new held
 filled_before old new input held from fills is none =
     let fresh : drop (length old.log) new.log ≡ [] = drop_all (length old.log) new.log (omega (arith, is, none)) in
     record { fills = fills; written = subst (λ (es : List Entry). Adds held held (text_from old.model (length old.log) es)) (sym fresh) (some_held held) }
 
-pub not_told : (old new : State) (input held : Option (List ℕ)) → Legal old.model old.log → Answering old input held (Err halt.Memory) new held
+pub not_told : {R : Rule} (old new : State) (input held : Option (List ℕ)) → Legal old.model old.log → Answering R old input held (Err halt.Memory) new held
 not_told old new input held legal = untold legal refl
 
 -- ---- a message that is read, and then answered
 
-pub step_on : (old new : State) (start place : Place) (held now : Option (List ℕ)) (message : Option NumberedLine) → MessageGives start.reader start.ahead (Ok message) place.reader place.ahead
-    → Answered old (line_in message) held new now → AnswersNext old start held new place now
+pub step_on : {R : Rule} (old new : State) (start place : Place) (held now : Option (List ℕ)) (message : Option NumberedLine) → MessageGives start.reader start.ahead (Ok message) place.reader place.ahead
+    → Answered R old (line_in message) held new now → AnswersNext R old start held new place now
 step_on old new start place held now message gets answered = record { message = message; gets = gets; told = answered.told; written = answered.written }
 
-pub step_fills : (old new : State) (start place : Place) (held now : Option (List ℕ)) (message : Option NumberedLine) → MessageGives start.reader start.ahead (Ok message) place.reader place.ahead
-    → Filled old (line_in message) held new now → AnswersNextUntilFull old start held new place now
+pub step_fills : {R : Rule} (old new : State) (start place : Place) (held now : Option (List ℕ)) (message : Option NumberedLine) → MessageGives start.reader start.ahead (Ok message) place.reader place.ahead
+    → Filled R old (line_in message) held new now → AnswersNextUntilFull R old start held new place now
 step_fills old new start place held now message gets filled = record { message = message; gets = gets; fills = filled.fills; written = filled.written }
 
-step_by : (old new : State) (start place : Place) (held now : Option (List ℕ)) (message : Option NumberedLine) (r : Result Bool Halt) → MessageGives start.reader start.ahead (Ok message) place.reader place.ahead
-    → Answering old (line_in message) held r new now → AnswersNextOrStops old start held r new place now
-step_by old new start place held now message (Ok done) gets answers = (step_on old new start place held now message gets answers.0, answers.1)
-step_by old new start place held now message (Err halt.Full) gets answers = step_fills old new start place held now message gets answers
-step_by old new start place held now message (Err halt.Limit) gets answers = absurd answers
-step_by old new start place held now message (Err halt.Read) gets answers = absurd answers
-step_by old new start place held now message (Err halt.Write) gets answers = record { message = message; gets = gets; answered = answers }
-step_by old new start place held now message (Err halt.Memory) gets (untold legal silent) = unheard legal silent
-step_by old new start place held now message (Err halt.Memory) gets (told_in_part answered) = unwritten (record { message = message; gets = gets; answered = answered })
+step_by : (R : Rule) (old new : State) (start place : Place) (held now : Option (List ℕ)) (message : Option NumberedLine) (r : Result Bool Halt) → MessageGives start.reader start.ahead (Ok message) place.reader place.ahead
+    → Answering R old (line_in message) held r new now → AnswersNextOrStops R old start held r new place now
+step_by R old new start place held now message (Ok done) gets answers = (step_on old new start place held now message gets answers.0, answers.1)
+step_by R old new start place held now message (Err halt.Full) gets answers = step_fills old new start place held now message gets answers
+step_by R old new start place held now message (Err halt.Limit) gets answers = absurd answers
+step_by R old new start place held now message (Err halt.Read) gets answers = absurd answers
+step_by R old new start place held now message (Err halt.Write) gets answers = record { message = message; gets = gets; answered = answers }
+step_by R old new start place held now message (Err halt.Memory) gets (untold legal silent) = unheard legal silent
+step_by R old new start place held now message (Err halt.Memory) gets (told_in_part answered) = unwritten (record { message = message; gets = gets; answered = answered })
 
-pub step_answers : (old new : State) (start place : Place) (held now line : Option (List ℕ)) (message : Option NumberedLine) (r : Result Bool Halt) → MessageGives start.reader start.ahead (Ok message) place.reader place.ahead
-    → line ≡ line_in message → Answering old line held r new now → AnswersNextOrStops old start held r new place now
-step_answers old new start place held now line message r gets is answers = step_by old new start place held now message r gets (subst (λ (l : Option (List ℕ)). Answering old l held r new now) is answers)
+pub step_answers : (R : Rule) (old new : State) (start place : Place) (held now line : Option (List ℕ)) (message : Option NumberedLine) (r : Result Bool Halt) → MessageGives start.reader start.ahead (Ok message) place.reader place.ahead
+    → line ≡ line_in message → Answering R old line held r new now → AnswersNextOrStops R old start held r new place now
+step_answers R old new start place held now line message r gets is answers = step_by R old new start place held now message r gets (subst (λ (l : Option (List ℕ)). Answering R old l held r new now) is answers)
 
-pub step_stops : (old : State) (start place : Place) (held : Option (List ℕ)) (f : LineFault) (e : Halt) → GetsFault start.reader start.ahead f place.reader place.ahead → HaltFor f e → AnswersNextOrStops old start held (Err e) old place held
-step_stops old start place held f halt.Limit gets is = record { reason = f; fault = gets; halts = is; same = refl; written = refl }
-step_stops old start place held f halt.Read gets is = record { reason = f; fault = gets; halts = is; same = refl; written = refl }
-step_stops old start place held f halt.Full gets is = absurd (never_full f is)
-step_stops old start place held f halt.Write gets is = absurd (never_writes f is)
-step_stops old start place held f halt.Memory gets is = unread refl refl
+pub step_stops : (R : Rule) (old : State) (start place : Place) (held : Option (List ℕ)) (f : LineFault) (e : Halt) → GetsFault start.reader start.ahead f place.reader place.ahead → HaltFor f e → AnswersNextOrStops R old start held (Err e) old place held
+step_stops R old start place held f halt.Limit gets is = record { reason = f; fault = gets; halts = is; same = refl; written = refl }
+step_stops R old start place held f halt.Read gets is = record { reason = f; fault = gets; halts = is; same = refl; written = refl }
+step_stops R old start place held f halt.Full gets is = absurd (never_full f is)
+step_stops R old start place held f halt.Write gets is = absurd (never_writes f is)
+step_stops R old start place held f halt.Memory gets is = unread refl refl
 
 -- ---- messages of lines
 
@@ -133,9 +133,9 @@ messages_append (line ∷ lines) more ms e =
 
 -- ---- entries that go on
 
-solo_append : (w : World) (xs ys : List Entry) → solo_from w xs → solo_from (world_from w xs) ys → solo_from w (xs ++ ys)
-solo_append w [] ys first second = second
-solo_append w (x ∷ xs) ys first second = (first.0, solo_append (after w x.event) xs ys first.1 second)
+solo_append : (R : Rule) (w : World) (xs ys : List Entry) → follows R w xs → follows R (world_from w xs) ys → follows R w (xs ++ ys)
+solo_append R w [] ys first second = second
+solo_append R w (x ∷ xs) ys first second = (first.0, solo_append R (after w x.event) xs ys first.1 second)
 
 drop_front : (xs ys : List Entry) → drop (length xs) (xs ++ ys) ≡ ys
 drop_front [] ys = refl
@@ -146,7 +146,7 @@ inputs_append xs ys = filter_map-append (λ (e : Entry). input_in e.event) xs ys
 
 -- ---- the whole of a play
 
-pub plays_none : (old : State) (start : Place) (held : Option (List ℕ)) → IsReady old → start.reader.failed ≡ None → AnswersMessages old start held old start held
+pub plays_none : {R : Rule} (old : State) (start : Place) (held : Option (List ℕ)) → IsReady old → start.reader.failed ≡ None → AnswersMessages R old start held old start held
 plays_none old start held ready working = record {
   lines = [];
   entries = [];
@@ -161,9 +161,9 @@ plays_none old start held ready working = record {
 }
 
 -- the entries of a message behind those before it
-pub record Joined (old mid new : State) (held written now : Option (List ℕ)) (before added : List Entry) : Type 0 where
+pub record Joined (R : Rule) (old mid new : State) (held written now : Option (List ℕ)) (before added : List Entry) : Type 0 where
   pub log : new.log ≡ old.log ++ (before ++ added)
-  pub solo : solo_from old.world (before ++ added)
+  pub solo : follows R old.world (before ++ added)
   pub world : new.world ≡ world_from old.world (before ++ added)
   pub same : SameRun old new
   pub text : Adds held now (text_from old.model (length old.log) (before ++ added))
@@ -176,16 +176,16 @@ added_text old mid new before added log same log2 =
     let place : length mid.log ≡ length old.log + length before = ap (λ (l : List Entry). length l) log ∙ length-append old.log before in
     ap (λ (l : List Entry). text_from mid.model (length mid.log) l) fresh ∙ ap (λ (n : ℕ). text_from mid.model n added) place ∙ ap (λ (m : Model). text_from m (length old.log + length before) added) same.model
 
-pub joined : (old mid new : State) (held written now : Option (List ℕ)) (before added : List Entry)
-    → mid.log ≡ old.log ++ before → solo_from old.world before → mid.world ≡ world_from old.world before → SameRun old mid → Adds held written (text_from old.model (length old.log) before)
-    → new.log ≡ mid.log ++ added → solo_from mid.world added → new.world ≡ world_from mid.world added → SameRun mid new → Adds written now (text_from mid.model (length mid.log) (drop (length mid.log) new.log))
-    → Joined old mid new held written now before added
-joined old mid new held written now before added log solo world same text log2 solo2 world2 same2 text2 =
+pub joined : {R : Rule} (old mid new : State) (held written now : Option (List ℕ)) (before added : List Entry)
+    → mid.log ≡ old.log ++ before → follows R old.world before → mid.world ≡ world_from old.world before → SameRun old mid → Adds held written (text_from old.model (length old.log) before)
+    → new.log ≡ mid.log ++ added → follows R mid.world added → new.world ≡ world_from mid.world added → SameRun mid new → Adds written now (text_from mid.model (length mid.log) (drop (length mid.log) new.log))
+    → Joined R old mid new held written now before added
+joined {R} old mid new held written now before added log solo world same text log2 solo2 world2 same2 text2 =
     let whole : new.log ≡ old.log ++ (before ++ added) = log2 ∙ ap (λ (l : List Entry). l ++ added) log ∙ append_assoc old.log before added in
     let text_is = added_text old mid new before added log same log2 in
     record {
       log = whole;
-      solo = solo_append old.world before added solo (subst (λ (w : World). solo_from w added) world solo2);
+      solo = solo_append R old.world before added solo (subst (λ (w : World). follows R w added) world solo2);
       world = world2 ∙ ap (λ (w : World). world_from w added) world ∙ sym (world_append old.world before added);
       same = record { model = same2.model ∙ same.model; options = same2.options ∙ same.options };
       text = subst (λ (t : List ℕ). Adds held now t) (sym (text_joined old.model (length old.log) before added)) (adds_then held written now (text_from old.model (length old.log) before) (text_from old.model (length old.log + length before) added) text (subst (λ (t : List ℕ). Adds written now t) text_is text2));
@@ -218,10 +218,10 @@ input_ends lines blanks ms so_far blank =
     ap messages_of (append-nil (lines ++ blanks)) ∙ messages_append lines blanks ms so_far
     ∙ ap (λ (ns : List (Option (List ℕ))). ms ++ ns) (ap messages_of (sym (append-nil blanks)) ∙ skip_blanks blanks [] blank ∙ none_left)
 
-pub plays_on : (old mid new : State) (start middle place : Place) (held written now : Option (List ℕ)) → AnswersMessages old start held mid middle written → AnswersNext mid middle written new place now → new.world.done ≡ false → AnswersMessages old start held new place now
-plays_on old mid new start middle place held written now plays step going = by_message step.message step.gets step.told
+pub plays_on : {R : Rule} (old mid new : State) (start middle place : Place) (held written now : Option (List ℕ)) → AnswersMessages R old start held mid middle written → AnswersNext R mid middle written new place now → new.world.done ≡ false → AnswersMessages R old start held new place now
+plays_on {R} old mid new start middle place held written now plays step going = by_message step.message step.gets step.told
   where
-    by_message : (message : Option NumberedLine) → MessageGives middle.reader middle.ahead (Ok message) place.reader place.ahead → AnswersMessage mid (line_in message) new → AnswersMessages old start held new place now
+    by_message : (message : Option NumberedLine) → MessageGives middle.reader middle.ahead (Ok message) place.reader place.ahead → AnswersMessage R mid (line_in message) new → AnswersMessages R old start held new place now
     by_message None gets told = absurd (let h : true ≡ false = sym told.done ∙ going in (cc))
     by_message (Some line) gets told =
         let j = joined old mid new held written now plays.entries told.entries plays.log plays.solo plays.world plays.same plays.written told.log told.solo told.world told.same step.written in
@@ -253,10 +253,10 @@ ends_used limit room (Some bytes) (Some m) xs mid None lines inputs front last g
 ends_used limit room (Some bytes) (Some m) xs mid (Some rest) lines inputs front last gave used all =
     by_end front last (let h : Some rest ≡ Some [] = used in (cc)) (ap messages_of (sym (append-nil lines)) ∙ all)
 
-pub plays_out : (old mid new : State) (start middle place : Place) (held written now : Option (List ℕ)) → AnswersMessages old start held mid middle written → AnswersNext mid middle written new place now → new.world.done ≡ true → AnswersAll old start held new place now
-plays_out old mid new start middle place held written now plays step done = by_message step.message step.gets step.told
+pub plays_out : {R : Rule} (old mid new : State) (start middle place : Place) (held written now : Option (List ℕ)) → AnswersMessages R old start held mid middle written → AnswersNext R mid middle written new place now → new.world.done ≡ true → AnswersAll R old start held new place now
+plays_out {R} old mid new start middle place held written now plays step done = by_message step.message step.gets step.told
   where
-    by_message : (message : Option NumberedLine) → MessageGives middle.reader middle.ahead (Ok message) place.reader place.ahead → AnswersMessage mid (line_in message) new → AnswersAll old start held new place now
+    by_message : (message : Option NumberedLine) → MessageGives middle.reader middle.ahead (Ok message) place.reader place.ahead → AnswersMessage R mid (line_in message) new → AnswersAll R old start held new place now
     by_message None gets told =
         let j = joined old mid new held written now plays.entries told.entries plays.log plays.solo plays.world plays.same plays.written told.log told.solo told.world told.same step.written in
         let inputs : inputs_of plays.entries ++ None ∷ [] ≡ inputs_of (plays.entries ++ told.entries) = sym (inputs_append plays.entries told.entries ∙ ap (λ (ns : List (Option (List ℕ))). inputs_of plays.entries ++ ns) told.inputs) in
@@ -296,7 +296,7 @@ plays_out old mid new start middle place held written now plays step done = by_m
           written = j.text;
         }
 
-pub plays_halt : (e : Halt) (old mid new : State) (start middle place : Place) (held written now : Option (List ℕ)) → AnswersMessages old start held mid middle written → HaltsBeforeNext e mid middle written new place now → AnswersUntilHalt e old start held new place now
+pub plays_halt : {R : Rule} (e : Halt) (old mid new : State) (start middle place : Place) (held written now : Option (List ℕ)) → AnswersMessages R old start held mid middle written → HaltsBeforeNext e mid middle written new place now → AnswersUntilHalt R e old start held new place now
 plays_halt e old mid new start middle place held written now plays step =
     let halts = step.fault.halts in
     record {
@@ -322,10 +322,10 @@ plays_halt e old mid new start middle place held written now plays step =
       written = subst (λ (h : Option (List ℕ)). Adds held h (text_from old.model (length old.log) plays.entries)) (sym step.written) plays.written;
     }
 
-pub plays_fill : (old mid new : State) (start middle place : Place) (held written now : Option (List ℕ)) → AnswersMessages old start held mid middle written → AnswersNextUntilFull mid middle written new place now → AnswersUntilFull old start held new place now
+pub plays_fill : {R : Rule} (old mid new : State) (start middle place : Place) (held written now : Option (List ℕ)) → AnswersMessages R old start held mid middle written → AnswersNextUntilFull R mid middle written new place now → AnswersUntilFull R old start held new place now
 plays_fill old mid new start middle place held written now plays step = record { waiting = mid; middle = middle; written = written; plays = plays; step = step }
 
-pub plays_stop : (old mid new : State) (start middle place : Place) (held written now : Option (List ℕ)) (e : Halt) → AnswersMessages old start held mid middle written → AnswersNextOrStops mid middle written (Err e) new place now → AnswersAllOrStops old start held (Err e) new place now
+pub plays_stop : {R : Rule} (old mid new : State) (start middle place : Place) (held written now : Option (List ℕ)) (e : Halt) → AnswersMessages R old start held mid middle written → AnswersNextOrStops R mid middle written (Err e) new place now → AnswersAllOrStops R old start held (Err e) new place now
 plays_stop old mid new start middle place held written now halt.Read plays step = plays_halt halt.Read old mid new start middle place held written now plays step
 plays_stop old mid new start middle place held written now halt.Write plays step = record { waiting = mid; middle = middle; written = written; plays = plays; step = step }
 plays_stop old mid new start middle place held written now halt.Limit plays step = plays_halt halt.Limit old mid new start middle place held written now plays step

@@ -29,6 +29,7 @@ use Rattle.pl_main.specs.declared.outcome.Outcome.TheVariants as outcome
 use Rattle.pl_input.specs.Stops.{HaltFor}
 use Rattle.pl_input.specs.Heads.{IsBegun, HasNoBegin, HeadHalts}
 use Rattle.pl_input.specs.Places.{Place, place_of}
+use Rattle.pl_main.specs.Solo.{IsSoloEvent}
 use Rattle.pl_main.specs.Plays.{AnswersAllOrStops}
 use Rattle.pl_main.specs.Runs.{fresh_state, AcceptsKept, IsKeptModel, ModelRuns}
 use Rattle.pl_main.specs.Top.{line_limit, fresh_reader, no_begin_line}
@@ -58,7 +59,7 @@ never_rose rose = omega (arith, rose)
 -- ---- a demonstration over a model
 
 stopped_out : (m : Model) (start place : Place) (e : Halt) (new : State)
-    → AnswersAllOrStops (fresh_state demo_turns m) start None (Err e) new place None → Legal new.model new.log → (e ≡ halt.Read → ⊥) → (e ≡ halt.Write → ⊥) → DemoPlays m start (Err e) place
+    → AnswersAllOrStops IsSoloEvent (fresh_state demo_turns m) start None (Err e) new place None → Legal new.model new.log → (e ≡ halt.Read → ⊥) → (e ≡ halt.Write → ⊥) → DemoPlays m start (Err e) place
 stopped_out m start place halt.Limit new playing legal no_read no_write = record { opened = None; new = new; first = tt; playing = playing; legal = legal }
 stopped_out m start place halt.Full new playing legal no_read no_write = record { opened = None; new = new; first = tt; playing = playing; legal = legal }
 stopped_out m start place halt.Read new playing legal no_read no_write = absurd (no_read refl)
@@ -66,9 +67,9 @@ stopped_out m start place halt.Write new playing legal no_read no_write = absurd
 stopped_out m start place halt.Memory new playing legal no_read no_write = tt
 
 pub out_stops : (m : Model) (start place : Place) (r : Result (Unit {0}) Halt) (e : Halt) (new : State) → r ≡ Err e
-    → AnswersAllOrStops (fresh_state demo_turns m) start None r new place None → Legal new.model new.log → (r ≡ Err halt.Read → Rose 0 0) → (r ≡ Err halt.Write → Rose 0 0) → DemoPlays m start (Err e) place
+    → AnswersAllOrStops IsSoloEvent (fresh_state demo_turns m) start None r new place None → Legal new.model new.log → (r ≡ Err halt.Read → Rose 0 0) → (r ≡ Err halt.Write → Rose 0 0) → DemoPlays m start (Err e) place
 out_stops m start place r e new is playing legal reads writes =
-    stopped_out m start place e new (subst (λ (x : Result (Unit {0}) Halt). AnswersAllOrStops (fresh_state demo_turns m) start None x new place None) is playing) legal
+    stopped_out m start place e new (subst (λ (x : Result (Unit {0}) Halt). AnswersAllOrStops IsSoloEvent (fresh_state demo_turns m) start None x new place None) is playing) legal
     (λ same. never_rose (reads (is ∙ ap (λ (x : Halt). Err x) same))) (λ same. never_rose (writes (is ∙ ap (λ (x : Halt). Err x) same)))
 
 model_stopped : (goals : ℕ) (m : Model) (start place : Place) (held : Option (List ℕ)) (e : Halt) → DemoPlays m start (Err e) place → ModelShows goals m start held (Err e) place held
@@ -109,13 +110,13 @@ Input goals = Some (demo_text goals)
 
 -- the run of the demonstration's input, with the log and the world at its end
 done_at : (goals : ℕ) (old : Reader) (kept : Option (Vec ℕ Global)) (new last : Reader) (after left : Option (List ℕ)) (m : Model) (end_state : State) → old ≡ fresh_reader line_limit
-    → IsBegun old (ahead old.held (Input goals)) kept new (ahead new.held after) → IsKeptModel kept m → IsPlayed m (place_of new after) end_state (place_of last left) → IsDoneWith demo_turns (demo_text goals) left end_state
+    → IsBegun old (ahead old.held (Input goals)) kept new (ahead new.held after) → IsKeptModel kept m → IsPlayed m (place_of new after) end_state (place_of last left) → IsDoneWith IsSoloEvent demo_turns (demo_text goals) left end_state
 done_at goals old kept new last after left m end_state is_fresh begun text played =
     done_with demo_turns kept (place_of new after) (place_of last left) (demo_text goals) left m end_state
     (fresh_begun line_limit old kept new (Input goals) (ahead new.held after) is_fresh begun) text played.plays played.legal refl
 
 -- the summary of the log and the world at its end
-summary_is : (goals : ℕ) (left : Option (List ℕ)) (end_state : State) → (d : IsDoneWith demo_turns (demo_text goals) left end_state)
+summary_is : (goals : ℕ) (left : Option (List ℕ)) (end_state : State) → (d : IsDoneWith IsSoloEvent demo_turns (demo_text goals) left end_state)
     → summary_line goals end_state.log end_state.world ≡ summary_line goals d.done.log (world_of d.done.model d.done.log)
 summary_is goals left end_state d = ap (λ (l : List Entry). summary_line goals l end_state.world) d.log ∙ ap (λ (w : World). summary_line goals d.done.log w) d.world
 
@@ -143,11 +144,11 @@ begun_then goals old kept new last after left held now (Ok outcome.Done) few is_
 begun_then goals old kept new last after left held now (Ok outcome.Refused) few is_fresh begun text = absurd text
 begun_then goals old kept new last after left held now (Err halt.Limit) few is_fresh begun text =
     run_within (solo_run demo_turns) (demo_text goals) left None None (demo_within goals few)
-    (begun_run (solo_run demo_turns) (ModelRuns demo_turns) (ends_solo demo_turns) old kept new last (Input goals) after left None None (Err halt.Limit) is_fresh begun record { model = text.model; text = text.text; run = text.shows.run })
+    (begun_run (solo_run demo_turns) (ModelRuns IsSoloEvent demo_turns) (ends_solo IsSoloEvent demo_turns) old kept new last (Input goals) after left None None (Err halt.Limit) is_fresh begun record { model = text.model; text = text.text; run = text.shows.run })
 begun_then goals old kept new last after left held now (Err halt.Full) few is_fresh begun text =
     record {
       left = left;
-      full = begun_run (solo_run demo_turns) (ModelRuns demo_turns) (ends_solo demo_turns) old kept new last (Input goals) after left None None (Err halt.Full) is_fresh begun record { model = text.model; text = text.text; run = text.shows.run };
+      full = begun_run (solo_run demo_turns) (ModelRuns IsSoloEvent demo_turns) (ends_solo IsSoloEvent demo_turns) old kept new last (Input goals) after left None None (Err halt.Full) is_fresh begun record { model = text.model; text = text.text; run = text.shows.run };
       silent = text.shows.silent;
     }
 begun_then goals old kept new last after left held now (Err halt.Read) few is_fresh begun text = absurd text

@@ -17,6 +17,7 @@ use Rattle.pl_main.specs.declared.outcome.Outcome.{Outcome}
 use Rattle.pl_main.specs.declared.outcome.Outcome.TheVariants as outcome
 use Rattle.pl_input.specs.Heads.{Keeps}
 use Rattle.pl_input.specs.Places.{Place}
+use Rattle.pl_main.specs.Solo.{IsSoloEvent}
 use Rattle.pl_main.specs.Plays.{AnswersAll}
 use Rattle.pl_main.specs.Runs.{fresh_state, ModelRun, IsKeptModel}
 use Rattle.pl_main.specs.Endings.{IsDone, IsFull}
@@ -76,13 +77,13 @@ pub record KeepsModel (kept : Option (Vec ℕ Global)) : Type 0 where
 
 -- All messages were answered, by a journal that nobody reads.
 pub record IsPlayed (model : Model) (start : Place) (new : State) (place : Place) : Type 0 where
-  pub plays : AnswersAll (fresh_state demo_turns model) start None new place None
+  pub plays : AnswersAll IsSoloEvent (fresh_state demo_turns model) start None new place None
   pub legal : Legal new.model new.log
 
 abbrev pub DemoPlays : Model → Place → Result State Halt → Place → Type 0
 DemoPlays model start (Ok new) place = IsPlayed model start new place
-DemoPlays model start (Err halt.Limit) place = ModelRun demo_turns model start None (Err halt.Limit) place None
-DemoPlays model start (Err halt.Full) place = ModelRun demo_turns model start None (Err halt.Full) place None
+DemoPlays model start (Err halt.Limit) place = ModelRun IsSoloEvent demo_turns model start None (Err halt.Limit) place None
+DemoPlays model start (Err halt.Full) place = ModelRun IsSoloEvent demo_turns model start None (Err halt.Full) place None
 DemoPlays model start (Err halt.Read) place = ⊥
 DemoPlays model start (Err halt.Write) place = ⊥
 DemoPlays model start (Err halt.Memory) place = ⊤
@@ -101,7 +102,7 @@ pub record ModelShort (goals : ℕ) (model : Model) (start : Place) (held : Opti
 
 pub record ModelStops (model : Model) (start : Place) (held : Option (List ℕ)) (e : Halt) (place : Place)
     (now : Option (List ℕ)) : Type 0 where
-  pub run : ModelRun demo_turns model start None (Err e) place None
+  pub run : ModelRun IsSoloEvent demo_turns model start None (Err e) place None
   pub silent : now ≡ held
 
 abbrev pub ModelShows : ℕ → Model → Place → Option (List ℕ) → Result Outcome Halt → Place

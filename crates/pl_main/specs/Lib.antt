@@ -3,7 +3,9 @@ pub use Rattle.pl_io.specs.Writes
 pub use Rattle.pl_journal.specs.Written
 pub mod Numbers
 pub mod Words
+pub mod Ahead
 pub mod Solo
+pub mod Rules
 pub mod Tells
 pub mod Plays
 pub mod Top

@@ -7,7 +7,7 @@ use Rattle.pl_io.specs.declared.errors.LineFault.{LineFault}
 use Rattle.pl_entry.specs.declared.entry.Entry.{Entry}
 use Rattle.pl_input.specs.Words.{messages_of}
 use Rattle.pl_machine.specs.Legal.{Legal, world_from}
-use Rattle.pl_main.specs.Solo.{solo_from}
+use Rattle.pl_main.specs.Solo.{Rule, follows}
 use Rattle.pl_machine.specs.Finished.{inputs_of}
 use Rattle.pl_machine.specs.Sound.{State}
 use Rattle.pl_driver.specs.Rounds.{SameRun}
@@ -22,12 +22,12 @@ use Rattle.pl_input.specs.Places.{Place}
 use Rattle.pl_journal.specs.Written.{Adds}
 
 -- Lines were taken, their messages are the inputs of these entries, and the entries' lines were written.
-pub record AnswersMessages (old : State) (start : Place) (held : Option (List ℕ)) (new : State) (place : Place) (now : Option (List ℕ)) : Type 0 where
+pub record AnswersMessages (R : Rule) (old : State) (start : Place) (held : Option (List ℕ)) (new : State) (place : Place) (now : Option (List ℕ)) : Type 0 where
   pub lines : List (List ℕ)
   pub entries : List Entry
   pub took : ReadsLines start.reader start.ahead lines place.reader place.ahead
   pub log : new.log ≡ old.log ++ entries
-  pub solo : solo_from old.world entries
+  pub solo : follows R old.world entries
   pub world : new.world ≡ world_from old.world entries
   pub messages : messages_of lines ≡ inputs_of entries ++ None ∷ []
   pub ready : IsReady new
@@ -47,12 +47,12 @@ EndsAll None after lines inputs = ⊤
 EndsAll (Some bytes) after lines inputs = IfSome after (λ rest. EndsWith rest lines inputs)
 
 -- All messages were taken.
-pub record AnswersAll (old : State) (start : Place) (held : Option (List ℕ)) (new : State) (place : Place) (now : Option (List ℕ)) : Type 0 where
+pub record AnswersAll (R : Rule) (old : State) (start : Place) (held : Option (List ℕ)) (new : State) (place : Place) (now : Option (List ℕ)) : Type 0 where
   pub lines : List (List ℕ)
   pub entries : List Entry
   pub gave : GivesLinesKnown start.reader.limit start.reader.room start.ahead lines place.reader.room place.ahead
   pub log : new.log ≡ old.log ++ entries
-  pub solo : solo_from old.world entries
+  pub solo : follows R old.world entries
   pub world : new.world ≡ world_from old.world entries
   pub messages : EndsAll start.ahead place.ahead lines (inputs_of entries)
   pub few : length start.reader.held < read_size → length place.reader.held < read_size
@@ -63,7 +63,7 @@ pub record AnswersAll (old : State) (start : Place) (held : Option (List ℕ)) (
   pub written : Adds held now (text_from old.model (length old.log) entries)
 
 -- The next line is not given, while the machine waits for a message.
-pub record AnswersUntilHalt (e : Halt) (old : State) (start : Place) (held : Option (List ℕ)) (new : State) (place : Place) (now : Option (List ℕ)) : Type 0 where
+pub record AnswersUntilHalt (R : Rule) (e : Halt) (old : State) (start : Place) (held : Option (List ℕ)) (new : State) (place : Place) (now : Option (List ℕ)) : Type 0 where
   pub lines : List (List ℕ)
   pub entries : List Entry
   pub left : ℕ
@@ -73,7 +73,7 @@ pub record AnswersUntilHalt (e : Halt) (old : State) (start : Place) (held : Opt
   pub leaves : e ≡ halt.Read → ReadLeaves start.reader.limit left rest place.reader.held place.ahead
   pub past : e ≡ halt.Limit → length start.reader.held < read_size → LimitLeaves start.reader.limit left rest place.reader.held place.ahead
   pub log : new.log ≡ old.log ++ entries
-  pub solo : solo_from old.world entries
+  pub solo : follows R old.world entries
   pub world : new.world ≡ world_from old.world entries
   pub messages : messages_of lines ≡ inputs_of entries ++ None ∷ []
   pub ready : IsReady new
@@ -81,45 +81,45 @@ pub record AnswersUntilHalt (e : Halt) (old : State) (start : Place) (held : Opt
   pub written : Adds held now (text_from old.model (length old.log) entries)
 
 -- The message was answered.
-pub record Answered (old : State) (input : Option (List ℕ)) (held : Option (List ℕ)) (new : State) (now : Option (List ℕ)) : Type 0 where
-  pub told : AnswersMessage old input new
+pub record Answered (R : Rule) (old : State) (input : Option (List ℕ)) (held : Option (List ℕ)) (new : State) (now : Option (List ℕ)) : Type 0 where
+  pub told : AnswersMessage R old input new
   pub written : Adds held now (text_from old.model (length old.log) (drop (length old.log) new.log))
 
 -- The log is full.
-pub record Filled (old : State) (input : Option (List ℕ)) (held : Option (List ℕ)) (new : State) (now : Option (List ℕ)) : Type 0 where
-  pub fills : FillsUp old input new
+pub record Filled (R : Rule) (old : State) (input : Option (List ℕ)) (held : Option (List ℕ)) (new : State) (now : Option (List ℕ)) : Type 0 where
+  pub fills : FillsUp R old input new
   pub written : Adds held now (text_from old.model (length old.log) (drop (length old.log) new.log))
 
 -- The message was logged, and a front of the lines of its entries was written, and not all of them.
-pub record AnsweredInPart (old : State) (input : Option (List ℕ)) (held : Option (List ℕ)) (new : State) (now : Option (List ℕ)) : Type 0 where
-  pub told : AnswersMessage old input new ⊎ AnswersMessageInPart old input new
+pub record AnsweredInPart (R : Rule) (old : State) (input : Option (List ℕ)) (held : Option (List ℕ)) (new : State) (now : Option (List ℕ)) : Type 0 where
+  pub told : AnswersMessage R old input new ⊎ AnswersMessageInPart R old input new
   pub written : AppendsFront held now (text_from old.model (length old.log) (drop (length old.log) new.log))
 
 -- Memory was wanting: for the message or its round, and then nothing of it was written, or for a line of its entries.
-pub data Unanswered (old : State) (input : Option (List ℕ)) (held : Option (List ℕ)) (new : State) (now : Option (List ℕ)) : Type 0 where
-  untold : Legal old.model old.log → now ≡ held → Unanswered old input held new now
-  told_in_part : AnsweredInPart old input held new now → Unanswered old input held new now
+pub data Unanswered (R : Rule) (old : State) (input : Option (List ℕ)) (held : Option (List ℕ)) (new : State) (now : Option (List ℕ)) : Type 0 where
+  untold : Legal old.model old.log → now ≡ held → Unanswered R old input held new now
+  told_in_part : AnsweredInPart R old input held new now → Unanswered R old input held new now
 
-abbrev pub Answering : State → Option (List ℕ) → Option (List ℕ) → Result Bool Halt → State → Option (List ℕ) → Type 0
-Answering old input held (Ok done) new now = Answered old input held new now × (done ≡ new.world.done)
-Answering old input held (Err halt.Full) new now = Filled old input held new now
-Answering old input held (Err halt.Limit) new now = ⊥
-Answering old input held (Err halt.Read) new now = ⊥
-Answering old input held (Err halt.Write) new now = AnsweredInPart old input held new now
-Answering old input held (Err halt.Memory) new now = Unanswered old input held new now
+abbrev pub Answering : Rule → State → Option (List ℕ) → Option (List ℕ) → Result Bool Halt → State → Option (List ℕ) → Type 0
+Answering R old input held (Ok done) new now = Answered R old input held new now × (done ≡ new.world.done)
+Answering R old input held (Err halt.Full) new now = Filled R old input held new now
+Answering R old input held (Err halt.Limit) new now = ⊥
+Answering R old input held (Err halt.Read) new now = ⊥
+Answering R old input held (Err halt.Write) new now = AnsweredInPart R old input held new now
+Answering R old input held (Err halt.Memory) new now = Unanswered R old input held new now
 
 -- A message was answered, and its entries' lines were written.
-pub record AnswersNext (old : State) (start : Place) (held : Option (List ℕ)) (new : State) (place : Place) (now : Option (List ℕ)) : Type 0 where
+pub record AnswersNext (R : Rule) (old : State) (start : Place) (held : Option (List ℕ)) (new : State) (place : Place) (now : Option (List ℕ)) : Type 0 where
   pub message : Option NumberedLine
   pub gets : MessageGives start.reader start.ahead (Ok message) place.reader place.ahead
-  pub told : AnswersMessage old (line_in message) new
+  pub told : AnswersMessage R old (line_in message) new
   pub written : Adds held now (text_from old.model (length old.log) (drop (length old.log) new.log))
 
 -- The log is full while an entry is due.
-pub record AnswersNextUntilFull (old : State) (start : Place) (held : Option (List ℕ)) (new : State) (place : Place) (now : Option (List ℕ)) : Type 0 where
+pub record AnswersNextUntilFull (R : Rule) (old : State) (start : Place) (held : Option (List ℕ)) (new : State) (place : Place) (now : Option (List ℕ)) : Type 0 where
   pub message : Option NumberedLine
   pub gets : MessageGives start.reader start.ahead (Ok message) place.reader place.ahead
-  pub fills : FillsUp old (line_in message) new
+  pub fills : FillsUp R old (line_in message) new
   pub written : Adds held now (text_from old.model (length old.log) (drop (length old.log) new.log))
 
 -- The next line is not given.
@@ -131,56 +131,56 @@ pub record HaltsBeforeNext (e : Halt) (old : State) (start : Place) (held : Opti
   pub written : now ≡ held
 
 -- A front of a message's lines was written.
-pub record AnswersNextInPart (old : State) (start : Place) (held : Option (List ℕ)) (new : State) (place : Place) (now : Option (List ℕ)) : Type 0 where
+pub record AnswersNextInPart (R : Rule) (old : State) (start : Place) (held : Option (List ℕ)) (new : State) (place : Place) (now : Option (List ℕ)) : Type 0 where
   pub message : Option NumberedLine
   pub gets : MessageGives start.reader start.ahead (Ok message) place.reader place.ahead
-  pub answered : AnsweredInPart old (line_in message) held new now
+  pub answered : AnsweredInPart R old (line_in message) held new now
 
 -- Memory was wanting: for a line, for a message or its round, or for a line of the message's entries.
-pub data LacksMemoryForNext (old : State) (start : Place) (held : Option (List ℕ)) (new : State) (place : Place) (now : Option (List ℕ)) : Type 0 where
-  unread : new ≡ old → now ≡ held → LacksMemoryForNext old start held new place now
-  unheard : Legal old.model old.log → now ≡ held → LacksMemoryForNext old start held new place now
-  unwritten : AnswersNextInPart old start held new place now → LacksMemoryForNext old start held new place now
+pub data LacksMemoryForNext (R : Rule) (old : State) (start : Place) (held : Option (List ℕ)) (new : State) (place : Place) (now : Option (List ℕ)) : Type 0 where
+  unread : new ≡ old → now ≡ held → LacksMemoryForNext R old start held new place now
+  unheard : Legal old.model old.log → now ≡ held → LacksMemoryForNext R old start held new place now
+  unwritten : AnswersNextInPart R old start held new place now → LacksMemoryForNext R old start held new place now
 
-abbrev pub AnswersNextOrStops : State → Place → Option (List ℕ) → Result Bool Halt → State → Place → Option (List ℕ) → Type 0
-AnswersNextOrStops old start held (Ok done) new place now = AnswersNext old start held new place now × (done ≡ new.world.done)
-AnswersNextOrStops old start held (Err halt.Limit) new place now = HaltsBeforeNext halt.Limit old start held new place now
-AnswersNextOrStops old start held (Err halt.Full) new place now = AnswersNextUntilFull old start held new place now
-AnswersNextOrStops old start held (Err halt.Read) new place now = HaltsBeforeNext halt.Read old start held new place now
-AnswersNextOrStops old start held (Err halt.Write) new place now = AnswersNextInPart old start held new place now
-AnswersNextOrStops old start held (Err halt.Memory) new place now = LacksMemoryForNext old start held new place now
+abbrev pub AnswersNextOrStops : Rule → State → Place → Option (List ℕ) → Result Bool Halt → State → Place → Option (List ℕ) → Type 0
+AnswersNextOrStops R old start held (Ok done) new place now = AnswersNext R old start held new place now × (done ≡ new.world.done)
+AnswersNextOrStops R old start held (Err halt.Limit) new place now = HaltsBeforeNext halt.Limit old start held new place now
+AnswersNextOrStops R old start held (Err halt.Full) new place now = AnswersNextUntilFull R old start held new place now
+AnswersNextOrStops R old start held (Err halt.Read) new place now = HaltsBeforeNext halt.Read old start held new place now
+AnswersNextOrStops R old start held (Err halt.Write) new place now = AnswersNextInPart R old start held new place now
+AnswersNextOrStops R old start held (Err halt.Memory) new place now = LacksMemoryForNext R old start held new place now
 
 -- The log got full.
-pub record AnswersUntilFull (old : State) (start : Place) (held : Option (List ℕ)) (new : State) (place : Place)
+pub record AnswersUntilFull (R : Rule) (old : State) (start : Place) (held : Option (List ℕ)) (new : State) (place : Place)
     (now : Option (List ℕ)) : Type 0 where
   pub waiting : State
   pub middle : Place
   pub written : Option (List ℕ)
-  pub plays : AnswersMessages old start held waiting middle written
-  pub step : AnswersNextUntilFull waiting middle written new place now
+  pub plays : AnswersMessages R old start held waiting middle written
+  pub step : AnswersNextUntilFull R waiting middle written new place now
 
 -- A front of a message's lines was written behind those before it.
-pub record AnswersAllInPart (old : State) (start : Place) (held : Option (List ℕ)) (new : State) (place : Place)
+pub record AnswersAllInPart (R : Rule) (old : State) (start : Place) (held : Option (List ℕ)) (new : State) (place : Place)
     (now : Option (List ℕ)) : Type 0 where
   pub waiting : State
   pub middle : Place
   pub written : Option (List ℕ)
-  pub plays : AnswersMessages old start held waiting middle written
-  pub step : AnswersNextInPart waiting middle written new place now
+  pub plays : AnswersMessages R old start held waiting middle written
+  pub step : AnswersNextInPart R waiting middle written new place now
 
 -- Memory was wanting behind these messages.
-pub record AnswersUntilMemory (old : State) (start : Place) (held : Option (List ℕ)) (new : State) (place : Place)
+pub record AnswersUntilMemory (R : Rule) (old : State) (start : Place) (held : Option (List ℕ)) (new : State) (place : Place)
     (now : Option (List ℕ)) : Type 0 where
   pub waiting : State
   pub middle : Place
   pub written : Option (List ℕ)
-  pub plays : AnswersMessages old start held waiting middle written
-  pub step : LacksMemoryForNext waiting middle written new place now
+  pub plays : AnswersMessages R old start held waiting middle written
+  pub step : LacksMemoryForNext R waiting middle written new place now
 
-abbrev pub AnswersAllOrStops : State → Place → Option (List ℕ) → Result (Unit {0}) Halt → State → Place → Option (List ℕ) → Type 0
-AnswersAllOrStops old start held (Ok u) new place now = AnswersAll old start held new place now
-AnswersAllOrStops old start held (Err halt.Limit) new place now = AnswersUntilHalt halt.Limit old start held new place now
-AnswersAllOrStops old start held (Err halt.Full) new place now = AnswersUntilFull old start held new place now
-AnswersAllOrStops old start held (Err halt.Read) new place now = AnswersUntilHalt halt.Read old start held new place now
-AnswersAllOrStops old start held (Err halt.Write) new place now = AnswersAllInPart old start held new place now
-AnswersAllOrStops old start held (Err halt.Memory) new place now = AnswersUntilMemory old start held new place now
+abbrev pub AnswersAllOrStops : Rule → State → Place → Option (List ℕ) → Result (Unit {0}) Halt → State → Place → Option (List ℕ) → Type 0
+AnswersAllOrStops R old start held (Ok u) new place now = AnswersAll R old start held new place now
+AnswersAllOrStops R old start held (Err halt.Limit) new place now = AnswersUntilHalt R halt.Limit old start held new place now
+AnswersAllOrStops R old start held (Err halt.Full) new place now = AnswersUntilFull R old start held new place now
+AnswersAllOrStops R old start held (Err halt.Read) new place now = AnswersUntilHalt R halt.Read old start held new place now
+AnswersAllOrStops R old start held (Err halt.Write) new place now = AnswersAllInPart R old start held new place now
+AnswersAllOrStops R old start held (Err halt.Memory) new place now = AnswersUntilMemory R old start held new place now

@@ -8,17 +8,17 @@ use Rattle.pl_shared.specs.Roles.{is_input}
 use Rattle.pl_pair.specs.Served.{AreOf}
 use Rattle.pl_pair.specs.Chosen.{AreChosen}
 use Rattle.pl_pair.specs.Runs.{History}
-use Rattle.pl_main.specs.Solo.{Solo}
+use Rattle.pl_main.specs.Solo.{Rule, FollowsAll, IsSoloEvent, IsAheadEvent}
 use Rattle.pl_main.specs.Top.{program_options, HasRead, WasGiven}
 use Rattle.pl_main.specs.Endings.{RunKind}
 
 -- ---- one thread
 
--- A legal log that was opened with the turns of the words and the limits of the program. Behind the open entry, each event
--- that is no input is fixed by the world before it.
-pub record IsSolo (turns : ℕ) (m : Model) (log : List Entry) : Type 0 where
+-- A legal log that was opened with the turns of the words and the limits of the program. Behind the open entry, the world before
+-- each event allows it.
+pub record IsRunBy (R : Rule) (turns : ℕ) (m : Model) (log : List Entry) : Type 0 where
   pub legal : Legal m log
-  pub solo : Solo m log
+  pub solo : FollowsAll R m log
   pub options : options_of log ≡ program_options turns
 
 -- Memory ran out between two rounds: these messages were read. Nothing is said of what the source has left, since memory
@@ -27,12 +27,20 @@ pub record IsBetweenRounds (words : List ℕ) (m : Model) (log : List Entry) (in
   pub given : WasGiven words (inputs_of log) input
   pub closed : (world_of m log).closed ≡ true
 
-abbrev pub solo_run : ℕ → RunKind
-solo_run turns = record {
-  log = IsSolo turns;
-  done_log = IsSolo turns;
+abbrev pub run_by : Rule → ℕ → RunKind
+run_by R turns = record {
+  log = IsRunBy R turns;
+  done_log = IsRunBy R turns;
   pause = λ words m log unanswered input source_left. IsBetweenRounds words m log input;
 }
+
+-- Each event that is no input is fixed by the world before it.
+abbrev pub solo_run : ℕ → RunKind
+solo_run turns = run_by IsSoloEvent turns
+
+-- Each event that is no input and no repair is fixed by the world before it; a repair is a legal candidate of a standing conflict.
+abbrev pub look_run : ℕ → RunKind
+look_run turns = run_by IsAheadEvent turns
 
 -- ---- a planner and an executive in threads of their own
 

@@ -17,6 +17,7 @@ use Rattle.pl_main.specs.declared.outcome.Outcome.TheVariants as outcome
 use Rattle.pl_input.specs.Heads.{Keeps}
 use Rattle.pl_journal.specs.Written.{Adds}
 use Rattle.pl_input.specs.Places.{Place}
+use Rattle.pl_main.specs.Solo.{Rule}
 use Rattle.pl_main.specs.Plays.{AnswersAllOrStops}
 use Rattle.pl_main.specs.Top.{program_options, model_ok_line}
 use Rattle.pl_pair.specs.Runs.{PairRun}
@@ -25,37 +26,37 @@ abbrev pub fresh_state : ℕ → Model → State
 fresh_state turns m = record { spoiled = false; model = m; log = opening (program_options turns) ∷ []; world = fresh_world m (program_options turns) }
 
 -- The open entry's line was written, and then the messages were played.
-pub record ModelRun (turns : ℕ) (model : Model) (start : Place) (held : Option (List ℕ))
+pub record ModelRun (R : Rule) (turns : ℕ) (model : Model) (start : Place) (held : Option (List ℕ))
     (r : Result (Unit {0}) Halt) (place : Place) (now : Option (List ℕ)) : Type 0 where
   pub opened : Option (List ℕ)
   pub new : State
   pub first : Adds held opened (text_from model 0 (opening (program_options turns) ∷ []))
-  pub playing : AnswersAllOrStops (fresh_state turns model) start opened r new place now
+  pub playing : AnswersAllOrStops R (fresh_state turns model) start opened r new place now
   pub legal : Legal new.model new.log
 
 -- A run over a model that was cut short: memory was wanting before its journal, or a front of the open entry's line was
 -- written and no line was asked for, or it came so far.
-pub data ModelBreaks (e : Halt) (turns : ℕ) (model : Model) (start : Place) (held : Option (List ℕ)) (place : Place)
+pub data ModelBreaks (R : Rule) (e : Halt) (turns : ℕ) (model : Model) (start : Place) (held : Option (List ℕ)) (place : Place)
     (now : Option (List ℕ)) : Type 0 where
-  unopened : e ≡ halt.Memory → now ≡ held → ModelBreaks e turns model start held place now
+  unopened : e ≡ halt.Memory → now ≡ held → ModelBreaks R e turns model start held place now
   in_opening : Legal model (opening (program_options turns) ∷ [])
       → AppendsFront held now (text_from model 0 (opening (program_options turns) ∷ [])) → place ≡ start
-      → ModelBreaks e turns model start held place now
-  in_play : ModelRun turns model start held (Err e) place now → ModelBreaks e turns model start held place now
+      → ModelBreaks R e turns model start held place now
+  in_play : ModelRun R turns model start held (Err e) place now → ModelBreaks R e turns model start held place now
 
-abbrev pub ModelRuns : ℕ → Model → Place → Option (List ℕ) → Result (Unit {0}) Halt → Place
+abbrev pub ModelRuns : Rule → ℕ → Model → Place → Option (List ℕ) → Result (Unit {0}) Halt → Place
     → Option (List ℕ) → Type 0
-ModelRuns turns model start held (Ok u) place now = ModelRun turns model start held (Ok u) place now
-ModelRuns turns model start held (Err halt.Limit) place now =
-    ModelRun turns model start held (Err halt.Limit) place now
-ModelRuns turns model start held (Err halt.Full) place now =
-    ModelRun turns model start held (Err halt.Full) place now
-ModelRuns turns model start held (Err halt.Read) place now =
-    ModelRun turns model start held (Err halt.Read) place now
-ModelRuns turns model start held (Err halt.Write) place now =
-    ModelBreaks halt.Write turns model start held place now
-ModelRuns turns model start held (Err halt.Memory) place now =
-    ModelBreaks halt.Memory turns model start held place now
+ModelRuns R turns model start held (Ok u) place now = ModelRun R turns model start held (Ok u) place now
+ModelRuns R turns model start held (Err halt.Limit) place now =
+    ModelRun R turns model start held (Err halt.Limit) place now
+ModelRuns R turns model start held (Err halt.Full) place now =
+    ModelRun R turns model start held (Err halt.Full) place now
+ModelRuns R turns model start held (Err halt.Read) place now =
+    ModelRun R turns model start held (Err halt.Read) place now
+ModelRuns R turns model start held (Err halt.Write) place now =
+    ModelBreaks R halt.Write turns model start held place now
+ModelRuns R turns model start held (Err halt.Memory) place now =
+    ModelBreaks R halt.Memory turns model start held place now
 
 -- what a run of a planner and an executive comes to over a model
 abbrev pub PairRuns : (turns seed : ℕ) → Model → Place → Option (List ℕ) → Result (Unit {0}) Halt → Place → Option (List ℕ) → Type 0

@@ -7,7 +7,7 @@ use Rattle.pl_machine.specs.declared.stop.Stop.TheVariants as stop
 use Rattle.pl_input.specs.Words.{is_line_of, end_word}
 use Rattle.pl_machine.specs.Step.{after}
 use Rattle.pl_machine.specs.Legal.{world_from}
-use Rattle.pl_main.specs.Solo.{solo_from}
+use Rattle.pl_main.specs.Solo.{Rule, follows}
 use Rattle.pl_machine.specs.Finished.{inputs_of}
 use Rattle.pl_machine.specs.Sound.{State}
 use Rattle.pl_driver.specs.Rounds.{SameRun}
@@ -42,11 +42,11 @@ LogsInputOrStops old input (Err stop.Spoiled) new = ⊥
 LogsInputOrStops old input (Err stop.Memory) new = ⊤
 
 -- The entries of a message and its round.
-pub record AnswersMessage (old : State) (input : Option (List ℕ)) (new : State) : Type 0 where
+pub record AnswersMessage (R : Rule) (old : State) (input : Option (List ℕ)) (new : State) : Type 0 where
   pub entries : List Entry
   pub log : new.log ≡ old.log ++ entries
   pub inputs : inputs_of entries ≡ input ∷ []
-  pub solo : solo_from old.world entries
+  pub solo : follows R old.world entries
   pub world : new.world ≡ world_from old.world entries
   pub unspoiled : new.spoiled ≡ false
   pub closed : new.world.closed ≡ true
@@ -54,11 +54,11 @@ pub record AnswersMessage (old : State) (input : Option (List ℕ)) (new : State
   pub same : SameRun old new
 
 -- The log got full within the round of the message.
-pub record AnswersMessageInPart (old : State) (input : Option (List ℕ)) (new : State) : Type 0 where
+pub record AnswersMessageInPart (R : Rule) (old : State) (input : Option (List ℕ)) (new : State) : Type 0 where
   pub entries : List Entry
   pub log : new.log ≡ old.log ++ entries
   pub inputs : inputs_of entries ≡ input ∷ []
-  pub solo : solo_from old.world entries
+  pub solo : follows R old.world entries
   pub world : new.world ≡ world_from old.world entries
   pub unspoiled : new.spoiled ≡ false
   pub open_round : new.world.closed ≡ false
@@ -67,13 +67,13 @@ pub record AnswersMessageInPart (old : State) (input : Option (List ℕ)) (new :
   pub same : SameRun old new
 
 -- The log was full when the message came, or it got full within its round.
-pub data FillsUp (old : State) (input : Option (List ℕ)) (new : State) : Type 0 where
-  at_once : old.world.options.entries ≤ length old.log → new ≡ old → FillsUp old input new
-  within : AnswersMessageInPart old input new → FillsUp old input new
+pub data FillsUp (R : Rule) (old : State) (input : Option (List ℕ)) (new : State) : Type 0 where
+  at_once : old.world.options.entries ≤ length old.log → new ≡ old → FillsUp R old input new
+  within : AnswersMessageInPart R old input new → FillsUp R old input new
 
-abbrev pub AnswersMessageOrStops : State → Option (List ℕ) → Result (Unit {0}) Stop → State → Type 0
-AnswersMessageOrStops old input (Ok u) new = AnswersMessage old input new
-AnswersMessageOrStops old input (Err stop.NotNow) new = ⊥
-AnswersMessageOrStops old input (Err stop.LogFull) new = FillsUp old input new
-AnswersMessageOrStops old input (Err stop.Spoiled) new = ⊥
-AnswersMessageOrStops old input (Err stop.Memory) new = ⊤
+abbrev pub AnswersMessageOrStops : Rule → State → Option (List ℕ) → Result (Unit {0}) Stop → State → Type 0
+AnswersMessageOrStops R old input (Ok u) new = AnswersMessage R old input new
+AnswersMessageOrStops R old input (Err stop.NotNow) new = ⊥
+AnswersMessageOrStops R old input (Err stop.LogFull) new = FillsUp R old input new
+AnswersMessageOrStops R old input (Err stop.Spoiled) new = ⊥
+AnswersMessageOrStops R old input (Err stop.Memory) new = ⊤

@@ -21,3 +21,11 @@ pub enum Task {
     /// Plans a mission of so many goals, from 1 to 4,000, and says how it ended.
     Demo { goals: u32 },
 }
+
+/// Plans a mission and looks ahead. The repair turns of a round are from 1 to 1,000, and up to 1,000,000 plans may be looked at for
+/// a message.
+#[derive(Clone, Copy, Debug, PartialEq, Eq)]
+pub struct Ahead {
+    pub turns: u32,
+    pub worlds: u32,
+}

@@ -10,6 +10,7 @@ use crate::outcome::Outcome;
 use crate::play::play;
 use crate::whole::{LINE_LIMIT, TOTAL_LIMIT, program_options};
 use pl_check::Accepted;
+use pl_choose::Least;
 use pl_input::{Halt, Head, halt_of, read_head};
 use pl_io::{LineReader, Sink, SureSink, SureSource, put};
 use pl_machine::Machine;
@@ -55,7 +56,8 @@ fn play_out(
     let model = Arc::new(alloc, model)?;
     let mut machine = Machine::fresh(alloc, model, program_options(TURNS))?;
     let mut journal = SureSink::new(alloc)?;
-    let played = play(alloc, &mut machine, lines, src, &mut journal);
+    let mut planner = Least;
+    let played = play(alloc, &mut machine, &mut planner, lines, src, &mut journal);
     let _log = machine.log();
     match played {
         Ok(()) => Ok(machine),

@@ -1,6 +1,7 @@
 //! The top call: the words, the model's text, the messages, and the journal.
 #![tactic(auto)]
 
+mod ahead;
 mod answers;
 mod check;
 mod command;
@@ -15,13 +16,15 @@ mod logs;
 mod number;
 mod outcome;
 mod paired;
+mod planner;
 mod play;
 mod sharing;
 mod top;
 mod whole;
 mod words;
 
-pub use command::{Command, Task};
+pub use ahead::{look_ahead, read_ahead, run_ahead};
+pub use command::{Ahead, Command, Task};
 pub use laws::statuses_are_told_apart;
 pub use sharing::shared_types;
 pub use top::{run, run_solo};

@@ -24,7 +24,8 @@ use std::alloc::Global;
 use std::sync::Wait;
 use std::thread::Threads;
 
-fn status_of(ended: Result<Outcome, Halt>) -> u8
+/// The status that tells how a run ended.
+pub(crate) fn status_of(ended: Result<Outcome, Halt>) -> u8
     ensures { result ≡ status_of ended }
 {
     match ended {

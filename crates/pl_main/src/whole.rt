@@ -5,13 +5,15 @@ ghost use Rattle.pl_input.specs.Places.{place_of};
 ghost use Rattle.pl_main.specs.Runs.{fresh_state, ModelRuns, TextRuns};
 ghost use Rattle.pl_main.specs.Top.{program_options};
 ghost use Rattle.pl_main.specs.Endings.{EndedAsKnown};
-ghost use Rattle.pl_main.specs.RunKinds.{solo_run};
+ghost use Rattle.pl_main.specs.RunKinds.{run_by, solo_run};
 
 use crate::judging::{NO_BEGIN, model_of, refuse};
 use crate::logs::write_log;
 use crate::outcome::Outcome;
+use crate::planner::Planner;
 use crate::play::play;
 use pl_check::Accepted;
+use pl_choose::Least;
 use pl_facts::Options;
 use pl_input::{Halt, Head, halt_of, read_head};
 use pl_io::{LineReader, Sink, Source};
@@ -51,9 +53,10 @@ pub fn open_machine(alloc: Global, turns: u32, model: Model) -> Result<Machine, 
 
 /// Opens a journal over a model and answers the messages.
 #[tactic(auto, using(crate::proofs::Ending::run_stops, crate::proofs::Ending::run_unopened, crate::proofs::Ending::run_unwritten))]
-fn run_model<S: Source, O: Sink>(
+fn run_model<P: Planner, S: Source, O: Sink>(
     alloc: Global,
     turns: u32,
+    planner: &mut P,
     model: Model,
     lines: &mut LineReader,
     src: &mut S,
@@ -63,14 +66,14 @@ fn run_model<S: Source, O: Sink>(
     requires turns { (1 ≤ turns) × (turns ≤ 1000) }
     requires limit { lines.old.limit ≡ 4096 }
     requires working { lines.old.failed ≡ None }
-    ensures run { ModelRuns turns model (place_of lines.old (S.left src.old)) (O.held out.old) result
+    ensures run { ModelRuns P.rule turns model (place_of lines.old (S.left src.old)) (O.held out.old) result
         (place_of lines.new (S.left src.new)) (O.held out.new) }
     ensures read { IsErrOf result Halt.Read → Rose (S.faults src.old) (S.faults src.new) }
     ensures write { IsErrOf result Halt.Write → Rose (O.faults out.old) (O.faults out.new) }
 {
     let mut machine = open_machine(alloc, turns, model)?;
     write_log(alloc, &machine, 0, out)?;
-    let played = play(alloc, &mut machine, lines, src, out);
+    let played = play(alloc, &mut machine, planner, lines, src, out);
     let _log = machine.log();
     match played {
         Ok(()) => Ok(()),
@@ -79,9 +82,10 @@ fn run_model<S: Source, O: Sink>(
 }
 
 #[tactic(auto, using(crate::proofs::Texting::text_unjudged, crate::proofs::Texting::text_refused, crate::proofs::Texting::text_ran, crate::proofs::Texting::text_stops))]
-fn run_text<S: Source, O: Sink>(
+fn run_text<P: Planner, S: Source, O: Sink>(
     alloc: Global,
     turns: u32,
+    planner: &mut P,
     kept: Option<Vec<u8>>,
     lines: &mut LineReader,
     src: &mut S,
@@ -90,22 +94,44 @@ fn run_text<S: Source, O: Sink>(
     requires turns { (1 ≤ turns) × (turns ≤ 1000) }
     requires limit { lines.old.limit ≡ 4096 }
     requires working { lines.old.failed ≡ None }
-    ensures run { TextRuns (ModelRuns turns) kept (place_of lines.old (S.left src.old)) (O.held out.old) result
+    ensures run { TextRuns (ModelRuns P.rule turns) kept (place_of lines.old (S.left src.old)) (O.held out.old) result
         (place_of lines.new (S.left src.new)) (O.held out.new) }
     ensures read { IsErrOf result Halt.Read → Rose (S.faults src.old) (S.faults src.new) }
     ensures write { IsErrOf result Halt.Write → Rose (O.faults out.old) (O.faults out.new) }
 {
     match model_of(alloc, &kept)? {
         Accepted::Refused(line) => refuse(out, line.as_slice()),
-        Accepted::Model(model) => match run_model(alloc, turns, model, lines, src, out) {
+        Accepted::Model(model) => match run_model(alloc, turns, planner, model, lines, src, out) {
             Ok(()) => Ok(Outcome::Done),
             Err(halt) => Err(halt),
         },
     }
 }
 
-/// Reads a model and its messages, and writes the journal.
+/// Reads a model and its messages, plans them by a planner, and writes the journal.
 #[tactic(auto, using(crate::proofs::Running::no_reader, crate::proofs::Running::head_run))]
+pub fn plan<P: Planner, S: Source, O: Sink>(
+    alloc: Global,
+    turns: u32,
+    planner: &mut P,
+    src: &mut S,
+    out: &mut O,
+) -> Result<Outcome, Halt>
+    requires turns { (1 ≤ turns) × (turns ≤ 1000) }
+    ensures ran { EndedAsKnown (run_by P.rule turns) (S.left src.old) (S.left src.new) (O.held out.old) (O.held out.new)
+        result }
+    ensures read { IsErrOf result Halt.Read → Rose (S.faults src.old) (S.faults src.new) }
+    ensures write { IsErrOf result Halt.Write → Rose (O.faults out.old) (O.faults out.new) }
+{
+    let mut lines = LineReader::new(alloc, LINE_LIMIT, TOTAL_LIMIT)?;
+    match read_head(alloc, &mut lines, src) {
+        Err(fault) => Err(halt_of(fault)),
+        Ok(Head::NoBegin) => refuse(out, NO_BEGIN),
+        Ok(Head::Text(kept)) => run_text(alloc, turns, planner, kept, &mut lines, src, out),
+    }
+}
+
+/// Plans by the chooser that takes the least repair.
 pub fn solo<S: Source, O: Sink>(
     alloc: Global,
     turns: u32,
@@ -118,10 +144,6 @@ pub fn solo<S: Source, O: Sink>(
     ensures read { IsErrOf result Halt.Read → Rose (S.faults src.old) (S.faults src.new) }
     ensures write { IsErrOf result Halt.Write → Rose (O.faults out.old) (O.faults out.new) }
 {
-    let mut lines = LineReader::new(alloc, LINE_LIMIT, TOTAL_LIMIT)?;
-    match read_head(alloc, &mut lines, src) {
-        Err(fault) => Err(halt_of(fault)),
-        Ok(Head::NoBegin) => refuse(out, NO_BEGIN),
-        Ok(Head::Text(kept)) => run_text(alloc, turns, kept, &mut lines, src, out),
-    }
+    let mut planner = Least;
+    plan(alloc, turns, &mut planner, src, out)
 }

@@ -1,5 +1,6 @@
 //! Tests of the top call and of the program's words: whole runs and demonstrations.
 
+mod ahead;
 mod demonstrations;
 mod faults;
 mod hostile;

@@ -1,0 +1,4 @@
+mod Confirmed
+mod Allowed
+mod Home
+mod Told

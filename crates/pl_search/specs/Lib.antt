@@ -1,0 +1,2 @@
+pub use Rattle.pl_cand.specs.Proposals
+pub mod Undos

@@ -1,0 +1,161 @@
+//! What is done with turns that are left when a plan is made and conflicts still stand.
+ghost use Rattle.std.specs.Prelude.{◌≡◌, false, OnOk};
+
+use crate::branching::{GivingUp, hard_conflicts};
+use crate::expanding::Branch;
+use crate::inserting::is_addition;
+use crate::look::{Look, is_open_goal, look_at};
+use crate::marks::mark_of_plan;
+use crate::node::Step;
+use crate::price::price_of;
+use crate::tries::Tries;
+use crate::undo::may_be_made;
+use pl_board::Board;
+use pl_cand::{Proposal, candidates};
+use pl_conflict::Conflict;
+use pl_plan::RepairMove;
+use std::alloc::{AllocError, Global};
+
+/// Of so many conflicts the repairs are tried.
+const CONFLICTS: u32 = 4;
+
+/// What it costs that a goal is not served.
+const OPEN_GOAL: u64 = 10;
+
+/// What it costs besides that one is no longer served, in a turn in which other repairs are wanted.
+const NOT_YET: u64 = 1000;
+
+fn must_be_served(board: &Board, goal: u32) -> bool {
+    match board.goals().get(goal) {
+        Some(goal) => goal.must,
+        None => true,
+    }
+}
+
+// That the first goal is dropped that need not be served.
+fn first_drop(board: &Board, goals: &[Conflict]) -> Option<Proposal> {
+    for conflict in goals {
+        if !must_be_served(board, conflict.subject) {
+            return Some(Proposal {
+                conflict: *conflict,
+                mv: RepairMove::Drop {
+                    goal: conflict.subject,
+                },
+            });
+        }
+    }
+    None
+}
+
+// The last of some moves that adds a root and may be made.
+fn last_addition(board: &Board, moves: &[RepairMove]) -> Option<RepairMove>
+    requires { board.now.spoiled ≡ false }
+{
+    let mut last = None;
+    for mv in moves {
+        if is_addition(mv) && may_be_made(board, mv) {
+            last = Some(*mv);
+        }
+    }
+    last
+}
+
+// A root for the last of these goals that may have one, at its last start. It goes again in the next turn.
+fn late_root(
+    alloc: Global,
+    board: &Board,
+    goals: &[Conflict],
+) -> Result<Option<Proposal>, AllocError>
+    requires { board.now.spoiled ≡ false }
+{
+    let mut late = None;
+    for conflict in goals {
+        let moves = candidates(alloc, board, conflict)?;
+        if let Some(mv) = last_addition(board, moves.as_slice()) {
+            late = Some(Proposal {
+                conflict: *conflict,
+                mv,
+            });
+        }
+    }
+    Ok(late)
+}
+
+// Where only goals are open: one that need not be served is dropped; else a root comes, and goes again.
+fn pass_time(alloc: Global, board: &Board) -> Result<Option<Proposal>, AllocError>
+    requires { board.now.spoiled ≡ false }
+{
+    let goals = board.conflicts().list(alloc)?;
+    match first_drop(board, goals.as_slice()) {
+        Some(drop) => Ok(Some(drop)),
+        None => late_root(alloc, board, goals.as_slice()),
+    }
+}
+
+// What a repair costs. With an even number of turns left another one than the loss of a goal is wanted.
+fn cost_of(step: &Step, before: &Look, left: u32) -> u64 {
+    let open = u64::from(step.look.unserved) * OPEN_GOAL;
+    let wait = if left % 2 == 0 && step.look.unserved > before.unserved {
+        NOT_YET
+    } else {
+        0
+    };
+    price_of(&step.look, 0, false).saturating_add(open + wait)
+}
+
+// The repair that costs the least, the first among equals.
+fn cheapest(steps: &[Step], before: &Look, left: u32) -> Option<Proposal> {
+    let mut best = None;
+    let mut least = u64::MAX;
+    for step in steps {
+        let cost = cost_of(step, before, left);
+        if cost < least {
+            best = Some(step.repair);
+            least = cost;
+        }
+    }
+    best
+}
+
+// The cheapest repair of one of the first conflicts but open goals.
+fn cheapest_repair(
+    tries: &mut Tries,
+    board: &mut Board,
+    left: u32,
+) -> Result<Option<Proposal>, AllocError>
+    requires { board.old.spoiled ≡ false }
+    ensures { OnOk result (board.new ≡ board.old) }
+{
+    let mark = mark_of_plan(board.plan());
+    let look = look_at(board, mark);
+    let branch = Branch {
+        from: 0,
+        look,
+        conflicts: CONFLICTS,
+        giving_up: GivingUp::Any,
+    };
+    tries.forget();
+    let conflicts = hard_conflicts(tries.alloc, board.conflicts())?;
+    tries.try_conflicts(board, &branch, conflicts.as_slice())?;
+    Ok(cheapest(tries.found.as_slice(), &look, left))
+}
+
+/// A repair for one of so many turns that are left.
+pub(crate) fn leftover_repair(
+    tries: &mut Tries,
+    board: &mut Board,
+    left: u32,
+) -> Result<Option<Proposal>, AllocError>
+    requires { board.old.spoiled ≡ false }
+    ensures { OnOk result (board.new ≡ board.old) }
+{
+    let has_hard = board
+        .conflicts()
+        .iter()
+        .any(|conflict| !is_open_goal(conflict));
+    if has_hard {
+        cheapest_repair(tries, board, left)
+    } else {
+        pass_time(tries.alloc, board)
+    }
+}

@@ -1,0 +1,42 @@
+//! The plan of a message: what stands is mended, and then goals are served one by one.
+ghost use Rattle.std.specs.Prelude.{◌≡◌, false};
+
+use crate::displacing::displace;
+use crate::draft::Draft;
+use crate::failures::Failures;
+use crate::goals::open_goals;
+use crate::tries::Tries;
+use pl_board::Board;
+use pl_cand::Proposal;
+use pl_conflict::Conflict;
+use std::alloc::AllocError;
+
+fn count_failures(failures: &mut Failures, failed: &[Conflict]) -> Result<(), AllocError> {
+    for conflict in failed {
+        failures.add(conflict.subject)?;
+    }
+    Ok(())
+}
+
+/// The repairs that lead to the plan of a message, the last first, and at most so many.
+pub(crate) fn plan(
+    tries: &mut Tries,
+    failures: &mut Failures,
+    board: &Board,
+    turns: usize,
+    worlds: u32,
+) -> Result<Vec<Proposal>, AllocError>
+    requires { board.now.spoiled ≡ false }
+{
+    let mut draft = Draft::new(tries.alloc, board, turns, worlds)?;
+    draft.mend_all(tries)?;
+    let goals = open_goals(tries.alloc, &draft.board)?;
+    draft.serve(tries, failures, goals.as_slice())?;
+    let failed = open_goals(tries.alloc, &draft.board)?;
+    displace(tries, failures, &mut draft, failed.as_slice())?;
+    let failed = open_goals(tries.alloc, &draft.board)?;
+    count_failures(failures, failed.as_slice())?;
+    let mut path = Vec::from_slice(tries.alloc, draft.path.as_slice())?;
+    path.reverse();
+    Ok(path)
+}

@@ -1,0 +1,128 @@
+//! The program that looks ahead.
+use crate::running::{Failing, NONE, assert_does, count_newlines, joined, words_of};
+use pl_io::{MemSink, MemSource};
+use pl_main::{read_ahead, run_ahead};
+use std::alloc::Global;
+use std::process::Abort;
+
+/// A survey of two shots; each shot wants the camera on. The second goal need not be served.
+const MODEL: &str = "horizon 1000
+lead 60
+capacity power 10
+state camera { off warm on } start off step off warm step warm on step on off
+kind warm_up { duration 20 set camera warm at start set camera on at end }
+kind shot {
+  param frames 1 16 default 4
+  duration frames
+  use power 6
+  must camera on
+  link start warm_up end -60 0
+}
+kind survey {
+  duration 40
+  alternative { slot one shot slot two shot order one end two start 0 20 }
+}
+begin
+";
+
+const MESSAGES: &str = "goal 1 shot 100 150 must frames=8
+goal 2 survey 200 300 may
+tick 60
+nonsense
+tele camera on
+goal 3 survey 400 420 must
+tick 130
+end
+";
+
+/// The status of a run with these words over this input, and what it writes.
+fn ran(
+    rt: &impl Abort,
+    alloc: Global,
+    words: &str,
+    failing: Failing<'_>,
+    input: &[u8],
+) -> (u8, Vec<u8>) {
+    let owned = words_of(rt, alloc, words);
+    let mut source = MemSource::new(alloc, input, failing.0).expect(rt, "memory");
+    let mut sink = MemSink::new(alloc, 1_000_000, failing.1).expect(rt, "memory");
+    let status = run_ahead(alloc, &owned, &mut source, &mut sink);
+    let text = Vec::from_slice(alloc, sink.bytes()).expect(rt, "memory");
+    (status, text)
+}
+
+#[test]
+fn two_runs_print_the_same(rt: HostRuntime) {
+    let alloc = rt.alloc();
+    let input = joined(&rt, alloc, MODEL, MESSAGES.as_bytes());
+    let (status, first) = ran(&rt, alloc, "run 20 500", NONE, &input);
+    assert!(rt; status == 0, "{status}");
+    let (_, second) = ran(&rt, alloc, "run 20 500", NONE, &input);
+    assert!(rt; first.as_slice() == second.as_slice(), "two runs differ");
+}
+
+#[test]
+fn its_journals_are_right(rt: HostRuntime) {
+    let alloc = rt.alloc();
+    let input = joined(&rt, alloc, MODEL, MESSAGES.as_bytes());
+    for words in ["run 20 500", "run 3 50", "run 20 0"] {
+        let (_, journal) = ran(&rt, alloc, words, NONE, &input);
+        let whole = joined(&rt, alloc, MODEL, &journal);
+        let entries = count_newlines(&journal);
+        let wanted = format!(in alloc; "journal ok: entries {entries} finished\n").expect(
+            &rt, "memory",
+        );
+        assert_does(&rt, alloc, "replay", NONE, &whole, 0, wanted.as_bytes());
+    }
+}
+
+#[test]
+fn without_plans_to_look_at_it_is_the_least_chooser(rt: HostRuntime) {
+    let alloc = rt.alloc();
+    let input = joined(&rt, alloc, MODEL, MESSAGES.as_bytes());
+    let (status, journal) = ran(&rt, alloc, "run 8 0", NONE, &input);
+    assert_does(&rt, alloc, "run solo 8", NONE, &input, status, &journal);
+}
+
+/// Words, and the turns and the plans that they ask for, added up.
+const WORDS: &str = "run 8 2000 = 2008
+run 1 0 = 1
+run 1000 1000000 = 1001000
+run 0 5 = none
+run 1001 5 = none
+run 8 1000001 = none
+run 8 = none
+run solo 8 = none
+run 8 5 5 = none
+Run 8 5 = none
+check = none";
+
+#[test]
+fn reads_words(rt: HostRuntime) {
+    for line in WORDS.lines() {
+        let (text, wanted) = line.split_once(" = ").unwrap_or((line, ""));
+        let words = words_of(&rt, rt.alloc(), text);
+        let found = read_ahead(&words).map(|ahead| ahead.turns.saturating_add(ahead.worlds));
+        assert!(rt; found == wanted.parse().ok(), "{line}");
+    }
+}
+
+#[test]
+fn tells_faults(rt: HostRuntime) {
+    let alloc = rt.alloc();
+    let input = joined(&rt, alloc, MODEL, MESSAGES.as_bytes());
+    let (status, text) = ran(&rt, alloc, "run", NONE, &input);
+    assert!(rt;
+        status == 2 && text.as_slice() == b"usage: run N WORLDS\n".as_slice(),
+        "usage"
+    );
+    let (status, text) = ran(&rt, alloc, "run 8 50", NONE, b"horizon 9");
+    assert!(rt;
+        status == 3 && text.as_slice() == b"model: no begin\n".as_slice(),
+        "no model"
+    );
+    let (status, _) = ran(&rt, alloc, "run 8 50", (&[1], &[]), &input);
+    assert!(rt; status == 4, "a read fails");
+    let (status, text) = ran(&rt, alloc, "run 8 50", (&[], &[1]), &input);
+    assert!(rt; status == 5 && text.is_empty(), "a write fails");
+}
