@@ -61,6 +61,7 @@ job_statuses (task.Solo turns) = reads (7 ∷ 9 ∷ []) from_seven
 job_statuses task.Check = reads (9 ∷ []) from_nine
 job_statuses task.Replay = reads (8 ∷ 9 ∷ []) from_eight
 job_statuses task.Report = reads (8 ∷ 9 ∷ []) from_eight
+job_statuses (task.Flex id) = reads (8 ∷ 9 ∷ []) from_eight
 job_statuses (task.Demo goals) =
     more 0 (5 ∷ 7 ∷ 9 ∷ []) (is_done refl)
     (more 5 (7 ∷ 9 ∷ []) (is_write refl) from_seven)
@@ -150,6 +151,10 @@ replay_status r never = journal_place r never
 pub report_status : (r : Result Judgement Halt) → (IsErrOf r halt.Full → ⊥) → IsStatusOf task.Report (status_of_journal r)
 unfolding IsStatusOf
 report_status r never = journal_place r never
+
+pub flex_status : (id : ℕ) (r : Result Judgement Halt) → (IsErrOf r halt.Full → ⊥) → IsStatusOf (task.Flex id) (status_of_journal r)
+unfolding IsStatusOf
+flex_status id r never = journal_place r never
 
 demo_place : (goals : ℕ) (held now : Option (List ℕ)) (r : Result Outcome Halt) → Shows goals held now r → Contains (statuses_of (task.Demo goals)) (status_of r)
 demo_place goals held now (Ok outcome.Done) shows = at (statuses_of (task.Demo goals)) 0 refl

@@ -32,7 +32,7 @@ use Rattle.pl_main.specs.declared.judgement.Judgement.TheVariants as judged
 use Rattle.pl_input.specs.Places.{Place, place_of}
 use Rattle.pl_main.specs.Runs.{AcceptsKept, IsKeptModel, TextFails}
 use Rattle.pl_main.specs.Top.{total_limit, fresh_reader, no_begin_line, ShowsNoLine, ShowsLimit, IsNoModel, faulty}
-use Rattle.pl_main.specs.Replays.{journal_line_limit, state_of, text_of_form, HasTaken, IsRightJournal, IsWrong, no_entry, wrong_last, IsWrongJournal, IsRightSoFar, IsJournalShort, of_right, of_wrong, of_refusal, ReadsBack, ReadsBackKnown, WritesAs, WritesJudged, RightBehind, WrongBehind, ShortBehind, right_cut, wrong_cut, ModelReads, TextCut, journal_cut, refusal_cut, TextReads}
+use Rattle.pl_main.specs.Replays.{journal_line_limit, state_of, IsTextOf, HasTaken, IsRightJournal, IsWrong, no_entry, wrong_last, IsWrongJournal, IsRightSoFar, IsJournalShort, of_right, of_wrong, of_refusal, ReadsBack, ReadsBackKnown, WritesAs, WritesRight, WritesJudged, RightBehind, WrongBehind, ShortBehind, right_cut, wrong_cut, ModelReads, TextCut, journal_cut, refusal_cut, TextReads}
 use Rattle.pl_main.proofs.Heading.{begins_at, begins_nowhere, shows_none, shows_limit, head_stopped, fresh_begun, fresh_nowhere, fresh_halts}
 
 -- ---- what is written
@@ -42,6 +42,17 @@ put_stops judgement text held now e is front = subst (λ (h : Halt). WritesAs ju
 
 pub no_memory : (judgement : Judgement) (text : List ℕ) (held now : Option (List ℕ)) (e : Halt) → e ≡ halt.Memory → now ≡ held → WritesAs judgement text held (Err e) now
 no_memory judgement text held now e is same = subst (λ (h : Halt). WritesAs judgement text held (Err h) now) (sym is) same
+
+pub no_memory_right : (form : Form) (s : State) (held now : Option (List ℕ)) (e : Halt) → e ≡ halt.Memory → now ≡ held → WritesRight form s held (Err e) now
+no_memory_right form s held now e is same = subst (λ (h : Halt). WritesRight form s held (Err h) now) (sym is) same
+
+pub right_written : (form : Form) (s : State) (text : List ℕ) (held : Option (List ℕ)) (r : Result Judgement Halt) (now : Option (List ℕ)) → IsTextOf form s text → WritesAs judged.Right text held r now → WritesRight form s held r now
+right_written form s text held (Ok given) now says writes = (writes.0, (text, says, writes.1))
+right_written form s text held (Err halt.Limit) now says writes = absurd writes
+right_written form s text held (Err halt.Full) now says writes = absurd writes
+right_written form s text held (Err halt.Read) now says writes = absurd writes
+right_written form s text held (Err halt.Memory) now says writes = writes
+right_written form s text held (Err halt.Write) now says writes = (text, says, writes)
 
 -- ---- a journal over a model
 
@@ -53,31 +64,32 @@ machine_is m s unspoiled model world =
     ∙ ap (λ (w : World). record { spoiled = false; model = m; log = s.log; world = w }) world
 
 abbrev right_behind : (form : Form) (m : Model) (start : Place) (held : Option (List ℕ)) (place : Place) (now : Option (List ℕ)) (v : Verdict) (lines : List (List ℕ)) (s : State)
-    → ReadsLines start.reader start.ahead lines place.reader place.ahead → IsLegalJournal m (entry_lines lines) v s start.ahead place.ahead → Adds held now (text_of_form form s) → RightBehind form m start held place now
-right_behind form m start held place now v lines s took legal adds = record {
+    → ReadsLines start.reader start.ahead lines place.reader place.ahead → IsLegalJournal m (entry_lines lines) v s start.ahead place.ahead → (text : List ℕ) → IsTextOf form s text → Adds held now text → RightBehind form m start held place now
+right_behind form m start held place now v lines s took legal text says adds = record {
   lines = lines;
   log = s.log;
   took = took;
   journal = legal.journal;
   used_up = legal.used_up;
-  written = subst (λ (x : State). Adds held now (text_of_form form x)) (machine_is m s legal.unspoiled legal.model legal.world) adds;
+  text = text;
+  says = subst (λ (x : State). IsTextOf form x text) (machine_is m s legal.unspoiled legal.model legal.world) says;
+  written = adds;
 }
 
 no_text : (text : List ℕ) → Adds None None text
 no_text text = tt
 
 right_ends : (form : Form) (m : Model) (start : Place) (held : Option (List ℕ)) (place : Place) (now : Option (List ℕ)) (v : Verdict) (lines : List (List ℕ)) (s : State) (r : Result Judgement Halt)
-    → ReadsLines start.reader start.ahead lines place.reader place.ahead → IsLegalJournal m (entry_lines lines) v s start.ahead place.ahead → WritesAs judged.Right (text_of_form form s) held r now → ModelReads form m start held r place now
-right_ends form m start held place now v lines s (Ok judged.Right) took legal writes = right_behind form m start held place now v lines s took legal writes.1
+    → ReadsLines start.reader start.ahead lines place.reader place.ahead → IsLegalJournal m (entry_lines lines) v s start.ahead place.ahead → WritesRight form s held r now → ModelReads form m start held r place now
+right_ends form m start held place now v lines s (Ok judged.Right) took legal (is, (text, says, adds)) = right_behind form m start held place now v lines s took legal text says adds
 right_ends form m start held place now v lines s (Ok judged.Wrong) took legal writes = absurd (let h : judged.Wrong ≡ judged.Right = writes.0 in (cc))
 right_ends form m start held place now v lines s (Ok judged.Refused) took legal writes = absurd (let h : judged.Refused ≡ judged.Right = writes.0 in (cc))
 right_ends form m start held place now v lines s (Err halt.Limit) took legal writes = absurd writes
 right_ends form m start held place now v lines s (Err halt.Full) took legal writes = absurd writes
 right_ends form m start held place now v lines s (Err halt.Read) took legal writes = absurd writes
 right_ends form m start held place now v lines s (Err halt.Memory) took legal writes = writes
-right_ends form m start held place now v lines s (Err halt.Write) took legal writes =
-    right_cut (right_behind form m start None place None v lines s took legal (no_text (text_of_form form s)))
-    (subst (λ (x : State). AppendsFront held now (text_of_form form x)) (machine_is m s legal.unspoiled legal.model legal.world) writes)
+right_ends form m start held place now v lines s (Err halt.Write) took legal (text, says, front) =
+    right_cut (right_behind form m start None place None v lines s took legal text says (no_text text)) front
 
 wrong_ends : (form : Form) (m : Model) (start : Place) (held : Option (List ℕ)) (place : Place) (now : Option (List ℕ)) (v : Verdict) (lines : List (List ℕ)) (r : Result Judgement Halt)
     → ReadsLines start.reader start.ahead lines place.reader place.ahead → IsNoJournal (entry_lines lines) v start.ahead place.ahead ⊎ IsWrongAtLast m (entry_lines lines) v → (entry_lines lines ≡ []) ⊎ EndsInEntry lines
@@ -189,6 +201,8 @@ right_whole form kept start place input source_left held now m begun text right 
       accepted = text begun.words begun.keeps;
       read = subst (λ (r : List ℕ). HasTaken input begun.words right.lines r source_left) (none_left start.ahead place.ahead k.rest t.rest k.is t.is right.used_up) t.taken;
       journal = right.journal;
+      text = right.text;
+      says = right.says;
       written = right.written;
     }
 

@@ -64,6 +64,7 @@ IsDoneBy (task.Solo turns) status = (status ≡ 0) ⊎ ((status ≡ 7) ⊎ (stat
 IsDoneBy task.Check status = (status ≡ 0) ⊎ (status ≡ 9)
 IsDoneBy task.Replay status = (status ≡ 0) ⊎ (status ≡ 9)
 IsDoneBy task.Report status = (status ≡ 0) ⊎ (status ≡ 9)
+IsDoneBy (task.Flex id) status = (status ≡ 0) ⊎ (status ≡ 9)
 IsDoneBy (task.Demo goals) status = (status ≡ 0) ⊎ ((status ≡ 7) ⊎ (status ≡ 9))
 
 -- a run that can be done is done, or memory ran out, or the log is full
@@ -82,4 +83,5 @@ Completes (task.Solo turns) input status =
 Completes task.Check input status = IfSome input (λ bytes. CanCheck bytes → IsDoneBy task.Check status)
 Completes task.Replay input status = IfSome input (λ bytes. Decides bytes status)
 Completes task.Report input status = IfSome input (λ bytes. Decides bytes status)
+Completes (task.Flex id) input status = IfSome input (λ bytes. Decides bytes status)
 Completes (task.Demo goals) input status = IsDoneBy (task.Demo goals) status

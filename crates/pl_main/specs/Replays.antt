@@ -1,4 +1,4 @@
--- What is promised of `replay` and of `report`.
+-- What is promised of `replay`, `report` and `flex ID`.
 use Rattle.std.specs.Prelude.{◌≡◌, ℕ, ◌⊎◌, List, [], length, false, Option, Some, None, Result, Ok, Err, ⊤}
 use Rattle.std.specs.declared.vec.Vec.{Vec}
 use Rattle.std.specs.declared.alloc.Global.{Global}
@@ -20,6 +20,7 @@ use Rattle.pl_replay.specs.declared.verdict.Verdict.TheVariants as verdict
 use Rattle.pl_replay.specs.Journals.{entry_lines, lines_from, IsJournalOf, IsWrongAtLast}
 use Rattle.pl_replay.specs.Verifying.{EndsInEntry, IsNoJournal, Stops}
 use Rattle.pl_report.specs.Reports.{report_of}
+use Rattle.pl_report.specs.Flexes.{IsFlexText}
 use Rattle.pl_report.specs.Verdicts.{verdict_line}
 use Rattle.pl_main.specs.declared.form.Form.{Form}
 use Rattle.pl_main.specs.declared.form.Form.TheVariants as which
@@ -37,10 +38,11 @@ journal_line_limit = 4160
 abbrev pub state_of : Model → List Entry → State
 state_of m log = record { spoiled = false; model = m; log = log; world = world_of m log }
 
--- what is written of a legal journal: the verdict, or the report
-abbrev pub text_of_form : Form → State → List ℕ
-text_of_form which.Replay s = verdict_line s.model (verdict.Legal (length s.log) s.world.done)
-text_of_form which.Report s = report_of s
+-- what may be written of a legal journal: the verdict, the report, or how far activities can move
+abbrev pub IsTextOf : Form → State → List ℕ → Type 0
+IsTextOf which.Replay s text = text ≡ verdict_line s.model (verdict.Legal (length s.log) s.world.done)
+IsTextOf which.Report s text = text ≡ report_of s
+IsTextOf (which.Flex id) s text = IsFlexText s.world.state id text
 
 -- The lines that were taken, each within the limits: the text of a model up to a `begin` line, and these behind it. With
 -- them came fewer bytes than one read asks for.
@@ -61,7 +63,9 @@ pub record IsRightJournal (form : Form) (input : List ℕ) (source_left held now
   pub accepted : IsModelText words model
   pub read : HasTaken input words behind [] source_left
   pub journal : IsJournalOf model (entry_lines behind) log
-  pub written : Adds held now (text_of_form form (state_of model log))
+  pub text : List ℕ
+  pub says : IsTextOf form (state_of model log) text
+  pub written : Adds held now text
 
 -- There is no entry in all of these lines, or the last of them is wrong: its verdict.
 pub data IsWrong (m : Model) (behind : List (List ℕ)) (rest : List ℕ) (v : Verdict) : Type 0 where
@@ -114,7 +118,7 @@ pub record IsJournalFault (input : List ℕ) (source_left held now : Option (Lis
 -- A write failed. What went out is a front of the text that was due.
 pub data IsJournalShort (form : Form) (input : List ℕ) (source_left held now : Option (List ℕ)) : Type 0 where
   of_right : (right : IsRightJournal form input source_left None None)
-      → AppendsFront held now (text_of_form form (state_of right.model right.log)) → IsJournalShort form input source_left held now
+      → AppendsFront held now right.text → IsJournalShort form input source_left held now
   of_wrong : (wrong : IsWrongJournal input source_left None None)
       → AppendsFront held now (verdict_line wrong.model wrong.verdict) → IsJournalShort form input source_left held now
   of_refusal : (line : List ℕ) → IsNoModel journal_line_limit input source_left (Some []) (Some line)
@@ -146,9 +150,18 @@ WritesAs judgement text held (Err halt.Read) now = ⊥
 WritesAs judgement text held (Err halt.Limit) now = ⊥
 WritesAs judgement text held (Err halt.Full) now = ⊥
 
+-- a text that may be written of a legal journal is written, by the machine behind it
+abbrev pub WritesRight : Form → State → Option (List ℕ) → Result Judgement Halt → Option (List ℕ) → Type 0
+WritesRight form s held (Ok given) now = (given ≡ judged.Right) × ((text : List ℕ) × IsTextOf form s text × Adds held now text)
+WritesRight form s held (Err halt.Write) now = (text : List ℕ) × IsTextOf form s text × AppendsFront held now text
+WritesRight form s held (Err halt.Memory) now = now ≡ held
+WritesRight form s held (Err halt.Read) now = ⊥
+WritesRight form s held (Err halt.Limit) now = ⊥
+WritesRight form s held (Err halt.Full) now = ⊥
+
 -- what is written of a journal that was judged, by the machine that stands behind a legal one
 abbrev pub WritesJudged : Form → Model → Verdict → Option State → Option (List ℕ) → Result Judgement Halt → Option (List ℕ) → Type 0
-WritesJudged form m v (Some machine) held r now = WritesAs judged.Right (text_of_form form machine) held r now
+WritesJudged form m v (Some machine) held r now = WritesRight form machine held r now
 WritesJudged form m v None held r now = WritesAs judged.Wrong (verdict_line m v) held r now
 
 -- The lines behind the model's text are those of a legal log.
@@ -158,7 +171,9 @@ pub record RightBehind (form : Form) (m : Model) (start : Place) (held : Option 
   pub took : ReadsLines start.reader start.ahead lines place.reader place.ahead
   pub journal : IsJournalOf m (entry_lines lines) log
   pub used_up : IsUsedUp start.ahead place.ahead
-  pub written : Adds held now (text_of_form form (state_of m log))
+  pub text : List ℕ
+  pub says : IsTextOf form (state_of m log) text
+  pub written : Adds held now text
 
 -- They have a first wrong entry, or none at all.
 pub record WrongBehind (m : Model) (start : Place) (held : Option (List ℕ)) (place : Place) (now : Option (List ℕ)) : Type 0 where
@@ -178,7 +193,7 @@ pub record StopsBehind (e : Halt) (m : Model) (start : Place) (held : Option (Li
 
 -- A front of the text that was due was written.
 pub data ShortBehind (form : Form) (m : Model) (start : Place) (held : Option (List ℕ)) (place : Place) (now : Option (List ℕ)) : Type 0 where
-  right_cut : (right : RightBehind form m start None place None) → AppendsFront held now (text_of_form form (state_of m right.log)) → ShortBehind form m start held place now
+  right_cut : (right : RightBehind form m start None place None) → AppendsFront held now right.text → ShortBehind form m start held place now
   wrong_cut : (wrong : WrongBehind m start None place None) → AppendsFront held now (verdict_line m wrong.verdict) → ShortBehind form m start held place now
 
 abbrev pub ModelReads : Form → Model → Place → Option (List ℕ) → Result Judgement Halt → Place → Option (List ℕ) → Type 0

@@ -38,6 +38,7 @@ IsTask (task.Solo turns) = (1 ≤ turns) × (turns ≤ 1000)
 IsTask task.Check = ⊤
 IsTask task.Replay = ⊤
 IsTask task.Report = ⊤
+IsTask (task.Flex id) = ⊤
 IsTask (task.Demo goals) = (1 ≤ goals) × (goals ≤ 4000)
 
 -- What the status of a run says where the input's bytes are known. Only what was written needs those of the sink.
@@ -68,7 +69,7 @@ pub record SaysChecked (input : List ℕ) (source_left held now : Option (List �
   pub never_wrong : status ≡ 8 → ⊥
   pub silent : status ≡ 9 → now ≡ held
 
--- What the status of a replay says, or of a report.
+-- What the status of a replay says, of a report, or of what moves.
 pub record SaysReadBack (form : Form) (input : List ℕ) (source_left held now : Option (List ℕ)) (status : ℕ)
     : Type 0 where
   pub done : status ≡ 0 → IsRightJournal form input source_left held now
@@ -104,6 +105,9 @@ SaysKnown task.Replay (Some input) source_left held now status =
 SaysKnown task.Report None source_left held now status = ⊤
 SaysKnown task.Report (Some input) source_left held now status =
     SaysReadBack which.Report input source_left held now status
+SaysKnown (task.Flex id) None source_left held now status = ⊤
+SaysKnown (task.Flex id) (Some input) source_left held now status =
+    SaysReadBack (which.Flex id) input source_left held now status
 SaysKnown (task.Demo goals) input source_left held now status = SaysShown goals held now status
 
 -- The statuses that a job of one thread can end with, whatever is told of its input: 3, 4 and 6 come of a job that reads its
@@ -113,6 +117,7 @@ statuses_of (task.Solo turns) = 0 ∷ 3 ∷ 4 ∷ 5 ∷ 6 ∷ 7 ∷ 9 ∷ []
 statuses_of task.Check = 0 ∷ 3 ∷ 4 ∷ 5 ∷ 6 ∷ 9 ∷ []
 statuses_of task.Replay = 0 ∷ 3 ∷ 4 ∷ 5 ∷ 6 ∷ 8 ∷ 9 ∷ []
 statuses_of task.Report = 0 ∷ 3 ∷ 4 ∷ 5 ∷ 6 ∷ 8 ∷ 9 ∷ []
+statuses_of (task.Flex id) = 0 ∷ 3 ∷ 4 ∷ 5 ∷ 6 ∷ 8 ∷ 9 ∷ []
 statuses_of (task.Demo goals) = 0 ∷ 5 ∷ 7 ∷ 9 ∷ []
 
 -- the same of a run of a pair
@@ -126,4 +131,4 @@ unfoldable pub IsPairStatus : ℕ → Type 0
 IsPairStatus status = Contains pair_statuses status
 
 abbrev pub usage_line : List ℕ
-usage_line = codes "usage: run solo N | run pair N SEED | check | replay | report | demo N" ++ 10 ∷ []
+usage_line = codes "usage: run solo N | run pair N SEED | check | replay | report | demo N | flex ID" ++ 10 ∷ []

@@ -1,7 +1,7 @@
 ghost use Rattle.std.specs.Prelude.{◌≡◌, ◌≤◌, IfOk, IfSome, IsErrOf, false, length};
 ghost use Rattle.pl_io.specs.Faults.{Rose};
 ghost use Rattle.pl_report.specs.Verdicts.{verdict_line};
-ghost use Rattle.pl_main.specs.Replays.{text_of_form, WritesAs, WritesJudged};
+ghost use Rattle.pl_main.specs.Replays.{IsTextOf, WritesAs, WritesRight, WritesJudged};
 
 use crate::form::Form;
 use crate::judgement::Judgement;
@@ -10,7 +10,7 @@ use pl_io::{Sink, put};
 use pl_machine::Machine;
 use pl_model::Model;
 use pl_replay::Verdict;
-use pl_report::{report, verdict_line};
+use pl_report::{flex_text, report, verdict_line};
 use std::alloc::{AllocError, Global};
 
 /// Writes a text, which says this of a journal.
@@ -38,15 +38,16 @@ fn legal_text(
 ) -> Result<Vec<u8>, AllocError>
     requires unspoiled { machine.now.spoiled ≡ false }
     requires verdict { verdict.now ≡ Verdict.Legal (length machine.now.log) machine.now.world.done }
-    ensures { IfOk result (λ text. text.items ≡ text_of_form form machine.now) }
+    ensures { IfOk result (λ text. IsTextOf form machine.now text.items) }
 {
     match form {
         Form::Replay => verdict_line(alloc, machine.model(), verdict),
         Form::Report => report(alloc, machine),
+        Form::Flex { id } => flex_text(alloc, machine, id),
     }
 }
 
-#[tactic(auto, using(crate::proofs::Replaying::no_memory))]
+#[tactic(auto, using(crate::proofs::Replaying::no_memory_right, crate::proofs::Replaying::right_written))]
 fn write_legal<O: Sink>(
     alloc: Global,
     form: Form,
@@ -56,7 +57,7 @@ fn write_legal<O: Sink>(
 ) -> Result<Judgement, Halt>
     requires unspoiled { machine.now.spoiled ≡ false }
     requires verdict { verdict.now ≡ Verdict.Legal (length machine.now.log) machine.now.world.done }
-    ensures text { WritesAs Judgement.Right (text_of_form form machine.now) (O.held out.old) result (O.held out.new) }
+    ensures text { WritesRight form machine.now (O.held out.old) result (O.held out.new) }
     ensures unread { IsErrOf result Halt.Read → ⊥ }
     ensures write { IsErrOf result Halt.Write → Rose (O.faults out.old) (O.faults out.new) }
     ensures later { O.faults out.old ≤ O.faults out.new }
