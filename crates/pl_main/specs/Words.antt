@@ -1,4 +1,4 @@
--- The forms of the command line: `run solo N`, `run pair N SEED`, `check`, `replay`, `report`, `demo N` and `flex ID`.
+-- The forms of the command line: `run solo N`, `run pair N SEED`, `check`, `replay`, `report`, `demo N`, `flex ID` and `forecast`.
 use Rattle.std.specs.Prelude.{ℕ, List, [], ◌∷◌, ◌&&◌, nat_le, if◌then◌else◌, Option, Some, None, codes, map}
 use Rattle.std.specs.Str.{bytes_eq}
 use Rattle.std.specs.String.{string_bytes}
@@ -36,6 +36,7 @@ single_word word =
     if bytes_eq word (codes "check") then Some (command.Alone task.Check)
     else if bytes_eq word (codes "replay") then Some (command.Alone task.Replay)
     else if bytes_eq word (codes "report") then Some (command.Alone task.Report)
+    else if bytes_eq word (codes "forecast") then Some (command.Alone task.Forecast)
     else None
 
 abbrev pub command_in : List (List ℕ) → Option Command

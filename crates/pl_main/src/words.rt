@@ -37,6 +37,8 @@ fn single(word: &[u8]) -> Option<Command>
         Some(Command::Alone(Task::Replay))
     } else if word == b"report".as_slice() {
         Some(Command::Alone(Task::Report))
+    } else if word == b"forecast".as_slice() {
+        Some(Command::Alone(Task::Forecast))
     } else {
         None
     }
@@ -61,7 +63,8 @@ fn demo(goals: Option<u64>) -> Option<Command>
 }
 
 /// What the words behind the program's name ask for: `run solo N`, N from 1 to 1,000, `run pair N SEED`, SEED of at most 18
-/// digits, `check`, `replay`, `report`, `demo N`, N from 1 to 4,000, or `flex ID`, ID of at most 18 digits.
+/// digits, `check`, `replay`, `report`, `demo N`, N from 1 to 4,000, `flex ID`, ID of at most 18
+/// digits, or `forecast`.
 #[tactic(auto, unfolding(crate::specs::Words::command_of))]
 pub fn read_words(words: &[String]) -> Option<Command>
     ensures { result ≡ command_of words.now }

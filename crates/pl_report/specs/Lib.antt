@@ -3,6 +3,7 @@ pub use Rattle.pl_machine.specs.Legal
 pub mod DemoModel
 pub mod Demonstration
 pub mod Flexes
+pub mod Forecasts
 pub mod Lines
 pub mod Reports
 pub mod Sent
