@@ -1,7 +1,7 @@
 use crate::running::words_of;
 use pl_main::{Command, Task, read_words};
 
-/// What the words ask for: the turns of a run, 0 for a check, 1,001 for a replay and 1,002 for a report, the goals of a
+/// What the words ask for: the turns of a run, 0 for a check, 1,001 for a replay, 1,002 for a report and 1,003 for a forecast, the goals of a
 /// demonstration, the id of an activity whose paths are asked for, the turns and the seed of a pair added up, nothing where they are no command.
 fn number_of(words: &[String]) -> Option<u64> {
     match read_words(words)? {
@@ -11,6 +11,7 @@ fn number_of(words: &[String]) -> Option<u64> {
         Command::Alone(Task::Replay) => Some(1001),
         Command::Alone(Task::Report) => Some(1002),
         Command::Alone(Task::Flex { id }) => Some(id),
+        Command::Alone(Task::Forecast) => Some(1003),
         Command::Alone(Task::Demo { goals }) => Some(u64::from(goals)),
     }
 }
@@ -55,7 +56,10 @@ flex 999999999999999999 = 999999999999999999
 flex 1000000000000000000 = none
 flex = none
 flex 1 2 = none
-flex -1 = none";
+flex -1 = none
+forecast = 1003
+forecast 8 = none
+Forecast = none";
 
 #[test]
 fn reads_words(rt: HostRuntime) {
