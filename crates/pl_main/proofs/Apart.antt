@@ -27,7 +27,7 @@ use Rattle.pl_main.proofs.OneInput.{split_text}
 use Rattle.pl_main.proofs.Causes.{no_model_of, text_then_limit, no_text, head_not_past, is_within}
 use Rattle.pl_input.specs.Reads.{GivesLines}
 use Rattle.pl_main.specs.declared.told.Told.{Told}
-use Rattle.pl_main.proofs.Forewords.{tells_on, refuses_on, same_told, told_not_refused, told_not_unended, refused_not_unended}
+use Rattle.pl_main.proofs.Prefacing.{tells_on, refuses_on, same_told, told_not_refused, told_not_unended, refused_not_unended}
 
 abbrev Lines : Type 0
 Lines = List (List ℕ)

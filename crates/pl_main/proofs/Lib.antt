@@ -10,7 +10,7 @@ pub mod Checking
 pub mod Showing
 pub mod Summing
 pub mod Replaying
-pub mod Forewords
+pub mod Prefacing
 pub mod ReadingBack
 pub mod Pairing
 pub mod Jobs

@@ -38,7 +38,7 @@ use Rattle.pl_input.proofs.Reading.{took_more, used_later}
 use Rattle.pl_input.specs.Reads.{Halts}
 use Rattle.pl_main.specs.declared.told.Told.{Told}
 use Rattle.pl_main.proofs.OneInput.{text_goes_on}
-use Rattle.pl_main.proofs.Forewords.{head_said, tells_on}
+use Rattle.pl_main.proofs.Prefacing.{head_said, tells_on}
 use Rattle.pl_main.proofs.Replaying.{no_text}
 
 abbrev Lines : Type 0
@@ -98,18 +98,18 @@ record Taken (form : Form) (m : Model) (what : Told) (input words : List ℕ) (l
   taken : HasTaken form m input words what lines rest source_left
 
 taken_behind : (form : Form) (m : Model) (what : Told) (input : List ℕ) (middle place : Place) (source_left : Option (List ℕ)) (lines : Lines)
-    → (open_ : IsOpened form m what input middle) → ReadsLines middle.reader middle.ahead lines place.reader place.ahead → ahead place.reader.held source_left ≡ place.ahead → Taken form m what input open_.words lines place source_left
-taken_behind form m what input middle place source_left lines open_ took behind =
-    let stand = at_place input (open_.lines ++ lines) place source_left (took_more fresh middle.reader place.reader (Some input) middle.ahead place.ahead open_.lines lines open_.took took) behind in
+    → (opening : IsOpened form m what input middle) → ReadsLines middle.reader middle.ahead lines place.reader place.ahead → ahead place.reader.held source_left ≡ place.ahead → Taken form m what input opening.words lines place source_left
+taken_behind form m what input middle place source_left lines opening took behind =
+    let stand = at_place input (opening.lines ++ lines) place source_left (took_more fresh middle.reader place.reader (Some input) middle.ahead place.ahead opening.lines lines opening.took took) behind in
     record {
       rest = stand.rest;
       is = stand.is;
       taken = record {
-        lines = open_.lines ++ lines;
+        lines = opening.lines ++ lines;
         left = place.reader.room;
         gave = stand.gave;
-        text = text_goes_on open_.lines lines open_.words open_.text;
-        behind = tells_on form m open_.lines lines [] open_.words what open_.text open_.before;
+        text = text_goes_on opening.lines lines opening.words opening.text;
+        behind = tells_on form m opening.lines lines [] opening.words what opening.text opening.before;
         source = stand.source;
       };
     }
@@ -118,17 +118,17 @@ taken_behind form m what input middle place source_left lines open_ took behind 
 
 abbrev right_whole : (form : Form) (m : Model) (what : Told) (middle place : Place) (input : List ℕ) (source_left held now : Option (List ℕ))
     → IsOpened form m what input middle → RightBehind what m middle held place now → ahead place.reader.held source_left ≡ place.ahead → IsRightJournal form input source_left held now
-right_whole form m what middle place input source_left held now open_ right behind =
-    let t = taken_behind form m what input middle place source_left right.lines open_ right.took behind in
-    let none : t.rest ≡ [] = none_left input open_.lines middle.reader.room middle.ahead place.ahead t.rest open_.took.gave right.used_up t.is in
+right_whole form m what middle place input source_left held now opening right behind =
+    let t = taken_behind form m what input middle place source_left right.lines opening right.took behind in
+    let none : t.rest ≡ [] = none_left input opening.lines middle.reader.room middle.ahead place.ahead t.rest opening.took.gave right.used_up t.is in
     record {
       model = m;
       log = right.log;
-      words = open_.words;
+      words = opening.words;
       what = what;
       behind = right.lines;
-      accepted = open_.accepted;
-      read = subst (λ (r : List ℕ). HasTaken form m input open_.words what right.lines r source_left) none t.taken;
+      accepted = opening.accepted;
+      read = subst (λ (r : List ℕ). HasTaken form m input opening.words what right.lines r source_left) none t.taken;
       journal = right.journal;
       text = right.text;
       says = right.says;
@@ -147,18 +147,18 @@ wrong_is m before after lines v rest none_left (inr wrong) (inr ends) = wrong_la
 
 abbrev wrong_whole : (form : Form) (m : Model) (what : Told) (middle place : Place) (input : List ℕ) (source_left held now : Option (List ℕ))
     → IsOpened form m what input middle → WrongBehind m middle held place now → ahead place.reader.held source_left ≡ place.ahead → IsWrongJournal form input source_left held now
-wrong_whole form m what middle place input source_left held now open_ wrong behind =
-    let t = taken_behind form m what input middle place source_left wrong.lines open_ wrong.took behind in
+wrong_whole form m what middle place input source_left held now opening wrong behind =
+    let t = taken_behind form m what input middle place source_left wrong.lines opening wrong.took behind in
     record {
       model = m;
       verdict = wrong.verdict;
-      words = open_.words;
+      words = opening.words;
       what = what;
       behind = wrong.lines;
       rest = t.rest;
-      accepted = open_.accepted;
+      accepted = opening.accepted;
       read = t.taken;
-      wrong = wrong_is m middle.ahead place.ahead wrong.lines wrong.verdict t.rest (λ used. none_left input open_.lines middle.reader.room middle.ahead place.ahead t.rest open_.took.gave used t.is) wrong.wrong wrong.no_further;
+      wrong = wrong_is m middle.ahead place.ahead wrong.lines wrong.verdict t.rest (λ used. none_left input opening.lines middle.reader.room middle.ahead place.ahead t.rest opening.took.gave used t.is) wrong.wrong wrong.no_further;
       written = wrong.written;
     }
 
@@ -196,14 +196,14 @@ halted e form input source_left lines place f halts is behind asked =
 -- in the journal
 journal_stopped : (e : Halt) (form : Form) (m : Model) (what : Told) (middle place : Place) (input : List ℕ) (source_left : Option (List ℕ)) (f : LineFault)
     → IsOpened form m what input middle → Stops m middle.reader middle.ahead f place.reader place.ahead → HaltFor f e → ahead place.reader.held source_left ≡ place.ahead → IsStopped e form input source_left
-journal_stopped e form m what middle place input source_left f open_ stops is behind =
-    halted e form input source_left (open_.lines ++ stops.lines) place f (halts_later fresh middle.reader place.reader (Some input) middle.ahead place.ahead open_.lines stops.lines f open_.took stops.halts) is behind
+journal_stopped e form m what middle place input source_left f opening stops is behind =
+    halted e form input source_left (opening.lines ++ stops.lines) place f (halts_later fresh middle.reader place.reader (Some input) middle.ahead place.ahead opening.lines stops.lines f opening.took stops.halts) is behind
     (inr (record {
       model = m;
-      words = open_.words;
-      text = text_goes_on open_.lines stops.lines open_.words open_.text;
-      accepted = open_.accepted;
-      right = in_journal what stops.lines stops.log (tells_on form m open_.lines stops.lines [] open_.words what open_.text open_.before) stops.right stops.entries;
+      words = opening.words;
+      text = text_goes_on opening.lines stops.lines opening.words opening.text;
+      accepted = opening.accepted;
+      right = in_journal what stops.lines stops.log (tells_on form m opening.lines stops.lines [] opening.words what opening.text opening.before) stops.right stops.entries;
     }))
 
 -- before the journal
@@ -284,8 +284,8 @@ text_refused form kept start place input source_left held now begun (of_foreword
 
 short_whole : (form : Form) (m : Model) (what : Told) (middle place : Place) (input : List ℕ) (source_left held now : Option (List ℕ))
     → IsOpened form m what input middle → ShortBehind what m middle held place now → ahead place.reader.held source_left ≡ place.ahead → IsJournalShort form input source_left held now
-short_whole form m what middle place input source_left held now open_ (right_cut right front) behind = of_right (right_whole form m what middle place input source_left None None open_ right behind) front
-short_whole form m what middle place input source_left held now open_ (wrong_cut wrong front) behind = of_wrong (wrong_whole form m what middle place input source_left None None open_ wrong behind) front
+short_whole form m what middle place input source_left held now opening (right_cut right front) behind = of_right (right_whole form m what middle place input source_left None None opening right behind) front
+short_whole form m what middle place input source_left held now opening (wrong_cut wrong front) behind = of_wrong (wrong_whole form m what middle place input source_left None None opening wrong behind) front
 
 behind_short : (form : Form) (m : Model) (kept : Option (Vec ℕ Global)) (start place : Place) (input : List ℕ) (source_left held now : Option (List ℕ))
     → IsBegun fresh (Some input) kept start.reader start.ahead → IsKeptModel kept m → BehindCut form m start held place now → ahead place.reader.held source_left ≡ place.ahead → IsJournalShort form input source_left held now

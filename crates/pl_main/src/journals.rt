@@ -52,7 +52,7 @@ fn read_journal<S: Source, O: Sink>(
 }
 
 /// Reads what is asked for before a journal, and then the journal.
-#[tactic(auto, using(crate::proofs::Replaying::foreword_stops, crate::proofs::Replaying::foreword_refuses, crate::proofs::Replaying::foreword_tells))]
+#[tactic(auto, using(crate::proofs::Replaying::foreword_stops, crate::proofs::Replaying::foreword_refuses, crate::proofs::Replaying::foreword_tells, crate::proofs::Prefacing::tells_working))]
 fn read_behind<S: Source, O: Sink>(
     alloc: Global,
     form: Form,

@@ -63,7 +63,7 @@ fn look<T: Asked, S: Source>(
 }
 
 /// Reads what stands before a journal, for a checked model: up to and with the line `journal`, or the first line that is refused.
-#[tactic(auto, using(crate::proofs::Reading::before_none, crate::proofs::Reading::before_on, crate::proofs::Reading::before_whole, crate::proofs::Reading::before_refused, crate::proofs::Reading::before_ended, crate::proofs::Reading::before_halted))]
+#[tactic(auto, using(crate::proofs::Lines::before_none, crate::proofs::Lines::before_on, crate::proofs::Lines::before_whole, crate::proofs::Lines::before_refused, crate::proofs::Lines::before_ended, crate::proofs::Lines::before_halted))]
 pub fn read_preface<T: Asked, S: Source>(
     alloc: Global,
     model: &Model,

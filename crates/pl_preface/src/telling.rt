@@ -15,7 +15,7 @@ fn problem_words(problem: Problem) -> &'static [u8]
     }
 }
 
-#[tactic(auto, using(crate::proofs::Telling::words_joined))]
+#[tactic(auto, using(crate::proofs::Texts::words_joined))]
 fn push_line_words(text: &mut Vec<u8>, number: u64, words: &[u8]) -> Result<(), AllocError>
     ensures { OnOk result (text.new.items ≡ text.old.items ++ line_words number words.now) }
 {
@@ -42,7 +42,7 @@ fn push_refusal_words(text: &mut Vec<u8>, why: Refusal) -> Result<(), AllocError
 }
 
 /// The line that tells why what stands before a journal is refused. The label says what was asked for, as `rate`.
-#[tactic(auto, using(crate::proofs::Telling::line_joined), unfolding(crate::specs::Refusals::refusal_line))]
+#[tactic(auto, using(crate::proofs::Texts::line_joined), unfolding(crate::specs::Refusals::refusal_line))]
 pub fn refusal_line(alloc: Global, label: &[u8], why: Refusal) -> Result<Vec<u8>, AllocError>
     ensures { IfOk result (λ line. line.items ≡ refusal_line label.now why) }
 {

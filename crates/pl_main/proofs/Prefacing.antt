@@ -19,7 +19,7 @@ use Rattle.pl_preface.specs.Prefaces.{Said, so_far, whole, refused, said}
 use Rattle.pl_preface.specs.Gives.{HasPreface, IsRefusal, PrefaceHalts}
 use Rattle.pl_preface.specs.RateLines.{rate_in}
 use Rattle.pl_preface.specs.Refusals.{refusal_line}
-use Rattle.pl_preface.proofs.Reading.{whole_later, refused_later}
+use Rattle.pl_preface.proofs.Lines.{whole_later, refused_later}
 use Rattle.pl_main.specs.declared.form.Form.{Form}
 use Rattle.pl_main.specs.declared.form.Form.TheVariants as which
 use Rattle.pl_main.specs.declared.told.Told.{Told}
@@ -54,6 +54,9 @@ rates_stop m start place f halt.Full stops is = absurd (never_full f is)
 rates_stop m start place f halt.Write stops is = absurd (never_writes f is)
 rates_stop m start place f halt.Memory stops is = tt
 
+pub tells_working : (form : Form) (m : Model) (start : Place) (what : Told) (place : Place) → ForewordTells form m start what place → place.reader.failed ≡ None
+tells_working form m start what place before = before.took.working
+
 -- ---- behind the model's text
 
 count_by : (b : Bool) (x : List ℕ) (xs more : Lines) (words : List ℕ) (text : Option (List ℕ)) → model_text_of xs ≡ text → text_before x b text ≡ Some words → (if b then xs else lines_behind xs) ≡ []
@@ -80,17 +83,17 @@ IsClear (unended line) = ⊥
 IsClear (tells what behind) = ⊤
 IsClear (refuses line behind) = ⊤
 
-abbrev pub then : Lines → SaidBefore → SaidBefore
-then more (unended line) = unended line
-then more (tells what behind) = tells what (behind ++ more)
-then more (refuses line behind) = refuses line (behind ++ more)
+abbrev pub lengthened : Lines → SaidBefore → SaidBefore
+lengthened more (unended line) = unended line
+lengthened more (tells what behind) = tells what (behind ++ more)
+lengthened more (refuses line behind) = refuses line (behind ++ more)
 
-rates_on : (m : Model) (n : ℕ) (lines more : Lines) (s : Said Rate) → said (rate_in m) n [] lines ≡ s → IsClear (by_rates s) → by_rates (said (rate_in m) n [] (lines ++ more)) ≡ then more (by_rates s)
+rates_on : (m : Model) (n : ℕ) (lines more : Lines) (s : Said Rate) → said (rate_in m) n [] lines ≡ s → IsClear (by_rates s) → by_rates (said (rate_in m) n [] (lines ++ more)) ≡ lengthened more (by_rates s)
 rates_on m n lines more (so_far rates) is clear = absurd clear
 rates_on m n lines more (whole rates behind) is clear = ap by_rates (whole_later (rate_in m) n lines more behind rates is)
 rates_on m n lines more (refused why behind) is clear = ap by_rates (refused_later (rate_in m) n lines more behind why is)
 
-from_on : (form : Form) (m : Model) (n : ℕ) (lines more : Lines) → IsClear (said_from form m n lines) → said_from form m n (lines ++ more) ≡ then more (said_from form m n lines)
+from_on : (form : Form) (m : Model) (n : ℕ) (lines more : Lines) → IsClear (said_from form m n lines) → said_from form m n (lines ++ more) ≡ lengthened more (said_from form m n lines)
 from_on which.Replay m n lines more clear = refl
 from_on which.Report m n lines more clear = refl
 from_on (which.Flex id) m n lines more clear = refl
@@ -107,12 +110,12 @@ count_on [] more words e = absurd (let h : None ≡ Some words = e in (cc))
 count_on (x ∷ xs) more words e = count_step (is_line_of begin_word x) x xs more words (model_text_of xs) refl e (λ w h. count_on xs more w h)
 
 -- what is clear stays so
-said_on : (form : Form) (m : Model) (lines more : Lines) (words : List ℕ) (s : SaidBefore) → model_text_of lines ≡ Some words → said_before form m lines ≡ s → IsClear s → said_before form m (lines ++ more) ≡ then more s
+said_on : (form : Form) (m : Model) (lines more : Lines) (words : List ℕ) (s : SaidBefore) → model_text_of lines ≡ Some words → said_before form m lines ≡ s → IsClear s → said_before form m (lines ++ more) ≡ lengthened more s
 said_on form m lines more words s text is clear =
     ap (λ (k : ℕ). said_from form m k (lines_behind (lines ++ more))) (count_on lines more words text)
     ∙ ap (λ (ls : Lines). said_from form m (lines_to_begin lines) ls) (behind_goes_on lines more words text)
     ∙ from_on form m (lines_to_begin lines) (lines_behind lines) more (subst IsClear (sym is) clear)
-    ∙ ap (then more) is
+    ∙ ap (lengthened more) is
 
 pub tells_on : (form : Form) (m : Model) (lines more behind : Lines) (words : List ℕ) (what : Told) → model_text_of lines ≡ Some words → said_before form m lines ≡ tells what behind → said_before form m (lines ++ more) ≡ tells what (behind ++ more)
 tells_on form m lines more behind words what text is = said_on form m lines more words (tells what behind) text is tt
