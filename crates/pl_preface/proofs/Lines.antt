@@ -1,7 +1,8 @@
 -- What stands before a journal, line by line.
-use Rattle.std.proofs.Common.{◌≡◌, ℕ, suc, ◌+◌, List, [], ◌∷◌, ◌++◌, length, Bool, true, false, if◌then◌else◌, Option, Some, None, ◌⊎◌, inl, inr, refl, sym, ◌∙◌, ap, subst, arith}
+use Rattle.std.proofs.Common.{◌≡◌, ℕ, suc, ◌+◌, List, [], ◌∷◌, ◌++◌, length, Bool, true, false, if◌then◌else◌, Option, Some, None, ◌⊎◌, inl, inr, refl, sym, ◌∙◌, ap, add-zero, arith}
 use Rattle.std.proofs.lemmas.List.{append-nil}
-use Rattle.std.specs.Prelude.{nat_lt}
+use Rattle.std.proofs.lemmas.List.Elements.{All-nil, All-push}
+use Rattle.std.specs.Prelude.{nat_lt, All}
 use Rattle.pl_io.specs.declared.errors.LineFault.{LineFault}
 use Rattle.pl_io.specs.Reader.{Reader}
 use Rattle.pl_input.specs.Reads.{ReadsLines, Halts, IsUsedUp}
@@ -9,9 +10,10 @@ use Rattle.pl_input.proofs.Reading.{took_none, took_more, used_later, halts_late
 use Rattle.pl_preface.specs.declared.refusal.Refusal.{Refusal}
 use Rattle.pl_preface.specs.declared.refusal.Refusal.TheVariants as refusal
 use Rattle.pl_preface.specs.declared.found.Found.{Found}
+use Rattle.pl_preface.specs.declared.found.Found.TheVariants as found
 use Rattle.pl_preface.specs.declared.found.Step.{Step}
 use Rattle.pl_preface.specs.declared.found.Step.TheVariants as step
-use Rattle.pl_preface.specs.Prefaces.{Reading, found_in, step_by, Said, so_far, whole, refused, goes_on, said}
+use Rattle.pl_preface.specs.Prefaces.{Reading, most_items, found_in, step_by, Said, so_far, whole, refused, goes_on, said, FitsFound, FitsStep}
 use Rattle.pl_preface.specs.Gives.{SeesLine, IsBeforeJournal, HasPreface, HasRefusedLine, HasNoJournal, IsRefusal, PrefaceHalts}
 
 abbrev Lines : Type 0
@@ -33,7 +35,7 @@ step_continues read n (step.Refused why) xs more rest longer same = refl
 step_continues read n step.Ended xs more rest longer same = refl
 
 pub said_append : {X : Type 0} (read : Reading X) (n : ℕ) (items : List X) (lines more : Lines) → said read n items (lines ++ more) ≡ continued read (n + length lines) more (said read n items lines)
-said_append read n items [] more = refl
+said_append read n items [] more = ap (λ (k : ℕ). said read k items more) (sym (add-zero n))
 said_append {X} read n items (x ∷ xs) more =
     let count : suc n + length xs ≡ n + length (x ∷ xs) = omega arith in
     step_continues read (n + length (x ∷ xs)) (step_by (suc n) items (found_in read x)) xs more (λ (ys : List X). said read (suc n) ys xs) (λ (ys : List X). said read (suc n) ys (xs ++ more))
@@ -57,7 +59,8 @@ before_none read old before working = record { lines = []; took = took_none old 
 one_more : {X : Type 0} (read : Reading X) (old mid new : Reader) (before middle after : Option (List ℕ)) (items : List X) (next : Step X) (so : IsBeforeJournal read old before items mid middle) (sees : SeesLine read mid middle items next new after)
     → said read old.number [] (so.lines ++ sees.line ∷ []) ≡ goes_on next [] (λ (ys : List X). so_far ys)
 one_more {X} read old mid new before middle after items next so sees =
-    let number : suc (old.number + length so.lines) ≡ new.number = omega (arith, so.took.number, sees.took.number) in
+    let one : length (sees.line ∷ []) ≡ 1 = refl in
+    let number : suc (old.number + length so.lines) ≡ new.number = omega (arith, so.took.number, sees.took.number, one) in
     said_later read old.number so.lines (sees.line ∷ []) items so.says
     ∙ ap (λ (n : ℕ). goes_on (step_by n items (found_in read sees.line)) [] (λ (ys : List X). so_far ys)) number
     ∙ ap (λ (s : Step X). goes_on s [] (λ (ys : List X). so_far ys)) (sym sees.is)
@@ -99,3 +102,18 @@ before_halted read old mid new before middle after items f so halts = record {
   halts = halts_later old mid new before middle after so.lines [] f so.took halts;
   says = rw (append-nil so.lines) so.says;
 }
+
+-- ---- what holds of the items
+
+pub no_items : {X : Type 0} (fits : X → Type 0) → All fits []
+no_items fits = All-nil fits
+
+added_fits : {X : Type 0} (fits : X → Type 0) (b : Bool) (why : Refusal) (items : List X) (x : X) → All fits items → fits x → FitsStep fits (if b then step.More (items ++ x ∷ []) else step.Refused why)
+added_fits fits true why items x all one = All-push fits items x all one
+added_fits fits false why items x all one = tt
+
+pub step_fits : {X : Type 0} (fits : X → Type 0) (number : ℕ) (items : List X) (it : Found X) → All fits items → FitsFound fits it → FitsStep fits (step_by number items it)
+step_fits fits number items found.Journal all one = all
+step_fits fits number items found.Blank all one = all
+step_fits fits number items (found.Item x) all one = added_fits fits (nat_lt (length items) most_items) (refusal.TooMany number) items x all one
+step_fits fits number items (found.Faulty p) all one = tt

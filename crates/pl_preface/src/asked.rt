@@ -1,7 +1,7 @@
 ghost use Rattle.std.specs.Prelude.{◌≡◌, ◌<◌, ◌^◌, ℕ, List, length, Result, IfOk};
-ghost use Rattle.pl_model.specs.declared.whole.Model.{Model as ModelValue};
+ghost use Rattle.pl_model.specs.declared.whole.Model.{Model};
 ghost use Rattle.pl_model.specs.Checked.{IsChecked};
-ghost use Rattle.pl_preface.specs.declared.problem.Problem.{Problem as ProblemValue};
+ghost use Rattle.pl_preface.specs.declared.problem.Problem.{Problem};
 
 use crate::problem::Problem;
 use pl_model::Model;
@@ -10,10 +10,10 @@ use std::alloc::{AllocError, Global};
 /// What a line before a journal may be asked to say: a rate, for one.
 pub trait Asked: Drop + Sized {
     // what a line says, by the model
-    ghost meant: { ModelValue → List ℕ → Result Self ProblemValue };
+    ghost meant: { Model → List ℕ → Result Self Problem };
 
     // what holds of an item that a line says
-    ghost fits: { ModelValue → Self → Type 0 };
+    ghost fits: { Model → Self → Type 0 };
 
     /// What a line says, or why it is refused.
     fn read(

@@ -17,7 +17,8 @@ use pl_model::Model;
 use std::alloc::{AllocError, Global};
 
 /// How the reading goes on behind a line, with the items before it.
-fn step<T: Asked>(
+#[tactic(auto, using(crate::proofs::Lines::step_fits))]
+fn go_on<T: Asked>(
     alloc: Global,
     model: &Model,
     number: u64,
@@ -31,8 +32,8 @@ fn step<T: Asked>(
     ensures fits { IfOk result (FitsStep (T.fits model.now)) }
 {
     let found = find(alloc, model, line)?;
-    let step = step_by(number, found, items)?;
-    Ok(step)
+    let next = step_by(number, found, items)?;
+    Ok(next)
 }
 
 /// The next line, with the items before it.
@@ -56,14 +57,14 @@ fn look<T: Asked, S: Source>(
     match next_line(lines, src)? {
         None => Ok(Step::Ended),
         Some(line) => {
-            let step = step(alloc, model, line.number, line.bytes(), items)?;
-            Ok(step)
+            let next = go_on(alloc, model, line.number, line.bytes(), items)?;
+            Ok(next)
         }
     }
 }
 
 /// Reads what stands before a journal, for a checked model: up to and with the line `journal`, or the first line that is refused.
-#[tactic(auto, using(crate::proofs::Lines::before_none, crate::proofs::Lines::before_on, crate::proofs::Lines::before_whole, crate::proofs::Lines::before_refused, crate::proofs::Lines::before_ended, crate::proofs::Lines::before_halted))]
+#[tactic(auto, using(crate::proofs::Lines::no_items, crate::proofs::Lines::before_none, crate::proofs::Lines::before_on, crate::proofs::Lines::before_whole, crate::proofs::Lines::before_refused, crate::proofs::Lines::before_ended, crate::proofs::Lines::before_halted))]
 pub fn read_preface<T: Asked, S: Source>(
     alloc: Global,
     model: &Model,
