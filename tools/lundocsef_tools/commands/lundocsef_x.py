@@ -22,6 +22,7 @@ EXAMPLES = """examples:
   console | lundocsef-x run model.txt - | plan-live model.txt
   lundocsef-x replay examples/camera.txt examples/camera.journal
   lundocsef-x report examples/camera.txt examples/camera.journal
+  lundocsef-x flex 3 examples/camera.txt examples/camera.journal
   lundocsef-x --completion bash > ~/.local/share/bash-completion/completions/lundocsef-x
 
 status: that of the program (2: its words, 3: the model, 4: reading, 5: writing, 6: too long, 7: the journal is full,
@@ -31,11 +32,13 @@ BEHIND = {
     'run': 'the messages: a file, or `-` for standard input, line by line as they come (default: what stands behind `begin` in MODEL)',
     'replay': 'the journal: a file or `-` (default: what stands behind `begin` in MODEL)',
     'report': 'the journal: a file or `-` (default: what stands behind `begin` in MODEL)',
+    'flex': 'the journal: a file or `-` (default: what stands behind `begin` in MODEL)',
 }
 HELP = {
     'run': 'plan, and write the journal', 'check': 'say whether a text is a model, or its first fault',
     'replay': 'say whether a journal is legal, or its first wrong entry', 'report': 'write the plan behind a journal',
     'demo': 'plan N built-in goals',
+    'flex': 'say how far each activity behind a journal can move, and what keeps one of them there',
 }
 
 
@@ -69,6 +72,8 @@ def make_parser():
         if name == 'demo':
             command.add_argument('count', metavar='N', type=int, help='how many goals, 1 to 4000')
             continue
+        if name == 'flex':
+            command.add_argument('id', metavar='ID', type=int, help='the number of the activity whose limits are written')
         command.add_argument('model', metavar='MODEL', help='a file with the model')
         if name in BEHIND:
             command.add_argument('behind', metavar='MESSAGES' if name == 'run' else 'JOURNAL', nargs='?', help=BEHIND[name])
@@ -83,6 +88,8 @@ def words_of(given):
     """The words that the program takes."""
     if given.command == 'demo':
         return ['demo', str(given.count)]
+    if given.command == 'flex':
+        return ['flex', str(given.id)]
     if given.command == 'run':
         return ['run', 'solo', str(given.turns)] if given.seed is None else ['run', 'pair', str(given.turns), str(given.seed)]
     return [given.command]
