@@ -2,7 +2,7 @@
 ghost use Rattle.std.specs.Prelude.{ℕ, List, Option};
 ghost use Rattle.pl_main.specs.Top.{line_limit, IsFound, IsNoModel, IsPastHead};
 ghost use Rattle.pl_main.specs.Endings.{IsDone, IsPastLimit, IsFull};
-ghost use Rattle.pl_main.specs.RunKinds.{solo_run, pair_run};
+ghost use Rattle.pl_main.specs.RunKinds.{solo_run, look_run, pair_run};
 ghost use Rattle.pl_main.specs.Demos.{IsShown, IsShownInPart};
 ghost use Rattle.pl_main.specs.declared.form.Form.{Form};
 ghost use Rattle.pl_main.specs.Replays.{journal_line_limit, IsRightJournal, IsWrongJournal, IsRefused, IsPastJournal};
@@ -10,7 +10,7 @@ ghost use Rattle.pl_main.specs.Limits.{IsWithinLimits};
 
 /// The causes of the statuses 0, 3, 6 and 7 of a run stand one at a time, whatever was written, and
 /// so do those of the statuses 0, 3 and 6 of a check, of 0, 3, 6 and 8 where a journal is read, and of 0 and 7 of a
-/// demonstration. Of a pair that of 3 stands apart from those of 0, 6 and 7, and those of 0 and 6 from one another. An input within the limits has no cause of 6.
+/// demonstration. Of a pair, and of a run that looks ahead, that of 3 stands apart from those of 0, 6 and 7, and those of 0 and 6 from one another. An input within the limits has no cause of 6.
 pub fn statuses_are_told_apart()
     ensures done_not_refused { (turns : ℕ) (input : List ℕ) (left held now other_left other_held other_now : Option (List ℕ))
         → IsDone (solo_run turns) input left held now → IsNoModel line_limit input other_left other_held other_now → ⊥ }
@@ -40,6 +40,14 @@ pub fn statuses_are_told_apart()
         → IsNoModel line_limit input left held now → IsPastLimit (pair_run turns seed) input other_left other_held other_now → ⊥ }
     ensures pair_refused_not_full { (turns seed : ℕ) (input : List ℕ) (left held now other_left other_held other_now : Option (List ℕ))
         → IsNoModel line_limit input left held now → IsFull (pair_run turns seed) input other_left other_held other_now → ⊥ }
+    ensures ahead_done_not_refused { (turns : ℕ) (input : List ℕ) (left held now other_left other_held other_now : Option (List ℕ))
+        → IsDone (look_run turns) input left held now → IsNoModel line_limit input other_left other_held other_now → ⊥ }
+    ensures ahead_done_not_past { (turns : ℕ) (input : List ℕ) (left held now other_left other_held other_now : Option (List ℕ))
+        → IsDone (look_run turns) input left held now → IsPastLimit (look_run turns) input other_left other_held other_now → ⊥ }
+    ensures ahead_refused_not_past { (turns : ℕ) (input : List ℕ) (left held now other_left other_held other_now : Option (List ℕ))
+        → IsNoModel line_limit input left held now → IsPastLimit (look_run turns) input other_left other_held other_now → ⊥ }
+    ensures ahead_refused_not_full { (turns : ℕ) (input : List ℕ) (left held now other_left other_held other_now : Option (List ℕ))
+        → IsNoModel line_limit input left held now → IsFull (look_run turns) input other_left other_held other_now → ⊥ }
     ensures right_not_wrong { (form : Form) (input : List ℕ) (left held now other_left other_held other_now : Option (List ℕ))
         → IsRightJournal form input left held now → IsWrongJournal form input other_left other_held other_now → ⊥ }
     ensures right_not_refused { (form : Form) (input : List ℕ) (left held now other_left other_held other_now : Option (List ℕ))
@@ -56,6 +64,8 @@ pub fn statuses_are_told_apart()
         → IsWithinLimits line_limit input → IsPastLimit (solo_run turns) input left held now → ⊥ }
     ensures pair_within { (turns seed : ℕ) (input : List ℕ) (left held now : Option (List ℕ))
         → IsWithinLimits line_limit input → IsPastLimit (pair_run turns seed) input left held now → ⊥ }
+    ensures ahead_within { (turns : ℕ) (input : List ℕ) (left held now : Option (List ℕ))
+        → IsWithinLimits line_limit input → IsPastLimit (look_run turns) input left held now → ⊥ }
     ensures head_within { (input : List ℕ) (left held now : Option (List ℕ))
         → IsWithinLimits line_limit input → IsPastHead line_limit input left held now → ⊥ }
     ensures journal_within { (form : Form) (input : List ℕ) (left held now : Option (List ℕ))
