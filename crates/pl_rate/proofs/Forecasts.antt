@@ -1,15 +1,14 @@
 -- The forecast by hinges is the one that is meant.
-use Rattle.std.proofs.Common.{◌≡◌, ⊎_elim, ℕ, zero, suc, ◌+◌, ◌-◌, ◌≤◌, ◌<◌, Bool, true, false, List, [], ◌∷◌, ◌++◌, length, map, drop, get_or, Option, Some, None, refl, sym, ap, ◌∙◌, subst, arith, append_assoc, ℤ, pos, ◌+ℤ◌}
-use Rattle.std.specs.Prelude.{All, IsSome, slice_get, min, int_lt}
+use Rattle.std.proofs.Common.{◌≡◌, ⊎_elim, ℕ, suc, ◌-◌, ◌≤◌, ◌<◌, Bool, true, false, List, [], ◌∷◌, ◌++◌, map, Option, Some, refl, sym, ap, ◌∙◌, subst, arith, append_assoc, ℤ, ◌+ℤ◌}
+use Rattle.std.specs.Prelude.{min, int_lt}
 use Rattle.std.specs.List.{flat_map}
 use Rattle.std.proofs.lemmas.Bool.{cases_lt}
 use Rattle.pl_model.specs.declared.timelines.Timeline.{Timeline}
 use Rattle.pl_model.specs.declared.timelines.Timeline.TheVariants as timeline
 use Rattle.pl_model.specs.declared.whole.Model.{Model}
-use Rattle.pl_facts.specs.Bases.{AreBasesOf, base_of}
+use Rattle.pl_facts.specs.Bases.{base_of}
 use Rattle.pl_points.specs.declared.span.Span.{Span}
 use Rattle.pl_points.specs.declared.limit.Limit.{Limit}
-use Rattle.pl_points.specs.declared.limit.Limit.TheVariants.{Below, Above}
 use Rattle.pl_points.specs.Spans.{spans_of, span}
 use Rattle.pl_points.specs.Limits.{is_outside}
 use Rattle.pl_points.proofs.Maximal.{local}

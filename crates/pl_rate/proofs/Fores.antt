@@ -1,7 +1,6 @@
 -- What hinges of drifts and of activities add is what effects and rates add; and what is asked of reservations, rates and bases.
-use Rattle.std.proofs.Common.{◌≡◌, ℕ, zero, suc, ◌+◌, ◌-◌, ◌≤◌, ◌<◌, Bool, true, false, ◌&&◌, List, [], ◌∷◌, ◌++◌, length, map, get_or, Option, Some, None, refl, sym, ap, ◌∙◌, subst, arith, eqb, ℤ, pos, ◌+ℤ◌, ◌*ℤ◌, if◌then◌else◌, rules}
-use Rattle.std.specs.Prelude.{All, IsSome, is_some, is_none, slice_get, min, max, ◌==◌, neg_ℤ, nat_lt}
-use Rattle.std.specs.List.{flat_map}
+use Rattle.std.proofs.Common.{◌≡◌, ℕ, zero, suc, ◌+◌, ◌-◌, ◌<◌, Bool, true, false, ◌&&◌, List, [], ◌∷◌, length, map, Option, Some, None, refl, sym, ap, ◌∙◌, subst, arith, eqb, ℤ, pos, ◌+ℤ◌, ◌*ℤ◌, if◌then◌else◌, rules}
+use Rattle.std.specs.Prelude.{All, IsSome, is_some, is_none, slice_get, min, max, ◌==◌, nat_lt}
 use Rattle.std.proofs.lemmas.Int.{ints}
 use Rattle.std.proofs.lemmas.Bool.{eqb-true}
 use Rattle.std.proofs.Math.IntN.{*ℤ-zero}
@@ -14,7 +13,7 @@ use Rattle.pl_model.specs.declared.timelines.Timeline.TheVariants as timeline
 use Rattle.pl_model.specs.declared.kinds.Kind.{Kind}
 use Rattle.pl_model.specs.declared.whole.Model.{Model}
 use Rattle.pl_model.specs.Checked.{IsChecked, IsReservation, IsLevelLine}
-use Rattle.pl_facts.specs.Bases.{base_of, first_base, first_bases}
+use Rattle.pl_facts.specs.Bases.{base_of, first_base}
 use Rattle.pl_points.specs.Sums.{total}
 use Rattle.pl_level.specs.Effects.{counted}
 use Rattle.pl_plan.specs.declared.activity.Activity.{Activity}
@@ -27,8 +26,8 @@ use Rattle.pl_plan.proofs.FirmSteps.{checked_kind}
 use Rattle.pl_semantics.specs.declared.plan_state.PlanState.{PlanState}
 use Rattle.pl_semantics.specs.declared.demand.Demand.{Demand}
 use Rattle.pl_semantics.specs.PlanStates.{numbered, reservations_in, row_of, amounts_at, end_at, of_found}
-use Rattle.pl_semantics.specs.Whole.{IsWhole, IsBase}
-use Rattle.pl_semantics.specs.Demands.{since, told, asked_of, effect_in, effects_of, asked_with, demands_until, demands_at, demands_of, level_at}
+use Rattle.pl_semantics.specs.Whole.{IsBase}
+use Rattle.pl_semantics.specs.Demands.{since, told, asked_of, effect_in, effects_of, demands_until, demands_at, demands_of, level_at}
 use Rattle.pl_detect.specs.Amounts.{AreGiven, asked_by}
 use Rattle.pl_detect.proofs.Bounded.{firm_until}
 use Rattle.pl_detect.proofs.Giving.{given, amounts_are, asked_of_all}
@@ -36,7 +35,7 @@ use Rattle.pl_rate.specs.declared.hinge.Hinge.{Hinge}
 use Rattle.pl_rate.specs.declared.rate.Rate.{Rate}
 use Rattle.pl_rate.specs.Rates.{IsRateOf}
 use Rattle.pl_rate.specs.Fores.{AreBased, AreBasedAsMade, AreBasedAsKept, moments_with, each_moment, is_running, drifted, run, runs, fore}
-use Rattle.pl_rate.specs.Hinges.{sum_on, Gain, Gains, run_over, since_of, asked_gain, reserved_gain, rate_gain, drift_gain, activity_gain, IsBased, IsUsable}
+use Rattle.pl_rate.specs.Hinges.{sum_on, Gains, run_over, since_of, reserved_gain, rate_gain, drift_gain, activity_gain, IsBased, IsUsable}
 use Rattle.pl_rate.proofs.Bends.{count_run, count_each}
 use Rattle.pl_rate.proofs.Gained.{total_same, total_both, total_none, total_flat, total_map, total_swap, gains_both}
 

@@ -1,8 +1,7 @@
 -- What is put behind hinges, one after the other, adds up.
-use Rattle.std.proofs.Common.{◌≡◌, ℕ, suc, ◌+◌, drop-cons, ◌≤◌, ◌<◌, ◌-◌, Bool, true, false, ◌&&◌, List, [], ◌∷◌, ◌++◌, length, drop, get_or, ℤ, pos, ◌+ℤ◌, ◌*ℤ◌, ◌≤ℤ◌, refl, sym, ap, ◌∙◌, subst, arith, eqb, if◌then◌else◌}
-use Rattle.std.specs.Prelude.{All, flat_map, map, neg_ℤ, min, nat_le, nat_lt, Option, Some, None}
+use Rattle.std.proofs.Common.{◌≡◌, ℕ, suc, ◌+◌, drop-cons, ◌≤◌, ◌<◌, Bool, true, false, List, [], ◌∷◌, ◌++◌, length, drop, get_or, ℤ, pos, ◌+ℤ◌, ◌≤ℤ◌, refl, sym, ap, ◌∙◌, arith, eqb, if◌then◌else◌}
+use Rattle.std.specs.Prelude.{All, flat_map, map, neg_ℤ, nat_le, nat_lt}
 use Rattle.std.proofs.lemmas.Int.{ints}
-use Rattle.std.proofs.lemmas.Bool.{eqb-true}
 use Rattle.std.proofs.lemmas.Bool.Decides.{nat_tests}
 use Rattle.std.proofs.lemmas.List.Elements.{All-push}
 use Rattle.std.proofs.lemmas.List.{drop_all}
@@ -12,7 +11,7 @@ use Rattle.pl_points.proofs.Totals.{total-push}
 use Rattle.pl_level.specs.Effects.{counted, effect_of}
 use Rattle.pl_rate.specs.declared.hinge.Hinge.{Hinge}
 use Rattle.pl_rate.specs.Courses.{added_by, IsFlat}
-use Rattle.pl_rate.specs.Hinges.{added_on, sum_on, Gain, Gains, gain_on, run_over, IsChange, since_of}
+use Rattle.pl_rate.specs.Hinges.{added_on, sum_on, Gain, Gains, gain_on, run_over, IsChange}
 use Rattle.pl_rate.proofs.Bends.{bend, bends, no_run, jump_alone}
 
 -- ---- sums

@@ -1,15 +1,14 @@
 -- Hinges by level and moment: what sorting gives, and those of one level.
-use Rattle.std.proofs.Common.{◌≡◌, ℕ, zero, suc, ◌+◌, ◌≤◌, ◌<◌, Bool, true, false, List, [], ◌∷◌, length, get_or, ℤ, pos, ◌+ℤ◌, refl, sym, ap, ◌∙◌, subst, arith, eqb, ltb, leb, if◌then◌else◌, cond}
-use Rattle.std.specs.Prelude.{All, nat_lt, nat_le}
+use Rattle.std.proofs.Common.{◌≡◌, ℕ, suc, ◌+◌, ◌≤◌, ◌<◌, Bool, true, false, List, [], ◌∷◌, length, get_or, pos, ◌+ℤ◌, refl, sym, ◌∙◌, subst, arith, eqb, ltb, leb, cond}
+use Rattle.std.specs.Prelude.{All}
 use Rattle.std.specs.Ordering.{is_lt}
 use Rattle.std.specs.List.Sorted.{IsSorted}
 use Rattle.std.proofs.lemmas.Grind.{common_steps}
 use Rattle.std.proofs.lemmas.Int.{ints}
-use Rattle.std.proofs.lemmas.Bool.{eqb-true, eq-eqb, ne_eqb, ltb-true, ltb-false, leb-true, leb-false, le-ltb, lt-leb}
+use Rattle.std.proofs.lemmas.Bool.{eq-eqb, ne_eqb, ltb-true, ltb-false, leb-true, leb-false, le-ltb, lt-leb}
 use Rattle.std.proofs.lemmas.Bool.Decides.{nat_tests}
 use Rattle.std.proofs.lemmas.List.Elements.{All-head, All-tail}
 use Rattle.pl_lists.specs.Lists.{front, back}
-use Rattle.pl_points.specs.Sums.{total}
 use Rattle.pl_points.proofs.Parting.{NonePass, IsParted}
 use Rattle.pl_rate.specs.declared.hinge.Hinge.{Hinge}
 use Rattle.pl_rate.specs.Courses.{added_by, sum_of, IsFlat, RiseFrom}

@@ -1,5 +1,5 @@
 -- What a rate that is read names is there, and its change is in range.
-use Rattle.std.proofs.Common.{◌≡◌, ℕ, ◌+◌, ◌<◌, ◌≤◌, Bool, true, false, List, length, Ok, Err, refl, sym, subst, arith, ℤ, pos, ◌≤ℤ◌, if◌then◌else◌}
+use Rattle.std.proofs.Common.{◌≡◌, ℕ, ◌<◌, ◌≤◌, Bool, true, false, List, length, Ok, Err, refl, sym, subst, arith, pos, ◌≤ℤ◌, if◌then◌else◌}
 use Rattle.std.specs.Prelude.{Option, Some, None, IfSome, IfOk, slice_get, bytes_eq, nat_le, neg_ℤ}
 use Rattle.std.proofs.lemmas.Option.{slice_get_within}
 use Rattle.std.proofs.lemmas.Bool.{leb-true}
@@ -15,7 +15,6 @@ use Rattle.pl_model.specs.declared.whole.Model.{Model}
 use Rattle.pl_model.specs.Checked.{IsLevelLine}
 use Rattle.pl_msg.specs.Names.{kind_named, timeline_name, timeline_named}
 use Rattle.pl_msg.proofs.Within.{first_from-Some}
-use Rattle.pl_rate.specs.declared.fault.RateFault.{RateFault}
 use Rattle.pl_rate.specs.declared.fault.RateFault.TheVariants as fault
 use Rattle.pl_rate.specs.declared.form.RateForm.{RateForm}
 use Rattle.pl_rate.specs.declared.rate.Rate.{Rate}

@@ -1,5 +1,5 @@
 -- What hinges of all levels add to one of them, and what is put behind them.
-use Rattle.std.specs.Prelude.{◌≡◌, ℕ, ◌-◌, ◌==◌, min, ◌≤◌, nat_lt, ◌&&◌, Bool, true, false, ℤ, pos, neg_ℤ, ◌+ℤ◌, ◌*ℤ◌, ◌≤ℤ◌, List, [], ◌∷◌, ◌++◌, map, Option, Some, None, IsSome, is_none, All, if◌then◌else◌}
+use Rattle.std.specs.Prelude.{◌≡◌, ℕ, ◌-◌, ◌==◌, min, ◌&&◌, true, false, ℤ, pos, neg_ℤ, ◌+ℤ◌, ◌*ℤ◌, ◌≤ℤ◌, List, [], ◌++◌, map, Option, Some, IsSome, is_none, All, if◌then◌else◌}
 use Rattle.pl_model.specs.declared.reservations.Reservation.{Reservation}
 use Rattle.pl_model.specs.declared.reservations.Reservation.TheVariants.{Take, Raise, Lower, Put, Must}
 use Rattle.pl_model.specs.declared.timelines.Timeline.{Timeline}
@@ -25,7 +25,7 @@ use Rattle.pl_rate.specs.declared.hinge.Hinge.{Hinge}
 use Rattle.pl_rate.specs.declared.rate.Rate.{Rate}
 use Rattle.pl_rate.specs.declared.outside.Outside.{Outside}
 use Rattle.pl_rate.specs.Courses.{added_by, IsFlat}
-use Rattle.pl_rate.specs.Fores.{moments_with, is_running, drifted, run, outside}
+use Rattle.pl_rate.specs.Fores.{moments_with, is_running, run, outside}
 
 -- what a hinge adds to the level of this number by a moment
 abbrev pub added_on : ℕ → ℕ → Hinge → ℤ

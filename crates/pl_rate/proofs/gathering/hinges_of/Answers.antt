@@ -1,4 +1,4 @@
-use Rattle.std.proofs.Common.{◌≡◌, ap, arith, ℤ, pos, ◌+ℤ◌}
+use Rattle.std.proofs.Common.{◌≡◌, ap, arith, pos}
 use Rattle.std.proofs.lemmas.Int.{ints}
 use Rattle.pl_rate.specs.Hinges.{seen, sum_on}
 use Rattle.pl_rate.proofs.Fores.{fore_is}

@@ -1,7 +1,6 @@
-use Rattle.std.proofs.Common.{◌≤◌, length, get_or, arith, pos, None}
-use Rattle.std.proofs.lemmas.List.{drop_all}
+use Rattle.std.proofs.Common.{get_or, pos, None}
 use Rattle.pl_rate.specs.declared.rate.Rate.{Rate}
-use Rattle.pl_rate.proofs.Gained.{cons_by, leaves_more, leaves_none}
+use Rattle.pl_rate.proofs.Gained.{cons_by, leaves_more}
 use Rattle.pl_rate.proofs.gathering.push_rates.Goals as goal
 
 abbrev first : Rate

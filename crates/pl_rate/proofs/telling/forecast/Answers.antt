@@ -1,6 +1,5 @@
-use Rattle.std.proofs.Common.{◌≡◌, ℕ, ap, ◌∙◌, ℤ, ◌+ℤ◌}
+use Rattle.std.proofs.Common.{ap, ◌∙◌, ◌+ℤ◌}
 use Rattle.std.specs.List.{flat_map}
-use Rattle.pl_points.specs.declared.span.Span.{Span}
 use Rattle.pl_points.specs.Spans.{span}
 use Rattle.pl_semantics.specs.PlanStates.{numbered}
 use Rattle.pl_semantics.specs.Demands.{told}

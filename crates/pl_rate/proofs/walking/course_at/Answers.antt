@@ -1,7 +1,7 @@
-use Rattle.std.proofs.Common.{◌≤◌, ◌+◌, ◌^◌, ◌≤ℤ◌, pos, ap, arith, refl, rules, FitsSigned}
+use Rattle.std.proofs.Common.{◌≤◌, ◌^◌, ◌≤ℤ◌, pos, ap, arith, rules, FitsSigned}
 use Rattle.std.specs.Prelude.{neg_ℤ}
 use Rattle.std.specs.Int.{w64, w128}
-use Rattle.std.proofs.lemmas.Int.{ints, to_z-of_z}
+use Rattle.std.proofs.lemmas.Int.{to_z-of_z}
 use Rattle.pl_rate.specs.declared.course.Course.{Course}
 use Rattle.pl_rate.proofs.Courses.{come_first, come_more, come_moved, later, flat, roomy}
 use Rattle.pl_rate.proofs.walking.course_at.Goals as goal
