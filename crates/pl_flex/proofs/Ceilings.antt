@@ -1,8 +1,7 @@
 -- In a solution of a plan's network no time lies past twice the greatest horizon.
-use Rattle.std.proofs.Common.{◌≡◌, ⊎_elim, ◌⊎◌, inl, inr, ℕ, zero, suc, ◌+◌, ◌*◌, ◌<◌, ◌≤◌, ℤ, pos, ◌-ℤ◌, ◌≤ℤ◌, ◌<ℤ◌, List, [], ◌∷◌, length, get_or, Option, Some, None, true, false, Bool, refl, sym, subst, arith}
+use Rattle.std.proofs.Common.{◌≡◌, ⊎_elim, ◌⊎◌, inl, inr, ℕ, zero, suc, ◌+◌, ◌*◌, ◌<◌, ℤ, pos, ◌-ℤ◌, ◌≤ℤ◌, ◌<ℤ◌, List, length, get_or, Option, Some, None, true, false, Bool, refl, subst, arith}
 use Rattle.std.specs.Prelude.{Contains, neg_ℤ}
 use Rattle.std.specs.List.{flat_map}
-use Rattle.std.proofs.lemmas.Bool.{cond_both}
 use Rattle.std.proofs.lemmas.Int.{ints}
 use Rattle.std.proofs.lemmas.List.Elements.{All-contains, Contains-append_left, Contains-append_right}
 use Rattle.pl_stn.specs.declared.net.Edge.{Edge}
@@ -11,10 +10,9 @@ use Rattle.pl_model.specs.declared.reservations.Point.TheVariants.{Start, End}
 use Rattle.pl_facts.specs.declared.goal.Goal.{Goal}
 use Rattle.pl_links.specs.declared.placed.Placed.{Placed}
 use Rattle.pl_semantics.specs.declared.plan_state.PlanState.{PlanState}
-use Rattle.pl_semantics.specs.PlanStates.{floor_of}
 use Rattle.pl_semantics.specs.Whole.{IsWhole}
 use Rattle.pl_times.specs.Times.{IsAboveAll}
-use Rattle.pl_flex.specs.FlexNets.{duration_of, edge, edges_of_duration, edges_of_place, edges_of_plan, edges_of_planned, edges_of_settled, edges_within, firm_in, firm_places, flex_net, goal_served, is_settled, point_at}
+use Rattle.pl_flex.specs.FlexNets.{duration_of, edge, edges_of_duration, edges_of_place, edges_of_plan, edges_of_planned, firm_in, firm_places, flex_net, goal_served, is_settled, point_at}
 use Rattle.pl_flex.proofs.Members.{contains_flat, contains_numbered}
 use Rattle.pl_flex.proofs.Extents.{HasEnds, all_end}
 

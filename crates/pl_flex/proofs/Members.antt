@@ -1,8 +1,9 @@
 -- What stands in lists that are made of lists, and at numbered places.
-use Rattle.std.proofs.Common.{◌≡◌, ◌≢◌, ℕ, zero, suc, ◌+◌, ◌<◌, ◌≤◌, List, [], ◌∷◌, ◌++◌, length, get_or, Option, Some, None, true, false, refl, sym, ap, ◌∙◌, subst, arith}
-use Rattle.std.specs.Prelude.{All, Contains, Bool, cond, filter, find, position, IfSome}
+use Rattle.std.proofs.Common.{◌≡◌, ℕ, zero, suc, ◌+◌, ◌<◌, ◌≤◌, List, [], ◌∷◌, ◌++◌, append_assoc, length, drop, get_or, Option, Some, None, true, refl, sym, ap, ◌∙◌, subst, arith}
+use Rattle.std.specs.Prelude.{All, Contains, Bool, filter, find, position, IfSome}
 use Rattle.std.specs.List.{flat_map}
 use Rattle.std.proofs.lemmas.Bool.{cond_both}
+use Rattle.std.proofs.lemmas.List.{drop_more}
 use Rattle.std.proofs.lemmas.List.Elements.{All-nil, All-cons, All-head, All-tail, Contains-append_left, Contains-append_right}
 use Rattle.std.proofs.lemmas.List.Quantifiers.{position-Some}
 use Rattle.pl_semantics.specs.PlanStates.{numbered}
@@ -56,3 +57,9 @@ position_within p (x ∷ xs) = within (position p (x ∷ xs)) refl
     within : (o : Option ℕ) → position p (x ∷ xs) ≡ o → IfSome o (λ k. k < length (x ∷ xs))
     within None e = tt
     within (Some k) e = (position-Some p (x ∷ xs) k x e).0
+
+-- one more of them is made into a list and appended
+pub pushed_more : {X U : Type 0} (f : X → List U) (xs : List X) (i : ℕ) (d : X) (old new whole : List U) → i < length xs → new ≡ old ++ f (get_or xs i d) → old ++ flat_map f (drop i xs) ≡ whole → new ++ flat_map f (drop (i + 1) xs) ≡ whole
+pushed_more f xs i d old new whole lt more is =
+    let one : old ++ flat_map f (get_or xs i d ∷ drop (i + 1) xs) ≡ whole = subst (λ ys. old ++ flat_map f ys ≡ whole) (drop_more xs i d lt) is in
+    ap (λ ys. ys ++ flat_map f (drop (i + 1) xs)) more ∙ append_assoc old (f (get_or xs i d)) (flat_map f (drop (i + 1) xs)) ∙ one

@@ -1,13 +1,12 @@
 -- The network of a plan is well formed.
-use Rattle.std.proofs.Common.{◌≡◌, ℕ, ◌+◌, ◌-◌, ◌*◌, ◌<◌, ◌≤◌, ℤ, pos, negsuc, ◌≤ℤ◌, List, [], ◌∷◌, ◌++◌, length, get_or, max, Option, Some, None, refl, sym, ap, ◌∙◌, subst, arith}
-use Rattle.std.specs.Prelude.{All, Contains, IfSome, neg_ℤ, nat_lt, ◌==◌}
+use Rattle.std.proofs.Common.{◌≡◌, ℕ, ◌+◌, ◌-◌, ◌*◌, ◌<◌, ◌≤◌, ℤ, pos, negsuc, ◌≤ℤ◌, [], ◌∷◌, length, get_or, max, Option, Some, None, refl, subst, arith}
+use Rattle.std.specs.Prelude.{All, IfSome, neg_ℤ, ◌==◌}
 use Rattle.std.specs.List.{flat_map}
 use Rattle.std.proofs.lemmas.Bool.{cond_both}
 use Rattle.std.proofs.lemmas.Int.{ints}
-use Rattle.std.proofs.lemmas.List.Elements.{All-nil, All-cons, All-append, All-weaker, All-map, Contains-append_left}
+use Rattle.std.proofs.lemmas.List.Elements.{All-nil, All-cons, All-append, All-weaker, Contains-append_left}
 use Rattle.pl_lists.proofs.Elements.{all_flat}
 use Rattle.pl_stn.specs.declared.net.Edge.{Edge}
-use Rattle.pl_stn.specs.declared.net.Net.{Net}
 use Rattle.pl_stn.specs.Nets.{IsWellFormed, edges_to_origin}
 use Rattle.pl_stn.proofs.Additions.{well_formed_first}
 use Rattle.pl_model.specs.declared.reservations.Point.{Point}

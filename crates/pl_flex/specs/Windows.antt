@@ -1,5 +1,5 @@
 -- How far each activity that is not committed can move, and the paths that show it.
-use Rattle.std.specs.Prelude.{◌≡◌, ℕ, ◌==◌, not, ℤ, pos, neg_ℤ, Bool, List, map, filter, find, Option, Some, None}
+use Rattle.std.specs.Prelude.{ℕ, ◌==◌, not, ℤ, pos, neg_ℤ, Bool, List, map, filter, find, Option, Some, None}
 use Rattle.pl_stn.specs.declared.net.Edge.{Edge}
 use Rattle.pl_stn.specs.declared.net.Net.{Net}
 use Rattle.pl_stn.specs.Nets.{time_of}

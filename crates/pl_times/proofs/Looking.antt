@@ -11,7 +11,6 @@ use Rattle.pl_times.specs.Times.{IsHeld, IsJoined}
 use Rattle.pl_times.specs.Index.{IsIndex, IsLast}
 use Rattle.pl_stn.specs.Causes.{Follows}
 use Rattle.pl_times.specs.declared.rising.Rising.{Rising}
-use Rattle.pl_times.specs.declared.timing.Timing.{Timing}
 use Rattle.pl_times.specs.Bounded.{IsEarly}
 use Rattle.std.specs.BinaryHeap.{heap_items}
 use Rattle.std.specs.List.Sorted.{IsPermutation}

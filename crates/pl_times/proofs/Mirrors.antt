@@ -1,5 +1,5 @@
 -- The solutions of a mirrored net are those of the net, negated.
-use Rattle.std.proofs.Common.{◌≡◌, ℕ, zero, suc, ◌<◌, ◌≤◌, ℤ, pos, negsuc, ◌≤ℤ◌, List, [], ◌∷◌, Option, map, refl, sym, ap, ◌∙◌, subst, arith}
+use Rattle.std.proofs.Common.{◌≡◌, ℕ, zero, suc, ◌<◌, ◌≤◌, ℤ, pos, negsuc, ◌≤ℤ◌, List, [], ◌∷◌, map, refl, sym, ap, ◌∙◌, subst, arith}
 use Rattle.std.specs.Prelude.{All, neg_ℤ}
 use Rattle.std.proofs.lemmas.Int.{ints}
 use Rattle.std.proofs.lemmas.List.{length-map}
@@ -9,7 +9,7 @@ use Rattle.pl_stn.specs.Nets.{IsSolution, IsLeast, Meets, time_of}
 use Rattle.pl_times.specs.Times.{AreSmall}
 use Rattle.pl_times.specs.Settling.{IsKnown}
 use Rattle.pl_times.specs.Mirror.{IsKnownBelow, mirrored, negated, turn}
-use Rattle.pl_times.specs.Times.{IsGreatest, IsHeld, IsJoined}
+use Rattle.pl_times.specs.Times.{IsGreatest, IsJoined}
 use Rattle.pl_times.specs.declared.timing.Timing.{Timing}
 use Rattle.pl_times.specs.Bounded.{IsEarly, IsLate}
 

@@ -1,5 +1,5 @@
 -- Nets that are joined, times that are small, what holds each point at its time, and the paths that show it.
-use Rattle.std.specs.Prelude.{ℕ, ℤ, pos, negsuc, ◌+ℤ◌, ◌-ℤ◌, ◌≤ℤ◌, ◌<ℤ◌, ◌≡◌, ◌≢◌, ◌≤◌, ◌<◌, int_le, Bool, List, [], ◌∷◌, length, map, All, AllPairs, Option, Some, None}
+use Rattle.std.specs.Prelude.{ℕ, ℤ, pos, negsuc, ◌-ℤ◌, ◌≤ℤ◌, ◌<ℤ◌, ◌≡◌, ◌≢◌, ◌≤◌, ◌<◌, int_le, Bool, List, [], ◌∷◌, length, map, All, AllPairs, Option, Some, None}
 use Rattle.pl_stn.specs.declared.net.Edge.{Edge}
 use Rattle.pl_stn.specs.declared.net.Net.{Net}
 use Rattle.pl_stn.specs.Nets.{IsSolution, Leads, most_of, edge_of, time_of}
