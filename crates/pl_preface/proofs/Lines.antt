@@ -87,13 +87,16 @@ before_refused read old mid new before middle after items why so sees =
 pub before_ended : {X : Type 0} (read : Reading X) (old mid new : Reader) (before middle after : Option (List ℕ)) (items : List X) → IsBeforeJournal read old before items mid middle → ReadsLines mid middle [] new after × IsUsedUp middle after
     → IsRefusal read old before refusal.NoJournal new after
 before_ended read old mid new before middle after items so ends =
-    inr (refl, record {
-      lines = so.lines ++ [];
-      items = items;
-      took = took_more old mid new before middle after so.lines [] so.took ends.0;
-      says = rw (append-nil so.lines) so.says;
-      used_up = used_later old.limit old.room before so.lines mid.room middle after so.took.gave ends.1;
-    })
+    inr (
+      refl,
+      record {
+        lines = so.lines ++ [];
+        items = items;
+        took = took_more old mid new before middle after so.lines [] so.took ends.0;
+        says = rw (append-nil so.lines) so.says;
+        used_up = used_later old.limit old.room before so.lines mid.room middle after so.took.gave ends.1;
+      },
+    )
 
 pub before_halted : {X : Type 0} (read : Reading X) (old mid new : Reader) (before middle after : Option (List ℕ)) (items : List X) (f : LineFault) → IsBeforeJournal read old before items mid middle → Halts mid middle [] f new after → PrefaceHalts read old before f new after
 before_halted read old mid new before middle after items f so halts = record {

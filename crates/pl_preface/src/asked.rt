@@ -16,11 +16,7 @@ pub trait Asked: Drop + Sized {
     ghost fits: { Model → Self → Type 0 };
 
     /// What a line says, or why it is refused.
-    fn read(
-        alloc: Global,
-        model: &Model,
-        line: &[u8],
-    ) -> Result<Result<Self, Problem>, AllocError>
+    fn read(alloc: Global, model: &Model, line: &[u8]) -> Result<Result<Self, Problem>, AllocError>
         requires checked { IsChecked model.now }
         requires short { length line.now < 2 ^ 32 }
         ensures means { IfOk result (λ said. said ≡ meant model.now line.now) }

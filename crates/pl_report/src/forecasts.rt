@@ -66,11 +66,7 @@ fn push_outside_words(
 }
 
 #[tactic(auto, using(crate::proofs::Texts::line_joined))]
-fn push_outside_line(
-    text: &mut Vec<u8>,
-    model: &Model,
-    outside: &Outside,
-) -> Result<(), AllocError>
+fn push_outside_line(text: &mut Vec<u8>, model: &Model, outside: &Outside) -> Result<(), AllocError>
     ensures { OnOk result (text.new.items ≡ text.old.items ++ outside_line model.now outside.now) }
 {
     text.extend_from_slice(side_word(outside.high))?;
@@ -79,11 +75,7 @@ fn push_outside_line(
     Ok(())
 }
 
-fn push_outside_lines(
-    text: &mut Vec<u8>,
-    model: &Model,
-    all: &[Outside],
-) -> Result<(), AllocError>
+fn push_outside_lines(text: &mut Vec<u8>, model: &Model, all: &[Outside]) -> Result<(), AllocError>
     ensures { OnOk result (text.new.items ≡ text.old.items ++ outside_lines model.now all.now) }
 {
     for outside in all {

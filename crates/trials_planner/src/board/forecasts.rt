@@ -106,7 +106,8 @@ fn assert_forecast(rt: &impl Abort, alloc: Global, changes: &str, lines: &str, w
     for span in &found.expect(rt, "memory") {
         let side = if span.high { "high" } else { "low" };
         let part = format!(in alloc; "{side} {} {} {}\n", span.level, span.from, span.to);
-        text.push_str(part.expect(rt, "memory").as_str()).expect(rt, "memory");
+        text.push_str(part.expect(rt, "memory").as_str())
+            .expect(rt, "memory");
     }
     holds(rt, text.as_str(), text.as_str() == wanted);
 }

@@ -46,10 +46,22 @@ fn assert_foretells<R: Abort + Threads + Wait + Sync>(
     text: &str,
 ) {
     let (before, text) = (lines(rt, alloc, before), lines(rt, alloc, text));
-    let entries = if before.contains("journal") { ENTRIES } else { "" };
+    let entries = if before.contains("journal") {
+        ENTRIES
+    } else {
+        ""
+    };
     let behind = format!(in alloc; "{before}{entries}").expect(rt, "memory");
     let input = joined(rt, alloc, MODEL, behind.as_bytes());
-    assert_does(rt, alloc, "forecast", failing, &input, status, text.as_bytes());
+    assert_does(
+        rt,
+        alloc,
+        "forecast",
+        failing,
+        &input,
+        status,
+        text.as_bytes(),
+    );
 }
 
 #[test]
@@ -76,11 +88,32 @@ fn drifts(rt: &impl Abort, alloc: Global, count: usize, last: &str) -> String {
 fn takes_64_rates(rt: HostRuntime) {
     let alloc = rt.alloc();
     let most = drifts(&rt, alloc, 64, "journal;");
-    assert_foretells(&rt, alloc, NONE, most.as_str(), 0, "forecast spans 1;high bat 1 100;");
+    assert_foretells(
+        &rt,
+        alloc,
+        NONE,
+        most.as_str(),
+        0,
+        "forecast spans 1;high bat 1 100;",
+    );
     let more = drifts(&rt, alloc, 65, "journal;");
-    assert_foretells(&rt, alloc, NONE, more.as_str(), 3, "rate: line 72: too many;");
+    assert_foretells(
+        &rt,
+        alloc,
+        NONE,
+        more.as_str(),
+        3,
+        "rate: line 72: too many;",
+    );
     let faulty = drifts(&rt, alloc, 64, "drift;journal;");
-    assert_foretells(&rt, alloc, NONE, faulty.as_str(), 3, "rate: line 72: bad line;");
+    assert_foretells(
+        &rt,
+        alloc,
+        NONE,
+        faulty.as_str(),
+        3,
+        "rate: line 72: bad line;",
+    );
 }
 
 #[test]
