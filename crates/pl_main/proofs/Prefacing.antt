@@ -1,5 +1,5 @@
 -- What stands between `begin` and a journal, as far as it is read.
-use Rattle.std.proofs.Common.{◌≡◌, ℕ, suc, ◌+◌, List, [], ◌∷◌, ◌++◌, length, Bool, true, false, Option, Some, None, Err, inl, inr, refl, sym, ◌∙◌, ap, subst}
+use Rattle.std.proofs.Common.{◌≡◌, ℕ, suc, ◌+◌, List, [], ◌∷◌, ◌++◌, length, Bool, true, false, if◌then◌else◌, Option, Some, None, Ok, Err, inl, inr, refl, sym, ◌∙◌, ap, subst}
 use Rattle.std.specs.Prelude.{⊤}
 use Rattle.pl_io.specs.declared.errors.LineFault.{LineFault}
 use Rattle.pl_model.specs.declared.whole.Model.{Model}
@@ -22,6 +22,7 @@ use Rattle.pl_preface.specs.Refusals.{refusal_line}
 use Rattle.pl_preface.proofs.Lines.{whole_later, refused_later}
 use Rattle.pl_main.specs.declared.form.Form.{Form}
 use Rattle.pl_main.specs.declared.form.Form.TheVariants as which
+use Rattle.pl_main.specs.declared.foreword.Foreword.TheVariants as foreword
 use Rattle.pl_main.specs.declared.told.Told.{Told}
 use Rattle.pl_main.specs.declared.told.Told.TheVariants as told
 use Rattle.pl_main.specs.Forewords.{SaidBefore, unended, tells, refuses, rates_label, by_rates, said_from, lines_to_begin, said_before, ForewordTells, ForewordRefuses, ForewordReads}
@@ -32,8 +33,17 @@ Lines = List (List ℕ)
 
 -- ---- what is read
 
-pub nothing_read : (form : Form) (m : Model) (start : Place) (what : Told) → start.reader.failed ≡ None → said_from form m start.reader.number [] ≡ tells what [] → ForewordTells form m start what start
+nothing_read : (form : Form) (m : Model) (start : Place) (what : Told) → start.reader.failed ≡ None → said_from form m start.reader.number [] ≡ tells what [] → ForewordTells form m start what start
 nothing_read form m start what working says = record { lines = []; took = took_none start.reader start.ahead working; says = says }
+
+pub nothing_for_replay : (m : Model) (start : Place) → start.reader.failed ≡ None → ForewordReads which.Replay m start (Ok (foreword.Tells told.Verdict)) start
+nothing_for_replay m start working = nothing_read which.Replay m start told.Verdict working refl
+
+pub nothing_for_report : (m : Model) (start : Place) → start.reader.failed ≡ None → ForewordReads which.Report m start (Ok (foreword.Tells told.Report)) start
+nothing_for_report m start working = nothing_read which.Report m start told.Report working refl
+
+pub nothing_for_flex : (id : ℕ) (m : Model) (start : Place) → start.reader.failed ≡ None → ForewordReads (which.Flex id) m start (Ok (foreword.Tells (told.Flex id))) start
+nothing_for_flex id m start working = nothing_read (which.Flex id) m start (told.Flex id) working refl
 
 pub rates_read : (m : Model) (start place : Place) (rates : List Rate) → HasPreface (rate_in m) start.reader start.ahead rates place.reader place.ahead → ForewordTells which.Forecast m start (told.Forecast rates) place
 rates_read m start place rates has = record { lines = has.lines; took = has.took; says = ap by_rates has.says }
@@ -53,6 +63,9 @@ rates_stop m start place f halt.Read stops is = record { reason = f; lines = sto
 rates_stop m start place f halt.Full stops is = absurd (never_full f is)
 rates_stop m start place f halt.Write stops is = absurd (never_writes f is)
 rates_stop m start place f halt.Memory stops is = tt
+
+pub rates_unread : (m : Model) (start place : Place) (e : Halt) → e ≡ halt.Memory → ForewordReads which.Forecast m start (Err e) place
+rates_unread m start place e is = subst (λ (h : Halt). ForewordReads which.Forecast m start (Err h) place) (sym is) tt
 
 pub tells_working : (form : Form) (m : Model) (start : Place) (what : Told) (place : Place) → ForewordTells form m start what place → place.reader.failed ≡ None
 tells_working form m start what place before = before.took.working

@@ -1,7 +1,5 @@
 -- What stands between the line `begin` and a journal: nothing, or rates up to the line `journal`.
-use Rattle.std.specs.Prelude.{◌≡◌, ℕ, suc, List, [], ◌∷◌, All, None, ◌⊎◌, Result, Ok, Err, if◌then◌else◌, codes, ⊤}
-use Rattle.std.specs.declared.vec.Vec.{Vec}
-use Rattle.std.specs.declared.alloc.Global.{Global}
+use Rattle.std.specs.Prelude.{◌≡◌, ℕ, suc, List, [], ◌∷◌, All, ◌⊎◌, Result, Ok, Err, if◌then◌else◌, codes, ⊤}
 use Rattle.pl_io.specs.declared.errors.LineFault.{LineFault}
 use Rattle.pl_model.specs.declared.whole.Model.{Model}
 use Rattle.pl_input.specs.declared.halt.Halt.{Halt}

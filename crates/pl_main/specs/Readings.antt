@@ -21,7 +21,7 @@ use Rattle.pl_main.specs.declared.told.Told.{Told}
 use Rattle.pl_main.specs.declared.judgement.Judgement.{Judgement}
 use Rattle.pl_main.specs.declared.judgement.Judgement.TheVariants as judged
 use Rattle.pl_input.specs.Places.{Place}
-use Rattle.pl_main.specs.Forewords.{refuses, ForewordTells, ForewordRefuses, ForewordStops}
+use Rattle.pl_main.specs.Forewords.{ForewordTells, ForewordRefuses, ForewordStops}
 use Rattle.pl_main.specs.Runs.{IsKeptModel, TextFails}
 use Rattle.pl_main.specs.Replays.{state_of, IsTextOf}
 

@@ -13,7 +13,7 @@ use pl_model::Model;
 use pl_preface::{Preface, read_preface, refusal_line};
 use std::alloc::Global;
 
-#[tactic(auto, using(crate::proofs::Prefacing::rates_read, crate::proofs::Prefacing::rates_refused, crate::proofs::Prefacing::rates_stop))]
+#[tactic(auto, using(crate::proofs::Prefacing::rates_read, crate::proofs::Prefacing::rates_refused, crate::proofs::Prefacing::rates_stop, crate::proofs::Prefacing::rates_unread))]
 fn read_rates<S: Source>(
     alloc: Global,
     model: &Model,
@@ -38,7 +38,7 @@ fn read_rates<S: Source>(
 }
 
 /// Reads what is asked for between the line `begin` and a journal.
-#[tactic(auto, using(crate::proofs::Prefacing::nothing_read))]
+#[tactic(auto, using(crate::proofs::Prefacing::nothing_for_replay, crate::proofs::Prefacing::nothing_for_report, crate::proofs::Prefacing::nothing_for_flex))]
 pub fn read_foreword<S: Source>(
     alloc: Global,
     form: Form,
