@@ -41,7 +41,6 @@ fn side_word(high: bool) -> &'static [u8]
     if high { b"high" } else { b"low" }
 }
 
-#[tactic(auto, using(crate::proofs::Texts::line_joined))]
 fn push_spans_line(text: &mut Vec<u8>, all: &[Outside]) -> Result<(), AllocError>
     ensures { OnOk result (text.new.items ≡ text.old.items ++ spans_line all.now) }
 {
@@ -111,7 +110,6 @@ fn state_forecast(
 }
 
 /// Where the levels of a machine's plan leave their limits by these rates, from the present up to the horizon.
-#[tactic(auto, using(crate::proofs::Foreseeing::rates_fit))]
 pub fn forecast_text(
     alloc: Global,
     machine: &Machine,

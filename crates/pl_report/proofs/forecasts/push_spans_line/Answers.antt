@@ -1,5 +1,4 @@
--- The longer label.
-use Rattle.std.proofs.Common.{ℕ, List, [], ◌∷◌, ◌++◌, length, codes, decimal, ap, ◌∙◌}
+use Rattle.std.proofs.Common.{ℕ, List, [], ◌∷◌, ◌++◌, length, decimal, codes, ap, ◌∙◌}
 use Rattle.pl_journal.specs.Rendering.Words.{spaced}
 use Rattle.pl_report.proofs.Texts.{line_joined}
 use Rattle.pl_report.proofs.forecasts.push_spans_line.Goals as goal
