@@ -161,8 +161,8 @@ const LATE_RUN: &str = "0 open turns 8 live 10000 goals 20000 entries 250000
 ";
 
 const NEVER: &str = "flex: no schedule
-cycle 1 0 -26
 cycle 0 1 20
+cycle 1 0 -26
 ";
 
 #[test]
