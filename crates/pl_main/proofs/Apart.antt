@@ -154,13 +154,13 @@ refused_not_right : (form : Form) (m : Model) (lines : Lines) (line : List ℕ) 
 refused_not_right form m lines line behind (in_foreword other says) refused = refused_not_unended behind line other (sym refused ∙ says)
 refused_not_right form m lines line behind (in_journal what taken log says right entries) refused = told_not_refused what taken behind line (sym says ∙ refused)
 
-pub refused_not_past : (form : Form) (input : List ℕ) (left held now other_left other_held other_now : Option (List ℕ)) → IsRefused form input left held now → IsPastJournal form input other_left other_held other_now → ⊥
-refused_not_past form input left held now other_left other_held other_now (no_model refused) past = by_asked past.asked
+pub refusal_not_past : (form : Form) (input : List ℕ) (left held now other_left other_held other_now : Option (List ℕ)) → IsRefused form input left held now → IsPastJournal form input other_left other_held other_now → ⊥
+refusal_not_past form input left held now other_left other_held other_now (no_model refused) past = by_asked past.asked
   where
     by_asked : (model_text_of past.lines ≡ None) ⊎ IsRightSoFar form past.lines → ⊥
     by_asked (inl none) = head_not_past journal_line_limit input past.lines past.left past.rest left held now past.why past.gave none refused
     by_asked (inr so_far) = no_model_of journal_line_limit input so_far.words so_far.model left held now (split_text journal_line_limit input past.lines past.left past.rest so_far.words past.gave so_far.text) so_far.accepted refused
-refused_not_past form input left held now other_left other_held other_now (no_foreword none) past = by_refused none.refused
+refusal_not_past form input left held now other_left other_held other_now (no_foreword none) past = by_refused none.refused
   where
     on : GoesOn journal_line_limit past.lines none.lines past.left past.rest none.left none.rest
     on = goes_on journal_line_limit total_limit input past.lines none.lines past.left past.rest none.left none.rest past.why past.gave none.gave

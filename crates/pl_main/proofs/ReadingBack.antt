@@ -24,9 +24,9 @@ use Rattle.pl_main.specs.declared.judgement.Judgement.{Judgement}
 use Rattle.pl_main.specs.declared.judgement.Judgement.TheVariants as judged
 use Rattle.pl_input.specs.Places.{Place, place_of}
 use Rattle.pl_main.specs.Runs.{IsKeptModel, TextFails}
-use Rattle.pl_main.specs.Top.{total_limit, fresh_reader, no_begin_line, ShowsNoLine, ShowsLimit, IsNoModel, faulty, of_model, IsReadTo}
+use Rattle.pl_main.specs.Top.{total_limit, fresh_reader, no_begin_line, ShowsNoLine, ShowsLimit, IsNoModel, faulty, IsReadTo}
 use Rattle.pl_main.specs.Replays.{journal_line_limit, HasTaken, IsRightJournal, IsWrong, no_entry, wrong_last, IsWrongJournal, IsRightSoFar, IsJournalShort, of_right, of_wrong, of_refusal, ReadsBack, ReadsBackKnown, IsRefusedBy, by_line, by_end, IsNoForeword, IsRefused, no_model, no_foreword, in_foreword, in_journal}
-use Rattle.pl_main.specs.Readings.{WritesAs, RightBehind, WrongBehind, ShortBehind, right_cut, wrong_cut, TextCut, refusal_cut, TextReads, ForewordFails, BehindStops, before_journal, in_journal_stops, BehindCut, foreword_cut, journal_behind_cut, TextRefused, of_foreword, behind_cut}
+use Rattle.pl_main.specs.Readings.{WritesAs, RightBehind, WrongBehind, ShortBehind, right_cut, wrong_cut, TextCut, refusal_cut, TextReads, ForewordFails, BehindStops, before_journal, in_journal_stops, BehindCut, foreword_cut, journal_behind_cut, TextRefused, text_fails, foreword_fails, behind_cut}
 use Rattle.pl_main.specs.Forewords.{unended, tells, refuses, said_from, said_before, ForewordTells, ForewordRefuses, ForewordStops}
 use Rattle.pl_main.proofs.Heading.{begins_at, begins_nowhere, shows_none, shows_limit, head_stopped, fresh_begun, fresh_nowhere, fresh_halts}
 use Rattle.std.proofs.lemmas.Option.{same_Some}
@@ -276,9 +276,9 @@ refused_whole kept start place input source_left held now begun fails adds same 
 
 text_refused : (form : Form) (kept : Option (Vec ℕ Global)) (start place : Place) (input : List ℕ) (source_left held now : Option (List ℕ))
     → IsBegun fresh (Some input) kept start.reader start.ahead → TextRefused form kept start held place now → ahead place.reader.held source_left ≡ place.ahead → IsRefused form input source_left held now
-text_refused form kept start place input source_left held now begun (of_model fails same) behind =
+text_refused form kept start place input source_left held now begun (text_fails fails same) behind =
     no_model (refused_whole kept start place input source_left held now begun (record { line = fails.line; refused = fails.refused; written = no_text fails.line }) fails.written same behind)
-text_refused form kept start place input source_left held now begun (of_foreword read) behind = no_foreword (foreword_whole form read.model kept start place input source_left held now begun read.text read.reads behind)
+text_refused form kept start place input source_left held now begun (foreword_fails read) behind = no_foreword (foreword_whole form read.model kept start place input source_left held now begun read.text read.reads behind)
 
 -- ---- a write that failed
 

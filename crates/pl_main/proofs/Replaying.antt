@@ -27,9 +27,8 @@ use Rattle.pl_main.specs.declared.judgement.Judgement.TheVariants as judged
 use Rattle.pl_input.specs.Places.{Place}
 use Rattle.pl_main.specs.Runs.{AcceptsKept}
 use Rattle.pl_main.specs.Replays.{state_of, IsTextOf}
-use Rattle.pl_main.specs.Readings.{WritesAs, WritesRight, WritesJudged, RightBehind, right_cut, wrong_cut, ModelReads, refusal_cut, TextReads, before_journal, in_journal_stops, foreword_cut, journal_behind_cut, BehindReads, of_foreword, behind_cut}
+use Rattle.pl_main.specs.Readings.{WritesAs, WritesRight, WritesJudged, RightBehind, right_cut, wrong_cut, ModelReads, refusal_cut, TextReads, before_journal, in_journal_stops, foreword_cut, journal_behind_cut, BehindReads, text_fails, foreword_fails, behind_cut}
 use Rattle.pl_main.specs.Forewords.{FitsTold, ForewordTells, ForewordRefuses, ForewordReads}
-use Rattle.pl_main.specs.Top.{of_model}
 use Rattle.pl_main.specs.declared.told.Told.{Told}
 
 -- ---- what is written
@@ -161,7 +160,7 @@ foreword_tells form m start middle place held now what (Err halt.Memory) before 
 
 pub text_not_read : (form : Form) (kept : Option (Vec ℕ Global)) (start : Place) (held now : Option (List ℕ)) (line : List ℕ) (r : Result Judgement Halt)
     → AcceptsKept kept (accepted.Refused line) → WritesAs judged.Refused line held r now → TextReads form kept start held r start now
-text_not_read form kept start held now line (Ok judged.Refused) text writes = of_model (record { line = line; refused = text; written = writes.1 }) refl
+text_not_read form kept start held now line (Ok judged.Refused) text writes = text_fails (record { line = line; refused = text; written = writes.1 }) refl
 text_not_read form kept start held now line (Ok judged.Right) text writes = absurd (let h : judged.Right ≡ judged.Refused = writes.0 in (cc))
 text_not_read form kept start held now line (Ok judged.Wrong) text writes = absurd (let h : judged.Wrong ≡ judged.Refused = writes.0 in (cc))
 text_not_read form kept start held now line (Err halt.Limit) text writes = absurd writes
@@ -174,7 +173,7 @@ pub text_read : (form : Form) (kept : Option (Vec ℕ Global)) (start place : Pl
     → AcceptsKept kept (accepted.Model m) → BehindReads form m start held r place now → TextReads form kept start held r place now
 text_read form kept start place held now m (Ok judged.Right) text reads = record { model = m; text = text; reads = reads }
 text_read form kept start place held now m (Ok judged.Wrong) text reads = record { model = m; text = text; reads = reads }
-text_read form kept start place held now m (Ok judged.Refused) text reads = of_foreword (record { model = m; text = text; reads = reads })
+text_read form kept start place held now m (Ok judged.Refused) text reads = foreword_fails (record { model = m; text = text; reads = reads })
 text_read form kept start place held now m (Err halt.Limit) text reads = record { model = m; text = text; reads = reads }
 text_read form kept start place held now m (Err halt.Full) text reads = absurd reads
 text_read form kept start place held now m (Err halt.Read) text reads = record { model = m; text = text; reads = reads }

@@ -131,8 +131,8 @@ pub record TextRead (form : Form) (kept : Option (Vec ℕ Global)) (start : Plac
 -- A text is refused, and the line that says so is written: the model's text, behind which no line is asked for, or what stands
 -- before the journal.
 pub data TextRefused (form : Form) (kept : Option (Vec ℕ Global)) (start : Place) (held : Option (List ℕ)) (place : Place) (now : Option (List ℕ)) : Type 0 where
-  of_model : TextFails kept held now → place ≡ start → TextRefused form kept start held place now
-  of_foreword : TextRead form kept start held (Ok judged.Refused) place now → TextRefused form kept start held place now
+  text_fails : TextFails kept held now → place ≡ start → TextRefused form kept start held place now
+  foreword_fails : TextRead form kept start held (Ok judged.Refused) place now → TextRefused form kept start held place now
 
 -- A front of the text that was due was written, for what stands behind the model's text, or of the line that refuses this text.
 pub data TextCut (form : Form) (kept : Option (Vec ℕ Global)) (start : Place) (held : Option (List ℕ)) (place : Place) (now : Option (List ℕ)) : Type 0 where
