@@ -1,4 +1,4 @@
-ghost use Rattle.std.specs.Prelude.{◌≡◌, None, IfOk, IsErrOf};
+ghost use Rattle.std.specs.Prelude.{◌≡◌, ◌≤◌, None, IfOk, IsErrOf};
 ghost use Rattle.pl_io.specs.Faults.{Rose};
 ghost use Rattle.pl_model.specs.Checked.{IsChecked};
 ghost use Rattle.pl_input.specs.Places.{place_of};
@@ -26,6 +26,7 @@ fn read_rates<S: Source>(
     ensures reads { ForewordReads Form.Forecast model.now (place_of lines.old (S.left src.old)) result (place_of lines.new (S.left src.new)) }
     ensures fits { IfOk result (FitsForeword model.now) }
     ensures read { IsErrOf result Halt.Read → Rose (S.faults src.old) (S.faults src.new) }
+    ensures later { S.faults src.old ≤ S.faults src.new }
 {
     match read_preface(alloc, model, lines, src) {
         Err(fault) => Err(halt_of(fault)),
@@ -52,6 +53,7 @@ pub fn read_foreword<S: Source>(
     ensures reads { ForewordReads form model.now (place_of lines.old (S.left src.old)) result (place_of lines.new (S.left src.new)) }
     ensures fits { IfOk result (FitsForeword model.now) }
     ensures read { IsErrOf result Halt.Read → Rose (S.faults src.old) (S.faults src.new) }
+    ensures later { S.faults src.old ≤ S.faults src.new }
 {
     match form {
         Form::Replay => Ok(Foreword::Tells(Told::Verdict)),
