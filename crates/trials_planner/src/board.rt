@@ -6,7 +6,6 @@ mod boards;
 mod changes;
 mod codes;
 mod counted;
-mod forecasts;
 mod outlook;
 mod reading;
 mod refusals;
