@@ -12,7 +12,8 @@ for each input too.
   dropped    goals that repair dropped
   clean      goals that are still served once activities were taken away until no conflict is left; only with --judge, a
              program that reads a model with its journal and prints `clean N` among other words
-  left       conflicts that stand at the end
+  open       goals that are neither, and whose window may be past
+  left       conflicts that stand at the end, beside goals that are open
   seconds    processor time of the planner, and that of the input that took longest
   status     how often each status other than 0 came
 
@@ -55,16 +56,16 @@ def run(command, text):
 
 
 def reported(command, journal):
-    """Goals accepted, served and dropped, and conflicts left, by a report."""
+    """Goals accepted, served, dropped and open, and conflicts left, by a report."""
     lines = [line.split() for line in run(command, journal)[0].split(b'\n')]
     goals = [line for line in lines if line[:1] == [b'goal']]
-    heads = [line for line in lines if line[:1] == [b'report']]
-    left = int(heads[0][heads[0].index(b'conflicts') + 1]) if heads else 0
+    conflicts = [line for line in lines if line[:1] == [b'conflict']]
     return {
         'accepted': len(goals),
         'served': sum(b'served' in goal for goal in goals),
         'dropped': sum(b'dropped' in goal for goal in goals),
-        'left': left,
+        'open': sum(b'open' in goal for goal in goals),
+        'left': sum(conflict[2] != b'open-goal' for conflict in conflicts),
     }
 
 
@@ -84,7 +85,7 @@ def measured(planner, text, options):
 
 
 def shown(numbers, options):
-    names = ['accepted', 'served', 'dropped'] + (['clean'] if options.judge else []) + ['left']
+    names = ['accepted', 'served', 'dropped', 'open'] + (['clean'] if options.judge else []) + ['left']
     return ' '.join(f'{name} {numbers.get(name, 0)}' for name in names)
 
 

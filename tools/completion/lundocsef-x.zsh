@@ -9,7 +9,7 @@ _lundocsef_x() {
         '--version[say which program is called]' \
         '--completion[write the completion for this shell]:shell:(bash zsh)' \
         '--program[the planner]:program:_files' \
-        '1:command:((run\:"plan, and write the journal" check\:"say whether a text is a model" replay\:"say whether a journal is legal" report\:"write the plan behind a journal" demo\:"plan N built-in goals"))' \
+        '1:command:((run\:"plan, and write the journal" check\:"say whether a text is a model" replay\:"say whether a journal is legal" report\:"write the plan behind a journal" demo\:"plan N built-in goals" flex\:"say how far activities can move" forecast\:"say where levels leave their limits"))' \
         '*::argument:->arguments'
     [[ $state == arguments ]] || return
     case $line[1] in
@@ -17,6 +17,8 @@ _lundocsef_x() {
         check) _arguments '1:model:_files' ;;
         replay|report) _arguments '1:model:_files' '2:journal:_files' ;;
         demo) _arguments '1:N:' ;;
+        flex) _arguments '1:id:' '2:model:_files' '3:journal:_files' ;;
+        forecast) _arguments '1:rates:_files' '2:model:_files' '3:journal:_files' ;;
     esac
 }
 _lundocsef_x "$@"

@@ -9,7 +9,7 @@ from support import program
 MODEL = 'horizon 100000 lead 30 kind obs { duration 5 }\nbegin\n'
 OPEN = '0 open turns 8 live 10000 goals 20000 entries 250000\n'
 JOURNAL = OPEN + '1 in end : end\n'
-USAGE = 'usage: run solo N | run pair N SEED | check | replay | report | demo N\n'
+USAGE = 'usage: run solo N | run pair N SEED | check | replay | report | demo N | flex ID | forecast\n'
 RUNS = 'run solo 8', 'run pair 8 7'
 # rounds of four entries, and two of three: the log has 249,999 entries with the open one, and room for one more
 FULL = MODEL + ''.join('tick %d\n' % moment for moment in range(1, 62499)) + 'x\nx\n'
@@ -27,8 +27,16 @@ ENDINGS = [(words, text, status, output) for words in RUNS for text, status, out
     ('replay', MODEL + 'x' * 4161, 6, ''),
     ('report', MODEL + JOURNAL, 0, 'report entries 2 now 0 committed 0 dispatched 0 conflicts 0\n'),
     ('report', MODEL + OPEN + '1 rest clear\n', 8, 'journal: entry 1: not now\n'),
+    ('flex 0', MODEL + JOURNAL, 0, 'flex windows 0\n'),
+    ('flex 0', MODEL, 8, 'journal: entry 0: not a line\n'),
+    ('flex 0', MODEL + 'x' * 4161, 6, ''),
+    ('forecast', MODEL + 'journal\n' + JOURNAL, 0, 'forecast spans 0\n'),
+    ('forecast', MODEL + JOURNAL, 3, 'rate: line 3: bad line\n'),
+    ('forecast', MODEL, 3, 'rate: no journal\n'),
+    ('forecast', MODEL + 'journal\n', 8, 'journal: entry 0: not a line\n'),
+    ('forecast', MODEL + 'x' * 4161, 6, ''),
     ('demo 2', '', 0, 'demo 2 entries 20 activities 4 dispatched 0 conflicts 0\n'),
-    ('', '', 2, USAGE), ('run solo 0', '', 2, USAGE), ('run', '', 2, USAGE), ('--help', '', 2, USAGE)]
+    ('', '', 2, USAGE), ('flex', '', 2, USAGE), ('run solo 0', '', 2, USAGE), ('run', '', 2, USAGE), ('--help', '', 2, USAGE)]
 
 
 def ended(words, **streams):
@@ -46,7 +54,7 @@ class StatusesTest(unittest.TestCase):
                     self.assertEqual(written.decode('latin-1'), output)
 
     def test_a_read_fails(self):
-        for words in RUNS + ('check', 'replay', 'report'):
+        for words in RUNS + ('check', 'replay', 'report', 'flex 0', 'forecast'):
             with self.subTest(words=words):
                 folder = os.open('/', os.O_RDONLY)
                 try:
@@ -55,7 +63,7 @@ class StatusesTest(unittest.TestCase):
                     os.close(folder)
 
     def test_a_write_fails(self):
-        for words in RUNS + ('check', 'replay', 'report', 'demo 1', 'run'):
+        for words in RUNS + ('check', 'replay', 'report', 'flex 0', 'forecast', 'demo 1', 'run'):
             with self.subTest(words=words), open('/dev/full', 'wb') as full:
                 self.assertEqual(ended(words, input=(MODEL + 'end\n').encode(), stdout=full)[0], 5)
 

@@ -14,7 +14,7 @@ use Rattle.pl_machine.specs.World.{World, fresh_world, reason_of}
 use Rattle.pl_machine.specs.Step.{after}
 use Rattle.pl_machine.specs.Choices.{exec_choice_of, event_of}
 use Rattle.pl_machine.specs.Legal.{options_of, entries_behind}
-use Rattle.pl_main.specs.Solo.{repair_event, IsSoloEvent, FollowsAll, solo_from, Solo}
+use Rattle.pl_main.specs.Solo.{repair_event, Rule, IsSoloEvent, IsAheadEvent, follows, FollowsAll}
 use Rattle.pl_laws.specs.Laws.{IsChosen, chosen_from, AreCommitsChosen}
 
 chosen_is : (o : Option Choice) (h : ℕ) → option_map event_of o ≡ Some (event.Commit h) → o ≡ Some (choice.Commit h)
@@ -33,19 +33,32 @@ at_rest : (b : Bool) (o : Option Choice) (r : Option Reason) (p : Option Proposa
 at_rest true o r p h e = (refl, chosen_is o h e)
 at_rest false o r p h e = absurd (never_repairs r p h e)
 
-one_chosen : (w : World) (e : Event) → IsSoloEvent w e → IsChosen w e
-one_chosen w (event.Opened o) solo = tt
-one_chosen w (event.Input line) solo = tt
-one_chosen w (event.Fix k m) solo = tt
-one_chosen w event.Rest solo = tt
-one_chosen w (event.Commit h) solo = at_rest w.rested (exec_choice_of w) (reason_of w) (least_pick w.state) h solo
-one_chosen w event.Dispatch solo = tt
-one_chosen w event.Close solo = tt
+-- what a rule allows to one thread is what the executive chooses, where it is a commit
+abbrev pub CommitsAsChosen : Rule → Type 0
+CommitsAsChosen R = (w : World) (e : Event) → R w e → IsChosen w e
 
-all_chosen : (w : World) (es : List Entry) → solo_from w es → chosen_from w es
-all_chosen w [] solo = tt
-all_chosen w (e ∷ es) solo = (one_chosen w e.event solo.0, all_chosen (after w e.event) es solo.1)
+pub solo_commits : CommitsAsChosen IsSoloEvent
+solo_commits w (event.Opened o) solo = tt
+solo_commits w (event.Input line) solo = tt
+solo_commits w (event.Fix k m) solo = tt
+solo_commits w event.Rest solo = tt
+solo_commits w (event.Commit h) solo = at_rest w.rested (exec_choice_of w) (reason_of w) (least_pick w.state) h solo
+solo_commits w event.Dispatch solo = tt
+solo_commits w event.Close solo = tt
 
-pub solo_chosen : (m : Model) (log : List Entry) → Solo m log → AreCommitsChosen m log
+pub ahead_commits : CommitsAsChosen IsAheadEvent
+ahead_commits w (event.Opened o) ahead = tt
+ahead_commits w (event.Input line) ahead = tt
+ahead_commits w (event.Fix k m) ahead = tt
+ahead_commits w event.Rest ahead = tt
+ahead_commits w (event.Commit h) ahead = ahead
+ahead_commits w event.Dispatch ahead = tt
+ahead_commits w event.Close ahead = tt
+
+all_chosen : (R : Rule) → CommitsAsChosen R → (w : World) (es : List Entry) → follows R w es → chosen_from w es
+all_chosen R commits w [] on = tt
+all_chosen R commits w (e ∷ es) on = (commits w e.event on.0, all_chosen R commits (after w e.event) es on.1)
+
+pub rule_chosen : (R : Rule) → CommitsAsChosen R → (m : Model) (log : List Entry) → FollowsAll R m log → AreCommitsChosen m log
 unfolding FollowsAll
-solo_chosen m log solo = all_chosen (fresh_world m (options_of log)) (entries_behind log) solo
+rule_chosen R commits m log on = all_chosen R commits (fresh_world m (options_of log)) (entries_behind log) on

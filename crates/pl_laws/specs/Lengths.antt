@@ -5,17 +5,27 @@ use Rattle.pl_entry.specs.declared.entry.Entry.{Entry}
 use Rattle.pl_input.specs.Words.{split_of}
 use Rattle.pl_machine.specs.Legal.{Legal, options_of}
 use Rattle.pl_machine.specs.Finished.{inputs_of}
-use Rattle.pl_main.specs.Solo.{Solo}
+use Rattle.pl_main.specs.Solo.{Solo, FollowsAll, IsAheadEvent}
 use Rattle.pl_main.specs.Endings.{IsFull}
-use Rattle.pl_main.specs.RunKinds.{solo_run, IsPaired, pair_run}
+use Rattle.pl_main.specs.RunKinds.{solo_run, look_run, IsPaired, pair_run}
 
--- A log of one thread has, beside its opening, ten thousand commands at most, and for each input four entries and as many
--- as a round has turns.
+-- Beside its opening, a log has ten thousand commands at most, and for each input as many entries as a round has turns, and four.
+abbrev pub IsOfLength : List Entry → Type 0
+IsOfLength log = length log ≤ 10001 + length (inputs_of log) * ((options_of log).turns + 4)
+
+-- There are so many messages that such a log may be full.
+abbrev pub HasMany : (turns : ℕ) (input : List ℕ) → Type 0
+HasMany turns input = 250000 ≤ 10001 + length (split_of input).messages * (turns + 4)
+
+-- Each log of one thread that takes the least repair is no longer.
 abbrev pub SoloIsBounded : Model → Type 0
-SoloIsBounded m = (log : List Entry) → Legal m log → Solo m log
-    → length log ≤ 10001 + length (inputs_of log) * ((options_of log).turns + 4)
+SoloIsBounded m = (log : List Entry) → Legal m log → Solo m log → IsOfLength log
 
--- So has the log of a run of a pair, with twice as many turns.
+-- Nor is the log of a run that looks ahead.
+abbrev pub AheadIsBounded : Model → Type 0
+AheadIsBounded m = (log : List Entry) → Legal m log → FollowsAll IsAheadEvent m log → IsOfLength log
+
+-- The log of a run of a pair is no longer than that with twice as many turns, and six entries in the place of four.
 abbrev pub PairIsBounded : Model → Type 0
 PairIsBounded m = (turns seed : ℕ) (log : List Entry) → IsPaired turns seed m log
     → length log ≤ 10001 + length (inputs_of log) * (2 * turns + 6)
@@ -23,7 +33,12 @@ PairIsBounded m = (turns seed : ℕ) (log : List Entry) → IsPaired turns seed 
 -- A run whose log is full has so many messages that its log may be as long.
 abbrev pub FullHasMany : Type 0
 FullHasMany = (turns : ℕ) (input : List ℕ) (left held now : Option (List ℕ)) → IsFull (solo_run turns) input left held now
-    → 250000 ≤ 10001 + length (split_of input).messages * (turns + 4)
+    → HasMany turns input
+
+-- So has a run that looks ahead.
+abbrev pub AheadFullHasMany : Type 0
+AheadFullHasMany = (turns : ℕ) (input : List ℕ) (left held now : Option (List ℕ)) → IsFull (look_run turns) input left held now
+    → HasMany turns input
 
 -- So has a run of a pair, with twice as many turns.
 abbrev pub PairFullHasMany : Type 0

@@ -19,7 +19,7 @@ use Rattle.pl_main.specs.declared.outcome.Outcome.TheVariants as outcome
 use Rattle.pl_main.specs.declared.form.Form.{Form}
 use Rattle.pl_main.specs.declared.judgement.Judgement.{Judgement}
 use Rattle.pl_main.specs.declared.judgement.Judgement.TheVariants as judged
-use Rattle.pl_main.specs.Replays.{WritesAs, TextReads}
+use Rattle.pl_main.specs.Readings.{WritesAs, TextReads}
 use Rattle.pl_main.specs.Demos.{Shows}
 use Rattle.pl_main.specs.Statuses.{status_of, status_of_journal, statuses_of, pair_statuses, IsStatusOf, IsPairStatus}
 
@@ -61,6 +61,8 @@ job_statuses (task.Solo turns) = reads (7 ∷ 9 ∷ []) from_seven
 job_statuses task.Check = reads (9 ∷ []) from_nine
 job_statuses task.Replay = reads (8 ∷ 9 ∷ []) from_eight
 job_statuses task.Report = reads (8 ∷ 9 ∷ []) from_eight
+job_statuses (task.Flex id) = reads (8 ∷ 9 ∷ []) from_eight
+job_statuses task.Forecast = reads (8 ∷ 9 ∷ []) from_eight
 job_statuses (task.Demo goals) =
     more 0 (5 ∷ 7 ∷ 9 ∷ []) (is_done refl)
     (more 5 (7 ∷ 9 ∷ []) (is_write refl) from_seven)
@@ -150,6 +152,14 @@ replay_status r never = journal_place r never
 pub report_status : (r : Result Judgement Halt) → (IsErrOf r halt.Full → ⊥) → IsStatusOf task.Report (status_of_journal r)
 unfolding IsStatusOf
 report_status r never = journal_place r never
+
+pub flex_status : (id : ℕ) (r : Result Judgement Halt) → (IsErrOf r halt.Full → ⊥) → IsStatusOf (task.Flex id) (status_of_journal r)
+unfolding IsStatusOf
+flex_status id r never = journal_place r never
+
+pub forecast_status : (r : Result Judgement Halt) → (IsErrOf r halt.Full → ⊥) → IsStatusOf task.Forecast (status_of_journal r)
+unfolding IsStatusOf
+forecast_status r never = journal_place r never
 
 demo_place : (goals : ℕ) (held now : Option (List ℕ)) (r : Result Outcome Halt) → Shows goals held now r → Contains (statuses_of (task.Demo goals)) (status_of r)
 demo_place goals held now (Ok outcome.Done) shows = at (statuses_of (task.Demo goals)) 0 refl

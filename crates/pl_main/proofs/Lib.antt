@@ -10,6 +10,8 @@ pub mod Checking
 pub mod Showing
 pub mod Summing
 pub mod Replaying
+pub mod Prefacing
+pub mod ReadingBack
 pub mod Pairing
 pub mod Jobs
 pub mod Topping

@@ -10,7 +10,12 @@ use Rattle.pl_main.specs.declared.command.Command.TheVariants as command
 use Rattle.pl_main.specs.declared.command.Task.{Task}
 use Rattle.pl_main.specs.declared.command.Task.TheVariants as task
 use Rattle.pl_main.specs.Numbers.{number_in}
-use Rattle.pl_main.specs.Words.{turns_by, pair_by, goals_by, command_in, command_of}
+use Rattle.pl_main.specs.Words.{turns_by, pair_by, goals_by, flex_by, command_in, command_of}
+use Rattle.pl_main.specs.Replays.{ReadsBack, ReadsBackKnown}
+use Rattle.pl_main.specs.Statuses.{IsTask, status_of, status_of_journal, SaysReadBack, SaysKnown, SaysEndedKnown}
+use Rattle.pl_main.specs.Demos.{Shows}
+use Rattle.pl_main.specs.Top.{ChecksKnown}
+use Rattle.pl_main.specs.Endings.{EndedAsKnown, RunKind}
 use Rattle.pl_input.specs.declared.halt.Halt.{Halt}
 use Rattle.pl_input.specs.declared.halt.Halt.TheVariants as halt
 use Rattle.pl_main.specs.declared.outcome.Outcome.{Outcome}
@@ -19,11 +24,6 @@ use Rattle.pl_main.specs.declared.form.Form.{Form}
 use Rattle.pl_main.specs.declared.form.Form.TheVariants as which
 use Rattle.pl_main.specs.declared.judgement.Judgement.{Judgement}
 use Rattle.pl_main.specs.declared.judgement.Judgement.TheVariants as judged
-use Rattle.pl_main.specs.Replays.{ReadsBack, ReadsBackKnown}
-use Rattle.pl_main.specs.Statuses.{IsTask, status_of, status_of_journal, SaysReadBack, SaysKnown, SaysEndedKnown}
-use Rattle.pl_main.specs.Demos.{Shows}
-use Rattle.pl_main.specs.Top.{ChecksKnown}
-use Rattle.pl_main.specs.Endings.{EndedAsKnown, RunKind}
 
 pub says_of : (kind : RunKind) (input source_left held now : Option (List ℕ)) (r : Result Outcome Halt) → EndedAsKnown kind input source_left held now r → SaysEndedKnown kind input source_left held now (status_of r)
 says_of kind None source_left held now r ran = tt
@@ -72,6 +72,14 @@ pub says_reported : (input source_left held now : Option (List ℕ)) (r : Result
 says_reported None source_left held now r read = tt
 says_reported (Some input) source_left held now r read = reads_back which.Report input source_left held now r read
 
+pub says_moved : (id : ℕ) (input source_left held now : Option (List ℕ)) (r : Result Judgement Halt) → ReadsBackKnown (which.Flex id) input source_left held now r → SaysKnown (task.Flex id) input source_left held now (status_of_journal r)
+says_moved id None source_left held now r read = tt
+says_moved id (Some input) source_left held now r read = reads_back (which.Flex id) input source_left held now r read
+
+pub says_foreseen : (input source_left held now : Option (List ℕ)) (r : Result Judgement Halt) → ReadsBackKnown which.Forecast input source_left held now r → SaysKnown task.Forecast input source_left held now (status_of_journal r)
+says_foreseen None source_left held now r read = tt
+says_foreseen (Some input) source_left held now r read = reads_back which.Forecast input source_left held now r read
+
 pub read_failed : (r : Result Outcome Halt) → status_of r ≡ 4 → r ≡ Err halt.Read
 read_failed (Ok outcome.Done) e = absurd (omega (arith, e))
 read_failed (Ok outcome.Refused) e = absurd (omega (arith, e))
@@ -113,12 +121,13 @@ the_task a t is e =
     let same : a ≡ t = (let h : Some (command.Alone a) ≡ Some (command.Alone t) = e in (cc)) in
     subst (λ (x : Task). IsTask x) same is
 
-by_single : (a b c : Bool) (t : Task)
-    → (if a then Some (command.Alone task.Check) else if b then Some (command.Alone task.Replay) else if c then Some (command.Alone task.Report) else None) ≡ Some (command.Alone t) → IsTask t
-by_single true b c t e = the_task task.Check t tt e
-by_single false true c t e = the_task task.Replay t tt e
-by_single false false true t e = the_task task.Report t tt e
-by_single false false false t e = absurd (let h : None ≡ Some (command.Alone t) = e in (cc))
+by_single : (a b c d : Bool) (t : Task)
+    → (if a then Some (command.Alone task.Check) else if b then Some (command.Alone task.Replay) else if c then Some (command.Alone task.Report) else if d then Some (command.Alone task.Forecast) else None) ≡ Some (command.Alone t) → IsTask t
+by_single true b c d t e = the_task task.Check t tt e
+by_single false true c d t e = the_task task.Replay t tt e
+by_single false false true d t e = the_task task.Report t tt e
+by_single false false false true t e = the_task task.Forecast t tt e
+by_single false false false false t e = absurd (let h : None ≡ Some (command.Alone t) = e in (cc))
 
 by_goal_bounds : (n : ℕ) (a b : Bool) → nat_le 1 n ≡ a → nat_le n 4000 ≡ b → (t : Task) → (if a && b then Some (command.Alone (task.Demo n)) else None) ≡ Some (command.Alone t) → IsTask t
 by_goal_bounds n true true low high t e =
@@ -132,9 +141,14 @@ by_goals : (n : Option ℕ) (t : Task) → goals_by n ≡ Some (command.Alone t)
 by_goals None t e = absurd (let h : None ≡ Some (command.Alone t) = e in (cc))
 by_goals (Some n) t e = by_goal_bounds n (nat_le 1 n) (nat_le n 4000) refl refl t e
 
-by_demo : (b : Bool) (n : Option ℕ) (t : Task) → (if b then goals_by n else None) ≡ Some (command.Alone t) → IsTask t
-by_demo true n t e = by_goals n t e
-by_demo false n t e = absurd (let h : None ≡ Some (command.Alone t) = e in (cc))
+by_flex : (n : Option ℕ) (t : Task) → flex_by n ≡ Some (command.Alone t) → IsTask t
+by_flex None t e = absurd (let h : None ≡ Some (command.Alone t) = e in (cc))
+by_flex (Some id) t e = the_task (task.Flex id) t tt e
+
+by_two : (a b : Bool) (n : Option ℕ) (t : Task) → (if a then goals_by n else if b then flex_by n else None) ≡ Some (command.Alone t) → IsTask t
+by_two true b n t e = by_goals n t e
+by_two false true n t e = by_flex n t e
+by_two false false n t e = absurd (let h : None ≡ Some (command.Alone t) = e in (cc))
 
 -- a pair is no task of one thread
 no_pair_task : (n s : ℕ) (b : Bool) (t : Task) → (if b then Some (command.Pair n s) else None) ≡ Some (command.Alone t) → IsTask t
@@ -152,8 +166,8 @@ no_task false n s t e = absurd (let h : None ≡ Some (command.Alone t) = e in (
 
 by_words : (ws : List (List ℕ)) (t : Task) → command_in ws ≡ Some (command.Alone t) → IsTask t
 by_words [] t e = absurd (let h : None ≡ Some (command.Alone t) = e in (cc))
-by_words (a ∷ []) t e = by_single (bytes_eq a (codes "check")) (bytes_eq a (codes "replay")) (bytes_eq a (codes "report")) t e
-by_words (a ∷ n ∷ []) t e = by_demo (bytes_eq a (codes "demo")) (number_in n) t e
+by_words (a ∷ []) t e = by_single (bytes_eq a (codes "check")) (bytes_eq a (codes "replay")) (bytes_eq a (codes "report")) (bytes_eq a (codes "forecast")) t e
+by_words (a ∷ n ∷ []) t e = by_two (bytes_eq a (codes "demo")) (bytes_eq a (codes "flex")) (number_in n) t e
 by_words (a ∷ b ∷ n ∷ []) t e = by_form (bytes_eq a (codes "run") && bytes_eq b (codes "solo")) (number_in n) t e
 by_words (a ∷ b ∷ n ∷ d ∷ []) t e = no_task (bytes_eq a (codes "run") && bytes_eq b (codes "pair")) (number_in n) (number_in d) t e
 by_words (a ∷ b ∷ n ∷ d ∷ x ∷ xs) t e = absurd (let h : None ≡ Some (command.Alone t) = e in (cc))
@@ -177,16 +191,26 @@ if_no_pair : (b : Bool) (c : Option Command) (turns seed : ℕ) → (IsPair c tu
 if_no_pair true c turns seed never e = never e
 if_no_pair false c turns seed never e = none_no_pair turns seed e
 
-single_no_pair : (a b c : Bool) (turns seed : ℕ)
-    → IsPair (if a then Some (command.Alone task.Check) else if b then Some (command.Alone task.Replay) else if c then Some (command.Alone task.Report) else None) turns seed → ⊥
-single_no_pair true b c turns seed e = alone_no_pair task.Check turns seed e
-single_no_pair false true c turns seed e = alone_no_pair task.Replay turns seed e
-single_no_pair false false true turns seed e = alone_no_pair task.Report turns seed e
-single_no_pair false false false turns seed e = none_no_pair turns seed e
+single_no_pair : (a b c d : Bool) (turns seed : ℕ)
+    → IsPair (if a then Some (command.Alone task.Check) else if b then Some (command.Alone task.Replay) else if c then Some (command.Alone task.Report) else if d then Some (command.Alone task.Forecast) else None) turns seed → ⊥
+single_no_pair true b c d turns seed e = alone_no_pair task.Check turns seed e
+single_no_pair false true c d turns seed e = alone_no_pair task.Replay turns seed e
+single_no_pair false false true d turns seed e = alone_no_pair task.Report turns seed e
+single_no_pair false false false true turns seed e = alone_no_pair task.Forecast turns seed e
+single_no_pair false false false false turns seed e = none_no_pair turns seed e
 
 goals_no_pair : (n : Option ℕ) (turns seed : ℕ) → IsPair (goals_by n) turns seed → ⊥
 goals_no_pair None turns seed e = none_no_pair turns seed e
 goals_no_pair (Some n) turns seed e = if_no_pair (nat_le 1 n && nat_le n 4000) (Some (command.Alone (task.Demo n))) turns seed (alone_no_pair (task.Demo n) turns seed) e
+
+flex_no_pair : (n : Option ℕ) (turns seed : ℕ) → IsPair (flex_by n) turns seed → ⊥
+flex_no_pair None turns seed e = none_no_pair turns seed e
+flex_no_pair (Some id) turns seed e = alone_no_pair (task.Flex id) turns seed e
+
+two_no_pair : (a b : Bool) (n : Option ℕ) (turns seed : ℕ) → IsPair (if a then goals_by n else if b then flex_by n else None) turns seed → ⊥
+two_no_pair true b n turns seed e = goals_no_pair n turns seed e
+two_no_pair false true n turns seed e = flex_no_pair n turns seed e
+two_no_pair false false n turns seed e = none_no_pair turns seed e
 
 turns_no_pair : (n : Option ℕ) (turns seed : ℕ) → IsPair (turns_by n) turns seed → ⊥
 turns_no_pair None turns seed e = none_no_pair turns seed e
@@ -210,8 +234,8 @@ pair_in false n s turns seed e = absurd (none_no_pair turns seed e)
 
 pair_words : (ws : List (List ℕ)) (turns seed : ℕ) → IsPair (command_in ws) turns seed → (1 ≤ turns) × (turns ≤ 1000)
 pair_words [] turns seed e = absurd (none_no_pair turns seed e)
-pair_words (a ∷ []) turns seed e = absurd (single_no_pair (bytes_eq a (codes "check")) (bytes_eq a (codes "replay")) (bytes_eq a (codes "report")) turns seed e)
-pair_words (a ∷ n ∷ []) turns seed e = absurd (if_no_pair (bytes_eq a (codes "demo")) (goals_by (number_in n)) turns seed (goals_no_pair (number_in n) turns seed) e)
+pair_words (a ∷ []) turns seed e = absurd (single_no_pair (bytes_eq a (codes "check")) (bytes_eq a (codes "replay")) (bytes_eq a (codes "report")) (bytes_eq a (codes "forecast")) turns seed e)
+pair_words (a ∷ n ∷ []) turns seed e = absurd (two_no_pair (bytes_eq a (codes "demo")) (bytes_eq a (codes "flex")) (number_in n) turns seed e)
 pair_words (a ∷ b ∷ n ∷ []) turns seed e = absurd (if_no_pair (bytes_eq a (codes "run") && bytes_eq b (codes "solo")) (turns_by (number_in n)) turns seed (turns_no_pair (number_in n) turns seed) e)
 pair_words (a ∷ b ∷ n ∷ s ∷ []) turns seed e = pair_in (bytes_eq a (codes "run") && bytes_eq b (codes "pair")) (number_in n) (number_in s) turns seed e
 pair_words (a ∷ b ∷ n ∷ s ∷ x ∷ xs) turns seed e = absurd (none_no_pair turns seed e)

@@ -13,6 +13,8 @@ pub mod Endings
 pub mod RunKinds
 pub mod Runs
 pub mod Demos
+pub mod Forewords
 pub mod Replays
+pub mod Readings
 pub mod Limits
 pub mod Statuses

@@ -10,7 +10,7 @@ use Rattle.pl_main.specs.declared.form.Form.{Form}
 use Rattle.pl_main.specs.declared.form.Form.TheVariants as which
 use Rattle.pl_main.specs.declared.judgement.Judgement.{Judgement}
 use Rattle.pl_main.specs.declared.judgement.Judgement.TheVariants as judged
-use Rattle.pl_main.specs.Replays.{journal_line_limit, IsRightJournal, IsWrongJournal, IsPastJournal, IsJournalFault, IsJournalShort}
+use Rattle.pl_main.specs.Replays.{IsRightJournal, IsWrongJournal, IsRefused, IsPastJournal, IsJournalFault, IsJournalShort}
 use Rattle.pl_main.specs.Top.{line_limit, IsFound, IsNoModel, IsHeadFault, IsPastHead, IsCheckShort}
 use Rattle.pl_main.specs.Endings.{RunKind, IsDone, IsReadFault, IsPastLimit, IsFull, IsShort, IsOutOfMemory}
 use Rattle.pl_main.specs.RunKinds.{solo_run}
@@ -38,6 +38,8 @@ IsTask (task.Solo turns) = (1 ≤ turns) × (turns ≤ 1000)
 IsTask task.Check = ⊤
 IsTask task.Replay = ⊤
 IsTask task.Report = ⊤
+IsTask (task.Flex id) = ⊤
+IsTask task.Forecast = ⊤
 IsTask (task.Demo goals) = (1 ≤ goals) × (goals ≤ 4000)
 
 -- What the status of a run says where the input's bytes are known. Only what was written needs those of the sink.
@@ -68,16 +70,16 @@ pub record SaysChecked (input : List ℕ) (source_left held now : Option (List �
   pub never_wrong : status ≡ 8 → ⊥
   pub silent : status ≡ 9 → now ≡ held
 
--- What the status of a replay says, or of a report.
+-- What the status of a replay says, of a report, of what moves, or of a forecast.
 pub record SaysReadBack (form : Form) (input : List ℕ) (source_left held now : Option (List ℕ)) (status : ℕ)
     : Type 0 where
   pub done : status ≡ 0 → IsRightJournal form input source_left held now
-  pub refused : status ≡ 3 → IsNoModel journal_line_limit input source_left held now
-  pub read_fault : status ≡ 4 → IsJournalFault input source_left held now
+  pub refused : status ≡ 3 → IsRefused form input source_left held now
+  pub read_fault : status ≡ 4 → IsJournalFault form input source_left held now
   pub short : status ≡ 5 → IsJournalShort form input source_left held now
-  pub limit : status ≡ 6 → IsPastJournal input source_left held now
+  pub limit : status ≡ 6 → IsPastJournal form input source_left held now
   pub never_full : status ≡ 7 → ⊥
-  pub wrong : status ≡ 8 → IsWrongJournal input source_left held now
+  pub wrong : status ≡ 8 → IsWrongJournal form input source_left held now
   pub silent : status ≡ 9 → now ≡ held
 
 -- What the status of a demonstration says, which reads nothing: its input begins with a model, no line of it is too long, and
@@ -104,6 +106,12 @@ SaysKnown task.Replay (Some input) source_left held now status =
 SaysKnown task.Report None source_left held now status = ⊤
 SaysKnown task.Report (Some input) source_left held now status =
     SaysReadBack which.Report input source_left held now status
+SaysKnown (task.Flex id) None source_left held now status = ⊤
+SaysKnown (task.Flex id) (Some input) source_left held now status =
+    SaysReadBack (which.Flex id) input source_left held now status
+SaysKnown task.Forecast None source_left held now status = ⊤
+SaysKnown task.Forecast (Some input) source_left held now status =
+    SaysReadBack which.Forecast input source_left held now status
 SaysKnown (task.Demo goals) input source_left held now status = SaysShown goals held now status
 
 -- The statuses that a job of one thread can end with, whatever is told of its input: 3, 4 and 6 come of a job that reads its
@@ -113,6 +121,8 @@ statuses_of (task.Solo turns) = 0 ∷ 3 ∷ 4 ∷ 5 ∷ 6 ∷ 7 ∷ 9 ∷ []
 statuses_of task.Check = 0 ∷ 3 ∷ 4 ∷ 5 ∷ 6 ∷ 9 ∷ []
 statuses_of task.Replay = 0 ∷ 3 ∷ 4 ∷ 5 ∷ 6 ∷ 8 ∷ 9 ∷ []
 statuses_of task.Report = 0 ∷ 3 ∷ 4 ∷ 5 ∷ 6 ∷ 8 ∷ 9 ∷ []
+statuses_of (task.Flex id) = 0 ∷ 3 ∷ 4 ∷ 5 ∷ 6 ∷ 8 ∷ 9 ∷ []
+statuses_of task.Forecast = 0 ∷ 3 ∷ 4 ∷ 5 ∷ 6 ∷ 8 ∷ 9 ∷ []
 statuses_of (task.Demo goals) = 0 ∷ 5 ∷ 7 ∷ 9 ∷ []
 
 -- the same of a run of a pair
@@ -126,4 +136,4 @@ unfoldable pub IsPairStatus : ℕ → Type 0
 IsPairStatus status = Contains pair_statuses status
 
 abbrev pub usage_line : List ℕ
-usage_line = codes "usage: run solo N | run pair N SEED | check | replay | report | demo N" ++ 10 ∷ []
+usage_line = codes "usage: run solo N | run pair N SEED | check | replay | report | demo N | flex ID | forecast" ++ 10 ∷ []

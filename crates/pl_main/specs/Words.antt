@@ -1,4 +1,4 @@
--- The forms of the command line: `run solo N`, `run pair N SEED`, `check`, `replay`, `report` and `demo N`.
+-- The forms of the command line: `run solo N`, `run pair N SEED`, `check`, `replay`, `report`, `demo N`, `flex ID` and `forecast`.
 use Rattle.std.specs.Prelude.{ℕ, List, [], ◌∷◌, ◌&&◌, nat_le, if◌then◌else◌, Option, Some, None, codes, map}
 use Rattle.std.specs.Str.{bytes_eq}
 use Rattle.std.specs.String.{string_bytes}
@@ -25,17 +25,26 @@ abbrev pub goals_by : Option ℕ → Option Command
 goals_by None = None
 goals_by (Some n) = if nat_le 1 n && nat_le n 4000 then Some (command.Alone (task.Demo n)) else None
 
+-- the id of an activity
+abbrev pub flex_by : Option ℕ → Option Command
+flex_by None = None
+flex_by (Some id) = Some (command.Alone (task.Flex id))
+
 -- a task that is one word
 abbrev pub single_word : List ℕ → Option Command
 single_word word =
     if bytes_eq word (codes "check") then Some (command.Alone task.Check)
     else if bytes_eq word (codes "replay") then Some (command.Alone task.Replay)
     else if bytes_eq word (codes "report") then Some (command.Alone task.Report)
+    else if bytes_eq word (codes "forecast") then Some (command.Alone task.Forecast)
     else None
 
 abbrev pub command_in : List (List ℕ) → Option Command
 command_in (word ∷ []) = single_word word
-command_in (demo ∷ goals ∷ []) = if bytes_eq demo (codes "demo") then goals_by (number_in goals) else None
+command_in (word ∷ number ∷ []) =
+    if bytes_eq word (codes "demo") then goals_by (number_in number)
+    else if bytes_eq word (codes "flex") then flex_by (number_in number)
+    else None
 command_in (run ∷ solo ∷ turns ∷ []) = if bytes_eq run (codes "run") && bytes_eq solo (codes "solo") then turns_by (number_in turns) else None
 command_in (run ∷ pair ∷ turns ∷ seed ∷ []) = if bytes_eq run (codes "run") && bytes_eq pair (codes "pair") then pair_by (number_in turns) (number_in seed) else None
 command_in _ = None

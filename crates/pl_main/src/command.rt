@@ -18,6 +18,11 @@ pub enum Task {
     Replay,
     /// Says what the plan is like behind a legal journal.
     Report,
+    /// Says how far each activity of the plan behind a legal journal can move, and why the one of this id can move no farther. The id
+    /// is up to 999,999,999,999,999,999.
+    Flex { id: u64 },
+    /// Says where levels of the plan behind a legal journal leave their limits, by the rates that stand before the journal.
+    Forecast,
     /// Plans a mission of so many goals, from 1 to 4,000, and says how it ended.
     Demo { goals: u32 },
 }

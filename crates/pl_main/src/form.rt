@@ -1,6 +1,9 @@
-/// What is told of a journal: whether it is legal, or what the plan is like behind it.
+/// What is asked of a journal: whether it is legal, what the plan is like behind it, how far its activities can move, with the
+/// paths of the one of this id, or where its levels leave their limits by the rates that stand before it.
 #[derive(Clone, Copy, Debug, PartialEq, Eq)]
 pub enum Form {
     Replay,
     Report,
+    Flex { id: u64 },
+    Forecast,
 }

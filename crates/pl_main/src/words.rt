@@ -1,5 +1,5 @@
 ghost use Rattle.std.specs.Prelude.{◌≡◌};
-ghost use Rattle.pl_main.specs.Words.{turns_by, pair_by, goals_by, single_word, command_of};
+ghost use Rattle.pl_main.specs.Words.{turns_by, pair_by, goals_by, flex_by, single_word, command_of};
 
 use crate::command::{Command, Task};
 use crate::number::read_number;
@@ -37,9 +37,18 @@ fn single(word: &[u8]) -> Option<Command>
         Some(Command::Alone(Task::Replay))
     } else if word == b"report".as_slice() {
         Some(Command::Alone(Task::Report))
+    } else if word == b"forecast".as_slice() {
+        Some(Command::Alone(Task::Forecast))
     } else {
         None
     }
+}
+
+fn flex(id: Option<u64>) -> Option<Command>
+    ensures { result ≡ flex_by id }
+{
+    let id = id?;
+    Some(Command::Alone(Task::Flex { id }))
 }
 
 fn demo(goals: Option<u64>) -> Option<Command>
@@ -54,16 +63,19 @@ fn demo(goals: Option<u64>) -> Option<Command>
 }
 
 /// What the words behind the program's name ask for: `run solo N`, N from 1 to 1,000, `run pair N SEED`, SEED of at most 18
-/// digits, `check`, `replay`, `report`, or `demo N`, N from 1 to 4,000.
+/// digits, `check`, `replay`, `report`, `demo N`, N from 1 to 4,000, `flex ID`, ID of at most 18
+/// digits, or `forecast`.
 #[tactic(auto, unfolding(crate::specs::Words::command_of))]
 pub fn read_words(words: &[String]) -> Option<Command>
     ensures { result ≡ command_of words.now }
 {
     match words {
         [word] => single(word.as_bytes()),
-        [demo_word, goals] => {
-            if demo_word.as_bytes() == b"demo".as_slice() {
-                demo(read_number(goals.as_bytes()))
+        [word, number] => {
+            if word.as_bytes() == b"demo".as_slice() {
+                demo(read_number(number.as_bytes()))
+            } else if word.as_bytes() == b"flex".as_slice() {
+                flex(read_number(number.as_bytes()))
             } else {
                 None
             }

@@ -20,7 +20,7 @@ use Rattle.pl_semantics.specs.Moves.{applied}
 use Rattle.pl_machine.specs.World.{World, fresh_world}
 use Rattle.pl_machine.specs.Messages.{told, told_by, told_line}
 use Rattle.pl_machine.specs.Step.{is_enabled, commit_reply, fix_reply, reply_of, after_input, after_fix, after_commit, after_dispatch, after}
-use Rattle.pl_machine.specs.Legal.{MayFollow, legal_from, world_from, options_in, no_options, options_of, IsOpenedRun, Legal, world_of}
+use Rattle.pl_machine.specs.Legal.{MayFollow, legal_from, world_from, options_in, no_options, options_of, entries_behind, IsOpenedRun, Legal, world_of}
 use Rattle.pl_journal.specs.Rendering.Lines.{AreEntries}
 
 -- ---- an event leaves the model as it was
@@ -77,6 +77,15 @@ model_after w event.Rest = refl
 model_after w (event.Commit h) = model_commit w h (commit_reply w.state h)
 model_after w event.Dispatch = model_dispatch w (reply_of w event.Dispatch)
 model_after w event.Close = refl
+
+model_from : (w : World) (es : List Entry) → (world_from w es).state.model ≡ w.state.model
+model_from w [] = refl
+model_from w (e ∷ es) = model_from (after w e.event) es ∙ model_after w e.event
+
+-- no event changes the model
+pub model_of_world : (m : Model) (log : List Entry) → (world_of m log).state.model ≡ m
+unfolding world_of
+model_of_world m log = model_from (fresh_world m (options_of log)) (entries_behind log)
 
 -- ---- entries
 

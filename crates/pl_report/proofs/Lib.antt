@@ -3,3 +3,4 @@ pub mod Texts
 pub mod Inputs
 pub mod Lines
 pub mod Sending
+pub mod Foreseeing

@@ -24,3 +24,6 @@ five_joined out a b c d e =
     ∙ ap (λ (t : List ℕ). t ++ spaced d ++ spaced e) (words_joined out (a ++ b) c)
     ∙ ap (λ (t : List ℕ). t ++ spaced e) (words_joined out (a ++ b ++ c) d)
     ∙ words_joined out (a ++ b ++ c ++ d) e
+
+pub four_texts : (a b c d : List ℕ) → a ++ b ++ c ++ d ≡ a ++ (b ++ (c ++ d))
+four_texts a b c d = simp append_assoc

@@ -8,7 +8,7 @@ use std::alloc::AllocError;
 
 /// Appends a blank and a count.
 #[tactic(auto, using(pl_journal::proofs::AboutRendering::Texts::word_joined))]
-fn push_length(text: &mut Vec<u8>, count: usize) -> Result<(), AllocError>
+pub(crate) fn push_length(text: &mut Vec<u8>, count: usize) -> Result<(), AllocError>
     ensures { OnOk result (text.new.items ≡ text.old.items ++ spaced (decimal count ∷ [])) }
 {
     text.extend_from_slice(b" ")?;

@@ -6,6 +6,8 @@ mod commands;
 mod conflicts;
 mod demonstration;
 mod demonstration_model;
+mod flexes;
+mod forecasts;
 mod goals;
 mod heading;
 mod laws;
@@ -14,6 +16,8 @@ mod verdicts;
 
 pub use demonstration::demo_input;
 pub use demonstration_model::laws_of_demonstration;
+pub use flexes::flex_text;
+pub use forecasts::forecast_text;
 pub use laws::{demo_input_laws, laws_of_reports};
 pub use reporting::report;
 pub use verdicts::verdict_line;

@@ -47,6 +47,25 @@ fn first_drop(board: &Board, goals: &[Conflict]) -> Option<Proposal> {
     None
 }
 
+// How many of these goals must be served.
+fn count_musts(board: &Board, goals: &[Conflict]) -> usize {
+    let mut count: usize = 0;
+    for conflict in goals {
+        if must_be_served(board, conflict.subject) {
+            count = count.saturating_add(1);
+        }
+    }
+    count
+}
+
+// Whether a drop can wait. A root that comes takes two turns, its own and the one in which it goes again. So where such roots are
+// to follow and an odd number of turns is left, a drop makes that number even. The last drop is kept for this.
+fn can_wait(board: &Board, goals: &[Conflict], left: u32) -> bool {
+    let musts = count_musts(board, goals);
+    let drops = goals.len().saturating_sub(musts);
+    musts > 0 && drops == 1 && left % 2 == 0
+}
+
 // The last of some moves that adds a root and may be made.
 fn last_addition(board: &Board, moves: &[RepairMove]) -> Option<RepairMove>
     requires { board.now.spoiled ≡ false }
@@ -81,14 +100,27 @@ fn late_root(
     Ok(late)
 }
 
+// The drop of a goal, if there is one that cannot wait.
+fn drop_now(board: &Board, goals: &[Conflict], left: u32) -> Option<Proposal> {
+    if can_wait(board, goals, left) {
+        None
+    } else {
+        first_drop(board, goals)
+    }
+}
+
 // Where only goals are open: one that need not be served is dropped; else a root comes, and goes again.
-fn pass_time(alloc: Global, board: &Board) -> Result<Option<Proposal>, AllocError>
+fn pass_time(tries: &mut Tries, board: &Board, left: u32) -> Result<Option<Proposal>, AllocError>
     requires { board.now.spoiled ≡ false }
 {
-    let goals = board.conflicts().list(alloc)?;
-    match first_drop(board, goals.as_slice()) {
-        Some(drop) => Ok(Some(drop)),
-        None => late_root(alloc, board, goals.as_slice()),
+    let goals = board.conflicts().list(tries.alloc)?;
+    match drop_now(board, goals.as_slice(), left) {
+        Some(drop) => {
+            // a plan without the goal has fewer conflicts than what was seen of it
+            tries.forget_looks();
+            Ok(Some(drop))
+        }
+        None => late_root(tries.alloc, board, goals.as_slice()),
     }
 }
 
@@ -156,6 +188,6 @@ pub(crate) fn leftover_repair(
     if has_hard {
         cheapest_repair(tries, board, left)
     } else {
-        pass_time(tries.alloc, board)
+        pass_time(tries, board, left)
     }
 }

@@ -42,6 +42,11 @@ impl Tries {
     /// Begins anew, with so many plans to look at.
     pub(crate) fn begin(&mut self, worlds: u32) {
         self.left = worlds;
+        self.forget_looks();
+    }
+
+    /// Forgets what was seen of plans.
+    pub(crate) fn forget_looks(&mut self) {
         self.known = BTreeMap::new(self.alloc);
     }
 

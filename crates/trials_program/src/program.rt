@@ -3,6 +3,7 @@
 mod ahead;
 mod demonstrations;
 mod faults;
+mod forecasts;
 mod hostile;
 mod journals;
 mod limits;

@@ -22,6 +22,8 @@ EXAMPLES = """examples:
   console | lundocsef-x run model.txt - | plan-live model.txt
   lundocsef-x replay examples/camera.txt examples/camera.journal
   lundocsef-x report examples/camera.txt examples/camera.journal
+  lundocsef-x flex 3 examples/camera.txt examples/camera.journal
+  lundocsef-x forecast rates.txt model.txt day.journal
   lundocsef-x --completion bash > ~/.local/share/bash-completion/completions/lundocsef-x
 
 status: that of the program (2: its words, 3: the model, 4: reading, 5: writing, 6: too long, 7: the journal is full,
@@ -31,11 +33,15 @@ BEHIND = {
     'run': 'the messages: a file, or `-` for standard input, line by line as they come (default: what stands behind `begin` in MODEL)',
     'replay': 'the journal: a file or `-` (default: what stands behind `begin` in MODEL)',
     'report': 'the journal: a file or `-` (default: what stands behind `begin` in MODEL)',
+    'flex': 'the journal: a file or `-` (default: what stands behind `begin` in MODEL)',
+    'forecast': 'the journal: a file or `-` (default: what stands behind `begin` in MODEL)',
 }
 HELP = {
     'run': 'plan, and write the journal', 'check': 'say whether a text is a model, or its first fault',
     'replay': 'say whether a journal is legal, or its first wrong entry', 'report': 'write the plan behind a journal',
     'demo': 'plan N built-in goals',
+    'flex': 'say how far each activity behind a journal can move, and what keeps one of them there',
+    'forecast': 'say where levels leave their limits by rates, behind a journal',
 }
 
 
@@ -69,6 +75,10 @@ def make_parser():
         if name == 'demo':
             command.add_argument('count', metavar='N', type=int, help='how many goals, 1 to 4000')
             continue
+        if name == 'flex':
+            command.add_argument('id', metavar='ID', type=int, help='the number of the activity whose limits are written')
+        if name == 'forecast':
+            command.add_argument('rates', metavar='RATES', help='a file with lines of rates and drifts')
         command.add_argument('model', metavar='MODEL', help='a file with the model')
         if name in BEHIND:
             command.add_argument('behind', metavar='MESSAGES' if name == 'run' else 'JOURNAL', nargs='?', help=BEHIND[name])
@@ -83,6 +93,8 @@ def words_of(given):
     """The words that the program takes."""
     if given.command == 'demo':
         return ['demo', str(given.count)]
+    if given.command == 'flex':
+        return ['flex', str(given.id)]
     if given.command == 'run':
         return ['run', 'solo', str(given.turns)] if given.seed is None else ['run', 'pair', str(given.turns), str(given.seed)]
     return [given.command]
@@ -95,6 +107,10 @@ def feeder_of(given):
     text = read_text(given.model)
     model, lines = split_at_begin(text)
     behind = getattr(given, 'behind', None)
+    before = rates_of(given.rates) if given.command == 'forecast' else ''
+    if behind is None and before:
+        whole = with_begin(model) + before + ''.join(line + '\n' for line in lines or [])
+        return lambda stream: stream.write(whole.encode('latin-1'))
     if behind is None:
         # `check` wants a model alone; the others want all of the file, and say what they miss.
         whole = text if lines is not None or given.command != 'check' else with_begin(model)
@@ -102,7 +118,7 @@ def feeder_of(given):
     source = open_source(behind)
 
     def feed(stream):
-        stream.write(with_begin(model).encode('latin-1'))
+        stream.write((with_begin(model) + before).encode('latin-1'))
         stream.flush()
         for data in iter(lambda: os.read(source.fileno(), 65536), b''):
             stream.write(data)
@@ -111,7 +127,16 @@ def feeder_of(given):
 
 
 def with_begin(model):
-    return model + ('' if not model or model.endswith('\n') else '\n') + 'begin\n'
+    return ended(model) + 'begin\n'
+
+
+def rates_of(path):
+    """The lines of rates, and the line behind them."""
+    return ended(read_text(path)) + 'journal\n'
+
+
+def ended(text):
+    return text + ('' if not text or text.endswith('\n') else '\n')
 
 
 def open_source(path):

@@ -18,7 +18,8 @@ tick 40
 end
 ";
 
-const USAGE: &str = "usage: run solo N | run pair N SEED | check | replay | report | demo N\n";
+const USAGE: &str =
+    "usage: run solo N | run pair N SEED | check | replay | report | demo N | flex ID | forecast\n";
 
 #[test]
 fn makes_the_worked_input(rt: HostRuntime) {

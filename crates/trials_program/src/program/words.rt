@@ -1,8 +1,8 @@
 use crate::running::words_of;
 use pl_main::{Command, Task, read_words};
 
-/// What the words ask for: the turns of a run, 0 for a check, 1,001 for a replay and 1,002 for a report, the goals of a
-/// demonstration, the turns and the seed of a pair added up, nothing where they are no command.
+/// What the words ask for: the turns of a run, 0 for a check, 1,001 for a replay, 1,002 for a report and 1,003 for a forecast, the goals of a
+/// demonstration, the id of an activity whose paths are asked for, the turns and the seed of a pair added up, nothing where they are no command.
 fn number_of(words: &[String]) -> Option<u64> {
     match read_words(words)? {
         Command::Pair { turns, seed } => seed.checked_add(u64::from(turns)),
@@ -10,6 +10,8 @@ fn number_of(words: &[String]) -> Option<u64> {
         Command::Alone(Task::Check) => Some(0),
         Command::Alone(Task::Replay) => Some(1001),
         Command::Alone(Task::Report) => Some(1002),
+        Command::Alone(Task::Flex { id }) => Some(id),
+        Command::Alone(Task::Forecast) => Some(1003),
         Command::Alone(Task::Demo { goals }) => Some(u64::from(goals)),
     }
 }
@@ -48,7 +50,16 @@ demo 0 = none
 demo 4001 = none
 demo = none
 demo 1 2 = none
-demo one = none";
+demo one = none
+flex 0 = 0
+flex 999999999999999999 = 999999999999999999
+flex 1000000000000000000 = none
+flex = none
+flex 1 2 = none
+flex -1 = none
+forecast = 1003
+forecast 8 = none
+Forecast = none";
 
 #[test]
 fn reads_words(rt: HostRuntime) {

@@ -1,0 +1,11 @@
+use pl_lists::Items;
+use pl_rate::Rate;
+
+/// What is to be told of a legal journal, by what was asked and what stood before the journal.
+#[derive(Debug, Drop)]
+pub enum Told {
+    Verdict,
+    Report,
+    Flex { id: u64 },
+    Forecast(Items<Rate>),
+}

@@ -1,0 +1,9 @@
+use crate::refusal::Refusal;
+use pl_lists::Items;
+
+/// What stands before a journal.
+#[derive(Debug, Drop)]
+pub enum Preface<T> {
+    Given(Items<T>),
+    Refused(Refusal),
+}

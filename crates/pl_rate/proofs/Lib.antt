@@ -1,0 +1,9 @@
+pub mod Crossings
+pub mod Pieces
+pub mod Courses
+pub mod Bends
+pub mod Gained
+pub mod InOrder
+pub mod Fores
+pub mod Forecasts
+pub mod Ranges

@@ -1,0 +1,9 @@
+pub use Rattle.pl_points.specs.Spans
+pub use Rattle.pl_points.specs.Limits
+pub use Rattle.pl_semantics.specs.Timelines
+pub use Rattle.pl_semantics.specs.Demands
+pub mod Rates
+pub mod Fores
+pub mod Courses
+pub mod Hinges
+pub mod Orders
