@@ -60,12 +60,10 @@ numbered_here ks i k lt is =
 
 -- ---- the first eight users
 
-module _ (s : PlanState) (line : ℕ) (part : Role) (ids : List ℕ) (a : Activity) (rest : List Activity) where
-  pub users_full : 8 ≤ length ids → users_with s line part ids (a ∷ rest) ≡ users_with s line part ids rest
-  users_full full =
-      let none : (xs : List Activity) → take (8 - length ids) xs ≡ [] = λ xs. none_more (8 - length ids) xs (omega (arith, full)) in
-      ap (λ l. ids ++ map id_of l) (none (filter (is_user s line part) (a ∷ rest)) ∙ sym (none (filter (is_user s line part) rest)))
+pub users_full : (s : PlanState) (line : ℕ) (part : Role) (ids : List ℕ) (rest : List Activity) → 8 ≤ length ids → users_with s line part ids rest ≡ ids
+users_full s line part ids rest full = ap (λ l. ids ++ map id_of l) (none_more (8 - length ids) (filter (is_user s line part) rest) (omega (arith, full))) ∙ append-nil ids
 
+module _ (s : PlanState) (line : ℕ) (part : Role) (ids : List ℕ) (a : Activity) (rest : List Activity) where
   pub users_past : is_user s line part a ≡ false → users_with s line part ids (a ∷ rest) ≡ users_with s line part ids rest
   users_past is = ap (λ l. ids ++ map id_of l) (one_past (is_user s line part) (8 - length ids) a rest is)
 

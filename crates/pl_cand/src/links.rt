@@ -1,21 +1,20 @@
-//! Moves for links without a partner and orders that are not met.
-ghost use Rattle.std.specs.Prelude.{◌≡◌, ◌++◌, ◌<◌, ◌≤◌, ◌≤ℤ◌, ◌+ℤ◌, ◌-ℤ◌, pos, neg_ℤ, IfSome, OnOk, Some, slice_get};
-ghost use Rattle.std.specs.Option.{option_copied};
+//! Moves for links without a partner.
+ghost use Rattle.std.specs.Prelude.{◌≡◌, ◌++◌, ◌≤ℤ◌, ◌+ℤ◌, pos, neg_ℤ, OnOk, Some, slice_get};
 ghost use Rattle.pl_plan.specs.Activities.{activity_of};
 ghost use Rattle.pl_links.specs.Broken.{moment_of, links_of};
 ghost use Rattle.pl_semantics.specs.Whole.{IsWhole};
 ghost use Rattle.pl_semantics.specs.PlanStates.{of_found};
-ghost use Rattle.pl_semantics.specs.Links.{order_at, place_in, placed_of};
-ghost use Rattle.pl_semantics.specs.Repairs.{for_linked, for_order, for_temporal, kind_at, least_of, order_shifts, partner_start, partners_for, partners_from, shift_one, shifts_apart, shifts_between};
+ghost use Rattle.pl_semantics.specs.Links.{placed_of};
+ghost use Rattle.pl_semantics.specs.Repairs.{for_temporal, kind_at, least_of, partner_start, partners_for, partners_from};
 ghost use Rattle.std.specs.Int.{int_max, int_min};
 ghost use Rattle.pl_semantics.specs.Starts.{floor_at, last_of};
 ghost use Rattle.pl_cand.specs.Near.{AreClose, IsClose, IsNear};
 
-use crate::reading::{checked_order, floor, last, links_of, moment_of};
+use crate::reading::{floor, last, links_of, moment_of};
 use crate::repairs::add_moves;
-use crate::starts::{add_news, add_shift};
+use crate::starts::add_news;
 use crate::strides::spread;
-use pl_model::{Link, Order, Point};
+use pl_model::{Link, Point};
 use pl_plan::{Activity, RepairMove};
 use pl_semantics::PlanState;
 use std::alloc::{AllocError, Global};
@@ -137,47 +136,6 @@ pub(crate) fn for_temporal(
     Ok(())
 }
 
-// A shift of one that is not the parent.
-fn add_shift_one(
-    s: &PlanState,
-    slot: Option<u32>,
-    a: &Activity,
-    to: i64,
-    out: &mut Vec<RepairMove>,
-) -> Result<(), AllocError>
-    ensures { OnOk result (out.new.items ≡ out.old.items ++ shift_one s.now slot a.now to) }
-{
-    match slot {
-        Some(_) => add_shift(s, a.id, to, out),
-        None => Ok(()),
-    }
-}
-
-// A start that is moved by one distance and back by another.
-fn moved(start: u32, by: i64, back: i64) -> i64
-    requires by { IsNear by }
-    requires back { IsNear back }
-    ensures { result ≡ (pos start +ℤ by) -ℤ back }
-{
-    i64::from(start) + by - back
-}
-
-fn add_moved(
-    s: &PlanState,
-    slot: Option<u32>,
-    a: &Activity,
-    by: i64,
-    back: i64,
-    out: &mut Vec<RepairMove>,
-) -> Result<(), AllocError>
-    requires by { IsNear by }
-    requires back { IsNear back }
-    ensures { OnOk result (out.new.items ≡ out.old.items ++ shift_one s.now slot a.now ((pos a.now.start +ℤ by) -ℤ back)) }
-{
-    add_shift_one(s, slot, a, moved(a.start, by, back), out)?;
-    Ok(())
-}
-
 // A moment that lies so far behind another.
 fn behind(moment: i64, distance: i64) -> i64
     requires least { neg_ℤ (pos 5000000000) ≤ℤ moment }
@@ -187,131 +145,4 @@ fn behind(moment: i64, distance: i64) -> i64
     ensures near { IsNear result }
 {
     moment + distance
-}
-
-// The second so that it lies low after the first, and then high; and then the first likewise.
-fn add_order_shifts(
-    s: &PlanState,
-    order: &Order,
-    first: &Activity,
-    second: &Activity,
-    apart: i64,
-    out: &mut Vec<RepairMove>,
-) -> Result<(), AllocError>
-    requires low { IsNear order.now.low }
-    requires high { IsNear order.now.high }
-    requires apart { IsNear apart }
-    ensures { OnOk result (out.new.items ≡ out.old.items ++ order_shifts s.now order.now first.now second.now apart) }
-{
-    add_moved(s, order.second, second, order.low, apart, out)?;
-    add_moved(s, order.second, second, order.high, apart, out)?;
-    add_moved(s, order.first, first, apart, order.low, out)?;
-    add_moved(s, order.first, first, apart, order.high, out)?;
-    Ok(())
-}
-
-fn add_shifts_apart(
-    s: &PlanState,
-    order: &Order,
-    first: &Activity,
-    second: &Activity,
-    out: &mut Vec<RepairMove>,
-) -> Result<(), AllocError>
-    requires whole { IsWhole s.now }
-    requires first { activity_of first.now.id s.now.plan.activities ≡ Some first.now }
-    requires second { activity_of second.now.id s.now.plan.activities ≡ Some second.now }
-    requires low { IsNear order.now.low }
-    requires high { IsNear order.now.high }
-    ensures { OnOk result (out.new.items ≡ out.old.items ++ shifts_apart s.now order.now first.now second.now (moment_of order.now.first_end (placed_of s.now first.now)) (moment_of order.now.second_end (placed_of s.now second.now))) }
-{
-    match (
-        moment_of(s, first, order.first_end),
-        moment_of(s, second, order.second_end),
-    ) {
-        (Some(from), Some(to)) => {
-            add_order_shifts(
-                s,
-                order,
-                first,
-                second,
-                i64::from(to) - i64::from(from),
-                out,
-            )
-        }
-        _ => Ok(()),
-    }
-}
-
-fn add_shifts_between(
-    s: &PlanState,
-    order: &Order,
-    first: Option<&Activity>,
-    second: Option<&Activity>,
-    out: &mut Vec<RepairMove>,
-) -> Result<(), AllocError>
-    requires whole { IsWhole s.now }
-    requires first { IfSome first (λ a. activity_of a.now.id s.now.plan.activities ≡ Some a.now) }
-    requires second { IfSome second (λ a. activity_of a.now.id s.now.plan.activities ≡ Some a.now) }
-    requires low { IsNear order.now.low }
-    requires high { IsNear order.now.high }
-    ensures { OnOk result (out.new.items ≡ out.old.items ++ shifts_between s.now order.now (option_copied first.entry) (option_copied second.entry)) }
-{
-    match (first, second) {
-        (Some(first), Some(second)) => add_shifts_apart(s, order, first, second, out),
-        _ => Ok(()),
-    }
-}
-
-fn add_order(
-    alloc: Global,
-    s: &PlanState,
-    parent: &Activity,
-    order: &Order,
-    out: &mut Vec<RepairMove>,
-) -> Result<(), AllocError>
-    requires whole { IsWhole s.now }
-    requires live { activity_of parent.now.id s.now.plan.activities ≡ Some parent.now }
-    requires low { IsNear order.now.low }
-    requires high { IsNear order.now.high }
-    ensures { OnOk result (out.new.items ≡ out.old.items ++ for_order s.now parent.now order.now) }
-{
-    let first = s.place_in(alloc, parent, order.first)?;
-    let second = s.place_in(alloc, parent, order.second)?;
-    add_shifts_between(s, order, first, second, out)?;
-    Ok(())
-}
-
-fn add_order_of(
-    alloc: Global,
-    s: &PlanState,
-    parent: &Activity,
-    index: u32,
-    out: &mut Vec<RepairMove>,
-) -> Result<(), AllocError>
-    requires whole { IsWhole s.now }
-    requires live { activity_of parent.now.id s.now.plan.activities ≡ Some parent.now }
-    ensures { OnOk result (out.new.items ≡ out.old.items ++ of_found (for_order s.now parent.now) (order_at s.now parent.now index)) }
-{
-    match checked_order(s, parent, index) {
-        Some(order) => add_order(alloc, s, parent, order, out),
-        None => Ok(()),
-    }
-}
-
-/// Appends shifts that meet the order of this index, that the parent's alternative is left, and the moves of the parent.
-pub(crate) fn for_linked(
-    alloc: Global,
-    s: &PlanState,
-    parent: &Activity,
-    index: u32,
-    out: &mut Vec<RepairMove>,
-) -> Result<(), AllocError>
-    requires whole { IsWhole s.now }
-    requires live { activity_of parent.now.id s.now.plan.activities ≡ Some parent.now }
-    ensures { OnOk result (out.new.items ≡ out.old.items ++ for_linked s.now parent.now index) }
-{
-    add_order_of(alloc, s, parent, index, out)?;
-    out.push(RepairMove::Abstract { id: parent.id })?;
-    add_moves(alloc, s, parent, out)?;
-    Ok(())
 }

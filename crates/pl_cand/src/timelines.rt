@@ -12,7 +12,7 @@ use crate::activities::end_by;
 use crate::help::Help;
 use crate::helping::add_help;
 use crate::repairs::add_moves;
-use crate::role::Role;
+use crate::role::{Role, Way};
 use crate::starts::add_shift;
 use crate::users::first_users;
 use pl_model::Reservation;
@@ -120,7 +120,7 @@ pub(crate) fn for_low(
     ensures { OnOk result (out.new.items ≡ out.old.items ++ for_low s.now line a b) }
 {
     add_help(alloc, s, line, Help::Raise, a, out)?;
-    let users = first_users(alloc, s, line, Role::LowersBelow(b))?;
+    let users = first_users(alloc, s, line, Role::ChangesBelow(b, Way::Down))?;
     add_all_moves(alloc, s, users.as_slice(), out)?;
     Ok(())
 }
@@ -139,7 +139,7 @@ pub(crate) fn for_high(
     ensures { OnOk result (out.new.items ≡ out.old.items ++ for_high s.now line a b) }
 {
     add_help(alloc, s, line, Help::Lower, a, out)?;
-    let users = first_users(alloc, s, line, Role::RaisesBelow(b))?;
+    let users = first_users(alloc, s, line, Role::ChangesBelow(b, Way::Up))?;
     add_all_moves(alloc, s, users.as_slice(), out)?;
     Ok(())
 }

@@ -1,5 +1,5 @@
 //! The activities that are shifted away from a timeline.
-ghost use Rattle.std.specs.Prelude.{◌≡◌, ◌≤ℤ◌, pos, List, ◌∷◌, IfOk, IfSome, OnOk, Some, All, length, map};
+ghost use Rattle.std.specs.Prelude.{◌≡◌, ◌<◌, ◌≤ℤ◌, pos, List, ◌∷◌, IfOk, IfSome, OnOk, Some, All, length, map};
 ghost use Rattle.std.specs.List.{list_any};
 ghost use Rattle.pl_model.specs.Values.{NamesBelow};
 ghost use Rattle.pl_plan.specs.declared.activity.Activity.{Activity};
@@ -8,12 +8,12 @@ ghost use Rattle.pl_plan.specs.Firm.{amount_of};
 ghost use Rattle.pl_plan.specs.Trees.{id_of};
 ghost use Rattle.pl_semantics.specs.Whole.{IsWhole};
 ghost use Rattle.pl_semantics.specs.Demands.{amount_in, moment_of_base, since};
-ghost use Rattle.pl_semantics.specs.LineRepairs.{first_eight, lowers_below, point_counts, raises_below, takes_in};
-ghost use Rattle.pl_cand.specs.Tests.{is_user, lowers_at, may_take, plays, raises_at, users_with, uses_in};
+ghost use Rattle.pl_semantics.specs.LineRepairs.{first_eight, point_counts, takes_in};
+ghost use Rattle.pl_cand.specs.Tests.{changes_at, changes_below, is_user, may_take, plays, users_with, uses_in};
 ghost use Rattle.pl_cand.specs.Levels.{HasBase, IsOfLevel};
 
 use crate::reading::{is_committed, moment_of, reservations_of};
-use crate::role::Role;
+use crate::role::{Role, Way};
 use pl_model::{Expr, Point, Reservation, eval};
 use pl_plan::Activity;
 use pl_semantics::PlanState;
@@ -155,72 +155,58 @@ fn point_counts(s: &PlanState, line: u32, b: u32, a: &Activity, point: Point) ->
     }
 }
 
-fn lowers_at(s: &PlanState, line: u32, b: u32, a: &Activity, reservation: &Reservation) -> bool
+// Whether the reservation changes the level in this way, at a point that counts.
+fn changes_at(
+    s: &PlanState,
+    line: u32,
+    b: u32,
+    a: &Activity,
+    way: Way,
+    reservation: &Reservation,
+) -> bool
     requires whole { IsWhole s.now }
     requires live { activity_of a.now.id s.now.plan.activities ≡ Some a.now }
     requires sort { IsOfLevel s.now reservation.now }
-    ensures { result ≡ lowers_at s.now line b a.now reservation.now }
+    ensures { result ≡ changes_at way s.now line b a.now reservation.now }
 {
-    match reservation {
-        Reservation::Lower(of, _, point) => *of == line && point_counts(s, *of, b, a, *point),
+    match (way, reservation) {
+        (Way::Down, Reservation::Lower(of, _, point)) => {
+            *of == line && point_counts(s, *of, b, a, *point)
+        }
+        (Way::Up, Reservation::Raise(of, _, point)) => {
+            *of == line && point_counts(s, *of, b, a, *point)
+        }
         _ => false,
     }
 }
 
-fn any_lowers(s: &PlanState, line: u32, b: u32, a: &Activity, reservations: &[Reservation]) -> bool
+fn any_changes(
+    s: &PlanState,
+    line: u32,
+    b: u32,
+    a: &Activity,
+    way: Way,
+    reservations: &[Reservation],
+) -> bool
     requires whole { IsWhole s.now }
     requires live { activity_of a.now.id s.now.plan.activities ≡ Some a.now }
     requires level { All (IsOfLevel s.now) reservations.now }
-    ensures { result ≡ list_any (lowers_at s.now line b a.now) reservations.now }
+    ensures { result ≡ list_any (changes_at way s.now line b a.now) reservations.now }
 {
     for reservation in reservations {
-        if lowers_at(s, line, b, a, reservation) {
+        if changes_at(s, line, b, a, way, reservation) {
             return true;
         }
     }
     false
 }
 
-fn lowers_below(s: &PlanState, line: u32, b: u32, a: &Activity) -> bool
+fn changes_below(s: &PlanState, line: u32, b: u32, a: &Activity, way: Way) -> bool
     requires whole { IsWhole s.now }
     requires live { activity_of a.now.id s.now.plan.activities ≡ Some a.now }
-    ensures { result ≡ lowers_below s.now line b a.now }
+    ensures { result ≡ changes_below way s.now line b a.now }
 {
-    any_lowers(s, line, b, a, reservations_of(s, a))
-}
-
-fn raises_at(s: &PlanState, line: u32, b: u32, a: &Activity, reservation: &Reservation) -> bool
-    requires whole { IsWhole s.now }
-    requires live { activity_of a.now.id s.now.plan.activities ≡ Some a.now }
-    requires sort { IsOfLevel s.now reservation.now }
-    ensures { result ≡ raises_at s.now line b a.now reservation.now }
-{
-    match reservation {
-        Reservation::Raise(of, _, point) => *of == line && point_counts(s, *of, b, a, *point),
-        _ => false,
-    }
-}
-
-fn any_raises(s: &PlanState, line: u32, b: u32, a: &Activity, reservations: &[Reservation]) -> bool
-    requires whole { IsWhole s.now }
-    requires live { activity_of a.now.id s.now.plan.activities ≡ Some a.now }
-    requires level { All (IsOfLevel s.now) reservations.now }
-    ensures { result ≡ list_any (raises_at s.now line b a.now) reservations.now }
-{
-    for reservation in reservations {
-        if raises_at(s, line, b, a, reservation) {
-            return true;
-        }
-    }
-    false
-}
-
-fn raises_below(s: &PlanState, line: u32, b: u32, a: &Activity) -> bool
-    requires whole { IsWhole s.now }
-    requires live { activity_of a.now.id s.now.plan.activities ≡ Some a.now }
-    ensures { result ≡ raises_below s.now line b a.now }
-{
-    any_raises(s, line, b, a, reservations_of(s, a))
+    any_changes(s, line, b, a, way, reservations_of(s, a))
 }
 
 fn plays(
@@ -236,8 +222,7 @@ fn plays(
 {
     match role {
         Role::Uses(from, to) => takes_in(alloc, s, line, from, to, a),
-        Role::LowersBelow(before) => Ok(lowers_below(s, line, before, a)),
-        Role::RaisesBelow(before) => Ok(raises_below(s, line, before, a)),
+        Role::ChangesBelow(before, way) => Ok(changes_below(s, line, before, a, way)),
     }
 }
 
@@ -258,8 +243,8 @@ fn is_user(
     plays(alloc, s, line, role, a)
 }
 
-// Puts the id of an activity at the end, where it is one of the first eight.
-#[tactic(auto, using(crate::proofs::Keeping::users_full, crate::proofs::Keeping::users_past, crate::proofs::Keeping::users_more))]
+// Puts the id of an activity at the end, where it plays the role.
+#[tactic(auto, using(crate::proofs::Keeping::users_past, crate::proofs::Keeping::users_more))]
 fn add_if_user(
     alloc: Global,
     s: &PlanState,
@@ -270,11 +255,9 @@ fn add_if_user(
 ) -> Result<(), AllocError>
     requires whole { IsWhole s.now }
     requires live { activity_of a.now.id s.now.plan.activities ≡ Some a.now }
+    requires room { length ids.old.items < 8 }
     ensures { OnOk result ((rest : List Activity) → users_with s.now line role ids.old.items (a.now ∷ rest) ≡ users_with s.now line role ids.new.items rest) }
 {
-    if ids.len() >= MOST {
-        return Ok(());
-    }
     if is_user(alloc, s, line, role, a)? {
         ids.push(a.id)?;
     }
@@ -282,6 +265,7 @@ fn add_if_user(
 }
 
 /// The ids of the first eight activities that are not committed and play the role.
+#[tactic(auto, using(crate::proofs::Keeping::users_full))]
 pub(crate) fn first_users(
     alloc: Global,
     s: &PlanState,
@@ -293,6 +277,9 @@ pub(crate) fn first_users(
 {
     let mut ids = Vec::new(alloc);
     for a in s.plan.activities() {
+        if ids.len() >= MOST {
+            return Ok(ids);
+        }
         add_if_user(alloc, s, line, role, a, &mut ids)?;
     }
     Ok(ids)

@@ -2,7 +2,7 @@ use Rattle.std.proofs.Common.{◌≡◌, List, ◌++◌, append_assoc, rules, to
 use Rattle.std.specs.Prelude.{pos, ◌+ℤ◌, ◌-ℤ◌}
 use Rattle.pl_plan.specs.declared.repair.RepairMove.{RepairMove}
 use Rattle.pl_semantics.specs.Repairs.{shift_one}
-use Rattle.pl_cand.proofs.links.add_order_shifts.Goals as goal
+use Rattle.pl_cand.proofs.orders.add_order_shifts.Goals as goal
 
 -- four lists, each put behind what is there
 four_behind : (all a b c d one two three four : List RepairMove) → one ≡ all ++ a → two ≡ one ++ b → three ≡ two ++ c → four ≡ three ++ d → four ≡ all ++ (((a ++ b) ++ c) ++ d)
