@@ -20,10 +20,10 @@ use pl_semantics::PlanState;
 use std::alloc::{AllocError, Global};
 
 // The least duration of a kind.
-fn least_of(s: &PlanState, kind: u32) -> u32
-    ensures { result ≡ least_of (kind_at s.now kind) }
+fn least_of(state: &PlanState, kind: u32) -> u32
+    ensures { result ≡ least_of (kind_at state.now kind) }
 {
-    match s.model.get().kinds.as_slice().get(kind as usize) {
+    match state.model.get().kinds.as_slice().get(kind as usize) {
         Some(kind) => kind.least_duration,
         None => 0,
     }
@@ -40,63 +40,67 @@ fn partner_start(own: u32, theirs: Point, least: u32) -> i64
 }
 
 // The least start of a partner.
-fn earliest(s: &PlanState, link: &Link, start: i64) -> i64
-    requires whole { IsWhole s.now }
+fn earliest(state: &PlanState, link: &Link, start: i64) -> i64
+    requires whole { IsWhole state.now }
     requires link { AreClose link.now }
     requires least { neg_ℤ (pos 5000000000) ≤ℤ start }
     requires most { start ≤ℤ pos 5000000000 }
-    ensures value { result ≡ int_max (floor_at s.now) (start +ℤ link.now.low) }
+    ensures value { result ≡ int_max (floor_at state.now) (start +ℤ link.now.low) }
     ensures near { IsNear result }
 {
-    floor(s).max(behind(start, link.low))
+    floor(state).max(behind(start, link.low))
 }
 
 // The greatest start of a partner.
-fn latest(s: &PlanState, link: &Link, start: i64) -> i64
+fn latest(state: &PlanState, link: &Link, start: i64) -> i64
     requires link { AreClose link.now }
     requires least { neg_ℤ (pos 5000000000) ≤ℤ start }
     requires most { start ≤ℤ pos 5000000000 }
-    ensures value { result ≡ int_min (last_of s.now) (start +ℤ link.now.high) }
+    ensures value { result ≡ int_min (last_of state.now) (start +ℤ link.now.high) }
     ensures near { IsNear result }
 {
-    last(s).min(behind(start, link.high))
+    last(state).min(behind(start, link.high))
 }
 
 // Partners within the window of a link.
 fn add_partners_from(
     alloc: Global,
-    s: &PlanState,
+    state: &PlanState,
     link: &Link,
     start: i64,
     out: &mut Vec<RepairMove>,
 ) -> Result<(), AllocError>
-    requires whole { IsWhole s.now }
+    requires whole { IsWhole state.now }
     requires link { AreClose link.now }
     requires least { neg_ℤ (pos 5000000000) ≤ℤ start }
     requires most { start ≤ℤ pos 5000000000 }
-    ensures { OnOk result (out.new.items ≡ out.old.items ++ partners_from s.now link.now start) }
+    ensures { OnOk result (out.new.items ≡ out.old.items ++ partners_from state.now link.now start) }
 {
-    let starts = spread(alloc, earliest(s, link, start), latest(s, link, start))?;
-    add_news(s, link.kind, None, starts.as_slice(), out)?;
+    let starts = spread(
+        alloc,
+        earliest(state, link, start),
+        latest(state, link, start),
+    )?;
+    add_news(state, link.kind, None, starts.as_slice(), out)?;
     Ok(())
 }
 
 fn add_partners(
     alloc: Global,
-    s: &PlanState,
+    state: &PlanState,
     a: &Activity,
     link: &Link,
     out: &mut Vec<RepairMove>,
 ) -> Result<(), AllocError>
-    requires whole { IsWhole s.now }
-    requires live { activity_of a.now.id s.now.plan.activities ≡ Some a.now }
+    requires whole { IsWhole state.now }
+    requires live { activity_of a.now.id state.now.plan.activities ≡ Some a.now }
     requires link { AreClose link.now }
-    ensures { OnOk result (out.new.items ≡ out.old.items ++ partners_for s.now a.now link.now) }
+    ensures { OnOk result (out.new.items ≡ out.old.items ++ partners_for state.now a.now link.now) }
 {
-    match moment_of(s, a, link.mine) {
+    match moment_of(state, a, link.mine) {
         Some(own) => {
-            let start = partner_start(own, link.theirs, least_of(s, link.kind));
-            add_partners_from(alloc, s, link, start, out)
+            let start = partner_start(own, link.theirs, least_of(state, link.kind));
+            add_partners_from(alloc, state, link, start, out)
         }
         None => Ok(()),
     }
@@ -104,17 +108,17 @@ fn add_partners(
 
 fn add_partners_of(
     alloc: Global,
-    s: &PlanState,
+    state: &PlanState,
     a: &Activity,
     index: u32,
     out: &mut Vec<RepairMove>,
 ) -> Result<(), AllocError>
-    requires whole { IsWhole s.now }
-    requires live { activity_of a.now.id s.now.plan.activities ≡ Some a.now }
-    ensures { OnOk result (out.new.items ≡ out.old.items ++ of_found (partners_for s.now a.now) (slice_get (links_of s.now.model (placed_of s.now a.now)) index)) }
+    requires whole { IsWhole state.now }
+    requires live { activity_of a.now.id state.now.plan.activities ≡ Some a.now }
+    ensures { OnOk result (out.new.items ≡ out.old.items ++ of_found (partners_for state.now a.now) (slice_get (links_of state.now.model (placed_of state.now a.now)) index)) }
 {
-    match links_of(s, a).get(index as usize) {
-        Some(link) => add_partners(alloc, s, a, link, out),
+    match links_of(state, a).get(index as usize) {
+        Some(link) => add_partners(alloc, state, a, link, out),
         None => Ok(()),
     }
 }
@@ -122,17 +126,17 @@ fn add_partners_of(
 /// Appends partners for the link of this index, and the moves of the activity.
 pub(crate) fn for_temporal(
     alloc: Global,
-    s: &PlanState,
+    state: &PlanState,
     a: &Activity,
     index: u32,
     out: &mut Vec<RepairMove>,
 ) -> Result<(), AllocError>
-    requires whole { IsWhole s.now }
-    requires live { activity_of a.now.id s.now.plan.activities ≡ Some a.now }
-    ensures { OnOk result (out.new.items ≡ out.old.items ++ for_temporal s.now a.now index) }
+    requires whole { IsWhole state.now }
+    requires live { activity_of a.now.id state.now.plan.activities ≡ Some a.now }
+    ensures { OnOk result (out.new.items ≡ out.old.items ++ for_temporal state.now a.now index) }
 {
-    add_partners_of(alloc, s, a, index, out)?;
-    add_moves(alloc, s, a, out)?;
+    add_partners_of(alloc, state, a, index, out)?;
+    add_moves(alloc, state, a, out)?;
     Ok(())
 }
 

@@ -36,8 +36,8 @@ pub fn places(alloc: Global, board: &Board, id: u32) -> Result<Vec<u32>, AllocEr
     requires live { IsLive id board.now.state.plan.activities }
     ensures { IfOk result (λ all. map pos all.items ≡ places_at board.now.state id) }
 {
-    let s = board.state();
-    let a = s.live(id).unwrap();
-    let starts = repairs::places(alloc, s, a)?;
+    let state = board.state();
+    let a = state.live(id).unwrap();
+    let starts = repairs::places(alloc, state, a)?;
     from_zero(alloc, starts.as_slice())
 }

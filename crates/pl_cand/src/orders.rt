@@ -19,16 +19,16 @@ use std::alloc::{AllocError, Global};
 
 // Shifts an activity, if it is not the parent.
 fn add_shift_one(
-    s: &PlanState,
+    state: &PlanState,
     slot: Option<u32>,
     a: &Activity,
     to: i64,
     out: &mut Vec<RepairMove>,
 ) -> Result<(), AllocError>
-    ensures { OnOk result (out.new.items ≡ out.old.items ++ shift_one s.now slot a.now to) }
+    ensures { OnOk result (out.new.items ≡ out.old.items ++ shift_one state.now slot a.now to) }
 {
     match slot {
-        Some(_) => add_shift(s, a.id, to, out),
+        Some(_) => add_shift(state, a.id, to, out),
         None => Ok(()),
     }
 }
@@ -43,7 +43,7 @@ fn moved(start: u32, by: i64, back: i64) -> i64
 }
 
 fn add_moved(
-    s: &PlanState,
+    state: &PlanState,
     slot: Option<u32>,
     a: &Activity,
     by: i64,
@@ -52,16 +52,16 @@ fn add_moved(
 ) -> Result<(), AllocError>
     requires by { IsNear by }
     requires back { IsNear back }
-    ensures { OnOk result (out.new.items ≡ out.old.items ++ shift_one s.now slot a.now ((pos a.now.start +ℤ by) -ℤ back)) }
+    ensures { OnOk result (out.new.items ≡ out.old.items ++ shift_one state.now slot a.now ((pos a.now.start +ℤ by) -ℤ back)) }
 {
-    add_shift_one(s, slot, a, moved(a.start, by, back), out)?;
+    add_shift_one(state, slot, a, moved(a.start, by, back), out)?;
     Ok(())
 }
 
 // Shifts the second to the least and to the greatest distance behind the first, and then the first to lie so far
 // before the second.
 fn add_order_shifts(
-    s: &PlanState,
+    state: &PlanState,
     order: &Order,
     first: &Activity,
     second: &Activity,
@@ -71,36 +71,36 @@ fn add_order_shifts(
     requires low { IsNear order.now.low }
     requires high { IsNear order.now.high }
     requires apart { IsNear apart }
-    ensures { OnOk result (out.new.items ≡ out.old.items ++ order_shifts s.now order.now first.now second.now apart) }
+    ensures { OnOk result (out.new.items ≡ out.old.items ++ order_shifts state.now order.now first.now second.now apart) }
 {
-    add_moved(s, order.second, second, order.low, apart, out)?;
-    add_moved(s, order.second, second, order.high, apart, out)?;
-    add_moved(s, order.first, first, apart, order.low, out)?;
-    add_moved(s, order.first, first, apart, order.high, out)?;
+    add_moved(state, order.second, second, order.low, apart, out)?;
+    add_moved(state, order.second, second, order.high, apart, out)?;
+    add_moved(state, order.first, first, apart, order.low, out)?;
+    add_moved(state, order.first, first, apart, order.high, out)?;
     Ok(())
 }
 
 fn add_shifts_apart(
-    s: &PlanState,
+    state: &PlanState,
     order: &Order,
     first: &Activity,
     second: &Activity,
     out: &mut Vec<RepairMove>,
 ) -> Result<(), AllocError>
-    requires whole { IsWhole s.now }
-    requires first { activity_of first.now.id s.now.plan.activities ≡ Some first.now }
-    requires second { activity_of second.now.id s.now.plan.activities ≡ Some second.now }
+    requires whole { IsWhole state.now }
+    requires first { activity_of first.now.id state.now.plan.activities ≡ Some first.now }
+    requires second { activity_of second.now.id state.now.plan.activities ≡ Some second.now }
     requires low { IsNear order.now.low }
     requires high { IsNear order.now.high }
-    ensures { OnOk result (out.new.items ≡ out.old.items ++ shifts_apart s.now order.now first.now second.now (moment_of order.now.first_end (placed_of s.now first.now)) (moment_of order.now.second_end (placed_of s.now second.now))) }
+    ensures { OnOk result (out.new.items ≡ out.old.items ++ shifts_apart state.now order.now first.now second.now (moment_of order.now.first_end (placed_of state.now first.now)) (moment_of order.now.second_end (placed_of state.now second.now))) }
 {
     match (
-        moment_of(s, first, order.first_end),
-        moment_of(s, second, order.second_end),
+        moment_of(state, first, order.first_end),
+        moment_of(state, second, order.second_end),
     ) {
         (Some(from), Some(to)) => {
             add_order_shifts(
-                s,
+                state,
                 order,
                 first,
                 second,
@@ -113,57 +113,57 @@ fn add_shifts_apart(
 }
 
 fn add_shifts_between(
-    s: &PlanState,
+    state: &PlanState,
     order: &Order,
     first: Option<&Activity>,
     second: Option<&Activity>,
     out: &mut Vec<RepairMove>,
 ) -> Result<(), AllocError>
-    requires whole { IsWhole s.now }
-    requires first { IfSome first (λ a. activity_of a.now.id s.now.plan.activities ≡ Some a.now) }
-    requires second { IfSome second (λ a. activity_of a.now.id s.now.plan.activities ≡ Some a.now) }
+    requires whole { IsWhole state.now }
+    requires first { IfSome first (λ a. activity_of a.now.id state.now.plan.activities ≡ Some a.now) }
+    requires second { IfSome second (λ a. activity_of a.now.id state.now.plan.activities ≡ Some a.now) }
     requires low { IsNear order.now.low }
     requires high { IsNear order.now.high }
-    ensures { OnOk result (out.new.items ≡ out.old.items ++ shifts_between s.now order.now (option_copied first.entry) (option_copied second.entry)) }
+    ensures { OnOk result (out.new.items ≡ out.old.items ++ shifts_between state.now order.now (option_copied first.entry) (option_copied second.entry)) }
 {
     match (first, second) {
-        (Some(first), Some(second)) => add_shifts_apart(s, order, first, second, out),
+        (Some(first), Some(second)) => add_shifts_apart(state, order, first, second, out),
         _ => Ok(()),
     }
 }
 
 fn add_order(
     alloc: Global,
-    s: &PlanState,
+    state: &PlanState,
     parent: &Activity,
     order: &Order,
     out: &mut Vec<RepairMove>,
 ) -> Result<(), AllocError>
-    requires whole { IsWhole s.now }
-    requires live { activity_of parent.now.id s.now.plan.activities ≡ Some parent.now }
+    requires whole { IsWhole state.now }
+    requires live { activity_of parent.now.id state.now.plan.activities ≡ Some parent.now }
     requires low { IsNear order.now.low }
     requires high { IsNear order.now.high }
-    ensures { OnOk result (out.new.items ≡ out.old.items ++ for_order s.now parent.now order.now) }
+    ensures { OnOk result (out.new.items ≡ out.old.items ++ for_order state.now parent.now order.now) }
 {
-    let first = s.place_in(alloc, parent, order.first)?;
-    let second = s.place_in(alloc, parent, order.second)?;
-    add_shifts_between(s, order, first, second, out)?;
+    let first = state.place_in(alloc, parent, order.first)?;
+    let second = state.place_in(alloc, parent, order.second)?;
+    add_shifts_between(state, order, first, second, out)?;
     Ok(())
 }
 
 fn add_order_of(
     alloc: Global,
-    s: &PlanState,
+    state: &PlanState,
     parent: &Activity,
     index: u32,
     out: &mut Vec<RepairMove>,
 ) -> Result<(), AllocError>
-    requires whole { IsWhole s.now }
-    requires live { activity_of parent.now.id s.now.plan.activities ≡ Some parent.now }
-    ensures { OnOk result (out.new.items ≡ out.old.items ++ of_found (for_order s.now parent.now) (order_at s.now parent.now index)) }
+    requires whole { IsWhole state.now }
+    requires live { activity_of parent.now.id state.now.plan.activities ≡ Some parent.now }
+    ensures { OnOk result (out.new.items ≡ out.old.items ++ of_found (for_order state.now parent.now) (order_at state.now parent.now index)) }
 {
-    match checked_order(s, parent, index) {
-        Some(order) => add_order(alloc, s, parent, order, out),
+    match checked_order(state, parent, index) {
+        Some(order) => add_order(alloc, state, parent, order, out),
         None => Ok(()),
     }
 }
@@ -171,17 +171,17 @@ fn add_order_of(
 /// Appends shifts that meet the order of this index, that the parent's alternative is left, and the moves of the parent.
 pub(crate) fn for_linked(
     alloc: Global,
-    s: &PlanState,
+    state: &PlanState,
     parent: &Activity,
     index: u32,
     out: &mut Vec<RepairMove>,
 ) -> Result<(), AllocError>
-    requires whole { IsWhole s.now }
-    requires live { activity_of parent.now.id s.now.plan.activities ≡ Some parent.now }
-    ensures { OnOk result (out.new.items ≡ out.old.items ++ for_linked s.now parent.now index) }
+    requires whole { IsWhole state.now }
+    requires live { activity_of parent.now.id state.now.plan.activities ≡ Some parent.now }
+    ensures { OnOk result (out.new.items ≡ out.old.items ++ for_linked state.now parent.now index) }
 {
-    add_order_of(alloc, s, parent, index, out)?;
+    add_order_of(alloc, state, parent, index, out)?;
     out.push(RepairMove::Abstract { id: parent.id })?;
-    add_moves(alloc, s, parent, out)?;
+    add_moves(alloc, state, parent, out)?;
     Ok(())
 }

@@ -33,7 +33,7 @@ fn amount_in(amount: &Expr, values: &[Option<i64>]) -> i64
 }
 
 fn uses_in(
-    line: u32,
+    timeline: u32,
     a: u32,
     b: u32,
     start: u32,
@@ -42,18 +42,18 @@ fn uses_in(
     reservation: &Reservation,
 ) -> bool
     requires { IfSome (amount_of reservation.now) (NamesBelow (length values.now)) }
-    ensures { result ≡ uses_in line a b start end values.now reservation.now }
+    ensures { result ≡ uses_in timeline a b start end values.now reservation.now }
 {
     match reservation {
         Reservation::Take(of, amount) => {
-            *of == line && amount_in(amount, values) > 0 && start < b && a < end
+            *of == timeline && amount_in(amount, values) > 0 && start < b && a < end
         }
         _ => false,
     }
 }
 
 fn any_uses(
-    line: u32,
+    timeline: u32,
     a: u32,
     b: u32,
     start: u32,
@@ -62,10 +62,10 @@ fn any_uses(
     reservations: &[Reservation],
 ) -> bool
     requires { All (λ r. IfSome (amount_of r) (NamesBelow (length values.now))) reservations.now }
-    ensures { result ≡ list_any (uses_in line a b start end values.now) reservations.now }
+    ensures { result ≡ list_any (uses_in timeline a b start end values.now) reservations.now }
 {
     for reservation in reservations {
-        if uses_in(line, a, b, start, end, values, reservation) {
+        if uses_in(timeline, a, b, start, end, values, reservation) {
             return true;
         }
     }
@@ -73,20 +73,20 @@ fn any_uses(
 }
 
 // It may take of the timeline before a moment, whatever its amount and its end.
-fn may_take(line: u32, b: u32, start: u32, reservation: &Reservation) -> bool
-    ensures { result ≡ may_take line b start reservation.now }
+fn may_take(timeline: u32, b: u32, start: u32, reservation: &Reservation) -> bool
+    ensures { result ≡ may_take timeline b start reservation.now }
 {
     match reservation {
-        Reservation::Take(of, _) => *of == line && start < b,
+        Reservation::Take(of, _) => *of == timeline && start < b,
         _ => false,
     }
 }
 
-fn any_may_take(line: u32, b: u32, start: u32, reservations: &[Reservation]) -> bool
-    ensures { result ≡ list_any (may_take line b start) reservations.now }
+fn any_may_take(timeline: u32, b: u32, start: u32, reservations: &[Reservation]) -> bool
+    ensures { result ≡ list_any (may_take timeline b start) reservations.now }
 {
     for reservation in reservations {
-        if may_take(line, b, start, reservation) {
+        if may_take(timeline, b, start, reservation) {
             return true;
         }
     }
@@ -97,24 +97,24 @@ fn any_may_take(line: u32, b: u32, start: u32, reservations: &[Reservation]) -> 
 #[tactic(auto, unfolding(pl_semantics::specs::Demands::demands_at))]
 fn takes_in(
     alloc: Global,
-    s: &PlanState,
-    line: u32,
+    state: &PlanState,
+    timeline: u32,
     a: u32,
     b: u32,
     x: &Activity,
 ) -> Result<bool, AllocError>
-    requires whole { IsWhole s.now }
-    requires live { activity_of x.now.id s.now.plan.activities ≡ Some x.now }
-    ensures { IfOk result (λ t. t ≡ takes_in s.now line a b x.now) }
+    requires whole { IsWhole state.now }
+    requires live { activity_of x.now.id state.now.plan.activities ≡ Some x.now }
+    ensures { IfOk result (λ t. t ≡ takes_in state.now timeline a b x.now) }
 {
-    let reservations = reservations_of(s, x);
-    if !any_may_take(line, b, x.start, reservations) {
+    let reservations = reservations_of(state, x);
+    if !any_may_take(timeline, b, x.start, reservations) {
         return Ok(false);
     }
-    let evaluated = s.plan.evaluate(alloc, s.model.get(), x.id)?;
+    let evaluated = state.plan.evaluate(alloc, state.model.get(), x.id)?;
     match evaluated.end {
         Some(end) => Ok(any_uses(
-            line,
+            timeline,
             a,
             b,
             x.start,
@@ -127,12 +127,12 @@ fn takes_in(
 }
 
 // The moment of a level's base: 0 also before any telemetry, as no effect lies at 0.
-fn since(s: &PlanState, line: u32) -> u32
-    requires whole { IsWhole s.now }
-    requires line { HasBase s.now line }
-    ensures { result ≡ since s.now line }
+fn since(state: &PlanState, timeline: u32) -> u32
+    requires whole { IsWhole state.now }
+    requires timeline { HasBase state.now timeline }
+    ensures { result ≡ since state.now timeline }
 {
-    moment_of_base(s.bases.get(line))
+    moment_of_base(state.bases.get(timeline))
 }
 
 fn moment_of_base(base: (i64, i64)) -> u32
@@ -143,122 +143,122 @@ fn moment_of_base(base: (i64, i64)) -> u32
 }
 
 // Whether the point lies after the base's moment, and before the horizon and another moment.
-fn point_counts(s: &PlanState, line: u32, b: u32, a: &Activity, point: Point) -> bool
-    requires whole { IsWhole s.now }
-    requires live { activity_of a.now.id s.now.plan.activities ≡ Some a.now }
-    requires line { HasBase s.now line }
-    ensures { result ≡ point_counts s.now line b a.now point }
+fn point_counts(state: &PlanState, timeline: u32, b: u32, a: &Activity, point: Point) -> bool
+    requires whole { IsWhole state.now }
+    requires live { activity_of a.now.id state.now.plan.activities ≡ Some a.now }
+    requires timeline { HasBase state.now timeline }
+    ensures { result ≡ point_counts state.now timeline b a.now point }
 {
-    match moment_of(s, a, point) {
-        Some(at) => since(s, line) < at && at < s.model.get().horizon && at < b,
+    match moment_of(state, a, point) {
+        Some(at) => since(state, timeline) < at && at < state.model.get().horizon && at < b,
         None => false,
     }
 }
 
 // Whether the reservation changes the level in this way, at a point that counts.
 fn changes_at(
-    s: &PlanState,
-    line: u32,
+    state: &PlanState,
+    timeline: u32,
     b: u32,
     a: &Activity,
     way: Way,
     reservation: &Reservation,
 ) -> bool
-    requires whole { IsWhole s.now }
-    requires live { activity_of a.now.id s.now.plan.activities ≡ Some a.now }
-    requires sort { IsOfLevel s.now reservation.now }
-    ensures { result ≡ changes_at way s.now line b a.now reservation.now }
+    requires whole { IsWhole state.now }
+    requires live { activity_of a.now.id state.now.plan.activities ≡ Some a.now }
+    requires sort { IsOfLevel state.now reservation.now }
+    ensures { result ≡ changes_at way state.now timeline b a.now reservation.now }
 {
     match (way, reservation) {
         (Way::Down, Reservation::Lower(of, _, point)) => {
-            *of == line && point_counts(s, *of, b, a, *point)
+            *of == timeline && point_counts(state, *of, b, a, *point)
         }
         (Way::Up, Reservation::Raise(of, _, point)) => {
-            *of == line && point_counts(s, *of, b, a, *point)
+            *of == timeline && point_counts(state, *of, b, a, *point)
         }
         _ => false,
     }
 }
 
 fn any_changes(
-    s: &PlanState,
-    line: u32,
+    state: &PlanState,
+    timeline: u32,
     b: u32,
     a: &Activity,
     way: Way,
     reservations: &[Reservation],
 ) -> bool
-    requires whole { IsWhole s.now }
-    requires live { activity_of a.now.id s.now.plan.activities ≡ Some a.now }
-    requires level { All (IsOfLevel s.now) reservations.now }
-    ensures { result ≡ list_any (changes_at way s.now line b a.now) reservations.now }
+    requires whole { IsWhole state.now }
+    requires live { activity_of a.now.id state.now.plan.activities ≡ Some a.now }
+    requires level { All (IsOfLevel state.now) reservations.now }
+    ensures { result ≡ list_any (changes_at way state.now timeline b a.now) reservations.now }
 {
     for reservation in reservations {
-        if changes_at(s, line, b, a, way, reservation) {
+        if changes_at(state, timeline, b, a, way, reservation) {
             return true;
         }
     }
     false
 }
 
-fn changes_below(s: &PlanState, line: u32, b: u32, a: &Activity, way: Way) -> bool
-    requires whole { IsWhole s.now }
-    requires live { activity_of a.now.id s.now.plan.activities ≡ Some a.now }
-    ensures { result ≡ changes_below way s.now line b a.now }
+fn changes_below(state: &PlanState, timeline: u32, b: u32, a: &Activity, way: Way) -> bool
+    requires whole { IsWhole state.now }
+    requires live { activity_of a.now.id state.now.plan.activities ≡ Some a.now }
+    ensures { result ≡ changes_below way state.now timeline b a.now }
 {
-    any_changes(s, line, b, a, way, reservations_of(s, a))
+    any_changes(state, timeline, b, a, way, reservations_of(state, a))
 }
 
 fn plays(
     alloc: Global,
-    s: &PlanState,
-    line: u32,
+    state: &PlanState,
+    timeline: u32,
     role: Role,
     a: &Activity,
 ) -> Result<bool, AllocError>
-    requires whole { IsWhole s.now }
-    requires live { activity_of a.now.id s.now.plan.activities ≡ Some a.now }
-    ensures { IfOk result (λ p. p ≡ plays s.now line role a.now) }
+    requires whole { IsWhole state.now }
+    requires live { activity_of a.now.id state.now.plan.activities ≡ Some a.now }
+    ensures { IfOk result (λ p. p ≡ plays state.now timeline role a.now) }
 {
     match role {
-        Role::Uses(from, to) => takes_in(alloc, s, line, from, to, a),
-        Role::ChangesBelow(before, way) => Ok(changes_below(s, line, before, a, way)),
+        Role::Uses(from, to) => takes_in(alloc, state, timeline, from, to, a),
+        Role::ChangesBelow(before, way) => Ok(changes_below(state, timeline, before, a, way)),
     }
 }
 
 fn is_user(
     alloc: Global,
-    s: &PlanState,
-    line: u32,
+    state: &PlanState,
+    timeline: u32,
     role: Role,
     a: &Activity,
 ) -> Result<bool, AllocError>
-    requires whole { IsWhole s.now }
-    requires live { activity_of a.now.id s.now.plan.activities ≡ Some a.now }
-    ensures { IfOk result (λ u. u ≡ is_user s.now line role a.now) }
+    requires whole { IsWhole state.now }
+    requires live { activity_of a.now.id state.now.plan.activities ≡ Some a.now }
+    ensures { IfOk result (λ u. u ≡ is_user state.now timeline role a.now) }
 {
-    if is_committed(s, a) {
+    if is_committed(state, a) {
         return Ok(false);
     }
-    plays(alloc, s, line, role, a)
+    plays(alloc, state, timeline, role, a)
 }
 
 // Puts the id of an activity at the end, where it plays the role.
 #[tactic(auto, using(crate::proofs::Keeping::users_past, crate::proofs::Keeping::users_more))]
 fn add_if_user(
     alloc: Global,
-    s: &PlanState,
-    line: u32,
+    state: &PlanState,
+    timeline: u32,
     role: Role,
     a: &Activity,
     ids: &mut Vec<u32>,
 ) -> Result<(), AllocError>
-    requires whole { IsWhole s.now }
-    requires live { activity_of a.now.id s.now.plan.activities ≡ Some a.now }
+    requires whole { IsWhole state.now }
+    requires live { activity_of a.now.id state.now.plan.activities ≡ Some a.now }
     requires room { length ids.old.items < 8 }
-    ensures { OnOk result ((rest : List Activity) → users_with s.now line role ids.old.items (a.now ∷ rest) ≡ users_with s.now line role ids.new.items rest) }
+    ensures { OnOk result ((rest : List Activity) → users_with state.now timeline role ids.old.items (a.now ∷ rest) ≡ users_with state.now timeline role ids.new.items rest) }
 {
-    if is_user(alloc, s, line, role, a)? {
+    if is_user(alloc, state, timeline, role, a)? {
         ids.push(a.id)?;
     }
     Ok(())
@@ -268,19 +268,19 @@ fn add_if_user(
 #[tactic(auto, using(crate::proofs::Keeping::users_full))]
 pub(crate) fn first_users(
     alloc: Global,
-    s: &PlanState,
-    line: u32,
+    state: &PlanState,
+    timeline: u32,
     role: Role,
 ) -> Result<Vec<u32>, AllocError>
-    requires { IsWhole s.now }
-    ensures { IfOk result (λ ids. ids.items ≡ map id_of (first_eight s.now (plays s.now line role))) }
+    requires { IsWhole state.now }
+    ensures { IfOk result (λ ids. ids.items ≡ map id_of (first_eight state.now (plays state.now timeline role))) }
 {
     let mut ids = Vec::new(alloc);
-    for a in s.plan.activities() {
+    for a in state.plan.activities() {
         if ids.len() >= MOST {
             return Ok(ids);
         }
-        add_if_user(alloc, s, line, role, a, &mut ids)?;
+        add_if_user(alloc, state, timeline, role, a, &mut ids)?;
     }
     Ok(ids)
 }

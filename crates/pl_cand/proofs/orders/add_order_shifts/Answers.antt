@@ -10,7 +10,7 @@ four_behind all a b c d one two three four first second third fourth = rw (fourt
 
 pub returns : goal.returns
 returns c =
-    let s = c.args.s.now in
+    let s = c.args.state.now in
     let o = c.args.order.now in
     let x = c.args.first.now in
     let y = c.args.second.now in

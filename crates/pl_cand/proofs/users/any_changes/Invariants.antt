@@ -5,4 +5,4 @@ use Rattle.pl_cand.proofs.users.any_changes.Given as goal
 
 -- none so far
 abbrev pub invariant-loop-reservation : goal.invariant-loop-reservation
-invariant-loop-reservation l = list_any (changes_at l.way l.s l.line l.b l.a) (drop l.reservation-index l.reservations) ≡ list_any (changes_at l.way l.s l.line l.b l.a) l.reservations
+invariant-loop-reservation l = list_any (changes_at l.way l.state l.timeline l.b l.a) (drop l.reservation-index l.reservations) ≡ list_any (changes_at l.way l.state l.timeline l.b l.a) l.reservations
