@@ -21,7 +21,7 @@ use pl_plan::{Activity, RepairMove};
 use pl_semantics::PlanState;
 use std::alloc::{AllocError, Global};
 
-// Each of these values for one parameter.
+// Appends an assignment of each of these values to one parameter.
 fn add_values(
     id: u32,
     number: u8,
@@ -40,7 +40,7 @@ fn add_values(
     Ok(())
 }
 
-// Values for one parameter.
+// Appends assignments of values to one parameter, spread over its bounds.
 fn add_assigns(
     alloc: Global,
     id: u32,
@@ -56,7 +56,7 @@ fn add_assigns(
     Ok(())
 }
 
-// Values for one parameter, where it is free.
+// Appends assignments to one parameter, if it is free.
 fn add_if_free(
     alloc: Global,
     id: u32,
@@ -74,7 +74,7 @@ fn add_if_free(
     Ok(())
 }
 
-// Values for each of these parameters that is free.
+// Appends assignments to each of these parameters that is free.
 fn add_free_assigns(
     alloc: Global,
     id: u32,
@@ -92,7 +92,7 @@ fn add_free_assigns(
     Ok(())
 }
 
-// Values for each parameter that is free.
+// Appends assignments to each parameter of the activity that is free.
 #[tactic(auto, using(crate::proofs::Listing::free_all))]
 fn add_all_assigns(
     alloc: Global,
@@ -113,7 +113,7 @@ fn add_all_assigns(
     Ok(())
 }
 
-// Values for the parameter of this number.
+// Appends assignments to the parameter of this number.
 fn add_assigns_at(
     alloc: Global,
     id: u32,
@@ -146,7 +146,7 @@ fn add_assigns_of(
     Ok(())
 }
 
-/// Appends values for a parameter that has none, and that the root goes.
+/// Appends assignments to a parameter that has no value, and the deletion of the root.
 pub(crate) fn for_unset(
     alloc: Global,
     state: &PlanState,
@@ -187,7 +187,7 @@ fn add_assigns_above(
     }
 }
 
-/// Appends values for each free parameter of the activity and then of its parent, and that the root goes.
+/// Appends assignments to each free parameter of the activity and then of its parent, and the deletion of the root.
 pub(crate) fn for_bad_value(
     alloc: Global,
     state: &PlanState,
@@ -218,7 +218,7 @@ fn add_details(state: &PlanState, a: &Activity, out: &mut Vec<RepairMove>) -> Re
     Ok(())
 }
 
-/// Appends each alternative of the activity's kind, and that the root goes.
+/// Appends each alternative of the activity's kind, and the deletion of the root.
 pub(crate) fn for_undetailed(
     state: &PlanState,
     a: &Activity,

@@ -35,7 +35,7 @@ fn for_open_goal(
     }
 }
 
-// All that is tried for what is wrong with an activity.
+// Appends all that is tried for a conflict of an activity.
 fn for_activity(
     alloc: Global,
     state: &PlanState,
@@ -77,7 +77,7 @@ fn for_subject(
     }
 }
 
-/// All that is tried, in order.
+/// Appends all moves that are tried for a conflict, in order.
 pub(crate) fn tried(
     alloc: Global,
     state: &PlanState,
@@ -96,7 +96,7 @@ pub(crate) fn tried(
     }
 }
 
-// Room for the starts of one activity, and one more.
+// How many moves there is room for at first: the starts of one activity, and one more.
 const ROOM: usize = 17;
 
 /// The moves that are tried for a conflict, in order: 256 at most, each proper, none twice.

@@ -15,7 +15,7 @@ use std::alloc::{AllocError, Global};
 /// The most candidates.
 pub(crate) const MOST: usize = 256;
 
-/// Whether two moves are one.
+/// Whether two moves are the same.
 pub(crate) fn is_same(one: &RepairMove, other: &RepairMove) -> bool
     ensures { result ≡ same_move one.now other.now }
 {
@@ -53,7 +53,7 @@ pub(crate) fn is_same(one: &RepairMove, other: &RepairMove) -> bool
     }
 }
 
-// Whether it is a shift of this activity to this start.
+// Whether the move is a shift of this activity to this start.
 fn is_shift(mv: &RepairMove, id: u32, start: u32) -> bool
     ensures { result ≡ same_move (Shift id start) mv.now }
 {

@@ -12,7 +12,7 @@ use pl_plan::RepairMove;
 use pl_semantics::PlanState;
 use std::alloc::{AllocError, Global};
 
-// An activity that serves the goal, from start to start.
+// Appends additions of an activity that serves the goal, one for each start that is tried.
 fn add_serving(
     alloc: Global,
     state: &PlanState,
@@ -29,7 +29,7 @@ fn add_serving(
     Ok(())
 }
 
-/// Appends an activity that serves the goal, from start to start, and that the goal is dropped.
+/// Appends additions of an activity that serves the goal, one for each start that is tried, and the drop of the goal.
 pub(crate) fn for_goal(
     alloc: Global,
     state: &PlanState,

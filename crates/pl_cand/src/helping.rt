@@ -1,4 +1,4 @@
-//! Help for a timeline by activities more of other kinds.
+//! Help for a timeline: additions of activities that change it the other way.
 ghost use Rattle.std.specs.Prelude.{◌≡◌, ℕ, List, ◌∷◌, ◌++◌, map, pos, IfOk, OnOk};
 ghost use Rattle.std.specs.Int.{int_min, int_max};
 ghost use Rattle.std.specs.List.{flat_map, list_any};
@@ -17,7 +17,7 @@ use pl_plan::RepairMove;
 use pl_semantics::PlanState;
 use std::alloc::{AllocError, Global};
 
-/// How many kinds may help.
+/// How many kinds are tried as helpers, at most.
 const MOST: usize = 4;
 
 fn helps(timeline: u32, help: Help, reservation: &Reservation) -> bool
@@ -44,7 +44,7 @@ fn is_helper(timeline: u32, help: Help, kind: &Kind) -> bool
     false
 }
 
-// The starts of help up to a moment.
+// The starts that are tried for help up to a moment.
 fn starts_until(alloc: Global, state: &PlanState, until: u32) -> Result<Vec<i64>, AllocError>
     requires { IsWhole state.now }
     ensures { IfOk result (λ all. all.items ≡ spread (floor_at state.now) (int_max (floor_at state.now) (int_min (pos until) (last_of state.now)))) }
@@ -91,7 +91,7 @@ fn first_helpers(
     Ok(found)
 }
 
-// An activity more of each of these kinds, from start to start.
+// Appends additions of an activity of each of these kinds, one for each of these starts.
 fn add_each(
     state: &PlanState,
     kinds: &[u32],
@@ -106,7 +106,7 @@ fn add_each(
     Ok(())
 }
 
-/// Appends an activity more of each of the first four kinds that help, from start to start up to a moment.
+/// Appends additions of an activity of each of the first four kinds that help, one for each start that is tried up to a moment.
 pub(crate) fn add_help(
     alloc: Global,
     state: &PlanState,

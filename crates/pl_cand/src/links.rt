@@ -1,4 +1,4 @@
-//! Moves for links without a partner.
+//! Moves for links that have no partner.
 ghost use Rattle.std.specs.Prelude.{◌≡◌, ◌++◌, ◌≤ℤ◌, ◌+ℤ◌, pos, neg_ℤ, OnOk, Some, slice_get};
 ghost use Rattle.pl_plan.specs.Activities.{activity_of};
 ghost use Rattle.pl_links.specs.Broken.{moment_of, links_of};
@@ -29,7 +29,8 @@ fn least_of(state: &PlanState, kind: u32) -> u32
     }
 }
 
-// Where an added partner starts: at the own point, or before it by the least that its kind takes.
+// Where an added partner starts: at the point of the activity that has the link, or earlier by the least duration of the
+// partner's kind.
 fn partner_start(own: u32, theirs: Point, least: u32) -> i64
     ensures { result ≡ partner_start (pos own) theirs least }
 {
@@ -62,7 +63,7 @@ fn latest(state: &PlanState, link: &Link, start: i64) -> i64
     last(state).min(behind(start, link.high))
 }
 
-// Partners within the window of a link.
+// Appends additions of partners within the window of a link.
 fn add_partners_from(
     alloc: Global,
     state: &PlanState,
@@ -123,7 +124,7 @@ fn add_partners_of(
     }
 }
 
-/// Appends partners for the link of this index, and the moves of the activity.
+/// Appends additions of partners for the link of this index, and the moves of the activity.
 pub(crate) fn for_temporal(
     alloc: Global,
     state: &PlanState,

@@ -1,4 +1,4 @@
-//! Whether a move is a candidate. It is seldom needed to leave out what stands twice.
+//! Whether a move is a candidate. Mostly this is told without leaving out the moves that stand twice.
 ghost use Rattle.std.specs.Prelude.{◌≡◌, [], take, filter, IfOk, false};
 ghost use Rattle.std.specs.List.{list_any};
 ghost use Rattle.pl_semantics.specs.Whole.{IsWhole};
@@ -32,7 +32,7 @@ fn first(moves: &[RepairMove]) -> &[RepairMove]
     }
 }
 
-/// Whether the move stands in what is left of those that are tried.
+/// Whether the move is among those that are left of the moves that are tried.
 fn is_left(
     alloc: Global,
     state: &PlanState,

@@ -9,7 +9,7 @@ use crate::{repairs, strides};
 use pl_board::Board;
 use std::alloc::{AllocError, Global};
 
-// The same numbers, none of which is below 0.
+// The same numbers in the type of starts; none of them is below 0.
 fn from_zero(alloc: Global, numbers: &[i64]) -> Result<Vec<u32>, AllocError>
     requires { All IsSmall numbers.now }
     ensures { IfOk result (λ all. map pos all.items ≡ numbers.now) }

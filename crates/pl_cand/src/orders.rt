@@ -33,7 +33,7 @@ fn add_shift_one(
     }
 }
 
-// A start that is moved by one distance and back by another.
+// A start that is moved later by one distance and earlier by another.
 fn moved(start: u32, by: i64, back: i64) -> i64
     requires by { IsNear by }
     requires back { IsNear back }
@@ -168,7 +168,8 @@ fn add_order_of(
     }
 }
 
-/// Appends shifts that meet the order of this index, that the parent's alternative is left, and the moves of the parent.
+/// Appends shifts that meet the order of this index, the move by which the parent leaves its alternative, and the moves of the
+/// parent.
 pub(crate) fn for_linked(
     alloc: Global,
     state: &PlanState,

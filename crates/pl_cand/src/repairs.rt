@@ -1,4 +1,4 @@
-//! Moves of an activity: its starts, those of its root, and that the root goes.
+//! The moves of an activity: its shifts, those of its root, and the deletion of the root.
 ghost use Rattle.std.specs.Prelude.{◌≡◌, ◌++◌, IfOk, OnOk, Some};
 ghost use Rattle.std.specs.Option.{option_copied};
 ghost use Rattle.pl_plan.specs.Activities.{activity_of};
@@ -24,7 +24,7 @@ fn served_by<'s>(state: &'s PlanState, a: &Activity) -> Option<&'s Goal>
     }
 }
 
-// The starts of a goal's window, from the floor on.
+// The starts that are tried in a goal's window, from the floor on.
 fn window_of(alloc: Global, state: &PlanState, goal: &Goal) -> Result<Vec<i64>, AllocError>
     requires { IsWhole state.now }
     ensures { IfOk result (λ all. all.items ≡ window_of state.now (Some goal.now)) }
@@ -33,7 +33,7 @@ fn window_of(alloc: Global, state: &PlanState, goal: &Goal) -> Result<Vec<i64>, 
     spread(alloc, earliest, i64::from(goal.latest))
 }
 
-// The starts of an activity's goal window, or all from the floor on.
+// The starts that are tried in the window of the goal that an activity serves, or else from the floor to the last start.
 fn window(alloc: Global, state: &PlanState, a: &Activity) -> Result<Vec<i64>, AllocError>
     requires { IsWhole state.now }
     ensures { IfOk result (λ all. all.items ≡ window_of state.now (served_by state.now a.now)) }
@@ -98,7 +98,7 @@ fn add_shifts_above(
     }
 }
 
-/// Appends that the root above a live activity goes.
+/// Appends the deletion of the root above a live activity.
 pub(crate) fn add_deletion(
     state: &PlanState,
     a: &Activity,
@@ -114,7 +114,7 @@ pub(crate) fn add_deletion(
     Ok(())
 }
 
-/// Appends the moves of a live activity: its shifts, those of its root where it is none, and that the root goes.
+/// Appends the moves of a live activity: its shifts, those of its root if it is no root itself, and the deletion of the root.
 #[tactic(auto, unfolding(pl_semantics::specs::Starts::moves_of))]
 pub(crate) fn add_moves(
     alloc: Global,

@@ -1,7 +1,7 @@
-/// What an activity does with a timeline that it is then shifted away from.
+/// What an activity does to a timeline, for which it is shifted away.
 #[derive(Clone, Copy, Debug, PartialEq, Eq)]
 pub(crate) enum Role {
-    /// It takes an amount above 0 at moments from the first up to but not at the second.
+    /// It takes an amount above 0 at a moment from the first up to but not at the second.
     Uses(u32, u32),
     /// It changes the level in this way before this moment.
     ChangesBelow(u32, Way),

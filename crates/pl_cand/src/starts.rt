@@ -10,7 +10,7 @@ use pl_plan::RepairMove;
 use pl_semantics::PlanState;
 use std::alloc::AllocError;
 
-// The moment, where an activity may start then: from 1 to one before the horizon.
+// The moment, if an activity may start then: from 1 to the last moment before the horizon.
 fn start_in(state: &PlanState, start: i64) -> Option<u32>
     ensures { (make : ℕ → RepairMove) → option_to_list (option_map make result) ≡ starting state.now make start }
 {
@@ -21,7 +21,7 @@ fn start_in(state: &PlanState, start: i64) -> Option<u32>
     }
 }
 
-/// Appends a shift, left out where no activity may start then.
+/// Appends a shift, unless no activity may start then.
 pub(crate) fn add_shift(
     state: &PlanState,
     id: u32,
@@ -36,7 +36,7 @@ pub(crate) fn add_shift(
     }
 }
 
-// A new activity, left out where no activity may start then.
+// Appends the addition of an activity, unless no activity may start then.
 fn add_new(
     state: &PlanState,
     kind: u32,
@@ -67,7 +67,7 @@ pub(crate) fn add_shifts(
     Ok(())
 }
 
-/// Appends new activities of one kind with these starts.
+/// Appends additions of activities of one kind with these starts.
 pub(crate) fn add_news(
     state: &PlanState,
     kind: u32,

@@ -20,7 +20,7 @@ use pl_plan::{Activity, RepairMove};
 use pl_semantics::PlanState;
 use std::alloc::{AllocError, Global};
 
-// Behind the span, and before it.
+// Appends the shifts of a user to a start behind the span, and to an end before it.
 fn add_around(
     state: &PlanState,
     id: u32,
@@ -153,7 +153,7 @@ fn reservation_at<'s>(state: &'s PlanState, a: &Activity, index: u32) -> Option<
     }
 }
 
-// Help by kinds that set the state that is needed.
+// Appends help by kinds that set the state that is needed.
 fn add_help_must(
     alloc: Global,
     state: &PlanState,
@@ -173,7 +173,7 @@ fn add_help_must(
     }
 }
 
-// Help by kinds that set the timeline.
+// Appends help by kinds that set any state of the timeline.
 fn add_help_step(
     alloc: Global,
     state: &PlanState,

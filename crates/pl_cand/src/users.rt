@@ -19,7 +19,7 @@ use pl_plan::Activity;
 use pl_semantics::PlanState;
 use std::alloc::{AllocError, Global};
 
-/// How many activities are shifted away.
+/// How many activities are shifted away, at most.
 const MOST: usize = 8;
 
 fn amount_in(amount: &Expr, values: &[Option<i64>]) -> i64
@@ -72,7 +72,7 @@ fn any_uses(
     false
 }
 
-// It may take of the timeline before a moment, whatever its amount and its end.
+// Whether the reservation may take from the timeline before a moment, whatever its amount and the end of the activity.
 fn may_take(timeline: u32, b: u32, start: u32, reservation: &Reservation) -> bool
     ensures { result ≡ may_take timeline b start reservation.now }
 {
@@ -93,7 +93,7 @@ fn any_may_take(timeline: u32, b: u32, start: u32, reservations: &[Reservation])
     false
 }
 
-// Its values are worked out only where its kind takes of the timeline at all.
+// Whether the activity takes from the timeline within a span. Its values are worked out only if its kind takes from the timeline.
 #[tactic(auto, unfolding(pl_semantics::specs::Demands::demands_at))]
 fn takes_in(
     alloc: Global,

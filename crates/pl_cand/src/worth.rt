@@ -19,7 +19,7 @@ fn has_start(state: &PlanState, id: u32, start: u32) -> bool
     }
 }
 
-// A parameter's value, where the kind of a live activity has it.
+// The value of a parameter, if the kind of a live activity has this parameter.
 fn value_in(state: &PlanState, a: &Activity, number: u8) -> Option<i64>
     requires whole { IsWhole state.now }
     requires live { activity_of a.now.id state.now.plan.activities ≡ Some a.now }
@@ -51,7 +51,7 @@ fn has_value(state: &PlanState, id: u32, number: u8, value: i64) -> bool
     }
 }
 
-// Whether it is a shift to the present start, or an assignment of the present value.
+// Whether the move is a shift to the present start, or an assignment of the present value.
 fn changes_nothing(state: &PlanState, mv: &RepairMove) -> bool
     requires { IsWhole state.now }
     ensures { result ≡ changes_nothing state.now mv.now }
