@@ -12,12 +12,6 @@ or_swap true true c = refl
 or_swap true false c = refl
 or_swap false b c = refl
 
-pub or_turn : (a b c : Bool) → ((b || a) || c) ≡ (a || (b || c))
-or_turn true true c = refl
-or_turn true false c = refl
-or_turn false true c = refl
-or_turn false false c = refl
-
 -- without b, and without c
 pub without_both : (a b c : Bool) → ((a && not b) && not c) ≡ (a && not (b || c))
 without_both true true c = refl
