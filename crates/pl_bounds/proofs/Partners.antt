@@ -17,7 +17,6 @@ use Rattle.pl_plan.specs.declared.activity.Activity.{Activity}
 use Rattle.pl_plan.specs.declared.repair.RepairMove.TheVariants.{Shift}
 use Rattle.pl_plan.specs.Activities.{activity_of}
 use Rattle.pl_plan.specs.Firm.{end_in, end_of}
-use Rattle.pl_plan.specs.Fitting.{FitsAlone}
 use Rattle.pl_plan.specs.Trees.{descends, id_of, subtree_of}
 use Rattle.pl_plan.specs.Trees.Descends.{itself}
 use Rattle.pl_plan.specs.Values.{Row, values_of}
@@ -75,9 +74,6 @@ late p change n (y ∷ ys) all = by (p y) refl (late p change n ys)
         All-cons (λ (z : Activity). p z ≡ true → n ≤ (change z).start) y ys (λ h. absurd (let bad : false ≡ true = sym e ∙ h in cc)) (more rest)
 
 -- ---- one from which no other descends
-
-pub own_live : (s : PlanState) → IsWhole s → (id : ℕ) (a : Activity) → found s id ≡ Some a → found s a.id ≡ Some a
-own_live s whole id a here = ap (found s) (all_at (FitsAlone s.model) s.plan.activities id a whole.fits.each here).1 ∙ here
 
 here_too : (p : ℕ → Bool) (id : ℕ) (top : Activity) (ys : List Activity) → p id ≡ true → activity_of id ys ≡ Some top → list_any (eqb id) (filter p (map id_of ys)) ≡ true
 here_too p id top [] passes is = absurd (cc)

@@ -133,16 +133,14 @@ state_fits model number states name m in_lines has (Some k) below e =
     subst (λ (x : Message). IsWithin model x) same (in_lines, has k (below k refl))
 
 told_fits : (model : Model) (line : List ℕ) (value : Value) (m : Message) (found : Option (ℕ × Timeline)) → ((n : ℕ) (t : Timeline) → found ≡ Some (n, t) → slice_get model.timelines n ≡ Some t) → told_by line value found ≡ Ok m → IsWithin model m
-told_fits model line value m None at e = absurd (cc)
-told_fits model line value m (Some (number, timeline.Capacity name most)) at e = absurd (cc)
 told_fits model line value m (Some (number, timeline.Level name least most start)) at e =
     let there = at number (timeline.Level name least most start) refl in
     level_fits model number value m (slice_get_within model.timelines number _ there) (rw there tt) e
-told_fits model line (said.Number n) m (Some (number, timeline.States name states start any steps)) at e = absurd (cc)
 told_fits model line (said.Name token) m (Some (number, timeline.States name states start any steps)) at e =
     let there = at number (timeline.States name states start any steps) refl in
     state_fits model number states (token_text line token) m (slice_get_within model.timelines number _ there) (λ k below. rw there below)
     (state_named states (token_text line token)) (λ k h. let below : k < 0 + length states = position_below (λ state. bytes_eq state (token_text line token)) 0 states k h in omega arith) e
+told_fits model line _ m _ at e = absurd (cc)
 
 telemetry_fits : (model : Model) (line : List ℕ) (tokens : List Token) (m : Message) → telemetry_in model line tokens ≡ Ok m → IsWithin model m
 unfolding telemetry_in
