@@ -1,5 +1,5 @@
 -- Each number of a message that is read is within its limits.
-use Rattle.std.proofs.Common.{◌≡◌, ℕ, zero, suc, ◌+◌, ◌<◌, ◌≤◌, Bool, true, false, cond, List, [], ◌∷◌, length, Ok, Err, refl, ap, subst, arith}
+use Rattle.std.proofs.Common.{◌≡◌, ℕ, zero, suc, ◌+◌, ◌<◌, ◌≤◌, Bool, true, false, cond, List, [], ◌∷◌, length, Ok, refl, ap, subst, arith}
 use Rattle.std.specs.Prelude.{ℤ, pos, int_le, Option, Some, None, IfSome, slice_get, codes, bytes_eq, ◌&&◌, nat_le, nat_lt}
 use Rattle.std.proofs.lemmas.Option.{slice_get_within, same_Some}
 use Rattle.std.proofs.lemmas.Bool.{leb-true, ltb-true, and_parts}
@@ -11,7 +11,6 @@ use Rattle.pl_model.specs.declared.whole.Model.{Model}
 use Rattle.pl_facts.specs.declared.goal.Goal.{Goal}
 use Rattle.pl_text.specs.declared.token.Token.{Token}
 use Rattle.pl_text.specs.Tokens.{token_text}
-use Rattle.pl_msg.specs.declared.fault.MsgFault.{MsgFault}
 use Rattle.pl_msg.specs.declared.fault.MsgFault.TheVariants as fault
 use Rattle.pl_msg.specs.declared.forms.GoalForm.{GoalForm}
 use Rattle.pl_msg.specs.declared.presets.Preset.{Preset}
