@@ -39,7 +39,7 @@ taken_at (x ∷ xs) c (suc i) id d rising lt is =
     let above = rises_above xs (suc x.id) i d rising.1 in_range in
     rw (ne_eqb x.id id (λ e. omega (arith, above, is, e))) (ap (λ l. x ∷ l) (taken_at xs (suc x.id) i id d rising.1 in_range is))
 
-others_keep : (a : Activity) (xs : List Activity) (c : ℕ) → RiseFrom c xs → a.id < c → exchanged a xs ≡ xs
+pub others_keep : (a : Activity) (xs : List Activity) (c : ℕ) → RiseFrom c xs → a.id < c → exchanged a xs ≡ xs
 others_keep a [] c rising lt = refl
 others_keep a (x ∷ xs) c rising lt =
     let more = others_keep a xs (suc x.id) rising.1 (omega (arith, lt, rising.0)) in
