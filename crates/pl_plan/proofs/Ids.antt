@@ -96,7 +96,7 @@ put_in_gap id (x ∷ xs) zero gap a is = rw (le-ltb x.id a.id (omega (arith, gap
 put_in_gap id (x ∷ xs) (suc at) gap a is = rw (lt-ltb x.id a.id (omega (arith, gap.before 0 x (omega arith), is))) (ap (λ l. x ∷ l) (put_in_gap id xs at (gap_tail id x xs at gap) a is))
 
 no_activity : Activity
-no_activity = record { id = 0; kind = 0; start = 0; parent = None; goal = None; detail = None; set = [] }
+no_activity = record { id = 0; kind = 0; start = 0; parent = None; goal = None; detail = None; set = []; measured = None }
 
 module _ (xs : List Activity) (rising : AreRising xs) (id : ℕ) where
   comparisons_rise : IsNonDecreasingBy (λ a. ordering_index (nat_cmp a.id id)) xs
