@@ -45,7 +45,7 @@ pub sent_at_close : (m : Model) → AllIsSentAtClose m
 sent_at_close m log answer legal =
     let last = last_entry m log event.Close answer (λ begun. begun) legal in
     let w = world_of m log in
-    let all : w.dispatched ≡ due_in w.state = (bytes_decides w.dispatched (due_in w.state)).0 (and_third (not w.closed) w.rested (all_sent w) (nat_le (best_in w.state) (behind_of w.state)) last.follows.enabled) in
+    let all : w.dispatched ≡ due_in w.state = (bytes_decides w.dispatched (due_in w.state)).0 (and_third (not w.closed) w.rested (all_sent w) (nat_le (best_in w) (behind_of w.state)) last.follows.enabled) in
     subst (λ (v : World). v.dispatched ≡ due_in v.state) (sym last.leaves) all
 
 pub grants_same : (m : Model) → GrantsChangeNoConflict m
