@@ -108,7 +108,7 @@ module _ (s : PlanState) (id moment : ℕ) (whole : IsWhole s) (a : Activity) (h
         fits_changed s.model s.plan.activities whole.rising whole.fits (ended_at id moment) (ended_keeps id moment) (ended_detail id moment)
         (λ k d lt. alone_ended (get_or s.plan.activities k d) (found_at s.plan.activities 0 k (get_or s.plan.activities k d).id d whole.rising lt refl) (whole.fits.each k d lt))
 
-    values_same : (q : ℕ) → values_of s.model (with_end id moment s.plan.activities) q ≡ values_of s.model s.plan.activities q
+    pub values_same : (q : ℕ) → values_of s.model (with_end id moment s.plan.activities) q ≡ values_of s.model s.plan.activities q
     values_same q = values_bare s.model (with_end id moment s.plan.activities) s.plan.activities fits_ended.rooted whole.fits.rooted (bare_ended id moment s.plan.activities) q
 
     pub can_measure : CanReplace s (id ∷ []) (ended moment a ∷ [])
