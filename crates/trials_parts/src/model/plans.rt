@@ -67,7 +67,7 @@ fn has_kinds(model: &Model) -> bool
 }
 
 fn activity(id: u32, kind: u32, start: u32, set: Items<Option<i64>>) -> Activity
-    ensures { result ≡ record { id = id; kind = kind; start = start; parent = None; goal = None; detail = None; set = set } }
+    ensures { result ≡ record { id = id; kind = kind; start = start; parent = None; goal = None; detail = None; set = set; measured = None } }
 {
     Activity {
         id,
@@ -77,6 +77,7 @@ fn activity(id: u32, kind: u32, start: u32, set: Items<Option<i64>>) -> Activity
         goal: None,
         detail: None,
         set,
+        measured: None,
     }
 }
 
@@ -237,6 +238,7 @@ fn answer(plan: &mut Plan, call: &str) -> Option<u32> {
         "id-at" => Some(plan.nth(number)?.id),
         "start-of" => Some(plan.get(number)?.start),
         "take" => Some(plan.take(number)?.start),
+        "measured" => plan.measured(number),
         _ => Some(plan.len()),
     }
 }
@@ -267,6 +269,29 @@ fn activities_by_id(rt: HostRuntime) {
     let mut copy = plan.copy(rt.alloc()).expect(&rt, "memory");
     assert_answers(&rt, &mut plan, CALLS);
     assert_answers(&rt, &mut copy, "start-of 2 = 25");
+}
+
+fn measure(rt: &impl Abort, plan: &mut Plan, id: u32, moment: u32) {
+    holds(rt, "a live activity", plan.get(id).is_some());
+    plan.set_end(id, moment);
+}
+
+const MEASURED: &str = "measured 1 = 50
+measured 2 = none
+measured 4 = none
+take 1 = 40
+measured 1 = none";
+
+/// The last one counts, and it goes with its activity.
+#[test]
+fn measured_ends(rt: HostRuntime) {
+    let mut plan = plan(rt.alloc()).expect(&rt, "memory");
+    assert_answers(&rt, &mut plan, "measured 1 = none");
+    measure(&rt, &mut plan, 1, 60);
+    measure(&rt, &mut plan, 1, 50);
+    let mut copy = plan.copy(rt.alloc()).expect(&rt, "memory");
+    assert_answers(&rt, &mut plan, MEASURED);
+    assert_answers(&rt, &mut copy, "measured 1 = 50");
 }
 
 #[test]

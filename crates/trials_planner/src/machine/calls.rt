@@ -132,6 +132,7 @@ fn said(
     match call {
         "choice" => format!(in alloc; "{:?}", choice(rt, machine)),
         "propose" => format!(in alloc; "{:?}", machine.propose(&mut Least)),
+        "halted" => format!(in alloc; "{}", machine.halted()),
         "stuck" => format!(in alloc; "{}", stuck(rt, alloc, machine)?),
         "log" => logged(alloc, machine),
         _ => format!(in alloc; "{:?}", make(rt, machine, call)),
@@ -256,6 +257,93 @@ log = 15, sent at [8], closed true, done true";
 #[test]
 fn sends_a_command_in_its_round(rt: HostRuntime) {
     assert_plays(&rt, rt.alloc(), BOUNDS, COMMITTED, BEHIND);
+}
+
+const BEGUN: &str = "close = Ok(Done)
+tick 10 = Ok(Done)
+rest = Ok(Rested(Clear))
+dispatch = Ok(Sent { id: 1, kind: 0, start: 10, values: Items { items: [] } })
+commit 40 = Ok(Done)
+close = Ok(Done)";
+
+/// Behind the refusals in their order, the plan is as it was; then the second end counts.
+const MEASURED: &str = "until 1 = Ok(BadLine)
+rest = Ok(Rested(Clear))
+close = Ok(Done)
+until 1 101 = Ok(Range)
+rest = Ok(Rested(Clear))
+close = Ok(Done)
+until 4294967297 101 = Ok(Range)
+rest = Ok(Rested(Clear))
+close = Ok(Done)
+until 1 4294967306 = Ok(Range)
+rest = Ok(Rested(Clear))
+close = Ok(Done)
+until 2 30 = Ok(NotBegun)
+rest = Ok(Rested(Clear))
+close = Ok(Done)
+until 4294967297 30 = Ok(NotBegun)
+rest = Ok(Rested(Clear))
+close = Ok(Done)
+until 1 10 = Ok(EndBack)
+rest = Ok(Rested(Clear))
+close = Ok(Done)
+until 1 11 = Ok(Done)
+halted = false
+rest = Ok(Rested(Clear))
+close = Ok(Done)
+until 1 100 = Ok(Done)
+rest = Ok(Rested(Clear))
+close = Ok(Done)
+log = 38, sent at [8], closed true, done false";
+
+#[test]
+fn is_told_when_an_activity_ends(rt: HostRuntime) {
+    let alloc = rt.alloc();
+    let begun = format!(in alloc; "{COMMITTED}\n{BEGUN}").expect(&rt, "memory");
+    assert_plays(&rt, alloc, BOUNDS, begun.as_str(), MEASURED);
+}
+
+const TO_COME: &str = "goal 1 obs 10 20 must = Ok(Done)
+add-for-1 10 = Ok(Done)
+rest = Ok(Rested(Clear))
+close = Err(NotNow)
+commit 10 = Ok(Done)
+commit 30 = Ok(Done)
+close = Ok(Done)
+until 1 30 = Ok(NotBegun)
+rest = Ok(Rested(Clear))
+close = Ok(Done)";
+
+/// A refused tick leaves the halt, and one that is taken ends it. A commit past the present and 1 is granted all the same.
+const HALTED: &str = "halted = false
+halt = Ok(Done)
+halted = true
+choice = None
+rest = Ok(Rested(Clear))
+choice = Some(Close)
+close = Ok(Done)
+tick 0 = Ok(TickBack)
+halted = true
+rest = Ok(Rested(Clear))
+close = Ok(Done)
+tick 101 = Ok(TickBeyond)
+halted = true
+rest = Ok(Rested(Clear))
+commit 30 = Ok(Done)
+close = Ok(Done)
+halt = Ok(Done)
+halted = true
+rest = Ok(Rested(Clear))
+close = Ok(Done)
+tick 5 = Ok(Done)
+halted = false
+rest = Ok(Rested(Clear))
+choice = Some(Commit(35))";
+
+#[test]
+fn holds_commits_back_up_to_the_next_tick(rt: HostRuntime) {
+    assert_plays(&rt, rt.alloc(), BOUNDS, TO_COME, HALTED);
 }
 
 #[test]
