@@ -37,6 +37,7 @@ fn activity(alloc: Global, id: u32, kind: u32, start: u32) -> Activity
         goal: None,
         detail: None,
         set: Items::new(alloc),
+        measured: None,
     }
 }
 
