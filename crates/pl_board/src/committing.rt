@@ -23,7 +23,8 @@ impl WatchedState {
         if is_clear {
             return Ok(());
         }
-        self.look_anew(alloc)
+        self.look_anew(alloc)?;
+        Ok(())
     }
 
     /// What starts after the present is committed no longer. So its conflicts stand again, and all are found anew.
@@ -37,7 +38,8 @@ impl WatchedState {
             return Ok(());
         }
         self.state.committed = next;
-        self.look_anew(alloc)
+        self.look_anew(alloc)?;
+        Ok(())
     }
 
     // Finds all that is wrong anew.

@@ -5,6 +5,7 @@ mod asking;
 mod board;
 mod committing;
 mod links;
+mod measuring;
 mod reading;
 mod sharing;
 mod watched;

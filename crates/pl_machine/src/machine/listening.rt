@@ -1,14 +1,13 @@
-ghost use Rattle.std.specs.Prelude.{◌≡◌, ◌≢◌, ◌&&◌, not, nat_le, nat_lt, length, true, false, is_some, IfOk, IfSome, Ok, Some};
+ghost use Rattle.std.specs.Prelude.{◌≡◌, ◌≢◌, ◌&&◌, not, nat_le, nat_lt, length, true, false, is_some, if◌then◌else◌, IfOk, IfSome, Ok, Some};
 ghost use Rattle.std.specs.List.{list_any};
-ghost use Rattle.std.specs.Option.{option_copied, option_map};
+ghost use Rattle.std.specs.Option.{option_copied};
 ghost use Rattle.pl_facts.specs.Goals.{is_numbered};
 ghost use Rattle.pl_entry.specs.Bounds.{IsMessageLine, IsInputReply, IsEventInRange, IsReplyTo};
 ghost use Rattle.pl_msg.specs.Messages.{message_of};
 ghost use Rattle.pl_msg.specs.Limits.{IsWithin};
-ghost use Rattle.pl_semantics.specs.Links.{placed_of};
 ghost use Rattle.pl_semantics.specs.Whole.{IsWhole};
 ghost use Rattle.pl_machine.specs.Changes.{changed, CanChange};
-ghost use Rattle.pl_machine.specs.Messages.{goal_reply, tick_reply, end_reply, measured_reply, until_reply, message_reply, line_reply, told_line, halts_line};
+ghost use Rattle.pl_machine.specs.Messages.{goal_reply, tick_reply, end_reply, until_reply, message_reply, line_reply, told_line, halts_line};
 ghost use Rattle.pl_machine.specs.Step.{input_reply, reply_of, after};
 ghost use Rattle.pl_machine.specs.Taking.{IsOpen, Answers};
 
@@ -101,13 +100,24 @@ fn end_reply(start: u32, moment: u32) -> Reply
     }
 }
 
-/// The reply to the measured end of an activity, which is given with its end, if it is live.
-fn measured_reply(state: &PlanState, activity: Option<Placed>, moment: u32) -> Reply
-    ensures { (a : Option Activity) → activity ≡ option_map (placed_of state.now) a → result ≡ measured_reply state.now a moment }
+/// The reply to the measured end of an activity, which is given with the end that it has.
+fn placed_reply(state: &PlanState, activity: &Placed, moment: u32) -> Reply
+    ensures { result ≡ (if nat_lt activity.now.start state.now.committed && (nat_le activity.now.start state.now.moment && is_some activity.now.end) then end_reply activity.now.start moment else Reply.NotBegun) }
 {
-    match activity {
-        Some(activity) if has_begun(state, &activity) => end_reply(activity.start, moment),
-        _ => Reply::NotBegun,
+    if has_begun(state, activity) {
+        end_reply(activity.start, moment)
+    } else {
+        Reply::NotBegun
+    }
+}
+
+fn live_reply(board: &Board, id: u32, moment: u32) -> Reply
+    requires { board.now.spoiled ≡ false }
+    ensures { result ≡ until_reply board.now.state id moment }
+{
+    match board.placed(id) {
+        Some(activity) => placed_reply(board.state(), &activity, moment),
+        None => Reply::NotBegun,
     }
 }
 
@@ -117,7 +127,7 @@ fn until_reply(board: &Board, id: u64, moment: u32) -> Reply
     ensures { result ≡ until_reply board.now.state id moment }
 {
     match u32::try_from(id) {
-        Ok(id) => measured_reply(board.state(), board.placed(id), moment),
+        Ok(id) => live_reply(board, id, moment),
         Err(_) => Reply::NotBegun,
     }
 }
@@ -203,7 +213,7 @@ impl Machine {
         }
     }
 
-    #[tactic(auto, using(crate::proofs::Inputs::can_accept, crate::proofs::Inputs::can_tell_level, crate::proofs::Inputs::can_tell_state, crate::proofs::Inputs::can_tick, crate::proofs::Untils::can_until), unfolding(crate::specs::Messages::line_reply, crate::specs::Messages::told_line, crate::specs::Messages::halts_line))]
+    #[tactic(auto, using(crate::proofs::Inputs::can_accept, crate::proofs::Inputs::can_tell_level, crate::proofs::Inputs::can_tell_state, crate::proofs::Inputs::can_tick, crate::proofs::Measured::can_until, crate::proofs::Measured::until_below), unfolding(crate::specs::Messages::line_reply, crate::specs::Messages::told_line, crate::specs::Messages::halts_line))]
     fn accept(&mut self, line: &[u8], message: Message) -> Result<Reply, Stop>
         requires open { IsOpen self.old (Event.Input (Some line.now)) }
         requires line { IsMessageLine line.now }

@@ -148,7 +148,7 @@ fn play(rt: &impl Abort, alloc: Global, machine: &mut Machine, script: &str) {
 }
 
 /// Plays two scripts, one behind the other, from the first call on.
-fn assert_plays(rt: &impl Abort, alloc: Global, options: Options, first: &str, then: &str)
+pub(crate) fn assert_plays(rt: &impl Abort, alloc: Global, options: Options, first: &str, then: &str)
     requires { AreOptions options }
 {
     let mut machine = fresh(rt, alloc, options);
@@ -156,7 +156,7 @@ fn assert_plays(rt: &impl Abort, alloc: Global, options: Options, first: &str, t
     play(rt, alloc, &mut machine, then);
 }
 
-const COMMITTED: &str = "goal 1 obs 10 20 must = Ok(Done)
+pub(crate) const COMMITTED: &str = "goal 1 obs 10 20 must = Ok(Done)
 add-for-1 10 = Ok(Done)
 rest = Ok(Rested(Clear))
 commit 30 = Ok(Done)";
