@@ -3,6 +3,7 @@
 
 mod asking;
 mod board;
+mod committing;
 mod links;
 mod reading;
 mod sharing;

@@ -1,19 +1,20 @@
 //! A plan state with what is kept of it, mended near each change.
-ghost use Rattle.std.specs.Prelude.{◌≡◌, OnOk, IfOk, None, ◌≤◌, ◌<◌, [], ◌∷◌, ◌++◌, slice_get, IsTrue, All, false};
+ghost use Rattle.std.specs.Prelude.{◌≡◌, OnOk, IfOk, None, Some, ◌≤◌, ◌<◌, [], ◌∷◌, ◌++◌, slice_get, IsTrue, All, false};
 ghost use Rattle.pl_conflict.specs.Sorting.{exchanged};
 ghost use Rattle.pl_update.specs.GoalsAndActivities.Near.{near, HoldSame};
 ghost use Rattle.std.specs.List.Sorted.{IsStrictlyIncreasing};
-ghost use Rattle.pl_semantics.specs.Grants.{touches_before};
 ghost use Rattle.pl_facts.specs.Goals.{goal_of};
 ghost use Rattle.pl_semantics.specs.Whole.{IsWhole, IsGoalOf};
-ghost use Rattle.pl_update.specs.Changes.Changes.{with_goal, without_goal, moved_on, told_now, committed_to, CanTell, IsOpenIn};
+ghost use Rattle.pl_plan.specs.Activities.{ended};
+ghost use Rattle.pl_semantics.specs.PlanStates.{found};
+ghost use Rattle.pl_update.specs.Changes.Changes.{with_goal, without_goal, moved_on, told_now, measured_to, CanTell, IsOpenIn, CanMeasure};
 ghost use Rattle.pl_update.specs.Changes.Replaced.{CanReplace, with_plan};
 ghost use Rattle.pl_update.specs.Evaluations.Kept.{AreOf};
 ghost use Rattle.pl_board.specs.Boards.{IsWatched};
 
 use crate::asking::{asked_by, asked_of};
 use pl_conflict::{Conflict, ConflictSet};
-use pl_detect::{demands, detect};
+use pl_detect::detect;
 use pl_facts::Goal;
 use pl_links::Links;
 use pl_lists::Copied;
@@ -128,6 +129,23 @@ impl WatchedState {
         Ok(())
     }
 
+    /// The activity of this id makes way for itself with its end measured.
+    pub(crate) fn until<L: Ledger>(
+        &mut self,
+        alloc: Global,
+        id: u32,
+        moment: u32,
+        steps: &mut Steps<L>,
+    ) -> Result<(), AllocError>
+        requires watched { IsWatched self.old }
+        requires can { CanMeasure self.old.state id moment }
+        ensures state { OnOk result (self.new.state ≡ measured_to id moment self.old.state) }
+        ensures watched { OnOk result (IsWatched self.new) }
+    {
+        let placed = ended(alloc, &self.state, id, moment)?;
+        self.replace(alloc, &[id], &placed, steps)
+    }
+
     pub(crate) fn add_goal(&mut self, alloc: Global, goal: Goal) -> Result<(), AllocError>
         requires watched { IsWatched self.old }
         requires fresh { goal_of goal.number self.old.state.goals ≡ None }
@@ -195,34 +213,6 @@ impl WatchedState {
             .set(line, i64::from(self.state.moment), value);
         Ok(())
     }
-
-    pub(crate) fn commit(&mut self, alloc: Global, h: u32) -> Result<(), AllocError>
-        requires watched { IsWatched self.old }
-        requires least { self.old.state.committed ≤ h }
-        requires most { h ≤ self.old.state.model.horizon }
-        ensures state { OnOk result (self.new.state ≡ committed_to h self.old.state) }
-        ensures watched { OnOk result (IsWatched self.new) }
-    {
-        let is_clear = self.is_clear_before(h);
-        self.state.committed = h;
-        if is_clear {
-            return Ok(());
-        }
-        let asked = demands(alloc, &self.state)?;
-        self.conflicts = detect(alloc, &self.state, &asked)?;
-        Ok(())
-    }
-
-    // Whether no conflict touches what comes before a moment.
-    fn is_clear_before(&self, h: u32) -> bool
-        requires { IsWatched self.now }
-        ensures { IsTrue result → All (λ k. touches_before h k ≡ false) self.now.conflicts }
-    {
-        match self.conflicts.first() {
-            Some(conflict) => h <= conflict.from,
-            None => true,
-        }
-    }
 }
 
 // The same ids, each once and rising.
@@ -232,6 +222,20 @@ fn once(alloc: Global, ids: &[u32]) -> Result<Vec<u32>, AllocError>
 {
     let all = Vec::from_slice(alloc, ids)?;
     Ok(each_once(all))
+}
+
+// The activity of this id alone, with its end measured.
+fn ended(alloc: Global, s: &PlanState, id: u32, moment: u32) -> Result<Vec<Activity>, AllocError>
+    requires { CanMeasure s.now id moment }
+    ensures { IfOk result (λ all. (a : Activity) → found s.now id ≡ Some a → all.items ≡ ended moment a ∷ []) }
+{
+    let mut all = Vec::new(alloc);
+    if let Some(activity) = s.plan.get(id) {
+        let mut ended = activity.copy(alloc)?;
+        ended.measured = Some(moment);
+        all.push(ended)?;
+    }
+    Ok(all)
 }
 
 // A single goal, and no activity.

@@ -41,38 +41,46 @@ use Rattle.pl_machine.proofs.Inputs.{can_accept, can_tell_level, can_tell_state,
 use Rattle.pl_machine.proofs.Handed.{can_repair}
 use Rattle.pl_laws.specs.Standing.{StaysCommitted}
 
--- a plan state that stays whole, keeps what is due, and keeps what is committed
-pub record Kept (s s2 : PlanState) : Type 0 where
+-- What an event of which these messages were accepted leaves: a plan state that is whole, what is due, and what is committed and has
+-- begun. If none of them is `halt`, all that is committed.
+pub record Kept (messages : List Message) (s s2 : PlanState) : Type 0 where
   pub whole : IsWhole s2
   pub standing : KeepsStanding s s2
-  pub stays : StaysCommitted s s2
+  pub moment : s.moment ≤ s2.moment
+  pub begun : StaysBelow (min s.committed (s.moment + 1)) messages s s2
+  pub stays : NoneHalts messages → StaysBelow s.committed messages s s2
+
+kept_all : {ms : List Message} (s s2 : PlanState) → IsWhole s2 → KeepsStanding s s2 → s.moment ≤ s2.moment → StaysBelow s.committed ms s s2 → Kept ms s s2
+kept_all {ms} s s2 whole standing later stays = record {
+  whole = whole;
+  standing = standing;
+  moment = later;
+  begun = lower s.committed (min s.committed (s.moment + 1)) s s2 (omega arith) stays;
+  stays = λ none. stays;
+}
 
 -- ---- nothing changes
 
-pub stays_itself : (s : PlanState) → StaysCommitted s s
-stays_itself s = record { committed = omega arith; stands = λ id a here c. here; still = λ id a here c. c; values = λ id a here c. refl; ends = λ id a here c. refl }
+pub stays_itself : (h : ℕ) (s : PlanState) → h ≤ s.committed → StaysBelow h [] s s
+stays_itself h s le = record { committed = le; stands = λ id a here early. here; values = λ id a here early. refl; ends = λ id a here early. refl }
 
 standing_itself : (s : PlanState) → KeepsStanding s s
 standing_itself s = record { model = refl; next_id = omega arith; due = ([], sym (append-nil (due_in s))); sendable = λ sendable. sendable }
 
-pub kept_itself : (s : PlanState) → IsWhole s → Kept s s
-kept_itself s whole = record { whole = whole; standing = standing_itself s; stays = stays_itself s }
+pub kept_itself : (s : PlanState) → IsWhole s → Kept [] s s
+kept_itself s whole = kept_all s s whole (standing_itself s) (omega arith) (stays_itself s.committed s (omega arith))
 
 -- ---- a change
 
-more_committed : (start c h : ℕ) → c ≤ h → nat_lt start c ≡ true → nat_lt start h ≡ true
-more_committed start c h le early = let lt = ltb-true start c early in lt-ltb start h (omega (arith, lt, le))
+stays_commit : (s : PlanState) (h : ℕ) → s.committed ≤ h → StaysBelow s.committed [] s (committed_to h s)
+stays_commit s h le = record { committed = le; stands = λ id a here early. here; values = λ id a here early. refl; ends = λ id a here early. refl }
 
-stays_commit : (s : PlanState) (h : ℕ) → s.committed ≤ h → StaysCommitted s (committed_to h s)
-stays_commit s h le = record { committed = le; stands = λ id a here c. here; still = λ id a here c. more_committed a.start s.committed h le c; values = λ id a here c. refl; ends = λ id a here c. refl }
-
-stays_repair : (s s2 : PlanState) → KeepsCommitted s s2 → StaysCommitted s s2
+stays_repair : (s s2 : PlanState) → KeepsCommitted s s2 → StaysBelow s.committed [] s s2
 stays_repair s s2 keeps = record {
   committed = (let same : s2.committed ≡ s.committed = keeps.committed in omega (arith, same));
-  stands = keeps.stands;
-  still = λ id a here c. ap (λ (h : ℕ). nat_lt a.start h) keeps.committed ∙ c;
-  values = keeps.values;
-  ends = keeps.ends;
+  stands = λ id a here early. keeps.stands id a here (lt-ltb a.start s.committed early);
+  values = λ id a here early. keeps.values id a here (lt-ltb a.start s.committed early);
+  ends = λ id a here early. keeps.ends id a here (lt-ltb a.start s.committed early);
 }
 
 whole_by : (s : PlanState) (m : RepairMove) → IsWhole s → s.next_id ≤ 3999999000 → IsOfActivities m → is_proper s m ≡ true → refusal_of s m ≡ None → IsWhole (applied s m)
@@ -89,20 +97,38 @@ whole_applied s (repair.Abstract id) whole few proper allowed = whole_by s (repa
 whole_applied s (repair.Assign id param value) whole few proper allowed = whole_by s (repair.Assign id param value) whole few tt proper allowed
 whole_applied s (repair.Drop goal) whole few proper allowed = subst IsWhole (dropped_is s goal) (whole_without_goal s goal whole)
 
-kept_accept : (s : PlanState) (g : Goal) → IsWhole s → goal_of g.number s.goals ≡ None → IsGoalOf s.model g → Kept s (with_goal g s)
-kept_accept s g whole none is = record { whole = whole_with_goal s g whole none is; standing = keeps_accept s g; stays = record { committed = omega arith; stands = λ id a here c. here; still = λ id a here c. c; values = λ id a here c. refl; ends = λ id a here c. refl } }
+kept_accept : (s : PlanState) (g : Goal) → IsWhole s → goal_of g.number s.goals ≡ None → IsGoalOf s.model g → Kept (message.Goal g ∷ []) s (with_goal g s)
+kept_accept s g whole none is = kept_all s (with_goal g s) (whole_with_goal s g whole none is) (keeps_accept s g) (omega arith) (record { committed = omega arith; stands = λ id a here early. here; values = λ id a here early. refl; ends = λ id a here early. refl })
 
-kept_tell : (s : PlanState) (line : ℕ) (value : ℤ) → IsWhole s → CanTell value (slice_get s.model.timelines line) → Kept s (told_now line value s)
-kept_tell s line value whole can = record { whole = whole_told s line value whole can; standing = keeps_tell s line value; stays = record { committed = omega arith; stands = λ id a here c. here; still = λ id a here c. c; values = λ id a here c. refl; ends = λ id a here c. refl } }
+kept_level : (s : PlanState) (line : ℕ) (value : ℤ) → IsWhole s → CanTell value (slice_get s.model.timelines line) → Kept (message.TeleLevel line value ∷ []) s (told_now line value s)
+kept_level s line value whole can = kept_all s (told_now line value s) (whole_told s line value whole can) (keeps_tell s line value) (omega arith) (record { committed = omega arith; stands = λ id a here early. here; values = λ id a here early. refl; ends = λ id a here early. refl })
 
-kept_tick : (s : PlanState) (moment : ℕ) → IsWhole s → s.moment < moment → moment ≤ s.model.horizon → Kept s (moved_on moment s)
-kept_tick s moment whole later within = record { whole = whole_moved_on s moment whole later within; standing = keeps_tick s moment whole.rising later; stays = record { committed = omega arith; stands = λ id a here c. here; still = λ id a here c. c; values = λ id a here c. refl; ends = λ id a here c. refl } }
+kept_state : (s : PlanState) (line state : ℕ) → IsWhole s → CanTell (pos state) (slice_get s.model.timelines line) → Kept (message.TeleState line state ∷ []) s (told_now line (pos state) s)
+kept_state s line state whole can = kept_all s (told_now line (pos state) s) (whole_told s line (pos state) whole can) (keeps_tell s line (pos state)) (omega arith) (record { committed = omega arith; stands = λ id a here early. here; values = λ id a here early. refl; ends = λ id a here early. refl })
 
-kept_grant : (s : PlanState) (h : ℕ) → IsWhole s → commit_reply s h ≡ reply.Done → Kept s (committed_to h s)
-kept_grant s h whole done = let bounds = commit_bounds s h done in record { whole = whole_committed s h whole bounds.1; standing = keeps_commit s h whole done; stays = stays_commit s h bounds.0 }
+kept_tick : (s : PlanState) (moment : ℕ) → IsWhole s → s.moment < moment → moment ≤ s.model.horizon → Kept (message.Tick moment ∷ []) s (moved_on moment s)
+kept_tick s moment whole later within = kept_all s (moved_on moment s) (whole_moved_on s moment whole later within) (keeps_tick s moment whole.rising later) (omega (arith, later)) (record { committed = omega arith; stands = λ id a here early. here; values = λ id a here early. refl; ends = λ id a here early. refl })
 
-kept_repair : (s : PlanState) (m : RepairMove) → IsWhole s → s.next_id ≤ 3999999000 → is_proper s m ≡ true → refusal_of s m ≡ None → Kept s (applied s m)
-kept_repair s m whole few proper allowed = record { whole = whole_applied s m whole few proper allowed; standing = keeps_applied s m whole proper allowed; stays = stays_repair s (applied s m) (keeps s m whole proper allowed) }
+-- what starts after the present is withdrawn, and what has begun is not
+kept_halt : (s : PlanState) → IsWhole s → Kept (message.Halt ∷ []) s (withdrawn s)
+kept_halt s whole = record {
+  whole = whole_withdrawn s whole;
+  standing = keeps_withdraw s whole;
+  moment = omega arith;
+  begun = record { committed = omega arith; stands = λ id a here early. here; values = λ id a here early. refl; ends = λ id a here early. refl };
+  stays = λ none. absurd (halts none);
+}
+
+kept_grant : (s : PlanState) (h : ℕ) → IsWhole s → commit_reply s h ≡ reply.Done → Kept [] s (committed_to h s)
+kept_grant s h whole done = let bounds = commit_bounds s h done in kept_all s (committed_to h s) (whole_committed s h whole bounds.0 bounds.1) (keeps_commit s h whole done) (omega arith) (stays_commit s h bounds.0)
+
+kept_repair : (s : PlanState) (m : RepairMove) → IsWhole s → s.next_id ≤ 3999999000 → is_proper s m ≡ true → refusal_of s m ≡ None → Kept [] s (applied s m)
+kept_repair s m whole few proper allowed =
+    let keeps' = keeps s m whole proper allowed in
+    let same : (applied s m).moment ≡ s.moment = keeps'.moment in
+    kept_all s (applied s m) (whole_applied s m whole few proper allowed) (keeps_applied s m whole proper allowed) (omega (arith, same)) (stays_repair s (applied s m) keeps')
+
+-- ---- a measured end
 
 -- ---- a message
 

@@ -1,9 +1,9 @@
 -- An end that is measured exchanges the activity of its id for itself with this end.
-use Rattle.std.proofs.Common.{◌≡◌, ℕ, suc, ◌<◌, ◌+◌, ◌^◌, eqb, Bool, true, false, cond, List, [], ◌∷◌, length, Some, refl, sym, ap, ◌∙◌, subst, arith}
+use Rattle.std.proofs.Common.{◌≡◌, ℕ, suc, ◌<◌, eqb, Bool, true, false, cond, List, [], ◌∷◌, Some, refl, sym, ap, ◌∙◌, subst, arith}
 use Rattle.std.proofs.lemmas.Bool.{eq-eqb, ne_eqb, eqb-true, eqb-false}
 use Rattle.std.proofs.lemmas.Option.{same_Some}
 use Rattle.pl_plan.specs.declared.activity.Activity.{Activity}
-use Rattle.pl_plan.specs.Activities.{RiseFrom, AreRising, activity_of, exchanged, ended, with_end}
+use Rattle.pl_plan.specs.Activities.{RiseFrom, activity_of, exchanged, ended, with_end}
 use Rattle.pl_plan.proofs.Ids.{others_keep}
 use Rattle.pl_plan.proofs.Climbs.{all_at}
 

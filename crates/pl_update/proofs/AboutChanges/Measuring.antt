@@ -15,7 +15,7 @@ use Rattle.pl_plan.proofs.Ends.{end_exchanged}
 use Rattle.pl_plan.proofs.Ids.{found_at}
 use Rattle.pl_plan.proofs.MoveLaws.{fits_changed}
 use Rattle.pl_semantics.specs.declared.plan_state.PlanState.{PlanState}
-use Rattle.pl_semantics.specs.PlanStates.{found}
+use Rattle.pl_semantics.specs.PlanStates.{found, among}
 use Rattle.pl_semantics.specs.Whole.{IsWhole, IsCarried, IsIdBelow, HasBegun}
 use Rattle.pl_semantics.proofs.Found.{found_id, found_live, all_found}
 use Rattle.pl_update.specs.Changes.Changes.{measured_to, CanMeasure}
@@ -108,19 +108,21 @@ module _ (s : PlanState) (id moment : ℕ) (whole : IsWhole s) (a : Activity) (h
         fits_changed s.model s.plan.activities whole.rising whole.fits (ended_at id moment) (ended_keeps id moment) (ended_detail id moment)
         (λ k d lt. alone_ended (get_or s.plan.activities k d) (found_at s.plan.activities 0 k (get_or s.plan.activities k d).id d whole.rising lt refl) (whole.fits.each k d lt))
 
-    values_same : (q : ℕ) → values_of s.model (with_end id moment s.plan.activities) q ≡ values_of s.model s.plan.activities q
+    pub values_same : (q : ℕ) → values_of s.model (with_end id moment s.plan.activities) q ≡ values_of s.model s.plan.activities q
     values_same q = values_bare s.model (with_end id moment s.plan.activities) s.plan.activities fits_ended.rooted whole.fits.rooted (bare_ended id moment s.plan.activities) q
 
     pub can_measure : CanReplace s (id ∷ []) (ended moment a ∷ [])
     can_measure =
         let bound : s.next_id ≤ 4000000001 = whole.next.1 in
+        let Gone : Activity → Type 0 = λ x. IsLive x.id s.plan.activities → among x.id (id ∷ []) ≡ true in
+        let IsGiven : Activity → Type 0 = λ x. (1 ≤ x.id) × (x.id ≤ 4000000000) in
         let length_same : length (with_end id moment s.plan.activities) ≡ length s.plan.activities = length-map s.plan.activities (ended_at id moment) in
         let begun : (a.start ≤ s.moment) × (a.start < s.committed) = subst (λ (z : Activity). (z.start ≤ s.moment) × (z.start < s.committed)) same (can.begun, can.committed) in
         record {
           live = All-cons (λ n. IsLive n s.plan.activities) id [] (rw here refl) (All-nil (λ n. IsLive n s.plan.activities));
           once = λ i j d lt within. absurd (omega (arith, lt, within));
-          free = All-cons _ (ended moment a) [] (λ live. rw (eq-eqb id a.id (sym same_id)) refl) (All-nil _);
-          ids = All-cons _ (ended moment a) [] (own.0, let below : a.id < s.next_id = own.1 in omega (arith, below, bound)) (All-nil _);
+          free = All-cons Gone (ended moment a) [] (λ live. rw (eq-eqb id a.id (sym same_id)) refl) (All-nil Gone);
+          ids = All-cons IsGiven (ended moment a) [] (own.0, let below : a.id < s.next_id = own.1 in omega (arith, below, bound)) (All-nil IsGiven);
           carried = All-cons (IsCarried s.goals) (ended moment a) [] (all_found (IsCarried s.goals) id s.plan.activities a whole.carried here) (All-nil (IsCarried s.goals));
           begun = All-cons (HasBegun s.moment s.committed) (ended moment a) [] begun (All-nil (HasBegun s.moment s.committed));
           kept = λ q out. rw ended_activities (values_same q);

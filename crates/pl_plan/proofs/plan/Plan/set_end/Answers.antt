@@ -5,15 +5,15 @@ use Rattle.pl_plan.proofs.Ends.{found_id, end_exchanged}
 use Rattle.pl_plan.proofs.Keeping.{kept_ended}
 use Rattle.pl_plan.proofs.plan.Plan.set_end.Goals as goal
 
-same : (c : goal.After-index_mut) → c.self.inside.activities.items ≡ c.args.self.now.activities
+same : (c : goal.After-self-1) → c.self.inside.activities.items ≡ c.args.self.now.activities
 same c = ap (λ s. s.activities) c.self.view_is
 
-here : (c : goal.After-index_mut) → activity_of c.args.id c.args.self.now.activities ≡ Some c.index_mut.result.now
+here : (c : goal.After-self-1) → activity_of c.args.id c.args.self.now.activities ≡ Some c.index_mut.result.now
 here c =
     let a = c.index_mut.result.now in
     c.place-at.ensures.here a ∙ sym (ap Some (c.index_mut.ensures.value ∙ ap (λ l. get_or l c.place-at.result a) (same c)))
 
-is : (c : goal.After-index_mut) → set c.self.inside.activities.items c.place-at.result (ended c.args.moment c.index_mut.result.now) ≡ with_end c.args.id c.args.moment c.args.self.now.activities
+is : (c : goal.After-self-1) → set c.self.inside.activities.items c.place-at.result (ended c.args.moment c.index_mut.result.now) ≡ with_end c.args.id c.args.moment c.args.self.now.activities
 is c =
     let xs = c.args.self.now.activities in
     let a = ended c.args.moment c.index_mut.result.now in
