@@ -150,8 +150,8 @@ module _ (s : PlanState) (whole : IsWhole s) (next : s.next_id ≤ 3999999000) (
       lows under top.start to (floor_of s) (omega arith) xs above
 
   -- what is moved along has no measured end
-  pub unmeasured_under : All (λ a. under a ≡ true → a.measured ≡ None) xs
-  unmeasured_under = subst (λ (n : ℕ). All (λ a. descends xs n a.id ≡ true → a.measured ≡ None) xs) (sym is_id) (unmeasured s whole (Shift id to) can.allowed)
+  pub unmeasured_under : All (λ (a : Activity). under a ≡ true → a.measured ≡ None) xs
+  unmeasured_under = subst (λ (n : ℕ). All (λ (a : Activity). descends xs n a.id ≡ true → a.measured ≡ None) xs) (sym is_id) (unmeasured s whole (Shift id to) can.allowed)
 
   asks_then : (a : Activity) → found s a.id ≡ Some a → under a ≡ true → a.measured ≡ None → top.start ≤ a.start + to → demands_at then_ (moved top.start to a) ≡ map (demand_moved top.start to) (demands_at s a)
   asks_then a is goes none low =

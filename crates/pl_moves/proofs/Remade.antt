@@ -1,6 +1,6 @@
 -- A change of each activity of a subtree is a replacement: a shift, and a value that is set.
-use Rattle.std.proofs.Common.{◌≡◌, ℕ, ◌<◌, ◌≤◌, eqb, Bool, true, false, cond, List, [], ◌∷◌, map, filter, get_or, refl, sym, ap, ◌∙◌, arith}
-use Rattle.std.specs.Prelude.{◌&&◌, All, ℤ, Option, Some, None, is_some, if◌then◌else◌}
+use Rattle.std.proofs.Common.{◌≡◌, ℕ, ◌<◌, ◌≤◌, eqb, Bool, true, false, cond, List, [], ◌∷◌, map, filter, get_or, refl, sym, ap, ◌∙◌, subst, arith}
+use Rattle.std.specs.Prelude.{◌&&◌, All, ℤ, Option, Some, None, IfSome, is_some, if◌then◌else◌}
 use Rattle.std.specs.Option.{option_or, option_map}
 use Rattle.std.proofs.lemmas.Bool.{ne_eqb}
 use Rattle.std.proofs.lemmas.List.{length-map, length-set}
@@ -37,6 +37,10 @@ unkept p Q (x ∷ xs) all = cases (p x) refl (unkept p Q xs)
 unmapped : (f : Activity → Activity) (Q : Activity → Type 0) (xs : List Activity) → All Q (map f xs) → All (λ x. Q (f x)) xs
 unmapped f Q [] all = All-nil (λ x. Q (f x))
 unmapped f Q (x ∷ xs) all = All-cons (λ x. Q (f x)) x xs (All-head Q (f x) (map f xs) all) (unmapped f Q xs (All-tail Q (f x) (map f xs) all))
+
+-- what has no measured end may start whenever it does
+unended : (moment committed : ℕ) (a : Activity) → a.measured ≡ None → HasBegun moment committed a
+unended moment committed a none = rw none tt
 
 -- ---- a change of a subtree
 
@@ -121,7 +125,7 @@ module _ (s : PlanState) (whole : IsWhole s) (top : ℕ) where
   shift_swap from to unmeasured above within = remade_swap (moved from to) (shifted_one from to) (moved_keeps from to) (shifted_keeps from to) (λ a. refl) begun alone
     where
       begun : All (HasBegun s.moment s.committed) (map (moved from to) (filter under xs))
-      begun = All-map (HasBegun s.moment s.committed) (moved from to) (filter under xs) (all_kept under (λ a. HasBegun s.moment s.committed (moved from to a)) xs (λ i d lt test. rw (unmeasured i d lt test) tt))
+      begun = All-map (HasBegun s.moment s.committed) (moved from to) (filter under xs) (all_kept under (λ a. HasBegun s.moment s.committed (moved from to a)) xs (λ i d lt test. unended s.moment s.committed (moved from to (get_or xs i d)) (unmeasured i d lt test)))
 
       high : All (λ a. under a ≡ true → floor_of s ≤ (moved from to a).start) xs
       high = unkept under (λ a. floor_of s ≤ (moved from to a).start) xs (unmapped (moved from to) (λ a. floor_of s ≤ a.start) (filter under xs) above)
@@ -130,7 +134,7 @@ module _ (s : PlanState) (whole : IsWhole s) (top : ℕ) where
       low = unkept under (λ a. (moved from to a).start < s.model.horizon) xs (unmapped (moved from to) (λ a. a.start < s.model.horizon) (filter under xs) within)
 
       one : (a : Activity) → FitsAlone s.model a → (under a ≡ true → a.measured ≡ None) → (under a ≡ true → floor_of s ≤ (moved from to a).start) → (under a ≡ true → (moved from to a).start < s.model.horizon) → (b : Bool) → under a ≡ b → FitsAlone s.model (if b then moved from to a else a)
-      one a fits none up down true f = let up_from = up f in record { kind = fits.kind; start = (omega (arith, up_from), down f); set = fits.set; choice = fits.choice; measured = rw (none f) tt }
+      one a fits none up down true f = let up_from = up f in record { kind = fits.kind; start = (omega (arith, up_from), down f); set = fits.set; choice = fits.choice; measured = subst (λ (o : Option ℕ). IfSome o (λ m. ((moved from to a).start < m) × (m ≤ s.model.horizon))) (sym (none f)) tt }
       one a fits none up down false f = fits
 
       alone : All (λ a. FitsAlone s.model (shifted_one from to a)) xs
