@@ -11,6 +11,6 @@ pub fn laws_of_commits()
     ensures begun { (m : Model) → IsChecked m → BegunStays m }
     ensures stays { (m : Model) → IsChecked m → CommittedStays m }
     ensures never_fall { (m : Model) → CommitsNeverFall m }
-    ensures halts { (m : Model) → IsChecked m → HaltsWithdraw m }
+    ensures halts { (m : Model) → HaltsWithdraw m }
     ensures grants { (m : Model) → GrantsChangeNoConflict m }
 {}

@@ -17,6 +17,9 @@ close = Ok(Done)
 until 2 101 = Ok(Range)
 rest = Ok(Rested(Clear))
 close = Ok(Done)
+until 1 4294967306 = Ok(Range)
+rest = Ok(Rested(Clear))
+close = Ok(Done)
 until 2 30 = Ok(NotBegun)
 rest = Ok(Rested(Clear))
 close = Ok(Done)
@@ -29,7 +32,8 @@ close = Ok(Done)
 until 1 100 = Ok(Done)
 rest = Ok(Rested(Clear))
 close = Ok(Done)
-until 1 11 = Ok(Done)";
+until 1 11 = Ok(Done)
+halted = false";
 
 #[test]
 fn measures_the_end_of_what_has_begun(rt: HostRuntime) {
@@ -40,7 +44,9 @@ const HALTED: &str = "close = Ok(Done)
 goal 2 obs 5 8 must = Ok(TooLate)
 rest = Ok(Rested(Clear))
 close = Ok(Done)
+halted = false
 halt = Ok(Done)
+halted = true
 choice = None
 rest = Ok(Rested(Clear))
 choice = Some(Close)
@@ -48,7 +54,8 @@ close = Ok(Done)
 goal 2 obs 5 8 must = Ok(Done)
 choice = None
 rest = Err(NotNow)
-commit 2 = Ok(Done)";
+commit 2 = Ok(Done)
+halted = true";
 
 #[test]
 fn halts_what_has_not_begun(rt: HostRuntime) {
@@ -63,7 +70,12 @@ tick 0 = Ok(TickBack)
 rest = Ok(Rested(Clear))
 choice = Some(Close)
 close = Ok(Done)
+tick 101 = Ok(TickBeyond)
+halted = true
+rest = Ok(Rested(Clear))
+close = Ok(Done)
 tick 5 = Ok(Done)
+halted = false
 choice = Some(Commit(35))";
 
 #[test]

@@ -132,6 +132,7 @@ fn said(
     match call {
         "choice" => format!(in alloc; "{:?}", choice(rt, machine)),
         "propose" => format!(in alloc; "{:?}", machine.propose(&mut Least)),
+        "halted" => format!(in alloc; "{}", machine.halted()),
         "stuck" => format!(in alloc; "{}", stuck(rt, alloc, machine)?),
         "log" => logged(alloc, machine),
         _ => format!(in alloc; "{:?}", make(rt, machine, call)),
