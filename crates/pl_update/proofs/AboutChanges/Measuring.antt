@@ -1,6 +1,5 @@
 -- A measured end replaces the activity of its id by itself with this end, and leaves a plan state whole.
-use Rattle.std.proofs.Common.{◌≡◌, ℕ, ◌<◌, ◌≤◌, eqb, Bool, true, false, cond, List, [], ◌∷◌, length, map, get_or, Option, Some, None, refl, sym, ap, ◌∙◌, subst, arith}
-use Rattle.std.specs.Prelude.{All, IfSome}
+use Rattle.std.proofs.Common.{◌≡◌, ℕ, ◌<◌, ◌≤◌, eqb, Bool, true, false, cond, List, [], ◌∷◌, length, get_or, Some, refl, sym, ap, ◌∙◌, subst, arith}
 use Rattle.std.specs.Option.{option_map}
 use Rattle.std.proofs.lemmas.Bool.{eqb-true, eq-eqb}
 use Rattle.std.proofs.lemmas.Option.{same_Some}
@@ -22,7 +21,7 @@ use Rattle.pl_update.specs.Changes.Changes.{measured_to, CanMeasure}
 use Rattle.pl_update.specs.Changes.Replaced.{CanReplace, replaced, next_after, with_plan}
 use Rattle.pl_update.proofs.AboutChanges.Keeping.{whole_replaced}
 use Rattle.pl_update.proofs.AboutChanges.Renewing.{exchanged_renewed}
-use Rattle.pl_update.proofs.AboutEvaluations.Still.{bare, AreBare, values_bare}
+use Rattle.pl_update.proofs.AboutEvaluations.Still.{bare, values_bare}
 
 -- with its end measured, if it is the activity of this id
 abbrev ended_at : ℕ → ℕ → Activity → Activity
