@@ -59,8 +59,10 @@ firm_ends model a moment values firm = by (kind_of model a) firm
 -- ---- the activities
 
 module _ (s : PlanState) (id moment : ℕ) (whole : IsWhole s) (can : CanMeasure s id moment) (firm : is_firm s.model s.plan.activities id ≡ true) where
-  xs ys : List Activity
+  xs : List Activity
   xs = s.plan.activities
+
+  ys : List Activity
   ys = with_end id moment s.plan.activities
 
   -- what is found after it
