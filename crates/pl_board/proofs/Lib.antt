@@ -1,5 +1,6 @@
 mod Once
 mod Joining
+mod Measuring
 mod Watching
 mod Linking
 pub mod Crossing
