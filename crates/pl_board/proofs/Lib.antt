@@ -1,6 +1,6 @@
 mod Once
 mod Joining
-mod Measuring
+mod MeasuredEnds
 mod Watching
 mod Linking
 pub mod Crossing

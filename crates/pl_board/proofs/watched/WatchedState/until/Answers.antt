@@ -1,6 +1,6 @@
 use Rattle.std.proofs.Common.{refl, ◌∙◌}
 use Rattle.std.proofs.lemmas.Result.{on_ok_weaker}
-use Rattle.pl_board.proofs.Measuring.{can_end, end_is}
+use Rattle.pl_board.proofs.MeasuredEnds.{can_end, end_is}
 use Rattle.pl_board.proofs.watched.WatchedState.until.Goals as goal
 
 pub replace-requires-clause-can : goal.replace-requires-clause-can
