@@ -4,6 +4,7 @@ use Rattle.std.specs.Option.{option_map}
 use Rattle.std.specs.Prelude.{option_and_then, unwrap_or, if◌then◌else◌}
 use Rattle.std.specs.List.{cons_option, list_all}
 use Rattle.std.proofs.lemmas.Bool.{and_parts, eqb-true}
+use Rattle.std.proofs.lemmas.Option.{same_Some}
 use Rattle.pl_model.specs.declared.kinds.Kind.{Kind}
 use Rattle.pl_model.specs.declared.whole.Model.{Model}
 use Rattle.pl_plan.specs.declared.activity.Activity.{Activity}
@@ -11,7 +12,8 @@ use Rattle.pl_plan.specs.Activities.{activity_of, ended, with_end}
 use Rattle.pl_plan.specs.Fitting.{kind_of}
 use Rattle.pl_plan.specs.Values.{Row, values_of}
 use Rattle.pl_plan.specs.Firm.{are_in_range, duration_in, has_amount, is_firm_of, is_firm, end_with, end_in, end_of}
-use Rattle.pl_plan.proofs.Kept.{found-changed}
+use Rattle.pl_plan.proofs.Ends.{end_exchanged}
+use Rattle.pl_plan.proofs.Lookups.{swapped, found-exchanged}
 use Rattle.pl_msg.specs.declared.message.Message.TheVariants as message
 use Rattle.pl_entry.specs.declared.reply.Reply.{Reply}
 use Rattle.pl_entry.specs.declared.reply.Reply.TheVariants as reply
@@ -20,8 +22,7 @@ use Rattle.pl_semantics.specs.PlanStates.{found, is_committed}
 use Rattle.pl_semantics.specs.Whole.{IsWhole}
 use Rattle.pl_semantics.proofs.Found.{found_id}
 use Rattle.pl_update.specs.Changes.Changes.{measured_to, CanMeasure}
-use Rattle.pl_update.proofs.AboutChanges.Measuring.{ended_keeps, values_same}
-use Rattle.pl_update.proofs.AboutChanges.Measuring as measuring
+use Rattle.pl_update.proofs.AboutChanges.Measuring.{values_same}
 use Rattle.pl_machine.specs.Messages.{has_begun, end_reply, measured_reply, until_reply}
 use Rattle.pl_laws.specs.Accepted.{ends_told}
 use Rattle.pl_laws.specs.Standing.{ended_at, last_end, StaysBelow}
@@ -59,23 +60,29 @@ firm_ends model a moment values firm = by (kind_of model a) firm
 -- ---- the activities
 
 module _ (s : PlanState) (id moment : ℕ) (whole : IsWhole s) (can : CanMeasure s id moment) (firm : is_firm s.model s.plan.activities id ≡ true) where
-  xs : List Activity
+  abbrev xs : List Activity
   xs = s.plan.activities
 
-  ys : List Activity
+  abbrev ys : List Activity
   ys = with_end id moment s.plan.activities
 
   -- what is found after it
-  found_then : (q : ℕ) (a : Activity) → activity_of q xs ≡ Some a → activity_of q ys ≡ Some (cond (eqb q id) (ended moment a) a)
+  found_then : (q : ℕ) (a : Activity) → activity_of q xs ≡ Some a → activity_of q ys ≡ Some (cond (eqb id q) (ended moment a) a)
   found_then q a here =
-      found-changed (measuring.ended_at id moment) (ended_keeps id moment) xs q ∙ ap (option_map (measuring.ended_at id moment)) here
-      ∙ ap (λ (n : ℕ). Some (cond (eqb n id) (ended moment a) a)) (found_id q xs a here)
+      ap (activity_of q) (end_exchanged id moment xs 0 can.a whole.rising can.here) ∙ found-exchanged (ended moment can.a) xs q
+      ∙ ap (λ (n : ℕ). cond (eqb n q) (swapped (ended moment can.a) (activity_of q xs)) (activity_of q xs)) (found_id id xs can.a can.here) ∙ by (eqb id q) refl
+    where
+      by : (b : Bool) → eqb id q ≡ b → cond b (swapped (ended moment can.a) (activity_of q xs)) (activity_of q xs) ≡ Some (cond b (ended moment a) a)
+      by false e = here
+      by true e =
+          let same : can.a ≡ a = same_Some can.a a (sym can.here ∙ ap (λ (n : ℕ). activity_of n xs) (eqb-true id q e) ∙ here) in
+          ap (swapped (ended moment can.a)) here ∙ ap (λ (z : Activity). Some (ended moment z)) same
 
   same : (q : ℕ) → values_of s.model ys q ≡ values_of s.model xs q
   same q = values_same s id moment whole can.a can.here can q
 
   stands : (q : ℕ) (a : Activity) → activity_of q xs ≡ Some a → activity_of q ys ≡ Some (ended_at (ends_told q (message.Until id moment ∷ [])) a)
-  stands q a here = found_then q a here ∙ by (eqb q id)
+  stands q a here = found_then q a here ∙ by (eqb id q)
     where
       by : (b : Bool) → Some (cond b (ended moment a) a) ≡ Some (ended_at (cons_option (if b then Some moment else None) []) a)
       by true = refl
@@ -85,12 +92,12 @@ module _ (s : PlanState) (id moment : ℕ) (whole : IsWhole s) (can : CanMeasure
   unfolding end_of is_firm
   ends q a here =
       ap (λ (o : Option Activity). end_in s.model o (values_of s.model ys q)) (found_then q a here)
-      ∙ ap (end_in s.model (Some (cond (eqb q id) (ended moment a) a))) (same q) ∙ by (eqb q id) refl
+      ∙ ap (end_in s.model (Some (cond (eqb id q) (ended moment a) a))) (same q) ∙ by (eqb id q) refl
     where
-      by : (b : Bool) → eqb q id ≡ b → end_in s.model (Some (cond b (ended moment a) a)) (values_of s.model xs q) ≡ last_end (cons_option (if b then Some moment else None) []) (end_in s.model (activity_of q xs) (values_of s.model xs q))
+      by : (b : Bool) → eqb id q ≡ b → end_in s.model (Some (cond b (ended moment a) a)) (values_of s.model xs q) ≡ last_end (cons_option (if b then Some moment else None) []) (end_in s.model (activity_of q xs) (values_of s.model xs q))
       by false e = ap (λ (o : Option Activity). end_in s.model o (values_of s.model xs q)) (sym here)
       by true e =
-          let own : is_firm_of s.model.horizon (option_and_then (kind_of s.model) (activity_of q xs)) (values_of s.model xs q) ≡ true = subst (λ (n : ℕ). is_firm_of s.model.horizon (option_and_then (kind_of s.model) (activity_of n xs)) (values_of s.model xs n) ≡ true) (sym (eqb-true q id e)) firm in
+          let own : is_firm_of s.model.horizon (option_and_then (kind_of s.model) (activity_of q xs)) (values_of s.model xs q) ≡ true = subst (λ (n : ℕ). is_firm_of s.model.horizon (option_and_then (kind_of s.model) (activity_of n xs)) (values_of s.model xs n) ≡ true) (eqb-true id q e) firm in
           firm_ends s.model a moment (values_of s.model xs q) (subst (λ (o : Option Activity). is_firm_of s.model.horizon (option_and_then (kind_of s.model) o) (values_of s.model xs q) ≡ true) here own)
 
   pub stays_measured : StaysBelow s.committed (message.Until id moment ∷ []) s (measured_to id moment s)
