@@ -13,11 +13,7 @@ use pl_semantics::PlanState;
 use std::alloc::{AllocError, Global};
 
 // An activity alone, with its end measured.
-fn ended_alone(
-    alloc: Global,
-    activity: &Activity,
-    moment: u32,
-) -> Result<Vec<Activity>, AllocError>
+fn ended_alone(alloc: Global, activity: &Activity, moment: u32) -> Result<Vec<Activity>, AllocError>
     ensures { IfOk result (λ all. all.items ≡ ended moment activity.now ∷ []) }
 {
     let mut ended = activity.copy(alloc)?;

@@ -1,5 +1,5 @@
 -- The messages that were accepted in a log, entry by entry, and what they leave of the ends of activities.
-use Rattle.std.proofs.Common.{◌≡◌, ℕ, ◌<◌, ◌≤◌, ◌++◌, List, [], ◌∷◌, Option, Some, None, Contains, refl, sym, ◌∙◌, ap, arith}
+use Rattle.std.proofs.Common.{◌≡◌, ℕ, zero, suc, ◌<◌, ◌≤◌, List, [], ◌∷◌, Option, Some, None, Contains, refl, sym, ◌∙◌, ap, arith}
 use Rattle.std.specs.List.{cons_option}
 use Rattle.std.proofs.lemmas.List.Elements.{Contains-append_right}
 use Rattle.pl_model.specs.declared.whole.Model.{Model}
@@ -54,7 +54,7 @@ none_before None more none (k, lt, is) = absurd (omega (arith, lt))
 none_before (Some m) more none among = none (first among)
   where
     first : Contains (m ∷ []) message.Halt → Contains (m ∷ more) message.Halt
-    first (0, lt, is) = (0, omega arith, is)
+    first (zero, lt, is) = (zero, omega arith, is)
     first (suc k, lt, is) = absurd (omega (arith, lt))
 
 pub none_behind : (o : Option Message) (more : List Message) → NoneHalts (cons_option o more) → NoneHalts more

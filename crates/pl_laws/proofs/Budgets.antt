@@ -1,4 +1,6 @@
--- How long a log is in which each commit comes once repair rests, as in every log of one thread.
+-- How long a log is in which each commit comes once repair rests, as in every log of one thread. A halt may lower what is committed, so
+-- that it rises once more: but the budget of a round has one commit behind its rest, whatever was committed before, and whether commits
+-- are held back does not change within a round.
 use Rattle.std.proofs.Common.{◌≡◌, ℕ, suc, ◌+◌, ◌-◌, ◌<◌, ◌≤◌, max, List, [], ◌∷◌, length, Bool, true, false, not, ◌&&◌, ◌||◌, nat_lt, Option, Some, None, refl, sym, ◌∙◌, ap, subst, arith, length-append}
 use Rattle.std.specs.Prelude.{if◌then◌else◌, slice_get, is_some}
 use Rattle.std.proofs.lemmas.Bool.{ltb-true, le-ltb, not-true}

@@ -23,7 +23,7 @@ use Rattle.pl_entry.specs.declared.reply.Reply.TheVariants as reply
 use Rattle.pl_semantics.specs.declared.plan_state.PlanState.{PlanState}
 use Rattle.pl_semantics.specs.Moves.{is_proper, refusal_of, applied}
 use Rattle.pl_semantics.specs.Whole.{IsWhole, IsGoalOf}
-use Rattle.pl_plan.specs.Firm.{end_of}
+use Rattle.pl_plan.specs.Firm.{is_firm}
 use Rattle.pl_update.specs.Changes.Changes.{with_goal, told_now, moved_on, committed_to, measured_to, withdrawn, CanTell, CanMeasure}
 use Rattle.pl_update.proofs.AboutChanges.Keeping.{whole_with_goal, whole_without_goal, whole_moved_on, whole_told, whole_replaced, whole_committed, whole_withdrawn}
 use Rattle.pl_update.proofs.AboutChanges.Measuring.{whole_measured}
@@ -36,15 +36,17 @@ use Rattle.pl_machine.specs.World.{World, due_in}
 use Rattle.pl_machine.specs.Messages.{message_reply, read_reply, line_reply, told, told_by, told_line}
 use Rattle.pl_machine.specs.Keeping.{KeepsStanding}
 use Rattle.pl_machine.specs.Step.{commit_reply, fix_reply, reply_of, after_input, after_fix, after_commit, after_dispatch, after}
-use Rattle.pl_machine.proofs.Changes.{keeps_accept, keeps_tell, keeps_tick, keeps_measure, keeps_withdraw}
+use Rattle.pl_machine.proofs.Changes.{keeps_accept, keeps_tell, keeps_tick}
 use Rattle.pl_machine.proofs.Granting.{keeps_commit, commit_bounds}
 use Rattle.pl_machine.proofs.Repairs.{keeps_applied}
-use Rattle.pl_machine.proofs.Inputs.{can_accept, can_tell_level, can_tell_state, can_tick, can_measure, has_end}
+use Rattle.pl_machine.proofs.Inputs.{can_accept, can_tell_level, can_tell_state, can_tick}
+use Rattle.pl_machine.proofs.Measured.{can_until, keeps_measured}
+use Rattle.pl_machine.proofs.Withdrawn.{keeps_withdrawn}
 use Rattle.pl_machine.proofs.Handed.{can_repair}
 use Rattle.pl_laws.specs.Accepted.{message_in, accepted, NoneHalts}
 use Rattle.pl_laws.specs.Standing.{StaysBelow}
 use Rattle.pl_laws.proofs.Accepting.{one_message, lower, halts}
-use Rattle.pl_laws.proofs.Measured.{stays_measured}
+use Rattle.pl_laws.proofs.Measured.{firm_by_reply, stays_measured}
 
 -- What an event of which these messages were accepted leaves: a plan state that is whole, what is due, and what is committed and has
 -- begun. If none of them is `halt`, all that is committed.
@@ -118,7 +120,7 @@ kept_tick s moment whole later within = kept_all s (moved_on moment s) (whole_mo
 kept_halt : (s : PlanState) → IsWhole s → Kept (message.Halt ∷ []) s (withdrawn s)
 kept_halt s whole = record {
   whole = whole_withdrawn s whole;
-  standing = keeps_withdraw s whole;
+  standing = keeps_withdrawn s;
   moment = omega arith;
   begun = record { committed = omega arith; stands = λ id a here early. here; values = λ id a here early. refl; ends = λ id a here early. refl };
   stays = λ none. absurd (halts none);
@@ -133,10 +135,8 @@ kept_repair s m whole few proper allowed =
     let same : (applied s m).moment ≡ s.moment = keeps'.moment in
     kept_all s (applied s m) (whole_applied s m whole few proper allowed) (keeps_applied s m whole proper allowed) (omega (arith, same)) (stays_repair s (applied s m) keeps')
 
-kept_until : (s : PlanState) (id moment end : ℕ) → IsWhole s → (can : CanMeasure s id moment) → end_of s.model s.plan.activities id ≡ Some end → Kept (message.Until id moment ∷ []) s (measured_to id moment s)
-kept_until s id moment end whole can firm =
-    let whole2 = whole_measured s id moment whole can in
-    kept_all s (measured_to id moment s) whole2 (keeps_measure s id moment whole can) (omega arith) (stays_measured s id moment whole can.a can.here whole2 end firm)
+kept_until : (s : PlanState) (id moment : ℕ) → IsWhole s → CanMeasure s id moment → is_firm s.model s.plan.activities id ≡ true → Kept (message.Until id moment ∷ []) s (measured_to id moment s)
+kept_until s id moment whole can firm = kept_all s (measured_to id moment s) (whole_measured s id moment whole can) (keeps_measured s id moment whole can) (omega arith) (stays_measured s id moment whole can firm)
 
 -- ---- a message
 
@@ -149,9 +149,9 @@ kept_message s limit (message.Goal g) whole fits done = let can = can_accept s l
 kept_message s limit (message.TeleLevel line value) whole fits done = kept_level s line value whole (can_tell_level s line value fits.0 fits.1 fits.2 fits.3)
 kept_message s limit (message.TeleState line state) whole fits done = kept_state s line state whole (can_tell_state s line state fits.0 fits.1)
 kept_message s limit (message.Tick moment) whole fits done = let can = can_tick s moment done in kept_tick s moment whole can.0 can.1
-kept_message s limit (message.Until id moment) whole fits done = let firm = has_end s id moment done in kept_until s id moment firm.0 whole (can_measure s id moment fits done) firm.1
+kept_message s limit (message.Until id moment) whole fits done = kept_until s id moment whole (can_until s id moment done fits) (firm_by_reply s id moment done)
 kept_message s limit message.Halt whole fits done = kept_halt s whole
-kept_message s limit message.End whole fits done = absurd (cc)
+kept_message s limit message.End whole fits done = absurd (let d : reply.Ended ≡ reply.Done = done in (cc))
 
 kept_read : (s : PlanState) (limit : ℕ) (read : Read Message) → IsWhole s → ((m : Message) → read ≡ Ok m → IsWithin s.model m) → read_reply s limit read ≡ reply.Done → Kept (one_message (message_in read)) s (told_by s read)
 kept_read s limit (Ok m) whole fits done = kept_message s limit m whole (fits m refl) done

@@ -49,7 +49,7 @@ end_told id (message.Goal g) = None
 end_told id (message.TeleLevel line value) = None
 end_told id (message.TeleState line state) = None
 end_told id (message.Tick moment) = None
-end_told id (message.Until of moment) = if of == id then Some moment else None
+end_told id (message.Until of moment) = if id == of then Some moment else None
 end_told id message.Halt = None
 end_told id message.End = None
 

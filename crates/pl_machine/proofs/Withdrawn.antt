@@ -27,8 +27,8 @@ started_early now c start basic = by (leb start now) refl
     by true e =
         let began = leb-true start now e in
         ap (λ (b : Bool). b && basic) (same_test (ltb start (min c (now + 1))) (ltb start c)
-            (λ f. let early = ltb-true start (min c (now + 1)) f in lt-ltb start c (omega (arith, early)))
-            (λ f. let early = ltb-true start c f in lt-ltb start (min c (now + 1)) (omega (arith, early, began))))
+        (λ f. let early = ltb-true start (min c (now + 1)) f in lt-ltb start c (omega (arith, early)))
+        (λ f. let early = ltb-true start c f in lt-ltb start (min c (now + 1)) (omega (arith, early, began))))
     by false e = neither (ltb start (min c (now + 1))) (ltb start c)
 
 pub due_withdrawn : (s : PlanState) → due_in (withdrawn s) ≡ due_in s

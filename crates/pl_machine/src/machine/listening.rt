@@ -86,8 +86,7 @@ fn tick_reply(state: &PlanState, moment: u64) -> Reply
 fn has_begun(state: &PlanState, activity: &Placed) -> bool
     ensures { result ≡ (nat_lt activity.now.start state.now.committed && (nat_le activity.now.start state.now.moment && is_some activity.now.end)) }
 {
-    activity.start < state.committed
-        && (activity.start <= state.moment && activity.end.is_some())
+    activity.start < state.committed && (activity.start <= state.moment && activity.end.is_some())
 }
 
 fn end_reply(start: u32, moment: u32) -> Reply
@@ -192,7 +191,11 @@ impl Machine {
     {
         match line_bytes(self.alloc, line) {
             Err(_) => Err(self.spoil()),
-            Ok(bytes) => self.append(Event::Input(Some(bytes)), refusal, Round::begun(self.round.halted)),
+            Ok(bytes) => self.append(
+                Event::Input(Some(bytes)),
+                refusal,
+                Round::begun(self.round.halted),
+            ),
         }
     }
 

@@ -121,11 +121,19 @@ fn how_far_to_commit(rt: HostRuntime) {
         let now = number(&mut rest);
         let halted = word(&mut rest) == "halted";
         let first = word(&mut rest).parse().ok().map(conflict);
-        holds(&rt, row, best(&model, now, halted, first) == number(&mut rest));
+        holds(
+            &rt,
+            row,
+            best(&model, now, halted, first) == number(&mut rest),
+        );
     }
     holds(&rt, "the target at 69", target(&model, 69, false) == 99);
     holds(&rt, "the target at 100", target(&model, 100, false) == 100);
-    holds(&rt, "the target of a halt at 69", target(&model, 69, true) == 70);
+    holds(
+        &rt,
+        "the target of a halt at 69",
+        target(&model, 69, true) == 70,
+    );
 }
 
 /// A command with two values.

@@ -149,7 +149,13 @@ fn play(rt: &impl Abort, alloc: Global, machine: &mut Machine, script: &str) {
 }
 
 /// Plays two scripts, one behind the other, from the first call on.
-pub(crate) fn assert_plays(rt: &impl Abort, alloc: Global, options: Options, first: &str, then: &str)
+pub(crate) fn assert_plays(
+    rt: &impl Abort,
+    alloc: Global,
+    options: Options,
+    first: &str,
+    then: &str,
+)
     requires { AreOptions options }
 {
     let mut machine = fresh(rt, alloc, options);
