@@ -1,4 +1,4 @@
-ghost use Rattle.std.specs.Prelude.{◌≡◌, ◌≢◌, ◌&&◌, not, nat_le, nat_lt, length, true, false, is_some, if◌then◌else◌, IfOk, IfSome, Ok, Some};
+ghost use Rattle.std.specs.Prelude.{◌≡◌, ◌≢◌, ◌≤◌, ◌&&◌, not, nat_le, nat_lt, length, true, false, is_some, if◌then◌else◌, IfOk, IfSome, Ok, Some};
 ghost use Rattle.std.specs.List.{list_any};
 ghost use Rattle.std.specs.Option.{option_copied};
 ghost use Rattle.pl_facts.specs.Goals.{is_numbered};
@@ -121,13 +121,16 @@ fn live_reply(board: &Board, id: u32, moment: u32) -> Reply
 }
 
 /// The reply to the measured end of the activity of an id. No activity has an id that is too great for its type.
+#[tactic(auto, using(crate::proofs::Measured::reply_to_great))]
 fn until_reply(board: &Board, id: u64, moment: u32) -> Reply
-    requires { board.now.spoiled ≡ false }
+    requires unspoiled { board.now.spoiled ≡ false }
+    requires whole { IsWhole board.now.state }
     ensures { result ≡ until_reply board.now.state id moment }
 {
-    match u32::try_from(id) {
-        Ok(id) => live_reply(board, id, moment),
-        Err(_) => Reply::NotBegun,
+    if id <= u64::from(u32::MAX) {
+        live_reply(board, id as u32, moment)
+    } else {
+        Reply::NotBegun
     }
 }
 
@@ -136,10 +139,11 @@ fn message_reply(board: &Board, limit: u32, message: &Message) -> Reply
     ensures value { result ≡ message_reply board.now.state limit message.now }
     ensures input { IsInputReply result }
 {
+    let state = board.state();
     match message {
-        Message::Goal(goal) => goal_reply(board.state(), limit, goal),
+        Message::Goal(goal) => goal_reply(state, limit, goal),
         Message::TeleLevel(_, _) | Message::TeleState(_, _) | Message::Halt => Reply::Done,
-        Message::Tick(moment) => tick_reply(board.state(), *moment),
+        Message::Tick(moment) => tick_reply(state, *moment),
         Message::Until(id, moment) => until_reply(board, *id, *moment),
         Message::End => Reply::Ended,
     }
@@ -216,7 +220,22 @@ impl Machine {
         }
     }
 
-    #[tactic(auto, using(crate::proofs::Inputs::can_accept, crate::proofs::Inputs::can_tell_level, crate::proofs::Inputs::can_tell_state, crate::proofs::Inputs::can_tick, crate::proofs::Measured::can_until, crate::proofs::Measured::until_below), unfolding(crate::specs::Messages::line_reply, crate::specs::Messages::told_line, crate::specs::Messages::halts_line))]
+    /// The measured end of an activity that has begun is accepted.
+    #[tactic(auto, using(crate::proofs::Measured::can_until, crate::proofs::Measured::until_below), unfolding(crate::specs::Messages::line_reply, crate::specs::Messages::told_line, crate::specs::Messages::halts_line))]
+    fn accept_end(&mut self, line: &[u8], id: u64, moment: u32) -> Result<Reply, Stop>
+        requires open { IsOpen self.old (Event.Input (Some line.now)) }
+        requires line { IsMessageLine line.now }
+        requires message { message_of self.old.world.state.model line.now ≡ Ok (Message.Until id moment) }
+        requires within { moment ≤ self.old.world.state.model.horizon }
+        requires whole { IsWhole self.old.world.state }
+        requires done { until_reply self.old.world.state id moment ≡ Reply.Done }
+        ensures { Answers self.old (Event.Input (Some line.now)) result self.new }
+    {
+        let halted = self.round.halted;
+        self.begin(line, Change::Measure(id as u32, moment), halted)
+    }
+
+    #[tactic(auto, using(crate::proofs::Inputs::can_accept, crate::proofs::Inputs::can_tell_level, crate::proofs::Inputs::can_tell_state, crate::proofs::Inputs::can_tick), unfolding(crate::specs::Messages::line_reply, crate::specs::Messages::told_line, crate::specs::Messages::halts_line))]
     fn accept(&mut self, line: &[u8], message: Message) -> Result<Reply, Stop>
         requires open { IsOpen self.old (Event.Input (Some line.now)) }
         requires line { IsMessageLine line.now }
@@ -236,9 +255,7 @@ impl Machine {
                 self.begin(line, Change::Tell(timeline, i64::from(state)), halted)
             }
             Message::Tick(moment) => self.begin(line, Change::Tick(moment as u32), false),
-            Message::Until(id, moment) => {
-                self.begin(line, Change::Measure(id as u32, moment), halted)
-            }
+            Message::Until(id, moment) => self.accept_end(line, id, moment),
             Message::Halt => self.begin(line, Change::Withdraw, true),
             Message::End => self.end(Some(line)),
         }

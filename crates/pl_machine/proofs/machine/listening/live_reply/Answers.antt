@@ -1,3 +1,4 @@
+use Rattle.std.proofs.Common.{◌∙◌, sym}
 use Rattle.pl_semantics.specs.PlanStates.{found}
 use Rattle.pl_machine.proofs.Measured.{reply_to_live, reply_to_none}
 use Rattle.pl_machine.proofs.machine.listening.live_reply.Goals as goal
