@@ -43,7 +43,7 @@ firm_by_reply s id moment done = by (found s id) refl done
         subst (λ (n : ℕ). is_firm s.model s.plan.activities n ≡ true) (found_id id s.plan.activities a here) (and_parts (nat_le a.start s.moment) firm parts.1).1
 
 -- a firm activity ends at its measured end
-ends_by : (in_range : Bool) (d : Option ℕ) (amounts : Bool) (start moment : ℕ) → (in_range && (is_some d && amounts)) ≡ true → (if in_range && (is_some d && amounts) then option_map (λ n. unwrap_or (Some moment) (start + n)) d else None) ≡ Some moment
+ends_by : (in_range : Bool) (d : Option ℕ) (amounts : Bool) (start moment : ℕ) → (in_range && is_some d && amounts) ≡ true → (if in_range && is_some d && amounts then option_map (λ n. unwrap_or (Some moment) (start + n)) d else None) ≡ Some moment
 ends_by true (Some d) true start moment firm = refl
 ends_by true (Some d) false start moment firm = absurd (cc)
 ends_by true None amounts start moment firm = absurd (cc)

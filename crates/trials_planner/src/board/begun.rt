@@ -34,7 +34,7 @@ add 0 10;add 4 20;commit 11;tick 12;until 1 25 => 20 must 2 0 25 30
 add 0 10;add 4 20;commit 11;tick 12;until 1 30 =>
 add 0 5;add 1 10;commit 6;tick 6;until 1 14 =>
 add 0 5;add 1 10;commit 6;tick 6;until 1 20 => 5 bad-step 1 0 20 0;10 bad-step 2 1 15 0
-add 0 5;add 1 10;commit 11;tick 15;until 2 8 => 5 bad-step 1 0 10 0";
+add 0 5;add 1 10;commit 11;tick 11;until 1 13;until 2 12 => 5 bad-step 1 0 13 0;10 bad-step 2 1 12 0";
 
 /// Orders and links go by the measured end, as long as something of them can still be moved.
 const ORDERS: &str = "add 3 10;detail 1 0;shift 3 18;commit 11;tick 10 =>
