@@ -1,7 +1,8 @@
 -- An end that is measured: when it may be, and what it leaves of a plan state.
-use Rattle.std.proofs.Common.{◌≡◌, ℕ, ◌<◌, ◌≤◌, eqb, leb, ltb, cond, Bool, true, false, ◌&&◌, List, [], ◌∷◌, map, Option, Some, None, All, IfSome, is_some, if◌then◌else◌, refl, sym, ◌∙◌, ap, subst, arith, append-nil}
+use Rattle.std.proofs.Common.{◌≡◌, ℕ, ◌<◌, ◌≤◌, eqb, leb, ltb, Bool, true, false, ◌&&◌, List, [], ◌∷◌, map, Option, Some, None, All, IfSome, is_some, if◌then◌else◌, unwrap_or, ◌+◌, refl, sym, ◌∙◌, ap, subst, arith, append-nil}
 use Rattle.std.specs.Prelude.{filter, option_and_then}
 use Rattle.std.specs.Option.{option_map}
+use Rattle.std.specs.List.{list_all}
 use Rattle.std.proofs.lemmas.Bool.{and_parts, leb-true, leb-false, ltb-true}
 use Rattle.std.proofs.lemmas.Option.{same_Some}
 use Rattle.pl_model.specs.declared.kinds.Kind.{Kind}
@@ -10,8 +11,9 @@ use Rattle.pl_model.specs.Checked.{IsAmount}
 use Rattle.pl_plan.specs.declared.activity.Activity.{Activity}
 use Rattle.pl_plan.specs.Activities.{activity_of, ended, with_end}
 use Rattle.pl_plan.specs.Fitting.{kind_of}
+use Rattle.pl_plan.specs.Moves.{KeepsTree}
 use Rattle.pl_plan.specs.Values.{Row, values_of}
-use Rattle.pl_plan.specs.Firm.{is_firm, is_firm_of, end_in, end_of}
+use Rattle.pl_plan.specs.Firm.{are_in_range, has_amount, duration_in, is_firm_with, is_firm, is_firm_of, end_with, end_in, end_of}
 use Rattle.pl_plan.proofs.Kept.{found-changed}
 use Rattle.pl_entry.specs.Due.{is_due, start_of, with_starts, due_of}
 use Rattle.pl_entry.specs.declared.reply.Reply.{Reply}
@@ -23,27 +25,31 @@ use Rattle.pl_semantics.specs.Links.{placed_of}
 use Rattle.pl_semantics.specs.Whole.{IsWhole, IsIdBelow}
 use Rattle.pl_semantics.proofs.Found.{found_id, all_found}
 use Rattle.pl_update.specs.Changes.Changes.{measured_to, CanMeasure}
-use Rattle.pl_update.proofs.AboutChanges.Measuring.{ended_at, ended_keeps, values_same}
+use Rattle.pl_update.proofs.AboutChanges.Measuring.{values_same}
 use Rattle.pl_machine.specs.World.{due_in}
 use Rattle.pl_machine.specs.Messages.{has_begun, end_reply, measured_reply, until_reply}
 use Rattle.pl_machine.specs.Keeping.{AreSendable, KeepsStanding}
 
 -- ---- an activity is firm where it has an end
 
-firm_by : (values : Bool) (d : Option ℕ) (amounts : Bool) (f : ℕ → ℕ) → is_some (if values && (is_some d && amounts) then option_map f d else None) ≡ (values && (is_some d && amounts))
+firm_by : (values : Bool) (d : Option ℕ) (amounts : Bool) (f : ℕ → ℕ) → is_some (if (values && is_some d) && amounts then option_map f d else None) ≡ ((values && is_some d) && amounts)
 firm_by false d amounts f = refl
 firm_by true None amounts f = refl
 firm_by true (Some d) true f = refl
 firm_by true (Some d) false f = refl
 
-has_end : (model : Model) (a : Activity) (values : Row) (o : Option Kind) → kind_of model a ≡ o → is_some (end_in model (Some a) values) ≡ is_firm_of model.horizon (kind_of model a) values
-has_end model a values None is = rw is refl
-has_end model a values (Some k) is = rw is (firm_by _ _ _ _)
+firm_with : (horizon : ℕ) (k : Kind) (start : ℕ) (measured : Option ℕ) (values : Row) → is_some (end_with horizon k start measured values) ≡ is_firm_with horizon k values
+firm_with horizon k start measured values =
+    firm_by (are_in_range 0 k.params values) (duration_in horizon k values) (list_all (has_amount values) k.reservations) (λ (d : ℕ). unwrap_or measured (start + d))
+
+has_end : (model : Model) (a : Activity) (values : Row) (o : Option Kind) → is_some (option_and_then (λ (k : Kind). end_with model.horizon k a.start a.measured values) o) ≡ is_firm_of model.horizon o values
+has_end model a values None = refl
+has_end model a values (Some k) = firm_with model.horizon k a.start a.measured values
 
 firm_end : (model : Model) (xs : List Activity) (id : ℕ) (o : Option Activity) → activity_of id xs ≡ o → is_some (end_of model xs id) ≡ is_firm model xs id
 unfolding end_of is_firm
 firm_end model xs id None is = rw is refl
-firm_end model xs id (Some a) is = rw is (has_end model a (values_of model xs id) (kind_of model a) refl)
+firm_end model xs id (Some a) is = rw is (has_end model a (values_of model xs id) (kind_of model a))
 
 -- ---- replies
 
@@ -134,10 +140,29 @@ due_measured s id moment = ap (λ (l : List (ℕ × ℕ)). map (λ (x : ℕ × �
 
 -- ---- what it leaves
 
+-- with its end measured, if it is the activity of this id
+abbrev ended_at : ℕ → ℕ → Activity → Activity
+ended_at id moment a = if eqb a.id id then ended moment a else a
+
+ended_keeps : (id moment : ℕ) → KeepsTree (ended_at id moment)
+ended_keeps id moment = record { id = λ a. by_id a (eqb a.id id); kind = λ a. by_kind a (eqb a.id id); parent = λ a. by_parent a (eqb a.id id) }
+  where
+    by_id : (a : Activity) (b : Bool) → (if b then ended moment a else a).id ≡ a.id
+    by_id a true = refl
+    by_id a false = refl
+
+    by_kind : (a : Activity) (b : Bool) → (if b then ended moment a else a).kind ≡ a.kind
+    by_kind a true = refl
+    by_kind a false = refl
+
+    by_parent : (a : Activity) (b : Bool) → (if b then ended moment a else a).parent ≡ a.parent
+    by_parent a true = refl
+    by_parent a false = refl
+
 ended_start : (id moment : ℕ) (a : Activity) → (ended_at id moment a).start ≡ a.start
 ended_start id moment a = by (eqb a.id id)
   where
-    by : (b : Bool) → (cond b (ended moment a) a).start ≡ a.start
+    by : (b : Bool) → (if b then ended moment a else a).start ≡ a.start
     by true = refl
     by false = refl
 

@@ -9,6 +9,7 @@ mod mending;
 mod proposing;
 mod reading;
 mod repairing;
+mod replying;
 mod resting;
 mod sending;
 

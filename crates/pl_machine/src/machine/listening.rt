@@ -1,28 +1,23 @@
-ghost use Rattle.std.specs.Prelude.{◌≡◌, ◌≢◌, ◌&&◌, not, nat_le, nat_lt, length, true, false, is_some, if◌then◌else◌, IfOk, IfSome, Ok, Some};
-ghost use Rattle.std.specs.List.{list_any};
+ghost use Rattle.std.specs.Prelude.{◌≡◌, ◌≢◌, ◌≤◌, ◌&&◌, not, true, IfOk, IfSome, Ok, Some};
 ghost use Rattle.std.specs.Option.{option_copied};
-ghost use Rattle.pl_facts.specs.Goals.{is_numbered};
 ghost use Rattle.pl_entry.specs.Bounds.{IsMessageLine, IsInputReply, IsEventInRange, IsReplyTo};
 ghost use Rattle.pl_msg.specs.Messages.{message_of};
 ghost use Rattle.pl_msg.specs.Limits.{IsWithin};
 ghost use Rattle.pl_semantics.specs.Whole.{IsWhole};
 ghost use Rattle.pl_machine.specs.Changes.{changed, CanChange};
-ghost use Rattle.pl_machine.specs.Messages.{goal_reply, tick_reply, end_reply, until_reply, message_reply, line_reply, told_line, halts_line};
+ghost use Rattle.pl_machine.specs.Messages.{until_reply, message_reply, line_reply, told_line, halts_line};
 ghost use Rattle.pl_machine.specs.Step.{input_reply, reply_of, after};
 ghost use Rattle.pl_machine.specs.Taking.{IsOpen, Answers};
 
 use crate::change::Change;
 use crate::machine::Machine;
 use crate::machine::appending::push_entry;
+use crate::machine::replying::message_reply;
 use crate::round::Round;
 use crate::stop::Stop;
-use pl_board::Board;
 use pl_entry::{Bytes, Event, Reply};
-use pl_facts::{Goal, Goals};
-use pl_links::Placed;
 use pl_lists::Items;
 use pl_msg::{Message, MsgFault, read_message};
-use pl_semantics::PlanState;
 use std::alloc::{AllocError, Global};
 
 fn line_bytes(alloc: Global, line: &[u8]) -> Result<Bytes, AllocError>
@@ -38,110 +33,6 @@ fn input_bytes(alloc: Global, line: Option<&[u8]>) -> Result<Option<Bytes>, Allo
     match line {
         None => Ok(None),
         Some(line) => Ok(Some(line_bytes(alloc, line)?)),
-    }
-}
-
-/// Whether a goal of this number was accepted.
-fn is_taken(goals: &Goals, number: u32) -> bool
-    ensures { result ≡ list_any (is_numbered number) goals.now }
-{
-    goals.get(number).is_some()
-}
-
-/// Whether as many goals as the limit were accepted.
-fn are_full(goals: &Goals, limit: u32) -> bool
-    ensures { result ≡ nat_le limit (length goals.now) }
-{
-    limit <= goals.len()
-}
-
-fn goal_reply(state: &PlanState, limit: u32, goal: &Goal) -> Reply
-    requires { IsWhole state.now }
-    ensures { result ≡ goal_reply state.now limit goal.now }
-{
-    if is_taken(&state.goals, goal.number) {
-        Reply::DuplicateGoal
-    } else if goal.latest < state.floor() {
-        Reply::TooLate
-    } else if are_full(&state.goals, limit) {
-        Reply::TooManyGoals
-    } else {
-        Reply::Done
-    }
-}
-
-fn tick_reply(state: &PlanState, moment: u64) -> Reply
-    ensures { result ≡ tick_reply state.now moment }
-{
-    if moment <= u64::from(state.moment) {
-        Reply::TickBack
-    } else if u64::from(state.model.get().horizon) < moment {
-        Reply::TickBeyond
-    } else {
-        Reply::Done
-    }
-}
-
-/// Whether an activity, which is given with its end, has begun.
-fn has_begun(state: &PlanState, activity: &Placed) -> bool
-    ensures { result ≡ (nat_lt activity.now.start state.now.committed && (nat_le activity.now.start state.now.moment && is_some activity.now.end)) }
-{
-    activity.start < state.committed && (activity.start <= state.moment && activity.end.is_some())
-}
-
-fn end_reply(start: u32, moment: u32) -> Reply
-    ensures { result ≡ end_reply start moment }
-{
-    if moment <= start {
-        Reply::EndBack
-    } else {
-        Reply::Done
-    }
-}
-
-/// The reply to the measured end of an activity, which is given with the end that it has.
-fn placed_reply(state: &PlanState, activity: &Placed, moment: u32) -> Reply
-    ensures { result ≡ (if nat_lt activity.now.start state.now.committed && (nat_le activity.now.start state.now.moment && is_some activity.now.end) then end_reply activity.now.start moment else Reply.NotBegun) }
-{
-    if has_begun(state, activity) {
-        end_reply(activity.start, moment)
-    } else {
-        Reply::NotBegun
-    }
-}
-
-fn live_reply(board: &Board, id: u32, moment: u32) -> Reply
-    requires { board.now.spoiled ≡ false }
-    ensures { result ≡ until_reply board.now.state id moment }
-{
-    match board.placed(id) {
-        Some(activity) => placed_reply(board.state(), &activity, moment),
-        None => Reply::NotBegun,
-    }
-}
-
-/// The reply to the measured end of the activity of an id. No activity has an id that is too great for its type.
-fn until_reply(board: &Board, id: u64, moment: u32) -> Reply
-    requires { board.now.spoiled ≡ false }
-    ensures { result ≡ until_reply board.now.state id moment }
-{
-    match u32::try_from(id) {
-        Ok(id) => live_reply(board, id, moment),
-        Err(_) => Reply::NotBegun,
-    }
-}
-
-fn message_reply(board: &Board, limit: u32, message: &Message) -> Reply
-    requires { board.now.spoiled ≡ false }
-    ensures value { result ≡ message_reply board.now.state limit message.now }
-    ensures input { IsInputReply result }
-{
-    match message {
-        Message::Goal(goal) => goal_reply(board.state(), limit, goal),
-        Message::TeleLevel(_, _) | Message::TeleState(_, _) | Message::Halt => Reply::Done,
-        Message::Tick(moment) => tick_reply(board.state(), *moment),
-        Message::Until(id, moment) => until_reply(board, *id, *moment),
-        Message::End => Reply::Ended,
     }
 }
 
@@ -216,7 +107,22 @@ impl Machine {
         }
     }
 
-    #[tactic(auto, using(crate::proofs::Inputs::can_accept, crate::proofs::Inputs::can_tell_level, crate::proofs::Inputs::can_tell_state, crate::proofs::Inputs::can_tick, crate::proofs::Measured::can_until, crate::proofs::Measured::until_below), unfolding(crate::specs::Messages::line_reply, crate::specs::Messages::told_line, crate::specs::Messages::halts_line))]
+    /// The measured end of an activity that has begun is accepted.
+    #[tactic(auto, using(crate::proofs::Measured::can_until, crate::proofs::Measured::until_below), unfolding(crate::specs::Messages::line_reply, crate::specs::Messages::told_line, crate::specs::Messages::halts_line))]
+    fn accept_end(&mut self, line: &[u8], id: u64, moment: u32) -> Result<Reply, Stop>
+        requires open { IsOpen self.old (Event.Input (Some line.now)) }
+        requires line { IsMessageLine line.now }
+        requires message { message_of self.old.world.state.model line.now ≡ Ok (Message.Until id moment) }
+        requires within { moment ≤ self.old.world.state.model.horizon }
+        requires whole { IsWhole self.old.world.state }
+        requires done { until_reply self.old.world.state id moment ≡ Reply.Done }
+        ensures { Answers self.old (Event.Input (Some line.now)) result self.new }
+    {
+        let halted = self.round.halted;
+        self.begin(line, Change::Measure(id as u32, moment), halted)
+    }
+
+    #[tactic(auto, using(crate::proofs::Inputs::can_accept, crate::proofs::Inputs::can_tell_level, crate::proofs::Inputs::can_tell_state, crate::proofs::Inputs::can_tick), unfolding(crate::specs::Messages::line_reply, crate::specs::Messages::told_line, crate::specs::Messages::halts_line))]
     fn accept(&mut self, line: &[u8], message: Message) -> Result<Reply, Stop>
         requires open { IsOpen self.old (Event.Input (Some line.now)) }
         requires line { IsMessageLine line.now }
@@ -236,9 +142,7 @@ impl Machine {
                 self.begin(line, Change::Tell(timeline, i64::from(state)), halted)
             }
             Message::Tick(moment) => self.begin(line, Change::Tick(moment as u32), false),
-            Message::Until(id, moment) => {
-                self.begin(line, Change::Measure(id as u32, moment), halted)
-            }
+            Message::Until(id, moment) => self.accept_end(line, id, moment),
             Message::Halt => self.begin(line, Change::Withdraw, true),
             Message::End => self.end(Some(line)),
         }

@@ -1,6 +1,7 @@
+use Rattle.std.proofs.Common.{◌∙◌, sym}
 use Rattle.pl_semantics.specs.PlanStates.{found}
 use Rattle.pl_machine.proofs.Measured.{reply_to_live, reply_to_none}
-use Rattle.pl_machine.proofs.machine.listening.live_reply.Goals as goal
+use Rattle.pl_machine.proofs.machine.replying.live_reply.Goals as goal
 
 pub returns-in-Some : goal.returns-in-Some
 returns-in-Some c = reply_to_live c.args.board.now.state (found c.args.board.now.state c.args.id) c.in-Some.activity c.args.moment _ (sym c.in-Some.is ∙ c.placed.ensures) c.placed_reply.ensures

@@ -1,6 +1,6 @@
 use Rattle.std.proofs.Common.{◌<◌, ◌^◌, nat_le, length, arith, ◌∙◌, ap}
 use Rattle.pl_machine.proofs.Inputs.{counted}
-use Rattle.pl_machine.proofs.machine.listening.are_full.Goals as goal
+use Rattle.pl_machine.proofs.machine.replying.are_full.Goals as goal
 
 pub returns : goal.returns
 returns c =

@@ -2,7 +2,7 @@ use Rattle.std.proofs.Common.{◌≡◌, is_some, Option, Some, None, Bor, refl,
 use Rattle.std.specs.Option.{option_copied}
 use Rattle.pl_facts.specs.declared.goal.Goal.{Goal}
 use Rattle.pl_machine.proofs.Inputs.{found_any}
-use Rattle.pl_machine.proofs.machine.listening.is_taken.Goals as goal
+use Rattle.pl_machine.proofs.machine.replying.is_taken.Goals as goal
 
 copied_there : (o : Option (Bor Goal)) → is_some o ≡ is_some (option_copied o)
 copied_there None = refl
