@@ -110,6 +110,7 @@ pub(crate) fn message_reply(board: &Board, limit: u32, message: &Message) -> Rep
     requires { board.now.spoiled ≡ false }
     ensures value { result ≡ message_reply board.now.state limit message.now }
     ensures input { IsInputReply result }
+    ensures whole { IsWhole board.now.state }
 {
     let state = board.state();
     match message {
