@@ -8,9 +8,9 @@ use Rattle.pl_machine.proofs.machine.replying.live_reply.Goals as goal
 
 pub returns-in-Some : goal.returns-in-Some
 returns-in-Some c =
-    let s = c.args.board.now.state in
-    let Replies : PlanState → Type 0 = λ t. c.placed_reply.result ≡ (if ltb c.in-Some.activity.start t.committed && (leb c.in-Some.activity.start t.moment && is_some c.in-Some.activity.end) then end_reply c.in-Some.activity.start c.args.moment else reply.NotBegun) in
-    reply_to_live s (found s c.args.id) c.in-Some.activity c.args.moment _ (sym c.in-Some.is ∙ c.placed.ensures) (subst Replies c.state.ensures.value c.placed_reply.ensures)
+    let x = c.in-Some.activity in
+    let P : PlanState → Type 0 = λ s. c.placed_reply.result ≡ (if ltb x.start s.committed && (leb x.start s.moment && is_some x.end) then end_reply x.start c.args.moment else reply.NotBegun) in
+    reply_to_live c.args.board.now.state (found c.args.board.now.state c.args.id) x c.args.moment c.placed_reply.result (sym c.in-Some.is ∙ c.placed.ensures) (subst P c.state.ensures.value c.placed_reply.ensures)
 
 pub returns-in-None : goal.returns-in-None
 returns-in-None c = reply_to_none c.args.board.now.state (found c.args.board.now.state c.args.id) c.args.moment (sym c.in-None.is ∙ c.placed.ensures)
