@@ -112,7 +112,6 @@ impl Draft {
     fn way_to_mend(
         &mut self,
         tries: &mut Tries,
-        failures: &Failures,
         giving_up: GivingUp,
         enough: u32,
     ) -> Result<Ended, AllocError>
@@ -121,8 +120,7 @@ impl Draft {
     {
         let mut from = Vec::new(tries.alloc);
         from.push(Node::start(tries.alloc, self.look))?;
-        let worlds = failures.worlds_to_mend(self.worlds);
-        let aim = self.aim(enough, giving_up, worlds);
+        let aim = self.aim(enough, giving_up, self.worlds);
         mend(tries, &mut self.board, from.as_slice(), &aim)
     }
 
@@ -144,54 +142,34 @@ impl Draft {
     fn mend_at_any_price(
         &mut self,
         tries: &mut Tries,
-        failures: &Failures,
         enough: u32,
         best: Option<Node>,
     ) -> Result<(), AllocError>
         requires { self.old.board.spoiled ≡ false }
         ensures { OnOk result (self.new.board.spoiled ≡ false) }
     {
-        match self.way_to_mend(tries, failures, GivingUp::Any, enough)? {
+        match self.way_to_mend(tries, GivingUp::Any, enough)? {
             Ended::Found(node) => self.follow(tries.alloc, &node),
             Ended::Best(other) => self.follow_better(tries.alloc, best, other),
         }
     }
 
-    // The same. A goal is given up only where nothing else helps.
-    fn mend_down_to(
-        &mut self,
-        tries: &mut Tries,
-        failures: &Failures,
-        enough: u32,
-    ) -> Result<(), AllocError>
-        requires { self.old.board.spoiled ≡ false }
-        ensures { OnOk result (self.new.board.spoiled ≡ false) }
-    {
-        if self.look.hard <= enough {
-            return Ok(());
-        }
-        match self.way_to_mend(tries, failures, GivingUp::Nothing, enough)? {
-            Ended::Found(node) => self.follow(tries.alloc, &node),
-            Ended::Best(best) => self.mend_at_any_price(tries, failures, enough, best),
-        }
-    }
-
-    /// Mends all but open goals and what is hopeless, or as much as can be.
-    pub(crate) fn mend_all(
-        &mut self,
-        tries: &mut Tries,
-        failures: &mut Failures,
-    ) -> Result<(), AllocError>
+    /// Mends all but open goals and what is hopeless, or as much as can be. A goal is given up only where nothing else helps.
+    pub(crate) fn mend_all(&mut self, tries: &mut Tries) -> Result<(), AllocError>
         requires { self.old.board.spoiled ≡ false }
         ensures { OnOk result (self.new.board.spoiled ≡ false) }
     {
         let hopeless = count_hopeless(tries.alloc, &self.board)?;
-        self.mend_down_to(tries, failures, hopeless)?;
-        failures.note_mending(self.look.hard <= hopeless);
-        Ok(())
+        if self.look.hard <= hopeless {
+            return Ok(());
+        }
+        match self.way_to_mend(tries, GivingUp::Nothing, hopeless)? {
+            Ended::Found(node) => self.follow(tries.alloc, &node),
+            Ended::Best(best) => self.mend_at_any_price(tries, hopeless, best),
+        }
     }
 
-    /// Looks for repairs that serve the goal of a conflict.
+    /// Looks for repairs that serve the goal of a conflict, if it is due.
     pub(crate) fn way_to_serve(
         &mut self,
         tries: &mut Tries,

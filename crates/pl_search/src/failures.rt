@@ -1,4 +1,4 @@
-//! How often goals could not be served, and conflicts not be mended: each time less is spent on them.
+//! How often goals could not be served: each time less is spent on them, and in the end not at every message.
 
 use std::alloc::{AllocError, Global};
 use std::collections::BTreeMap;
@@ -6,24 +6,19 @@ use std::collections::BTreeMap;
 /// The least number of plans that are looked at for a goal in one search.
 const LEAST_WORLDS: u32 = 50;
 
-/// A goal that failed so often is tried once in so many plans.
+/// A goal that so many plans left open is tried only in one of so many from then on.
 const PAUSE: u32 = 4;
 
-/// A search that mends gets at least the eighth part, two to the power of this, of the plans.
-const MOST_HALVINGS: u32 = 3;
-
-/// How often goals failed, by their numbers, and in how many plans in a row conflicts could not be mended.
+/// How many plans of messages left goals open, by the numbers of the goals.
 #[derive(Drop)]
 pub(crate) struct Failures {
     counts: BTreeMap<u32, u32>,
-    unmended: u32,
 }
 
 impl Failures {
     pub(crate) fn none(alloc: Global) -> Failures {
         Failures {
             counts: BTreeMap::new(alloc),
-            unmended: 0,
         }
     }
 
@@ -41,7 +36,7 @@ impl Failures {
         Ok(())
     }
 
-    /// Whether a goal is to be tried: in every plan at first, and once it failed often only now and then.
+    /// Whether a goal is to be tried: at first in every plan, and once it failed often only now and then.
     pub(crate) fn is_due(&self, goal: u32) -> bool {
         let count = self.count(goal);
         count < PAUSE || count % PAUSE == 0
@@ -51,18 +46,4 @@ impl Failures {
     pub(crate) fn worlds_for(&self, goal: u32, most: u32) -> u32 {
         let halvings = self.count(goal).min(31);
         (most >> halvings).max(LEAST_WORLDS)
-    }
-    /// Counts whether a plan mends all that can be.
-    pub(crate) fn note_mending(&mut self, is_mended: bool) {
-        self.unmended = if is_mended {
-            0
-        } else {
-            self.unmended.saturating_add(1)
-        };
-    }
-
-    /// How many plans a search that mends may look at, given how many if all was mended before: half as many for each failure.
-    pub(crate) fn worlds_to_mend(&self, most: u32) -> u32 {
-        most >> self.unmended.min(MOST_HALVINGS)
-    }
-}
+    }}
