@@ -46,5 +46,5 @@ impl Failures {
     pub(crate) fn worlds_for(&self, goal: u32, most: u32) -> u32 {
         let halvings = self.count(goal).min(31);
         (most >> halvings).max(LEAST_WORLDS)
-    
+    }
 }
