@@ -7,7 +7,9 @@ use std::collections::BTreeMap;
 /// The least number of plans that are looked at for a goal in one search.
 const LEAST_WORLDS: u32 = 50;
 
-/// A goal that so many plans left open is tried only in one of so many from then on.
+/// A goal is tried in each plan until so many left it open, and then in one of so many.
+const EAGER: u32 = 3;
+
 const PAUSE: u32 = 4;
 
 /// A search that mends and may give up no goal gets at least the eighth part of the plans, two to the power of this.
@@ -47,7 +49,7 @@ impl Failures {
     /// Whether a goal is to be tried: at first in every plan, and once it failed often only now and then.
     pub(crate) fn is_due(&self, goal: u32) -> bool {
         let count = self.count(goal);
-        count < PAUSE || count % PAUSE == 0
+        count < EAGER || count % PAUSE == 0
     }
 
     /// How many plans may be looked at for a goal, given how many for one that never failed: half as many for each failure.
