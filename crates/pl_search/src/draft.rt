@@ -114,14 +114,13 @@ impl Draft {
         tries: &mut Tries,
         giving_up: GivingUp,
         enough: u32,
-        worlds: u32,
     ) -> Result<Ended, AllocError>
         requires { self.old.board.spoiled ≡ false }
         ensures { OnOk result (self.new.board.spoiled ≡ false) }
     {
         let mut from = Vec::new(tries.alloc);
         from.push(Node::start(tries.alloc, self.look))?;
-        let aim = self.aim(enough, giving_up, worlds);
+        let aim = self.aim(enough, giving_up, self.worlds);
         mend(tries, &mut self.board, from.as_slice(), &aim)
     }
 
@@ -149,37 +148,14 @@ impl Draft {
         requires { self.old.board.spoiled ≡ false }
         ensures { OnOk result (self.new.board.spoiled ≡ false) }
     {
-        match self.way_to_mend(tries, GivingUp::Any, enough, self.worlds)? {
+        match self.way_to_mend(tries, GivingUp::Any, enough)? {
             Ended::Found(node) => self.follow(tries.alloc, &node),
             Ended::Best(other) => self.follow_better(tries.alloc, best, other),
         }
     }
 
-    // The same where no goal may be given up at first.
-    fn mend_down_to(
-        &mut self,
-        tries: &mut Tries,
-        failures: &mut Failures,
-        enough: u32,
-    ) -> Result<(), AllocError>
-        requires { self.old.board.spoiled ≡ false }
-        ensures { OnOk result (self.new.board.spoiled ≡ false) }
-    {
-        let worlds = failures.worlds_to_mend(self.worlds);
-        let ended = self.way_to_mend(tries, GivingUp::Nothing, enough, worlds)?;
-        failures.note_mending(&ended);
-        match ended {
-            Ended::Found(node) => self.follow(tries.alloc, &node),
-            Ended::Best(best) => self.mend_at_any_price(tries, enough, best),
-        }
-    }
-
     /// Mends all but open goals and what is hopeless, or as much as can be. A goal is given up only where nothing else helps.
-    pub(crate) fn mend_all(
-        &mut self,
-        tries: &mut Tries,
-        failures: &mut Failures,
-    ) -> Result<(), AllocError>
+    pub(crate) fn mend_all(&mut self, tries: &mut Tries) -> Result<(), AllocError>
         requires { self.old.board.spoiled ≡ false }
         ensures { OnOk result (self.new.board.spoiled ≡ false) }
     {
@@ -187,7 +163,10 @@ impl Draft {
         if self.look.hard <= hopeless {
             return Ok(());
         }
-        self.mend_down_to(tries, failures, hopeless)
+        match self.way_to_mend(tries, GivingUp::Nothing, hopeless)? {
+            Ended::Found(node) => self.follow(tries.alloc, &node),
+            Ended::Best(best) => self.mend_at_any_price(tries, hopeless, best),
+        }
     }
 
     /// Looks for repairs that serve the goal of a conflict, if it is due.

@@ -1,6 +1,5 @@
-//! How often goals could not be served, and conflicts not be mended with all goals served: each time less is spent on it.
+//! How often goals could not be served: each time less is spent on them, and in the end they are not tried at each message.
 
-use crate::beam::Ended;
 use std::alloc::{AllocError, Global};
 use std::collections::BTreeMap;
 
@@ -12,23 +11,16 @@ const EAGER: u32 = 3;
 
 const PAUSE: u32 = 4;
 
-/// A search that mends and may give up no goal gets at least the eighth part of the plans, two to the power of this.
-const MOST_HALVINGS: u32 = 3;
-
-/// What failed so far.
+/// How many plans of messages left goals open, by the numbers of the goals.
 #[derive(Drop)]
 pub(crate) struct Failures {
-    /// How many plans of messages left goals open, by the numbers of the goals.
     counts: BTreeMap<u32, u32>,
-    /// How many searches in a row could not mend all without giving up a goal.
-    unmended: u32,
 }
 
 impl Failures {
     pub(crate) fn none(alloc: Global) -> Failures {
         Failures {
             counts: BTreeMap::new(alloc),
-            unmended: 0,
         }
     }
 
@@ -52,22 +44,9 @@ impl Failures {
         count < EAGER || count % PAUSE == 0
     }
 
-    /// How many plans may be looked at for a goal, given how many for one that never failed: half as many for each failure.
+    /// How many plans may be looked at for a goal, given how many for one that never failed: half as many each time it stayed open.
     pub(crate) fn worlds_for(&self, goal: u32, most: u32) -> u32 {
         let halvings = self.count(goal).min(31);
         (most >> halvings).max(LEAST_WORLDS)
-    }
-
-    /// Counts how a search ended that mends and may give up no goal.
-    pub(crate) fn note_mending(&mut self, ended: &Ended) {
-        self.unmended = match ended {
-            Ended::Found(_) => 0,
-            Ended::Best(_) => self.unmended.saturating_add(1),
-        };
-    }
-
-    /// How many plans such a search may look at, given how many if the last one succeeded: half as many for each failure since.
-    pub(crate) fn worlds_to_mend(&self, most: u32) -> u32 {
-        most >> self.unmended.min(MOST_HALVINGS)
     }
 }

@@ -29,7 +29,7 @@ pub(crate) fn plan(
     requires { board.now.spoiled ≡ false }
 {
     let mut draft = Draft::new(tries.alloc, board, turns, worlds)?;
-    draft.mend_all(tries, failures)?;
+    draft.mend_all(tries)?;
     let goals = open_goals(tries.alloc, &draft.board)?;
     draft.serve(tries, failures, goals.as_slice())?;
     let failed = open_goals(tries.alloc, &draft.board)?;
