@@ -206,7 +206,24 @@ fn chosen_before(
     }
 }
 
-// The repair that was chosen before, or else the cheapest one of one of the first conflicts but open goals.
+// The cheapest repair of one of the first of some conflicts, which is kept for when a plan and turn of this mark are met again.
+fn choose_cheapest(
+    tries: &mut Tries,
+    board: &mut Board,
+    conflicts: &[Conflict],
+    look: Look,
+    left: u32,
+    mark: u64,
+) -> Result<Option<Proposal>, AllocError>
+    requires { board.old.spoiled ≡ false }
+    ensures { OnOk result (board.new ≡ board.old) }
+{
+    let repair = cheapest_repair(tries, board, conflicts, look, left)?;
+    keep_choice(tries, board, conflicts, mark, &repair)?;
+    Ok(repair)
+}
+
+// The repair of a conflict but open goals that was chosen before, or else the cheapest one of one of the first.
 fn repair_of_hard(
     tries: &mut Tries,
     board: &mut Board,
@@ -218,12 +235,10 @@ fn repair_of_hard(
     let look = look_at(board, mark_of_plan(board.plan()));
     let mark = mark_then(look.mark, u64::from(left % 2));
     let hard = hard_conflicts(tries.alloc, board.conflicts())?;
-    if let Some(repair) = chosen_before(tries, board, hard.as_slice(), mark)? {
-        return Ok(Some(repair));
+    match chosen_before(tries, board, hard.as_slice(), mark)? {
+        Some(repair) => Ok(Some(repair)),
+        None => choose_cheapest(tries, board, hard.as_slice(), look, left, mark),
     }
-    let repair = cheapest_repair(tries, board, hard.as_slice(), look, left)?;
-    keep_choice(tries, board, hard.as_slice(), mark, &repair)?;
-    Ok(repair)
 }
 
 /// A repair for one of so many turns that are left.

@@ -160,7 +160,10 @@ impl Tries {
 
     /// Looks at the plan that the fresh move of this number led to, which stands on the board now.
     pub(crate) fn look(&mut self, board: &Board, number: usize) -> Result<(), AllocError> {
-        if self.left == 0 || number >= self.places.len() {
+        if self.left == 0 {
+            return Ok(());
+        }
+        if number >= self.places.len() {
             return Ok(());
         }
         let place = self.places[number];
