@@ -45,7 +45,7 @@ use Rattle.pl_bounds.proofs.Counted.{held_are_few}
 use Rattle.pl_bounds.proofs.Lonely.{lone_stands, lones_from, as_many, each_from, lones_differ}
 use Rattle.pl_bounds.proofs.Moving.{end_is}
 use Rattle.pl_bounds.proofs.Parts.{has_kept}
-use Rattle.pl_bounds.proofs.Shifting.{activities_then, found_then, rows_same, is_id, may_replace, by_replacing}
+use Rattle.pl_bounds.proofs.Shifting.{activities_then, found_then, rows_same, is_id, may_replace, by_replacing, unmeasured_under}
 
 -- ---- lists
 
@@ -179,7 +179,8 @@ module _ (s : PlanState) (whole : IsWhole s) (next : s.next_id ≤ 3999999000) (
   -- moved to that start it is placed as after the shift
   placed_own : placed_at to (placed_of s top) ≡ placed_of t own
   placed_own =
-      let firm : end_at t own ≡ option_map (moved_to top.start to) (end_at s top) = end_is top.start to s (subtree_of id xs) (moved_with s to (found s id)) top (ap (found s) own_id ∙ here) live_then (sym (rows top.id)) (omega arith) in
+      let none : top.measured ≡ None = (all_at (λ (y : Activity). under y ≡ true → y.measured ≡ None) xs id top (unmeasured_under s whole next id to top here can) here).0 (descends_complete xs whole.fits.rooted top.id top.id itself) in
+      let firm : end_at t own ≡ option_map (moved_to top.start to) (end_at s top) = end_is top.start to s (subtree_of id xs) (moved_with s to (found s id)) top (ap (found s) own_id ∙ here) live_then (sym (rows top.id)) none (omega arith) in
       ap (λ (n : ℕ). record (placed_of s top) { start = n; end = option_map (moved_to top.start to) (end_at s top) }) (sym start_is)
       ∙ ap (λ (o : Option ℕ). record (placed_of s top) { start = own.start; end = o }) (sym firm)
 

@@ -2,6 +2,7 @@
 
 mod asserting;
 mod attempts;
+mod begun;
 mod boards;
 mod changes;
 mod codes;

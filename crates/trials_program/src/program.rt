@@ -1,6 +1,7 @@
 //! Tests of the top call and of the program's words: whole runs and demonstrations.
 
 mod ahead;
+mod begun;
 mod demonstrations;
 mod faults;
 mod forecasts;

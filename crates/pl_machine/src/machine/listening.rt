@@ -1,4 +1,4 @@
-ghost use Rattle.std.specs.Prelude.{◌≡◌, ◌≢◌, ◌&&◌, not, nat_le, length, true, IfOk, IfSome, Ok, Some};
+ghost use Rattle.std.specs.Prelude.{◌≡◌, ◌≢◌, ◌&&◌, not, nat_le, nat_lt, length, true, false, is_some, if◌then◌else◌, IfOk, IfSome, Ok, Some};
 ghost use Rattle.std.specs.List.{list_any};
 ghost use Rattle.std.specs.Option.{option_copied};
 ghost use Rattle.pl_facts.specs.Goals.{is_numbered};
@@ -7,7 +7,7 @@ ghost use Rattle.pl_msg.specs.Messages.{message_of};
 ghost use Rattle.pl_msg.specs.Limits.{IsWithin};
 ghost use Rattle.pl_semantics.specs.Whole.{IsWhole};
 ghost use Rattle.pl_machine.specs.Changes.{changed, CanChange};
-ghost use Rattle.pl_machine.specs.Messages.{goal_reply, tick_reply, message_reply, line_reply, told_line};
+ghost use Rattle.pl_machine.specs.Messages.{goal_reply, tick_reply, end_reply, until_reply, message_reply, line_reply, told_line, halts_line};
 ghost use Rattle.pl_machine.specs.Step.{input_reply, reply_of, after};
 ghost use Rattle.pl_machine.specs.Taking.{IsOpen, Answers};
 
@@ -16,8 +16,10 @@ use crate::machine::Machine;
 use crate::machine::appending::push_entry;
 use crate::round::Round;
 use crate::stop::Stop;
+use pl_board::Board;
 use pl_entry::{Bytes, Event, Reply};
 use pl_facts::{Goal, Goals};
+use pl_links::Placed;
 use pl_lists::Items;
 use pl_msg::{Message, MsgFault, read_message};
 use pl_semantics::PlanState;
@@ -80,15 +82,65 @@ fn tick_reply(state: &PlanState, moment: u64) -> Reply
     }
 }
 
-fn message_reply(state: &PlanState, limit: u32, message: &Message) -> Reply
-    requires { IsWhole state.now }
-    ensures value { result ≡ message_reply state.now limit message.now }
+/// Whether an activity, which is given with its end, has begun.
+fn has_begun(state: &PlanState, activity: &Placed) -> bool
+    ensures { result ≡ (nat_lt activity.now.start state.now.committed && (nat_le activity.now.start state.now.moment && is_some activity.now.end)) }
+{
+    activity.start < state.committed && (activity.start <= state.moment && activity.end.is_some())
+}
+
+fn end_reply(start: u32, moment: u32) -> Reply
+    ensures { result ≡ end_reply start moment }
+{
+    if moment <= start {
+        Reply::EndBack
+    } else {
+        Reply::Done
+    }
+}
+
+/// The reply to the measured end of an activity, which is given with the end that it has.
+fn placed_reply(state: &PlanState, activity: &Placed, moment: u32) -> Reply
+    ensures { result ≡ (if nat_lt activity.now.start state.now.committed && (nat_le activity.now.start state.now.moment && is_some activity.now.end) then end_reply activity.now.start moment else Reply.NotBegun) }
+{
+    if has_begun(state, activity) {
+        end_reply(activity.start, moment)
+    } else {
+        Reply::NotBegun
+    }
+}
+
+fn live_reply(board: &Board, id: u32, moment: u32) -> Reply
+    requires { board.now.spoiled ≡ false }
+    ensures { result ≡ until_reply board.now.state id moment }
+{
+    match board.placed(id) {
+        Some(activity) => placed_reply(board.state(), &activity, moment),
+        None => Reply::NotBegun,
+    }
+}
+
+/// The reply to the measured end of the activity of an id. No activity has an id that is too great for its type.
+fn until_reply(board: &Board, id: u64, moment: u32) -> Reply
+    requires { board.now.spoiled ≡ false }
+    ensures { result ≡ until_reply board.now.state id moment }
+{
+    match u32::try_from(id) {
+        Ok(id) => live_reply(board, id, moment),
+        Err(_) => Reply::NotBegun,
+    }
+}
+
+fn message_reply(board: &Board, limit: u32, message: &Message) -> Reply
+    requires { board.now.spoiled ≡ false }
+    ensures value { result ≡ message_reply board.now.state limit message.now }
     ensures input { IsInputReply result }
 {
     match message {
-        Message::Goal(goal) => goal_reply(state, limit, goal),
-        Message::TeleLevel(_, _) | Message::TeleState(_, _) => Reply::Done,
-        Message::Tick(moment) => tick_reply(state, *moment),
+        Message::Goal(goal) => goal_reply(board.state(), limit, goal),
+        Message::TeleLevel(_, _) | Message::TeleState(_, _) | Message::Halt => Reply::Done,
+        Message::Tick(moment) => tick_reply(board.state(), *moment),
+        Message::Until(id, moment) => until_reply(board, *id, *moment),
         Message::End => Reply::Ended,
     }
 }
@@ -139,27 +191,32 @@ impl Machine {
     {
         match line_bytes(self.alloc, line) {
             Err(_) => Err(self.spoil()),
-            Ok(bytes) => self.append(Event::Input(Some(bytes)), refusal, Round::begun()),
+            Ok(bytes) => self.append(
+                Event::Input(Some(bytes)),
+                refusal,
+                Round::begun(self.round.halted),
+            ),
         }
     }
 
     /// A line is accepted: the plan state changes, and a round begins.
-    fn begin(&mut self, line: &[u8], change: Change) -> Result<Reply, Stop>
+    fn begin(&mut self, line: &[u8], change: Change, halted: bool) -> Result<Reply, Stop>
         requires open { IsOpen self.old (Event.Input (Some line.now)) }
         requires line { IsMessageLine line.now }
         requires done { line_reply self.old.world.state self.old.world.options.goals line.now ≡ Reply.Done }
         requires whole { IsWhole self.old.world.state }
         requires can { CanChange self.old.world.state change }
         requires told { told_line self.old.world.state line.now ≡ changed change self.old.world.state }
+        requires halts { halts_line self.old.world.state self.old.world.halted line.now ≡ halted }
         ensures { Answers self.old (Event.Input (Some line.now)) result self.new }
     {
         match line_bytes(self.alloc, line) {
             Err(_) => Err(self.spoil()),
-            Ok(bytes) => self.carry_out(Event::Input(Some(bytes)), change, Round::begun()),
+            Ok(bytes) => self.carry_out(Event::Input(Some(bytes)), change, Round::begun(halted)),
         }
     }
 
-    #[tactic(auto, using(crate::proofs::Inputs::can_accept, crate::proofs::Inputs::can_tell_level, crate::proofs::Inputs::can_tell_state, crate::proofs::Inputs::can_tick), unfolding(crate::specs::Messages::line_reply, crate::specs::Messages::told_line))]
+    #[tactic(auto, using(crate::proofs::Inputs::can_accept, crate::proofs::Inputs::can_tell_level, crate::proofs::Inputs::can_tell_state, crate::proofs::Inputs::can_tick, crate::proofs::Measured::can_until, crate::proofs::Measured::until_below), unfolding(crate::specs::Messages::line_reply, crate::specs::Messages::told_line, crate::specs::Messages::halts_line))]
     fn accept(&mut self, line: &[u8], message: Message) -> Result<Reply, Stop>
         requires open { IsOpen self.old (Event.Input (Some line.now)) }
         requires line { IsMessageLine line.now }
@@ -169,13 +226,20 @@ impl Machine {
         requires done { message_reply self.old.world.state self.old.world.options.goals message ≡ Reply.Done }
         ensures { Answers self.old (Event.Input (Some line.now)) result self.new }
     {
+        let halted = self.round.halted;
         match message {
-            Message::Goal(goal) => self.begin(line, Change::Accept(goal)),
-            Message::TeleLevel(timeline, value) => self.begin(line, Change::Tell(timeline, value)),
-            Message::TeleState(timeline, state) => {
-                self.begin(line, Change::Tell(timeline, i64::from(state)))
+            Message::Goal(goal) => self.begin(line, Change::Accept(goal), halted),
+            Message::TeleLevel(timeline, value) => {
+                self.begin(line, Change::Tell(timeline, value), halted)
             }
-            Message::Tick(moment) => self.begin(line, Change::Tick(moment as u32)),
+            Message::TeleState(timeline, state) => {
+                self.begin(line, Change::Tell(timeline, i64::from(state)), halted)
+            }
+            Message::Tick(moment) => self.begin(line, Change::Tick(moment as u32), false),
+            Message::Until(id, moment) => {
+                self.begin(line, Change::Measure(id as u32, moment), halted)
+            }
+            Message::Halt => self.begin(line, Change::Withdraw, true),
             Message::End => self.end(Some(line)),
         }
     }
@@ -188,7 +252,7 @@ impl Machine {
         requires within { IsWithin self.old.world.state.model message }
         ensures { Answers self.old (Event.Input (Some line.now)) result self.new }
     {
-        match message_reply(self.board.state(), self.options.goals, &message) {
+        match message_reply(&self.board, self.options.goals, &message) {
             Reply::Done => self.accept(line, message),
             Reply::Ended => self.end(Some(line)),
             refusal => self.refuse(line, refusal),
