@@ -94,7 +94,14 @@ fn with_roots(
     };
     tries.forget();
     let roots = additions(tries.alloc, board, conflict)?;
-    try_roots(tries, board, &branch, conflict, roots.as_slice(), aim.enough)?;
+    try_roots(
+        tries,
+        board,
+        &branch,
+        conflict,
+        roots.as_slice(),
+        aim.enough,
+    )?;
     nodes_of_steps(tries, look)
 }
 
