@@ -155,8 +155,8 @@ module _ (s : PlanState) (limit : ℕ) where
 
   -- another word is not `end`
   by_word : (word last : Bool) (x rest : Read Message) → (word ≡ true → last ≡ false) → GoesOn s limit x → is_ended (read_reply s limit rest) ≡ last → is_ended (read_reply s limit (if word then x else rest)) ≡ last
-  by_word true last x rest no on more = on.on ∙ sym (no refl)
-  by_word false last x rest no on more = more
+  by_word true last x rest apart on more = on.on ∙ sym (apart refl)
+  by_word false last x rest apart on more = more
 
   by_end : (last : Bool) → is_ended (read_reply s limit (if last then Ok message.End else Err fault.BadLine)) ≡ last
   by_end true = refl
