@@ -2,7 +2,6 @@
 
 mod asserting;
 mod attempts;
-mod begun;
 mod boards;
 mod changes;
 mod codes;
@@ -13,4 +12,5 @@ mod refusals;
 mod repairs;
 mod rows;
 mod tried;
+mod until_and_halt;
 mod values;

@@ -1,7 +1,7 @@
 //! Tests of the planning machine's calls.
 
 mod asserting;
-mod begun;
 mod calls;
 mod mending;
 mod reading;
+mod until_and_halt;

@@ -1,7 +1,6 @@
 //! Tests of the top call and of the program's words: whole runs and demonstrations.
 
 mod ahead;
-mod begun;
 mod demonstrations;
 mod faults;
 mod forecasts;
@@ -9,4 +8,5 @@ mod hostile;
 mod journals;
 mod limits;
 mod runs;
+mod until_and_halt;
 mod words;

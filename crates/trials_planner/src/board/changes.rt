@@ -40,17 +40,23 @@ fn commit(rt: &impl Abort, board: &mut Board, h: u32) {
     board.commit(h).expect(rt, "memory");
 }
 
+/// Whether an activity of this start has begun, is committed, and can end at a moment.
+fn can_end(board: &Board, start: u32, moment: u32) -> bool
+    ensures begun { result ≡ true → start ≤ board.now.state.moment }
+    ensures committed { result ≡ true → start < board.now.state.committed }
+    ensures after { result ≡ true → start < moment }
+    ensures within { result ≡ true → moment ≤ board.now.state.model.horizon }
+{
+    let begun = start <= board.now() && start < board.committed();
+    begun && start < moment && moment <= board.model().horizon
+}
+
 /// Whether an activity has begun, and can end at a moment.
 fn can_measure(board: &Board, id: u32, moment: u32) -> bool
     ensures { result ≡ true → CanMeasure board.now.state id moment }
 {
     match board.plan().get(id) {
-        Some(activity) => {
-            activity.start <= board.now()
-                && activity.start < board.committed()
-                && activity.start < moment
-                && moment <= board.model().horizon
-        }
+        Some(activity) => can_end(board, activity.start, moment),
         None => false,
     }
 }
