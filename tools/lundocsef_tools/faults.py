@@ -105,7 +105,7 @@ def cause_of_token(token, before):
     since_kind = before[len(before) - 1 - before[::-1].index('kind'):] if in_kind else []
     if not before:
         return 'a model begins with `horizon NUMBER lead NUMBER`'
-    if token in ('goal', 'tick', 'tele'):
+    if token in ('goal', 'tick', 'tele', 'until', 'halt'):
         return '`%s` begins a message; the line `begin` stands before the messages' % token
     if token in RESERVED and last in NAMED_AFTER:
         return '`%s` is a reserved word and cannot be a name' % token

@@ -1,4 +1,4 @@
-"""Messages: goals, telemetry, ticks and the end, as docs/JOURNAL.md explains them."""
+"""Messages: goals, telemetry, ticks, measured ends, halts and the end, as docs/JOURNAL.md explains them."""
 from dataclasses import dataclass
 from typing import Dict, Union
 
@@ -26,6 +26,18 @@ class Tick:
     moment: int
 
 
+@dataclass
+class Until:
+    """The activity of this number ends at this moment."""
+    number: int
+    moment: int
+
+
+@dataclass
+class Halt:
+    """What is committed and has not begun is withdrawn."""
+
+
 def read_message(text):
     """The message of a line that the program has accepted; None for the end line."""
     parts = words(text)
@@ -36,6 +48,10 @@ def read_message(text):
         return Telemetry(parts[1], int(parts[2]) if parts[2].isdigit() else parts[2])
     if parts[0] == 'tick':
         return Tick(int(parts[1]))
+    if parts[0] == 'until':
+        return Until(int(parts[1]), int(parts[2]))
+    if parts[0] == 'halt':
+        return Halt()
     return None
 
 

@@ -76,7 +76,7 @@ def verdict(path, source):
 
 def looks_like_messages(lines):
     first = words(lines[0]) if lines else []
-    return bool(first) and first[0] in ('goal', 'tele', 'tick', 'end')
+    return bool(first) and first[0] in ('goal', 'tele', 'tick', 'until', 'halt', 'end')
 
 
 def load_plan(paths, given_program=None, entry=None):

@@ -3,7 +3,7 @@ from collections import Counter
 
 from .faults import nearest, strange
 from .journal import read_entry
-from .messages import Goal, Tick, read_message
+from .messages import Goal, Tick, Until, read_message
 from .readable import readable
 from .tokens import BLANKS, RESERVED, TOKEN, words
 from .world import World
@@ -12,6 +12,8 @@ FORMS = {
     'goal': 'goal NUMBER KIND EARLIEST LATEST must (or may), then NAME=VALUE for each preset',
     'tele': 'tele TIMELINE VALUE',
     'tick': 'tick MOMENT',
+    'until': 'until ID MOMENT',
+    'halt': 'halt',
     'end': 'end',
 }
 
@@ -92,7 +94,7 @@ def bad_line(world, parts, line):
     if first.lower() in FORMS and first not in FORMS:
         return 'small and capital letters differ; did you mean `%s`?' % first.lower()
     if first not in FORMS:
-        return 'a message begins with goal, tele, tick or end' + meant(first, FORMS)
+        return 'a message begins with goal, tele, tick, until, halt or end' + meant(first, FORMS)
     if first == 'goal':
         return 'its form is: %s%s' % (FORMS['goal'], what_of_goal(parts))
     return 'its form is: %s' % FORMS[first]
@@ -135,6 +137,8 @@ def out_of_range(world, parts, line):
     if parts[0] == 'tele':
         return '%s is a level; its value is a number, up to 1000000000000' % parts[1]
     goal = read_message(line)
+    if isinstance(goal, Until):
+        return 'an activity ends at the horizon, %d, at the latest' % world.model.horizon
     if not 1 <= goal.number <= 10 ** 9:
         return 'the number of a goal is from 1 to 1000000000'
     if goal.earliest > goal.latest:
@@ -159,9 +163,25 @@ def duplicate(world, parts, line):
     return 'entry %d has taken this number, and a goal can be neither changed nor taken back' % world.goal_entry[int(parts[1])]
 
 
+def not_begun(world, parts, line):
+    activity = world.activities.get(int(parts[1]))
+    if activity is None:
+        return 'the plan has no activity %s' % parts[1]
+    if activity.start > world.now:
+        return 'it starts at %d, and the present is %d' % (activity.start, world.now)
+    if not world.is_committed(activity):
+        return 'it was to start at %d, and it is not committed' % activity.start
+    return 'without all its values it has no end'
+
+
+def end_back(world, parts, line):
+    return 'it starts at %d, and it ends after its start' % world.activities[int(parts[1])].start
+
+
 REASONS = {
     'bad-line': bad_line, 'unknown-name': unknown_name, 'range': out_of_range, 'too-late': too_late, 'duplicate-goal': duplicate,
     'too-many-goals': lambda world, parts, line: 'the run has as many goals as it may have',
     'tick-back': lambda world, parts, line: 'the present is %d already' % world.now,
     'tick-beyond': lambda world, parts, line: 'the horizon is %d' % world.model.horizon,
+    'not-begun': not_begun, 'end-back': end_back,
 }

@@ -97,9 +97,11 @@ class Snapshot:
         self.profiles = {line.name: self.profile(line) for line in self.model.timelines}
 
     def end(self, activity):
-        """The first moment behind an activity; None where it is not firm."""
+        """The first moment behind an activity, as it was measured or else by its duration; None where it is not firm."""
         evaluation = self.evaluations[activity.id]
-        return activity.start + evaluation.duration if evaluation.firm else None
+        if not evaluation.firm:
+            return None
+        return activity.start + evaluation.duration if activity.measured is None else activity.measured
 
     def gather(self, activity):
         """What a firm activity asks of each timeline."""

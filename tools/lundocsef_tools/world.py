@@ -4,7 +4,7 @@ from typing import Dict, List, Optional
 
 from .failure import Failure
 from .journal import read_entry
-from .messages import Goal, Telemetry, Tick, read_message
+from .messages import Goal, Halt, Telemetry, Tick, Until, read_message
 from .model import Kind
 
 
@@ -18,6 +18,7 @@ class Activity:
     goal: Optional[int] = None            # the number of the goal that a root stands for
     chosen: Dict[str, int] = field(default_factory=dict)     # values that a preset or a repair has set
     alternative: Optional[int] = None
+    measured: Optional[int] = None        # its end, where a message told it
     children: List['Activity'] = field(default_factory=list)
 
     def subtree(self):
@@ -133,6 +134,11 @@ class World:
             self.told.append(Told(entry.number, self.now, message.timeline, message.value))
         elif isinstance(message, Tick):
             self.now = self.rounds[-1].now = message.moment
+        elif isinstance(message, Until):
+            self.activities[message.number].measured = message.moment
+            self.remember(message.number, entry)
+        elif isinstance(message, Halt):
+            self.committed = min(self.committed, self.now + 1)
 
     def on_rest(self, entry):
         self.rounds[-1].rest = entry.reply

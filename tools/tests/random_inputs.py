@@ -78,6 +78,10 @@ def random_messages(chance, kinds):
         elif draw < 0.6:
             lines.append('tele ' + chance.choice(('memory %d' % chance.randint(0, 80), 'fuel %d' % chance.randint(0, 45),
                                                   'mode %s' % chance.choice(('off', 'warm', 'on')), 'dish up')))
+        elif draw < 0.64:
+            lines.append('until %d %d' % (chance.randint(1, 9), min(HORIZON, now + chance.randint(0, 30))))
+        elif draw < 0.66:
+            lines.append('halt')
         else:
             now += chance.randint(0, 30)
             lines.append('tick %d' % now)

@@ -39,7 +39,7 @@ REFUSED = (
     ('goal 1 obs 20 30 must n=1 n=2', 'bad-line', 'n is preset twice'),
     ('goal 1 start 20 30 must', 'bad-line', '`start` is a reserved word'),
     ('tick 6.5', 'bad-line', "'.' belongs to no token"),
-    ('tack 60', 'bad-line', 'a message begins with goal, tele, tick or end; did you mean `tick`?'),
+    ('tack 60', 'bad-line', 'a message begins with goal, tele, tick, until, halt or end; did you mean `tick`?'),
     ('END', 'bad-line', 'did you mean `end`?'),
     ('tick 60,', 'bad-line', 'its form is: tick MOMENT'),
     ('goal 1 obss 20 30 must', 'unknown-name', 'no kind obss; did you mean `obs`?'),
@@ -56,6 +56,10 @@ REFUSED = (
     ('goal 1 obs 0 0 must', 'too-late', 'no activity can start at 0'),
     ('tick 0', 'tick-back', 'the present is 0 already'),
     ('tick 101', 'tick-beyond', 'the horizon is 100'),
+    ('until 1', 'bad-line', 'its form is: until ID MOMENT'),
+    ('halt now', 'bad-line', 'its form is: halt'),
+    ('until 1 101', 'range', 'at the horizon, 100, at the latest'),
+    ('until 1 30', 'not-begun', 'the plan has no activity 1'),
 )
 
 
@@ -110,6 +114,13 @@ class RemarksTest(unittest.TestCase):
     def test_a_number_that_is_taken(self):
         found = self.remarks('in ok : goal 7 obs 20 30 must', 'close', 'in duplicate-goal : goal 7 obs 40 50 must')
         self.assertIn('entry 1 has taken this number', found[0])
+
+    def test_an_end_that_no_activity_can_have(self):
+        planned = 'in ok : goal 7 obs 20 30 must', 'fix 30 open-goal 7 0 20 30 by add obs 20 goal 7 : ok', 'rest clear'
+        ahead = planned + ('commit 10 : ok', 'close')
+        begun = planned + ('commit 30 : ok', 'close', 'in ok : tick 22', 'rest clear', 'close')
+        self.assertIn('it starts at 20, and the present is 0', self.remarks(*ahead, 'in not-begun : until 1 30')[-1])
+        self.assertIn('it starts at 20, and it ends after its start', self.remarks(*begun, 'in end-back : until 1 20')[-1])
 
     def test_goals_that_are_dropped_and_ticks_that_are_late(self):
         self.assertIn('it gives no value for n', self.remarks('in ok : goal 7 own 20 30 may')[0])

@@ -54,7 +54,7 @@ class GrammarTest(unittest.TestCase):
             self.textmate = file.read()
 
     def test_every_word_is_known_to_both(self):
-        for word in RESERVED + CODES + list(REASONS) + ['goal', 'tele', 'tick', 'may', 'fix', 'rest', 'commit', 'dispatch', 'close']:
+        for word in RESERVED + CODES + list(REASONS) + ['goal', 'tele', 'tick', 'until', 'halt', 'may', 'fix', 'rest', 'commit', 'dispatch', 'close']:
             for grammar in (self.vim, self.textmate):
                 self.assertRegex(grammar, r'(?<![\w-])%s(?![\w-])' % re.escape(word))
 

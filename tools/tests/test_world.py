@@ -91,6 +91,16 @@ class WorldTest(unittest.TestCase):
         self.assertEqual([memory.at(moment) for moment in (0, 24, 25, 44, 45)], [4, 4, 1, 1, 3])
         self.assertEqual((memory.marks[0].told, memory.marks[0].thought), (1, 7))
 
+    def test_a_measured_end_and_a_halt(self):
+        begun = ['in ok : tick 1', FIX % 'add shot 20', FIX % 'assign 1 0 3', 'rest clear', 'commit 30 : ok', 'close',
+                 'in ok : tick 22', 'rest clear', 'commit 32 : ok', 'close']
+        plan = plan_from(MODEL, *begun, 'in ok : until 1 27')
+        memory = plan.snapshot.profiles['memory']
+        self.assertEqual(plan.snapshot.end(plan.world.activities[1]), 27)
+        self.assertEqual([memory.at(moment) for moment in (25, 26, 27)], [4, 4, 7])
+        self.assertEqual(plan_from(MODEL, *begun, 'in ok : until 1 27', 'rest clear', 'close', 'in ok : until 1 24').world.activities[1].measured, 24)
+        self.assertEqual(plan_from(MODEL, *begun, 'in ok : halt').world.committed, 23)
+
     def test_a_missed_goal_is_open_and_no_conflict(self):
         plan = plan_from(MODEL, 'in ok : goal 4 shot 5 9 must', 'rest spent', 'close', 'in ok : tick 9')
         self.assertTrue(plan.world.is_missed(4))

@@ -1,5 +1,6 @@
 mod Once
 mod Joining
+mod MeasuredEnds
 mod Watching
 mod Linking
 pub mod Crossing

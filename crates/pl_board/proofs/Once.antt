@@ -57,6 +57,7 @@ module _ (s : PlanState) (gone once : List ℕ) (more : List Activity) (whole : 
     free = All-weaker (λ (a : Activity). IsLive a.id s.plan.activities → among a.id gone ≡ true) (λ (a : Activity). IsLive a.id s.plan.activities → among a.id once ≡ true) (λ a goes live. same a.id ∙ goes live) more can.free;
     ids = can.ids;
     carried = can.carried;
+    begun = can.begun;
     kept = λ id e. rw replaced_once (can.kept id (sym (touched_once id) ∙ e));
     fits = rw replaced_once can.fits;
     few = rw replaced_once can.few;

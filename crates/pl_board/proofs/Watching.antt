@@ -1,5 +1,5 @@
 -- What stands after each change of a plan state that is watched.
-use Rattle.std.proofs.Common.{◌≡◌, ℕ, ◌<◌, List, [], ◌∷◌, ◌++◌, length, refl, sym, ap, ◌∙◌, subst, Bool, true, false, arith}
+use Rattle.std.proofs.Common.{◌≡◌, ℕ, ◌+◌, ◌<◌, ◌≤◌, min, List, [], ◌∷◌, ◌++◌, length, refl, sym, ap, ◌∙◌, subst, Bool, true, false, arith}
 use Rattle.std.proofs.lemmas.List.{length-map}
 use Rattle.pl_detect.proofs.Bounded.{length-numbered}
 use Rattle.pl_semantics.specs.Timelines.{lines_of}
@@ -32,6 +32,12 @@ use Rattle.pl_update.specs.GoalsAndActivities.Near.{near, HoldSame, Follows}
 use Rattle.pl_update.specs.GoalsAndActivities.Touched.{touched_goals, touched_ids}
 use Rattle.pl_update.proofs.AboutGoalsAndActivities.Touching.{follows_plan, follows_same}
 use Rattle.pl_update.specs.Links.Mended.{MendsLinks, KeepsLinks}
+use Rattle.pl_links.specs.Kept.{kept_of}
+use Rattle.pl_semantics.specs.Links.{placed_in}
+use Rattle.pl_update.specs.Changes.Changes.{withdrawn}
+use Rattle.pl_update.specs.Evaluations.Kept.{AreOf}
+use Rattle.pl_board.specs.declared.watched.WatchedState.{WatchedState}
+use Rattle.pl_board.specs.Boards.{IsWatched}
 use Rattle.pl_board.proofs.Once.{can_once, once_rising}
 use Rattle.pl_board.proofs.Joining.{turned_set, timelines_say}
 
@@ -153,3 +159,17 @@ few_lines s lines whole are =
 -- the same conflicts of links in a set that was mended for timelines
 pub shown_after : (s : PlanState) (lines lines' : List Line) (set set' : List Conflict) → set ≡ conflicts_of s → IsMended s lines lines' set set' → ShowsLinks s set'
 shown_after s lines lines' set set' is mended q e = mended.others q (λ f. let bad : of_links ≡ of_timelines = sym e ∙ f in cc) ∙ shows_links s set is q e
+
+-- ---- all conflicts found anew
+
+pub watched_anew : (w v : WatchedState) → IsWhole w.state → AreOf w.state w.values → AreLinesOf w.state w.lines → w.links ≡ kept_of w.state.model (placed_in w.state) → v ≡ record w { conflicts = v.conflicts } → v.conflicts ≡ conflicts_of w.state → IsWatched v
+watched_anew w v whole values timelines store same found =
+    let anew : IsWatched (record w { conflicts = v.conflicts }) = record { whole = whole; values = values; timelines = timelines; store = store; found = found } in
+    subst IsWatched (sym same) anew
+
+-- where no more is committed than what starts by the present, nothing is withdrawn
+pub none_withdrawn : (s : PlanState) → s.committed ≤ s.moment + 1 → s ≡ withdrawn s
+none_withdrawn s le = ap (λ (n : ℕ). record s { committed = n }) (let e : s.committed ≡ min s.committed (s.moment + 1) = omega (arith, le) in e)
+
+pub some_withdrawn : (s : PlanState) → s.moment + 1 ≤ s.committed → record s { committed = s.moment + 1 } ≡ withdrawn s
+some_withdrawn s le = ap (λ (n : ℕ). record s { committed = n }) (let e : s.moment + 1 ≡ min s.committed (s.moment + 1) = omega (arith, le) in e)

@@ -5,7 +5,7 @@ ghost use Rattle.pl_model.specs.Checked.{IsChecked};
 ghost use Rattle.pl_semantics.specs.Conflicts.{conflicts_of};
 ghost use Rattle.pl_semantics.specs.Whole.{IsWhole, IsGoalOf, IsIdBelow};
 ghost use Rattle.pl_board.specs.Boards.{after, IsWatched};
-ghost use Rattle.pl_update.specs.Changes.Changes.{first_state, with_goal, without_goal, moved_on, told_now, committed_to, with_next, CanTell, IsOpenIn};
+ghost use Rattle.pl_update.specs.Changes.Changes.{first_state, with_goal, without_goal, moved_on, told_now, committed_to, measured_to, withdrawn, with_next, CanTell, IsOpenIn, CanMeasure};
 ghost use Rattle.pl_update.specs.Changes.Replaced.{CanReplace, with_plan};
 
 use crate::watched::WatchedState;
@@ -153,6 +153,30 @@ impl Board {
         ensures after_spoil { self.old.spoiled ≡ true → IsErr result }
     {
         guarded!(self, self.watched.commit(self.alloc, h))
+    }
+
+    /// Tells when an activity that has begun ends.
+    pub fn until<L: Ledger>(
+        &mut self,
+        id: u32,
+        moment: u32,
+        steps: &mut Steps<L>,
+    ) -> Result<(), AllocError>
+        requires { self.old.spoiled ≡ false → CanMeasure self.old.state id moment }
+        ensures ok { OnOk result (self.new ≡ after (measured_to id moment self.old.state)) }
+        ensures err { OnErr result (self.new.spoiled ≡ true) }
+        ensures after_spoil { self.old.spoiled ≡ true → IsErr result }
+    {
+        guarded!(self, self.watched.until(self.alloc, id, moment, steps))
+    }
+
+    /// Takes back the commitment of all that starts after the present.
+    pub fn withdraw(&mut self) -> Result<(), AllocError>
+        ensures ok { OnOk result (self.new ≡ after (withdrawn self.old.state)) }
+        ensures err { OnErr result (self.new.spoiled ≡ true) }
+        ensures after_spoil { self.old.spoiled ≡ true → IsErr result }
+    {
+        guarded!(self, self.watched.withdraw(self.alloc))
     }
 
     /// Makes an id, above every live one, the next one again. It takes no memory.

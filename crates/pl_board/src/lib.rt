@@ -3,7 +3,9 @@
 
 mod asking;
 mod board;
+mod committing;
 mod links;
+mod measuring;
 mod reading;
 mod sharing;
 mod watched;

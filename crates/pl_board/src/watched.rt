@@ -3,17 +3,16 @@ ghost use Rattle.std.specs.Prelude.{◌≡◌, OnOk, IfOk, None, ◌≤◌, ◌<
 ghost use Rattle.pl_conflict.specs.Sorting.{exchanged};
 ghost use Rattle.pl_update.specs.GoalsAndActivities.Near.{near, HoldSame};
 ghost use Rattle.std.specs.List.Sorted.{IsStrictlyIncreasing};
-ghost use Rattle.pl_semantics.specs.Grants.{touches_before};
 ghost use Rattle.pl_facts.specs.Goals.{goal_of};
 ghost use Rattle.pl_semantics.specs.Whole.{IsWhole, IsGoalOf};
-ghost use Rattle.pl_update.specs.Changes.Changes.{with_goal, without_goal, moved_on, told_now, committed_to, CanTell, IsOpenIn};
+ghost use Rattle.pl_update.specs.Changes.Changes.{with_goal, without_goal, moved_on, told_now, CanTell, IsOpenIn};
 ghost use Rattle.pl_update.specs.Changes.Replaced.{CanReplace, with_plan};
 ghost use Rattle.pl_update.specs.Evaluations.Kept.{AreOf};
 ghost use Rattle.pl_board.specs.Boards.{IsWatched};
 
 use crate::asking::{asked_by, asked_of};
 use pl_conflict::{Conflict, ConflictSet};
-use pl_detect::{demands, detect};
+use pl_detect::detect;
 use pl_facts::Goal;
 use pl_links::Links;
 use pl_lists::Copied;
@@ -194,34 +193,6 @@ impl WatchedState {
             .bases
             .set(line, i64::from(self.state.moment), value);
         Ok(())
-    }
-
-    pub(crate) fn commit(&mut self, alloc: Global, h: u32) -> Result<(), AllocError>
-        requires watched { IsWatched self.old }
-        requires least { self.old.state.committed ≤ h }
-        requires most { h ≤ self.old.state.model.horizon }
-        ensures state { OnOk result (self.new.state ≡ committed_to h self.old.state) }
-        ensures watched { OnOk result (IsWatched self.new) }
-    {
-        let is_clear = self.is_clear_before(h);
-        self.state.committed = h;
-        if is_clear {
-            return Ok(());
-        }
-        let asked = demands(alloc, &self.state)?;
-        self.conflicts = detect(alloc, &self.state, &asked)?;
-        Ok(())
-    }
-
-    // Whether no conflict touches what comes before a moment.
-    fn is_clear_before(&self, h: u32) -> bool
-        requires { IsWatched self.now }
-        ensures { IsTrue result → All (λ k. touches_before h k ≡ false) self.now.conflicts }
-    {
-        match self.conflicts.first() {
-            Some(conflict) => h <= conflict.from,
-            None => true,
-        }
     }
 }
 

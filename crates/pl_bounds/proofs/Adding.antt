@@ -19,7 +19,7 @@ use Rattle.pl_semantics.specs.Demands.{demands_at, demands_of}
 use Rattle.pl_semantics.specs.Legal.{MayBeMade}
 use Rattle.pl_semantics.specs.Moves.{applied, root_for}
 use Rattle.pl_semantics.specs.PlanStates.{found, row_of}
-use Rattle.pl_semantics.specs.Whole.{IsWhole, IsCarried, IsGoalOf, IsIdBelow}
+use Rattle.pl_semantics.specs.Whole.{IsWhole, IsCarried, IsGoalOf, IsIdBelow, HasBegun}
 use Rattle.pl_semantics.proofs.Refusing.{may}
 use Rattle.pl_update.specs.Changes.Replaced.{CanReplace, with_plan}
 use Rattle.pl_update.specs.Timelines.Laws.{coming_to}
@@ -91,7 +91,7 @@ module _ (s : PlanState) (whole : IsWhole s) (next : s.next_id ≤ 3999999000) (
   fits_alone : Fits s.model (lone ∷ [])
   fits_alone = record {
     rooted = rooted_alone;
-    each = All-cons (FitsAlone s.model) lone [] (record { kind = fits_itself.kind; start = fits_itself.start; set = fits_itself.set; choice = tt }) (All-nil (FitsAlone s.model));
+    each = All-cons (FitsAlone s.model) lone [] (record { kind = fits_itself.kind; start = fits_itself.start; set = fits_itself.set; choice = tt; measured = tt }) (All-nil (FitsAlone s.model));
     filled = All-cons (AreFilled s.model (lone ∷ [])) lone [] (λ slot d lt. absurd (omega (arith, lt))) (All-nil (AreFilled s.model (lone ∷ [])));
     no_other = All-cons (IsInSlot s.model (lone ∷ [])) lone [] tt (All-nil (IsInSlot s.model (lone ∷ [])));
   }
@@ -110,6 +110,7 @@ module _ (s : PlanState) (whole : IsWhole s) (next : s.next_id ≤ 3999999000) (
     ids = All-cons (IsIdBelow (s.next_id + 1)) lone [] (whole.next.0, omega arith) (All-nil (IsIdBelow (s.next_id + 1)));
     next = (omega arith, omega (arith, next));
     limit = whole.limit;
+    begun = All-cons (HasBegun s.moment s.committed) lone [] tt (All-nil (HasBegun s.moment s.committed));
     live = (let keeps : MayBeMade s (Add kind start goal) = may s (Add kind start goal) can.allowed in omega (arith, keeps.room));
   }
 
@@ -137,7 +138,7 @@ module _ (s : PlanState) (whole : IsWhole s) (next : s.next_id ≤ 3999999000) (
           let low : start ≤ start + to = omega arith in
           let back : (start + to) - start ≡ to = omega arith in
           ap (map (demand_moved start to)) (asks_alone s whole next kind start goal can)
-          ∙ (sym (asks_moved start to s.model first row_of_first low)
+          ∙ (sym (asks_moved start to s.model first row_of_first refl low)
           ∙ (ap (λ (n : ℕ). asks s.model (record first { start = n }) row_of_first) back
           ∙ sym (asks_then s whole next kind to goal there)))
 

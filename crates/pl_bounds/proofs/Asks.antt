@@ -28,13 +28,13 @@ pub asks_found : (s : PlanState) (a : Activity) → found s a.id ≡ Some a → 
 unfolding demands_at end_of
 asks_found s a here = ap (λ (o : Option Activity). of_found (demands_until s a) (end_in s.model o (row_of s a))) here
 
--- they move along with it
-pub asks_moved : (from to : ℕ) (model : Model) (a : Activity) (row : Row) → from ≤ a.start + to → asks model (moved from to a) row ≡ map (demand_moved from to) (asks model a row)
-asks_moved from to model a row low = ap (λ (o : Option ℕ). of_found (asks_until model (moved from to a) row) o) (end_on (kind_of model a)) ∙ by (end_in model (Some a) row)
+-- they move along with it, where its end was not measured
+pub asks_moved : (from to : ℕ) (model : Model) (a : Activity) (row : Row) → a.measured ≡ None → from ≤ a.start + to → asks model (moved from to a) row ≡ map (demand_moved from to) (asks model a row)
+asks_moved from to model a row none low = ap (λ (o : Option ℕ). of_found (asks_until model (moved from to a) row) o) (end_on (kind_of model a)) ∙ by (end_in model (Some a) row)
   where
-    end_on : (o : Option Kind) → option_and_then (λ k. end_with model.horizon k (moved_to from to a.start) row) o ≡ option_map (moved_to from to) (option_and_then (λ k. end_with model.horizon k a.start row) o)
+    end_on : (o : Option Kind) → option_and_then (λ k. end_with model.horizon k (moved_to from to a.start) a.measured row) o ≡ option_map (moved_to from to) (option_and_then (λ k. end_with model.horizon k a.start a.measured row) o)
     end_on None = refl
-    end_on (Some k) = end_moved from to model.horizon k a.start row low
+    end_on (Some k) = end_moved from to model.horizon k a.start a.measured row none low
 
     by : (o : Option ℕ) → of_found (asks_until model (moved from to a) row) (option_map (moved_to from to) o) ≡ map (demand_moved from to) (of_found (asks_until model a row) o)
     by None = refl

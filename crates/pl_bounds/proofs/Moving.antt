@@ -1,4 +1,4 @@
--- What an activity asks for moves along with it.
+-- What an activity asks for moves along with it, where its end was not measured.
 use Rattle.std.proofs.Common.{◌≡◌, ℕ, ◌+◌, ◌≤◌, Bool, true, false, cond, List, [], ◌∷◌, map, Option, Some, None, refl, sym, ap, ◌∙◌, arith, neg_ℤ}
 use Rattle.std.specs.Prelude.{option_and_then}
 use Rattle.std.specs.Option.{option_map}
@@ -26,8 +26,8 @@ module _ (from to : ℕ) where
   later : (start d : ℕ) → from ≤ start + to → moved_to from to start + d ≡ moved_to from to (start + d)
   later start d low = omega (arith, low)
 
-  pub end_moved : (horizon : ℕ) (k : Kind) (start : ℕ) (row : Row) → from ≤ start + to → end_with horizon k (moved_to from to start) row ≡ option_map (moved_to from to) (end_with horizon k start row)
-  end_moved horizon k start row low = by (is_firm_with horizon k row) (duration_in horizon k row)
+  pub end_moved : (horizon : ℕ) (k : Kind) (start : ℕ) (measured : Option ℕ) (row : Row) → measured ≡ None → from ≤ start + to → end_with horizon k (moved_to from to start) measured row ≡ option_map (moved_to from to) (end_with horizon k start measured row)
+  end_moved horizon k start measured row none low = rw none (by (is_firm_with horizon k row) (duration_in horizon k row))
     where
       by : (firm : Bool) (d : Option ℕ) → cond firm (option_map (λ n. moved_to from to start + n) d) None ≡ option_map (moved_to from to) (cond firm (option_map (λ n. start + n) d) None)
       by false d = refl
@@ -49,10 +49,10 @@ module _ (from to : ℕ) where
   all_on id start end row [] = refl
   all_on id start end row (r ∷ rs) = rw (asked_on id start end row r, all_on id start end row rs) refl
 
-  module _ (s : PlanState) (gone : List ℕ) (more : List Activity) (a : Activity) (here : found s a.id ≡ Some a) (there : found (with_plan gone more s) a.id ≡ Some (moved from to a)) (row : row_of (with_plan gone more s) (moved from to a) ≡ row_of s a) (low : from ≤ a.start + to) where
-    end_on : (o : Option Kind) → option_and_then (λ k. end_with s.model.horizon k (moved_to from to a.start) (row_of s a)) o ≡ option_map (moved_to from to) (option_and_then (λ k. end_with s.model.horizon k a.start (row_of s a)) o)
+  module _ (s : PlanState) (gone : List ℕ) (more : List Activity) (a : Activity) (here : found s a.id ≡ Some a) (there : found (with_plan gone more s) a.id ≡ Some (moved from to a)) (row : row_of (with_plan gone more s) (moved from to a) ≡ row_of s a) (none : a.measured ≡ None) (low : from ≤ a.start + to) where
+    end_on : (o : Option Kind) → option_and_then (λ k. end_with s.model.horizon k (moved_to from to a.start) a.measured (row_of s a)) o ≡ option_map (moved_to from to) (option_and_then (λ k. end_with s.model.horizon k a.start a.measured (row_of s a)) o)
     end_on None = refl
-    end_on (Some k) = end_moved s.model.horizon k a.start (row_of s a) low
+    end_on (Some k) = end_moved s.model.horizon k a.start a.measured (row_of s a) none low
 
     pub end_is : end_at (with_plan gone more s) (moved from to a) ≡ option_map (moved_to from to) (end_at s a)
     unfolding end_of

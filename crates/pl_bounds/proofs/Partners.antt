@@ -17,7 +17,6 @@ use Rattle.pl_plan.specs.declared.activity.Activity.{Activity}
 use Rattle.pl_plan.specs.declared.repair.RepairMove.TheVariants.{Shift}
 use Rattle.pl_plan.specs.Activities.{activity_of}
 use Rattle.pl_plan.specs.Firm.{end_in, end_of}
-use Rattle.pl_plan.specs.Fitting.{FitsAlone}
 use Rattle.pl_plan.specs.Trees.{descends, id_of, subtree_of}
 use Rattle.pl_plan.specs.Trees.Descends.{itself}
 use Rattle.pl_plan.specs.Values.{Row, values_of}
@@ -46,7 +45,7 @@ use Rattle.pl_bounds.proofs.Counted.{held_are_few}
 use Rattle.pl_bounds.proofs.Lonely.{lone_stands, lones_from, as_many, each_from, lones_differ}
 use Rattle.pl_bounds.proofs.Moving.{end_is}
 use Rattle.pl_bounds.proofs.Parts.{has_kept}
-use Rattle.pl_bounds.proofs.Shifting.{activities_then, found_then, rows_same, is_id, may_replace, by_replacing}
+use Rattle.pl_bounds.proofs.Shifting.{activities_then, found_then, rows_same, is_id, may_replace, by_replacing, unmeasured_under}
 
 -- ---- lists
 
@@ -75,9 +74,6 @@ late p change n (y ∷ ys) all = by (p y) refl (late p change n ys)
         All-cons (λ (z : Activity). p z ≡ true → n ≤ (change z).start) y ys (λ h. absurd (let bad : false ≡ true = sym e ∙ h in cc)) (more rest)
 
 -- ---- one from which no other descends
-
-pub own_live : (s : PlanState) → IsWhole s → (id : ℕ) (a : Activity) → found s id ≡ Some a → found s a.id ≡ Some a
-own_live s whole id a here = ap (found s) (all_at (FitsAlone s.model) s.plan.activities id a whole.fits.each here).1 ∙ here
 
 here_too : (p : ℕ → Bool) (id : ℕ) (top : Activity) (ys : List Activity) → p id ≡ true → activity_of id ys ≡ Some top → list_any (eqb id) (filter p (map id_of ys)) ≡ true
 here_too p id top [] passes is = absurd (cc)
@@ -183,7 +179,8 @@ module _ (s : PlanState) (whole : IsWhole s) (next : s.next_id ≤ 3999999000) (
   -- moved to that start it is placed as after the shift
   placed_own : placed_at to (placed_of s top) ≡ placed_of t own
   placed_own =
-      let firm : end_at t own ≡ option_map (moved_to top.start to) (end_at s top) = end_is top.start to s (subtree_of id xs) (moved_with s to (found s id)) top (ap (found s) own_id ∙ here) live_then (sym (rows top.id)) (omega arith) in
+      let none : top.measured ≡ None = (all_at (λ (y : Activity). under y ≡ true → y.measured ≡ None) xs id top (unmeasured_under s whole next id to top here can) here).0 (descends_complete xs whole.fits.rooted top.id top.id itself) in
+      let firm : end_at t own ≡ option_map (moved_to top.start to) (end_at s top) = end_is top.start to s (subtree_of id xs) (moved_with s to (found s id)) top (ap (found s) own_id ∙ here) live_then (sym (rows top.id)) none (omega arith) in
       ap (λ (n : ℕ). record (placed_of s top) { start = n; end = option_map (moved_to top.start to) (end_at s top) }) (sym start_is)
       ∙ ap (λ (o : Option ℕ). record (placed_of s top) { start = own.start; end = o }) (sym firm)
 

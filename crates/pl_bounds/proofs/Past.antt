@@ -1,7 +1,6 @@
 -- What a timeline is seen to come to, less what goes and more what comes, is what it comes to; so it is past its limit as often.
-use Rattle.std.proofs.Common.{◌≡◌, ℕ, zero, suc, ◌+◌, ◌-◌, ◌<◌, Bool, List, [], ◌∷◌, length, get_or, drop, refl, sym, ap, ◌∙◌, add-one, ◌+ℤ◌, arith}
+use Rattle.std.proofs.Common.{◌≡◌, ℕ, zero, suc, ◌-◌, Bool, List, [], ◌∷◌, refl, ap, ◌∙◌, ◌+ℤ◌, arith}
 use Rattle.std.specs.Prelude.{◌-ℤ◌, All}
-use Rattle.std.proofs.Math.Seq.{drop-cons}
 use Rattle.std.proofs.lemmas.Int.{ints}
 use Rattle.std.proofs.lemmas.List.Elements.{All-head, All-tail}
 use Rattle.pl_points.specs.Sums.{total}
@@ -29,11 +28,6 @@ use Rattle.pl_bounds.proofs.Pulled.{on, over_all, low_all, high_all}
 same_spans : (P Q : ℕ → Bool) → ((t : ℕ) → P t ≡ Q t) → (n a : ℕ) → spans_of P a n ≡ spans_of Q a n
 same_spans P Q same zero a = refl
 same_spans P Q same (suc n) a = rw (same a, same_spans P Q same n (suc a)) refl
-
--- one timeline more
-pub times_next : (s : PlanState) (a : Asking) (start : ℕ) (os : List Outside) (i : ℕ) (d : Outside) → i < length os
-    → times_with s a start (drop i os) ≡ length (spans_ahead s (is_past_with s (get_or os i d) a start)) + times_with s a start (drop (i + 1) os)
-times_next s a start os i d lt = ap (times_with s a start) (drop-cons os i d lt ∙ ap (λ (n : ℕ). get_or os i d ∷ drop n os) (sym (add-one i)))
 
 module _ (s : PlanState) (gone : List ℕ) (more : List Activity) (whole : IsWhole s) (can : CanReplace s gone more) (once : AreOnce gone) (a : Asking) (start : ℕ) (asked : IsAskedBy s gone more a start) where
   over_after : (base line t : ℕ) → ((value_at s Over line t -ℤ total (on Over base line t) a.going.items) +ℤ total (on Over base line t) (coming_at a start)) ≡ value_at (with_plan gone more s) Over line t

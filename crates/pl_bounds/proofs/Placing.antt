@@ -136,12 +136,12 @@ module _ (s : PlanState) (whole : IsWhole s) (next : s.next_id ≤ 3999999000) (
     abbrev own_row : Row
     own_row = row s whole next kind start goal can_first
 
-    end_then : (o : Option Kind) → option_map (moved_to start to) (option_and_then (λ k. end_with s.model.horizon k start own_row) o) ≡ option_and_then (λ k. end_with s.model.horizon k to own_row) o
+    end_then : (o : Option Kind) → option_map (moved_to start to) (option_and_then (λ k. end_with s.model.horizon k start None own_row) o) ≡ option_and_then (λ k. end_with s.model.horizon k to None own_row) o
     end_then None = refl
     end_then (Some k) =
         let low : start ≤ start + to = omega arith in
         let back : (start + to) - start ≡ to = omega arith in
-        sym (end_moved start to s.model.horizon k start own_row low) ∙ ap (λ (n : ℕ). end_with s.model.horizon k n own_row) back
+        sym (end_moved start to s.model.horizon k start None own_row refl low) ∙ ap (λ (n : ℕ). end_with s.model.horizon k n None own_row) back
 
     end_own : option_map (moved_to start to) (end_at (only s alone) alone) ≡ end_at t own
     unfolding end_of

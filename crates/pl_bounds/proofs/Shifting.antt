@@ -28,6 +28,7 @@ use Rattle.pl_update.specs.Timelines.Laws.{gone_from, coming_to}
 use Rattle.pl_moves.specs.Changes.{gone_by, placed_by}
 use Rattle.pl_moves.specs.Runs.{CanBeMade, start_of}
 use Rattle.pl_moves.proofs.Made.{IsMadeBy, made, can_replace}
+use Rattle.pl_moves.proofs.Unmeasured.{unmeasured}
 use Rattle.pl_bounds.specs.Asked.{IsAskedBy}
 use Rattle.pl_bounds.specs.Askings.{IsAskingOf}
 use Rattle.pl_update.specs.Evaluations.Shifted.{AreStill, still}
@@ -148,16 +149,20 @@ module _ (s : PlanState) (whole : IsWhole s) (next : s.next_id ≤ 3999999000) (
       let above : All (λ b. floor_of s ≤ b.start) (map (moved top.start to) (filter under xs)) = rw here at keeps.above in
       lows under top.start to (floor_of s) (omega arith) xs above
 
-  asks_then : (a : Activity) → found s a.id ≡ Some a → under a ≡ true → top.start ≤ a.start + to → demands_at then_ (moved top.start to a) ≡ map (demand_moved top.start to) (demands_at s a)
-  asks_then a is goes low =
+  -- what is moved along has no measured end
+  pub unmeasured_under : All (λ (a : Activity). under a ≡ true → a.measured ≡ None) xs
+  unmeasured_under = subst (λ (n : ℕ). All (λ (a : Activity). descends xs n a.id ≡ true → a.measured ≡ None) xs) (sym is_id) (unmeasured s whole (Shift id to) can.allowed)
+
+  asks_then : (a : Activity) → found s a.id ≡ Some a → under a ≡ true → a.measured ≡ None → top.start ≤ a.start + to → demands_at then_ (moved top.start to a) ≡ map (demand_moved top.start to) (demands_at s a)
+  asks_then a is goes none low =
       let there : found then_ a.id ≡ Some (moved top.start to a) = found_then a.id ∙ (ap (option_map one) is ∙ ap (λ (b : Bool). Some (cond b (moved top.start to a) a)) goes) in
-      demands_moved top.start to s gone more a is there (sym (rows_same a.id)) low
+      demands_moved top.start to s gone more a is there (sym (rows_same a.id)) none low
 
   each_asks : All (λ a. under a ≡ true → demands_at then_ (moved top.start to a) ≡ map (demand_moved top.start to) (of_found (demands_at s) (found s a.id))) xs
   each_asks k d lt goes =
       let a = get_or xs k d in
       let is : found s a.id ≡ Some a = each_found xs whole.rising k d lt in
-      asks_then a is goes (all_low k d lt goes) ∙ ap (λ (o : Option Activity). map (demand_moved top.start to) (of_found (demands_at s) o)) (sym is)
+      asks_then a is goes (unmeasured_under k d lt goes) (all_low k d lt goes) ∙ ap (λ (o : Option Activity). map (demand_moved top.start to) (of_found (demands_at s) o)) (sym is)
 
   coming_moved : map (demand_moved top.start to) (gone_from s gone) ≡ coming_to then_ more
   unfolding subtree_of

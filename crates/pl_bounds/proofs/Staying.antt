@@ -1,14 +1,14 @@
 -- How many conflicts of goals and activities a move leaves at least.
-use Rattle.std.proofs.Common.{◌≡◌, ℕ, ℤ, suc, ◌+◌, ◌-◌, ◌≤◌, eqb, Bool, true, false, cond, List, [], ◌∷◌, filter, length, Option, Some, None, refl, sym, ap, ◌∙◌, subst, inl, inr, arith}
+use Rattle.std.proofs.Common.{◌≡◌, ℕ, ℤ, suc, ◌+◌, ◌-◌, ◌≤◌, eqb, Bool, true, false, cond, List, [], ◌∷◌, filter, length, Option, refl, sym, ap, ◌∙◌, subst, inl, inr, arith}
 use Rattle.std.specs.Prelude.{◌||◌, slice_get}
 use Rattle.std.specs.Option.{option_to_list}
-use Rattle.std.proofs.lemmas.Bool.{eqb-true, and_parts, false_from_ne_true}
+use Rattle.std.proofs.lemmas.Bool.{false_from_ne_true}
 use Rattle.pl_conflict.specs.declared.conflict.Conflict.{Conflict}
 use Rattle.pl_conflict.specs.declared.conflict.Code.TheVariants.{Undetailed}
 use Rattle.pl_conflict.specs.declared.conflict.Code.TheVariants as code
 use Rattle.pl_conflict.specs.Order.{has}
 use Rattle.pl_conflict.proofs.Sorting.{same, same_is}
-use Rattle.pl_moves.specs.Runs.{CanBeMade, goes_on}
+use Rattle.pl_moves.specs.Runs.{CanBeMade}
 use Rattle.pl_update.specs.GoalsAndActivities.Near.{near, HoldSame}
 use Rattle.pl_update.specs.GoalsAndActivities.Touched.{touched_goals, touched_ids}
 use Rattle.pl_update.proofs.AboutGoalsAndActivities.Touching.{follows_same}
@@ -18,7 +18,6 @@ use Rattle.pl_plan.specs.Fitting.{alternatives_of}
 use Rattle.pl_plan.specs.Trees.{subtree_of}
 use Rattle.pl_semantics.specs.declared.plan_state.PlanState.{PlanState}
 use Rattle.pl_semantics.specs.Activities.{at_start, wrong_of}
-use Rattle.pl_semantics.specs.Candidates.{same_number}
 use Rattle.pl_semantics.specs.Conflicts.{conflicts_of}
 use Rattle.pl_semantics.specs.Moves.{applied, root_for}
 use Rattle.pl_semantics.specs.Parts.{part_of, of_activities}
@@ -40,32 +39,6 @@ use Rattle.pl_bounds.proofs.Unchosen.{unchosen}
 use Rattle.pl_bounds.proofs.Alike.{alike_delete, alike_shift, alike_add}
 
 -- ---- moves that place the same
-
-same_number_is : (m n : Option ℕ) → same_number m n ≡ true → m ≡ n
-same_number_is None None e = refl
-same_number_is None (Some n) e = absurd (cc)
-same_number_is (Some m) None e = absurd (cc)
-same_number_is (Some m) (Some n) e = ap (λ (k : ℕ). Some k) (eqb-true m n e)
-
-on_add : (kind start : ℕ) (goal : Option ℕ) (m : RepairMove) → goes_on (Add kind start goal) m ≡ true → (t : ℕ) × (m ≡ Add kind t goal)
-on_add kind start goal (Add k t g) e =
-    let both = and_parts (eqb kind k) (same_number goal g) e in
-    (t, ap (λ (j : ℕ). Add j t g) (sym (eqb-true kind k both.0)) ∙ ap (λ (h : Option ℕ). Add kind t h) (sym (same_number_is goal g both.1)))
-on_add kind start goal (Delete i) e = absurd (cc)
-on_add kind start goal (Shift i t) e = absurd (cc)
-on_add kind start goal (Detail i a) e = absurd (cc)
-on_add kind start goal (Abstract i) e = absurd (cc)
-on_add kind start goal (Assign i p v) e = absurd (cc)
-on_add kind start goal (Drop g) e = absurd (cc)
-
-on_shift : (id start : ℕ) (m : RepairMove) → goes_on (Shift id start) m ≡ true → (t : ℕ) × (m ≡ Shift id t)
-on_shift id start (Shift i t) e = (t, ap (λ (j : ℕ). Shift j t) (sym (eqb-true id i e)))
-on_shift id start (Add k t g) e = absurd (cc)
-on_shift id start (Delete i) e = absurd (cc)
-on_shift id start (Detail i a) e = absurd (cc)
-on_shift id start (Abstract i) e = absurd (cc)
-on_shift id start (Assign i p v) e = absurd (cc)
-on_shift id start (Drop g) e = absurd (cc)
 
 pub alike_assign : (id param : ℕ) (value : ℤ) (m : RepairMove) → IsAlike (Assign id param value) m → m ≡ Assign id param value
 alike_assign id param value m (inl e) = e

@@ -1,9 +1,9 @@
 -- A tally of one more moment, and what a tally says of spans.
-use Rattle.std.proofs.Common.{◌≡◌, ℕ, suc, ◌+◌, ◌-◌, ◌<◌, ◌≤◌, Bool, false, List, [], ◌∷◌, ◌++◌, length, refl, ap, subst, arith}
+use Rattle.std.proofs.Common.{◌≡◌, ℕ, suc, ◌+◌, ◌-◌, ◌<◌, ◌≤◌, Bool, false, List, [], ◌∷◌, ◌++◌, length, ap, subst, arith}
 use Rattle.std.proofs.lemmas.List.{append_assoc, append-nil}
 use Rattle.pl_points.specs.Spans.{spans_of}
 use Rattle.pl_bounds.specs.Risings.{rise, risings, AreMoments}
-use Rattle.pl_bounds.specs.Tallies.{fresh, IsTallyOf}
+use Rattle.pl_bounds.specs.Tallies.{IsTallyOf}
 use Rattle.pl_bounds.specs.declared.tally.Tally.{Tally}
 use Rattle.pl_bounds.proofs.Rising.{rises_few}
 
@@ -20,16 +20,6 @@ one_moment_more a b c t (x ∷ ts) are ab bt tc =
     (are.0, omega (arith, high, bt, tc), one_moment_more (suc x) b c t ts are.2 (omega (arith, high)) bt tc)
 
 -- ---- tallies
-
-pub none_yet : (P : ℕ → Bool) (from end : ℕ) → from ≤ end → IsTallyOf P from end (fresh from end)
-none_yet P from end le = record {
-  moments = [];
-  rising = tt;
-  begun = omega arith;
-  within = le;
-  upto = refl;
-  few = λ more. omega arith;
-}
 
 pub one_more : (P : ℕ → Bool) (from end : ℕ) (t : Tally) (at n : ℕ) (holds : Bool) → P at ≡ holds → IsTallyOf P from end t → t.next ≤ at → at < t.end → n ≤ t.times + rise t.before holds
     → IsTallyOf P from end (record { times = n; before = holds; next = at + 1; end = t.end })

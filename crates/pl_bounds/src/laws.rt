@@ -1,6 +1,6 @@
 //! Laws of the definitions, as contracts of functions that do nothing.
 
-ghost use Rattle.std.specs.Prelude.{◌≡◌, ◌≤◌, ◌+◌, ◌++◌, filter, ◌-◌, ◌+ℤ◌, Some, map, ℕ, Bool, true, false, List, length};
+ghost use Rattle.std.specs.Prelude.{◌≡◌, ◌≤◌, ◌+◌, ◌++◌, filter, ◌-◌, ◌+ℤ◌, None, Some, map, ℕ, Bool, true, false, List, length};
 ghost use Rattle.pl_conflict.specs.declared.conflict.Conflict.{Conflict};
 ghost use Rattle.pl_conflict.specs.Order.{has};
 ghost use Rattle.pl_conflict.specs.Sorting.{AreInOrder};
@@ -51,10 +51,10 @@ pub fn laws_of_starts()
     ensures { (model : Model) (xs ys : List Activity) → IsRooted xs → IsRooted ys → AreStill xs ys → (id : ℕ) → values_of model xs id ≡ values_of model ys id }
 {}
 
-/// What an activity asks for moves along with it.
+/// What an activity asks for moves along with it, where its end was not measured.
 pub fn laws_of_moving()
     ensures { (s : PlanState) (gone : List ℕ) (more : List Activity) (a : Activity) (from to : ℕ) → found s a.id ≡ Some a
-        → found (with_plan gone more s) a.id ≡ Some (moved from to a) → row_of (with_plan gone more s) (moved from to a) ≡ row_of s a → from ≤ a.start + to
+        → found (with_plan gone more s) a.id ≡ Some (moved from to a) → row_of (with_plan gone more s) (moved from to a) ≡ row_of s a → a.measured ≡ None → from ≤ a.start + to
         → demands_at (with_plan gone more s) (moved from to a) ≡ map (demand_moved from to) (demands_at s a) }
 {}
 

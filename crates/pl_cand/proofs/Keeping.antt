@@ -37,10 +37,6 @@ take_empty : {X : Type 0} (n : ℕ) (xs : List X) → xs ≡ [] → take n xs �
 take_empty zero xs is = refl
 take_empty (suc n) xs is = rw is refl
 
--- nothing comes of no others
-pub keep_none : {X Y : Type 0} (f : X → Y) (P : X → Bool) (kept : List Y) (n : ℕ) (xs : List X) → xs ≡ [] → kept ++ map f (take n (filter P xs)) ≡ kept
-keep_none f P kept n xs is = rw (take_empty n (filter P xs) (ap (filter P) is)) (append-nil kept)
-
 -- the same of a list that is kept up to a length
 pub room_more : {X Y : Type 0} (f : X → Y) (P : X → Bool) (most : ℕ) (kept : List Y) (x : X) (xs : List X) → length kept < most → P x ≡ true → kept ++ map f (take (most - length kept) (filter P (x ∷ xs))) ≡ (kept ++ f x ∷ []) ++ map f (take (most - length (kept ++ f x ∷ [])) (filter P xs))
 room_more f P most kept x xs room is =
@@ -60,12 +56,10 @@ numbered_here ks i k lt is =
 
 -- ---- the first eight users
 
-module _ (s : PlanState) (line : ℕ) (part : Role) (ids : List ℕ) (a : Activity) (rest : List Activity) where
-  pub users_full : 8 ≤ length ids → users_with s line part ids (a ∷ rest) ≡ users_with s line part ids rest
-  users_full full =
-      let none : (xs : List Activity) → take (8 - length ids) xs ≡ [] = λ xs. none_more (8 - length ids) xs (omega (arith, full)) in
-      ap (λ l. ids ++ map id_of l) (none (filter (is_user s line part) (a ∷ rest)) ∙ sym (none (filter (is_user s line part) rest)))
+pub users_full : (s : PlanState) (line : ℕ) (part : Role) (ids : List ℕ) (rest : List Activity) → 8 ≤ length ids → users_with s line part ids rest ≡ ids
+users_full s line part ids rest full = ap (λ l. ids ++ map id_of l) (none_more (8 - length ids) (filter (is_user s line part) rest) (omega (arith, full))) ∙ append-nil ids
 
+module _ (s : PlanState) (line : ℕ) (part : Role) (ids : List ℕ) (a : Activity) (rest : List Activity) where
   pub users_past : is_user s line part a ≡ false → users_with s line part ids (a ∷ rest) ≡ users_with s line part ids rest
   users_past is = ap (λ l. ids ++ map id_of l) (one_past (is_user s line part) (8 - length ids) a rest is)
 
@@ -110,17 +104,6 @@ once_same seen kept (m ∷ more) same = cases (list_any (same_move m) kept) refl
 
 pub once_is : (xs : List RepairMove) → once_from [] xs ≡ once_after [] xs
 once_is xs = once_same [] [] xs (λ q. refl)
-
-pub stand_full : (P : RepairMove → Bool) (kept : List RepairMove) (m : RepairMove) (xs : List RepairMove) → 256 ≤ length kept → standing P kept (m ∷ xs) ≡ standing P kept xs
-stand_full P kept m xs full =
-    let none : (ys : List RepairMove) → take (256 - length kept) ys ≡ [] = λ ys. none_more (256 - length kept) ys (omega (arith, full)) in
-    ap (λ l. kept ++ l) (none (once_after kept (filter P (m ∷ xs))) ∙ sym (none (once_after kept (filter P xs))))
-
-pub stand_worthless : (P : RepairMove → Bool) (kept : List RepairMove) (m : RepairMove) (xs : List RepairMove) → P m ≡ false → standing P kept (m ∷ xs) ≡ standing P kept xs
-stand_worthless P kept m xs is = rw is refl
-
-pub stand_again : (P : RepairMove → Bool) (kept : List RepairMove) (m : RepairMove) (xs : List RepairMove) → P m ≡ true → list_any (same_move m) kept ≡ true → standing P kept (m ∷ xs) ≡ standing P kept xs
-stand_again P kept m xs is again = rw (is, again) refl
 
 pub stand_new : (P : RepairMove → Bool) (kept : List RepairMove) (m : RepairMove) (xs : List RepairMove) → length kept < 256 → P m ≡ true → list_any (same_move m) kept ≡ false → standing P kept (m ∷ xs) ≡ standing P (kept ++ m ∷ []) xs
 stand_new P kept m xs room is fresh =

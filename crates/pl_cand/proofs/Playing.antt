@@ -19,7 +19,7 @@ use Rattle.pl_plan.proofs.Kept.{each_found}
 use Rattle.pl_semantics.specs.declared.plan_state.PlanState.{PlanState}
 use Rattle.pl_semantics.specs.PlanStates.{found, numbered, of_found, reservations_in, row_of, end_at}
 use Rattle.pl_semantics.specs.Whole.{IsWhole}
-use Rattle.pl_semantics.specs.LineRepairs.{around, takes_in, first_eight, lowers_below, raises_below}
+use Rattle.pl_semantics.specs.LineRepairs.{around, takes_in, first_eight}
 use Rattle.pl_plan.specs.Values.{Row}
 use Rattle.pl_semantics.specs.Demands.{amount_in, asked_for, demands_at}
 use Rattle.pl_model.specs.declared.kinds.Kind.{Kind}
@@ -30,7 +30,9 @@ use Rattle.pl_plan.proofs.FirmSteps.{checked_kind, amounts_named}
 use Rattle.pl_plan.proofs.ValueLaws.{values_solve}
 use Rattle.pl_semantics.specs.Starts.{moves_of}
 use Rattle.pl_cand.specs.ById.{around_id, moves_of_id}
-use Rattle.pl_cand.specs.Tests.{lowers_at, may_take, raises_at, uses_in, is_used_of}
+use Rattle.pl_cand.specs.Tests.{changes_at, changes_below, may_take, uses_in, is_used_of}
+use Rattle.pl_cand.specs.declared.role.Way.{Way}
+use Rattle.pl_cand.specs.declared.role.Way.TheVariants as way
 
 -- ---- by the ids
 
@@ -64,11 +66,9 @@ any_by f g of_take of_raise of_lower of_put of_must rs = any_agree f g each rs
     each (Put l state p) = of_put l state p
     each (Must l state) = of_must l state
 
-pub lowers_any : (s : PlanState) (line b : ℕ) (a : Activity) → lowers_below s line b a ≡ list_any (lowers_at s line b a) (reservations_in (kind_of s.model a))
-lowers_any s line b a = any_by _ (lowers_at s line b a) (λ l e. refl) (λ l e p. refl) (λ l e p. refl) (λ l state p. refl) (λ l state. refl) (reservations_in (kind_of s.model a))
-
-pub raises_any : (s : PlanState) (line b : ℕ) (a : Activity) → raises_below s line b a ≡ list_any (raises_at s line b a) (reservations_in (kind_of s.model a))
-raises_any s line b a = any_by _ (raises_at s line b a) (λ l e. refl) (λ l e p. refl) (λ l e p. refl) (λ l state p. refl) (λ l state. refl) (reservations_in (kind_of s.model a))
+pub changes_any : (w : Way) (s : PlanState) (line b : ℕ) (a : Activity) → changes_below w s line b a ≡ list_any (changes_at w s line b a) (reservations_in (kind_of s.model a))
+changes_any way.Down s line b a = any_by _ (changes_at way.Down s line b a) (λ l e. refl) (λ l e p. refl) (λ l e p. refl) (λ l state p. refl) (λ l state. refl) (reservations_in (kind_of s.model a))
+changes_any way.Up s line b a = any_by _ (changes_at way.Up s line b a) (λ l e. refl) (λ l e p. refl) (λ l e p. refl) (λ l state p. refl) (λ l state. refl) (reservations_in (kind_of s.model a))
 
 -- what one reservation asks for is used in a span where the reservation uses it
 module _ (line a b id start end : ℕ) (values : Row) where

@@ -14,6 +14,8 @@ use Rattle.pl_cand.specs.declared.help.Help.{Help}
 use Rattle.pl_cand.specs.declared.help.Help.TheVariants as help
 use Rattle.pl_cand.specs.declared.role.Role.{Role}
 use Rattle.pl_cand.specs.declared.role.Role.TheVariants as role
+use Rattle.pl_cand.specs.declared.role.Way.{Way}
+use Rattle.pl_cand.specs.declared.role.Way.TheVariants as way
 
 abbrev pub helps : ℕ → Help → Reservation → Bool
 helps line help.Raise r = raises line r
@@ -21,10 +23,14 @@ helps line help.Lower r = lowers line r
 helps line (help.SetState state) r = sets_state line state r
 helps line help.SetAny r = sets_any line r
 
+-- whether an activity lowers a level before a moment, or raises it
+abbrev pub changes_below : Way → PlanState → ℕ → ℕ → Activity → Bool
+changes_below way.Down = lowers_below
+changes_below way.Up = raises_below
+
 abbrev pub plays : PlanState → ℕ → Role → Activity → Bool
 plays s line (role.Uses a b) x = takes_in s line a b x
-plays s line (role.LowersBelow b) x = lowers_below s line b x
-plays s line (role.RaisesBelow b) x = raises_below s line b x
+plays s line (role.ChangesBelow b w) x = changes_below w s line b x
 
 -- not committed, and plays the role
 abbrev pub is_user : PlanState → ℕ → Role → Activity → Bool
@@ -46,13 +52,10 @@ is_used_of line a b d = (d.line == line) && is_used_in a b d.asked
 
 -- ---- one reservation of a level
 
-abbrev pub lowers_at : PlanState → ℕ → ℕ → Activity → Reservation → Bool
-lowers_at s line b a (Lower l e point) = (l == line) && point_counts s line b a point
-lowers_at s line b a _ = false
-
-abbrev pub raises_at : PlanState → ℕ → ℕ → Activity → Reservation → Bool
-raises_at s line b a (Raise l e point) = (l == line) && point_counts s line b a point
-raises_at s line b a _ = false
+abbrev pub changes_at : Way → PlanState → ℕ → ℕ → Activity → Reservation → Bool
+changes_at way.Down s line b a (Lower l e point) = (l == line) && point_counts s line b a point
+changes_at way.Up s line b a (Raise l e point) = (l == line) && point_counts s line b a point
+changes_at _ s line b a _ = false
 
 -- ---- the first eight users
 

@@ -21,7 +21,7 @@ use pl_plan::{Activity, RepairMove};
 use pl_semantics::PlanState;
 use std::alloc::{AllocError, Global};
 
-// Each of these values for one parameter.
+// Appends an assignment of each of these values to one parameter.
 fn add_values(
     id: u32,
     number: u8,
@@ -40,7 +40,7 @@ fn add_values(
     Ok(())
 }
 
-// Values for one parameter.
+// Appends assignments of values to one parameter, spread over its bounds.
 fn add_assigns(
     alloc: Global,
     id: u32,
@@ -56,7 +56,7 @@ fn add_assigns(
     Ok(())
 }
 
-// Values for one parameter, where it is free.
+// Appends assignments to one parameter, if it is free.
 fn add_if_free(
     alloc: Global,
     id: u32,
@@ -74,7 +74,7 @@ fn add_if_free(
     Ok(())
 }
 
-// Values for each of these parameters that is free.
+// Appends assignments to each of these parameters that is free.
 fn add_free_assigns(
     alloc: Global,
     id: u32,
@@ -92,22 +92,28 @@ fn add_free_assigns(
     Ok(())
 }
 
-// Values for each parameter that is free.
+// Appends assignments to each parameter of the activity that is free.
 #[tactic(auto, using(crate::proofs::Listing::free_all))]
 fn add_all_assigns(
     alloc: Global,
-    s: &PlanState,
+    state: &PlanState,
     a: &Activity,
     out: &mut Vec<RepairMove>,
 ) -> Result<(), AllocError>
-    requires { IsWhole s.now }
-    ensures { OnOk result (out.new.items ≡ out.old.items ++ all_assigns s.now a.now) }
+    requires { IsWhole state.now }
+    ensures { OnOk result (out.new.items ≡ out.old.items ++ all_assigns state.now a.now) }
 {
-    add_free_assigns(alloc, a.id, s.bindings_of(a), checked_params(s, a), out)?;
+    add_free_assigns(
+        alloc,
+        a.id,
+        state.bindings_of(a),
+        checked_params(state, a),
+        out,
+    )?;
     Ok(())
 }
 
-// Values for the parameter of this number.
+// Appends assignments to the parameter of this number.
 fn add_assigns_at(
     alloc: Global,
     id: u32,
@@ -128,81 +134,81 @@ fn add_assigns_at(
 #[tactic(auto, using(crate::proofs::Listing::assigns_at))]
 fn add_assigns_of(
     alloc: Global,
-    s: &PlanState,
+    state: &PlanState,
     a: &Activity,
     number: u32,
     out: &mut Vec<RepairMove>,
 ) -> Result<(), AllocError>
-    requires { IsWhole s.now }
-    ensures { OnOk result (out.new.items ≡ out.old.items ++ flat_map (assigns_one a.now number) (params_at s.now a.now)) }
+    requires { IsWhole state.now }
+    ensures { OnOk result (out.new.items ≡ out.old.items ++ flat_map (assigns_one a.now number) (params_at state.now a.now)) }
 {
-    add_assigns_at(alloc, a.id, checked_params(s, a), number, out)?;
+    add_assigns_at(alloc, a.id, checked_params(state, a), number, out)?;
     Ok(())
 }
 
-/// Appends values for a parameter that has none, and that the root goes.
+/// Appends assignments to a parameter that has no value, and the deletion of the root.
 pub(crate) fn for_unset(
     alloc: Global,
-    s: &PlanState,
+    state: &PlanState,
     a: &Activity,
     number: u32,
     out: &mut Vec<RepairMove>,
 ) -> Result<(), AllocError>
-    requires whole { IsWhole s.now }
-    requires live { activity_of a.now.id s.now.plan.activities ≡ Some a.now }
-    ensures { OnOk result (out.new.items ≡ out.old.items ++ for_unset s.now a.now number) }
+    requires whole { IsWhole state.now }
+    requires live { activity_of a.now.id state.now.plan.activities ≡ Some a.now }
+    ensures { OnOk result (out.new.items ≡ out.old.items ++ for_unset state.now a.now number) }
 {
-    add_assigns_of(alloc, s, a, number, out)?;
-    add_deletion(s, a, out)?;
+    add_assigns_of(alloc, state, a, number, out)?;
+    add_deletion(state, a, out)?;
     Ok(())
 }
 
-fn parent_at<'s>(s: &'s PlanState, a: &Activity) -> Option<&'s Activity>
-    ensures { option_copied result ≡ parent_at s.now a.now }
+fn parent_at<'s>(state: &'s PlanState, a: &Activity) -> Option<&'s Activity>
+    ensures { option_copied result ≡ parent_at state.now a.now }
 {
     match a.parent {
-        Some((parent, _)) => s.plan.get(parent),
+        Some((parent, _)) => state.plan.get(parent),
         None => None,
     }
 }
 
 fn add_assigns_above(
     alloc: Global,
-    s: &PlanState,
+    state: &PlanState,
     a: &Activity,
     out: &mut Vec<RepairMove>,
 ) -> Result<(), AllocError>
-    requires { IsWhole s.now }
-    ensures { OnOk result (out.new.items ≡ out.old.items ++ of_found (all_assigns s.now) (parent_at s.now a.now)) }
+    requires { IsWhole state.now }
+    ensures { OnOk result (out.new.items ≡ out.old.items ++ of_found (all_assigns state.now) (parent_at state.now a.now)) }
 {
-    match parent_at(s, a) {
-        Some(parent) => add_all_assigns(alloc, s, parent, out),
+    match parent_at(state, a) {
+        Some(parent) => add_all_assigns(alloc, state, parent, out),
         None => Ok(()),
     }
 }
 
-/// Appends values for each free parameter of the activity and then of its parent, and that the root goes.
+/// Appends assignments to each free parameter of the activity and then of its parent, and the deletion of the root.
 pub(crate) fn for_bad_value(
     alloc: Global,
-    s: &PlanState,
+    state: &PlanState,
     a: &Activity,
     out: &mut Vec<RepairMove>,
 ) -> Result<(), AllocError>
-    requires whole { IsWhole s.now }
-    requires live { activity_of a.now.id s.now.plan.activities ≡ Some a.now }
-    ensures { OnOk result (out.new.items ≡ out.old.items ++ for_bad_value s.now a.now) }
+    requires whole { IsWhole state.now }
+    requires live { activity_of a.now.id state.now.plan.activities ≡ Some a.now }
+    ensures { OnOk result (out.new.items ≡ out.old.items ++ for_bad_value state.now a.now) }
 {
-    add_all_assigns(alloc, s, a, out)?;
-    add_assigns_above(alloc, s, a, out)?;
-    add_deletion(s, a, out)?;
+    add_all_assigns(alloc, state, a, out)?;
+    add_assigns_above(alloc, state, a, out)?;
+    add_deletion(state, a, out)?;
     Ok(())
 }
 
-fn add_details(s: &PlanState, a: &Activity, out: &mut Vec<RepairMove>) -> Result<(), AllocError>
-    requires { IsWhole s.now }
-    ensures { OnOk result (out.new.items ≡ out.old.items ++ map (detail_of a.now.id) (numbered 0 (alternatives_at s.now a.now))) }
+fn add_details(state: &PlanState, a: &Activity, out: &mut Vec<RepairMove>) -> Result<(), AllocError>
+    requires { IsWhole state.now }
+    ensures { OnOk result (out.new.items ≡ out.old.items ++ map (detail_of a.now.id) (numbered 0 (alternatives_at state.now a.now))) }
 {
-    let alternatives = checked_alternatives(s, a);
+    let alternatives = checked_alternatives(state, a);
     for (number, _alternative) in alternatives.iter().enumerate() {
         out.push(RepairMove::Detail {
             id: a.id,
@@ -212,36 +218,36 @@ fn add_details(s: &PlanState, a: &Activity, out: &mut Vec<RepairMove>) -> Result
     Ok(())
 }
 
-/// Appends each alternative of the activity's kind, and that the root goes.
+/// Appends each alternative of the activity's kind, and the deletion of the root.
 pub(crate) fn for_undetailed(
-    s: &PlanState,
+    state: &PlanState,
     a: &Activity,
     out: &mut Vec<RepairMove>,
 ) -> Result<(), AllocError>
-    requires whole { IsWhole s.now }
-    requires live { activity_of a.now.id s.now.plan.activities ≡ Some a.now }
-    ensures { OnOk result (out.new.items ≡ out.old.items ++ for_undetailed s.now a.now) }
+    requires whole { IsWhole state.now }
+    requires live { activity_of a.now.id state.now.plan.activities ≡ Some a.now }
+    ensures { OnOk result (out.new.items ≡ out.old.items ++ for_undetailed state.now a.now) }
 {
-    add_details(s, a, out)?;
-    add_deletion(s, a, out)?;
+    add_details(state, a, out)?;
+    add_deletion(state, a, out)?;
     Ok(())
 }
 
 /// Appends the shift by which a live activity, where it is firm, ends at this moment.
 pub(crate) fn end_by(
-    s: &PlanState,
+    state: &PlanState,
     a: &Activity,
     moment: u32,
     out: &mut Vec<RepairMove>,
 ) -> Result<(), AllocError>
-    requires whole { IsWhole s.now }
-    requires live { activity_of a.now.id s.now.plan.activities ≡ Some a.now }
-    ensures { OnOk result (out.new.items ≡ out.old.items ++ end_by s.now a.now (pos moment)) }
+    requires whole { IsWhole state.now }
+    requires live { activity_of a.now.id state.now.plan.activities ≡ Some a.now }
+    ensures { OnOk result (out.new.items ≡ out.old.items ++ end_by state.now a.now (pos moment)) }
 {
-    match end_of(s, a) {
+    match end_of(state, a) {
         Some(end) => {
             let duration = i64::from(end) - i64::from(a.start);
-            add_shift(s, a.id, i64::from(moment) - duration, out)?;
+            add_shift(state, a.id, i64::from(moment) - duration, out)?;
             Ok(())
         }
         None => Ok(()),
@@ -251,15 +257,15 @@ pub(crate) fn end_by(
 /// Appends the shift by which the activity ends at the horizon, and its moves.
 pub(crate) fn for_overrun(
     alloc: Global,
-    s: &PlanState,
+    state: &PlanState,
     a: &Activity,
     out: &mut Vec<RepairMove>,
 ) -> Result<(), AllocError>
-    requires whole { IsWhole s.now }
-    requires live { activity_of a.now.id s.now.plan.activities ≡ Some a.now }
-    ensures { OnOk result (out.new.items ≡ out.old.items ++ for_overrun s.now a.now) }
+    requires whole { IsWhole state.now }
+    requires live { activity_of a.now.id state.now.plan.activities ≡ Some a.now }
+    ensures { OnOk result (out.new.items ≡ out.old.items ++ for_overrun state.now a.now) }
 {
-    end_by(s, a, s.model.get().horizon, out)?;
-    add_moves(alloc, s, a, out)?;
+    end_by(state, a, state.model.get().horizon, out)?;
+    add_moves(alloc, state, a, out)?;
     Ok(())
 }

@@ -10,7 +10,8 @@ ghost use Rattle.pl_cand.specs.Tried.{tried_with};
 use crate::activities::{for_bad_value, for_overrun, for_undetailed, for_unset};
 use crate::cuts::cut;
 use crate::goals::for_goal;
-use crate::links::{for_linked, for_temporal};
+use crate::links::for_temporal;
+use crate::orders::for_linked;
 use crate::repairs::add_moves;
 use crate::timelines::{for_bad_step, for_high, for_low, for_must, for_over};
 use pl_board::Board;
@@ -21,81 +22,81 @@ use std::alloc::{AllocError, Global};
 
 fn for_open_goal(
     alloc: Global,
-    s: &PlanState,
+    state: &PlanState,
     number: u32,
     out: &mut Vec<RepairMove>,
 ) -> Result<(), AllocError>
-    requires { IsWhole s.now }
-    ensures { OnOk result (out.new.items ≡ out.old.items ++ of_found (for_goal s.now) (goal_at s.now number)) }
+    requires { IsWhole state.now }
+    ensures { OnOk result (out.new.items ≡ out.old.items ++ of_found (for_goal state.now) (goal_at state.now number)) }
 {
-    match s.goals.get(number) {
-        Some(goal) => for_goal(alloc, s, goal, out),
+    match state.goals.get(number) {
+        Some(goal) => for_goal(alloc, state, goal, out),
         None => Ok(()),
     }
 }
 
-// All that is tried for what is wrong with an activity.
+// Appends all that is tried for a conflict of an activity.
 fn for_activity(
     alloc: Global,
-    s: &PlanState,
+    state: &PlanState,
     a: &Activity,
     k: &Conflict,
     out: &mut Vec<RepairMove>,
 ) -> Result<(), AllocError>
-    requires whole { IsWhole s.now }
-    requires live { activity_of a.now.id s.now.plan.activities ≡ Some a.now }
-    ensures { OnOk result (out.new.items ≡ out.old.items ++ tried_with s.now a.now k.now k.now.code) }
+    requires whole { IsWhole state.now }
+    requires live { activity_of a.now.id state.now.plan.activities ≡ Some a.now }
+    ensures { OnOk result (out.new.items ≡ out.old.items ++ tried_with state.now a.now k.now k.now.code) }
 {
     match k.code {
-        Code::OffGoal => add_moves(alloc, s, a, out),
-        Code::Late => add_moves(alloc, s, a, out),
-        Code::Unset => for_unset(alloc, s, a, k.detail, out),
-        Code::BadValue => for_bad_value(alloc, s, a, out),
-        Code::Undetailed => for_undetailed(s, a, out),
-        Code::Overrun => for_overrun(alloc, s, a, out),
-        Code::Temporal => for_temporal(alloc, s, a, k.detail, out),
-        Code::Linked => for_linked(alloc, s, a, k.detail, out),
-        Code::Must => for_must(alloc, s, a, k.detail, k.a, out),
-        Code::BadStep => for_bad_step(alloc, s, a, k.detail, k.a, out),
+        Code::OffGoal => add_moves(alloc, state, a, out),
+        Code::Late => add_moves(alloc, state, a, out),
+        Code::Unset => for_unset(alloc, state, a, k.detail, out),
+        Code::BadValue => for_bad_value(alloc, state, a, out),
+        Code::Undetailed => for_undetailed(state, a, out),
+        Code::Overrun => for_overrun(alloc, state, a, out),
+        Code::Temporal => for_temporal(alloc, state, a, k.detail, out),
+        Code::Linked => for_linked(alloc, state, a, k.detail, out),
+        Code::Must => for_must(alloc, state, a, k.detail, k.a, out),
+        Code::BadStep => for_bad_step(alloc, state, a, k.detail, k.a, out),
         _ => Ok(()),
     }
 }
 
 fn for_subject(
     alloc: Global,
-    s: &PlanState,
+    state: &PlanState,
     k: &Conflict,
     out: &mut Vec<RepairMove>,
 ) -> Result<(), AllocError>
-    requires { IsWhole s.now }
-    ensures { OnOk result (out.new.items ≡ out.old.items ++ of_found (λ a. tried_with s.now a k.now k.now.code) (found s.now k.now.subject)) }
+    requires { IsWhole state.now }
+    ensures { OnOk result (out.new.items ≡ out.old.items ++ of_found (λ a. tried_with state.now a k.now k.now.code) (found state.now k.now.subject)) }
 {
-    match s.live(k.subject) {
-        Some(a) => for_activity(alloc, s, a, k, out),
+    match state.live(k.subject) {
+        Some(a) => for_activity(alloc, state, a, k, out),
         None => Ok(()),
     }
 }
 
-/// All that is tried, in order.
+/// Appends all moves that are tried for a conflict, in order.
 pub(crate) fn tried(
     alloc: Global,
-    s: &PlanState,
+    state: &PlanState,
     k: &Conflict,
     out: &mut Vec<RepairMove>,
 ) -> Result<(), AllocError>
-    requires { IsWhole s.now }
-    ensures { OnOk result (out.new.items ≡ out.old.items ++ tried_for s.now k.now k.now.code) }
+    requires { IsWhole state.now }
+    ensures { OnOk result (out.new.items ≡ out.old.items ++ tried_for state.now k.now k.now.code) }
 {
     match k.code {
-        Code::OpenGoal => for_open_goal(alloc, s, k.subject, out),
-        Code::Over => for_over(alloc, s, k.subject, k.a, k.b, out),
-        Code::Low => for_low(alloc, s, k.subject, k.a, k.b, out),
-        Code::High => for_high(alloc, s, k.subject, k.a, k.b, out),
-        _ => for_subject(alloc, s, k, out),
+        Code::OpenGoal => for_open_goal(alloc, state, k.subject, out),
+        Code::Over => for_over(alloc, state, k.subject, k.a, k.b, out),
+        Code::Low => for_low(alloc, state, k.subject, k.a, k.b, out),
+        Code::High => for_high(alloc, state, k.subject, k.a, k.b, out),
+        _ => for_subject(alloc, state, k, out),
     }
 }
 
-// Room for the starts of one activity, and one more.
+// How many moves there is room for at first: the starts of one activity, and one more.
 const ROOM: usize = 17;
 
 /// The moves that are tried for a conflict, in order: 256 at most, each proper, none twice.
@@ -104,8 +105,8 @@ pub fn candidates(alloc: Global, board: &Board, k: &Conflict) -> Result<Vec<Repa
     requires { board.now.spoiled ≡ false }
     ensures { IfOk result (λ all. all.items ≡ candidates_of board.now.state k.now) }
 {
-    let s = board.state();
+    let state = board.state();
     let mut all = Vec::with_capacity(alloc, ROOM)?;
-    tried(alloc, s, k, &mut all)?;
-    cut(alloc, s, all.as_slice())
+    tried(alloc, state, k, &mut all)?;
+    cut(alloc, state, all.as_slice())
 }

@@ -15,7 +15,7 @@ use std::alloc::{AllocError, Global};
 /// The most candidates.
 pub(crate) const MOST: usize = 256;
 
-/// Whether two moves are one.
+/// Whether two moves are the same.
 pub(crate) fn is_same(one: &RepairMove, other: &RepairMove) -> bool
     ensures { result ≡ same_move one.now other.now }
 {
@@ -53,7 +53,7 @@ pub(crate) fn is_same(one: &RepairMove, other: &RepairMove) -> bool
     }
 }
 
-// Whether it is a shift of this activity to this start.
+// Whether the move is a shift of this activity to this start.
 fn is_shift(mv: &RepairMove, id: u32, start: u32) -> bool
     ensures { result ≡ same_move (Shift id start) mv.now }
 {
@@ -118,27 +118,27 @@ fn are_alike(one: &RepairMove, other: &RepairMove) -> bool
     }
 }
 
-fn worth_behind(s: &PlanState, last: &Looked, mv: &RepairMove) -> bool
-    requires whole { IsWhole s.now }
-    requires last { last.now.worth ≡ is_worth s.now last.now.mv }
-    ensures { result ≡ is_worth s.now mv.now }
+fn worth_behind(state: &PlanState, last: &Looked, mv: &RepairMove) -> bool
+    requires whole { IsWhole state.now }
+    requires last { last.now.worth ≡ is_worth state.now last.now.mv }
+    ensures { result ≡ is_worth state.now mv.now }
 {
     if are_alike(&last.mv, mv) {
         last.worth
     } else {
-        is_worth(s, mv)
+        is_worth(state, mv)
     }
 }
 
 // Whether a move makes sense and changes something, given the one that was looked at before it.
-fn worth_after(s: &PlanState, last: &Option<Looked>, mv: &RepairMove) -> bool
-    requires whole { IsWhole s.now }
-    requires last { IfSome last.now (λ l. l.worth ≡ is_worth s.now l.mv) }
-    ensures { result ≡ is_worth s.now mv.now }
+fn worth_after(state: &PlanState, last: &Option<Looked>, mv: &RepairMove) -> bool
+    requires whole { IsWhole state.now }
+    requires last { IfSome last.now (λ l. l.worth ≡ is_worth state.now l.mv) }
+    ensures { result ≡ is_worth state.now mv.now }
 {
     match last {
-        Some(last) => worth_behind(s, last, mv),
-        None => is_worth(s, mv),
+        Some(last) => worth_behind(state, last, mv),
+        None => is_worth(state, mv),
     }
 }
 
@@ -162,16 +162,16 @@ fn add_if_new(mv: &RepairMove, worth: bool, kept: &mut Vec<RepairMove>) -> Resul
 /// The moves that make sense and change something, each where it first stands, and of these the first 256.
 pub(crate) fn cut(
     alloc: Global,
-    s: &PlanState,
+    state: &PlanState,
     tried: &[RepairMove],
 ) -> Result<Vec<RepairMove>, AllocError>
-    requires { IsWhole s.now }
-    ensures { IfOk result (λ all. all.items ≡ take 256 (once_from [] (filter (is_worth s.now) tried.now))) }
+    requires { IsWhole state.now }
+    ensures { IfOk result (λ all. all.items ≡ take 256 (once_from [] (filter (is_worth state.now) tried.now))) }
 {
     let mut kept = Vec::with_capacity(alloc, tried.len().min(MOST))?;
     let mut last = None;
     for mv in tried {
-        let worth = worth_after(s, &last, mv);
+        let worth = worth_after(state, &last, mv);
         add_if_new(mv, worth, &mut kept)?;
         last = Some(Looked { mv: *mv, worth });
     }

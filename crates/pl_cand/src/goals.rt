@@ -12,34 +12,34 @@ use pl_plan::RepairMove;
 use pl_semantics::PlanState;
 use std::alloc::{AllocError, Global};
 
-// An activity that serves the goal, from start to start.
+// Appends additions of an activity that serves the goal, one for each start that is tried.
 fn add_serving(
     alloc: Global,
-    s: &PlanState,
+    state: &PlanState,
     goal: &Goal,
     out: &mut Vec<RepairMove>,
 ) -> Result<(), AllocError>
-    requires { IsWhole s.now }
-    ensures { OnOk result (out.new.items ≡ out.old.items ++ serving s.now goal.now) }
+    requires { IsWhole state.now }
+    ensures { OnOk result (out.new.items ≡ out.old.items ++ serving state.now goal.now) }
 {
-    let earliest = from_floor(s, i64::from(goal.earliest));
-    let latest = to_last(s, i64::from(goal.latest));
+    let earliest = from_floor(state, i64::from(goal.earliest));
+    let latest = to_last(state, i64::from(goal.latest));
     let starts = spread(alloc, earliest, latest)?;
-    add_news(s, goal.kind, Some(goal.number), starts.as_slice(), out)?;
+    add_news(state, goal.kind, Some(goal.number), starts.as_slice(), out)?;
     Ok(())
 }
 
-/// Appends an activity that serves the goal, from start to start, and that the goal is dropped.
+/// Appends additions of an activity that serves the goal, one for each start that is tried, and the drop of the goal.
 pub(crate) fn for_goal(
     alloc: Global,
-    s: &PlanState,
+    state: &PlanState,
     goal: &Goal,
     out: &mut Vec<RepairMove>,
 ) -> Result<(), AllocError>
-    requires { IsWhole s.now }
-    ensures { OnOk result (out.new.items ≡ out.old.items ++ for_goal s.now goal.now) }
+    requires { IsWhole state.now }
+    ensures { OnOk result (out.new.items ≡ out.old.items ++ for_goal state.now goal.now) }
 {
-    add_serving(alloc, s, goal, out)?;
+    add_serving(alloc, state, goal, out)?;
     out.push(RepairMove::Drop { goal: goal.number })?;
     Ok(())
 }

@@ -1,4 +1,4 @@
-/// What a kind does with a timeline that helps.
+/// What an activity of a kind does to a timeline to help against a conflict.
 #[derive(Clone, Copy, Debug, PartialEq, Eq)]
 pub(crate) enum Help {
     Raise,

@@ -12,6 +12,7 @@ mod links;
 mod making;
 mod membership;
 mod numbers;
+mod orders;
 mod proposal;
 mod reading;
 mod repairs;

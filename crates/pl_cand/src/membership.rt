@@ -1,4 +1,4 @@
-//! Whether a move is a candidate. It is seldom needed to leave out what stands twice.
+//! Whether a move is a candidate. Mostly this is told without leaving out the moves that stand twice.
 ghost use Rattle.std.specs.Prelude.{◌≡◌, [], take, filter, IfOk, false};
 ghost use Rattle.std.specs.List.{list_any};
 ghost use Rattle.pl_semantics.specs.Whole.{IsWhole};
@@ -32,17 +32,17 @@ fn first(moves: &[RepairMove]) -> &[RepairMove]
     }
 }
 
-/// Whether the move stands in what is left of those that are tried.
+/// Whether the move is among those that are left of the moves that are tried.
 fn is_left(
     alloc: Global,
-    s: &PlanState,
+    state: &PlanState,
     moves: &[RepairMove],
     mv: &RepairMove,
 ) -> Result<bool, AllocError>
-    requires { IsWhole s.now }
-    ensures { IfOk result (λ left. left ≡ list_any (same_move mv.now) (take 256 (once_from [] (filter (is_worth s.now) moves.now)))) }
+    requires { IsWhole state.now }
+    ensures { IfOk result (λ left. left ≡ list_any (same_move mv.now) (take 256 (once_from [] (filter (is_worth state.now) moves.now)))) }
 {
-    if !is_worth(s, mv) {
+    if !is_worth(state, mv) {
         return Ok(false);
     }
     if is_among(mv, first(moves)) {
@@ -51,7 +51,7 @@ fn is_left(
     if moves.len() <= MOST {
         return Ok(false);
     }
-    let left = cut(alloc, s, moves)?;
+    let left = cut(alloc, state, moves)?;
     Ok(is_among(mv, left.as_slice()))
 }
 
@@ -66,8 +66,8 @@ pub fn is_candidate(
     requires { board.now.spoiled ≡ false }
     ensures { IfOk result (λ is. is ≡ list_any (same_move mv.now) (candidates_of board.now.state k.now)) }
 {
-    let s = board.state();
+    let state = board.state();
     let mut all = Vec::new(alloc);
-    tried(alloc, s, k, &mut all)?;
-    is_left(alloc, s, all.as_slice(), mv)
+    tried(alloc, state, k, &mut all)?;
+    is_left(alloc, state, all.as_slice(), mv)
 }

@@ -9,7 +9,7 @@ use crate::{repairs, strides};
 use pl_board::Board;
 use std::alloc::{AllocError, Global};
 
-// The same numbers, none of which is below 0.
+// The same numbers in the type of starts; none of them is below 0.
 fn from_zero(alloc: Global, numbers: &[i64]) -> Result<Vec<u32>, AllocError>
     requires { All IsSmall numbers.now }
     ensures { IfOk result (λ all. map pos all.items ≡ numbers.now) }
@@ -36,8 +36,8 @@ pub fn places(alloc: Global, board: &Board, id: u32) -> Result<Vec<u32>, AllocEr
     requires live { IsLive id board.now.state.plan.activities }
     ensures { IfOk result (λ all. map pos all.items ≡ places_at board.now.state id) }
 {
-    let s = board.state();
-    let a = s.live(id).unwrap();
-    let starts = repairs::places(alloc, s, a)?;
+    let state = board.state();
+    let a = state.live(id).unwrap();
+    let starts = repairs::places(alloc, state, a)?;
     from_zero(alloc, starts.as_slice())
 }

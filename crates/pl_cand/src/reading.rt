@@ -19,129 +19,129 @@ use pl_plan::Activity;
 use pl_semantics::PlanState;
 
 /// The least start that a repair may give.
-pub(crate) fn floor(s: &PlanState) -> i64
-    requires { IsWhole s.now }
-    ensures value { result ≡ floor_at s.now }
+pub(crate) fn floor(state: &PlanState) -> i64
+    requires { IsWhole state.now }
+    ensures value { result ≡ floor_at state.now }
     ensures near { IsNear result }
 {
-    i64::from(s.floor())
+    i64::from(state.floor())
 }
 
 /// The last start that may be.
-pub(crate) fn last(s: &PlanState) -> i64
-    ensures value { result ≡ last_of s.now }
+pub(crate) fn last(state: &PlanState) -> i64
+    ensures value { result ≡ last_of state.now }
     ensures near { IsNear result }
 {
-    i64::from(s.model.get().horizon) - 1
+    i64::from(state.model.get().horizon) - 1
 }
 
 /// The moment, or the floor where it lies below.
-pub(crate) fn from_floor(s: &PlanState, moment: i64) -> i64
-    requires whole { IsWhole s.now }
+pub(crate) fn from_floor(state: &PlanState, moment: i64) -> i64
+    requires whole { IsWhole state.now }
     requires moment { IsNear moment }
-    ensures value { result ≡ int_max moment (floor_at s.now) }
+    ensures value { result ≡ int_max moment (floor_at state.now) }
     ensures near { IsNear result }
 {
-    moment.max(floor(s))
+    moment.max(floor(state))
 }
 
 /// The moment, or the last start where it lies above.
-pub(crate) fn to_last(s: &PlanState, moment: i64) -> i64
+pub(crate) fn to_last(state: &PlanState, moment: i64) -> i64
     requires { IsNear moment }
-    ensures value { result ≡ int_min moment (last_of s.now) }
+    ensures value { result ≡ int_min moment (last_of state.now) }
     ensures near { IsNear result }
 {
-    moment.min(last(s))
+    moment.min(last(state))
 }
 
 /// The parameters of its kind, at most sixteen, whose bounds are near 0.
-pub(crate) fn checked_params<'s>(s: &'s PlanState, a: &Activity) -> &'s [Param]
-    requires { IsWhole s.now }
-    ensures value { result.now ≡ params_of (kind_of s.now.model a.now) }
+pub(crate) fn checked_params<'s>(state: &'s PlanState, a: &Activity) -> &'s [Param]
+    requires { IsWhole state.now }
+    ensures value { result.now ≡ params_of (kind_of state.now.model a.now) }
     ensures few { length result.now ≤ 16 }
     ensures near { All AreNear result.now }
 {
-    s.params_of(a)
+    state.params_of(a)
 }
 
-fn reservations_of_kind<'s>(s: &'s PlanState, a: &Activity) -> &'s [Reservation]
-    ensures { result.now ≡ reservations_in (kind_of s.now.model a.now) }
+fn reservations_of_kind<'s>(state: &'s PlanState, a: &Activity) -> &'s [Reservation]
+    ensures { result.now ≡ reservations_in (kind_of state.now.model a.now) }
 {
-    match s.kind_of(a) {
+    match state.kind_of(a) {
         Some(kind) => kind.reservations.as_slice(),
         None => &[],
     }
 }
 
 /// What its kind asks of timelines.
-pub(crate) fn reservations_of<'s>(s: &'s PlanState, a: &Activity) -> &'s [Reservation]
-    requires { IsWhole s.now }
-    ensures value { result.now ≡ reservations_in (kind_of s.now.model a.now) }
-    ensures level { All (IsOfLevel s.now) result.now }
+pub(crate) fn reservations_of<'s>(state: &'s PlanState, a: &Activity) -> &'s [Reservation]
+    requires { IsWhole state.now }
+    ensures value { result.now ≡ reservations_in (kind_of state.now.model a.now) }
+    ensures level { All (IsOfLevel state.now) result.now }
 {
-    reservations_of_kind(s, a)
+    reservations_of_kind(state, a)
 }
 
-fn links_of_kind<'s>(s: &'s PlanState, a: &Activity) -> &'s [Link]
-    ensures { result.now ≡ links_of s.now.model (placed_of s.now a.now) }
+fn links_of_kind<'s>(state: &'s PlanState, a: &Activity) -> &'s [Link]
+    ensures { result.now ≡ links_of state.now.model (placed_of state.now a.now) }
 {
-    match s.kind_of(a) {
+    match state.kind_of(a) {
         Some(kind) => kind.links.as_slice(),
         None => &[],
     }
 }
 
 /// The temporal links of its kind.
-pub(crate) fn links_of<'s>(s: &'s PlanState, a: &Activity) -> &'s [Link]
-    requires { IsWhole s.now }
-    ensures value { result.now ≡ links_of s.now.model (placed_of s.now a.now) }
+pub(crate) fn links_of<'s>(state: &'s PlanState, a: &Activity) -> &'s [Link]
+    requires { IsWhole state.now }
+    ensures value { result.now ≡ links_of state.now.model (placed_of state.now a.now) }
     ensures close { All AreClose result.now }
 {
-    links_of_kind(s, a)
+    links_of_kind(state, a)
 }
 
 /// The alternatives of its kind, at most eight.
-pub(crate) fn checked_alternatives<'s>(s: &'s PlanState, a: &Activity) -> &'s [Alternative]
-    requires { IsWhole s.now }
-    ensures value { result.now ≡ alternatives_at s.now a.now }
+pub(crate) fn checked_alternatives<'s>(state: &'s PlanState, a: &Activity) -> &'s [Alternative]
+    requires { IsWhole state.now }
+    ensures value { result.now ≡ alternatives_at state.now a.now }
     ensures few { length result.now ≤ 8 }
 {
-    s.alternatives_of(a)
+    state.alternatives_of(a)
 }
 
 /// The order of this index of the chosen alternative, whose distances are near 0.
-pub(crate) fn checked_order<'s>(s: &'s PlanState, a: &Activity, index: u32) -> Option<&'s Order>
-    requires { IsWhole s.now }
-    ensures value { option_copied result ≡ order_at s.now a.now index }
+pub(crate) fn checked_order<'s>(state: &'s PlanState, a: &Activity, index: u32) -> Option<&'s Order>
+    requires { IsWhole state.now }
+    ensures value { option_copied result ≡ order_at state.now a.now index }
     ensures low { IfSome result (λ o. IsNear o.now.low) }
     ensures high { IfSome result (λ o. IsNear o.now.high) }
 {
-    s.order_at(a, index)
+    state.order_at(a, index)
 }
 
 /// Whether the activity is committed.
-pub(crate) fn is_committed(s: &PlanState, a: &Activity) -> bool
-    ensures { result ≡ is_committed s.now a.now }
+pub(crate) fn is_committed(state: &PlanState, a: &Activity) -> bool
+    ensures { result ≡ is_committed state.now a.now }
 {
-    a.start < s.committed
+    a.start < state.committed
 }
 
 /// The end of a live activity, where it is firm.
-pub(crate) fn end_of(s: &PlanState, a: &Activity) -> Option<u32>
-    requires whole { IsWhole s.now }
-    requires live { activity_of a.now.id s.now.plan.activities ≡ Some a.now }
-    ensures { result ≡ end_at s.now a.now }
+pub(crate) fn end_of(state: &PlanState, a: &Activity) -> Option<u32>
+    requires whole { IsWhole state.now }
+    requires live { activity_of a.now.id state.now.plan.activities ≡ Some a.now }
+    ensures { result ≡ end_at state.now a.now }
 {
-    s.plan.end(s.model.get(), a.id)
+    state.plan.end(state.model.get(), a.id)
 }
 
 /// The moment of a point of a live activity, where it is firm.
-pub(crate) fn moment_of(s: &PlanState, a: &Activity, point: Point) -> Option<u32>
-    requires whole { IsWhole s.now }
-    requires live { activity_of a.now.id s.now.plan.activities ≡ Some a.now }
-    ensures { result ≡ moment_of point (placed_of s.now a.now) }
+pub(crate) fn moment_of(state: &PlanState, a: &Activity, point: Point) -> Option<u32>
+    requires whole { IsWhole state.now }
+    requires live { activity_of a.now.id state.now.plan.activities ≡ Some a.now }
+    ensures { result ≡ moment_of point (placed_of state.now a.now) }
 {
-    let end = end_of(s, a)?;
+    let end = end_of(state, a)?;
     match point {
         Point::Start => Some(a.start),
         Point::End => Some(end),

@@ -1,4 +1,4 @@
-//! Moves of an activity: its starts, those of its root, and that the root goes.
+//! The moves of an activity: its shifts, those of its root, and the deletion of the root.
 ghost use Rattle.std.specs.Prelude.{◌≡◌, ◌++◌, IfOk, OnOk, Some};
 ghost use Rattle.std.specs.Option.{option_copied};
 ghost use Rattle.pl_plan.specs.Activities.{activity_of};
@@ -15,119 +15,119 @@ use pl_semantics::PlanState;
 use std::alloc::{AllocError, Global};
 
 // The goal that an activity serves.
-fn served_by<'s>(s: &'s PlanState, a: &Activity) -> Option<&'s Goal>
-    ensures { option_copied result ≡ served_by s.now a.now }
+fn served_by<'s>(state: &'s PlanState, a: &Activity) -> Option<&'s Goal>
+    ensures { option_copied result ≡ served_by state.now a.now }
 {
     match (a.parent, a.goal) {
-        (None, Some(number)) => s.goals.get(number),
+        (None, Some(number)) => state.goals.get(number),
         _ => None,
     }
 }
 
-// The starts of a goal's window, from the floor on.
-fn window_of(alloc: Global, s: &PlanState, goal: &Goal) -> Result<Vec<i64>, AllocError>
-    requires { IsWhole s.now }
-    ensures { IfOk result (λ all. all.items ≡ window_of s.now (Some goal.now)) }
+// The starts that are tried in a goal's window, from the floor on.
+fn window_of(alloc: Global, state: &PlanState, goal: &Goal) -> Result<Vec<i64>, AllocError>
+    requires { IsWhole state.now }
+    ensures { IfOk result (λ all. all.items ≡ window_of state.now (Some goal.now)) }
 {
-    let earliest = from_floor(s, i64::from(goal.earliest));
+    let earliest = from_floor(state, i64::from(goal.earliest));
     spread(alloc, earliest, i64::from(goal.latest))
 }
 
-// The starts of an activity's goal window, or all from the floor on.
-fn window(alloc: Global, s: &PlanState, a: &Activity) -> Result<Vec<i64>, AllocError>
-    requires { IsWhole s.now }
-    ensures { IfOk result (λ all. all.items ≡ window_of s.now (served_by s.now a.now)) }
+// The starts that are tried in the window of the goal that an activity serves, or else from the floor to the last start.
+fn window(alloc: Global, state: &PlanState, a: &Activity) -> Result<Vec<i64>, AllocError>
+    requires { IsWhole state.now }
+    ensures { IfOk result (λ all. all.items ≡ window_of state.now (served_by state.now a.now)) }
 {
-    match served_by(s, a) {
-        Some(goal) => window_of(alloc, s, goal),
-        None => spread(alloc, floor(s), last(s)),
+    match served_by(state, a) {
+        Some(goal) => window_of(alloc, state, goal),
+        None => spread(alloc, floor(state), last(state)),
     }
 }
 
 /// The starts that are tried for an activity.
-pub(crate) fn places(alloc: Global, s: &PlanState, a: &Activity) -> Result<Vec<i64>, AllocError>
-    requires { IsWhole s.now }
-    ensures { IfOk result (λ all. all.items ≡ places_of s.now a.now) }
+pub(crate) fn places(alloc: Global, state: &PlanState, a: &Activity) -> Result<Vec<i64>, AllocError>
+    requires { IsWhole state.now }
+    ensures { IfOk result (λ all. all.items ≡ places_of state.now a.now) }
 {
-    let window = window(alloc, s, a)?;
+    let window = window(alloc, state, a)?;
     let mut all = Vec::new(alloc);
-    all.push(floor(s))?;
+    all.push(floor(state))?;
     all.extend_from_slice(window.as_slice())?;
     Ok(all)
 }
 
 fn add_shifts_of(
     alloc: Global,
-    s: &PlanState,
+    state: &PlanState,
     a: &Activity,
     out: &mut Vec<RepairMove>,
 ) -> Result<(), AllocError>
-    requires { IsWhole s.now }
-    ensures { OnOk result (out.new.items ≡ out.old.items ++ shifts_of s.now a.now) }
+    requires { IsWhole state.now }
+    ensures { OnOk result (out.new.items ≡ out.old.items ++ shifts_of state.now a.now) }
 {
-    let starts = places(alloc, s, a)?;
-    add_shifts(s, a.id, starts.as_slice(), out)?;
+    let starts = places(alloc, state, a)?;
+    add_shifts(state, a.id, starts.as_slice(), out)?;
     Ok(())
 }
 
 // The root above an activity, if it is not one itself.
-fn above_it<'s>(s: &'s PlanState, a: &Activity) -> Option<&'s Activity>
-    requires whole { IsWhole s.now }
-    requires live { activity_of a.now.id s.now.plan.activities ≡ Some a.now }
-    ensures { option_copied result ≡ above_it s.now a.now }
+fn above_it<'s>(state: &'s PlanState, a: &Activity) -> Option<&'s Activity>
+    requires whole { IsWhole state.now }
+    requires live { activity_of a.now.id state.now.plan.activities ≡ Some a.now }
+    ensures { option_copied result ≡ above_it state.now a.now }
 {
     match a.parent {
-        Some(_) => s.plan.get(s.plan.root(a.id)),
+        Some(_) => state.plan.get(state.plan.root(a.id)),
         None => None,
     }
 }
 
 fn add_shifts_above(
     alloc: Global,
-    s: &PlanState,
+    state: &PlanState,
     a: &Activity,
     out: &mut Vec<RepairMove>,
 ) -> Result<(), AllocError>
-    requires whole { IsWhole s.now }
-    requires live { activity_of a.now.id s.now.plan.activities ≡ Some a.now }
-    ensures { OnOk result (out.new.items ≡ out.old.items ++ of_found (shifts_of s.now) (above_it s.now a.now)) }
+    requires whole { IsWhole state.now }
+    requires live { activity_of a.now.id state.now.plan.activities ≡ Some a.now }
+    ensures { OnOk result (out.new.items ≡ out.old.items ++ of_found (shifts_of state.now) (above_it state.now a.now)) }
 {
-    match above_it(s, a) {
-        Some(root) => add_shifts_of(alloc, s, root, out),
+    match above_it(state, a) {
+        Some(root) => add_shifts_of(alloc, state, root, out),
         None => Ok(()),
     }
 }
 
-/// Appends that the root above a live activity goes.
+/// Appends the deletion of the root above a live activity.
 pub(crate) fn add_deletion(
-    s: &PlanState,
+    state: &PlanState,
     a: &Activity,
     out: &mut Vec<RepairMove>,
 ) -> Result<(), AllocError>
-    requires whole { IsWhole s.now }
-    requires live { activity_of a.now.id s.now.plan.activities ≡ Some a.now }
-    ensures { OnOk result (out.new.items ≡ out.old.items ++ delete_root s.now a.now) }
+    requires whole { IsWhole state.now }
+    requires live { activity_of a.now.id state.now.plan.activities ≡ Some a.now }
+    ensures { OnOk result (out.new.items ≡ out.old.items ++ delete_root state.now a.now) }
 {
     out.push(RepairMove::Delete {
-        id: s.plan.root(a.id),
+        id: state.plan.root(a.id),
     })?;
     Ok(())
 }
 
-/// Appends the moves of a live activity: its shifts, those of its root where it is none, and that the root goes.
+/// Appends the moves of a live activity: its shifts, those of its root if it is no root itself, and the deletion of the root.
 #[tactic(auto, unfolding(pl_semantics::specs::Starts::moves_of))]
 pub(crate) fn add_moves(
     alloc: Global,
-    s: &PlanState,
+    state: &PlanState,
     a: &Activity,
     out: &mut Vec<RepairMove>,
 ) -> Result<(), AllocError>
-    requires whole { IsWhole s.now }
-    requires live { activity_of a.now.id s.now.plan.activities ≡ Some a.now }
-    ensures { OnOk result (out.new.items ≡ out.old.items ++ moves_of s.now a.now) }
+    requires whole { IsWhole state.now }
+    requires live { activity_of a.now.id state.now.plan.activities ≡ Some a.now }
+    ensures { OnOk result (out.new.items ≡ out.old.items ++ moves_of state.now a.now) }
 {
-    add_shifts_of(alloc, s, a, out)?;
-    add_shifts_above(alloc, s, a, out)?;
-    add_deletion(s, a, out)?;
+    add_shifts_of(alloc, state, a, out)?;
+    add_shifts_above(alloc, state, a, out)?;
+    add_deletion(state, a, out)?;
     Ok(())
 }

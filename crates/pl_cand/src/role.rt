@@ -1,10 +1,15 @@
-/// What an activity does with a timeline that it is then shifted away from.
+/// What an activity does to a timeline, for which it is shifted away.
 #[derive(Clone, Copy, Debug, PartialEq, Eq)]
 pub(crate) enum Role {
-    /// It takes an amount above 0 at moments from the first up to but not at the second.
+    /// It takes an amount above 0 at a moment from the first up to but not at the second.
     Uses(u32, u32),
-    /// It lowers the level before this moment.
-    LowersBelow(u32),
-    /// It raises the level before this moment.
-    RaisesBelow(u32),
+    /// It changes the level in this way before this moment.
+    ChangesBelow(u32, Way),
+}
+
+/// In which way an activity changes a level.
+#[derive(Clone, Copy, Debug, PartialEq, Eq)]
+pub(crate) enum Way {
+    Down,
+    Up,
 }

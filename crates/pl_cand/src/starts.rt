@@ -10,43 +10,43 @@ use pl_plan::RepairMove;
 use pl_semantics::PlanState;
 use std::alloc::AllocError;
 
-// The moment, where an activity may start then: from 1 to one before the horizon.
-fn start_in(s: &PlanState, start: i64) -> Option<u32>
-    ensures { (make : ℕ → RepairMove) → option_to_list (option_map make result) ≡ starting s.now make start }
+// The moment, if an activity may start then: from 1 to the last moment before the horizon.
+fn start_in(state: &PlanState, start: i64) -> Option<u32>
+    ensures { (make : ℕ → RepairMove) → option_to_list (option_map make result) ≡ starting state.now make start }
 {
-    if 1 <= start && start < i64::from(s.model.get().horizon) {
+    if 1 <= start && start < i64::from(state.model.get().horizon) {
         Some(start as u32)
     } else {
         None
     }
 }
 
-/// Appends a shift, left out where no activity may start then.
+/// Appends a shift, unless no activity may start then.
 pub(crate) fn add_shift(
-    s: &PlanState,
+    state: &PlanState,
     id: u32,
     start: i64,
     out: &mut Vec<RepairMove>,
 ) -> Result<(), AllocError>
-    ensures { OnOk result (out.new.items ≡ out.old.items ++ starting s.now (shift_to id) start) }
+    ensures { OnOk result (out.new.items ≡ out.old.items ++ starting state.now (shift_to id) start) }
 {
-    match start_in(s, start) {
+    match start_in(state, start) {
         Some(start) => Ok(out.push(RepairMove::Shift { id, start })?),
         None => Ok(()),
     }
 }
 
-// A new activity, left out where no activity may start then.
+// Appends the addition of an activity, unless no activity may start then.
 fn add_new(
-    s: &PlanState,
+    state: &PlanState,
     kind: u32,
     goal: Option<u32>,
     start: i64,
     out: &mut Vec<RepairMove>,
 ) -> Result<(), AllocError>
-    ensures { OnOk result (out.new.items ≡ out.old.items ++ starting s.now (λ start. Add kind start goal) start) }
+    ensures { OnOk result (out.new.items ≡ out.old.items ++ starting state.now (λ start. Add kind start goal) start) }
 {
-    match start_in(s, start) {
+    match start_in(state, start) {
         Some(start) => Ok(out.push(RepairMove::Add { kind, start, goal })?),
         None => Ok(()),
     }
@@ -54,31 +54,31 @@ fn add_new(
 
 /// Appends the shifts of one activity to these starts.
 pub(crate) fn add_shifts(
-    s: &PlanState,
+    state: &PlanState,
     id: u32,
     starts: &[i64],
     out: &mut Vec<RepairMove>,
 ) -> Result<(), AllocError>
-    ensures { OnOk result (out.new.items ≡ out.old.items ++ flat_map (starting s.now (shift_to id)) starts.now) }
+    ensures { OnOk result (out.new.items ≡ out.old.items ++ flat_map (starting state.now (shift_to id)) starts.now) }
 {
     for start in starts {
-        add_shift(s, id, *start, out)?;
+        add_shift(state, id, *start, out)?;
     }
     Ok(())
 }
 
-/// Appends new activities of one kind with these starts.
+/// Appends additions of activities of one kind with these starts.
 pub(crate) fn add_news(
-    s: &PlanState,
+    state: &PlanState,
     kind: u32,
     goal: Option<u32>,
     starts: &[i64],
     out: &mut Vec<RepairMove>,
 ) -> Result<(), AllocError>
-    ensures { OnOk result (out.new.items ≡ out.old.items ++ flat_map (starting s.now (λ start. Add kind start goal)) starts.now) }
+    ensures { OnOk result (out.new.items ≡ out.old.items ++ flat_map (starting state.now (λ start. Add kind start goal)) starts.now) }
 {
     for start in starts {
-        add_new(s, kind, goal, *start, out)?;
+        add_new(state, kind, goal, *start, out)?;
     }
     Ok(())
 }

@@ -9,7 +9,7 @@ use std::alloc::{AllocError, Global};
 /// The most numbers that are tried.
 const MOST: u32 = 16;
 
-// Every how many numbers one is tried, so that there are at most sixteen.
+// The distance between two numbers that are tried, so that there are at most sixteen.
 fn stride(width: u64) -> u64
     requires { width ≤ 2000000000000 }
     ensures value { result ≡ stride width }

@@ -12,7 +12,7 @@ use crate::activities::end_by;
 use crate::help::Help;
 use crate::helping::add_help;
 use crate::repairs::add_moves;
-use crate::role::Role;
+use crate::role::{Role, Way};
 use crate::starts::add_shift;
 use crate::users::first_users;
 use pl_model::Reservation;
@@ -20,21 +20,21 @@ use pl_plan::{Activity, RepairMove};
 use pl_semantics::PlanState;
 use std::alloc::{AllocError, Global};
 
-// Behind the span, and before it.
+// Appends the shifts of a user to a start behind the span, and to an end before it.
 fn add_around(
-    s: &PlanState,
+    state: &PlanState,
     id: u32,
     a: u32,
     b: u32,
     out: &mut Vec<RepairMove>,
 ) -> Result<(), AllocError>
-    requires { IsWhole s.now }
-    ensures { OnOk result (out.new.items ≡ out.old.items ++ around_id s.now a b id) }
+    requires { IsWhole state.now }
+    ensures { OnOk result (out.new.items ≡ out.old.items ++ around_id state.now a b id) }
 {
-    match s.live(id) {
+    match state.live(id) {
         Some(user) => {
-            add_shift(s, user.id, i64::from(b), out)?;
-            end_by(s, user, a, out)?;
+            add_shift(state, user.id, i64::from(b), out)?;
+            end_by(state, user, a, out)?;
             Ok(())
         }
         None => Ok(()),
@@ -42,47 +42,47 @@ fn add_around(
 }
 
 fn add_all_around(
-    s: &PlanState,
+    state: &PlanState,
     ids: &[u32],
     a: u32,
     b: u32,
     out: &mut Vec<RepairMove>,
 ) -> Result<(), AllocError>
-    requires { IsWhole s.now }
-    ensures { OnOk result (out.new.items ≡ out.old.items ++ flat_map (around_id s.now a b) ids.now) }
+    requires { IsWhole state.now }
+    ensures { OnOk result (out.new.items ≡ out.old.items ++ flat_map (around_id state.now a b) ids.now) }
 {
     for id in ids {
-        add_around(s, *id, a, b, out)?;
+        add_around(state, *id, a, b, out)?;
     }
     Ok(())
 }
 
 fn add_moves_of(
     alloc: Global,
-    s: &PlanState,
+    state: &PlanState,
     id: u32,
     out: &mut Vec<RepairMove>,
 ) -> Result<(), AllocError>
-    requires { IsWhole s.now }
-    ensures { OnOk result (out.new.items ≡ out.old.items ++ moves_of_id s.now id) }
+    requires { IsWhole state.now }
+    ensures { OnOk result (out.new.items ≡ out.old.items ++ moves_of_id state.now id) }
 {
-    match s.live(id) {
-        Some(user) => add_moves(alloc, s, user, out),
+    match state.live(id) {
+        Some(user) => add_moves(alloc, state, user, out),
         None => Ok(()),
     }
 }
 
 fn add_all_moves(
     alloc: Global,
-    s: &PlanState,
+    state: &PlanState,
     ids: &[u32],
     out: &mut Vec<RepairMove>,
 ) -> Result<(), AllocError>
-    requires { IsWhole s.now }
-    ensures { OnOk result (out.new.items ≡ out.old.items ++ flat_map (moves_of_id s.now) ids.now) }
+    requires { IsWhole state.now }
+    ensures { OnOk result (out.new.items ≡ out.old.items ++ flat_map (moves_of_id state.now) ids.now) }
 {
     for id in ids {
-        add_moves_of(alloc, s, *id, out)?;
+        add_moves_of(alloc, state, *id, out)?;
     }
     Ok(())
 }
@@ -91,18 +91,18 @@ fn add_all_moves(
 #[tactic(auto, using(crate::proofs::Playing::moves_by_ids, crate::proofs::Playing::around_by_ids))]
 pub(crate) fn for_over(
     alloc: Global,
-    s: &PlanState,
-    line: u32,
+    state: &PlanState,
+    timeline: u32,
     a: u32,
     b: u32,
     out: &mut Vec<RepairMove>,
 ) -> Result<(), AllocError>
-    requires { IsWhole s.now }
-    ensures { OnOk result (out.new.items ≡ out.old.items ++ for_over s.now line a b) }
+    requires { IsWhole state.now }
+    ensures { OnOk result (out.new.items ≡ out.old.items ++ for_over state.now timeline a b) }
 {
-    let users = first_users(alloc, s, line, Role::Uses(a, b))?;
-    add_all_around(s, users.as_slice(), a, b, out)?;
-    add_all_moves(alloc, s, users.as_slice(), out)?;
+    let users = first_users(alloc, state, timeline, Role::Uses(a, b))?;
+    add_all_around(state, users.as_slice(), a, b, out)?;
+    add_all_moves(alloc, state, users.as_slice(), out)?;
     Ok(())
 }
 
@@ -110,18 +110,18 @@ pub(crate) fn for_over(
 #[tactic(auto, using(crate::proofs::Playing::moves_by_ids, crate::proofs::Playing::around_by_ids))]
 pub(crate) fn for_low(
     alloc: Global,
-    s: &PlanState,
-    line: u32,
+    state: &PlanState,
+    timeline: u32,
     a: u32,
     b: u32,
     out: &mut Vec<RepairMove>,
 ) -> Result<(), AllocError>
-    requires { IsWhole s.now }
-    ensures { OnOk result (out.new.items ≡ out.old.items ++ for_low s.now line a b) }
+    requires { IsWhole state.now }
+    ensures { OnOk result (out.new.items ≡ out.old.items ++ for_low state.now timeline a b) }
 {
-    add_help(alloc, s, line, Help::Raise, a, out)?;
-    let users = first_users(alloc, s, line, Role::LowersBelow(b))?;
-    add_all_moves(alloc, s, users.as_slice(), out)?;
+    add_help(alloc, state, timeline, Help::Raise, a, out)?;
+    let users = first_users(alloc, state, timeline, Role::ChangesBelow(b, Way::Down))?;
+    add_all_moves(alloc, state, users.as_slice(), out)?;
     Ok(())
 }
 
@@ -129,64 +129,71 @@ pub(crate) fn for_low(
 #[tactic(auto, using(crate::proofs::Playing::moves_by_ids, crate::proofs::Playing::around_by_ids))]
 pub(crate) fn for_high(
     alloc: Global,
-    s: &PlanState,
-    line: u32,
+    state: &PlanState,
+    timeline: u32,
     a: u32,
     b: u32,
     out: &mut Vec<RepairMove>,
 ) -> Result<(), AllocError>
-    requires { IsWhole s.now }
-    ensures { OnOk result (out.new.items ≡ out.old.items ++ for_high s.now line a b) }
+    requires { IsWhole state.now }
+    ensures { OnOk result (out.new.items ≡ out.old.items ++ for_high state.now timeline a b) }
 {
-    add_help(alloc, s, line, Help::Lower, a, out)?;
-    let users = first_users(alloc, s, line, Role::RaisesBelow(b))?;
-    add_all_moves(alloc, s, users.as_slice(), out)?;
+    add_help(alloc, state, timeline, Help::Lower, a, out)?;
+    let users = first_users(alloc, state, timeline, Role::ChangesBelow(b, Way::Up))?;
+    add_all_moves(alloc, state, users.as_slice(), out)?;
     Ok(())
 }
 
-fn reservation_at<'s>(s: &'s PlanState, a: &Activity, index: u32) -> Option<&'s Reservation>
-    ensures { option_copied result ≡ reservation_at s.now a.now index }
+fn reservation_at<'s>(state: &'s PlanState, a: &Activity, index: u32) -> Option<&'s Reservation>
+    ensures { option_copied result ≡ reservation_at state.now a.now index }
 {
-    match s.kind_of(a) {
+    match state.kind_of(a) {
         Some(kind) => kind.reservations.as_slice().get(index as usize),
         None => None,
     }
 }
 
-// Help by kinds that set the state that is needed.
+// Appends help by kinds that set the state that is needed.
 fn add_help_must(
     alloc: Global,
-    s: &PlanState,
+    state: &PlanState,
     a: &Activity,
     index: u32,
     until: u32,
     out: &mut Vec<RepairMove>,
 ) -> Result<(), AllocError>
-    requires { IsWhole s.now }
-    ensures { OnOk result (out.new.items ≡ out.old.items ++ of_found (help_must s.now until) (reservation_at s.now a.now index)) }
+    requires { IsWhole state.now }
+    ensures { OnOk result (out.new.items ≡ out.old.items ++ of_found (help_must state.now until) (reservation_at state.now a.now index)) }
 {
-    match reservation_at(s, a, index) {
-        Some(Reservation::Must(line, state)) => {
-            add_help(alloc, s, *line, Help::SetState(*state), until, out)
+    match reservation_at(state, a, index) {
+        Some(Reservation::Must(timeline, needed)) => {
+            add_help(alloc, state, *timeline, Help::SetState(*needed), until, out)
         }
         _ => Ok(()),
     }
 }
 
-// Help by kinds that set the timeline.
+// Appends help by kinds that set any state of the timeline.
 fn add_help_step(
     alloc: Global,
-    s: &PlanState,
+    state: &PlanState,
     a: &Activity,
     index: u32,
     until: u32,
     out: &mut Vec<RepairMove>,
 ) -> Result<(), AllocError>
-    requires { IsWhole s.now }
-    ensures { OnOk result (out.new.items ≡ out.old.items ++ of_found (help_step s.now until) (reservation_at s.now a.now index)) }
+    requires { IsWhole state.now }
+    ensures { OnOk result (out.new.items ≡ out.old.items ++ of_found (help_step state.now until) (reservation_at state.now a.now index)) }
 {
-    match reservation_at(s, a, index) {
-        Some(Reservation::Put(line, _, _)) => add_help(alloc, s, *line, Help::SetAny, until, out),
+    match reservation_at(state, a, index) {
+        Some(Reservation::Put(timeline, _, _)) => add_help(
+            alloc,
+            state,
+            *timeline,
+            Help::SetAny,
+            until,
+            out,
+        ),
         _ => Ok(()),
     }
 }
@@ -194,35 +201,35 @@ fn add_help_step(
 /// Appends help for the state that a reservation needs, up to a moment, and the moves of the activity.
 pub(crate) fn for_must(
     alloc: Global,
-    s: &PlanState,
+    state: &PlanState,
     a: &Activity,
     index: u32,
     until: u32,
     out: &mut Vec<RepairMove>,
 ) -> Result<(), AllocError>
-    requires whole { IsWhole s.now }
-    requires live { activity_of a.now.id s.now.plan.activities ≡ Some a.now }
-    ensures { OnOk result (out.new.items ≡ out.old.items ++ for_must s.now a.now index until) }
+    requires whole { IsWhole state.now }
+    requires live { activity_of a.now.id state.now.plan.activities ≡ Some a.now }
+    ensures { OnOk result (out.new.items ≡ out.old.items ++ for_must state.now a.now index until) }
 {
-    add_help_must(alloc, s, a, index, until, out)?;
-    add_moves(alloc, s, a, out)?;
+    add_help_must(alloc, state, a, index, until, out)?;
+    add_moves(alloc, state, a, out)?;
     Ok(())
 }
 
 /// Appends help for the timeline that a reservation sets, up to a moment, and the moves of the activity.
 pub(crate) fn for_bad_step(
     alloc: Global,
-    s: &PlanState,
+    state: &PlanState,
     a: &Activity,
     index: u32,
     until: u32,
     out: &mut Vec<RepairMove>,
 ) -> Result<(), AllocError>
-    requires whole { IsWhole s.now }
-    requires live { activity_of a.now.id s.now.plan.activities ≡ Some a.now }
-    ensures { OnOk result (out.new.items ≡ out.old.items ++ for_bad_step s.now a.now index until) }
+    requires whole { IsWhole state.now }
+    requires live { activity_of a.now.id state.now.plan.activities ≡ Some a.now }
+    ensures { OnOk result (out.new.items ≡ out.old.items ++ for_bad_step state.now a.now index until) }
 {
-    add_help_step(alloc, s, a, index, until, out)?;
-    add_moves(alloc, s, a, out)?;
+    add_help_step(alloc, state, a, index, until, out)?;
+    add_moves(alloc, state, a, out)?;
     Ok(())
 }

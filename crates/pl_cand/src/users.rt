@@ -1,5 +1,5 @@
 //! The activities that are shifted away from a timeline.
-ghost use Rattle.std.specs.Prelude.{◌≡◌, ◌≤ℤ◌, pos, List, ◌∷◌, IfOk, IfSome, OnOk, Some, All, length, map};
+ghost use Rattle.std.specs.Prelude.{◌≡◌, ◌<◌, ◌≤ℤ◌, pos, List, ◌∷◌, IfOk, IfSome, OnOk, Some, All, length, map};
 ghost use Rattle.std.specs.List.{list_any};
 ghost use Rattle.pl_model.specs.Values.{NamesBelow};
 ghost use Rattle.pl_plan.specs.declared.activity.Activity.{Activity};
@@ -8,18 +8,18 @@ ghost use Rattle.pl_plan.specs.Firm.{amount_of};
 ghost use Rattle.pl_plan.specs.Trees.{id_of};
 ghost use Rattle.pl_semantics.specs.Whole.{IsWhole};
 ghost use Rattle.pl_semantics.specs.Demands.{amount_in, moment_of_base, since};
-ghost use Rattle.pl_semantics.specs.LineRepairs.{first_eight, lowers_below, point_counts, raises_below, takes_in};
-ghost use Rattle.pl_cand.specs.Tests.{is_user, lowers_at, may_take, plays, raises_at, users_with, uses_in};
+ghost use Rattle.pl_semantics.specs.LineRepairs.{first_eight, point_counts, takes_in};
+ghost use Rattle.pl_cand.specs.Tests.{changes_at, changes_below, is_user, may_take, plays, users_with, uses_in};
 ghost use Rattle.pl_cand.specs.Levels.{HasBase, IsOfLevel};
 
 use crate::reading::{is_committed, moment_of, reservations_of};
-use crate::role::Role;
+use crate::role::{Role, Way};
 use pl_model::{Expr, Point, Reservation, eval};
 use pl_plan::Activity;
 use pl_semantics::PlanState;
 use std::alloc::{AllocError, Global};
 
-/// How many activities are shifted away.
+/// How many activities are shifted away, at most.
 const MOST: usize = 8;
 
 fn amount_in(amount: &Expr, values: &[Option<i64>]) -> i64
@@ -33,7 +33,7 @@ fn amount_in(amount: &Expr, values: &[Option<i64>]) -> i64
 }
 
 fn uses_in(
-    line: u32,
+    timeline: u32,
     a: u32,
     b: u32,
     start: u32,
@@ -42,18 +42,18 @@ fn uses_in(
     reservation: &Reservation,
 ) -> bool
     requires { IfSome (amount_of reservation.now) (NamesBelow (length values.now)) }
-    ensures { result ≡ uses_in line a b start end values.now reservation.now }
+    ensures { result ≡ uses_in timeline a b start end values.now reservation.now }
 {
     match reservation {
         Reservation::Take(of, amount) => {
-            *of == line && amount_in(amount, values) > 0 && start < b && a < end
+            *of == timeline && amount_in(amount, values) > 0 && start < b && a < end
         }
         _ => false,
     }
 }
 
 fn any_uses(
-    line: u32,
+    timeline: u32,
     a: u32,
     b: u32,
     start: u32,
@@ -62,59 +62,59 @@ fn any_uses(
     reservations: &[Reservation],
 ) -> bool
     requires { All (λ r. IfSome (amount_of r) (NamesBelow (length values.now))) reservations.now }
-    ensures { result ≡ list_any (uses_in line a b start end values.now) reservations.now }
+    ensures { result ≡ list_any (uses_in timeline a b start end values.now) reservations.now }
 {
     for reservation in reservations {
-        if uses_in(line, a, b, start, end, values, reservation) {
+        if uses_in(timeline, a, b, start, end, values, reservation) {
             return true;
         }
     }
     false
 }
 
-// It may take of the timeline before a moment, whatever its amount and its end.
-fn may_take(line: u32, b: u32, start: u32, reservation: &Reservation) -> bool
-    ensures { result ≡ may_take line b start reservation.now }
+// Whether the reservation may take from the timeline before a moment, whatever its amount and the end of the activity.
+fn may_take(timeline: u32, b: u32, start: u32, reservation: &Reservation) -> bool
+    ensures { result ≡ may_take timeline b start reservation.now }
 {
     match reservation {
-        Reservation::Take(of, _) => *of == line && start < b,
+        Reservation::Take(of, _) => *of == timeline && start < b,
         _ => false,
     }
 }
 
-fn any_may_take(line: u32, b: u32, start: u32, reservations: &[Reservation]) -> bool
-    ensures { result ≡ list_any (may_take line b start) reservations.now }
+fn any_may_take(timeline: u32, b: u32, start: u32, reservations: &[Reservation]) -> bool
+    ensures { result ≡ list_any (may_take timeline b start) reservations.now }
 {
     for reservation in reservations {
-        if may_take(line, b, start, reservation) {
+        if may_take(timeline, b, start, reservation) {
             return true;
         }
     }
     false
 }
 
-// Its values are worked out only where its kind takes of the timeline at all.
+// Whether the activity takes from the timeline within a span. Its values are worked out only if its kind takes from the timeline.
 #[tactic(auto, unfolding(pl_semantics::specs::Demands::demands_at))]
 fn takes_in(
     alloc: Global,
-    s: &PlanState,
-    line: u32,
+    state: &PlanState,
+    timeline: u32,
     a: u32,
     b: u32,
     x: &Activity,
 ) -> Result<bool, AllocError>
-    requires whole { IsWhole s.now }
-    requires live { activity_of x.now.id s.now.plan.activities ≡ Some x.now }
-    ensures { IfOk result (λ t. t ≡ takes_in s.now line a b x.now) }
+    requires whole { IsWhole state.now }
+    requires live { activity_of x.now.id state.now.plan.activities ≡ Some x.now }
+    ensures { IfOk result (λ t. t ≡ takes_in state.now timeline a b x.now) }
 {
-    let reservations = reservations_of(s, x);
-    if !any_may_take(line, b, x.start, reservations) {
+    let reservations = reservations_of(state, x);
+    if !any_may_take(timeline, b, x.start, reservations) {
         return Ok(false);
     }
-    let evaluated = s.plan.evaluate(alloc, s.model.get(), x.id)?;
+    let evaluated = state.plan.evaluate(alloc, state.model.get(), x.id)?;
     match evaluated.end {
         Some(end) => Ok(any_uses(
-            line,
+            timeline,
             a,
             b,
             x.start,
@@ -127,12 +127,12 @@ fn takes_in(
 }
 
 // The moment of a level's base: 0 also before any telemetry, as no effect lies at 0.
-fn since(s: &PlanState, line: u32) -> u32
-    requires whole { IsWhole s.now }
-    requires line { HasBase s.now line }
-    ensures { result ≡ since s.now line }
+fn since(state: &PlanState, timeline: u32) -> u32
+    requires whole { IsWhole state.now }
+    requires timeline { HasBase state.now timeline }
+    ensures { result ≡ since state.now timeline }
 {
-    moment_of_base(s.bases.get(line))
+    moment_of_base(state.bases.get(timeline))
 }
 
 fn moment_of_base(base: (i64, i64)) -> u32
@@ -143,157 +143,144 @@ fn moment_of_base(base: (i64, i64)) -> u32
 }
 
 // Whether the point lies after the base's moment, and before the horizon and another moment.
-fn point_counts(s: &PlanState, line: u32, b: u32, a: &Activity, point: Point) -> bool
-    requires whole { IsWhole s.now }
-    requires live { activity_of a.now.id s.now.plan.activities ≡ Some a.now }
-    requires line { HasBase s.now line }
-    ensures { result ≡ point_counts s.now line b a.now point }
+fn point_counts(state: &PlanState, timeline: u32, b: u32, a: &Activity, point: Point) -> bool
+    requires whole { IsWhole state.now }
+    requires live { activity_of a.now.id state.now.plan.activities ≡ Some a.now }
+    requires timeline { HasBase state.now timeline }
+    ensures { result ≡ point_counts state.now timeline b a.now point }
 {
-    match moment_of(s, a, point) {
-        Some(at) => since(s, line) < at && at < s.model.get().horizon && at < b,
+    match moment_of(state, a, point) {
+        Some(at) => since(state, timeline) < at && at < state.model.get().horizon && at < b,
         None => false,
     }
 }
 
-fn lowers_at(s: &PlanState, line: u32, b: u32, a: &Activity, reservation: &Reservation) -> bool
-    requires whole { IsWhole s.now }
-    requires live { activity_of a.now.id s.now.plan.activities ≡ Some a.now }
-    requires sort { IsOfLevel s.now reservation.now }
-    ensures { result ≡ lowers_at s.now line b a.now reservation.now }
+// Whether the reservation changes the level in this way, at a point that counts.
+fn changes_at(
+    state: &PlanState,
+    timeline: u32,
+    b: u32,
+    a: &Activity,
+    way: Way,
+    reservation: &Reservation,
+) -> bool
+    requires whole { IsWhole state.now }
+    requires live { activity_of a.now.id state.now.plan.activities ≡ Some a.now }
+    requires sort { IsOfLevel state.now reservation.now }
+    ensures { result ≡ changes_at way state.now timeline b a.now reservation.now }
 {
-    match reservation {
-        Reservation::Lower(of, _, point) => *of == line && point_counts(s, *of, b, a, *point),
+    match (way, reservation) {
+        (Way::Down, Reservation::Lower(of, _, point)) => {
+            *of == timeline && point_counts(state, *of, b, a, *point)
+        }
+        (Way::Up, Reservation::Raise(of, _, point)) => {
+            *of == timeline && point_counts(state, *of, b, a, *point)
+        }
         _ => false,
     }
 }
 
-fn any_lowers(s: &PlanState, line: u32, b: u32, a: &Activity, reservations: &[Reservation]) -> bool
-    requires whole { IsWhole s.now }
-    requires live { activity_of a.now.id s.now.plan.activities ≡ Some a.now }
-    requires level { All (IsOfLevel s.now) reservations.now }
-    ensures { result ≡ list_any (lowers_at s.now line b a.now) reservations.now }
+fn any_changes(
+    state: &PlanState,
+    timeline: u32,
+    b: u32,
+    a: &Activity,
+    way: Way,
+    reservations: &[Reservation],
+) -> bool
+    requires whole { IsWhole state.now }
+    requires live { activity_of a.now.id state.now.plan.activities ≡ Some a.now }
+    requires level { All (IsOfLevel state.now) reservations.now }
+    ensures { result ≡ list_any (changes_at way state.now timeline b a.now) reservations.now }
 {
     for reservation in reservations {
-        if lowers_at(s, line, b, a, reservation) {
+        if changes_at(state, timeline, b, a, way, reservation) {
             return true;
         }
     }
     false
 }
 
-fn lowers_below(s: &PlanState, line: u32, b: u32, a: &Activity) -> bool
-    requires whole { IsWhole s.now }
-    requires live { activity_of a.now.id s.now.plan.activities ≡ Some a.now }
-    ensures { result ≡ lowers_below s.now line b a.now }
+fn changes_below(state: &PlanState, timeline: u32, b: u32, a: &Activity, way: Way) -> bool
+    requires whole { IsWhole state.now }
+    requires live { activity_of a.now.id state.now.plan.activities ≡ Some a.now }
+    ensures { result ≡ changes_below way state.now timeline b a.now }
 {
-    any_lowers(s, line, b, a, reservations_of(s, a))
-}
-
-fn raises_at(s: &PlanState, line: u32, b: u32, a: &Activity, reservation: &Reservation) -> bool
-    requires whole { IsWhole s.now }
-    requires live { activity_of a.now.id s.now.plan.activities ≡ Some a.now }
-    requires sort { IsOfLevel s.now reservation.now }
-    ensures { result ≡ raises_at s.now line b a.now reservation.now }
-{
-    match reservation {
-        Reservation::Raise(of, _, point) => *of == line && point_counts(s, *of, b, a, *point),
-        _ => false,
-    }
-}
-
-fn any_raises(s: &PlanState, line: u32, b: u32, a: &Activity, reservations: &[Reservation]) -> bool
-    requires whole { IsWhole s.now }
-    requires live { activity_of a.now.id s.now.plan.activities ≡ Some a.now }
-    requires level { All (IsOfLevel s.now) reservations.now }
-    ensures { result ≡ list_any (raises_at s.now line b a.now) reservations.now }
-{
-    for reservation in reservations {
-        if raises_at(s, line, b, a, reservation) {
-            return true;
-        }
-    }
-    false
-}
-
-fn raises_below(s: &PlanState, line: u32, b: u32, a: &Activity) -> bool
-    requires whole { IsWhole s.now }
-    requires live { activity_of a.now.id s.now.plan.activities ≡ Some a.now }
-    ensures { result ≡ raises_below s.now line b a.now }
-{
-    any_raises(s, line, b, a, reservations_of(s, a))
+    any_changes(state, timeline, b, a, way, reservations_of(state, a))
 }
 
 fn plays(
     alloc: Global,
-    s: &PlanState,
-    line: u32,
+    state: &PlanState,
+    timeline: u32,
     role: Role,
     a: &Activity,
 ) -> Result<bool, AllocError>
-    requires whole { IsWhole s.now }
-    requires live { activity_of a.now.id s.now.plan.activities ≡ Some a.now }
-    ensures { IfOk result (λ p. p ≡ plays s.now line role a.now) }
+    requires whole { IsWhole state.now }
+    requires live { activity_of a.now.id state.now.plan.activities ≡ Some a.now }
+    ensures { IfOk result (λ p. p ≡ plays state.now timeline role a.now) }
 {
     match role {
-        Role::Uses(from, to) => takes_in(alloc, s, line, from, to, a),
-        Role::LowersBelow(before) => Ok(lowers_below(s, line, before, a)),
-        Role::RaisesBelow(before) => Ok(raises_below(s, line, before, a)),
+        Role::Uses(from, to) => takes_in(alloc, state, timeline, from, to, a),
+        Role::ChangesBelow(before, way) => Ok(changes_below(state, timeline, before, a, way)),
     }
 }
 
 fn is_user(
     alloc: Global,
-    s: &PlanState,
-    line: u32,
+    state: &PlanState,
+    timeline: u32,
     role: Role,
     a: &Activity,
 ) -> Result<bool, AllocError>
-    requires whole { IsWhole s.now }
-    requires live { activity_of a.now.id s.now.plan.activities ≡ Some a.now }
-    ensures { IfOk result (λ u. u ≡ is_user s.now line role a.now) }
+    requires whole { IsWhole state.now }
+    requires live { activity_of a.now.id state.now.plan.activities ≡ Some a.now }
+    ensures { IfOk result (λ u. u ≡ is_user state.now timeline role a.now) }
 {
-    if is_committed(s, a) {
+    if is_committed(state, a) {
         return Ok(false);
     }
-    plays(alloc, s, line, role, a)
+    plays(alloc, state, timeline, role, a)
 }
 
-// Puts the id of an activity at the end, where it is one of the first eight.
-#[tactic(auto, using(crate::proofs::Keeping::users_full, crate::proofs::Keeping::users_past, crate::proofs::Keeping::users_more))]
+// Puts the id of an activity at the end, where it plays the role.
+#[tactic(auto, using(crate::proofs::Keeping::users_past, crate::proofs::Keeping::users_more))]
 fn add_if_user(
     alloc: Global,
-    s: &PlanState,
-    line: u32,
+    state: &PlanState,
+    timeline: u32,
     role: Role,
     a: &Activity,
     ids: &mut Vec<u32>,
 ) -> Result<(), AllocError>
-    requires whole { IsWhole s.now }
-    requires live { activity_of a.now.id s.now.plan.activities ≡ Some a.now }
-    ensures { OnOk result ((rest : List Activity) → users_with s.now line role ids.old.items (a.now ∷ rest) ≡ users_with s.now line role ids.new.items rest) }
+    requires whole { IsWhole state.now }
+    requires live { activity_of a.now.id state.now.plan.activities ≡ Some a.now }
+    requires room { length ids.old.items < 8 }
+    ensures { OnOk result ((rest : List Activity) → users_with state.now timeline role ids.old.items (a.now ∷ rest) ≡ users_with state.now timeline role ids.new.items rest) }
 {
-    if ids.len() >= MOST {
-        return Ok(());
-    }
-    if is_user(alloc, s, line, role, a)? {
+    if is_user(alloc, state, timeline, role, a)? {
         ids.push(a.id)?;
     }
     Ok(())
 }
 
 /// The ids of the first eight activities that are not committed and play the role.
+#[tactic(auto, using(crate::proofs::Keeping::users_full))]
 pub(crate) fn first_users(
     alloc: Global,
-    s: &PlanState,
-    line: u32,
+    state: &PlanState,
+    timeline: u32,
     role: Role,
 ) -> Result<Vec<u32>, AllocError>
-    requires { IsWhole s.now }
-    ensures { IfOk result (λ ids. ids.items ≡ map id_of (first_eight s.now (plays s.now line role))) }
+    requires { IsWhole state.now }
+    ensures { IfOk result (λ ids. ids.items ≡ map id_of (first_eight state.now (plays state.now timeline role))) }
 {
     let mut ids = Vec::new(alloc);
-    for a in s.plan.activities() {
-        add_if_user(alloc, s, line, role, a, &mut ids)?;
+    for a in state.plan.activities() {
+        if ids.len() >= MOST {
+            return Ok(ids);
+        }
+        add_if_user(alloc, state, timeline, role, a, &mut ids)?;
     }
     Ok(ids)
 }

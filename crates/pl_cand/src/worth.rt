@@ -10,23 +10,23 @@ use pl_moves::is_proper;
 use pl_plan::{Activity, RepairMove};
 use pl_semantics::PlanState;
 
-fn has_start(s: &PlanState, id: u32, start: u32) -> bool
-    ensures { result ≡ has_start start (found s.now id) }
+fn has_start(state: &PlanState, id: u32, start: u32) -> bool
+    ensures { result ≡ has_start start (found state.now id) }
 {
-    match s.plan.get(id) {
+    match state.plan.get(id) {
         Some(a) => a.start == start,
         None => false,
     }
 }
 
-// A parameter's value, where the kind of a live activity has it.
-fn value_in(s: &PlanState, a: &Activity, number: u8) -> Option<i64>
-    requires whole { IsWhole s.now }
-    requires live { activity_of a.now.id s.now.plan.activities ≡ Some a.now }
-    ensures { result ≡ value_in s.now a.now number }
+// The value of a parameter, if the kind of a live activity has this parameter.
+fn value_in(state: &PlanState, a: &Activity, number: u8) -> Option<i64>
+    requires whole { IsWhole state.now }
+    requires live { activity_of a.now.id state.now.plan.activities ≡ Some a.now }
+    ensures { result ≡ value_in state.now a.now number }
 {
-    if (number as usize) < s.params_of(a).len() {
-        s.plan.value(s.model.get(), a.id, number)
+    if (number as usize) < state.params_of(a).len() {
+        state.plan.value(state.model.get(), a.id, number)
     } else {
         None
     }
@@ -41,32 +41,32 @@ fn is_value(value: i64, present: Option<i64>) -> bool
     }
 }
 
-fn has_value(s: &PlanState, id: u32, number: u8, value: i64) -> bool
-    requires { IsWhole s.now }
-    ensures { result ≡ has_value s.now number value (found s.now id) }
+fn has_value(state: &PlanState, id: u32, number: u8, value: i64) -> bool
+    requires { IsWhole state.now }
+    ensures { result ≡ has_value state.now number value (found state.now id) }
 {
-    match s.live(id) {
-        Some(a) => is_value(value, value_in(s, a, number)),
+    match state.live(id) {
+        Some(a) => is_value(value, value_in(state, a, number)),
         None => false,
     }
 }
 
-// Whether it is a shift to the present start, or an assignment of the present value.
-fn changes_nothing(s: &PlanState, mv: &RepairMove) -> bool
-    requires { IsWhole s.now }
-    ensures { result ≡ changes_nothing s.now mv.now }
+// Whether the move is a shift to the present start, or an assignment of the present value.
+fn changes_nothing(state: &PlanState, mv: &RepairMove) -> bool
+    requires { IsWhole state.now }
+    ensures { result ≡ changes_nothing state.now mv.now }
 {
     match *mv {
-        RepairMove::Shift { id, start } => has_start(s, id, start),
-        RepairMove::Assign { id, param, value } => has_value(s, id, param, value),
+        RepairMove::Shift { id, start } => has_start(state, id, start),
+        RepairMove::Assign { id, param, value } => has_value(state, id, param, value),
         _ => false,
     }
 }
 
 /// Whether the move makes sense and changes something.
-pub(crate) fn is_worth(s: &PlanState, mv: &RepairMove) -> bool
-    requires { IsWhole s.now }
-    ensures { result ≡ is_worth s.now mv.now }
+pub(crate) fn is_worth(state: &PlanState, mv: &RepairMove) -> bool
+    requires { IsWhole state.now }
+    ensures { result ≡ is_worth state.now mv.now }
 {
-    is_proper(s, mv) && !changes_nothing(s, mv)
+    is_proper(state, mv) && !changes_nothing(state, mv)
 }

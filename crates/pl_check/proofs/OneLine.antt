@@ -162,9 +162,6 @@ cyclic_same g a b h k = same_place a b (λ lt. k.earlier.each a lt h.cyclic) (λ
 not_founded : (k : DraftKind) (n p : List ℕ) → IsWellFounded k → IsFirstCircularIn k n p → ⊥
 not_founded k n p w f = w.acyclic.each f.number f.first.vertex f.first.cyclic
 
-circular_line : List ℕ × List ℕ → List ℕ
-circular_line w = fault_text (fault.Circular w.0 w.1)
-
 circular_in : (k l : DraftKind) (n p m q : List ℕ) → k ≡ l → IsFirstCircularIn k n p → IsFirstCircularIn l m q → fault_text (fault.Circular n p) ≡ fault_text (fault.Circular m q)
 circular_in k l n p m q e f g =
     let h : IsFirstCircularIn k m q = subst (λ (x : DraftKind). IsFirstCircularIn x m q) (sym e) g in

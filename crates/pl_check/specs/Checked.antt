@@ -1,5 +1,5 @@
--- What the check of a tree answers: the model, where every row passes, or the first fault. The rows come in their order, and
--- within one row the first fault in the order of the text.
+-- What the check of a tree answers: the model, where every check passes, or the first fault. The checks come in their order, and
+-- within one check the first fault in the order of the text.
 use Rattle.std.specs.Prelude.{◌≡◌, ℤ, pos, List, All, map, Ok, Err}
 use Rattle.pl_syntax.specs.declared.whole.Ast.{Ast}
 use Rattle.pl_model.specs.declared.whole.Model.{Model}
@@ -21,7 +21,7 @@ use Rattle.pl_check.specs.Schedules.{IsScheduled, IsFirstUnscheduled}
 abbrev pub ranged : Ast → List Draft → Judged (List Draft)
 ranged ast drafts = range_in ast.horizon ast.lead drafts >> Ok drafts
 
--- the rows of names, counts and ranges: the tree with its names numbered, or the first fault
+-- after the checks of names, counts and ranges: the tree with its names numbered, or the first fault
 unfoldable pub drafted : Ast → Judged (List Draft)
 drafted ast = twice_in ast >> (counts_in ast >> (numbered_items ast.items >>= ranged ast))
 
@@ -29,7 +29,7 @@ drafted ast = twice_in ast >> (counts_in ast >> (numbered_items ast.items >>= ra
 abbrev pub spans_in : ℤ → List Draft → List (ℤ × ℤ)
 spans_in horizon drafts = map (span_of horizon) (kinds_in drafts)
 
--- the model, where the rows of names, counts and ranges gave these drafts and every other row passes
+-- the model, where the checks of names, counts and ranges gave these drafts and every other check passes
 pub record IsModelOf (ast : Ast) (drafts : List Draft) (model : Model) : Type 0 where
   pub params : AreWellFounded (kinds_in drafts)
   pub contained : AreUncontained (kinds_in drafts)
@@ -38,7 +38,7 @@ pub record IsModelOf (ast : Ast) (drafts : List Draft) (model : Model) : Type 0 
   pub timelines : model.timelines ≡ lines_in drafts
   pub kinds : Pairwise (FinishesKind ast.horizon (spans_in ast.horizon drafts)) (kinds_in drafts) model.kinds
 
--- the rows of parameters that depend on themselves, kinds that contain themselves, and alternatives without a schedule
+-- the checks for parameters that depend on themselves, kinds that contain themselves, and alternatives without a schedule
 abbrev pub AnswersDrafts : Ast → List Draft → Judged Model → Type 0
 AnswersDrafts ast drafts (Ok model) = IsModelOf ast drafts model
 AnswersDrafts ast drafts (Err (fault.Circular name param)) = IsFirstCircular (kinds_in drafts) name param
@@ -62,7 +62,7 @@ AnswersJudged ast (Err e) result = IsFault e result
 abbrev pub Answers : Ast → Judged Model → Type 0
 Answers ast result = AnswersJudged ast (drafted ast) result
 
--- every row passes
+-- every check passes
 pub record PassesEachRow (ast : Ast) : Type 0 where
   pub drafts : List Draft
   pub rows : drafted ast ≡ Ok drafts

@@ -1,4 +1,4 @@
--- The row of counts that pass their limit.
+-- How often each part of a model may stand, and the fault of the first that stands more often.
 use Rattle.std.specs.Prelude.{ℕ, ◌+◌, ◌-◌, nat_le, Option, Some, None, List, [], ◌∷◌, Err, if◌then◌else◌}
 use Rattle.pl_syntax.specs.declared.whole.Ast.{Ast}
 use Rattle.pl_syntax.specs.declared.whole.Item.{Item}

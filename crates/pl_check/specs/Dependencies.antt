@@ -1,4 +1,4 @@
--- The rows of parameters that depend on themselves, and of kinds that contain themselves.
+-- The fault of the first parameter that depends on itself, and of the first kind that contains itself.
 use Rattle.std.specs.Prelude.{◌≡◌, ℕ, List, [], ◌∷◌, ◌++◌, Some, map, take, slice_get, All}
 use Rattle.std.specs.List.{flat_map}
 use Rattle.pl_model.specs.declared.expressions.Expr.{Expr, fold-Expr}
@@ -84,7 +84,7 @@ AreWellFounded kinds = All IsWellFounded kinds
 abbrev pub AreUncontained : List DraftKind → Type 0
 AreUncontained kinds = IsAcyclic (kind_graph kinds)
 
--- ---- what each row refuses, beside want of memory
+-- ---- what each check refuses, beside want of memory
 
 abbrev pub IsCircularIn : DraftKind → ModelFault → Type 0
 IsCircularIn kind (fault.Circular name param) = IsFirstCircularIn kind name param

@@ -1,4 +1,4 @@
--- Names and their numbers, and the row of names that stand twice. The names of timelines and kinds share one space.
+-- Names and their numbers, and the fault of the first name that is given twice. The names of timelines and kinds share one space.
 use Rattle.std.specs.Prelude.{ℕ, Bool, List, [], ◌∷◌, ◌++◌, Option, bytes_eq, Err, if◌then◌else◌}
 use Rattle.std.specs.List.{list_any, position_from}
 use Rattle.pl_syntax.specs.declared.whole.Ast.{Ast}

@@ -1,5 +1,5 @@
--- The row of unknown names: the tree with its names numbered, or the first name, in the order of the text, that is not of the
--- sort that its place wants.
+-- The tree with its names numbered, or the fault of the first name, in the order of the text, that is not of the sort that its
+-- place wants.
 use Rattle.std.specs.Prelude.{ℕ, List, Option, Some, None, Ok}
 use Rattle.pl_syntax.specs.declared.whole.Item.{Item}
 use Rattle.pl_syntax.specs.declared.whole.Item.TheVariants as item

@@ -1,4 +1,5 @@
--- The row of numbers out of range, in the order of the text. The bounds of a duration stand at the end of its expression.
+-- The fault of the first number, in the order of the text, that is out of range. The bounds of a duration stand at the end of
+-- its expression.
 use Rattle.std.specs.Prelude.{ℕ, ℤ, pos, neg_ℤ, int_le, Bool, true, ◌&&◌, List, Some, None, map, length}
 use Rattle.pl_model.specs.declared.expressions.Expr.{Expr, fold-Expr}
 use Rattle.pl_model.specs.declared.expressions.Expr.TheOpen.{Expr-F}

@@ -1,4 +1,4 @@
--- The row of alternatives without a schedule.
+-- The fault of the first alternative without a schedule.
 use Rattle.std.specs.Prelude.{◌≡◌, ℕ, ℤ, List, Some, All, take, slice_get}
 use Rattle.pl_stn.specs.declared.net.Net.{Net}
 use Rattle.pl_stn.specs.Nets.{IsSolution, IsNegativeCycle, HasNoSolution}

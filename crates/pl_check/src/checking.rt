@@ -1,4 +1,4 @@
-//! The check of a whole tree: row by row, the first fault wins.
+//! Checks a whole tree: one check after the other, and the first fault that any of them finds is told.
 ghost use Rattle.std.specs.Prelude.{◌≡◌, ℕ, List, map, length, All, IfOk};
 ghost use Rattle.pl_syntax.specs.Answers.{ReadsText};
 ghost use Rattle.pl_check.specs.Judgements.{Gives, pass};
@@ -42,7 +42,7 @@ fn judge_tree_ranges(alloc: Global, ast: &Ast, drafts: &Items<Draft>) -> Result<
     judge_ranges(alloc, ast.horizon, ast.lead, drafts.as_slice())
 }
 
-/// The rows of unknown names and of ranges, where those before them pass.
+/// Checks names and ranges, where the checks before them pass.
 #[tactic(auto, using(crate::proofs::SizeLemmas::scope_of, crate::proofs::RangeLemmas::sound_names, crate::proofs::JudgementLemmas::drafted_numbered, crate::proofs::JudgementLemmas::drafted_ranges, crate::proofs::JudgementLemmas::drafted_passes))]
 fn draft_named(alloc: Global, names: &Names, ast: &Ast) -> Result<Items<Draft>, ModelFault>
     requires names { names.now ≡ map item_name ast.now.items }
@@ -57,7 +57,7 @@ fn draft_named(alloc: Global, names: &Names, ast: &Ast) -> Result<Items<Draft>, 
     Ok(drafts)
 }
 
-/// The rows of names, counts and ranges.
+/// Checks names, counts and ranges.
 #[tactic(auto, using(crate::proofs::JudgementLemmas::drafted_twice, crate::proofs::JudgementLemmas::drafted_counts, crate::proofs::JudgementLemmas::fails_self))]
 fn draft(alloc: Global, ast: &Ast) -> Result<Items<Draft>, ModelFault>
     ensures gives { Gives result (drafted ast.now) }
@@ -93,7 +93,7 @@ fn kinds_in(alloc: Global, drafts: &[Draft]) -> Result<Items<DraftKind>, AllocEr
     Ok(kinds)
 }
 
-/// The rows of parameters, kinds and schedules, and the model.
+/// Checks parameters, kinds and schedules, and makes the model.
 #[tactic(auto, using(crate::proofs::AnswerLemmas::circular_answers, crate::proofs::AnswerLemmas::recursive_answers, crate::proofs::AnswerLemmas::unscheduled_answers, crate::proofs::RangeLemmas::sound_kinds, crate::proofs::RangeLemmas::kind_names, crate::proofs::RangeLemmas::horizon_passes, crate::proofs::RangeLemmas::lead_passes, crate::proofs::RangeLemmas::near_kinds))]
 fn complete(alloc: Global, ast: &Ast, drafts: &[Draft]) -> Result<Model, ModelFault>
     requires sound { All (IsSoundDraft (length (kinds_in drafts.now))) drafts.now }

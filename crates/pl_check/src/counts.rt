@@ -1,4 +1,4 @@
-//! The row of counts that pass their limit.
+//! Checks that no part of a model stands more often than it may.
 ghost use Rattle.std.specs.Prelude.{◌≡◌};
 ghost use Rattle.pl_check.specs.Judgements.{Judgement, each, at_most};
 ghost use Rattle.pl_check.specs.Counts.{nodes_of, room_after, few_nodes, counts_in_origin, counts_in_param, counts_in_reservation, counts_in_link, counts_in_binding, counts_in_slot, counts_in_order, counts_in_alternative, counts_in_kind, counts_in_state, counts_in_line, counts_in_items, counts_in};

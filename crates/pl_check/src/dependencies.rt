@@ -1,4 +1,4 @@
-//! The rows of parameters that depend on themselves, and of kinds that contain themselves.
+//! Checks that no parameter depends on itself, and that no kind contains itself.
 ghost use Rattle.std.specs.Prelude.{◌≡◌, ◌++◌, map, IfOk, OnOk, IfSome, IfNone, IfErr};
 ghost use Rattle.pl_check.specs.Cycles.{IsFirstCyclic, IsAcyclic};
 ghost use Rattle.pl_check.specs.Dependencies.{params_of, param_needs, param_graph, alternative_kinds, contained_kinds, kind_graph, AreWellFounded, AreUncontained, IsWellFounded, IsCircularIn, IsCircularFault, IsRecursiveFault};

@@ -1,4 +1,4 @@
-//! The row of numbers out of range: distances in links and orders.
+//! Checks that the distances of links and orders are in range.
 ghost use Rattle.std.specs.Prelude.{◌≡◌, ◌≤ℤ◌, pos};
 ghost use Rattle.pl_check.specs.Judgements.{Gives, unless, each};
 ghost use Rattle.pl_check.specs.Ranges.{is_between, is_distance, range_in_link, range_in_order, range_in_alternative};

@@ -1,4 +1,4 @@
-//! The row of unknown names: the names of the tree become numbers.
+//! Checks that each name is known, and puts its number in its place.
 ghost use Rattle.std.specs.Prelude.{◌≡◌, ◌≤◌, length, IfOk};
 ghost use Rattle.pl_model.specs.Values.{NamesBelow};
 ghost use Rattle.pl_check.specs.Judgements.{Gives, each_made};

@@ -1,4 +1,4 @@
-//! The row of numbers out of range.
+//! Checks that the numbers of a model are in range.
 ghost use Rattle.std.specs.Prelude.{◌≡◌, ◌≤ℤ◌, pos, All, IfOk, map};
 ghost use Rattle.pl_model.specs.Schedules.{param_range};
 ghost use Rattle.pl_check.specs.declared.fault.ModelFault.TheVariants as fault;

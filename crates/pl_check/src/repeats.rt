@@ -1,4 +1,4 @@
-//! The row of names that stand twice.
+//! Checks that no name is given twice.
 ghost use Rattle.std.specs.Prelude.{◌≡◌, List, ℕ, [], ◌∷◌, ◌++◌, map, OnOk, IfOk};
 ghost use Rattle.pl_check.specs.Judgements.{Judgement, Gives, GivesSo, each};
 ghost use Rattle.pl_check.specs.Names.{is_new, distinct, nothing_inside, own_name, param_name, slot_name, binding_name, line_name, item_name, twice_in_line, twice_in_slot, twice_in_alternative, twice_in_kind, twice_in_item, twice_in};

@@ -1,4 +1,4 @@
-//! The row of alternatives without a schedule, and what is computed of a model: least durations and offsets.
+//! Checks that each alternative has a schedule, and works out least durations and offsets.
 ghost use Rattle.std.specs.Prelude.{◌≡◌, ℕ, ◌<◌, ◌≤◌, ◌+◌, ◌*◌, ◌≤ℤ◌, pos, map, length, slice_index, All, IfOk, IfErr};
 ghost use Rattle.pl_stn.specs.Nets.{time_of};
 ghost use Rattle.pl_check.specs.Ranges.{NamesOwn};

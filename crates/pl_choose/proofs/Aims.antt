@@ -7,8 +7,6 @@ use Rattle.pl_semantics.specs.declared.plan_state.PlanState.{PlanState}
 use Rattle.pl_semantics.specs.Legal.{left_after}
 use Rattle.pl_board.specs.Boards.{Standing}
 use Rattle.pl_bounds.specs.Bounds.{AreLeast}
-use Rattle.pl_moves.specs.Attempts.{is_enough}
-use Rattle.pl_moves.proofs.Enough.{at_most}
 use Rattle.pl_choose.specs.declared.best.Best.{Best}
 use Rattle.pl_choose.specs.declared.picked.Picked.{Picked}
 use Rattle.pl_choose.specs.declared.picked.Picked.TheVariants.{Made, Found}
@@ -21,10 +19,6 @@ use Rattle.pl_choose.specs.Tried.{better_of, best_of}
 use Rattle.pl_choose.proofs.Trying.{best, better, in_place, none_better, least_take, least_drop, found, found_first}
 
 -- ---- what is enough
-
-pub enough_is : (enough : Option ℕ) (left : ℕ) → is_enough enough left ≡ true → AreEnough enough left
-enough_is None left e = absurd (cc)
-enough_is (Some most) left e = at_most most left e
 
 pub is_mended : (purpose : Purpose) (most : Option ℕ) (left : ℕ) → AreEnough (enough_for purpose most) left → purpose ≡ Mend
 is_mended Propose most left none = absurd none

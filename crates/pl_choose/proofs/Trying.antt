@@ -1,5 +1,5 @@
 -- Moves that are tried in turn: which may be passed over, and that it makes no difference with which one is begun.
-use Rattle.std.proofs.Common.{◌≡◌, ℕ, zero, suc, ◌+◌, ◌≤◌, ◌<◌, Bool, true, false, cond, List, [], ◌∷◌, ◌++◌, length, get_or, take, drop, refl, sym, ap, subst, ◌∙◌, append_assoc, append-nil, arith, inl, inr}
+use Rattle.std.proofs.Common.{◌≡◌, ℕ, zero, suc, ◌+◌, ◌≤◌, ◌<◌, Bool, true, false, cond, List, [], ◌∷◌, ◌++◌, length, get_or, take, drop, refl, sym, ap, subst, ◌∙◌, arith, inl, inr}
 use Rattle.std.specs.Prelude.{◌⊎◌, All, Some, nat_lt, if◌then◌else◌}
 use Rattle.std.proofs.lemmas.Bool.{ltb-false, lt-ltb, le-ltb, ltb-true}
 use Rattle.std.proofs.lemmas.List.{take-append-drop, drop_all, drop_more}
@@ -120,25 +120,6 @@ none_left s b ms [] ns e these = these.best_is
 none_left s b ms (m ∷ more) ns e these = absurd (omega (arith, e))
 
 -- ---- steps of a walk
-
--- the next of them, and the ones behind it
-pub below_next : {X : Type 0} (most k : ℕ) (ns : List ℕ) (xs kept more w : List X) (d : ℕ) (e : X) → k < length ns → k < length xs → more ≡ kept ++ below most (get_or ns k d ∷ []) (get_or xs k e ∷ [])
-    → kept ++ below most (drop k ns) (drop k xs) ≡ w → more ++ below most (drop (k + 1) ns) (drop (k + 1) xs) ≡ w
-below_next {X = X} most k ns xs kept more w d e lt in_it grown is =
-    let P : List ℕ → Type 0 = λ zs. kept ++ below most zs (drop k xs) ≡ w in
-    let Q : List X → Type 0 = λ zs. kept ++ below most (get_or ns k d ∷ drop (k + 1) ns) zs ≡ w in
-    let one : kept ++ below most (get_or ns k d ∷ drop (k + 1) ns) (get_or xs k e ∷ drop (k + 1) xs) ≡ w = subst Q (drop_more xs k e in_it) (subst P (drop_more ns k d lt) is) in
-    rw (grown, append_assoc) (ap (λ zs. kept ++ zs) (split (nat_lt (get_or ns k d) most)) ∙ one)
-  where
-    split : (c : Bool) → cond c (get_or xs k e ∷ []) [] ++ below most (drop (k + 1) ns) (drop (k + 1) xs) ≡ cond c (get_or xs k e ∷ below most (drop (k + 1) ns) (drop (k + 1) xs)) (below most (drop (k + 1) ns) (drop (k + 1) xs))
-    split true = refl
-    split false = refl
-
-pub below_end : {X : Type 0} (most k : ℕ) (ns : List ℕ) (xs kept w : List X) → length ns ≤ k → length xs ≤ k → kept ++ below most (drop k ns) (drop k xs) ≡ w → kept ≡ w
-below_end {X = X} most k ns xs kept w over out is =
-    let P : List ℕ → Type 0 = λ zs. kept ++ below most zs (drop k xs) ≡ w in
-    let Q : List X → Type 0 = λ zs. kept ++ below most [] zs ≡ w in
-    sym (append-nil kept) ∙ subst Q (drop_all k xs out) (subst P (drop_all k ns over) is)
 
 pub next_tried : (f : RepairMove → ℕ) (ms : List RepairMove) (k left : ℕ) (d : RepairMove) (b c w : Best) → k < length ms → left ≡ f (get_or ms k d) → c ≡ better_of b (get_or ms k d) left → best_of f b (drop k ms) ≡ w → best_of f c (drop (k + 1) ms) ≡ w
 next_tried f ms k left d b c w lt counted is leads =

@@ -22,7 +22,7 @@ abbrev pub IsPicked : Purpose → (RepairMove → Type 0) → Standing → Picke
 IsPicked why P before (Made m) now = (why ≡ Mend) × P m × (now ≡ after (applied before.state m))
 IsPicked why P before (Found m) now = P m × (now ≡ before)
 
--- the same, of some moves the first that leaves the fewest conflicts, and none of none
+-- what is picked of some moves: the first that leaves the fewest conflicts, or nothing if there is no move
 abbrev pub IsFewest : Purpose → List RepairMove → Standing → Option Picked → Standing → Type 0
 IsFewest why moves before None now = (fewest before.state moves ≡ None) × (now ≡ before)
 IsFewest why moves before (Some p) now = IsPicked why (λ m. fewest before.state moves ≡ Some m) before p now

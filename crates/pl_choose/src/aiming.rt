@@ -1,5 +1,5 @@
-//! The aim: that one of some moves which by what is known of them may leave the fewest conflicts. It is tried before the others, so
-//! that none is tried that is known to leave more than it.
+//! The aim is the one of some moves that may leave the fewest conflicts, by what is known of them. It is tried before the others, so
+//! that no move is tried that is known to leave more.
 ghost use Rattle.std.specs.Prelude.{◌≡◌, ◌≤◌, ◌<◌, ◌+◌, ◌^◌, true, false, All, IfOk, IfSome, OnErr, take, drop, length};
 ghost use Rattle.pl_semantics.specs.Legal.{left_after};
 ghost use Rattle.pl_bounds.specs.Bounds.{AreLeast};
@@ -22,13 +22,13 @@ use std::alloc::{AllocError, Global};
 /// What comes of the aim.
 #[derive(Clone, Copy, Debug)]
 pub(crate) enum Aimed {
-    /// It is the best of all, and stays made.
+    /// The aim is the best of all, and stays made.
     Made(RepairMove),
-    /// It and those before it are tried.
+    /// The aim and the moves before it are tried.
     Passed(Tried),
 }
 
-// What those are tried against that stand before the aim: one that leaves no more than the aim is better than it.
+// What the moves before the aim are tried against: one of them is better than the aim if it leaves no more conflicts.
 fn above(best: Best, aim: &RepairMove, left: usize) -> Best
     requires { left < 2 ^ 63 }
     ensures { result ≡ above best aim.now left }
@@ -58,7 +58,7 @@ fn enough_at(best: Best, bounds: &[u32], at: usize) -> Option<u32>
     }
 }
 
-// Tries the aim, and where it is not known to be the best of all then those before it.
+// Tries the aim and then the moves before it, unless the aim is known to be the best of all.
 fn try_aim(
     alloc: Global,
     board: &mut Board,
@@ -92,8 +92,8 @@ fn try_aim(
     }
 }
 
-/// The best of one and some others in turn, given for each of these a number of conflicts that it leaves at least. An aim is tried
-/// so often first.
+/// The best of one move and some others in turn, given for each of the others a number of conflicts that it leaves at least. So many
+/// aims are tried first.
 pub(crate) fn pick_by_aims(
     alloc: Global,
     board: &mut Board,

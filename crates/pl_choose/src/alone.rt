@@ -10,16 +10,16 @@ use pl_plan::RepairMove;
 use pl_points::{Quiet, Steps};
 use std::alloc::{AllocError, Global};
 
-/// What comes of it.
+/// What comes of a move that is tried alone.
 #[derive(Clone, Copy, Debug)]
 pub(crate) enum Alone {
-    /// It leaves few enough conflicts, and stays made.
+    /// The move leaves few enough conflicts, and stays made.
     Made,
-    /// It leaves so many, and is undone.
+    /// The move leaves so many conflicts, and is undone.
     Undone { left: usize },
 }
 
-/// Tries a move. Where it leaves no more conflicts than are enough it stays made. Want of memory spoils the board.
+/// Tries a move. If it leaves no more conflicts than are enough, it stays made. Want of memory spoils the board.
 pub(crate) fn try_alone(
     alloc: Global,
     board: &mut Board,

@@ -1,4 +1,4 @@
-//! Moves of which numbers are known that they leave at least.
+//! Moves, with a number of conflicts that each leaves at least.
 ghost use Rattle.std.specs.Prelude.{◌≡◌, ◌<◌, ◌≤◌, false, true, All, IfOk, OnOk, OnErr, length};
 ghost use Rattle.pl_semantics.specs.Legal.{left_after};
 ghost use Rattle.pl_bounds.specs.Bounds.{AreLeast};
@@ -61,8 +61,8 @@ pub(crate) fn lowest_of(most: u32, bounds: &[u32]) -> u32
     lowest
 }
 
-/// The best of one and some others in turn, given for each of these a number of conflicts that it leaves at least. What is known
-/// to be no better is not tried.
+/// The best of one move and some others in turn, given for each of the others a number of conflicts that it leaves at least. A move
+/// that is known to be no better is not tried.
 pub(crate) fn best_by_bounds(
     alloc: Global,
     board: &mut Board,

@@ -17,13 +17,13 @@ use pl_moves::least_left;
 use pl_plan::RepairMove;
 use std::alloc::{AllocError, Global};
 
-// So often an aim is tried before moves are tried in their order.
+// How many aims are tried before moves are tried in their order.
 const AIMS: u32 = 2;
 
 /// What comes of the first of some moves.
 #[derive(Clone, Copy, Debug)]
 pub(crate) enum Started {
-    /// It leaves the fewest conflicts.
+    /// The first leaves the fewest conflicts.
     Settled(Picked),
     /// Others may leave fewer.
     Open(Best),
@@ -66,8 +66,8 @@ fn least_alone(board: &Board, moves: &[RepairMove]) -> u32
     least
 }
 
-// The best of the first and the others, given how many conflicts these leave at least by what is known of each alone. More of them is
-// looked for where the first leaves more.
+// The best of the first and the others, given a number of conflicts that each of the others leaves at least, by what is known of each
+// alone. If the first leaves more, more is worked out of the others.
 fn pick_of_few(
     alloc: Global,
     board: &mut Board,
@@ -93,7 +93,8 @@ fn pick_of_few(
     }
 }
 
-// The best of the first and the others: first it is worked out how many conflicts each of these leaves at least.
+// The best of the first and the others. Before the first is tried it is worked out how many conflicts each of the others leaves at
+// least.
 fn pick_of_many(
     alloc: Global,
     board: &mut Board,
@@ -116,8 +117,8 @@ fn pick_of_many(
     }
 }
 
-// The best of the first and the others. Where few conflicts stand it is likely that the first leaves no more than is known of each
-// of the others alone.
+// The best of the first and the others. If few conflicts stand, the first likely leaves no more than each of the others does by what
+// is known of it alone.
 fn pick(
     alloc: Global,
     board: &mut Board,
@@ -142,7 +143,7 @@ fn pick(
     pick_of_many(alloc, board, first, rest, purpose)
 }
 
-/// The first of some moves that leaves the fewest conflicts. One alone is not tried. Want of memory spoils the board.
+/// The first of some moves that leaves the fewest conflicts. A single move is not tried. Want of memory spoils the board.
 pub(crate) fn fewest(
     alloc: Global,
     board: &mut Board,

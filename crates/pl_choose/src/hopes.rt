@@ -27,7 +27,7 @@ impl Hopes {
         }
     }
 
-    // Keeps a move that is not known to leave so many conflicts or more.
+    // Keeps a move, unless it is known to leave so many conflicts or more.
     fn add_if_hopeful(&mut self, mv: &RepairMove, bound: u32, left: usize) -> Result<(), AllocError>
         ensures moves { OnOk result (self.new.moves.items ≡ self.old.moves.items ++ below left (bound ∷ []) (mv.now ∷ [])) }
         ensures bounds { OnOk result (self.new.bounds.items ≡ self.old.bounds.items ++ below left (bound ∷ []) (bound ∷ [])) }
@@ -40,7 +40,7 @@ impl Hopes {
         Ok(())
     }
 
-    // Those of some moves that are not known to leave so many conflicts or more.
+    // The moves that are not known to leave so many conflicts or more.
     fn sift(
         alloc: Global,
         moves: &[RepairMove],
@@ -59,7 +59,7 @@ impl Hopes {
     }
 }
 
-/// Those of some moves that may be better than the best so far, given for each a number of conflicts that it leaves at least.
+/// The moves that may be better than the best so far, given for each a number of conflicts that it leaves at least.
 pub(crate) fn hopes_of(
     alloc: Global,
     board: &mut Board,

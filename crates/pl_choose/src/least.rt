@@ -18,7 +18,7 @@ use std::alloc::{AllocError, Global};
 #[derive(Clone, Copy, Debug, Drop)]
 pub struct Least;
 
-/// Tells what is chosen, and makes it where that is what it was looked for.
+/// Tells which move is chosen, and makes it if it was looked for to be made.
 pub(crate) fn settle(
     alloc: Global,
     board: &mut Board,

@@ -22,7 +22,7 @@ fn add_if_legal(board: &Board, mv: &RepairMove, all: &mut Vec<RepairMove>) -> Re
     Ok(())
 }
 
-// Those that nothing refuses.
+// The moves that nothing refuses.
 fn legal_among(
     alloc: Global,
     board: &Board,

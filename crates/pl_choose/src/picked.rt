@@ -3,8 +3,8 @@ use pl_plan::RepairMove;
 /// The move that is chosen.
 #[derive(Clone, Copy, Debug)]
 pub(crate) enum Picked {
-    /// It was tried last, and stays made.
+    /// The move was tried last, and stays made.
     Made(RepairMove),
-    /// It is not made.
+    /// The move is not made.
     Found(RepairMove),
 }

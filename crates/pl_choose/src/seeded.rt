@@ -52,7 +52,7 @@ impl Seeded {
         self.generator.next_word()
     }
 
-    // One word, or three.
+    // Draws one word, or three.
     #[tactic(auto, unfolding(crate::specs::Picks::draw_of, crate::specs::Picks::seeded_after))]
     fn draw(&mut self) -> Draw
         ensures draw { result ≡ draw_of self.old }

@@ -46,8 +46,8 @@ fn count_or_spoil(alloc: Global, board: &mut Board, mv: &RepairMove) -> Result<u
     }
 }
 
-/// How many conflicts a move leaves, given the count of `pl_moves`, which stands still at its type's end: there they are counted
-/// anew. An error is want of memory.
+/// How many conflicts a move leaves, given the count of `pl_moves`. That count goes no higher than its type; where it is at its
+/// greatest, the conflicts are counted anew. An error is want of memory.
 pub(crate) fn exact(
     alloc: Global,
     board: &mut Board,

@@ -71,8 +71,7 @@ same_sym q k = ap is_eq (conflict_total.antisymm q k) ∙ turned (conflict_cmp k
   where
     turned : (r : Ordering) → is_eq (ordering_reverse r) ≡ is_eq r
     turned Less = refl
-    turned Equal = refl
-    turned Greater = refl
+    turned _ = refl
 
 pub absent : (k : Conflict) (ks : List Conflict) → AllByRecursion (λ y. conflict_cmp k y ≡ Less) ks → has k ks ≡ false
 absent k [] all = refl

@@ -5,6 +5,7 @@ use Rattle.std.specs.Option.{option_map}
 use Rattle.std.specs.List.{list_all, flat_map}
 use Rattle.std.proofs.lemmas.Bool.{and_parts, leb-true}
 use Rattle.std.proofs.lemmas.Int.{ints}
+use Rattle.std.proofs.lemmas.Option.{same_Some}
 use Rattle.std.proofs.lemmas.List.{length-append, length-map}
 use Rattle.std.proofs.lemmas.List.Elements.{All-nil, All-cons, All-head, All-tail, All-append, All-weaker}
 use Rattle.std.proofs.lemmas.List.Sums.{AllPass-from_list_all}
@@ -76,34 +77,39 @@ length-numbered n (x ∷ xs) = ap suc (length-numbered (suc n) xs)
 
 -- ---- a firm activity
 
-duration_ends : (horizon start end : ℕ) (o : Option ℤ) → option_map (λ d. start + d) (moments_in horizon o) ≡ Some end → (start < end) × (end ≤ start + horizon)
-duration_ends horizon start end None e = absurd (cc)
-duration_ends horizon start end (Some (negsuc n)) e = absurd (cc)
-duration_ends horizon start end (Some (pos n)) e = cases (nat_le 1 n && nat_le n horizon) refl e
+-- what is known of an end that was measured: it lies behind the start, and at the horizon at the latest
+abbrev pub IsEndWithin : ℕ → ℕ → Option ℕ → Type 0
+IsEndWithin horizon start measured = IfSome measured (λ m. (start < m) × (m ≤ horizon))
+
+duration_ends : (horizon start end : ℕ) (measured : Option ℕ) (o : Option ℤ) → IsEndWithin horizon start measured → option_map (λ d. unwrap_or measured (start + d)) (moments_in horizon o) ≡ Some end → (start < end) × (end ≤ start + horizon)
+duration_ends horizon start end measured None within e = absurd (cc)
+duration_ends horizon start end measured (Some (negsuc n)) within e = absurd (cc)
+duration_ends horizon start end measured (Some (pos n)) within e = cases (nat_le 1 n && nat_le n horizon) refl measured within e
   where
-    cases : (b : Bool) → (nat_le 1 n && nat_le n horizon) ≡ b → option_map (λ d. start + d) (cond b (Some n) None) ≡ Some end → (start < end) × (end ≤ start + horizon)
-    cases false t e = absurd (cc)
-    cases true t e =
+    cases : (b : Bool) → (nat_le 1 n && nat_le n horizon) ≡ b → (o : Option ℕ) → IsEndWithin horizon start o → option_map (λ d. unwrap_or o (start + d)) (cond b (Some n) None) ≡ Some end → (start < end) × (end ≤ start + horizon)
+    cases false t o h e = absurd (cc)
+    cases true t None h e =
         let both = and_parts (nat_le 1 n) (nat_le n horizon) t in
-        let is : start + n ≡ end = cc in
+        let is : start + n ≡ end = same_Some (start + n) end e in
         (omega (arith, leb-true 1 n both.0, is), omega (arith, leb-true n horizon both.1, is))
+    cases true t (Some m) h e =
+        let is : m ≡ end = same_Some m end e in
+        (omega (arith, h.0, is), omega (arith, h.1, is))
 
 -- what its kind and its values tell of an activity that is firm
 pub record IsFirmUntil (model : Model) (a : Activity) (row : Row) (end : ℕ) (k : Kind) : Type 0 where
   pub kind : kind_of model a ≡ Some k
-  pub after : a.start < end
-  pub within : end ≤ a.start + model.horizon
   pub amounts : list_all (has_amount row) k.reservations ≡ true
+  pub ends : IsEndWithin model.horizon a.start a.measured → (a.start < end) × (end ≤ a.start + model.horizon)
 
-firm_end : (model : Model) (a : Activity) (row : Row) (end : ℕ) (k : Kind) → kind_of model a ≡ Some k → end_with model.horizon k a.start row ≡ Some end → IsFirmUntil model a row end k
+firm_end : (model : Model) (a : Activity) (row : Row) (end : ℕ) (k : Kind) → kind_of model a ≡ Some k → end_with model.horizon k a.start a.measured row ≡ Some end → IsFirmUntil model a row end k
 firm_end model a row end k kind e = cases (is_firm_with model.horizon k row) refl e
   where
-    cases : (b : Bool) → is_firm_with model.horizon k row ≡ b → cond b (option_map (λ d. a.start + d) (duration_in model.horizon k row)) None ≡ Some end → IsFirmUntil model a row end k
+    cases : (b : Bool) → is_firm_with model.horizon k row ≡ b → cond b (option_map (λ d. unwrap_or a.measured (a.start + d)) (duration_in model.horizon k row)) None ≡ Some end → IsFirmUntil model a row end k
     cases false t e = absurd (cc)
     cases true t e =
         let both = and_parts (are_in_range 0 k.params row && is_some (duration_in model.horizon k row)) (list_all (has_amount row) k.reservations) t in
-        let d = duration_ends model.horizon a.start end (value_of k.duration row) e in
-        record { kind = kind; after = d.0; within = d.1; amounts = both.1 }
+        record { kind = kind; amounts = both.1; ends = λ within. duration_ends model.horizon a.start end a.measured (value_of k.duration row) within e }
 
 pub firm_until : (model : Model) (xs : List Activity) (a : Activity) (end : ℕ) → activity_of a.id xs ≡ Some a → end_of model xs a.id ≡ Some end → (k : Kind) × IsFirmUntil model a (values_of model xs a.id) end k
 unfolding end_of
@@ -111,7 +117,7 @@ firm_until model xs a end here e =
     let found : end_in model (Some a) (values_of model xs a.id) ≡ Some end = sym (ap (λ o. end_in model o (values_of model xs a.id)) here) ∙ e in
     cases (kind_of model a) refl found
   where
-    cases : (o : Option Kind) → kind_of model a ≡ o → option_and_then (λ k. end_with model.horizon k a.start (values_of model xs a.id)) o ≡ Some end → (k : Kind) × IsFirmUntil model a (values_of model xs a.id) end k
+    cases : (o : Option Kind) → kind_of model a ≡ o → option_and_then (λ k. end_with model.horizon k a.start a.measured (values_of model xs a.id)) o ≡ Some end → (k : Kind) × IsFirmUntil model a (values_of model xs a.id) end k
     cases None t e = absurd (cc)
     cases (Some k) t e = (k, firm_end model a (values_of model xs a.id) end k t e)
 
@@ -129,13 +135,15 @@ pub record AreBounded (model : Model) (ds : List Demand) : Type 0 where
 module _ (s : PlanState) (whole : IsWhole s) where
   until : (a : Activity) (end : ℕ) → activity_of a.id s.plan.activities ≡ Some a → end_at s a ≡ Some end → AreBounded s.model (demands_until s a end)
   until a end here e =
+      let alone = (all_at (FitsAlone s.model) s.plan.activities a.id a whole.fits.each here).0 in
       let firm = firm_until s.model s.plan.activities a end here e in
       let k = firm.0 in
       let is = firm.1 in
       let checked = checked_kind s.model whole.checked a.kind k is.kind in
-      let start = (all_at (FitsAlone s.model) s.plan.activities a.id a whole.fits.each here).0.start in
+      let start = alone.start in
       let horizon = whole.checked.horizon in
-      let ends : AreEnds a.start end = ((start.0, omega (arith, start.1, horizon.1)), is.after, omega (arith, start.1, horizon.1, is.within)) in
+      let between = is.ends alone.measured in
+      let ends : AreEnds a.start end = ((start.0, omega (arith, start.1, horizon.1)), between.0, omega (arith, start.1, horizon.1, between.1)) in
       let P : Option Kind → Type 0 = λ o. AreBounded s.model (map (asked_for a.id a.start end (row_of s a)) (numbered 0 (reservations_in o))) in
       subst P (sym is.kind) (record {
         each = all_asked s.model (length k.params) a.id a.start end (row_of s a) ends 0 k.reservations checked.reservations is.amounts;

@@ -1,5 +1,6 @@
 -- A firm activity has all its values, its duration and its amounts, in range: nothing of it is unset or bad.
 use Rattle.std.proofs.Common.{◌≡◌, ℕ, zero, suc, ◌+◌, ◌<◌, Bool, true, false, cond, not, ◌&&◌, List, [], ◌∷◌, ◌++◌, length, get_or, ℤ, pos, negsuc, nat_le, Option, Some, None, is_some, is_none, append-nil, option_map, refl, sym, ap, ◌∙◌, subst, arith}
+use Rattle.std.specs.Prelude.{unwrap_or}
 use Rattle.std.specs.List.{list_all, flat_map}
 use Rattle.std.proofs.lemmas.Bool.{and_parts, and_right, or_from}
 use Rattle.pl_conflict.specs.declared.conflict.Conflict.{Conflict}
@@ -70,10 +71,10 @@ duration_within horizon (Some (pos n)) t = cases (nat_le 1 n && nat_le n horizon
 
 -- ---- firmness
 
-firm_by_end : (horizon : ℕ) (k : Kind) (start : ℕ) (row : Row) (end : ℕ) → end_with horizon k start row ≡ Some end → is_firm_with horizon k row ≡ true
-firm_by_end horizon k start row end e = cases (is_firm_with horizon k row) refl e
+firm_by_end : (horizon : ℕ) (k : Kind) (start : ℕ) (measured : Option ℕ) (row : Row) (end : ℕ) → end_with horizon k start measured row ≡ Some end → is_firm_with horizon k row ≡ true
+firm_by_end horizon k start measured row end e = cases (is_firm_with horizon k row) refl e
   where
-    cases : (b : Bool) → is_firm_with horizon k row ≡ b → cond b (option_map (λ d. start + d) (duration_in horizon k row)) None ≡ Some end → is_firm_with horizon k row ≡ true
+    cases : (b : Bool) → is_firm_with horizon k row ≡ b → cond b (option_map (λ d. unwrap_or measured (start + d)) (duration_in horizon k row)) None ≡ Some end → is_firm_with horizon k row ≡ true
     cases true is t = is
     cases false is t = absurd (cc)
 
@@ -135,7 +136,7 @@ module _ (s : PlanState) (a : Activity) where
 
     module _ (end : ℕ) (firm : end_at s a ≡ Some end) where
       is_firm : is_firm_with s.model.horizon k (row_of s a) ≡ true
-      is_firm = firm_by_end s.model.horizon k a.start (row_of s a) end (end_is s.model s.plan.activities a.id a k (row_of s a) live kind refl ∙ firm)
+      is_firm = firm_by_end s.model.horizon k a.start a.measured (row_of s a) end (end_is s.model s.plan.activities a.id a k (row_of s a) live kind refl ∙ firm)
 
       are_values : (are_in_range 0 k.params (row_of s a) && is_some (duration_in s.model.horizon k (row_of s a))) ≡ true
       are_values = (and_parts (are_in_range 0 k.params (row_of s a) && is_some (duration_in s.model.horizon k (row_of s a))) (list_all (has_amount (row_of s a)) k.reservations) is_firm).0

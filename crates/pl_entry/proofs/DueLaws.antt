@@ -44,8 +44,7 @@ keeps k (x ∷ xs) q (zero, lt, is) = by (start_cmp k x)
   where
     by : (r : Ordering) → Contains (match_ordering r (k ∷ x ∷ xs) (x ∷ xs) (x ∷ insert_key start_cmp xs k)) q
     by Less = (1, omega arith, is)
-    by Equal = (0, omega arith, is)
-    by Greater = (0, omega arith, is)
+    by _ = (0, omega arith, is)
 keeps k (x ∷ xs) q (suc n, lt, is) = by (start_cmp k x) (keeps k xs q (n, omega (arith, lt), is))
   where
     by : (r : Ordering) → Contains (insert_key start_cmp xs k) q → Contains (match_ordering r (k ∷ x ∷ xs) (x ∷ xs) (x ∷ insert_key start_cmp xs k)) q

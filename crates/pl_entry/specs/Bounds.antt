@@ -77,6 +77,8 @@ IsInputReply reply.TooLate = Unit {0}
 IsInputReply reply.TickBack = Unit {0}
 IsInputReply reply.TickBeyond = Unit {0}
 IsInputReply reply.TooManyGoals = Unit {0}
+IsInputReply reply.NotBegun = Unit {0}
+IsInputReply reply.EndBack = Unit {0}
 IsInputReply _ = ⊥
 
 -- to a repair

@@ -1,4 +1,4 @@
-ghost use Rattle.std.specs.Prelude.{◌≡◌, ℕ, ◌≤◌, List, ◌++◌, slice_get};
+ghost use Rattle.std.specs.Prelude.{◌≡◌, ℕ, ◌≤◌, Bool, List, ◌++◌, slice_get};
 ghost use Rattle.std.specs.List.Sorted.{IsStrictlySortedBy};
 ghost use Rattle.pl_model.specs.declared.whole.Model.{Model};
 ghost use Rattle.pl_conflict.specs.declared.conflict.Conflict.{Conflict};
@@ -10,7 +10,7 @@ ghost use Rattle.pl_entry.specs.Due.{AreDue, due_of, due_since};
 
 /// Of a sorted list of conflicts the first alone decides the furthest moment up to the target before which none stands.
 pub fn laws_of_horizon()
-    ensures best { (model : Model) (now : ℕ) (ks : List Conflict) → IsStrictlySortedBy conflict_cmp ks → IsBest model now ks (best_of model now (slice_get ks 0)) }
+    ensures best { (model : Model) (now : ℕ) (halted : Bool) (ks : List Conflict) → IsStrictlySortedBy conflict_cmp ks → IsBest model now halted ks (best_of model now halted (slice_get ks 0)) }
 {}
 
 /// The list of the due activities holds exactly their ids, each before those that start later, and no other list does. The list of a later moment,

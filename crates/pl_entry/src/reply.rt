@@ -42,6 +42,10 @@ pub enum Reply {
     TickBeyond,
     /// As many goals as the run may have were taken.
     TooManyGoals,
+    /// No activity of this id stands that is firm, committed and has begun.
+    NotBegun,
+    /// The measured end is the start of the activity, or before it.
+    EndBack,
     /// The conflict does not stand.
     Stale,
     /// The move is none of the candidates of the conflict.
@@ -84,6 +88,8 @@ impl Copied for Reply {
             Reply::TickBack => Ok(Reply::TickBack),
             Reply::TickBeyond => Ok(Reply::TickBeyond),
             Reply::TooManyGoals => Ok(Reply::TooManyGoals),
+            Reply::NotBegun => Ok(Reply::NotBegun),
+            Reply::EndBack => Ok(Reply::EndBack),
             Reply::Stale => Ok(Reply::Stale),
             Reply::NotFor => Ok(Reply::NotFor),
             Reply::Locked(id) => Ok(Reply::Locked(*id)),

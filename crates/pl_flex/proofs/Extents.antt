@@ -39,12 +39,12 @@ all_live xs rising i d h = found_here xs xs refl rising i (get_or xs i d) h (get
 one_ends : (s : PlanState) → IsWhole s → (a : Activity) → activity_of a.id s.plan.activities ≡ Some a → (o : Option ℕ) → end_at s a ≡ o → is_some o ≡ true → HasEnds s.model.horizon (placed_of s a)
 one_ends s whole a live None e firm = absurd (cc)
 one_ends s whole a live (Some end) e firm =
-    let until = (firm_until s.model s.plan.activities a end live e).1 in
-    let start = (fits_alone s whole a live).start in
+    let alone = fits_alone s whole a live in
+    let until = (firm_until s.model s.plan.activities a end live e).1.ends alone.measured in
     record {
-      before = start.1;
-      after = rw e until.after;
-      within = rw e until.within;
+      before = alone.start.1;
+      after = rw e until.0;
+      within = rw e until.1;
     }
 
 pub all_end : (s : PlanState) → IsWhole s → All (HasEnds s.model.horizon) (firm_in s)

@@ -15,9 +15,8 @@ use Rattle.pl_input.proofs.Reading.{took_none, took_more, used_later, halts_late
 -- ---- lists of lines
 
 none_behind : (b : Bool) (line : List ℕ) (rest : Option (List ℕ)) → text_before line b rest ≡ None → (b ≡ false) × (rest ≡ None)
-none_behind true line rest e = absurd (cc)
 none_behind false line None e = (refl, refl)
-none_behind false line (Some text) e = absurd (cc)
+none_behind _ line _ e = absurd (cc)
 
 still_none : (lines : List (List ℕ)) (line : List ℕ) → model_text_of lines ≡ None → is_line_of begin_word line ≡ false → model_text_of (lines ++ line ∷ []) ≡ None
 still_none [] line none other = rw other refl

@@ -31,18 +31,15 @@ none_known old (Some bytes) None is = absurd (let e : None ≡ Some [] = is.1 in
 none_known old (Some bytes) (Some rest) is = ((refl, same_Some rest [] is.1 ∙ sym (ended_is_none old.limit old.room bytes is.0)), is.1)
 
 why_known : (old new : Reader) (before after : Option (List ℕ)) (f : LineFault) → IfSome before (λ bytes. Answers old new bytes after (Err f)) → WhyKnown old.limit old.room before f
-why_known old new None after f is = tt
-why_known old new (Some bytes) after fault.Read is = tt
 why_known old new (Some bytes) after (fault.Long n) is = is.0
 why_known old new (Some bytes) after fault.Total is = is.0
-why_known old new (Some bytes) after fault.Memory is = tt
+why_known old new _ after _ is = tt
 
 -- what a fault shows is said of the reader's limits, which it leaves as they were
 shown_now : (old new : Reader) (f : LineFault) → new.limit ≡ old.limit → new.room ≡ old.room → new.number ≡ old.number → FaultShown old new f → FaultShown new new f
-shown_now old new fault.Read limit room number shown = rw (limit, room) shown
 shown_now old new (fault.Long n) limit room number shown = (rw (limit, room) shown.0, rw number shown.1)
-shown_now old new fault.Total limit room number shown = rw (limit, room) shown
 shown_now old new fault.Memory limit room number shown = tt
+shown_now old new _ limit room number shown = rw (limit, room) shown
 
 kept_now : (old new : Reader) (before after : Option (List ℕ)) (f : LineFault) → IfSome before (λ bytes. Answers old new bytes after (Err f)) → (f ≡ fault.Memory → ⊥) → IfSome before (λ bytes. after ≡ Some bytes)
 kept_now old new None after f is other = tt

@@ -11,21 +11,18 @@ use Rattle.pl_input.specs.Stops.{HaltFor, IsStuck, IsStuckKnown, ReadLeaves, Lim
 
 pub never_full : (f : LineFault) → HaltFor f halt.Full → ⊥
 never_full fault.Read is = let h : halt.Full ≡ halt.Read = is in (cc)
-never_full (fault.Long n) is = let h : halt.Full ≡ halt.Limit = is in (cc)
-never_full fault.Total is = let h : halt.Full ≡ halt.Limit = is in (cc)
 never_full fault.Memory is = let h : halt.Full ≡ halt.Memory = is in (cc)
+never_full _ is = let h : halt.Full ≡ halt.Limit = is in (cc)
 
 pub never_writes : (f : LineFault) → HaltFor f halt.Write → ⊥
 never_writes fault.Read is = let h : halt.Write ≡ halt.Read = is in (cc)
-never_writes (fault.Long n) is = let h : halt.Write ≡ halt.Limit = is in (cc)
-never_writes fault.Total is = let h : halt.Write ≡ halt.Limit = is in (cc)
 never_writes fault.Memory is = let h : halt.Write ≡ halt.Memory = is in (cc)
+never_writes _ is = let h : halt.Write ≡ halt.Limit = is in (cc)
 
 pub only_reads : (f : LineFault) → HaltFor f halt.Read → f ≡ fault.Read
 only_reads fault.Read is = refl
-only_reads (fault.Long n) is = absurd (let h : halt.Read ≡ halt.Limit = is in (cc))
-only_reads fault.Total is = absurd (let h : halt.Read ≡ halt.Limit = is in (cc))
 only_reads fault.Memory is = absurd (let h : halt.Read ≡ halt.Memory = is in (cc))
+only_reads _ is = absurd (let h : halt.Read ≡ halt.Limit = is in (cc))
 
 is_stuck : (limit room : ℕ) (rest : Option (List ℕ)) (f : LineFault) → HaltFor f halt.Limit → WhyKnown limit room rest f → IsStuckKnown limit room rest
 is_stuck limit room None f is why = tt
@@ -36,10 +33,7 @@ is_stuck limit room (Some rest) fault.Memory is why = absurd (let h : halt.Limit
 
 pub stops_by : (e : Halt) (limit room : ℕ) (rest : Option (List ℕ)) (f : LineFault) → HaltFor f e → WhyKnown limit room rest f → StopsBy e limit room rest
 stops_by halt.Limit limit room rest f is why = is_stuck limit room rest f is why
-stops_by halt.Read limit room rest f is why = tt
-stops_by halt.Write limit room rest f is why = tt
-stops_by halt.Full limit room rest f is why = tt
-stops_by halt.Memory limit room rest f is why = tt
+stops_by _ limit room rest f is why = tt
 
 pub read_leaves : (old new : Reader) (before after : Option (List ℕ)) (lines : List (List ℕ)) (f : LineFault) → (halts : Halts old before lines f new after) → HaltFor f halt.Read → ReadLeaves old.limit halts.left halts.rest new.held after
 read_leaves old new before after lines f halts is =

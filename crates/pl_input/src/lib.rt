@@ -19,4 +19,4 @@ pub use inputs::line_in;
 pub use messages::next_message;
 pub use reads::next_line;
 pub use sharing::shared_types;
-pub use words::{is_begin_line, is_blank_line};
+pub use words::{is_begin_line, is_blank_line, is_line_of};

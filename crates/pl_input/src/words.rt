@@ -28,8 +28,9 @@ fn is_only(word: &[u8], line: &[u8], tokens: &[Token]) -> bool
     }
 }
 
+/// Whether the only token of a line is this word.
 #[tactic(auto, unfolding(crate::specs::Words::is_line_of))]
-fn is_line_of(alloc: Global, word: &[u8], line: &[u8]) -> Result<bool, AllocError>
+pub fn is_line_of(alloc: Global, word: &[u8], line: &[u8]) -> Result<bool, AllocError>
     requires { length line.now < 2 ^ 32 }
     ensures { IfOk result (λ is. is ≡ is_line_of word.now line.now) }
 {

@@ -1,4 +1,6 @@
--- How long a log is in which each commit comes once repair rests, as in every log of one thread.
+-- How long a log is in which each commit comes once repair rests, as in every log of one thread. A halt may lower what is committed, so
+-- that it rises once more: but the budget of a round has one commit behind its rest, whatever was committed before, and whether commits
+-- are held back does not change within a round.
 use Rattle.std.proofs.Common.{◌≡◌, ℕ, suc, ◌+◌, ◌-◌, ◌<◌, ◌≤◌, max, List, [], ◌∷◌, length, Bool, true, false, not, ◌&&◌, ◌||◌, nat_lt, Option, Some, None, refl, sym, ◌∙◌, ap, subst, arith, length-append}
 use Rattle.std.specs.Prelude.{if◌then◌else◌, slice_get, is_some}
 use Rattle.std.proofs.lemmas.Bool.{ltb-true, le-ltb, not-true}
@@ -41,11 +43,11 @@ budget_by false true true left = 2
 budget_by false true false left = 1
 
 -- a commit would go further
-abbrev pub more_of : PlanState → Bool
-more_of s = nat_lt (behind_of s) (best_in s)
+abbrev pub more_of : World → Bool
+more_of w = nat_lt (behind_of w.state) (best_in w)
 
 abbrev budget : World → ℕ
-budget w = budget_by w.closed w.rested (more_of w.state) (w.options.turns - w.turn)
+budget w = budget_by w.closed w.rested (more_of w) (w.options.turns - w.turn)
 
 rest_step : (closed rested more : Bool) (left d : ℕ) → closed ≡ false → rested ≡ false → suc (d + budget_by closed true more left) ≤ budget_by closed rested more left + d
 rest_step true rested more left d c r = absurd (cc)
@@ -72,8 +74,8 @@ commit_step false true true true left d c r m n = absurd (cc)
 commit_step false true true false left d c r m n = omega arith
 
 fix_spends : (w : World) (m : RepairMove) (r : Reply) → w.closed ≡ false → w.rested ≡ false → w.turn < w.options.turns → Spends budget w (after_fix w m r)
-fix_spends w m reply.Done closed rested lt = fix_step w.closed w.rested (more_of w.state) (more_of (after_fix w m reply.Done).state) w.options.turns w.turn (length w.dispatched) closed rested lt
-fix_spends w m _ closed rested lt = fix_step w.closed w.rested (more_of w.state) (more_of w.state) w.options.turns w.turn (length w.dispatched) closed rested lt
+fix_spends w m reply.Done closed rested lt = fix_step w.closed w.rested (more_of w) (more_of (after_fix w m reply.Done)) w.options.turns w.turn (length w.dispatched) closed rested lt
+fix_spends w m _ closed rested lt = fix_step w.closed w.rested (more_of w) (more_of w) w.options.turns w.turn (length w.dispatched) closed rested lt
 
 dispatch_spends : (w : World) (m : Model) (r : Reply) → IsDispatchReply m r → Spends budget w (after_dispatch w r)
 dispatch_spends w m (reply.Sent id kind start values) is = let longer = length-append w.dispatched (id ∷ []) in omega (arith, longer)
@@ -90,33 +92,34 @@ commit_of false false false early more target best h r e = absurd (cc)
 commit_of false false true early true target best h r e = (refl, cc)
 commit_of false false true early false target best h r e = absurd (cc)
 
-pub chosen_commit : (w : World) (h : ℕ) → w.rested ≡ true → exec_choice_of w ≡ Some (choice.Commit h) → (more_of w.state ≡ true) × (best_in w.state ≡ h)
+pub chosen_commit : (w : World) (h : ℕ) → w.rested ≡ true → exec_choice_of w ≡ Some (choice.Commit h) → (more_of w ≡ true) × (best_in w ≡ h)
 unfolding exec_choice_of
-chosen_commit w h rested e = commit_of (w.closed || w.done) (nat_lt (length w.dispatched) (length (due_in w.state))) w.rested (not w.held && nat_lt (behind_of w.state) (target_in w.state)) (more_of w.state) (target_in w.state) (best_in w.state) h rested e
+chosen_commit w h rested e = commit_of (w.closed || w.done) (nat_lt (length w.dispatched) (length (due_in w.state))) w.rested (not w.held && nat_lt (behind_of w.state) (target_in w)) (more_of w) (target_in w) (best_in w) h rested e
 
 -- it is granted, and nothing more can be committed then
-pub best_grantable : (s : PlanState) → more_of s ≡ true → IsGrantable s (best_in s)
-best_grantable s more =
-    let best : IsBest s.model s.moment (conflicts_of s) (best_in s) = best_is s.model s.moment (conflicts_of s) (ordered s) in
-    let within : best_in s ≤ target_of s.model s.moment = best.within in
+pub best_grantable : (w : World) → more_of w ≡ true → IsGrantable w.state (best_in w)
+best_grantable w more =
+    let s : PlanState = w.state in
+    let best : IsBest s.model s.moment w.halted (conflicts_of s) (best_in w) = best_is s.model s.moment w.halted (conflicts_of s) (ordered s) in
+    let within : best_in w ≤ target_of s.model s.moment w.halted = best.within in
     record {
-      later = ltb-true (behind_of s) (best_in s) more;
+      later = ltb-true (behind_of s) (best_in w) more;
       within = omega (arith, within);
-      untouched = All-weaker (λ (k : Conflict). best_in s ≤ k.from) (λ (k : Conflict). touches_before (best_in s) k ≡ false) (λ k le. le-ltb k.from (best_in s) le) (conflicts_of s) best.untouched;
+      untouched = All-weaker (λ (k : Conflict). best_in w ≤ k.from) (λ (k : Conflict). touches_before (best_in w) k ≡ false) (λ k le. le-ltb k.from (best_in w) le) (conflicts_of s) best.untouched;
     }
 
-pub no_more : (s : PlanState) → more_of s ≡ true → more_of (committed_to (best_in s) s) ≡ false
-no_more s more =
-    let free = best_grantable s more in
-    let same : best_in (committed_to (best_in s) s) ≡ best_in s = ap (λ (ks : List Conflict). best_of s.model s.moment (slice_get ks 0)) (granted_same s (best_in s) free) in
-    ap (λ (b : ℕ). nat_lt (max (best_in s) s.moment) b) same ∙ le-ltb (max (best_in s) s.moment) (best_in s) (omega arith)
+pub no_more : (w : World) → more_of w ≡ true → more_of (record w { state = committed_to (best_in w) w.state }) ≡ false
+no_more w more =
+    let s : PlanState = w.state in
+    let same : best_in (record w { state = committed_to (best_in w) s }) ≡ best_in w = ap (λ (ks : List Conflict). best_of s.model s.moment w.halted (slice_get ks 0)) (granted_same s (best_in w) (best_grantable w more)) in
+    ap (λ (b : ℕ). nat_lt (max (best_in w) s.moment) b) same ∙ le-ltb (max (best_in w) s.moment) (best_in w) (omega arith)
 
 commit_spends : (w : World) (h : ℕ) → w.closed ≡ false → w.rested ≡ true → exec_choice_of w ≡ Some (choice.Commit h) → Spends budget w (after w (event.Commit h))
 commit_spends w h closed rested chosen =
     let is = chosen_commit w h rested chosen in
-    let done : commit_reply w.state (best_in w.state) ≡ reply.Done = (grants w.state (best_in w.state)).1 (best_grantable w.state is.0) in
-    let one : Spends budget w (after_commit w (best_in w.state) reply.Done) = commit_step w.closed w.rested (more_of w.state) (more_of (committed_to (best_in w.state) w.state)) (w.options.turns - w.turn) (length w.dispatched) closed rested is.0 (no_more w.state is.0) in
-    let two : Spends budget w (after_commit w (best_in w.state) (commit_reply w.state (best_in w.state))) = subst (λ (r : Reply). Spends budget w (after_commit w (best_in w.state) r)) (sym done) one in
+    let done : commit_reply w.state (best_in w) ≡ reply.Done = (grants w.state (best_in w)).1 (best_grantable w is.0) in
+    let one : Spends budget w (after_commit w (best_in w) reply.Done) = commit_step w.closed w.rested (more_of w) (more_of (after_commit w (best_in w) reply.Done)) (w.options.turns - w.turn) (length w.dispatched) closed rested is.0 (no_more w is.0) in
+    let two : Spends budget w (after_commit w (best_in w) (commit_reply w.state (best_in w))) = subst (λ (r : Reply). Spends budget w (after_commit w (best_in w) r)) (sym done) one in
     subst (λ (n : ℕ). Spends budget w (after_commit w n (commit_reply w.state n))) is.1 two
 
 -- ---- an input
@@ -126,8 +129,8 @@ closed_few true rested more left turns c = omega arith
 closed_few false rested more left turns c = absurd (cc)
 
 input_budget : (w : World) (line : Option (List ℕ)) (r : Reply) → w.closed ≡ true → budget (after_input w line r) ≤ w.options.turns + 3
-input_budget w line reply.Ended closed = closed_few w.closed w.rested (more_of w.state) (w.options.turns - w.turn) w.options.turns closed
-input_budget w None _ closed = closed_few w.closed w.rested (more_of w.state) (w.options.turns - w.turn) w.options.turns closed
+input_budget w line reply.Ended closed = closed_few w.closed w.rested (more_of w) (w.options.turns - w.turn) w.options.turns closed
+input_budget w None _ closed = closed_few w.closed w.rested (more_of w) (w.options.turns - w.turn) w.options.turns closed
 input_budget w (Some line) reply.Done closed = omega arith
 input_budget w (Some line) _ closed = omega arith
 
@@ -144,13 +147,13 @@ event_pays turns w (event.Fix k m) answer is enabled replies answers chosen =
     fix_spends w m (reply_of w (event.Fix k m)) on.0 on.1 (ltb-true w.turn w.options.turns on.2)
 event_pays turns w event.Rest answer is enabled replies answers chosen =
     let on = repairs_on w.closed w.rested (is_some (reason_of w)) enabled in
-    rest_step w.closed w.rested (more_of w.state) (w.options.turns - w.turn) (length w.dispatched) on.0 on.1
+    rest_step w.closed w.rested (more_of w) (w.options.turns - w.turn) (length w.dispatched) on.0 on.1
 event_pays turns w (event.Commit h) answer is enabled replies answers chosen = commit_spends w h (not-true w.closed enabled) chosen.0 chosen.1
 event_pays turns w event.Dispatch answer is enabled replies answers chosen =
     let sent : IsDispatchReply w.state.model (reply_of w event.Dispatch) = subst (λ (r : Reply). IsDispatchReply w.state.model r) answers replies in
     dispatch_spends w w.state.model (reply_of w event.Dispatch) sent
 event_pays turns w event.Close answer is enabled replies answers chosen =
-    close_step w.closed w.rested (more_of w.state) (w.options.turns - w.turn) (length w.dispatched) (not-true w.closed (and_first (not w.closed) _ enabled))
+    close_step w.closed w.rested (more_of w) (w.options.turns - w.turn) (length w.dispatched) (not-true w.closed (and_first (not w.closed) _ enabled))
 
 entry_pays : (turns : ℕ) (w : World) (e : Entry) (es : List Entry) → w.options.turns ≡ turns → MayFollow w e → chosen_from w (e ∷ es) → Pays budget (turns + 4) w e.event × chosen_from (after w e.event) es
 entry_pays turns w e es is follows chosen = (event_pays turns w e.event e.reply is follows.enabled follows.reply follows.answers chosen.0, chosen.1)

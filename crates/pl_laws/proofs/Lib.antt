@@ -2,6 +2,8 @@ pub mod Fronts
 pub mod Lasting
 pub mod Written
 pub mod Logs
+pub mod Accepting
+pub mod Measured
 pub mod Changing
 pub mod Running
 pub mod Sent

@@ -21,7 +21,7 @@ use Rattle.pl_machine.specs.Choices.{exec_choice_of}
 use Rattle.pl_machine.specs.Legal.{options_of, entries_behind, MayFollow}
 use Rattle.pl_machine.proofs.Granting.{grants}
 use Rattle.pl_laws.specs.Laws.{IsChosen, chosen_from, IsExecutiveChoice, executive_from, PairLengthIsBounded, ChosenAreOfExecutive}
-use Rattle.pl_machine.specs.Messages.{told_line}
+use Rattle.pl_machine.specs.Messages.{told_line, halts_line}
 use Rattle.pl_laws.proofs.Spending.{Spends, Pays, repairs_on, log_bounded}
 use Rattle.pl_laws.proofs.Budgets.{more_of, chosen_commit, best_grantable, no_more}
 
@@ -44,10 +44,10 @@ pair_by false false more early left = in_repair early left
 
 -- a commit to the target may come now, before repair rests
 abbrev early_of : World → Bool
-early_of w = not w.held && nat_lt (behind_of w.state) (target_in w.state)
+early_of w = not w.held && nat_lt (behind_of w.state) (target_in w)
 
 abbrev pair_budget : World → ℕ
-pair_budget w = pair_by w.closed w.rested (more_of w.state) (early_of w) (w.options.turns - w.turn)
+pair_budget w = pair_by w.closed w.rested (more_of w) (early_of w) (w.options.turns - w.turn)
 
 rest_step : (closed rested more early : Bool) (left d : ℕ) → closed ≡ false → rested ≡ false → suc (d + pair_by closed true more early left) ≤ pair_by closed rested more early left + d
 rest_step true rested more early left d c r = absurd (cc)
@@ -88,8 +88,8 @@ early_step false false more more2 true false left d c r m n = omega arith
 
 fix_spends : (w : World) (m : RepairMove) (r : Reply) → w.closed ≡ false → w.rested ≡ false → w.turn < w.options.turns → Spends pair_budget w (after_fix w m r)
 fix_spends w m reply.Done closed rested lt =
-    fix_step w.closed w.rested (more_of w.state) (more_of (after_fix w m reply.Done).state) (early_of w) (early_of (after_fix w m reply.Done)) w.options.turns w.turn (length w.dispatched) closed rested lt
-fix_spends w m _ closed rested lt = fix_step w.closed w.rested (more_of w.state) (more_of w.state) (early_of w) (early_of w) w.options.turns w.turn (length w.dispatched) closed rested lt
+    fix_step w.closed w.rested (more_of w) (more_of (after_fix w m reply.Done)) (early_of w) (early_of (after_fix w m reply.Done)) w.options.turns w.turn (length w.dispatched) closed rested lt
+fix_spends w m _ closed rested lt = fix_step w.closed w.rested (more_of w) (more_of w) (early_of w) (early_of w) w.options.turns w.turn (length w.dispatched) closed rested lt
 
 dispatch_spends : (w : World) (m : Model) (r : Reply) → IsDispatchReply m r → Spends pair_budget w (after_dispatch w r)
 dispatch_spends w m (reply.Sent id kind start values) is = let longer = length-append w.dispatched (id ∷ []) in omega (arith, longer)
@@ -100,11 +100,11 @@ dispatch_spends w m _ is = absurd is
 best_spends : (w : World) (h : ℕ) → w.closed ≡ false → w.rested ≡ true → exec_choice_of w ≡ Some (choice.Commit h) → Spends pair_budget w (after w (event.Commit h))
 best_spends w h closed rested chosen =
     let is = chosen_commit w h rested chosen in
-    let done : commit_reply w.state (best_in w.state) ≡ reply.Done = (grants w.state (best_in w.state)).1 (best_grantable w.state is.0) in
-    let then' = after_commit w (best_in w.state) reply.Done in
-    let one : Spends pair_budget w (after_commit w (best_in w.state) reply.Done) =
-    best_step w.closed w.rested (more_of w.state) (more_of then'.state) (early_of w) (early_of then') (w.options.turns - w.turn) (length w.dispatched) closed rested is.0 (no_more w.state is.0) in
-    let two : Spends pair_budget w (after_commit w (best_in w.state) (commit_reply w.state (best_in w.state))) = subst (λ (r : Reply). Spends pair_budget w (after_commit w (best_in w.state) r)) (sym done) one in
+    let done : commit_reply w.state (best_in w) ≡ reply.Done = (grants w.state (best_in w)).1 (best_grantable w is.0) in
+    let then' = after_commit w (best_in w) reply.Done in
+    let one : Spends pair_budget w (after_commit w (best_in w) reply.Done) =
+    best_step w.closed w.rested (more_of w) (more_of then') (early_of w) (early_of then') (w.options.turns - w.turn) (length w.dispatched) closed rested is.0 (no_more w is.0) in
+    let two : Spends pair_budget w (after_commit w (best_in w) (commit_reply w.state (best_in w))) = subst (λ (r : Reply). Spends pair_budget w (after_commit w (best_in w) r)) (sym done) one in
     subst (λ (n : ℕ). Spends pair_budget w (after_commit w n (commit_reply w.state n))) is.1 two
 
 -- ---- a commit to the target before
@@ -118,9 +118,9 @@ early_commit false false true early more target best h r e = absurd (cc)
 early_commit false false false true more target best h r e = (refl, cc)
 early_commit false false false false more target best h r e = absurd (cc)
 
-chosen_early : (w : World) (h : ℕ) → w.rested ≡ false → exec_choice_of w ≡ Some (choice.Commit h) → (early_of w ≡ true) × (target_in w.state ≡ h)
+chosen_early : (w : World) (h : ℕ) → w.rested ≡ false → exec_choice_of w ≡ Some (choice.Commit h) → (early_of w ≡ true) × (target_in w ≡ h)
 unfolding exec_choice_of
-chosen_early w h rested e = early_commit (w.closed || w.done) (nat_lt (length w.dispatched) (length (due_in w.state))) w.rested (early_of w) (more_of w.state) (target_in w.state) (best_in w.state) h rested e
+chosen_early w h rested e = early_commit (w.closed || w.done) (nat_lt (length w.dispatched) (length (due_in w.state))) w.rested (early_of w) (more_of w) (target_in w) (best_in w) h rested e
 
 -- it is granted, or held by the first conflict
 in_reach : (behind beyond : Bool) (r : Reply) → behind ≡ false → beyond ≡ false → (if behind then reply.CommitBehind else if beyond then reply.CommitBeyond else r) ≡ r
@@ -128,37 +128,38 @@ in_reach true beyond r e f = absurd (cc)
 in_reach false true r e f = absurd (cc)
 in_reach false false r e f = refl
 
-target_reply : (s : PlanState) → nat_lt (behind_of s) (target_in s) ≡ true → commit_reply s (target_in s) ≡ held_reply (first_conflict s) (target_in s)
-target_reply s further =
-    let less = ltb-true (behind_of s) (target_in s) further in
-    in_reach (nat_le (target_in s) (behind_of s)) (nat_lt s.model.horizon (target_in s)) (held_reply (first_conflict s) (target_in s)) (lt-leb (target_in s) (behind_of s) less) (le-ltb s.model.horizon (target_in s) (omega arith))
+target_reply : (w : World) → nat_lt (behind_of w.state) (target_in w) ≡ true → commit_reply w.state (target_in w) ≡ held_reply (first_conflict w.state) (target_in w)
+target_reply w further =
+    let s : PlanState = w.state in
+    let less = ltb-true (behind_of s) (target_in w) further in
+    in_reach (nat_le (target_in w) (behind_of s)) (nat_lt s.model.horizon (target_in w)) (held_reply (first_conflict s) (target_in w)) (lt-leb (target_in w) (behind_of s) less) (le-ltb s.model.horizon (target_in w) (omega arith))
 
 -- no commit to the target follows one that was granted
-reached : (w : World) → early_of (after_commit w (target_in w.state) reply.Done) ≡ false
-reached w = and_right (not w.held) (nat_lt (max (target_in w.state) w.state.moment) (target_in w.state)) (le-ltb (max (target_in w.state) w.state.moment) (target_in w.state) (omega arith))
+reached : (w : World) → early_of (after_commit w (target_in w) reply.Done) ≡ false
+reached w = and_right (not w.held) (nat_lt (max (target_in w) w.state.moment) (target_in w)) (le-ltb (max (target_in w) w.state.moment) (target_in w) (omega arith))
 
-granted_spends : (w : World) → w.closed ≡ false → w.rested ≡ false → early_of w ≡ true → Spends pair_budget w (after_commit w (target_in w.state) reply.Done)
+granted_spends : (w : World) → w.closed ≡ false → w.rested ≡ false → early_of w ≡ true → Spends pair_budget w (after_commit w (target_in w) reply.Done)
 granted_spends w closed rested early =
-    let then' = after_commit w (target_in w.state) reply.Done in
-    early_step w.closed w.rested (more_of w.state) (more_of then'.state) (early_of w) (early_of then') (w.options.turns - w.turn) (length w.dispatched) closed rested early (reached w)
+    let then' = after_commit w (target_in w) reply.Done in
+    early_step w.closed w.rested (more_of w) (more_of then') (early_of w) (early_of then') (w.options.turns - w.turn) (length w.dispatched) closed rested early (reached w)
 
-held_spends : (w : World) (k : Conflict) → w.closed ≡ false → w.rested ≡ false → early_of w ≡ true → Spends pair_budget w (after_commit w (target_in w.state) (reply.Held k))
-held_spends w k closed rested early = early_step w.closed w.rested (more_of w.state) (more_of w.state) (early_of w) false (w.options.turns - w.turn) (length w.dispatched) closed rested early refl
+held_spends : (w : World) (k : Conflict) → w.closed ≡ false → w.rested ≡ false → early_of w ≡ true → Spends pair_budget w (after_commit w (target_in w) (reply.Held k))
+held_spends w k closed rested early = early_step w.closed w.rested (more_of w) (more_of w) (early_of w) false (w.options.turns - w.turn) (length w.dispatched) closed rested early refl
 
-asked_spends : (w : World) (first : Option Conflict) → w.closed ≡ false → w.rested ≡ false → early_of w ≡ true → Spends pair_budget w (after_commit w (target_in w.state) (held_reply first (target_in w.state)))
+asked_spends : (w : World) (first : Option Conflict) → w.closed ≡ false → w.rested ≡ false → early_of w ≡ true → Spends pair_budget w (after_commit w (target_in w) (held_reply first (target_in w)))
 asked_spends w None closed rested early = granted_spends w closed rested early
-asked_spends w (Some k) closed rested early = by (nat_lt k.from (target_in w.state))
+asked_spends w (Some k) closed rested early = by (nat_lt k.from (target_in w))
   where
-    by : (b : Bool) → Spends pair_budget w (after_commit w (target_in w.state) (if b then reply.Held k else reply.Done))
+    by : (b : Bool) → Spends pair_budget w (after_commit w (target_in w) (if b then reply.Held k else reply.Done))
     by true = held_spends w k closed rested early
     by false = granted_spends w closed rested early
 
 early_spends : (w : World) (h : ℕ) → w.closed ≡ false → w.rested ≡ false → exec_choice_of w ≡ Some (choice.Commit h) → Spends pair_budget w (after w (event.Commit h))
 early_spends w h closed rested chosen =
     let is = chosen_early w h rested chosen in
-    let answers = target_reply w.state (and_second (not w.held) (nat_lt (behind_of w.state) (target_in w.state)) is.0) in
+    let answers = target_reply w (and_second (not w.held) (nat_lt (behind_of w.state) (target_in w)) is.0) in
     let one = asked_spends w (first_conflict w.state) closed rested is.0 in
-    let two : Spends pair_budget w (after_commit w (target_in w.state) (commit_reply w.state (target_in w.state))) = subst (λ (r : Reply). Spends pair_budget w (after_commit w (target_in w.state) r)) (sym answers) one in
+    let two : Spends pair_budget w (after_commit w (target_in w) (commit_reply w.state (target_in w))) = subst (λ (r : Reply). Spends pair_budget w (after_commit w (target_in w) r)) (sym answers) one in
     subst (λ (n : ℕ). Spends pair_budget w (after_commit w n (commit_reply w.state n))) is.1 two
 
 commit_spends : (w : World) (h : ℕ) → w.closed ≡ false → exec_choice_of w ≡ Some (choice.Commit h) → Spends pair_budget w (after w (event.Commit h))
@@ -179,10 +180,10 @@ opened_few true turns = omega arith
 opened_few false turns = omega arith
 
 input_budget : (w : World) (line : Option (List ℕ)) (r : Reply) → w.closed ≡ true → pair_budget (after_input w line r) ≤ 2 * w.options.turns + 4
-input_budget w line reply.Ended closed = closed_few w.closed w.rested (more_of w.state) (early_of w) (w.options.turns - w.turn) w.options.turns closed
-input_budget w None _ closed = closed_few w.closed w.rested (more_of w.state) (early_of w) (w.options.turns - w.turn) w.options.turns closed
-input_budget w (Some line) reply.Done closed = opened_few (early_of (round_begun w (told_line w.state line))) w.options.turns
-input_budget w (Some line) _ closed = opened_few (early_of (round_begun w w.state)) w.options.turns
+input_budget w line reply.Ended closed = closed_few w.closed w.rested (more_of w) (early_of w) (w.options.turns - w.turn) w.options.turns closed
+input_budget w None _ closed = closed_few w.closed w.rested (more_of w) (early_of w) (w.options.turns - w.turn) w.options.turns closed
+input_budget w (Some line) reply.Done closed = opened_few (early_of (round_begun w (told_line w.state line) (halts_line w.state w.halted line))) w.options.turns
+input_budget w (Some line) _ closed = opened_few (early_of (round_begun w w.state w.halted)) w.options.turns
 
 -- ---- a log
 
@@ -197,13 +198,13 @@ event_pays turns w (event.Fix k m) answer is enabled replies answers chosen =
     fix_spends w m (reply_of w (event.Fix k m)) on.0 on.1 (ltb-true w.turn w.options.turns on.2)
 event_pays turns w event.Rest answer is enabled replies answers chosen =
     let on = repairs_on w.closed w.rested (is_some (reason_of w)) enabled in
-    rest_step w.closed w.rested (more_of w.state) (early_of w) (w.options.turns - w.turn) (length w.dispatched) on.0 on.1
+    rest_step w.closed w.rested (more_of w) (early_of w) (w.options.turns - w.turn) (length w.dispatched) on.0 on.1
 event_pays turns w (event.Commit h) answer is enabled replies answers chosen = commit_spends w h (not-true w.closed enabled) chosen
 event_pays turns w event.Dispatch answer is enabled replies answers chosen =
     let sent : IsDispatchReply w.state.model (reply_of w event.Dispatch) = subst (λ (r : Reply). IsDispatchReply w.state.model r) answers replies in
     dispatch_spends w w.state.model (reply_of w event.Dispatch) sent
 event_pays turns w event.Close answer is enabled replies answers chosen =
-    close_step w.closed w.rested (more_of w.state) (early_of w) (w.options.turns - w.turn) (length w.dispatched) (not-true w.closed (and_first (not w.closed) _ enabled))
+    close_step w.closed w.rested (more_of w) (early_of w) (w.options.turns - w.turn) (length w.dispatched) (not-true w.closed (and_first (not w.closed) _ enabled))
 
 entry_pays : (turns : ℕ) (w : World) (e : Entry) (es : List Entry) → w.options.turns ≡ turns → MayFollow w e → executive_from w (e ∷ es) → Pays pair_budget (2 * turns + 5) w e.event × executive_from (after w e.event) es
 entry_pays turns w e es is follows chosen = (event_pays turns w e.event e.reply is follows.enabled follows.reply follows.answers chosen.0, chosen.1)

@@ -1,7 +1,7 @@
 -- What stands of every world of a legal log.
-use Rattle.std.proofs.Common.{◌≡◌, ℕ, suc, ◌+◌, ◌*◌, ◌≤◌, List, [], ◌∷◌, ◌++◌, length, true, Option, Some, None, nat_lt, slice_get, Contains, refl, sym, ◌∙◌, ap, subst, arith, append_assoc, append-nil}
+use Rattle.std.proofs.Common.{◌≡◌, ℕ, suc, ◌+◌, ◌*◌, ◌<◌, ◌≤◌, min, List, [], ◌∷◌, ◌++◌, length, true, Option, Some, None, nat_lt, slice_get, Contains, refl, sym, ◌∙◌, ap, subst, arith, append_assoc, append-nil}
 use Rattle.std.specs.Prelude.{not, option_and_then, unwrap_or}
-use Rattle.std.proofs.lemmas.Bool.{ltb-true, lt-ltb}
+use Rattle.std.proofs.lemmas.Bool.{ltb-true}
 use Rattle.std.proofs.lemmas.List.Elements.{Contains-get_or}
 use Rattle.std.proofs.lemmas.Option.{slice_get_within, get_or_from_slice_get}
 use Rattle.pl_lists.proofs.Tests.{and_second}
@@ -12,6 +12,7 @@ use Rattle.pl_plan.specs.declared.activity.Activity.{Activity}
 use Rattle.pl_plan.specs.Fitting.{FitsAlone}
 use Rattle.pl_plan.proofs.Climbs.{all_at}
 use Rattle.pl_plan.specs.declared.repair.RepairMove.{RepairMove}
+use Rattle.pl_msg.specs.declared.message.Message.{Message}
 use Rattle.pl_entry.specs.declared.event.Event.{Event}
 use Rattle.pl_entry.specs.declared.event.Event.TheVariants as event
 use Rattle.pl_entry.specs.declared.reply.Reply.{Reply}
@@ -20,14 +21,14 @@ use Rattle.pl_entry.specs.declared.entry.Entry.{Entry}
 use Rattle.pl_entry.specs.Bounds.{AreOptions}
 use Rattle.pl_entry.specs.Due.{due_of}
 use Rattle.pl_entry.proofs.DueLaws.{due_meets}
-use Rattle.pl_semantics.specs.PlanStates.{found, is_committed}
+use Rattle.pl_semantics.specs.PlanStates.{found}
 use Rattle.pl_semantics.specs.Whole.{IsWhole}
 use Rattle.pl_update.proofs.AboutChanges.Keeping.{whole_first}
 use Rattle.pl_machine.specs.World.{World, fresh_world, due_in}
 use Rattle.pl_machine.specs.Step.{next_due, sent_reply, is_enabled, reply_of, after_input, after_fix, after_commit, after_dispatch, after}
 use Rattle.pl_machine.specs.Legal.{legal_from, world_from, options_in, IsOpenedRun, Legal, no_options, world_of}
 use Rattle.pl_laws.specs.Standing.{IsFrontOfDue}
-use Rattle.pl_laws.proofs.Changing.{Kept, kept_after}
+use Rattle.pl_laws.proofs.Changing.{Kept, said_by, kept_after}
 
 -- ---- the next command
 
@@ -37,7 +38,7 @@ pub record NextSent (w : World) : Type 0 where
   pub rest : List ℕ
   pub due : due_in w.state ≡ w.dispatched ++ a.id ∷ rest
   pub here : found w.state a.id ≡ Some a
-  pub committed : is_committed w.state a ≡ true
+  pub begun : a.start < min w.state.committed (w.state.moment + 1)
   pub next : next_due w ≡ Some a
 
 at_front : (xs : List ℕ) (x : ℕ) (rest : List ℕ) → slice_get (xs ++ x ∷ rest) (length xs) ≡ Some x
@@ -63,7 +64,7 @@ next_sent w whole (rest, is) left = by rest is
           rest = rest;
           due = is ∙ ap (λ (n : ℕ). w.dispatched ++ n ∷ rest) (sym is_id);
           here = subst (λ (n : ℕ). found w.state n ≡ Some live.0) (sym is_id) live.1;
-          committed = lt-ltb live.0.start w.state.committed live.2.committed;
+          begun = (let early : live.0.start < w.state.committed = live.2.committed in let started : live.0.start ≤ w.state.moment = live.2.started in omega (arith, early, started));
           next = ap (λ (o : Option ℕ). option_and_then (found w.state) o) at ∙ live.1;
         }
 
@@ -72,8 +73,8 @@ after_sent w n = ap (λ (o : Option Activity). after_dispatch w (sent_reply w.st
 
 -- ---- what was sent stays a front of what is due
 
-same_sent : (w w2 : World) → IsFrontOfDue w → Kept w.state w2.state → w2.dispatched ≡ w.dispatched → IsFrontOfDue w2
-same_sent w w2 (rest, is) kept same = (
+same_sent : {ms : List Message} (w w2 : World) → IsFrontOfDue w → Kept ms w.state w2.state → w2.dispatched ≡ w.dispatched → IsFrontOfDue w2
+same_sent {ms} w w2 (rest, is) kept same = (
   rest ++ kept.standing.due.0,
   kept.standing.due.1 ∙ ap (λ (xs : List ℕ). xs ++ kept.standing.due.0) is ∙ append_assoc w.dispatched rest kept.standing.due.0 ∙ ap (λ (xs : List ℕ). xs ++ (rest ++ kept.standing.due.0)) (sym same),
 )
@@ -100,16 +101,16 @@ one_longer (y ∷ xs) x rest = ap (λ (ys : List ℕ). y ∷ ys) (one_longer xs 
 pub next_of : (w : World) → IsWhole w.state → IsFrontOfDue w → is_enabled w event.Dispatch ≡ true → NextSent w
 next_of w whole sent enabled = next_sent w whole sent (and_second (not w.closed) (nat_lt (length w.dispatched) (length (due_in w.state))) enabled)
 
-sent_after : (w : World) (e : Event) → IsWhole w.state → IsFrontOfDue w → Kept w.state (after w e).state → is_enabled w e ≡ true → IsFrontOfDue (after w e)
-sent_after w (event.Opened o) whole sent kept enabled = sent
-sent_after w (event.Input line) whole sent kept enabled = same_sent w (after w (event.Input line)) sent kept (input_sent w line (reply_of w (event.Input line)))
-sent_after w (event.Fix k m) whole sent kept enabled = same_sent w (after w (event.Fix k m)) sent kept (fix_sent w m (reply_of w (event.Fix k m)))
-sent_after w event.Rest whole sent kept enabled = sent
-sent_after w (event.Commit h) whole sent kept enabled = same_sent w (after w (event.Commit h)) sent kept (commit_sent w h (reply_of w (event.Commit h)))
-sent_after w event.Dispatch whole sent kept enabled =
+sent_after : {ms : List Message} (w : World) (e : Event) → IsWhole w.state → IsFrontOfDue w → Kept ms w.state (after w e).state → is_enabled w e ≡ true → IsFrontOfDue (after w e)
+sent_after {ms} w (event.Opened o) whole sent kept enabled = sent
+sent_after {ms} w (event.Input line) whole sent kept enabled = same_sent w (after w (event.Input line)) sent kept (input_sent w line (reply_of w (event.Input line)))
+sent_after {ms} w (event.Fix k m) whole sent kept enabled = same_sent w (after w (event.Fix k m)) sent kept (fix_sent w m (reply_of w (event.Fix k m)))
+sent_after {ms} w event.Rest whole sent kept enabled = sent
+sent_after {ms} w (event.Commit h) whole sent kept enabled = same_sent w (after w (event.Commit h)) sent kept (commit_sent w h (reply_of w (event.Commit h)))
+sent_after {ms} w event.Dispatch whole sent kept enabled =
     let n = next_of w whole sent enabled in
     subst IsFrontOfDue (sym (after_sent w n)) (n.rest, n.due ∙ one_longer w.dispatched n.a.id n.rest)
-sent_after w event.Close whole sent kept enabled = sent
+sent_after {ms} w event.Close whole sent kept enabled = sent
 
 -- ---- every world
 
@@ -123,7 +124,7 @@ pub record Stands (m : Model) (count : ℕ) (w : World) : Type 0 where
 pub few_ids : {m : Model} {count : ℕ} {w : World} → Stands m count w → count ≤ 250000 → w.state.next_id ≤ 3999999000
 few_ids {m} {count} {w} stands most = let ids : w.state.next_id ≤ 16 * count = stands.next_id in omega (arith, ids, most)
 
-pub kept_of : {m : Model} {count : ℕ} {w : World} (e : Event) → Stands m count w → count ≤ 250000 → Kept w.state (after w e).state
+pub kept_of : {m : Model} {count : ℕ} {w : World} (e : Event) → Stands m count w → count ≤ 250000 → Kept (said_by w e (reply_of w e)) w.state (after w e).state
 kept_of {m} {count} {w} e stands most = kept_after w e stands.whole (few_ids stands most)
 
 pub stands_after : {m : Model} {count : ℕ} {w : World} (e : Event) → Stands m count w → count ≤ 250000 → is_enabled w e ≡ true → Stands m (count + 1) (after w e)

@@ -1,9 +1,10 @@
 -- The laws that hold since every plan state of a legal log is whole.
-use Rattle.std.proofs.Common.{◌≡◌, ℕ, ◌+◌, ◌≤◌, List, [], ◌∷◌, length, refl, sym, ◌∙◌, subst, arith}
+use Rattle.std.proofs.Common.{◌≡◌, ℕ, ◌+◌, ◌≤◌, min, List, [], ◌∷◌, length, Option, refl, sym, subst, arith}
 use Rattle.pl_conflict.specs.declared.conflict.Conflict.{Conflict}
 use Rattle.pl_model.specs.declared.whole.Model.{Model}
 use Rattle.pl_model.specs.Checked.{IsChecked}
 use Rattle.pl_plan.specs.declared.repair.RepairMove.{RepairMove}
+use Rattle.pl_msg.specs.declared.message.Message.{Message}
 use Rattle.pl_entry.specs.declared.event.Event.TheVariants as event
 use Rattle.pl_entry.specs.declared.reply.Reply.{Reply}
 use Rattle.pl_entry.specs.declared.reply.Reply.TheVariants as reply
@@ -13,11 +14,13 @@ use Rattle.pl_semantics.specs.Whole.{IsWhole}
 use Rattle.pl_moves.specs.Keeping.{KeepsCommitted}
 use Rattle.pl_moves.proofs.Keeping.{keeps}
 use Rattle.pl_machine.specs.World.{World}
-use Rattle.pl_machine.specs.Step.{fix_reply, after_fix, after}
-use Rattle.pl_machine.specs.Legal.{legal_from, world_from, world_of}
+use Rattle.pl_machine.specs.Step.{fix_reply, reply_of, after_fix, after}
+use Rattle.pl_machine.specs.Legal.{MayFollow, legal_from, world_from, world_of}
 use Rattle.pl_machine.proofs.Handed.{can_repair, keeps_itself}
-use Rattle.pl_laws.specs.Standing.{StaysCommitted}
-use Rattle.pl_laws.specs.Laws.{RepairsKeepCommitted, CommittedStays, SentIsInFront}
+use Rattle.pl_laws.specs.Accepted.{accepted, accepted_of, NoneHalts}
+use Rattle.pl_laws.specs.Standing.{StaysBelow}
+use Rattle.pl_laws.specs.Laws.{RepairsKeepCommitted, BegunStays, CommittedStays, SentIsInFront}
+use Rattle.pl_laws.proofs.Accepting.{one_message, none_before, none_behind, stays_through, accepted_is}
 use Rattle.pl_laws.proofs.Fronts.{goes_on, last_entry}
 use Rattle.pl_laws.proofs.Changing.{Kept, stays_itself}
 use Rattle.pl_laws.proofs.Running.{Stands, few_ids, kept_of, stands_after, stands_of}
@@ -39,25 +42,48 @@ repairs_keep m checked log k mv answer legal =
 
 -- ---- a log that goes on
 
-stays_through : (s s2 s3 : PlanState) → StaysCommitted s s2 → StaysCommitted s2 s3 → StaysCommitted s s3
-stays_through s s2 s3 one two = record {
-  committed = (let first : s.committed ≤ s2.committed = one.committed in let second : s2.committed ≤ s3.committed = two.committed in omega (arith, first, second));
-  stands = λ id a here c. two.stands id a (one.stands id a here c) (one.still id a here c);
-  still = λ id a here c. two.still id a (one.stands id a here c) (one.still id a here c);
-  values = λ id a here c. two.values id a (one.stands id a here c) (one.still id a here c) ∙ one.values id a here c;
-  ends = λ id a here c. two.ends id a (one.stands id a here c) (one.still id a here c) ∙ one.ends id a here c;
-}
+-- what is committed and has begun
+abbrev begun_of : PlanState → ℕ
+begun_of s = min s.committed (s.moment + 1)
 
-stays_on : {m : Model} (count : ℕ) (w : World) (es : List Entry) → Stands m count w → count + length es ≤ 250000 → legal_from w es → StaysCommitted w.state (world_from w es).state
-stays_on {m} count w [] stands most legal = stays_itself w.state
-stays_on {m} count w (e ∷ es) stands most legal =
+-- what an entry leaves, by the message that the log says was accepted
+kept_by : {m : Model} {count : ℕ} {w : World} (e : Entry) → Stands m count w → count ≤ 250000 → MayFollow w e → Kept (one_message (accepted m e.event e.reply)) w.state (after w e.event).state
+kept_by {m} {count} {w} e stands most follows =
+    subst (λ (o : Option Message). Kept (one_message o) w.state (after w e.event).state) (accepted_is m w.state.model e.event e.reply (reply_of w e.event) stands.model follows.answers) (kept_of e.event stands most)
+
+begun_later : {ms : List Message} (s s2 : PlanState) → Kept ms s s2 → begun_of s ≤ begun_of s2
+begun_later {ms} s s2 kept =
+    let most : min s.committed (s.moment + 1) ≤ s2.committed = kept.begun.committed in
+    let later : s.moment ≤ s2.moment = kept.moment in
+    omega (arith, most, later)
+
+begun_on : {m : Model} (count : ℕ) (w : World) (es : List Entry) → Stands m count w → count + length es ≤ 250000 → legal_from w es → StaysBelow (begun_of w.state) (accepted_of m es) w.state (world_from w es).state
+begun_on {m} count w [] stands most legal = stays_itself (begun_of w.state) w.state (omega arith)
+begun_on {m} count w (e ∷ es) stands most legal =
     let next : Stands m (count + 1) (after w e.event) = stands_after e.event stands (omega (arith, most)) legal.0.enabled in
-    let kept : Kept w.state (after w e.event).state = kept_of e.event stands (omega (arith, most)) in
-    stays_through w.state (after w e.event).state (world_from (after w e.event) es).state kept.stays (stays_on (count + 1) (after w e.event) es next (omega (arith, most)) legal.1)
+    let kept = kept_by e stands (omega (arith, most)) legal.0 in
+    stays_through (begun_of w.state) (begun_of (after w e.event).state) (accepted m e.event e.reply) (accepted_of m es) w.state (after w e.event).state (world_from (after w e.event) es).state
+    (begun_later w.state (after w e.event).state kept) kept.begun (begun_on (count + 1) (after w e.event) es next (omega (arith, most)) legal.1)
 
-pub committed_stays : (m : Model) → IsChecked m → CommittedStays m
-committed_stays m checked [] more front legal = absurd front
-committed_stays m checked (first ∷ es) more front legal =
+stays_on : {m : Model} (count : ℕ) (w : World) (es : List Entry) → Stands m count w → count + length es ≤ 250000 → legal_from w es → NoneHalts (accepted_of m es) → StaysBelow w.state.committed (accepted_of m es) w.state (world_from w es).state
+stays_on {m} count w [] stands most legal none = stays_itself w.state.committed w.state (omega arith)
+stays_on {m} count w (e ∷ es) stands most legal none =
+    let next : Stands m (count + 1) (after w e.event) = stands_after e.event stands (omega (arith, most)) legal.0.enabled in
+    let o : Option Message = accepted m e.event e.reply in
+    let one = (kept_by e stands (omega (arith, most)) legal.0).stays (none_before o (accepted_of m es) none) in
+    stays_through w.state.committed (after w e.event).state.committed o (accepted_of m es) w.state (after w e.event).state (world_from (after w e.event) es).state
+    one.committed one (stays_on (count + 1) (after w e.event) es next (omega (arith, most)) legal.1 (none_behind o (accepted_of m es) none))
+
+pub begun_stays : (m : Model) → IsChecked m → BegunStays m
+begun_stays m checked [] more front legal = absurd front
+begun_stays m checked (first ∷ es) more front legal =
     let on = goes_on m first es more legal in
     let w = world_of m (first ∷ es) in
-    subst (λ (v : World). StaysCommitted w.state v.state) (sym on.world) (stays_on (length (first ∷ es)) w more (stands_of m (first ∷ es) checked front) on.bounded on.rest)
+    subst (λ (v : World). StaysBelow (begun_of w.state) (accepted_of m more) w.state v.state) (sym on.world) (begun_on (length (first ∷ es)) w more (stands_of m (first ∷ es) checked front) on.bounded on.rest)
+
+pub committed_stays : (m : Model) → IsChecked m → CommittedStays m
+committed_stays m checked [] more front legal none = absurd front
+committed_stays m checked (first ∷ es) more front legal none =
+    let on = goes_on m first es more legal in
+    let w = world_of m (first ∷ es) in
+    subst (λ (v : World). StaysBelow w.state.committed (accepted_of m more) w.state v.state) (sym on.world) (stays_on (length (first ∷ es)) w more (stands_of m (first ∷ es) checked front) on.bounded on.rest none)

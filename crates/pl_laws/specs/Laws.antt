@@ -1,10 +1,12 @@
 -- The laws of the legal logs of a model. The world after a log is the one that all its entries led to, and a log with an entry more
 -- has that entry behind it.
-use Rattle.std.specs.Prelude.{◌≡◌, ℕ, ◌+◌, ◌*◌, ◌≤◌, true, List, [], ◌∷◌, ◌++◌, length, Option, Some, None, AllPairs}
+use Rattle.std.specs.Prelude.{◌≡◌, ℕ, ◌+◌, ◌*◌, ◌≤◌, min, true, List, [], ◌∷◌, ◌++◌, length, Option, Some, None, Ok, AllPairs}
 use Rattle.std.specs.List.{filter_map}
 use Rattle.pl_model.specs.declared.whole.Model.{Model}
 use Rattle.pl_conflict.specs.declared.conflict.Conflict.{Conflict}
 use Rattle.pl_plan.specs.declared.repair.RepairMove.{RepairMove}
+use Rattle.pl_msg.specs.declared.message.Message.TheVariants as message
+use Rattle.pl_msg.specs.Messages.{message_of}
 use Rattle.pl_entry.specs.declared.event.Event.{Event}
 use Rattle.pl_entry.specs.declared.event.Event.TheVariants as event
 use Rattle.pl_entry.specs.declared.reply.Reply.{Reply}
@@ -12,6 +14,7 @@ use Rattle.pl_entry.specs.declared.reply.Reply.TheVariants as reply
 use Rattle.pl_entry.specs.declared.entry.Entry.{Entry}
 use Rattle.pl_semantics.specs.declared.plan_state.PlanState.{PlanState}
 use Rattle.pl_semantics.specs.Conflicts.{conflicts_of}
+use Rattle.pl_update.specs.Changes.Changes.{withdrawn}
 use Rattle.pl_moves.specs.Keeping.{KeepsCommitted}
 use Rattle.pl_machine.specs.declared.choice.Choice.TheVariants as choice
 use Rattle.pl_machine.specs.World.{World, fresh_world, due_in}
@@ -20,7 +23,8 @@ use Rattle.pl_machine.specs.Choices.{exec_choice_of}
 use Rattle.pl_machine.specs.Legal.{Legal, options_of, entries_behind, world_of}
 use Rattle.pl_machine.specs.Finished.{inputs_of}
 use Rattle.pl_journal.specs.Rendering.Lines.{text_of_log, AreEntries}
-use Rattle.pl_laws.specs.Standing.{IsFrontOfDue, StaysCommitted}
+use Rattle.pl_laws.specs.Accepted.{accepted_of, NoneHalts}
+use Rattle.pl_laws.specs.Standing.{IsFrontOfDue, StaysBelow}
 
 abbrev pub with_entry : List Entry → Event → Reply → List Entry
 with_entry log happened answer = log ++ record { event = happened; reply = answer } ∷ []
@@ -50,13 +54,28 @@ abbrev pub RepairsKeepCommitted : Model → Type 0
 RepairsKeepCommitted m = (log : List Entry) (k : Conflict) (mv : RepairMove) (answer : Reply) → Legal m (with_entry log (event.Fix k mv) answer)
     → KeepsCommitted (state_of m log) (state_of m (with_entry log (event.Fix k mv) answer))
 
--- in a log that goes on each committed activity stands as it was
-abbrev pub CommittedStays : Model → Type 0
-CommittedStays m = (log more : List Entry) → Legal m log → Legal m (log ++ more) → StaysCommitted (state_of m log) (state_of m (log ++ more))
+-- In a log that goes on each activity that is committed and has begun stays committed, and is changed by nothing but its end, by the
+-- messages `until` of its id that are accepted.
+abbrev pub BegunStays : Model → Type 0
+BegunStays m = (log more : List Entry) → Legal m log → Legal m (log ++ more)
+    → StaysBelow (min (state_of m log).committed ((state_of m log).moment + 1)) (accepted_of m more) (state_of m log) (state_of m (log ++ more))
 
--- in a log that goes on no less is committed
+-- Up to the next `halt` that is accepted, so does each activity that is committed, whether or not it has begun.
+abbrev pub CommittedStays : Model → Type 0
+CommittedStays m = (log more : List Entry) → Legal m log → Legal m (log ++ more) → NoneHalts (accepted_of m more)
+    → StaysBelow (state_of m log).committed (accepted_of m more) (state_of m log) (state_of m (log ++ more))
+
+-- in a log that goes on without a `halt` that is accepted no less is committed
 abbrev pub CommitsNeverFall : Model → Type 0
-CommitsNeverFall m = (log more : List Entry) → Legal m log → Legal m (log ++ more) → (state_of m log).committed ≤ (state_of m (log ++ more)).committed
+CommitsNeverFall m = (log more : List Entry) → Legal m log → Legal m (log ++ more) → NoneHalts (accepted_of m more)
+    → (state_of m log).committed ≤ (state_of m (log ++ more)).committed
+
+-- A `halt` is accepted in each world in which a message may come. It withdraws what starts after the present, and changes nothing
+-- else of the plan state.
+abbrev pub HaltsWithdraw : Model → Type 0
+HaltsWithdraw m = (log : List Entry) (line : List ℕ) (answer : Reply) → message_of m line ≡ Ok message.Halt
+    → Legal m (with_entry log (event.Input (Some line)) answer)
+    → (answer ≡ reply.Done) × (state_of m (with_entry log (event.Input (Some line)) answer) ≡ withdrawn (state_of m log))
 
 -- a commit that is granted leaves the conflicts as they were
 abbrev pub GrantsChangeNoConflict : Model → Type 0

@@ -5,6 +5,7 @@ pub use Rattle.pl_semantics.specs.Conflicts
 pub use Rattle.pl_journal.specs.Rendering.Lines
 pub use Rattle.pl_moves.specs.Keeping
 pub use Rattle.pl_model.specs.Checked
+pub mod Accepted
 pub mod Standing
 pub mod Laws
 pub mod Lengths

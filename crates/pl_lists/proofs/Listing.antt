@@ -76,12 +76,10 @@ module _ {T : Type 0} where
 module _ {X Y : Type 0} (R : X → Y → Type 0) where
   pub pairwise_length : (xs : List X) (ys : List Y) → Pairwise R xs ys → length ys ≡ length xs
   pairwise_length [] [] h = refl
-  pairwise_length [] (y ∷ ys) h = absurd h
-  pairwise_length (x ∷ xs) [] h = absurd h
   pairwise_length (x ∷ xs) (y ∷ ys) h = omega (arith, pairwise_length xs ys h.1)
+  pairwise_length _ _ h = absurd h
 
   pub pairwise_push : (xs : List X) (ys : List Y) (x : X) (y : Y) → Pairwise R xs ys → R x y → Pairwise R (xs ++ x ∷ []) (ys ++ y ∷ [])
   pairwise_push [] [] x y all last = (last, tt)
-  pairwise_push [] (b ∷ ys) x y all last = absurd all
-  pairwise_push (a ∷ xs) [] x y all last = absurd all
   pairwise_push (a ∷ xs) (b ∷ ys) x y all last = (all.0, pairwise_push xs ys x y all.1 last)
+  pairwise_push _ _ x y all last = absurd all

@@ -2,17 +2,18 @@
 use Rattle.std.proofs.Common.{◌≡◌, ℕ, ◌<◌, ◌≤◌, eqb, leb, ltb, Bool, true, false, ◌&&◌, List, [], ◌∷◌, length, map, ◌⊎◌, inl, inr, if◌then◌else◌, refl, sym, ◌∙◌, ap, arith}
 use Rattle.std.specs.Prelude.{filter}
 use Rattle.std.proofs.lemmas.Bool.{leb-true, le-leb, ltb-true, ltb-false}
-use Rattle.std.proofs.lemmas.List.Elements.{All-nil, All-cons, All-head, All-tail, All-weaker}
+use Rattle.std.proofs.lemmas.List.Elements.{All-nil, All-cons, All-head, All-tail, All-weaker, All-map}
 use Rattle.pl_lists.proofs.Tests.{same_test}
 use Rattle.pl_model.specs.declared.whole.Model.{Model}
 use Rattle.pl_plan.specs.declared.activity.Activity.{Activity}
+use Rattle.pl_plan.specs.Activities.{ended}
 use Rattle.pl_plan.specs.Fitting.{kind_of, alternatives_of}
 use Rattle.pl_entry.specs.Due.{is_due, start_of, with_starts, due_of}
 use Rattle.pl_semantics.specs.declared.plan_state.PlanState.{PlanState}
 use Rattle.pl_machine.specs.World.{due_in, due_at}
 use Rattle.pl_machine.specs.declared.ahead.Ahead.{Ahead}
 use Rattle.pl_machine.specs.declared.change.Change.{Change}
-use Rattle.pl_machine.specs.declared.change.Change.TheVariants.{Accept, Tell, Tick, Commit, Repair}
+use Rattle.pl_machine.specs.declared.change.Change.TheVariants.{Accept, Tell, Tick, Commit, Repair, Measure, Withdraw}
 use Rattle.pl_machine.specs.Changes.{changed, is_tick}
 use Rattle.pl_machine.specs.Calm.{StartsNone, nearer, next_start, ahead_after}
 
@@ -22,6 +23,14 @@ always : (moment : ℕ) (xs : List Activity) → StartsNone moment 0 xs
 always moment [] = All-nil (λ (a : Activity). (a.start ≤ moment) ⊎ (0 ≤ a.start))
 always moment (a ∷ more) = All-cons (λ (a : Activity). (a.start ≤ moment) ⊎ (0 ≤ a.start)) a more (inr (omega arith)) (always moment more)
 
+-- a measured end leaves the start
+early_ended : (id end moment next : ℕ) (a : Activity) → (a.start ≤ moment) ⊎ (next ≤ a.start) → ((if eqb a.id id then ended end a else a).start ≤ moment) ⊎ (next ≤ (if eqb a.id id then ended end a else a).start)
+early_ended id end moment next a is = by (eqb a.id id)
+  where
+    by : (b : Bool) → ((if b then ended end a else a).start ≤ moment) ⊎ (next ≤ (if b then ended end a else a).start)
+    by true = is
+    by false = is
+
 -- a change that leaves the present
 pub calm_still : (s : PlanState) (change : Change) (ahead : Ahead) → is_tick change ≡ false → StartsNone s.moment ahead.next_start s.plan.activities
     → StartsNone (changed change s).moment (ahead_after change ahead).next_start (changed change s).plan.activities
@@ -30,6 +39,10 @@ calm_still s (Tell line value) ahead still calm = calm
 calm_still s (Tick moment) ahead still calm = absurd (cc)
 calm_still s (Commit h) ahead still calm = calm
 calm_still s (Repair m) ahead still calm = always (changed (Repair m) s).moment (changed (Repair m) s).plan.activities
+calm_still s (Measure id end) ahead still calm =
+    All-map (λ (a : Activity). (a.start ≤ s.moment) ⊎ (ahead.next_start ≤ a.start)) (λ (a : Activity). if eqb a.id id then ended end a else a) s.plan.activities
+    (All-weaker (λ (a : Activity). (a.start ≤ s.moment) ⊎ (ahead.next_start ≤ a.start)) (λ (a : Activity). ((if eqb a.id id then ended end a else a).start ≤ s.moment) ⊎ (ahead.next_start ≤ (if eqb a.id id then ended end a else a).start)) (early_ended id end s.moment ahead.next_start) s.plan.activities calm)
+calm_still s Withdraw ahead still calm = calm
 
 -- ---- as the present moves on
 

@@ -15,7 +15,7 @@ use Rattle.pl_machine.specs.declared.ahead.Ahead.{Ahead}
 use Rattle.pl_machine.specs.World.{World, fresh_world}
 use Rattle.pl_machine.specs.Step.{is_enabled, reply_of, after_input, after_fix, after_commit, after_dispatch, after}
 use Rattle.pl_machine.specs.Sound.{IsSound}
-use Rattle.pl_machine.specs.Legal.{legal_from, world_from, options_in, IsOpenedRun, Legal, no_options, world_of, IsHistory}
+use Rattle.pl_machine.specs.Legal.{legal_from, world_from, options_in, IsOpenedRun, Legal, no_options, world_of}
 
 abbrev pub Goes : World → Type 0
 Goes w = w.closed ≡ false → w.done ≡ false
@@ -61,9 +61,6 @@ pub world_goes : (m : Model) (log : List Entry) → Legal m log → Goes (world_
 unfolding world_of
 world_goes m [] legal = absurd legal
 world_goes m (first ∷ es) legal = opened_goes m (options_in first.event) first.reply es legal
-
-pub open_goes : (m : Model) (log : List Entry) (w : World) → IsHistory m log w → w.closed ≡ false → w.done ≡ false
-open_goes m log w history = subst Goes (sym history.world) (world_goes m log history.legal)
 
 -- also where memory was wanting: the plan state is no part of it
 pub sound_goes : {spoiled : Bool} {m : Model} {log : List Entry} {w : World} {due : List ℕ} {sent : ℕ} {ahead : Ahead} → IsSound spoiled m log w due sent ahead → w.closed ≡ false → w.done ≡ false

@@ -1,5 +1,5 @@
 -- What a message that is accepted may change.
-use Rattle.std.proofs.Common.{◌≡◌, ℕ, ◌<◌, ◌^◌, ℤ, pos, ◌≤ℤ◌, List, [], ◌∷◌, length, Bool, true, false, ◌||◌, Option, Some, None, IfSome, is_some, zero, suc, min, if◌then◌else◌, nat_lt, nat_le, slice_get, Ok, Err, ap, refl, arith}
+use Rattle.std.proofs.Common.{◌≡◌, ℕ, ◌<◌, ◌^◌, ℤ, pos, ◌≤ℤ◌, List, [], ◌∷◌, length, Bool, true, false, ◌||◌, Option, Some, None, IfSome, is_some, zero, suc, min, if◌then◌else◌, nat_lt, nat_le, slice_get, Ok, ap, refl, arith}
 use Rattle.std.specs.List.{list_any}
 use Rattle.std.proofs.lemmas.Bool.{leb-false, ltb-false}
 use Rattle.std.proofs.lemmas.List.Elements.{All-weaker}
@@ -13,7 +13,6 @@ use Rattle.pl_model.specs.Checked.{IsChecked, IsCheckedLine, params_of}
 use Rattle.pl_facts.specs.declared.goal.Goal.{Goal}
 use Rattle.pl_facts.specs.Goals.{is_numbered, goal_of}
 use Rattle.pl_msg.specs.declared.message.Message.{Message}
-use Rattle.pl_msg.specs.declared.fault.MsgFault.{MsgFault}
 use Rattle.pl_msg.specs.Messages.{message_of}
 use Rattle.pl_msg.specs.Limits.{IsNumbered, HasFewStates, FitParams, IsGoalFor, IsLevel, HasState}
 use Rattle.pl_entry.specs.declared.reply.Reply.{Reply}
@@ -23,10 +22,7 @@ use Rattle.pl_semantics.specs.Whole.{IsGoalOf}
 use Rattle.pl_update.specs.Changes.Changes.{CanTell}
 use Rattle.pl_machine.specs.Changes.{CanChange}
 use Rattle.pl_machine.specs.declared.change.Change.TheVariants.{Accept, Tell, Tick}
-use Rattle.pl_entry.specs.Bounds.{IsLineReply}
-use Rattle.pl_machine.specs.Messages.{goal_reply, tick_reply, message_reply, fault_reply, read_reply, line_reply, told, told_by, told_line}
-use Rattle.pl_machine.specs.World.{World}
-use Rattle.pl_machine.specs.Step.{after_input}
+use Rattle.pl_machine.specs.Messages.{goal_reply, tick_reply, message_reply, read_reply, line_reply}
 
 -- ---- models whose parts can be numbered
 
@@ -124,14 +120,6 @@ pub reply_is : (s : PlanState) (limit : ℕ) (line : List ℕ) (m : Message) →
 unfolding line_reply
 reply_is s limit line m is = ap (read_reply s limit) is
 
-pub fault_is : (s : PlanState) (limit : ℕ) (line : List ℕ) (e : MsgFault) → message_of s.model line ≡ Err e → line_reply s limit line ≡ fault_reply e
-unfolding line_reply
-fault_is s limit line e is = ap (read_reply s limit) is
-
-pub told_is : (s : PlanState) (line : List ℕ) (m : Message) → message_of s.model line ≡ Ok m → told_line s line ≡ told s m
-unfolding told_line
-told_is s line m is = ap (told_by s) is
-
 -- ---- what is counted of the goals
 
 found_by : (b rest : Bool) (g : Goal) (found : Option Goal) → is_some found ≡ rest → is_some (if b then Some g else found) ≡ (b || rest)
@@ -146,11 +134,3 @@ pub counted : (limit count : ℕ) → limit < 2 ^ 32 → nat_le limit (min count
 counted limit count lt = grind (arith, common_steps)
 
 -- ---- the end
-
-pub ended_reply : (line : Option (List ℕ)) → IsLineReply line reply.Ended
-ended_reply None = refl
-ended_reply (Some line) = tt
-
-pub ended_after : (w : World) (line : Option (List ℕ)) → record w { done = true } ≡ after_input w line reply.Ended
-ended_after w None = refl
-ended_after w (Some line) = refl

@@ -10,6 +10,8 @@ pub mod Sends
 pub mod Handed
 pub mod Proposed
 pub mod Closes
+pub mod Measured
+pub mod Withdrawn
 pub mod Crossing
 pub mod Granted
 pub mod Commits

@@ -55,8 +55,8 @@ abbrev turned : Round → Round
 turned r = record r { turn = r.turn + 1; held = false }
 
 module _ (s : State) {m : Model} {log : List Entry} {o : Options} {due : List ℕ} {sent : ℕ} {ahead : Ahead} {done : Bool} (round : Round) (before : Standing)
-    (is : record { spoiled = before.spoiled; model = m; log = log; world = record { state = before.state; options = o; dispatched = take sent due; turn = round.turn; rested = round.rested; held = round.held; closed = round.closed; done = done } } ≡ s)
-    (sound : IsSound before.spoiled m log (record { state = before.state; options = o; dispatched = take sent due; turn = round.turn; rested = round.rested; held = round.held; closed = round.closed; done = done }) due sent ahead)
+    (is : record { spoiled = before.spoiled; model = m; log = log; world = record { state = before.state; options = o; dispatched = take sent due; turn = round.turn; rested = round.rested; held = round.held; closed = round.closed; done = done; halted = round.halted } } ≡ s)
+    (sound : IsSound before.spoiled m log (record { state = before.state; options = o; dispatched = take sent due; turn = round.turn; rested = round.rested; held = round.held; closed = round.closed; done = done; halted = round.halted }) due sent ahead)
     (goes : GoesOn s) (whole : IsWhole s.world.state) (few : s.world.state.next_id ≤ 3999999000) where
   unspoiled : before.spoiled ≡ false
   unspoiled = ap (λ (t : State). t.spoiled) is ∙ goes.unspoiled
@@ -110,32 +110,32 @@ module _ (s : State) {m : Model} {log : List Entry} {o : Options} {due : List �
         (ranges.0, in_range s.model p.mv (proposed_move s.model before.state (Some p) checked model legal) ranges.1)
 
     sound_mended : IsConflictInRange p.conflict × FitsTypes p.mv
-        → IsSound false m (logged (Some p) log) (record { state = applied before.state p.mv; options = o; dispatched = take sent due; turn = round.turn + 1; rested = round.rested; held = false; closed = round.closed; done = done }) due sent (ahead_after (Repair p.mv) ahead)
+        → IsSound false m (logged (Some p) log) (record { state = applied before.state p.mv; options = o; dispatched = take sent due; turn = round.turn + 1; rested = round.rested; held = false; closed = round.closed; done = done; halted = round.halted }) due sent (ahead_after (Repair p.mv) ahead)
     sound_mended ranges =
         sound_carried s false (turned round) (applied before.state p.mv) due (ahead_after (Repair p.mv) ahead) (Repair p.mv) (event.Fix p.conflict p.mv) is sound refl may (fits ranges) tt answers kept listed looked refl leaves turn
 
     took_mended : IsOpen s (event.Fix p.conflict p.mv)
-        × Takes s (event.Fix p.conflict p.mv) reply.Done (record { spoiled = false; model = m; log = logged (Some p) log; world = record { state = applied before.state p.mv; options = o; dispatched = take sent due; turn = round.turn + 1; rested = round.rested; held = false; closed = round.closed; done = done } })
+        × Takes s (event.Fix p.conflict p.mv) reply.Done (record { spoiled = false; model = m; log = logged (Some p) log; world = record { state = applied before.state p.mv; options = o; dispatched = take sent due; turn = round.turn + 1; rested = round.rested; held = false; closed = round.closed; done = done; halted = round.halted } })
     took_mended = took_carried s false (turned round) (applied before.state p.mv) due (Repair p.mv) (event.Fix p.conflict p.mv) is sound refl may answers kept listed refl leaves refl
 
   -- ---- behind what a chooser made, if it made any
 
   module _ (next : Option Proposal) (now : Standing) (log2 : List Entry) (ahead2 : Ahead) (made : now ≡ mended next before) (entry : log2 ≡ logged next log) (further : ahead2 ≡ ahead_behind next ahead) where
     pub sound_none : next ≡ None
-        → IsSound now.spoiled m log2 (record { state = now.state; options = o; dispatched = take sent due; turn = round.turn; rested = round.rested; held = round.held; closed = round.closed; done = done }) due sent ahead2
+        → IsSound now.spoiled m log2 (record { state = now.state; options = o; dispatched = take sent due; turn = round.turn; rested = round.rested; held = round.held; closed = round.closed; done = done; halted = round.halted }) due sent ahead2
     sound_none none = by next none made entry further
       where
         by : (n : Option Proposal) → n ≡ None → now ≡ mended n before → log2 ≡ logged n log → ahead2 ≡ ahead_behind n ahead
-            → IsSound now.spoiled m log2 (record { state = now.state; options = o; dispatched = take sent due; turn = round.turn; rested = round.rested; held = round.held; closed = round.closed; done = done }) due sent ahead2
+            → IsSound now.spoiled m log2 (record { state = now.state; options = o; dispatched = take sent due; turn = round.turn; rested = round.rested; held = round.held; closed = round.closed; done = done; halted = round.halted }) due sent ahead2
         by None e f g h = rw (f, g, h) sound
         by (Some p) e f g h = absurd (cc)
 
     pub same_none : next ≡ None
-        → record { spoiled = now.spoiled; model = m; log = log2; world = record { state = now.state; options = o; dispatched = take sent due; turn = round.turn; rested = round.rested; held = round.held; closed = round.closed; done = done } } ≡ s
+        → record { spoiled = now.spoiled; model = m; log = log2; world = record { state = now.state; options = o; dispatched = take sent due; turn = round.turn; rested = round.rested; held = round.held; closed = round.closed; done = done; halted = round.halted } } ≡ s
     same_none none = by next none made entry
       where
         by : (n : Option Proposal) → n ≡ None → now ≡ mended n before → log2 ≡ logged n log
-            → record { spoiled = now.spoiled; model = m; log = log2; world = record { state = now.state; options = o; dispatched = take sent due; turn = round.turn; rested = round.rested; held = round.held; closed = round.closed; done = done } } ≡ s
+            → record { spoiled = now.spoiled; model = m; log = log2; world = record { state = now.state; options = o; dispatched = take sent due; turn = round.turn; rested = round.rested; held = round.held; closed = round.closed; done = done; halted = round.halted } } ≡ s
         by None e f g = rw (f, g) is
         by (Some p) e f g = absurd (cc)
 
@@ -153,14 +153,14 @@ module _ (s : State) {m : Model} {log : List Entry} {o : Options} {due : List �
       further_some = further ∙ ap (λ (n : Option Proposal). ahead_behind n ahead) some
 
       pub sound_some : IfSome next (λ q. IsConflictInRange q.conflict × FitsTypes q.mv)
-          → IsSound now.spoiled m log2 (record { state = now.state; options = o; dispatched = take sent due; turn = round2.turn; rested = round2.rested; held = round2.held; closed = round2.closed; done = done }) due sent ahead2
+          → IsSound now.spoiled m log2 (record { state = now.state; options = o; dispatched = take sent due; turn = round2.turn; rested = round2.rested; held = round2.held; closed = round2.closed; done = done; halted = round2.halted }) due sent ahead2
       sound_some ranges =
           let P : Option Proposal → Type 0 = λ n. IfSome n (λ q. IsConflictInRange q.conflict × FitsTypes q.mv) in
           rw (made_some, entry_some, further_some, turns) (sound_mended p legal_some (subst P some ranges))
 
       pub took_some : IsProposal s.world.state (Some p)
           × IsOpen s (event.Fix p.conflict p.mv)
-          × Takes s (event.Fix p.conflict p.mv) reply.Done (record { spoiled = now.spoiled; model = m; log = log2; world = record { state = now.state; options = o; dispatched = take sent due; turn = round2.turn; rested = round2.rested; held = round2.held; closed = round2.closed; done = done } })
+          × Takes s (event.Fix p.conflict p.mv) reply.Done (record { spoiled = now.spoiled; model = m; log = log2; world = record { state = now.state; options = o; dispatched = take sent due; turn = round2.turn; rested = round2.rested; held = round2.held; closed = round2.closed; done = done; halted = round2.halted } })
       took_some = rw (made_some, entry_some, turns) (legal_seen p legal_some, (took_mended p legal_some).0, (took_mended p legal_some).1)
 
       pub keeps_some : KeepsCommitted s.world.state now.state

@@ -187,15 +187,15 @@ pub sound_changed : (s : State) {spoiled : Bool} {m : Model} {log : List Entry} 
     → record { spoiled = spoiled; model = m; log = log; world = w } ≡ s → IsSound spoiled m log w due sent ahead → w.dispatched ≡ take sent due → IsOpen s happened
     → IsEventInRange s.model happened → IsReplyTo s.model happened reply.Done → reply.Done ≡ reply_of s.world happened
     → KeepsStanding s.world.state s2 → due2 ≡ due_in s2 → IsAhead s2 ahead2 → with_round round (with_state s2 s.world) ≡ after s.world happened → round.turn ≤ s.world.options.turns
-    → IsSound spoiled2 m (log ++ record { event = happened; reply = reply.Done } ∷ []) (record { state = s2; options = w.options; dispatched = take sent due2; turn = round.turn; rested = round.rested; held = round.held; closed = round.closed; done = w.done }) due2 sent ahead2
+    → IsSound spoiled2 m (log ++ record { event = happened; reply = reply.Done } ∷ []) (record { state = s2; options = w.options; dispatched = take sent due2; turn = round.turn; rested = round.rested; held = round.held; closed = round.closed; done = w.done; halted = round.halted }) due2 sent ahead2
 sound_changed s {spoiled} {m} {log} {w} {due} {sent} spoiled2 round s2 due2 ahead2 happened is sound dispatched may in_range replies answers keeps due_is looked leaves turn =
     let unspoiled : spoiled ≡ false = ap (λ (t : State). t.spoiled) is ∙ may.unspoiled in
     let same : w ≡ s.world = ap (λ (t : State). t.world) is in
     let standing = sound.stands unspoiled in
     let keeps2 : KeepsStanding w.state s2 = subst (λ (v : World). KeepsStanding v.state s2) (sym same) keeps in
     let front : take sent due2 ≡ w.dispatched = sent_stays w due due2 sent standing.listed sound.within keeps2 due_is ∙ sym dispatched in
-    let w2 : World = record { state = s2; options = w.options; dispatched = take sent due2; turn = round.turn; rested = round.rested; held = round.held; closed = round.closed; done = w.done } in
-    let parts : w2 ≡ with_round round (with_state s2 w) = ap (λ (d : List ℕ). record { state = s2; options = w.options; dispatched = d; turn = round.turn; rested = round.rested; held = round.held; closed = round.closed; done = w.done }) front in
+    let w2 : World = record { state = s2; options = w.options; dispatched = take sent due2; turn = round.turn; rested = round.rested; held = round.held; closed = round.closed; done = w.done; halted = round.halted } in
+    let parts : w2 ≡ with_round round (with_state s2 w) = ap (λ (d : List ℕ). record { state = s2; options = w.options; dispatched = d; turn = round.turn; rested = round.rested; held = round.held; closed = round.closed; done = w.done; halted = round.halted }) front in
     let longer : length due2 ≡ length due + length keeps2.due.0 = ap length (due_is ∙ keeps2.due.1 ∙ ap (λ (xs : List ℕ). xs ++ keeps2.due.0) (sym standing.listed)) ∙ length-append due keeps2.due.0 in
     sound_step s spoiled2 w2 due2 sent ahead2 happened reply.Done is sound may in_range replies answers (parts ∙ ap (λ (v : World). with_round round (with_state s2 v)) same ∙ leaves) (record {
       options = refl;
@@ -246,7 +246,7 @@ pub sound_carried : (s : State) {spoiled : Bool} {m : Model} {log : List Entry} 
     → record { spoiled = spoiled; model = m; log = log; world = w } ≡ s → IsSound spoiled m log w due sent ahead → w.dispatched ≡ take sent due → IsOpen s happened
     → IsEventInRange s.model happened → IsReplyTo s.model happened reply.Done → reply.Done ≡ reply_of s.world happened
     → KeepsStanding w.state s2 → due2 ≡ due_in s2 → IsAhead s2 ahead2 → s2 ≡ changed change w.state → with_round round (with_state (changed change s.world.state) s.world) ≡ after s.world happened → round.turn ≤ s.world.options.turns
-    → IsSound spoiled2 m (log ++ record { event = happened; reply = reply.Done } ∷ []) (record { state = s2; options = w.options; dispatched = take sent due2; turn = round.turn; rested = round.rested; held = round.held; closed = round.closed; done = w.done }) due2 sent ahead2
+    → IsSound spoiled2 m (log ++ record { event = happened; reply = reply.Done } ∷ []) (record { state = s2; options = w.options; dispatched = take sent due2; turn = round.turn; rested = round.rested; held = round.held; closed = round.closed; done = w.done; halted = round.halted }) due2 sent ahead2
 sound_carried s {spoiled} {m} {log} {w} {due} {sent} spoiled2 round s2 due2 ahead2 change happened is sound dispatched may in_range replies answers keeps due_is looked made leaves turn =
     let same : w ≡ s.world = ap (λ (t : State). t.world) is in
     let made2 : s2 ≡ changed change s.world.state = made ∙ ap (λ (v : World). changed change v.state) same in
@@ -256,14 +256,14 @@ pub took_carried : (s : State) {spoiled : Bool} {m : Model} {log : List Entry} {
     → record { spoiled = spoiled; model = m; log = log; world = w } ≡ s → IsSound spoiled m log w due sent ahead → w.dispatched ≡ take sent due → IsOpen s happened
     → reply.Done ≡ reply_of s.world happened
     → KeepsStanding w.state s2 → due2 ≡ due_in s2 → s2 ≡ changed change w.state → with_round round (with_state (changed change s.world.state) s.world) ≡ after s.world happened → spoiled2 ≡ false
-    → IsOpen s happened × Takes s happened reply.Done (record { spoiled = spoiled2; model = m; log = log ++ record { event = happened; reply = reply.Done } ∷ []; world = record { state = s2; options = w.options; dispatched = take sent due2; turn = round.turn; rested = round.rested; held = round.held; closed = round.closed; done = w.done } })
+    → IsOpen s happened × Takes s happened reply.Done (record { spoiled = spoiled2; model = m; log = log ++ record { event = happened; reply = reply.Done } ∷ []; world = record { state = s2; options = w.options; dispatched = take sent due2; turn = round.turn; rested = round.rested; held = round.held; closed = round.closed; done = w.done; halted = round.halted } })
 took_carried s {spoiled} {m} {log} {w} {due} {sent} spoiled2 round s2 due2 change happened is sound dispatched may answers keeps due_is made leaves unspoiled =
     let same : w ≡ s.world = ap (λ (t : State). t.world) is in
     let standing = sound.stands (ap (λ (t : State). t.spoiled) is ∙ may.unspoiled) in
     let made2 : s2 ≡ changed change s.world.state = made ∙ ap (λ (v : World). changed change v.state) same in
     let front : take sent due2 ≡ w.dispatched = sent_stays w due due2 sent standing.listed sound.within keeps due_is ∙ sym dispatched in
-    let parts : record { state = s2; options = w.options; dispatched = take sent due2; turn = round.turn; rested = round.rested; held = round.held; closed = round.closed; done = w.done } ≡ with_round round (with_state s2 w) =
-    ap (λ (d : List ℕ). record { state = s2; options = w.options; dispatched = d; turn = round.turn; rested = round.rested; held = round.held; closed = round.closed; done = w.done }) front in (
+    let parts : record { state = s2; options = w.options; dispatched = take sent due2; turn = round.turn; rested = round.rested; held = round.held; closed = round.closed; done = w.done; halted = round.halted } ≡ with_round round (with_state s2 w) =
+    ap (λ (d : List ℕ). record { state = s2; options = w.options; dispatched = d; turn = round.turn; rested = round.rested; held = round.held; closed = round.closed; done = w.done; halted = round.halted }) front in (
       may,
       record {
         step = record { enabled = may.enabled; answers = answers; leaves = parts ∙ ap (λ (v : World). with_round round (with_state s2 v)) same ∙ ap (λ (x : PlanState). with_round round (with_state x s.world)) made2 ∙ leaves };

@@ -12,7 +12,7 @@ use Rattle.pl_model.specs.declared.whole.Model.{Model}
 use Rattle.pl_entry.specs.declared.entry.Entry.{Entry}
 use Rattle.pl_machine.specs.declared.ahead.Ahead.{Ahead}
 use Rattle.pl_machine.specs.World.{World, due_in}
-use Rattle.pl_machine.specs.Step.{all_sent, next_due, sent_of, sent_reply, after_dispatch, after, reply_of}
+use Rattle.pl_machine.specs.Step.{all_sent, next_due, sent_reply, after_dispatch, after, reply_of}
 use Rattle.pl_machine.specs.Keeping.{AreSendable}
 use Rattle.pl_plan.specs.declared.activity.Activity.{Activity}
 use Rattle.pl_plan.specs.Fitting.{FitsAlone, kind_of}
@@ -142,9 +142,6 @@ is_command s a id kind start values id_is kind_is start_is values_are whole send
     sent_by id start values (kind_of s.model a) (kind_there s.model.kinds a.kind alone.kind) (subst IsWord (sym id_is) id_fits) (subst IsWord (sym start_is) start_fits) (ap length values_are ∙ places)
     (subst (λ (row : List (Option ℤ)). All (λ v. IfSome v IsAmount) row) (sym values_are) (sendable a.id a here committed)) in
     (subst IsWord (sym kind_is) kind_fits, subst (IsSent id start values) (sym known) sent)
-
-pub command_is : (s : PlanState) (a : Activity) (id kind start : ℕ) (values : List (Option ℤ)) → id ≡ a.id → kind ≡ a.kind → start ≡ a.start → values ≡ row_of s a → reply.Sent id kind start values ≡ sent_of s a
-command_is s a id kind start values id_is kind_is start_is values_are = cc
 
 -- ---- one more is sent
 

@@ -1,6 +1,6 @@
 -- The activities that have started and are committed: what changes leave of them, and what a look behind them finds.
 use Rattle.std.proofs.Common.{◌≡◌, ℕ, zero, suc, ◌+◌, ◌<◌, ◌≤◌, eqb, leb, ltb, Bool, true, false, ◌&&◌, List, [], ◌∷◌, ◌++◌, length, take, drop, map, get_or, Some, None, Option, ◌⊎◌, inl, refl, sym, ◌∙◌, ap, subst, arith, add-one}
-use Rattle.std.specs.Prelude.{ℤ, All, filter, not, ◌||◌, Result, IfOk, Ok, Err, if◌then◌else◌}
+use Rattle.std.specs.Prelude.{ℤ, All, filter, not, ◌||◌, Result, IfOk, Ok, Err, if◌then◌else◌, min}
 use Rattle.std.proofs.Math.Seq.{take-add}
 use Rattle.std.proofs.lemmas.Bool.{and_parts, and_from, leb-true, le-leb, ltb-true, lt-ltb, le-ltb, not_from_false, or_right}
 use Rattle.std.proofs.lemmas.List.{length-drop, take-append-drop}
@@ -9,7 +9,7 @@ use Rattle.pl_model.specs.declared.whole.Model.{Model}
 use Rattle.pl_plan.specs.declared.activity.Activity.{Activity}
 use Rattle.pl_plan.specs.declared.repair.RepairMove.{RepairMove}
 use Rattle.pl_plan.specs.declared.repair.RepairMove.TheVariants.{Add, Delete, Shift, Detail, Abstract, Assign, Drop}
-use Rattle.pl_plan.specs.Activities.{AreRising}
+use Rattle.pl_plan.specs.Activities.{AreRising, ended}
 use Rattle.pl_plan.specs.Fitting.{Fits, FitsAlone}
 use Rattle.pl_plan.specs.Moves.{abstracted}
 use Rattle.pl_plan.specs.Trees.{descends}
@@ -26,7 +26,7 @@ use Rattle.pl_board.specs.Boards.{Standing, after}
 use Rattle.pl_machine.specs.World.{due_in, due_at}
 use Rattle.pl_machine.specs.declared.ahead.Ahead.{Ahead}
 use Rattle.pl_machine.specs.declared.change.Change.{Change}
-use Rattle.pl_machine.specs.declared.change.Change.TheVariants.{Accept, Tell, Tick, Commit, Repair}
+use Rattle.pl_machine.specs.declared.change.Change.TheVariants.{Accept, Tell, Tick, Commit, Repair, Measure, Withdraw}
 use Rattle.pl_machine.specs.Changes.{changed, is_tick, CanChange}
 use Rattle.pl_machine.specs.Calm.{StartsNone, next_start, is_settled, AreSettled, IsAheadAt, IsAhead, ahead_after}
 use Rattle.pl_machine.proofs.Calm.{calm_still, calm_later, next_calm}
@@ -128,6 +128,16 @@ module _ (s : PlanState) (k : ℕ) (front : Front (is_settled s.moment s.committ
       by true = refl
       by false = refl
 
+  ended_start : (id end : ℕ) (a : Activity) → (if eqb a.id id then ended end a else a).start ≡ a.start
+  ended_start id end a = by (eqb a.id id)
+    where
+      by : (b : Bool) → (if b then ended end a else a).start ≡ a.start
+      by true = refl
+      by false = refl
+
+  settled_ended : (id end : ℕ) → Front p k (map (λ a. if eqb a.id id then ended end a else a) xs)
+  settled_ended id end = same_starts (λ a. if eqb a.id id then ended end a else a) (ended_start id end) xs front
+
   -- what is settled does not descend from an activity that is not locked
   apart : (id : ℕ) → All (λ a. (is_under s id a && is_committed s a) ≡ false) xs → All (λ a. p a ≡ true → is_under s id a ≡ false) xs
   apart id free = All-weaker (λ (a : Activity). (is_under s id a && is_committed s a) ≡ false) (λ (a : Activity). p a ≡ true → is_under s id a ≡ false) (λ a is passes. unlocked_not (is_under s id a) (leb a.start s.moment) (is_committed s a) is passes) xs free
@@ -179,6 +189,20 @@ ahead_later s before ahead le looked = record {
   settled = settled_later before s.moment s.committed s.committed ahead.settled s.plan.activities le (omega arith) looked.settled;
 }
 
+-- what is withdrawn has not started
+still_settled : (moment c : ℕ) (a : Activity) → is_settled moment c a ≡ true → is_settled moment (min c (moment + 1)) a ≡ true
+still_settled moment c a settled =
+    let parts = and_parts (leb a.start moment) (ltb a.start c) settled in
+    let started = leb-true a.start moment parts.0 in
+    let early = ltb-true a.start c parts.1 in
+    and_from (leb a.start moment) (ltb a.start (min c (moment + 1))) parts.0 (lt-ltb a.start (min c (moment + 1)) (omega (arith, started, early)))
+
+settled_withdrawn : (moment c k : ℕ) (xs : List Activity) → AreSettled moment c k xs → AreSettled moment (min c (moment + 1)) k xs
+settled_withdrawn moment c k xs settled = record {
+  few = settled.few;
+  each = All-weaker (λ (a : Activity). is_settled moment c a ≡ true) (λ (a : Activity). is_settled moment (min c (moment + 1)) a ≡ true) (λ a is. still_settled moment c a is) (take k xs) settled.each;
+}
+
 -- ---- changes
 
 -- a repair leaves the present, and how far is committed
@@ -200,6 +224,9 @@ settled_still s (Commit h) k still whole can settled = settled_later s.moment s.
 settled_still s (Repair m) k still whole can settled =
     let front : Front (is_settled s.moment s.committed) k (applied s m).plan.activities = settled_repair s k (settled_front s.moment s.committed k s.plan.activities settled) m whole (may s m can.1) in
     repaired s m k (front_settled s.moment s.committed k (applied s m).plan.activities front)
+settled_still s (Measure id end) k still whole can settled =
+    front_settled s.moment s.committed k (changed (Measure id end) s).plan.activities (settled_ended s k (settled_front s.moment s.committed k s.plan.activities settled) id end)
+settled_still s Withdraw k still whole can settled = settled_withdrawn s.moment s.committed k s.plan.activities settled
 
 same_settled : (change : Change) (ahead : Ahead) → (ahead_after change ahead).settled ≡ ahead.settled
 same_settled (Accept goal) ahead = refl
@@ -207,6 +234,8 @@ same_settled (Tell line value) ahead = refl
 same_settled (Tick moment) ahead = refl
 same_settled (Commit h) ahead = refl
 same_settled (Repair m) ahead = refl
+same_settled (Measure id end) ahead = refl
+same_settled Withdraw ahead = refl
 
 pub ahead_still : (s : PlanState) (change : Change) (ahead : Ahead) → is_tick change ≡ false → IsWhole s → CanChange s change → IsAhead s ahead → IsAhead (changed change s) (ahead_after change ahead)
 ahead_still s change ahead still whole can looked = record {
@@ -226,6 +255,8 @@ ahead_ticks s (Tell line value) ahead ticks looked = absurd (cc)
 ahead_ticks s (Tick moment) ahead ticks looked = record { calm = looked.calm; settled = looked.settled }
 ahead_ticks s (Commit h) ahead ticks looked = absurd (cc)
 ahead_ticks s (Repair m) ahead ticks looked = absurd (cc)
+ahead_ticks s (Measure id end) ahead ticks looked = absurd (cc)
+ahead_ticks s Withdraw ahead ticks looked = absurd (cc)
 
 -- ---- a look behind what is settled
 

@@ -4,7 +4,7 @@ use Rattle.pl_plan.specs.declared.activity.Activity.{Activity}
 use Rattle.pl_semantics.specs.declared.plan_state.PlanState.{PlanState}
 use Rattle.pl_machine.specs.declared.ahead.Ahead.{Ahead}
 use Rattle.pl_machine.specs.declared.change.Change.{Change}
-use Rattle.pl_machine.specs.declared.change.Change.TheVariants.{Accept, Tell, Tick, Commit, Repair}
+use Rattle.pl_machine.specs.declared.change.Change.TheVariants.{Accept, Tell, Tick, Commit, Repair, Measure, Withdraw}
 
 -- No activity starts behind a moment and before another.
 abbrev pub StartsNone : ℕ → ℕ → List Activity → Type 0
@@ -44,3 +44,5 @@ ahead_after (Tell line value) ahead = ahead
 ahead_after (Tick moment) ahead = ahead
 ahead_after (Commit h) ahead = ahead
 ahead_after (Repair m) ahead = record ahead { next_start = 0 }
+ahead_after (Measure id moment) ahead = ahead
+ahead_after Withdraw ahead = ahead

@@ -13,8 +13,8 @@ unfoldable pub exec_choice_of : World → Option Choice
 exec_choice_of w =
     if w.closed || w.done then None
     else if nat_lt (length w.dispatched) (length (due_in w.state)) then Some choice.Dispatch
-    else if not w.rested && (not w.held && nat_lt (behind_of w.state) (target_in w.state)) then Some (choice.Commit (target_in w.state))
-    else if w.rested && nat_lt (behind_of w.state) (best_in w.state) then Some (choice.Commit (best_in w.state))
+    else if not w.rested && (not w.held && nat_lt (behind_of w.state) (target_in w)) then Some (choice.Commit (target_in w))
+    else if w.rested && nat_lt (behind_of w.state) (best_in w) then Some (choice.Commit (best_in w))
     else if w.rested then Some choice.Close
     else None
 

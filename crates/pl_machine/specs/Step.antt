@@ -20,7 +20,7 @@ use Rattle.pl_semantics.specs.Conflicts.{conflicts_of}
 use Rattle.pl_semantics.specs.Moves.{refusal_of, applied}
 use Rattle.pl_semantics.specs.Candidates.{candidates_of, same_move}
 use Rattle.pl_update.specs.Changes.Changes.{committed_to}
-use Rattle.pl_machine.specs.Messages.{line_reply, told_line}
+use Rattle.pl_machine.specs.Messages.{line_reply, told_line, halts_line}
 use Rattle.pl_machine.specs.World.{World, due_in, reason_of}
 
 -- ---- how far to commit
@@ -32,11 +32,11 @@ behind_of s = max s.committed s.moment
 abbrev pub first_conflict : PlanState → Option Conflict
 first_conflict s = slice_get (conflicts_of s) 0
 
-abbrev pub target_in : PlanState → ℕ
-target_in s = target_of s.model s.moment
+abbrev pub target_in : World → ℕ
+target_in w = target_of w.state.model w.state.moment w.halted
 
-abbrev pub best_in : PlanState → ℕ
-best_in s = best_of s.model s.moment (first_conflict s)
+abbrev pub best_in : World → ℕ
+best_in w = best_of w.state.model w.state.moment w.halted (first_conflict w.state)
 
 -- ---- where an event is enabled
 
@@ -51,7 +51,7 @@ is_enabled w (event.Fix k m) = not w.closed && (not w.rested && nat_lt w.turn w.
 is_enabled w event.Rest = not w.closed && (not w.rested && is_some (reason_of w))
 is_enabled w (event.Commit h) = not w.closed
 is_enabled w event.Dispatch = not w.closed && nat_lt (length w.dispatched) (length (due_in w.state))
-is_enabled w event.Close = not w.closed && (w.rested && (all_sent w && nat_le (best_in w.state) (behind_of w.state)))
+is_enabled w event.Close = not w.closed && (w.rested && (all_sent w && nat_le (best_in w) (behind_of w.state)))
 
 -- ---- replies
 
@@ -118,14 +118,14 @@ reply_of w event.Close = reply.Done
 -- ---- the world after, by the reply
 
 -- a round begins, also after a refused message
-abbrev pub round_begun : World → PlanState → World
-round_begun w s = record w { state = s; closed = false; rested = false; held = false; turn = 0 }
+abbrev pub round_begun : World → PlanState → Bool → World
+round_begun w s halted = record w { state = s; closed = false; rested = false; held = false; turn = 0; halted = halted }
 
 abbrev pub after_input : World → Option (List ℕ) → Reply → World
 after_input w line reply.Ended = record w { done = true }
 after_input w None _ = w
-after_input w (Some line) reply.Done = round_begun w (told_line w.state line)
-after_input w (Some line) _ = round_begun w w.state
+after_input w (Some line) reply.Done = round_begun w (told_line w.state line) (halts_line w.state w.halted line)
+after_input w (Some line) _ = round_begun w w.state w.halted
 
 -- a turn is counted, also for a refused repair
 abbrev pub after_fix : World → RepairMove → Reply → World

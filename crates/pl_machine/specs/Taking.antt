@@ -50,7 +50,7 @@ Admits s enabled (Err stop.Memory) = ⊥
 -- ---- the parts of a world that an event changes
 
 abbrev pub with_round : Round → World → World
-with_round r w = record w { turn = r.turn; rested = r.rested; held = r.held; closed = r.closed }
+with_round r w = record w { turn = r.turn; rested = r.rested; held = r.held; closed = r.closed; halted = r.halted }
 
 abbrev pub with_state : PlanState → World → World
 with_state s w = record w { state = s }

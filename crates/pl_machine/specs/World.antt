@@ -24,10 +24,12 @@ pub record World : Type 0 where
   pub held : Bool
   pub closed : Bool
   pub done : Bool
+  -- what was committed and had not begun was withdrawn, and the present has not moved on since
+  pub halted : Bool
 
 -- nothing planned, between rounds
 abbrev pub fresh_world : Model → Options → World
-fresh_world m o = record { state = first_state m o.live; options = o; dispatched = []; turn = 0; rested = false; held = false; closed = true; done = false }
+fresh_world m o = record { state = first_state m o.live; options = o; dispatched = []; turn = 0; rested = false; held = false; closed = true; done = false; halted = false }
 
 -- the ids of the activities whose commands are to be sent by now, in start order
 abbrev pub due_in : PlanState → List ℕ

@@ -14,4 +14,8 @@ pub(crate) enum Change {
     Commit(u32),
     /// A repair is made.
     Repair(RepairMove),
+    /// The activity of an id is known to end at a moment.
+    Measure(u32, u32),
+    /// What starts after the present is committed no longer.
+    Withdraw,
 }

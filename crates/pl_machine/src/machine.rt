@@ -9,6 +9,7 @@ mod mending;
 mod proposing;
 mod reading;
 mod repairing;
+mod replying;
 mod resting;
 mod sending;
 
@@ -55,9 +56,9 @@ impl std::marker::Model for Machine {
 
     ghost coded = { Prim.hlevel (codes, e.the_row.coded) };
 
-    ghost view = { λ m. record { spoiled = m.board.spoiled; model = m.model; log = m.log.items; world = record { state = m.board.state; options = m.options; dispatched = take m.sent m.schedule.due.items; turn = m.round.turn; rested = m.round.rested; held = m.round.held; closed = m.round.closed; done = m.done } } };
+    ghost view = { λ m. record { spoiled = m.board.spoiled; model = m.model; log = m.log.items; world = record { state = m.board.state; options = m.options; dispatched = take m.sent m.schedule.due.items; turn = m.round.turn; rested = m.round.rested; held = m.round.held; closed = m.round.closed; done = m.done; halted = m.round.halted } } };
 
-    ghost invariant = { λ m. IsSound m.board.spoiled m.model m.log.items (record { state = m.board.state; options = m.options; dispatched = take m.sent m.schedule.due.items; turn = m.round.turn; rested = m.round.rested; held = m.round.held; closed = m.round.closed; done = m.done }) m.schedule.due.items m.sent m.schedule.ahead };
+    ghost invariant = { λ m. IsSound m.board.spoiled m.model m.log.items (record { state = m.board.state; options = m.options; dispatched = take m.sent m.schedule.due.items; turn = m.round.turn; rested = m.round.rested; held = m.round.held; closed = m.round.closed; done = m.done; halted = m.round.halted }) m.schedule.due.items m.sent m.schedule.ahead };
 }
 
 impl Machine {

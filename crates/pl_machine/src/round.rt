@@ -10,30 +10,35 @@ pub(crate) struct Round {
     /// A commit was held, and no repair was made since.
     pub(crate) held: bool,
     pub(crate) closed: bool,
+    /// What was committed and had not begun was withdrawn, and the present has not moved on since. This outlasts the
+    /// round.
+    pub(crate) halted: bool,
 }
 
 impl Round {
     /// Between rounds, before the first one.
     pub(crate) fn closed() -> Round
-        ensures { result ≡ record { turn = 0; rested = false; held = false; closed = true } }
+        ensures { result ≡ record { turn = 0; rested = false; held = false; closed = true; halted = false } }
     {
         Round {
             turn: 0,
             rested: false,
             held: false,
             closed: true,
+            halted: false,
         }
     }
 
     /// A round that has just begun.
-    pub(crate) fn begun() -> Round
-        ensures { result ≡ record { turn = 0; rested = false; held = false; closed = false } }
+    pub(crate) fn begun(halted: bool) -> Round
+        ensures { result ≡ record { turn = 0; rested = false; held = false; closed = false; halted = halted } }
     {
         Round {
             turn: 0,
             rested: false,
             held: false,
             closed: false,
+            halted,
         }
     }
 

@@ -1,5 +1,5 @@
 -- What follows from the parameters that an expression names.
-use Rattle.std.proofs.Common.{◌≡◌, ℕ, ◌<◌, ◌≤◌, ℤ, Bool, true, Option, None, List, sym, ap, ◌∙◌, arith}
+use Rattle.std.proofs.Common.{◌≡◌, ℕ, ◌<◌, ℤ, Bool, true, Option, None, List, sym, ap, ◌∙◌, arith}
 use Rattle.std.specs.Prelude.{nat_lt, slice_index_or, option_and_then}
 use Rattle.std.proofs.lemmas.Bool.Decides.{nat_tests}
 use Rattle.std.proofs.lemmas.Bool.{and_parts, and_from}
@@ -31,13 +31,6 @@ param_names n p h = below_from_test p n (sym (fold_param Bool (names_at n) p) �
 
 pub parts_name : (n : ℕ) (op : Op) (a b : Expr) → NamesBelow n (Apply op a b) → NamesBelow n a × NamesBelow n b
 parts_name n op a b h = and_parts (fold-Expr Bool (names_at n) a) (fold-Expr Bool (names_at n) b) (sym (fold_apply Bool (names_at n) op a b) ∙ h)
-
--- what is below a number is below a larger one
-pub names_weaker : (m n : ℕ) → m ≤ n → (e : Expr) → NamesBelow m e → NamesBelow n e
-names_weaker m n le = induct (λ e. NamesBelow m e → NamesBelow n e)
-    (λ k h. names-num n k)
-    (λ p h. let lt : p < m = param_names m p h in names-param n p (omega (arith, lt, le)))
-    (λ op a b f g h. let two = parts_name m op a b h in names-apply n op a b (f two.0) (g two.1))
 
 -- ---- ranks of what is named
 

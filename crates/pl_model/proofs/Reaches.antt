@@ -45,8 +45,7 @@ outcome_reached : (op : Op) (r s : ℤ × ℤ) (x y : ℤ) → IsWithin r x → 
 outcome_reached Add r s x y p q = (omega (arith, ints, p.0, q.0), omega (arith, ints, p.1, q.1))
 outcome_reached Sub r s x y p q = (omega (arith, ints, p.0, q.1), omega (arith, ints, p.1, q.0))
 outcome_reached Mul r s x y p q = product_reached r.0 r.1 s.0 s.1 x y p q
-outcome_reached Min r s x y p q = (omega (arith, ints, clamps, p.0, q.0), omega (arith, ints, clamps, p.1, q.1))
-outcome_reached Max r s x y p q = (omega (arith, ints, clamps, p.0, q.0), omega (arith, ints, clamps, p.1, q.1))
+outcome_reached _ r s x y p q = (omega (arith, ints, clamps, p.0, q.0), omega (arith, ints, clamps, p.1, q.1))
 
 near_from_test : (n : ℤ) → (int_le (negsuc 999999999999999999) n && int_le n (pos 1000000000000000000)) ≡ true → IsWithin (negsuc 999999999999999999, pos 1000000000000000000) n
 near_from_test n h =
@@ -77,6 +76,5 @@ number_within n v e = limited_within (n, n) n v e (omega (arith, ints), omega (a
 
 -- the value of an operation lies in what the bounds of its parts reach
 pub joined_within : (op : Op) (r s : ℤ × ℤ) (a b : Option ℤ) (v : ℤ) → ((x : ℤ) → a ≡ Some x → IsWithin r x) → ((y : ℤ) → b ≡ Some y → IsWithin s y) → joined op a b ≡ Some v → IsWithin (clipped_both (reach_of op r s)) v
-joined_within op r s None b v p q e = absurd (cc)
-joined_within op r s (Some x) None v p q e = absurd (cc)
 joined_within op r s (Some x) (Some y) v p q e = limited_within (reach_of op r s) (outcome_of op x y) v e (outcome_reached op r s x y (p x refl) (q y refl))
+joined_within op r s _ _ v p q e = absurd (cc)

@@ -21,7 +21,7 @@ use Rattle.pl_plan.proofs.Kept.{found-changed}
 use Rattle.pl_plan.proofs.Lookups.{none_below, found-exchanged, swapped}
 use Rattle.pl_semantics.specs.declared.plan_state.PlanState.{PlanState}
 use Rattle.pl_semantics.specs.PlanStates.{among}
-use Rattle.pl_semantics.specs.Whole.{IsWhole, IsCarried, IsIdBelow}
+use Rattle.pl_semantics.specs.Whole.{IsWhole, IsCarried, IsIdBelow, HasBegun}
 use Rattle.pl_semantics.specs.Moves.{alternatives_at, child_for, children_from, detailed, has_id}
 use Rattle.pl_moves.proofs.Swaps.{MayCome, IsSwap, swapped_at}
 use Rattle.pl_moves.proofs.Subtrees.{among_ids, rising_map}
@@ -203,8 +203,11 @@ module _ (s : PlanState) (whole : IsWhole s) (a : Activity) (here : activity_of 
     bare : All (λ b. b.detail ≡ None) children
     bare = children_all s a (λ b. b.detail ≡ None) 0 of.slots of.offsets (λ k d at lt. refl)
 
+    unmeasured : All (λ b. b.measured ≡ None) children
+    unmeasured = children_all s a (λ b. b.measured ≡ None) 0 of.slots of.offsets (λ k d at lt. refl)
+
     children_alone : All (FitsAlone s.model) children
-    children_alone i d lt = record { kind = kind_fits i d lt; start = (above i d lt, within i d lt); set = set_fits i d lt; choice = rw (bare i d lt) tt }
+    children_alone i d lt = record { kind = kind_fits i d lt; start = (above i d lt, within i d lt); set = set_fits i d lt; choice = rw (bare i d lt) tt; measured = rw (unmeasured i d lt) tt }
 
     record IsPlaced (b : Activity) : Type 0 where
       slot : ℕ
@@ -243,7 +246,7 @@ module _ (s : PlanState) (whole : IsWhole s) (a : Activity) (here : activity_of 
     }
 
     parent_alone : FitsAlone s.model parent
-    parent_alone = let fits = (all_at (FitsAlone s.model) xs a.id a whole.fits.each here).0 in record { kind = fits.kind; start = fits.start; set = fits.set; choice = choice }
+    parent_alone = let fits = (all_at (FitsAlone s.model) xs a.id a whole.fits.each here).0 in record { kind = fits.kind; start = fits.start; set = fits.set; choice = choice; measured = fits.measured }
 
     rising_ys : AreRising ys
     rising_ys = rising_append 0 s.next_id (map one xs) children (omega arith) (rising_map one one_keeps 0 xs whole.rising) (All-map (λ x. x.id < s.next_id) one xs (λ i d lt. rw (one_keeps.id (get_or xs i d)) (below s whole i d lt))) (children_rise s a 0 s.next_id of.slots of.offsets (omega arith))
@@ -265,6 +268,7 @@ module _ (s : PlanState) (whole : IsWhole s) (a : Activity) (here : activity_of 
       may = All-cons (MayCome xs (a.id ∷ [])) parent children (λ live. rw (eq-eqb a.id a.id refl) refl) (λ i d lt live. absurd (let none = unused s whole (get_or children i d).id (new_ids i d lt).0 in let bad : false ≡ true = rw none at live in cc));
       ids = All-cons (λ b. (1 ≤ b.id) × (b.id < s.next_id + 17)) parent children ((all_at (IsIdBelow s.next_id) xs a.id a whole.ids here).0.0, omega (arith, id_below)) (λ i d lt. let ids = new_ids i d lt in (omega (arith, ids.0, whole.next.0), ids.1));
       carried = All-cons (IsCarried s.goals) parent children (all_at (IsCarried s.goals) xs a.id a whole.carried here).0 (children_all s a (IsCarried s.goals) 0 of.slots of.offsets (λ k d at lt. tt));
+      begun = All-cons (HasBegun s.moment s.committed) parent children (all_at (HasBegun s.moment s.committed) xs a.id a whole.begun here).0 (children_all s a (HasBegun s.moment s.committed) 0 of.slots of.offsets (λ k d at lt. tt));
       rising = rising_ys;
       found = found_branched;
       above = same_above;

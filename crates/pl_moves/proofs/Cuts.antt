@@ -17,7 +17,7 @@ use Rattle.pl_plan.proofs.ByLookUps.{filter_rising}
 use Rattle.pl_plan.proofs.MoveLaws.{fits_deleted, fits_abstracted, abstracted_keeps}
 use Rattle.pl_semantics.specs.declared.plan_state.PlanState.{PlanState}
 use Rattle.pl_semantics.specs.PlanStates.{among}
-use Rattle.pl_semantics.specs.Whole.{IsWhole, IsCarried}
+use Rattle.pl_semantics.specs.Whole.{IsWhole, IsCarried, HasBegun}
 use Rattle.pl_moves.specs.Changes.{undetailed}
 use Rattle.pl_moves.proofs.Swaps.{IsSwap, swapped_at}
 use Rattle.pl_moves.proofs.Subtrees.{among_subtree, rising_map, goes_if, subtree_swap}
@@ -47,7 +47,7 @@ module _ (s : PlanState) (whole : IsWhole s) (top : ℕ) where
   pub delete_swap : parent_of top xs ≡ None → IsSwap s (subtree_of top xs) [] (without_subtree top xs)
   delete_swap root =
       subtree_swap s whole top [] (without_subtree top xs) (All-nil (λ (a : Activity). among a.id (subtree_of top xs) ≡ true)) found_deleted
-      tt (All-nil (IsCarried s.goals))
+      tt (All-nil (IsCarried s.goals)) (All-nil (HasBegun s.moment s.committed))
       (filter_rising (λ a. not (descends xs top a.id)) 0 xs whole.rising)
       (fits_deleted s.model xs whole.rising whole.fits top root)
       (let le = fewer (λ a. not (descends xs top a.id)) xs in omega (arith, le, whole.live))
@@ -89,6 +89,7 @@ module _ (s : PlanState) (whole : IsWhole s) (top : ℕ) where
         found_abstracted
         (omega arith, tt)
         (All-cons (IsCarried s.goals) (record a { detail = None }) [] (all_at (IsCarried s.goals) xs top a whole.carried here).0 (All-nil (IsCarried s.goals)))
+        (All-cons (HasBegun s.moment s.committed) (record a { detail = None }) [] (all_at (HasBegun s.moment s.committed) xs top a whole.begun here).0 (All-nil (HasBegun s.moment s.committed)))
         (rising_map (abstracted top) (abstracted_keeps top) 0 (without_below top xs) (filter_rising (λ b. stays b.id) 0 xs whole.rising))
         (fits_abstracted s.model xs whole.rising whole.fits top)
         (let le = fewer (λ b. stays b.id) xs in let same = length-map (without_below top xs) (abstracted top) in omega (arith, le, same, whole.live))

@@ -1,7 +1,7 @@
 -- Whether so many conflicts are enough.
-use Rattle.std.proofs.Common.{◌≡◌, ℕ, ◌<◌, ◌≤◌, Bool, true, false, ◌⊎◌, inl, inr, refl, sym, ap, ◌∙◌, arith}
+use Rattle.std.proofs.Common.{◌≡◌, ℕ, ◌<◌, ◌≤◌, Bool, true, ◌⊎◌, inl, inr, refl, sym, ap, ◌∙◌, arith}
 use Rattle.std.specs.Prelude.{nat_lt, nat_le, min, Option, Some, None}
-use Rattle.std.proofs.lemmas.Bool.{cases_lt, leb-true, le-leb, le-ltb, lt-ltb, and_from, and_parts, and_right}
+use Rattle.std.proofs.lemmas.Bool.{cases_lt, leb-true, le-ltb, and_parts, and_right}
 use Rattle.pl_moves.specs.Attempts.{is_enough}
 
 -- the count, which stands still at its type's end, is enough where the number is
@@ -22,14 +22,3 @@ told enough count left b is so = sym (enough_counted enough left) ∙ (ap (λ (n
 
 pub at_most : (most left : ℕ) → is_enough (Some most) left ≡ true → left ≤ most
 at_most most left e = leb-true left most (and_parts (nat_le left most) (nat_lt left 4294967295) e).0
-
-pub more_than : (most left : ℕ) → most < 4294967295 → is_enough (Some most) left ≡ false → most < left
-more_than most left lt e = by (cases_lt most left)
-  where
-    by : (most < left) ⊎ (left ≤ most) → most < left
-    by (inl less) = less
-    by (inr le) =
-        absurd
-        (let so : is_enough (Some most) left ≡ true = and_from (nat_le left most) (nat_lt left 4294967295) (le-leb left most le) (lt-ltb left 4294967295 (omega (arith, lt, le))) in
-        let bad : true ≡ false = sym so ∙ e in
-        cc)

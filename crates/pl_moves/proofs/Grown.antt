@@ -13,7 +13,7 @@ use Rattle.pl_plan.specs.Fitting.{Fits, FitsAlone, chosen_slots}
 use Rattle.pl_plan.proofs.Climbs.{all_at, parent_smaller}
 use Rattle.pl_plan.proofs.LookUpLaws.{fits_added}
 use Rattle.pl_semantics.specs.declared.plan_state.PlanState.{PlanState}
-use Rattle.pl_semantics.specs.Whole.{IsWhole, IsCarried, IsIdBelow}
+use Rattle.pl_semantics.specs.Whole.{IsWhole, IsCarried, IsIdBelow, HasBegun}
 use Rattle.pl_moves.proofs.Swaps.{MayCome, IsSwap, swapped_at}
 
 pub found_append : (xs zs : List Activity) (q : ℕ) → activity_of q (xs ++ zs) ≡ option_or (activity_of q xs) (activity_of q zs)
@@ -80,13 +80,14 @@ module _ (s : PlanState) (whole : IsWhole s) where
             by None = refl
             by (Some a) = refl
 
-    pub add_swap : FitsAlone s.model r → r.parent ≡ None → chosen_slots s.model r ≡ [] → IsCarried s.goals r → length xs + 1 ≤ s.live_limit → IsSwap s [] (r ∷ []) (xs ++ r ∷ [])
-    add_swap alone root bare carried room = record {
+    pub add_swap : FitsAlone s.model r → r.parent ≡ None → chosen_slots s.model r ≡ [] → IsCarried s.goals r → HasBegun s.moment s.committed r → length xs + 1 ≤ s.live_limit → IsSwap s [] (r ∷ []) (xs ++ r ∷ [])
+    add_swap alone root bare carried begun room = record {
       live = λ i d lt. absurd (omega (arith, lt));
       rises = (omega arith, tt);
       may = All-cons (MayCome xs []) r [] (λ live. absurd (let bad : false ≡ true = rw absent at live in cc)) (All-nil (MayCome xs []));
       ids = All-cons (λ (a : Activity). (1 ≤ a.id) × (a.id < s.next_id + 17)) r [] (omega (arith, id, whole.next.0), omega (arith, id)) (All-nil (λ (a : Activity). (1 ≤ a.id) × (a.id < s.next_id + 17)));
       carried = All-cons (IsCarried s.goals) r [] carried (All-nil (IsCarried s.goals));
+      begun = All-cons (HasBegun s.moment s.committed) r [] begun (All-nil (HasBegun s.moment s.committed));
       rising = rising_append 0 s.next_id xs (r ∷ []) (omega arith) whole.rising below (omega (arith, id), tt);
       found = found_added;
       above = λ q apart p above. sym (found_added p ∙ by q apart p above (eqb r.id p) refl);

@@ -35,12 +35,7 @@ use Rattle.pl_moves.proofs.Subtrees.{among_ids, among_subtree}
 use Rattle.pl_moves.proofs.Offsets.{paired}
 use Rattle.pl_moves.proofs.Branched.{children_count}
 use Rattle.pl_moves.proofs.Made.{IsMadeBy, made}
-
--- ---- lists
-
-not_both : (b c : Bool) → (b && c) ≡ false → b ≡ true → c ≡ false
-not_both true c e is = e
-not_both false c e is = absurd (cc)
+use Rattle.pl_moves.proofs.Unmeasured.{not_both}
 
 -- ---- a replacement of what is not committed
 

@@ -15,6 +15,7 @@ mod Remade
 mod Grown
 mod Branched
 pub mod Made
+pub mod Unmeasured
 pub mod Drops
 mod OneGoalLess
 pub mod Keeping

@@ -33,6 +33,7 @@ use Rattle.pl_moves.proofs.Remade.{moved_within, shifted_one, shift_swap, assign
 use Rattle.pl_moves.proofs.Grown.{add_swap}
 use Rattle.pl_moves.proofs.Offsets.{paired, slot_kinds}
 use Rattle.pl_moves.proofs.Branched.{detail_swap}
+use Rattle.pl_moves.proofs.Unmeasured.{unmeasured}
 
 pub record IsMadeBy (s : PlanState) (m : RepairMove) : Type 0 where
   pub swap : IsSwap s (gone_by s m) (placed_by s m) (applied s m).plan.activities
@@ -172,7 +173,8 @@ module _ (s : PlanState) (whole : IsWhole s) where
           let keeps = may s (Shift id to) allowed in
           let above : All (λ b. floor_of s ≤ b.start) (map (moved a.start to) (filter (is_under s a.id) xs)) = rw e at keeps.above in
           let within : All (λ b. b.start < s.model.horizon) (map (moved a.start to) (filter (is_under s a.id) xs)) = rw e at keeps.within in
-          let swap : IsSwap s (subtree_of id xs) (map (moved a.start to) (filter (is_under s a.id) xs)) (map (shifted_one s whole a.id a.start to) xs) = subst (λ n. IsSwap s (subtree_of n xs) (map (moved a.start to) (filter (is_under s a.id) xs)) (map (shifted_one s whole a.id a.start to) xs)) is_id (shift_swap s whole a.id a.start to above within) in
+          let ends : All (λ b. is_under s a.id b ≡ true → b.measured ≡ None) xs = subst (λ n. All (λ b. is_under s n b ≡ true → b.measured ≡ None) xs) (sym is_id) (unmeasured s whole (Shift id to) allowed) in
+          let swap : IsSwap s (subtree_of id xs) (map (moved a.start to) (filter (is_under s a.id) xs)) (map (shifted_one s whole a.id a.start to) xs) = subst (λ n. IsSwap s (subtree_of n xs) (map (moved a.start to) (filter (is_under s a.id) xs)) (map (shifted_one s whole a.id a.start to) xs)) is_id (shift_swap s whole a.id a.start to ends above within) in
           record {
             swap = rw e swap;
             is = rw e (kept_next (subtree_of id xs) (map (moved a.start to) (filter (is_under s a.id) xs)) (map (shifted_one s whole a.id a.start to) xs) swap (below_all s whole a.id (moved a.start to) (moved_keeps s whole a.id a.start to)));
@@ -201,10 +203,10 @@ module _ (s : PlanState) (whole : IsWhole s) where
       alone =
           let up : floor_of s ≤ start = All-head (λ (b : Activity). floor_of s ≤ b.start) (root_for s kind start goal) [] keeps.above in
           let down : start < s.model.horizon = All-head (λ (b : Activity). b.start < s.model.horizon) (root_for s kind start goal) [] keeps.within in
-          record { kind = in_model; start = (omega (arith, up), down); set = set_fits s whole kind goal wanted; choice = tt }
+          record { kind = in_model; start = (omega (arith, up), down); set = set_fits s whole kind goal wanted; choice = tt; measured = tt }
 
       swap : IsSwap s [] ((root_for s kind start goal) ∷ []) (xs ++ (root_for s kind start goal) ∷ [])
-      swap = add_swap s whole (root_for s kind start goal) refl alone refl refl (wanted_carried s kind goal wanted) keeps.room
+      swap = add_swap s whole (root_for s kind start goal) refl alone refl refl (wanted_carried s kind goal wanted) tt keeps.room
 
   next_children : (a : Activity) (n : ℕ) (slots : List Slot) (offsets : List ℕ) → next_after (s.next_id + n) (children_from s a n slots offsets) ≡ s.next_id + (n + length (children_from s a n slots offsets))
   next_children a n [] offsets = omega arith

@@ -101,6 +101,7 @@ module _ (s : PlanState) (whole : IsWhole s) (next : s.next_id ≤ 3999999000) (
     free = λ i d lt live. may_again i d lt (subst (λ (l : List Activity). IsLive (get_or qs i d).id l) is live);
     ids = λ i d lt. let of = two.ids i d lt in (of.0, omega (arith, of.1, next));
     carried = two.carried;
+    begun = two.begun;
     kept = λ id apart.
         ap (λ (l : List Activity). values_of s.model l id) home
         ∙ (sym (values_local s.model xs zs whole.fits.rooted two.fits.rooted id (two.above id (apart_then id apart)))

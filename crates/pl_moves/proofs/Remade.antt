@@ -1,6 +1,6 @@
 -- A change of each activity of a subtree is a replacement: a shift, and a value that is set.
-use Rattle.std.proofs.Common.{◌≡◌, ℕ, ◌<◌, ◌≤◌, eqb, Bool, true, false, cond, List, [], ◌∷◌, map, filter, get_or, refl, sym, ap, ◌∙◌, arith}
-use Rattle.std.specs.Prelude.{◌&&◌, All, ℤ, Option, Some, None, is_some, if◌then◌else◌}
+use Rattle.std.proofs.Common.{◌≡◌, ℕ, ◌<◌, ◌≤◌, eqb, Bool, true, false, cond, List, [], ◌∷◌, map, filter, get_or, refl, sym, ap, ◌∙◌, subst, arith}
+use Rattle.std.specs.Prelude.{◌&&◌, All, ℤ, Option, Some, None, IfSome, is_some, if◌then◌else◌}
 use Rattle.std.specs.Option.{option_or, option_map}
 use Rattle.std.proofs.lemmas.Bool.{ne_eqb}
 use Rattle.std.proofs.lemmas.List.{length-map, length-set}
@@ -17,7 +17,7 @@ use Rattle.pl_plan.proofs.ByLookUps.{filter_rising}
 use Rattle.pl_plan.proofs.MoveLaws.{fits_changed}
 use Rattle.pl_semantics.specs.declared.plan_state.PlanState.{PlanState}
 use Rattle.pl_semantics.specs.PlanStates.{among, floor_of}
-use Rattle.pl_semantics.specs.Whole.{IsWhole, IsCarried}
+use Rattle.pl_semantics.specs.Whole.{IsWhole, IsCarried, HasBegun}
 use Rattle.pl_semantics.specs.Moves.{is_under, moved, with_value}
 use Rattle.pl_moves.specs.Changes.{assigned}
 use Rattle.pl_moves.proofs.Swaps.{IsSwap, swapped_at}
@@ -37,6 +37,10 @@ unkept p Q (x ∷ xs) all = cases (p x) refl (unkept p Q xs)
 unmapped : (f : Activity → Activity) (Q : Activity → Type 0) (xs : List Activity) → All Q (map f xs) → All (λ x. Q (f x)) xs
 unmapped f Q [] all = All-nil (λ x. Q (f x))
 unmapped f Q (x ∷ xs) all = All-cons (λ x. Q (f x)) x xs (All-head Q (f x) (map f xs) all) (unmapped f Q xs (All-tail Q (f x) (map f xs) all))
+
+-- what has no measured end may start whenever it does
+unended : (moment committed : ℕ) (a : Activity) → a.measured ≡ None → HasBegun moment committed a
+unended moment committed a none = rw none tt
 
 -- ---- a change of a subtree
 
@@ -72,11 +76,11 @@ module _ (s : PlanState) (whole : IsWhole s) (top : ℕ) where
     carried : All (IsCarried s.goals) (map c (filter under xs))
     carried = All-map (IsCarried s.goals) c (filter under xs) (all_kept under (λ a. IsCarried s.goals (c a)) xs (λ i d lt test. rw (keeps.goal (get_or xs i d)) (whole.carried i d lt)))
 
-    pub remade_swap : All (λ a. FitsAlone s.model (e a)) xs → IsSwap s (subtree_of top xs) (map c (filter under xs)) (map e xs)
-    remade_swap alone =
+    pub remade_swap : All (HasBegun s.moment s.committed) (map c (filter under xs)) → All (λ a. FitsAlone s.model (e a)) xs → IsSwap s (subtree_of top xs) (map c (filter under xs)) (map e xs)
+    remade_swap begun alone =
         subtree_swap s whole top (map c (filter under xs)) (map e xs) inside found_remade
         (rising_map c keeps.tree 0 (filter under xs) (filter_rising under 0 xs whole.rising))
-        carried
+        carried begun
         (rising_map e keeps_too.tree 0 xs whole.rising)
         (fits_changed s.model xs whole.rising whole.fits e keeps_too.tree keeps_too.detail alone)
         (let same = length-map xs e in omega (arith, same, whole.live))
@@ -116,21 +120,25 @@ module _ (s : PlanState) (whole : IsWhole s) (top : ℕ) where
       detail true a = refl
       detail false a = refl
 
-  pub shift_swap : (from to : ℕ) → All (λ a. floor_of s ≤ a.start) (map (moved from to) (filter under xs)) → All (λ a. a.start < s.model.horizon) (map (moved from to) (filter under xs)) → IsSwap s (subtree_of top xs) (map (moved from to) (filter under xs)) (map (shifted_one from to) xs)
-  shift_swap from to above within = remade_swap (moved from to) (shifted_one from to) (moved_keeps from to) (shifted_keeps from to) (λ a. refl) alone
+  -- what is moved along has no measured end
+  pub shift_swap : (from to : ℕ) → All (λ a. under a ≡ true → a.measured ≡ None) xs → All (λ a. floor_of s ≤ a.start) (map (moved from to) (filter under xs)) → All (λ a. a.start < s.model.horizon) (map (moved from to) (filter under xs)) → IsSwap s (subtree_of top xs) (map (moved from to) (filter under xs)) (map (shifted_one from to) xs)
+  shift_swap from to unmeasured above within = remade_swap (moved from to) (shifted_one from to) (moved_keeps from to) (shifted_keeps from to) (λ a. refl) begun alone
     where
+      begun : All (HasBegun s.moment s.committed) (map (moved from to) (filter under xs))
+      begun = All-map (HasBegun s.moment s.committed) (moved from to) (filter under xs) (all_kept under (λ a. HasBegun s.moment s.committed (moved from to a)) xs (λ i d lt test. unended s.moment s.committed (moved from to (get_or xs i d)) (unmeasured i d lt test)))
+
       high : All (λ a. under a ≡ true → floor_of s ≤ (moved from to a).start) xs
       high = unkept under (λ a. floor_of s ≤ (moved from to a).start) xs (unmapped (moved from to) (λ a. floor_of s ≤ a.start) (filter under xs) above)
 
       low : All (λ a. under a ≡ true → (moved from to a).start < s.model.horizon) xs
       low = unkept under (λ a. (moved from to a).start < s.model.horizon) xs (unmapped (moved from to) (λ a. a.start < s.model.horizon) (filter under xs) within)
 
-      one : (a : Activity) → FitsAlone s.model a → (under a ≡ true → floor_of s ≤ (moved from to a).start) → (under a ≡ true → (moved from to a).start < s.model.horizon) → (b : Bool) → under a ≡ b → FitsAlone s.model (if b then moved from to a else a)
-      one a fits up down true f = let up_from = up f in record { kind = fits.kind; start = (omega (arith, up_from), down f); set = fits.set; choice = fits.choice }
-      one a fits up down false f = fits
+      one : (a : Activity) → FitsAlone s.model a → (under a ≡ true → a.measured ≡ None) → (under a ≡ true → floor_of s ≤ (moved from to a).start) → (under a ≡ true → (moved from to a).start < s.model.horizon) → (b : Bool) → under a ≡ b → FitsAlone s.model (if b then moved from to a else a)
+      one a fits none up down true f = let up_from = up f in record { kind = fits.kind; start = (omega (arith, up_from), down f); set = fits.set; choice = fits.choice; measured = subst (λ (o : Option ℕ). IfSome o (λ m. ((moved from to a).start < m) × (m ≤ s.model.horizon))) (sym (none f)) tt }
+      one a fits none up down false f = fits
 
       alone : All (λ a. FitsAlone s.model (shifted_one from to a)) xs
-      alone i d lt = one (get_or xs i d) (whole.fits.each i d lt) (high i d lt) (low i d lt) (under (get_or xs i d)) refl
+      alone i d lt = one (get_or xs i d) (whole.fits.each i d lt) (unmeasured i d lt) (high i d lt) (low i d lt) (under (get_or xs i d)) refl
 
   -- ---- a value
 
@@ -158,8 +166,16 @@ module _ (s : PlanState) (whole : IsWhole s) (top : ℕ) where
       detail false a = refl
 
   pub assign_swap : (param : ℕ) (value : ℤ) → IsSwap s (subtree_of top xs) (map (assigned top param value) (filter under xs)) (map (assigned top param value) xs)
-  assign_swap param value = remade_swap (assigned top param value) (assigned top param value) (assigned_keeps param value) (assigned_keeps param value) same alone
+  assign_swap param value = remade_swap (assigned top param value) (assigned top param value) (assigned_keeps param value) (assigned_keeps param value) same begun alone
     where
+      -- its start and its measured end stay
+      begun_too : (a : Activity) (b : Bool) → HasBegun s.moment s.committed a → HasBegun s.moment s.committed (if b then with_value param value a else a)
+      begun_too a true has = has
+      begun_too a false has = has
+
+      begun : All (HasBegun s.moment s.committed) (map (assigned top param value) (filter under xs))
+      begun = All-map (HasBegun s.moment s.committed) (assigned top param value) (filter under xs) (all_kept under (λ a. HasBegun s.moment s.committed (assigned top param value a)) xs (λ i d lt test. begun_too (get_or xs i d) (eqb (get_or xs i d).id top) (whole.begun i d lt)))
+
       -- the activity itself is of its subtree
       top_under : descends xs top top ≡ true
       top_under = descends_complete xs whole.fits.rooted top top itself
@@ -174,7 +190,7 @@ module _ (s : PlanState) (whole : IsWhole s) (top : ℕ) where
               rw other refl
 
       one : (a : Activity) → FitsAlone s.model a → (b : Bool) → FitsAlone s.model (if b then with_value param value a else a)
-      one a fits true = record { kind = fits.kind; start = fits.start; set = length-set a.set param (Some value) ∙ fits.set; choice = fits.choice }
+      one a fits true = record { kind = fits.kind; start = fits.start; set = length-set a.set param (Some value) ∙ fits.set; choice = fits.choice; measured = fits.measured }
       one a fits false = fits
 
       alone : All (λ a. FitsAlone s.model (assigned top param value a)) xs

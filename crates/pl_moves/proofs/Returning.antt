@@ -17,7 +17,7 @@ use Rattle.pl_plan.proofs.RisingIds.{RiseIds, filter_rises}
 use Rattle.pl_plan.proofs.Members.{ids_rise}
 use Rattle.pl_semantics.specs.declared.plan_state.PlanState.{PlanState}
 use Rattle.pl_semantics.specs.PlanStates.{among, of_found}
-use Rattle.pl_semantics.specs.Whole.{IsWhole, IsCarried, IsIdBelow}
+use Rattle.pl_semantics.specs.Whole.{IsWhole, IsCarried, IsIdBelow, HasBegun}
 use Rattle.pl_update.specs.Changes.Changes.{with_next}
 use Rattle.pl_update.specs.Changes.Replaced.{CanReplace, replaced, touched, with_plan}
 use Rattle.pl_semantics.specs.Moves.{is_proper, refusal_of, applied}
@@ -174,6 +174,7 @@ module _ (s : PlanState) (whole : IsWhole s) (gone : List ℕ) (more ys : List A
         let id = (all_at (IsIdBelow s.next_id) xs (get_or returning i d).id (get_or returning i d) whole.ids stands).0 in
         (id.0, omega (arith, id.1, next));
     carried = λ i d lt. (all_at (IsCarried s.goals) xs (get_or returning i d).id (get_or returning i d) whole.carried (picked_stand xs gone rise i d lt).1).0;
+    begun = λ i d lt. (all_at (HasBegun s.moment s.committed) xs (get_or returning i d).id (get_or returning i d) whole.begun (picked_stand xs gone rise i d lt).1).0;
     kept = λ id apart.
         ap (λ (l : List Activity). values_of s.model l id) home
         ∙ (values_local s.model xs ys whole.fits.rooted swap.fits.rooted id (swap.above id (apart_before id apart))

@@ -17,7 +17,7 @@ use Rattle.pl_plan.proofs.TreeLaws.{descends_join, descends_sound, descends_comp
 use Rattle.pl_plan.proofs.Subtrees.{descends_live}
 use Rattle.pl_semantics.specs.declared.plan_state.PlanState.{PlanState}
 use Rattle.pl_semantics.specs.PlanStates.{among}
-use Rattle.pl_semantics.specs.Whole.{IsWhole, IsCarried, IsIdBelow}
+use Rattle.pl_semantics.specs.Whole.{IsWhole, IsCarried, IsIdBelow, HasBegun}
 use Rattle.pl_update.proofs.AboutGoalsAndActivities.Touching.{not_left}
 use Rattle.pl_moves.proofs.Swaps.{IsSwap, swapped_at}
 
@@ -102,13 +102,14 @@ module _ (s : PlanState) (whole : IsWhole s) (top : ℕ) where
             let all = all_at (λ b. among b.id gone ≡ true) more q a inside e in
             absurd (let bad : true ≡ false = sym (subst (λ n. among n gone ≡ true) all.1 all.0) ∙ apart in cc)
 
-    pub subtree_swap : AreRising more → All (IsCarried s.goals) more → AreRising ys → Fits s.model ys → length ys ≤ s.live_limit → IsSwap s gone more ys
-    subtree_swap rises carried rising fits few = record {
+    pub subtree_swap : AreRising more → All (IsCarried s.goals) more → All (HasBegun s.moment s.committed) more → AreRising ys → Fits s.model ys → length ys ≤ s.live_limit → IsSwap s gone more ys
+    subtree_swap rises carried begun rising fits few = record {
       live = all_live;
       rises = rises;
       may = λ i d lt live. inside i d lt;
       ids = λ i d lt. let id = live_id (get_or more i d).id (goes (get_or more i d).id (inside i d lt)).1 in (id.0, omega (arith, id.1));
       carried = carried;
+      begun = begun;
       rising = rising;
       found = found;
       above = λ id apart q above. same_outside q (stays_above id q (not_left id gone (map id_of more) apart) above);

@@ -15,7 +15,7 @@ use Rattle.pl_plan.proofs.LookUpLaws.{same_activities}
 use Rattle.pl_plan.proofs.LocalValues.{values_local}
 use Rattle.pl_semantics.specs.declared.plan_state.PlanState.{PlanState}
 use Rattle.pl_semantics.specs.PlanStates.{among}
-use Rattle.pl_semantics.specs.Whole.{IsWhole, IsCarried}
+use Rattle.pl_semantics.specs.Whole.{IsWhole, IsCarried, HasBegun}
 use Rattle.pl_update.specs.Changes.Replaced.{CanReplace, taken, put, replaced, touched, next_after}
 use Rattle.pl_update.proofs.AboutChanges.Putting.{rising-taken}
 
@@ -93,6 +93,7 @@ pub record IsSwap (s : PlanState) (gone : List ℕ) (more ys : List Activity) : 
   pub may : All (MayCome s.plan.activities gone) more
   pub ids : All (λ a. (1 ≤ a.id) × (a.id < s.next_id + 17)) more
   pub carried : All (IsCarried s.goals) more
+  pub begun : All (HasBegun s.moment s.committed) more
   pub rising : AreRising ys
   pub found : (q : ℕ) → activity_of q ys ≡ swapped_at s.plan.activities gone more q
   pub above : (id : ℕ) → among id (touched gone more) ≡ false → AreSameAbove s.plan.activities ys id
@@ -111,6 +112,7 @@ can_swap s gone more ys whole next swap =
       free = swap.may;
       ids = λ i d lt. let ids = swap.ids i d lt in (ids.0, omega (arith, ids.1, next));
       carried = swap.carried;
+      begun = swap.begun;
       kept = λ id apart. subst (λ (l : List Activity). values_of s.model l id ≡ values_of s.model s.plan.activities id) is (sym (values_local s.model s.plan.activities ys whole.fits.rooted swap.fits.rooted id (swap.above id apart)));
       fits = subst (λ (l : List Activity). Fits s.model l) is swap.fits;
       few = subst (λ (l : List Activity). length l ≤ s.live_limit) is swap.few;

@@ -68,6 +68,7 @@ pub fn root_for(
         goal,
         detail: None,
         set: presets(alloc, s, kind, goal)?,
+        measured: None,
     })
 }
 
@@ -90,6 +91,7 @@ fn child_for(
         goal: None,
         detail: None,
         set: unset_row(alloc, s, slot.kind)?,
+        measured: None,
     })
 }
 

@@ -1,13 +1,12 @@
 -- Reading one thing after the other, as a loop does.
-use Rattle.std.proofs.Common.{◌≡◌, ℕ, ◌<◌, List, [], ◌∷◌, ◌++◌, length, Ok, Err, refl, sym, ap, ◌∙◌, append_assoc, arith}
+use Rattle.std.proofs.Common.{◌≡◌, ℕ, ◌<◌, List, [], ◌∷◌, ◌++◌, length, Ok, Err, sym, ap, ◌∙◌, arith}
 use Rattle.std.specs.Prelude.{◌==◌, false}
-use Rattle.std.proofs.lemmas.List.{append-nil}
 use Rattle.pl_text.specs.declared.token.Token.{Token}
 use Rattle.pl_msg.specs.declared.fault.MsgFault.{MsgFault}
 use Rattle.pl_msg.specs.declared.fault.MsgFault.TheVariants as fault
 use Rattle.pl_msg.specs.declared.presets.Preset.{Preset}
 use Rattle.pl_lists.specs.Judgements.{◌>>=◌, behind}
-use Rattle.pl_lists.proofs.Judging.{behind-cons, behind-none, each_goes_on, each_ends, fails_so}
+use Rattle.pl_lists.proofs.Judging.{behind-cons, behind-none}
 use Rattle.pl_msg.specs.Reads.{Read, Fails}
 use Rattle.pl_msg.specs.Goals.{preset_in, preset_at, each_preset}
 

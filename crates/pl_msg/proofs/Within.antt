@@ -1,5 +1,5 @@
 -- Each number of a message that is read is within its limits.
-use Rattle.std.proofs.Common.{◌≡◌, ℕ, zero, suc, ◌+◌, ◌<◌, ◌≤◌, Bool, true, false, cond, List, [], ◌∷◌, length, Ok, Err, refl, ap, subst, arith}
+use Rattle.std.proofs.Common.{◌≡◌, ℕ, zero, suc, ◌+◌, ◌<◌, ◌≤◌, Bool, true, false, cond, List, [], ◌∷◌, length, Ok, refl, ap, subst, arith}
 use Rattle.std.specs.Prelude.{ℤ, pos, int_le, Option, Some, None, IfSome, slice_get, codes, bytes_eq, ◌&&◌, nat_le, nat_lt}
 use Rattle.std.proofs.lemmas.Option.{slice_get_within, same_Some}
 use Rattle.std.proofs.lemmas.Bool.{leb-true, ltb-true, and_parts}
@@ -11,7 +11,6 @@ use Rattle.pl_model.specs.declared.whole.Model.{Model}
 use Rattle.pl_facts.specs.declared.goal.Goal.{Goal}
 use Rattle.pl_text.specs.declared.token.Token.{Token}
 use Rattle.pl_text.specs.Tokens.{token_text}
-use Rattle.pl_msg.specs.declared.fault.MsgFault.{MsgFault}
 use Rattle.pl_msg.specs.declared.fault.MsgFault.TheVariants as fault
 use Rattle.pl_msg.specs.declared.forms.GoalForm.{GoalForm}
 use Rattle.pl_msg.specs.declared.presets.Preset.{Preset}
@@ -27,7 +26,7 @@ use Rattle.pl_msg.specs.Words.{says, number_in, name_in}
 use Rattle.pl_msg.specs.Names.{first_from, kind_named, timeline_name, timeline_named, state_named, is_free}
 use Rattle.pl_msg.specs.Goals.{names_free, is_in_range, given, value_of, place_in, places_in, form_in, goal_of_kind, goal_with, goal_in}
 use Rattle.pl_msg.specs.Telemetry.{value_by, level_by, state_with, told_by, telemetry_in}
-use Rattle.pl_msg.specs.Messages.{tick_in, end_in, said_in}
+use Rattle.pl_msg.specs.Messages.{tick_in, ended_by, until_in, halt_in, end_in, said_in}
 use Rattle.pl_msg.specs.Limits.{FitsParam, FitParams, IsGoalFor, IsLevel, HasState, IsWithin}
 use Rattle.pl_model.specs.declared.timelines.Timeline.{Timeline}
 use Rattle.pl_model.specs.declared.timelines.Timeline.TheVariants as timeline
@@ -133,16 +132,14 @@ state_fits model number states name m in_lines has (Some k) below e =
     subst (λ (x : Message). IsWithin model x) same (in_lines, has k (below k refl))
 
 told_fits : (model : Model) (line : List ℕ) (value : Value) (m : Message) (found : Option (ℕ × Timeline)) → ((n : ℕ) (t : Timeline) → found ≡ Some (n, t) → slice_get model.timelines n ≡ Some t) → told_by line value found ≡ Ok m → IsWithin model m
-told_fits model line value m None at e = absurd (cc)
-told_fits model line value m (Some (number, timeline.Capacity name most)) at e = absurd (cc)
 told_fits model line value m (Some (number, timeline.Level name least most start)) at e =
     let there = at number (timeline.Level name least most start) refl in
     level_fits model number value m (slice_get_within model.timelines number _ there) (rw there tt) e
-told_fits model line (said.Number n) m (Some (number, timeline.States name states start any steps)) at e = absurd (cc)
 told_fits model line (said.Name token) m (Some (number, timeline.States name states start any steps)) at e =
     let there = at number (timeline.States name states start any steps) refl in
     state_fits model number states (token_text line token) m (slice_get_within model.timelines number _ there) (λ k below. rw there below)
     (state_named states (token_text line token)) (λ k h. let below : k < 0 + length states = position_below (λ state. bytes_eq state (token_text line token)) 0 states k h in omega arith) e
+told_fits model line _ m _ at e = absurd (cc)
 
 telemetry_fits : (model : Model) (line : List ℕ) (tokens : List Token) (m : Message) → telemetry_in model line tokens ≡ Ok m → IsWithin model m
 unfolding telemetry_in
@@ -165,6 +162,25 @@ tick_fits model (t ∷ []) m e =
     subst (λ (x : Message). IsWithin model x) same tt
 tick_fits model (t ∷ u ∷ more) m e = absurd (cc)
 
+ended_fits : (model : Model) (id moment : ℕ) (m : Message) → ended_by model.horizon id moment ≡ Ok m → IsWithin model m
+ended_fits model id moment m e =
+    let within = if_ok (nat_le moment model.horizon) (Ok (message.Until id moment)) fault.Range m e in
+    let same : message.Until id moment ≡ m = cc (within.1) in
+    subst (λ (x : Message). IsWithin model x) same (leb-true _ _ within.0)
+
+until_fits : (model : Model) (tokens : List Token) (m : Message) → until_in model tokens ≡ Ok m → IsWithin model m
+until_fits model [] m e = absurd (cc)
+until_fits model (t ∷ []) m e = absurd (cc)
+until_fits model (t ∷ u ∷ []) m e =
+    let id = bind_ok (number_in t.kind) (λ i. number_in u.kind >>= λ n. ended_by model.horizon i n) m e in
+    let moment = bind_ok (number_in u.kind) (λ n. ended_by model.horizon id.0 n) m id.2 in
+    ended_fits model id.0 moment.0 m moment.2
+until_fits model (t ∷ u ∷ v ∷ more) m e = absurd (cc)
+
+halt_fits : (model : Model) (tokens : List Token) (m : Message) → halt_in tokens ≡ Ok m → IsWithin model m
+halt_fits model [] m e = let same : message.Halt ≡ m = cc in subst (λ (x : Message). IsWithin model x) same tt
+halt_fits model (t ∷ more) m e = absurd (cc)
+
 end_fits : (model : Model) (tokens : List Token) (m : Message) → end_in tokens ≡ Ok m → IsWithin model m
 end_fits model [] m e = let same : message.End ≡ m = cc in subst (λ (x : Message). IsWithin model x) same tt
 end_fits model (t ∷ more) m e = absurd (cc)
@@ -184,4 +200,6 @@ said_fits model line (word ∷ tokens) m e =
     subst (λ (x : Message). IsWithin model x) same (goal_fits model line tokens goal.0 goal.1))
     (either_fits model (says line word (codes "tele")) _ _ m (telemetry_fits model line tokens m)
     (either_fits model (says line word (codes "tick")) _ _ m (tick_fits model tokens m)
-    (either_fits model (says line word (codes "end")) _ _ m (end_fits model tokens m) (λ h. absurd (cc))))) e
+    (either_fits model (says line word (codes "until")) _ _ m (until_fits model tokens m)
+    (either_fits model (says line word (codes "halt")) _ _ m (halt_fits model tokens m)
+    (either_fits model (says line word (codes "end")) _ _ m (end_fits model tokens m) (λ h. absurd (cc))))))) e

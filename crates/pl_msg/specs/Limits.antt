@@ -52,10 +52,12 @@ HasState state (timeline.Capacity name most) = ⊥
 HasState state (timeline.Level name least most start) = ⊥
 HasState state (timeline.States name states start any steps) = state < length states
 
--- Each number of the message is within its limits. A moment may be past the horizon.
+-- Each number of the message is within its limits. The moment of a tick may be past the horizon, and the id of an activity may be any number.
 abbrev pub IsWithin : Model → Message → Type 0
 IsWithin model (message.Goal goal) = IsGoalFor model goal
 IsWithin model (message.TeleLevel line value) = (line < length model.timelines) × IfSome (slice_get model.timelines line) IsLevel × (pos 0 ≤ℤ value) × (value ≤ℤ pos 1000000000000)
 IsWithin model (message.TeleState line state) = (line < length model.timelines) × IfSome (slice_get model.timelines line) (HasState state)
 IsWithin model (message.Tick moment) = Unit {0}
+IsWithin model (message.Until id moment) = moment ≤ model.horizon
+IsWithin model message.Halt = Unit {0}
 IsWithin model message.End = Unit {0}

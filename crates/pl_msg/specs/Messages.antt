@@ -1,6 +1,6 @@
 -- The message of a line, or its first fault: `goal NUMBER KIND EARLIEST LATEST must` or `may` with presets `NAME = VALUE`,
--- `tele TIMELINE VALUE`, `tick MOMENT` or `end`. First the form is looked at, then the names, then the ranges.
-use Rattle.std.specs.Prelude.{ℕ, List, [], ◌∷◌, if◌then◌else◌, codes, Ok, Err}
+-- `tele TIMELINE VALUE`, `tick MOMENT`, `until ID MOMENT`, `halt` or `end`. First the form is looked at, then the names, then the ranges.
+use Rattle.std.specs.Prelude.{ℕ, nat_le, List, [], ◌∷◌, if◌then◌else◌, codes, Ok, Err}
 use Rattle.pl_text.specs.declared.token.Token.{Token}
 use Rattle.pl_model.specs.declared.whole.Model.{Model}
 use Rattle.pl_msg.specs.declared.fault.MsgFault.TheVariants as fault
@@ -16,6 +16,18 @@ abbrev pub tick_in : List Token → Read Message
 tick_in (moment ∷ []) = number_in moment.kind >>= λ n. Ok (message.Tick n)
 tick_in _ = Err fault.BadLine
 
+-- The activity of this id ends at the moment: at most the horizon, whatever the id is.
+abbrev pub ended_by : ℕ → ℕ → ℕ → Read Message
+ended_by horizon id moment = if nat_le moment horizon then Ok (message.Until id moment) else Err fault.Range
+
+abbrev pub until_in : Model → List Token → Read Message
+until_in model (id ∷ moment ∷ []) = number_in id.kind >>= λ i. number_in moment.kind >>= λ m. ended_by model.horizon i m
+until_in model _ = Err fault.BadLine
+
+abbrev pub halt_in : List Token → Read Message
+halt_in [] = Ok message.Halt
+halt_in _ = Err fault.BadLine
+
 abbrev pub end_in : List Token → Read Message
 end_in [] = Ok message.End
 end_in _ = Err fault.BadLine
@@ -27,6 +39,8 @@ said_in model line (word ∷ tokens) =
     if says line word (codes "goal") then (goal_in model line tokens >>= λ goal. Ok (message.Goal goal))
     else if says line word (codes "tele") then telemetry_in model line tokens
     else if says line word (codes "tick") then tick_in tokens
+    else if says line word (codes "until") then until_in model tokens
+    else if says line word (codes "halt") then halt_in tokens
     else if says line word (codes "end") then end_in tokens
     else Err fault.BadLine
 

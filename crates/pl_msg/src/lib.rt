@@ -1,4 +1,5 @@
-//! Message lines: goals, telemetry, the moment and the end.
+//! Message lines: goals, telemetry, the moment, measured ends, the withdrawal of what is committed and has not begun,
+//! and the end.
 #![tactic(auto)]
 
 mod fault;

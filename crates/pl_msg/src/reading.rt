@@ -1,6 +1,6 @@
 ghost use Rattle.std.specs.Prelude.{◌≡◌, ◌<◌, ◌^◌, ◌∷◌, length, IfOk};
 ghost use Rattle.pl_msg.specs.Reads.{Gives};
-ghost use Rattle.pl_msg.specs.Messages.{tick_in, end_in, said_in, message_of};
+ghost use Rattle.pl_msg.specs.Messages.{tick_in, ended_by, until_in, halt_in, end_in, said_in, message_of};
 ghost use Rattle.pl_msg.specs.Limits.{IsNumbered, IsWithin};
 
 use crate::fault::MsgFault;
@@ -17,6 +17,39 @@ fn tick_of(tokens: &[Token]) -> Result<Message, MsgFault>
 {
     match tokens {
         [moment] => Ok(Message::Tick(number_of(moment)?)),
+        _ => Err(MsgFault::BadLine),
+    }
+}
+
+/// A moment past the horizon is out of range, whatever the id is.
+fn ended_by(model: &Model, id: u64, moment: u64) -> Result<Message, MsgFault>
+    ensures { result ≡ ended_by model.now.horizon id moment }
+{
+    if moment <= u64::from(model.horizon) {
+        Ok(Message::Until(id, moment as u32))
+    } else {
+        Err(MsgFault::Range)
+    }
+}
+
+fn until_of(model: &Model, tokens: &[Token]) -> Result<Message, MsgFault>
+    ensures { result ≡ until_in model.now tokens.now }
+{
+    match tokens {
+        [id, moment] => {
+            let id = number_of(id)?;
+            let moment = number_of(moment)?;
+            ended_by(model, id, moment)
+        }
+        _ => Err(MsgFault::BadLine),
+    }
+}
+
+fn halt_of(tokens: &[Token]) -> Result<Message, MsgFault>
+    ensures { result ≡ halt_in tokens.now }
+{
+    match tokens {
+        [] => Ok(Message::Halt),
         _ => Err(MsgFault::BadLine),
     }
 }
@@ -47,6 +80,10 @@ fn said_by(
         telemetry_of(model, line, tokens)
     } else if says(line, word, b"tick") {
         tick_of(tokens)
+    } else if says(line, word, b"until") {
+        until_of(model, tokens)
+    } else if says(line, word, b"halt") {
+        halt_of(tokens)
     } else if says(line, word, b"end") {
         end_of(tokens)
     } else {

@@ -22,13 +22,14 @@ use Rattle.pl_msg.specs.Words.{says, number_in, name_in, without_fault}
 use Rattle.pl_msg.specs.Names.{timeline_named, state_named}
 use Rattle.pl_msg.specs.Goals.{goal_in}
 use Rattle.pl_msg.specs.Telemetry.{value_by, level_by, state_with, state_by, told_by, telemetry_in}
-use Rattle.pl_msg.specs.Messages.{tick_in, said_in, message_of}
+use Rattle.pl_msg.specs.Messages.{tick_in, ended_by, until_in, halt_in, said_in, message_of}
 use Rattle.pl_entry.specs.declared.reply.Reply.{Reply}
 use Rattle.pl_entry.specs.declared.reply.Reply.TheVariants as reply
 use Rattle.pl_semantics.specs.declared.plan_state.PlanState.{PlanState}
-use Rattle.pl_semantics.specs.PlanStates.{floor_of}
+use Rattle.pl_plan.specs.declared.activity.Activity.{Activity}
+use Rattle.pl_semantics.specs.PlanStates.{floor_of, found}
 use Rattle.pl_input.specs.Words.{is_only, is_line_of, end_word}
-use Rattle.pl_machine.specs.Messages.{fault_reply, read_reply, line_reply}
+use Rattle.pl_machine.specs.Messages.{has_begun, measured_reply, fault_reply, read_reply, line_reply}
 
 abbrev pub is_ended : Reply → Bool
 is_ended reply.Ended = true
@@ -46,6 +47,15 @@ tick_ends : (a b : Bool) → is_ended (if a then reply.TickBack else if b then r
 tick_ends true b = refl
 tick_ends false true = refl
 tick_ends false false = refl
+
+begun_ends : (a b : Bool) → is_ended (if a then (if b then reply.EndBack else reply.Done) else reply.NotBegun) ≡ false
+begun_ends true true = refl
+begun_ends true false = refl
+begun_ends false b = refl
+
+measured_ends : (s : PlanState) (o : Option Activity) (moment : ℕ) → is_ended (measured_reply s o moment) ≡ false
+measured_ends s None moment = refl
+measured_ends s (Some a) moment = begun_ends (has_begun s a) (nat_le moment a.start)
 
 fault_ends : (e : MsgFault) → is_ended (fault_reply e) ≡ false
 fault_ends fault.BadLine = refl
@@ -69,6 +79,12 @@ module _ (s : PlanState) (limit : ℕ) where
 
   tick_on : (n : ℕ) → GoesOn s limit (Ok (message.Tick n))
   tick_on n = record { on = tick_ends (nat_le n s.moment) (nat_lt s.model.horizon n) }
+
+  until_on : (id moment : ℕ) → GoesOn s limit (Ok (message.Until id moment))
+  until_on id moment = record { on = measured_ends s (found s id) moment }
+
+  halt_on : GoesOn s limit (Ok message.Halt)
+  halt_on = record { on = refl }
 
   then_on : {X : Type 0} (r : Read X) (f : X → Read Message) → ((x : X) → GoesOn s limit (f x)) → GoesOn s limit (r >>= f)
   then_on (Ok x) f each = each x
@@ -112,6 +128,19 @@ module _ (s : PlanState) (limit : ℕ) where
   ticks_on (a ∷ []) = then_on (number_in a.kind) _ tick_on
   ticks_on (a ∷ b ∷ more) = bad_line fault.BadLine
 
+  ended_on : (id moment : ℕ) → GoesOn s limit (ended_by s.model.horizon id moment)
+  ended_on id moment = if_on (nat_le moment s.model.horizon) _ _ (until_on id moment) (bad_line fault.Range)
+
+  untils_on : (ts : List Token) → GoesOn s limit (until_in s.model ts)
+  untils_on [] = bad_line fault.BadLine
+  untils_on (a ∷ []) = bad_line fault.BadLine
+  untils_on (a ∷ b ∷ []) = then_on (number_in a.kind) _ (λ id. then_on (number_in b.kind) _ (λ moment. ended_on id moment))
+  untils_on (a ∷ b ∷ c ∷ more) = bad_line fault.BadLine
+
+  halts_on : (ts : List Token) → GoesOn s limit (halt_in ts)
+  halts_on [] = halt_on
+  halts_on (a ∷ more) = bad_line fault.BadLine
+
   -- ---- by the first word
 
   several_on : (line : List ℕ) (a b : Token) (more : List Token) → GoesOn s limit (said_in s.model line (a ∷ b ∷ more))
@@ -120,22 +149,28 @@ module _ (s : PlanState) (limit : ℕ) where
       if_on (says line a (codes "goal")) _ _ (goals_on line (b ∷ more))
       (if_on (says line a (codes "tele")) _ _ (telemetry_on line (b ∷ more))
       (if_on (says line a (codes "tick")) _ _ (ticks_on (b ∷ more))
-      (if_on (says line a (codes "end")) _ _ (bad_line fault.BadLine) (bad_line fault.BadLine))))
+      (if_on (says line a (codes "until")) _ _ (untils_on (b ∷ more))
+      (if_on (says line a (codes "halt")) _ _ (halts_on (b ∷ more))
+      (if_on (says line a (codes "end")) _ _ (bad_line fault.BadLine) (bad_line fault.BadLine))))))
 
-  -- a word that is one of the others is not `end`
-  by_words : (goal tele tick last : Bool) (x y z : Read Message) → (goal ≡ true → last ≡ false) → (tele ≡ true → last ≡ false) → (tick ≡ true → last ≡ false) → GoesOn s limit x → GoesOn s limit y → GoesOn s limit z
-      → is_ended (read_reply s limit (if goal then x else if tele then y else if tick then z else if last then Ok message.End else Err fault.BadLine)) ≡ last
-  by_words true tele tick last x y z no1 no2 no3 on1 on2 on3 = on1.on ∙ sym (no1 refl)
-  by_words false true tick last x y z no1 no2 no3 on1 on2 on3 = on2.on ∙ sym (no2 refl)
-  by_words false false true last x y z no1 no2 no3 on1 on2 on3 = on3.on ∙ sym (no3 refl)
-  by_words false false false true x y z no1 no2 no3 on1 on2 on3 = refl
-  by_words false false false false x y z no1 no2 no3 on1 on2 on3 = refl
+  -- another word is not `end`
+  by_word : (word last : Bool) (x rest : Read Message) → (word ≡ true → last ≡ false) → GoesOn s limit x → is_ended (read_reply s limit rest) ≡ last → is_ended (read_reply s limit (if word then x else rest)) ≡ last
+  by_word true last x rest apart on more = on.on ∙ sym (apart refl)
+  by_word false last x rest apart on more = more
+
+  by_end : (last : Bool) → is_ended (read_reply s limit (if last then Ok message.End else Err fault.BadLine)) ≡ last
+  by_end true = refl
+  by_end false = refl
 
   alone : (line : List ℕ) (t : Token) → is_ended (read_reply s limit (said_in s.model line (t ∷ []))) ≡ says line t end_word
   unfolding said_in
   alone line t =
-      by_words (says line t (codes "goal")) (says line t (codes "tele")) (says line t (codes "tick")) (says line t end_word) _ _ _
-      (other (codes "goal") refl) (other (codes "tele") refl) (other (codes "tick") refl) (goals_on line []) (telemetry_on line []) (ticks_on [])
+      by_word (says line t (codes "goal")) (says line t end_word) _ _ (other (codes "goal") refl) (goals_on line [])
+      (by_word (says line t (codes "tele")) (says line t end_word) _ _ (other (codes "tele") refl) (telemetry_on line [])
+      (by_word (says line t (codes "tick")) (says line t end_word) _ _ (other (codes "tick") refl) (ticks_on [])
+      (by_word (says line t (codes "until")) (says line t end_word) _ _ (other (codes "until") refl) (untils_on [])
+      (by_word (says line t (codes "halt")) (says line t end_word) _ _ (other (codes "halt") refl) (halts_on [])
+      (by_end (says line t end_word))))))
     where
       other : (word : List ℕ) → bytes_eq word end_word ≡ false → says line t word ≡ true → says line t end_word ≡ false
       other word apart e = ap (λ (bytes : List ℕ). bytes_eq bytes end_word) ((bytes_eq-Decides (token_text line t) word).0 e) ∙ apart

@@ -92,10 +92,6 @@ served_until plan pass pass2 role role2 duty s new is takes own works = record {
   hired = refl;
 }
 
--- the same worker, by another name of its duty
-pub hired_as : (plan : SharedPlan) (duty duty2 : Duty) (w : Worker) → IsWorker plan duty w → duty ≡ duty2 → IsWorker plan duty2 w
-hired_as plan duty duty2 w is same = record { served = is.served; hired = is.hired ∙ same }
-
 -- ---- one act
 
 made_none : (o : Option Stop) (r r2 : Role) (seen : List Noted) (mine : List (ℕ × Noted)) → o ≡ None → MakesOwn o r seen mine r2 → MakesAll r seen mine r2

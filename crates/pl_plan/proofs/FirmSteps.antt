@@ -37,10 +37,10 @@ module _ (model : Model) (xs : List Activity) (id : ℕ) (a : Activity) (k : Kin
   unfolding is_firm
   firm_is = ap (is_firm_with model.horizon k) values ∙ sym (ap (λ o. is_firm_of model.horizon o (values_of model xs id)) (ap (option_and_then (kind_of model)) here ∙ kind))
 
-  pub end_is : end_with model.horizon k a.start row ≡ end_of model xs id
+  pub end_is : end_with model.horizon k a.start a.measured row ≡ end_of model xs id
   unfolding end_of
-  end_is = ap (end_with model.horizon k a.start) values
-      ∙ sym (ap (λ o. end_in model o (values_of model xs id)) here ∙ ap (option_and_then (λ j. end_with model.horizon j a.start (values_of model xs id))) kind)
+  end_is = ap (end_with model.horizon k a.start a.measured) values
+      ∙ sym (ap (λ o. end_in model o (values_of model xs id)) here ∙ ap (option_and_then (λ j. end_with model.horizon j a.start a.measured (values_of model xs id))) kind)
 
   pub amounts_are : amounts_with row k.reservations ≡ amounts_of model xs id
   unfolding amounts_of

@@ -39,7 +39,7 @@ taken_at (x ∷ xs) c (suc i) id d rising lt is =
     let above = rises_above xs (suc x.id) i d rising.1 in_range in
     rw (ne_eqb x.id id (λ e. omega (arith, above, is, e))) (ap (λ l. x ∷ l) (taken_at xs (suc x.id) i id d rising.1 in_range is))
 
-others_keep : (a : Activity) (xs : List Activity) (c : ℕ) → RiseFrom c xs → a.id < c → exchanged a xs ≡ xs
+pub others_keep : (a : Activity) (xs : List Activity) (c : ℕ) → RiseFrom c xs → a.id < c → exchanged a xs ≡ xs
 others_keep a [] c rising lt = refl
 others_keep a (x ∷ xs) c rising lt =
     let more = others_keep a xs (suc x.id) rising.1 (omega (arith, lt, rising.0)) in
@@ -96,7 +96,7 @@ put_in_gap id (x ∷ xs) zero gap a is = rw (le-ltb x.id a.id (omega (arith, gap
 put_in_gap id (x ∷ xs) (suc at) gap a is = rw (lt-ltb x.id a.id (omega (arith, gap.before 0 x (omega arith), is))) (ap (λ l. x ∷ l) (put_in_gap id xs at (gap_tail id x xs at gap) a is))
 
 no_activity : Activity
-no_activity = record { id = 0; kind = 0; start = 0; parent = None; goal = None; detail = None; set = [] }
+no_activity = record { id = 0; kind = 0; start = 0; parent = None; goal = None; detail = None; set = []; measured = None }
 
 module _ (xs : List Activity) (rising : AreRising xs) (id : ℕ) where
   comparisons_rise : IsNonDecreasingBy (λ a. ordering_index (nat_cmp a.id id)) xs

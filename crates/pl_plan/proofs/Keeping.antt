@@ -1,12 +1,14 @@
 -- What a plan keeps through each change: rising ids, the indexes, and room for the count.
 use Rattle.std.proofs.Common.{◌≡◌, ℕ, ◌<◌, ◌+◌, ◌^◌, List, [], ◌∷◌, length, Some, None, refl, sym, ap, ◌∙◌, subst, arith}
+use Rattle.std.proofs.lemmas.Option.{same_Some}
 use Rattle.pl_plan.specs.declared.activity.Activity.{Activity}
-use Rattle.pl_plan.specs.Activities.{KeepsPlace, activity_of, placed, without, exchanged}
+use Rattle.pl_plan.specs.Activities.{KeepsPlace, activity_of, placed, without, exchanged, ended, with_end}
 use Rattle.pl_plan.specs.Index.{Enters, Leaves}
 use Rattle.pl_plan.specs.Indexed.{AreIndexed}
 use Rattle.pl_plan.specs.Trees.{parent_id, parent_in}
 use Rattle.pl_plan.specs.Serving.{goal_at_root, served_in}
 use Rattle.pl_plan.proofs.Ids.{rising-placed, rising-without, rising-exchanged, length-placed, length-without}
+use Rattle.pl_plan.proofs.Ends.{found_id, end_exchanged}
 use Rattle.pl_plan.proofs.Indexing.{index-placed, index-without, index-exchanged}
 
 abbrev pub AreKept : List Activity → List (ℕ × ℕ) → List (ℕ × ℕ) → Type 0
@@ -57,3 +59,13 @@ kept_exchanged ys xs zs u s a same is kept place =
   where
     serves : (b : Activity) → activity_of a.id xs ≡ Some b → served_in b ≡ served_in a
     serves b f = ap (λ p. goal_at_root p b.goal) (place b f).0 ∙ ap (goal_at_root a.parent) (place b f).1
+
+pub kept_ended : (ys xs zs : List Activity) (u s : List (ℕ × ℕ)) (id moment : ℕ) (a : Activity) → ys ≡ xs → zs ≡ with_end id moment xs → AreKept ys u s → activity_of id xs ≡ Some a → AreKept zs u s
+kept_ended ys xs zs u s id moment a same is kept here =
+    let before : AreIndexed xs u s = subst (λ (l : List Activity). AreIndexed l u s) same kept.0 in
+    kept_exchanged ys xs zs u s (ended moment a) same (is ∙ end_exchanged id moment xs 0 a before.rising here) kept place
+  where
+    place : KeepsPlace (ended moment a) xs
+    place b f =
+        let one : b ≡ a = same_Some b a (sym f ∙ (ap (λ n. activity_of n xs) (found_id id xs a here) ∙ here)) in
+        (ap (λ (z : Activity). z.parent) one, ap (λ (z : Activity). z.goal) one)

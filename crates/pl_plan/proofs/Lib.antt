@@ -1,5 +1,6 @@
 pub mod Ids
 pub mod Lookups
+pub mod Ends
 pub mod Indexing
 pub mod RisingIds
 pub mod Pairs

@@ -135,7 +135,7 @@ fits_abstracted model xs rising fits top =
     fits_left model xs rising fits (outside_or xs top) (abstracted top) (abstracted_keeps top) closed slots (λ k d lt. alone (get_or xs k d) (fits.each k d lt) (eqb (get_or xs k d).id top))
   where
     alone : (a : Activity) → FitsAlone model a → (b : Bool) → FitsAlone model (cond b (record a { detail = None }) a)
-    alone a fit true = record { kind = fit.kind; start = fit.start; set = fit.set; choice = tt }
+    alone a fit true = record { kind = fit.kind; start = fit.start; set = fit.set; choice = tt; measured = fit.measured }
     alone a fit false = fit
 
     top_parent : (p : ℕ) → parent_of top xs ≡ Some p → descends xs top p ≡ false

@@ -1,5 +1,5 @@
 -- Pairs of a number and an id in their order, and what stands under a number.
-use Rattle.std.proofs.Common.{◌≡◌, ℕ, zero, suc, ◌<◌, ◌≤◌, ◌^◌, eqb, ltb, Bool, true, false, not, cond, ◌&&◌, ◌||◌, List, [], ◌∷◌, map, Some, refl, sym, ◌∙◌, ap, arith, nat_cmp, is_eq, is_lt, is_le, is_gt, Ordering, Less, Equal, Greater, ◌⊎◌, ⊎_elim, BTreeSet}
+use Rattle.std.proofs.Common.{◌≡◌, ℕ, zero, suc, ◌<◌, ◌≤◌, ◌^◌, eqb, ltb, Bool, true, false, not, cond, ◌&&◌, ◌||◌, List, [], ◌∷◌, map, Some, refl, sym, ◌∙◌, ap, arith, nat_cmp, is_eq, is_lt, is_le, Ordering, Less, Equal, Greater, ◌⊎◌, ⊎_elim, BTreeSet}
 use Rattle.std.specs.Prelude.{All, filter, find, slice_get}
 use Rattle.std.specs.Ordering.{ordering_then}
 use Rattle.std.specs.List.Sorted.{IsStrictlySortedBy}
@@ -117,15 +117,6 @@ pub under_range : (n : ℕ) (pairs range : List (ℕ × ℕ)) → All (λ p. p.1
 under_range n pairs range small is = sym (ap (λ (l : List (ℕ × ℕ)). map (λ p. p.1) l) (is ∙ range_under n pairs small))
 
 -- ---- what stands under a number behind an id
-
-forward : (n behind : ℕ) → behind < 2 ^ 32 → is_gt (pair_cmp (n, behind) (n, 4294967295)) ≡ false
-forward n behind small = rw (le-ltb n n (omega arith), eq-eqb n n refl) (⊎_elim
-    (λ (e : behind ≡ 4294967295). rw (le-ltb behind 4294967295 (omega (arith, e)), eq-eqb behind 4294967295 e) refl)
-    (λ o. ⊎_elim
-    (λ (lt : behind < 4294967295). rw (lt-ltb behind 4294967295 lt) refl)
-    (λ (gt : 4294967295 < behind). absurd (omega (arith, gt, small)))
-    o)
-    (cases_order behind 4294967295))
 
 in_range_behind : (n behind : ℕ) (p : ℕ × ℕ) → p.1 < 2 ^ 32 → range_contains pair_cmp (Excluded (n, behind)) (Included (n, 4294967295)) p ≡ (eqb n p.0 && ltb behind p.1)
 in_range_behind n behind p small = ⊎_elim

@@ -1,5 +1,5 @@
 -- Activities by rising id.
-use Rattle.std.specs.Prelude.{◌≡◌, ℕ, ◌==◌, nat_lt, if◌then◌else◌, List, [], ◌∷◌, map, Option, Some, None, IsSome}
+use Rattle.std.specs.Prelude.{◌≡◌, ℕ, ◌==◌, nat_lt, if◌then◌else◌, List, [], ◌∷◌, map, Option, Some, None, IsSome, option_and_then}
 use Rattle.pl_lists.specs.Lists as lists
 use Rattle.pl_plan.specs.declared.activity.Activity.{Activity}
 
@@ -36,3 +36,17 @@ exchanged a activities = map (λ x. if x.id == a.id then a else x) activities
 -- the activity of its id has the same parent and the same goal
 abbrev pub KeepsPlace : Activity → List Activity → Type 0
 KeepsPlace a activities = (b : Activity) → activity_of a.id activities ≡ Some b → (b.parent ≡ a.parent) × (b.goal ≡ a.goal)
+
+-- ---- measured ends
+
+-- with its end measured: it ends at this moment
+abbrev pub ended : ℕ → Activity → Activity
+ended moment a = record a { measured = Some moment }
+
+-- with the end of the activity of this id measured
+abbrev pub with_end : ℕ → ℕ → List Activity → List Activity
+with_end id moment activities = map (λ a. if a.id == id then ended moment a else a) activities
+
+-- the measured end of the activity of this id
+abbrev pub measured_of : ℕ → List Activity → Option ℕ
+measured_of id activities = option_and_then (λ (a : Activity). a.measured) (activity_of id activities)

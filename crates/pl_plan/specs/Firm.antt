@@ -1,5 +1,5 @@
 -- When an activity is firm, and when it ends.
-use Rattle.std.specs.Prelude.{ℕ, suc, ◌+◌, nat_le, ℤ, pos, negsuc, int_le, Bool, true, false, ◌&&◌, List, [], ◌∷◌, map, slice_index_or, Option, Some, None, is_some, option_and_then, if◌then◌else◌}
+use Rattle.std.specs.Prelude.{ℕ, suc, ◌+◌, nat_le, ℤ, pos, negsuc, int_le, Bool, true, false, ◌&&◌, List, [], ◌∷◌, map, slice_index_or, Option, Some, None, is_some, unwrap_or, option_and_then, if◌then◌else◌}
 use Rattle.std.specs.Option.{option_map}
 use Rattle.std.specs.List.{list_all}
 use Rattle.pl_model.specs.declared.expressions.Expr.{Expr}
@@ -68,9 +68,9 @@ duration_in horizon k values = moments_in horizon (value_of k.duration values)
 abbrev pub is_firm_with : ℕ → Kind → Row → Bool
 is_firm_with horizon k values = are_in_range 0 k.params values && is_some (duration_in horizon k values) && list_all (has_amount values) k.reservations
 
--- the end after a start
-abbrev pub end_with : ℕ → Kind → ℕ → Row → Option ℕ
-end_with horizon k start values = if is_firm_with horizon k values then option_map (λ d. start + d) (duration_in horizon k values) else None
+-- The end of a firm activity: the one that was measured, else the start and the duration together.
+abbrev pub end_with : ℕ → Kind → ℕ → Option ℕ → Row → Option ℕ
+end_with horizon k start measured values = if is_firm_with horizon k values then option_map (λ d. unwrap_or measured (start + d)) (duration_in horizon k values) else None
 
 abbrev pub is_firm_of : ℕ → Option Kind → Row → Bool
 is_firm_of horizon None values = false
@@ -83,8 +83,8 @@ is_firm model activities id = is_firm_of model.horizon (option_and_then (kind_of
 
 abbrev pub end_in : Model → Option Activity → Row → Option ℕ
 end_in model None values = None
-end_in model (Some a) values = option_and_then (λ k. end_with model.horizon k a.start values) (kind_of model a)
+end_in model (Some a) values = option_and_then (λ k. end_with model.horizon k a.start a.measured values) (kind_of model a)
 
--- the start and the duration together, where the activity is firm
+-- where the activity is firm, its measured end, or else its start and its duration together
 unfoldable pub end_of : Model → List Activity → ℕ → Option ℕ
 end_of model activities id = end_in model (activity_of id activities) (values_of model activities id)

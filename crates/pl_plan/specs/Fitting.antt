@@ -31,6 +31,8 @@ pub record FitsAlone (model : Model) (a : Activity) : Type 0 where
   pub start : (1 ≤ a.start) × (a.start < model.horizon)
   pub set : length a.set ≡ length (params_of (kind_of model a))
   pub choice : IsChoice (kind_of model a) a.detail
+  -- a measured end lies behind the start, and at the horizon at the latest
+  pub measured : IfSome a.measured (λ m. (a.start < m) × (m ≤ model.horizon))
 
 abbrev pub fills : ℕ → ℕ → Activity → Bool
 fills parent slot a = is_slot parent slot a.parent

@@ -2,7 +2,8 @@ use pl_lists::{Copied, Items};
 use std::alloc::{AllocError, Global};
 
 /// An activity of the plan. `parent` is its parent's id and its slot there, `goal` the number of the goal that it
-/// carries, `detail` the chosen alternative, and `set` has one place for each parameter of the kind.
+/// carries, `detail` the chosen alternative, and `set` has one place for each parameter of the kind. `measured` is the
+/// moment at which it ends, where that was measured.
 #[derive(Debug, Drop)]
 pub struct Activity {
     pub id: u32,
@@ -12,6 +13,7 @@ pub struct Activity {
     pub goal: Option<u32>,
     pub detail: Option<u32>,
     pub set: Items<Option<i64>>,
+    pub measured: Option<u32>,
 }
 
 impl Copied for Activity {
@@ -24,6 +26,7 @@ impl Copied for Activity {
             goal: self.goal,
             detail: self.detail,
             set: self.set.copy(alloc)?,
+            measured: self.measured,
         })
     }
 }

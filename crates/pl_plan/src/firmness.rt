@@ -8,6 +8,7 @@ ghost use Rattle.pl_plan.specs.Fitting.{Fits, kind_of};
 ghost use Rattle.pl_plan.specs.Values.{values_of};
 ghost use Rattle.pl_plan.specs.Firm.{is_within, are_in_range, amount_of, has_amount, moments_in, duration_in, is_firm_with, end_with, is_firm, end_of};
 
+use crate::activity::Activity;
 use crate::plan::Plan;
 use crate::values::kind_in;
 use pl_model::{Expr, Kind, Model, Param, Reservation, eval};
@@ -50,7 +51,7 @@ impl Plan {
     {
         let activity = self.fitted(model, id);
         let kind = kind_in(model, activity);
-        end_from(model.horizon, kind, activity.start, values)
+        end_from(model.horizon, kind, activity, values)
     }
 }
 
@@ -135,17 +136,17 @@ fn is_firm(horizon: u32, kind: &Kind, values: &[Option<i64>]) -> bool
         && have_amounts(kind.reservations.as_slice(), values)
 }
 
-fn end_from(horizon: u32, kind: &Kind, start: u32, values: &[Option<i64>]) -> Option<u32>
-    requires start { start + horizon < 2 ^ 32 }
+fn end_from(horizon: u32, kind: &Kind, activity: &Activity, values: &[Option<i64>]) -> Option<u32>
+    requires start { activity.now.start + horizon < 2 ^ 32 }
     requires kind { NamesBelow (length values.now) kind.now.duration }
     requires amounts { All (λ r. IfSome (amount_of r) (NamesBelow (length values.now))) kind.now.reservations }
     requires values { length values.now ≡ length kind.now.params }
-    ensures value { result ≡ end_with horizon kind.now start values.now }
+    ensures value { result ≡ end_with horizon kind.now activity.now.start activity.now.measured values.now }
     ensures none { IsNone result ↔ (is_firm_with horizon kind.now values.now ≡ false) }
 {
     if !is_firm(horizon, kind, values) {
         return None;
     }
     let duration = duration_in(horizon, kind, values)?;
-    Some(start + duration)
+    Some(activity.measured.unwrap_or(activity.start + duration))
 }

@@ -4,7 +4,7 @@ ghost use Rattle.std.specs.List.Sorted.{IsStrictlyIncreasing};
 ghost use Rattle.pl_model.specs.declared.whole.Model.{Model};
 ghost use Rattle.pl_model.specs.Checked.{IsChecked};
 ghost use Rattle.pl_plan.specs.declared.activity.Activity.{Activity};
-ghost use Rattle.pl_plan.specs.Activities.{IsLive, AreRising, activity_of, placed, without, exchanged};
+ghost use Rattle.pl_plan.specs.Activities.{IsLive, AreRising, activity_of, placed, without, exchanged, ended, with_end};
 ghost use Rattle.pl_plan.specs.Trees.{IsRooted, Descends, parent_of, descends, root_of, subtree_of};
 ghost use Rattle.pl_plan.specs.Fitting.{Fits, FitsAlone, chosen_slots};
 ghost use Rattle.pl_plan.specs.LookUps.{FitsAt, AreNewChildren, detailed_at};
@@ -50,12 +50,14 @@ pub fn laws_of_moves()
     ensures abstracted { (model : Model) (xs : List Activity) → AreRising xs → Fits model xs → (top : ℕ) → Fits model (map (abstracted top) (without_below top xs)) }
 {}
 
-/// What is found under each id settles the activities; what is found after each change of them.
+/// What is found under each id settles the activities; what is found after each change of them. An end that is measured
+/// exchanges one activity.
 pub fn laws_of_look_ups()
     ensures same { (xs ys : List Activity) → AreRising xs → AreRising ys → ((q : ℕ) → activity_of q xs ≡ activity_of q ys) → xs ≡ ys }
     ensures placed { (a : Activity) (xs : List Activity) (q : ℕ) → activity_of a.id xs ≡ None → activity_of q (placed a xs) ≡ (if a.id == q then Some a else activity_of q xs) }
     ensures without { (xs : List Activity) → AreRising xs → (id q : ℕ) → activity_of q (without id xs) ≡ (if id == q then None else activity_of q xs) }
     ensures exchanged { (a : Activity) (xs : List Activity) (q : ℕ) → activity_of q (exchanged a xs) ≡ (if a.id == q then option_map (λ x. a) (activity_of q xs) else activity_of q xs) }
+    ensures ended { (xs : List Activity) → AreRising xs → (id moment : ℕ) (a : Activity) → activity_of id xs ≡ Some a → with_end id moment xs ≡ exchanged (ended moment a) xs }
     ensures kept { (stays : ℕ → Bool) (xs : List Activity) (q : ℕ) → activity_of q (kept stays xs) ≡ (if stays q then activity_of q xs else None) }
     ensures rising_placed { (a : Activity) (xs : List Activity) → AreRising xs → activity_of a.id xs ≡ None → AreRising (placed a xs) }
     ensures rising_without { (id : ℕ) (xs : List Activity) → AreRising xs → AreRising (without id xs) }

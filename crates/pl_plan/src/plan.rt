@@ -1,6 +1,6 @@
 ghost use Rattle.std.specs.Prelude.{◌≡◌, ◌≢◌, ◌↔◌, All, IsNone, ◌+◌, ◌^◌, ◌<◌, ◌≤◌, [], length, slice_get, OnOk, OnErr, IfOk, IfErr, Some, None};
 ghost use Rattle.std.specs.Option.{option_copied};
-ghost use Rattle.pl_plan.specs.Activities.{AreRising, IsLive, KeepsPlace, activity_of, placed, without, exchanged};
+ghost use Rattle.pl_plan.specs.Activities.{AreRising, IsLive, KeepsPlace, activity_of, placed, without, exchanged, with_end, measured_of};
 ghost use Rattle.pl_plan.specs.Indexed.{AreIndexed};
 ghost use Rattle.pl_plan.specs.Places.{IsPlaceOf, IsGapFor};
 
@@ -100,6 +100,22 @@ impl Plan {
     {
         let at = self.place(a.id);
         mem::replace(&mut self.activities[at], a)
+    }
+
+    /// Notes the moment at which the activity of this id ends. It takes no memory.
+    pub fn set_end(&mut self, id: u32, moment: u32)
+        requires { IsLive id self.old.activities }
+        ensures { self.new.activities ≡ with_end id moment self.old.activities }
+    {
+        let at = self.place(id);
+        self.activities[at].measured = Some(moment);
+    }
+
+    /// The moment at which the activity of this id ends, where that was measured.
+    pub fn measured(&self, id: u32) -> Option<u32>
+        ensures { result ≡ measured_of id self.now.activities }
+    {
+        self.get(id)?.measured
     }
 
     /// The activity of this id.

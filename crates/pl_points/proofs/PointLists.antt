@@ -205,10 +205,6 @@ put_some at d ps some = cond_both (int_eq d (pos 0)) ps ((at, d) ∷ ps) (λ l. 
 fits2 : (z : ℤ) → IsSmall2 z → SFits w64 z
 fits2 z small = omega (arith, ints, small.0, small.1)
 
--- how the sum of two deltas is worked out
-pub sum_fits : (x d : ℤ) → IsSmall2 x → IsSmall2 d → SFits w64 (to_z w64 (of_z w64 x) +ℤ to_z w64 (of_z w64 d))
-sum_fits x d small other = omega (arith, ints, small.0, small.1, other.0, other.1)
-
 pub sum_is : (x d : ℤ) → IsSmall2 x → IsSmall2 d → to_z w64 (of_z w64 (to_z w64 (of_z w64 x) +ℤ to_z w64 (of_z w64 d))) ≡ x +ℤ d
 sum_is x d small other =
     let e : to_z w64 (of_z w64 x) ≡ x = to_z-of_z w64 x (fits2 x small) in

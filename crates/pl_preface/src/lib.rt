@@ -3,7 +3,6 @@
 
 mod asked;
 mod found;
-mod journal_line;
 mod preface;
 mod problem;
 mod rates;

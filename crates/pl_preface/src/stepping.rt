@@ -4,9 +4,8 @@ ghost use Rattle.pl_preface.specs.Prefaces.{found_by, found_in, add_item, step_b
 
 use crate::asked::Asked;
 use crate::found::{Found, Step};
-use crate::journal_line::is_journal_line;
 use crate::refusal::Refusal;
-use pl_input::is_blank_line;
+use pl_input::{is_blank_line, is_line_of};
 use pl_lists::Items;
 use pl_model::Model;
 use std::alloc::{AllocError, Global};
@@ -37,7 +36,7 @@ pub(crate) fn find<T: Asked>(
     ensures is { IfOk result (λ found. found ≡ found_in (T.meant model.now) line.now) }
     ensures fits { IfOk result (FitsFound (T.fits model.now)) }
 {
-    if is_journal_line(alloc, line)? {
+    if is_line_of(alloc, b"journal", line)? {
         Ok(Found::Journal)
     } else if is_blank_line(line) {
         Ok(Found::Blank)

@@ -40,6 +40,8 @@ model_told s (message.Goal g) = refl
 model_told s (message.TeleLevel line value) = refl
 model_told s (message.TeleState line state) = refl
 model_told s (message.Tick moment) = refl
+model_told s (message.Until id moment) = refl
+model_told s message.Halt = refl
 model_told s message.End = refl
 
 model_read : (s : PlanState) (read : Read Message) → (told_by s read).model ≡ s.model

@@ -7,10 +7,25 @@ use crate::failures::Failures;
 use crate::goals::open_goals;
 use crate::node::Node;
 use crate::tries::Tries;
+use pl_board::Board;
 use pl_conflict::Conflict;
-use std::alloc::AllocError;
+use std::alloc::{AllocError, Global};
 
-// A copy of the plan with some repairs, and then as many of the open goals served as can be.
+// The open goals of a plan that are served in another one. Those that are open in both found no way before.
+fn displaced(alloc: Global, plan: &Board, before: &Board) -> Result<Vec<Conflict>, AllocError>
+    requires { plan.now.spoiled ≡ false }
+{
+    let open = open_goals(alloc, plan)?;
+    let mut goals = Vec::new(alloc);
+    for conflict in open.as_slice() {
+        if !before.conflicts().has(conflict) {
+            goals.push(*conflict)?;
+        }
+    }
+    Ok(goals)
+}
+
+// A copy of the plan with some repairs, and then as many of the goals served that gave way as can be.
 fn copy_behind(
     tries: &mut Tries,
     failures: &Failures,
@@ -22,7 +37,7 @@ fn copy_behind(
 {
     let mut other = draft.copy(tries.alloc)?;
     other.follow(tries.alloc, way)?;
-    let goals = open_goals(tries.alloc, &other.board)?;
+    let goals = displaced(tries.alloc, &other.board, &draft.board)?;
     other.serve(tries, failures, goals.as_slice())?;
     Ok(other)
 }

@@ -169,7 +169,7 @@ impl Draft {
         }
     }
 
-    /// Looks for repairs that serve the goal of a conflict.
+    /// Looks for repairs that serve the goal of a conflict, if it is due.
     pub(crate) fn way_to_serve(
         &mut self,
         tries: &mut Tries,
@@ -180,7 +180,7 @@ impl Draft {
         requires { self.old.board.spoiled ≡ false }
         ensures { OnOk result (self.new.board.spoiled ≡ false) }
     {
-        if tries.left == 0 {
+        if tries.left == 0 || !failures.is_due(conflict.subject) {
             return Ok(None);
         }
         let worlds = failures.worlds_for(conflict.subject, self.worlds);

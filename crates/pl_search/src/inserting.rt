@@ -46,7 +46,36 @@ fn nodes_of_steps(tries: &Tries, look: Look) -> Result<Vec<Node>, AllocError> {
     Ok(nodes)
 }
 
-// The plans with a root for the goal of a conflict, one for each start that is tried.
+fn has_enough(tries: &Tries, enough: u32) -> bool {
+    tries
+        .found
+        .as_slice()
+        .iter()
+        .any(|step| step.look.hard <= enough)
+}
+
+// Tries roots for the goal of a conflict: the first alone, since it often is good enough, and else the others.
+fn try_roots(
+    tries: &mut Tries,
+    board: &mut Board,
+    branch: &Branch,
+    conflict: &Conflict,
+    roots: &[RepairMove],
+    enough: u32,
+) -> Result<(), AllocError>
+    requires { board.old.spoiled ≡ false }
+    ensures { OnOk result (board.new ≡ board.old) }
+{
+    let first = roots.len().min(1);
+    let _count = tries.try_moves(board, branch, conflict, &roots[..first])?;
+    if has_enough(tries, enough) {
+        return Ok(());
+    }
+    let _count = tries.try_moves(board, branch, conflict, &roots[first..])?;
+    Ok(())
+}
+
+// The plans with a root for the goal of a conflict, for the starts that are tried.
 fn with_roots(
     tries: &mut Tries,
     board: &mut Board,
@@ -65,7 +94,14 @@ fn with_roots(
     };
     tries.forget();
     let roots = additions(tries.alloc, board, conflict)?;
-    let _count = tries.try_moves(board, &branch, conflict, roots.as_slice())?;
+    try_roots(
+        tries,
+        board,
+        &branch,
+        conflict,
+        roots.as_slice(),
+        aim.enough,
+    )?;
     nodes_of_steps(tries, look)
 }
 

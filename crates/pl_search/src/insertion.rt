@@ -33,7 +33,7 @@ pub struct Insertion {
 }
 
 impl Insertion {
-    /// A chooser that proposes at most so many repairs for a message, and looks at most at so many plans before that.
+    /// A chooser for rounds of so many repairs, which looks at most at so many plans for a message.
     pub fn new(alloc: Global, turns: u32, worlds: u32) -> Insertion {
         Insertion {
             turns,

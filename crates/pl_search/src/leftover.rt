@@ -5,9 +5,10 @@ use crate::branching::{GivingUp, hard_conflicts};
 use crate::expanding::Branch;
 use crate::inserting::is_addition;
 use crate::look::{Look, is_open_goal, look_at};
-use crate::marks::mark_of_plan;
+use crate::marks::{mark_of_plan, mark_then};
 use crate::node::Step;
 use crate::price::price_of;
+use crate::repeating::{place_of, repair_at};
 use crate::tries::Tries;
 use crate::undo::may_be_made;
 use pl_board::Board;
@@ -149,17 +150,17 @@ fn cheapest(steps: &[Step], before: &Look, left: u32) -> Option<Proposal> {
     best
 }
 
-// The cheapest repair of one of the first conflicts but open goals.
+// The cheapest repair of one of the first of some conflicts, in the plan of a board that was looked at.
 fn cheapest_repair(
     tries: &mut Tries,
     board: &mut Board,
+    conflicts: &[Conflict],
+    look: Look,
     left: u32,
 ) -> Result<Option<Proposal>, AllocError>
     requires { board.old.spoiled ≡ false }
     ensures { OnOk result (board.new ≡ board.old) }
 {
-    let mark = mark_of_plan(board.plan());
-    let look = look_at(board, mark);
     let branch = Branch {
         from: 0,
         look,
@@ -167,9 +168,77 @@ fn cheapest_repair(
         giving_up: GivingUp::Any,
     };
     tries.forget();
-    let conflicts = hard_conflicts(tries.alloc, board.conflicts())?;
-    tries.try_conflicts(board, &branch, conflicts.as_slice())?;
+    tries.try_conflicts(board, &branch, conflicts)?;
     Ok(cheapest(tries.found.as_slice(), &look, left))
+}
+
+// Keeps where a repair stands that was chosen for a plan and turn of this mark.
+fn keep_choice(
+    tries: &mut Tries,
+    board: &Board,
+    conflicts: &[Conflict],
+    mark: u64,
+    repair: &Option<Proposal>,
+) -> Result<(), AllocError>
+    requires { board.now.spoiled ≡ false }
+{
+    match repair {
+        Some(repair) => {
+            let place = place_of(tries.alloc, board, conflicts, repair)?;
+            tries.choose(mark, place)
+        }
+        None => Ok(()),
+    }
+}
+
+// The repair that was chosen for a plan and turn of this mark before, if it may be made.
+fn chosen_before(
+    tries: &Tries,
+    board: &Board,
+    conflicts: &[Conflict],
+    mark: u64,
+) -> Result<Option<Proposal>, AllocError>
+    requires { board.now.spoiled ≡ false }
+{
+    match tries.chosen(mark) {
+        Some(place) => repair_at(tries.alloc, board, conflicts, &place),
+        None => Ok(None),
+    }
+}
+
+// The cheapest repair of one of the first of some conflicts, which is kept for when a plan and turn of this mark are met again.
+fn choose_cheapest(
+    tries: &mut Tries,
+    board: &mut Board,
+    conflicts: &[Conflict],
+    look: Look,
+    left: u32,
+    mark: u64,
+) -> Result<Option<Proposal>, AllocError>
+    requires { board.old.spoiled ≡ false }
+    ensures { OnOk result (board.new ≡ board.old) }
+{
+    let repair = cheapest_repair(tries, board, conflicts, look, left)?;
+    keep_choice(tries, board, conflicts, mark, &repair)?;
+    Ok(repair)
+}
+
+// The repair of a conflict but open goals that was chosen before, or else the cheapest one of one of the first.
+fn repair_of_hard(
+    tries: &mut Tries,
+    board: &mut Board,
+    left: u32,
+) -> Result<Option<Proposal>, AllocError>
+    requires { board.old.spoiled ≡ false }
+    ensures { OnOk result (board.new ≡ board.old) }
+{
+    let look = look_at(board, mark_of_plan(board.plan()));
+    let mark = mark_then(look.mark, u64::from(left % 2));
+    let hard = hard_conflicts(tries.alloc, board.conflicts())?;
+    match chosen_before(tries, board, hard.as_slice(), mark)? {
+        Some(repair) => Ok(Some(repair)),
+        None => choose_cheapest(tries, board, hard.as_slice(), look, left, mark),
+    }
 }
 
 /// A repair for one of so many turns that are left.
@@ -186,7 +255,7 @@ pub(crate) fn leftover_repair(
         .iter()
         .any(|conflict| !is_open_goal(conflict));
     if has_hard {
-        cheapest_repair(tries, board, left)
+        repair_of_hard(tries, board, left)
     } else {
         pass_time(tries, board, left)
     }

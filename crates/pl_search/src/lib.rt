@@ -20,6 +20,7 @@ mod message;
 mod node;
 mod planning;
 mod price;
+mod repeating;
 mod runs;
 mod sharing;
 mod tries;

@@ -1,10 +1,11 @@
 //! What a search has seen and found, beside the board.
-ghost use Rattle.std.specs.Prelude.{◌≡◌, ◌<◌, OnOk, All, false, length};
+ghost use Rattle.std.specs.Prelude.{◌≡◌, ◌<◌, ◌+◌, OnOk, All, false, length};
 ghost use Rattle.pl_search.specs.Undos.{MayBeMade};
 
 use crate::look::{Look, look_at};
 use crate::marks::mark_behind;
 use crate::node::Step;
+use crate::repeating::Place;
 use pl_board::Board;
 use pl_moves::trial_of;
 use pl_plan::RepairMove;
@@ -19,6 +20,8 @@ pub(crate) struct Tries {
     pub(crate) left: u32,
     // What was seen of plans, by their marks.
     known: BTreeMap<u64, Look>,
+    // Where the repairs stand that were chosen in turns left over, by the marks of plan and turn.
+    chosen: BTreeMap<u64, Place>,
     // The marks that the search at hand has come to.
     seen: BTreeSet<u64>,
     /// The plans that were found since this was emptied.
@@ -33,6 +36,7 @@ impl Tries {
             alloc,
             left: 0,
             known: BTreeMap::new(alloc),
+            chosen: BTreeMap::new(alloc),
             seen: BTreeSet::new(alloc),
             found: Vec::new(alloc),
             places: Vec::new(alloc),
@@ -45,9 +49,26 @@ impl Tries {
         self.forget_looks();
     }
 
-    /// Forgets what was seen of plans.
+    /// Forgets what was seen of plans, and what was chosen by that.
     pub(crate) fn forget_looks(&mut self) {
         self.known = BTreeMap::new(self.alloc);
+        self.chosen = BTreeMap::new(self.alloc);
+    }
+
+    /// Where the repair stands that was chosen for a plan and turn of this mark.
+    pub(crate) fn chosen(&self, mark: u64) -> Option<Place> {
+        match self.chosen.get(&mark) {
+            Some(place) => Some(*place),
+            None => None,
+        }
+    }
+
+    /// Keeps where a repair stands that was chosen, if it is known.
+    pub(crate) fn choose(&mut self, mark: u64, place: Option<Place>) -> Result<(), AllocError> {
+        if let Some(place) = place {
+            self.chosen.insert(mark, place)?;
+        }
+        Ok(())
     }
 
     /// Forgets what the search at hand came to.
@@ -124,19 +145,24 @@ impl Tries {
         Ok(())
     }
 
-    // Keeps what was seen of the plan at a place.
+    // Keeps what was seen of the plan at a place. That uses up one of the plans that may be looked at.
     fn keep(&mut self, place: usize, look: Look) -> Result<(), AllocError>
-        requires { place < length self.old.found.items }
+        requires place { place < length self.old.found.items }
+        requires left { 0 < self.old.left }
+        ensures { OnOk result (self.new.left + 1 ≡ self.old.left) }
     {
         let step = self.found[place];
         self.found[place] = Step { look, ..step };
-        self.left = self.left.saturating_sub(1);
+        self.left -= 1;
         self.known.insert(look.mark, look)?;
         Ok(())
     }
 
     /// Looks at the plan that the fresh move of this number led to, which stands on the board now.
     pub(crate) fn look(&mut self, board: &Board, number: usize) -> Result<(), AllocError> {
+        if self.left == 0 {
+            return Ok(());
+        }
         if number >= self.places.len() {
             return Ok(());
         }

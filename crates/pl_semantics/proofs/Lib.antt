@@ -1,4 +1,5 @@
 pub mod Found
+pub mod Measured
 pub mod Children
 pub mod Crossing
 pub mod Owning

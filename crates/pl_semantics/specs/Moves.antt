@@ -92,10 +92,10 @@ presets_of unset (Some g) = g.presets
 
 -- a root with the next id; the presets of its goal are set
 abbrev pub root_for : PlanState → ℕ → ℕ → Option ℕ → Activity
-root_for s kind start goal = record { id = s.next_id; kind = kind; start = start; parent = None; goal = goal; detail = None; set = presets_of (unset_row s kind) (option_and_then (goal_at s) goal) }
+root_for s kind start goal = record { id = s.next_id; kind = kind; start = start; parent = None; goal = goal; detail = None; set = presets_of (unset_row s kind) (option_and_then (goal_at s) goal); measured = None }
 
 abbrev pub child_for : PlanState → ℕ → ℕ → ℕ → Slot → ℕ → Activity
-child_for s parent slot id at start = record { id = id; kind = at.kind; start = start; parent = Some (parent, slot); goal = None; detail = None; set = unset_row s at.kind }
+child_for s parent slot id at start = record { id = id; kind = at.kind; start = start; parent = Some (parent, slot); goal = None; detail = None; set = unset_row s at.kind; measured = None }
 
 -- the children for the slots from this number on: each has the next id, and starts by its slot's offset after the parent
 abbrev pub children_from : PlanState → Activity → ℕ → List Slot → List ℕ → List Activity

@@ -36,7 +36,7 @@ row_of s a = values_of s.model s.plan.activities a.id
 abbrev pub amounts_at : PlanState → Activity → Row
 amounts_at s a = amounts_of s.model s.plan.activities a.id
 
--- its start and its duration together, where it is firm
+-- its end, where it is firm
 abbrev pub end_at : PlanState → Activity → Option ℕ
 end_at s a = end_of s.model s.plan.activities a.id
 

@@ -1,11 +1,16 @@
 -- What telemetry leaves out, by the moment of a base itself, which is -1 before any telemetry.
-use Rattle.std.specs.Prelude.{ℕ, nat_le, ◌&&◌, ℤ, pos, negsuc, int_lt, List, [], ◌∷◌, Option, Some, None, if◌then◌else◌}
+use Rattle.std.specs.Prelude.{ℕ, ◌<◌, ◌≤◌, nat_le, ◌&&◌, ℤ, pos, negsuc, int_lt, List, [], ◌∷◌, Option, Some, None, IfSome, if◌then◌else◌}
 use Rattle.pl_level.specs.declared.reservation.Effect.{Effect}
 use Rattle.pl_state.specs.declared.reservation.Setting.{Setting}
 use Rattle.pl_facts.specs.Bases.{base_of}
+use Rattle.pl_plan.specs.declared.activity.Activity.{Activity}
 use Rattle.pl_semantics.specs.declared.plan_state.PlanState.{PlanState}
 use Rattle.pl_semantics.specs.declared.demand.Asked.{Asked}
 use Rattle.pl_semantics.specs.declared.demand.Asked.TheVariants as asked
+
+-- it starts at 1 at the earliest, and an end that was measured lies behind its start
+abbrev pub IsBehindZero : Activity → Type 0
+IsBehindZero a = (1 ≤ a.start) × IfSome a.measured (λ m. a.start < m)
 
 -- the first moment of what is asked for
 abbrev pub first_moment : Asked → ℕ

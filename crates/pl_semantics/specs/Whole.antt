@@ -44,6 +44,10 @@ AreBasesAt model moment bases = (line : ℕ) (t : Timeline) → slice_get model.
 abbrev pub IsIdBelow : ℕ → Activity → Type 0
 IsIdBelow next a = (1 ≤ a.id) × (a.id < next)
 
+-- where its end was measured, it has begun and is committed
+abbrev pub HasBegun : ℕ → ℕ → Activity → Type 0
+HasBegun moment committed a = IfSome a.measured (λ end. (a.start ≤ moment) × (a.start < committed))
+
 pub record IsWhole (s : PlanState) : Type 0 where
   pub checked : IsChecked s.model
   pub rising : AreRising s.plan.activities
@@ -58,3 +62,4 @@ pub record IsWhole (s : PlanState) : Type 0 where
   pub next : (1 ≤ s.next_id) × (s.next_id ≤ 4000000001)
   pub limit : s.live_limit ≤ 10000
   pub live : length s.plan.activities ≤ s.live_limit
+  pub begun : All (HasBegun s.moment s.committed) s.plan.activities

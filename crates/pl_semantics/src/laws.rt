@@ -6,18 +6,20 @@ ghost use Rattle.pl_conflict.specs.Order.{has};
 ghost use Rattle.pl_conflict.specs.Sorting.{AreInOrder};
 ghost use Rattle.pl_facts.specs.Goals.{AreDistinct};
 ghost use Rattle.pl_plan.specs.Activities.{AreRising};
+ghost use Rattle.pl_plan.specs.declared.activity.Activity.{Activity};
 ghost use Rattle.pl_plan.specs.declared.repair.RepairMove.{RepairMove};
 ghost use Rattle.pl_semantics.specs.declared.refusal.Refusal.{Refusal};
 ghost use Rattle.pl_semantics.specs.declared.plan_state.PlanState.{PlanState};
+ghost use Rattle.pl_semantics.specs.Whole.{IsWhole};
 ghost use Rattle.pl_semantics.specs.Parts.{part_of, of_goals, of_activities, of_links, of_timelines};
 ghost use Rattle.pl_semantics.specs.Goals.{goal_conflicts, open_of, off_of};
 ghost use Rattle.pl_semantics.specs.Activities.{activity_conflicts, wrong_of};
 ghost use Rattle.pl_semantics.specs.Links.{link_conflicts, linked_of};
 ghost use Rattle.pl_semantics.specs.Timelines.{timeline_conflicts, line_conflicts_of};
 ghost use Rattle.pl_semantics.specs.Owners.{owner_of};
-ghost use Rattle.pl_semantics.specs.PlanStates.{of_found, natural};
+ghost use Rattle.pl_semantics.specs.PlanStates.{found, is_committed, of_found, natural};
 ghost use Rattle.pl_semantics.specs.Demands.{demands_of, effects_of, sets_of, told, level_at, state_at};
-ghost use Rattle.pl_semantics.specs.Telemetry.{first_moment, told_at, counted_after, state_after};
+ghost use Rattle.pl_semantics.specs.Telemetry.{IsBehindZero, first_moment, told_at, counted_after, state_after};
 ghost use Rattle.pl_points.specs.Sums.{total};
 ghost use Rattle.pl_semantics.specs.Conflicts.{conflicts_of};
 ghost use Rattle.pl_semantics.specs.Grants.{touches_before};
@@ -51,9 +53,14 @@ pub fn laws_of_subjects()
 
 /// Nothing is asked for before the moment 1, so a base of the moment -1 counts as one of 0 does.
 pub fn laws_of_telemetry()
-    ensures later { (s : PlanState) → All (λ a. 1 ≤ a.start) s.plan.activities → All (λ d. 1 ≤ first_moment d.asked) (demands_of s) }
-    ensures level { (s : PlanState) → All (λ a. 1 ≤ a.start) s.plan.activities → (line t : ℕ) → level_at s line t ≡ told s line +ℤ total (counted_after (told_at s line) t) (effects_of line (demands_of s)) }
-    ensures state { (s : PlanState) → All (λ a. 1 ≤ a.start) s.plan.activities → (line t : ℕ) → state_at s line t ≡ state_after (told_at s line) t (natural (told s line)) (sets_of line (demands_of s)) }
+    ensures later { (s : PlanState) → All IsBehindZero s.plan.activities → All (λ d. 1 ≤ first_moment d.asked) (demands_of s) }
+    ensures level { (s : PlanState) → All IsBehindZero s.plan.activities → (line t : ℕ) → level_at s line t ≡ told s line +ℤ total (counted_after (told_at s line) t) (effects_of line (demands_of s)) }
+    ensures state { (s : PlanState) → All IsBehindZero s.plan.activities → (line t : ℕ) → state_at s line t ≡ state_after (told_at s line) t (natural (told s line)) (sets_of line (demands_of s)) }
+{}
+
+/// The end of an activity that is not committed was not measured.
+pub fn laws_of_measured_ends()
+    ensures none { (s : PlanState) → IsWhole s → (id : ℕ) (a : Activity) → found s id ≡ Some a → is_committed s a ≡ false → a.measured ≡ None }
 {}
 
 /// No conflict touches what comes before a moment exactly where the first of them does not.

@@ -12,8 +12,8 @@ mod slots;
 
 pub use demand::{Asked, Demand};
 pub use laws::{
-    laws_of_candidates, laws_of_conflicts, laws_of_grants, laws_of_parts, laws_of_refusals,
-    laws_of_spread, laws_of_subjects, laws_of_telemetry,
+    laws_of_candidates, laws_of_conflicts, laws_of_grants, laws_of_measured_ends, laws_of_parts,
+    laws_of_refusals, laws_of_spread, laws_of_subjects, laws_of_telemetry,
 };
 pub use plan_state::PlanState;
 pub use refusal::Refusal;

@@ -1,11 +1,9 @@
 -- Spans of a property, one piece more.
-use Rattle.std.proofs.Common.{◌≡◌, ℕ, ◌-◌, ◌<◌, ◌≤◌, Bool, true, false, ◌&&◌, ◌||◌, cond, List, [], ◌∷◌, refl, ap, sym, ◌∙◌, subst, arith, leb, min, max, Result, Ok, Err, IfOk}
-use Rattle.std.proofs.lemmas.Bool.{leb-true, leb-false}
+use Rattle.std.proofs.Common.{◌≡◌, ℕ, ◌-◌, ◌<◌, ◌≤◌, Bool, true, false, ◌&&◌, ◌||◌, cond, List, [], ◌∷◌, refl, ap, sym, ◌∙◌, subst, arith, min, max, Result, Ok, Err, IfOk}
 use Rattle.std.proofs.Math.Bool.{or-false, and-false}
 use Rattle.pl_points.specs.declared.span.Span.{Span}
 use Rattle.pl_points.specs.Spans.{within, AreApart, AreMaximal, span, joined}
 use Rattle.pl_points.proofs.Spanning.{and_true, apart_wider, apart-joined, covers-joined, piece_more}
-use Rattle.pl_points.proofs.Cuts.{within_high, within_low}
 
 pub more_maximal : (P : ℕ → Bool) (a at end : ℕ) (s new : List Span) (v : Bool) → a ≤ at → at < end → AreMaximal P a at s → new ≡ cond v (joined s (span at end ∷ [])) s → ((t : ℕ) → at ≤ t → t < end → P t ≡ v) → AreMaximal P a end new
 more_maximal P a at end s new v le lt maximal is same = subst (λ l. AreMaximal P a end l) (sym is) (cases v same)
@@ -27,17 +25,6 @@ more_maximal P a at end s new v le lt maximal is same = subst (λ l. AreMaximal 
           ∙ (sym (ap (λ b. (within a at t && P t) || b) (and-false (within at end t)) ∙ or-false (within a at t && P t))
           ∙ piece_more a at end t false (P t) false le (omega (arith, lt)) (same t));
     }
-
--- no spans yet
-pub none_maximal : (P : ℕ → Bool) (a : ℕ) → AreMaximal P a a []
-none_maximal P a = record { apart = tt; exact = λ t. sym (empty t) }
-  where
-    empty : (t : ℕ) → (within a a t && P t) ≡ false
-    empty t = cases (leb a t) refl
-      where
-        cases : (v : Bool) → leb a t ≡ v → (within a a t && P t) ≡ false
-        cases true e = rw (within_high a a t (leb-true a t e)) refl
-        cases false e = rw (within_low a a t (leb-false a t e)) refl
 
 pub if_ok_weaker : {T E : Type 0} (P Q : T → Type 0) (r : Result T E) → ((x : T) → P x → Q x) → IfOk r P → IfOk r Q
 if_ok_weaker P Q (Ok x) f h = f x h

@@ -45,11 +45,6 @@ filled_set i [] r some f = tt
 filled_set zero (x ∷ xs) r some f = (some, f.1)
 filled_set (suc i) (x ∷ xs) r some f = (f.0, filled_set i xs r some f.1)
 
-pub filled_at : {T : Type 0} (i : ℕ) (xs : List (List T)) (r : List T) → i < length xs → r ≡ get_or xs i r → AreFilled xs → 0 < length r
-filled_at i [] r lt is f = absurd (omega (arith, lt))
-filled_at zero (x ∷ xs) r lt is f = subst (λ l. 0 < length l) (sym is) f.0
-filled_at (suc i) (x ∷ xs) r lt is f = filled_at i xs r (omega (arith, lt)) is f.1
-
 -- a place in a row cuts the whole
 pub cut_there : {T : Type 0} (before r behind : List T) (at n : ℕ) → at ≤ length r → length before + at ≡ n → (take n (before ++ (r ++ behind)) ≡ before ++ take at r) × (drop n (before ++ (r ++ behind)) ≡ drop at r ++ behind)
 cut_there [] r behind at n le is =
@@ -150,14 +145,6 @@ next_row {T} rs r place row at near is lt =
     there : 0 < length (together (drop (suc row) rs)) → (l : List (List T)) → drop (suc row) rs ≡ l → suc row < length rs
     there more [] e = absurd (omega (arith, more, ap (λ q. length (together q)) e))
     there more (x ∷ l) e = omega (arith, length-drop (suc row) rs, ap length e)
-
-pub spot_found : {T : Type 0} (rs : List (List T)) (r : List T) (place row at : ℕ) → IsNear rs place row at → r ≡ get_or rs row r → at ≤ length r → IsSpot rs place row at
-spot_found rs r place row at near is le = record {
-  there = near.there;
-  low = subst (λ l. at ≤ length l) (is ∙ get_or_default rs row r [] near.there) le;
-  whole = near.whole;
-  later = near.later;
-}
 
 -- the spot behind an item
 pub spot_behind : {T : Type 0} (rs l : List (List T)) (place row at : ℕ) → l ≡ rs → IsSpot l (place + 1) row at → IsSpot rs (suc place) row (suc (at - 1))

@@ -39,10 +39,6 @@ held_self same itself p (x ∷ xs) = (
   subst (λ l. Held same l xs) (append_assoc p (x ∷ []) xs) (held_self same itself (p ++ x ∷ []) xs),
 )
 
-pub held_parts : {T : Type 0} (same : T → T → Bool) (all xs ys : List T) → Held same all (xs ++ ys) → Held same all xs × Held same all ys
-held_parts same all [] ys held = (tt, held)
-held_parts same all (x ∷ xs) ys held = let more = held_parts same all xs ys held.1 in ((held.0, more.0), more.1)
-
 -- with the same front and end, only what is between them can be left out
 pub left_middle : {T : Type 0} (same : T → T → Bool) → ((x : T) → same x x ≡ true) → (a m n c : List T) → left_out same (a ++ (n ++ c)) (a ++ (m ++ c)) ≡ left_out same (a ++ (n ++ c)) m
 left_middle same itself a m n c =

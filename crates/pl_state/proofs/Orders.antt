@@ -8,7 +8,7 @@ use Rattle.pl_points.specs.Standing.{without}
 use Rattle.pl_points.proofs.Parting.{drop_next, back_fails}
 use Rattle.pl_state.specs.declared.reservation.Setting.{Setting}
 use Rattle.pl_state.specs.Sets.{set_before, same_setting, with_set, AreInOrder, is_passed, state_from}
-use Rattle.pl_state.specs.Near.{rest_after, next_moment}
+use Rattle.pl_state.specs.Near.{next_moment}
 
 pub order_later : (b c : ℕ) (xs : List Setting) → b ≤ c → AreInOrder c xs → AreInOrder b xs
 order_later b c [] le ordered = tt
@@ -108,13 +108,6 @@ without_at same u xs i p rest lt is yes_same =
     let f : without same u (p ∷ drop (suc i) xs) ≡ drop (suc i) xs = rw yes_same refl in
     ap (λ l. take i xs ++ l) (sym f ∙ sym (ap (without same u) e)) ∙ rest
 
--- and what follows it
-pub rest_at : {X : Type 0} (same : X → X → Bool) (u : X) (xs : List X) (i : ℕ) (p : X) → rest_after same u (drop i xs) ≡ rest_after same u xs → i < length xs → p ≡ get_or xs i p → same p u ≡ true → drop (suc i) xs ≡ rest_after same u xs
-rest_at same u xs i p rest lt is yes_same =
-    let e : drop i xs ≡ p ∷ drop (suc i) xs = drop_next xs i p lt ∙ ap (λ q. q ∷ drop (suc i) xs) (sym is) in
-    let f : rest_after same u (p ∷ drop (suc i) xs) ≡ drop (suc i) xs = rw yes_same refl in
-    sym f ∙ (sym (ap (rest_after same u) e) ∙ rest)
-
 pub next_late : (at i : ℕ) (xs : List Setting) (p : Setting) → drop i xs ≡ back (is_passed at) xs → i < length xs → p ≡ get_or xs i p → (at < p.at) × (back (is_passed at) xs ≡ p ∷ drop (suc i) xs)
 next_late at i xs p rest lt is =
     let e : back (is_passed at) xs ≡ p ∷ drop (suc i) xs = sym rest ∙ (drop_next xs i p lt ∙ ap (λ q. q ∷ drop (suc i) xs) (sym is)) in
@@ -137,21 +130,3 @@ later_moment h m (x ∷ xs) le = cases (leb x.at m) refl (later_moment h m xs le
     cases : (b : Bool) → leb x.at m ≡ b → m ≤ next_moment h (back (is_passed m) xs) → m ≤ next_moment h (cond b (back (is_passed m) xs) (x ∷ xs))
     cases true e more = more
     cases false e more = omega (arith, le, leb-false x.at m e)
-
-tails_of : {X : Type 0} (x : X) (l k : List X) → x ∷ l ≡ x ∷ k → l ≡ k
-tails_of x l k h = cc
-
--- what follows a front, by its place
-pub place_rest : {X : Type 0} (p : X → Bool) (xs : List X) (i : ℕ) → take i xs ≡ front p xs → i ≤ length xs → drop i xs ≡ back p xs
-place_rest p [] zero before le = refl
-place_rest p [] (suc i) before le = refl
-place_rest p (x ∷ xs) zero before le = cases (p x) refl
-  where
-    cases : (b : Bool) → p x ≡ b → x ∷ xs ≡ back p (x ∷ xs)
-    cases true f = let h : [] ≡ x ∷ front p xs = before ∙ rw f refl in absurd (cc)
-    cases false f = rw f refl
-place_rest p (x ∷ xs) (suc i) before le = cases (p x) refl (λ e. place_rest p xs i e (omega (arith, le)))
-  where
-    cases : (b : Bool) → p x ≡ b → (take i xs ≡ front p xs → drop i xs ≡ back p xs) → drop i xs ≡ back p (x ∷ xs)
-    cases true f more = rw f (more (tails_of x (take i xs) (front p xs) (before ∙ rw f refl)))
-    cases false f more = let h : x ∷ take i xs ≡ [] = before ∙ rw f refl in absurd (cc)

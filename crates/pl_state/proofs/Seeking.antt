@@ -1,8 +1,7 @@
 -- A search for an item of a sorted list.
-use Rattle.std.proofs.Common.{◌≡◌, ℕ, ◌+◌, ◌-◌, ◌<◌, ◌≤◌, Bool, true, false, cond, List, [], ◌∷◌, ◌++◌, length, take, drop, get_or, refl, ap, sym, ◌∙◌, subst, arith, suc}
+use Rattle.std.proofs.Common.{◌≡◌, ℕ, ◌+◌, ◌-◌, ◌<◌, Bool, true, false, cond, List, [], ◌∷◌, ◌++◌, length, take, drop, get_or, refl, ap, sym, ◌∙◌, subst, arith, suc}
 use Rattle.std.proofs.lemmas.Bool.{true≢false}
-use Rattle.std.proofs.lemmas.List.{append_assoc, take-append-drop, drop_all}
-use Rattle.std.proofs.Math.Seq.{take-suc}
+use Rattle.std.proofs.lemmas.List.{take-append-drop}
 use Rattle.pl_lists.specs.Lists.{front, back, is_among}
 use Rattle.pl_points.specs.Standing.{without}
 use Rattle.pl_points.proofs.Parting.{drop_next}
@@ -52,19 +51,6 @@ sought_begin key same known u xs i before rest =
       rest = ap (rest_after same u) rest ∙ all.2;
     }
 
-pub sought_next : {T : Type 0} (same : T → T → Bool) (u : T) (xs : List T) (i : ℕ) (p : T) → IsSought same u xs i → i < length xs → p ≡ get_or xs i p → same p u ≡ false → IsSought same u xs (suc i)
-sought_next same u xs i p sought lt is other =
-    let e : drop i xs ≡ p ∷ drop (suc i) xs = drop_next xs i p lt ∙ ap (λ q. q ∷ drop (suc i) xs) (sym is) in
-    let f : take (suc i) xs ≡ take i xs ++ p ∷ [] = take-suc xs i p lt ∙ ap (λ q. take i xs ++ q ∷ []) (sym is) in
-    let a : is_among same (p ∷ drop (suc i) xs) u ≡ is_among same (drop (suc i) xs) u = rw other refl in
-    let b : without same u (p ∷ drop (suc i) xs) ≡ p ∷ without same u (drop (suc i) xs) = rw other refl in
-    let c : rest_after same u (p ∷ drop (suc i) xs) ≡ rest_after same u (drop (suc i) xs) = rw other refl in
-    record {
-      among = sym a ∙ (sym (ap (λ l. is_among same l u) e) ∙ sought.among);
-      gone = ap (λ l. l ++ without same u (drop (suc i) xs)) f ∙ (append_assoc (take i xs) (p ∷ []) (without same u (drop (suc i) xs)) ∙ (ap (λ l. take i xs ++ l) (sym b) ∙ (sym (ap (λ l. take i xs ++ without same u l) e) ∙ sought.gone)));
-      rest = sym c ∙ (sym (ap (rest_after same u) e) ∙ sought.rest);
-    }
-
 -- it is found
 pub record IsFound {T : Type 0} (same : T → T → Bool) (u : T) (xs : List T) (i : ℕ) : Type 0 where
   pub among : true ≡ is_among same xs u
@@ -112,11 +98,6 @@ sought_passed key same known u xs i p sorted sought lt is later =
     let e : drop i xs ≡ p ∷ drop (suc i) xs = drop_next xs i p lt ∙ ap (λ q. q ∷ drop (suc i) xs) (sym is) in
     let rest : AreSorted key (p ∷ drop (suc i) xs) = subst (λ l. AreSorted key l) e (sorted_drop key i xs sorted) in
     missed same u xs i sought (subst (λ l. IsMissing same u l) (sym e) (none_same key same known u (key p) (p ∷ drop (suc i) xs) later (before_itself (key p), rest.0))) (take-append-drop i xs)
-
-pub sought_end : {T : Type 0} (same : T → T → Bool) (u : T) (xs : List T) (i : ℕ) → IsSought same u xs i → length xs ≤ i → IsMissing same u xs
-sought_end same u xs i sought le =
-    let e : drop i xs ≡ [] = drop_all i xs le in
-    missed same u xs i sought (subst (λ l. IsMissing same u l) (sym e) (record { among = refl; gone = refl; rest = refl })) (take-append-drop i xs)
 
 -- two searches find those with a key
 pub run_is : {T : Type 0} (key : T → Key) (k : Key) (xs slice rest : List T) (f n m : ℕ) → slice ≡ drop f xs → rest ≡ drop (f + n) xs → take n slice ≡ front (is_before key k) slice → drop n slice ≡ back (is_before key k) slice

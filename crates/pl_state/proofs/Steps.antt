@@ -58,16 +58,6 @@ bad_later : (b c : ℕ) (l : List BadSet) → b ≤ c → AreBadInOrder c l → 
 bad_later b c [] le ordered = tt
 bad_later b c (x ∷ l) le ordered = (omega (arith, le, ordered.0), ordered.1)
 
-rising_over : (v : Bool) (q : BadSet) (c : ℕ) (l : List BadSet) → c ≤ q.at → AreBadInOrder q.at l → AreBadInOrder c (cond v (q ∷ []) [] ++ l)
-rising_over true q c l le ordered = (le, ordered)
-rising_over false q c l le ordered = bad_later c q.at l le ordered
-
--- the sets that are told are in order
-pub bad_rising : (al : ℕ → ℕ → Bool) (base h mo s c : ℕ) (xs : List Setting) → AreInOrder c xs → AreBadInOrder c (bad_from al base h mo s xs)
-bad_rising al base h mo s c [] ordered = tt
-bad_rising al base h mo s c (x ∷ xs) ordered =
-    rising_over (told al base h mo s x) (bad_set x) c (bad_from al base h mo (cond (is_counted base h x) x.state s) xs) ordered.0 (bad_rising al base h mo (cond (is_counted base h x) x.state s) x.at xs ordered.1)
-
 none_bad_before : (at c : ℕ) (l : List BadSet) → at ≤ c → AreBadInOrder c l → NonePass (bad_before at) l
 none_bad_before at c [] le ordered = tt
 none_bad_before at c (x ∷ l) le ordered = (le-ltb x.at at (omega (arith, le, ordered.0)), none_bad_before at x.at l (omega (arith, le, ordered.0)) ordered.1)

@@ -45,9 +45,8 @@ pub all_met : (net : Net) (times : List ℤ) → ((k : ℕ) → k < length net.e
 all_met net times m k d h = rw (get_or_default net.edges k d (record { from = 0; to = 0; most = pos 0 }) h) (m k h)
 
 zero_time : (n p : ℕ) → time_of (replicate n (pos 0)) p ≡ pos 0
-zero_time zero p = refl
-zero_time (suc n) zero = refl
 zero_time (suc n) (suc p) = zero_time n p
+zero_time _ _ = refl
 
 none_from_not_some : (o : Option ℕ) → ((k : ℕ) → o ≡ Some k → ⊥) → o ≡ None
 none_from_not_some None h = refl

@@ -61,15 +61,8 @@ module _ {I X : Type 0} (spell : I → List Token → List Token) (value : I →
 
 -- ---- names, steps, states
 
-name_again : EachAgain spell_name (λ n. n) Any name_tokens (λ n. n)
-name_again n rest h = (record { same = refl; fits = λ f. tt; written = λ r. refl; real = λ r g. (h.0, g) }, h.1)
-
 step_again : EachAgain spell_step step_tree Any step_tokens (λ s. s)
 step_again s rest h = (record { same = refl; fits = λ f. tt; written = λ r. refl; real = λ r g. (tt, (h.1.0, (h.1.1.0, g))) }, h.1.1.1)
-
-map_same : {X : Type 0} (xs : List X) → map (λ x. x) xs ≡ xs
-map_same [] = refl
-map_same {X} (x ∷ xs) = ap (λ (ys : List X). x ∷ ys) (map_same xs)
 
 abbrev steps_pair_tokens : Bool × List (Name × Name) → List Token
 steps_pair_tokens p = steps_tokens p.0 p.1

@@ -32,10 +32,6 @@ form_refuses spell value ok R these bars starts apart t ts d is h = let a = apar
 pub guards_apart : (D : Type 0) {J Y : Type 0} (these bars stops : Token → Bool) (spell : J → List Token → List Token) (value : J → Y) → Starts these spell → ((t : Token) → bars t ≡ true → these t ≡ false) → Guards D bars stops spell value
 guards_apart D these bars stops spell value starts apart ok R refuses = form_refuses spell value ok R these bars starts apart
 
--- nothing is barred
-pub guards_none : (D : Type 0) {J Y : Type 0} (stops : Token → Bool) (spell : J → List Token → List Token) (value : J → Y) → Guards D never stops spell value
-guards_none D stops spell value ok R refuses t ts d is h = absurd cc
-
 pub Starts-both : {I J : Type 0} (these : Token → Bool) (spell_a : I → List Token → List Token) (spell_b : J → List Token → List Token) → Starts these spell_a → Starts these (λ (p : I × J) rest. spell_a p.0 (spell_b p.1 rest))
 Starts-both these spell_a spell_b s = record { some = λ p rest e. s.some p.0 (spell_b p.1 rest) e; first = λ p rest t ts e. s.first p.0 (spell_b p.1 rest) t ts e }
 

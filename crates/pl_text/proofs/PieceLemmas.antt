@@ -56,7 +56,6 @@ skip_run at bs rest =
 
 pub piece_read : (at : ℕ) (p : Piece) (rest : List ℕ) → IsPiece p rest → tokens_at 0 at (spell_piece p rest) ≡ behind (token_of at p) (tokens_at 0 (at + size p) rest)
 unfolding tokens_at lexeme_of
-piece_read at (blank b) rest is = rw is refl
 piece_read at (comment bs) rest is =
     rw (hash, run_len in_line bs rest is.0 is.1, skip_run at bs rest) refl
 piece_read at (word b bs) rest is =
@@ -66,7 +65,7 @@ piece_read at (number d ds) rest is =
     let short : ltb 18 (length ds + 1) ≡ false = le-ltb 18 (length ds + 1) (omega (arith, is.1)) in
     let one : length ds + 1 - 1 ≡ length ds = omega arith in
     rw (is.0, run_len is_number_byte ds rest is.2.0 is.2.1, short, skip_run at ds rest, one, take-append_seam ds rest) refl
-piece_read at (symbol b) rest is = rw is refl
+piece_read at _ rest is = rw is refl
 
 pub pieces_read : (at : ℕ) (ps : List Piece) (rest : List ℕ) (r : Result (List Token) TextFault) → ArePieces ps rest → tokens_at 0 (end_of at ps) rest ≡ r → tokens_at 0 at (spell ps rest) ≡ behind (tokens_in at ps) r
 pieces_read at [] rest r are e = e ∙ behind-none r
@@ -153,11 +152,10 @@ unfolding tokens_at
 stopped at b bs e is = rw is refl
 
 shorter : (p : Piece) (rest : List ℕ) → length rest < length (spell_piece p rest)
-shorter (blank b) rest = omega arith
 shorter (comment bs) rest = omega (arith, length-append bs rest)
 shorter (word b bs) rest = omega (arith, length-append bs rest)
 shorter (number d ds) rest = omega (arith, length-append ds rest)
-shorter (symbol b) rest = omega arith
+shorter _ rest = omega arith
 
 lexes_next : (n at b : ℕ) (bs : List ℕ) → length (b ∷ bs) ≤ suc n → ((at : ℕ) (text : List ℕ) → length text ≤ n → Lexes at text (tokens_at 0 at text)) → Next at b bs → Lexes at (b ∷ bs) (tokens_at 0 at (b ∷ bs))
 lexes_next n at b bs short ih (bad e is faulty) =
@@ -182,11 +180,7 @@ lexes (suc n) at (b ∷ bs) short = lexes_next n at b bs short (λ at' text few.
 
 digit_by_class : (c : Class) → is_digit_class c ≡ true → c ≡ class.Digit
 digit_by_class class.Digit e = refl
-digit_by_class class.Blank e = absurd (cc)
-digit_by_class class.Comment e = absurd (cc)
-digit_by_class class.Letter e = absurd (cc)
-digit_by_class class.Symbol e = absurd (cc)
-digit_by_class class.Bad e = absurd (cc)
+digit_by_class _ e = absurd (cc)
 
 digit_class : (b : ℕ) → is_number_byte b ≡ true → class_of b ≡ class.Digit
 digit_class b e = digit_by_class (class_of b) e
@@ -206,10 +200,8 @@ bad_lexeme fault.Memory at b bs is = absurd is
 
 bad_rest : (e : TextFault) (at : ℕ) (rest : List ℕ) → IsBad e at rest → tokens_at 0 at rest ≡ Err e
 bad_rest (fault.BadByte place) at [] is = absurd is
-bad_rest (fault.BadNumber place) at [] is = absurd is
-bad_rest (fault.BadName place) at [] is = absurd is
-bad_rest fault.Memory at [] is = absurd is
 bad_rest e at (b ∷ bs) is = stopped at b bs e (bad_lexeme e at b bs is)
+bad_rest _ at [] is = absurd is
 
 pub stops_at : (ps : List Piece) (rest : List ℕ) (e : TextFault) → ArePieces ps rest → IsBad e (end_of 0 ps) rest → tokens_of (spell ps rest) ≡ Err e
 stops_at ps rest e are is = pieces_read 0 ps rest (Err e) are (bad_rest e (end_of 0 ps) rest is)

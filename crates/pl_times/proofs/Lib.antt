@@ -6,3 +6,4 @@ pub mod Turning
 pub mod Ends
 pub mod PathLaws
 pub mod Backwards
+pub mod Walking

@@ -4,3 +4,4 @@ pub mod Index
 pub mod Settling
 pub mod Mirror
 pub mod Bounded
+pub mod Walks

@@ -6,9 +6,11 @@ ghost use Rattle.pl_times.specs.Times.{IsSmall, IsAboveAll, is_met};
 ghost use Rattle.pl_times.specs.Bounded.{AreBounds, HasCycle};
 
 use crate::bounds::Bounds;
+use crate::closing::is_cycle;
 use crate::mirror::latest_times;
 use crate::settling::earliest_times;
 use crate::tracing::edges_of;
+use crate::trying::{Found, look_quickly};
 use pl_lists::Items;
 use pl_stn::{Edge, Net, Verdict, solve};
 use std::alloc::{AllocError, Global};
@@ -59,6 +61,42 @@ fn is_solution(net: &Net, times: &[i64]) -> bool
     are_met(net.edges.as_slice(), times)
 }
 
+fn times_or_solve(alloc: Global, net: &Net, times: Vec<i64>) -> Result<Verdict, AllocError>
+    requires { IsWellFormed net.now }
+    ensures solution { IfOk result (λ v. IfTimes v (IsSolution net.now)) }
+    ensures cycle { IfOk result (λ v. IfCycle v (IsNegativeCycle net.now)) }
+{
+    if is_solution(net, times.as_slice()) {
+        return Ok(Verdict::Times(Items::from_vec(times)));
+    }
+    solve(alloc, net)
+}
+
+fn cycle_or_solve(alloc: Global, net: &Net, numbers: Vec<u32>) -> Result<Verdict, AllocError>
+    requires { IsWellFormed net.now }
+    ensures solution { IfOk result (λ v. IfTimes v (IsSolution net.now)) }
+    ensures cycle { IfOk result (λ v. IfCycle v (IsNegativeCycle net.now)) }
+{
+    if is_cycle(alloc, net, numbers.as_slice())? {
+        return Ok(Verdict::Cycle(Items::from_vec(numbers)));
+    }
+    solve(alloc, net)
+}
+
+/// A solution, or a negative cycle. A quick look finds one of them in nearly all cases, and `solve` in all.
+#[tactic(auto, using(crate::proofs::Ends::joined_from))]
+fn solution_of(alloc: Global, net: &Net, guess: &[i64]) -> Result<Verdict, AllocError>
+    requires { IsWellFormed net.now }
+    ensures solution { IfOk result (λ v. IfTimes v (IsSolution net.now)) }
+    ensures cycle { IfOk result (λ v. IfCycle v (IsNegativeCycle net.now)) }
+{
+    match look_quickly(alloc, net, guess)? {
+        Found::Times(times) => times_or_solve(alloc, net, times),
+        Found::Cycle(numbers) => cycle_or_solve(alloc, net, numbers),
+        Found::Nothing => solve(alloc, net),
+    }
+}
+
 /// A solution, the guess where it is one, or a negative cycle.
 fn solution_near(alloc: Global, net: &Net, guess: &[i64]) -> Result<Verdict, AllocError>
     requires { IsWellFormed net.now }
@@ -69,7 +107,7 @@ fn solution_near(alloc: Global, net: &Net, guess: &[i64]) -> Result<Verdict, All
         let times = Vec::from_slice(alloc, guess)?;
         return Ok(Verdict::Times(Items::from_vec(times)));
     }
-    solve(alloc, net)
+    solution_of(alloc, net, guess)
 }
 
 #[tactic(auto, using(pl_stn::proofs::Exclusion::cycle_excludes))]

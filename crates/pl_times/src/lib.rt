@@ -4,6 +4,7 @@
 
 mod bounding;
 mod bounds;
+mod closing;
 mod index;
 mod laws;
 mod mirror;
@@ -13,6 +14,7 @@ mod settling;
 mod sharing;
 mod timing;
 mod tracing;
+mod trying;
 
 pub use bounding::bounds_of;
 pub use bounds::Bounds;

@@ -4,3 +4,4 @@ pub mod Putting
 pub mod Keeping
 pub mod Finding
 pub mod Renewing
+pub mod Measuring

@@ -12,4 +12,5 @@ mod refusals;
 mod repairs;
 mod rows;
 mod tried;
+mod until_and_halt;
 mod values;

@@ -4,3 +4,4 @@ mod asserting;
 mod calls;
 mod mending;
 mod reading;
+mod until_and_halt;

@@ -8,4 +8,5 @@ mod hostile;
 mod journals;
 mod limits;
 mod runs;
+mod until_and_halt;
 mod words;

@@ -27,7 +27,7 @@ use Rattle.pl_journal.proofs.AboutRendering.Telling.{code_plain}
 use Rattle.pl_journal.proofs.AboutRendering.Told.{AreTold}
 use Rattle.pl_journal.specs.Parsing.Reads.{Read}
 use Rattle.pl_journal.specs.Parsing.Moves.{activity_code, code_of, code_in, conflict_in, goal_in, addition_in, assignment_in, deletion_in, shift_in, detailing_in, abstraction_in, drop_in, move_by, move_in}
-use Rattle.pl_journal.specs.Parsing.Replies.{goal_reply, input_reply, locked_in, behind_in, beyond_in, fix_reply_by, fix_reply_in, reason_of, rest_reply_in, held_in, commit_reply_by, commit_reply_in, values_in, sent_in}
+use Rattle.pl_journal.specs.Parsing.Replies.{plan_reply, input_reply, locked_in, behind_in, beyond_in, fix_reply_by, fix_reply_in, reason_of, rest_reply_in, held_in, commit_reply_by, commit_reply_in, values_in, sent_in}
 use Rattle.pl_journal.specs.Parsing.Entries.{answered, options_in, are_options, opening_in, message_in, input_by, input_in, fix_in, rested_in, commit_in, dispatch_in, entry_by, entry_in, candidate_in}
 use Rattle.pl_journal.proofs.AboutParsing.Before.{before_word, rest_from_word}
 use Rattle.pl_journal.proofs.AboutParsing.Digits.{count_back}
@@ -228,7 +228,7 @@ input_read w line r p e answer =
     rw (word_back w (codes ":" ∷ line ∷ []) p, e, answer, said_back (codes ":") (line ∷ []) refl, message_back line) refl
 
 input_back : (m : Model) (line : List ℕ) (r : Reply) → IsInputReply r → input_in (spaced (reply_words m r ++ codes ":" ∷ line ∷ [])) ≡ Ok (answered (event.Input (Some line)) r)
-unfolding input_reply goal_reply
+unfolding input_reply plan_reply
 input_back m line reply.Done hr = input_read (codes "ok") line reply.Done refl refl refl
 input_back m line reply.Ended hr = input_read (codes "end") line reply.Ended refl refl refl
 input_back m line reply.BadLine hr = input_read (codes "bad-line") line reply.BadLine refl refl refl
@@ -239,6 +239,8 @@ input_back m line reply.TooLate hr = input_read (codes "too-late") line reply.To
 input_back m line reply.TickBack hr = input_read (codes "tick-back") line reply.TickBack refl refl refl
 input_back m line reply.TickBeyond hr = input_read (codes "tick-beyond") line reply.TickBeyond refl refl refl
 input_back m line reply.TooManyGoals hr = input_read (codes "too-many-goals") line reply.TooManyGoals refl refl refl
+input_back m line reply.NotBegun hr = input_read (codes "not-begun") line reply.NotBegun refl refl refl
+input_back m line reply.EndBack hr = input_read (codes "end-back") line reply.EndBack refl refl refl
 input_back m line _ hr = absurd hr
 
 eof_back : input_in (spaced (codes "eof" ∷ [])) ≡ Ok (answered (event.Input None) reply.Ended)

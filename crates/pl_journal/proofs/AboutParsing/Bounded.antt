@@ -1,5 +1,5 @@
 -- What is read of a line is within the bounds of an entry.
-use Rattle.std.proofs.Common.{◌≡◌, ℕ, suc, ℤ, ◌-◌, ◌<◌, ◌≤◌, ◌^◌, true, cond, ◌&&◌, leb, List, [], ◌∷◌, length, drop, Option, Some, None, Ok, Err, refl, sym, ap, subst, arith}
+use Rattle.std.proofs.Common.{◌≡◌, ℕ, suc, ℤ, ◌<◌, ◌≤◌, ◌^◌, true, cond, ◌&&◌, leb, List, [], ◌∷◌, length, drop, Option, Some, None, Ok, Err, refl, sym, ap, subst, arith}
 use Rattle.std.specs.Prelude.{bytes_eq, codes, slice_get, IfSome, IfOk}
 use Rattle.std.specs.List.{AllByRecursion}
 use Rattle.std.proofs.lemmas.List.Elements.{All-from_recursion}
@@ -23,20 +23,22 @@ use Rattle.pl_journal.specs.declared.parsing.fault.EntryFault.TheVariants as fau
 use Rattle.pl_journal.specs.Parsing.Reads.{Read}
 use Rattle.pl_journal.specs.Parsing.Words.{count_of, count_in, said_in, word_in, amount_of, before, rest_from}
 use Rattle.pl_journal.specs.Parsing.Moves.{conflict_in, kind_named, move_in}
-use Rattle.pl_journal.specs.Parsing.Replies.{goal_reply, input_reply, locked_in, behind_in, beyond_in, fix_reply_by, fix_reply_in, reason_of, rest_reply_in, held_in, commit_reply_by, commit_reply_in, value_of, given_or, named_value, value_at, values_in, sent_in}
+use Rattle.pl_journal.specs.Parsing.Replies.{plan_reply, input_reply, locked_in, behind_in, beyond_in, fix_reply_by, fix_reply_in, reason_of, rest_reply_in, held_in, commit_reply_by, commit_reply_in, value_of, given_or, named_value, value_at, values_in, sent_in}
 use Rattle.pl_journal.specs.Parsing.Entries.{answered, options_in, is_from_1_to, are_options, opening_in, message_in, input_by, input_in, fix_in, rested_in, commit_in, dispatch_in, entry_by, entry_in, candidate_in, MayStand}
 use Rattle.pl_journal.proofs.AboutParsing.BoundedMoves.{chain, whatever, choice, count_of_fits, amount_fits, counted, ConflictFits, conflict_fits, KindIs, kind_is, got_within, MovesWithin, AmountFits, move_fits}
 
 -- ---- replies
 
-goal_reply_fits : (word : List ℕ) → IfOk (goal_reply word) IsInputReply
-unfolding goal_reply
-goal_reply_fits word =
+plan_reply_fits : (word : List ℕ) → IfOk (plan_reply word) IsInputReply
+unfolding plan_reply
+plan_reply_fits word =
     choice (bytes_eq word (codes "duplicate-goal")) (Ok reply.DuplicateGoal) _ IsInputReply (λ e. tt)
     (choice (bytes_eq word (codes "too-late")) (Ok reply.TooLate) _ IsInputReply (λ e. tt)
     (choice (bytes_eq word (codes "tick-back")) (Ok reply.TickBack) _ IsInputReply (λ e. tt)
     (choice (bytes_eq word (codes "tick-beyond")) (Ok reply.TickBeyond) _ IsInputReply (λ e. tt)
-    (choice (bytes_eq word (codes "too-many-goals")) (Ok reply.TooManyGoals) (Err fault.NotALine) IsInputReply (λ e. tt) tt))))
+    (choice (bytes_eq word (codes "too-many-goals")) (Ok reply.TooManyGoals) _ IsInputReply (λ e. tt)
+    (choice (bytes_eq word (codes "not-begun")) (Ok reply.NotBegun) _ IsInputReply (λ e. tt)
+    (choice (bytes_eq word (codes "end-back")) (Ok reply.EndBack) (Err fault.NotALine) IsInputReply (λ e. tt) tt))))))
 
 input_reply_fits : (word : List ℕ) → IfOk (input_reply word) IsInputReply
 unfolding input_reply
@@ -45,7 +47,7 @@ input_reply_fits word =
     (choice (bytes_eq word (codes "end")) (Ok reply.Ended) _ IsInputReply (λ e. tt)
     (choice (bytes_eq word (codes "bad-line")) (Ok reply.BadLine) _ IsInputReply (λ e. tt)
     (choice (bytes_eq word (codes "unknown-name")) (Ok reply.UnknownName) _ IsInputReply (λ e. tt)
-    (choice (bytes_eq word (codes "range")) (Ok reply.Range) (goal_reply word) IsInputReply (λ e. tt) (goal_reply_fits word)))))
+    (choice (bytes_eq word (codes "range")) (Ok reply.Range) (plan_reply word) IsInputReply (λ e. tt) (plan_reply_fits word)))))
 
 abbrev locked_by : ℕ × List ℕ → Read Reply
 locked_by id = Ok (reply.Locked id.0)

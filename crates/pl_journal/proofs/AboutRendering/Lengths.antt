@@ -108,6 +108,8 @@ input_reply_width m reply.TooLate h = omega arith
 input_reply_width m reply.TickBack h = omega arith
 input_reply_width m reply.TickBeyond h = omega arith
 input_reply_width m reply.TooManyGoals h = omega arith
+input_reply_width m reply.NotBegun h = omega arith
+input_reply_width m reply.EndBack h = omega arith
 input_reply_width m _ h = absurd h
 
 fix_reply_width : (m : Model) (r : Reply) → IsFixReply r → width (reply_words m r) ≤ 20

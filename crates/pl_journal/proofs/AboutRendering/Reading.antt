@@ -147,7 +147,7 @@ abbrev pub input_reply_in : List ℕ → Reply
 input_reply_in w =
     cond (same w (codes "ok")) reply.Done (cond (same w (codes "end")) reply.Ended (cond (same w (codes "bad-line")) reply.BadLine (cond (same w (codes "unknown-name")) reply.UnknownName
     (cond (same w (codes "range")) reply.Range (cond (same w (codes "duplicate-goal")) reply.DuplicateGoal (cond (same w (codes "too-late")) reply.TooLate (cond (same w (codes "tick-back")) reply.TickBack
-    (cond (same w (codes "tick-beyond")) reply.TickBeyond reply.TooManyGoals))))))))
+    (cond (same w (codes "tick-beyond")) reply.TickBeyond (cond (same w (codes "too-many-goals")) reply.TooManyGoals (cond (same w (codes "not-begun")) reply.NotBegun reply.EndBack))))))))))
 
 abbrev pub fix_reply_in : List (List ℕ) → Reply
 fix_reply_in ws =

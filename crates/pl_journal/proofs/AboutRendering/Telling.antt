@@ -83,6 +83,8 @@ input_back m line reply.TooLate h = ap (λ (x : List ℕ). answered (event.Input
 input_back m line reply.TickBack h = ap (λ (x : List ℕ). answered (event.Input (Some x)) reply.TickBack) (put_back line)
 input_back m line reply.TickBeyond h = ap (λ (x : List ℕ). answered (event.Input (Some x)) reply.TickBeyond) (put_back line)
 input_back m line reply.TooManyGoals h = ap (λ (x : List ℕ). answered (event.Input (Some x)) reply.TooManyGoals) (put_back line)
+input_back m line reply.NotBegun h = ap (λ (x : List ℕ). answered (event.Input (Some x)) reply.NotBegun) (put_back line)
+input_back m line reply.EndBack h = ap (λ (x : List ℕ). answered (event.Input (Some x)) reply.EndBack) (put_back line)
 input_back m line _ h = absurd h
 
 drop_behind : (ms : List (List ℕ)) (w : List ℕ) (rs : List (List ℕ)) → drop (suc (length ms)) (ms ++ w ∷ rs) ≡ rs

@@ -14,14 +14,16 @@ use Rattle.pl_journal.specs.Parsing.Moves.{conflict_in, kind_named}
 
 -- ---- to messages
 
--- a goal's
-unfoldable pub goal_reply : List ℕ → Read Reply
-goal_reply word =
+-- those that the state of the plan gives a message in its form
+unfoldable pub plan_reply : List ℕ → Read Reply
+plan_reply word =
     if bytes_eq word (codes "duplicate-goal") then Ok reply.DuplicateGoal
     else if bytes_eq word (codes "too-late") then Ok reply.TooLate
     else if bytes_eq word (codes "tick-back") then Ok reply.TickBack
     else if bytes_eq word (codes "tick-beyond") then Ok reply.TickBeyond
     else if bytes_eq word (codes "too-many-goals") then Ok reply.TooManyGoals
+    else if bytes_eq word (codes "not-begun") then Ok reply.NotBegun
+    else if bytes_eq word (codes "end-back") then Ok reply.EndBack
     else Err fault.NotALine
 
 unfoldable pub input_reply : List ℕ → Read Reply
@@ -31,7 +33,7 @@ input_reply word =
     else if bytes_eq word (codes "bad-line") then Ok reply.BadLine
     else if bytes_eq word (codes "unknown-name") then Ok reply.UnknownName
     else if bytes_eq word (codes "range") then Ok reply.Range
-    else goal_reply word
+    else plan_reply word
 
 -- ---- to repairs, rests and commits
 

@@ -1,5 +1,5 @@
 ghost use Rattle.std.specs.Prelude.{◌≡◌};
-ghost use Rattle.pl_journal.specs.Parsing.Replies.{goal_reply, input_reply, fix_reply_by, fix_reply_in, reason_of, rest_reply_in, commit_reply_by, commit_reply_in, locked_in, behind_in, beyond_in, held_in};
+ghost use Rattle.pl_journal.specs.Parsing.Replies.{plan_reply, input_reply, fix_reply_by, fix_reply_in, reason_of, rest_reply_in, commit_reply_by, commit_reply_in, locked_in, behind_in, beyond_in, held_in};
 
 use crate::parsing::conflicts::conflict;
 use crate::parsing::counts::count;
@@ -7,9 +7,9 @@ use crate::parsing::fault::EntryFault;
 use crate::parsing::words::{is, word};
 use pl_entry::{Reason, Reply};
 
-#[tactic(auto, unfolding(crate::specs::Parsing::Replies::goal_reply))]
-fn goal_reply(word: &[u8]) -> Result<Reply, EntryFault>
-    ensures { result ≡ goal_reply word.now }
+#[tactic(auto, unfolding(crate::specs::Parsing::Replies::plan_reply))]
+fn plan_reply(word: &[u8]) -> Result<Reply, EntryFault>
+    ensures { result ≡ plan_reply word.now }
 {
     if is(word, b"duplicate-goal") {
         Ok(Reply::DuplicateGoal)
@@ -21,6 +21,10 @@ fn goal_reply(word: &[u8]) -> Result<Reply, EntryFault>
         Ok(Reply::TickBeyond)
     } else if is(word, b"too-many-goals") {
         Ok(Reply::TooManyGoals)
+    } else if is(word, b"not-begun") {
+        Ok(Reply::NotBegun)
+    } else if is(word, b"end-back") {
+        Ok(Reply::EndBack)
     } else {
         Err(EntryFault::NotALine)
     }
@@ -42,7 +46,7 @@ pub fn input_reply(word: &[u8]) -> Result<Reply, EntryFault>
     } else if is(word, b"range") {
         Ok(Reply::Range)
     } else {
-        goal_reply(word)
+        plan_reply(word)
     }
 }
 

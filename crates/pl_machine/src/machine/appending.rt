@@ -103,6 +103,8 @@ fn change_board(board: &mut Board, alloc: Global, change: Change) -> Result<(), 
         Change::Tick(moment) => board.tick(moment, &mut steps),
         Change::Commit(h) => board.commit(h),
         Change::Repair(repair) => make(alloc, board, &repair, &mut steps),
+        Change::Measure(id, moment) => board.until(id, moment, &mut steps),
+        Change::Withdraw => board.withdraw(),
     }
 }
 

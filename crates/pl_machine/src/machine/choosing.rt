@@ -11,7 +11,7 @@ impl Machine {
         requires open { self.now.world.closed ≡ false }
         requires rested { self.now.world.rested ≡ true }
         requires sent { all_sent self.now.world ≡ true }
-        ensures choice { result ≡ (if nat_lt (behind_of self.now.world.state) (best_in self.now.world.state) then Choice.Commit (best_in self.now.world.state) else Choice.Close) }
+        ensures choice { result ≡ (if nat_lt (behind_of self.now.world.state) (best_in self.now.world) then Choice.Commit (best_in self.now.world) else Choice.Close) }
         ensures enabled { is_enabled self.now.world (event_of result) ≡ true }
     {
         let best = self.best();

@@ -22,9 +22,9 @@ impl Machine {
     }
 
     pub(crate) fn target(&self) -> u32
-        ensures { result ≡ target_in self.now.world.state }
+        ensures { result ≡ target_in self.now.world }
     {
-        target(self.board.model(), self.board.now())
+        target(self.board.model(), self.board.now(), self.round.halted)
     }
 
     fn first(&self) -> Option<Conflict>
@@ -36,9 +36,14 @@ impl Machine {
 
     pub(crate) fn best(&self) -> u32
         requires { self.now.spoiled ≡ false }
-        ensures { result ≡ best_in self.now.world.state }
+        ensures { result ≡ best_in self.now.world }
     {
-        best(self.board.model(), self.board.now(), self.first())
+        best(
+            self.board.model(),
+            self.board.now(),
+            self.round.halted,
+            self.first(),
+        )
     }
 
     fn held_reply(&self, h: u32) -> Reply

@@ -1,26 +1,23 @@
-ghost use Rattle.std.specs.Prelude.{◌≡◌, ◌≢◌, ◌&&◌, not, nat_le, length, true, IfOk, IfSome, Ok, Some};
-ghost use Rattle.std.specs.List.{list_any};
+ghost use Rattle.std.specs.Prelude.{◌≡◌, ◌≢◌, ◌≤◌, ◌&&◌, not, true, IfOk, IfSome, Ok, Some};
 ghost use Rattle.std.specs.Option.{option_copied};
-ghost use Rattle.pl_facts.specs.Goals.{is_numbered};
 ghost use Rattle.pl_entry.specs.Bounds.{IsMessageLine, IsInputReply, IsEventInRange, IsReplyTo};
 ghost use Rattle.pl_msg.specs.Messages.{message_of};
 ghost use Rattle.pl_msg.specs.Limits.{IsWithin};
 ghost use Rattle.pl_semantics.specs.Whole.{IsWhole};
 ghost use Rattle.pl_machine.specs.Changes.{changed, CanChange};
-ghost use Rattle.pl_machine.specs.Messages.{goal_reply, tick_reply, message_reply, line_reply, told_line};
+ghost use Rattle.pl_machine.specs.Messages.{until_reply, message_reply, line_reply, told_line, halts_line};
 ghost use Rattle.pl_machine.specs.Step.{input_reply, reply_of, after};
 ghost use Rattle.pl_machine.specs.Taking.{IsOpen, Answers};
 
 use crate::change::Change;
 use crate::machine::Machine;
 use crate::machine::appending::push_entry;
+use crate::machine::replying::message_reply;
 use crate::round::Round;
 use crate::stop::Stop;
 use pl_entry::{Bytes, Event, Reply};
-use pl_facts::{Goal, Goals};
 use pl_lists::Items;
 use pl_msg::{Message, MsgFault, read_message};
-use pl_semantics::PlanState;
 use std::alloc::{AllocError, Global};
 
 fn line_bytes(alloc: Global, line: &[u8]) -> Result<Bytes, AllocError>
@@ -36,60 +33,6 @@ fn input_bytes(alloc: Global, line: Option<&[u8]>) -> Result<Option<Bytes>, Allo
     match line {
         None => Ok(None),
         Some(line) => Ok(Some(line_bytes(alloc, line)?)),
-    }
-}
-
-/// Whether a goal of this number was accepted.
-fn is_taken(goals: &Goals, number: u32) -> bool
-    ensures { result ≡ list_any (is_numbered number) goals.now }
-{
-    goals.get(number).is_some()
-}
-
-/// Whether as many goals as the limit were accepted.
-fn are_full(goals: &Goals, limit: u32) -> bool
-    ensures { result ≡ nat_le limit (length goals.now) }
-{
-    limit <= goals.len()
-}
-
-fn goal_reply(state: &PlanState, limit: u32, goal: &Goal) -> Reply
-    requires { IsWhole state.now }
-    ensures { result ≡ goal_reply state.now limit goal.now }
-{
-    if is_taken(&state.goals, goal.number) {
-        Reply::DuplicateGoal
-    } else if goal.latest < state.floor() {
-        Reply::TooLate
-    } else if are_full(&state.goals, limit) {
-        Reply::TooManyGoals
-    } else {
-        Reply::Done
-    }
-}
-
-fn tick_reply(state: &PlanState, moment: u64) -> Reply
-    ensures { result ≡ tick_reply state.now moment }
-{
-    if moment <= u64::from(state.moment) {
-        Reply::TickBack
-    } else if u64::from(state.model.get().horizon) < moment {
-        Reply::TickBeyond
-    } else {
-        Reply::Done
-    }
-}
-
-fn message_reply(state: &PlanState, limit: u32, message: &Message) -> Reply
-    requires { IsWhole state.now }
-    ensures value { result ≡ message_reply state.now limit message.now }
-    ensures input { IsInputReply result }
-{
-    match message {
-        Message::Goal(goal) => goal_reply(state, limit, goal),
-        Message::TeleLevel(_, _) | Message::TeleState(_, _) => Reply::Done,
-        Message::Tick(moment) => tick_reply(state, *moment),
-        Message::End => Reply::Ended,
     }
 }
 
@@ -139,27 +82,47 @@ impl Machine {
     {
         match line_bytes(self.alloc, line) {
             Err(_) => Err(self.spoil()),
-            Ok(bytes) => self.append(Event::Input(Some(bytes)), refusal, Round::begun()),
+            Ok(bytes) => self.append(
+                Event::Input(Some(bytes)),
+                refusal,
+                Round::begun(self.round.halted),
+            ),
         }
     }
 
     /// A line is accepted: the plan state changes, and a round begins.
-    fn begin(&mut self, line: &[u8], change: Change) -> Result<Reply, Stop>
+    fn begin(&mut self, line: &[u8], change: Change, halted: bool) -> Result<Reply, Stop>
         requires open { IsOpen self.old (Event.Input (Some line.now)) }
         requires line { IsMessageLine line.now }
         requires done { line_reply self.old.world.state self.old.world.options.goals line.now ≡ Reply.Done }
         requires whole { IsWhole self.old.world.state }
         requires can { CanChange self.old.world.state change }
         requires told { told_line self.old.world.state line.now ≡ changed change self.old.world.state }
+        requires halts { halts_line self.old.world.state self.old.world.halted line.now ≡ halted }
         ensures { Answers self.old (Event.Input (Some line.now)) result self.new }
     {
         match line_bytes(self.alloc, line) {
             Err(_) => Err(self.spoil()),
-            Ok(bytes) => self.carry_out(Event::Input(Some(bytes)), change, Round::begun()),
+            Ok(bytes) => self.carry_out(Event::Input(Some(bytes)), change, Round::begun(halted)),
         }
     }
 
-    #[tactic(auto, using(crate::proofs::Inputs::can_accept, crate::proofs::Inputs::can_tell_level, crate::proofs::Inputs::can_tell_state, crate::proofs::Inputs::can_tick), unfolding(crate::specs::Messages::line_reply, crate::specs::Messages::told_line))]
+    /// The measured end of an activity that has begun is accepted.
+    #[tactic(auto, using(crate::proofs::Measured::can_until, crate::proofs::Measured::until_below), unfolding(crate::specs::Messages::line_reply, crate::specs::Messages::told_line, crate::specs::Messages::halts_line))]
+    fn accept_end(&mut self, line: &[u8], id: u64, moment: u32) -> Result<Reply, Stop>
+        requires open { IsOpen self.old (Event.Input (Some line.now)) }
+        requires line { IsMessageLine line.now }
+        requires message { message_of self.old.world.state.model line.now ≡ Ok (Message.Until id moment) }
+        requires within { moment ≤ self.old.world.state.model.horizon }
+        requires whole { IsWhole self.old.world.state }
+        requires done { until_reply self.old.world.state id moment ≡ Reply.Done }
+        ensures { Answers self.old (Event.Input (Some line.now)) result self.new }
+    {
+        let halted = self.round.halted;
+        self.begin(line, Change::Measure(id as u32, moment), halted)
+    }
+
+    #[tactic(auto, using(crate::proofs::Inputs::can_accept, crate::proofs::Inputs::can_tell_level, crate::proofs::Inputs::can_tell_state, crate::proofs::Inputs::can_tick), unfolding(crate::specs::Messages::line_reply, crate::specs::Messages::told_line, crate::specs::Messages::halts_line))]
     fn accept(&mut self, line: &[u8], message: Message) -> Result<Reply, Stop>
         requires open { IsOpen self.old (Event.Input (Some line.now)) }
         requires line { IsMessageLine line.now }
@@ -169,13 +132,18 @@ impl Machine {
         requires done { message_reply self.old.world.state self.old.world.options.goals message ≡ Reply.Done }
         ensures { Answers self.old (Event.Input (Some line.now)) result self.new }
     {
+        let halted = self.round.halted;
         match message {
-            Message::Goal(goal) => self.begin(line, Change::Accept(goal)),
-            Message::TeleLevel(timeline, value) => self.begin(line, Change::Tell(timeline, value)),
-            Message::TeleState(timeline, state) => {
-                self.begin(line, Change::Tell(timeline, i64::from(state)))
+            Message::Goal(goal) => self.begin(line, Change::Accept(goal), halted),
+            Message::TeleLevel(timeline, value) => {
+                self.begin(line, Change::Tell(timeline, value), halted)
             }
-            Message::Tick(moment) => self.begin(line, Change::Tick(moment as u32)),
+            Message::TeleState(timeline, state) => {
+                self.begin(line, Change::Tell(timeline, i64::from(state)), halted)
+            }
+            Message::Tick(moment) => self.begin(line, Change::Tick(moment as u32), false),
+            Message::Until(id, moment) => self.accept_end(line, id, moment),
+            Message::Halt => self.begin(line, Change::Withdraw, true),
             Message::End => self.end(Some(line)),
         }
     }
@@ -188,7 +156,7 @@ impl Machine {
         requires within { IsWithin self.old.world.state.model message }
         ensures { Answers self.old (Event.Input (Some line.now)) result self.new }
     {
-        match message_reply(self.board.state(), self.options.goals, &message) {
+        match message_reply(&self.board, self.options.goals, &message) {
             Reply::Done => self.accept(line, message),
             Reply::Ended => self.end(Some(line)),
             refusal => self.refuse(line, refusal),

@@ -80,6 +80,13 @@ impl Machine {
         self.done
     }
 
+    /// Whether commits are held back: since the latest `halt` no `tick` was accepted.
+    pub fn halted(&self) -> bool
+        ensures { result ≡ self.now.world.halted }
+    {
+        self.round.halted
+    }
+
     /// Whether memory was wanting in an event of this machine.
     pub fn spoiled(&self) -> bool
         ensures { result ≡ self.now.spoiled }

@@ -1,6 +1,6 @@
 -- Each change leaves a plan state whole.
-use Rattle.std.proofs.Common.{◌≡◌, ℕ, ◌<◌, ◌≤◌, List, [], ◌∷◌, ◌++◌, refl, arith}
-use Rattle.std.specs.Prelude.{All, Option, Some, None, slice_get, slice_set, ℤ, pos}
+use Rattle.std.proofs.Common.{◌≡◌, ℕ, ◌+◌, ◌<◌, ◌≤◌, List, [], ◌∷◌, ◌++◌, refl, arith}
+use Rattle.std.specs.Prelude.{min, All, Option, Some, None, IfSome, slice_get, slice_set, ℤ, pos}
 use Rattle.std.proofs.lemmas.List.Elements.{All-nil, All-cons, All-append, All-weaker}
 use Rattle.pl_facts.specs.declared.goal.Goal.{Goal}
 use Rattle.pl_facts.specs.Goals.{goal_of, with_dropped}
@@ -15,12 +15,17 @@ use Rattle.pl_semantics.specs.Activities.{wrong_at}
 use Rattle.pl_semantics.specs.Links.{links_at}
 use Rattle.pl_semantics.specs.Timelines.{line_conflicts}
 use Rattle.pl_facts.specs.Bases.{first_bases}
-use Rattle.pl_semantics.specs.Whole.{IsWhole, IsGoalOf, IsCarried, IsIdBelow}
-use Rattle.pl_update.specs.Changes.Changes.{first_state, with_goal, without_goal, moved_on, told_now, committed_to, with_next, CanTell}
+use Rattle.pl_semantics.specs.Whole.{IsWhole, IsGoalOf, IsCarried, IsIdBelow, HasBegun}
+use Rattle.pl_update.specs.Changes.Changes.{first_state, with_goal, without_goal, moved_on, told_now, committed_to, withdrawn, with_next, CanTell}
 use Rattle.pl_update.specs.Changes.Replaced.{CanReplace, replaced, next_after, with_plan}
 use Rattle.pl_update.proofs.AboutChanges.Goals.{distinct_with, carried_with, goals_dropped, distinct_dropped, carried_dropped}
 use Rattle.pl_update.proofs.AboutChanges.Telling.{bases_later, bases_told, bases_first}
 use Rattle.pl_update.proofs.AboutChanges.Putting.{puttable, rising-replaced, All-replaced, next_grows, next_above, next_bounded}
+
+-- what has begun and is committed is so when the present is later and more is committed
+begun_later : (moment now committed h start : ℕ) (measured : Option ℕ) → moment ≤ now → committed ≤ h → IfSome measured (λ end. (start ≤ moment) × (start < committed)) → IfSome measured (λ end. (start ≤ now) × (start < h))
+begun_later moment now committed h start None later more begun = tt
+begun_later moment now committed h start (Some m) later more begun = (omega (arith, begun.0, later), omega (arith, begun.1, more))
 
 pub whole_with_goal : (s : PlanState) (g : Goal) → IsWhole s → goal_of g.number s.goals ≡ None → IsGoalOf s.model g → IsWhole (with_goal g s)
 whole_with_goal s g w none is = record {
@@ -37,6 +42,7 @@ whole_with_goal s g w none is = record {
   next = w.next;
   limit = w.limit;
   live = w.live;
+  begun = w.begun;
 }
 
 pub whole_without_goal : (s : PlanState) (n : ℕ) → IsWhole s → IsWhole (without_goal n s)
@@ -54,6 +60,7 @@ whole_without_goal s n w = record {
   next = w.next;
   limit = w.limit;
   live = w.live;
+  begun = w.begun;
 }
 
 pub whole_moved_on : (s : PlanState) (now : ℕ) → IsWhole s → s.moment < now → now ≤ s.model.horizon → IsWhole (moved_on now s)
@@ -71,6 +78,7 @@ whole_moved_on s now w later bound = record {
   next = w.next;
   limit = w.limit;
   live = w.live;
+  begun = All-weaker (HasBegun s.moment s.committed) (HasBegun now s.committed) (λ a h. begun_later s.moment now s.committed s.committed a.start a.measured (omega (arith, later)) (omega arith) h) s.plan.activities w.begun;
 }
 
 pub whole_told : (s : PlanState) (line : ℕ) (value : ℤ) → IsWhole s → CanTell value (slice_get s.model.timelines line) → IsWhole (told_now line value s)
@@ -88,10 +96,11 @@ whole_told s line value w can = record {
   next = w.next;
   limit = w.limit;
   live = w.live;
+  begun = w.begun;
 }
 
-pub whole_committed : (s : PlanState) (h : ℕ) → IsWhole s → h ≤ s.model.horizon → IsWhole (committed_to h s)
-whole_committed s h w most = record {
+pub whole_committed : (s : PlanState) (h : ℕ) → IsWhole s → s.committed ≤ h → h ≤ s.model.horizon → IsWhole (committed_to h s)
+whole_committed s h w later most = record {
   checked = w.checked;
   rising = w.rising;
   fits = w.fits;
@@ -105,6 +114,30 @@ whole_committed s h w most = record {
   next = w.next;
   limit = w.limit;
   live = w.live;
+  begun = All-weaker (HasBegun s.moment s.committed) (HasBegun s.moment h) (λ a is. begun_later s.moment s.moment s.committed h a.start a.measured (omega arith) later is) s.plan.activities w.begun;
+}
+
+-- what is measured has begun, so it stays committed where what starts after the present is withdrawn
+begun_withdrawn : (moment committed start : ℕ) (measured : Option ℕ) → IfSome measured (λ end. (start ≤ moment) × (start < committed)) → IfSome measured (λ end. (start ≤ moment) × (start < min committed (moment + 1)))
+begun_withdrawn moment committed start None begun = tt
+begun_withdrawn moment committed start (Some m) begun = (begun.0, omega (arith, begun.0, begun.1))
+
+pub whole_withdrawn : (s : PlanState) → IsWhole s → IsWhole (withdrawn s)
+whole_withdrawn s w = record {
+  checked = w.checked;
+  rising = w.rising;
+  fits = w.fits;
+  goals = w.goals;
+  distinct = w.distinct;
+  carried = w.carried;
+  bases = w.bases;
+  present = w.present;
+  horizon = let most : s.committed ≤ s.model.horizon = w.horizon in omega (arith, most);
+  ids = w.ids;
+  next = w.next;
+  limit = w.limit;
+  live = w.live;
+  begun = All-weaker (HasBegun s.moment s.committed) (HasBegun s.moment (min s.committed (s.moment + 1))) (λ a is. begun_withdrawn s.moment s.committed a.start a.measured is) s.plan.activities w.begun;
 }
 
 pub whole_with_next : (s : PlanState) (id : ℕ) → IsWhole s → 1 ≤ id → All (IsIdBelow id) s.plan.activities → id ≤ s.next_id → IsWhole (with_next id s)
@@ -122,6 +155,7 @@ whole_with_next s id w least ids most = record {
   next = (least, let high : s.next_id ≤ 4000000001 = w.next.1 in omega (arith, most, high));
   limit = w.limit;
   live = w.live;
+  begun = w.begun;
 }
 
 pub whole_first : (model : Model) (live : ℕ) → IsChecked model → live ≤ 10000 → IsWhole (first_state model live)
@@ -139,6 +173,7 @@ whole_first model live checked most = record {
   next = (omega arith, omega arith);
   limit = most;
   live = omega arith;
+  begun = All-nil (HasBegun 0 0);
 }
 
 pub whole_replaced : (s : PlanState) (gone : List ℕ) (more : List Activity) → IsWhole s → CanReplace s gone more → IsWhole (with_plan gone more s)
@@ -161,6 +196,7 @@ whole_replaced s gone more w can =
       next = (let least : 1 ≤ s.next_id = w.next.0 in omega (arith, least, grows), next_bounded s.next_id more w.next.1 can.ids);
       limit = w.limit;
       live = can.few;
+      begun = All-replaced (HasBegun s.moment s.committed) gone more s.plan.activities can.begun w.begun;
     }
 
 -- the same of lists that are known by equations

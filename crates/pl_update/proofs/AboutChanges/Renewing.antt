@@ -1,8 +1,7 @@
 -- Activities put one after another in the places of those of their ids, as if all were taken out first.
 use Rattle.std.proofs.Common.{◌≡◌, ℕ, eqb, Bool, true, false, cond, List, [], ◌∷◌, ◌++◌, map, refl, sym, ap, ◌∙◌, arith}
-use Rattle.std.specs.Prelude.{Option, Some, None, if◌then◌else◌, ◌||◌}
-use Rattle.std.specs.Option.{option_map}
-use Rattle.std.proofs.lemmas.Bool.{eqb-true, eqb-false, ne_eqb}
+use Rattle.std.specs.Prelude.{Option, Some, None, ◌||◌}
+use Rattle.std.proofs.lemmas.Bool.{eqb-true, eqb-false}
 use Rattle.pl_lists.proofs.Numbers.{eqb_itself}
 use Rattle.pl_plan.specs.declared.activity.Activity.{Activity}
 use Rattle.pl_plan.specs.Activities.{AreRising, IsLive, activity_of, placed, without, exchanged}
@@ -16,7 +15,6 @@ use Rattle.pl_update.specs.Changes.Renewed.{renewed, all_renewed}
 use Rattle.pl_plan.proofs.LookUpLaws.{same_activities}
 use Rattle.pl_plan.proofs.Ids.{rising-exchanged}
 use Rattle.pl_plan.proofs.Lookups.{found-exchanged, swapped}
-use Rattle.pl_update.proofs.AboutChanges.Putting.{rising-taken, found-taken}
 use Rattle.pl_update.proofs.AboutChanges.Finding.{none_live}
 
 pub free_without : (id : ℕ) (xs : List Activity) → AreRising xs → activity_of id (without id xs) ≡ None

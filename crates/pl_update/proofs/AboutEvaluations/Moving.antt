@@ -24,7 +24,7 @@ use Rattle.pl_update.specs.Changes.Replaced.{replaced, CanReplace}
 use Rattle.pl_update.proofs.AboutChanges.Putting.{puttable}
 use Rattle.pl_update.proofs.AboutChanges.Finding.{found-replaced}
 use Rattle.pl_update.specs.Evaluations.Kept.{kept_at, comes_to, come_to, AreOf}
-use Rattle.pl_update.specs.Evaluations.Shifted.{still, AreStill, IsShift, start_before, moved, KeepsShifted}
+use Rattle.pl_update.specs.Evaluations.Shifted.{still, AreStill, IsElsewhere, IsShift, start_before, moved, KeepsShifted}
 use Rattle.pl_update.proofs.AboutEvaluations.Coming.{AreOnce, once_head, once_tail}
 use Rattle.pl_update.proofs.AboutEvaluations.Still.{values_still}
 
@@ -87,25 +87,27 @@ module _ (h : ℕ) (k : Kind) (values : Row) (from to : ℕ) (room : to + h < 42
       let is : min (to + ((from + d) - from)) 4294967295 ≡ to + d = omega (arith, most, room) in
       ap Some is
 
-  end_along : along (end_with h k from values) ≡ end_with h k to values
+  end_along : along (end_with h k from None values) ≡ end_with h k to None values
   end_along = cases (is_firm_with h k values) refl
     where
-      cases : (b : Bool) → is_firm_with h k values ≡ b → along (end_with h k from values) ≡ end_with h k to values
+      cases : (b : Bool) → is_firm_with h k values ≡ b → along (end_with h k from None values) ≡ end_with h k to None values
       cases true e = rw e (duration_along (duration_in h k values) refl)
       cases false e = rw e refl
 
 module _ (model : Model) (xs ys : List Activity) where
-  end_moved : (id : ℕ) (a b : Activity) → activity_of id xs ≡ Some b → activity_of id ys ≡ Some a → still b ≡ still a → a.start + model.horizon < 4294967296 → values_of model xs id ≡ values_of model ys id
+  end_moved : (id : ℕ) (a b : Activity) → activity_of id xs ≡ Some b → activity_of id ys ≡ Some a → still b ≡ still a → a.measured ≡ None → a.start + model.horizon < 4294967296 → values_of model xs id ≡ values_of model ys id
       → option_map (λ m. min (a.start + (m - b.start)) 4294967295) (end_of model xs id) ≡ end_of model ys id
   unfolding end_of
-  end_moved id a b was is alike room row =
-      rw (was, is, row) (by (values_of model ys id) (kind_of model b) (kind_of model a) (ap (λ (z : Activity). kind_of model z) alike))
+  end_moved id a b was is alike none room row =
+      rw (was, is, row) (by (values_of model ys id) b.measured a.measured (ap (λ (z : Activity). z.measured) alike ∙ none) none (kind_of model b) (kind_of model a) (ap (λ (z : Activity). kind_of model z) alike))
     where
-      by : (own : Row) (o w : Option Kind) → o ≡ w → option_map (λ m. min (a.start + (m - b.start)) 4294967295) (option_and_then (λ k. end_with model.horizon k b.start own) o) ≡ option_and_then (λ k. end_with model.horizon k a.start own) w
-      by own None None e = refl
-      by own None (Some k) e = absurd (cc)
-      by own (Some k) None e = absurd (cc)
-      by own (Some k) (Some l) e = let same : k ≡ l = cc in end_along model.horizon k own b.start a.start room ∙ ap (λ z. end_with model.horizon z a.start own) same
+      by : (own : Row) (m n : Option ℕ) → m ≡ None → n ≡ None → (o w : Option Kind) → o ≡ w → option_map (λ m. min (a.start + (m - b.start)) 4294967295) (option_and_then (λ k. end_with model.horizon k b.start m own) o) ≡ option_and_then (λ k. end_with model.horizon k a.start n own) w
+      by own (Some m) n f g o w e = absurd (cc)
+      by own None (Some n) f g o w e = absurd (cc)
+      by own None None f g None None e = refl
+      by own None None f g None (Some k) e = absurd (cc)
+      by own None None f g (Some k) None e = absurd (cc)
+      by own None None f g (Some k) (Some l) e = let same : k ≡ l = cc in end_along model.horizon k own b.start a.start room ∙ ap (λ z. end_with model.horizon z a.start None own) same
 
   kinds_alike : (o w : Option Activity) → option_map still o ≡ option_map still w → option_and_then (kind_of model) o ≡ option_and_then (kind_of model) w
   kinds_alike None None e = refl
@@ -151,11 +153,14 @@ module _ (s : PlanState) (gone : List ℕ) (more : List Activity) (whole : IsWho
       let out : among q gone ≡ false = ap (among q) shift.ids ∙ not_among q more none in
       found_now q ∙ rw (none, out) refl
 
+  elsewhere : (q : ℕ) (a : Activity) → activity_of q more ≡ Some a → IsElsewhere xs a × (a.id ≡ q)
+  elsewhere q a here = all_at (IsElsewhere xs) more q a shift.same here
+
   -- what comes was there, but for its start
   before : (q : ℕ) (a : Activity) → activity_of q more ≡ Some a → option_map still (activity_of q xs) ≡ Some (still a)
   before q a here =
-      let both = all_at (λ (x : Activity). option_map still (activity_of x.id xs) ≡ Some (still x)) more q a shift.same here in
-      subst (λ n. option_map still (activity_of n xs) ≡ Some (still a)) both.1 both.0
+      let both = elsewhere q a here in
+      subst (λ n. option_map still (activity_of n xs) ≡ Some (still a)) both.1 both.0.0
 
   are_still : AreStill xs ys
   are_still q = by (activity_of q more) refl
@@ -201,7 +206,7 @@ module _ (s : PlanState) (gone : List ℕ) (more : List Activity) (whole : IsWho
       let is_b : b.id ≡ q = found_id q xs b was.1 in
       let is_a : a.id ≡ q = found_id q ys a (there q a here) in
       let from : start_before xs a ≡ b.start = ap (λ n. unwrap_or (option_map (λ (x : Activity). x.start) (activity_of n xs)) a.start) is_a ∙ ap (λ o. unwrap_or (option_map (λ (x : Activity). x.start) o) a.start) was.1 in
-      let end : option_map (λ m. min (a.start + (m - b.start)) 4294967295) (end_of s.model xs q) ≡ end_of s.model ys q = end_moved s.model xs ys q a b was.1 (there q a here) was.2 (room q a (there q a here)) (same_values q) in
+      let end : option_map (λ m. min (a.start + (m - b.start)) 4294967295) (end_of s.model xs q) ≡ end_of s.model ys q = end_moved s.model xs ys q a b was.1 (there q a here) was.2 (elsewhere q a here).0.1 (room q a (there q a here)) (same_values q) in
       rw (was.1, there q a here)
       (ap (λ n. Some (moved n a.start (comes_to s.model xs b))) from
       ∙ ap (λ n. Some (moved b.start a.start (record { values = values_of s.model xs n; amounts = amounts_of s.model xs n; end = end_of s.model xs n }))) is_b

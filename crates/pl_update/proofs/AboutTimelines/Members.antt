@@ -1,8 +1,7 @@
 -- Lists of conflicts that are made of spans, musts and steps, as those change.
-use Rattle.std.proofs.Common.{◌≡◌, ℕ, eqb, Bool, true, false, cond, List, [], ◌∷◌, ◌++◌, refl, ap, sym, ◌∙◌, subst, arith}
+use Rattle.std.proofs.Common.{◌≡◌, ℕ, eqb, Bool, true, false, cond, List, [], ◌∷◌, ◌++◌, refl, ap, sym, ◌∙◌, subst}
 use Rattle.std.specs.Prelude.{not, ◌||◌, ◌&&◌, map}
 use Rattle.std.proofs.lemmas.Bool.{true≢false}
-use Rattle.std.proofs.lemmas.Bool.Decides.{nat_tests}
 use Rattle.std.proofs.Math.Bool.{or-true, or-false, and-false, and-or_distrib_left}
 use Rattle.pl_lists.specs.Lists.{is_among, left_out}
 use Rattle.pl_points.specs.declared.span.Span.{Span}

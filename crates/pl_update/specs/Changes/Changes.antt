@@ -1,5 +1,5 @@
 -- Changes of a plan state, each of the one thing that it names.
-use Rattle.std.specs.Prelude.{◌≡◌, ℕ, ℤ, pos, true, ◌++◌, ◌∷◌, [], length, slice_set, Option, Some, None}
+use Rattle.std.specs.Prelude.{◌≡◌, ℕ, ◌+◌, ◌<◌, ◌≤◌, min, ℤ, pos, true, ◌++◌, ◌∷◌, [], length, slice_set, Option, Some, None}
 use Rattle.pl_facts.specs.declared.goal.Goal.{Goal}
 use Rattle.pl_facts.specs.Goals.{with_dropped}
 use Rattle.pl_facts.specs.Bases.{first_bases}
@@ -8,7 +8,9 @@ use Rattle.pl_model.specs.declared.timelines.Timeline.TheVariants.{Capacity, Lev
 use Rattle.pl_model.specs.declared.whole.Model.{Model}
 use Rattle.pl_model.specs.Checked.{IsLevel}
 use Rattle.pl_semantics.specs.declared.plan_state.PlanState.{PlanState}
-use Rattle.pl_semantics.specs.PlanStates.{goal_at, is_open}
+use Rattle.pl_plan.specs.declared.activity.Activity.{Activity}
+use Rattle.pl_plan.specs.Activities.{with_end}
+use Rattle.pl_semantics.specs.PlanStates.{found, goal_at, is_open}
 use Rattle.pl_semantics.specs.Moves.{holds}
 use Rattle.pl_semantics.specs.Whole.{IsStateOf}
 
@@ -32,6 +34,14 @@ told_now line value s = record s { bases = slice_set s.bases line (Some (pos s.m
 abbrev pub committed_to : ℕ → PlanState → PlanState
 committed_to h s = record s { committed = h }
 
+-- the end of the activity of this id is measured
+abbrev pub measured_to : ℕ → ℕ → PlanState → PlanState
+measured_to id moment s = record s { plan = record { activities = with_end id moment s.plan.activities } }
+
+-- what starts after the present is committed no longer
+abbrev pub withdrawn : PlanState → PlanState
+withdrawn s = record s { committed = min s.committed (s.moment + 1) }
+
 abbrev pub with_next : ℕ → PlanState → PlanState
 with_next id s = record s { next_id = id }
 
@@ -49,3 +59,14 @@ CanTell value (Some (States name states start any steps)) = IsStateOf (length st
 -- the goal of this number stands and is open
 abbrev pub IsOpenIn : PlanState → ℕ → Type 0
 IsOpenIn s n = holds (is_open s) (goal_at s n) ≡ true
+
+-- ---- what is asked of an end that is measured
+
+-- the activity of this id is live, has begun and is committed, and the moment lies behind its start, and at the horizon at the latest
+pub record CanMeasure (s : PlanState) (id moment : ℕ) : Type 0 where
+  pub a : Activity
+  pub here : found s id ≡ Some a
+  pub begun : a.start ≤ s.moment
+  pub committed : a.start < s.committed
+  pub after : a.start < moment
+  pub within : moment ≤ s.model.horizon

@@ -8,7 +8,7 @@ use Rattle.pl_plan.specs.Fitting.{Fits}
 use Rattle.pl_plan.specs.Values.{values_of}
 use Rattle.pl_semantics.specs.declared.plan_state.PlanState.{PlanState}
 use Rattle.pl_semantics.specs.PlanStates.{among}
-use Rattle.pl_semantics.specs.Whole.{IsCarried}
+use Rattle.pl_semantics.specs.Whole.{IsCarried, HasBegun}
 
 abbrev pub taken : List Activity → List ℕ → List Activity
 taken xs gone = fold (λ all id. without id all) xs gone
@@ -39,6 +39,8 @@ pub record CanReplace (s : PlanState) (gone : List ℕ) (more : List Activity) :
   pub free : All (λ a. IsLive a.id s.plan.activities → among a.id gone ≡ true) more
   pub ids : All (λ a. (1 ≤ a.id) × (a.id ≤ 4000000000)) more
   pub carried : All (IsCarried s.goals) more
+  -- what is placed with a measured end has begun and is committed
+  pub begun : All (HasBegun s.moment s.committed) more
   -- every activity whose values change is among those that go or come
   pub kept : (id : ℕ) → among id (touched gone more) ≡ false → values_of s.model (replaced s.plan.activities gone more) id ≡ values_of s.model s.plan.activities id
   pub fits : Fits s.model (replaced s.plan.activities gone more)

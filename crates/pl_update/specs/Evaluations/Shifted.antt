@@ -1,5 +1,5 @@
 -- Activities that come again at other starts, and are else what they were.
-use Rattle.std.specs.Prelude.{◌≡◌, ℕ, ◌+◌, ◌-◌, min, List, map, All, Some, unwrap_or}
+use Rattle.std.specs.Prelude.{◌≡◌, ℕ, ◌+◌, ◌-◌, min, List, map, All, Some, None, unwrap_or}
 use Rattle.std.specs.Option.{option_map}
 use Rattle.pl_plan.specs.declared.activity.Activity.{Activity}
 use Rattle.pl_plan.specs.declared.evaluated.Evaluated.{Evaluated}
@@ -18,10 +18,14 @@ still a = record a { start = 0 }
 abbrev pub AreStill : List Activity → List Activity → Type 0
 AreStill xs ys = (q : ℕ) → option_map still (activity_of q xs) ≡ option_map still (activity_of q ys)
 
--- what comes has the ids that go, in the same order, and is, but for its start, the live activity of its id
+-- it is, but for its start, the live activity of its id, and its end was not measured, so that it goes along with the start
+abbrev pub IsElsewhere : List Activity → Activity → Type 0
+IsElsewhere activities a = (option_map still (activity_of a.id activities) ≡ Some (still a)) × (a.measured ≡ None)
+
+-- what comes has the ids that go, in the same order, and only its starts are others
 pub record IsShift (activities : List Activity) (gone : List ℕ) (more : List Activity) : Type 0 where
   pub ids : gone ≡ map id_of more
-  pub same : All (λ a. option_map still (activity_of a.id activities) ≡ Some (still a)) more
+  pub same : All (IsElsewhere activities) more
 
 -- the start of the live activity of an activity's id, else its own
 abbrev pub start_before : List Activity → Activity → ℕ

@@ -71,7 +71,8 @@ fn replace_anew(
 }
 
 /// Takes the activities of `gone` out of a plan and puts those of `placed` in, and keeps what the activities come to then.
-/// Where they come again at other starts at most, nothing is worked out anew. After want of memory both may be changed in part.
+/// Where they come again at other starts at most, and without measured ends, nothing is worked out anew. After want of
+/// memory both may be changed in part.
 pub fn replace(
     alloc: Global,
     s: &mut PlanState,

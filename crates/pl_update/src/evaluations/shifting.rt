@@ -4,7 +4,7 @@ ghost use Rattle.std.specs.Bool.{Decides};
 ghost use Rattle.std.specs.Option.{option_map};
 ghost use Rattle.pl_plan.specs.Activities.{activity_of};
 ghost use Rattle.pl_plan.specs.Trees.{id_of};
-ghost use Rattle.pl_update.specs.Evaluations.Shifted.{still, start_before, IsShift, KeepsShifted};
+ghost use Rattle.pl_update.specs.Evaluations.Shifted.{still, start_before, IsElsewhere, IsShift, KeepsShifted};
 
 use crate::evaluations::evaluations::Evaluations;
 use pl_plan::Activity;
@@ -43,10 +43,23 @@ fn are_made_alike(a: &Activity, b: &Activity) -> bool
     a.goal == b.goal && a.detail == b.detail && are_set_alike(a, b)
 }
 
+fn are_ended_alike(a: &Activity, b: &Activity) -> bool
+    ensures { Decides result (b.now.measured ≡ a.now.measured) }
+{
+    a.measured == b.measured
+}
+
 fn are_alike(a: &Activity, b: &Activity) -> bool
     ensures { Decides result (still b.now ≡ still a.now) }
 {
-    stand_alike(a, b) && are_made_alike(a, b)
+    stand_alike(a, b) && are_made_alike(a, b) && are_ended_alike(a, b)
+}
+
+// Whether an activity is, but for its start, the live one of its id, and its end was not measured.
+fn is_elsewhere(s: &PlanState, a: &Activity) -> bool
+    ensures { Decides result (IsElsewhere s.now.plan.activities a.now) }
+{
+    a.measured.is_none() && is_live_elsewhere(s, a)
 }
 
 // Whether an activity is, but for its start, the live one of its id.
@@ -59,7 +72,7 @@ fn is_live_elsewhere(s: &PlanState, a: &Activity) -> bool
     }
 }
 
-/// Whether those that come are those that go, at other starts at most.
+/// Whether those that come are those that go, at other starts at most, and none has a measured end.
 pub(crate) fn is_shift(s: &PlanState, gone: &[u32], placed: &[Activity]) -> bool
     ensures { Decides result (IsShift s.now.plan.activities gone.now placed.now) }
 {
@@ -67,7 +80,7 @@ pub(crate) fn is_shift(s: &PlanState, gone: &[u32], placed: &[Activity]) -> bool
         return false;
     }
     for a in placed {
-        if !is_live_elsewhere(s, a) {
+        if !is_elsewhere(s, a) {
             return false;
         }
     }

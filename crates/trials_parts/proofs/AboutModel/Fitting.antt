@@ -34,9 +34,9 @@ pub sample_fits : (m : Model) → HasKinds m → Fits m sample
 sample_fits m has = record {
   rooted = sample_rooted;
   each = of_each (FitsAlone m)
-      (record { kind = omega (arith, has.kinds); start = (omega arith, omega (arith, has.horizon)); set = sym has.first; choice = has.alternatives })
-      (record { kind = omega (arith, has.kinds); start = (omega arith, omega (arith, has.horizon)); set = sym has.second; choice = tt })
-      (record { kind = omega (arith, has.kinds); start = (omega arith, omega (arith, has.horizon)); set = sym has.third; choice = tt });
+      (record { kind = omega (arith, has.kinds); start = (omega arith, omega (arith, has.horizon)); set = sym has.first; choice = has.alternatives; measured = tt })
+      (record { kind = omega (arith, has.kinds); start = (omega arith, omega (arith, has.horizon)); set = sym has.second; choice = tt; measured = tt })
+      (record { kind = omega (arith, has.kinds); start = (omega arith, omega (arith, has.horizon)); set = sym has.third; choice = tt; measured = tt });
   filled = of_each (AreFilled m sample) (parent_filled m has) (λ slot d lt. absurd (omega (arith, lt))) (λ slot d lt. absurd (omega (arith, lt)));
   no_other = of_each (IsInSlot m sample) tt (omega (arith, one_slot (slots_in m 0) has.slots)) tt;
 }
@@ -49,10 +49,10 @@ all_four P a b c d =
     (All-cons P (root 3 0 10) (root 4 0 40 ∷ []) c (All-cons P (root 4 0 40) [] d (All-nil P))))
 
 of_first : (m : Model) → HasTwoKinds m → (id start : ℕ) → 1 ≤ start → start ≤ 40 → FitsAlone m (root id 0 start)
-of_first m has id start low high = record { kind = omega (arith, has.kinds); start = (low, omega (arith, high, has.horizon)); set = sym has.first; choice = tt }
+of_first m has id start low high = record { kind = omega (arith, has.kinds); start = (low, omega (arith, high, has.horizon)); set = sym has.first; choice = tt; measured = tt }
 
 of_second : (m : Model) → HasTwoKinds m → (id start : ℕ) → 1 ≤ start → start ≤ 40 → FitsAlone m (root id 1 start)
-of_second m has id start low high = record { kind = omega (arith, has.kinds); start = (low, omega (arith, high, has.horizon)); set = sym has.second; choice = tt }
+of_second m has id start low high = record { kind = omega (arith, has.kinds); start = (low, omega (arith, high, has.horizon)); set = sym has.second; choice = tt; measured = tt }
 
 no_slot : (m : Model) (id kind start : ℕ) → AreFilled m four (root id kind start)
 no_slot m id kind start slot d lt = absurd (omega (arith, lt))

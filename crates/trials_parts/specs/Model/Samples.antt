@@ -28,13 +28,13 @@ pub record HasKinds (model : Model) : Type 0 where
   pub slots : IsOneSlot 1 (slots_in model 0)
 
 abbrev pub parent : Activity
-parent = record { id = 1; kind = 0; start = 40; parent = None; goal = None; detail = Some 0; set = Some (pos 7) ∷ [] }
+parent = record { id = 1; kind = 0; start = 40; parent = None; goal = None; detail = Some 0; set = Some (pos 7) ∷ []; measured = None }
 
 abbrev pub child : Activity
-child = record { id = 2; kind = 1; start = 25; parent = Some (1, 0); goal = None; detail = None; set = None ∷ [] }
+child = record { id = 2; kind = 1; start = 25; parent = Some (1, 0); goal = None; detail = None; set = None ∷ []; measured = None }
 
 abbrev pub twice : Activity
-twice = record { id = 3; kind = 2; start = 10; parent = None; goal = None; detail = None; set = Some (pos 8) ∷ None ∷ [] }
+twice = record { id = 3; kind = 2; start = 10; parent = None; goal = None; detail = None; set = Some (pos 8) ∷ None ∷ []; measured = None }
 
 abbrev pub sample : List Activity
 sample = parent ∷ child ∷ twice ∷ []
@@ -49,7 +49,7 @@ pub record HasTwoKinds (model : Model) : Type 0 where
   pub second : parameters model 1 ≡ 0
 
 abbrev pub root : ℕ → ℕ → ℕ → Activity
-root id kind start = record { id = id; kind = kind; start = start; parent = None; goal = None; detail = None; set = [] }
+root id kind start = record { id = id; kind = kind; start = start; parent = None; goal = None; detail = None; set = []; measured = None }
 
 abbrev pub four : List Activity
 four = root 1 0 40 ∷ root 2 1 5 ∷ root 3 0 10 ∷ root 4 0 40 ∷ []

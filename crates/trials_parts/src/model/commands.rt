@@ -37,6 +37,7 @@ fn activity(alloc: Global, id: u32, kind: u32, start: u32) -> Activity
         goal: None,
         detail: None,
         set: Items::new(alloc),
+        measured: None,
     }
 }
 
@@ -101,11 +102,16 @@ fn conflict(from: u32) -> Conflict {
     }
 }
 
-/// Moments, where the first conflict is, and how far to commit.
-const FURTHEST: &str = "0 none 30
-0 20 20
-0 60 30
-80 none 100";
+/// Moments, whether the planner is halted, where the first conflict is, and how far to commit.
+const FURTHEST: &str = "0 runs none 30
+0 runs 20 20
+0 runs 60 30
+80 runs none 100
+0 halted none 1
+0 halted 20 1
+7 halted 5 5
+99 halted none 100
+100 halted none 100";
 
 #[test]
 fn how_far_to_commit(rt: HostRuntime) {
@@ -113,11 +119,21 @@ fn how_far_to_commit(rt: HostRuntime) {
     for row in FURTHEST.lines() {
         let mut rest = row;
         let now = number(&mut rest);
+        let halted = word(&mut rest) == "halted";
         let first = word(&mut rest).parse().ok().map(conflict);
-        holds(&rt, row, best(&model, now, first) == number(&mut rest));
+        holds(
+            &rt,
+            row,
+            best(&model, now, halted, first) == number(&mut rest),
+        );
     }
-    holds(&rt, "the target at 69", target(&model, 69) == 99);
-    holds(&rt, "the target at 100", target(&model, 100) == 100);
+    holds(&rt, "the target at 69", target(&model, 69, false) == 99);
+    holds(&rt, "the target at 100", target(&model, 100, false) == 100);
+    holds(
+        &rt,
+        "the target of a halt at 69",
+        target(&model, 69, true) == 70,
+    );
 }
 
 /// A command with two values.

@@ -107,9 +107,22 @@ tele bat - 1 => bad line
 tick 999999999999999999 => Tick(999999999999999999)
 tick 1000000000000000000 => bad line
 tick now => bad line
+until 1 100 => Until(1, 100)
+until 0 0 => Until(0, 0)
+until 999999999999999999 100 => Until(999999999999999999, 100)
+until 1 101 => out of range
+until 999999999999999999 4294967296 => out of range
+until 1 => bad line
+until 1 2 3 => bad line
+until one 2 => bad line
+until 1 - 2 => bad line
+halt => Halt
+halt # at once => Halt
+halt 5 => bad line
+goal 1 until 1 2 must => unknown name
 end => End
 end end => bad line
-halt => bad line
+stop => bad line
  => bad line";
 
 #[test]

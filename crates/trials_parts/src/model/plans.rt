@@ -67,7 +67,7 @@ fn has_kinds(model: &Model) -> bool
 }
 
 fn activity(id: u32, kind: u32, start: u32, set: Items<Option<i64>>) -> Activity
-    ensures { result ≡ record { id = id; kind = kind; start = start; parent = None; goal = None; detail = None; set = set } }
+    ensures { result ≡ record { id = id; kind = kind; start = start; parent = None; goal = None; detail = None; set = set; measured = None } }
 {
     Activity {
         id,
@@ -77,6 +77,7 @@ fn activity(id: u32, kind: u32, start: u32, set: Items<Option<i64>>) -> Activity
         goal: None,
         detail: None,
         set,
+        measured: None,
     }
 }
 
@@ -228,15 +229,24 @@ fn trees(rt: HostRuntime) {
     }
 }
 
+/// Tells the end of an activity, and answers what is known of it then.
+fn tell_end(plan: &mut Plan, id: u32, moment: u32) -> Option<u32> {
+    plan.get(id)?;
+    plan.set_end(id, moment);
+    plan.measured(id)
+}
+
 /// What a call answers.
 fn answer(plan: &mut Plan, call: &str) -> Option<u32> {
     let mut rest = call;
     let name = word(&mut rest);
-    let number = number(&mut rest);
+    let id = number(&mut rest);
     match name {
-        "id-at" => Some(plan.nth(number)?.id),
-        "start-of" => Some(plan.get(number)?.start),
-        "take" => Some(plan.take(number)?.start),
+        "id-at" => Some(plan.nth(id)?.id),
+        "start-of" => Some(plan.get(id)?.start),
+        "tell-end" => tell_end(plan, id, number(&mut rest)),
+        "measured" => plan.measured(id),
+        "take" => Some(plan.take(id)?.start),
         _ => Some(plan.len()),
     }
 }
@@ -255,9 +265,16 @@ id-at 0 = 1
 id-at 1 = 2
 id-at 2 = 3
 id-at 3 = none
+measured 2 = none
+tell-end 2 31 = 31
+tell-end 2 30 = 30
+measured 2 = 30
+measured 1 = none
 take 2 = 25
 take 2 = none
 start-of 2 = none
+measured 2 = none
+tell-end 2 31 = none
 len = 2
 start-of 3 = 10";
 
@@ -266,7 +283,7 @@ fn activities_by_id(rt: HostRuntime) {
     let mut plan = plan(rt.alloc()).expect(&rt, "memory");
     let mut copy = plan.copy(rt.alloc()).expect(&rt, "memory");
     assert_answers(&rt, &mut plan, CALLS);
-    assert_answers(&rt, &mut copy, "start-of 2 = 25");
+    assert_answers(&rt, &mut copy, "start-of 2 = 25\nmeasured 2 = none");
 }
 
 #[test]

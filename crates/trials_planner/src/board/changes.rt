@@ -1,7 +1,7 @@
 //! Changes of a board, each by its public call.
 ghost use Rattle.std.specs.Prelude.{◌≡◌, ◌<◌, ◌≤◌, pos, false, true, length, slice_get};
 ghost use Rattle.pl_model.specs.Checked.{params_of};
-ghost use Rattle.pl_update.specs.Changes.Changes.{CanTell};
+ghost use Rattle.pl_update.specs.Changes.Changes.{CanTell, CanMeasure};
 ghost use Rattle.pl_semantics.specs.Whole.{IsGoalOf};
 ghost use Rattle.pl_semantics.specs.Moves.{is_proper};
 
@@ -38,6 +38,37 @@ fn commit(rt: &impl Abort, board: &mut Board, h: u32) {
     holds(rt, "a later commit", board.committed() <= h);
     holds(rt, "one within the horizon", h <= board.model().horizon);
     board.commit(h).expect(rt, "memory");
+}
+
+/// Whether an activity of this start has begun, is committed, and can end at a moment.
+fn can_end(board: &Board, start: u32, moment: u32) -> bool
+    ensures begun { result ≡ true → start ≤ board.now.state.moment }
+    ensures committed { result ≡ true → start < board.now.state.committed }
+    ensures after { result ≡ true → start < moment }
+    ensures within { result ≡ true → moment ≤ board.now.state.model.horizon }
+{
+    let begun = start <= board.now() && start < board.committed();
+    begun && start < moment && moment <= board.model().horizon
+}
+
+/// Whether an activity has begun, and can end at a moment.
+fn can_measure(board: &Board, id: u32, moment: u32) -> bool
+    ensures { result ≡ true → CanMeasure board.now.state id moment }
+{
+    match board.plan().get(id) {
+        Some(activity) => can_end(board, activity.start, moment),
+        None => false,
+    }
+}
+
+fn until(rt: &impl Abort, board: &mut Board, id: u32, moment: u32) {
+    holds(
+        rt,
+        "an activity that can end then",
+        can_measure(board, id, moment),
+    );
+    let told = board.until(id, moment, &mut Steps::new(Quiet));
+    told.expect(rt, "memory");
 }
 
 fn tell(rt: &impl Abort, board: &mut Board, line: u32, value: u32) {
@@ -122,12 +153,15 @@ pub fn make<L: Ledger>(
     apply(alloc, board, mv, steps).expect(rt, "a legal move");
 }
 
-/// Makes the change of a line: `tick`, `commit`, `tele`, `goal` with its number, its window and its word, or a move.
+/// Makes the change of a line: `tick`, `commit`, `withdraw`, `until` with an id and a moment, `tele`, `goal` with its number,
+/// its window and its word, or a move.
 pub fn change(rt: &impl Abort, alloc: Global, board: &mut Board, line: &str) {
     let mut rest = line;
     match word(&mut rest) {
         "tick" => tick(rt, board, number(&mut rest)),
         "commit" => commit(rt, board, number(&mut rest)),
+        "withdraw" => board.withdraw().expect(rt, "memory"),
+        "until" => until(rt, board, number(&mut rest), number(&mut rest)),
         "tele" => tell(rt, board, number(&mut rest), number(&mut rest)),
         "goal" => ask(rt, alloc, board, rest),
         _ => make(rt, alloc, board, &repair(line), &mut Steps::new(Quiet)),

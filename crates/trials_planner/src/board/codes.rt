@@ -4,7 +4,7 @@ use crate::board::values::assert_conflicts;
 use std::alloc::Global;
 use std::process::Abort;
 
-const PLAIN: &str = "horizon 100 lead 30
+pub const PLAIN: &str = "horizon 100 lead 30
 kind plain { duration 5 }
 kind long { duration 20 }";
 
@@ -68,7 +68,7 @@ add 8 10;commit 11 =>";
 
 /// An image wants the end of a plain activity from 60 before its start up to it, and the start of a long one from 5 to 20 behind
 /// its end.
-const LINKS: &str = "horizon 100 lead 30
+pub const LINKS: &str = "horizon 100 lead 30
 kind plain { duration 5 }
 kind long { duration 20 }
 kind image { duration 10 link start plain end -60 0 link end long start 5 20 }
@@ -97,7 +97,7 @@ add 0 50;add 3 10;detail 2 0;shift 4 30 => 10 link 2 0 0 0
 add 3 10;detail 1 0;shift 3 19;commit 20;tick 18 => 10 link 1 0 0 0
 add 3 10;detail 1 0;shift 3 19;commit 20;tick 19 =>";
 
-const AMOUNTS: &str = "horizon 100 lead 30
+pub const AMOUNTS: &str = "horizon 100 lead 30
 state mode { one } start one any
 level bat 10 100 90
 capacity cam 10
@@ -124,7 +124,7 @@ add 3 10;commit 11;tick 15 =>
 add 3 97 => 97 overrun 1 0 102 0;97 over 2 0 97 100
 add 0 30;add 3 30 => 30 over 2 0 30 35;30 high 1 0 30 100";
 
-const STATES: &str = "horizon 100 lead 30
+pub const STATES: &str = "horizon 100 lead 30
 capacity cam 10
 state camera { off warm on } start off step off warm step warm on step on off
 kind heat { duration 5 set camera warm at end }
@@ -152,7 +152,7 @@ add 2 10;tele 1 1 => 10 bad-step 1 0 15 0
 add 0 5;add 0 20 =>";
 
 /// Asserts what is wrong behind some changes.
-fn assert_row(rt: &impl Abort, alloc: Global, model: &str, row: &str) {
+pub fn assert_row(rt: &impl Abort, alloc: Global, model: &str, row: &str) {
     let (changes, wrong) = row.split_once(" =>").unwrap_or((row, ""));
     let changes = changes.replace(alloc, ";", "\n").expect(rt, "memory");
     let wrong = wrong

@@ -132,6 +132,7 @@ fn said(
     match call {
         "choice" => format!(in alloc; "{:?}", choice(rt, machine)),
         "propose" => format!(in alloc; "{:?}", machine.propose(&mut Least)),
+        "halted" => format!(in alloc; "{}", machine.halted()),
         "stuck" => format!(in alloc; "{}", stuck(rt, alloc, machine)?),
         "log" => logged(alloc, machine),
         _ => format!(in alloc; "{:?}", make(rt, machine, call)),
@@ -148,7 +149,13 @@ fn play(rt: &impl Abort, alloc: Global, machine: &mut Machine, script: &str) {
 }
 
 /// Plays two scripts, one behind the other, from the first call on.
-fn assert_plays(rt: &impl Abort, alloc: Global, options: Options, first: &str, then: &str)
+pub(crate) fn assert_plays(
+    rt: &impl Abort,
+    alloc: Global,
+    options: Options,
+    first: &str,
+    then: &str,
+)
     requires { AreOptions options }
 {
     let mut machine = fresh(rt, alloc, options);
@@ -156,7 +163,7 @@ fn assert_plays(rt: &impl Abort, alloc: Global, options: Options, first: &str, t
     play(rt, alloc, &mut machine, then);
 }
 
-const COMMITTED: &str = "goal 1 obs 10 20 must = Ok(Done)
+pub(crate) const COMMITTED: &str = "goal 1 obs 10 20 must = Ok(Done)
 add-for-1 10 = Ok(Done)
 rest = Ok(Rested(Clear))
 commit 30 = Ok(Done)";

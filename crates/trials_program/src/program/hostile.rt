@@ -102,7 +102,21 @@ tick 0 => tick-back
 tick => bad-line
 tick 3 3 => bad-line
 end now => bad-line
-tick 1000000000000000000 => bad-line";
+tick 1000000000000000000 => bad-line
+until 1 101 => range
+until 0 4294967297 => range
+until 999999999999999999 999999999999999999 => range
+until 999999999999999999 100 => not-begun
+until 4294967297 100 => not-begun
+until 1 0 => not-begun
+until => bad-line
+until 1 => bad-line
+until 1 2 3 => bad-line
+until 1 -2 => bad-line
+until obs 10 => bad-line
+until 1000000000000000000 10 => bad-line
+halt 1 => bad-line
+halted => bad-line";
 
 /// The rest of the journal of a message that is refused.
 const REFUSED: &str = "2 rest clear;3 commit 30 : ok;4 close;5 in eof;";

@@ -162,7 +162,7 @@ kind scan { duration 10 alternative { slot a shot slot b shot order a end b star
 ";
 
 /// Asserts that a run of so many turns over a model and messages writes these lines behind the open entry's.
-fn assert_plans<R: Abort + Threads + Wait + Sync>(
+pub fn assert_plans<R: Abort + Threads + Wait + Sync>(
     rt: &R,
     alloc: Global,
     turns: u32,

@@ -11,8 +11,8 @@ syntax keyword lundocsefWord at start any parent min max
 syntax match lundocsefInner /\v<must>/
 syntax match lundocsefWord /\v<end>/
 syntax match lundocsefNumber /\v<\d+>/
-syntax match lundocsefMessage /\v^\s*<(goal|tele|tick)>/
-syntax match lundocsefMessage /\v^\s*end\ze\s*(#.*)?$/
+syntax match lundocsefMessage /\v^\s*<(goal|tele|tick|until)>/
+syntax match lundocsefMessage /\v^\s*(end|halt)\ze\s*(#.*)?$/
 syntax match lundocsefWhether /\v<(must|may)>\ze(\s+\w+\s*\=\s*\d+)*\s*(#.*)?$/
 syntax match lundocsefComment /#.*$/ contains=lundocsefTodo
 syntax keyword lundocsefTodo TODO FIXME contained
@@ -20,7 +20,7 @@ syntax keyword lundocsefTodo TODO FIXME contained
 " A journal: the number and the event of an entry, the conflict of a repair, the answer.
 syntax match lundocsefEntry /\v^\d+ (open|in|fix|rest|commit|dispatch|close)>/ nextgroup=lundocsefReply skipwhite
 syntax match lundocsefReply /\v(ok|end|eof|clear)>/ contained
-syntax match lundocsefRefusal /\v(^\d+ (in|rest) )@<=(bad-line|unknown-name|range|duplicate-goal|too-late|too-many-goals|tick-back|tick-beyond|spent|stuck)>/
+syntax match lundocsefRefusal /\v(^\d+ (in|rest) )@<=(bad-line|unknown-name|range|duplicate-goal|too-late|too-many-goals|tick-back|tick-beyond|not-begun|end-back|spent|stuck)>/
 syntax match lundocsefConflict /\v<(open-goal|off-goal|late|unset|bad-value|undetailed|overrun|temporal|link|over|low|high|must|bad-step)>\ze( \d+){4}/
 syntax match lundocsefMove /\v(<by )@<=(add|delete|shift|detail|abstract|assign|drop)>/
 

@@ -5,7 +5,7 @@ use Rattle.pl_cand.proofs.cuts.cut.Goals as goal
 
 pub returns : goal.returns
 returns c =
-    let s = c.args.s.now in
+    let s = c.args.state.now in
     let xs = c.args.tried.now in
     let past : length xs ≤ c.loop-mv.mv-index = first_of (omega arith, search rules) in
     sym (stand_end (is_worth s) c.loop-mv.kept.items (drop c.loop-mv.mv-index xs) (nothing_left xs c.loop-mv.mv-index past))

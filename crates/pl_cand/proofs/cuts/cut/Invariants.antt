@@ -6,6 +6,6 @@ use Rattle.pl_cand.proofs.cuts.cut.Given as goal
 -- what is kept and what comes of the other moves
 abbrev pub invariant-loop-mv : goal.invariant-loop-mv
 invariant-loop-mv l = record {
-  stand : standing (is_worth l.s) l.kept.items (drop l.mv-index l.tried) ≡ standing (is_worth l.s) [] l.tried;
-  last : IfSome l.last (λ k. k.worth ≡ is_worth l.s k.mv);
+  stand : standing (is_worth l.state) l.kept.items (drop l.mv-index l.tried) ≡ standing (is_worth l.state) [] l.tried;
+  last : IfSome l.last (λ k. k.worth ≡ is_worth l.state k.mv);
 }

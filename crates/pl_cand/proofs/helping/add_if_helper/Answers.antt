@@ -8,6 +8,6 @@ pub returns-in_ok-push : goal.returns-in_ok-push
 returns-in_ok-push c = λ rest.
     let found = c.args.found.now.items in
     let room : length found < 4 = first_of (omega arith, grind (arith, common_steps)) in
-    let is : is_helper c.args.line c.args.help (c.args.number, c.args.kind.now) ≡ true = first_of (search rules, grind (arith, common_steps)) in
+    let is : is_helper c.args.timeline c.args.help (c.args.number, c.args.kind.now) ≡ true = first_of (search rules, grind (arith, common_steps)) in
     let more : c.push.new.self.items ≡ found ++ c.args.number ∷ [] = first_of (search rules, grind (arith, common_steps)) in
-    rw more (helpers_more c.args.line c.args.help found (c.args.number, c.args.kind.now) rest room is)
+    rw more (helpers_more c.args.timeline c.args.help found (c.args.number, c.args.kind.now) rest room is)

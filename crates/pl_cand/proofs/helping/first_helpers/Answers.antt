@@ -9,5 +9,5 @@ loop-number-preserved c =
     let n = c.loop-number.number in
     let kinds = c.as_slice-kinds.result.now in
     sym (c.in_ok-add_if_helper.ensures (numbered (n + 1) (drop (n + 1) kinds)))
-    ∙ ap (helpers_with c.args.line c.args.help c.loop-number.found.items) (numbered_here kinds n c.index-kinds-number.result c.loop-number-test.true c.index-kinds-number.is)
+    ∙ ap (helpers_with c.args.timeline c.args.help c.loop-number.found.items) (numbered_here kinds n c.index-kinds-number.result c.loop-number-test.true c.index-kinds-number.is)
     ∙ c.loop-number.invariant

@@ -8,8 +8,8 @@ use Rattle.pl_cand.proofs.numbers.places.Goals as goal
 
 pub from_zero-requires : goal.from_zero-requires
 from_zero-requires c =
-    let s = c.state-s.result.now in
+    let s = c.state-state.result.now in
     let a = c.unwrap-a.result.now in
-    let whole : IsWhole s = c.state-s.ensures.whole c.requires.unspoiled in
+    let whole : IsWhole s = c.state-state.ensures.whole c.requires.unspoiled in
     let same : c.as_slice.result.now ≡ places_of s a = c.as_slice.ensures.value ∙ c.in_ok-starts.ensures in
     All-same IsSmall c.as_slice.result.now (places_of s a) same (places_small s whole a)

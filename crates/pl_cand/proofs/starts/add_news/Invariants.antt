@@ -5,4 +5,4 @@ use Rattle.pl_semantics.specs.Starts.{starting}
 use Rattle.pl_cand.proofs.starts.add_news.Given as goal
 
 abbrev pub invariant-loop-start : goal.invariant-loop-start
-invariant-loop-start l = l.out.items ≡ l.initial.out.items ++ flat_map (starting l.s (λ start. Add l.kind start l.goal)) (take l.start-index l.starts)
+invariant-loop-start l = l.out.items ≡ l.initial.out.items ++ flat_map (starting l.state (λ start. Add l.kind start l.goal)) (take l.start-index l.starts)

@@ -4,4 +4,4 @@ use Rattle.pl_semantics.specs.Starts.{starting, shift_to}
 use Rattle.pl_cand.proofs.starts.add_shifts.Given as goal
 
 abbrev pub invariant-loop-start : goal.invariant-loop-start
-invariant-loop-start l = l.out.items ≡ l.initial.out.items ++ flat_map (starting l.s (shift_to l.id)) (take l.start-index l.starts)
+invariant-loop-start l = l.out.items ≡ l.initial.out.items ++ flat_map (starting l.state (shift_to l.id)) (take l.start-index l.starts)

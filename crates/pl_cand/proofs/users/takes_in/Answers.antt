@@ -8,19 +8,19 @@ use Rattle.pl_cand.proofs.Playing.{amounts_here, takes_never, takes_some}
 use Rattle.pl_cand.proofs.users.takes_in.Goals as goal
 
 pub any_uses-requires : goal.any_uses-requires
-any_uses-requires c = rw (c.reservations_of-reservations.ensures.value, c.as_slice.ensures, c.in_ok-evaluated.ensures.values, c.get.ensures) (amounts_here c.args.s.now c.requires.whole c.args.x.now c.requires.live)
+any_uses-requires c = rw (c.reservations_of-reservations.ensures.value, c.as_slice.ensures, c.in_ok-evaluated.ensures.values, c.get.ensures) (amounts_here c.args.state.now c.requires.whole c.args.x.now c.requires.live)
 
 pub returns-in-Some : goal.returns-in-Some
 returns-in-Some c =
-    let e : end_at c.args.s.now c.args.x.now ≡ Some c.in-Some.end = cc (c.get.ensures, c.in_ok-evaluated.ensures.end, c.in-Some.is) in
+    let e : end_at c.args.state.now c.args.x.now ≡ Some c.in-Some.end = cc (c.get.ensures, c.in_ok-evaluated.ensures.end, c.in-Some.is) in
     c.any_uses.ensures
     ∙ rw (c.reservations_of-reservations.ensures.value, c.as_slice.ensures, c.in_ok-evaluated.ensures.values, c.get.ensures)
-    (sym (takes_some c.args.s.now c.args.line c.args.a c.args.b c.args.x.now c.in-Some.end e))
+    (sym (takes_some c.args.state.now c.args.timeline c.args.a c.args.b c.args.x.now c.in-Some.end e))
 
 pub returns-then-not-any_may_take : goal.returns-then-not-any_may_take
 returns-then-not-any_may_take c =
-    let s = c.args.s.now in
+    let s = c.args.state.now in
     let x = c.args.x.now in
     let fails : c.any_may_take.result ≡ false = search rules in
-    let none : list_any (may_take c.args.line c.args.b x.start) (reservations_in (kind_of s.model x)) ≡ false = rw c.reservations_of-reservations.ensures.value at (sym c.any_may_take.ensures ∙ fails) in
-    sym (takes_never s c.args.line c.args.a c.args.b x none)
+    let none : list_any (may_take c.args.timeline c.args.b x.start) (reservations_in (kind_of s.model x)) ≡ false = rw c.reservations_of-reservations.ensures.value at (sym c.any_may_take.ensures ∙ fails) in
+    sym (takes_never s c.args.timeline c.args.a c.args.b x none)

@@ -2,12 +2,14 @@ use Rattle.std.proofs.Common.{refl, subst, rules}
 use mir.Syntax.{w64}
 use mir.Val.{SFits, to_z, of_z}
 use Rattle.std.proofs.lemmas.Int.{to_z-of_z}
-use Rattle.pl_update.specs.Changes.Changes.{with_goal, told_now, moved_on, committed_to}
+use Rattle.pl_update.specs.Changes.Changes.{with_goal, told_now, moved_on, committed_to, measured_to, withdrawn}
 use Rattle.pl_semantics.specs.Moves.{applied}
 use Rattle.pl_machine.specs.Changes.{CanChange}
 use Rattle.pl_machine.proofs.Changes.{due_on, due_tick, keeps_accept, keeps_tell, keeps_tick, keeps_on}
 use Rattle.pl_machine.proofs.Granting.{due_committed, keeps_commit, commit_bounds}
+use Rattle.pl_machine.proofs.Measured.{due_measured, keeps_measured}
 use Rattle.pl_machine.proofs.Repairs.{due_applied, keeps_applied}
+use Rattle.pl_machine.proofs.Withdrawn.{due_withdrawn, keeps_withdrawn}
 use Rattle.pl_machine.proofs.machine.appending.change_board.Goals as goal
 
 pub add_goal-requires : goal.add_goal-requires
@@ -26,6 +28,9 @@ commit-requires c = let can = subst (CanChange c.args.board.now.state) c.in-Comm
 
 pub make-requires : goal.make-requires
 make-requires c = let can = subst (CanChange c.args.board.now.state) c.in-Repair.is c.requires.can in record { unspoiled = c.requires.unspoiled; proper = can.0; allowed = can.1; next = can.2 }
+
+pub until-requires : goal.until-requires
+until-requires c = λ _. subst (CanChange c.args.board.now.state) c.in-Measure.is c.requires.can
 
 pub returns-in-Accept-clause-keeps : goal.returns-in-Accept-clause-keeps
 returns-in-Accept-clause-keeps c = keeps_on _ _ (with_goal c.in-Accept.goal c.args.board.now.state) _ (keeps_accept c.args.board.now.state c.in-Accept.goal) c.add_goal.ensures.ok
@@ -50,6 +55,14 @@ returns-in-Repair-clause-keeps c =
     let can = subst (CanChange c.args.board.now.state) c.in-Repair.is c.requires.can in
     keeps_on _ _ (applied c.args.board.now.state c.in-Repair.repair) _ (keeps_applied c.args.board.now.state c.in-Repair.repair c.requires.whole can.0 can.1) c.make.ensures.ok
 
+pub returns-in-Measure-clause-keeps : goal.returns-in-Measure-clause-keeps
+returns-in-Measure-clause-keeps c =
+    let can = subst (CanChange c.args.board.now.state) c.in-Measure.is c.requires.can in
+    keeps_on _ _ (measured_to c.in-Measure.id c.in-Measure.moment c.args.board.now.state) _ (keeps_measured c.args.board.now.state c.in-Measure.id c.in-Measure.moment c.requires.whole can) c.until.ensures.ok
+
+pub returns-in-Withdraw-clause-keeps : goal.returns-in-Withdraw-clause-keeps
+returns-in-Withdraw-clause-keeps c = keeps_on _ _ (withdrawn c.args.board.now.state) _ (keeps_withdrawn c.args.board.now.state) c.withdraw.ensures.ok
+
 pub returns-in-Accept-clause-due : goal.returns-in-Accept-clause-due
 returns-in-Accept-clause-due c = due_on _ c.args.change c.args.board.now.state (with_goal c.in-Accept.goal c.args.board.now.state) _ (λ _. refl) c.add_goal.ensures.ok
 
@@ -70,3 +83,10 @@ pub returns-in-Repair-clause-due : goal.returns-in-Repair-clause-due
 returns-in-Repair-clause-due c =
     let can = subst (CanChange c.args.board.now.state) c.in-Repair.is c.requires.can in
     due_on _ c.args.change c.args.board.now.state (applied c.args.board.now.state c.in-Repair.repair) _ (λ _. due_applied c.args.board.now.state c.in-Repair.repair c.requires.whole can.0 can.1) c.make.ensures.ok
+
+pub returns-in-Measure-clause-due : goal.returns-in-Measure-clause-due
+returns-in-Measure-clause-due c =
+    due_on _ c.args.change c.args.board.now.state (measured_to c.in-Measure.id c.in-Measure.moment c.args.board.now.state) _ (λ _. due_measured c.args.board.now.state c.in-Measure.id c.in-Measure.moment) c.until.ensures.ok
+
+pub returns-in-Withdraw-clause-due : goal.returns-in-Withdraw-clause-due
+returns-in-Withdraw-clause-due c = due_on _ c.args.change c.args.board.now.state (withdrawn c.args.board.now.state) _ (λ _. due_withdrawn c.args.board.now.state) c.withdraw.ensures.ok

@@ -1,5 +1,6 @@
 use Rattle.pl_update.proofs.AboutChanges.Finding.{found-replaced}
-use Rattle.pl_update.proofs.AboutChanges.Keeping.{whole_first, whole_with_goal, whole_without_goal, whole_moved_on, whole_told, whole_committed, whole_with_next, whole_replaced}
+use Rattle.pl_update.proofs.AboutChanges.Keeping.{whole_first, whole_with_goal, whole_without_goal, whole_moved_on, whole_told, whole_committed, whole_withdrawn, whole_with_next, whole_replaced}
+use Rattle.pl_update.proofs.AboutChanges.Measuring.{measured_as, can_measure, whole_measured}
 use Rattle.pl_update.proofs.AboutChanges.Putting.{puttable}
 use Rattle.pl_update.proofs.changes.laws.laws_of_plan_changes.Goals as goal
 
@@ -20,6 +21,18 @@ returns-clause-told c = whole_told
 
 pub returns-clause-committed : goal.returns-clause-committed
 returns-clause-committed c = whole_committed
+
+pub returns-clause-withdrawn : goal.returns-clause-withdrawn
+returns-clause-withdrawn c = whole_withdrawn
+
+pub returns-clause-measured : goal.returns-clause-measured
+returns-clause-measured c = whole_measured
+
+pub returns-clause-may_measure : goal.returns-clause-may_measure
+returns-clause-may_measure c = λ s id moment a whole here can. can_measure s id moment whole a here can
+
+pub returns-clause-measures : goal.returns-clause-measures
+returns-clause-measures c = λ s id moment a whole here. measured_as s id moment whole a here
 
 pub returns-clause-next : goal.returns-clause-next
 returns-clause-next c = whole_with_next

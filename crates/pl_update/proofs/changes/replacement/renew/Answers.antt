@@ -1,4 +1,3 @@
-use Rattle.std.proofs.Common.{◌≡◌, ◌∙◌}
 use Rattle.pl_update.proofs.AboutChanges.Renewing.{exchanged_renewed, free_without}
 use Rattle.pl_update.proofs.changes.replacement.renew.Goals as goal
 

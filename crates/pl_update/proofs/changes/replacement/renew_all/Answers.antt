@@ -1,4 +1,4 @@
-use Rattle.std.proofs.Common.{arith, ◌≡◌}
+use Rattle.std.proofs.Common.{arith}
 use Rattle.std.proofs.lemmas.Grind.{common_steps}
 use Rattle.pl_update.proofs.AboutChanges.Renewing.{rising_renewed}
 use Rattle.pl_update.proofs.changes.replacement.renew_all.Goals as goal
