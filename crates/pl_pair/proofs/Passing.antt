@@ -14,16 +14,17 @@ use Rattle.pl_journal.specs.Rendering.Lines.{line_of, text_from}
 use Rattle.pl_input.specs.declared.halt.Halt.{Halt}
 use Rattle.pl_input.specs.declared.halt.Halt.TheVariants as halt
 use Rattle.pl_journal.specs.Written.{Adds, WriteStops}
-use Rattle.pl_shared.specs.declared.noted.Noted.{Noted}
-use Rattle.pl_shared.specs.declared.noted.Noted.TheVariants.{Opened, Made, Stopped}
-use Rattle.pl_shared.specs.declared.part.Part.{Part}
-use Rattle.pl_shared.specs.Items.{entry_in, entries_in}
+use Rattle.pl_acts.specs.declared.noted.Noted.{Noted}
+use Rattle.pl_acts.specs.declared.noted.Noted.TheVariants.{Opened, Made, Stopped}
+use Rattle.pl_acts.specs.declared.part.Part.{Part}
+use Rattle.pl_acts.specs.Items.{entry_in, entries_in}
 use Rattle.pl_shared.specs.declared.plan.SharedPlan.{SharedPlan}
-use Rattle.pl_shared.specs.Plans.{PlanPass, IsPlan, BelongsTo}
-use Rattle.pl_shared.specs.Turns.{TakesTurn, Copies}
+use Rattle.pl_acts.specs.Seen.{IsPlan, Copies}
+use Rattle.pl_shared.specs.Plans.{PlanPass, BelongsTo}
+use Rattle.pl_shared.specs.Turns.{TakesTurn}
 use Rattle.pl_machine.proofs.ShortLogs.{log_is_short}
-use Rattle.pl_shared.proofs.Items.{entries_in_items}
-use Rattle.pl_shared.proofs.Progress.{in_world_on}
+use Rattle.pl_acts.proofs.Items.{entries_in_items}
+use Rattle.pl_acts.proofs.FullLogs.{in_world_on}
 use Rattle.pl_pair.specs.declared.cut.Cut.{Cut}
 use Rattle.pl_pair.specs.declared.cut.Cut.TheVariants as cut
 use Rattle.pl_pair.specs.declared.rounds.Stage.{Stage}

@@ -1,13 +1,14 @@
 //! How the feeder waits for a round to close.
 ghost use Rattle.std.specs.Prelude.{◌≡◌, ◌≤◌, ◌||◌, length, IfOk};
 ghost use Rattle.pl_turn.specs.Passes.{seen_of};
-ghost use Rattle.pl_shared.specs.Items.{entries_in};
+ghost use Rattle.pl_acts.specs.Items.{entries_in};
 ghost use Rattle.pl_shared.specs.Plans.{BelongsTo};
 ghost use Rattle.pl_pair.specs.Workers.{AreHands, SameDuties};
 ghost use Rattle.pl_pair.specs.Rounds.{LooksAtPlan, IsRound};
 
 use crate::hands::Hands;
-use pl_shared::{Part, Pass, SharedPlan};
+use pl_acts::Part;
+use pl_shared::{Pass, SharedPlan};
 use std::alloc::{AllocError, Global};
 use std::sync::Wait;
 

@@ -1,11 +1,11 @@
 //! The plan under its lock.
 ghost use Rattle.std.specs.Prelude.{◌≡◌, [], false, true, length, IfOk, IfErr};
 ghost use Rattle.pl_turn.specs.Passes.{seen_of, mine_of, crew_of, leads, made_by, joined_by};
-ghost use Rattle.pl_shared.specs.Items.{items_of};
+ghost use Rattle.pl_acts.specs.Items.{items_of};
 ghost use Rattle.pl_shared.specs.Plans.{BelongsTo, Closes};
 
-use crate::bell::Bell;
-use crate::held::Held;
+use pl_acts::Bell;
+use pl_acts::Held;
 use pl_machine::Machine;
 use pl_turn::TurnLock;
 use std::alloc::Global;

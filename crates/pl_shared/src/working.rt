@@ -3,7 +3,7 @@ ghost use Rattle.pl_shared.specs.Plans.{BelongsTo};
 ghost use Rattle.pl_shared.specs.Turns.{TakesTurn, Acts, WorksOn};
 
 use crate::plan::{Pass, SharedPlan};
-use crate::role::{Acted, Role};
+use pl_acts::{Acted, Role};
 use pl_machine::Stop;
 use pl_turn::Gate;
 use std::alloc::Global;

@@ -1,6 +1,6 @@
 use Rattle.std.proofs.Common.{◌≤◌, length}
 use Rattle.pl_turn.specs.Passes.{seen_of}
-use Rattle.pl_shared.specs.Items.{entries_in}
+use Rattle.pl_acts.specs.Items.{entries_in}
 use Rattle.pl_shared.specs.Plans.{BelongsTo}
 use Rattle.pl_pair.specs.Workers.{AreHands, SameDuties}
 use Rattle.pl_pair.specs.Rounds.{LooksAtPlan}

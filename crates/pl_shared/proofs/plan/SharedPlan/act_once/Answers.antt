@@ -1,4 +1,5 @@
-use Rattle.pl_shared.proofs.Turning.{grows_acted, took_turn, did}
+use Rattle.pl_acts.proofs.Growing.{grows_acted}
+use Rattle.pl_shared.proofs.Turning.{took_turn, did}
 use Rattle.pl_shared.proofs.plan.SharedPlan.act_once.Goals as goal
 
 pub leave-requires-clause-grows : goal.leave-requires-clause-grows

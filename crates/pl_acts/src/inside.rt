@@ -2,7 +2,7 @@
 ghost use Rattle.std.specs.Prelude.{◌≡◌, ◌+◌, length, IfSome, true};
 ghost use Rattle.std.specs.Option.{option_copied};
 ghost use Rattle.pl_entry.specs.Bounds.{IsMessageLine};
-ghost use Rattle.pl_shared.specs.Inside.{IsSound, FeedsIn};
+ghost use Rattle.pl_acts.specs.Inside.{IsSound, FeedsIn};
 
 use crate::held::Held;
 use pl_machine::{Machine, Stop};
@@ -15,7 +15,8 @@ fn is_sound(machine: &Machine)
 }
 
 impl Held {
-    pub(crate) fn is_sound(&self)
+    /// The log is legal: a look at it shows that.
+    pub fn is_sound(&self)
         ensures { IsSound self.now.machine }
     {
         is_sound(&self.machine)
@@ -31,7 +32,7 @@ impl Held {
 
     /// Takes a message line, or the end of the input.
     #[tactic(auto, using(crate::proofs::Answering::fed_one, crate::proofs::Answering::fed_none, crate::proofs::Answering::fed_stopped))]
-    pub(crate) fn feed(&mut self, line: Option<&[u8]>) -> Result<u32, Stop>
+    pub fn feed(&mut self, line: Option<&[u8]>) -> Result<u32, Stop>
         requires { IfSome (option_copied line) IsMessageLine }
         ensures { FeedsIn (option_copied line.entry) self.old result self.new }
     {
@@ -48,7 +49,7 @@ impl Held {
     }
 
     /// Marks the plan as stopped.
-    pub(crate) fn stop(&mut self)
+    pub fn stop(&mut self)
         ensures machine { self.new.machine ≡ self.old.machine }
         ensures stopped { self.new.stopped ≡ true }
     {

@@ -1,5 +1,5 @@
 ghost use Rattle.std.specs.Prelude.{◌≡◌};
-ghost use Rattle.pl_shared.specs.Roles.{worker_of};
+ghost use Rattle.pl_acts.specs.Roles.{worker_of};
 
 use pl_choose::Seeded;
 

@@ -1,12 +1,12 @@
 -- What a role made, entry by entry.
 use Rattle.std.specs.Prelude.{◌≡◌, ℕ, List, [], ◌∷◌, ◌++◌, length, false}
 use Rattle.pl_entry.specs.declared.entry.Entry.{Entry}
-use Rattle.pl_shared.specs.declared.noted.Noted.{Noted}
-use Rattle.pl_shared.specs.declared.noted.Noted.TheVariants.{Made}
-use Rattle.pl_shared.specs.declared.role.Role.{Role}
-use Rattle.pl_shared.specs.Items.{stop_in, InWorld}
-use Rattle.pl_shared.specs.Roles.{IsDueBy}
-use Rattle.pl_shared.specs.Inside.{IsStepIn}
+use Rattle.pl_acts.specs.declared.noted.Noted.{Noted}
+use Rattle.pl_acts.specs.declared.noted.Noted.TheVariants.{Made}
+use Rattle.pl_acts.specs.declared.role.Role.{Role}
+use Rattle.pl_acts.specs.Items.{stop_in, InWorld}
+use Rattle.pl_acts.specs.Roles.{IsDueBy}
+use Rattle.pl_acts.specs.Inside.{IsStepIn}
 
 -- The item stands at this place of what was seen. It is the entry that the role makes in the world after the items before it, which hold no stop, and the role behind it is `r2`.
 pub record IsMadeAt (r : Role) (seen : List Noted) (place : ℕ) (item : Noted) (r2 : Role) : Type 0 where

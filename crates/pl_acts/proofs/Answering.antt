@@ -22,11 +22,11 @@ use Rattle.pl_machine.specs.declared.repaired.Repaired.TheVariants as repaired
 use Rattle.pl_machine.specs.Mending as mending
 use Rattle.pl_machine.specs.Mending.{HasRepaired, RepairsOnce}
 use Rattle.pl_choose.specs.Picks.{seeded_pick, seeded_after}
-use Rattle.pl_shared.specs.declared.held.Held.{Held}
-use Rattle.pl_shared.specs.declared.role.Role.TheVariants.{Planner, Executive}
-use Rattle.pl_shared.specs.declared.role.Acted.TheVariants as acted
-use Rattle.pl_shared.specs.Roles.{has_event, IsChosen, IsBy, IsAskedAtMost, IsInputOf}
-use Rattle.pl_shared.specs.Inside.{Logs, Spoiled, can_listen, FeedsIn, ActsIn}
+use Rattle.pl_acts.specs.declared.held.Held.{Held}
+use Rattle.pl_acts.specs.declared.role.Role.TheVariants.{Planner, Executive}
+use Rattle.pl_acts.specs.declared.role.Acted.TheVariants as acted
+use Rattle.pl_acts.specs.Roles.{has_event, IsChosen, IsBy, IsAskedAtMost, IsInputOf}
+use Rattle.pl_acts.specs.Inside.{Logs, Spoiled, can_listen, FeedsIn, ActsIn}
 
 abbrev with_machine : State → Held → Held
 with_machine m h = record h { machine = m }

@@ -3,6 +3,6 @@ use pl_machine::Machine;
 /// What lies under the lock: a machine, and whether the plan was stopped.
 #[derive(Drop)]
 pub struct Held {
-    pub(crate) machine: Machine,
-    pub(crate) stopped: bool,
+    pub machine: Machine,
+    pub stopped: bool,
 }

@@ -7,14 +7,14 @@ use Rattle.pl_machine.specs.World.{World}
 use Rattle.pl_machine.specs.Step.{is_enabled, reply_of}
 use Rattle.pl_machine.specs.Legal.{Legal, IsHistory, world_of}
 use Rattle.pl_machine.specs.Sound.{State}
-use Rattle.pl_shared.specs.declared.noted.Noted.{Noted}
-use Rattle.pl_shared.specs.declared.held.Held.{Held}
-use Rattle.pl_shared.specs.declared.role.Role.{Role}
-use Rattle.pl_shared.specs.declared.role.Acted.{Acted}
-use Rattle.pl_shared.specs.declared.role.Acted.TheVariants as acted
-use Rattle.pl_shared.specs.declared.part.Part.{Part}
-use Rattle.pl_shared.specs.Items.{items_of}
-use Rattle.pl_shared.specs.Roles.{has_event, IsBy, IsAskedAtMost, IsInputOf}
+use Rattle.pl_acts.specs.declared.noted.Noted.{Noted}
+use Rattle.pl_acts.specs.declared.held.Held.{Held}
+use Rattle.pl_acts.specs.declared.role.Role.{Role}
+use Rattle.pl_acts.specs.declared.role.Acted.{Acted}
+use Rattle.pl_acts.specs.declared.role.Acted.TheVariants as acted
+use Rattle.pl_acts.specs.declared.part.Part.{Part}
+use Rattle.pl_acts.specs.Items.{items_of}
+use Rattle.pl_acts.specs.Roles.{has_event, IsBy, IsAskedAtMost, IsInputOf}
 
 abbrev pub items_in : Held → List Noted
 items_in h = items_of h.machine.model h.machine.log h.stopped

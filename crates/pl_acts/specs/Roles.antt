@@ -10,10 +10,10 @@ use Rattle.pl_choose.specs.Picks.{seeded_pick, seeded_after}
 use Rattle.pl_machine.specs.declared.choice.Choice.{Choice}
 use Rattle.pl_machine.specs.World.{World, reason_of}
 use Rattle.pl_machine.specs.Choices.{exec_choice_of, event_of}
-use Rattle.pl_shared.specs.declared.role.Role.{Role}
-use Rattle.pl_shared.specs.declared.role.Role.TheVariants.{Planner, Executive}
-use Rattle.pl_shared.specs.declared.noted.Noted.{Noted}
-use Rattle.pl_shared.specs.declared.noted.Noted.TheVariants.{Opened, Made, Stopped}
+use Rattle.pl_acts.specs.declared.role.Role.{Role}
+use Rattle.pl_acts.specs.declared.role.Role.TheVariants.{Planner, Executive}
+use Rattle.pl_acts.specs.declared.noted.Noted.{Noted}
+use Rattle.pl_acts.specs.declared.noted.Noted.TheVariants.{Opened, Made, Stopped}
 
 -- the number of a worker of this role
 abbrev pub worker_of : Role → ℕ

@@ -3,13 +3,13 @@ use std::sync::{Condvar, Mutex, Wait};
 
 /// It is rung behind each change of the plan.
 #[derive(Drop)]
-pub(crate) struct Bell {
+pub struct Bell {
     rings: Mutex<u64>,
     rung: Condvar,
 }
 
 impl Bell {
-    pub(crate) fn new() -> Bell {
+    pub fn new() -> Bell {
         Bell {
             rings: Mutex::new(0),
             rung: Condvar::new(),
@@ -17,11 +17,11 @@ impl Bell {
     }
 
     /// How often it was rung.
-    pub(crate) fn rings<R: Wait>(&self, rt: &R) -> u64 {
+    pub fn rings<R: Wait>(&self, rt: &R) -> u64 {
         *self.rings.lock(rt)
     }
 
-    pub(crate) fn ring<R: Wait>(&self, rt: &R) {
+    pub fn ring<R: Wait>(&self, rt: &R) {
         let mut rings = self.rings.lock(rt);
         *rings = rings.wrapping_add(1);
         drop(rings);
@@ -29,7 +29,7 @@ impl Bell {
     }
 
     /// Waits until it was rung more often, or less often, than this.
-    pub(crate) fn wait<R: Wait>(&self, rt: &R, heard: u64) {
+    pub fn wait<R: Wait>(&self, rt: &R, heard: u64) {
         let rings = self
             .rung
             .wait_while(rt, self.rings.lock(rt), |rings| *rings == heard);
