@@ -1,5 +1,5 @@
 -- What is done to the plan inside a turn.
-use Rattle.std.specs.Prelude.{◌≡◌, ◌≤◌, ℕ, List, [], ◌∷◌, ◌++◌, length, drop, Bool, true, false, not, ◌&&◌, Option, Result, Ok, Err}
+use Rattle.std.specs.Prelude.{◌≡◌, ◌≤◌, ℕ, List, [], ◌∷◌, ◌++◌, length, drop, Bool, true, false, not, ◌&&◌, ◌||◌, Option, Result, Ok, Err}
 use Rattle.pl_entry.specs.declared.entry.Entry.{Entry}
 use Rattle.pl_machine.specs.declared.stop.Stop.{Stop}
 use Rattle.pl_machine.specs.declared.stop.Stop.TheVariants as stop
@@ -53,6 +53,10 @@ Spoiled old new = (old.machine.spoiled ≡ false) × KeepsLog old new × (new.ma
 
 abbrev pub IsFull : State → Type 0
 IsFull m = m.world.options.entries ≤ length m.log
+
+-- whether the plan goes no further: memory was wanting, the input has ended, or the plan was stopped
+abbrev pub is_over : Held → Bool
+is_over h = h.machine.spoiled || (h.machine.world.done || h.stopped)
 
 -- whether a message is taken: between rounds, and before the end of the input and the stop
 abbrev pub can_listen : World → Bool → Bool

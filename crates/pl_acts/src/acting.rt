@@ -11,7 +11,7 @@ use pl_machine::{Choice, Stop};
 
 impl Held {
     /// Whether the planner has an event.
-    fn can_repair(&self) -> bool
+    pub(crate) fn can_repair(&self) -> bool
         ensures { result ≡ (not self.now.machine.world.closed && not self.now.machine.world.rested) }
     {
         !self.machine.closed() && !self.machine.resting()

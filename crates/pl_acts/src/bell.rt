@@ -1,15 +1,15 @@
-//! How workers that have nothing to do wait. It carries no fact.
+//! How somebody who has nothing to do waits.
 use std::sync::{Condvar, Mutex, Wait};
 
-/// It is rung behind each change of the plan.
+/// A count of rings, for which threads wait asleep.
 #[derive(Drop)]
-pub struct Bell {
+pub(crate) struct Bell {
     rings: Mutex<u64>,
     rung: Condvar,
 }
 
 impl Bell {
-    pub fn new() -> Bell {
+    pub(crate) fn new() -> Bell {
         Bell {
             rings: Mutex::new(0),
             rung: Condvar::new(),
@@ -17,11 +17,11 @@ impl Bell {
     }
 
     /// How often it was rung.
-    pub fn rings<R: Wait>(&self, rt: &R) -> u64 {
+    pub(crate) fn rings<R: Wait>(&self, rt: &R) -> u64 {
         *self.rings.lock(rt)
     }
 
-    pub fn ring<R: Wait>(&self, rt: &R) {
+    pub(crate) fn ring<R: Wait>(&self, rt: &R) {
         let mut rings = self.rings.lock(rt);
         *rings = rings.wrapping_add(1);
         drop(rings);
@@ -29,7 +29,7 @@ impl Bell {
     }
 
     /// Waits until it was rung more often, or less often, than this.
-    pub fn wait<R: Wait>(&self, rt: &R, heard: u64) {
+    pub(crate) fn wait<R: Wait>(&self, rt: &R, heard: u64) {
         let rings = self
             .rung
             .wait_while(rt, self.rings.lock(rt), |rings| *rings == heard);

@@ -4,6 +4,8 @@
 
 mod acting;
 mod bell;
+mod bells;
+mod busy;
 mod copying;
 mod held;
 mod inside;
@@ -13,7 +15,8 @@ mod part;
 mod role;
 mod sharing;
 
-pub use bell::Bell;
+pub use bells::{Bells, Listener};
+pub use busy::Busy;
 pub use held::Held;
 pub use noted::Noted;
 pub use part::{Entries, Part};

@@ -1,6 +1,7 @@
 ghost use Rattle.std.specs.Prelude.{◌≡◌};
 ghost use Rattle.pl_acts.specs.Roles.{worker_of};
 
+use crate::bells::Listener;
 use pl_choose::Seeded;
 
 /// What a worker does: it repairs the plan, or it commits, sends commands and closes rounds.
@@ -18,6 +19,14 @@ impl Role {
         match self {
             Role::Planner(_) => 1,
             Role::Executive => 0,
+        }
+    }
+
+    /// Which bell a worker of this role waits for.
+    pub fn listener(&self) -> Listener {
+        match self {
+            Role::Planner(_) => Listener::Planner,
+            Role::Executive => Listener::Executive,
         }
     }
 }

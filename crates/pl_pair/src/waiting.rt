@@ -36,16 +36,17 @@ fn wait_closed<R: Wait>(
     ensures duties { SameDuties hands.old hands.new }
     ensures looks { LooksAtPlan pass.old pass.new }
 {
+    let listener = hands.listener();
     let mut seen = from;
     for _ in rt.forever() {
-        let heard = plan.changes(rt);
+        let heard = plan.changes(rt, listener);
         let part = plan.copy_from(rt, alloc, pass, seen)?;
         if is_over(&part) {
             return Ok(());
         }
         seen += part.entries.as_slice().len() as u32;
         if !hands.act(rt, alloc, plan) {
-            plan.wait(rt, heard);
+            plan.wait(rt, listener, heard);
         }
     }
     unreachable!()

@@ -9,25 +9,6 @@ use std::alloc::Global;
 use std::sync::Wait;
 
 impl SharedPlan {
-    fn act_once<R: Wait>(&self, rt: &R, pass: &mut Pass, role: &mut Role) -> Result<Acted, Stop>
-        requires { BelongsTo self.now pass.old }
-        ensures own { BelongsTo self.now pass.new }
-        ensures takes { TakesTurn pass.old pass.new }
-        ensures acts { Acts role.old pass.old result role.new pass.new }
-    {
-        let mut held = self.enter(rt, pass);
-        let acted = held.act(role);
-        self.leave(pass, held);
-        acted
-    }
-
-    /// Rings where an entry was made.
-    fn tell<R: Wait>(&self, rt: &R, acted: &Result<Acted, Stop>) {
-        if let Ok(Acted::Did(_)) = acted {
-            self.bell.ring(rt);
-        }
-    }
-
     /// Makes the event that the role has, if it has one, in one turn.
     pub fn act<R: Wait>(
         &self,
@@ -41,8 +22,12 @@ impl SharedPlan {
         ensures takes { TakesTurn pass.old pass.new }
         ensures acts { Acts role.old pass.old result role.new pass.new }
     {
-        let acted = self.act_once(rt, pass, role);
-        self.tell(rt, &acted);
+        let mut held = self.enter(rt, pass);
+        let before = held.busy();
+        let acted = held.act(role);
+        let behind = held.busy();
+        self.leave(pass, held);
+        self.bells.ring(rt, before, behind);
         acted
     }
 }

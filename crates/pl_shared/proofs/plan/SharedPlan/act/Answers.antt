@@ -1,6 +1,6 @@
 use Rattle.pl_acts.proofs.Growing.{grows_acted}
 use Rattle.pl_shared.proofs.Turning.{took_turn, did}
-use Rattle.pl_shared.proofs.plan.SharedPlan.act_once.Goals as goal
+use Rattle.pl_shared.proofs.plan.SharedPlan.act.Goals as goal
 
 pub leave-requires-clause-grows : goal.leave-requires-clause-grows
 leave-requires-clause-grows g c =

@@ -1,7 +1,7 @@
 use Rattle.std.proofs.Common.{refl}
 use Rattle.pl_acts.proofs.Growing.{grows_stopped}
 use Rattle.pl_shared.proofs.Turning.{took_turn, stops}
-use Rattle.pl_shared.proofs.plan.SharedPlan.stop_once.Goals as goal
+use Rattle.pl_shared.proofs.plan.SharedPlan.stop.Goals as goal
 
 pub leave-requires-clause-grows : goal.leave-requires-clause-grows
 leave-requires-clause-grows g c =
