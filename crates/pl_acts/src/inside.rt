@@ -1,5 +1,5 @@
 //! What is done to the plan inside a turn.
-ghost use Rattle.std.specs.Prelude.{◌≡◌, ◌+◌, length, IfSome, true};
+ghost use Rattle.std.specs.Prelude.{◌≡◌, ◌+◌, ◌||◌, length, IfSome, true};
 ghost use Rattle.std.specs.Option.{option_copied};
 ghost use Rattle.pl_entry.specs.Bounds.{IsMessageLine};
 ghost use Rattle.pl_acts.specs.Inside.{IsSound, FeedsIn};
@@ -46,6 +46,13 @@ impl Held {
             Ok(_) => Ok(self.last_number()),
             Err(stop) => Err(stop),
         }
+    }
+
+    /// Whether the round is closed or the plan was stopped.
+    pub fn round_over(&self) -> bool
+        ensures { result ≡ (self.now.machine.world.closed || self.now.stopped) }
+    {
+        self.machine.closed() || self.stopped
     }
 
     /// Marks the plan as stopped.

@@ -94,15 +94,6 @@ copied_short from seen part le plan copies =
     let short = entries_short seen plan in
     omega arith
 
--- what was copied behind a number reaches no further than what was seen
-pub copied_within : (from : ℕ) (old new : PlanPass) (part : Part) → from ≤ length (entries_in (seen_of old)) → TakesTurn old new → Copies from (seen_of new) part → from + length part.entries ≤ length (entries_in (seen_of new))
-copied_within from old new part le takes copies =
-    let to = copied_to from (seen_of new) part (within_later from old new le (took_follows old new takes)) copies in
-    omega arith
-
-pub copied_few : (plan : SharedPlan) (from : ℕ) (old new : PlanPass) (part : Part) → from ≤ length (entries_in (seen_of old)) → TakesTurn old new → BelongsTo plan new → Copies from (seen_of new) part → from + length part.entries ≤ 250000
-copied_few plan from old new part le takes own copies = copied_short from (seen_of new) part (within_later from old new le (took_follows old new takes)) own.seen copies
-
 pub within_looks : (n : ℕ) (old new : PlanPass) → n ≤ length (entries_in (seen_of old)) → LooksAtPlan old new → n ≤ length (entries_in (seen_of new))
 within_looks n old new le looks = within_later n old new le looks.follows
 

@@ -1,7 +1,7 @@
 -- From what is done inside a turn to what the pass knows behind it.
 use Rattle.std.proofs.Common.{◌≡◌, ℕ, ◌≤◌, List, [], ◌∷◌, ◌++◌, length, drop, Bool, true, false, Option, Result, Ok, Err, IfOk, sym, ◌∙◌, ap, subst, arith}
 use mathlib.Core.List.{IsPrefix}
-use Rattle.std.specs.Prelude.{nat_lt, cond}
+use Rattle.std.specs.Prelude.{nat_lt, cond, ◌||◌}
 use Rattle.std.specs.List.{All}
 use Rattle.pl_turn.specs.History.{IsSameOrOneMore, IsEachOnce, StandsIn, times_in, longer}
 use Rattle.pl_turn.specs.Passes.{IsPassOf, seen_of, mine_of, counted_of, in_turn, crew_of, opening_of, lists_of}
@@ -11,7 +11,7 @@ use Rattle.pl_machine.specs.declared.stop.Stop.{Stop}
 use Rattle.pl_machine.specs.declared.stop.Stop.TheVariants as stop
 use Rattle.pl_machine.specs.World.{World}
 use Rattle.pl_machine.specs.Sound.{State}
-use Rattle.pl_machine.specs.Legal.{IsHistory}
+use Rattle.pl_machine.specs.Legal.{IsHistory, world_of}
 use Rattle.pl_acts.specs.declared.noted.Noted.{Noted}
 use Rattle.pl_acts.specs.declared.noted.Noted.TheVariants.{Made, Stopped}
 use Rattle.pl_acts.specs.declared.held.Held.{Held}
@@ -156,6 +156,13 @@ module _ (old mid new : PlanPass) (held held2 : Held) (turn : Turn old mid new h
   pub copied_if : {E : Type 0} (from : ℕ) (r : Result Part E) → held2 ≡ held → IfOk r (IsPart from held) → IfOk r (Copies from (seen_of new))
   copied_if from (Ok part) same is = copied from part same is
   copied_if from (Err e) same is = tt
+
+  -- whether the round is over, as the world behind what was seen has it
+  pub told_over : (b : Bool) → held2 ≡ held → b ≡ (held.machine.world.closed || held.stopped) → InWorld (seen_of new) (λ w. b ≡ (w.closed || stop_in (seen_of new)))
+  told_over b same is =
+      let keeps = same_held held held2 same in
+      in_world_of (λ w. b ≡ (w.closed || stop_in (seen_of new))) (seen_of new) held.machine.model held.machine.log held.stopped (seen_same keeps) turn.sound.legal
+      (is ∙ ap (λ (w : World). w.closed || held.stopped) turn.sound.others ∙ ap (λ (s : Bool). (world_of held.machine.model held.machine.log).closed || s) (sym (stop_is keeps)))
 
   pub made_nothing : held2 ≡ held → MakesNothing old new
   made_nothing same = made_none (same_held held held2 same)

@@ -4,6 +4,7 @@
 mod acting;
 mod copying;
 mod feeding;
+mod looking;
 mod passes;
 mod plan;
 mod sharing;
