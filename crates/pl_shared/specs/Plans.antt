@@ -9,8 +9,9 @@ use Rattle.pl_machine.specs.Legal.{Legal}
 use Rattle.pl_machine.specs.Sound.{State}
 use Rattle.pl_acts.specs.declared.noted.Noted.{Noted}
 use Rattle.pl_acts.specs.declared.held.Held.{Held}
-use Rattle.pl_shared.specs.declared.plan.SharedPlan.{SharedPlan}
 use Rattle.pl_acts.specs.Items.{items_of, model_in}
+use Rattle.pl_acts.specs.Seen.{IsPlan}
+use Rattle.pl_shared.specs.declared.plan.SharedPlan.{SharedPlan}
 
 -- a pass of the lock of a plan
 abbrev pub PlanPass : Type 0

@@ -15,8 +15,9 @@ use Rattle.pl_acts.specs.declared.role.Acted.TheVariants as acted
 use Rattle.pl_acts.specs.Items.{model_in, stop_in, InWorld}
 use Rattle.pl_acts.specs.Roles.{worker_of, has_event, IsDueBy, IsAskedAtMost, IsInputOf, kind_of, is_entry}
 use Rattle.pl_acts.specs.Inside.{IsStepIn, can_listen}
-use Rattle.pl_shared.specs.Plans.{PlanPass}
 use Rattle.pl_acts.specs.Making.{MakesAll}
+use Rattle.pl_acts.specs.Seen.{IsFull, IsOver, WasAskedAtMost}
+use Rattle.pl_shared.specs.Plans.{PlanPass}
 
 -- What the pass has seen goes on, and is no shorter than any length that it was told.
 pub record TakesTurn (old new : PlanPass) : Type 0 where
