@@ -6,7 +6,7 @@ use Rattle.pl_machine.specs.declared.stop.Stop.TheVariants as stop
 use Rattle.pl_input.specs.Reads.{OneLine}
 use Rattle.pl_input.specs.Waits.{MessageGives, GetsFault, line_in}
 use Rattle.pl_input.specs.Places.{Place}
-use Rattle.pl_shared.specs.Roles.{IsInputOf}
+use Rattle.pl_acts.specs.Roles.{IsInputOf}
 use Rattle.pl_shared.specs.Plans.{PlanPass}
 use Rattle.pl_shared.specs.Turns.{Makes, MakesNothing, Feeds}
 use Rattle.pl_pair.specs.declared.cut.Cut.{Cut}

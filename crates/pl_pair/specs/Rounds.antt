@@ -7,11 +7,11 @@ use Rattle.pl_model.specs.declared.whole.Model.{Model}
 use Rattle.pl_machine.specs.World.{World}
 use Rattle.pl_journal.specs.Rendering.Lines.{text_from}
 use Rattle.pl_journal.specs.Written.{Adds}
-use Rattle.pl_shared.specs.declared.noted.Noted.{Noted}
-use Rattle.pl_shared.specs.declared.part.Part.{Part}
-use Rattle.pl_shared.specs.Items.{model_in, entries_in, stop_in, InWorld}
+use Rattle.pl_acts.specs.declared.noted.Noted.{Noted}
+use Rattle.pl_acts.specs.declared.part.Part.{Part}
+use Rattle.pl_acts.specs.Items.{model_in, entries_in, stop_in, InWorld}
 use Rattle.pl_shared.specs.Plans.{PlanPass}
-use Rattle.pl_shared.specs.Turns.{Copies}
+use Rattle.pl_acts.specs.Seen.{Copies}
 use Rattle.pl_pair.specs.declared.cut.Cut.{Cut}
 use Rattle.pl_pair.specs.declared.cut.Cut.TheVariants as cut
 use Rattle.pl_pair.specs.declared.rounds.Stage.{Stage}

@@ -2,7 +2,7 @@
 ghost use Rattle.std.specs.Prelude.{◌≡◌, ◌≤◌, ◌<◌, [], length, None, IsErrOf};
 ghost use Rattle.pl_io.specs.Faults.{Rose};
 ghost use Rattle.pl_turn.specs.Passes.{seen_of, mine_of};
-ghost use Rattle.pl_shared.specs.Items.{entries_in};
+ghost use Rattle.pl_acts.specs.Items.{entries_in};
 ghost use Rattle.pl_shared.specs.Plans.{BelongsTo};
 ghost use Rattle.pl_pair.specs.Workers.{AreHands, SameDuties};
 ghost use Rattle.pl_input.specs.Places.{place_of};

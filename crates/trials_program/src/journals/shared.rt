@@ -6,13 +6,14 @@ ghost use Rattle.pl_shared.specs.Plans.{BelongsTo};
 
 use crate::journals::asserting::holds;
 use crate::journals::models::{JOURNAL, MODEL, model, shared_model};
+use pl_acts::{Acted, Role};
 use pl_choose::Seeded;
 use pl_entry::Entry;
 use pl_facts::Options;
 use pl_journal::render;
 use pl_machine::{Machine, Stop};
 use pl_model::Model;
-use pl_shared::{Acted, Pass, Role, SharedPlan, work};
+use pl_shared::{Pass, SharedPlan, work};
 use pl_turn::NoGate;
 use std::alloc::{AllocError, Global};
 use std::process::Abort;
