@@ -23,7 +23,7 @@ abbrev pub FirstLine : Place → Result (Option NumberedLine) LineFault → Plac
 FirstLine old (Ok line) new = (old.reader.failed ≡ None) × OneLine old.reader old.ahead (Ok line) new.reader new.ahead
 FirstLine old (Err f) new = Faults old f new
 
--- the same of the next message
+-- the next message, or the end of the input, or the fault that keeps it back
 abbrev pub Asks : Place → Result (Option NumberedLine) LineFault → Place → Type 0
 Asks old (Ok message) new = (old.reader.failed ≡ None) × MessageGives old.reader old.ahead (Ok message) new.reader new.ahead
 Asks old (Err f) new = Faults old f new

@@ -206,7 +206,7 @@ FeedsAll plan m old start held (Err cut.Stopped) new place now = FeedsCut plan m
 FeedsAll plan m old start held (Err cut.Write) new place now = FeedsTorn plan m old start held new place now
 FeedsAll plan m old start held (Err cut.Memory) new place now = FeedsShort plan m old start held new place now
 
--- The same, and then the plan was stopped.
+-- The feeder's work ended so, and then the plan was stopped.
 pub record FeedsAndStops (plan : SharedPlan) (m : Model) (c : Cut) (old : PlanPass) (start : Place) (held : Option (List ℕ)) (new : PlanPass) (place : Place) (now : Option (List ℕ)) : Type 0 where
   pub mid : PlanPass
   pub feeds : FeedsAll plan m old start held (Err c) mid place now

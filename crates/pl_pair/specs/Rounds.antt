@@ -23,7 +23,7 @@ pub record Follows (old new : PlanPass) : Type 0 where
   pub model : model_in (seen_of new) ≡ model_in (seen_of old)
   pub crew : crew_of new ≡ crew_of old
 
--- The same, and the pass made nothing.
+-- The pass has seen the history go on, and made nothing.
 pub record LooksAtPlan (old new : PlanPass) : Type 0 where
   pub follows : Follows old new
   pub mine : mine_of new ≡ mine_of old

@@ -112,7 +112,7 @@ fn feed_all<R: Wait, S: Source, O: Sink>(
     unreachable!()
 }
 
-/// The same, and the plan is stopped where the feeder goes no further.
+/// Feeds the plan round after round up to the end of the input, and stops it where the feeder goes no further.
 #[tactic(auto, using(crate::proofs::Feeding::ends_stopped))]
 pub(crate) fn feed_or_stop<R: Wait, S: Source, O: Sink>(
     rt: &R,

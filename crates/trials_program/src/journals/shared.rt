@@ -4,7 +4,7 @@ ghost use Rattle.std.specs.List.{list_any};
 ghost use Rattle.pl_turn.specs.Passes.{crew_of, leads, made_by, joined_by};
 ghost use Rattle.pl_shared.specs.Plans.{BelongsTo};
 
-use crate::journals::asserting::holds;
+use crate::asserting::holds;
 use crate::journals::models::{JOURNAL, MODEL, model, shared_model};
 use pl_acts::{Acted, Role};
 use pl_choose::Seeded;

@@ -28,3 +28,10 @@ pub fn number(rest: &mut &str) -> u32 {
 pub fn value(rest: &mut &str) -> Option<i64> {
     word(rest).parse().ok()
 }
+
+/// Takes the next field of a row off; ` | ` stands between two.
+pub fn field<'a>(rest: &mut &'a str) -> &'a str {
+    let (first, more) = rest.split_once(" | ").unwrap_or((*rest, ""));
+    *rest = more;
+    first
+}
