@@ -1,0 +1,3 @@
+pub mod Prefers
+pub mod Scores
+pub mod Betters

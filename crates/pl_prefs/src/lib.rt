@@ -1,0 +1,15 @@
+//! What is preferred of a plan, how well a plan meets it, and how a plan without conflicts is bettered.
+#![tactic(auto)]
+
+mod fault;
+mod form;
+mod forms;
+mod prefer;
+mod reading;
+mod sharing;
+mod words;
+
+pub use fault::PreferFault;
+pub use prefer::Prefer;
+pub use reading::read_prefer;
+pub use sharing::shared_types;
