@@ -20,11 +20,18 @@ while_ahead s z = if nat_lt s.moment s.model.horizon then z else pos 0
 abbrev pub level_share : PlanState → ℕ → Activity → ℤ
 level_share s line a = total (counted (since s line) (s.model.horizon - 1)) (effects_of line (demands_at s a))
 
--- what one activity counts for one preference
+-- what one activity counts for a preference of its kind, by its start and its values; nothing for a level
+abbrev pub share_of : PlanState → Prefer → Activity → ℤ
+share_of s (Early kind w) = of_kind kind (λ a. w *ℤ earliness s a)
+share_of s (Late kind w) = of_kind kind (λ a. w *ℤ lateness a)
+share_of s (Value kind param w) = of_kind kind (λ a. w *ℤ value_or_zero s param a)
+share_of s (Level line w) = λ a. pos 0
+
+-- what it counts for one preference, by its effects too
 abbrev pub worth_for : PlanState → Activity → Prefer → ℤ
-worth_for s a (Early kind w) = of_kind kind (λ b. w *ℤ earliness s b) a
-worth_for s a (Late kind w) = of_kind kind (λ b. w *ℤ lateness b) a
-worth_for s a (Value kind param w) = of_kind kind (λ b. w *ℤ value_or_zero s param b) a
+worth_for s a (Early kind w) = share_of s (Early kind w) a
+worth_for s a (Late kind w) = share_of s (Late kind w) a
+worth_for s a (Value kind param w) = share_of s (Value kind param w) a
 worth_for s a (Level line w) = while_ahead s (w *ℤ level_share s line a)
 
 abbrev pub worth : PlanState → List Prefer → Activity → ℤ

@@ -6,6 +6,7 @@ mod form;
 mod forms;
 mod prefer;
 mod reading;
+mod scores;
 mod sharing;
 mod words;
 
