@@ -4,12 +4,16 @@
 mod fault;
 mod form;
 mod forms;
+mod leans;
 mod prefer;
+mod pull;
+mod pulling;
 mod reading;
 mod score_fault;
 mod scored;
 mod scores;
 mod sharing;
+mod trying;
 mod words;
 
 pub use fault::PreferFault;

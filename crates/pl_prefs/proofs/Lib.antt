@@ -1,0 +1,4 @@
+pub mod Apart
+pub mod Mapped
+pub mod Staying
+pub mod Picking
