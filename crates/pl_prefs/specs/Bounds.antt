@@ -1,0 +1,6 @@
+-- How far sums of points lie from 0.
+use Rattle.std.specs.Prelude.{ℕ, ◌*◌, ◌^◌, ℤ, pos, neg_ℤ, ◌≤ℤ◌}
+
+-- what so many numbers, each within 2^80 of 0, add up to
+abbrev pub IsWithin : ℕ → ℤ → Type 0
+IsWithin n z = (neg_ℤ (pos (n * 2 ^ 80)) ≤ℤ z) × (z ≤ℤ pos (n * 2 ^ 80))

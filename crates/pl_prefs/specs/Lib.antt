@@ -1,0 +1,10 @@
+pub mod Bounds
+pub mod Prefers
+pub mod Scores
+pub mod Betters
+pub mod Worths
+pub mod Weights
+pub mod Leans
+pub mod Pulls
+pub mod Tries
+pub mod Scoreds

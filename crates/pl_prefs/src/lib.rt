@@ -1,0 +1,24 @@
+//! What is preferred of a plan, how well a plan meets it, and how a plan without conflicts is bettered.
+#![tactic(auto)]
+
+mod fault;
+mod form;
+mod forms;
+mod leans;
+mod prefer;
+mod pull;
+mod pulling;
+mod reading;
+mod score_fault;
+mod scored;
+mod scores;
+mod sharing;
+mod trying;
+mod words;
+
+pub use fault::PreferFault;
+pub use prefer::Prefer;
+pub use reading::read_prefer;
+pub use score_fault::ScoreFault;
+pub use scored::Scored;
+pub use sharing::shared_types;

@@ -1,0 +1,124 @@
+//! How well a plan meets one preference.
+ghost use Rattle.std.specs.Prelude.{◌≡◌, ◌≤◌, ◌*ℤ◌, ◌-ℤ◌, pos, false, length, slice_get, All, Some};
+ghost use Rattle.pl_model.specs.Checked.{IsLevelLine};
+ghost use Rattle.pl_plan.specs.Activities.{activity_of};
+ghost use Rattle.pl_points.specs.Sums.{total};
+ghost use Rattle.pl_semantics.specs.Whole.{IsWhole};
+ghost use Rattle.pl_prefs.specs.Bounds.{IsWithin};
+ghost use Rattle.pl_prefs.specs.Prefers.{IsWeight, IsPreferOf, HasParam};
+ghost use Rattle.pl_prefs.specs.Scores.{earliness, value_or_zero, last_level, score_of, score};
+ghost use Rattle.pl_prefs.specs.Worths.{share_of};
+
+use crate::prefer::Prefer;
+use pl_board::Board;
+use pl_plan::Activity;
+use pl_semantics::PlanState;
+
+// A weight times a number of moments.
+fn weighed(weight: i64, moments: u32) -> i128
+    requires { IsWeight weight }
+    ensures value { result ≡ weight *ℤ pos moments }
+    ensures within { IsWithin 1 result }
+{
+    i128::from(weight) * i128::from(moments)
+}
+
+// What an early start of an activity counts.
+fn early_worth(state: &PlanState, weight: i64, a: &Activity) -> i128
+    requires weight { IsWeight weight }
+    ensures value { result ≡ weight *ℤ earliness state.now a.now }
+    ensures within { IsWithin 1 result }
+{
+    let moments = i128::from(state.model.get().horizon) - i128::from(a.start);
+    i128::from(weight) * moments
+}
+
+// What the value of a parameter of an activity counts.
+fn value_worth(state: &PlanState, param: u8, weight: i64, a: &Activity) -> i128
+    requires whole { IsWhole state.now }
+    requires live { activity_of a.now.id state.now.plan.activities ≡ Some a.now }
+    requires param { HasParam state.now.model a.now.kind param }
+    requires weight { IsWeight weight }
+    ensures value { result ≡ weight *ℤ value_or_zero state.now param a.now }
+    ensures within { IsWithin 1 result }
+{
+    let value = state.plan.value(state.model.get(), a.id, param);
+    i128::from(weight) * i128::from(value.unwrap_or(0))
+}
+
+// What an activity counts for a preference of its kind.
+fn share_of(state: &PlanState, prefer: &Prefer, a: &Activity) -> i128
+    requires whole { IsWhole state.now }
+    requires live { activity_of a.now.id state.now.plan.activities ≡ Some a.now }
+    requires fits { IsPreferOf state.now.model prefer.now }
+    ensures value { result ≡ share_of state.now prefer.now a.now }
+    ensures within { IsWithin 1 result }
+{
+    match *prefer {
+        Prefer::Early(kind, weight) if kind == a.kind => early_worth(state, weight, a),
+        Prefer::Late(kind, weight) if kind == a.kind => weighed(weight, a.start),
+        Prefer::Value(kind, param, weight) if kind == a.kind => {
+            value_worth(state, param, weight, a)
+        }
+        _ => 0,
+    }
+}
+
+// What all activities count for a preference of a kind.
+fn shares(state: &PlanState, prefer: &Prefer) -> i128
+    requires whole { IsWhole state.now }
+    requires fits { IsPreferOf state.now.model prefer.now }
+    ensures value { result ≡ total (share_of state.now prefer.now) state.now.plan.activities }
+    ensures within { IsWithin 10000 result }
+{
+    let mut sum = 0;
+    for a in state.plan.activities() {
+        sum += share_of(state, prefer, a);
+    }
+    sum
+}
+
+// What a level at the last moment before the horizon counts.
+fn level_worth(board: &Board, line: u32, weight: i64) -> i128
+    requires unspoiled { board.now.spoiled ≡ false }
+    requires level { IsLevelLine (slice_get board.now.state.model.timelines line) }
+    requires weight { IsWeight weight }
+    ensures value { result ≡ weight *ℤ last_level board.now.state line }
+    ensures within { IsWithin 1 result }
+{
+    let horizon = board.model().horizon;
+    if board.now() < horizon {
+        i128::from(weight) * i128::from(board.level_at(line, horizon - 1))
+    } else {
+        0
+    }
+}
+
+// What a preference counts.
+fn score_of(board: &Board, prefer: &Prefer) -> i128
+    requires unspoiled { board.now.spoiled ≡ false }
+    requires fits { IsPreferOf board.now.state.model prefer.now }
+    ensures value { result ≡ score_of board.now.state prefer.now }
+    ensures within { IsWithin 10000 result }
+{
+    match *prefer {
+        Prefer::Level(line, weight) => level_worth(board, line, weight),
+        _ => shares(board.state(), prefer),
+    }
+}
+
+/// The score of a board's plan.
+#[tactic(auto, unfolding(crate::specs::Scores::score))]
+pub(crate) fn score(board: &Board, prefers: &[Prefer]) -> i128
+    requires unspoiled { board.now.spoiled ≡ false }
+    requires fits { All (IsPreferOf board.now.state.model) prefers.now }
+    requires few { length prefers.now ≤ 64 }
+    ensures value { result ≡ score board.now.state prefers.now }
+    ensures within { IsWithin 640000 result }
+{
+    let mut sum = 0;
+    for prefer in prefers {
+        sum += score_of(board, prefer);
+    }
+    sum
+}
