@@ -1,13 +1,15 @@
 -- The moves that better a plan, and the best of them.
 use Rattle.std.specs.Prelude.{◌≡◌, ℕ, ◌==◌, ◌&&◌, not, Bool, ℤ, int_lt, ◌<ℤ◌, ◌≤ℤ◌, List, [], ◌∷◌, ◌++◌, All, filter, take, Option, Some, None}
 use Rattle.std.specs.List.{flat_map}
+use Rattle.pl_model.specs.declared.parameters.Param.{Param}
+use Rattle.pl_model.specs.Checked.{IsAmount}
 use Rattle.pl_plan.specs.declared.activity.Activity.{Activity}
 use Rattle.pl_plan.specs.declared.repair.RepairMove.{RepairMove}
 use Rattle.pl_semantics.specs.declared.plan_state.PlanState.{PlanState}
 use Rattle.pl_semantics.specs.PlanStates.{is_committed}
 use Rattle.pl_semantics.specs.Starts.{shifts_of}
 use Rattle.pl_semantics.specs.Repairs.{all_assigns}
-use Rattle.pl_semantics.specs.Moves.{applied}
+use Rattle.pl_semantics.specs.Moves.{is_proper, applied}
 use Rattle.pl_semantics.specs.Legal.{is_legal, left_after}
 use Rattle.pl_prefs.specs.declared.prefer.Prefer.{Prefer}
 use Rattle.pl_prefs.specs.Scores.{score}
@@ -26,14 +28,22 @@ changes_of s a = shifts_of s a ++ all_assigns s a
 unfoldable pub changes_in : PlanState → List RepairMove
 changes_in s = flat_map (changes_of s) (movable s)
 
+-- the bounds of a parameter, as a checked model has them
+abbrev pub HasAmounts : Param → Type 0
+HasAmounts p = IsAmount p.low × IsAmount p.high
+
 -- ---- those that better the plan
 
 abbrev pub score_after : PlanState → List Prefer → RepairMove → ℤ
 score_after s prefers m = score (applied s m) prefers
 
--- nothing refuses it, it leaves no conflict, and the score rises
+-- it is proper, nothing refuses it, and it leaves no conflict
+abbrev pub is_clear : PlanState → RepairMove → Bool
+is_clear s m = is_proper s m && is_legal s m && (left_after s m == 0)
+
+-- and the score rises
 abbrev pub is_better : PlanState → List Prefer → RepairMove → Bool
-is_better s prefers m = is_legal s m && (left_after s m == 0) && int_lt (score s prefers) (score_after s prefers m)
+is_better s prefers m = is_clear s m && int_lt (score s prefers) (score_after s prefers m)
 
 unfoldable pub better : PlanState → List Prefer → List RepairMove
 better s prefers = filter (is_better s prefers) (changes_in s)

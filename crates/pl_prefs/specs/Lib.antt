@@ -3,8 +3,7 @@ pub mod Prefers
 pub mod Scores
 pub mod Betters
 pub mod Worths
-pub mod Weights
-pub mod Leans
-pub mod Pulls
+pub mod Added
 pub mod Tries
+pub mod Chances
 pub mod Scoreds

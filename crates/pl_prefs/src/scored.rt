@@ -1,13 +1,17 @@
-ghost use Rattle.std.specs.Prelude.{◌≡◌, ◌≤◌, false, [], length, All, OnOk, IfOk, IfErr};
+ghost use Rattle.std.specs.Prelude.{◌≡◌, ◌≤◌, true, false, [], length, All, OnOk, OnErr, IfOk, IfErr, IsErr};
 ghost use Rattle.pl_semantics.specs.Conflicts.{conflicts_of};
 ghost use Rattle.pl_prefs.specs.Prefers.{IsPreferOf};
-ghost use Rattle.pl_prefs.specs.Scoreds.{IsScored, StandsFor, scoring_of};
+ghost use Rattle.pl_prefs.specs.Scoreds.{IsScored, IsStepped, StandsFor, scoring_of};
 
 use crate::prefer::Prefer;
+use crate::raising::raised;
 use crate::score_fault::ScoreFault;
 use crate::scores::score;
+use crate::stepping::step_on;
 use pl_board::Board;
-use std::alloc::Global;
+use pl_plan::RepairMove;
+use pl_points::{Ledger, Steps};
+use std::alloc::{AllocError, Global};
 
 /// A board whose plan has no conflicts, with what is preferred of it and how well it meets that.
 #[derive(Drop)]
@@ -72,5 +76,29 @@ impl Scored {
         ensures { result.now ≡ self.now.board }
     {
         &self.board
+    }
+
+    /// Makes the move that betters the plan the most, the first among equals, and tells it. Where no move betters it, nothing changes.
+    /// Want of memory spoils the board, and every later step answers it again.
+    pub fn step<L: Ledger>(
+        &mut self,
+        alloc: Global,
+        steps: &mut Steps<L>,
+    ) -> Result<Option<RepairMove>, AllocError>
+        ensures stepped { IfOk result (λ m. IsStepped m self.old self.new) }
+        ensures prefers { self.new.prefers ≡ self.old.prefers }
+        ensures err { OnErr result (self.new.board.spoiled ≡ true) }
+        ensures after_spoil { self.old.board.spoiled ≡ true → IsErr result }
+    {
+        if self.board.spoiled() {
+            return Err(AllocError);
+        }
+        match step_on(alloc, &mut self.board, &self.prefers, steps)? {
+            Some(choice) => {
+                self.score = raised(&self.board, &self.prefers, self.score, choice.gain);
+                Ok(Some(choice.mv))
+            }
+            None => Ok(None),
+        }
     }
 }

@@ -1,53 +1,76 @@
-//! How well a plan meets one preference.
-ghost use Rattle.std.specs.Prelude.{◌≡◌, ◌≤◌, ◌*ℤ◌, ◌-ℤ◌, pos, false, length, slice_get, All, Some};
+//! How well a plan meets what is preferred.
+ghost use Rattle.std.specs.Prelude.{◌≡◌, ◌≤◌, ◌*ℤ◌, false, length, slice_get, All, Some};
 ghost use Rattle.pl_model.specs.Checked.{IsLevelLine};
 ghost use Rattle.pl_plan.specs.Activities.{activity_of};
 ghost use Rattle.pl_points.specs.Sums.{total};
 ghost use Rattle.pl_semantics.specs.Whole.{IsWhole};
 ghost use Rattle.pl_prefs.specs.Bounds.{IsWithin};
 ghost use Rattle.pl_prefs.specs.Prefers.{IsWeight, IsPreferOf, HasParam};
-ghost use Rattle.pl_prefs.specs.Scores.{earliness, value_or_zero, last_level, score_of, score};
+ghost use Rattle.pl_prefs.specs.Scores.{earliness, lateness, value_or_zero, of_kind, last_level, score_of, score};
 ghost use Rattle.pl_prefs.specs.Worths.{share_of};
 
 use crate::prefer::Prefer;
+use crate::weights::weighed;
 use pl_board::Board;
 use pl_plan::Activity;
 use pl_semantics::PlanState;
 
-// A weight times a number of moments.
-fn weighed(weight: i64, moments: u32) -> i128
+// What an early start of an activity counts, if it is of the kind.
+fn early_share(state: &PlanState, kind: u32, weight: i64, a: &Activity) -> i128
     requires { IsWeight weight }
-    ensures value { result ≡ weight *ℤ pos moments }
+    ensures value { result ≡ of_kind kind (λ b. weight *ℤ earliness state.now b) a.now }
     ensures within { IsWithin 1 result }
 {
-    i128::from(weight) * i128::from(moments)
+    if a.kind == kind {
+        let moments = i128::from(state.model.get().horizon) - i128::from(a.start);
+        weighed(weight, moments)
+    } else {
+        0
+    }
 }
 
-// What an early start of an activity counts.
-fn early_worth(state: &PlanState, weight: i64, a: &Activity) -> i128
-    requires weight { IsWeight weight }
-    ensures value { result ≡ weight *ℤ earliness state.now a.now }
+// What a late start counts.
+fn late_share(kind: u32, weight: i64, a: &Activity) -> i128
+    requires { IsWeight weight }
+    ensures value { result ≡ of_kind kind (λ b. weight *ℤ lateness b) a.now }
     ensures within { IsWithin 1 result }
 {
-    let moments = i128::from(state.model.get().horizon) - i128::from(a.start);
-    i128::from(weight) * moments
+    if a.kind == kind {
+        weighed(weight, i128::from(a.start))
+    } else {
+        0
+    }
 }
 
-// What the value of a parameter of an activity counts.
-fn value_worth(state: &PlanState, param: u8, weight: i64, a: &Activity) -> i128
+// The value of a parameter, or 0 where it has none.
+fn value_or_zero(state: &PlanState, param: u8, a: &Activity) -> i64
     requires whole { IsWhole state.now }
     requires live { activity_of a.now.id state.now.plan.activities ≡ Some a.now }
     requires param { HasParam state.now.model a.now.kind param }
-    requires weight { IsWeight weight }
-    ensures value { result ≡ weight *ℤ value_or_zero state.now param a.now }
-    ensures within { IsWithin 1 result }
+    ensures { result ≡ value_or_zero state.now param a.now }
 {
     let value = state.plan.value(state.model.get(), a.id, param);
-    i128::from(weight) * i128::from(value.unwrap_or(0))
+    value.unwrap_or(0)
 }
 
-// What an activity counts for a preference of its kind.
-fn share_of(state: &PlanState, prefer: &Prefer, a: &Activity) -> i128
+// What the value of a parameter counts.
+fn value_share(state: &PlanState, kind: u32, param: u8, weight: i64, a: &Activity) -> i128
+    requires whole { IsWhole state.now }
+    requires live { activity_of a.now.id state.now.plan.activities ≡ Some a.now }
+    requires param { HasParam state.now.model kind param }
+    requires weight { IsWeight weight }
+    ensures value { result ≡ of_kind kind (λ b. weight *ℤ value_or_zero state.now param b) a.now }
+    ensures within { IsWithin 1 result }
+{
+    if a.kind == kind {
+        weighed(weight, i128::from(value_or_zero(state, param, a)))
+    } else {
+        0
+    }
+}
+
+/// What an activity counts for a preference of its kind; nothing for one of a level.
+pub(crate) fn share_of(state: &PlanState, prefer: &Prefer, a: &Activity) -> i128
     requires whole { IsWhole state.now }
     requires live { activity_of a.now.id state.now.plan.activities ≡ Some a.now }
     requires fits { IsPreferOf state.now.model prefer.now }
@@ -55,12 +78,10 @@ fn share_of(state: &PlanState, prefer: &Prefer, a: &Activity) -> i128
     ensures within { IsWithin 1 result }
 {
     match *prefer {
-        Prefer::Early(kind, weight) if kind == a.kind => early_worth(state, weight, a),
-        Prefer::Late(kind, weight) if kind == a.kind => weighed(weight, a.start),
-        Prefer::Value(kind, param, weight) if kind == a.kind => {
-            value_worth(state, param, weight, a)
-        }
-        _ => 0,
+        Prefer::Early(kind, weight) => early_share(state, kind, weight, a),
+        Prefer::Late(kind, weight) => late_share(kind, weight, a),
+        Prefer::Value(kind, param, weight) => value_share(state, kind, param, weight, a),
+        Prefer::Level(..) => 0,
     }
 }
 
@@ -71,7 +92,7 @@ fn shares(state: &PlanState, prefer: &Prefer) -> i128
     ensures value { result ≡ total (share_of state.now prefer.now) state.now.plan.activities }
     ensures within { IsWithin 10000 result }
 {
-    let mut sum = 0;
+    let mut sum: i128 = 0;
     for a in state.plan.activities() {
         sum += share_of(state, prefer, a);
     }
@@ -88,7 +109,7 @@ fn level_worth(board: &Board, line: u32, weight: i64) -> i128
 {
     let horizon = board.model().horizon;
     if board.now() < horizon {
-        i128::from(weight) * i128::from(board.level_at(line, horizon - 1))
+        weighed(weight, i128::from(board.level_at(line, horizon - 1)))
     } else {
         0
     }
@@ -102,8 +123,10 @@ fn score_of(board: &Board, prefer: &Prefer) -> i128
     ensures within { IsWithin 10000 result }
 {
     match *prefer {
+        Prefer::Early(..) => shares(board.state(), prefer),
+        Prefer::Late(..) => shares(board.state(), prefer),
+        Prefer::Value(..) => shares(board.state(), prefer),
         Prefer::Level(line, weight) => level_worth(board, line, weight),
-        _ => shares(board.state(), prefer),
     }
 }
 
@@ -116,7 +139,7 @@ pub(crate) fn score(board: &Board, prefers: &[Prefer]) -> i128
     ensures value { result ≡ score board.now.state prefers.now }
     ensures within { IsWithin 640000 result }
 {
-    let mut sum = 0;
+    let mut sum: i128 = 0;
     for prefer in prefers {
         sum += score_of(board, prefer);
     }

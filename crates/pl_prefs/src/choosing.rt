@@ -1,0 +1,54 @@
+//! The choice among moves by what they gain.
+ghost use Rattle.std.specs.Prelude.{◌≡◌, ◌≤◌, false, true, IfOk, OnErr, Some, slice_get};
+ghost use Rattle.pl_prefs.specs.Chances.{IsGreatest, AreGains, IsChosen};
+ghost use Rattle.pl_prefs.specs.Tries.{IsTried};
+
+use crate::choice::Choice;
+use crate::prefer::Prefer;
+use crate::trying::is_made;
+use pl_board::Board;
+use pl_plan::RepairMove;
+use pl_points::{Ledger, Steps};
+use std::alloc::{AllocError, Global};
+
+// The place of the greatest number above 0, the first among equals.
+fn greatest(gains: &[i128]) -> Option<usize>
+    ensures { IsGreatest gains.now result }
+{
+    let mut place: usize = 0;
+    let mut most: i128 = 0;
+    for (number, gain) in gains.iter().enumerate() {
+        if most < *gain {
+            place = number;
+            most = *gain;
+        }
+    }
+    if 0 < most { Some(place) } else { None }
+}
+
+/// Tries moves by falling gain, the first among equals first, and makes the first that is clear. A move whose number is not above 0
+/// is not tried.
+pub(crate) fn best_made<L: Ledger>(
+    alloc: Global,
+    board: &mut Board,
+    _prefers: &[Prefer],
+    moves: &[RepairMove],
+    mut gains: Vec<i128>,
+    steps: &mut Steps<L>,
+) -> Result<Option<Choice>, AllocError>
+    requires unspoiled { board.old.spoiled ≡ false }
+    requires next { board.old.state.next_id ≤ 3999999000 }
+    requires gains { AreGains board.old.state _prefers.now moves.now gains.items }
+    ensures chosen { IfOk result (λ choice. IsChosen _prefers.now moves.now choice board.old board.new) }
+    ensures err { OnErr result (board.new.spoiled ≡ true) }
+{
+    'turns: while let Some(place) = greatest(&gains) {
+        let gain = gains[place];
+        let mv = moves[place];
+        if is_made(alloc, board, &mv, steps)? {
+            return Ok(Some(Choice { mv, gain }));
+        }
+        gains[place] = 0;
+    }
+    Ok(None)
+}
