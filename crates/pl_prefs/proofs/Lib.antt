@@ -1,5 +1,11 @@
+pub mod Weighed
+pub mod Adding
 pub mod Apart
-pub mod Mapped
 pub mod Staying
+pub mod Changed
+pub mod Gained
+pub mod Dropped
+pub mod Listed
 pub mod Picking
+pub mod Choosing
 pub mod Ranges

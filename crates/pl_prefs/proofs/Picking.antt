@@ -1,7 +1,7 @@
 -- When one of some moves is the first of the best of those that pass a test.
 use Rattle.std.proofs.Common.{◌≡◌, ℕ, zero, suc, ◌<◌, ◌≤◌, Bool, true, false, cond, List, [], ◌∷◌, ◌++◌, length, get_or, filter, refl, sym, ap, ◌∙◌, arith, ℤ, ◌≤ℤ◌}
 use Rattle.std.specs.Prelude.{All, ◌<ℤ◌}
-use Rattle.std.proofs.lemmas.List.Elements.{All-nil, All-cons}
+use Rattle.std.proofs.lemmas.List.Elements.{All-nil, All-cons, All-head, All-tail}
 use Rattle.pl_plan.specs.declared.repair.RepairMove.{RepairMove}
 use Rattle.pl_prefs.specs.Betters.{IsFirstBest}
 
@@ -16,6 +16,10 @@ all_passing test P (m ∷ ms) each = by (test m) refl (all_passing test P ms (λ
     by : (b : Bool) → test m ≡ b → All P (filter test ms) → All P (cond b (m ∷ filter test ms) (filter test ms))
     by true e rest = All-cons P m (filter test ms) (each 0 m (omega arith) e) rest
     by false e rest = rest
+
+pub none_pass : (test : RepairMove → Bool) (ms : List RepairMove) → All (λ m. test m ≡ false) ms → filter test ms ≡ []
+none_pass test [] all = refl
+none_pass test (m ∷ ms) all = rw (All-head (λ n. test n ≡ false) m ms all) (none_pass test ms (All-tail (λ n. test n ≡ false) m ms all))
 
 -- It passes, each one before it that passes is worth less, and each one behind it no more.
 pub first_best : (worth : RepairMove → ℤ) (test : RepairMove → Bool) (ms : List RepairMove) (i : ℕ) (d : RepairMove) → i < length ms → test (get_or ms i d) ≡ true → ((j : ℕ) → j < i → test (get_or ms j d) ≡ true → worth (get_or ms j d) <ℤ worth (get_or ms i d)) → ((j : ℕ) (e : RepairMove) → i < j → j < length ms → test (get_or ms j e) ≡ true → worth (get_or ms j e) ≤ℤ worth (get_or ms i d)) → IsFirstBest worth (filter test ms) (get_or ms i d)

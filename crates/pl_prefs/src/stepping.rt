@@ -21,7 +21,7 @@ struct Chances {
     gains: Vec<i128>,
 }
 
-fn chances(alloc: Global, board: &Board, prefers: &[Prefer]) -> Result<Chances, AllocError>
+fn chances_of(alloc: Global, board: &Board, prefers: &[Prefer]) -> Result<Chances, AllocError>
     requires unspoiled { board.now.spoiled ≡ false }
     requires next { board.now.state.next_id ≤ 3999999000 }
     requires fits { All (IsPreferOf board.now.state.model) prefers.now }
@@ -48,7 +48,7 @@ pub(crate) fn step_on<L: Ledger>(
     ensures chosen { IfOk result (λ choice. IsChosen prefers.now (changes_in board.old.state) choice board.old board.new) }
     ensures err { OnErr result (board.new.spoiled ≡ true) }
 {
-    match chances(alloc, board, prefers) {
+    match chances_of(alloc, board, prefers) {
         Ok(Chances { moves, gains }) => best_made(alloc, board, prefers, &moves, gains, steps),
         Err(fault) => {
             board.spoil();

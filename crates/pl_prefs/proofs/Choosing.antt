@@ -1,0 +1,133 @@
+-- The greatest of some numbers, and the best of some moves by what they gain.
+use Rattle.std.proofs.Common.{◌≡◌, ◌≢◌, ℕ, zero, suc, ◌+◌, ◌<◌, ◌≤◌, Bool, true, false, ◌&&◌, cond, eqb, List, [], ◌∷◌, length, get_or, set, filter, Some, refl, sym, ap, ◌∙◌, subst, arith, ℤ, pos, ◌≤ℤ◌, below_more, get_or-set_same, get_or-set_other}
+use Rattle.std.specs.Prelude.{◌<ℤ◌, int_lt, ◌-ℤ◌, slice_get, count_by}
+use Rattle.std.proofs.lemmas.Int.{ints}
+use Rattle.std.proofs.lemmas.Bool.{and_parts, eqb-true, eqb-false}
+use Rattle.std.proofs.lemmas.Option.{slice_get-get_or, get_or_from_slice_get}
+use Rattle.std.proofs.lemmas.List.{length-set}
+use Rattle.std.proofs.lemmas.List.Sums.{sum_by-set}
+use Rattle.pl_plan.specs.declared.repair.RepairMove.{RepairMove}
+use Rattle.pl_semantics.specs.declared.plan_state.PlanState.{PlanState}
+use Rattle.pl_prefs.specs.declared.prefer.Prefer.{Prefer}
+use Rattle.pl_prefs.specs.Scores.{score}
+use Rattle.pl_prefs.specs.Betters.{is_clear, is_better, score_after, IsFirstBest}
+use Rattle.pl_prefs.specs.Worths.{gain_of}
+use Rattle.pl_prefs.specs.Chances.{number_at, AreGains, IsGreatestAt}
+use Rattle.pl_prefs.proofs.Picking.{first_best, none_pass}
+
+-- ---- the greatest so far
+
+-- Of so many of the numbers none is above this one, which is 0 or stands at this place, as the first.
+pub record IsMostOf (gains : List ℤ) (n place : ℕ) (most : ℤ) : Type 0 where
+  pub least : pos 0 ≤ℤ most
+  pub no_more : (k : ℕ) → k < n → number_at gains k ≤ℤ most
+  pub there : pos 0 <ℤ most → place < n
+  pub is : pos 0 <ℤ most → number_at gains place ≡ most
+  pub less : pos 0 <ℤ most → (k : ℕ) → k < place → number_at gains k <ℤ most
+
+pub most_of_none : (gains : List ℤ) → IsMostOf gains 0 0 (pos 0)
+most_of_none gains = record {
+  least = omega (arith, ints);
+  no_more = λ k lt. absurd (omega (arith, lt));
+  there = λ above. absurd (omega (arith, ints, above));
+  is = λ above. absurd (omega (arith, ints, above));
+  less = λ above. absurd (omega (arith, ints, above));
+}
+
+pub most_takes : (gains : List ℤ) (n place : ℕ) (most g : ℤ) → IsMostOf gains n place most → g ≡ number_at gains n → most <ℤ g → IsMostOf gains (n + 1) n g
+most_takes gains n place most g of here more = record {
+  least = omega (arith, ints, of.least, more);
+  no_more = below_more (λ k. number_at gains k ≤ℤ g) n (λ k lt. omega (arith, ints, of.no_more k lt, more)) (omega (arith, ints, here));
+  there = λ above. omega arith;
+  is = λ above. sym here;
+  less = λ above k lt. omega (arith, ints, of.no_more k lt, more);
+}
+
+pub most_keeps : (gains : List ℤ) (n place : ℕ) (most g : ℤ) → IsMostOf gains n place most → g ≡ number_at gains n → g ≤ℤ most → IsMostOf gains (n + 1) place most
+most_keeps gains n place most g of here no_more = record {
+  least = of.least;
+  no_more = below_more (λ k. number_at gains k ≤ℤ most) n of.no_more (omega (arith, ints, here, no_more));
+  there = λ above. omega (arith, of.there above);
+  is = of.is;
+  less = of.less;
+}
+
+pub greatest_there : (gains : List ℤ) (place : ℕ) (most : ℤ) → IsMostOf gains (length gains) place most → pos 0 <ℤ most → IsGreatestAt gains place
+greatest_there gains place most of above =
+    let is = of.is above in
+    record {
+      within = of.there above;
+      above = omega (arith, ints, is, above);
+      less = λ k lt. omega (arith, ints, is, of.less above k lt);
+      no_more = λ k lt. omega (arith, ints, is, of.no_more k lt);
+    }
+
+pub greatest_nowhere : (gains : List ℤ) (place : ℕ) (most : ℤ) → IsMostOf gains (length gains) place most → most ≤ℤ pos 0 → (k : ℕ) → k < length gains → number_at gains k ≤ℤ pos 0
+greatest_nowhere gains place most of none k lt = omega (arith, ints, of.no_more k lt, none)
+
+-- ---- one that was tried and is not clear counts no more
+
+pub tried_out : (s : PlanState) (prefers : List Prefer) (moves : List RepairMove) (left : List ℤ) (place : ℕ) (m : RepairMove) → AreGains s prefers moves left → place < length left → slice_get moves place ≡ Some m → is_clear s m ≡ false → AreGains s prefers moves (set left place (pos 0))
+tried_out s prefers moves left place m of within here not_clear = record {
+  each = λ k n there clear. by (eqb k place) refl k n there clear;
+  all = length-set left place (pos 0) ∙ of.all;
+}
+  where
+    by : (b : Bool) (k : ℕ) → eqb k place ≡ b → (n : RepairMove) → slice_get moves k ≡ Some n → is_clear s n ≡ true → number_at (set left place (pos 0)) k ≡ gain_of s prefers n
+    by true k e n there clear =
+        let at : k ≡ place = eqb-true k place e in
+        let same : Some n ≡ Some m = sym there ∙ (ap (slice_get moves) at ∙ here) in
+        let one : n ≡ m = cc in
+        absurd (let bad : true ≡ false = sym clear ∙ (ap (is_clear s) one ∙ not_clear) in cc)
+    by false k e n there clear = get_or-set_other left place k (pos 0) (pos 0) (eqb-false k place e) ∙ of.each k n there clear
+
+less_to_test : (a b : ℤ) → a <ℤ b → int_lt a b ≡ true
+less_to_test a b lt = grind (arith, ints)
+
+less_from_test : (a b : ℤ) → int_lt a b ≡ true → a <ℤ b
+less_from_test a b e = grind (arith, ints)
+
+-- how many of the numbers are above 0
+abbrev pub is_above : ℤ → Bool
+is_above g = int_lt (pos 0) g
+
+pub fewer_above : (left : List ℤ) (place : ℕ) → place < length left → pos 0 <ℤ number_at left place → count_by is_above (set left place (pos 0)) < count_by is_above left
+fewer_above left place within above =
+    let law = sum_by-set (λ g. cond (is_above g) 1 0) left place (pos 0) (pos 0) within in
+    let one : cond (is_above (number_at left place)) 1 0 ≡ 1 = ap (λ b. cond b 1 0) (less_to_test (pos 0) (number_at left place) above) in
+    omega (arith, law, one)
+
+-- ---- the best by gains
+
+module _ (s : PlanState) (prefers : List Prefer) (moves : List RepairMove) (left : List ℤ) (of : AreGains s prefers moves left) where
+  -- one that betters the plan gains what its number says, and that is above 0
+  gains_so : (k : ℕ) (m : RepairMove) → slice_get moves k ≡ Some m → is_better s prefers m ≡ true → (number_at left k ≡ gain_of s prefers m) × (score s prefers <ℤ score_after s prefers m)
+  gains_so k m here better =
+      let both = and_parts (is_clear s m) (int_lt (score s prefers) (score_after s prefers m)) better in
+      (of.each k m here both.0, less_from_test (score s prefers) (score_after s prefers m) both.1)
+
+  best_at : (place : ℕ) (d : RepairMove) → IsGreatestAt left place → is_clear s (get_or moves place d) ≡ true → IsFirstBest (score_after s prefers) (filter (is_better s prefers) moves) (get_or moves place d)
+  best_at place d greatest clear =
+      let best : RepairMove = get_or moves place d in
+      let lt : place < length moves = omega (arith, greatest.within, of.all) in
+      let gain = of.each place best (slice_get-get_or moves place d lt) clear in
+      let rises : score s prefers <ℤ score_after s prefers best = omega (arith, ints, greatest.above, gain) in
+      let passes : is_better s prefers best ≡ true = ap (λ b. b && int_lt (score s prefers) (score_after s prefers best)) clear ∙ less_to_test (score s prefers) (score_after s prefers best) rises in
+      first_best (score_after s prefers) (is_better s prefers) moves place d lt passes
+      (λ j before better. (let other = gains_so j (get_or moves j d) (slice_get-get_or moves j d (omega (arith, before, lt))) better in omega (arith, ints, greatest.less j before, gain, other.0)))
+      (λ j e past within better. (let other = gains_so j (get_or moves j e) (slice_get-get_or moves j e within) better in omega (arith, ints, greatest.no_more j (omega (arith, within, of.all)), gain, other.0)))
+
+  pub chosen_best : (place : ℕ) (m : RepairMove) → IsGreatestAt left place → slice_get moves place ≡ Some m → is_clear s m ≡ true → IsFirstBest (score_after s prefers) (filter (is_better s prefers) moves) m
+  chosen_best place m greatest here clear =
+      let is : get_or moves place m ≡ m = get_or_from_slice_get moves place m m here in
+      subst (λ (n : RepairMove). IsFirstBest (score_after s prefers) (filter (is_better s prefers) moves) n) is (best_at place m greatest (ap (is_clear s) is ∙ clear))
+
+  pub none_better : ((k : ℕ) → k < length left → number_at left k ≤ℤ pos 0) → filter (is_better s prefers) moves ≡ []
+  none_better none = none_pass (is_better s prefers) moves (λ i d lt. by i d lt (is_better s prefers (get_or moves i d)) refl)
+    where
+      by : (i : ℕ) (d : RepairMove) → i < length moves → (b : Bool) → is_better s prefers (get_or moves i d) ≡ b → is_better s prefers (get_or moves i d) ≡ false
+      by i d lt false e = e
+      by i d lt true e =
+          let so = gains_so i (get_or moves i d) (slice_get-get_or moves i d lt) e in
+          let at : i < length left = omega (arith, lt, of.all) in
+          absurd (omega (arith, ints, none i at, so.0, so.1))
