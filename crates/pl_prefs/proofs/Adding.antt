@@ -1,5 +1,6 @@
 -- What demands add to a level: one more of them, and all of them by their effects.
-use Rattle.std.proofs.Common.{◌≡◌, ℕ, ◌+◌, ◌<◌, Bool, true, false, cond, eqb, List, [], ◌∷◌, length, get_or, drop, refl, sym, ap, ◌∙◌, add-one, ℤ, pos, ◌+ℤ◌, arith}
+use Rattle.std.proofs.Common.{◌≡◌, ℕ, ◌+◌, ◌<◌, ◌≤◌, Bool, true, false, cond, eqb, List, [], ◌∷◌, length, get_or, drop, refl, sym, ap, ◌∙◌, add-one, ℤ, pos, ◌+ℤ◌, arith}
+use Rattle.std.proofs.Math.ListN.{drop_of_length-le}
 use Rattle.std.proofs.Math.Seq.{drop-cons}
 use Rattle.std.proofs.lemmas.Int.{ints}
 use Rattle.pl_points.specs.Sums.{total}
@@ -11,12 +12,15 @@ use Rattle.pl_semantics.specs.Demands.{asked_of, effect_in, effects_of}
 use Rattle.pl_update.proofs.AboutTimelines.Listing.{total-append}
 use Rattle.pl_prefs.specs.Added.{added_if, added_by}
 
--- ---- one more of a sum
+-- ---- a sum that goes on
 
-pub total_next : {T : Type 0} (f : T → ℤ) (xs : List T) (i : ℕ) (x : T) (z : ℤ) → i < length xs → x ≡ get_or xs i x → z ≡ f x → total f (drop i xs) ≡ z +ℤ total f (drop (i + 1) xs)
-total_next f xs i x z lt here is =
-    let next : drop i xs ≡ get_or xs i x ∷ drop (i + 1) xs = rw (add-one i) (drop-cons xs i x lt) in
+pub total_next : {T : Type 0} (f : T → ℤ) (xs : List T) (i : ℕ) (d x : T) (z : ℤ) → i < length xs → x ≡ get_or xs i d → z ≡ f x → total f (drop i xs) ≡ z +ℤ total f (drop (i + 1) xs)
+total_next f xs i d x z lt here is =
+    let next : drop i xs ≡ get_or xs i d ∷ drop (i + 1) xs = rw (add-one i) (drop-cons xs i d lt) in
     ap (total f) next ∙ ap (λ y. y +ℤ total f (drop (i + 1) xs)) (ap f (sym here) ∙ sym is)
+
+pub total_end : {T : Type 0} (f : T → ℤ) (xs : List T) (i : ℕ) → length xs ≤ i → total f (drop i xs) ≡ pos 0
+total_end f xs i le = ap (total f) (drop_of_length-le xs le)
 
 -- ---- effects
 

@@ -6,4 +6,7 @@ use Rattle.pl_prefs.proofs.scores.shares.Given as goal
 
 -- the rest gives the whole
 abbrev pub invariant-loop-a : goal.invariant-loop-a
-invariant-loop-a l = (l.sum +ℤ total (share_of l.state l.prefer) (drop l.a-index l.state.plan.activities) ≡ total (share_of l.state l.prefer) l.state.plan.activities) × IsWithin l.a-index l.sum
+invariant-loop-a l = record {
+  sum : l.sum +ℤ total (share_of l.state l.prefer) (drop l.a-index l.state.plan.activities) ≡ total (share_of l.state l.prefer) l.state.plan.activities;
+  within : IsWithin l.a-index l.sum
+}
