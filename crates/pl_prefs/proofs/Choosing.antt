@@ -1,10 +1,12 @@
 -- The greatest of some numbers, and the best of some moves by what they gain.
-use Rattle.std.proofs.Common.{◌≡◌, ◌≢◌, ℕ, zero, suc, ◌+◌, ◌<◌, ◌≤◌, Bool, true, false, ◌&&◌, cond, eqb, List, [], ◌∷◌, length, get_or, set, filter, Some, refl, sym, ap, ◌∙◌, subst, arith, ℤ, pos, ◌≤ℤ◌, below_more, get_or-set_same, get_or-set_other}
+use Rattle.std.proofs.Common.{◌≡◌, ◌≢◌, ℕ, zero, suc, ◌+◌, ◌<◌, ◌≤◌, Bool, true, false, ◌&&◌, cond, eqb, List, [], ◌∷◌, ◌++◌, length, get_or, set, filter, Some, refl, sym, ap, ◌∙◌, subst, arith, ℤ, pos, ◌≤ℤ◌, below_more, get_or-set_same, get_or-set_other}
 use Rattle.std.specs.Prelude.{◌<ℤ◌, int_lt, ◌-ℤ◌, slice_get, count_by}
 use Rattle.std.proofs.lemmas.Int.{ints}
 use Rattle.std.proofs.lemmas.Bool.{and_parts, eqb-true, eqb-false}
-use Rattle.std.proofs.lemmas.Option.{slice_get-get_or, get_or_from_slice_get}
-use Rattle.std.proofs.lemmas.List.{length-set}
+use Rattle.std.proofs.Math.ListN.{get_or-append}
+use Rattle.std.proofs.Math.Seq.{get_or-append_seam}
+use Rattle.std.proofs.lemmas.Option.{slice_get-get_or, get_or_from_slice_get, slice_get_within}
+use Rattle.std.proofs.lemmas.List.{length-set, length_push}
 use Rattle.std.proofs.lemmas.List.Sums.{sum_by-set}
 use Rattle.pl_plan.specs.declared.repair.RepairMove.{RepairMove}
 use Rattle.pl_semantics.specs.declared.plan_state.PlanState.{PlanState}
@@ -14,6 +16,33 @@ use Rattle.pl_prefs.specs.Betters.{is_clear, is_better, score_after, IsFirstBest
 use Rattle.pl_prefs.specs.Worths.{gain_of}
 use Rattle.pl_prefs.specs.Chances.{number_at, AreGains, IsGreatestAt}
 use Rattle.pl_prefs.proofs.Picking.{first_best, none_pass}
+
+-- ---- what the first of them gain
+
+pub record AreFirstGains (s : PlanState) (prefers : List Prefer) (moves : List RepairMove) (gains : List ℤ) (n : ℕ) : Type 0 where
+  pub each : (k : ℕ) → k < n → (m : RepairMove) → slice_get moves k ≡ Some m → is_clear s m ≡ true → number_at gains k ≡ gain_of s prefers m
+  pub many : length gains ≡ n
+
+pub gained_none : (s : PlanState) (prefers : List Prefer) (moves : List RepairMove) → AreFirstGains s prefers moves [] 0
+gained_none s prefers moves = record { each = λ k lt m here clear. absurd (omega (arith, lt)); many = refl }
+
+pub gained_more : (s : PlanState) (prefers : List Prefer) (moves : List RepairMove) (gains : List ℤ) (n : ℕ) (mv : RepairMove) (z : ℤ) → AreFirstGains s prefers moves gains n → slice_get moves n ≡ Some mv → (is_clear s mv ≡ true → z ≡ gain_of s prefers mv) → AreFirstGains s prefers moves (gains ++ z ∷ []) (n + 1)
+gained_more s prefers moves gains n mv z of here gain = record {
+  each = below_more (λ k. (m : RepairMove) → slice_get moves k ≡ Some m → is_clear s m ≡ true → number_at (gains ++ z ∷ []) k ≡ gain_of s prefers m) n
+      (λ k lt m there clear. get_or-append gains (z ∷ []) (pos 0) k (omega (arith, lt, of.many)) ∙ of.each k lt m there clear)
+      (λ m there clear. (
+        let same : Some mv ≡ Some m = sym here ∙ there in
+        let one : mv ≡ m = cc in
+        let seam : number_at (gains ++ z ∷ []) n ≡ z = ap (number_at (gains ++ z ∷ [])) (sym of.many) ∙ get_or-append_seam gains z [] (pos 0) in
+        seam ∙ (gain (ap (is_clear s) one ∙ clear) ∙ ap (gain_of s prefers) one)));
+  many = omega (arith, of.many, length_push gains z);
+}
+
+pub gained_all : (s : PlanState) (prefers : List Prefer) (moves : List RepairMove) (gains : List ℤ) (n : ℕ) → AreFirstGains s prefers moves gains n → n ≡ length moves → AreGains s prefers moves gains
+gained_all s prefers moves gains n of all = record {
+  each = λ k m here clear. of.each k (omega (arith, all, slice_get_within moves k m here)) m here clear;
+  all = of.many ∙ all;
+}
 
 -- ---- the greatest so far
 

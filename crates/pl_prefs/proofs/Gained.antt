@@ -13,6 +13,7 @@ use Rattle.pl_semantics.specs.declared.plan_state.PlanState.{PlanState}
 use Rattle.pl_semantics.specs.PlanStates.{of_found}
 use Rattle.pl_semantics.specs.Moves.{applied}
 use Rattle.pl_semantics.specs.Whole.{IsWhole}
+use Rattle.pl_update.specs.Changes.Changes.{with_next}
 use Rattle.pl_update.specs.Changes.Replaced.{taken, put, replaced, with_plan, CanReplace}
 use Rattle.pl_update.proofs.AboutTimelines.Replacing.{whole_after, found_placed}
 use Rattle.pl_moves.specs.Changes.{IsOfActivities, gone_by, placed_by}
@@ -20,6 +21,7 @@ use Rattle.pl_moves.specs.Runs.{CanBeMade, IsTrialOf}
 use Rattle.pl_moves.specs.Undone.{IsUndoneBy, alone, picked}
 use Rattle.pl_bounds.proofs.Summing.{once_gone, can_place, placed_is}
 use Rattle.pl_prefs.specs.declared.prefer.Prefer.{Prefer}
+use Rattle.pl_prefs.specs.Prefers.{IsPreferOf}
 use Rattle.pl_prefs.specs.Scores.{score}
 use Rattle.pl_prefs.specs.Worths.{worth, gain_of}
 use Rattle.pl_prefs.proofs.Changed.{gain_changed}
@@ -66,6 +68,29 @@ module _ (s : PlanState) (m : RepairMove) (gone : List ℕ) (more : List Activit
 
   pub few_before : length returning ≤ 10000
   few_before = few_placed (applied s m) leaving returning whole_then trial.undone.can_undo
+
+  -- once it is made, and once it is undone
+  module _ (t : PlanState) (is : t ≡ with_plan gone more s) where
+    at : t ≡ applied s m
+    at = is ∙ trial.undone.made
+
+    pub whole_at : IsWhole t
+    whole_at = subst IsWhole (sym at) whole_then
+
+    pub live_at : All (λ a. activity_of a.id t.plan.activities ≡ Some a) more
+    live_at = subst (λ (u : PlanState). All (λ a. activity_of a.id u.plan.activities ≡ Some a) more) (sym at) live_then
+
+    pub fits_at : (prefers : List Prefer) → All (IsPreferOf s.model) prefers → All (IsPreferOf t.model) prefers
+    fits_at prefers fits = subst (λ (u : PlanState). All (IsPreferOf u.model) prefers) (sym is) fits
+
+    pub worth_at : (prefers : List Prefer) → total (worth t prefers) more ≡ total (worth (applied s m) prefers) more
+    worth_at prefers = ap (λ (u : PlanState). total (worth u prefers) more) at
+
+    pub can_undo : CanReplace t leaving returning
+    can_undo = subst (λ (u : PlanState). CanReplace u leaving returning) (sym at) trial.undone.can_undo
+
+    pub as_before : (u : PlanState) → u ≡ with_plan leaving returning t → with_next s.next_id u ≡ s
+    as_before u back = ap (with_next s.next_id) (back ∙ ap (with_plan leaving returning) at) ∙ trial.undone.undone
 
 -- ---- what it gains
 

@@ -8,4 +8,7 @@ pub mod Dropped
 pub mod Listed
 pub mod Picking
 pub mod Choosing
+pub mod Counted
+pub mod Kinds
+pub mod Stepping
 pub mod Ranges

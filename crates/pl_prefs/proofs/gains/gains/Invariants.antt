@@ -1,10 +1,10 @@
-use Rattle.std.proofs.Common.{◌≡◌, take}
-use Rattle.pl_prefs.specs.Chances.{AreGains}
+use Rattle.std.proofs.Common.{◌≡◌}
+use Rattle.pl_prefs.proofs.Choosing.{AreFirstGains}
 use Rattle.pl_prefs.proofs.gains.gains.Given as goal
 
--- those so far, in a plan state as the board has it
+-- the first of them, in a plan state as the board has it
 abbrev pub invariant-loop-mv : goal.invariant-loop-mv
 invariant-loop-mv l = record {
-  gained : AreGains l.board.state l.prefers (take l.mv-index l.moves) l.all.items;
+  gained : AreFirstGains l.board.state l.prefers l.moves l.all.items l.mv-index;
   same : l.s ≡ l.board.state
 }
