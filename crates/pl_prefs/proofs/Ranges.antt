@@ -24,7 +24,7 @@ use Rattle.pl_prefs.specs.declared.prefer.Prefer.TheVariants as prefer
 use Rattle.pl_prefs.specs.Prefers.{Read, kind_found, kind_by, param_named, param_found, param_by, level_found, level_by, weight_of, early_with, late_with, value_with, level_with, prefer_with, IsWeight, HasParam, IsPreferOf}
 
 -- the kind is one of the model's, and it is the one that its number names
-kind_there : (model : Model) (text : List ℕ) (k : ℕ × Kind) (o : Option (ℕ × Kind)) → kind_named model text ≡ o → kind_found o ≡ Ok k → (k.0 < length model.kinds) × (slice_get model.kinds k.0 ≡ Some k.1)
+pub kind_there : (model : Model) (text : List ℕ) (k : ℕ × Kind) (o : Option (ℕ × Kind)) → kind_named model text ≡ o → kind_found o ≡ Ok k → (k.0 < length model.kinds) × (slice_get model.kinds k.0 ≡ Some k.1)
 kind_there model text k None is e = absurd (cc)
 kind_there model text k (Some (n, kind)) is e =
     let found = first_from-Some (λ (d : Kind). bytes_eq d.name text) 0 model.kinds n kind is in

@@ -48,7 +48,7 @@ fn value_form(
 }
 
 // The form behind the name of a kind.
-#[tactic(auto, unfolding(crate::specs::Prefers::kind_form_in))]
+#[tactic(auto, unfolding(crate::specs::Prefers::kind_form_in, crate::specs::Prefers::behind_kind))]
 fn kind_form(line: &[u8], kind: &Token, tokens: &[Token]) -> Result<PreferForm, PreferFault>
     ensures { result ≡ kind_form_in line.now kind.now tokens.now }
 {

@@ -85,18 +85,30 @@ pub(crate) fn share_of(state: &PlanState, prefer: &Prefer, a: &Activity) -> i128
     }
 }
 
-// What all activities count for a preference of a kind.
+// What these live activities count for a preference of a kind.
+fn shares_of(state: &PlanState, prefer: &Prefer, activities: &[Activity]) -> i128
+    requires whole { IsWhole state.now }
+    requires fits { IsPreferOf state.now.model prefer.now }
+    requires live { All (λ a. activity_of a.id state.now.plan.activities ≡ Some a) activities.now }
+    requires few { length activities.now ≤ 10000 }
+    ensures value { result ≡ total (share_of state.now prefer.now) activities.now }
+    ensures within { IsWithin 10000 result }
+{
+    let mut sum: i128 = 0;
+    for a in activities {
+        sum += share_of(state, prefer, a);
+    }
+    sum
+}
+
+// What all activities count.
 fn shares(state: &PlanState, prefer: &Prefer) -> i128
     requires whole { IsWhole state.now }
     requires fits { IsPreferOf state.now.model prefer.now }
     ensures value { result ≡ total (share_of state.now prefer.now) state.now.plan.activities }
     ensures within { IsWithin 10000 result }
 {
-    let mut sum: i128 = 0;
-    for a in state.plan.activities() {
-        sum += share_of(state, prefer, a);
-    }
-    sum
+    shares_of(state, prefer, state.plan.activities())
 }
 
 // What a level at the last moment before the horizon counts.

@@ -6,10 +6,10 @@ use Rattle.pl_prefs.proofs.scores.score.Goals as goal
 
 pub loop-prefer-preserved : goal.loop-prefer-preserved
 loop-prefer-preserved c =
-    let next = total_next (score_of c.args.board.now.state) c.args.prefers.now c.loop-prefer.prefer-index _ _ c.score_of.result c.loop-prefer-test.true refl c.score_of.ensures.value in
+    let next = total_next (score_of c.args.board.now.state) c.args.prefers.now c.loop-prefer.prefer-index _ _ c.score_of-sum.result c.loop-prefer-test.true refl c.score_of-sum.ensures.value in
     record {
       sum = omega (arith, ints, next, c.loop-prefer.invariant.sum);
-      within = (omega (arith, ints, c.loop-prefer.invariant.within, c.score_of.ensures.within), omega (arith, ints, c.loop-prefer.invariant.within, c.score_of.ensures.within));
+      within = (omega (arith, ints, c.loop-prefer.invariant.within, c.score_of-sum.ensures.within), omega (arith, ints, c.loop-prefer.invariant.within, c.score_of-sum.ensures.within));
     }
 
 pub returns-clause-value : goal.returns-clause-value

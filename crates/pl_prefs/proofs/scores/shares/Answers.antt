@@ -1,16 +1,9 @@
-use Rattle.std.proofs.Common.{◌≡◌, get_or, arith}
-use Rattle.std.proofs.lemmas.Int.{ints}
-use Rattle.pl_detect.proofs.Bounded.{item_live}
-use Rattle.pl_prefs.specs.Worths.{share_of}
-use Rattle.pl_prefs.proofs.Adding.{total_next, total_end}
+use Rattle.std.proofs.Common.{arith}
+use Rattle.pl_plan.proofs.Kept.{each_found}
 use Rattle.pl_prefs.proofs.scores.shares.Goals as goal
 
-pub share_of-requires-clause-live : goal.share_of-requires-clause-live
-share_of-requires-clause-live c =
-    item_live c.args.state.now.plan.activities c.activities-a-items.result.now c.loop-a.a-index c.a-item.result c.activities-a-items.ensures.value c.requires.whole.rising c.loop-a-test.true c.a-item.is
+pub shares_of-requires-clause-live : goal.shares_of-requires-clause-live
+shares_of-requires-clause-live c = rw c.activities.ensures.value (each_found c.args.state.now.plan.activities c.requires.whole.rising)
 
-pub loop-a-preserved : goal.loop-a-preserved
-loop-a-preserved c = ?
-
-pub returns-clause-value : goal.returns-clause-value
-returns-clause-value c = ?
+pub shares_of-requires-clause-few : goal.shares_of-requires-clause-few
+shares_of-requires-clause-few c = rw c.activities.ensures.value (omega (arith, c.requires.whole.live, c.requires.whole.limit))
