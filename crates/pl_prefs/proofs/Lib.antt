@@ -7,8 +7,8 @@ pub mod Gained
 pub mod Dropped
 pub mod Listed
 pub mod Picking
-pub mod Choosing
+pub mod Chosen
 pub mod Counted
-pub mod Kinds
-pub mod Stepping
+pub mod Sorts
+pub mod Stepped
 pub mod Ranges

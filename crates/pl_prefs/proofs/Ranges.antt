@@ -13,7 +13,8 @@ use Rattle.pl_model.specs.declared.parameters.Param.{Param}
 use Rattle.pl_model.specs.declared.timelines.Timeline.{Timeline}
 use Rattle.pl_model.specs.declared.timelines.Timeline.TheVariants as timeline
 use Rattle.pl_model.specs.declared.whole.Model.{Model}
-use Rattle.pl_model.specs.Checked.{IsLevelLine, params_of}
+use Rattle.pl_model.specs.Checked.{IsChecked, IsLevelLine, params_of}
+use Rattle.pl_plan.proofs.FirmSteps.{checked_kind}
 use Rattle.pl_msg.specs.Names.{kind_named, timeline_name, timeline_named}
 use Rattle.pl_msg.proofs.Within.{first_from-Some}
 use Rattle.pl_prefs.specs.declared.fault.PreferFault.TheVariants as fault
@@ -24,7 +25,7 @@ use Rattle.pl_prefs.specs.declared.prefer.Prefer.TheVariants as prefer
 use Rattle.pl_prefs.specs.Prefers.{Read, kind_found, kind_by, param_named, param_found, param_by, level_found, level_by, weight_of, early_with, late_with, value_with, level_with, prefer_with, IsWeight, HasParam, IsPreferOf}
 
 -- the kind is one of the model's, and it is the one that its number names
-pub kind_there : (model : Model) (text : List ℕ) (k : ℕ × Kind) (o : Option (ℕ × Kind)) → kind_named model text ≡ o → kind_found o ≡ Ok k → (k.0 < length model.kinds) × (slice_get model.kinds k.0 ≡ Some k.1)
+kind_there : (model : Model) (text : List ℕ) (k : ℕ × Kind) (o : Option (ℕ × Kind)) → kind_named model text ≡ o → kind_found o ≡ Ok k → (k.0 < length model.kinds) × (slice_get model.kinds k.0 ≡ Some k.1)
 kind_there model text k None is e = absurd (cc)
 kind_there model text k (Some (n, kind)) is e =
     let found = first_from-Some (λ (d : Kind). bytes_eq d.name text) 0 model.kinds n kind is in
@@ -32,6 +33,11 @@ kind_there model text k (Some (n, kind)) is e =
     let same : (n, kind) ≡ k = cc in
     let at : found.0 ≡ n = omega (arith, found.1) in
     subst (λ (p : ℕ × Kind). (p.0 < length model.kinds) × (slice_get model.kinds p.0 ≡ Some p.1)) same (omega (arith, found.1, lt), subst (λ m. slice_get model.kinds m ≡ Some kind) at found.2)
+
+pub kind_few : (model : Model) → IsChecked model → (text : List ℕ) (n : ℕ) (kind : Kind) → Some (n, kind) ≡ kind_named model text → length kind.params ≤ 16
+kind_few model checked text n kind is =
+    let found = first_from-Some (λ (d : Kind). bytes_eq d.name text) 0 model.kinds n kind (sym is) in
+    (checked_kind model checked found.0 kind found.2).few_params
 
 param_there : (params : List Param) (text : List ℕ) (n : ℕ) (o : Option (ℕ × Param)) → param_named params text ≡ o → param_found o ≡ Ok n → n < length params
 param_there params text n None is e = absurd (cc)

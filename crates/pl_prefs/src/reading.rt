@@ -69,8 +69,9 @@ fn timeline_named<'a>(model: &'a Model, name: &[u8]) -> Option<(u32, &'a Timelin
 
 // The kind that a token names, with its number.
 fn kind_of<'a>(model: &'a Model, line: &[u8], kind: &Token) -> Result<(u32, &'a Kind), PreferFault>
-    requires { length model.now.kinds ≤ 256 }
-    ensures { result_map_both (λ p. (p.0, p.1.now)) (λ e. e) result ≡ kind_by model.now line.now kind.now }
+    requires { IsChecked model.now }
+    ensures value { result_map_both (λ p. (p.0, p.1.now)) (λ e. e) result ≡ kind_by model.now line.now kind.now }
+    ensures few { IfOk result (λ p. length p.1.now.params ≤ 16) }
 {
     match kind_named(model, token_text(line, kind)) {
         Some(found) => Ok(found),

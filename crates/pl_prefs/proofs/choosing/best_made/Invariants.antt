@@ -1,7 +1,7 @@
 use Rattle.std.proofs.Common.{◌≡◌}
 use Rattle.std.specs.Prelude.{count_by}
 use Rattle.pl_prefs.specs.Chances.{AreGains}
-use Rattle.pl_prefs.proofs.Choosing.{is_above}
+use Rattle.pl_prefs.proofs.Chosen.{is_above}
 use Rattle.pl_prefs.proofs.choosing.best_made.Given as goal
 
 -- none of those that were tried is clear

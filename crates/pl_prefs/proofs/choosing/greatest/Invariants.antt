@@ -1,4 +1,4 @@
-use Rattle.pl_prefs.proofs.Choosing.{IsMostOf}
+use Rattle.pl_prefs.proofs.Chosen.{IsMostOf}
 use Rattle.pl_prefs.proofs.choosing.greatest.Given as goal
 
 abbrev pub invariant-loop-number : goal.invariant-loop-number

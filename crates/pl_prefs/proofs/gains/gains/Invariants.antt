@@ -1,5 +1,5 @@
 use Rattle.std.proofs.Common.{◌≡◌}
-use Rattle.pl_prefs.proofs.Choosing.{AreFirstGains}
+use Rattle.pl_prefs.proofs.Chosen.{AreFirstGains}
 use Rattle.pl_prefs.proofs.gains.gains.Given as goal
 
 -- the first of them, in a plan state as the board has it

@@ -98,7 +98,7 @@ greatest_nowhere gains place most of none k lt = omega (arith, ints, of.no_more 
 
 pub tried_out : (s : PlanState) (prefers : List Prefer) (moves : List RepairMove) (left : List ℤ) (place : ℕ) (m : RepairMove) → AreGains s prefers moves left → place < length left → slice_get moves place ≡ Some m → is_clear s m ≡ false → AreGains s prefers moves (set left place (pos 0))
 tried_out s prefers moves left place m of within here not_clear = record {
-  each = λ k n there clear. by (eqb k place) refl k n there clear;
+  each = λ k n there clear. by (eqb k place) k refl n there clear;
   all = length-set left place (pos 0) ∙ of.all;
 }
   where

@@ -23,7 +23,7 @@ use Rattle.pl_prefs.specs.Betters.{is_clear, better, changes_in, IsBest}
 use Rattle.pl_prefs.specs.Chances.{IsChosen, IsBestMade}
 use Rattle.pl_prefs.specs.Scoreds.{Scoring, IsScored, IsStepped}
 use Rattle.pl_prefs.proofs.Counted.{no_conflicts}
-use Rattle.pl_prefs.proofs.Kinds.{all_changes, best_change, keeps_next}
+use Rattle.pl_prefs.proofs.Sorts.{all_changes, best_change, keeps_next}
 
 -- ---- a clear move
 
