@@ -21,7 +21,7 @@ use Rattle.pl_prefs.specs.Prefers.{IsPreferOf}
 use Rattle.pl_prefs.specs.Scores.{score}
 use Rattle.pl_prefs.specs.Betters.{is_clear, better, changes_in, IsBest}
 use Rattle.pl_prefs.specs.Chances.{IsChosen, IsBestMade}
-use Rattle.pl_prefs.specs.Scoreds.{Scoring, IsScored, IsStepped}
+use Rattle.pl_prefs.specs.Scoreds.{Scoring, IsScored, IsScoring, IsStepped}
 use Rattle.pl_prefs.proofs.Counted.{no_conflicts}
 use Rattle.pl_prefs.proofs.Sorts.{all_changes, best_change, keeps_next}
 
@@ -99,3 +99,46 @@ keeps_itself s = record {
   ends = λ id a here committed. refl;
   no_other = λ id a here committed. here;
 }
+
+-- ---- a move was made
+
+module _ (before : Scoring) (choice : Choice) (now : Standing) (whole : IsWhole before.board.state) (scored : IsScored before.board.state before.prefers before.score) (made : IsBestMade before.board.state before.prefers (changes_in before.board.state) choice now) where
+  score_now : score now.state before.prefers ≡ score (applied before.board.state choice.mv) before.prefers
+  score_now = ap (λ (b : Standing). score b.state before.prefers) made.made
+
+  pub sum_then : before.score +ℤ choice.gain ≡ score now.state before.prefers
+  sum_then = omega (arith, ints, score_now, scored.score_is, made.gain)
+
+  pub scoring_then : (points : ℤ) → points ≡ score now.state before.prefers → IsScoring now before.prefers points
+  scoring_then points is = λ unspoiled. subst (λ (b : Standing). IsScored b.state before.prefers points) (sym made.made) (scored_then before.board.state before.prefers before.score points choice now whole scored made (is ∙ score_now))
+
+  pub stepped_some : (points : ℤ) → points ≡ score now.state before.prefers → IsStepped (Some choice.mv) before (record { board = now; prefers = before.prefers; score = points })
+  unfolding better
+  stepped_some points is =
+      let clear = clear_is before.board.state choice.mv made.clear in
+      record {
+        best = made.best;
+        made = made.made;
+        score_is = is;
+        clear = subst (λ (b : Standing). conflicts_of b.state ≡ []) (sym made.made) clear.none_left;
+        risen = omega (arith, ints, is, sum_then, made.gains);
+        same = λ e. absurd (cc (e));
+        committed = subst (λ (b : Standing). KeepsCommitted before.board.state b.state) (sym made.made) (keeps before.board.state choice.mv whole clear.proper clear.allowed);
+      }
+
+-- ---- none was made
+
+pub stepped_none : (before : Scoring) (now : Standing) → before.board.spoiled ≡ false → IsScored before.board.state before.prefers before.score → IsChosen before.prefers (changes_in before.board.state) None before.board now → IsStepped None before (record { board = now; prefers = before.prefers; score = before.score })
+unfolding better
+stepped_none before now unspoiled scored chosen = record {
+  best = chosen.0;
+  made = chosen.1 ∙ ap (λ (b : Bool). record { spoiled = b; state = before.board.state }) unspoiled;
+  score_is = scored.score_is ∙ ap (λ (b : Standing). score b.state before.prefers) (sym chosen.1);
+  clear = subst (λ (b : Standing). conflicts_of b.state ≡ []) (sym chosen.1) scored.clear;
+  risen = tt;
+  same = λ e. ap (λ (b : Standing). record { board = b; prefers = before.prefers; score = before.score }) chosen.1;
+  committed = subst (λ (b : Standing). KeepsCommitted before.board.state b.state) (sym chosen.1) (keeps_itself before.board.state);
+}
+
+pub scoring_none : (before : Scoring) (now : Standing) → now ≡ before.board → IsScored before.board.state before.prefers before.score → IsScoring now before.prefers before.score
+scoring_none before now is scored = λ unspoiled. subst (λ (b : Standing). IsScored b.state before.prefers before.score) (sym is) scored

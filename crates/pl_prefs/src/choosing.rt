@@ -33,19 +33,20 @@ pub(crate) fn best_made<L: Ledger>(
     board: &mut Board,
     _prefers: &[Prefer],
     moves: &[RepairMove],
-    mut gains: Vec<i128>,
+    gains: &mut [i128],
     steps: &mut Steps<L>,
 ) -> Result<Option<Choice>, AllocError>
     requires unspoiled { board.old.spoiled ≡ false }
     requires next { board.old.state.next_id ≤ 3999999000 }
-    requires gains { AreGains board.old.state _prefers.now moves.now gains.items }
+    requires gains { AreGains board.old.state _prefers.now moves.now gains.old }
     ensures chosen { IfOk result (λ choice. IsChosen _prefers.now moves.now choice board.old board.new) }
     ensures err { OnErr result (board.new.spoiled ≡ true) }
 {
-    'turns: while let Some(place) = greatest(&gains) {
+    'turns: while let Some(place) = greatest(gains) {
         let gain = gains[place];
         let mv = moves[place];
-        if is_made(alloc, board, &mv, steps)? {
+        let made = is_made(alloc, board, &mv, steps)?;
+        if made {
             return Ok(Some(Choice { mv, gain }));
         }
         gains[place] = 0;

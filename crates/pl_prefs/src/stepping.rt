@@ -1,5 +1,6 @@
 //! A step on a board: the best of the moves is made.
 ghost use Rattle.std.specs.Prelude.{◌≡◌, ◌≤◌, false, true, length, All, IfOk, OnErr};
+ghost use Rattle.pl_semantics.specs.Whole.{IsWhole};
 ghost use Rattle.pl_prefs.specs.Betters.{changes_in};
 ghost use Rattle.pl_prefs.specs.Chances.{AreGains, IsChosen};
 ghost use Rattle.pl_prefs.specs.Prefers.{IsPreferOf};
@@ -46,10 +47,14 @@ pub(crate) fn step_on<L: Ledger>(
     requires fits { All (IsPreferOf board.old.state.model) prefers.now }
     requires few { length prefers.now ≤ 64 }
     ensures chosen { IfOk result (λ choice. IsChosen prefers.now (changes_in board.old.state) choice board.old board.new) }
+    ensures whole { IsWhole board.old.state }
     ensures err { OnErr result (board.new.spoiled ≡ true) }
 {
+    let _state = board.state();
     match chances_of(alloc, board, prefers) {
-        Ok(Chances { moves, gains }) => best_made(alloc, board, prefers, &moves, gains, steps),
+        Ok(Chances { moves, mut gains }) => {
+            best_made(alloc, board, prefers, &moves, &mut gains, steps)
+        }
         Err(fault) => {
             board.spoil();
             Err(fault)

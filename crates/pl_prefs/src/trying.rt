@@ -26,7 +26,8 @@ pub(crate) fn is_made<L: Ledger>(
     if !is_legal(board, mv) {
         return Ok(false);
     }
-    match attempt(alloc, board, mv, Some(0), steps)? {
+    let tried = attempt(alloc, board, mv, Some(0), steps)?;
+    match tried {
         Attempt::Made => Ok(true),
         Attempt::Undone { .. } => Ok(false),
     }
