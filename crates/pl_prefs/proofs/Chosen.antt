@@ -22,9 +22,10 @@ use Rattle.pl_prefs.proofs.Picking.{first_best, none_pass}
 pub record AreFirstGains (s : PlanState) (prefers : List Prefer) (moves : List RepairMove) (gains : List ℤ) (n : ℕ) : Type 0 where
   pub each : (k : ℕ) → k < n → (m : RepairMove) → slice_get moves k ≡ Some m → is_clear s m ≡ true → number_at gains k ≡ gain_of s prefers m
   pub many : length gains ≡ n
+  pub short : n ≤ length moves
 
 pub gained_none : (s : PlanState) (prefers : List Prefer) (moves : List RepairMove) → AreFirstGains s prefers moves [] 0
-gained_none s prefers moves = record { each = λ k lt m here clear. absurd (omega (arith, lt)); many = refl }
+gained_none s prefers moves = record { each = λ k lt m here clear. absurd (omega (arith, lt)); many = refl; short = omega arith }
 
 pub gained_more : (s : PlanState) (prefers : List Prefer) (moves : List RepairMove) (gains : List ℤ) (n : ℕ) (mv : RepairMove) (z : ℤ) → AreFirstGains s prefers moves gains n → slice_get moves n ≡ Some mv → (is_clear s mv ≡ true → z ≡ gain_of s prefers mv) → AreFirstGains s prefers moves (gains ++ z ∷ []) (n + 1)
 gained_more s prefers moves gains n mv z of here gain = record {
@@ -36,12 +37,13 @@ gained_more s prefers moves gains n mv z of here gain = record {
         let seam : number_at (gains ++ z ∷ []) n ≡ z = ap (number_at (gains ++ z ∷ [])) (sym of.many) ∙ get_or-append_seam gains z [] (pos 0) in
         seam ∙ (gain (ap (is_clear s) one ∙ clear) ∙ ap (gain_of s prefers) one)));
   many = omega (arith, of.many, length_push gains z);
+  short = omega (arith, slice_get_within moves n mv here);
 }
 
-pub gained_all : (s : PlanState) (prefers : List Prefer) (moves : List RepairMove) (gains : List ℤ) (n : ℕ) → AreFirstGains s prefers moves gains n → n ≡ length moves → AreGains s prefers moves gains
+pub gained_all : (s : PlanState) (prefers : List Prefer) (moves : List RepairMove) (gains : List ℤ) (n : ℕ) → AreFirstGains s prefers moves gains n → length moves ≤ n → AreGains s prefers moves gains
 gained_all s prefers moves gains n of all = record {
   each = λ k m here clear. of.each k (omega (arith, all, slice_get_within moves k m here)) m here clear;
-  all = of.many ∙ all;
+  all = omega (arith, of.many, of.short, all);
 }
 
 -- ---- the greatest so far

@@ -143,7 +143,8 @@ pub(crate) fn gains(
     let mut s = board.state().copy(alloc)?;
     let mut all = Vec::with_capacity(alloc, moves.len())?;
     for mv in moves {
-        all.push(gain_if_legal(alloc, board, &mut s, prefers, mv)?)?;
+        let gain = gain_if_legal(alloc, board, &mut s, prefers, mv)?;
+        all.push(gain)?;
     }
     Ok(all)
 }

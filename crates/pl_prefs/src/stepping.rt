@@ -52,8 +52,8 @@ pub(crate) fn step_on<L: Ledger>(
 {
     let _state = board.state();
     match chances_of(alloc, board, prefers) {
-        Ok(Chances { moves, mut gains }) => {
-            best_made(alloc, board, prefers, &moves, &mut gains, steps)
+        Ok(mut found) => {
+            best_made(alloc, board, prefers, &found.moves, &mut found.gains, steps)
         }
         Err(fault) => {
             board.spoil();

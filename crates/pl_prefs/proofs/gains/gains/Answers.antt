@@ -1,0 +1,15 @@
+use Rattle.std.proofs.Common.{◌≡◌, ◌∙◌, get_or}
+use Rattle.std.proofs.lemmas.Option.{slice_get-get_or}
+use Rattle.pl_prefs.proofs.Chosen.{gained_none, gained_more, gained_all}
+use Rattle.pl_prefs.proofs.gains.gains.Goals as goal
+
+pub loop-mv-preserved : goal.loop-mv-preserved
+loop-mv-preserved c =
+    let s = c.args.board.now.state in
+    record {
+      gained = rw c.in_ok-push.ensures.items (gained_more s c.args.prefers.now c.args.moves.now c.loop-mv.all.items c.loop-mv.mv-index _ c.in_ok-gain.field-0 c.loop-mv.invariant.gained (slice_get-get_or c.args.moves.now c.loop-mv.mv-index _ c.loop-mv-test.true) c.in_ok-gain.ensures.gain);
+      same = c.in_ok-gain.ensures.same ∙ c.loop-mv.invariant.same;
+    }
+
+pub returns : goal.returns
+returns c = gained_all c.args.board.now.state c.args.prefers.now c.args.moves.now c.loop-mv.all.items c.loop-mv.mv-index c.loop-mv.invariant.gained c.loop-mv-test.false
