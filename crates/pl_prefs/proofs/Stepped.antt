@@ -142,3 +142,32 @@ stepped_none before now unspoiled scored chosen = record {
 
 pub scoring_none : (before : Scoring) (now : Standing) → now ≡ before.board → IsScored before.board.state before.prefers before.score → IsScoring now before.prefers before.score
 scoring_none before now is scored = λ unspoiled. subst (λ (b : Standing). IsScored b.state before.prefers before.score) (sym is) scored
+
+-- ---- the same, by the parts of what is seen
+
+module _ (board : Standing) (prefers : List Prefer) (points : ℤ) (unspoiled : board.spoiled ≡ false) (holds : IsScoring board prefers points) where
+  abbrev seen : Scoring
+  seen = record { board = board; prefers = prefers; score = points }
+
+  module _ (choice : Choice) (now : Standing) (whole : IsWhole board.state) (chosen : IsChosen prefers (changes_in board.state) (Some choice) board now) where
+    pub unspoiled_then : now.spoiled ≡ false
+    unspoiled_then = ap (λ (b : Standing). b.spoiled) chosen.made
+
+    pub fits_then : All (IsPreferOf now.state.model) prefers
+    fits_then = (scoring_then seen choice now whole (holds unspoiled) chosen (score now.state prefers) refl unspoiled_then).fits
+
+    pub sum_made : points +ℤ choice.gain ≡ score now.state prefers
+    sum_made = sum_then seen choice now whole (holds unspoiled) chosen
+
+    pub holds_made : (z : ℤ) → z ≡ score now.state prefers → IsScoring now prefers z
+    holds_made z is = scoring_then seen choice now whole (holds unspoiled) chosen z is
+
+    pub step_made : (old : Scoring) → seen ≡ old → (z : ℤ) → z ≡ score now.state prefers → IsStepped (Some choice.mv) old (record { board = now; prefers = prefers; score = z })
+    step_made old view z is = subst (λ (t : Scoring). IsStepped (Some choice.mv) t (record { board = now; prefers = prefers; score = z })) view (stepped_some seen choice now whole (holds unspoiled) chosen z is)
+
+  module _ (now : Standing) (chosen : IsChosen prefers (changes_in board.state) None board now) where
+    pub holds_none : IsScoring now prefers points
+    holds_none = scoring_none seen now chosen.1 (holds unspoiled)
+
+    pub step_none : (old : Scoring) → seen ≡ old → IsStepped None old (record { board = now; prefers = prefers; score = points })
+    step_none old view = subst (λ (t : Scoring). IsStepped None t (record { board = now; prefers = prefers; score = points })) view (stepped_none seen now unspoiled (holds unspoiled) chosen)
