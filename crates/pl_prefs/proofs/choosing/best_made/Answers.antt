@@ -1,6 +1,9 @@
-use Rattle.std.proofs.Common.{◌≡◌, ◌<◌, length, get_or, arith, sym, ◌∙◌}
+use Rattle.std.proofs.Common.{◌≡◌, ◌<◌, true, false, length, get_or, arith, sym, ap, subst, ◌∙◌}
 use Rattle.std.specs.Prelude.{Some, slice_get}
 use Rattle.std.proofs.lemmas.Option.{slice_get-get_or}
+use Rattle.pl_semantics.specs.Moves.{applied}
+use Rattle.pl_board.specs.Boards.{Standing, after}
+use Rattle.pl_prefs.specs.Betters.{is_clear}
 use Rattle.pl_prefs.proofs.Chosen.{tried_out, fewer_above, chosen_best, none_better}
 use Rattle.pl_prefs.proofs.choosing.best_made.Goals as goal
 
@@ -14,10 +17,31 @@ pub turns-smaller : goal.turns-smaller
 turns-smaller g c = fewer_above c.turns.gains c.in-Some.place c.in-Some.ensures.within c.in-Some.ensures.above
 
 pub turns-preserved : goal.turns-preserved
-turns-preserved g c = ?
+turns-preserved g c =
+    let s = c.args.board.now.state in
+    let place = c.in-Some.place in
+    let tried = rw c.if-made.false at c.in_ok-made.ensures.tried in
+    let within : place < length c.args.moves.now = omega (arith, c.in-Some.ensures.within, c.turns.invariant.of_all.all) in
+    record {
+      of_all = tried_out s c.args._prefers.now c.args.moves.now c.turns.gains place _ c.turns.invariant.of_all c.in-Some.ensures.within (slice_get-get_or c.args.moves.now place _ within) (subst (λ (b : Standing). is_clear b.state _ ≡ false) c.turns.invariant.same tried.0);
+      same = tried.1 ∙ c.turns.invariant.same;
+    }
 
 pub returns-then-made-clause-chosen : goal.returns-then-made-clause-chosen
-returns-then-made-clause-chosen g c = ?
+returns-then-made-clause-chosen g c =
+    let s = c.args.board.now.state in
+    let place = c.in-Some.place in
+    let tried = rw c.if-made.true at c.in_ok-made.ensures.tried in
+    let within : place < length c.args.moves.now = omega (arith, c.in-Some.ensures.within, c.turns.invariant.of_all.all) in
+    let here = slice_get-get_or c.args.moves.now place _ within in
+    let clear = subst (λ (b : Standing). is_clear b.state _ ≡ true) c.turns.invariant.same tried.0 in
+    record {
+      best = chosen_best s c.args._prefers.now c.args.moves.now c.turns.gains c.turns.invariant.of_all place _ c.in-Some.ensures here clear;
+      clear = clear;
+      gain = c.turns.invariant.of_all.each place _ here clear;
+      gains = c.in-Some.ensures.above;
+      made = tried.1 ∙ ap (λ (b : Standing). after (applied b.state _)) c.turns.invariant.same;
+    }
 
 pub returns-clause-chosen : goal.returns-clause-chosen
 returns-clause-chosen g c = (none_better c.args.board.now.state c.args._prefers.now c.args.moves.now c.turns.gains c.turns.invariant.of_all c.in_default.ensures, c.turns.invariant.same)

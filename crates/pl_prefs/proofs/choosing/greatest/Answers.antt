@@ -14,7 +14,7 @@ loop-number-preserved c =
     ]
 
 pub returns-then-0-most : goal.returns-then-0-most
-returns-then-0-most c = ?
+returns-then-0-most c = greatest_there c.args.gains.now c.loop-number.place c.loop-number.most ? c.if-0-most.true
 
 pub returns-else-0-most : goal.returns-else-0-most
-returns-else-0-most c = ?
+returns-else-0-most c = greatest_nowhere c.args.gains.now c.loop-number.place c.loop-number.most ? c.if-0-most.false
