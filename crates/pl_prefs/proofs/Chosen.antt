@@ -51,6 +51,7 @@ gained_all s prefers moves gains n of all = record {
 -- Of so many of the numbers none is above this one, which is 0 or stands at this place, as the first.
 pub record IsMostOf (gains : List ℤ) (n place : ℕ) (most : ℤ) : Type 0 where
   pub least : pos 0 ≤ℤ most
+  pub short : n ≤ length gains
   pub no_more : (k : ℕ) → k < n → number_at gains k ≤ℤ most
   pub there : pos 0 <ℤ most → place < n
   pub is : pos 0 <ℤ most → number_at gains place ≡ most
@@ -59,42 +60,45 @@ pub record IsMostOf (gains : List ℤ) (n place : ℕ) (most : ℤ) : Type 0 whe
 pub most_of_none : (gains : List ℤ) → IsMostOf gains 0 0 (pos 0)
 most_of_none gains = record {
   least = omega (arith, ints);
+  short = omega arith;
   no_more = λ k lt. absurd (omega (arith, lt));
   there = λ above. absurd (omega (arith, ints, above));
   is = λ above. absurd (omega (arith, ints, above));
   less = λ above. absurd (omega (arith, ints, above));
 }
 
-pub most_takes : (gains : List ℤ) (n place : ℕ) (most g : ℤ) → IsMostOf gains n place most → g ≡ number_at gains n → most <ℤ g → IsMostOf gains (n + 1) n g
-most_takes gains n place most g of here more = record {
+pub most_takes : (gains : List ℤ) (n place : ℕ) (most g : ℤ) → IsMostOf gains n place most → n < length gains → g ≡ number_at gains n → most <ℤ g → IsMostOf gains (n + 1) n g
+most_takes gains n place most g of lt here more = record {
   least = omega (arith, ints, of.least, more);
-  no_more = below_more (λ k. number_at gains k ≤ℤ g) n (λ k lt. omega (arith, ints, of.no_more k lt, more)) (omega (arith, ints, here));
+  short = omega (arith, lt);
+  no_more = below_more (λ k. number_at gains k ≤ℤ g) n (λ k before. omega (arith, ints, of.no_more k before, more)) (omega (arith, ints, here));
   there = λ above. omega arith;
   is = λ above. sym here;
-  less = λ above k lt. omega (arith, ints, of.no_more k lt, more);
+  less = λ above k before. omega (arith, ints, of.no_more k before, more);
 }
 
-pub most_keeps : (gains : List ℤ) (n place : ℕ) (most g : ℤ) → IsMostOf gains n place most → g ≡ number_at gains n → g ≤ℤ most → IsMostOf gains (n + 1) place most
-most_keeps gains n place most g of here no_more = record {
+pub most_keeps : (gains : List ℤ) (n place : ℕ) (most g : ℤ) → IsMostOf gains n place most → n < length gains → g ≡ number_at gains n → g ≤ℤ most → IsMostOf gains (n + 1) place most
+most_keeps gains n place most g of lt here no_more = record {
   least = of.least;
+  short = omega (arith, lt);
   no_more = below_more (λ k. number_at gains k ≤ℤ most) n of.no_more (omega (arith, ints, here, no_more));
   there = λ above. omega (arith, of.there above);
   is = of.is;
   less = of.less;
 }
 
-pub greatest_there : (gains : List ℤ) (place : ℕ) (most : ℤ) → IsMostOf gains (length gains) place most → pos 0 <ℤ most → IsGreatestAt gains place
-greatest_there gains place most of above =
+pub greatest_there : (gains : List ℤ) (n place : ℕ) (most : ℤ) → IsMostOf gains n place most → length gains ≤ n → pos 0 <ℤ most → IsGreatestAt gains place
+greatest_there gains n place most of all above =
     let is = of.is above in
     record {
-      within = of.there above;
+      within = omega (arith, of.there above, of.short);
       above = omega (arith, ints, is, above);
       less = λ k lt. omega (arith, ints, is, of.less above k lt);
-      no_more = λ k lt. omega (arith, ints, is, of.no_more k lt);
+      no_more = λ k lt. omega (arith, ints, is, of.no_more k (omega (arith, lt, all)));
     }
 
-pub greatest_nowhere : (gains : List ℤ) (place : ℕ) (most : ℤ) → IsMostOf gains (length gains) place most → most ≤ℤ pos 0 → (k : ℕ) → k < length gains → number_at gains k ≤ℤ pos 0
-greatest_nowhere gains place most of none k lt = omega (arith, ints, of.no_more k lt, none)
+pub greatest_nowhere : (gains : List ℤ) (n place : ℕ) (most : ℤ) → IsMostOf gains n place most → length gains ≤ n → most ≤ℤ pos 0 → (k : ℕ) → k < length gains → number_at gains k ≤ℤ pos 0
+greatest_nowhere gains n place most of all none k lt = omega (arith, ints, of.no_more k (omega (arith, lt, all)), none)
 
 -- ---- one that was tried and is not clear counts no more
 
