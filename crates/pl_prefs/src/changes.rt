@@ -200,6 +200,21 @@ fn add_changes_at(
     }
 }
 
+fn add_changes_of_all(
+    alloc: Global,
+    board: &Board,
+    ids: &[u32],
+    out: &mut Vec<RepairMove>,
+) -> Result<(), AllocError>
+    requires { board.now.spoiled ≡ false }
+    ensures { OnOk result (out.new.items ≡ out.old.items ++ flat_map (λ id. of_found (changes_of board.now.state) (found board.now.state id)) ids.now) }
+{
+    for id in ids {
+        add_changes_at(alloc, board, *id, out)?;
+    }
+    Ok(())
+}
+
 /// The moves that are tried to better a plan.
 pub(crate) fn changes(alloc: Global, board: &Board) -> Result<Vec<RepairMove>, AllocError>
     requires { board.now.spoiled ≡ false }
@@ -207,8 +222,6 @@ pub(crate) fn changes(alloc: Global, board: &Board) -> Result<Vec<RepairMove>, A
 {
     let ids = movable(alloc, board.state())?;
     let mut all = Vec::new(alloc);
-    for id in &ids {
-        add_changes_at(alloc, board, *id, &mut all)?;
-    }
+    add_changes_of_all(alloc, board, &ids, &mut all)?;
     Ok(all)
 }

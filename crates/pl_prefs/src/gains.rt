@@ -124,7 +124,8 @@ fn gain_if_legal(
     if !is_legal(board, mv) {
         return Ok(0);
     }
-    gain_of(alloc, s, prefers, mv)
+    let gain = gain_of(alloc, s, prefers, mv)?;
+    Ok(gain)
 }
 
 /// What each of some moves gains, if it is one that may be made.

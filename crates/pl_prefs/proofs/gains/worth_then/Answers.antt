@@ -2,6 +2,9 @@ use Rattle.std.proofs.Common.{◌≡◌, ◌∙◌, List, ap}
 use Rattle.pl_prefs.proofs.Gained.{few_then, whole_at, live_at, fits_at, worth_at, can_undo, as_before}
 use Rattle.pl_prefs.proofs.gains.worth_then.Goals as goal
 
+pub put_change-requires-clause-can : goal.put_change-requires-clause-can
+put_change-requires-clause-can c = c.requires.trial.undone.can
+
 pub worth_of_all-worth-requires-clause-whole : goal.worth_of_all-worth-requires-clause-whole
 worth_of_all-worth-requires-clause-whole c = whole_at _ _ _ _ _ _ c.requires.whole c.requires.trial _ c.in_ok-put_change.ensures
 
