@@ -1,6 +1,5 @@
-use Rattle.std.proofs.Common.{◌≡◌, length}
-use Rattle.std.specs.Prelude.{min}
-use Rattle.pl_semantics.specs.Conflicts.{conflicts_of}
+use Rattle.std.proofs.Common.{◌≡◌, length, ℤ, ap}
+use Rattle.pl_prefs.specs.Scoreds.{Scoring}
 use Rattle.pl_prefs.proofs.Counted.{none_counted, some_counted}
 use Rattle.pl_prefs.proofs.scored.Scored.new.Goals as goal
 
@@ -13,3 +12,20 @@ pub returns-clause-clear : goal.returns-clause-clear
 returns-clause-clear c =
     let count = rw (c.conflicts.ensures c.requires.unspoiled) at c.len-count.ensures.count in
     none_counted _ _ count c.if-count-gt0.false
+
+pub score-score-requires-clause-fits : goal.score-score-requires-clause-fits
+score-score-requires-clause-fits c = rw c.deref.ensures.value c.requires.fits
+
+pub score-score-requires-clause-few : goal.score-score-requires-clause-few
+score-score-requires-clause-few c = rw c.deref.ensures.value c.requires.few
+
+pub invariant_of-result : goal.invariant_of-result
+invariant_of-result c = λ unspoiled. (
+    let count = rw (c.conflicts.ensures c.requires.unspoiled) at c.len-count.ensures.count in
+    record {
+      score_is = rw c.deref.ensures.value at c.score-score.ensures.value;
+      clear = none_counted _ _ count c.if-count-gt0.false;
+      fits = c.requires.fits;
+      few = c.requires.few;
+      next = c.requires.next;
+    })
