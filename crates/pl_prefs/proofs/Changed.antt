@@ -98,7 +98,7 @@ module _ (s : PlanState) (gone : List ℕ) (more : List Activity) (whole : IsWho
 
   sum_then : total (worth (with_plan gone more s) prefers) (replaced s.plan.activities gone more) ≡ total (worth s prefers) (taken s.plan.activities gone) +ℤ total (worth (with_plan gone more s) prefers) more
   unfolding replaced
-  sum_then = omega (arith, ints, total_put (worth (with_plan gone more s) prefers) (taken s.plan.activities gone) more, staying)
+  sum_then = total_put (worth (with_plan gone more s) prefers) (taken s.plan.activities gone) more ∙ ap (λ (z : ℤ). z +ℤ total (worth (with_plan gone more s) prefers) more) staying
 
   pub gain_changed : score (with_plan gone more s) prefers -ℤ score s prefers ≡ total (worth (with_plan gone more s) prefers) more -ℤ total (worth s prefers) (picked s.plan.activities gone)
   gain_changed = omega (

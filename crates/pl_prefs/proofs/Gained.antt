@@ -34,7 +34,9 @@ length_put xs (a ∷ more) = omega (arith, length_put (placed a xs) more, length
 
 pub few_placed : (s : PlanState) (gone : List ℕ) (more : List Activity) → IsWhole s → CanReplace s gone more → length more ≤ 10000
 unfolding replaced
-few_placed s gone more whole can = omega (arith, can.few, whole.limit, length_put (taken s.plan.activities gone) more)
+few_placed s gone more whole can =
+    let few : length (put (taken s.plan.activities gone) more) ≤ s.live_limit = can.few in
+    omega (arith, few, whole.limit, length_put (taken s.plan.activities gone) more)
 
 -- ---- those that go are live
 
