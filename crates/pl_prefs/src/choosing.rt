@@ -31,15 +31,15 @@ fn greatest(gains: &[i128]) -> Option<usize>
 pub(crate) fn best_made<L: Ledger>(
     alloc: Global,
     board: &mut Board,
-    _prefers: &[Prefer],
+    prefers: &[Prefer],
     moves: &[RepairMove],
     gains: &mut [i128],
     steps: &mut Steps<L>,
 ) -> Result<Option<Choice>, AllocError>
     requires unspoiled { board.old.spoiled ≡ false }
     requires next { board.old.state.next_id ≤ 3999999000 }
-    requires gains { AreGains board.old.state _prefers.now moves.now gains.old }
-    ensures chosen { IfOk result (λ choice. IsChosen _prefers.now moves.now choice board.old board.new) }
+    requires gains { AreGains board.old.state prefers.now moves.now gains.old }
+    ensures chosen { IfOk result (λ choice. IsChosen prefers.now moves.now choice board.old board.new) }
     ensures err { OnErr result (board.new.spoiled ≡ true) }
 {
     'turns: while let Some(place) = greatest(gains) {

@@ -39,14 +39,14 @@ fn worth_then(
     alloc: Global,
     s: &mut PlanState,
     prefers: &[Prefer],
-    _mv: &RepairMove,
+    mv: &RepairMove,
     trial: &Trial,
 ) -> Result<i128, AllocError>
     requires whole { IsWhole s.old }
-    requires trial { IsTrialOf s.old _mv.now trial.now.change.gone.items trial.now.change.placed.items trial.now.undo.gone.items trial.now.undo.placed.items }
+    requires trial { IsTrialOf s.old mv.now trial.now.change.gone.items trial.now.change.placed.items trial.now.undo.gone.items trial.now.undo.placed.items }
     requires fits { All (IsPreferOf s.old.model) prefers.now }
     requires few { length prefers.now ≤ 64 }
-    ensures value { IfOk result (λ z. z ≡ total (worth (applied s.old _mv.now) prefers.now) trial.now.change.placed.items) }
+    ensures value { IfOk result (λ z. z ≡ total (worth (applied s.old mv.now) prefers.now) trial.now.change.placed.items) }
     ensures within { IfOk result (IsWithin 640000) }
     ensures same { OnOk result (s.new ≡ s.old) }
 {

@@ -75,15 +75,15 @@ pub(crate) fn level_worth(
     s: &PlanState,
     line: u32,
     weight: i64,
-    _a: &Activity,
+    a: &Activity,
     demands: &[Demand],
 ) -> i128
     requires whole { IsWhole s.now }
     requires level { IsLevelLine (slice_get s.now.model.timelines line) }
     requires weight { IsWeight weight }
-    requires demands { demands.now ≡ demands_at s.now _a.now }
+    requires demands { demands.now ≡ demands_at s.now a.now }
     requires few { length demands.now ≤ 32 }
-    ensures value { result ≡ while_ahead s.now (weight *ℤ level_share s.now line _a.now) }
+    ensures value { result ≡ while_ahead s.now (weight *ℤ level_share s.now line a.now) }
     ensures within { IsWithin 1 result }
 {
     let horizon = s.model.get().horizon;

@@ -23,7 +23,7 @@ turns-preserved g c =
     let tried = rw c.if-made.false at c.in_ok-made.ensures.tried in
     let within : place < length c.args.moves.now = omega (arith, c.in-Some.ensures.within, c.turns.invariant.of_all.all) in
     record {
-      of_all = tried_out s c.args._prefers.now c.args.moves.now c.turns.gains place _ c.turns.invariant.of_all c.in-Some.ensures.within (slice_get-get_or c.args.moves.now place _ within) (subst (λ (b : Standing). is_clear b.state _ ≡ false) c.turns.invariant.same tried.0);
+      of_all = tried_out s c.args.prefers.now c.args.moves.now c.turns.gains place _ c.turns.invariant.of_all c.in-Some.ensures.within (slice_get-get_or c.args.moves.now place _ within) (subst (λ (b : Standing). is_clear b.state _ ≡ false) c.turns.invariant.same tried.0);
       same = tried.1 ∙ c.turns.invariant.same;
     }
 
@@ -36,7 +36,7 @@ returns-then-made-clause-chosen g c =
     let here = slice_get-get_or c.args.moves.now place _ within in
     let clear = subst (λ (b : Standing). is_clear b.state _ ≡ true) c.turns.invariant.same tried.0 in
     record {
-      best = chosen_best s c.args._prefers.now c.args.moves.now c.turns.gains c.turns.invariant.of_all place _ c.in-Some.ensures here clear;
+      best = chosen_best s c.args.prefers.now c.args.moves.now c.turns.gains c.turns.invariant.of_all place _ c.in-Some.ensures here clear;
       clear = clear;
       gain = c.turns.invariant.of_all.each place _ here clear;
       gains = c.in-Some.ensures.above;
@@ -44,4 +44,4 @@ returns-then-made-clause-chosen g c =
     }
 
 pub returns-clause-chosen : goal.returns-clause-chosen
-returns-clause-chosen g c = (none_better c.args.board.now.state c.args._prefers.now c.args.moves.now c.turns.gains c.turns.invariant.of_all c.in_default.ensures, c.turns.invariant.same)
+returns-clause-chosen g c = (none_better c.args.board.now.state c.args.prefers.now c.args.moves.now c.turns.gains c.turns.invariant.of_all c.in_default.ensures, c.turns.invariant.same)

@@ -7,7 +7,7 @@ use Rattle.pl_prefs.proofs.choosing.best_made.Given as goal
 -- none of those that were tried is clear
 abbrev pub invariant-turns : goal.invariant-turns
 invariant-turns l = record {
-  of_all : AreGains l.initial.board.state l._prefers l.moves l.gains;
+  of_all : AreGains l.initial.board.state l.prefers l.moves l.gains;
   same : l.board ≡ l.initial.board
 }
 
