@@ -14,7 +14,7 @@ use Rattle.pl_prefs.specs.declared.prefer.Prefer.{Prefer}
 use Rattle.pl_prefs.specs.Scores.{score}
 use Rattle.pl_prefs.specs.Betters.{is_clear, is_better, score_after, IsFirstBest}
 use Rattle.pl_prefs.specs.Worths.{gain_of}
-use Rattle.pl_prefs.specs.Chances.{number_at, AreGains, IsGreatestAt}
+use Rattle.pl_prefs.specs.Chances.{number_at, AreGains, IsMostAt, IsGreatestAt}
 use Rattle.pl_prefs.proofs.Picking.{first_best, none_pass}
 
 -- ---- what the first of them gain
@@ -48,57 +48,40 @@ gained_all s prefers moves gains n of all = record {
 
 -- ---- the greatest so far
 
--- Of so many of the numbers none is above this one, which is 0 or stands at this place, as the first.
-pub record IsMostOf (gains : List ℤ) (n place : ℕ) (most : ℤ) : Type 0 where
-  pub least : pos 0 ≤ℤ most
-  pub short : n ≤ length gains
-  pub no_more : (k : ℕ) → k < n → number_at gains k ≤ℤ most
-  pub there : pos 0 <ℤ most → place < n
-  pub is : pos 0 <ℤ most → number_at gains place ≡ most
-  pub less : pos 0 <ℤ most → (k : ℕ) → k < place → number_at gains k <ℤ most
-
-pub most_of_none : (gains : List ℤ) → IsMostOf gains 0 0 (pos 0)
+pub most_of_none : (gains : List ℤ) → IsMostAt gains 0 0
 most_of_none gains = record {
-  least = omega (arith, ints);
-  short = omega arith;
+  reached = omega arith;
+  inside = λ some. absurd (omega (arith, some));
   no_more = λ k lt. absurd (omega (arith, lt));
-  there = λ above. absurd (omega (arith, ints, above));
-  is = λ above. absurd (omega (arith, ints, above));
-  less = λ above. absurd (omega (arith, ints, above));
+  less = λ k lt. absurd (omega (arith, lt));
 }
 
-pub most_takes : (gains : List ℤ) (n place : ℕ) (most g : ℤ) → IsMostOf gains n place most → n < length gains → g ≡ number_at gains n → most <ℤ g → IsMostOf gains (n + 1) n g
-most_takes gains n place most g of lt here more = record {
-  least = omega (arith, ints, of.least, more);
-  short = omega (arith, lt);
-  no_more = below_more (λ k. number_at gains k ≤ℤ g) n (λ k before. omega (arith, ints, of.no_more k before, more)) (omega (arith, ints, here));
-  there = λ above. omega arith;
-  is = λ above. sym here;
-  less = λ above k before. omega (arith, ints, of.no_more k before, more);
+pub most_takes : (gains : List ℤ) (n place : ℕ) → IsMostAt gains n place → number_at gains place <ℤ number_at gains n → IsMostAt gains (n + 1) n
+most_takes gains n place of more = record {
+  reached = omega arith;
+  inside = λ some. omega arith;
+  no_more = below_more (λ k. number_at gains k ≤ℤ number_at gains n) n (λ k before. omega (arith, ints, of.no_more k before, more)) (omega (arith, ints));
+  less = λ k before. omega (arith, ints, of.no_more k before, more);
 }
 
-pub most_keeps : (gains : List ℤ) (n place : ℕ) (most g : ℤ) → IsMostOf gains n place most → n < length gains → g ≡ number_at gains n → g ≤ℤ most → IsMostOf gains (n + 1) place most
-most_keeps gains n place most g of lt here no_more = record {
-  least = of.least;
-  short = omega (arith, lt);
-  no_more = below_more (λ k. number_at gains k ≤ℤ most) n of.no_more (omega (arith, ints, here, no_more));
-  there = λ above. omega (arith, of.there above);
-  is = of.is;
+pub most_keeps : (gains : List ℤ) (n place : ℕ) → IsMostAt gains n place → number_at gains n ≤ℤ number_at gains place → IsMostAt gains (n + 1) place
+most_keeps gains n place of no_more = record {
+  reached = omega (arith, of.reached);
+  inside = λ some. omega (arith, of.reached);
+  no_more = below_more (λ k. number_at gains k ≤ℤ number_at gains place) n of.no_more no_more;
   less = of.less;
 }
 
-pub greatest_there : (gains : List ℤ) (n place : ℕ) (most : ℤ) → IsMostOf gains n place most → length gains ≤ n → pos 0 <ℤ most → IsGreatestAt gains place
-greatest_there gains n place most of all above =
-    let is = of.is above in
-    record {
-      within = omega (arith, of.there above, of.short);
-      above = omega (arith, ints, is, above);
-      less = λ k lt. omega (arith, ints, is, of.less above k lt);
-      no_more = λ k lt. omega (arith, ints, is, of.no_more k (omega (arith, lt, all)));
-    }
+pub greatest_there : (gains : List ℤ) (n place : ℕ) → IsMostAt gains n place → n ≡ length gains → 0 < length gains → pos 0 <ℤ number_at gains place → IsGreatestAt gains place
+greatest_there gains n place of all some above = record {
+  within = omega (arith, of.inside (omega (arith, all, some)), all);
+  above = above;
+  less = of.less;
+  no_more = λ k lt. of.no_more k (omega (arith, lt, all));
+}
 
-pub greatest_nowhere : (gains : List ℤ) (n place : ℕ) (most : ℤ) → IsMostOf gains n place most → length gains ≤ n → most ≤ℤ pos 0 → (k : ℕ) → k < length gains → number_at gains k ≤ℤ pos 0
-greatest_nowhere gains n place most of all none k lt = omega (arith, ints, of.no_more k (omega (arith, lt, all)), none)
+pub greatest_nowhere : (gains : List ℤ) (n place : ℕ) → IsMostAt gains n place → n ≡ length gains → number_at gains place ≤ℤ pos 0 → (k : ℕ) → k < length gains → number_at gains k ≤ℤ pos 0
+greatest_nowhere gains n place of all none k lt = omega (arith, ints, of.no_more k (omega (arith, lt, all)), none)
 
 -- ---- one that was tried and is not clear counts no more
 
@@ -129,7 +112,7 @@ is_above g = int_lt (pos 0) g
 pub fewer_above : (left : List ℤ) (place : ℕ) → place < length left → pos 0 <ℤ number_at left place → count_by is_above (set left place (pos 0)) < count_by is_above left
 fewer_above left place within above =
     let law = sum_by-set (λ g. cond (is_above g) 1 0) left place (pos 0) (pos 0) within in
-    let one : cond (is_above (number_at left place)) 1 0 ≡ 1 = ap (λ b. cond b 1 0) (less_to_test (pos 0) (number_at left place) above) in
+    let one : ◌≡◌ {A = ℕ} (cond (is_above (number_at left place)) 1 0) 1 = ap (λ b. cond b 1 0) (less_to_test (pos 0) (number_at left place) above) in
     omega (arith, law, one)
 
 -- ---- the best by gains

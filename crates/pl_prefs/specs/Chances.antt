@@ -1,5 +1,5 @@
 -- What some moves gain, and the choice among them.
-use Rattle.std.specs.Prelude.{◌≡◌, ℕ, ◌<◌, true, ℤ, pos, ◌<ℤ◌, ◌≤ℤ◌, List, [], All, length, filter, slice_get, slice_index_or, Option, Some, None}
+use Rattle.std.specs.Prelude.{◌≡◌, ℕ, ◌<◌, ◌≤◌, true, ℤ, pos, ◌<ℤ◌, ◌≤ℤ◌, List, [], All, length, filter, slice_get, slice_index_or, Option, Some, None}
 use Rattle.pl_plan.specs.declared.repair.RepairMove.{RepairMove}
 use Rattle.pl_semantics.specs.declared.plan_state.PlanState.{PlanState}
 use Rattle.pl_semantics.specs.Moves.{applied}
@@ -21,6 +21,13 @@ pub record AreGains (s : PlanState) (prefers : List Prefer) (moves : List Repair
   pub all : length gains ≡ length moves
 
 -- ---- the greatest
+
+-- Of so many of the numbers none is above the one at this place, and each one before it is less.
+pub record IsMostAt (gains : List ℤ) (n place : ℕ) : Type 0 where
+  pub reached : place ≤ n
+  pub inside : 0 < n → place < n
+  pub no_more : (k : ℕ) → k < n → number_at gains k ≤ℤ number_at gains place
+  pub less : (k : ℕ) → k < place → number_at gains k <ℤ number_at gains place
 
 -- This one is above 0, each one before it is less, and each one behind it no more.
 pub record IsGreatestAt (gains : List ℤ) (place : ℕ) : Type 0 where

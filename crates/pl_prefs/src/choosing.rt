@@ -1,6 +1,6 @@
 //! The choice among moves by what they gain.
-ghost use Rattle.std.specs.Prelude.{◌≡◌, ◌≤◌, false, true, IfOk, OnErr, Some, slice_get};
-ghost use Rattle.pl_prefs.specs.Chances.{IsGreatest, AreGains, IsChosen};
+ghost use Rattle.std.specs.Prelude.{◌≡◌, ◌≤◌, ◌<◌, ◌+◌, length, false, true, IfOk, OnErr, Some, slice_get};
+ghost use Rattle.pl_prefs.specs.Chances.{IsMostAt, IsGreatest, AreGains, IsChosen};
 ghost use Rattle.pl_prefs.specs.Tries.{IsTried};
 
 use crate::choice::Choice;
@@ -11,19 +11,31 @@ use pl_plan::RepairMove;
 use pl_points::{Ledger, Steps};
 use std::alloc::{AllocError, Global};
 
+// The place of the greatest of one number more.
+fn foremost(gains: &[i128], place: usize, number: usize) -> usize
+    requires within { number < length gains.now }
+    requires most { IsMostAt gains.now number place }
+    ensures { IsMostAt gains.now (number + 1) result }
+{
+    if gains[place] < gains[number] {
+        number
+    } else {
+        place
+    }
+}
+
 // The place of the greatest number above 0, the first among equals.
 fn greatest(gains: &[i128]) -> Option<usize>
     ensures { IsGreatest gains.now result }
 {
     let mut place: usize = 0;
-    let mut most: i128 = 0;
-    for (number, gain) in gains.iter().enumerate() {
-        if most < *gain {
-            place = number;
-            most = *gain;
-        }
+    for number in 0..gains.len() {
+        place = foremost(gains, place, number);
     }
-    if 0 < most { Some(place) } else { None }
+    if gains.is_empty() {
+        return None;
+    }
+    if 0 < gains[place] { Some(place) } else { None }
 }
 
 /// Tries moves by falling gain, the first among equals first, and makes the first that is clear. A move whose number is not above 0

@@ -10,5 +10,5 @@ pub returns : goal.returns
 returns c =
     let p = c.args.param.now in
     let listed : map (λ value. assign_to c.args.id c.args.number (pos value)) c.deref.result.now ≡ assigns c.args.id (c.args.number, p) =
-        rw c.deref.ensures.value (values_listed c.args.id c.args.number p c.natural.result c.natural-2.result c.in_ok-values.field-0.items c.natural.ensures c.natural-2.ensures c.in_ok-values.ensures) in
+        rw c.deref.ensures.value (values_listed c.args.id c.args.number p c.natural.result c.natural-2.result c.in_ok-values.values.items c.natural.ensures c.natural-2.ensures c.in_ok-values.ensures) in
     c.in_ok-add_values.ensures ∙ ap (λ (ms : List RepairMove). c.args.out.now.items ++ ms) listed

@@ -12,4 +12,4 @@ returns c =
     let s = c.args.board.now.state in
     let whole : IsWhole s = subst IsWhole c.state.ensures.value (c.state.ensures.whole c.requires) in
     let all = rw c.deref.ensures.value at c.in_ok-add_changes_of_all.ensures in
-    all ∙ (ap (λ (ms : List RepairMove). ms ++ flat_map (λ id. of_found (changes_of s) (found s id)) c.in_ok-ids.field-0.items) c.new-all.ensures.items ∙ changes_listed s whole c.in_ok-ids.field-0.items (rw c.state.ensures.value at c.in_ok-ids.ensures))
+    all ∙ (ap (λ (ms : List RepairMove). ms ++ flat_map (λ id. of_found (changes_of s) (found s id)) c.in_ok-ids.ids.items) c.new-all.ensures.items ∙ changes_listed s whole c.in_ok-ids.ids.items (rw c.state.ensures.value at c.in_ok-ids.ensures))

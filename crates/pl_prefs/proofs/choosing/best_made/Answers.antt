@@ -7,8 +7,11 @@ use Rattle.pl_prefs.specs.Betters.{is_clear}
 use Rattle.pl_prefs.proofs.Chosen.{tried_out, fewer_above, chosen_best, none_better}
 use Rattle.pl_prefs.proofs.choosing.best_made.Goals as goal
 
-pub bounds-gains-place : goal.bounds-gains-place
-bounds-gains-place g c = c.in-Some.ensures.within
+pub is_made-requires-clause-unspoiled : goal.is_made-requires-clause-unspoiled
+is_made-requires-clause-unspoiled g c = rw c.turns.invariant.same c.requires.unspoiled
+
+pub is_made-requires-clause-next : goal.is_made-requires-clause-next
+is_made-requires-clause-next g c = rw c.turns.invariant.same c.requires.next
 
 pub bounds-moves-place : goal.bounds-moves-place
 bounds-moves-place g c = omega (arith, c.in-Some.ensures.within, c.turns.invariant.of_all.all)

@@ -3,11 +3,11 @@ use Rattle.std.proofs.lemmas.Int.{ints}
 use Rattle.pl_prefs.proofs.Gained.{live_before, few_before, gain_made}
 use Rattle.pl_prefs.proofs.gains.gain_of_change.Goals as goal
 
-pub worth_of_all-before-requires-clause-live : goal.worth_of_all-before-requires-clause-live
-worth_of_all-before-requires-clause-live c = rw c.deref.ensures.value (live_before _ _ _ _ _ _ c.requires.whole c.in_ok-trial.ensures)
+pub worth_of_all-requires-clause-live : goal.worth_of_all-requires-clause-live
+worth_of_all-requires-clause-live c = rw c.deref.ensures.value (live_before _ _ _ _ _ _ c.requires.whole c.in_ok-trial.ensures)
 
-pub worth_of_all-before-requires-clause-few_activities : goal.worth_of_all-before-requires-clause-few_activities
-worth_of_all-before-requires-clause-few_activities c = rw c.deref.ensures.value (few_before _ _ _ _ _ _ c.requires.whole c.in_ok-trial.ensures)
+pub worth_of_all-requires-clause-few_activities : goal.worth_of_all-requires-clause-few_activities
+worth_of_all-requires-clause-few_activities c = rw c.deref.ensures.value (few_before _ _ _ _ _ _ c.requires.whole c.in_ok-trial.ensures)
 
 pub returns-clause-gain : goal.returns-clause-gain
 returns-clause-gain c =

@@ -9,7 +9,7 @@ pub returns-in-Ok-clause-chosen : goal.returns-in-Ok-clause-chosen
 returns-in-Ok-clause-chosen g c = rw (c.deref.ensures.value, c.in-Ok.ensures.moves) at c.best_made.ensures.chosen
 
 pub returns-in-Ok-clause-whole : goal.returns-in-Ok-clause-whole
-returns-in-Ok-clause-whole g c = subst IsWhole c.state.ensures.value (c.state.ensures.whole c.requires.unspoiled)
+returns-in-Ok-clause-whole g c = subst IsWhole c.state-state.ensures.value (c.state-state.ensures.whole c.requires.unspoiled)
 
 pub returns-in-Err-clause-whole : goal.returns-in-Err-clause-whole
-returns-in-Err-clause-whole g c = subst IsWhole c.state.ensures.value (c.state.ensures.whole c.requires.unspoiled)
+returns-in-Err-clause-whole g c = subst IsWhole c.state-state.ensures.value (c.state-state.ensures.whole c.requires.unspoiled)

@@ -8,8 +8,8 @@ returns-then-not-proper-clause-tried g c = (not_proper c.args.board.now.state c.
 pub returns-then-not-is_legal-clause-tried : goal.returns-then-not-is_legal-clause-tried
 returns-then-not-is_legal-clause-tried g c = (not_legal c.args.board.now.state c.args.mv.now (sym c.if-not-proper.ensures) (sym c.if-not-is_legal.ensures), refl)
 
-pub attempt-tried-requires-clause-allowed : goal.attempt-tried-requires-clause-allowed
-attempt-tried-requires-clause-allowed g c = record { proper = sym c.if-not-proper.ensures; allowed = legal_may c.args.board.now.state c.args.mv.now (sym c.if-not-is_legal.ensures) }
+pub attempt-requires-clause-allowed : goal.attempt-requires-clause-allowed
+attempt-requires-clause-allowed g c = record { proper = sym c.if-not-proper.ensures; allowed = legal_may c.args.board.now.state c.args.mv.now (sym c.if-not-is_legal.ensures) }
 
 pub returns-in-Made-clause-tried : goal.returns-in-Made-clause-tried
 returns-in-Made-clause-tried g c =

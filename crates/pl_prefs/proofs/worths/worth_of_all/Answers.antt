@@ -8,7 +8,7 @@ pub loop-a-preserved : goal.loop-a-preserved
 loop-a-preserved c =
     let next = total_next (worth c.args.s.now c.args.prefers.now) c.args.activities.now c.loop-a.a-index _ c.a-item.result c.in_ok-sum.field-0 c.loop-a-test.true c.a-item.is c.in_ok-sum.ensures.value in
     record {
-      sum = omega (arith, ints, next, c.loop-a.invariant.sum);
+      sum = omega (arith, ints, next, c.loop-a.invariant.sum, c.loop-a.invariant.within, c.in_ok-sum.ensures.within);
       within = (omega (arith, ints, c.loop-a.invariant.within, c.in_ok-sum.ensures.within), omega (arith, ints, c.loop-a.invariant.within, c.in_ok-sum.ensures.within));
     }
 

@@ -1,4 +1,7 @@
-use Rattle.std.proofs.Common.{◌≡◌, length, ℤ, ap}
+use Rattle.std.proofs.Common.{◌≡◌, length, ℤ, ap, ◌∙◌, rules}
+use mir.Syntax.{w128}
+use mir.Val.{SFits}
+use Rattle.std.proofs.lemmas.Int.{to_z-of_z}
 use Rattle.pl_prefs.specs.Scoreds.{Scoring}
 use Rattle.pl_prefs.proofs.Counted.{none_counted, some_counted}
 use Rattle.pl_prefs.proofs.scored.Scored.new.Goals as goal
@@ -23,7 +26,7 @@ pub invariant_of-result : goal.invariant_of-result
 invariant_of-result c = λ unspoiled. (
     let count = rw (c.conflicts.ensures c.requires.unspoiled) at c.len-count.ensures.count in
     record {
-      score_is = rw c.deref.ensures.value at c.score-score.ensures.value;
+      score_is = to_z-of_z w128 c.score-score.result (let fits : SFits w128 c.score-score.result = search rules in fits) ∙ (rw c.deref.ensures.value at c.score-score.ensures.value);
       clear = none_counted _ _ count c.if-count-gt0.false;
       fits = c.requires.fits;
       few = c.requires.few;

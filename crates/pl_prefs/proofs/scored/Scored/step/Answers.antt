@@ -15,40 +15,40 @@ step_on-requires-clause-fits g c = rw c.deref.ensures.value (c.self.invariant (s
 pub step_on-requires-clause-few : goal.step_on-requires-clause-few
 step_on-requires-clause-few g c = rw c.deref.ensures.value (c.self.invariant (sym c.if-spoiled.ensures)).few
 
-pub raised-requires-clause-unspoiled : goal.raised-requires-clause-unspoiled
-raised-requires-clause-unspoiled g c =
-    let chosen = rw (c.deref.ensures.value, c.in-Some.is) at c.in_ok-step_on.ensures.chosen in
+pub raised-self-inside-requires-clause-unspoiled : goal.raised-self-inside-requires-clause-unspoiled
+raised-self-inside-requires-clause-unspoiled g c =
+    let chosen = rw (c.deref.ensures.value, c.in-Some.is) at c.in_ok-choice.ensures.chosen in
     unspoiled_then c.self.inside.board c.self.inside.prefers.items c.self.inside.score (sym c.if-spoiled.ensures) c.self.invariant c.in-Some.choice c.step_on.new.board c.step_on.ensures.whole chosen
 
-pub raised-requires-clause-fits : goal.raised-requires-clause-fits
-raised-requires-clause-fits g c =
-    let chosen = rw (c.deref.ensures.value, c.in-Some.is) at c.in_ok-step_on.ensures.chosen in
-    rw c.deref-2.ensures.value (fits_then c.self.inside.board c.self.inside.prefers.items c.self.inside.score (sym c.if-spoiled.ensures) c.self.invariant c.in-Some.choice c.step_on.new.board c.step_on.ensures.whole chosen)
+pub raised-self-inside-requires-clause-fits : goal.raised-self-inside-requires-clause-fits
+raised-self-inside-requires-clause-fits g c =
+    let chosen = rw (c.deref.ensures.value, c.in-Some.is) at c.in_ok-choice.ensures.chosen in
+    rw c.deref-in-Some.ensures.value (fits_then c.self.inside.board c.self.inside.prefers.items c.self.inside.score (sym c.if-spoiled.ensures) c.self.invariant c.in-Some.choice c.step_on.new.board c.step_on.ensures.whole chosen)
 
-pub raised-requires-clause-few : goal.raised-requires-clause-few
-raised-requires-clause-few g c = rw c.deref-2.ensures.value (c.self.invariant (sym c.if-spoiled.ensures)).few
+pub raised-self-inside-requires-clause-few : goal.raised-self-inside-requires-clause-few
+raised-self-inside-requires-clause-few g c = rw c.deref-in-Some.ensures.value (c.self.invariant (sym c.if-spoiled.ensures)).few
 
-pub raised-requires-clause-sum : goal.raised-requires-clause-sum
-raised-requires-clause-sum g c =
-    let chosen = rw (c.deref.ensures.value, c.in-Some.is) at c.in_ok-step_on.ensures.chosen in
-    rw c.deref-2.ensures.value (sum_made c.self.inside.board c.self.inside.prefers.items c.self.inside.score (sym c.if-spoiled.ensures) c.self.invariant c.in-Some.choice c.step_on.new.board c.step_on.ensures.whole chosen)
+pub raised-self-inside-requires-clause-sum : goal.raised-self-inside-requires-clause-sum
+raised-self-inside-requires-clause-sum g c =
+    let chosen = rw (c.deref.ensures.value, c.in-Some.is) at c.in_ok-choice.ensures.chosen in
+    rw c.deref-in-Some.ensures.value (sum_made c.self.inside.board c.self.inside.prefers.items c.self.inside.score (sym c.if-spoiled.ensures) c.self.invariant c.in-Some.choice c.step_on.new.board c.step_on.ensures.whole chosen)
 
 pub invariant_of-self-in-Some : goal.invariant_of-self-in-Some
 invariant_of-self-in-Some g c =
-    let chosen = rw (c.deref.ensures.value, c.in-Some.is) at c.in_ok-step_on.ensures.chosen in
-    holds_made c.self.inside.board c.self.inside.prefers.items c.self.inside.score (sym c.if-spoiled.ensures) c.self.invariant c.in-Some.choice c.step_on.new.board c.step_on.ensures.whole chosen _ (rw c.deref-2.ensures.value at c.raised.ensures)
+    let chosen = rw (c.deref.ensures.value, c.in-Some.is) at c.in_ok-choice.ensures.chosen in
+    holds_made c.self.inside.board c.self.inside.prefers.items c.self.inside.score (sym c.if-spoiled.ensures) c.self.invariant c.in-Some.choice c.step_on.new.board c.step_on.ensures.whole chosen _ (rw c.deref-in-Some.ensures.value at c.raised-self-inside.ensures)
 
 pub invariant_of-self-in-None : goal.invariant_of-self-in-None
 invariant_of-self-in-None g c =
-    let chosen = rw (c.deref.ensures.value, c.in-None.is) at c.in_ok-step_on.ensures.chosen in
+    let chosen = rw (c.deref.ensures.value, c.in-None.is) at c.in_ok-choice.ensures.chosen in
     holds_none c.self.inside.board c.self.inside.prefers.items c.self.inside.score (sym c.if-spoiled.ensures) c.self.invariant c.step_on.new.board chosen
 
 pub returns-in-Some-clause-stepped : goal.returns-in-Some-clause-stepped
 returns-in-Some-clause-stepped g c =
-    let chosen = rw (c.deref.ensures.value, c.in-Some.is) at c.in_ok-step_on.ensures.chosen in
-    step_made c.self.inside.board c.self.inside.prefers.items c.self.inside.score (sym c.if-spoiled.ensures) c.self.invariant c.in-Some.choice c.step_on.new.board c.step_on.ensures.whole chosen c.args.self.now c.self.view_is _ (rw c.deref-2.ensures.value at c.raised.ensures)
+    let chosen = rw (c.deref.ensures.value, c.in-Some.is) at c.in_ok-choice.ensures.chosen in
+    step_made c.self.inside.board c.self.inside.prefers.items c.self.inside.score (sym c.if-spoiled.ensures) c.self.invariant c.in-Some.choice c.step_on.new.board c.step_on.ensures.whole chosen c.args.self.now c.self.view_is _ (rw c.deref-in-Some.ensures.value at c.raised-self-inside.ensures)
 
 pub returns-in-None-clause-stepped : goal.returns-in-None-clause-stepped
 returns-in-None-clause-stepped g c =
-    let chosen = rw (c.deref.ensures.value, c.in-None.is) at c.in_ok-step_on.ensures.chosen in
+    let chosen = rw (c.deref.ensures.value, c.in-None.is) at c.in_ok-choice.ensures.chosen in
     step_none c.self.inside.board c.self.inside.prefers.items c.self.inside.score (sym c.if-spoiled.ensures) c.self.invariant c.step_on.new.board chosen c.args.self.now c.self.view_is
