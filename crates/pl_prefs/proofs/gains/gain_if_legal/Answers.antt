@@ -13,7 +13,7 @@ pub returns-then-not-is_legal-clause-gain : goal.returns-then-not-is_legal-claus
 returns-then-not-is_legal-clause-gain c = λ clear. absurd (let bad : true ≡ false = sym clear ∙ not_legal c.args.board.now.state c.args.mv.now (sym c.if-not-proper.ensures) (sym c.if-not-is_legal.ensures) in cc)
 
 pub gain_of-requires-clause-whole : goal.gain_of-requires-clause-whole
-gain_of-requires-clause-whole c = rw c.requires.of_board (subst IsWhole c.state.ensures.value (c.state.ensures.whole c.requires.unspoiled))
+gain_of-requires-clause-whole c = rw c.requires.of_board (subst IsWhole c.state-state.ensures.value (c.state-state.ensures.whole c.requires.unspoiled))
 
 pub gain_of-requires-clause-next : goal.gain_of-requires-clause-next
 gain_of-requires-clause-next c = rw c.requires.of_board c.requires.next

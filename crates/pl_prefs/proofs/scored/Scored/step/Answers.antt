@@ -1,4 +1,8 @@
-use Rattle.std.proofs.Common.{◌≡◌, ◌∙◌, true, false, Some, None, ap, sym, subst}
+use Rattle.std.proofs.Common.{◌≡◌, ◌∙◌, true, false, Some, None, ap, sym, subst, arith, rules}
+use Rattle.std.proofs.lemmas.Int.{ints}
+use mir.Syntax.{w128}
+use mir.Val.{SFits}
+use Rattle.std.proofs.lemmas.Int.{to_z-of_z}
 use Rattle.pl_semantics.specs.Whole.{IsWhole}
 use Rattle.pl_board.specs.Boards.{Standing}
 use Rattle.pl_prefs.specs.Betters.{changes_in}
@@ -31,12 +35,15 @@ raised-self-inside-requires-clause-few g c = rw c.deref-in-Some.ensures.value (c
 pub raised-self-inside-requires-clause-sum : goal.raised-self-inside-requires-clause-sum
 raised-self-inside-requires-clause-sum g c =
     let chosen = rw (c.deref.ensures.value, c.in-Some.is) at c.in_ok-choice.ensures.chosen in
-    rw c.deref-in-Some.ensures.value (sum_made c.self.inside.board c.self.inside.prefers.items c.self.inside.score (sym c.if-spoiled.ensures) c.self.invariant c.in-Some.choice c.step_on.new.board c.step_on.ensures.whole chosen)
+    let sum = sum_made c.self.inside.board c.self.inside.prefers.items c.self.inside.score (sym c.if-spoiled.ensures) c.self.invariant c.in-Some.choice c.step_on.new.board c.step_on.ensures.whole chosen in
+    let before : SFits w128 c.self.inside.score = search rules in
+    let gained : SFits w128 c.in-Some.choice.gain = search rules in
+    rw c.deref-in-Some.ensures.value (omega (arith, ints, sum))
 
 pub invariant_of-self-in-Some : goal.invariant_of-self-in-Some
 invariant_of-self-in-Some g c =
     let chosen = rw (c.deref.ensures.value, c.in-Some.is) at c.in_ok-choice.ensures.chosen in
-    holds_made c.self.inside.board c.self.inside.prefers.items c.self.inside.score (sym c.if-spoiled.ensures) c.self.invariant c.in-Some.choice c.step_on.new.board c.step_on.ensures.whole chosen _ (rw c.deref-in-Some.ensures.value at c.raised-self-inside.ensures)
+    holds_made c.self.inside.board c.self.inside.prefers.items c.self.inside.score (sym c.if-spoiled.ensures) c.self.invariant c.in-Some.choice c.step_on.new.board c.step_on.ensures.whole chosen _ (to_z-of_z w128 c.raised-self-inside.result (let fits : SFits w128 c.raised-self-inside.result = search rules in fits) ∙ (rw c.deref-in-Some.ensures.value at c.raised-self-inside.ensures))
 
 pub invariant_of-self-in-None : goal.invariant_of-self-in-None
 invariant_of-self-in-None g c =
@@ -46,7 +53,7 @@ invariant_of-self-in-None g c =
 pub returns-in-Some-clause-stepped : goal.returns-in-Some-clause-stepped
 returns-in-Some-clause-stepped g c =
     let chosen = rw (c.deref.ensures.value, c.in-Some.is) at c.in_ok-choice.ensures.chosen in
-    step_made c.self.inside.board c.self.inside.prefers.items c.self.inside.score (sym c.if-spoiled.ensures) c.self.invariant c.in-Some.choice c.step_on.new.board c.step_on.ensures.whole chosen c.args.self.now c.self.view_is _ (rw c.deref-in-Some.ensures.value at c.raised-self-inside.ensures)
+    step_made c.self.inside.board c.self.inside.prefers.items c.self.inside.score (sym c.if-spoiled.ensures) c.self.invariant c.in-Some.choice c.step_on.new.board c.step_on.ensures.whole chosen c.args.self.now c.self.view_is _ (to_z-of_z w128 c.raised-self-inside.result (let fits : SFits w128 c.raised-self-inside.result = search rules in fits) ∙ (rw c.deref-in-Some.ensures.value at c.raised-self-inside.ensures))
 
 pub returns-in-None-clause-stepped : goal.returns-in-None-clause-stepped
 returns-in-None-clause-stepped g c =
