@@ -1,18 +1,17 @@
 -- The score, which is said by preferences, is what the bases of levels count and what each activity counts by itself.
-use Rattle.std.proofs.Common.{◌≡◌, ℕ, zero, suc, ◌-◌, Bool, true, false, List, [], ◌∷◌, refl, sym, ap, ◌∙◌, arith, ℤ, pos, negsuc, ◌+ℤ◌, ◌*ℤ◌, if◌then◌else◌, ltb}
+use Rattle.std.proofs.Common.{◌≡◌, ℕ, zero, suc, ◌-◌, Bool, true, false, List, [], ◌∷◌, sym, ap, ◌∙◌, arith, ℤ, pos, negsuc, ◌+ℤ◌, ◌*ℤ◌, if◌then◌else◌}
 use Rattle.std.specs.Prelude.{nat_lt}
 use Rattle.std.proofs.lemmas.Int.{ints}
 use Rattle.std.proofs.Math.IntN.{zero-*ℤ, *ℤ-zero, suc_ℤ-*ℤ, pred_ℤ-*ℤ}
 use Rattle.pl_points.specs.Sums.{total}
 use Rattle.pl_level.specs.Effects.{counted}
 use Rattle.pl_update.proofs.AboutTimelines.Listing.{total_same, total_nothing, total-flat}
-use Rattle.pl_plan.specs.declared.activity.Activity.{Activity}
 use Rattle.pl_semantics.specs.declared.plan_state.PlanState.{PlanState}
 use Rattle.pl_semantics.specs.Demands.{since, told, asked_of, effect_in, effects_of, demands_at, demands_of, level_at}
 use Rattle.pl_prefs.specs.declared.prefer.Prefer.{Prefer}
 use Rattle.pl_prefs.specs.declared.prefer.Prefer.TheVariants.{Early, Late, Value, Level}
-use Rattle.pl_prefs.specs.Scores.{last_level, score_of, score}
-use Rattle.pl_prefs.specs.Worths.{level_share, share_of, worth_for, worth, base_worth, score_apart}
+use Rattle.pl_prefs.specs.Scores.{score_of, score}
+use Rattle.pl_prefs.specs.Worths.{level_share, share_of, worth_for, base_worth, score_apart}
 
 -- ---- sums
 

@@ -1,10 +1,10 @@
 -- What a replacement of activities does to the score: what those that come count, less what those that go counted.
-use Rattle.std.proofs.Common.{◌≡◌, ℕ, zero, suc, ◌<◌, eqb, ltb, Bool, true, false, cond, List, [], ◌∷◌, length, get_or, sym, ap, ◌∙◌, arith, ℤ, pos, ◌+ℤ◌, ◌-ℤ◌}
-use Rattle.std.specs.Prelude.{All, Option, Some, None}
+use Rattle.std.proofs.Common.{◌≡◌, ℕ, suc, eqb, ltb, Bool, true, false, cond, List, [], ◌∷◌, sym, ap, ◌∙◌, arith, ℤ, ◌+ℤ◌, ◌-ℤ◌}
+use Rattle.std.specs.Prelude.{Option, Some, None}
 use Rattle.std.proofs.lemmas.Int.{ints}
 use Rattle.std.proofs.lemmas.Bool.{eqb-false, ne_eqb, or_parts}
 use Rattle.std.proofs.lemmas.List.Folds.{list_any_none}
-use Rattle.std.proofs.lemmas.List.Elements.{All-nil, All-cons, All-weaker}
+use Rattle.std.proofs.lemmas.List.Elements.{All-weaker}
 use Rattle.pl_points.specs.Sums.{total}
 use Rattle.pl_plan.specs.declared.activity.Activity.{Activity}
 use Rattle.pl_plan.specs.Activities.{AreRising, activity_of, placed, without}
@@ -20,7 +20,7 @@ use Rattle.pl_update.proofs.AboutTimelines.Replacing.{IsKept, each_kept}
 use Rattle.pl_moves.specs.Undone.{alone, picked}
 use Rattle.pl_prefs.specs.declared.prefer.Prefer.{Prefer}
 use Rattle.pl_prefs.specs.Scores.{score}
-use Rattle.pl_prefs.specs.Worths.{worth, base_worth}
+use Rattle.pl_prefs.specs.Worths.{worth}
 use Rattle.pl_prefs.proofs.Apart.{score_is_apart}
 use Rattle.pl_prefs.proofs.Staying.{worth_stays, bases_stay}
 

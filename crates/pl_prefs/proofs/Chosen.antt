@@ -1,6 +1,6 @@
 -- The greatest of some numbers, and the best of some moves by what they gain.
-use Rattle.std.proofs.Common.{◌≡◌, ◌≢◌, ℕ, zero, suc, ◌+◌, ◌<◌, ◌≤◌, Bool, true, false, ◌&&◌, cond, eqb, List, [], ◌∷◌, ◌++◌, length, get_or, set, filter, Some, refl, sym, ap, ◌∙◌, subst, arith, ℤ, pos, ◌≤ℤ◌, below_more, get_or-set_same, get_or-set_other}
-use Rattle.std.specs.Prelude.{◌<ℤ◌, int_lt, ◌-ℤ◌, slice_get, count_by}
+use Rattle.std.proofs.Common.{◌≡◌, ℕ, ◌+◌, ◌<◌, ◌≤◌, Bool, true, false, ◌&&◌, cond, eqb, List, [], ◌∷◌, ◌++◌, length, get_or, set, filter, Some, refl, sym, ap, ◌∙◌, subst, arith, ℤ, pos, ◌≤ℤ◌, below_more, get_or-set_other}
+use Rattle.std.specs.Prelude.{◌<ℤ◌, int_lt, slice_get, count_by}
 use Rattle.std.proofs.lemmas.Int.{ints}
 use Rattle.std.proofs.lemmas.Bool.{and_parts, eqb-true, eqb-false}
 use Rattle.std.proofs.Math.ListN.{get_or-append}
@@ -32,10 +32,10 @@ gained_more s prefers moves gains n mv z of here gain = record {
   each = below_more (λ k. (m : RepairMove) → slice_get moves k ≡ Some m → is_clear s m ≡ true → number_at (gains ++ z ∷ []) k ≡ gain_of s prefers m) n
       (λ k lt m there clear. get_or-append gains (z ∷ []) (pos 0) k (omega (arith, lt, of.many)) ∙ of.each k lt m there clear)
       (λ m there clear. (
-        let same : Some mv ≡ Some m = sym here ∙ there in
-        let one : mv ≡ m = cc in
-        let seam : number_at (gains ++ z ∷ []) n ≡ z = ap (number_at (gains ++ z ∷ [])) (sym of.many) ∙ get_or-append_seam gains z [] (pos 0) in
-        seam ∙ (gain (ap (is_clear s) one ∙ clear) ∙ ap (gain_of s prefers) one)));
+      let same : Some mv ≡ Some m = sym here ∙ there in
+      let one : mv ≡ m = cc in
+      let seam : number_at (gains ++ z ∷ []) n ≡ z = ap (number_at (gains ++ z ∷ [])) (sym of.many) ∙ get_or-append_seam gains z [] (pos 0) in
+      seam ∙ (gain (ap (is_clear s) one ∙ clear) ∙ ap (gain_of s prefers) one)));
   many = omega (arith, of.many, length_push gains z);
   short = omega (arith, slice_get_within moves n mv here);
 }

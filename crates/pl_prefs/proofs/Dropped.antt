@@ -1,5 +1,5 @@
 -- A goal that is dropped counts nothing.
-use Rattle.std.proofs.Common.{◌≡◌, ℕ, List, refl, arith, ℤ, pos}
+use Rattle.std.proofs.Common.{◌≡◌, ℕ, List, refl, arith, pos}
 use Rattle.std.proofs.lemmas.Int.{ints}
 use Rattle.pl_plan.specs.declared.repair.RepairMove.TheVariants.{Drop}
 use Rattle.pl_semantics.specs.declared.plan_state.PlanState.{PlanState}

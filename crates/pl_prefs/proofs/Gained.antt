@@ -1,7 +1,6 @@
 -- What a move of activities gains, by those that it takes out and puts in; how many these are, and that they are live.
-use Rattle.std.proofs.Common.{◌≡◌, ℕ, ◌+◌, ◌≤◌, List, [], ◌∷◌, ◌++◌, length, get_or, refl, sym, ap, ◌∙◌, subst, arith, ℤ, ◌-ℤ◌}
+use Rattle.std.proofs.Common.{◌≡◌, ℕ, ◌+◌, ◌≤◌, List, [], ◌∷◌, ◌++◌, length, refl, sym, ap, ◌∙◌, subst, arith, ◌-ℤ◌}
 use Rattle.std.specs.Prelude.{All, Option, Some, None}
-use Rattle.std.proofs.lemmas.Int.{ints}
 use Rattle.std.proofs.lemmas.List.Elements.{All-nil, All-cons}
 use Rattle.pl_points.specs.Sums.{total}
 use Rattle.pl_plan.specs.declared.activity.Activity.{Activity}
@@ -18,7 +17,7 @@ use Rattle.pl_update.specs.Changes.Replaced.{taken, put, replaced, with_plan, Ca
 use Rattle.pl_update.proofs.AboutTimelines.Replacing.{whole_after, found_placed}
 use Rattle.pl_moves.specs.Changes.{IsOfActivities, gone_by, placed_by}
 use Rattle.pl_moves.specs.Runs.{CanBeMade, IsTrialOf}
-use Rattle.pl_moves.specs.Undone.{IsUndoneBy, alone, picked}
+use Rattle.pl_moves.specs.Undone.{alone, picked}
 use Rattle.pl_bounds.proofs.Summing.{once_gone, can_place, placed_is}
 use Rattle.pl_prefs.specs.declared.prefer.Prefer.{Prefer}
 use Rattle.pl_prefs.specs.Prefers.{IsPreferOf}

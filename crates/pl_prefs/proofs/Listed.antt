@@ -1,12 +1,12 @@
 -- The moves that are tried, as they are listed: by ids, by starts and values from 0 on, and by parameters.
-use Rattle.std.proofs.Common.{◌≡◌, ℕ, ◌<◌, ◌≤◌, List, [], ◌∷◌, ◌++◌, length, map, refl, sym, ap, ◌∙◌, subst, arith, ℤ, pos}
-use Rattle.std.specs.Prelude.{All, Option, Some, None, filter, take, not, slice_get}
+use Rattle.std.proofs.Common.{◌≡◌, ℕ, ◌≤◌, List, [], ◌∷◌, length, map, refl, sym, ap, ◌∙◌, arith, ℤ, pos}
+use Rattle.std.specs.Prelude.{All, Option, Some, None, slice_get}
 use Rattle.std.specs.List.{flat_map}
 use Rattle.std.proofs.lemmas.List.Folds.{flat_map-map}
 use Rattle.std.proofs.lemmas.List.Elements.{All-nil, All-weaker, All-take, All-filter}
 use Rattle.pl_model.specs.declared.kinds.Kind.{Kind}
 use Rattle.pl_model.specs.declared.parameters.Param.{Param}
-use Rattle.pl_model.specs.Checked.{IsCheckedParam, IsCheckedKind, params_of}
+use Rattle.pl_model.specs.Checked.{IsCheckedParam, params_of}
 use Rattle.pl_plan.specs.declared.activity.Activity.{Activity}
 use Rattle.pl_plan.specs.declared.repair.RepairMove.{RepairMove}
 use Rattle.pl_plan.specs.Activities.{activity_of}
@@ -15,7 +15,7 @@ use Rattle.pl_plan.specs.Trees.{id_of}
 use Rattle.pl_plan.proofs.FirmSteps.{checked_kind}
 use Rattle.pl_plan.proofs.Kept.{each_found}
 use Rattle.pl_semantics.specs.declared.plan_state.PlanState.{PlanState}
-use Rattle.pl_semantics.specs.PlanStates.{is_committed, found, of_found}
+use Rattle.pl_semantics.specs.PlanStates.{found, of_found}
 use Rattle.pl_semantics.specs.Starts.{starting, shift_to, spread, places_of, places_at}
 use Rattle.pl_semantics.specs.Repairs.{assigns}
 use Rattle.pl_semantics.specs.Whole.{IsWhole}

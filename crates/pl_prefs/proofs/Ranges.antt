@@ -1,5 +1,5 @@
 -- What a preference that is read names is there, and its weight is in range.
-use Rattle.std.proofs.Common.{◌≡◌, ℕ, ◌<◌, ◌≤◌, Bool, true, false, ◌&&◌, List, length, Ok, Err, refl, sym, subst, arith, ℤ, pos, ◌≤ℤ◌, if◌then◌else◌}
+use Rattle.std.proofs.Common.{◌≡◌, ℕ, ◌<◌, ◌≤◌, ◌&&◌, List, length, Ok, Err, refl, sym, subst, arith, ℤ, pos}
 use Rattle.std.specs.Prelude.{Option, Some, None, IfOk, slice_get, bytes_eq, nat_le}
 use Rattle.std.proofs.lemmas.Option.{slice_get_within}
 use Rattle.std.proofs.lemmas.Bool.{leb-true, and_parts}

@@ -1,6 +1,6 @@
 -- What an activity counts that neither goes nor comes: as much as before. And the bases of levels count as much.
-use Rattle.std.proofs.Common.{◌≡◌, ℕ, ◌-◌, List, refl, ap, ℤ, pos, ◌*ℤ◌}
-use Rattle.std.specs.Prelude.{All, slice_index_or, Option, None, unwrap_or, if◌then◌else◌, nat_lt}
+use Rattle.std.proofs.Common.{◌≡◌, ℕ, ◌-◌, List, refl, ap, pos, ◌*ℤ◌}
+use Rattle.std.specs.Prelude.{slice_index_or, None, unwrap_or}
 use Rattle.pl_points.specs.Sums.{total}
 use Rattle.pl_level.specs.Effects.{counted}
 use Rattle.pl_plan.specs.declared.activity.Activity.{Activity}

@@ -1,6 +1,6 @@
 -- What a step leaves.
-use Rattle.std.proofs.Common.{◌≡◌, ℕ, zero, suc, ◌≤◌, eqb, Bool, true, false, ◌&&◌, List, [], ◌∷◌, length, refl, sym, ap, ◌∙◌, subst, arith, ℤ, pos, ◌+ℤ◌, leb, ltb}
-use Rattle.std.specs.Prelude.{All, ◌<ℤ◌, Option, Some, None, is_none}
+use Rattle.std.proofs.Common.{◌≡◌, ℕ, ◌≤◌, eqb, Bool, true, false, ◌&&◌, List, [], length, refl, sym, ap, ◌∙◌, subst, arith, ℤ, ◌+ℤ◌, leb, ltb}
+use Rattle.std.specs.Prelude.{All, Option, Some, None, is_none}
 use Rattle.std.proofs.lemmas.Int.{ints}
 use Rattle.std.proofs.lemmas.Bool.{and_parts, eqb-true, eq-eqb, leb-true}
 use Rattle.pl_plan.specs.declared.repair.RepairMove.{RepairMove}
@@ -10,16 +10,15 @@ use Rattle.pl_semantics.specs.Conflicts.{conflicts_of}
 use Rattle.pl_semantics.specs.Legal.{is_legal, left_after}
 use Rattle.pl_semantics.specs.Moves.{is_proper, refusal_of, applied}
 use Rattle.pl_semantics.specs.Whole.{IsWhole}
-use Rattle.pl_board.specs.Boards.{Standing, after}
+use Rattle.pl_board.specs.Boards.{Standing}
 use Rattle.pl_moves.specs.Attempts.{is_enough}
 use Rattle.pl_moves.specs.Keeping.{KeepsCommitted}
-use Rattle.pl_moves.specs.Runs.{CanBeMade}
 use Rattle.pl_moves.proofs.Keeping.{keeps}
 use Rattle.pl_prefs.specs.declared.prefer.Prefer.{Prefer}
 use Rattle.pl_prefs.specs.declared.choice.Choice.{Choice}
 use Rattle.pl_prefs.specs.Prefers.{IsPreferOf}
 use Rattle.pl_prefs.specs.Scores.{score}
-use Rattle.pl_prefs.specs.Betters.{is_clear, better, changes_in, IsBest}
+use Rattle.pl_prefs.specs.Betters.{is_clear, better, changes_in}
 use Rattle.pl_prefs.specs.Chances.{IsChosen, IsBestMade}
 use Rattle.pl_prefs.specs.Scoreds.{Scoring, IsScored, IsScoring, IsStepped}
 use Rattle.pl_prefs.proofs.Counted.{no_conflicts}

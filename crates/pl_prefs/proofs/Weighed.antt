@@ -1,6 +1,6 @@
 -- How far a weight times an amount lies from 0.
-use Rattle.std.proofs.Common.{◌≡◌, ℕ, suc, ◌*◌, ◌≤◌, ◌^◌, sym, subst, arith, ℤ, pos, negsuc, ◌≤ℤ◌}
-use Rattle.std.specs.Prelude.{neg_ℤ, ◌*ℤ◌}
+use Rattle.std.proofs.Common.{ℕ, suc, ◌*◌, ◌≤◌, ◌^◌, sym, subst, arith, ℤ, pos, negsuc}
+use Rattle.std.specs.Prelude.{◌*ℤ◌}
 use Rattle.std.proofs.lemmas.Int.{ints}
 use Rattle.std.proofs.lemmas.Nat.{mul-le}
 use Rattle.std.proofs.Math.IntN.{pos-*ℤ-pos, pos-*ℤ-negsuc}

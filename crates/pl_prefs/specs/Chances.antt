@@ -1,5 +1,5 @@
 -- What some moves gain, and the choice among them.
-use Rattle.std.specs.Prelude.{◌≡◌, ℕ, ◌<◌, ◌≤◌, true, ℤ, pos, ◌<ℤ◌, ◌≤ℤ◌, List, [], All, length, filter, slice_get, slice_index_or, Option, Some, None}
+use Rattle.std.specs.Prelude.{◌≡◌, ℕ, ◌<◌, ◌≤◌, true, ℤ, pos, ◌<ℤ◌, ◌≤ℤ◌, List, [], length, filter, slice_get, slice_index_or, Option, Some, None}
 use Rattle.pl_plan.specs.declared.repair.RepairMove.{RepairMove}
 use Rattle.pl_semantics.specs.declared.plan_state.PlanState.{PlanState}
 use Rattle.pl_semantics.specs.Moves.{applied}

@@ -1,6 +1,6 @@
 -- The preference of a line, or its first fault: `prefer KIND early WEIGHT`, `prefer KIND late WEIGHT`, `prefer KIND value NAME WEIGHT`,
 -- or `prefer level TIMELINE WEIGHT`. First the form is looked at, then the names, then the range of the weight.
-use Rattle.std.specs.Prelude.{◌≡◌, ℕ, ◌<◌, ℤ, pos, nat_le, ◌≤ℤ◌, ◌&&◌, Bool, true, false, List, [], ◌∷◌, length, slice_get, Option, Some, None, if◌then◌else◌, codes, bytes_eq, Result, Ok, Err}
+use Rattle.std.specs.Prelude.{ℕ, ◌<◌, ℤ, pos, nat_le, ◌≤ℤ◌, ◌&&◌, Bool, true, false, List, [], ◌∷◌, length, slice_get, Option, Some, None, if◌then◌else◌, codes, bytes_eq, Result, Ok, Err}
 use Rattle.pl_lists.specs.Judgements.{◌>>=◌}
 use Rattle.pl_lists.specs.Judgements as judged
 use Rattle.pl_text.specs.declared.token.Token.{Token}
@@ -64,8 +64,8 @@ unfoldable pub by_start : List ℕ → Token → Token → Token → Read Prefer
 by_start line kind word weight = do
   w ← number_in weight.kind
   if says line word (codes "early") then Ok (form.Early kind w)
-    else if says line word (codes "late") then Ok (form.Late kind w)
-    else Err fault.BadLine
+      else if says line word (codes "late") then Ok (form.Late kind w)
+      else Err fault.BadLine
 
 -- the word `value`, and the parameter's name
 unfoldable pub by_value : List ℕ → Token → Token → Token → Token → Read PreferForm

@@ -1,5 +1,5 @@
 -- A board whose plan is bettered: what it is seen as, what holds of it, and what a step does.
-use Rattle.std.specs.Prelude.{◌≡◌, ◌≢◌, ◌≤◌, ℕ, min, length, Bool, false, ℤ, ◌<ℤ◌, List, [], All, Option, Some, None, IfSome}
+use Rattle.std.specs.Prelude.{◌≡◌, ◌≢◌, ◌≤◌, min, length, false, ℤ, ◌<ℤ◌, List, [], All, Option, Some, None, IfSome}
 use Rattle.pl_plan.specs.declared.repair.RepairMove.{RepairMove}
 use Rattle.pl_semantics.specs.declared.plan_state.PlanState.{PlanState}
 use Rattle.pl_semantics.specs.Conflicts.{conflicts_of}

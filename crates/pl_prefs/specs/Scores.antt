@@ -1,5 +1,5 @@
 -- How well a plan meets what is preferred: its score, one sum over preferences and activities.
-use Rattle.std.specs.Prelude.{ℕ, ◌-◌, ◌==◌, nat_lt, ℤ, pos, ◌-ℤ◌, ◌*ℤ◌, List, slice_index_or, Option, None, unwrap_or, if◌then◌else◌}
+use Rattle.std.specs.Prelude.{ℕ, ◌-◌, ◌==◌, nat_lt, ℤ, pos, ◌-ℤ◌, ◌*ℤ◌, List, slice_index_or, None, unwrap_or, if◌then◌else◌}
 use Rattle.pl_points.specs.Sums.{total}
 use Rattle.pl_plan.specs.declared.activity.Activity.{Activity}
 use Rattle.pl_semantics.specs.declared.plan_state.PlanState.{PlanState}

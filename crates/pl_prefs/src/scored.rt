@@ -37,11 +37,7 @@ impl std::marker::Model for Scored {
 
 impl Scored {
     /// The score of a plan without conflicts. At most 64 things are preferred.
-    pub fn new(
-        _alloc: Global,
-        board: Board,
-        prefers: Vec<Prefer>,
-    ) -> Result<Scored, ScoreFault>
+    pub fn new(_alloc: Global, board: Board, prefers: Vec<Prefer>) -> Result<Scored, ScoreFault>
         requires unspoiled { board.spoiled ≡ false }
         requires next { board.state.next_id ≤ 3999999000 }
         requires few { length prefers.items ≤ 64 }

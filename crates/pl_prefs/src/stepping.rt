@@ -52,9 +52,7 @@ pub(crate) fn step_on<L: Ledger>(
 {
     let _state = board.state();
     match chances_of(alloc, board, prefers) {
-        Ok(mut found) => {
-            best_made(alloc, board, prefers, &found.moves, &mut found.gains, steps)
-        }
+        Ok(mut found) => { best_made(alloc, board, prefers, &found.moves, &mut found.gains, steps) }
         Err(fault) => {
             board.spoil();
             Err(fault)

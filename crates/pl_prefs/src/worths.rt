@@ -52,12 +52,7 @@ fn worth_with(s: &PlanState, a: &Activity, demands: &[Demand], prefers: &[Prefer
     sum
 }
 
-fn worth(
-    alloc: Global,
-    s: &PlanState,
-    prefers: &[Prefer],
-    a: &Activity,
-) -> Result<i128, AllocError>
+fn worth(alloc: Global, s: &PlanState, prefers: &[Prefer], a: &Activity) -> Result<i128, AllocError>
     requires whole { IsWhole s.now }
     requires live { activity_of a.now.id s.now.plan.activities ≡ Some a.now }
     requires fits { All (IsPreferOf s.now.model) prefers.now }

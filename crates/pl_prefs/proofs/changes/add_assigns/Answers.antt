@@ -15,5 +15,5 @@ returns c =
     let low : SFits w64 c.args.param.now.low = search rules in
     let high : SFits w64 c.args.param.now.high = search rules in
     let listed : map (λ value. assign_to c.args.id c.args.number (pos value)) c.deref.result.now ≡ assigns c.args.id (c.args.number, p) =
-        rw c.deref.ensures.value (values_listed c.args.id c.args.number p c.natural.result c.natural-2.result c.in_ok-values.values.items (c.natural.ensures ∙ to_z-of_z w64 p.low low) (c.natural-2.ensures ∙ to_z-of_z w64 p.high high) c.in_ok-values.ensures) in
+    rw c.deref.ensures.value (values_listed c.args.id c.args.number p c.natural.result c.natural-2.result c.in_ok-values.values.items (c.natural.ensures ∙ to_z-of_z w64 p.low low) (c.natural-2.ensures ∙ to_z-of_z w64 p.high high) c.in_ok-values.ensures) in
     c.in_ok-add_values.ensures ∙ ap (λ (ms : List RepairMove). c.args.out.now.items ++ ms) listed

@@ -1,8 +1,8 @@
-use Rattle.std.proofs.Common.{◌≡◌, ◌++◌, List, map, ap, ◌∙◌, append_assoc}
+use Rattle.std.proofs.Common.{◌≡◌, ◌++◌, List, ap, ◌∙◌, append_assoc}
 use Rattle.std.specs.Prelude.{pos}
 use Rattle.std.specs.List.{flat_map}
 use Rattle.pl_plan.specs.declared.repair.RepairMove.{RepairMove}
-use Rattle.pl_semantics.specs.Starts.{starting, shift_to, places_at, shifts_of}
+use Rattle.pl_semantics.specs.Starts.{starting, shift_to, shifts_of}
 use Rattle.pl_semantics.specs.Repairs.{all_assigns}
 use Rattle.pl_prefs.proofs.Listed.{shifts_listed, places_found}
 use Rattle.pl_prefs.proofs.changes.add_changes.Goals as goal

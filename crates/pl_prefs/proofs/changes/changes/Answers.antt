@@ -1,4 +1,4 @@
-use Rattle.std.proofs.Common.{◌≡◌, ◌++◌, List, ap, subst, ◌∙◌}
+use Rattle.std.proofs.Common.{◌++◌, List, ap, subst, ◌∙◌}
 use Rattle.std.specs.List.{flat_map}
 use Rattle.pl_plan.specs.declared.repair.RepairMove.{RepairMove}
 use Rattle.pl_semantics.specs.PlanStates.{found, of_found}

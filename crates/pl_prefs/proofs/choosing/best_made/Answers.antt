@@ -4,7 +4,7 @@ use mir.Val.{SFits}
 use Rattle.std.proofs.lemmas.Int.{to_z-of_z}
 use Rattle.pl_plan.specs.declared.repair.RepairMove.{RepairMove}
 use Rattle.pl_plan.specs.declared.repair.RepairMove.TheVariants.{Add}
-use Rattle.std.specs.Prelude.{Some, slice_get, ◌<ℤ◌}
+use Rattle.std.specs.Prelude.{◌<ℤ◌}
 use Rattle.std.proofs.lemmas.Option.{slice_get-get_or}
 use Rattle.pl_semantics.specs.Moves.{applied}
 use Rattle.pl_board.specs.Boards.{Standing, after}

@@ -8,7 +8,7 @@ use Rattle.pl_prefs.proofs.choosing.best_made.Given as goal
 abbrev pub invariant-turns : goal.invariant-turns
 invariant-turns g l = record {
   of_all : AreGains l.initial.board.state l.prefers l.moves l.gains;
-  same : l.board ≡ l.initial.board
+  same : l.board ≡ l.initial.board;
 }
 
 abbrev pub decreases-turns : goal.decreases-turns

@@ -1,4 +1,4 @@
-use Rattle.std.proofs.Common.{get_or, arith, rules, ℤ, ◌≤ℤ◌}
+use Rattle.std.proofs.Common.{arith, rules, ◌≤ℤ◌}
 use Rattle.std.specs.Prelude.{◌<ℤ◌}
 use Rattle.std.proofs.lemmas.Int.{ints}
 use Rattle.pl_prefs.specs.Chances.{number_at}

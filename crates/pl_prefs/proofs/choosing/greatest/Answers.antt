@@ -1,4 +1,4 @@
-use Rattle.pl_prefs.proofs.Chosen.{most_of_none, greatest_there, greatest_nowhere}
+use Rattle.pl_prefs.proofs.Chosen.{most_of_none}
 use Rattle.pl_prefs.proofs.choosing.greatest.Goals as goal
 
 pub loop-number-init : goal.loop-number-init

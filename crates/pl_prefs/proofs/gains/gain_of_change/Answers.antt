@@ -1,4 +1,4 @@
-use Rattle.std.proofs.Common.{◌≡◌, ◌∙◌, List, ap, arith}
+use Rattle.std.proofs.Common.{arith}
 use Rattle.std.proofs.lemmas.Int.{ints}
 use Rattle.pl_prefs.proofs.Gained.{live_before, few_before, gain_made}
 use Rattle.pl_prefs.proofs.gains.gain_of_change.Goals as goal

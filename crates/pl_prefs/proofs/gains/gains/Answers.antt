@@ -1,9 +1,9 @@
-use Rattle.std.proofs.Common.{◌≡◌, ◌∙◌, get_or, rules}
+use Rattle.std.proofs.Common.{◌∙◌, rules}
 use mir.Syntax.{w128}
 use mir.Val.{SFits}
 use Rattle.std.proofs.lemmas.Int.{to_z-of_z}
 use Rattle.std.proofs.lemmas.Option.{slice_get-get_or}
-use Rattle.pl_prefs.proofs.Chosen.{gained_none, gained_more, gained_all}
+use Rattle.pl_prefs.proofs.Chosen.{gained_more, gained_all}
 use Rattle.pl_prefs.proofs.gains.gains.Goals as goal
 
 pub loop-mv-preserved : goal.loop-mv-preserved

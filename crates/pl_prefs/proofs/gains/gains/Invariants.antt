@@ -6,5 +6,5 @@ use Rattle.pl_prefs.proofs.gains.gains.Given as goal
 abbrev pub invariant-loop-mv : goal.invariant-loop-mv
 invariant-loop-mv l = record {
   gained : AreFirstGains l.board.state l.prefers l.moves l.all.items l.mv-index;
-  same : l.s ≡ l.board.state
+  same : l.s ≡ l.board.state;
 }

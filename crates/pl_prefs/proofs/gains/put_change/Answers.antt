@@ -1,6 +1,6 @@
-use Rattle.std.proofs.Common.{◌≡◌, ℕ, List, ap, ◌∙◌}
+use Rattle.std.proofs.Common.{ℕ, List, ap, ◌∙◌}
 use Rattle.pl_plan.specs.declared.activity.Activity.{Activity}
-use Rattle.pl_update.specs.Changes.Replaced.{replaced, next_after}
+use Rattle.pl_update.specs.Changes.Replaced.{replaced}
 use Rattle.pl_update.proofs.AboutChanges.Putting.{puttable}
 use Rattle.pl_prefs.proofs.gains.put_change.Goals as goal
 

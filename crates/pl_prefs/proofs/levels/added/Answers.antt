@@ -1,6 +1,5 @@
-use Rattle.std.proofs.Common.{◌≡◌, get_or, refl, arith, ◌∙◌}
+use Rattle.std.proofs.Common.{refl, arith}
 use Rattle.std.proofs.lemmas.Int.{ints}
-use Rattle.pl_semantics.specs.declared.demand.Demand.{Demand}
 use Rattle.pl_prefs.specs.Added.{added_by}
 use Rattle.pl_prefs.proofs.Adding.{total_next, total_end, added_all}
 use Rattle.pl_prefs.proofs.levels.added.Goals as goal

@@ -8,5 +8,5 @@ use Rattle.pl_prefs.proofs.levels.added.Given as goal
 abbrev pub invariant-loop-demand : goal.invariant-loop-demand
 invariant-loop-demand l = record {
   sum : l.sum +ℤ total (added_by l.base l.until l.line) (drop l.demand-index l.demands) ≡ total (added_by l.base l.until l.line) l.demands;
-  within : IsSumOf l.demand-index l.sum
+  within : IsSumOf l.demand-index l.sum;
 }

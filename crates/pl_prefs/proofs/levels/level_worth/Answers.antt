@@ -1,4 +1,3 @@
-use Rattle.std.proofs.Common.{◌≡◌}
 use Rattle.pl_detect.proofs.Grounds.{level_based}
 use Rattle.pl_prefs.proofs.levels.level_worth.Goals as goal
 

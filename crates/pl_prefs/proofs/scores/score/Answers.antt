@@ -1,4 +1,4 @@
-use Rattle.std.proofs.Common.{get_or, refl, arith}
+use Rattle.std.proofs.Common.{refl, arith}
 use Rattle.std.proofs.lemmas.Int.{ints}
 use Rattle.pl_prefs.specs.Scores.{score_of, score}
 use Rattle.pl_prefs.proofs.Adding.{total_next, total_end}

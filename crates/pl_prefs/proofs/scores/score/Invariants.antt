@@ -8,5 +8,5 @@ use Rattle.pl_prefs.proofs.scores.score.Given as goal
 abbrev pub invariant-loop-prefer : goal.invariant-loop-prefer
 invariant-loop-prefer l = record {
   sum : l.sum +ℤ total (score_of l.board.state) (drop l.prefer-index l.prefers) ≡ total (score_of l.board.state) l.prefers;
-  within : IsWithin (l.prefer-index * 10000) l.sum
+  within : IsWithin (l.prefer-index * 10000) l.sum;
 }

@@ -8,5 +8,5 @@ use Rattle.pl_prefs.proofs.scores.shares_of.Given as goal
 abbrev pub invariant-loop-a : goal.invariant-loop-a
 invariant-loop-a l = record {
   sum : l.sum +ℤ total (share_of l.state l.prefer) (drop l.a-index l.activities) ≡ total (share_of l.state l.prefer) l.activities;
-  within : IsWithin l.a-index l.sum
+  within : IsWithin l.a-index l.sum;
 }

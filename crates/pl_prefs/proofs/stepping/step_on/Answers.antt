@@ -1,4 +1,4 @@
-use Rattle.std.proofs.Common.{◌≡◌, subst}
+use Rattle.std.proofs.Common.{subst}
 use Rattle.pl_semantics.specs.Whole.{IsWhole}
 use Rattle.pl_prefs.proofs.stepping.step_on.Goals as goal
 

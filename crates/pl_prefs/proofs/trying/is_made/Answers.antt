@@ -1,4 +1,4 @@
-use Rattle.std.proofs.Common.{◌≡◌, true, false, refl, sym}
+use Rattle.std.proofs.Common.{true, false, refl, sym}
 use Rattle.pl_prefs.proofs.Stepped.{legal_may, clear_as, not_proper, not_legal}
 use Rattle.pl_prefs.proofs.trying.is_made.Goals as goal
 

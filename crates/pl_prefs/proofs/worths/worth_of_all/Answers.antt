@@ -1,4 +1,4 @@
-use Rattle.std.proofs.Common.{get_or, refl, arith}
+use Rattle.std.proofs.Common.{arith}
 use Rattle.std.proofs.lemmas.Int.{ints}
 use Rattle.pl_prefs.specs.Worths.{worth}
 use Rattle.pl_prefs.proofs.Adding.{total_next, total_end}

@@ -8,5 +8,5 @@ use Rattle.pl_prefs.proofs.worths.worth_of_all.Given as goal
 abbrev pub invariant-loop-a : goal.invariant-loop-a
 invariant-loop-a l = record {
   sum : l.sum +ℤ total (worth l.s l.prefers) (drop l.a-index l.activities) ≡ total (worth l.s l.prefers) l.activities;
-  within : IsWithin (64 * l.a-index) l.sum
+  within : IsWithin (64 * l.a-index) l.sum;
 }

@@ -8,5 +8,5 @@ use Rattle.pl_prefs.proofs.worths.worth_with.Given as goal
 abbrev pub invariant-loop-prefer : goal.invariant-loop-prefer
 invariant-loop-prefer l = record {
   sum : l.sum +ℤ total (worth_for l.s l.a) (drop l.prefer-index l.prefers) ≡ total (worth_for l.s l.a) l.prefers;
-  within : IsWithin l.prefer-index l.sum
+  within : IsWithin l.prefer-index l.sum;
 }

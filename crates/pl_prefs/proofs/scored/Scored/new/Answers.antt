@@ -1,8 +1,7 @@
-use Rattle.std.proofs.Common.{◌≡◌, length, ℤ, ap, ◌∙◌, rules}
+use Rattle.std.proofs.Common.{◌∙◌, rules}
 use mir.Syntax.{w128}
 use mir.Val.{SFits}
 use Rattle.std.proofs.lemmas.Int.{to_z-of_z}
-use Rattle.pl_prefs.specs.Scoreds.{Scoring}
 use Rattle.pl_prefs.proofs.Counted.{none_counted, some_counted}
 use Rattle.pl_prefs.proofs.scored.Scored.new.Goals as goal
 

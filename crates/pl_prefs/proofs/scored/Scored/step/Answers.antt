@@ -1,12 +1,8 @@
-use Rattle.std.proofs.Common.{◌≡◌, ◌∙◌, true, false, Some, None, ap, sym, subst, arith, rules}
+use Rattle.std.proofs.Common.{◌∙◌, sym, arith, rules}
 use Rattle.std.proofs.lemmas.Int.{ints}
 use mir.Syntax.{w128}
 use mir.Val.{SFits}
 use Rattle.std.proofs.lemmas.Int.{to_z-of_z}
-use Rattle.pl_semantics.specs.Whole.{IsWhole}
-use Rattle.pl_board.specs.Boards.{Standing}
-use Rattle.pl_prefs.specs.Betters.{changes_in}
-use Rattle.pl_prefs.specs.Chances.{IsChosen}
 use Rattle.pl_prefs.proofs.Stepped.{unspoiled_then, fits_then, sum_made, holds_made, step_made, holds_none, step_none}
 use Rattle.pl_prefs.proofs.scored.Scored.step.Goals as goal
 
