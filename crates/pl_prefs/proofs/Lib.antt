@@ -1,0 +1,14 @@
+pub mod Weighed
+pub mod Adding
+pub mod Apart
+pub mod Staying
+pub mod Changed
+pub mod Gained
+pub mod Dropped
+pub mod Listed
+pub mod Picking
+pub mod Chosen
+pub mod Counted
+pub mod Sorts
+pub mod Stepped
+pub mod Ranges

@@ -1,0 +1,7 @@
+use Rattle.std.proofs.Common.{◌≡◌, drop, bytes_eq}
+use Rattle.pl_msg.specs.Names.{first_from}
+use Rattle.pl_prefs.proofs.reading.param_named.Given as goal
+
+-- the rest gives the whole
+abbrev pub invariant-loop-number : goal.invariant-loop-number
+invariant-loop-number l = first_from (λ p. bytes_eq p.name l.name) l.number (drop l.number l.params) ≡ first_from (λ p. bytes_eq p.name l.name) 0 l.params

@@ -1,0 +1,9 @@
+pub mod Bounds
+pub mod Prefers
+pub mod Scores
+pub mod Betters
+pub mod Worths
+pub mod Added
+pub mod Tries
+pub mod Chances
+pub mod Scoreds
