@@ -1,8 +1,7 @@
 -- What a commit leaves alone: the goals and the activities of which no conflict begins before its moment.
-use Rattle.std.proofs.Common.{◌≡◌, ℕ, ◌≤◌, Bool, true, false, List, ◌∷◌, map, refl, sym, ap, ◌∙◌, subst}
-use Rattle.std.specs.Prelude.{◌||◌, filter, take_while, nat_lt, nat_le, ◌&&◌, Some, All}
-use Rattle.std.specs.declared.cmp.Ordering.TheVariants.{Less}
-use Rattle.std.proofs.lemmas.Bool.{false≢true, ltb-false, le-ltb, or_right}
+use Rattle.std.proofs.Common.{◌≡◌, ℕ, ◌≤◌, Bool, true, false, map, refl, sym, ap, ◌∙◌, subst}
+use Rattle.std.specs.Prelude.{◌||◌, filter, nat_lt, nat_le, ◌&&◌, Some}
+use Rattle.std.proofs.lemmas.Bool.{false≢true, ltb-false, or_right}
 use Rattle.pl_conflict.specs.declared.conflict.Conflict.{Conflict}
 use Rattle.pl_conflict.specs.declared.conflict.Code.{Code}
 use Rattle.pl_conflict.specs.declared.conflict.Code.TheVariants as code
