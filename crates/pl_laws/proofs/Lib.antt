@@ -14,3 +14,4 @@ pub mod PairBudgets
 pub mod Chosen
 pub mod Bounded
 pub mod Paired
+pub mod Fixed
