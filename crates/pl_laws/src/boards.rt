@@ -9,6 +9,7 @@ use pl_machine::Machine;
 use pl_model::Timeline;
 
 /// All conflicts, and what a timeline comes to at a moment.
+#[derive(Drop)]
 pub struct Told<'a> {
     pub conflicts: &'a ConflictSet,
     pub value: i64,
