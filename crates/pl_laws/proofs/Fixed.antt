@@ -1,5 +1,5 @@
 -- A log of one thread is fixed by its model, its options and its inputs.
-use Rattle.std.proofs.Common.{◌≡◌, ℕ, ◌⊎◌, inl, inr, List, [], ◌∷◌, ◌++◌, Bool, true, false, Option, Some, None, refl, sym, ◌∙◌, ap, subst}
+use Rattle.std.proofs.Common.{◌≡◌, ℕ, ◌⊎◌, inl, inr, List, [], ◌∷◌, ◌++◌, Bool, true, false, Option, Some, None, refl, sym, ◌∙◌, ap}
 use Rattle.std.specs.Prelude.{unwrap_or}
 use Rattle.pl_model.specs.declared.whole.Model.{Model}
 use Rattle.pl_facts.specs.declared.options.Options.{Options}
@@ -8,20 +8,19 @@ use Rattle.pl_entry.specs.declared.event.Event.TheVariants as event
 use Rattle.pl_entry.specs.declared.reply.Reply.{Reply}
 use Rattle.pl_entry.specs.declared.entry.Entry.{Entry}
 use Rattle.pl_machine.specs.Legal.{Legal, IsOpenedRun, opening, options_in, options_of, no_options, entries_behind, world_of}
-use Rattle.pl_machine.specs.Finished.{Finished, inputs_of}
+use Rattle.pl_machine.specs.Finished.{inputs_of}
 use Rattle.pl_machine.proofs.Going.{world_goes}
-use Rattle.pl_main.specs.Solo.{Solo}
-use Rattle.pl_main.proofs.OneLog.{AreOne, log_further, log_shorter, IsOpened, opened_with, logs_are_one, closed_are_one}
+use Rattle.pl_main.proofs.OneLog.{entry_by, AreOne, log_further, log_shorter, IsOpened, opened_with, logs_are_one, closed_are_one}
 use Rattle.pl_laws.specs.Fixed.{IsSolo, BeginsWith, SoloFollowsInputs, SoloIsFixed, SoloIsOne}
 
 -- ---- a legal log and its open entry
 
 opened_by : (m : Model) (happened : Event) (answer : Reply) (o : Option Options) (es : List Entry) → options_in happened ≡ o → IsOpenedRun m o answer es
-    → opening (unwrap_or o no_options) ≡ record { event = happened; reply = answer }
+    → opening (unwrap_or o no_options) ≡ entry_by happened answer
 opened_by m (event.Opened p) answer None es is run = absurd run
 opened_by m (event.Opened p) answer (Some o) es is run =
     let same : o ≡ p = (let h : Some p ≡ Some o = is in (cc)) in
-    ap opening same ∙ ap (λ (r : Reply). record { event = event.Opened p; reply = r }) (sym run.answers)
+    ap opening same ∙ ap (entry_by (event.Opened p)) (sym run.answers)
 opened_by m (event.Input line) answer None es is run = absurd run
 opened_by m (event.Input line) answer (Some o) es is run = absurd (let h : None ≡ Some o = is in (cc))
 opened_by m (event.Fix k mv) answer None es is run = absurd run

@@ -1,5 +1,5 @@
 -- What is computed anew from a plan state.
-use Rattle.std.specs.Prelude.{◌≡◌, ℕ, ◌≤◌, ◌<◌, ℤ, pos, Option, Some, None, IsSome, slice_get}
+use Rattle.std.specs.Prelude.{ℕ, ◌≤◌, ◌<◌, ℤ, pos, Option, Some, None, IsSome, slice_get}
 use Rattle.pl_model.specs.declared.timelines.Timeline.{Timeline}
 use Rattle.pl_model.specs.declared.timelines.Timeline.TheVariants.{Capacity, Level, States}
 use Rattle.pl_semantics.specs.declared.plan_state.PlanState.{PlanState}

@@ -62,7 +62,7 @@ waits_closed w line on = let both = both_true w.closed (not w.done) on in (both.
 closed_not : (w : World) → w.closed ≡ true → w.closed ≡ false → ⊥
 closed_not w yes_ no_ = (let h : true ≡ false = sym yes_ ∙ no_ in (cc))
 
-abbrev entry_by : Event → Reply → Entry
+abbrev pub entry_by : Event → Reply → Entry
 entry_by e r = record { event = e; reply = r }
 
 entries_same : (e f : Event) (r s : Reply) → e ≡ f → r ≡ s → entry_by e r ≡ entry_by f s
