@@ -10,7 +10,7 @@ use pl_model::Timeline;
 
 /// All conflicts, and what a timeline comes to at a moment.
 #[derive(Drop)]
-pub struct Told<'a> {
+pub struct BoardReading<'a> {
     pub conflicts: &'a ConflictSet,
     pub value: i64,
 }
@@ -30,7 +30,7 @@ fn value_at(board: &Board, line: u32, t: u32) -> i64
 
 /// What the board of a machine tells, by the lists that it keeps and mends at each change. After each entry this is what is computed
 /// anew from the plan after the log: from its activities and goals, the latest telemetry, the present and what is committed.
-pub fn told_after_log(machine: &Machine, line: u32, t: u32) -> Told<'_>
+pub fn board_after_log(machine: &Machine, line: u32, t: u32) -> BoardReading<'_>
     requires unspoiled { machine.now.spoiled ≡ false }
     requires ahead { IsAhead (state_of machine.now.model machine.now.log) line t }
     ensures conflicts { result.conflicts.now ≡ conflicts_of (state_of machine.now.model machine.now.log) }
@@ -38,7 +38,7 @@ pub fn told_after_log(machine: &Machine, line: u32, t: u32) -> Told<'_>
 {
     let _log = machine.log();
     let board = machine.board();
-    Told {
+    BoardReading {
         conflicts: board.conflicts(),
         value: value_at(board, line, t),
     }

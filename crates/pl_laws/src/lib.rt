@@ -9,7 +9,7 @@ mod lengths;
 mod run_lengths;
 mod solo_logs;
 
-pub use boards::{Told, told_after_log};
+pub use boards::{BoardReading, board_after_log};
 pub use commands::laws_of_commands;
 pub use commits::laws_of_commits;
 pub use journals::laws_of_journals;
