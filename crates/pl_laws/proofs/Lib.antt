@@ -15,3 +15,4 @@ pub mod Chosen
 pub mod Bounded
 pub mod Paired
 pub mod Fixed
+pub mod AfterLogs
