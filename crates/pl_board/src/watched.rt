@@ -56,7 +56,11 @@ impl WatchedState {
     }
 
     // What is wrong with goals and activities that a change touches.
-    pub(crate) fn wrong_near(&self, alloc: Global, touched: &Touched) -> Result<Vec<Conflict>, AllocError>
+    pub(crate) fn wrong_near(
+        &self,
+        alloc: Global,
+        touched: &Touched,
+    ) -> Result<Vec<Conflict>, AllocError>
         requires whole { IsWhole self.now.state }
         requires values { AreOf self.now.state self.now.values }
         ensures { IfOk result (λ all. all.items ≡ near self.now.state touched.now.numbers.items touched.now.ids.items) }

@@ -192,12 +192,11 @@ by_input : (m : Model) (o : Options) (longer closed : List Entry) (z : Entry) (z
 by_input m o longer closed z zs first second shut is =
     let rest = legal_behind (fresh_world m o) (entries_behind closed) (z ∷ zs) (subst (λ (es : List Entry). legal_from (fresh_world m o) es) is first.steps) in
     let waits : (world_from (fresh_world m o) (entries_behind closed)).closed ≡ true = ap (λ (w : World). w.closed) (sym second.world) ∙ shut in
-    let next = first_behind (world_from (fresh_world m o) (entries_behind closed)) z (input_in z.event) refl rest.0 waits in
-    (
+    let next = first_behind (world_from (fresh_world m o) (entries_behind closed)) z (input_in z.event) refl rest.0 waits in (
       next.0,
       first.inputs ∙ ap (λ (es : List Entry). inputs_of es) is ∙ inputs_append (entries_behind closed) (z ∷ zs)
-      ∙ ap (λ (ns : List Message). ns ++ cons_option (input_in z.event) (inputs_of zs)) (sym second.inputs)
-      ∙ ap (λ (a : Option Message). inputs_of closed ++ cons_option a (inputs_of zs)) next.1,
+          ∙ ap (λ (ns : List Message). ns ++ cons_option (input_in z.event) (inputs_of zs)) (sym second.inputs)
+          ∙ ap (λ (a : Option Message). inputs_of closed ++ cons_option a (inputs_of zs)) next.1,
     )
 
 -- Two closed logs with the same inputs are one log.

@@ -19,12 +19,7 @@ fn names_activity(code: Code) -> bool
 {
     matches!(
         code,
-        Code::OffGoal
-            | Code::Late
-            | Code::Unset
-            | Code::BadValue
-            | Code::Undetailed
-            | Code::Overrun
+        Code::OffGoal | Code::Late | Code::Unset | Code::BadValue | Code::Undetailed | Code::Overrun
     )
 }
 
@@ -33,7 +28,10 @@ fn early(alloc: Global, set: &ConflictSet, h: u32) -> Result<Vec<Conflict>, Allo
     ensures items { IfOk result (λ all. all.items ≡ take_while (touches_before h) set.now) }
     ensures ordered { AreInOrder set.now }
 {
-    set.iter().take_while(|k| k.from < h).copied().collect(alloc)
+    set.iter()
+        .take_while(|k| k.from < h)
+        .copied()
+        .collect(alloc)
 }
 
 fn goals_among(alloc: Global, conflicts: &[Conflict]) -> Result<Vec<u32>, AllocError>

@@ -13,8 +13,8 @@ state_at-requires c =
 
 pub returns : goal.returns
 returns c = λ unspoiled.
-        let w = c.watched.result.now in
-        let kept = c.watched.ensures.watched unspoiled in
-        let is : c.state_at.result ≡ Demands.state_at c.args.self.now.state c.args.line c.args.t =
-        c.state_at.ensures ∙ state_read w.state w.lines kept.timelines c.args.line c.args.t kept.whole.rising (rw c.watched.ensures.state (c.requires.states unspoiled)) ∙ ap (λ (s : PlanState). Demands.state_at s c.args.line c.args.t) c.watched.ensures.state in
-        is
+    let w = c.watched.result.now in
+    let kept = c.watched.ensures.watched unspoiled in
+    let is : c.state_at.result ≡ Demands.state_at c.args.self.now.state c.args.line c.args.t =
+    c.state_at.ensures ∙ state_read w.state w.lines kept.timelines c.args.line c.args.t kept.whole.rising (rw c.watched.ensures.state (c.requires.states unspoiled)) ∙ ap (λ (s : PlanState). Demands.state_at s c.args.line c.args.t) c.watched.ensures.state in
+    is

@@ -17,9 +17,9 @@ use_at-requires c =
 
 pub returns : goal.returns
 returns c = λ unspoiled.
-        let w = c.watched.result.now in
-        let kept = c.watched.ensures.watched unspoiled in
-        let is : c.use_at.result ≡ Demands.use_at c.args.self.now.state c.args.line c.args.t =
-        c.use_at.ensures ∙ used_at w.state w.lines kept.timelines c.args.line c.args.t (rw c.watched.ensures.state (c.requires.capacity unspoiled)) ∙ ap (λ (s : PlanState). Demands.use_at s c.args.line c.args.t) c.watched.ensures.state in
-        let fits : SFits w64 c.use_at.result = search rules in
-        to_z-of_z w64 c.use_at.result fits ∙ is
+    let w = c.watched.result.now in
+    let kept = c.watched.ensures.watched unspoiled in
+    let is : c.use_at.result ≡ Demands.use_at c.args.self.now.state c.args.line c.args.t =
+    c.use_at.ensures ∙ used_at w.state w.lines kept.timelines c.args.line c.args.t (rw c.watched.ensures.state (c.requires.capacity unspoiled)) ∙ ap (λ (s : PlanState). Demands.use_at s c.args.line c.args.t) c.watched.ensures.state in
+    let fits : SFits w64 c.use_at.result = search rules in
+    to_z-of_z w64 c.use_at.result fits ∙ is
