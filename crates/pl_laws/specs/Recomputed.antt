@@ -18,6 +18,6 @@ value_at s line t = value_of s line t (slice_get s.model.timelines line)
 
 -- There is a timeline of this number, and the moment lies at the present or later, before the horizon.
 pub record IsAhead (s : PlanState) (line t : ℕ) : Type 0 where
-  pub line : IsSome (slice_get s.model.timelines line)
+  pub timeline : IsSome (slice_get s.model.timelines line)
   pub now : s.moment ≤ t
   pub before_horizon : t < s.model.horizon
