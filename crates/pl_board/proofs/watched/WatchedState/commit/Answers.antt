@@ -1,4 +1,4 @@
-use Rattle.std.proofs.Common.{◌≡◌, ◌++◌, ◌∙◌, ap}
+use Rattle.std.proofs.Common.{◌++◌, ◌∙◌, ap}
 use Rattle.pl_conflict.specs.Sorting.{exchanged}
 use Rattle.pl_update.specs.Changes.Changes.{committed_to}
 use Rattle.pl_update.specs.GoalsAndActivities.Near.{near, Follows}
