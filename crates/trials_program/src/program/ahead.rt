@@ -84,6 +84,41 @@ fn without_plans_to_look_at_it_is_the_least_chooser(rt: HostRuntime) {
     assert_does(&rt, alloc, "run solo 8", NONE, &input, status, &journal);
 }
 
+/// Two cameras. An observation needs a warm-up that ends just when it begins.
+const CAMERAS: &str = "horizon 200 lead 5
+capacity one 5
+capacity two 5
+kind long_one { duration 10 use one 5 }
+kind long_two { duration 10 use two 5 }
+kind warm_one { duration 5 use one 5 }
+kind warm_two { duration 5 use two 5 }
+kind short_one { duration 5 use one 5 link start warm_one end 0 0 }
+kind short_two { duration 5 use two 5 link start warm_two end 0 0 }
+begin
+";
+
+/// Two ends are told at one moment. Each asks for two repairs: an observation and its warm-up have to move.
+const ENDS: &str = "goal 1 long_one 10 10 must
+goal 2 long_two 10 10 must
+goal 3 short_one 25 60 must
+goal 4 short_two 25 60 must
+tick 6
+tick 10
+until 1 33
+until 2 33
+tick 11
+end
+";
+
+#[test]
+fn plans_anew_behind_each_measured_end(rt: HostRuntime) {
+    let alloc = rt.alloc();
+    let input = joined(&rt, alloc, CAMERAS, ENDS.as_bytes());
+    let (status, journal) = ran(&rt, alloc, "run 3 300", NONE, &input);
+    let count = count_newlines(&journal);
+    assert!(rt; status == 0 && count == 45, "{status}, {count} entries");
+}
+
 /// Words, and the turns and the plans that they ask for, added up.
 const WORDS: &str = "run 8 2000 = 2008
 run 1 0 = 1
