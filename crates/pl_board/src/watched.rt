@@ -1,5 +1,5 @@
 //! A plan state with what is kept of it, mended near each change.
-ghost use Rattle.std.specs.Prelude.{◌≡◌, OnOk, IfOk, None, ◌≤◌, ◌<◌, [], ◌∷◌, ◌++◌, slice_get, IsTrue, All, false};
+ghost use Rattle.std.specs.Prelude.{◌≡◌, OnOk, IfOk, None, ◌≤◌, ◌<◌, [], ◌∷◌, ◌++◌, slice_get};
 ghost use Rattle.pl_conflict.specs.Sorting.{exchanged};
 ghost use Rattle.pl_update.specs.GoalsAndActivities.Near.{near, HoldSame};
 ghost use Rattle.std.specs.List.Sorted.{IsStrictlyIncreasing};
