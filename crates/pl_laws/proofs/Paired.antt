@@ -19,7 +19,7 @@ use Rattle.pl_machine.proofs.Runs.{world_from_push}
 use Rattle.pl_check.proofs.Apart.{checked_model}
 use Rattle.pl_laws.specs.Laws.{IsExecutiveChoice, executive_from, AreCommitsOfExecutive}
 use Rattle.pl_laws.proofs.PairBudgets.{pair_bounded}
-use Rattle.pl_shared.specs.Roles.{is_executed, IsChosen}
+use Rattle.pl_acts.specs.Roles.{is_executed, IsChosen}
 use Rattle.pl_pair.specs.Chosen.{AreChosen}
 use Rattle.pl_main.specs.Top.{program_options}
 use Rattle.pl_main.specs.Endings.{IsFull}

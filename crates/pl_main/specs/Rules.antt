@@ -1,4 +1,4 @@
--- The rules of the choosers.
+-- That each chooser keeps to its rule. These are proofs; they stand here because a ghost member of an `impl` can name only what stands in specs/.
 use Rattle.std.proofs.Common.{◌≡◌, Bool, true, false, Option, Some, None, if◌then◌else◌, refl, sym, ◌∙◌, ap}
 use Rattle.std.specs.Prelude.{IsSome}
 use Rattle.std.specs.Option.{option_map}

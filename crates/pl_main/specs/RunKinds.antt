@@ -4,8 +4,8 @@ use Rattle.pl_model.specs.declared.whole.Model.{Model}
 use Rattle.pl_entry.specs.declared.entry.Entry.{Entry}
 use Rattle.pl_machine.specs.Legal.{Legal, opening, options_of, world_of}
 use Rattle.pl_machine.specs.Finished.{inputs_of}
-use Rattle.pl_shared.specs.Items.{entries_in}
-use Rattle.pl_shared.specs.Roles.{is_input}
+use Rattle.pl_acts.specs.Items.{entries_in}
+use Rattle.pl_acts.specs.Roles.{is_input}
 use Rattle.pl_pair.specs.Served.{AreOf}
 use Rattle.pl_pair.specs.Chosen.{AreChosen}
 use Rattle.pl_pair.specs.Runs.{History}

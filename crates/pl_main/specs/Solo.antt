@@ -47,7 +47,7 @@ abbrev pub follows : Rule → World → List Entry → Type 0
 follows R w [] = Unit {0}
 follows R w (e ∷ es) = R w e.event × follows R (after w e.event) es
 
--- the same of the entries behind the open one
+-- In a log, each entry behind the open one has an event that the world before it allows.
 unfoldable pub FollowsAll : Rule → Model → List Entry → Type 0
 FollowsAll R m log = follows R (fresh_world m (options_of log)) (entries_behind log)
 

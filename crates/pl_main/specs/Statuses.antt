@@ -26,7 +26,7 @@ status_of (Err halt.Limit) = 6
 status_of (Err halt.Full) = 7
 status_of (Err halt.Memory) = 9
 
--- the same where a journal is read, with 8 where it is wrong
+-- where a journal is read: 0 it is right, 3 what stands before it is refused, 8 it is wrong, and the other statuses as above
 abbrev pub status_of_journal : Result Judgement Halt → ℕ
 status_of_journal (Ok judged.Right) = 0
 status_of_journal (Ok judged.Refused) = 3
@@ -125,7 +125,7 @@ statuses_of (task.Flex id) = 0 ∷ 3 ∷ 4 ∷ 5 ∷ 6 ∷ 8 ∷ 9 ∷ []
 statuses_of task.Forecast = 0 ∷ 3 ∷ 4 ∷ 5 ∷ 6 ∷ 8 ∷ 9 ∷ []
 statuses_of (task.Demo goals) = 0 ∷ 5 ∷ 7 ∷ 9 ∷ []
 
--- the same of a run of a pair
+-- The statuses that a run of a pair can end with, and a run that looks ahead.
 abbrev pub pair_statuses : List ℕ
 pair_statuses = 0 ∷ 3 ∷ 4 ∷ 5 ∷ 6 ∷ 7 ∷ 9 ∷ []
 

@@ -14,7 +14,7 @@ abbrev pub turns_by : Option ℕ → Option Command
 turns_by None = None
 turns_by (Some n) = if nat_le 1 n && nat_le n 1000 then Some (command.Alone (task.Solo n)) else None
 
--- the same with a seed
+-- the turns of a round, from 1 to 1,000, and the seed of a pair
 abbrev pub pair_by : Option ℕ → Option ℕ → Option Command
 pair_by None seed = None
 pair_by (Some turns) None = None

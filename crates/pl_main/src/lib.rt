@@ -3,6 +3,7 @@
 
 mod ahead;
 mod answers;
+mod arguments;
 mod check;
 mod command;
 mod demo;
@@ -27,6 +28,7 @@ mod whole;
 mod words;
 
 pub use ahead::{look_ahead, read_ahead, run_ahead};
+pub use arguments::{NO_MEMORY, words_of};
 pub use command::{Ahead, Command, Task};
 pub use laws::statuses_are_told_apart;
 pub use sharing::shared_types;

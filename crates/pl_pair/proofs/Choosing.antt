@@ -14,15 +14,15 @@ use Rattle.pl_machine.specs.declared.stop.Stop.{Stop}
 use Rattle.pl_machine.specs.World.{World}
 use Rattle.pl_machine.specs.Choices.{exec_choice_of}
 use Rattle.pl_machine.specs.Legal.{world_of}
-use Rattle.pl_shared.specs.declared.noted.Noted.{Noted}
-use Rattle.pl_shared.specs.declared.noted.Noted.TheVariants.{Opened, Made, Stopped}
-use Rattle.pl_shared.specs.declared.role.Role.{Role}
-use Rattle.pl_shared.specs.declared.role.Role.TheVariants.{Planner, Executive}
-use Rattle.pl_shared.specs.Items.{stop_items, items_of, entries_in, model_in, InWorld}
-use Rattle.pl_shared.specs.Roles.{worker_of, is_input, is_repair, is_executed, is_entry, IsChosen, IsDueBy}
-use Rattle.pl_shared.specs.Making.{IsMadeAt, MakesAll}
-use Rattle.pl_shared.proofs.Items.{entries_in_items, length_going}
-use Rattle.pl_shared.proofs.Progress.{made_worker}
+use Rattle.pl_acts.specs.declared.noted.Noted.{Noted}
+use Rattle.pl_acts.specs.declared.noted.Noted.TheVariants.{Opened, Made, Stopped}
+use Rattle.pl_acts.specs.declared.role.Role.{Role}
+use Rattle.pl_acts.specs.declared.role.Role.TheVariants.{Planner, Executive}
+use Rattle.pl_acts.specs.Items.{stop_items, items_of, entries_in, model_in, InWorld}
+use Rattle.pl_acts.specs.Roles.{worker_of, is_input, is_repair, is_executed, is_entry, IsChosen, IsDueBy}
+use Rattle.pl_acts.specs.Making.{IsMadeAt, MakesAll}
+use Rattle.pl_acts.proofs.Items.{entries_in_items, length_going}
+use Rattle.pl_acts.proofs.EntryKinds.{made_worker}
 use Rattle.pl_pair.specs.Served as serving
 use Rattle.pl_pair.specs.Served.{AreOf, IsStopAtMost, AreOfUntil, MakesUntil, MakesOwn}
 use Rattle.pl_pair.specs.Chosen.{AreChosen}

@@ -22,12 +22,13 @@ use Rattle.pl_machine.specs.Step.{is_enabled}
 use Rattle.pl_machine.specs.Legal.{MayFollow, Legal, legal_from, world_of}
 use Rattle.pl_machine.specs.Finished.{input_in, inputs_of}
 use Rattle.pl_machine.specs.Sound.{State}
-use Rattle.pl_shared.specs.declared.noted.Noted.{Noted}
-use Rattle.pl_shared.specs.declared.noted.Noted.TheVariants.{Opened, Made, Stopped}
-use Rattle.pl_shared.specs.Items.{stop_items, items_of, entries_in, model_in, is_stop, stop_in, OfWorld, InWorld}
-use Rattle.pl_shared.specs.Roles.{is_input, is_repair, is_executed, is_entry}
-use Rattle.pl_shared.specs.Plans.{PlanPass, IsPlan, Closes}
-use Rattle.pl_shared.proofs.Items.{entries_in_items, model_in_items, model_in_prefix}
+use Rattle.pl_acts.specs.declared.noted.Noted.{Noted}
+use Rattle.pl_acts.specs.declared.noted.Noted.TheVariants.{Opened, Made, Stopped}
+use Rattle.pl_acts.specs.Items.{stop_items, items_of, entries_in, model_in, is_stop, stop_in, OfWorld, InWorld}
+use Rattle.pl_acts.specs.Roles.{is_input, is_repair, is_executed, is_entry}
+use Rattle.pl_acts.specs.Seen.{IsPlan}
+use Rattle.pl_shared.specs.Plans.{PlanPass, Closes}
+use Rattle.pl_acts.proofs.Items.{entries_in_items, model_in_items, model_in_prefix}
 use Rattle.pl_pair.specs.Served as serving
 use Rattle.pl_pair.specs.Served.{AreOf, IsStopAtMost, AreOfUntil}
 use Rattle.pl_pair.specs.Rounds.{IsBetween}

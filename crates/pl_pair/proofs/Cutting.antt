@@ -12,8 +12,8 @@ use Rattle.pl_journal.proofs.AboutRendering.Texts.{text_joined}
 use Rattle.pl_driver.specs.CutShort.{opens, IsCutShort}
 use Rattle.pl_journal.specs.Written.{Adds}
 use Rattle.pl_journal.proofs.AboutWriting.{some_held, appends_then}
-use Rattle.pl_shared.specs.declared.noted.Noted.{Noted}
-use Rattle.pl_shared.specs.Items.{entry_in, entries_in}
+use Rattle.pl_acts.specs.declared.noted.Noted.{Noted}
+use Rattle.pl_acts.specs.Items.{entry_in, entries_in}
 use Rattle.pl_pair.specs.Rounds.{lines_behind}
 use Rattle.pl_pair.specs.Runs.{IsWrittenInPart, in_last_round, in_first_round}
 use Rattle.pl_pair.proofs.Feeding.{entries_on, lines_rest}

@@ -18,13 +18,14 @@ use Rattle.pl_io.specs.Reader.{NumberedLine}
 use Rattle.pl_journal.specs.Rendering.Lines.{text_from, text_of_log}
 use Rattle.pl_input.specs.Waits.{line_in}
 use Rattle.pl_driver.specs.CutShort.{answers, IsCutShort}
-use Rattle.pl_shared.specs.declared.noted.Noted.{Noted}
-use Rattle.pl_shared.specs.declared.noted.Noted.TheVariants.{Stopped}
+use Rattle.pl_acts.specs.declared.noted.Noted.{Noted}
+use Rattle.pl_acts.specs.declared.noted.Noted.TheVariants.{Stopped}
 use Rattle.pl_shared.specs.declared.plan.SharedPlan.{SharedPlan}
-use Rattle.pl_shared.specs.Items.{items_of, entries_in, model_in, InWorld}
+use Rattle.pl_acts.specs.Items.{items_of, entries_in, model_in, InWorld}
 use Rattle.pl_shared.specs.Plans.{PlanPass, BelongsTo}
-use Rattle.pl_shared.specs.Turns.{TakesTurn, IsFull, Stops}
-use Rattle.pl_shared.proofs.Items.{entries_in_items, model_in_items, length_going}
+use Rattle.pl_acts.specs.Seen.{IsFull}
+use Rattle.pl_shared.specs.Turns.{TakesTurn, Stops}
+use Rattle.pl_acts.proofs.Items.{entries_in_items, model_in_items, length_going}
 use Rattle.pl_pair.specs.declared.cut.Cut.{Cut}
 use Rattle.pl_pair.specs.declared.cut.Cut.TheVariants as cut
 use Rattle.pl_input.specs.declared.halt.Halt.{Halt}
@@ -47,7 +48,7 @@ use Rattle.pl_pair.proofs.Cutting.{twice_on, twice_is, rest_some, rest_torn, who
 use Rattle.pl_pair.proofs.Closing.{FeederList, inputs_kind, same_model, Rests, between, over, stopped, world_in}
 use Rattle.pl_pair.proofs.Joining.{Joined, Settled, list_same, list_stop, met_full, entries, ends_told, inputs_same, settled_log, settled_text, settled_world, one_message, full_seen, full_round}
 use Rattle.pl_pair.proofs.Causes.{Whys, ends_refusal, given_by, limit_whys, memory_by, never_finished, no_other, pair_run, read_whys, same_halt}
-use Rattle.pl_shared.proofs.Progress.{some_entries}
+use Rattle.pl_acts.proofs.FullLogs.{some_entries}
 
 -- ---- how the feeder ended
 

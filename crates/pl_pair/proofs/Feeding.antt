@@ -22,14 +22,15 @@ use Rattle.pl_input.specs.Waits.{line_in}
 use Rattle.pl_journal.specs.Written.{Adds}
 use Rattle.pl_input.proofs.Reading.{took_more, used_later}
 use Rattle.pl_journal.proofs.AboutWriting.{some_held, adds_then}
-use Rattle.pl_shared.specs.declared.noted.Noted.{Noted}
-use Rattle.pl_shared.specs.declared.noted.Noted.TheVariants.{Made, Stopped}
+use Rattle.pl_acts.specs.declared.noted.Noted.{Noted}
+use Rattle.pl_acts.specs.declared.noted.Noted.TheVariants.{Made, Stopped}
 use Rattle.pl_shared.specs.declared.plan.SharedPlan.{SharedPlan}
-use Rattle.pl_shared.specs.Items.{entry_in, entries_in, InWorld}
-use Rattle.pl_shared.specs.Roles.{IsInputOf}
+use Rattle.pl_acts.specs.Items.{entry_in, entries_in, InWorld}
+use Rattle.pl_acts.specs.Roles.{IsInputOf}
 use Rattle.pl_shared.specs.Plans.{PlanPass, BelongsTo}
 use Rattle.pl_shared.specs.Turns.{TakesTurn, Makes, Stops}
-use Rattle.pl_shared.proofs.Progress.{from_world, some_entries}
+use Rattle.pl_acts.proofs.EntryKinds.{from_world}
+use Rattle.pl_acts.proofs.FullLogs.{some_entries}
 use Rattle.pl_pair.specs.declared.cut.Cut.{Cut}
 use Rattle.pl_pair.specs.declared.cut.Cut.TheVariants as cut
 use Rattle.pl_pair.specs.declared.rounds.Stage.TheVariants as stage

@@ -14,16 +14,17 @@ use Rattle.pl_journal.specs.Rendering.Lines.{line_of, text_from}
 use Rattle.pl_input.specs.declared.halt.Halt.{Halt}
 use Rattle.pl_input.specs.declared.halt.Halt.TheVariants as halt
 use Rattle.pl_journal.specs.Written.{Adds, WriteStops}
-use Rattle.pl_shared.specs.declared.noted.Noted.{Noted}
-use Rattle.pl_shared.specs.declared.noted.Noted.TheVariants.{Opened, Made, Stopped}
-use Rattle.pl_shared.specs.declared.part.Part.{Part}
-use Rattle.pl_shared.specs.Items.{entry_in, entries_in}
+use Rattle.pl_acts.specs.declared.noted.Noted.{Noted}
+use Rattle.pl_acts.specs.declared.noted.Noted.TheVariants.{Opened, Made, Stopped}
+use Rattle.pl_acts.specs.declared.part.Part.{Part}
+use Rattle.pl_acts.specs.Items.{entry_in, entries_in}
 use Rattle.pl_shared.specs.declared.plan.SharedPlan.{SharedPlan}
-use Rattle.pl_shared.specs.Plans.{PlanPass, IsPlan, BelongsTo}
-use Rattle.pl_shared.specs.Turns.{TakesTurn, Copies}
+use Rattle.pl_acts.specs.Seen.{IsPlan, Copies}
+use Rattle.pl_shared.specs.Plans.{PlanPass, BelongsTo}
+use Rattle.pl_shared.specs.Turns.{TakesTurn}
 use Rattle.pl_machine.proofs.ShortLogs.{log_is_short}
-use Rattle.pl_shared.proofs.Items.{entries_in_items}
-use Rattle.pl_shared.proofs.Progress.{in_world_on}
+use Rattle.pl_acts.proofs.Items.{entries_in_items}
+use Rattle.pl_acts.proofs.FullLogs.{in_world_on}
 use Rattle.pl_pair.specs.declared.cut.Cut.{Cut}
 use Rattle.pl_pair.specs.declared.cut.Cut.TheVariants as cut
 use Rattle.pl_pair.specs.declared.rounds.Stage.{Stage}
@@ -92,15 +93,6 @@ copied_short from seen part le plan copies =
     let to = copied_to from seen part le copies in
     let short = entries_short seen plan in
     omega arith
-
--- what was copied behind a number reaches no further than what was seen
-pub copied_within : (from : ℕ) (old new : PlanPass) (part : Part) → from ≤ length (entries_in (seen_of old)) → TakesTurn old new → Copies from (seen_of new) part → from + length part.entries ≤ length (entries_in (seen_of new))
-copied_within from old new part le takes copies =
-    let to = copied_to from (seen_of new) part (within_later from old new le (took_follows old new takes)) copies in
-    omega arith
-
-pub copied_few : (plan : SharedPlan) (from : ℕ) (old new : PlanPass) (part : Part) → from ≤ length (entries_in (seen_of old)) → TakesTurn old new → BelongsTo plan new → Copies from (seen_of new) part → from + length part.entries ≤ 250000
-copied_few plan from old new part le takes own copies = copied_short from (seen_of new) part (within_later from old new le (took_follows old new takes)) own.seen copies
 
 pub within_looks : (n : ℕ) (old new : PlanPass) → n ≤ length (entries_in (seen_of old)) → LooksAtPlan old new → n ≤ length (entries_in (seen_of new))
 within_looks n old new le looks = within_later n old new le looks.follows

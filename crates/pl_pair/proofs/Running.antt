@@ -11,14 +11,14 @@ use Rattle.pl_machine.specs.Legal.{Legal, world_of}
 use Rattle.pl_input.specs.Words.{messages_of}
 use Rattle.pl_machine.specs.Sound.{State}
 use Rattle.pl_io.specs.Lines.{lines_of}
-use Rattle.pl_shared.specs.declared.noted.Noted.{Noted}
-use Rattle.pl_shared.specs.declared.noted.Noted.TheVariants.{Stopped}
+use Rattle.pl_acts.specs.declared.noted.Noted.{Noted}
+use Rattle.pl_acts.specs.declared.noted.Noted.TheVariants.{Stopped}
 use Rattle.pl_shared.specs.declared.plan.SharedPlan.{SharedPlan}
-use Rattle.pl_shared.specs.Items.{items_of, model_in}
-use Rattle.pl_shared.specs.declared.role.Role.TheVariants.{Planner, Executive}
-use Rattle.pl_shared.specs.Roles.{is_entry, is_input, is_repair, is_executed}
+use Rattle.pl_acts.specs.Items.{items_of, model_in}
+use Rattle.pl_acts.specs.declared.role.Role.TheVariants.{Planner, Executive}
+use Rattle.pl_acts.specs.Roles.{is_entry, is_input, is_repair, is_executed}
 use Rattle.pl_shared.specs.Plans.{PlanPass, BelongsTo}
-use Rattle.pl_shared.proofs.Items.{model_in_items, length_going}
+use Rattle.pl_acts.proofs.Items.{model_in_items, length_going}
 use Rattle.pl_pair.specs.declared.cut.Cut.{Cut}
 use Rattle.pl_pair.specs.declared.cut.Cut.TheVariants as cut
 use Rattle.pl_input.specs.declared.halt.Halt.TheVariants as halt

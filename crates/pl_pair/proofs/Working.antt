@@ -4,17 +4,18 @@ use mathlib.Core.List.{IsPrefix}
 use Rattle.pl_turn.specs.Passes.{seen_of, mine_of}
 use Rattle.pl_machine.specs.declared.stop.Stop.{Stop}
 use Rattle.pl_machine.specs.declared.stop.Stop.TheVariants as stop
-use Rattle.pl_shared.specs.declared.noted.Noted.{Noted}
+use Rattle.pl_acts.specs.declared.noted.Noted.{Noted}
 use Rattle.pl_shared.specs.declared.plan.SharedPlan.{SharedPlan}
-use Rattle.pl_shared.specs.declared.role.Role.{Role}
-use Rattle.pl_shared.specs.declared.role.Acted.{Acted}
-use Rattle.pl_shared.specs.declared.role.Acted.TheVariants as acted
-use Rattle.pl_shared.specs.Roles.{worker_of, kind_of}
+use Rattle.pl_acts.specs.declared.role.Role.{Role}
+use Rattle.pl_acts.specs.declared.role.Acted.{Acted}
+use Rattle.pl_acts.specs.declared.role.Acted.TheVariants as acted
+use Rattle.pl_acts.specs.Roles.{worker_of, kind_of}
 use Rattle.pl_shared.specs.Plans.{PlanPass, BelongsTo}
-use Rattle.pl_shared.specs.Making.{MakesAll}
+use Rattle.pl_acts.specs.Making.{MakesAll}
 use Rattle.pl_shared.specs.Turns.{TakesTurn, Acts, Stops, Works, WorksUntil, WorksOn}
-use Rattle.pl_shared.proofs.OwnEntries.{makes_all_on, makes_all_append}
-use Rattle.pl_shared.proofs.Progress.{working_none, works_on, works_idle, works_finished, works_stopped, worked_until, took_until, made_worker, made_kinds, was_asked_worker}
+use Rattle.pl_acts.proofs.OwnEntries.{makes_all_on, makes_all_append}
+use Rattle.pl_shared.proofs.Progress.{working_none, works_on, works_idle, works_finished, works_stopped, worked_until, took_until}
+use Rattle.pl_acts.proofs.EntryKinds.{made_worker, made_kinds, was_asked_worker}
 use Rattle.pl_pair.specs.declared.duty.Duty.{Duty}
 use Rattle.pl_pair.specs.declared.worker.Worker.{Worker}
 use Rattle.pl_pair.specs.Duties.{role_of}

@@ -6,7 +6,7 @@ use Rattle.pl_machine.specs.declared.stop.Stop.TheVariants as stop
 use Rattle.pl_input.specs.Reads.{OneLine}
 use Rattle.pl_input.specs.Waits.{MessageGives, GetsFault, line_in}
 use Rattle.pl_input.specs.Places.{Place}
-use Rattle.pl_shared.specs.Roles.{IsInputOf}
+use Rattle.pl_acts.specs.Roles.{IsInputOf}
 use Rattle.pl_shared.specs.Plans.{PlanPass}
 use Rattle.pl_shared.specs.Turns.{Makes, MakesNothing, Feeds}
 use Rattle.pl_pair.specs.declared.cut.Cut.{Cut}
@@ -23,7 +23,7 @@ abbrev pub FirstLine : Place → Result (Option NumberedLine) LineFault → Plac
 FirstLine old (Ok line) new = (old.reader.failed ≡ None) × OneLine old.reader old.ahead (Ok line) new.reader new.ahead
 FirstLine old (Err f) new = Faults old f new
 
--- the same of the next message
+-- the next message, or the end of the input, or the fault that keeps it back
 abbrev pub Asks : Place → Result (Option NumberedLine) LineFault → Place → Type 0
 Asks old (Ok message) new = (old.reader.failed ≡ None) × MessageGives old.reader old.ahead (Ok message) new.reader new.ahead
 Asks old (Err f) new = Faults old f new

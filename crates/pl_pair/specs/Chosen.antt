@@ -4,7 +4,7 @@ use Rattle.pl_model.specs.declared.whole.Model.{Model}
 use Rattle.pl_entry.specs.declared.entry.Entry.{Entry}
 use Rattle.pl_machine.specs.Choices.{exec_choice_of}
 use Rattle.pl_machine.specs.Legal.{world_of}
-use Rattle.pl_shared.specs.Roles.{is_executed, IsChosen}
+use Rattle.pl_acts.specs.Roles.{is_executed, IsChosen}
 
 -- Each commit, dispatch and close of the entries behind this log is what the executive chooses in the world before it.
 abbrev pub AreChosen : Model → List Entry → List Entry → Type 0

@@ -12,11 +12,12 @@ use Rattle.pl_input.specs.Words.{is_blank_line}
 use Rattle.pl_journal.specs.Rendering.Lines.{text_from}
 use Rattle.pl_input.specs.Reads.{ReadsLines, IsUsedUp}
 use Rattle.pl_journal.specs.Written.{Adds}
-use Rattle.pl_shared.specs.declared.noted.Noted.{Noted}
-use Rattle.pl_shared.specs.declared.noted.Noted.TheVariants.{Opened, Made, Stopped}
+use Rattle.pl_acts.specs.declared.noted.Noted.{Noted}
+use Rattle.pl_acts.specs.declared.noted.Noted.TheVariants.{Opened, Made, Stopped}
 use Rattle.pl_shared.specs.declared.plan.SharedPlan.{SharedPlan}
-use Rattle.pl_shared.specs.Items.{entries_in, stop_in, InWorld}
-use Rattle.pl_shared.specs.Plans.{PlanPass, IsPlan, BelongsTo}
+use Rattle.pl_acts.specs.Items.{entries_in, stop_in, InWorld}
+use Rattle.pl_acts.specs.Seen.{IsPlan}
+use Rattle.pl_shared.specs.Plans.{PlanPass, BelongsTo}
 use Rattle.pl_shared.specs.Turns.{TakesTurn, Stops}
 use Rattle.pl_pair.specs.declared.cut.Cut.{Cut}
 use Rattle.pl_pair.specs.declared.cut.Cut.TheVariants as cut
@@ -205,7 +206,7 @@ FeedsAll plan m old start held (Err cut.Stopped) new place now = FeedsCut plan m
 FeedsAll plan m old start held (Err cut.Write) new place now = FeedsTorn plan m old start held new place now
 FeedsAll plan m old start held (Err cut.Memory) new place now = FeedsShort plan m old start held new place now
 
--- The same, and then the plan was stopped.
+-- The feeder's work ended so, and then the plan was stopped.
 pub record FeedsAndStops (plan : SharedPlan) (m : Model) (c : Cut) (old : PlanPass) (start : Place) (held : Option (List ℕ)) (new : PlanPass) (place : Place) (now : Option (List ℕ)) : Type 0 where
   pub mid : PlanPass
   pub feeds : FeedsAll plan m old start held (Err c) mid place now

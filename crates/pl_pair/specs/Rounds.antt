@@ -7,11 +7,11 @@ use Rattle.pl_model.specs.declared.whole.Model.{Model}
 use Rattle.pl_machine.specs.World.{World}
 use Rattle.pl_journal.specs.Rendering.Lines.{text_from}
 use Rattle.pl_journal.specs.Written.{Adds}
-use Rattle.pl_shared.specs.declared.noted.Noted.{Noted}
-use Rattle.pl_shared.specs.declared.part.Part.{Part}
-use Rattle.pl_shared.specs.Items.{model_in, entries_in, stop_in, InWorld}
+use Rattle.pl_acts.specs.declared.noted.Noted.{Noted}
+use Rattle.pl_acts.specs.declared.part.Part.{Part}
+use Rattle.pl_acts.specs.Items.{model_in, entries_in, stop_in, InWorld}
 use Rattle.pl_shared.specs.Plans.{PlanPass}
-use Rattle.pl_shared.specs.Turns.{Copies}
+use Rattle.pl_acts.specs.Seen.{Copies}
 use Rattle.pl_pair.specs.declared.cut.Cut.{Cut}
 use Rattle.pl_pair.specs.declared.cut.Cut.TheVariants as cut
 use Rattle.pl_pair.specs.declared.rounds.Stage.{Stage}
@@ -23,7 +23,7 @@ pub record Follows (old new : PlanPass) : Type 0 where
   pub model : model_in (seen_of new) ≡ model_in (seen_of old)
   pub crew : crew_of new ≡ crew_of old
 
--- The same, and the pass made nothing.
+-- The pass has seen the history go on, and made nothing.
 pub record LooksAtPlan (old new : PlanPass) : Type 0 where
   pub follows : Follows old new
   pub mine : mine_of new ≡ mine_of old

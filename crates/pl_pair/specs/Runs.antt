@@ -21,11 +21,11 @@ use Rattle.pl_input.specs.Reads.{GivesLinesKnown, StopsAt}
 use Rattle.pl_input.specs.Stops.{IsStuckKnown}
 use Rattle.pl_driver.specs.CutShort.{IsCutShort}
 use Rattle.pl_journal.specs.Written.{Adds}
-use Rattle.pl_shared.specs.declared.noted.Noted.{Noted}
-use Rattle.pl_shared.specs.Items.{items_of, entries_in, model_in}
-use Rattle.pl_shared.specs.Roles.{worker_of, is_input, is_repair, is_executed}
-use Rattle.pl_shared.specs.declared.role.Role.{Role}
-use Rattle.pl_shared.specs.declared.role.Role.TheVariants.{Planner, Executive}
+use Rattle.pl_acts.specs.declared.noted.Noted.{Noted}
+use Rattle.pl_acts.specs.Items.{items_of, entries_in, model_in}
+use Rattle.pl_acts.specs.Roles.{worker_of, is_input, is_repair, is_executed}
+use Rattle.pl_acts.specs.declared.role.Role.{Role}
+use Rattle.pl_acts.specs.declared.role.Role.TheVariants.{Planner, Executive}
 use Rattle.pl_shared.specs.Plans.{PlanPass}
 use Rattle.pl_input.specs.declared.halt.Halt.{Halt}
 use Rattle.pl_input.specs.declared.halt.Halt.TheVariants as halt

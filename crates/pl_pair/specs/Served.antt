@@ -5,15 +5,15 @@ use Rattle.pl_turn.specs.Passes.{seen_of, mine_of}
 use Rattle.pl_entry.specs.declared.event.Event.{Event}
 use Rattle.pl_machine.specs.declared.stop.Stop.{Stop}
 use Rattle.pl_machine.specs.declared.stop.Stop.TheVariants as stop
-use Rattle.pl_shared.specs.declared.noted.Noted.{Noted}
-use Rattle.pl_shared.specs.declared.noted.Noted.TheVariants.{Stopped}
+use Rattle.pl_acts.specs.declared.noted.Noted.{Noted}
+use Rattle.pl_acts.specs.declared.noted.Noted.TheVariants.{Stopped}
 use Rattle.pl_shared.specs.declared.plan.SharedPlan.{SharedPlan}
-use Rattle.pl_shared.specs.declared.role.Role.{Role}
-use Rattle.pl_shared.specs.Items.{InWorld}
-use Rattle.pl_shared.specs.Roles.{worker_of, has_event, is_entry}
+use Rattle.pl_acts.specs.declared.role.Role.{Role}
+use Rattle.pl_acts.specs.Items.{InWorld}
+use Rattle.pl_acts.specs.Roles.{worker_of, has_event, is_entry}
 use Rattle.pl_shared.specs.Plans.{BelongsTo}
-use Rattle.pl_shared.specs.Making.{MakesAll}
-use Rattle.pl_shared.specs.Turns.{IsFull}
+use Rattle.pl_acts.specs.Making.{MakesAll}
+use Rattle.pl_acts.specs.Seen.{IsFull}
 use Rattle.pl_pair.specs.declared.duty.Duty.{Duty}
 use Rattle.pl_pair.specs.declared.worker.Worker.{Worker}
 use Rattle.pl_pair.specs.Duties.{role_of}

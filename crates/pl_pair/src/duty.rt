@@ -2,8 +2,8 @@
 ghost use Rattle.std.specs.Prelude.{◌≡◌};
 ghost use Rattle.pl_pair.specs.Duties.{role_of};
 
+use pl_acts::Role;
 use pl_choose::Seeded;
-use pl_shared::Role;
 
 /// What a worker is hired for: to repair, with a chooser of this seed, or to execute.
 #[derive(Clone, Copy)]

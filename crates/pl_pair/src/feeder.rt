@@ -2,7 +2,7 @@
 ghost use Rattle.std.specs.Prelude.{◌≡◌, ◌≤◌, ◌<◌, [], length, None, IsErrOf};
 ghost use Rattle.pl_io.specs.Faults.{Rose};
 ghost use Rattle.pl_turn.specs.Passes.{seen_of, mine_of};
-ghost use Rattle.pl_shared.specs.Items.{entries_in};
+ghost use Rattle.pl_acts.specs.Items.{entries_in};
 ghost use Rattle.pl_shared.specs.Plans.{BelongsTo};
 ghost use Rattle.pl_pair.specs.Workers.{AreHands, SameDuties};
 ghost use Rattle.pl_input.specs.Places.{place_of};
@@ -112,7 +112,7 @@ fn feed_all<R: Wait, S: Source, O: Sink>(
     unreachable!()
 }
 
-/// The same, and the plan is stopped where the feeder goes no further.
+/// Feeds the plan round after round up to the end of the input, and stops it where the feeder goes no further.
 #[tactic(auto, using(crate::proofs::Feeding::ends_stopped))]
 pub(crate) fn feed_or_stop<R: Wait, S: Source, O: Sink>(
     rt: &R,

@@ -1,6 +1,7 @@
 //! The two workers, wherever they are.
 use crate::duty::Duty;
 use crate::worker::Worker;
+use pl_acts::Listener;
 use pl_shared::SharedPlan;
 use std::alloc::Global;
 use std::sync::Wait;
@@ -31,6 +32,13 @@ impl<'p> Hand<'p> {
     ghost use Rattle.pl_shared.specs.declared.plan.SharedPlan.{SharedPlan};
     ghost use Rattle.pl_pair.specs.Served.{IsServed};
     ghost use Rattle.pl_pair.specs.Workers.{IsHand, duty_of};
+
+    fn is_away(&self) -> bool {
+        match self {
+            Hand::Away(_) => true,
+            Hand::Here(_) => false,
+        }
+    }
 
     /// Acts for a worker that has no thread. Answers whether an entry was made.
     fn act<R: Wait>(&mut self, rt: &R, alloc: Global, plan: &SharedPlan) -> bool
@@ -65,6 +73,15 @@ pub struct Hands<'p> {
 
 impl<'p> Hands<'p> {
     ghost use Rattle.pl_pair.specs.Workers.{AreHands, SameDuties};
+
+    /// Which bell the feeder waits for: its own, unless it acts for workers too.
+    pub(crate) fn listener(&self) -> Listener {
+        if self.planner.is_away() && self.executive.is_away() {
+            Listener::Feeder
+        } else {
+            Listener::Anyone
+        }
+    }
 
     /// Acts for the workers that have no thread. Answers whether an entry was made.
     pub(crate) fn act<R: Wait>(&mut self, rt: &R, alloc: Global, plan: &SharedPlan) -> bool

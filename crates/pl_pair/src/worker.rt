@@ -5,8 +5,9 @@ ghost use Rattle.pl_shared.specs.Plans.{BelongsTo};
 ghost use Rattle.pl_pair.specs.Served.{IsServed, IsWorker};
 
 use crate::duty::Duty;
+use pl_acts::{Acted, Role};
 use pl_machine::Stop;
-use pl_shared::{Acted, Pass, Role, SharedPlan, work};
+use pl_shared::{Pass, SharedPlan, work};
 use pl_turn::Gate;
 use std::alloc::Global;
 use std::sync::Wait;

@@ -5,6 +5,7 @@ ghost use Rattle.pl_semantics.specs.Whole.{IsWhole};
 use crate::marks::{mark_of_value, mark_then};
 use pl_board::Board;
 use pl_model::Timeline;
+use pl_plan::Activity;
 use pl_semantics::PlanState;
 
 /// What no repair changes.
@@ -14,6 +15,7 @@ pub(crate) struct Message {
     committed: u32,
     goals: u32,
     told: u64,
+    ended: u64,
 }
 
 // The mark of when telemetry told a timeline last, and what.
@@ -44,6 +46,17 @@ fn mark_of_told(s: &PlanState) -> u64
     mark
 }
 
+// The mark of the ends that were measured, in whatever order.
+fn mark_of_ends(activities: &[Activity]) -> u64 {
+    let mut mark: u64 = 0;
+    for activity in activities {
+        if let Some(end) = activity.measured {
+            mark = mark.wrapping_add(mark_then(u64::from(activity.id), u64::from(end)));
+        }
+    }
+    mark
+}
+
 /// The last message that a board shows.
 pub(crate) fn message_of(board: &Board) -> Message
     requires { board.now.spoiled ≡ false }
@@ -53,5 +66,6 @@ pub(crate) fn message_of(board: &Board) -> Message
         committed: board.committed(),
         goals: board.goals().len(),
         told: mark_of_told(board.state()),
+        ended: mark_of_ends(board.plan().activities()),
     }
 }

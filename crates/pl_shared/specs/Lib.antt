@@ -8,9 +8,10 @@ pub use Rattle.pl_machine.specs.Legal
 pub use Rattle.pl_machine.specs.Choices
 pub use Rattle.pl_machine.specs.Sound
 pub use Rattle.pl_machine.specs.Taking
-pub mod Items
-pub mod Roles
-pub mod Inside
+pub use Rattle.pl_acts.specs.Items
+pub use Rattle.pl_acts.specs.Roles
+pub use Rattle.pl_acts.specs.Inside
+pub use Rattle.pl_acts.specs.Making
+pub use Rattle.pl_acts.specs.Seen
 pub mod Plans
-pub mod Making
 pub mod Turns

@@ -1,30 +1,21 @@
 -- Passes of a plan, and what they have seen.
-use Rattle.std.specs.Prelude.{◌≡◌, ◌≤◌, List, length, Bool, false, Some}
+use Rattle.std.specs.Prelude.{◌≡◌, ◌≤◌, length, Bool, false, Some}
 use Rattle.std.specs.List.{All}
 use mathlib.Core.List.{IsPrefix}
 use Rattle.pl_turn.specs.declared.pass.Pass.{Pass}
 use Rattle.pl_turn.specs.History.{IsEachOnce, StandsIn, times_in}
 use Rattle.pl_turn.specs.Passes.{IsPassOf, seen_of, counted_of, in_turn, opening_of, lists_of}
-use Rattle.pl_model.specs.declared.whole.Model.{Model}
-use Rattle.pl_entry.specs.declared.entry.Entry.{Entry}
 use Rattle.pl_machine.specs.Legal.{Legal}
 use Rattle.pl_machine.specs.Sound.{State}
-use Rattle.pl_shared.specs.declared.noted.Noted.{Noted}
-use Rattle.pl_shared.specs.declared.held.Held.{Held}
+use Rattle.pl_acts.specs.declared.noted.Noted.{Noted}
+use Rattle.pl_acts.specs.declared.held.Held.{Held}
+use Rattle.pl_acts.specs.Items.{items_of, model_in}
+use Rattle.pl_acts.specs.Seen.{IsPlan}
 use Rattle.pl_shared.specs.declared.plan.SharedPlan.{SharedPlan}
-use Rattle.pl_shared.specs.Items.{items_of, model_in}
 
 -- a pass of the lock of a plan
 abbrev pub PlanPass : Type 0
 PlanPass = Pass Held Noted
-
--- the items of a legal log
-pub record IsPlan (items : List Noted) : Type 0 where
-  pub model : Model
-  pub log : List Entry
-  pub stopped : Bool
-  pub legal : Legal model log
-  pub is : items ≡ items_of model log stopped
 
 -- The pass is one of the plan, out of its turn, and what it has seen is a plan.
 pub record BelongsTo (plan : SharedPlan) (pass : PlanPass) : Type 0 where

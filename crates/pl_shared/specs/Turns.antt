@@ -1,5 +1,5 @@
 -- What the calls that take a turn do.
-use Rattle.std.specs.Prelude.{◌≡◌, ◌<◌, ◌≤◌, ℕ, List, [], ◌∷◌, ◌++◌, length, drop, true, false, Option, Result, Ok, Err, ◌⊎◌}
+use Rattle.std.specs.Prelude.{◌≡◌, ◌≤◌, ℕ, List, [], ◌∷◌, ◌++◌, length, true, false, Option, Result, Ok, Err, ◌⊎◌}
 use Rattle.std.specs.List.{All}
 use mathlib.Core.List.{IsPrefix}
 use Rattle.pl_turn.specs.Passes.{seen_of, mine_of, counted_of, crew_of}
@@ -7,17 +7,17 @@ use Rattle.pl_entry.specs.declared.entry.Entry.{Entry}
 use Rattle.pl_machine.specs.declared.stop.Stop.{Stop}
 use Rattle.pl_machine.specs.declared.stop.Stop.TheVariants as stop
 use Rattle.pl_machine.specs.World.{World}
-use Rattle.pl_shared.specs.declared.noted.Noted.{Noted}
-use Rattle.pl_shared.specs.declared.noted.Noted.TheVariants.{Made, Stopped}
-use Rattle.pl_shared.specs.declared.part.Part.{Part}
-use Rattle.pl_shared.specs.declared.role.Role.{Role}
-use Rattle.pl_shared.specs.declared.role.Acted.{Acted}
-use Rattle.pl_shared.specs.declared.role.Acted.TheVariants as acted
-use Rattle.pl_shared.specs.Items.{entries_in, model_in, stop_in, InWorld}
-use Rattle.pl_shared.specs.Roles.{worker_of, has_event, IsDueBy, IsAskedAtMost, IsInputOf, kind_of, is_entry}
-use Rattle.pl_shared.specs.Inside.{IsStepIn, can_listen}
+use Rattle.pl_acts.specs.declared.noted.Noted.{Noted}
+use Rattle.pl_acts.specs.declared.noted.Noted.TheVariants.{Made, Stopped}
+use Rattle.pl_acts.specs.declared.role.Role.{Role}
+use Rattle.pl_acts.specs.declared.role.Acted.{Acted}
+use Rattle.pl_acts.specs.declared.role.Acted.TheVariants as acted
+use Rattle.pl_acts.specs.Items.{model_in, stop_in, InWorld}
+use Rattle.pl_acts.specs.Roles.{worker_of, has_event, IsDueBy, IsAskedAtMost, IsInputOf, kind_of, is_entry}
+use Rattle.pl_acts.specs.Inside.{IsStepIn, can_listen}
+use Rattle.pl_acts.specs.Making.{MakesAll}
+use Rattle.pl_acts.specs.Seen.{IsFull, IsOver, WasAskedAtMost}
 use Rattle.pl_shared.specs.Plans.{PlanPass}
-use Rattle.pl_shared.specs.Making.{MakesAll}
 
 -- What the pass has seen goes on, and is no shorter than any length that it was told.
 pub record TakesTurn (old new : PlanPass) : Type 0 where
@@ -40,10 +40,6 @@ pub record Makes (By : World → Entry → Type 0) (old new : PlanPass) (number 
 
 abbrev pub MakesNothing : PlanPass → PlanPass → Type 0
 MakesNothing old new = mine_of new ≡ mine_of old
-
--- as many entries as the options allow
-abbrev pub IsFull : List Noted → Type 0
-IsFull seen = InWorld seen (λ w. w.options.entries ≤ length (entries_in seen))
 
 -- NotNow and LogFull come in this order, exactly by their causes.
 abbrev pub Feeds : Option (List ℕ) → PlanPass → Result ℕ Stop → PlanPass → Type 0
@@ -70,16 +66,6 @@ pub data Stops (old new : PlanPass) : Type 0 where
   is_stopped : (seen : List Noted) → IsPrefix (seen_of old) seen → stop_in seen ≡ false → seen_of new ≡ seen ++ Stopped ∷ []
       → mine_of new ≡ mine_of old ++ (length seen, Stopped) ∷ [] → Stops old new
 
--- the entries from this number on, and the world behind them
-pub record Copies (from : ℕ) (seen : List Noted) (part : Part) : Type 0 where
-  pub entries : part.entries ≡ drop from (entries_in seen)
-  pub world : InWorld seen (λ w. (part.closed ≡ w.closed) × (part.done ≡ w.done))
-  pub stopped : part.stopped ≡ stop_in seen
-
--- the input has ended, or the plan was stopped
-abbrev pub IsOver : List Noted → Type 0
-IsOver seen = InWorld seen (λ w. w.done ≡ true) ⊎ (stop_in seen ≡ true)
-
 -- The pass's new own entries, in order: each is what the role makes in the world before it, and of the kind of the role. `r2` is the role behind them.
 pub record Works (r : Role) (old : PlanPass) (count : ℕ) (r2 : Role) (new : PlanPass) : Type 0 where
   pub own : List (ℕ × Noted)
@@ -99,13 +85,6 @@ pub record WorksUntil (r : Role) (old : PlanPass) (r2 : Role) (new : PlanPass) :
   pub behind : (rest ≡ []) ⊎ ((place : ℕ) × (rest ≡ (place, Stopped) ∷ []))
   pub stopped : stop_in (seen_of new) ≡ true
   pub worker : worker_of r2 ≡ worker_of r
-
--- In the world after some of what was seen, among it all of these own items, the chooser of the role was asked once at most.
-pub record WasAskedAtMost (r : Role) (own : List (ℕ × Noted)) (seen : List Noted) (r2 : Role) : Type 0 where
-  pub before : List Noted
-  pub front : IsPrefix before seen
-  pub behind : All (λ x. x.0 < length before) own
-  pub asked : InWorld before (λ w. IsAskedAtMost r w r2)
 
 -- A count comes only where the plan is over. A refusal stops the plan, and none is NotNow. Where the log is full the round is open, and the role has an event in it. Want of memory alone may leave another role than the one behind the entries:
 -- the chooser may have been asked for an entry that was not made.

@@ -9,19 +9,6 @@ use pl_machine::Stop;
 use std::sync::Wait;
 
 impl SharedPlan {
-    fn feed_once<R: Wait>(&self, rt: &R, pass: &mut Pass, line: Option<&[u8]>) -> Result<u32, Stop>
-        requires own { BelongsTo self.now pass.old }
-        requires line { IfSome (option_copied line) IsMessageLine }
-        ensures own { BelongsTo self.now pass.new }
-        ensures takes { TakesTurn pass.old pass.new }
-        ensures feeds { Feeds (option_copied line.entry) pass.old result pass.new }
-    {
-        let mut held = self.enter(rt, pass);
-        let fed = held.feed(line);
-        self.leave(pass, held);
-        fed
-    }
-
     /// Takes a message line, or the end of the input, in one turn, and answers the number of its entry.
     pub fn feed<R: Wait>(&self, rt: &R, pass: &mut Pass, line: Option<&[u8]>) -> Result<u32, Stop>
         requires own { BelongsTo self.now pass.old }
@@ -30,8 +17,12 @@ impl SharedPlan {
         ensures takes { TakesTurn pass.old pass.new }
         ensures feeds { Feeds (option_copied line.entry) pass.old result pass.new }
     {
-        let fed = self.feed_once(rt, pass, line);
-        self.bell.ring(rt);
+        let mut held = self.enter(rt, pass);
+        let before = held.busy();
+        let fed = held.feed(line);
+        let behind = held.busy();
+        self.leave(pass, held);
+        self.bells.ring(rt, before, behind);
         fed
     }
 }

@@ -1,11 +1,10 @@
 //! The plan under its lock.
 ghost use Rattle.std.specs.Prelude.{◌≡◌, [], false, true, length, IfOk, IfErr};
 ghost use Rattle.pl_turn.specs.Passes.{seen_of, mine_of, crew_of, leads, made_by, joined_by};
-ghost use Rattle.pl_shared.specs.Items.{items_of};
+ghost use Rattle.pl_acts.specs.Items.{items_of};
 ghost use Rattle.pl_shared.specs.Plans.{BelongsTo, Closes};
 
-use crate::bell::Bell;
-use crate::held::Held;
+use pl_acts::{Bells, Held};
 use pl_machine::Machine;
 use pl_turn::TurnLock;
 use std::alloc::Global;
@@ -17,7 +16,7 @@ pub type Pass = pl_turn::Pass<Held>;
 #[derive(Drop)]
 pub struct SharedPlan {
     pub(crate) lock: TurnLock<Held>,
-    pub(crate) bell: Bell,
+    pub(crate) bells: Bells,
 }
 
 impl SharedPlan {
@@ -37,8 +36,8 @@ impl SharedPlan {
         held.is_sound();
         match TurnLock::new(alloc, held) {
             Ok((lock, pass)) => {
-                let bell = Bell::new();
-                Ok((SharedPlan { lock, bell }, pass))
+                let bells = Bells::new();
+                Ok((SharedPlan { lock, bells }, pass))
             }
             Err(Held { machine, .. }) => Err(machine),
         }
@@ -52,8 +51,8 @@ impl SharedPlan {
         requires all_joined { made_by pass ≡ length (joined_by pass) }
         ensures { Closes pass result }
     {
-        let SharedPlan { lock, bell } = self;
-        drop(bell);
+        let SharedPlan { lock, bells } = self;
+        drop(bells);
         let held = lock.close(pass);
         held.is_sound();
         held.machine

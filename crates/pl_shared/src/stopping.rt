@@ -6,17 +6,6 @@ use crate::plan::{Pass, SharedPlan};
 use std::sync::Wait;
 
 impl SharedPlan {
-    fn stop_once<R: Wait>(&self, rt: &R, pass: &mut Pass)
-        requires { BelongsTo self.now pass.old }
-        ensures own { BelongsTo self.now pass.new }
-        ensures takes { TakesTurn pass.old pass.new }
-        ensures stops { Stops pass.old pass.new }
-    {
-        let mut held = self.enter(rt, pass);
-        held.stop();
-        self.leave(pass, held);
-    }
-
     /// Lets no event be made from here on. It takes one turn and no memory.
     pub fn stop<R: Wait>(&self, rt: &R, pass: &mut Pass)
         requires { BelongsTo self.now pass.old }
@@ -24,7 +13,11 @@ impl SharedPlan {
         ensures takes { TakesTurn pass.old pass.new }
         ensures stops { Stops pass.old pass.new }
     {
-        self.stop_once(rt, pass);
-        self.bell.ring(rt);
+        let mut held = self.enter(rt, pass);
+        let before = held.busy();
+        held.stop();
+        let behind = held.busy();
+        self.leave(pass, held);
+        self.bells.ring(rt, before, behind);
     }
 }

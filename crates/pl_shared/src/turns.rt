@@ -1,31 +1,15 @@
 //! A turn: the value is taken out of the lock and put back.
-ghost use Rattle.std.specs.Prelude.{◌≡◌, ◌≤◌, ◌++◌, ◌∷◌, [], true, false, length};
+ghost use Rattle.std.specs.Prelude.{◌≡◌, ◌++◌, ◌∷◌, [], true, length};
 ghost use mathlib.Core.List.{IsPrefix};
 ghost use Rattle.pl_turn.specs.History.{IsSameOrOneMore};
 ghost use Rattle.pl_turn.specs.Passes.{IsPassOf, seen_of, mine_of, counted_of, in_turn, crew_of};
-ghost use Rattle.pl_shared.specs.Inside.{IsSound, items_in};
+ghost use Rattle.pl_acts.specs.Inside.{IsSound, items_in};
 ghost use Rattle.pl_shared.specs.Plans.{BelongsTo};
 ghost use Rattle.pl_shared.specs.Turns.{TakesTurn};
 
-use crate::held::Held;
-use crate::noted::Noted;
 use crate::plan::{Pass, SharedPlan};
-use pl_turn::Logged;
+use pl_acts::{Held, Noted};
 use std::sync::Wait;
-
-impl Logged for Held {
-    type Item = Noted;
-
-    ghost use Rattle.pl_shared.specs.Items.{items_of};
-
-    ghost entries = { λ h. items_of h.machine.model h.machine.log h.stopped };
-
-    #[tactic(auto, using(crate::proofs::Items::length_stopped, crate::proofs::Items::length_going, pl_machine::proofs::ShortLogs::log_is_short))]
-    fn logged(&self) -> u64 {
-        let entries = self.machine.log().len() as u64;
-        if self.stopped { entries + 1 } else { entries }
-    }
-}
 
 impl SharedPlan {
     /// Waits for a turn.

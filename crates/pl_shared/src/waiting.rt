@@ -1,14 +1,15 @@
 use crate::plan::SharedPlan;
+use pl_acts::Listener;
 use std::sync::Wait;
 
 impl SharedPlan {
-    /// How often the plan was changed so far.
-    pub fn changes<R: Wait>(&self, rt: &R) -> u64 {
-        self.bell.rings(rt)
+    /// How often this listener had come to have something to do.
+    pub fn changes<R: Wait>(&self, rt: &R, listener: Listener) -> u64 {
+        self.bells.rings(rt, listener)
     }
 
-    /// Waits until the plan was changed more often, or less often, than this.
-    pub fn wait<R: Wait>(&self, rt: &R, heard: u64) {
-        self.bell.wait(rt, heard);
+    /// Waits until this listener has come to have something to do since so many times.
+    pub fn wait<R: Wait>(&self, rt: &R, listener: Listener, heard: u64) {
+        self.bells.wait(rt, listener, heard);
     }
 }

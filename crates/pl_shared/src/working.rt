@@ -3,7 +3,7 @@ ghost use Rattle.pl_shared.specs.Plans.{BelongsTo};
 ghost use Rattle.pl_shared.specs.Turns.{TakesTurn, Acts, WorksOn};
 
 use crate::plan::{Pass, SharedPlan};
-use crate::role::{Acted, Role};
+use pl_acts::{Acted, Role};
 use pl_machine::Stop;
 use pl_turn::Gate;
 use std::alloc::Global;
@@ -24,13 +24,14 @@ pub(crate) fn work_once<R: Wait, G: Gate>(
     ensures takes { TakesTurn pass.old pass.new }
     ensures acts { Acts role.old pass.old result role.new pass.new }
 {
-    let heard = plan.bell.rings(rt);
+    let listener = role.listener();
+    let heard = plan.changes(rt, listener);
     let worker = role.worker();
     gate.before(rt, worker, acts);
     let acted = plan.act(rt, alloc, pass, role);
     match acted {
         Ok(Acted::Did(entry)) => gate.after(rt, worker, entry),
-        Ok(Acted::Nothing) => plan.bell.wait(rt, heard),
+        Ok(Acted::Nothing) => plan.wait(rt, listener, heard),
         _ => {}
     }
     acted

@@ -10,7 +10,6 @@ use crate::logged::Logged;
 use crate::pass::Pass;
 use crate::steps::{Add, Draw, End, Measure, Serve};
 use std::sync::Wait;
-use std::thread;
 
 impl<V: Logged> TurnLock<V> {
     /// Waits for its turn, and hands the value out.
@@ -33,7 +32,7 @@ impl<V: Logged> TurnLock<V> {
             if called == ticket {
                 return self.take_out(pass);
             }
-            thread::yield_now();
+            self.park(rt, called);
         }
         unreachable!()
     }
@@ -55,9 +54,24 @@ impl<V: Logged> TurnLock<V> {
         self.put_in(pass, value);
         if before < after {
             self.add_entry(pass);
-            self.end_turn(pass);
+            let called = self.end_turn(pass);
+            self.wake(called);
         } else {
-            self.end_turn(pass);
+            let called = self.end_turn(pass);
+            self.wake(called);
+        }
+    }
+
+    // Sleeps while this ticket is called.
+    fn park<R: Wait>(&self, rt: &R, called: u64) {
+        let low = called % 0x1_0000_0000;
+        self.table.shared.park(rt, SERVING, low as u32);
+    }
+
+    // Wakes those that wait, where a ticket was drawn behind the one that was called.
+    fn wake(&self, called: u64) {
+        if self.table.shared.peek(TICKETS) != called.wrapping_add(1) {
+            self.table.shared.wake_all(SERVING);
         }
     }
 
@@ -105,8 +119,8 @@ impl<V: Logged> TurnLock<V> {
             .fetch_add::<Add<V>>(&mut pass.seat, HISTORY, 1);
     }
 
-    // Calls the next ticket.
-    fn end_turn(&self, pass: &mut Pass<V>)
+    // Calls the next ticket, and tells which was called.
+    fn end_turn(&self, pass: &mut Pass<V>) -> u64
         requires own { pass.old.seat.table_id ≡ self.now.table.shared.table_id }
         requires turn { (in_turn pass.old ≡ true) × ((known pass.old).spent ≡ false) }
         requires full { (value : V) × (pass.old.seat.me.1 ≡ (0, Some value) ∷ []) × (V.entries value ≡ seen_of pass.old) }
@@ -115,6 +129,6 @@ impl<V: Logged> TurnLock<V> {
     {
         self.table
             .shared
-            .fetch_add::<End>(&mut pass.seat, SERVING, 1);
+            .fetch_add::<End>(&mut pass.seat, SERVING, 1)
     }
 }

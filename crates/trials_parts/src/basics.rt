@@ -1,6 +1,5 @@
 //! Tests of the crates that stand lowest: lists, conflicts, lines, tokens, rules, networks, turns.
 
-mod asserting;
 mod conflicts;
 mod lines;
 mod lists;

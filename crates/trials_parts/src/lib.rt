@@ -2,8 +2,12 @@
 #![tactic(auto)]
 
 #[cfg(test)]
+mod asserting;
+#[cfg(test)]
 mod basics;
 #[cfg(test)]
 mod model;
+#[cfg(test)]
+mod reading;
 #[cfg(test)]
 mod timelines;

@@ -1,12 +1,12 @@
 //! Tests of models and of what is built over them: texts, checks, values, facts, messages, plans, links,
 //! and what a machine is asked.
 
-mod asserting;
 mod commands;
+mod counts;
 mod facts;
 mod links;
 mod messages;
 mod plans;
-mod reading;
+mod rewriting;
 mod texts;
 mod values;

@@ -1,7 +1,7 @@
 //! Tests of the timelines: worked cases, and changes from a seeded generator, compared with their plain definitions moment
 //! by moment.
 
-mod asserting;
+mod asking;
 mod blocks;
 mod bounded;
 mod capacities;

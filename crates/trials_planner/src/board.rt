@@ -1,6 +1,5 @@
 //! Tests of boards: worked rows of models, changes, and what is wrong and what is tried then.
 
-mod asserting;
 mod attempts;
 mod boards;
 mod changes;

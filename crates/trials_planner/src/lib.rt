@@ -2,6 +2,10 @@
 #![tactic(auto)]
 
 #[cfg(test)]
+mod asserting;
+#[cfg(test)]
 mod board;
 #[cfg(test)]
 mod machine;
+#[cfg(test)]
+mod reading;

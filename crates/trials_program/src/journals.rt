@@ -1,6 +1,5 @@
 //! Tests of journals read back and verified, and of the plan that several callers act on.
 
-mod asserting;
 mod lines;
 pub mod models;
 mod shared;

@@ -4,5 +4,5 @@ mod faults;
 mod gates;
 mod limits;
 mod meeting;
-mod missions;
+pub mod missions;
 mod runs;

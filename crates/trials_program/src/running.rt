@@ -1,4 +1,5 @@
 //! Runs of the program over memory.
+use crate::asserting::holds;
 use pl_io::{MemSink, MemSource, Source};
 use pl_main::run;
 use pl_turn::{Gate, NoGate};
@@ -34,6 +35,16 @@ pub fn joined(rt: &impl Abort, alloc: Global, front: &str, rest: &[u8]) -> Vec<u
     bytes
 }
 
+/// The two sides of a row, which ` => ` parts; the second is empty where nothing parts them.
+pub fn sides(row: &str) -> (&str, &str) {
+    row.split_once(" => ").unwrap_or((row, ""))
+}
+
+/// The text with a newline behind it.
+pub fn line_of(rt: &impl Abort, alloc: Global, text: &str) -> String {
+    format!(in alloc; "{text}\n").expect(rt, "memory")
+}
+
 /// The text with a newline for each `;`.
 pub fn lines(rt: &impl Abort, alloc: Global, text: &str) -> String {
     text.replace(alloc, ";", "\n").expect(rt, "memory")
@@ -61,6 +72,18 @@ pub fn does_within<R: Abort + Threads + Wait + Sync, S: Source>(
     let mut sink = MemSink::new(alloc, room, &[]).expect(rt, "memory");
     let status = run(rt, alloc, &owned, source, &mut sink, &NoGate);
     (status, sink)
+}
+
+/// What some words do with an input. The sink has room for so many bytes.
+pub fn does_in<R: Abort + Threads + Wait + Sync>(
+    rt: &R,
+    alloc: Global,
+    words: &str,
+    input: &[u8],
+    room: usize,
+) -> Ended {
+    let mut source = MemSource::new(alloc, input, &[]).expect(rt, "memory");
+    does_within(rt, alloc, words, &mut source, room)
 }
 
 /// What some words do with an input.
@@ -91,5 +114,32 @@ pub fn assert_does<R: Abort + Threads + Wait + Sync>(
 ) {
     let (found, sink) = does(rt, alloc, words, input, failing, &NoGate);
     assert!(rt; found == status, "{words}: {found}");
-    assert!(rt; sink.bytes() == text, "{words}");
+    holds(rt, words, sink.bytes() == text);
+}
+
+/// Asserts that these words end with this status over this input and write this one line.
+pub fn assert_says<R: Abort + Threads + Wait + Sync>(
+    rt: &R,
+    alloc: Global,
+    words: &str,
+    input: &[u8],
+    status: u8,
+    line: &str,
+) {
+    let text = line_of(rt, alloc, line);
+    assert_does(rt, alloc, words, NONE, input, status, text.as_bytes());
+}
+
+/// Asserts that `replay` takes this journal, with an entry in each line, and finds it `finished` or `unfinished`.
+pub fn assert_legal<R: Abort + Threads + Wait + Sync>(
+    rt: &R,
+    alloc: Global,
+    head: &str,
+    journal: &[u8],
+    end: &str,
+) {
+    let input = joined(rt, alloc, head, journal);
+    let entries = count_newlines(journal);
+    let line = format!(in alloc; "journal ok: entries {entries} {end}").expect(rt, "memory");
+    assert_says(rt, alloc, "replay", &input, 0, line.as_str());
 }

@@ -1,4 +1,4 @@
-use crate::basics::asserting::holds;
+use crate::asserting::holds;
 use pl_conflict::{Code, Conflict, ConflictSet};
 use std::alloc::Global;
 use std::process::Abort;

@@ -1,6 +1,7 @@
 ghost use Rattle.std.specs.Prelude.{ℕ, ◌≡◌, List, Option, None};
 
-use crate::basics::asserting::holds;
+use crate::asserting::holds;
+use crate::reading::word;
 use pl_io::{
     Failed, LineFault, LineReader, MemSink, MemSource, Sink, Source, StdSink, StdSource, SureSink,
     SureSource, put,
@@ -69,13 +70,6 @@ fn assert_reads<S: Source>(
     let (text, found) = read_on(rt, alloc, &mut reader, src);
     holds(rt, "no line then", text.is_empty());
     holds(rt, "the same fault then", found == fault);
-}
-
-/// Takes the first word off; nothing is left where there is no space.
-fn word<'a>(rest: &mut &'a str) -> &'a str {
-    let (first, more) = rest.split_once(' ').unwrap_or((*rest, ""));
-    *rest = more;
-    first
 }
 
 /// Takes a text off in which `/` stands for a newline.

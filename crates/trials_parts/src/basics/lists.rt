@@ -1,4 +1,4 @@
-use crate::basics::asserting::holds;
+use crate::asserting::holds;
 use pl_lists::{Boxed, Copied, Items};
 use std::alloc::Global;
 use std::process::Abort;

@@ -1,7 +1,7 @@
 ghost use Rattle.std.specs.Prelude.{◌<◌, ◌≤◌};
 ghost use Rattle.pl_stn.specs.Nets.{IsWellFormed};
 
-use crate::basics::asserting::holds;
+use crate::asserting::holds;
 use pl_lists::Copied;
 use pl_stn::{Edge, Net, Verdict, solve};
 use std::alloc::{AllocError, Global};

@@ -1,4 +1,4 @@
-use crate::basics::asserting::holds;
+use crate::asserting::holds;
 use pl_lists::Items;
 use pl_syntax::{Symbol, Token};
 use pl_text::Word;

@@ -1,4 +1,4 @@
-use crate::basics::asserting::holds;
+use crate::asserting::holds;
 use pl_text::{TextFault, Word, is_name, push_number, tokens, word_of};
 use std::alloc::{AllocError, Global};
 use std::process::Abort;

@@ -2,7 +2,7 @@ ghost use Rattle.std.specs.Prelude.{◌≡◌, ℕ, ◌<◌, ◌++◌, ◌∷◌
 ghost use mathlib.Core.List.{IsPrefix};
 ghost use Rattle.pl_turn.specs.Passes.{IsPassOf, seen_of, mine_of, counted_of, in_turn, crew_of, leads};
 
-use crate::basics::asserting::holds;
+use crate::asserting::holds;
 use pl_turn::{Gate, Logged, NoGate, Pass, TurnLock, crosses};
 use std::alloc::{AllocError, Global};
 use std::process::Abort;

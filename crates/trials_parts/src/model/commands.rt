@@ -2,9 +2,9 @@ ghost use Rattle.std.specs.Prelude.{◌≡◌, [], true, IfOk};
 ghost use Rattle.pl_plan.specs.Fitting.{Fits};
 ghost use Rattle.trials_parts.specs.Model.Samples.{HasTwoKinds, root, four};
 
-use crate::model::asserting::holds;
+use crate::asserting::holds;
 use crate::model::plans::parameters;
-use crate::model::reading::{model, number, word};
+use crate::reading::{model, number, word};
 use pl_conflict::{Code, Conflict};
 use pl_entry::{Entry, Event, Reply, best, due, target};
 use pl_lists::{Copied, Items};

@@ -1,8 +1,8 @@
 ghost use Rattle.std.specs.Prelude.{◌≡◌, ◌∷◌, [], Some, None, pos, negsuc, true};
 ghost use Rattle.pl_facts.specs.Bases.{first_bases};
 
-use crate::model::asserting::holds;
-use crate::model::reading::{model, number, word};
+use crate::asserting::holds;
+use crate::reading::{model, number, word};
 use pl_facts::{Bases, Goal, Goals, Options};
 use pl_lists::{Copied, Items};
 use pl_model::{Model, Timeline};

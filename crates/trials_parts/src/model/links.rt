@@ -2,8 +2,8 @@ ghost use Rattle.std.specs.Prelude.{◌≡◌, ◌<◌, ◌+◌, length, slice_g
 ghost use Rattle.pl_links.specs.Items.{alternatives_of};
 ghost use Rattle.pl_links.specs.Kept.{IsFor};
 
-use crate::model::asserting::holds;
-use crate::model::reading::model;
+use crate::asserting::holds;
+use crate::reading::model;
 use pl_links::{Broken, Links, Placed};
 use pl_lists::Copied;
 use pl_model::Model;

@@ -1,8 +1,8 @@
 ghost use Rattle.std.specs.Prelude.{◌≡◌, true};
 ghost use Rattle.pl_msg.specs.Limits.{IsNumbered, HasFewStates};
 
-use crate::model::asserting::holds;
-use crate::model::reading::model;
+use crate::asserting::holds;
+use crate::reading::model;
 use pl_lists::Copied;
 use pl_model::{Model, Timeline};
 use pl_msg::{MsgFault, read_message};

@@ -4,8 +4,8 @@ ghost use Rattle.pl_plan.specs.Fitting.{Fits, alternatives_of};
 ghost use Rattle.pl_plan.specs.Trees.{IsRooted};
 ghost use Rattle.trials_parts.specs.Model.Samples.{parameters, slots_in, IsOneSlot, HasKinds, parent, child, sample};
 
-use crate::model::asserting::holds;
-use crate::model::reading::{number, word};
+use crate::asserting::holds;
+use crate::reading::{number, word};
 use pl_check::check;
 use pl_lists::{Copied, Items};
 use pl_model::{Model, Slot};

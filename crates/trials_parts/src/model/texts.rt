@@ -1,8 +1,8 @@
-use crate::model::asserting::holds;
-use pl_check::{Accepted, accept, check, too_long};
-use pl_lists::Copied;
-use pl_model::Model;
-use pl_syntax::{read_model, write_model};
+//! Texts, each with the first fault that it is refused for.
+use crate::asserting::holds;
+use crate::reading::field;
+use pl_check::{Accepted, accept, too_long};
+use pl_syntax::read_model;
 use std::alloc::{AllocError, Global};
 use std::process::Abort;
 
@@ -37,14 +37,15 @@ horizon lead $ => bad byte at 13
 horizon 9 lead 3 kind kind { duration 5 } => unexpected at 22
 horizon 9 lead 3 state s { a } start a any step a a => unexpected at 43";
 
-/// Asserts that the text is judged so, and accepted or refused accordingly.
+/// Asserts that the grammar and the checks judge the text so.
 fn assert_fault(rt: &impl Abort, alloc: Global, text: &str, fault: &str) {
     let is_read = is_read(alloc, text.as_bytes(), fault).expect(rt, "memory");
     holds(rt, text, is_read);
     assert_judged(rt, alloc, text, fault);
 }
 
-fn assert_judged(rt: &impl Abort, alloc: Global, text: &str, fault: &str) {
+/// Asserts that the text is refused for this fault, or is a model's where the fault is empty.
+pub(crate) fn assert_judged(rt: &impl Abort, alloc: Global, text: &str, fault: &str) {
     let is_judged = is_judged(alloc, text.as_bytes(), fault).expect(rt, "memory");
     holds(rt, text, is_judged);
 }
@@ -55,13 +56,6 @@ fn first_faults_of_the_grammar(rt: HostRuntime) {
         let (text, fault) = row.split_once(" => ").unwrap_or((row, ""));
         assert_fault(&rt, rt.alloc(), text, fault);
     }
-}
-
-/// Takes the next field of a row off; ` | ` stands between two.
-fn field<'a>(rest: &mut &'a str) -> &'a str {
-    let (first, more) = rest.split_once(" | ").unwrap_or((*rest, ""));
-    *rest = more;
-    first
 }
 
 /// A kind whose duration is `front` so many times, `middle`, and `back` as often.
@@ -143,159 +137,4 @@ fn first_failed_checks(rt: HostRuntime) {
         let (text, fault) = row.split_once(" => ").unwrap_or((row, ""));
         assert_judged(&rt, rt.alloc(), text, fault);
     }
-}
-
-/// A piece so many times, in each its number in the place of its `#`, and a blank behind each.
-fn pieces(alloc: Global, piece: &str, times: u32) -> Result<String, AllocError> {
-    let mut text = String::new(alloc);
-    for number in 0..times {
-        let digits = format!(in alloc; "{number}")?;
-        text.push_str(piece.replace(alloc, "#", digits.as_str())?.as_str())?;
-        text.push(' ')?;
-    }
-    Ok(text)
-}
-
-/// A model's text with a piece so many times.
-fn repeated(
-    alloc: Global,
-    (front, piece, back): (&str, &str, &str),
-    times: u32,
-) -> Result<String, AllocError> {
-    let pieces = pieces(alloc, piece, times)?;
-    format!(in alloc; "horizon 100 lead 30 {front} {pieces}{back}")
-}
-
-/// What stands before a piece, the piece, what stands behind it, how many of it there may be, and of what.
-const COUNTS: &str = " | kind k# { duration 5 } |  | 256 | too many: kinds
- | capacity c# 5 |  | 256 | too many: timelines
-state s { | a# | } start a0 any | 32 | too many: states
-kind a { | param p# 1 9 | duration 5 } | 16 | too many: params
-capacity c 9 kind k { duration 5 | use c 1 | } | 32 | too many: reservations
-kind k { duration 5 | link start k end 0 9 | } | 16 | too many: links
-kind x { duration 1 } kind k { duration 5 | alternative { slot a x } | } | 8 | too many: alternatives
-kind x { duration 1 } kind k { duration 5 alternative { | slot a# x | } } | 16 | too many: slots
-kind x { duration 1 } kind k { duration 5 alternative { slot a x | order parent start a start 0 9 | } } | 64 | too many: orders";
-
-/// Asserts that a model's text with a piece so many times has this fault, or is accepted where the fault is empty.
-fn assert_repeated(
-    rt: &impl Abort,
-    alloc: Global,
-    parts: (&str, &str, &str),
-    times: u32,
-    fault: &str,
-) {
-    let text = repeated(alloc, parts, times).expect(rt, "memory");
-    assert_judged(rt, alloc, text.as_str(), fault);
-}
-
-// so many are taken, and one more is one too many
-#[test]
-fn counts_at_their_limits(rt: HostRuntime) {
-    let alloc = rt.alloc();
-    for row in COUNTS.lines() {
-        let mut rest = row;
-        let parts = (field(&mut rest), field(&mut rest), field(&mut rest));
-        let most: u32 = field(&mut rest).parse().unwrap_or(0);
-        assert_repeated(&rt, alloc, parts, most, "");
-        assert_repeated(&rt, alloc, parts, most.saturating_add(1), rest);
-    }
-}
-
-/// What stands in front of an expression, and behind it.
-const PLACES: &str = "kind k { duration | }
-kind k { param p 0 99 = | duration 5 }
-capacity c 9 kind k { duration 5 use c | }
-kind x { param q 0 99 duration 1 } kind k { duration 5 alternative { slot a x ( q = | ) } }";
-
-// an expression has an odd number of nodes: 63 are taken, and 65 are too many
-#[test]
-fn nodes_at_their_limit(rt: HostRuntime) {
-    let alloc = rt.alloc();
-    for row in PLACES.lines() {
-        let (front, back) = row.split_once(" | ").unwrap_or((row, ""));
-        let last = format!(in alloc; "1+1 {back}").expect(&rt, "memory");
-        assert_repeated(&rt, alloc, (front, "1*1+", last.as_str()), 15, "");
-        let last = format!(in alloc; "1 {back}").expect(&rt, "memory");
-        let fault = "too many: nodes";
-        assert_repeated(&rt, alloc, (front, "1*1+", last.as_str()), 16, fault);
-    }
-}
-
-/// The canonical text of what the text says.
-fn rewritten(rt: &impl Abort, alloc: Global, text: &str) -> Vec<u8> {
-    let ast = read_model(alloc, text.as_bytes()).expect(rt, "a text");
-    let copy = ast.copy(alloc).expect(rt, "memory");
-    write_model(alloc, &copy).expect(rt, "memory")
-}
-
-fn assert_rewritten(rt: &impl Abort, alloc: Global, text: &str, wanted: &str) {
-    let written = rewritten(rt, alloc, text);
-    holds(rt, text, written.as_slice() == wanted.as_bytes());
-}
-
-const TEXT: &str = "horizon 100 lead 30 capacity cam 10 level bat 0 1000 500
-state mode { off on } start off step off on step on off state lamp { a } start a any
-kind shot { param n 1 9 param m 1 9 = n*2+1 param k 0 3 default 2 duration 4 use cam 6-n-1 raise bat min(n,3) at start
-lower bat max(n, (m)) at end set mode on at start must mode on link start shot end -3 - 0 }
-kind scan { duration 10 alternative { slot a shot slot b shot (n = 2, k = 1) order parent start a end 0 3 order a end b start -1 3 } }";
-
-const WRITTEN: &str = "horizon 100
-lead 30
-capacity cam 10
-level bat 0 1000 500
-state mode { off on } start off step off on step on off
-state lamp { a } start a any
-kind shot {
-param n 1 9
-param m 1 9 = ( ( n * 2 ) + 1 )
-param k 0 3 default 2
-duration 4
-use cam ( ( 6 - n ) - 1 )
-raise bat min ( n , 3 ) at start
-lower bat max ( n , m ) at end
-set mode on at start
-must mode on
-link start shot end - 3 0
-}
-kind scan {
-duration 10
-alternative {
-slot a shot
-slot b shot ( n = 2 , k = 1 )
-order parent start a end 0 3
-order a end b start - 1 3
-}
-}
-";
-
-#[test]
-fn writes_what_it_read(rt: HostRuntime) {
-    let alloc = rt.alloc();
-    let text = "horizon 0100 lead 30 # a comment\nkind obs { duration (5) }";
-    let written = "horizon 100\nlead 30\nkind obs {\nduration 5\n}\n";
-    assert_rewritten(&rt, alloc, text, written);
-    assert_rewritten(&rt, alloc, TEXT, WRITTEN);
-    assert_rewritten(&rt, alloc, WRITTEN, WRITTEN);
-}
-
-const SCAN: &str =
-    "horizon 100 lead 30 kind shot { duration 5 } kind scan { duration 10 alternative { slot a shot slot b shot order a end b start 0 3 } }";
-
-/// The model of the text above, by the grammar and the checks alone.
-fn scan(rt: &impl Abort, alloc: Global) -> Model {
-    let ast = read_model(alloc, SCAN.as_bytes()).expect(rt, "a text");
-    check(alloc, &ast).expect(rt, "a model")
-}
-
-#[test]
-fn offsets_are_the_least(rt: HostRuntime) {
-    let model = scan(&rt, rt.alloc());
-    let kinds = model.kinds.as_slice();
-    holds(&rt, "two kinds", kinds.len() == 2);
-    holds(&rt, "the duration", kinds[0].least_duration == 5);
-    let alternatives = kinds[1].alternatives.as_slice();
-    holds(&rt, "one alternative", alternatives.len() == 1);
-    let offsets = alternatives[0].offsets.as_slice();
-    holds(&rt, "the offsets", offsets == [0, 5].as_slice());
 }

@@ -1,8 +1,8 @@
 ghost use Rattle.std.specs.Prelude.{IfOk};
 ghost use Rattle.pl_model.specs.Values.{NamesBelow};
 
-use crate::model::asserting::holds;
-use crate::model::reading::{value, word};
+use crate::asserting::holds;
+use crate::reading::{value, word};
 use pl_lists::Boxed;
 use pl_model::{Expr, Op, bounds, eval};
 use std::alloc::{AllocError, Global};

@@ -1,4 +1,4 @@
-use crate::timelines::asserting::holds;
+use crate::asserting::holds;
 use crate::timelines::counting::Counting;
 use crate::timelines::points::{adds_up, fill, finds_outside, has_both};
 use pl_blocks::BlockPoints;

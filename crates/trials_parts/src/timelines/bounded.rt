@@ -3,7 +3,7 @@ ghost use Rattle.std.specs.Prelude.{◌≡◌, ◌≤◌, pos, neg_ℤ, true, fa
 ghost use Rattle.pl_capacity.specs.Uses.{IsUse, use_of};
 ghost use Rattle.pl_level.specs.Effects.{IsEffect, effect_of};
 
-use crate::timelines::asserting::holds;
+use crate::asserting::holds;
 use crate::timelines::capacities::is_one;
 use pl_blocks::BlockPoints;
 use pl_capacity::Capacity;

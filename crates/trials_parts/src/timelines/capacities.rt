@@ -2,7 +2,7 @@ ghost use Rattle.std.specs.Prelude.{◌≡◌, ◌<◌, ◌≤◌, ◌≤ℤ◌,
 ghost use Rattle.pl_points.specs.Standing.{without, stands};
 ghost use Rattle.pl_capacity.specs.Uses.{IsUse, use_of, same_use};
 
-use crate::timelines::asserting::{holds, is_copied};
+use crate::asserting::{holds, is_copied};
 use pl_capacity::{Capacity, Use};
 use pl_lists::Copied;
 use pl_points::{Change, PlainPoints, Quiet, Span, Steps};

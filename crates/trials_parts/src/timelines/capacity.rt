@@ -1,9 +1,10 @@
-//! A capacity and its uses.
+//! A capacity held against its uses, change by change.
 ghost use Rattle.std.specs.Prelude.{◌≡◌, ◌<◌, ◌≤◌, [], ◌++◌, true, suc, length, take, drop, OnOk, IfSome};
 ghost use Rattle.pl_points.specs.Standing.{without, stands};
 ghost use Rattle.pl_capacity.specs.Uses.{IsUse, same_use, use_of};
+ghost use Rattle.trials_parts.specs.Timelines.{InStep};
 
-use crate::timelines::asserting::holds_for;
+use crate::asserting::holds_for;
 use crate::timelines::plain::{CHANGES, HORIZON, below, grow, is_change};
 use pl_capacity::{Capacity, Use};
 use pl_points::{Change, Points, Quiet, Span, Steps};
@@ -35,16 +36,16 @@ fn place_of(uses: &[Use], found: Use) -> Option<usize>
 
 fn add<P: Points>(
     rt: &impl Abort,
-    line: &mut Capacity<P>,
+    timeline: &mut Capacity<P>,
     uses: &mut Vec<Use>,
     added: Use,
 ) -> Change
     requires is_use { IsUse added }
-    requires tied { line.old.uses ≡ uses.old.items }
+    requires tied { timeline.old.uses ≡ uses.old.items }
     requires few { length uses.old.items ≤ 319999 }
-    ensures { line.new ≡ record line.old { uses = uses.new.items } }
+    ensures { timeline.new ≡ record timeline.old { uses = uses.new.items } }
 {
-    let change = line
+    let change = timeline
         .add(added.from, added.to, added.amount, &mut Steps::new(Quiet))
         .expect(rt, "memory");
     uses.push(added).expect(rt, "memory");
@@ -52,20 +53,20 @@ fn add<P: Points>(
 }
 
 fn remove<P: Points>(
-    line: &mut Capacity<P>,
+    timeline: &mut Capacity<P>,
     uses: &mut Vec<Use>,
     place: usize,
     from: u32,
     to: u32,
     amount: i64,
 ) -> Result<Change, AllocError>
-    requires tied { line.old.uses ≡ uses.old.items }
+    requires tied { timeline.old.uses ≡ uses.old.items }
     requires bound { place < length uses.old.items }
     requires stands { stands same_use (use_of from to amount) uses.old.items ≡ true }
     requires rest { take place uses.old.items ++ drop (suc place) uses.old.items ≡ without same_use (use_of from to amount) uses.old.items }
-    ensures { OnOk result (line.new ≡ record line.old { uses = uses.new.items }) }
+    ensures { OnOk result (timeline.new ≡ record timeline.old { uses = uses.new.items }) }
 {
-    let change = line.remove(from, to, amount, &mut Steps::new(Quiet))?;
+    let change = timeline.remove(from, to, amount, &mut Steps::new(Quiet))?;
     uses.remove(place);
     Ok(change)
 }
@@ -90,13 +91,12 @@ fn spans_of(rt: &impl Abort, alloc: Global, uses: &[Use], moment: u32) -> Vec<Sp
     spans
 }
 
-fn tells<P: Points>(line: &Capacity<P>, uses: &[Use], moment: u32) -> bool
-    requires moment { line.now.moment ≡ moment }
-    requires horizon { line.now.horizon ≡ 20 }
+fn has_sums<P: Points>(timeline: &Capacity<P>, uses: &[Use], moment: u32) -> bool
+    requires { InStep timeline.now.moment timeline.now.horizon moment }
 {
     let mut steps = Steps::new(Quiet);
     for t in moment..HORIZON {
-        if line.at(t, &mut steps) != used(uses, t) {
+        if timeline.at(t, &mut steps) != used(uses, t) {
             return false;
         }
     }
@@ -104,11 +104,10 @@ fn tells<P: Points>(line: &Capacity<P>, uses: &[Use], moment: u32) -> bool
 }
 
 /// Whether the timeline has these spans, and tells the sums.
-fn has<P: Points>(line: &Capacity<P>, uses: &[Use], moment: u32, spans: &[Span]) -> bool
-    requires moment { line.now.moment ≡ moment }
-    requires horizon { line.now.horizon ≡ 20 }
+fn has<P: Points>(timeline: &Capacity<P>, uses: &[Use], moment: u32, spans: &[Span]) -> bool
+    requires { InStep timeline.now.moment timeline.now.horizon moment }
 {
-    line.spans() == spans && tells(line, uses, moment)
+    timeline.spans() == spans && has_sums(timeline, uses, moment)
 }
 
 fn any_use(words: &mut Pcg32) -> Use
@@ -126,43 +125,35 @@ fn any_use(words: &mut Pcg32) -> Use
 // One change of any kind, or None where the drawn one asks for what does not stand.
 fn change<P: Points>(
     rt: &impl Abort,
-    line: &mut Capacity<P>,
+    timeline: &mut Capacity<P>,
     uses: &mut Vec<Use>,
     moment: &mut u32,
     words: &mut Pcg32,
 ) -> Option<Change>
-    requires tied { line.old.uses ≡ uses.old.items }
-    requires moment { line.old.moment ≡ moment.old }
-    requires in_time { moment.old ≤ 20 }
-    requires horizon { line.old.horizon ≡ 20 }
-    ensures tied { line.new.uses ≡ uses.new.items }
-    ensures moment { line.new.moment ≡ moment.new }
-    ensures in_time { moment.new ≤ 20 }
-    ensures horizon { line.new.horizon ≡ 20 }
+    requires tied { timeline.old.uses ≡ uses.old.items }
+    requires in_step { InStep timeline.old.moment timeline.old.horizon moment.old }
+    ensures tied { timeline.new.uses ≡ uses.new.items }
+    ensures in_step { InStep timeline.new.moment timeline.new.horizon moment.new }
 {
     match below(words, 5) {
-        0 => go_on(rt, line, moment, words),
-        1 => give_back(rt, line, uses, words),
-        _ => take_more(rt, line, uses, words),
+        0 => go_on(rt, timeline, moment, words),
+        1 => give_back(rt, timeline, uses, words),
+        _ => take_more(rt, timeline, uses, words),
     }
 }
 
 fn go_on<P: Points>(
     rt: &impl Abort,
-    line: &mut Capacity<P>,
+    timeline: &mut Capacity<P>,
     moment: &mut u32,
     words: &mut Pcg32,
 ) -> Option<Change>
-    requires moment { line.old.moment ≡ moment.old }
-    requires in_time { moment.old ≤ 20 }
-    requires horizon { line.old.horizon ≡ 20 }
-    ensures tied { line.new.uses ≡ line.old.uses }
-    ensures moment { line.new.moment ≡ moment.new }
-    ensures in_time { moment.new ≤ 20 }
-    ensures horizon { line.new.horizon ≡ 20 }
+    requires in_step { InStep timeline.old.moment timeline.old.horizon moment.old }
+    ensures tied { timeline.new.uses ≡ timeline.old.uses }
+    ensures in_step { InStep timeline.new.moment timeline.new.horizon moment.new }
 {
     let now = (*moment + below(words, 3)).min(HORIZON);
-    let change = line
+    let change = timeline
         .advance(now, &mut Steps::new(Quiet))
         .expect(rt, "memory");
     *moment = now;
@@ -171,36 +162,36 @@ fn go_on<P: Points>(
 
 fn give_back<P: Points>(
     rt: &impl Abort,
-    line: &mut Capacity<P>,
+    timeline: &mut Capacity<P>,
     uses: &mut Vec<Use>,
     words: &mut Pcg32,
 ) -> Option<Change>
-    requires tied { line.old.uses ≡ uses.old.items }
-    ensures tied { line.new ≡ record line.old { uses = uses.new.items } }
+    requires tied { timeline.old.uses ≡ uses.old.items }
+    ensures tied { timeline.new ≡ record timeline.old { uses = uses.new.items } }
 {
     let index = below(words, 6);
     match uses.get(index as usize) {
         None => None,
         Some(found) => {
             let gone = *found;
-            give_back_one(rt, line, uses, gone)
+            give_back_one(rt, timeline, uses, gone)
         }
     }
 }
 
 fn give_back_one<P: Points>(
     rt: &impl Abort,
-    line: &mut Capacity<P>,
+    timeline: &mut Capacity<P>,
     uses: &mut Vec<Use>,
     gone: Use,
 ) -> Option<Change>
-    requires tied { line.old.uses ≡ uses.old.items }
-    ensures tied { line.new ≡ record line.old { uses = uses.new.items } }
+    requires tied { timeline.old.uses ≡ uses.old.items }
+    ensures tied { timeline.new ≡ record timeline.old { uses = uses.new.items } }
 {
     match place_of(uses, gone) {
         None => None,
         Some(place) => {
-            let change = remove(line, uses, place, gone.from, gone.to, gone.amount).expect(
+            let change = remove(timeline, uses, place, gone.from, gone.to, gone.amount).expect(
                 rt, "memory",
             );
             Some(change)
@@ -210,44 +201,41 @@ fn give_back_one<P: Points>(
 
 fn take_more<P: Points>(
     rt: &impl Abort,
-    line: &mut Capacity<P>,
+    timeline: &mut Capacity<P>,
     uses: &mut Vec<Use>,
     words: &mut Pcg32,
 ) -> Option<Change>
-    requires tied { line.old.uses ≡ uses.old.items }
-    ensures tied { line.new ≡ record line.old { uses = uses.new.items } }
+    requires tied { timeline.old.uses ≡ uses.old.items }
+    ensures tied { timeline.new ≡ record timeline.old { uses = uses.new.items } }
 {
     if uses.len() > 1000 {
         return None;
     }
-    let change = add(rt, line, uses, any_use(words));
+    let change = add(rt, timeline, uses, any_use(words));
     Some(change)
 }
 
 // Makes one change, and asserts that the timeline tells then what the plain definition tells: the spans, which it gives.
+// The place is the seed of a sequence, and how many changes come before in it.
 fn step<P: Points>(
     rt: &impl Abort,
     alloc: Global,
-    line: &mut Capacity<P>,
+    timeline: &mut Capacity<P>,
     uses: &mut Vec<Use>,
     moment: &mut u32,
     before: &[Span],
-    seed: u64,
-    turn: u32,
+    place: (u64, u32),
 ) -> Vec<Span>
-    requires tied { line.old.uses ≡ uses.old.items }
-    requires moment { line.old.moment ≡ moment.old }
-    requires in_time { moment.old ≤ 20 }
-    requires horizon { line.old.horizon ≡ 20 }
-    ensures tied { line.new.uses ≡ uses.new.items }
-    ensures moment { line.new.moment ≡ moment.new }
-    ensures in_time { moment.new ≤ 20 }
-    ensures horizon { line.new.horizon ≡ 20 }
+    requires tied { timeline.old.uses ≡ uses.old.items }
+    requires in_step { InStep timeline.old.moment timeline.old.horizon moment.old }
+    ensures tied { timeline.new.uses ≡ uses.new.items }
+    ensures in_step { InStep timeline.new.moment timeline.new.horizon moment.new }
 {
+    let (seed, turn) = place;
     let mut words = Pcg32::new(seed, u64::from(turn));
-    let answer = change(rt, line, uses, moment, &mut words);
+    let answer = change(rt, timeline, uses, moment, &mut words);
     let after = spans_of(rt, alloc, uses, *moment);
-    holds_for(rt, seed, has(line, uses, *moment, &after));
+    holds_for(rt, seed, has(timeline, uses, *moment, &after));
     holds_for(rt, seed, is_answer(&answer, before, &after));
     after
 }
@@ -256,7 +244,7 @@ fn step<P: Points>(
 pub fn agrees<P: Points>(rt: &impl Abort, alloc: Global, seed: u64, points: P)
     requires { P.points points ≡ [] }
 {
-    let mut line = Capacity::new(alloc, HORIZON, MOST, points);
+    let mut timeline = Capacity::new(alloc, HORIZON, MOST, points);
     let mut uses = Vec::new(alloc);
     let mut moment = 0;
     let mut plain = Vec::new(alloc);
@@ -264,12 +252,11 @@ pub fn agrees<P: Points>(rt: &impl Abort, alloc: Global, seed: u64, points: P)
         plain = step(
             rt,
             alloc,
-            &mut line,
+            &mut timeline,
             &mut uses,
             &mut moment,
             &plain,
-            seed,
-            turn,
+            (seed, turn),
         );
     }
 }

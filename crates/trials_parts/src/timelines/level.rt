@@ -1,62 +1,19 @@
-//! A level and its effects.
+//! A level held against its plain definition, change by change.
 ghost use Rattle.std.specs.Prelude.{◌≡◌, ◌<◌, ◌≤◌, [], ◌++◌, true, suc, length, take, drop, OnOk, IfSome};
 ghost use Rattle.pl_points.specs.Standing.{without, stands};
 ghost use Rattle.pl_level.specs.Effects.{IsEffect, same_effect, effect_of};
+ghost use Rattle.trials_parts.specs.Timelines.{InStep};
 
-use crate::timelines::asserting::holds_for;
-use crate::timelines::plain::{CHANGES, HORIZON, below, grow, is_change};
+mod plain;
+
+use crate::asserting::holds_for;
+use crate::timelines::plain::{CHANGES, HORIZON, below, is_change};
 use pl_level::{Effect, Level, LevelChange};
-use pl_points::{Points, Quiet, Span, Steps};
+use pl_points::{Points, Quiet, Steps};
+use plain::{LEAST, MOST, Outside, Plain};
 use rand_pcg::Pcg32;
 use std::alloc::{AllocError, Global};
 use std::process::Abort;
-
-const LEAST: i64 = 2;
-
-const MOST: i64 = 6;
-
-// What a level is worked out from.
-#[derive(Drop)]
-struct Plain {
-    effects: Vec<Effect>,
-    moment: u32,
-    base: u32,
-    value: i64,
-}
-
-// The spans below the least and above the most.
-#[derive(Drop)]
-struct Outside {
-    low: Vec<Span>,
-    high: Vec<Span>,
-}
-
-impl Plain {
-    fn at(&self, t: u32) -> i64 {
-        let mut level = self.value;
-        for effect in &self.effects {
-            if self.base < effect.at && effect.at <= t {
-                level = level.wrapping_add(effect.delta);
-            }
-        }
-        level
-    }
-
-    fn outside(&self, rt: &impl Abort, alloc: Global) -> Outside {
-        let mut low = Vec::new(alloc);
-        let mut high = Vec::new(alloc);
-        for t in self.moment..HORIZON {
-            let level = self.at(t);
-            if level < LEAST {
-                grow(rt, &mut low, t);
-            }
-            if level > MOST {
-                grow(rt, &mut high, t);
-            }
-        }
-        Outside { low, high }
-    }
-}
 
 fn is_same(one: Effect, other: Effect) -> bool
     ensures { result ≡ same_effect one other }
@@ -89,21 +46,17 @@ fn any_effect(words: &mut Pcg32) -> Effect
 
 fn go_on<P: Points>(
     rt: &impl Abort,
-    line: &mut Level<P>,
+    timeline: &mut Level<P>,
     plain: &mut Plain,
     words: &mut Pcg32,
 ) -> Option<LevelChange>
-    requires tied { line.old.effects ≡ plain.old.effects.items }
-    requires moment { line.old.moment ≡ plain.old.moment }
-    requires in_time { plain.old.moment ≤ 20 }
-    requires horizon { line.old.horizon ≡ 20 }
-    ensures tied { line.new.effects ≡ plain.new.effects.items }
-    ensures moment { line.new.moment ≡ plain.new.moment }
-    ensures in_time { plain.new.moment ≤ 20 }
-    ensures horizon { line.new.horizon ≡ 20 }
+    requires tied { timeline.old.effects ≡ plain.old.effects.items }
+    requires in_step { InStep timeline.old.moment timeline.old.horizon plain.old.moment }
+    ensures tied { timeline.new.effects ≡ plain.new.effects.items }
+    ensures in_step { InStep timeline.new.moment timeline.new.horizon plain.new.moment }
 {
     let now = (plain.moment + below(words, 3)).min(HORIZON);
-    let change = line
+    let change = timeline
         .advance(now, &mut Steps::new(Quiet))
         .expect(rt, "memory");
     plain.moment = now;
@@ -112,18 +65,18 @@ fn go_on<P: Points>(
 
 fn set_base<P: Points>(
     rt: &impl Abort,
-    line: &mut Level<P>,
+    timeline: &mut Level<P>,
     plain: &mut Plain,
     words: &mut Pcg32,
 ) -> Option<LevelChange>
-    ensures line { line.new.effects ≡ line.old.effects }
-    ensures moment { line.new.moment ≡ line.old.moment }
-    ensures horizon { line.new.horizon ≡ line.old.horizon }
+    ensures effects { timeline.new.effects ≡ timeline.old.effects }
+    ensures moment { timeline.new.moment ≡ timeline.old.moment }
+    ensures horizon { timeline.new.horizon ≡ timeline.old.horizon }
     ensures plain { plain.new.effects.items ≡ plain.old.effects.items }
     ensures now { plain.new.moment ≡ plain.old.moment }
 {
     let value = i64::from(below(words, 9));
-    let change = line
+    let change = timeline
         .rebase(value, &mut Steps::new(Quiet))
         .expect(rt, "memory");
     plain.base = plain.moment;
@@ -133,12 +86,12 @@ fn set_base<P: Points>(
 
 fn give_back<P: Points>(
     rt: &impl Abort,
-    line: &mut Level<P>,
+    timeline: &mut Level<P>,
     plain: &mut Plain,
     words: &mut Pcg32,
 ) -> Option<LevelChange>
-    requires tied { line.old.effects ≡ plain.old.effects.items }
-    ensures tied { line.new ≡ record line.old { effects = plain.new.effects.items } }
+    requires tied { timeline.old.effects ≡ plain.old.effects.items }
+    ensures tied { timeline.new ≡ record timeline.old { effects = plain.new.effects.items } }
     ensures now { plain.new.moment ≡ plain.old.moment }
 {
     let index = below(words, 6);
@@ -146,44 +99,44 @@ fn give_back<P: Points>(
         None => None,
         Some(found) => {
             let gone = *found;
-            give_back_one(rt, line, plain, gone)
+            give_back_one(rt, timeline, plain, gone)
         }
     }
 }
 
 fn remove<P: Points>(
-    line: &mut Level<P>,
+    timeline: &mut Level<P>,
     plain: &mut Plain,
     place: usize,
     at: u32,
     delta: i64,
 ) -> Result<LevelChange, AllocError>
-    requires tied { line.old.effects ≡ plain.old.effects.items }
+    requires tied { timeline.old.effects ≡ plain.old.effects.items }
     requires bound { place < length plain.old.effects.items }
     requires stands { stands same_effect (effect_of at delta) plain.old.effects.items ≡ true }
     requires rest { take place plain.old.effects.items ++ drop (suc place) plain.old.effects.items ≡ without same_effect (effect_of at delta) plain.old.effects.items }
-    ensures tied { OnOk result (line.new ≡ record line.old { effects = plain.new.effects.items }) }
+    ensures tied { OnOk result (timeline.new ≡ record timeline.old { effects = plain.new.effects.items }) }
     ensures now { OnOk result (plain.new.moment ≡ plain.old.moment) }
 {
-    let change = line.remove(at, delta, &mut Steps::new(Quiet))?;
+    let change = timeline.remove(at, delta, &mut Steps::new(Quiet))?;
     plain.effects.remove(place);
     Ok(change)
 }
 
 fn give_back_one<P: Points>(
     rt: &impl Abort,
-    line: &mut Level<P>,
+    timeline: &mut Level<P>,
     plain: &mut Plain,
     gone: Effect,
 ) -> Option<LevelChange>
-    requires tied { line.old.effects ≡ plain.old.effects.items }
-    ensures tied { line.new ≡ record line.old { effects = plain.new.effects.items } }
+    requires tied { timeline.old.effects ≡ plain.old.effects.items }
+    ensures tied { timeline.new ≡ record timeline.old { effects = plain.new.effects.items } }
     ensures now { plain.new.moment ≡ plain.old.moment }
 {
     match place_of(&plain.effects, gone) {
         None => None,
         Some(place) => {
-            let change = remove(line, plain, place, gone.at, gone.delta).expect(rt, "memory");
+            let change = remove(timeline, plain, place, gone.at, gone.delta).expect(rt, "memory");
             Some(change)
         }
     }
@@ -191,19 +144,19 @@ fn give_back_one<P: Points>(
 
 fn take_more<P: Points>(
     rt: &impl Abort,
-    line: &mut Level<P>,
+    timeline: &mut Level<P>,
     plain: &mut Plain,
     words: &mut Pcg32,
 ) -> Option<LevelChange>
-    requires tied { line.old.effects ≡ plain.old.effects.items }
-    ensures tied { line.new ≡ record line.old { effects = plain.new.effects.items } }
+    requires tied { timeline.old.effects ≡ plain.old.effects.items }
+    ensures tied { timeline.new ≡ record timeline.old { effects = plain.new.effects.items } }
     ensures now { plain.new.moment ≡ plain.old.moment }
 {
     if plain.effects.len() > 1000 {
         return None;
     }
     let added = any_effect(words);
-    let change = line
+    let change = timeline
         .add(added.at, added.delta, &mut Steps::new(Quiet))
         .expect(rt, "memory");
     plain.effects.push(added).expect(rt, "memory");
@@ -213,34 +166,29 @@ fn take_more<P: Points>(
 // One change of any kind, or None where the drawn one asks for what does not stand.
 fn change<P: Points>(
     rt: &impl Abort,
-    line: &mut Level<P>,
+    timeline: &mut Level<P>,
     plain: &mut Plain,
     words: &mut Pcg32,
 ) -> Option<LevelChange>
-    requires tied { line.old.effects ≡ plain.old.effects.items }
-    requires moment { line.old.moment ≡ plain.old.moment }
-    requires in_time { plain.old.moment ≤ 20 }
-    requires horizon { line.old.horizon ≡ 20 }
-    ensures tied { line.new.effects ≡ plain.new.effects.items }
-    ensures moment { line.new.moment ≡ plain.new.moment }
-    ensures in_time { plain.new.moment ≤ 20 }
-    ensures horizon { line.new.horizon ≡ 20 }
+    requires tied { timeline.old.effects ≡ plain.old.effects.items }
+    requires in_step { InStep timeline.old.moment timeline.old.horizon plain.old.moment }
+    ensures tied { timeline.new.effects ≡ plain.new.effects.items }
+    ensures in_step { InStep timeline.new.moment timeline.new.horizon plain.new.moment }
 {
     match below(words, 7) {
-        0 => go_on(rt, line, plain, words),
-        1 => set_base(rt, line, plain, words),
-        2 | 3 => give_back(rt, line, plain, words),
-        _ => take_more(rt, line, plain, words),
+        0 => go_on(rt, timeline, plain, words),
+        1 => set_base(rt, timeline, plain, words),
+        2 | 3 => give_back(rt, timeline, plain, words),
+        _ => take_more(rt, timeline, plain, words),
     }
 }
 
-fn tells<P: Points>(line: &Level<P>, plain: &Plain) -> bool
-    requires moment { line.now.moment ≡ plain.now.moment }
-    requires horizon { line.now.horizon ≡ 20 }
+fn has_levels<P: Points>(timeline: &Level<P>, plain: &Plain) -> bool
+    requires { InStep timeline.now.moment timeline.now.horizon plain.now.moment }
 {
     let mut steps = Steps::new(Quiet);
     for t in plain.moment..HORIZON {
-        if line.at(t, &mut steps) != plain.at(t) {
+        if timeline.at(t, &mut steps) != plain.at(t) {
             return false;
         }
     }
@@ -259,38 +207,34 @@ fn is_answer(answer: &Option<LevelChange>, old: &Outside, new: &Outside) -> bool
 }
 
 /// Whether the timeline has these spans, and tells the levels.
-fn has<P: Points>(line: &Level<P>, plain: &Plain, outside: &Outside) -> bool
-    requires moment { line.now.moment ≡ plain.now.moment }
-    requires horizon { line.now.horizon ≡ 20 }
+fn has<P: Points>(timeline: &Level<P>, plain: &Plain, outside: &Outside) -> bool
+    requires { InStep timeline.now.moment timeline.now.horizon plain.now.moment }
 {
-    line.low_spans() == outside.low.as_slice()
-        && line.high_spans() == outside.high.as_slice()
-        && tells(line, plain)
+    timeline.low_spans() == outside.low.as_slice()
+        && timeline.high_spans() == outside.high.as_slice()
+        && has_levels(timeline, plain)
 }
 
 // Makes one change, and asserts that the timeline tells then what the plain definition tells: the spans, which it gives.
+// The place is the seed of a sequence, and how many changes come before in it.
 fn step<P: Points>(
     rt: &impl Abort,
     alloc: Global,
-    line: &mut Level<P>,
+    timeline: &mut Level<P>,
     plain: &mut Plain,
     before: &Outside,
-    seed: u64,
-    turn: u32,
+    place: (u64, u32),
 ) -> Outside
-    requires tied { line.old.effects ≡ plain.old.effects.items }
-    requires moment { line.old.moment ≡ plain.old.moment }
-    requires in_time { plain.old.moment ≤ 20 }
-    requires horizon { line.old.horizon ≡ 20 }
-    ensures tied { line.new.effects ≡ plain.new.effects.items }
-    ensures moment { line.new.moment ≡ plain.new.moment }
-    ensures in_time { plain.new.moment ≤ 20 }
-    ensures horizon { line.new.horizon ≡ 20 }
+    requires tied { timeline.old.effects ≡ plain.old.effects.items }
+    requires in_step { InStep timeline.old.moment timeline.old.horizon plain.old.moment }
+    ensures tied { timeline.new.effects ≡ plain.new.effects.items }
+    ensures in_step { InStep timeline.new.moment timeline.new.horizon plain.new.moment }
 {
+    let (seed, turn) = place;
     let mut words = Pcg32::new(seed, u64::from(turn));
-    let answer = change(rt, line, plain, &mut words);
+    let answer = change(rt, timeline, plain, &mut words);
     let after = plain.outside(rt, alloc);
-    holds_for(rt, seed, has(line, plain, &after));
+    holds_for(rt, seed, has(timeline, plain, &after));
     holds_for(rt, seed, is_answer(&answer, before, &after));
     after
 }
@@ -300,7 +244,7 @@ pub fn agrees<P: Points>(rt: &impl Abort, alloc: Global, seed: u64, points: P)
     requires { P.points points ≡ [] }
 {
     let start = i64::from(below(&mut Pcg32::new(seed, 100), 9));
-    let mut line = Level::new(alloc, HORIZON, LEAST, MOST, start, points);
+    let mut timeline = Level::new(alloc, HORIZON, LEAST, MOST, start, points);
     let mut plain = Plain {
         effects: Vec::new(alloc),
         moment: 0,
@@ -308,8 +252,8 @@ pub fn agrees<P: Points>(rt: &impl Abort, alloc: Global, seed: u64, points: P)
         value: start,
     };
     let mut outside = plain.outside(rt, alloc);
-    holds_for(rt, seed, has(&line, &plain, &outside));
+    holds_for(rt, seed, has(&timeline, &plain, &outside));
     for turn in 0..CHANGES {
-        outside = step(rt, alloc, &mut line, &mut plain, &outside, seed, turn);
+        outside = step(rt, alloc, &mut timeline, &mut plain, &outside, (seed, turn));
     }
 }

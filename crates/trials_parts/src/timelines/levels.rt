@@ -2,7 +2,7 @@ ghost use Rattle.std.specs.Prelude.{◌≡◌, ◌<◌, ◌≤◌, ◌≤ℤ◌,
 ghost use Rattle.pl_points.specs.Standing.{without, stands};
 ghost use Rattle.pl_level.specs.Effects.{IsEffect, IsValue, effect_of, same_effect};
 
-use crate::timelines::asserting::{holds, is_copied};
+use crate::asserting::{holds, is_copied};
 use crate::timelines::capacities::is_one;
 use pl_level::{Effect, Level, LevelChange};
 use pl_lists::Copied;

@@ -1,7 +1,7 @@
 //! Two points: 12 more at 10, 6 less at 15.
 ghost use Rattle.std.specs.Prelude.{◌≡◌, [], ◌∷◌, pos, negsuc};
 
-use crate::timelines::asserting::holds;
+use crate::asserting::holds;
 use crate::timelines::capacities::is_one;
 use crate::timelines::counting::Counting;
 use pl_lists::{Copied, Items};

@@ -1,9 +1,11 @@
 //! Scripts of calls of a state timeline, each with its answer.
 ghost use Rattle.std.specs.Prelude.{◌≡◌, ◌<◌, ◌≤◌, OnOk};
 
-use crate::timelines::asserting::{holds, is_copied};
+use crate::asserting::{holds, is_copied};
+use crate::reading::{number, word};
+use crate::timelines::asking::{Asked, ask};
 use pl_lists::Copied;
-use pl_state::{BadSet, BrokenMust, Must, Setting, StateChange, StateTimeline};
+use pl_state::{BadSet, BrokenMust, Must, Setting, StateTimeline};
 use std::alloc::{AllocError, Global};
 use std::process::Abort;
 
@@ -14,100 +16,87 @@ fn camera(rt: &impl Abort, alloc: Global) -> StateTimeline
     ensures horizon { result.horizon ≡ 100 }
     ensures moment { result.moment ≡ 0 }
 {
-    let line = StateTimeline::new(alloc, 100, 3, 0, false, STEPS.as_slice());
-    line.expect(rt, "memory")
+    let timeline = StateTimeline::new(alloc, 100, 3, 0, false, STEPS.as_slice());
+    timeline.expect(rt, "memory")
 }
 
-// Takes the first word off; nothing is left where there is no space.
-fn word<'a>(rest: &mut &'a str) -> &'a str {
-    let (first, more) = rest.split_once(' ').unwrap_or((*rest, ""));
-    *rest = more;
-    first
-}
-
-// Takes a number off, 0 where the first word is none.
-fn number(rest: &mut &str) -> u32 {
-    word(rest).parse().unwrap_or(0)
-}
-
-// Puts a set: its moment, its id and its state.
-fn put(
-    rt: &impl Abort,
-    line: &mut StateTimeline,
-    rest: &mut &str,
-) -> Result<StateChange, AllocError>
-    ensures horizon { OnOk result (line.new.horizon ≡ line.old.horizon) }
-    ensures moment { OnOk result (line.new.moment ≡ line.old.moment) }
-{
-    let at = number(rest);
-    holds(rt, "a moment", 1 <= at);
-    line.put(at, number(rest), 0, number(rest))
-}
-
-// Makes a change: a set comes or goes, a must of 5 comes or goes, or the base is told.
-fn change(
-    rt: &impl Abort,
-    line: &mut StateTimeline,
-    name: &str,
-    rest: &mut &str,
-) -> Result<StateChange, AllocError>
-    ensures horizon { OnOk result (line.new.horizon ≡ line.old.horizon) }
-    ensures moment { OnOk result (line.new.moment ≡ line.old.moment) }
-{
-    match name {
-        "put" => put(rt, line, rest),
-        "take" => line.take(number(rest), number(rest), 0, number(rest)),
-        "need" => line.need(number(rest), number(rest), 5, 1, number(rest)),
-        "free" => line.free(number(rest), number(rest), 5, 1, number(rest)),
-        _ => line.rebase(number(rest)),
+// A set: its moment, its id and its state.
+fn set_of(rest: &mut &str) -> Setting {
+    Setting {
+        at: number(rest),
+        id: number(rest),
+        index: 0,
+        state: number(rest),
     }
 }
 
-fn at(rt: &impl Abort, line: &StateTimeline, moment: u32, t: u32) -> u32
-    requires horizon { line.now.horizon ≡ 100 }
-    requires moment { line.now.moment ≡ moment }
+// A must of the activity 5: its moments and its state.
+fn must_of(rest: &mut &str) -> Must {
+    Must {
+        from: number(rest),
+        to: number(rest),
+        id: 5,
+        index: 1,
+        state: number(rest),
+    }
+}
+
+// What a call asks for.
+fn asked(name: &str, rest: &mut &str) -> Asked {
+    match name {
+        "put" => Asked::Put(set_of(rest)),
+        "take" => Asked::Take(set_of(rest)),
+        "need" => Asked::Need(must_of(rest)),
+        "free" => Asked::Free(must_of(rest)),
+        _ => Asked::Rebase(number(rest)),
+    }
+}
+
+fn at(rt: &impl Abort, timeline: &StateTimeline, moment: u32, t: u32) -> u32
+    requires horizon { timeline.now.horizon ≡ 100 }
+    requires moment { timeline.now.moment ≡ moment }
 {
     holds(rt, "a moment ahead", moment <= t && t < 100);
-    line.at(t)
+    timeline.at(t)
 }
 
 // What a call answers: a state, what is wrong, or a change.
 fn answer(
     rt: &impl Abort,
     alloc: Global,
-    line: &mut StateTimeline,
+    timeline: &mut StateTimeline,
     moment: u32,
     call: &str,
 ) -> Result<String, AllocError>
-    requires horizon { line.old.horizon ≡ 100 }
-    requires moment { line.old.moment ≡ moment }
-    ensures horizon { OnOk result (line.new.horizon ≡ 100) }
-    ensures moment { OnOk result (line.new.moment ≡ moment) }
+    requires horizon { timeline.old.horizon ≡ 100 }
+    requires moment { timeline.old.moment ≡ moment }
+    ensures horizon { OnOk result (timeline.new.horizon ≡ 100) }
+    ensures moment { OnOk result (timeline.new.moment ≡ moment) }
 {
     let mut rest = call;
     match word(&mut rest) {
-        "at" => format!(in alloc; "{}", at(rt, line, moment, number(&mut rest))),
-        "wrong" => format!(in alloc; "{:?} {:?}", line.broken_musts(), line.bad_steps()),
+        "at" => format!(in alloc; "{}", at(rt, timeline, moment, number(&mut rest))),
+        "wrong" => format!(in alloc; "{:?} {:?}", timeline.broken_musts(), timeline.bad_steps()),
         name => {
-            let change = change(rt, line, name, &mut rest)?;
+            let change = ask(rt, timeline, asked(name, &mut rest))?;
             format!(in alloc; "{:?}", change.copy(alloc)?)
         }
     }
 }
 
-// Makes the calls of a script one after the other. Each line has a call and how its answer begins, as it is printed.
-fn play(rt: &impl Abort, alloc: Global, line: &mut StateTimeline, moment: u32, script: &str)
-    requires horizon { line.old.horizon ≡ 100 }
-    requires moment { line.old.moment ≡ moment }
-    ensures horizon { line.new.horizon ≡ 100 }
-    ensures moment { line.new.moment ≡ moment }
+// Makes the calls of a script one after the other. Each row has a call and how its answer begins, as it is printed.
+fn play(rt: &impl Abort, alloc: Global, timeline: &mut StateTimeline, moment: u32, script: &str)
+    requires horizon { timeline.old.horizon ≡ 100 }
+    requires moment { timeline.old.moment ≡ moment }
+    ensures horizon { timeline.new.horizon ≡ 100 }
+    ensures moment { timeline.new.moment ≡ moment }
 {
     for row in script.lines() {
         let (call, wanted) = row.split_once(" = ").unwrap_or((row, ""));
-        let text = answer(rt, alloc, line, moment, call).expect(rt, "memory");
+        let text = answer(rt, alloc, timeline, moment, call).expect(rt, "memory");
         assert!(rt; text.starts_with(wanted), "{row}: {text}");
     }
-    holds(rt, "enough memory", !line.spoiled());
+    holds(rt, "enough memory", !timeline.spoiled());
 }
 
 const LOW_ID_FIRST: &str = "put 10 7 2
@@ -118,8 +107,8 @@ wrong = [] []";
 
 #[test]
 fn two_sets_at_one_moment(rt: HostRuntime) {
-    let mut line = camera(&rt, rt.alloc());
-    play(&rt, rt.alloc(), &mut line, 0, LOW_ID_FIRST);
+    let mut timeline = camera(&rt, rt.alloc());
+    play(&rt, rt.alloc(), &mut timeline, 0, LOW_ID_FIRST);
 }
 
 const LOW_ID_LAST: &str = "put 10 3 2
@@ -131,8 +120,8 @@ wrong = [] []";
 
 #[test]
 fn two_sets_the_other_way(rt: HostRuntime) {
-    let mut line = camera(&rt, rt.alloc());
-    play(&rt, rt.alloc(), &mut line, 0, LOW_ID_LAST);
+    let mut timeline = camera(&rt, rt.alloc());
+    play(&rt, rt.alloc(), &mut timeline, 0, LOW_ID_LAST);
 }
 
 // A must from 20 up to 40 whose state comes at 25.
@@ -148,11 +137,11 @@ const BROKEN: &str = "wrong = [BrokenMust { id: 5, index: 1, from: 20, to: 40 }]
 #[test]
 fn a_must(rt: HostRuntime) {
     let alloc = rt.alloc();
-    let mut line = camera(&rt, alloc);
-    play(&rt, alloc, &mut line, 0, LATE);
-    play(&rt, alloc, &mut line, 0, TAKEN);
-    let mut copy = line.copy(alloc).expect(&rt, "memory");
-    play(&rt, alloc, &mut line, 0, "free 20 40 1\nwrong = [] []");
+    let mut timeline = camera(&rt, alloc);
+    play(&rt, alloc, &mut timeline, 0, LATE);
+    play(&rt, alloc, &mut timeline, 0, TAKEN);
+    let mut copy = timeline.copy(alloc).expect(&rt, "memory");
+    play(&rt, alloc, &mut timeline, 0, "free 20 40 1\nwrong = [] []");
     play(&rt, alloc, &mut copy, 0, BROKEN);
 }
 
@@ -164,10 +153,10 @@ at 22 = 1";
 #[test]
 fn a_must_and_the_base(rt: HostRuntime) {
     let alloc = rt.alloc();
-    let mut line = camera(&rt, alloc);
-    play(&rt, alloc, &mut line, 0, LATE);
-    line.advance(22).expect(&rt, "memory");
-    play(&rt, alloc, &mut line, 22, AT_22);
+    let mut timeline = camera(&rt, alloc);
+    play(&rt, alloc, &mut timeline, 0, LATE);
+    timeline.advance(22).expect(&rt, "memory");
+    play(&rt, alloc, &mut timeline, 22, AT_22);
 }
 
 #[test]

@@ -1,5 +1,5 @@
 //! Moves that are tried, and stay made where they leave few enough conflicts.
-use crate::board::asserting::{assert_printed, holds};
+use crate::asserting::{assert_printed, holds};
 use crate::board::boards::changed;
 use crate::board::changes::assert_can_move;
 use crate::board::reading::repair;

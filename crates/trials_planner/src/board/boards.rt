@@ -1,22 +1,10 @@
 //! Boards of a model's text.
-ghost use Rattle.pl_model.specs.Checked.{IsChecked};
-
 use crate::board::changes::change;
+use crate::reading::model;
 use pl_board::Board;
-use pl_check::{Accepted, accept};
-use pl_model::Model;
 use std::alloc::Global;
 use std::process::Abort;
 use std::sync::Arc;
-
-fn model(rt: &impl Abort, alloc: Global, text: &str) -> Model
-    ensures { IsChecked result }
-{
-    match accept(alloc, text.as_bytes()).expect(rt, "memory") {
-        Accepted::Model(model) => model,
-        Accepted::Refused(_) => panic!(rt; "no model: {text}"),
-    }
-}
 
 /// A board of a model's text with nothing planned.
 pub fn empty(rt: &impl Abort, alloc: Global, text: &str) -> Board {

@@ -5,8 +5,9 @@ ghost use Rattle.pl_update.specs.Changes.Changes.{CanTell, CanMeasure};
 ghost use Rattle.pl_semantics.specs.Whole.{IsGoalOf};
 ghost use Rattle.pl_semantics.specs.Moves.{is_proper};
 
-use crate::board::asserting::holds;
-use crate::board::reading::{number, repair, word};
+use crate::asserting::holds;
+use crate::board::reading::repair;
+use crate::reading::{number, word};
 use pl_board::Board;
 use pl_facts::Goal;
 use pl_lists::Items;

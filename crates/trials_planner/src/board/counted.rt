@@ -1,5 +1,5 @@
 //! How many steps one change of a large board takes.
-use crate::board::asserting::holds;
+use crate::asserting::holds;
 use crate::board::boards::empty;
 use crate::board::changes::make;
 use pl_board::Board;

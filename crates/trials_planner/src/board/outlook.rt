@@ -1,5 +1,5 @@
 //! What moves leave at least, told without making them.
-use crate::board::asserting::{assert_is, holds};
+use crate::asserting::{assert_is, holds};
 use crate::board::boards::changed;
 use crate::board::changes::assert_can_move;
 use crate::board::reading::repair;

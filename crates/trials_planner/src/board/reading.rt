@@ -1,18 +1,7 @@
-//! What the tests read of their tables' texts.
+//! Conflicts and moves that the tests read of their tables' texts.
+use crate::reading::{number, word};
 use pl_conflict::{Code, Conflict};
 use pl_plan::RepairMove;
-
-/// Takes the first word off; nothing is left where there is no space.
-pub fn word<'a>(rest: &mut &'a str) -> &'a str {
-    let (first, more) = rest.split_once(' ').unwrap_or((*rest, ""));
-    *rest = more;
-    first
-}
-
-/// Takes a number off, 0 where the first word is none.
-pub fn number(rest: &mut &str) -> u32 {
-    word(rest).parse().unwrap_or(0)
-}
 
 fn code(name: &str) -> Code {
     match name {

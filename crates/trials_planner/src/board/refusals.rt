@@ -1,5 +1,5 @@
 //! Why moves are refused, and of which activity.
-use crate::board::asserting::{assert_printed, holds};
+use crate::asserting::{assert_printed, holds};
 use crate::board::boards::changed;
 use crate::board::reading::repair;
 use pl_moves::{is_legal, legal, proper};

@@ -1,4 +1,4 @@
-use crate::board::asserting::{assert_is, assert_printed, holds};
+use crate::asserting::{assert_is, assert_printed, holds};
 use crate::board::boards::changed;
 use crate::board::values::{assert_conflicts, assert_values};
 use pl_board::Board;

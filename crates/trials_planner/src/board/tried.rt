@@ -1,5 +1,5 @@
 //! The repairs that are tried for a conflict of each code, in their order.
-use crate::board::asserting::holds;
+use crate::asserting::holds;
 use crate::board::boards::changed;
 use crate::board::reading::{conflict, repair};
 use pl_cand::candidates;

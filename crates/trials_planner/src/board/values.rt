@@ -3,8 +3,9 @@ ghost use Rattle.std.specs.Prelude.{◌≡◌, ◌≤◌, ◌<◌, false, true, 
 ghost use Rattle.pl_model.specs.Checked.{IsCapacityLine, IsLevelLine};
 ghost use Rattle.pl_detect.specs.Based.{IsStateLine};
 
-use crate::board::asserting::holds;
-use crate::board::reading::{conflict, number, word};
+use crate::asserting::holds;
+use crate::board::reading::conflict;
+use crate::reading::{number, word};
 use pl_board::Board;
 use pl_conflict::Conflict;
 use pl_model::{Model, Timeline};

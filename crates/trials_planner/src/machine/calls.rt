@@ -3,8 +3,8 @@ ghost use Rattle.std.specs.Prelude.{◌≡◌, ◌==◌};
 ghost use Rattle.std.specs.List.{list_any};
 ghost use Rattle.pl_entry.specs.Bounds.{AreOptions};
 
-use crate::machine::asserting::holds;
-use crate::machine::reading::{model, number, word};
+use crate::asserting::holds;
+use crate::reading::{model, number, word};
 use pl_cand::is_stuck;
 use pl_choose::Least;
 use pl_conflict::{Code, Conflict};

@@ -1,7 +1,7 @@
 //! What choosers make of the board of a machine.
 ghost use Rattle.std.specs.Prelude.{◌≡◌, false};
 
-use crate::machine::asserting::holds;
+use crate::asserting::holds;
 use crate::machine::calls::{BOUNDS, asked, fresh, open_goal};
 use pl_board::Board;
 use pl_cand::{Chooser, Proposal, make};

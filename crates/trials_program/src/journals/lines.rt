@@ -1,7 +1,9 @@
 //! Lines of a journal that are read as entries, and lines that are refused.
 ghost use Rattle.pl_model.specs.Checked.{IsChecked};
 
+use crate::asserting::holds;
 use crate::journals::models::model;
+use crate::running::sides;
 use pl_entry::Entry;
 use pl_journal::{EntryFault, has_line, read_entry, render};
 use pl_model::Model;
@@ -106,11 +108,21 @@ fn said(alloc: Global, model: &Model, line: &str) -> Result<String, AllocError>
     }
 }
 
-fn assert_comes_back(rt: &impl Abort, alloc: Global, model: &Model, line: &[u8])
+fn assert_comes_back(rt: &impl Abort, alloc: Global, model: &Model, line: &str)
     requires { IsChecked model.now }
 {
-    let comes_back = comes_back(alloc, model, line).expect(rt, "memory");
-    assert!(rt; comes_back, "{line:?}");
+    let comes_back = comes_back(alloc, model, line.as_bytes()).expect(rt, "memory");
+    holds(rt, line, comes_back);
+}
+
+/// Asserts what a line says, and that it comes back.
+fn assert_said(rt: &impl Abort, alloc: Global, model: &Model, row: &str)
+    requires { IsChecked model.now }
+{
+    let (line, wanted) = sides(row);
+    assert_comes_back(rt, alloc, model, line);
+    let said = said(alloc, model, line).expect(rt, "memory");
+    holds(rt, row, said.as_str() == wanted);
 }
 
 #[test]
@@ -118,10 +130,7 @@ fn reads_what_lines_say(rt: HostRuntime) {
     let alloc = rt.alloc();
     let model = model(&rt, alloc, MODEL);
     for row in MEANT.lines() {
-        let (line, wanted) = row.split_once(" => ").unwrap_or((row, ""));
-        assert_comes_back(&rt, alloc, &model, line.as_bytes());
-        let said = said(alloc, &model, line).expect(&rt, "memory");
-        assert!(rt; said.as_str() == wanted, "{said}");
+        assert_said(&rt, alloc, &model, row);
     }
 }
 
@@ -134,20 +143,23 @@ const LINES: &str = "0 open turns 1 live 1 goals 1 entries 1
 7 fix 10 late 1 0 0 0 by drop 1 : ok
 4294967295 commit 4294967295 : ok";
 
+/// Lines that end in a blank or a carriage return.
+const SPARE: [&str; 4] = [
+    "1 in ok : ",
+    "5 in bad-line : ",
+    "1 in ok : a\r",
+    "1 in ok :  : ",
+];
+
 #[test]
 fn reads_lines_back(rt: HostRuntime) {
     let alloc = rt.alloc();
     let model = model(&rt, alloc, MODEL);
     for line in LINES.lines() {
-        assert_comes_back(&rt, alloc, &model, line.as_bytes());
+        assert_comes_back(&rt, alloc, &model, line);
     }
-    for line in [
-        "1 in ok : ",
-        "5 in bad-line : ",
-        "1 in ok : a\r",
-        "1 in ok :  : ",
-    ] {
-        assert_comes_back(&rt, alloc, &model, line.as_bytes());
+    for line in SPARE {
+        assert_comes_back(&rt, alloc, &model, line);
     }
 }
 
@@ -198,11 +210,20 @@ const WRONG: &str = "x
 4 fix 92 later 2 0 92 92 by drop 2 : ok
 4 fix 92 late 2 0 92 92 by drop 2 : clear";
 
-fn assert_refused(rt: &impl Abort, alloc: Global, model: &Model, line: &[u8])
+/// Lines that are empty, or have a blank, a carriage return or a newline too many.
+const UNCLEAN: [&str; 5] = [
+    "",
+    "1 close ",
+    "1 in eof ",
+    "1 rest clear\r",
+    "1 in ok : a\nb",
+];
+
+fn assert_refused(rt: &impl Abort, alloc: Global, model: &Model, line: &str)
     requires { IsChecked model.now }
 {
-    let is_refused = is_refused(alloc, model, line).expect(rt, "memory");
-    assert!(rt; is_refused, "{line:?}");
+    let is_refused = is_refused(alloc, model, line.as_bytes()).expect(rt, "memory");
+    holds(rt, line, is_refused);
 }
 
 #[test]
@@ -210,32 +231,25 @@ fn refuses_other_lines(rt: HostRuntime) {
     let alloc = rt.alloc();
     let model = model(&rt, alloc, MODEL);
     for line in WRONG.lines() {
-        assert_refused(&rt, alloc, &model, line.as_bytes());
+        assert_refused(&rt, alloc, &model, line);
     }
-    for line in [
-        "",
-        "1 close ",
-        "1 in eof ",
-        "1 rest clear\r",
-        "1 in ok : a\nb",
-    ] {
-        assert_refused(&rt, alloc, &model, line.as_bytes());
+    for line in UNCLEAN {
+        assert_refused(&rt, alloc, &model, line);
     }
 }
 
 /// A message of so many bytes, as an input that was accepted.
-fn message_line(rt: &impl Abort, alloc: Global, bytes: usize) -> Vec<u8> {
-    let mut line = Vec::from_slice(alloc, b"1 in ok : ").expect(rt, "memory");
-    for _ in 0..bytes {
-        line.push(b'x').expect(rt, "memory");
-    }
-    line
+fn message_line(rt: &impl Abort, alloc: Global, bytes: usize) -> String {
+    let message = "x".repeat(alloc, bytes).expect(rt, "memory");
+    format!(in alloc; "1 in ok : {message}").expect(rt, "memory")
 }
 
 #[test]
 fn reads_messages_up_to_their_limit(rt: HostRuntime) {
     let alloc = rt.alloc();
     let model = model(&rt, alloc, MODEL);
-    assert_comes_back(&rt, alloc, &model, &message_line(&rt, alloc, 4096));
-    assert_refused(&rt, alloc, &model, &message_line(&rt, alloc, 4097));
+    let longest = message_line(&rt, alloc, 4096);
+    assert_comes_back(&rt, alloc, &model, longest.as_str());
+    let longer = message_line(&rt, alloc, 4097);
+    assert_refused(&rt, alloc, &model, longer.as_str());
 }

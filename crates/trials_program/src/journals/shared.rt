@@ -4,15 +4,16 @@ ghost use Rattle.std.specs.List.{list_any};
 ghost use Rattle.pl_turn.specs.Passes.{crew_of, leads, made_by, joined_by};
 ghost use Rattle.pl_shared.specs.Plans.{BelongsTo};
 
-use crate::journals::asserting::holds;
+use crate::asserting::holds;
 use crate::journals::models::{JOURNAL, MODEL, model, shared_model};
+use pl_acts::{Acted, Role};
 use pl_choose::Seeded;
 use pl_entry::Entry;
 use pl_facts::Options;
 use pl_journal::render;
 use pl_machine::{Machine, Stop};
 use pl_model::Model;
-use pl_shared::{Acted, Pass, Role, SharedPlan, work};
+use pl_shared::{Pass, SharedPlan, work};
 use pl_turn::NoGate;
 use std::alloc::{AllocError, Global};
 use std::process::Abort;

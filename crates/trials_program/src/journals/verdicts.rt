@@ -1,6 +1,7 @@
 //! Journals verified, each with its verdict.
-use crate::journals::asserting::holds;
-use crate::journals::models::{JOURNAL, shared_model};
+use crate::asserting::holds;
+use crate::journals::models::{JOURNAL, changed, shared_model};
+use crate::running::{lines, sides};
 use pl_io::{LineFault, LineReader, MemSource};
 use pl_machine::Machine;
 use pl_replay::{Verdict, verify};
@@ -41,31 +42,23 @@ fn judge(rt: &impl Abort, alloc: Global, journal: &[u8], wanted: &str) {
     let found = verified(rt, alloc, journal, 1_073_741_824, &[]);
     let (verdict, machine) = found.expect(rt, "a verdict");
     let text = format!(in alloc; "{verdict:?}").expect(rt, "memory");
-    assert!(rt; text.starts_with(wanted), "{wanted}: {text}");
+    holds(rt, wanted, text.starts_with(wanted));
     holds(rt, wanted, is_fitting(&verdict, &machine));
 }
 
-/// The text with a newline for each `;`.
-fn lines(rt: &impl Abort, alloc: Global, text: &str) -> String {
-    text.replace(alloc, ";", "\n").expect(rt, "memory")
+/// Judges the worked journal with a change. A row has a text, what stands in its place, and the verdict; `;` is a newline.
+fn judge_change(rt: &impl Abort, alloc: Global, row: &str) {
+    let (from, rest) = sides(row);
+    let (to, wanted) = sides(rest);
+    let from = lines(rt, alloc, from);
+    let to = lines(rt, alloc, to);
+    let journal = changed(rt, alloc, JOURNAL, from.as_str(), to.as_str());
+    judge(rt, alloc, journal.as_bytes(), wanted);
 }
 
-/// The worked journal with another text in place of one.
-fn changed(rt: &impl Abort, alloc: Global, from: &str, to: &str) -> Vec<u8> {
-    let (front, rest) = JOURNAL.split_once(from).unwrap_or(("no such text", ""));
-    let text = format!(in alloc; "{front}{to}{rest}").expect(rt, "memory");
-    text.into_bytes()
-}
-
-/// Judges the worked journal with changes. A row has a text, what stands in its place, and the verdict; `;` is a newline.
 fn judge_changes(rt: &impl Abort, alloc: Global, table: &str) {
     for row in table.lines() {
-        let (from, rest) = row.split_once(" => ").unwrap_or((row, ""));
-        let (to, wanted) = rest.split_once(" => ").unwrap_or((rest, ""));
-        let from = lines(rt, alloc, from);
-        let to = lines(rt, alloc, to);
-        let journal = changed(rt, alloc, from.as_str(), to.as_str());
-        judge(rt, alloc, &journal, wanted);
+        judge_change(rt, alloc, row);
     }
 }
 
@@ -117,7 +110,7 @@ const SHORT: &str = " => NotALine(0)
 fn judges_short_journals(rt: HostRuntime) {
     let alloc = rt.alloc();
     for row in SHORT.lines() {
-        let (journal, wanted) = row.split_once(" => ").unwrap_or((row, ""));
+        let (journal, wanted) = sides(row);
         let journal = lines(&rt, alloc, journal);
         judge(&rt, alloc, journal.as_bytes(), wanted);
     }
@@ -160,14 +153,14 @@ fn tells_faults_of_the_input(rt: HostRuntime) {
 fn reads_nothing_behind_a_wrong_entry(rt: HostRuntime) {
     let alloc = rt.alloc();
     let model = shared_model(&rt, alloc);
-    let mut lines = LineReader::new(alloc, 4160, 10_000).expect(&rt, "memory");
-    let journal = changed(&rt, alloc, "2 fix", "2 mend");
-    let mut source = MemSource::new(alloc, &journal, &[]).expect(&rt, "memory");
-    let found = verify(alloc, model, &mut lines, &mut source);
+    let mut reader = LineReader::new(alloc, 4160, 10_000).expect(&rt, "memory");
+    let journal = changed(&rt, alloc, JOURNAL, "2 fix", "2 mend");
+    let mut source = MemSource::new(alloc, journal.as_bytes(), &[]).expect(&rt, "memory");
+    let found = verify(alloc, model, &mut reader, &mut source);
     let (verdict, machine) = found.expect(&rt, "a verdict");
     holds(&rt, "no line", matches!(verdict, Verdict::NotALine(2)));
     holds(&rt, "no machine", machine.is_none());
-    let next = lines.next(&mut source).expect(&rt, "no fault");
+    let next = reader.next(&mut source).expect(&rt, "no fault");
     let line = next.expect(&rt, "a line");
     holds(
         &rt,

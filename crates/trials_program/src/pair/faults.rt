@@ -1,8 +1,8 @@
 //! A pair that is stopped at each read and at each write, and wherever the output has no room left.
+use crate::asserting::holds;
 use crate::breaking::Breaking;
 use crate::journals::models::{HEAD, INPUT, JOURNAL, OPEN};
-use crate::running::{Ended, NONE, ROOM, assert_does, count_newlines, does, does_within, joined};
-use pl_io::MemSource;
+use crate::running::{Ended, NONE, ROOM, assert_legal, count_newlines, does, does_in, does_within};
 use pl_turn::NoGate;
 use std::alloc::Global;
 use std::process::Abort;
@@ -22,18 +22,19 @@ fn whole_lines(written: &[u8]) -> &[u8] {
     written.get(..end).unwrap_or(b"")
 }
 
+/// Whether this is less than the open entry's line.
+fn is_torn(written: &[u8]) -> bool {
+    OPEN.as_bytes().starts_with(written) && written.len() < OPEN.len()
+}
+
 /// Asserts that what was written is a legal journal that has not ended, but for a last line that is torn.
 fn assert_front<R: Abort + Threads + Wait + Sync>(rt: &R, alloc: Global, written: &[u8]) {
     let lines = whole_lines(written);
-    let count = count_newlines(lines);
-    if count == 0 {
-        let is_front = OPEN.as_bytes().starts_with(written);
-        assert!(rt; is_front && written.len() < OPEN.len());
+    if lines.is_empty() {
+        holds(rt, "a torn line", is_torn(written));
         return;
     }
-    let input = joined(rt, alloc, HEAD, lines);
-    let line = format!(in alloc; "journal ok: entries {count} unfinished\n").expect(rt, "memory");
-    assert_does(rt, alloc, "replay", NONE, &input, 0, line.as_bytes());
+    assert_legal(rt, alloc, HEAD, lines, "unfinished");
 }
 
 /// How many rounds a journal has closed.
@@ -47,6 +48,11 @@ fn closed(journal: &[u8]) -> usize {
     count
 }
 
+/// Whether rounds are written whole: nothing, the open entry, or rounds behind it.
+fn is_whole(written: &[u8]) -> bool {
+    written.is_empty() || written == OPEN.as_bytes() || written.ends_with(b" close\n")
+}
+
 /// Asserts that a run has written whole rounds: nothing before the six lines of the model have come, and the round of each
 /// message behind them.
 fn assert_rounds<R: Abort + Threads + Wait + Sync>(
@@ -57,11 +63,11 @@ fn assert_rounds<R: Abort + Threads + Wait + Sync>(
     lines: usize,
 ) {
     let (found, sink) = ended;
-    assert!(rt; *found == status, "{lines}: {found}");
+    holds(rt, "the status", *found == status);
     let written = sink.bytes();
-    assert!(rt; written.is_empty() == (lines < 6), "{lines}");
-    assert!(rt; closed(written) == lines.saturating_sub(6), "{lines}");
-    assert!(rt; written.is_empty() || written == OPEN.as_bytes() || written.ends_with(b" close\n"));
+    holds(rt, "what is written", written.is_empty() == (lines < 6));
+    holds(rt, "its rounds", closed(written) == lines.saturating_sub(6));
+    holds(rt, "whole rounds", is_whole(written));
     assert_front(rt, alloc, written);
 }
 
@@ -80,42 +86,42 @@ fn stops_at_each_read(rt: HostRuntime) {
     }
 }
 
+/// Whether the lines before one that could not be written are there, each whole.
+fn is_before(written: &[u8], line: u64) -> bool {
+    whole_lines(written).len() == written.len()
+        && count_newlines(written).wrapping_add(1) as u64 == line
+}
+
+/// Runs with a write that fails.
+fn fails_at<R: Abort + Threads + Wait + Sync>(rt: &R, alloc: Global, write: u64) {
+    let input = INPUT.as_bytes();
+    let (status, sink) = does(rt, alloc, WORDS, input, (&[], &[write]), &NoGate);
+    holds(rt, "the status", status == 5);
+    holds(rt, "the lines before it", is_before(sink.bytes(), write));
+    assert_front(rt, alloc, sink.bytes());
+}
+
 /// A pair writes twelve lines at least.
 #[test]
 fn stops_at_each_write(rt: HostRuntime) {
-    let alloc = rt.alloc();
-    for write in 1..13u64 {
-        let (status, sink) = does(
-            &rt,
-            alloc,
-            WORDS,
-            INPUT.as_bytes(),
-            (&[], &[write]),
-            &NoGate,
-        );
-        let written = sink.bytes();
-        assert!(rt; status == 5, "{write}: {status}");
-        assert!(rt; whole_lines(written).len() == written.len(), "{write}");
-        assert!(rt;
-            count_newlines(written).wrapping_add(1) as u64 == write,
-            "{write}"
-        );
-        assert_front(&rt, alloc, written);
+    for write in 1..13 {
+        fails_at(&rt, rt.alloc(), write);
     }
+}
+
+/// Runs with room for so many bytes.
+fn fills_up<R: Abort + Threads + Wait + Sync>(rt: &R, alloc: Global, room: usize) {
+    let (status, sink) = does_in(rt, alloc, WORDS, INPUT.as_bytes(), room);
+    holds(rt, "the status", status == 5);
+    holds(rt, "no room left", sink.bytes().len() == room);
+    assert_front(rt, alloc, sink.bytes());
 }
 
 /// No journal of a pair is shorter than the worked one.
 #[test]
 fn stops_where_no_room_is_left(rt: HostRuntime) {
-    let alloc = rt.alloc();
     for room in 0..JOURNAL.len() {
-        let mut source = MemSource::new(alloc, INPUT.as_bytes(), &[]).expect(&rt, "memory");
-        let (status, sink) = does_within(&rt, alloc, WORDS, &mut source, room);
-        assert!(rt;
-            status == 5 && sink.bytes().len() == room,
-            "{room}: {status}"
-        );
-        assert_front(&rt, alloc, sink.bytes());
+        fills_up(&rt, rt.alloc(), room);
     }
 }
 

@@ -1,4 +1,5 @@
 //! What a gate is told of the entries of each worker.
+use crate::asserting::holds;
 use crate::pair::missions::{GOAL, IMAGE, LARGE, SMALL};
 use crate::running::{NONE, count_newlines, does, joined};
 use pl_turn::Gate;
@@ -120,10 +121,10 @@ fn assert_told<R: Abort + Threads + Wait + Sync>(
     let gate = Keeping::new();
     let input = joined(rt, alloc, model, messages.as_bytes());
     let (status, out) = does(rt, alloc, "run pair 8 7", &input, NONE, &gate);
-    assert!(rt; status == 0 && gate.is_right(), "{messages}: {status}");
-    assert!(rt; count_newlines(out.bytes()) <= 64);
+    holds(rt, messages, status == 0 && gate.is_right());
+    holds(rt, "few entries", count_newlines(out.bytes()) <= 64);
     let told = (gate.executive.numbers(), gate.planner.numbers());
-    assert!(rt; told == entries_of(out.bytes()), "{messages}");
+    holds(rt, messages, told == entries_of(out.bytes()));
 }
 
 #[test]

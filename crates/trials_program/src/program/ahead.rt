@@ -1,5 +1,6 @@
 //! The program that looks ahead.
-use crate::running::{Failing, NONE, assert_does, count_newlines, joined, words_of};
+use crate::asserting::holds;
+use crate::running::{Failing, NONE, assert_does, assert_legal, joined, words_of};
 use pl_io::{MemSink, MemSource};
 use pl_main::{read_ahead, run_ahead};
 use std::alloc::Global;
@@ -56,9 +57,9 @@ fn two_runs_print_the_same(rt: HostRuntime) {
     let alloc = rt.alloc();
     let input = joined(&rt, alloc, MODEL, MESSAGES.as_bytes());
     let (status, first) = ran(&rt, alloc, "run 20 500", NONE, &input);
-    assert!(rt; status == 0, "{status}");
+    holds(&rt, "the status", status == 0);
     let (_, second) = ran(&rt, alloc, "run 20 500", NONE, &input);
-    assert!(rt; first.as_slice() == second.as_slice(), "two runs differ");
+    holds(&rt, "the same", first.as_slice() == second.as_slice());
 }
 
 #[test]
@@ -67,12 +68,7 @@ fn its_journals_are_right(rt: HostRuntime) {
     let input = joined(&rt, alloc, MODEL, MESSAGES.as_bytes());
     for words in ["run 20 500", "run 3 50", "run 20 0"] {
         let (_, journal) = ran(&rt, alloc, words, NONE, &input);
-        let whole = joined(&rt, alloc, MODEL, &journal);
-        let entries = count_newlines(&journal);
-        let wanted = format!(in alloc; "journal ok: entries {entries} finished\n").expect(
-            &rt, "memory",
-        );
-        assert_does(&rt, alloc, "replay", NONE, &whole, 0, wanted.as_bytes());
+        assert_legal(&rt, alloc, MODEL, &journal, "finished");
     }
 }
 
@@ -82,6 +78,41 @@ fn without_plans_to_look_at_it_is_the_least_chooser(rt: HostRuntime) {
     let input = joined(&rt, alloc, MODEL, MESSAGES.as_bytes());
     let (status, journal) = ran(&rt, alloc, "run 8 0", NONE, &input);
     assert_does(&rt, alloc, "run solo 8", NONE, &input, status, &journal);
+}
+
+/// Two cameras. An observation needs a warm-up that ends just when it begins.
+const CAMERAS: &str = "horizon 200 lead 5
+capacity one 5
+capacity two 5
+kind long_one { duration 10 use one 5 }
+kind long_two { duration 10 use two 5 }
+kind warm_one { duration 5 use one 5 }
+kind warm_two { duration 5 use two 5 }
+kind short_one { duration 5 use one 5 link start warm_one end 0 0 }
+kind short_two { duration 5 use two 5 link start warm_two end 0 0 }
+begin
+";
+
+/// Two ends are told at one moment. Each asks for two repairs: an observation and its warm-up have to move.
+const ENDS: &str = "goal 1 long_one 10 10 must
+goal 2 long_two 10 10 must
+goal 3 short_one 25 60 must
+goal 4 short_two 25 60 must
+tick 6
+tick 10
+until 1 33
+until 2 33
+tick 11
+end
+";
+
+#[test]
+fn plans_anew_behind_each_measured_end(rt: HostRuntime) {
+    let alloc = rt.alloc();
+    let input = joined(&rt, alloc, CAMERAS, ENDS.as_bytes());
+    let (status, journal) = ran(&rt, alloc, "run 3 300", NONE, &input);
+    let count = count_newlines(&journal);
+    assert!(rt; status == 0 && count == 45, "{status}, {count} entries");
 }
 
 /// Words, and the turns and the plans that they ask for, added up.
@@ -97,32 +128,49 @@ run 8 5 5 = none
 Run 8 5 = none
 check = none";
 
+/// Asserts a row of these.
+fn assert_read(rt: &impl Abort, alloc: Global, row: &str) {
+    let (text, wanted) = row.split_once(" = ").unwrap_or((row, ""));
+    let words = words_of(rt, alloc, text);
+    let found = read_ahead(&words).map(|ahead| ahead.turns.saturating_add(ahead.worlds));
+    holds(rt, row, found == wanted.parse().ok());
+}
+
 #[test]
 fn reads_words(rt: HostRuntime) {
-    for line in WORDS.lines() {
-        let (text, wanted) = line.split_once(" = ").unwrap_or((line, ""));
-        let words = words_of(&rt, rt.alloc(), text);
-        let found = read_ahead(&words).map(|ahead| ahead.turns.saturating_add(ahead.worlds));
-        assert!(rt; found == wanted.parse().ok(), "{line}");
+    for row in WORDS.lines() {
+        assert_read(&rt, rt.alloc(), row);
     }
+}
+
+/// Asserts that these words end with this status over this input and write this text.
+fn assert_ran(
+    rt: &impl Abort,
+    alloc: Global,
+    words: &str,
+    failing: Failing<'_>,
+    input: &[u8],
+    status: u8,
+    text: &[u8],
+) {
+    let (found, written) = ran(rt, alloc, words, failing, input);
+    holds(rt, words, found == status && written.as_slice() == text);
 }
 
 #[test]
 fn tells_faults(rt: HostRuntime) {
     let alloc = rt.alloc();
     let input = joined(&rt, alloc, MODEL, MESSAGES.as_bytes());
-    let (status, text) = ran(&rt, alloc, "run", NONE, &input);
-    assert!(rt;
-        status == 2 && text.as_slice() == b"usage: run N WORLDS\n".as_slice(),
-        "usage"
-    );
-    let (status, text) = ran(&rt, alloc, "run 8 50", NONE, b"horizon 9");
-    assert!(rt;
-        status == 3 && text.as_slice() == b"model: no begin\n".as_slice(),
-        "no model"
-    );
-    let (status, _) = ran(&rt, alloc, "run 8 50", (&[1], &[]), &input);
-    assert!(rt; status == 4, "a read fails");
-    let (status, text) = ran(&rt, alloc, "run 8 50", (&[], &[1]), &input);
-    assert!(rt; status == 5 && text.is_empty(), "a write fails");
+    let usage = b"usage: run N WORLDS\n";
+    assert_ran(&rt, alloc, "run", NONE, &input, 2, usage);
+    let fault = b"model: no begin\n";
+    assert_ran(&rt, alloc, "run 8 50", NONE, b"horizon 9", 3, fault);
+}
+
+#[test]
+fn stops_at_faults(rt: HostRuntime) {
+    let alloc = rt.alloc();
+    let input = joined(&rt, alloc, MODEL, MESSAGES.as_bytes());
+    assert_ran(&rt, alloc, "run 8 50", (&[1], &[]), &input, 4, b"");
+    assert_ran(&rt, alloc, "run 8 50", (&[], &[1]), &input, 5, b"");
 }

@@ -1,6 +1,11 @@
 //! The demonstration: its input, its one line, and its statuses.
-use crate::running::{NONE, assert_does, count_newlines};
+use crate::asserting::holds;
+use crate::running::{assert_does, assert_says, count_newlines};
 use pl_report::demo_input;
+use std::alloc::Global;
+use std::process::Abort;
+use std::sync::Wait;
+use std::thread::Threads;
 
 const INPUT: &str = "horizon 1000000
 lead 100
@@ -19,22 +24,28 @@ end
 ";
 
 const USAGE: &str =
-    "usage: run solo N | run pair N SEED | check | replay | report | demo N | flex ID | forecast\n";
+    "usage: run solo N | run pair N SEED | check | replay | report | demo N | flex ID | forecast";
 
 #[test]
 fn makes_the_worked_input(rt: HostRuntime) {
     let input = demo_input(rt.alloc(), 2).expect(&rt, "memory");
-    assert!(rt; input.as_slice() == INPUT.as_bytes());
+    holds(&rt, "the input", input.as_slice() == INPUT.as_bytes());
+}
+
+/// Asserts that the input of so many goals has its lines, and a model.
+fn assert_made<R: Abort + Threads + Wait + Sync>(rt: &R, alloc: Global, goals: u32) {
+    holds(rt, "some goals", 1 <= goals && goals <= 4000);
+    let input = demo_input(alloc, goals).expect(rt, "memory");
+    let lines = count_newlines(input.as_slice()) as u64;
+    holds(rt, "its lines", lines == 2 * u64::from(goals) + 10);
+    let said = "model ok: timelines 2 kinds 4";
+    assert_says(rt, alloc, "check", input.as_slice(), 0, said);
 }
 
 #[test]
 fn makes_inputs(rt: HostRuntime) {
-    let alloc = rt.alloc();
-    let said = b"model ok: timelines 2 kinds 4\n";
     for goals in [1, 2, 7, 64] {
-        let input = demo_input(alloc, goals).expect(&rt, "memory");
-        assert!(rt; count_newlines(input.as_slice()) == 2 * goals as usize + 10);
-        assert_does(&rt, alloc, "check", NONE, input.as_slice(), 0, said);
+        assert_made(&rt, rt.alloc(), goals);
     }
 }
 
@@ -46,18 +57,16 @@ demo 30 entries 287 activities 60 dispatched 29 conflicts 0";
 
 #[test]
 fn shows_summaries(rt: HostRuntime) {
-    let alloc = rt.alloc();
     for line in SUMMARIES.lines() {
         let (words, _) = line.split_once(" entries").unwrap_or((line, ""));
-        let text = format!(in alloc; "{line}\n").expect(&rt, "memory");
-        assert_does(&rt, alloc, words, NONE, b"", 0, text.as_bytes());
+        assert_says(&rt, rt.alloc(), words, b"", 0, line);
     }
 }
 
 #[test]
 fn refuses_other_words(rt: HostRuntime) {
     for words in ["run solo 0", "demo 0", "demo 4001", "demo", ""] {
-        assert_does(&rt, rt.alloc(), words, NONE, b"", 2, USAGE.as_bytes());
+        assert_says(&rt, rt.alloc(), words, b"", 2, USAGE);
     }
 }
 

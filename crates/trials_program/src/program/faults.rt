@@ -1,8 +1,10 @@
 //! The worked run, stopped at each read and at each write, and wherever the output has no room left.
+use crate::asserting::holds;
 use crate::breaking::Breaking;
 use crate::journals::models::{HEAD, INPUT, JOURNAL};
-use crate::running::{ROOM, assert_does, count_newlines, does_within, joined};
-use pl_io::MemSource;
+use crate::running::{
+    Ended, ROOM, assert_does, count_newlines, does_in, does_within, joined, line_of, sides,
+};
 use std::alloc::Global;
 use std::process::Abort;
 use std::sync::Wait;
@@ -41,11 +43,9 @@ fn breaks_off<R: Abort + Threads + Wait + Sync>(rt: &R, alloc: Global, given: us
     let mut source = Breaking::new(came);
     let (status, sink) = does_within(rt, alloc, "run solo 8", &mut source, ROOM);
     let wanted = if lines < 9 { 4 } else { 0 };
-    assert!(rt; status == wanted, "{given}: {status}");
-    assert!(rt;
-        sink.bytes() == first_lines(written_behind(lines)),
-        "{given}"
-    );
+    holds(rt, "the status behind each byte", status == wanted);
+    let text = first_lines(written_behind(lines));
+    holds(rt, "the text behind each byte", sink.bytes() == text);
 }
 
 #[test]
@@ -55,23 +55,39 @@ fn stops_at_each_read(rt: HostRuntime) {
     }
 }
 
-/// The thirteenth write is never made.
+/// Runs with a write that fails. The thirteenth write is never made.
+fn fails_at<R: Abort + Threads + Wait + Sync>(rt: &R, alloc: Global, write: u64) {
+    let status = if write < 13 { 5 } else { 0 };
+    let text = first_lines(write.wrapping_sub(1) as usize);
+    let input = INPUT.as_bytes();
+    assert_does(
+        rt,
+        alloc,
+        "run solo 8",
+        (&[], &[write]),
+        input,
+        status,
+        text,
+    );
+}
+
 #[test]
 fn stops_at_each_write(rt: HostRuntime) {
-    let (alloc, input) = (rt.alloc(), INPUT.as_bytes());
-    for write in 1..14u64 {
-        let status = if write < 13 { 5 } else { 0 };
-        let text = first_lines(write.wrapping_sub(1) as usize);
-        assert_does(
-            &rt,
-            alloc,
-            "run solo 8",
-            (&[], &[write]),
-            input,
-            status,
-            text,
-        );
+    for write in 1..14 {
+        fails_at(&rt, rt.alloc(), write);
     }
+}
+
+/// Whether a run wrote as much of the text as there was room for, and then stopped.
+fn is_full(ended: &Ended, room: usize, text: &[u8]) -> bool {
+    let (status, sink) = ended;
+    let written = sink.bytes();
+    *status == 5 && written.len() == room && text.starts_with(written)
+}
+
+/// Whether a run wrote the whole text.
+fn is_whole(ended: &Ended, text: &[u8]) -> bool {
+    ended.0 != 5 && ended.1.bytes() == text
 }
 
 /// Runs with room for each number of bytes up to the whole text.
@@ -83,21 +99,14 @@ fn fills_up<R: Abort + Threads + Wait + Sync>(
     text: &[u8],
 ) {
     for room in 0..text.len() {
-        let mut source = MemSource::new(alloc, input, &[]).expect(rt, "memory");
-        let (status, sink) = does_within(rt, alloc, words, &mut source, room);
-        let written = sink.bytes();
-        assert!(rt;
-            status == 5 && written.len() == room,
-            "{words}, {room}: {status}"
-        );
-        assert!(rt; text.starts_with(written), "{words}, {room}");
+        let ended = does_in(rt, alloc, words, input, room);
+        holds(rt, words, is_full(&ended, room, text));
     }
-    let mut source = MemSource::new(alloc, input, &[]).expect(rt, "memory");
-    let (status, sink) = does_within(rt, alloc, words, &mut source, text.len());
-    assert!(rt; status != 5 && sink.bytes() == text, "{words}: {status}");
+    let ended = does_in(rt, alloc, words, input, text.len());
+    holds(rt, words, is_whole(&ended, text));
 }
 
-/// Words over the worked run's model with its journal behind it, and the one line that is due.
+/// Words over the worked run's model with its journal behind it, and what is due.
 const LINES: &str = "check => model ok: timelines 0 kinds 1
 replay => journal ok: entries 12 finished
 demo 2 => demo 2 entries 20 activities 4 dispatched 0 conflicts 0
@@ -109,21 +118,25 @@ activity 1 obs 10 15 root committed
 command 1 obs 10
 ";
 
+/// Fills up with the one line of a row.
+fn fills_line<R: Abort + Threads + Wait + Sync>(rt: &R, alloc: Global, input: &[u8], row: &str) {
+    let (words, line) = sides(row);
+    let text = line_of(rt, alloc, line);
+    fills_up(rt, alloc, words, input, text.as_bytes());
+}
+
 #[test]
-fn stops_where_no_room_is_left(rt: HostRuntime) {
+fn runs_stop_where_no_room_is_left(rt: HostRuntime) {
+    let (input, text) = (INPUT.as_bytes(), JOURNAL.as_bytes());
+    fills_up(&rt, rt.alloc(), "run solo 8", input, text);
+}
+
+#[test]
+fn commands_stop_where_no_room_is_left(rt: HostRuntime) {
     let alloc = rt.alloc();
-    fills_up(
-        &rt,
-        alloc,
-        "run solo 8",
-        INPUT.as_bytes(),
-        JOURNAL.as_bytes(),
-    );
     let input = joined(&rt, alloc, HEAD, JOURNAL.as_bytes());
     for row in LINES.lines() {
-        let (words, line) = row.split_once(" => ").unwrap_or((row, ""));
-        let text = format!(in alloc; "{line}\n").expect(&rt, "memory");
-        fills_up(&rt, alloc, words, &input, text.as_bytes());
+        fills_line(&rt, alloc, &input, row);
     }
     fills_up(&rt, alloc, "report", &input, REPORT.as_bytes());
 }

@@ -1,5 +1,5 @@
 //! Forecasts: what the rates before a journal come to, and what is refused there.
-use crate::running::{Failing, NONE, assert_does, joined, lines};
+use crate::running::{Failing, NONE, assert_does, joined, lines, sides};
 use std::alloc::Global;
 use std::process::Abort;
 use std::sync::Wait;
@@ -64,56 +64,49 @@ fn assert_foretells<R: Abort + Threads + Wait + Sync>(
     );
 }
 
+/// Asserts a row of these.
+fn assert_row<R: Abort + Threads + Wait + Sync>(rt: &R, alloc: Global, row: &str) {
+    let (before, rest) = sides(row);
+    let (status, text) = sides(rest);
+    let status = status.parse().unwrap_or(255);
+    assert_foretells(rt, alloc, NONE, before, status, text);
+}
+
 #[test]
 fn foretells(rt: HostRuntime) {
     for row in ROWS.lines() {
-        let (before, rest) = row.split_once(" => ").unwrap_or((row, ""));
-        let (status, text) = rest.split_once(" => ").unwrap_or((rest, ""));
-        let status = status.parse().unwrap_or(255);
-        assert_foretells(&rt, rt.alloc(), NONE, before, status, text);
+        assert_row(&rt, rt.alloc(), row);
     }
 }
 
 /// So many drifts, and then a line.
 fn drifts(rt: &impl Abort, alloc: Global, count: usize, last: &str) -> String {
-    let mut text = String::new(alloc);
-    for _ in 0..count {
-        text.push_str("drift bat 1;").expect(rt, "memory");
-    }
-    text.push_str(last).expect(rt, "memory");
-    text
+    let drifts = "drift bat 1;".repeat(alloc, count).expect(rt, "memory");
+    format!(in alloc; "{drifts}{last}").expect(rt, "memory")
+}
+
+/// Asserts what a forecast says of so many drifts, and then a line.
+fn assert_drifts<R: Abort + Threads + Wait + Sync>(
+    rt: &R,
+    alloc: Global,
+    count: usize,
+    last: &str,
+    status: u8,
+    text: &str,
+) {
+    let before = drifts(rt, alloc, count, last);
+    assert_foretells(rt, alloc, NONE, before.as_str(), status, text);
 }
 
 #[test]
 fn takes_64_rates(rt: HostRuntime) {
     let alloc = rt.alloc();
-    let most = drifts(&rt, alloc, 64, "journal;");
-    assert_foretells(
-        &rt,
-        alloc,
-        NONE,
-        most.as_str(),
-        0,
-        "forecast spans 1;high bat 1 100;",
-    );
-    let more = drifts(&rt, alloc, 65, "journal;");
-    assert_foretells(
-        &rt,
-        alloc,
-        NONE,
-        more.as_str(),
-        3,
-        "rate: line 72: too many;",
-    );
-    let faulty = drifts(&rt, alloc, 64, "drift;journal;");
-    assert_foretells(
-        &rt,
-        alloc,
-        NONE,
-        faulty.as_str(),
-        3,
-        "rate: line 72: bad line;",
-    );
+    let high = "forecast spans 1;high bat 1 100;";
+    assert_drifts(&rt, alloc, 64, "journal;", 0, high);
+    let many = "rate: line 72: too many;";
+    assert_drifts(&rt, alloc, 65, "journal;", 3, many);
+    let bad = "rate: line 72: bad line;";
+    assert_drifts(&rt, alloc, 64, "drift;journal;", 3, bad);
 }
 
 #[test]

@@ -1,33 +1,34 @@
 //! Texts that are made to be refused, through the program: models, messages, journals.
-use crate::journals::models::{HEAD, JOURNAL, OPEN};
-use crate::running::{NONE, assert_does, joined, lines};
+use crate::journals::models::{HEAD, JOURNAL, MODEL, OPEN};
+use crate::program::journals::{assert_judged, assert_wrong};
+use crate::running::{NONE, assert_does, assert_says, joined, line_of, lines, sides};
 use std::alloc::Global;
 use std::process::Abort;
 use std::sync::Wait;
 use std::thread::Threads;
 
-/// A piece so many times, and in each its number, from 0, in the place of `#`.
-fn repeated(rt: &impl Abort, alloc: Global, piece: &str, times: usize) -> String {
-    if !piece.contains('#') {
-        return piece.repeat(alloc, times).expect(rt, "memory");
-    }
-    let mut text = String::new(alloc);
-    for number in 0..times {
-        let (front, rest) = piece.split_once('#').unwrap_or((piece, ""));
-        let next = format!(in alloc; "{front}{number}{rest}").expect(rt, "memory");
-        text.push_str(next.as_str()).expect(rt, "memory");
-    }
-    text
+/// Puts a piece behind the text, with its number in the place of `#`.
+fn push_piece(rt: &impl Abort, alloc: Global, text: &mut String, piece: &str, number: usize) {
+    let digits = format!(in alloc; "{number}").expect(rt, "memory");
+    let next = piece
+        .replace(alloc, "#", digits.as_str())
+        .expect(rt, "memory");
+    text.push_str(next.as_str()).expect(rt, "memory");
 }
 
-/// A text of pieces with a bar between two; `32*(` is a piece of 32 brackets, and `;` is a newline.
+/// Puts a piece as often as is said: `32*(` is 32 brackets.
+fn push_pieces(rt: &impl Abort, alloc: Global, text: &mut String, piece: &str) {
+    let (times, piece) = piece.split_once('*').unwrap_or(("1", piece));
+    for number in 0..times.parse().unwrap_or(0) {
+        push_piece(rt, alloc, text, piece, number);
+    }
+}
+
+/// A text of pieces with a bar between two; `;` is a newline.
 fn text_of(rt: &impl Abort, alloc: Global, pieces: &str) -> String {
     let mut text = String::new(alloc);
     for piece in pieces.split('|') {
-        let (times, piece) = piece.split_once('*').unwrap_or(("1", piece));
-        let times = times.parse().unwrap_or(0);
-        let next = repeated(rt, alloc, piece, times);
-        text.push_str(next.as_str()).expect(rt, "memory");
+        push_pieces(rt, alloc, &mut text, piece);
     }
     lines(rt, alloc, text.as_str())
 }
@@ -60,36 +61,38 @@ fn assert_checked<R: Abort + Threads + Wait + Sync>(
     line: &str,
 ) {
     let input = format!(in alloc; "{model}\nbegin\n").expect(rt, "memory");
-    let text = format!(in alloc; "{line}\n").expect(rt, "memory");
     let status = if line.starts_with("model ok") { 0 } else { 3 };
-    let (input, text) = (input.as_bytes(), text.as_bytes());
-    assert_does(rt, alloc, "check", NONE, input, status, text);
+    assert_says(rt, alloc, "check", input.as_bytes(), status, line);
+}
+
+/// Asserts a row of these.
+fn assert_model<R: Abort + Threads + Wait + Sync>(rt: &R, alloc: Global, row: &str) {
+    let (pieces, line) = sides(row);
+    let model = text_of(rt, alloc, pieces);
+    assert_checked(rt, alloc, model.as_str(), line);
 }
 
 #[test]
 fn checks_hostile_models(rt: HostRuntime) {
-    let alloc = rt.alloc();
     for row in MODELS.lines() {
-        let (pieces, line) = row.split_once(" => ").unwrap_or((row, ""));
-        let model = text_of(&rt, alloc, pieces);
-        assert_checked(&rt, alloc, model.as_str(), line);
+        assert_model(&rt, rt.alloc(), row);
     }
 }
 
-/// The model's text behind newlines has 1,048,576 bytes, and then one more.
+/// Asserts what `check` says of a model's text behind so many newlines.
+fn assert_long<R: Abort + Threads + Wait + Sync>(rt: &R, alloc: Global, count: usize, line: &str) {
+    let blanks = "\n".repeat(alloc, count).expect(rt, "memory");
+    let model = "horizon 100\nlead 30\nkind obs {\nduration 5\n}";
+    let text = format!(in alloc; "{blanks}{model}").expect(rt, "memory");
+    assert_checked(rt, alloc, text.as_str(), line);
+}
+
+/// The text has 1,048,576 bytes, and then one more.
 #[test]
 fn checks_long_models(rt: HostRuntime) {
     let alloc = rt.alloc();
-    let model = "horizon 100\nlead 30\nkind obs {\nduration 5\n}";
-    let lines = [
-        (1_048_532, "model ok: timelines 0 kinds 1"),
-        (1_048_533, "model: too long"),
-    ];
-    for (count, line) in lines {
-        let blanks = "\n".repeat(alloc, count).expect(&rt, "memory");
-        let text = format!(in alloc; "{blanks}{model}").expect(&rt, "memory");
-        assert_checked(&rt, alloc, text.as_str(), line);
-    }
+    assert_long(&rt, alloc, 1_048_532, "model ok: timelines 0 kinds 1");
+    assert_long(&rt, alloc, 1_048_533, "model: too long");
 }
 
 /// Messages at the present 0, and the entries that each leads to; `;` is a newline.
@@ -134,7 +137,7 @@ fn assert_answers<R: Abort + Threads + Wait + Sync>(
     reply: &str,
     rest: &str,
 ) {
-    let line = format!(in alloc; "{message}\n").expect(rt, "memory");
+    let line = line_of(rt, alloc, message);
     let rest = lines(rt, alloc, rest);
     let text = format!(in alloc; "1 in {reply} : {message}\n{rest}").expect(rt, "memory");
     let input = joined(rt, alloc, HEAD, line.as_bytes());
@@ -144,29 +147,14 @@ fn assert_answers<R: Abort + Threads + Wait + Sync>(
 
 #[test]
 fn answers_hostile_messages(rt: HostRuntime) {
-    let alloc = rt.alloc();
     for row in MESSAGES.lines() {
-        let (message, reply) = row.split_once(" => ").unwrap_or((row, ""));
-        assert_answers(&rt, alloc, message, reply, REFUSED);
+        let (message, reply) = sides(row);
+        assert_answers(&rt, rt.alloc(), message, reply, REFUSED);
     }
     for row in TAKEN.lines() {
-        let (message, rest) = row.split_once(" => ").unwrap_or((row, ""));
-        assert_answers(&rt, alloc, message, "ok", rest);
+        let (message, rest) = sides(row);
+        assert_answers(&rt, rt.alloc(), message, "ok", rest);
     }
-}
-
-/// Asserts what both commands over a journal say of one.
-fn assert_judged<R: Abort + Threads + Wait + Sync>(
-    rt: &R,
-    alloc: Global,
-    journal: &str,
-    status: u8,
-    text: &str,
-) {
-    let input = joined(rt, alloc, HEAD, journal.as_bytes());
-    let text = text.as_bytes();
-    assert_does(rt, alloc, "replay", NONE, &input, status, text);
-    assert_does(rt, alloc, "report", NONE, &input, status, text);
 }
 
 /// A text of the worked journal, what stands in its place, and what is said of the first wrong entry.
@@ -180,19 +168,19 @@ commit 30 => commit 100 => 9: reply is behind";
 
 #[test]
 fn judges_hostile_journals(rt: HostRuntime) {
-    let alloc = rt.alloc();
     for row in JOURNALS.lines() {
-        let (from, rest) = row.split_once(" => ").unwrap_or((row, ""));
-        let (to, said) = rest.split_once(" => ").unwrap_or((rest, ""));
-        let (front, behind) = JOURNAL.split_once(from).unwrap_or(("no such text", ""));
-        let journal = format!(in alloc; "{front}{to}{behind}").expect(&rt, "memory");
-        let text = format!(in alloc; "journal: entry {said}\n").expect(&rt, "memory");
-        assert_judged(&rt, alloc, journal.as_str(), 8, text.as_str());
+        assert_wrong(&rt, rt.alloc(), (MODEL, JOURNAL), row);
     }
+}
+
+/// A line of an entry has 4,160 bytes at most.
+#[test]
+fn judges_long_lines(rt: HostRuntime) {
+    let alloc = rt.alloc();
     let first = "journal: entry 0: not a line\n";
-    assert_judged(&rt, alloc, "", 8, first);
+    assert_judged(&rt, alloc, (MODEL, ""), 8, first);
     let longest = "x".repeat(alloc, 4160).expect(&rt, "memory");
-    assert_judged(&rt, alloc, longest.as_str(), 8, first);
+    assert_judged(&rt, alloc, (MODEL, longest.as_str()), 8, first);
     let longer = "x".repeat(alloc, 4161).expect(&rt, "memory");
-    assert_judged(&rt, alloc, longer.as_str(), 6, "");
+    assert_judged(&rt, alloc, (MODEL, longer.as_str()), 6, "");
 }

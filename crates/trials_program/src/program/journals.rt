@@ -1,23 +1,23 @@
 //! The commands over a journal: what they say of a legal one and of a wrong one, and their statuses.
-use crate::running::{Failing, NONE, assert_does, joined};
+use crate::journals::models::changed;
+use crate::running::{Failing, NONE, assert_does, joined, sides};
 use std::alloc::Global;
 use std::process::Abort;
 use std::sync::Wait;
 use std::thread::Threads;
 
 /// A model, and a journal behind it.
-type Journal<'a> = (&'a str, &'a str);
+pub type Journal<'a> = (&'a str, &'a str);
 
 /// Asserts that a command over a model and a journal ends with this status and writes this text.
-fn assert_says<R: Abort + Threads + Wait + Sync>(
+pub fn assert_tells<R: Abort + Threads + Wait + Sync>(
     rt: &R,
     alloc: Global,
     command: &str,
-    journal: Journal<'_>,
+    (model, journal): Journal<'_>,
     status: u8,
     text: &str,
 ) {
-    let (model, journal) = journal;
     let input = format!(in alloc; "{model}\nbegin\n{journal}").expect(rt, "memory");
     let (input, text) = (input.as_bytes(), text.as_bytes());
     assert_does(rt, alloc, command, NONE, input, status, text);
@@ -98,114 +98,66 @@ activity 1 shot 10 15 root committed
 command 1 shot 10 gain=2 tilt=3 sum=5
 ";
 
+/// Commands, each with a journal and what it says of it.
+const SAID: [(&str, Journal<'static>, &str); 4] = [
+    (
+        "replay",
+        (KINDS, GOALS),
+        "journal ok: entries 26 unfinished\n",
+    ),
+    ("report", (KINDS, GOALS), REPORT),
+    ("replay", (VALUES, RUN), "journal ok: entries 12 finished\n"),
+    ("report", (VALUES, RUN), RUN_REPORT),
+];
+
 #[test]
 fn tells_of_legal_journals(rt: HostRuntime) {
-    let (alloc, goals, run) = (rt.alloc(), (KINDS, GOALS), (VALUES, RUN));
-    assert_says(
-        &rt,
-        alloc,
-        "replay",
-        goals,
-        0,
-        "journal ok: entries 26 unfinished\n",
-    );
-    assert_says(&rt, alloc, "report", goals, 0, REPORT);
-    assert_says(
-        &rt,
-        alloc,
-        "replay",
-        run,
-        0,
-        "journal ok: entries 12 finished\n",
-    );
-    assert_says(&rt, alloc, "report", run, 0, RUN_REPORT);
+    for (command, journal, text) in SAID {
+        assert_tells(&rt, rt.alloc(), command, journal, 0, text);
+    }
 }
 
-/// A scan of two shots, the second from 0 to 3 after the end of the first, at a present of 5 and a floor of 10.
-const SCAN: &str = "horizon 100 lead 30 kind shot { duration 5 }
-kind scan { duration 10 alternative { slot a shot slot b shot order a end b start 0 3 } }";
-
-const SCANNED: &str = "0 open turns 1 live 10000 goals 20000 entries 250000
-1 in ok : goal 1 scan 10 20 must
-2 fix 20 open-goal 1 0 10 20 by add scan 10 goal 1 : ok
-3 rest spent
-4 commit 10 : ok
-5 close
-6 in ok : tick 5
-7 fix 10 undetailed 1 0 0 0 by detail 1 0 : ok
-";
-
-const SCAN_WINDOWS: &str = "flex windows 3
-window 1 10 20
-window 2 10 90
-window 3 15 95
-";
-
-const SHOT_PATHS: &str = "low 5 4 0
-low 4 3 -5
-low 3 0 -10
-high 0 6 100
-high 6 5 -5
-";
-
-/// A goal whose window lies before the floor, so that its activity has no start.
-const LATE: &str = "horizon 100 lead 5 kind obs { duration 5 }";
-
-const LATE_RUN: &str = "0 open turns 8 live 10000 goals 20000 entries 250000
-1 in ok : goal 1 obs 10 20 must
-2 fix 20 open-goal 1 0 10 20 by add obs 10 goal 1 : ok
-3 rest clear
-4 commit 5 : ok
-5 close
-6 in ok : tick 25
-";
-
-const NEVER: &str = "flex: no schedule
-cycle 0 1 20
-cycle 1 0 -26
-";
-
-#[test]
-fn tells_how_far_activities_can_move(rt: HostRuntime) {
-    let (alloc, scan, late) = (rt.alloc(), (SCAN, SCANNED), (LATE, LATE_RUN));
-    let paths = format!(in alloc; "{SCAN_WINDOWS}{SHOT_PATHS}").expect(&rt, "memory");
-    assert_says(&rt, alloc, "flex 3", scan, 0, paths.as_str());
-    assert_says(&rt, alloc, "flex 4", scan, 0, SCAN_WINDOWS);
-    assert_says(&rt, alloc, "flex 0", late, 0, NEVER);
-}
-
-/// Asserts that both commands tell the wrong entry of the run with another text in place of one.
-fn assert_tells<R: Abort + Threads + Wait + Sync>(
+/// Asserts what both commands say of a journal.
+pub fn assert_judged<R: Abort + Threads + Wait + Sync>(
     rt: &R,
     alloc: Global,
-    from: &str,
-    to: &str,
-    said: &str,
+    journal: Journal<'_>,
+    status: u8,
+    text: &str,
 ) {
-    let (front, rest) = RUN.split_once(from).unwrap_or(("no such text", ""));
-    let journal = format!(in alloc; "{front}{to}{rest}").expect(rt, "memory");
+    assert_tells(rt, alloc, "replay", journal, status, text);
+    assert_tells(rt, alloc, "report", journal, status, text);
+}
+
+/// Asserts what both commands say of a journal with a change. A row has a text, what stands in its place, and what is said of
+/// the first wrong entry.
+pub fn assert_wrong<R: Abort + Threads + Wait + Sync>(
+    rt: &R,
+    alloc: Global,
+    (model, journal): Journal<'_>,
+    row: &str,
+) {
+    let (from, rest) = sides(row);
+    let (to, said) = sides(rest);
+    let journal = changed(rt, alloc, journal, from, to);
     let text = format!(in alloc; "journal: entry {said}\n").expect(rt, "memory");
-    let (journal, text) = ((VALUES, journal.as_str()), text.as_str());
-    assert_says(rt, alloc, "replay", journal, 8, text);
-    assert_says(rt, alloc, "report", journal, 8, text);
+    assert_judged(rt, alloc, (model, journal.as_str()), 8, text.as_str());
 }
 
 /// A text of the run, what stands in its place, and the wrong entry with its cause.
-const CHANGES: &str = "in ok/in range/1: reply is ok
-add shot 10 goal 1/drop 1/2: reply is not-for
-rest clear/rest stuck/3: reply is clear
-fix 10 open-goal 1 0 10 10 by add shot 10 goal 1 : ok/commit 20 : ok/2: reply is held 10 open-goal 1 0 10 10
- gain=2 tilt=3 sum=5/ tilt=3/8: reply is 1 shot 10 gain=2 tilt=3 sum=5
-entries 100/entries 5/5: log full
-5 close/5 rest clear/5: not now
-5 close/5 clos/5: not a line";
+const CHANGES: &str = "in ok => in range => 1: reply is ok
+add shot 10 goal 1 => drop 1 => 2: reply is not-for
+rest clear => rest stuck => 3: reply is clear
+fix 10 open-goal 1 0 10 10 by add shot 10 goal 1 : ok => commit 20 : ok => 2: reply is held 10 open-goal 1 0 10 10
+ gain=2 tilt=3 sum=5 =>  tilt=3 => 8: reply is 1 shot 10 gain=2 tilt=3 sum=5
+entries 100 => entries 5 => 5: log full
+5 close => 5 rest clear => 5: not now
+5 close => 5 clos => 5: not a line";
 
 #[test]
 fn tells_the_first_wrong_entry(rt: HostRuntime) {
-    for line in CHANGES.lines() {
-        let (from, rest) = line.split_once("/").unwrap_or((line, ""));
-        let (to, said) = rest.split_once("/").unwrap_or((rest, ""));
-        assert_tells(&rt, rt.alloc(), from, to, said);
+    for row in CHANGES.lines() {
+        assert_wrong(&rt, rt.alloc(), (VALUES, RUN), row);
     }
 }
 
@@ -231,11 +183,8 @@ fn stops_by_faults(rt: HostRuntime) {
 #[test]
 fn stops_at_a_long_line(rt: HostRuntime) {
     let alloc = rt.alloc();
-    let mut input = joined(&rt, alloc, VALUES, b"\nbegin\n");
-    for _ in 0..4161 {
-        input.push(b'x').expect(&rt, "memory");
-    }
-    assert_stops(&rt, alloc, NONE, &input, 6);
+    let longer = "x".repeat(alloc, 4161).expect(&rt, "memory");
+    assert_tells(&rt, alloc, "report", (VALUES, longer.as_str()), 6, "");
 }
 
 #[test]

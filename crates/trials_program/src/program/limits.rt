@@ -1,10 +1,15 @@
 //! A run that fills its log.
-use crate::running::{count_newlines, does_within};
-use pl_io::MemSource;
+use crate::asserting::holds;
+use crate::running::{count_newlines, does_in};
 use std::alloc::Global;
 use std::process::Abort;
 use std::sync::Wait;
 use std::thread::Threads;
+
+fn push_tick(rt: &impl Abort, alloc: Global, text: &mut String, moment: u32) {
+    let line = format!(in alloc; "tick {moment}\n").expect(rt, "memory");
+    text.push_str(line.as_str()).expect(rt, "memory");
+}
 
 /// A tick of four entries at each of 62,498 moments, two wrong lines of three, and a last text. Ahead of that text the log has
 /// 249,999 entries with the open one.
@@ -12,11 +17,10 @@ fn input(rt: &impl Abort, alloc: Global, last: &str) -> String {
     let model = "horizon 100000 lead 30 kind obs { duration 5 }\nbegin\n";
     let mut text = String::from_str(alloc, model).expect(rt, "memory");
     for moment in 1..62_499 {
-        let line = format!(in alloc; "tick {moment}\n").expect(rt, "memory");
-        text.push_str(line.as_str()).expect(rt, "memory");
+        push_tick(rt, alloc, &mut text, moment);
     }
-    let behind = format!(in alloc; "x\nx\n{last}").expect(rt, "memory");
-    text.push_str(behind.as_str()).expect(rt, "memory");
+    text.push_str("x\nx\n").expect(rt, "memory");
+    text.push_str(last).expect(rt, "memory");
     text
 }
 
@@ -29,11 +33,10 @@ fn assert_fills<R: Abort + Threads + Wait + Sync>(
     entry: &[u8],
 ) {
     let input = input(rt, alloc, last);
-    let mut source = MemSource::new(alloc, input.as_bytes(), &[]).expect(rt, "memory");
-    let (found, sink) = does_within(rt, alloc, "run solo 1", &mut source, 8_000_000);
-    assert!(rt; found == status, "{found}");
-    assert!(rt; count_newlines(sink.bytes()) == 250_000, "{found}");
-    assert!(rt; sink.bytes().ends_with(entry), "{found}");
+    let (found, sink) = does_in(rt, alloc, "run solo 1", input.as_bytes(), 8_000_000);
+    holds(rt, "the status", found == status);
+    holds(rt, "all entries", count_newlines(sink.bytes()) == 250_000);
+    holds(rt, "the last entry", sink.bytes().ends_with(entry));
 }
 
 #[test]

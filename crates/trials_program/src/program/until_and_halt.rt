@@ -1,19 +1,23 @@
 //! Whole journals of runs with measured ends and with halts, as an independent program prints them.
-use crate::program::runs::assert_plans;
+use crate::program::plans::assert_plans;
 use std::alloc::Global;
 use std::process::Abort;
 
 const CAM: &str = "horizon 100 lead 5 capacity cam 5 kind obs { duration 5 use cam 5 }
+begin
 ";
 
 const OBS: &str = "horizon 100 lead 30 kind obs { duration 5 }
+begin
 ";
 
 const BAT: &str = "horizon 100 lead 30 level bat 3 9 5
+begin
 ";
 
 const SCAN: &str = "horizon 100 lead 30 kind shot { duration 5 }
 kind scan { duration 10 alternative { slot a shot slot b shot order a end b start 0 3 order b end parent end 0 40 } }
+begin
 ";
 
 /// An observation takes longer than planned, so the next one comes behind its measured end.
@@ -268,6 +272,6 @@ fn takes_measured_ends_and_halts(rt: HostRuntime) {
     ];
     for (model, journal) in runs {
         let messages = messages_of(&rt, alloc, journal);
-        assert_plans(&rt, alloc, 8, model, messages.as_str(), journal);
+        assert_plans(&rt, alloc, (8, model, messages.as_str(), journal));
     }
 }

@@ -1,5 +1,9 @@
+//! What words ask for.
+use crate::asserting::holds;
 use crate::running::words_of;
 use pl_main::{Command, Task, read_words};
+use std::alloc::Global;
+use std::process::Abort;
 
 /// What the words ask for: the turns of a run, 0 for a check, 1,001 for a replay, 1,002 for a report and 1,003 for a forecast, the goals of a
 /// demonstration, the id of an activity whose paths are asked for, the turns and the seed of a pair added up, nothing where they are no command.
@@ -61,12 +65,17 @@ forecast = 1003
 forecast 8 = none
 Forecast = none";
 
+/// Asserts a row of these.
+fn assert_read(rt: &impl Abort, alloc: Global, row: &str) {
+    let (text, wanted) = row.split_once(" = ").unwrap_or((row, ""));
+    let words = words_of(rt, alloc, text);
+    holds(rt, row, number_of(&words) == wanted.parse().ok());
+}
+
 #[test]
 fn reads_words(rt: HostRuntime) {
-    for line in WORDS.lines() {
-        let (text, wanted) = line.split_once(" = ").unwrap_or((line, ""));
-        let words = words_of(&rt, rt.alloc(), text);
-        assert!(rt; number_of(&words) == wanted.parse().ok(), "{line}");
+    for row in WORDS.lines() {
+        assert_read(&rt, rt.alloc(), row);
     }
-    assert!(rt; number_of(&[]).is_none());
+    holds(&rt, "no words", number_of(&[]).is_none());
 }

@@ -2,4 +2,4 @@ use Rattle.std.proofs.Common.{◌≡◌, length}
 use Rattle.lundocsef_bench.proofs.levels.filled.Given as goal
 
 abbrev pub invariant-loop-index : goal.invariant-loop-index
-invariant-loop-index g l = length l.line.effects ≡ l.index
+invariant-loop-index g l = length l.timeline.effects ≡ l.index

@@ -1,17 +1,13 @@
-use Rattle.std.proofs.Common.{◌≤◌, length}
-use Rattle.pl_turn.specs.Passes.{seen_of}
-use Rattle.pl_shared.specs.Items.{entries_in}
 use Rattle.pl_shared.specs.Plans.{BelongsTo}
 use Rattle.pl_pair.specs.Workers.{AreHands, SameDuties}
 use Rattle.pl_pair.specs.Rounds.{LooksAtPlan}
 use Rattle.pl_pair.proofs.waiting.wait_closed.Given as goal
 
--- the round so far
+-- the round is not over yet
 abbrev pub invariant-loop : goal.invariant-loop
 invariant-loop g l = record {
   own : BelongsTo l.plan l.pass;
   hands : AreHands l.plan l.hands;
   duties : SameDuties l.initial.hands l.hands;
   looks : LooksAtPlan l.initial.pass l.pass;
-  within : l.seen ≤ length (entries_in (seen_of l.pass));
 }

@@ -1,25 +1,13 @@
 use denote.Param.Send.{sendable}
 use Rattle.std.proofs.Crossing.{crosses}
-use Rattle.pl_shared.proofs.Crossing.{held_send, held_sync, noted_send, noted_sync, plan_send, plan_sync, pass_send}
+use Rattle.pl_shared.proofs.Crossing.{plan_send, plan_sync, pass_send}
 use Rattle.pl_shared.proofs.sharing.shared_types.Goals as goal
 
-pub may_be_shared-requires-3-send-T : goal.may_be_shared-requires-3-send-T
-may_be_shared-requires-3-send-T c κs = search (held_send, sendable, crosses) depth 40 fits 6000
+pub may_be_shared-requires-send-T : goal.may_be_shared-requires-send-T
+may_be_shared-requires-send-T c κs = search (plan_send, sendable, crosses) depth 40 fits 6000
 
-pub may_be_shared-requires-3-sync-T : goal.may_be_shared-requires-3-sync-T
-may_be_shared-requires-3-sync-T c κs = search (held_sync, sendable, crosses) depth 40 fits 6000
-
-pub may_be_shared-requires-4-send-T : goal.may_be_shared-requires-4-send-T
-may_be_shared-requires-4-send-T c κs = search (noted_send, sendable, crosses) depth 40 fits 6000
-
-pub may_be_shared-requires-4-sync-T : goal.may_be_shared-requires-4-sync-T
-may_be_shared-requires-4-sync-T c κs = search (noted_sync, sendable, crosses) depth 40 fits 6000
-
-pub may_be_shared-requires-7-send-T : goal.may_be_shared-requires-7-send-T
-may_be_shared-requires-7-send-T c κs = search (plan_send, sendable, crosses) depth 40 fits 6000
-
-pub may_be_shared-requires-7-sync-T : goal.may_be_shared-requires-7-sync-T
-may_be_shared-requires-7-sync-T c κs = search (plan_sync, sendable, crosses) depth 40 fits 6000
+pub may_be_shared-requires-sync-T : goal.may_be_shared-requires-sync-T
+may_be_shared-requires-sync-T c κs = search (plan_sync, sendable, crosses) depth 40 fits 6000
 
 pub may_be_moved-requires-send-T : goal.may_be_moved-requires-send-T
 may_be_moved-requires-send-T c κs = search (pass_send, sendable, crosses) depth 40 fits 6000

@@ -1,5 +1,6 @@
 use Rattle.std.proofs.Common.{arith}
-use Rattle.pl_shared.proofs.Progress.{plan_short, works_on, works_idle, worked_until}
+use Rattle.pl_acts.proofs.FullLogs.{plan_short}
+use Rattle.pl_shared.proofs.Progress.{works_on, works_idle, worked_until}
 use Rattle.pl_shared.proofs.working.work.Goals as goal
 
 pub overflow_add-acts : goal.overflow_add-acts

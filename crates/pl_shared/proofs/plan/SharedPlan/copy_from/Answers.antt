@@ -1,5 +1,6 @@
 use Rattle.std.proofs.Common.{refl}
-use Rattle.pl_shared.proofs.Turning.{grows_copied, took_turn, made_nothing, copied_if}
+use Rattle.pl_acts.proofs.Growing.{grows_copied}
+use Rattle.pl_shared.proofs.Turning.{took_turn, made_nothing, copied_if}
 use Rattle.pl_shared.proofs.plan.SharedPlan.copy_from.Goals as goal
 
 pub leave-requires-clause-grows : goal.leave-requires-clause-grows

@@ -1,4 +1,4 @@
-use Rattle.pl_shared.proofs.Turning.{plan_in}
+use Rattle.pl_acts.proofs.Growing.{plan_in}
 use Rattle.pl_shared.proofs.plan.SharedPlan.leave.Goals as goal
 
 pub returns-clause-own : goal.returns-clause-own

@@ -13,5 +13,5 @@ load-before-requires g c =
 pub returns-then-before-after-clause-own : goal.returns-then-before-after-clause-own
 returns-then-before-after-clause-own g c =
     let added = c.add_entry.ensures.added in
-    ended_longer c.args.self.now c.args.pass.now _ added.0 _ _ _ _ c.load-before.ensures.2.0 c.put_in.ensures.full added.1 c.end_turn.ensures.ended
-    (c.end_turn.ensures.own ∙ (c.add_entry.ensures.own ∙ (c.put_in.ensures.own ∙ c.load-before.ensures.0))) c.requires.own
+    ended_longer c.args.self.now c.args.pass.now _ added.0 _ _ _ _ c.load-before.ensures.2.0 c.put_in.ensures.full added.1 c.end_turn-called.ensures.ended
+    (c.end_turn-called.ensures.own ∙ (c.add_entry.ensures.own ∙ (c.put_in.ensures.own ∙ c.load-before.ensures.0))) c.requires.own

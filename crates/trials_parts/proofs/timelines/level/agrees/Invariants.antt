@@ -1,11 +1,10 @@
 -- what the plain list and the moment say of the timeline
-use Rattle.std.proofs.Common.{◌≡◌, ◌≤◌}
+use Rattle.std.proofs.Common.{◌≡◌}
+use Rattle.trials_parts.specs.Timelines.{InStep}
 use Rattle.trials_parts.proofs.timelines.level.agrees.Given as goal
 
 abbrev pub invariant-loop-turn : goal.invariant-loop-turn
 invariant-loop-turn g l = record {
-  tied : l.line.effects ≡ l.plain.effects.items;
-  moment : l.line.moment ≡ l.plain.moment;
-  in_time : l.plain.moment ≤ 20;
-  horizon : l.line.horizon ≡ 20;
+  tied : l.timeline.effects ≡ l.plain.effects.items;
+  in_step : InStep l.timeline.moment l.timeline.horizon l.plain.moment;
 }

@@ -1,0 +1,94 @@
+-- What is done inside a turn adds one item to the history, or none.
+use Rattle.std.proofs.Common.{◌≡◌, ℕ, List, [], ◌∷◌, ◌++◌, Bool, true, false, Option, Some, Result, Ok, Err, refl, sym, ◌∙◌, ap, subst, inl, inr}
+use mathlib.Core.List.{IsPrefix}
+use Rattle.pl_turn.specs.History.{IsSameOrOneMore}
+use Rattle.pl_turn.proofs.Histories.{prefix_of_same}
+use Rattle.pl_model.specs.declared.whole.Model.{Model}
+use Rattle.pl_entry.specs.declared.entry.Entry.{Entry}
+use Rattle.pl_machine.specs.declared.stop.Stop.{Stop}
+use Rattle.pl_machine.specs.declared.stop.Stop.TheVariants as stop
+use Rattle.pl_machine.specs.World.{World}
+use Rattle.pl_machine.specs.Sound.{State}
+use Rattle.pl_acts.specs.declared.noted.Noted.{Noted}
+use Rattle.pl_acts.specs.declared.noted.Noted.TheVariants.{Made, Stopped}
+use Rattle.pl_acts.specs.declared.held.Held.{Held}
+use Rattle.pl_acts.specs.declared.role.Role.{Role}
+use Rattle.pl_acts.specs.declared.role.Acted.{Acted}
+use Rattle.pl_acts.specs.declared.role.Acted.TheVariants as acted
+use Rattle.pl_acts.specs.Items.{items_of, model_in}
+use Rattle.pl_acts.specs.Roles.{IsBy, IsInputOf}
+use Rattle.pl_acts.specs.Inside.{items_in, IsSound, Logs, KeepsLog, FeedsIn, ActsIn}
+use Rattle.pl_acts.specs.Seen.{IsPlan}
+use Rattle.pl_acts.proofs.Items.{model_in_items, model_in_prefix, items_push, items_stopped}
+
+-- ---- the lists
+
+pub keeps_items : (old new : Held) → KeepsLog old new → items_in new ≡ items_in old
+keeps_items old new keeps =
+    ap (λ (m : Model). items_of m new.machine.log new.stopped) keeps.model
+    ∙ ap (λ (log : List Entry). items_of old.machine.model log new.stopped) keeps.log
+    ∙ ap (λ (s : Bool). items_of old.machine.model old.machine.log s) keeps.same
+
+pub logs_items : (By : World → Entry → Type 0) (old new : Held) (n : ℕ) → IsSound old.machine → (logs : Logs By old new n) → items_in new ≡ items_in old ++ Made logs.entry ∷ []
+logs_items By old new n sound logs =
+    let P : Bool → Type 0 = λ s. items_of old.machine.model (old.machine.log ++ logs.entry ∷ []) s ≡ items_of old.machine.model old.machine.log s ++ Made logs.entry ∷ [] in
+    ap (λ (m : Model). items_of m new.machine.log new.stopped) logs.model
+    ∙ ap (λ (log : List Entry). items_of old.machine.model log new.stopped) logs.log
+    ∙ ap (λ (s : Bool). items_of old.machine.model (old.machine.log ++ logs.entry ∷ []) s) logs.same
+    ∙ subst P (sym logs.going) (items_push old.machine.model old.machine.log logs.entry sound.legal)
+
+pub same_held : (old new : Held) → new ≡ old → KeepsLog old new
+same_held old new e = record { log = ap (λ (h : Held). h.machine.log) e; model = ap (λ (h : Held). h.machine.model) e; same = ap (λ (h : Held). h.stopped) e }
+
+grows_same : (seen : List Noted) (old new : Held) → seen ≡ items_in old → KeepsLog old new → IsSameOrOneMore seen (items_in new)
+grows_same seen old new found keeps = inl (keeps_items old new keeps ∙ sym found)
+
+grows_more : (By : World → Entry → Type 0) (seen : List Noted) (old new : Held) (n : ℕ) → seen ≡ items_in old → IsSound old.machine → Logs By old new n → IsSameOrOneMore seen (items_in new)
+grows_more By seen old new n found sound logs =
+    inr (Made logs.entry, logs_items By old new n sound logs ∙ ap (λ (xs : List Noted). xs ++ Made logs.entry ∷ []) (sym found))
+
+pub grows_fed : (line : Option (List ℕ)) (seen : List Noted) (old new : Held) (r : Result ℕ Stop) → seen ≡ items_in old → IsSound old.machine → FeedsIn line old r new → IsSameOrOneMore seen (items_in new)
+grows_fed line seen old new (Ok n) found sound feeds = grows_more (IsInputOf line) seen old new n found sound feeds
+grows_fed line seen old new (Err stop.Spoiled) found sound feeds = grows_same seen old new found (same_held old new feeds.1)
+grows_fed line seen old new (Err stop.NotNow) found sound feeds = grows_same seen old new found (same_held old new feeds.2)
+grows_fed line seen old new (Err stop.LogFull) found sound feeds = grows_same seen old new found (same_held old new feeds.3)
+grows_fed line seen old new (Err stop.Memory) found sound feeds = grows_same seen old new found feeds.1
+
+pub grows_acted : (r r2 : Role) (seen : List Noted) (old new : Held) (a : Result Acted Stop) → seen ≡ items_in old → IsSound old.machine → ActsIn r old a r2 new → IsSameOrOneMore seen (items_in new)
+grows_acted r r2 seen old new (Ok (acted.Did n)) found sound acts = grows_more (IsBy r r2) seen old new n found sound acts.0
+grows_acted r r2 seen old new (Ok acted.Nothing) found sound acts = grows_same seen old new found (same_held old new acts.2)
+grows_acted r r2 seen old new (Ok acted.Finished) found sound acts = grows_same seen old new found (same_held old new acts.2)
+grows_acted r r2 seen old new (Ok acted.Stopped) found sound acts = grows_same seen old new found (same_held old new acts.3)
+grows_acted r r2 seen old new (Err stop.Spoiled) found sound acts = grows_same seen old new found (same_held old new acts.1)
+grows_acted r r2 seen old new (Err stop.NotNow) found sound acts = absurd acts
+grows_acted r r2 seen old new (Err stop.LogFull) found sound acts = grows_same seen old new found (same_held old new acts.3)
+grows_acted r r2 seen old new (Err stop.Memory) found sound acts = grows_same seen old new found acts.0.1
+
+stop_mark : (m : Model) (log : List Entry) (s : Bool) → IsSameOrOneMore (items_of m log s) (items_of m log true)
+stop_mark m log true = inl refl
+stop_mark m log false = inr (Stopped, items_stopped m log)
+
+pub grows_stopped : (seen : List Noted) (old new : Held) → seen ≡ items_in old → new.machine ≡ old.machine → new.stopped ≡ true → IsSameOrOneMore seen (items_in new)
+grows_stopped seen old new found machine stopped =
+    let P : List Noted → Type 0 = λ xs. IsSameOrOneMore xs (items_in new) in
+    let Q : List Noted → Type 0 = λ xs. IsSameOrOneMore (items_in old) xs in
+    let is : items_in new ≡ items_of old.machine.model old.machine.log true =
+    ap (λ (m : State). items_of m.model m.log new.stopped) machine ∙ ap (λ (s : Bool). items_of old.machine.model old.machine.log s) stopped in
+    subst P (sym found) (subst Q (sym is) (stop_mark old.machine.model old.machine.log old.stopped))
+
+pub grows_copied : (seen : List Noted) (old : Held) → seen ≡ items_in old → IsSameOrOneMore seen (items_in old)
+grows_copied seen old found = inl (sym found)
+
+-- ---- what a pass has seen
+
+pub plan_in : (seen : List Noted) (h : Held) → seen ≡ items_in h → IsSound h.machine → IsPlan seen
+plan_in seen h is sound = record { model = h.machine.model; log = h.machine.log; stopped = h.stopped; legal = sound.legal; is = is }
+
+pub some_model : (xs ys : List Noted) → IsPlan xs → IsPrefix xs ys → model_in ys ≡ model_in xs
+some_model xs ys plan on =
+    let here : model_in xs ≡ Some plan.model = ap model_in plan.is ∙ model_in_items plan.model plan.log plan.stopped plan.legal in
+    model_in_prefix xs ys plan.model on here ∙ sym here
+
+pub grown_prefix : (xs ys : List Noted) → IsSameOrOneMore xs ys → IsPrefix xs ys
+grown_prefix xs ys (inl same) = prefix_of_same xs ys (sym same)
+grown_prefix xs ys (inr more) = (more.0 ∷ [], sym more.1)

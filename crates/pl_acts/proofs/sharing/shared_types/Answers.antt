@@ -1,0 +1,16 @@
+use denote.Param.Send.{sendable}
+use Rattle.std.proofs.Crossing.{crosses}
+use Rattle.pl_acts.proofs.Crossing.{held_send, held_sync, noted_send, noted_sync}
+use Rattle.pl_acts.proofs.sharing.shared_types.Goals as goal
+
+pub may_be_shared-requires-4-send-T : goal.may_be_shared-requires-4-send-T
+may_be_shared-requires-4-send-T c κs = search (held_send, sendable, crosses) depth 40 fits 6000
+
+pub may_be_shared-requires-4-sync-T : goal.may_be_shared-requires-4-sync-T
+may_be_shared-requires-4-sync-T c κs = search (held_sync, sendable, crosses) depth 40 fits 6000
+
+pub may_be_shared-requires-6-send-T : goal.may_be_shared-requires-6-send-T
+may_be_shared-requires-6-send-T c κs = search (noted_send, sendable, crosses) depth 40 fits 6000
+
+pub may_be_shared-requires-6-sync-T : goal.may_be_shared-requires-6-sync-T
+may_be_shared-requires-6-sync-T c κs = search (noted_sync, sendable, crosses) depth 40 fits 6000

@@ -1,0 +1,14 @@
+pub use Rattle.pl_turn.specs.History
+pub use Rattle.pl_entry.specs.Bounds
+pub use Rattle.pl_choose.specs.Picks
+pub use Rattle.pl_machine.specs.World
+pub use Rattle.pl_machine.specs.Step
+pub use Rattle.pl_machine.specs.Legal
+pub use Rattle.pl_machine.specs.Choices
+pub use Rattle.pl_machine.specs.Sound
+pub use Rattle.pl_machine.specs.Taking
+pub mod Items
+pub mod Roles
+pub mod Inside
+pub mod Making
+pub mod Seen

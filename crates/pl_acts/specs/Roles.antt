@@ -1,0 +1,84 @@
+-- Which entries a role makes.
+use Rattle.std.specs.Prelude.{◌≡◌, ℕ, List, Bool, true, false, not, ◌&&◌, Option, Some, None, is_some, ◌⊎◌}
+use Rattle.pl_entry.specs.declared.event.Event.{Event}
+use Rattle.pl_entry.specs.declared.event.Event.TheVariants as event
+use Rattle.pl_entry.specs.declared.reply.Reply.{Reply}
+use Rattle.pl_entry.specs.declared.reply.Reply.TheVariants as reply
+use Rattle.pl_entry.specs.declared.entry.Entry.{Entry}
+use Rattle.rand_pcg.specs.Lcg.{Lcg}
+use Rattle.pl_choose.specs.Picks.{seeded_pick, seeded_after}
+use Rattle.pl_machine.specs.declared.choice.Choice.{Choice}
+use Rattle.pl_machine.specs.World.{World, reason_of}
+use Rattle.pl_machine.specs.Choices.{exec_choice_of, event_of}
+use Rattle.pl_acts.specs.declared.role.Role.{Role}
+use Rattle.pl_acts.specs.declared.role.Role.TheVariants.{Planner, Executive}
+use Rattle.pl_acts.specs.declared.noted.Noted.{Noted}
+use Rattle.pl_acts.specs.declared.noted.Noted.TheVariants.{Opened, Made, Stopped}
+
+-- the number of a worker of this role
+abbrev pub worker_of : Role → ℕ
+worker_of (Planner g) = 1
+worker_of Executive = 0
+
+-- Whether the role has an event: the planner in each open round that does not rest, the executive where it chooses one.
+abbrev pub has_event : Role → World → Bool
+has_event (Planner g) w = not w.closed && not w.rested
+has_event Executive w = is_some (exec_choice_of w)
+
+-- A repair is the one that the chooser proposes in the world before, and it is made. Else repair rests, and the chooser is not asked.
+abbrev pub IsPlanned : Lcg → World → Event → Reply → Lcg → Type 0
+IsPlanned g w (event.Fix k m) answer g2 = (seeded_pick w.state g ≡ Some (record { conflict = k; mv = m })) × (g2 ≡ seeded_after g) × (answer ≡ reply.Done)
+IsPlanned g w event.Rest answer g2 = g2 ≡ g
+IsPlanned g w _ answer g2 = ⊥
+
+-- what the executive chooses in the world before
+abbrev pub IsChosen : Option Choice → Event → Type 0
+IsChosen None e = ⊥
+IsChosen (Some choice) e = e ≡ event_of choice
+
+-- an entry that the role makes in this world, and the role behind it
+abbrev pub IsBy : Role → Role → World → Entry → Type 0
+IsBy (Planner g) (Planner g2) w e = IsPlanned g w e.event e.reply g2
+IsBy Executive Executive w e = IsChosen (exec_choice_of w) e.event
+IsBy _ _ w e = ⊥
+
+-- the same, before the end of the input, where the role has an event
+abbrev pub IsDueBy : Role → Role → World → Entry → Type 0
+IsDueBy r r2 w e = (w.done ≡ false) × (has_event r w ≡ true) × IsBy r r2 w e
+
+-- Its chooser is as it was, or it was asked once, where repair goes on, and has drawn its words.
+abbrev pub IsAskedAtMost : Role → World → Role → Type 0
+IsAskedAtMost (Planner g) w r2 = (r2 ≡ Planner g) ⊎ ((has_event (Planner g) w ≡ true) × (reason_of w ≡ None) × (r2 ≡ Planner (seeded_after g)))
+IsAskedAtMost Executive w r2 = r2 ≡ Executive
+
+-- an input with this line
+abbrev pub IsInputOf : Option (List ℕ) → World → Entry → Type 0
+IsInputOf line w e = e.event ≡ event.Input line
+
+-- ---- kinds of entries
+
+abbrev pub is_repair : Event → Bool
+is_repair (event.Fix k m) = true
+is_repair event.Rest = true
+is_repair _ = false
+
+abbrev pub is_executed : Event → Bool
+is_executed (event.Commit h) = true
+is_executed event.Dispatch = true
+is_executed event.Close = true
+is_executed _ = false
+
+abbrev pub is_input : Event → Bool
+is_input (event.Input line) = true
+is_input _ = false
+
+-- whether an item is an entry of this kind
+abbrev pub is_entry : (Event → Bool) → Noted → Bool
+is_entry test (Opened m e) = false
+is_entry test (Made e) = test e.event
+is_entry test Stopped = false
+
+-- the kind of entry that a role makes
+abbrev pub kind_of : Role → Event → Bool
+kind_of (Planner g) = is_repair
+kind_of Executive = is_executed

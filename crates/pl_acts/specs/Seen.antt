@@ -1,0 +1,41 @@
+-- What a list of items tells of the plan behind it.
+use Rattle.std.specs.Prelude.{◌≡◌, ◌<◌, ◌≤◌, ℕ, List, length, drop, Bool, true, ◌⊎◌}
+use Rattle.std.specs.List.{All}
+use mathlib.Core.List.{IsPrefix}
+use Rattle.pl_model.specs.declared.whole.Model.{Model}
+use Rattle.pl_entry.specs.declared.entry.Entry.{Entry}
+use Rattle.pl_machine.specs.Legal.{Legal}
+use Rattle.pl_acts.specs.declared.noted.Noted.{Noted}
+use Rattle.pl_acts.specs.declared.part.Part.{Part}
+use Rattle.pl_acts.specs.declared.role.Role.{Role}
+use Rattle.pl_acts.specs.Items.{items_of, entries_in, stop_in, InWorld}
+use Rattle.pl_acts.specs.Roles.{IsAskedAtMost}
+
+-- the items of a legal log
+pub record IsPlan (items : List Noted) : Type 0 where
+  pub model : Model
+  pub log : List Entry
+  pub stopped : Bool
+  pub legal : Legal model log
+  pub is : items ≡ items_of model log stopped
+
+-- as many entries as the options allow
+abbrev pub IsFull : List Noted → Type 0
+IsFull seen = InWorld seen (λ w. w.options.entries ≤ length (entries_in seen))
+
+-- the input has ended, or the plan was stopped
+abbrev pub IsOver : List Noted → Type 0
+IsOver seen = InWorld seen (λ w. w.done ≡ true) ⊎ (stop_in seen ≡ true)
+
+-- the entries from this number on, and the world behind them
+pub record Copies (from : ℕ) (seen : List Noted) (part : Part) : Type 0 where
+  pub entries : part.entries ≡ drop from (entries_in seen)
+  pub world : InWorld seen (λ w. (part.closed ≡ w.closed) × (part.done ≡ w.done))
+  pub stopped : part.stopped ≡ stop_in seen
+
+-- In the world after some of what was seen, among it all of these own items, the chooser of the role was asked once at most.
+pub record WasAskedAtMost (r : Role) (own : List (ℕ × Noted)) (seen : List Noted) (r2 : Role) : Type 0 where
+  pub before : List Noted
+  pub front : IsPrefix before seen
+  pub behind : All (λ x. x.0 < length before) own
+  pub asked : InWorld before (λ w. IsAskedAtMost r w r2)

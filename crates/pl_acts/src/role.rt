@@ -1,0 +1,45 @@
+ghost use Rattle.std.specs.Prelude.{◌≡◌};
+ghost use Rattle.pl_acts.specs.Roles.{worker_of};
+
+use crate::bells::Listener;
+use pl_choose::Seeded;
+
+/// What a worker does: it repairs the plan, or it commits, sends commands and closes rounds.
+#[derive(Drop)]
+pub enum Role {
+    Planner(Seeded),
+    Executive,
+}
+
+impl Role {
+    /// 0 for the executive and 1 for the planner.
+    pub fn worker(&self) -> u8
+        ensures { result ≡ worker_of self.now }
+    {
+        match self {
+            Role::Planner(_) => 1,
+            Role::Executive => 0,
+        }
+    }
+
+    /// Which bell a worker of this role waits for.
+    pub fn listener(&self) -> Listener {
+        match self {
+            Role::Planner(_) => Listener::Planner,
+            Role::Executive => Listener::Executive,
+        }
+    }
+}
+
+/// What came of one act.
+#[derive(Clone, Copy, Debug, PartialEq, Eq)]
+pub enum Acted {
+    /// The entry with this number was made.
+    Did(u32),
+    /// The role has no event now.
+    Nothing,
+    /// The input has ended.
+    Finished,
+    /// The plan was stopped.
+    Stopped,
+}

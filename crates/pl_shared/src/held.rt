@@ -1,8 +1,0 @@
-use pl_machine::Machine;
-
-/// What lies under the lock: a machine, and whether the plan was stopped.
-#[derive(Drop)]
-pub struct Held {
-    pub(crate) machine: Machine,
-    pub(crate) stopped: bool,
-}

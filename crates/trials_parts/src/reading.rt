@@ -1,0 +1,37 @@
+//! What the tests read of their tables' texts.
+use pl_check::{Accepted, accept};
+use pl_model::Model;
+use std::alloc::Global;
+use std::process::Abort;
+
+/// The model of a text.
+pub fn model(rt: &impl Abort, alloc: Global, text: &str) -> Model {
+    match accept(alloc, text.as_bytes()).expect(rt, "memory") {
+        Accepted::Model(model) => model,
+        Accepted::Refused(_) => panic!(rt; "no model: {text}"),
+    }
+}
+
+/// Takes the first word off; nothing is left where there is no space.
+pub fn word<'a>(rest: &mut &'a str) -> &'a str {
+    let (first, more) = rest.split_once(' ').unwrap_or((*rest, ""));
+    *rest = more;
+    first
+}
+
+/// Takes a number off, 0 where the first word is none.
+pub fn number(rest: &mut &str) -> u32 {
+    word(rest).parse().unwrap_or(0)
+}
+
+/// Takes a number off, none where the first word is none.
+pub fn value(rest: &mut &str) -> Option<i64> {
+    word(rest).parse().ok()
+}
+
+/// Takes the next field of a row off; ` | ` stands between two.
+pub fn field<'a>(rest: &mut &'a str) -> &'a str {
+    let (first, more) = rest.split_once(" | ").unwrap_or((*rest, ""));
+    *rest = more;
+    first
+}
