@@ -1,6 +1,6 @@
 //! The program that looks ahead.
 use crate::asserting::holds;
-use crate::running::{Failing, NONE, assert_does, assert_legal, joined, words_of};
+use crate::running::{Failing, NONE, assert_does, assert_legal, count_newlines, joined, words_of};
 use pl_io::{MemSink, MemSource};
 use pl_main::{read_ahead, run_ahead};
 use std::alloc::Global;

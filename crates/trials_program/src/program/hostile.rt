@@ -173,14 +173,24 @@ fn judges_hostile_journals(rt: HostRuntime) {
     }
 }
 
+/// Asserts what both commands say of a journal that is one line of so many bytes.
+fn assert_line<R: Abort + Threads + Wait + Sync>(
+    rt: &R,
+    alloc: Global,
+    (model, bytes): (&str, usize),
+    status: u8,
+    text: &str,
+) {
+    let journal = "x".repeat(alloc, bytes).expect(rt, "memory");
+    assert_judged(rt, alloc, (model, journal.as_str()), status, text);
+}
+
 /// A line of an entry has 4,160 bytes at most.
 #[test]
 fn judges_long_lines(rt: HostRuntime) {
     let alloc = rt.alloc();
     let first = "journal: entry 0: not a line\n";
-    assert_judged(&rt, alloc, (MODEL, ""), 8, first);
-    let longest = "x".repeat(alloc, 4160).expect(&rt, "memory");
-    assert_judged(&rt, alloc, (MODEL, longest.as_str()), 8, first);
-    let longer = "x".repeat(alloc, 4161).expect(&rt, "memory");
-    assert_judged(&rt, alloc, (MODEL, longer.as_str()), 6, "");
+    assert_line(&rt, alloc, (MODEL, 0), 8, first);
+    assert_line(&rt, alloc, (MODEL, 4160), 8, first);
+    assert_line(&rt, alloc, (MODEL, 4161), 6, "");
 }
