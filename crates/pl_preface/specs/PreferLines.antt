@@ -1,5 +1,5 @@
 -- Lines of preferences before a journal.
-use Rattle.std.specs.Prelude.{ℕ, List, Result, Ok, Err}
+use Rattle.std.specs.Prelude.{ℕ, List}
 use Rattle.pl_model.specs.declared.whole.Model.{Model}
 use Rattle.pl_prefs.specs.declared.prefer.Prefer.{Prefer}
 use Rattle.pl_prefs.specs.declared.fault.PreferFault.{PreferFault}
@@ -7,7 +7,7 @@ use Rattle.pl_prefs.specs.declared.fault.PreferFault.TheVariants as fault
 use Rattle.pl_prefs.specs.Prefers.{prefer_of}
 use Rattle.pl_preface.specs.declared.problem.Problem.{Problem}
 use Rattle.pl_preface.specs.declared.problem.Problem.TheVariants as problem
-use Rattle.pl_preface.specs.Prefaces.{Reading}
+use Rattle.pl_preface.specs.Prefaces.{Reading, told}
 
 -- No line means a want of memory.
 abbrev pub problem_of : PreferFault → Problem
@@ -16,10 +16,6 @@ problem_of fault.UnknownName = problem.UnknownName
 problem_of fault.OutOfRange = problem.OutOfRange
 problem_of fault.Memory = problem.BadLine
 
-abbrev pub told : Result Prefer PreferFault → Result Prefer Problem
-told (Ok p) = Ok p
-told (Err e) = Err (problem_of e)
-
 -- the preference of a line, or why it is refused
 abbrev pub prefer_in : Model → Reading Prefer
-prefer_in model line = told (prefer_of model line)
+prefer_in model line = told problem_of (prefer_of model line)
