@@ -41,7 +41,8 @@ ENDINGS = [(words, text, status, output) for words in RUNS for text, status, out
     ('improve 1', MODEL + 'journal\n', 8, 'journal: entry 0: not a line\n'),
     ('improve 1', MODEL + 'x' * 4161, 6, ''),
     ('demo 2', '', 0, 'demo 2 entries 20 activities 4 dispatched 0 conflicts 0\n'),
-    ('', '', 2, USAGE), ('flex', '', 2, USAGE), ('improve 0', '', 2, USAGE), ('improve 1001', '', 2, USAGE), ('run solo 0', '', 2, USAGE), ('run', '', 2, USAGE), ('--help', '', 2, USAGE)]
+    ('', '', 2, USAGE), ('flex', '', 2, USAGE), ('improve 0', '', 2, USAGE), ('improve 1001', '', 2, USAGE),
+    ('run solo 0', '', 2, USAGE), ('run', '', 2, USAGE), ('--help', '', 2, USAGE)]
 
 
 def ended(words, **streams):
