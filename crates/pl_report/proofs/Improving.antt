@@ -27,8 +27,7 @@ step_of : (m : RepairMove) (old new : Scoring) → old.score ≡ score old.board
 step_of m old new points prefers stepped =
     let state : new.board.state ≡ applied old.board.state m = ap (λ (b : Standing). b.state) stepped.made in
     let now : new.score ≡ score_after old.board.state old.prefers m =
-        stepped.score_is ∙ ap (λ (ps : List Prefer). score new.board.state ps) prefers ∙ ap (λ (s : PlanState). score s old.prefers) state in
-    (
+    stepped.score_is ∙ ap (λ (ps : List Prefer). score new.board.state ps) prefers ∙ ap (λ (s : PlanState). score s old.prefers) state in (
       record {
         best = stepped.best;
         clear = sym (ap conflicts_of state) ∙ stepped.clear;
@@ -90,9 +89,9 @@ more_made old mid new out middle text count made more =
     let step : IsStep s old.prefers more.move = rw (there, made.prefers) at more.step in
     let number : suc (0 + length made.moves) ≡ count + 1 = omega (arith, made.number) in
     let line : step_line mid.board.state.model (count + 1) more.move (score_after mid.board.state mid.prefers more.move) ≡ step_line s.model (suc (0 + length made.moves)) more.move (score_after s old.prefers more.move) =
-        ap (λ (x : PlanState). step_line x.model (count + 1) more.move (score_after x mid.prefers more.move)) there
-        ∙ ap (λ (ps : List Prefer). step_line s.model (count + 1) more.move (score_after s ps more.move)) made.prefers
-        ∙ ap (λ (k : ℕ). step_line s.model k more.move (score_after s old.prefers more.move)) (sym number) in
+    ap (λ (x : PlanState). step_line x.model (count + 1) more.move (score_after x mid.prefers more.move)) there
+    ∙ ap (λ (ps : List Prefer). step_line s.model (count + 1) more.move (score_after s ps more.move)) made.prefers
+    ∙ ap (λ (k : ℕ). step_line s.model k more.move (score_after s old.prefers more.move)) (sym number) in
     record {
       moves = made.moves ++ more.move ∷ [];
       steps = steps_push old.board.state old.prefers made.moves more.move made.steps step;

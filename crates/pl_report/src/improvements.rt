@@ -37,12 +37,7 @@ fn push_first_line(text: &mut Vec<u8>, score: i128) -> Result<(), AllocError>
 
 /// Appends the words of an assignment, which are the same in every model.
 #[tactic(auto, using(pl_journal::proofs::AboutRendering::Texts::words_joined))]
-fn push_assignment(
-    text: &mut Vec<u8>,
-    id: u32,
-    param: u8,
-    value: i64,
-) -> Result<(), AllocError>
+fn push_assignment(text: &mut Vec<u8>, id: u32, param: u8, value: i64) -> Result<(), AllocError>
     ensures { (model : Model) → OnOk result (text.new.items ≡ text.old.items ++ spaced (move_words model (RepairMove.Assign id param value))) }
 {
     push_labelled(text, b"assign", id)?;

@@ -23,7 +23,8 @@ const ENTRIES: &str = "0 open turns 8 live 10000 goals 20000 entries 250000
 const IMPROVE: Setting<'static> = ("improve 5", MODEL, ENTRIES);
 
 /// The lines behind `begin`, the status, and what is written. A `;` stands for a newline. The entries follow a line `journal`.
-const ROWS: &str = "prefer obs late 2;journal; => 0 => improve score 20;step 1 shift 1 20 score 40;improve steps 1 score 40;
+const ROWS: &str =
+    "prefer obs late 2;journal; => 0 => improve score 20;step 1 shift 1 20 score 40;improve steps 1 score 40;
 prefer obs early 2;journal; => 0 => improve score 180;improve steps 0 score 180;
 prefer obs value n 3;journal; => 0 => improve score 6;step 1 assign 1 0 9 score 27;improve steps 1 score 27;
 prefer level bat 10;journal; => 0 => improve score 220;step 1 assign 1 0 9 score 290;improve steps 1 score 290;
@@ -83,10 +84,11 @@ const TWO: &str = "0 open turns 8 live 10000 goals 20000 entries 250000
 1 in ok : goal 1 obs 10 20 must
 2 fix 20 open-goal 1 0 10 20 by add obs 10 goal 1 : ok
 3 rest clear
-4 close
-5 in ok : goal 2 obs 10 20 must
-6 fix 20 open-goal 2 0 10 20 by add obs 15 goal 2 : ok
-7 rest clear
+4 commit 5 : ok
+5 close
+6 in ok : goal 2 obs 10 20 must
+7 fix 20 open-goal 2 0 10 20 by add obs 15 goal 2 : ok
+8 rest clear
 ";
 
 /// Other settings, each with a row: one step alone of two, a conflict, a committed activity, and one that keeps another from moving.

@@ -5,8 +5,9 @@ use pl_main::{Command, Task, read_words};
 use std::alloc::Global;
 use std::process::Abort;
 
-/// What the words ask for: the turns of a run, 0 for a check, 1,001 for a replay, 1,002 for a report and 1,003 for a forecast, 10,000 and the steps
-/// that better a plan, the goals of a demonstration, the id of an activity whose paths are asked for, the turns and the seed of a pair added up, nothing where they are no command.
+/// What the words ask for: the turns of a run, 0 for a check, 1,001 for a replay, 1,002 for a report and 1,003 for a forecast, 10,000 and
+/// the steps that better a plan, the goals of a demonstration, the id of an activity whose paths are asked for, the turns and the seed
+/// of a pair added up, nothing where they are no command.
 fn number_of(words: &[String]) -> Option<u64> {
     match read_words(words)? {
         Command::Pair { turns, seed } => seed.checked_add(u64::from(turns)),
