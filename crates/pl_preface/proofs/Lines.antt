@@ -158,6 +158,4 @@ few_said {X} read n items (x ∷ xs) few =
     (λ ys le. few_said read (suc n) ys xs le)
 
 pub few_given : {X : Type 0} (read : Reading X) (old : Reader) (before : Option (List ℕ)) (items : List X) (new : Reader) (after : Option (List ℕ)) → HasPreface read old before items new after → length items ≤ most_items
-few_given {X} read old before items new after has =
-    let none : length ([] {A = X}) ≤ most_items = omega arith in
-    subst (λ (s : Said X). FewSaid s) has.says (few_said read old.number [] has.lines none)
+few_given {X} read old before items new after has = subst (λ (s : Said X). FewSaid s) has.says (few_said read old.number [] has.lines (omega arith))

@@ -10,9 +10,14 @@ use Rattle.pl_board.specs.Boards.{Standing, after}
 use Rattle.pl_prefs.specs.declared.prefer.Prefer.{Prefer}
 use Rattle.pl_prefs.specs.Scores.{score}
 use Rattle.pl_prefs.specs.Betters.{changes_in, score_after, is_better, better, IsBest, IsFirstBest}
-use Rattle.pl_prefs.specs.Scoreds.{Scoring, IsStepped, state_after}
+use Rattle.pl_prefs.specs.Scoreds.{Scoring, IsScored, IsStepped, StandsFor}
+use Rattle.pl_prefs.specs.declared.score_fault.ScoreFault.TheVariants.{Conflicts}
 use Rattle.pl_prefs.proofs.Sorts.{IsChange, all_changes, best_change}
-use Rattle.pl_report.specs.Improvements.{IsStep, AreSteps, state_behind, IsSomeBest, first_line, step_line, step_lines, last_line, steps_text, IsBettered, IsOneMore, IsTry, AreMade, AreAllMade}
+use Rattle.pl_report.specs.Improvements.{IsStep, AreSteps, state_behind, IsSomeBest, first_line, step_line, step_lines, last_line, conflicts_line, steps_text, IsBettered, IsImprovement, IsOneMore, IsTry, AreMade, AreAllMade}
+
+-- the score that is told of a plan is the one of its definition
+pub told_score : (s : Scoring) (points : ℤ) → s.board.spoiled ≡ false → points ≡ s.score → (s.board.spoiled ≡ false → IsScored s.board.state s.prefers points) → s.score ≡ score s.board.state s.prefers
+told_score s points unspoiled is scored = sym is ∙ (scored unspoiled).score_is
 
 -- ---- a step
 
@@ -127,3 +132,9 @@ bettered most old new out lines text count points first all is =
           ∙ ap (λ (t : List ℕ). t ++ last_line (length made.moves) (score (state_behind old.board.state made.moves) old.prefers)) (made.says ∙ ap (λ (t : List ℕ). t ++ step_lines old.board.state old.prefers 0 made.moves) (first ∙ ap first_line points))
           ∙ append_assoc (first_line (score old.board.state old.prefers)) (step_lines old.board.state old.prefers 0 made.moves) (last_line (length made.moves) (score (state_behind old.board.state made.moves) old.prefers));
     }
+
+pub improved : (s : PlanState) (prefers : List Prefer) (most : ℕ) (text : List ℕ) → conflicts_of s ≡ [] → IsBettered s prefers most text → IsImprovement s prefers most text
+improved s prefers most text clear is = record { conflicts = λ some. absurd (some clear); bettered = λ none. is }
+
+pub refused : (s : PlanState) (prefers : List Prefer) (most count : ℕ) (text : List ℕ) → StandsFor s (Conflicts count) → text ≡ conflicts_line count → IsImprovement s prefers most text
+refused s prefers most count text stands is = record { conflicts = λ some. is ∙ ap conflicts_line stands.0; bettered = λ none. absurd (stands.1 none) }

@@ -57,6 +57,7 @@ fn push_shift(text: &mut Vec<u8>, id: u32, start: u32) -> Result<(), AllocError>
 }
 
 /// Appends the words of a step's move. It is a shift or an assignment.
+#[tactic(auto, using(crate::proofs::Improving::some_change))]
 fn push_change(text: &mut Vec<u8>, change: RepairMove) -> Result<(), AllocError>
     requires { IsSomeBest change }
     ensures { (model : Model) → OnOk result (text.new.items ≡ text.old.items ++ spaced (move_words model change)) }
@@ -157,6 +158,7 @@ fn push_steps(text: &mut Vec<u8>, scored: &mut Scored, most: u32) -> Result<u32,
     Ok(count)
 }
 
+#[tactic(auto, using(crate::proofs::Improving::bettered))]
 fn steps_text(alloc: Global, scored: &mut Scored, most: u32) -> Result<Vec<u8>, AllocError>
     requires { scored.old.board.spoiled ≡ false }
     ensures { IfOk result (λ text. IsBettered scored.old.board.state scored.old.prefers most text.items) }
