@@ -1,10 +1,11 @@
 -- The moves that better a plan, and the best of them.
-use Rattle.std.specs.Prelude.{◌≡◌, ◌==◌, ◌&&◌, not, Bool, ℤ, int_lt, ◌<ℤ◌, ◌≤ℤ◌, List, [], ◌∷◌, ◌++◌, All, filter, take, Option, Some, None}
+use Rattle.std.specs.Prelude.{◌≡◌, ◌==◌, ◌&&◌, not, Bool, true, ℤ, int_lt, ◌<ℤ◌, ◌≤ℤ◌, List, [], ◌∷◌, ◌++◌, All, filter, take, Option, Some, None}
 use Rattle.std.specs.List.{flat_map}
 use Rattle.pl_model.specs.declared.parameters.Param.{Param}
 use Rattle.pl_model.specs.Checked.{IsAmount}
 use Rattle.pl_plan.specs.declared.activity.Activity.{Activity}
 use Rattle.pl_plan.specs.declared.repair.RepairMove.{RepairMove}
+use Rattle.pl_plan.specs.declared.repair.RepairMove.TheVariants.{Shift, Assign}
 use Rattle.pl_semantics.specs.declared.plan_state.PlanState.{PlanState}
 use Rattle.pl_semantics.specs.PlanStates.{is_committed}
 use Rattle.pl_semantics.specs.Starts.{shifts_of}
@@ -28,6 +29,15 @@ changes_of s a = shifts_of s a ++ all_assigns s a
 unfoldable pub changes_in : PlanState → List RepairMove
 changes_in s = flat_map (changes_of s) (movable s)
 
+-- a shift or an assignment that makes sense, as each one that is tried does
+abbrev pub IsChange : PlanState → RepairMove → Type 0
+IsChange s (Shift id start) = is_proper s (Shift id start) ≡ true
+IsChange s (Assign id param value) = is_proper s (Assign id param value) ≡ true
+IsChange s _ = ⊥
+
+abbrev pub AreChanges : PlanState → List RepairMove → Type 0
+AreChanges s moves = All (IsChange s) moves
+
 -- the bounds of a parameter, as a checked model has them
 abbrev pub HasAmounts : Param → Type 0
 HasAmounts p = IsAmount p.low × IsAmount p.high
@@ -37,9 +47,9 @@ HasAmounts p = IsAmount p.low × IsAmount p.high
 abbrev pub score_after : PlanState → List Prefer → RepairMove → ℤ
 score_after s prefers m = score (applied s m) prefers
 
--- it is proper, nothing refuses it, and it leaves no conflict
+-- nothing refuses it, and it leaves no conflict
 abbrev pub is_clear : PlanState → RepairMove → Bool
-is_clear s m = is_proper s m && is_legal s m && (left_after s m == 0)
+is_clear s m = is_legal s m && (left_after s m == 0)
 
 -- and the score rises
 abbrev pub is_better : PlanState → List Prefer → RepairMove → Bool
