@@ -2,6 +2,7 @@
 use Rattle.std.proofs.Common.{◌≡◌, ℕ, ◌≤◌, eqb, Bool, true, false, ◌&&◌, List, [], length, refl, sym, ap, ◌∙◌, subst, arith, ℤ, ◌+ℤ◌, leb, ltb}
 use Rattle.std.specs.Prelude.{All, Some, None}
 use Rattle.std.proofs.lemmas.Int.{ints}
+use Rattle.std.proofs.lemmas.List.{nil_from_length}
 use Rattle.std.proofs.lemmas.Bool.{and_parts, eqb-true, eq-eqb, leb-true}
 use Rattle.pl_lists.proofs.Elements.{none_from_test}
 use Rattle.pl_plan.specs.declared.repair.RepairMove.{RepairMove}
@@ -21,7 +22,6 @@ use Rattle.pl_prefs.specs.Scores.{score}
 use Rattle.pl_prefs.specs.Betters.{IsChange, is_clear, better, changes_in}
 use Rattle.pl_prefs.specs.Chances.{IsChosen, IsBestMade}
 use Rattle.pl_prefs.specs.Scoreds.{Scoring, IsScored, IsScoring, IsStepped}
-use Rattle.pl_prefs.proofs.Counted.{no_conflicts}
 use Rattle.pl_prefs.proofs.Tried.{all_changes, change_proper, keeps_next, best_is}
 
 -- ---- a clear move
@@ -57,7 +57,7 @@ clear_is s m clear =
     let both = and_parts (is_legal s m) (eqb (left_after s m) 0) clear in
     record {
       allowed = legal_may s m both.0;
-      none_left = no_conflicts (conflicts_of (applied s m)) (eqb-true (length (conflicts_of (applied s m))) 0 both.1);
+      none_left = nil_from_length (conflicts_of (applied s m)) (eqb-true (length (conflicts_of (applied s m))) 0 both.1);
     }
 
 -- ---- what is left
