@@ -5,7 +5,8 @@ pub mod Staying
 pub mod Changed
 pub mod Gained
 pub mod Listed
-pub mod Tried
+pub mod Sorts
+pub mod Proper
 pub mod Picking
 pub mod Chosen
 pub mod Counted

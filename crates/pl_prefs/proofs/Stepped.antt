@@ -19,10 +19,11 @@ use Rattle.pl_prefs.specs.declared.prefer.Prefer.{Prefer}
 use Rattle.pl_prefs.specs.declared.choice.Choice.{Choice}
 use Rattle.pl_prefs.specs.Prefers.{IsPreferOf}
 use Rattle.pl_prefs.specs.Scores.{score}
-use Rattle.pl_prefs.specs.Betters.{IsChange, is_clear, better, changes_in}
+use Rattle.pl_prefs.specs.Betters.{IsProperChange, is_clear, better, changes_in}
 use Rattle.pl_prefs.specs.Chances.{IsChosen, IsBestMade}
 use Rattle.pl_prefs.specs.Scoreds.{Scoring, IsScored, IsScoring, IsStepped}
-use Rattle.pl_prefs.proofs.Tried.{all_changes, change_proper, keeps_next, best_is}
+use Rattle.pl_prefs.proofs.Proper.{all_proper_changes}
+use Rattle.pl_prefs.proofs.Sorts.{all_changes, best_is, best_change, keeps_next}
 
 -- ---- a clear move
 
@@ -65,13 +66,13 @@ clear_is s m clear =
 -- the best of what is tried is proper and is not refused, so what is committed stays
 pub kept_by : (s : PlanState) (prefers : List Prefer) (choice : Choice) (now : Standing) → IsWhole s → IsBestMade s prefers (changes_in s) choice now → KeepsCommitted s (applied s choice.mv)
 kept_by s prefers choice now whole made =
-    let change = best_is (IsChange s) _ _ (changes_in s) choice.mv (all_changes s whole) made.best in
-    keeps s choice.mv whole (change_proper s choice.mv change) (clear_is s choice.mv made.clear).allowed
+    let change = best_is (IsProperChange s) _ _ (changes_in s) choice.mv (all_proper_changes s whole) made.best in
+    keeps s choice.mv whole change.0 (clear_is s choice.mv made.clear).allowed
 
 pub scored_then : (s : PlanState) (prefers : List Prefer) (before points : ℤ) (choice : Choice) (now : Standing) → IsWhole s → IsScored s prefers before → IsBestMade s prefers (changes_in s) choice now → points ≡ score (applied s choice.mv) prefers → IsScored (applied s choice.mv) prefers points
 scored_then s prefers before points choice now whole scored made is =
     let kept = kept_by s prefers choice now whole made in
-    let change = best_is (IsChange s) _ _ (changes_in s) choice.mv (all_changes s whole) made.best in
+    let change = best_change _ _ (changes_in s) choice.mv (all_changes s) made.best in
     record {
       score_is = is;
       clear = (clear_is s choice.mv made.clear).none_left;

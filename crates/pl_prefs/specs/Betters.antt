@@ -5,13 +5,13 @@ use Rattle.pl_model.specs.declared.parameters.Param.{Param}
 use Rattle.pl_model.specs.Checked.{IsAmount}
 use Rattle.pl_plan.specs.declared.activity.Activity.{Activity}
 use Rattle.pl_plan.specs.declared.repair.RepairMove.{RepairMove}
-use Rattle.pl_plan.specs.declared.repair.RepairMove.TheVariants.{Shift, Assign}
 use Rattle.pl_semantics.specs.declared.plan_state.PlanState.{PlanState}
 use Rattle.pl_semantics.specs.PlanStates.{is_committed}
 use Rattle.pl_semantics.specs.Starts.{shifts_of}
 use Rattle.pl_semantics.specs.Repairs.{all_assigns}
 use Rattle.pl_semantics.specs.Moves.{is_proper, applied}
 use Rattle.pl_semantics.specs.Legal.{is_legal, left_after}
+use Rattle.pl_moves.specs.Changes.{IsOfActivities}
 use Rattle.pl_prefs.specs.declared.prefer.Prefer.{Prefer}
 use Rattle.pl_prefs.specs.Scores.{score}
 
@@ -29,14 +29,12 @@ changes_of s a = shifts_of s a ++ all_assigns s a
 unfoldable pub changes_in : PlanState → List RepairMove
 changes_in s = flat_map (changes_of s) (movable s)
 
--- a shift or an assignment that makes sense, as each one that is tried does
-abbrev pub IsChange : PlanState → RepairMove → Type 0
-IsChange s (Shift id start) = is_proper s (Shift id start) ≡ true
-IsChange s (Assign id param value) = is_proper s (Assign id param value) ≡ true
-IsChange s _ = ⊥
+-- a change of activities that makes sense, as each one that is tried does
+abbrev pub IsProperChange : PlanState → RepairMove → Type 0
+IsProperChange s m = (is_proper s m ≡ true) × IsOfActivities m
 
-abbrev pub AreChanges : PlanState → List RepairMove → Type 0
-AreChanges s moves = All (IsChange s) moves
+abbrev pub AreProperChanges : PlanState → List RepairMove → Type 0
+AreProperChanges s moves = All (IsProperChange s) moves
 
 -- the bounds of a parameter, as a checked model has them
 abbrev pub HasAmounts : Param → Type 0

@@ -7,7 +7,7 @@ ghost use Rattle.pl_update.specs.Changes.Changes.{with_next};
 ghost use Rattle.pl_update.specs.Changes.Replaced.{CanReplace, with_plan};
 ghost use Rattle.pl_moves.specs.Changes.{IsOfActivities};
 ghost use Rattle.pl_moves.specs.Runs.{CanBeMade, IsTrialOf};
-ghost use Rattle.pl_prefs.specs.Betters.{IsChange, AreChanges, is_clear};
+ghost use Rattle.pl_prefs.specs.Betters.{IsProperChange, AreProperChanges, is_clear};
 ghost use Rattle.pl_prefs.specs.Bounds.{IsWithin};
 ghost use Rattle.pl_prefs.specs.Chances.{AreGains};
 ghost use Rattle.pl_prefs.specs.Prefers.{IsPreferOf};
@@ -80,7 +80,7 @@ fn gain_of(
     Ok(then - before)
 }
 
-// What a shift or an assignment gains, if nothing refuses it; else 0.
+// What a proper change gains, if nothing refuses it; else 0.
 fn gain_if_legal(
     alloc: Global,
     board: &Board,
@@ -91,7 +91,7 @@ fn gain_if_legal(
     requires unspoiled { board.now.spoiled ≡ false }
     requires next { board.now.state.next_id ≤ 3999999000 }
     requires of_board { s.old ≡ board.now.state }
-    requires change { IsChange board.now.state mv.now }
+    requires change { IsProperChange board.now.state mv.now }
     requires fits { All (IsPreferOf board.now.state.model) prefers.now }
     requires few { length prefers.now ≤ 64 }
     ensures gain { IfOk result (λ z. is_clear board.now.state mv.now ≡ true → z ≡ gain_of board.now.state prefers.now mv.now) }
@@ -105,7 +105,7 @@ fn gain_if_legal(
     Ok(gain)
 }
 
-/// What each of some shifts and assignments gains, if nothing refuses it.
+/// What each of some proper changes gains, if nothing refuses it.
 pub(crate) fn gains(
     alloc: Global,
     board: &Board,
@@ -116,7 +116,7 @@ pub(crate) fn gains(
     requires next { board.now.state.next_id ≤ 3999999000 }
     requires fits { All (IsPreferOf board.now.state.model) prefers.now }
     requires few { length prefers.now ≤ 64 }
-    requires changes { AreChanges board.now.state moves.now }
+    requires changes { AreProperChanges board.now.state moves.now }
     ensures { IfOk result (λ all. AreGains board.now.state prefers.now moves.now all.items) }
 {
     let mut s = board.state().copy(alloc)?;

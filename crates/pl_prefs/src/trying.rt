@@ -1,6 +1,6 @@
 //! A move that is tried.
 ghost use Rattle.std.specs.Prelude.{◌≡◌, ◌≤◌, false, true, IfOk, OnErr};
-ghost use Rattle.pl_prefs.specs.Betters.{IsChange};
+ghost use Rattle.pl_prefs.specs.Betters.{IsProperChange};
 ghost use Rattle.pl_prefs.specs.Tries.{IsTried};
 
 use pl_board::Board;
@@ -9,7 +9,7 @@ use pl_plan::RepairMove;
 use pl_points::{Ledger, Steps};
 use std::alloc::{AllocError, Global};
 
-/// Makes a shift or an assignment where nothing refuses it and it leaves no conflict, and tells whether it did.
+/// Makes a proper change of activities where nothing refuses it and it leaves no conflict, and tells whether it did.
 pub(crate) fn is_made<L: Ledger>(
     alloc: Global,
     board: &mut Board,
@@ -18,7 +18,7 @@ pub(crate) fn is_made<L: Ledger>(
 ) -> Result<bool, AllocError>
     requires unspoiled { board.old.spoiled ≡ false }
     requires next { board.old.state.next_id ≤ 3999999000 }
-    requires change { IsChange board.old.state mv.now }
+    requires change { IsProperChange board.old.state mv.now }
     ensures tried { IfOk result (λ made. IsTried mv.now made board.old board.new) }
     ensures err { OnErr result (board.new.spoiled ≡ true) }
 {

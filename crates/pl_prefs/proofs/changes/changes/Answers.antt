@@ -3,9 +3,9 @@ use Rattle.std.specs.List.{flat_map}
 use Rattle.pl_plan.specs.declared.repair.RepairMove.{RepairMove}
 use Rattle.pl_semantics.specs.PlanStates.{found, of_found}
 use Rattle.pl_semantics.specs.Whole.{IsWhole}
-use Rattle.pl_prefs.specs.Betters.{AreChanges, changes_of}
+use Rattle.pl_prefs.specs.Betters.{AreProperChanges, changes_of}
 use Rattle.pl_prefs.proofs.Listed.{changes_listed}
-use Rattle.pl_prefs.proofs.Tried.{all_changes}
+use Rattle.pl_prefs.proofs.Proper.{all_proper_changes}
 use Rattle.pl_prefs.proofs.changes.changes.Goals as goal
 
 pub returns-clause-moves : goal.returns-clause-moves
@@ -19,4 +19,4 @@ pub returns-clause-changes : goal.returns-clause-changes
 returns-clause-changes c =
     let s = c.args.board.now.state in
     let whole : IsWhole s = subst IsWhole c.state.ensures.value (c.state.ensures.whole c.requires) in
-    subst (AreChanges s) (sym (returns-clause-moves c)) (all_changes s whole)
+    subst (AreProperChanges s) (sym (returns-clause-moves c)) (all_proper_changes s whole)

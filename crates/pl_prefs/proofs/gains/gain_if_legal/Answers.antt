@@ -4,7 +4,6 @@ use mir.Val.{SFits}
 use Rattle.std.proofs.lemmas.Int.{to_z-of_z}
 use Rattle.pl_semantics.specs.Whole.{IsWhole}
 use Rattle.pl_prefs.proofs.Stepped.{legal_may, not_legal}
-use Rattle.pl_prefs.proofs.Tried.{change_proper, change_of_activities}
 use Rattle.pl_prefs.proofs.gains.gain_if_legal.Goals as goal
 
 pub returns-then-not-is_legal-clause-gain : goal.returns-then-not-is_legal-clause-gain
@@ -17,13 +16,13 @@ pub gain_of-requires-clause-next : goal.gain_of-requires-clause-next
 gain_of-requires-clause-next c = rw c.requires.of_board c.requires.next
 
 pub gain_of-requires-clause-allowed : goal.gain_of-requires-clause-allowed
-gain_of-requires-clause-allowed c = rw c.requires.of_board (record { proper = change_proper _ _ c.requires.change; allowed = legal_may c.args.board.now.state c.args.mv.now (sym c.if-not-is_legal.ensures) })
+gain_of-requires-clause-allowed c = rw c.requires.of_board (record { proper = c.requires.change.0; allowed = legal_may c.args.board.now.state c.args.mv.now (sym c.if-not-is_legal.ensures) })
 
 pub is_legal-requires-clause-proper : goal.is_legal-requires-clause-proper
-is_legal-requires-clause-proper c = change_proper _ _ c.requires.change
+is_legal-requires-clause-proper c = c.requires.change.0
 
 pub gain_of-requires-clause-activities : goal.gain_of-requires-clause-activities
-gain_of-requires-clause-activities c = change_of_activities c.args.board.now.state c.args.mv.now c.requires.change
+gain_of-requires-clause-activities c = c.requires.change.1
 
 pub gain_of-requires-clause-fits : goal.gain_of-requires-clause-fits
 gain_of-requires-clause-fits c = rw c.requires.of_board c.requires.fits
