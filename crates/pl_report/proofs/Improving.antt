@@ -3,6 +3,7 @@ use Rattle.std.proofs.Common.{◌≡◌, ◌≢◌, ℕ, suc, ◌+◌, ◌<◌, 
 use Rattle.std.proofs.lemmas.List.{append-nil}
 use Rattle.pl_model.specs.declared.whole.Model.{Model}
 use Rattle.pl_plan.specs.declared.repair.RepairMove.{RepairMove}
+use Rattle.pl_plan.specs.declared.repair.RepairMove.TheVariants as repair
 use Rattle.pl_semantics.specs.declared.plan_state.PlanState.{PlanState}
 use Rattle.pl_semantics.specs.Conflicts.{conflicts_of}
 use Rattle.pl_semantics.specs.Moves.{applied}
@@ -25,8 +26,18 @@ best_is_change : (s : PlanState) (prefers : List Prefer) (m : RepairMove) → Is
 unfolding better
 best_is_change s prefers m best = best_change (score_after s prefers) (is_better s prefers) (changes_in s) m (all_changes s) best
 
-pub some_change : (m : RepairMove) → IsSomeBest m → IsChange m
-some_change m is = best_is_change is.state is.prefers m is.best
+-- it is a shift or an assignment
+other_change : (m : RepairMove) → IsChange m → ((id start : ℕ) → m ≡ repair.Shift id start → ⊥) → ((id param : ℕ) (value : ℤ) → m ≡ repair.Assign id param value → ⊥) → ⊥
+other_change (repair.Add kind start goal) is no_shift no_assign = is
+other_change (repair.Delete id) is no_shift no_assign = is
+other_change (repair.Shift id start) is no_shift no_assign = no_shift id start refl
+other_change (repair.Detail id alternative) is no_shift no_assign = is
+other_change (repair.Abstract id) is no_shift no_assign = is
+other_change (repair.Assign id param value) is no_shift no_assign = no_assign id param value refl
+other_change (repair.Drop goal) is no_shift no_assign = is
+
+pub no_other : (m : RepairMove) → IsSomeBest m → ((id start : ℕ) → m ≡ repair.Shift id start → ⊥) → ((id param : ℕ) (value : ℤ) → m ≡ repair.Assign id param value → ⊥) → ⊥
+no_other m is no_shift no_assign = other_change m (best_is_change is.state is.prefers m is.best) no_shift no_assign
 
 step_of : (m : RepairMove) (old new : Scoring) → old.score ≡ score old.board.state old.prefers → new.prefers ≡ old.prefers → IsStepped (Some m) old new → IsStep old.board.state old.prefers m × (new.score ≡ score_after old.board.state old.prefers m)
 step_of m old new points prefers stepped =

@@ -57,7 +57,6 @@ fn push_shift(text: &mut Vec<u8>, id: u32, start: u32) -> Result<(), AllocError>
 }
 
 /// Appends the words of a step's move. It is a shift or an assignment.
-#[tactic(auto, using(crate::proofs::Improving::some_change))]
 fn push_change(text: &mut Vec<u8>, change: RepairMove) -> Result<(), AllocError>
     requires { IsSomeBest change }
     ensures { (model : Model) → OnOk result (text.new.items ≡ text.old.items ++ spaced (move_words model change)) }

@@ -9,8 +9,8 @@ push_step_line-requires g c =
     let stepped = rw c.in-Some.is at c.in_ok-change.ensures.stepped in
     record { state = c.args.scored.now.board.state; prefers = c.args.scored.now.prefers; best = stepped.best }
 
-pub returns-in-Some : goal.returns-in-Some
-returns-in-Some g c =
+pub returns-in_ok-push_step_line-in-Some : goal.returns-in_ok-push_step_line-in-Some
+returns-in_ok-push_step_line-in-Some g c =
     let stepped = rw c.in-Some.is at c.in_ok-change.ensures.stepped in
     let points = told_score _ _ c.requires c.score-before.ensures.value c.score-before.ensures.scored in
     one_more c.args.number c.in-Some.change _ _ _ _ points c.step.ensures.prefers stepped (λ model. c.in_ok-push_step_line.ensures model ∙ ap (λ (z : ℤ). c.args.text.now.items ++ step_line model c.args.number c.in-Some.change z) c.score.ensures.value)
