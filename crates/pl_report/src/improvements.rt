@@ -1,5 +1,6 @@
 //! How a plan without conflicts is bettered, in lines.
-ghost use Rattle.std.specs.Prelude.{◌≡◌, [], ◌∷◌, ◌++◌, OnOk, IfOk, false, All, length, ◌≤◌, decimal};
+ghost use Rattle.std.specs.Prelude.{◌≡◌, [], ◌∷◌, ◌++◌, OnOk, IfOk, false, All, length, ◌≤◌, codes, decimal};
+ghost use Rattle.std.specs.Fmt.{signed_decimal};
 ghost use Rattle.pl_model.specs.declared.whole.Model.{Model};
 ghost use Rattle.pl_journal.specs.Rendering.Words.{spaced};
 ghost use Rattle.pl_journal.specs.Rendering.Lines.{move_words};
@@ -35,10 +36,9 @@ fn push_first_line(text: &mut Vec<u8>, score: i128) -> Result<(), AllocError>
     Ok(())
 }
 
-/// Appends the words of an assignment, which are the same in every model.
 #[tactic(auto, using(pl_journal::proofs::AboutRendering::Texts::words_joined))]
 fn push_assignment(text: &mut Vec<u8>, id: u32, param: u8, value: i64) -> Result<(), AllocError>
-    ensures { (model : Model) → OnOk result (text.new.items ≡ text.old.items ++ spaced (move_words model (RepairMove.Assign id param value))) }
+    ensures { OnOk result (text.new.items ≡ text.old.items ++ spaced (codes "assign" ∷ decimal id ∷ decimal param ∷ signed_decimal value ∷ [])) }
 {
     push_labelled(text, b"assign", id)?;
     push_count(text, u32::from(param))?;
@@ -46,17 +46,16 @@ fn push_assignment(text: &mut Vec<u8>, id: u32, param: u8, value: i64) -> Result
     Ok(())
 }
 
-/// Appends the words of a shift, which are the same in every model.
 #[tactic(auto, using(pl_journal::proofs::AboutRendering::Texts::words_joined))]
 fn push_shift(text: &mut Vec<u8>, id: u32, start: u32) -> Result<(), AllocError>
-    ensures { (model : Model) → OnOk result (text.new.items ≡ text.old.items ++ spaced (move_words model (RepairMove.Shift id start))) }
+    ensures { OnOk result (text.new.items ≡ text.old.items ++ spaced (codes "shift" ∷ decimal id ∷ decimal start ∷ [])) }
 {
     push_labelled(text, b"shift", id)?;
     push_count(text, start)?;
     Ok(())
 }
 
-/// Appends the words of a step's move. It is a shift or an assignment.
+/// Appends the words of a step's move: a shift or an assignment, which has the same words in every model.
 fn push_change(text: &mut Vec<u8>, change: RepairMove) -> Result<(), AllocError>
     requires { IsSomeBest change }
     ensures { (model : Model) → OnOk result (text.new.items ≡ text.old.items ++ spaced (move_words model change)) }
