@@ -28,7 +28,7 @@ pub record TakesTurn (old new : PlanPass) : Type 0 where
   pub crew : crew_of new ≡ crew_of old
 
 -- The call made the entry of this number, the last that the pass has seen, and its newest own one.
-pub record Makes (By : World → Entry → Type 0) (old new : PlanPass) (number : ℕ) : Type 0 where
+pub record Makes (By : List Noted → Entry → Type 0) (old new : PlanPass) (number : ℕ) : Type 0 where
   pub between : List Noted
   pub entry : Entry
   pub seen : seen_of new ≡ (seen_of old ++ between) ++ Made entry ∷ []
@@ -36,29 +36,77 @@ pub record Makes (By : World → Entry → Type 0) (old new : PlanPass) (number 
   pub mine : mine_of new ≡ mine_of old ++ (number, Made entry) ∷ []
   pub running : stop_in (seen_of old ++ between) ≡ false
   pub step : InWorld (seen_of old ++ between) (λ w. IsStepIn w entry)
-  pub by : InWorld (seen_of old ++ between) (λ w. By w entry)
+  pub by : By (seen_of old ++ between) entry
 
 abbrev pub MakesNothing : PlanPass → PlanPass → Type 0
 MakesNothing old new = mine_of new ≡ mine_of old
 
 -- NotNow and LogFull come in this order, exactly by their causes.
 abbrev pub Feeds : Option (List ℕ) → PlanPass → Result ℕ Stop → PlanPass → Type 0
-Feeds line old (Ok number) new = Makes (IsInputOf line) old new number
+Feeds line old (Ok number) new = Makes (λ before e. InWorld before (λ w. IsInputOf line w e)) old new number
 Feeds line old (Err stop.NotNow) new = MakesNothing old new × InWorld (seen_of new) (λ w. can_listen w (stop_in (seen_of new)) ≡ false)
 Feeds line old (Err stop.LogFull) new = MakesNothing old new × InWorld (seen_of new) (λ w. can_listen w (stop_in (seen_of new)) ≡ true) × IsFull (seen_of new)
 Feeds line old (Err stop.Spoiled) new = MakesNothing old new
 Feeds line old (Err stop.Memory) new = MakesNothing old new
 
--- Finished, Stopped, Nothing and LogFull come in this order, exactly by their causes. Where memory is wanting the chooser may have been asked.
+-- how much the pass has seen
+abbrev pub low_of : PlanPass → ℕ
+low_of pass = length (seen_of pass)
+
+-- Finished, Stopped, Nothing and LogFull come in this order, exactly by their causes. Behind a sight a planner's chooser has been asked, whatever the answer.
 abbrev pub Acts : Role → PlanPass → Result Acted Stop → Role → PlanPass → Type 0
-Acts r old (Ok (acted.Did number)) r2 new = Makes (IsDueBy r r2) old new number
-Acts r old (Ok acted.Nothing) r2 new = MakesNothing old new × InWorld (seen_of new) (λ w. (w.done ≡ false) × (has_event r w ≡ false)) × (stop_in (seen_of new) ≡ false) × (r2 ≡ r)
-Acts r old (Ok acted.Finished) r2 new = MakesNothing old new × InWorld (seen_of new) (λ w. w.done ≡ true) × (r2 ≡ r)
-Acts r old (Ok acted.Stopped) r2 new = MakesNothing old new × InWorld (seen_of new) (λ w. w.done ≡ false) × (stop_in (seen_of new) ≡ true) × (r2 ≡ r)
-Acts r old (Err stop.Spoiled) r2 new = MakesNothing old new × (r2 ≡ r)
+Acts r old (Ok (acted.Did number)) r2 new = Makes (IsDueBy r r2 (low_of old)) old new number
+Acts r old (Ok acted.Nothing) r2 new = MakesNothing old new × InWorld (seen_of new) (λ w. (w.done ≡ false) × (has_event r w ≡ false)) × (stop_in (seen_of new) ≡ false) × IsKept r (low_of old) (seen_of new) r2
+Acts r old (Ok acted.Finished) r2 new = MakesNothing old new × InWorld (seen_of new) (λ w. w.done ≡ true) × IsKept r (low_of old) (seen_of new) r2
+Acts r old (Ok acted.Stopped) r2 new = MakesNothing old new × InWorld (seen_of new) (λ w. w.done ≡ false) × (stop_in (seen_of new) ≡ true) × IsKept r (low_of old) (seen_of new) r2
+Acts r old (Err stop.Spoiled) r2 new = MakesNothing old new × IsKept r (low_of old) (seen_of new) r2
 Acts r old (Err stop.NotNow) r2 new = ⊥
-Acts r old (Err stop.LogFull) r2 new = MakesNothing old new × InWorld (seen_of new) (λ w. (w.done ≡ false) × (has_event r w ≡ true)) × (stop_in (seen_of new) ≡ false) × IsFull (seen_of new) × (r2 ≡ r)
-Acts r old (Err stop.Memory) r2 new = MakesNothing old new × InWorld (seen_of new) (λ w. IsAskedAtMost r w r2)
+Acts r old (Err stop.LogFull) r2 new = MakesNothing old new × InWorld (seen_of new) (λ w. (w.done ≡ false) × (has_event r w ≡ true)) × (stop_in (seen_of new) ≡ false) × IsFull (seen_of new) × IsKept r (low_of old) (seen_of new) r2
+Acts r old (Err stop.Memory) r2 new = MakesNothing old new × IsAskedAtMost r (low_of old) (seen_of new) r2
+
+-- ---- the two halves of a planner's act
+
+-- The chooser was asked on the first `seen` items, and has drawn its words once.
+pub record Sees (r : Role) (old new : PlanPass) (sight : Sight) (r2 : Role) : Type 0 where
+  pub before : Lcg
+  pub is : r ≡ Planner before
+  pub drew : r2 ≡ Planner (seeded_after before)
+  pub nothing : MakesNothing old new
+  pub sees : IsSight before (low_of old) (seen_of new) sight.proposal
+  pub long : length sees.front ≡ sight.seen
+
+-- what a call that settles asks for: the proposal is a legal candidate in the world after the first `seen` items, or there was none
+pub record CanSettle (seen : List Noted) (sight : Sight) : Type 0 where
+  pub front : List Noted
+  pub on : IsPrefix front seen
+  pub long : length front ≡ sight.seen
+  pub legal : InWorld front (λ w. IsProposal w.state sight.proposal)
+
+-- A view is the executive's act, an act of a planner that is over at once, or a sight.
+abbrev pub Views : Role → PlanPass → Result View Stop → Role → PlanPass → Type 0
+Views r old (Ok (view.Settled a)) r2 new = Acts r old (Ok a) r2 new
+Views r old (Ok (view.Copy sight)) r2 new = Sees r old new sight r2
+Views r old (Err s) r2 new = Acts r old (Err s) r2 new
+
+-- A fix is the sight's, and made if the sight was the whole history; or, without a proposal, the one that the chooser proposes in the
+-- world before, which is made. Repair rests where the turns are spent, or where there was no proposal.
+abbrev pub IsSettled : Lcg → Sight → Lcg → List Noted → Event → Reply → Type 0
+IsSettled g sight g2 before (event.Fix k m) answer =
+    ((sight.proposal ≡ Some (record { conflict = k; mv = m })) × (length before ≡ sight.seen → answer ≡ reply.Done) × (g2 ≡ g))
+    ⊎ ((sight.proposal ≡ None) × InWorld before (λ w. seeded_pick w.state g ≡ Some (record { conflict = k; mv = m })) × (answer ≡ reply.Done) × (g2 ≡ seeded_after g))
+IsSettled g sight g2 before event.Rest answer = ((sight.proposal ≡ None) ⊎ InWorld before (λ w. w.turn ≡ w.options.turns)) × (g2 ≡ g)
+IsSettled g sight g2 before _ answer = ⊥
+
+-- Finished, Stopped, Nothing and LogFull come in this order, exactly by their causes, and leave the chooser as it was.
+abbrev pub Settles : Lcg → Sight → PlanPass → Result Acted Stop → Lcg → PlanPass → Type 0
+Settles g sight old (Ok (acted.Did number)) g2 new = Makes (λ before e. InWorld before (λ w. (w.done ≡ false) × (is_repairing w ≡ true)) × IsSettled g sight g2 before e.event e.reply) old new number
+Settles g sight old (Ok acted.Nothing) g2 new = MakesNothing old new × InWorld (seen_of new) (λ w. (w.done ≡ false) × (is_repairing w ≡ false)) × (stop_in (seen_of new) ≡ false) × (g2 ≡ g)
+Settles g sight old (Ok acted.Finished) g2 new = MakesNothing old new × InWorld (seen_of new) (λ w. w.done ≡ true) × (g2 ≡ g)
+Settles g sight old (Ok acted.Stopped) g2 new = MakesNothing old new × InWorld (seen_of new) (λ w. w.done ≡ false) × (stop_in (seen_of new) ≡ true) × (g2 ≡ g)
+Settles g sight old (Err stop.Spoiled) g2 new = MakesNothing old new × (g2 ≡ g)
+Settles g sight old (Err stop.NotNow) g2 new = ⊥
+Settles g sight old (Err stop.LogFull) g2 new = MakesNothing old new × InWorld (seen_of new) (λ w. (w.done ≡ false) × (is_repairing w ≡ true)) × (stop_in (seen_of new) ≡ false) × IsFull (seen_of new) × (g2 ≡ g)
+Settles g sight old (Err stop.Memory) g2 new = MakesNothing old new × ((g2 ≡ g) ⊎ ((sight.proposal ≡ None) × InWorld (seen_of new) (λ w. (is_repairing w ≡ true) × (reason_of w ≡ None)) × (g2 ≡ seeded_after g)))
 
 -- The plan is stopped. Where it was not yet, the stop is the pass's newest own item, and the last that it has seen.
 pub data Stops (old new : PlanPass) : Type 0 where
@@ -71,7 +119,7 @@ pub record Works (r : Role) (old : PlanPass) (count : ℕ) (r2 : Role) (new : Pl
   pub own : List (ℕ × Noted)
   pub mine : mine_of new ≡ mine_of old ++ own
   pub counts : length own ≡ count
-  pub made : MakesAll r (seen_of new) own r2
+  pub made : MakesAll r (low_of old) (seen_of new) own r2
   pub kinds : All (λ x. is_entry (kind_of r) x.1 ≡ true) own
   pub worker : worker_of r2 ≡ worker_of r
 
@@ -80,7 +128,7 @@ pub record WorksUntil (r : Role) (old : PlanPass) (r2 : Role) (new : PlanPass) :
   pub own : List (ℕ × Noted)
   pub rest : List (ℕ × Noted)
   pub mine : mine_of new ≡ (mine_of old ++ own) ++ rest
-  pub made : MakesAll r (seen_of new) own r2
+  pub made : MakesAll r (low_of old) (seen_of new) own r2
   pub kinds : All (λ x. is_entry (kind_of r) x.1 ≡ true) own
   pub behind : (rest ≡ []) ⊎ ((place : ℕ) × (rest ≡ (place, Stopped) ∷ []))
   pub stopped : stop_in (seen_of new) ≡ true

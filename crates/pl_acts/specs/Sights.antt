@@ -1,0 +1,83 @@
+-- What a planner saw before it acts: a front of the history, and what its chooser proposed in the world after it.
+use Rattle.std.specs.Prelude.{◌≡◌, ◌≤◌, ℕ, List, length, Bool, true, false, not, ◌&&◌, Option, Some, None, is_some, ◌⊎◌}
+use mathlib.Core.List.{IsPrefix}
+use Rattle.pl_entry.specs.declared.event.Event.{Event}
+use Rattle.pl_entry.specs.declared.event.Event.TheVariants as event
+use Rattle.pl_entry.specs.declared.reply.Reply.{Reply}
+use Rattle.pl_entry.specs.declared.reply.Reply.TheVariants as reply
+use Rattle.pl_entry.specs.declared.entry.Entry.{Entry}
+use Rattle.rand_pcg.specs.Lcg.{Lcg}
+use Rattle.pl_choose.specs.Picks.{seeded_pick, seeded_after}
+use Rattle.pl_cand.specs.declared.proposal.Proposal.{Proposal}
+use Rattle.pl_cand.specs.Proposals.{IsProposal}
+use Rattle.pl_machine.specs.World.{World, plain_reason_of, reason_of}
+use Rattle.pl_machine.specs.Choices.{exec_choice_of}
+use Rattle.pl_machine.specs.Mending.{is_repairing}
+use Rattle.pl_acts.specs.declared.noted.Noted.{Noted}
+use Rattle.pl_acts.specs.declared.role.Role.{Role}
+use Rattle.pl_acts.specs.declared.role.Role.TheVariants.{Planner, Executive}
+use Rattle.pl_acts.specs.Items.{stop_in, InWorld}
+use Rattle.pl_acts.specs.Roles.{has_event, IsChosen}
+
+-- repair goes on, and nothing but candidates can tell whether it is to rest
+abbrev pub AsksIn : World → Type 0
+AsksIn w = (w.done ≡ false) × (is_repairing w ≡ true) × (plain_reason_of w ≡ None)
+
+-- A chooser was asked on a front of this history, at least so long, and proposed this there.
+pub record IsSight (g : Lcg) (low : ℕ) (items : List Noted) (p : Option Proposal) : Type 0 where
+  pub front : List Noted
+  pub on : IsPrefix front items
+  pub late : low ≤ length front
+  pub running : stop_in front ≡ false
+  pub asks : InWorld front AsksIn
+  pub picks : InWorld front (λ w. p ≡ seeded_pick w.state g)
+  pub legal : InWorld front (λ w. IsProposal w.state p)
+
+-- A fix is what the chooser proposed on its sight, and it is made if the sight was the whole history. Where nothing could be repaired
+-- there, it is what the chooser, asked again, proposes in the world before, and it is made.
+pub data IsFixed (g : Lcg) (low : ℕ) (before : List Noted) (p : Proposal) (answer : Reply) (g2 : Lcg) : Type 0 where
+  as_seen : (sight : IsSight g low before (Some p)) → (length sight.front ≡ length before → answer ≡ reply.Done) → g2 ≡ seeded_after g → IsFixed g low before p answer g2
+  asked_again : IsSight g low before None → InWorld before (λ w. seeded_pick w.state (seeded_after g) ≡ Some p) → answer ≡ reply.Done
+      → g2 ≡ seeded_after (seeded_after g) → IsFixed g low before p answer g2
+
+-- Repair rests at once for a plain reason, and the chooser is not asked. Behind a sight it rests where the turns are spent by now, or
+-- where nothing could be repaired there.
+pub data HasRested (g : Lcg) (low : ℕ) (before : List Noted) (g2 : Lcg) : Type 0 where
+  at_once : InWorld before (λ w. is_some (plain_reason_of w) ≡ true) → g2 ≡ g → HasRested g low before g2
+  behind : (p : Option Proposal) → IsSight g low before p → (p ≡ None) ⊎ InWorld before (λ w. w.turn ≡ w.options.turns) → g2 ≡ seeded_after g → HasRested g low before g2
+
+-- what a planner makes behind these items, `low` of which it had seen before
+abbrev pub IsPlanned : Lcg → ℕ → List Noted → Event → Reply → Lcg → Type 0
+IsPlanned g low before (event.Fix k m) answer g2 = IsFixed g low before (record { conflict = k; mv = m }) answer g2
+IsPlanned g low before event.Rest answer g2 = HasRested g low before g2
+IsPlanned g low before _ answer g2 = ⊥
+
+-- Of an act that made nothing: the chooser is as it was, or was asked on a sight, and drew its words once.
+pub data IsAskedOnce (g : Lcg) (low : ℕ) (seen : List Noted) (g2 : Lcg) : Type 0 where
+  unasked : g2 ≡ g → IsAskedOnce g low seen g2
+  asked : (front : List Noted) → IsPrefix front seen → low ≤ length front → stop_in front ≡ false → InWorld front AsksIn → g2 ≡ seeded_after g → IsAskedOnce g low seen g2
+
+-- ---- of a role
+
+-- an entry that the role makes behind these items, `low` of which it had seen before, and the role behind it
+abbrev pub IsBy : Role → Role → ℕ → List Noted → Entry → Type 0
+IsBy (Planner g) (Planner g2) low before e = IsPlanned g low before e.event e.reply g2
+IsBy Executive Executive low before e = InWorld before (λ w. IsChosen (exec_choice_of w) e.event)
+IsBy _ _ low before e = ⊥
+
+-- the same, before the end of the input, where the role has an event
+abbrev pub IsDueBy : Role → Role → ℕ → List Noted → Entry → Type 0
+IsDueBy r r2 low before e = InWorld before (λ w. (w.done ≡ false) × (has_event r w ≡ true)) × IsBy r r2 low before e
+
+-- of a role that made nothing
+abbrev pub IsKept : Role → ℕ → List Noted → Role → Type 0
+IsKept (Planner g) low seen (Planner g2) = IsAskedOnce g low seen g2
+IsKept (Planner g) low seen Executive = ⊥
+IsKept Executive low seen r2 = r2 ≡ Executive
+
+-- The same where memory was wanting: behind a sight without a proposal the chooser may have been asked again.
+abbrev pub IsAskedAtMost : Role → ℕ → List Noted → Role → Type 0
+IsAskedAtMost (Planner g) low seen (Planner g2) =
+    IsAskedOnce g low seen g2 ⊎ (IsSight g low seen None × InWorld seen (λ w. (is_repairing w ≡ true) × (reason_of w ≡ None)) × (g2 ≡ seeded_after (seeded_after g)))
+IsAskedAtMost (Planner g) low seen Executive = ⊥
+IsAskedAtMost Executive low seen r2 = r2 ≡ Executive
