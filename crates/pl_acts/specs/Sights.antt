@@ -16,7 +16,7 @@ use Rattle.pl_machine.specs.Mending.{is_repairing}
 use Rattle.pl_acts.specs.declared.noted.Noted.{Noted}
 use Rattle.pl_acts.specs.declared.role.Role.{Role}
 use Rattle.pl_acts.specs.declared.role.Role.TheVariants.{Planner, Executive}
-use Rattle.pl_acts.specs.Items.{stop_in, InWorld}
+use Rattle.pl_acts.specs.Items.{entries_in, stop_in, InWorld}
 use Rattle.pl_acts.specs.Roles.{has_event, IsChosen}
 
 -- repair goes on, and nothing but candidates can tell whether it is to rest
@@ -52,10 +52,23 @@ IsPlanned g low before (event.Fix k m) answer g2 = IsFixed g low before (record 
 IsPlanned g low before event.Rest answer g2 = HasRested g low before g2
 IsPlanned g low before _ answer g2 = ⊥
 
--- Of an act that made nothing: the chooser is as it was, or was asked on a sight, and drew its words once.
-pub data IsAskedOnce (g : Lcg) (low : ℕ) (seen : List Noted) (g2 : Lcg) : Type 0 where
-  unasked : g2 ≡ g → IsAskedOnce g low seen g2
-  asked : (front : List Noted) → IsPrefix front seen → low ≤ length front → stop_in front ≡ false → InWorld front AsksIn → g2 ≡ seeded_after g → IsAskedOnce g low seen g2
+-- ---- an act that made nothing
+
+-- there is nothing more to repair now: the plan was stopped, the input has ended, repair is over in this round, or the log is full
+abbrev pub IsLate : List Noted → Type 0
+IsLate items = (stop_in items ≡ true) ⊎ InWorld items (λ w. (w.done ≡ true) ⊎ (is_repairing w ≡ false) ⊎ (w.options.entries ≤ length (entries_in items)))
+
+-- A sight that came to nothing, since it was too late when the planner came to settle.
+pub record IsLost (g : Lcg) (low : ℕ) (seen : List Noted) : Type 0 where
+  pub proposal : Option Proposal
+  pub behind : List Noted
+  pub on : IsPrefix behind seen
+  pub sight : IsSight g low behind proposal
+  pub late : IsLate behind
+
+-- the chooser is as it was, or has drawn its words once for a sight that was lost
+abbrev pub IsKeptBy : Lcg → ℕ → List Noted → Lcg → Type 0
+IsKeptBy g low seen g2 = (g2 ≡ g) ⊎ (IsLost g low seen × (g2 ≡ seeded_after g))
 
 -- ---- of a role
 
@@ -69,15 +82,21 @@ IsBy _ _ low before e = ⊥
 abbrev pub IsDueBy : Role → Role → ℕ → List Noted → Entry → Type 0
 IsDueBy r r2 low before e = InWorld before (λ w. (w.done ≡ false) × (has_event r w ≡ true)) × IsBy r r2 low before e
 
--- of a role that made nothing
+-- a role that made nothing
 abbrev pub IsKept : Role → ℕ → List Noted → Role → Type 0
-IsKept (Planner g) low seen (Planner g2) = IsAskedOnce g low seen g2
+IsKept (Planner g) low seen (Planner g2) = IsKeptBy g low seen g2
 IsKept (Planner g) low seen Executive = ⊥
 IsKept Executive low seen r2 = r2 ≡ Executive
 
--- The same where memory was wanting: behind a sight without a proposal the chooser may have been asked again.
+-- The same any number of times.
+pub data Idles (r : Role) (low : ℕ) (seen : List Noted) (r2 : Role) : Type 0 where
+  at_rest : r2 ≡ r → Idles r low seen r2
+  once_more : (mid : Role) → Idles r low seen mid → IsKept mid low seen r2 → Idles r low seen r2
+
+-- A role that made nothing since memory was wanting: its chooser may have been asked on a sight, and again where there was no proposal.
 abbrev pub IsAskedAtMost : Role → ℕ → List Noted → Role → Type 0
 IsAskedAtMost (Planner g) low seen (Planner g2) =
-    IsAskedOnce g low seen g2 ⊎ (IsSight g low seen None × InWorld seen (λ w. (is_repairing w ≡ true) × (reason_of w ≡ None)) × (g2 ≡ seeded_after (seeded_after g)))
+    (g2 ≡ g) ⊎ ((p : Option Proposal) × IsSight g low seen p × (g2 ≡ seeded_after g))
+    ⊎ (IsSight g low seen None × InWorld seen (λ w. (is_repairing w ≡ true) × (reason_of w ≡ None)) × (g2 ≡ seeded_after (seeded_after g)))
 IsAskedAtMost (Planner g) low seen Executive = ⊥
 IsAskedAtMost Executive low seen r2 = r2 ≡ Executive
