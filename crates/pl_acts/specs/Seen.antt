@@ -37,6 +37,6 @@ pub record Copies (from : ℕ) (seen : List Noted) (part : Part) : Type 0 where
 pub record WasAskedAtMost (r : Role) (own : List (ℕ × Noted)) (seen : List Noted) (r2 : Role) : Type 0 where
   pub before : List Noted
   pub front : IsPrefix before seen
-  pub behind : All (λ x. x.0 < low) own
   pub low : ℕ
+  pub behind : All (λ x. x.0 < low) own
   pub asked : IsAskedAtMost r low before r2

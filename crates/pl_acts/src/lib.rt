@@ -3,6 +3,7 @@
 #![tactic(auto)]
 
 mod acting;
+mod asking;
 mod bell;
 mod bells;
 mod busy;
@@ -10,15 +11,22 @@ mod copying;
 mod held;
 mod inside;
 mod logged;
+mod look;
+mod looking;
 mod noted;
 mod part;
 mod role;
+mod settling;
 mod sharing;
+mod sight;
 
+pub use asking::ask;
 pub use bells::{Bells, Listener};
 pub use busy::Busy;
 pub use held::Held;
+pub use look::{Draft, Looked};
 pub use noted::Noted;
 pub use part::{Entries, Part};
 pub use role::{Acted, Role};
 pub use sharing::shared_types;
+pub use sight::{Sight, View};

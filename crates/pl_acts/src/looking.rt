@@ -1,5 +1,5 @@
 //! What a planner finds in one turn.
-ghost use Rattle.std.specs.Prelude.{◌≡◌, is_some, false, true, None, OnOk};
+ghost use Rattle.std.specs.Prelude.{◌≡◌, is_some, false, true, None};
 ghost use Rattle.pl_machine.specs.World.{plain_reason_of};
 ghost use Rattle.pl_machine.specs.Mending.{is_repairing};
 ghost use Rattle.pl_acts.specs.Inside.{LooksIn};

@@ -1,5 +1,6 @@
 //! What a planner does in a second turn, with what its chooser proposed meanwhile.
-ghost use Rattle.std.specs.Prelude.{◌≡◌, false, true, Some, IfSome};
+ghost use Rattle.std.specs.Prelude.{◌≡◌, ◌<◌, ◌⊎◌, false, true, Some, None, IfSome};
+ghost use Rattle.rand_pcg.specs.Lcg.{Lcg};
 ghost use Rattle.pl_machine.specs.Mending.{is_repairing};
 ghost use Rattle.pl_machine.specs.Repairs.{IsMoveOf};
 ghost use Rattle.pl_acts.specs.Inside.{SettlesIn};

@@ -66,6 +66,13 @@ Acts r old (Err stop.Memory) r2 new = MakesNothing old new × IsAskedAtMost r (l
 
 -- ---- the two halves of a planner's act
 
+-- What a planner's look finds, in this order: Finished, Stopped, Nothing, LogFull, a rest for a plain reason, and else a copy to be asked about.
+abbrev pub Looks : PlanPass → Result Looked Stop → PlanPass → Type 0
+Looks old (Ok (looked.Settled a)) new = (g : Lcg) → Acts (Planner g) old (Ok a) (Planner g) new
+Looks old (Ok (looked.Open draft)) new = MakesNothing old new × (stop_in (seen_of new) ≡ false) × (draft.seen ≡ length (seen_of new))
+    × InWorld (seen_of new) (λ w. AsksIn w × (draft.board ≡ record { spoiled = false; state = w.state }) × (w.state.next_id ≤ 3999999000))
+Looks old (Err s) new = (g : Lcg) → Acts (Planner g) old (Err s) (Planner g) new
+
 -- The chooser was asked on the first `seen` items, and has drawn its words once.
 pub record Sees (r : Role) (old new : PlanPass) (sight : Sight) (r2 : Role) : Type 0 where
   pub before : Lcg
@@ -107,6 +114,10 @@ Settles g sight old (Err stop.Spoiled) g2 new = MakesNothing old new × (g2 ≡ 
 Settles g sight old (Err stop.NotNow) g2 new = ⊥
 Settles g sight old (Err stop.LogFull) g2 new = MakesNothing old new × InWorld (seen_of new) (λ w. (w.done ≡ false) × (is_repairing w ≡ true)) × (stop_in (seen_of new) ≡ false) × IsFull (seen_of new) × (g2 ≡ g)
 Settles g sight old (Err stop.Memory) g2 new = MakesNothing old new × ((g2 ≡ g) ⊎ ((sight.proposal ≡ None) × InWorld (seen_of new) (λ w. (is_repairing w ≡ true) × (reason_of w ≡ None)) × (g2 ≡ seeded_after g)))
+
+abbrev pub SettlesAs : Role → Sight → PlanPass → Result Acted Stop → Role → PlanPass → Type 0
+SettlesAs (Planner g) sight old a (Planner g2) new = Settles g sight old a g2 new
+SettlesAs _ sight old a r2 new = ⊥
 
 -- The plan is stopped. Where it was not yet, the stop is the pass's newest own item, and the last that it has seen.
 pub data Stops (old new : PlanPass) : Type 0 where
