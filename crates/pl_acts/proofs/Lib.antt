@@ -1,5 +1,7 @@
 pub mod Items
 pub mod Answering
+pub mod Looking
+pub mod Settling
 pub mod Growing
 pub mod OwnEntries
 pub mod EntryKinds

@@ -1,15 +1,20 @@
 -- Own entries, as the history goes on.
-use Rattle.std.proofs.Common.{ℕ, List, [], ◌∷◌, ◌++◌, sym, ◌∙◌, ap, subst, append_assoc}
+use Rattle.std.proofs.Common.{◌≡◌, ℕ, ◌+◌, ◌≤◌, List, [], ◌∷◌, ◌++◌, length, Option, refl, sym, ◌∙◌, ap, subst, arith, inl, inr, append_assoc}
 use mathlib.Core.List.{IsPrefix}
+use Rattle.pl_turn.proofs.Histories.{prefix_trans}
+use Rattle.rand_pcg.specs.Lcg.{Lcg}
+use Rattle.pl_cand.specs.declared.proposal.Proposal.{Proposal}
 use Rattle.pl_acts.specs.declared.noted.Noted.{Noted}
 use Rattle.pl_acts.specs.declared.noted.Noted.TheVariants.{Made}
 use Rattle.pl_acts.specs.declared.role.Role.{Role}
-use Rattle.pl_acts.specs.Making.{IsMadeAt, MakesAll}
+use Rattle.pl_acts.specs.declared.role.Role.TheVariants.{Planner, Executive}
+use Rattle.pl_acts.specs.Sights.{IsSight, IsLost, IsKeptBy, IsKept, Idles, at_rest, once_more}
+use Rattle.pl_acts.specs.Making.{IsMadeAt, MakesAll, low_behind}
 
 -- ---- the history goes on
 
-pub made_at_on : (xs ys : List Noted) (r r2 : Role) (place : ℕ) (item : Noted) → IsPrefix xs ys → IsMadeAt r xs place item r2 → IsMadeAt r ys place item r2
-made_at_on xs ys r r2 place item on is = record {
+made_at_on : (xs ys : List Noted) (r r2 : Role) (low place : ℕ) (item : Noted) → IsPrefix xs ys → IsMadeAt r low xs place item r2 → IsMadeAt r low ys place item r2
+made_at_on xs ys r r2 low place item on is = record {
   before = is.before;
   entry = is.entry;
   behind = is.behind ++ on.0;
@@ -21,12 +26,63 @@ made_at_on xs ys r r2 place item on is = record {
   by = is.by;
 }
 
-pub makes_all_on : (xs ys : List Noted) (r r2 : Role) (own : List (ℕ × Noted)) → IsPrefix xs ys → MakesAll r xs own r2 → MakesAll r ys own r2
-makes_all_on xs ys r r2 [] on all = all
-makes_all_on xs ys r r2 (x ∷ own) on all = (all.0, made_at_on xs ys r all.0 x.0 x.1 on all.1, makes_all_on xs ys all.0 r2 own on all.2)
+kept_by_on : (xs ys : List Noted) (g g2 : Lcg) (low : ℕ) → IsPrefix xs ys → IsKeptBy g low xs g2 → IsKeptBy g low ys g2
+kept_by_on xs ys g g2 low on (inl same) = inl same
+kept_by_on xs ys g g2 low on (inr lost) =
+    inr (record { proposal = lost.0.proposal; behind = lost.0.behind; on = prefix_trans lost.0.behind xs ys lost.0.on on; sight = lost.0.sight; late = lost.0.late }, lost.1)
+
+kept_on : (xs ys : List Noted) (r r2 : Role) (low : ℕ) → IsPrefix xs ys → IsKept r low xs r2 → IsKept r low ys r2
+kept_on xs ys (Planner g) (Planner g2) low on kept = kept_by_on xs ys g g2 low on kept
+kept_on xs ys (Planner g) Executive low on kept = absurd kept
+kept_on xs ys Executive r2 low on kept = kept
+
+pub idles_on : (xs ys : List Noted) (r r2 : Role) (low : ℕ) → IsPrefix xs ys → Idles r low xs r2 → Idles r low ys r2
+idles_on xs ys r r2 low on (at_rest same) = at_rest same
+idles_on xs ys r r2 low on (once_more mid idles kept) = once_more mid (idles_on xs ys r mid low on idles) (kept_on xs ys mid r2 low on kept)
+
+pub makes_all_on : (xs ys : List Noted) (r r2 : Role) (low : ℕ) (own : List (ℕ × Noted)) → IsPrefix xs ys → MakesAll r low xs own r2 → MakesAll r low ys own r2
+makes_all_on xs ys r r2 low [] on all = idles_on xs ys r r2 low on all
+makes_all_on xs ys r r2 low (x ∷ own) on all = (
+  all.0,
+  idles_on xs ys r all.0 low on all.1,
+  all.2,
+  made_at_on xs ys all.0 all.2 low x.0 x.1 on all.3,
+  makes_all_on xs ys all.2 r2 (x.0 + 1) own on all.4,
+)
+
+-- ---- less was asked for
+
+sight_late : (g : Lcg) (low low2 : ℕ) (items : List Noted) (p : Option Proposal) → low2 ≤ low → IsSight g low items p → IsSight g low2 items p
+sight_late g low low2 items p le sight = record {
+  front = sight.front;
+  on = sight.on;
+  late = (let late = sight.late in omega (arith, late, le));
+  running = sight.running;
+  asks = sight.asks;
+  picks = sight.picks;
+  legal = sight.legal;
+}
+
+kept_by_late : (g g2 : Lcg) (low low2 : ℕ) (seen : List Noted) → low2 ≤ low → IsKeptBy g low seen g2 → IsKeptBy g low2 seen g2
+kept_by_late g g2 low low2 seen le (inl same) = inl same
+kept_by_late g g2 low low2 seen le (inr lost) =
+    inr (record { proposal = lost.0.proposal; behind = lost.0.behind; on = lost.0.on; sight = sight_late g low low2 lost.0.behind lost.0.proposal le lost.0.sight; late = lost.0.late }, lost.1)
+
+pub kept_late : (r r2 : Role) (low low2 : ℕ) (seen : List Noted) → low2 ≤ low → IsKept r low seen r2 → IsKept r low2 seen r2
+kept_late (Planner g) (Planner g2) low low2 seen le kept = kept_by_late g g2 low low2 seen le kept
+kept_late (Planner g) Executive low low2 seen le kept = absurd kept
+kept_late Executive r2 low low2 seen le kept = kept
 
 -- ---- more entries
 
-pub makes_all_append : (seen : List Noted) (r mid r2 : Role) (own more : List (ℕ × Noted)) → MakesAll r seen own mid → MakesAll mid seen more r2 → MakesAll r seen (own ++ more) r2
-makes_all_append seen r mid r2 [] more same rest = subst (λ (s : Role). MakesAll s seen more r2) same rest
-makes_all_append seen r mid r2 (x ∷ own) more all rest = (all.0, all.1, makes_all_append seen all.0 mid r2 own more all.2 rest)
+pub idles_then : (r mid r2 : Role) (low : ℕ) (seen : List Noted) → Idles r low seen mid → Idles mid low seen r2 → Idles r low seen r2
+idles_then r mid r2 low seen first (at_rest same) = subst (λ (s : Role). Idles r low seen s) (sym same) first
+idles_then r mid r2 low seen first (once_more last idles kept) = once_more last (idles_then r mid last low seen first idles) kept
+
+idles_first : (r mid r2 : Role) (low : ℕ) (seen : List Noted) (own : List (ℕ × Noted)) → Idles r low seen mid → MakesAll mid low seen own r2 → MakesAll r low seen own r2
+idles_first r mid r2 low seen [] first all = idles_then r mid r2 low seen first all
+idles_first r mid r2 low seen (x ∷ own) first all = (all.0, idles_then r mid all.0 low seen first all.1, all.2, all.3, all.4)
+
+pub makes_all_append : (seen : List Noted) (r mid r2 : Role) (low : ℕ) (own more : List (ℕ × Noted)) → MakesAll r low seen own mid → MakesAll mid (low_behind low own) seen more r2 → MakesAll r low seen (own ++ more) r2
+makes_all_append seen r mid r2 low [] more first rest = idles_first r mid r2 low seen more first rest
+makes_all_append seen r mid r2 low (x ∷ own) more all rest = (all.0, all.1, all.2, all.3, makes_all_append seen all.2 mid r2 (x.0 + 1) own more all.4 rest)

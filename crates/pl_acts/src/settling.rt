@@ -13,7 +13,7 @@ use pl_machine::Stop;
 
 impl Held {
     /// One turn of repair on the plan as it stands.
-    #[tactic(auto, using(crate::proofs::Settling::repaired, crate::proofs::Settling::repair_stops))]
+    #[tactic(auto, using(crate::proofs::Settling::repaired_once, crate::proofs::Settling::repair_stops))]
     fn repair(&mut self, chooser: &mut Seeded, proposal: Option<Proposal>) -> Result<Acted, Stop>
         requires unspoiled { self.old.machine.spoiled ≡ false }
         requires going { self.old.machine.world.done ≡ false }
