@@ -1,14 +1,18 @@
 -- Own entries, as the history goes on.
-use Rattle.std.proofs.Common.{◌≡◌, ℕ, ◌+◌, ◌≤◌, List, [], ◌∷◌, ◌++◌, length, Option, refl, sym, ◌∙◌, ap, subst, arith, inl, inr, append_assoc}
+use Rattle.std.proofs.Common.{◌≡◌, ℕ, ◌+◌, ◌≤◌, List, [], ◌∷◌, ◌++◌, length, Option, Some, None, refl, sym, ◌∙◌, ap, subst, arith, inl, inr, append_assoc}
 use mathlib.Core.List.{IsPrefix}
 use Rattle.pl_turn.proofs.Histories.{prefix_trans}
+use Rattle.pl_entry.specs.declared.event.Event.{Event}
+use Rattle.pl_entry.specs.declared.event.Event.TheVariants as event
+use Rattle.pl_entry.specs.declared.reply.Reply.{Reply}
+use Rattle.pl_entry.specs.declared.entry.Entry.{Entry}
 use Rattle.rand_pcg.specs.Lcg.{Lcg}
 use Rattle.pl_cand.specs.declared.proposal.Proposal.{Proposal}
 use Rattle.pl_acts.specs.declared.noted.Noted.{Noted}
 use Rattle.pl_acts.specs.declared.noted.Noted.TheVariants.{Made}
 use Rattle.pl_acts.specs.declared.role.Role.{Role}
 use Rattle.pl_acts.specs.declared.role.Role.TheVariants.{Planner, Executive}
-use Rattle.pl_acts.specs.Sights.{IsSight, IsLost, IsKeptBy, IsKept, Idles, at_rest, once_more}
+use Rattle.pl_acts.specs.Sights.{IsSight, IsFixed, as_seen, asked_again, HasRested, at_once, behind, IsPlanned, IsBy, IsLost, IsKeptBy, IsKept, Idles, at_rest, once_more}
 use Rattle.pl_acts.specs.Making.{IsMadeAt, MakesAll, low_behind}
 
 -- ---- the history goes on
@@ -63,6 +67,42 @@ sight_late g low low2 items p le sight = record {
   legal = sight.legal;
 }
 
+fixed_late : (g g2 : Lcg) (low low2 : ℕ) (before : List Noted) (p : Proposal) (r : Reply) → low2 ≤ low → IsFixed g low before p r g2 → IsFixed g low2 before p r g2
+fixed_late g g2 low low2 before p r le (as_seen sight done drew) = as_seen (sight_late g low low2 before (Some p) le sight) done drew
+fixed_late g g2 low low2 before p r le (asked_again sight picks done drew) = asked_again (sight_late g low low2 before None le sight) picks done drew
+
+rested_late : (g g2 : Lcg) (low low2 : ℕ) (before : List Noted) → low2 ≤ low → HasRested g low before g2 → HasRested g low2 before g2
+rested_late g g2 low low2 before le (at_once plain same) = at_once plain same
+rested_late g g2 low low2 before le (behind p sight why drew) = behind p (sight_late g low low2 before p le sight) why drew
+
+planned_late : (g g2 : Lcg) (low low2 : ℕ) (before : List Noted) (v : Event) (r : Reply) → low2 ≤ low → IsPlanned g low before v r g2 → IsPlanned g low2 before v r g2
+planned_late g g2 low low2 before (event.Fix k m) r le planned = fixed_late g g2 low low2 before (record { conflict = k; mv = m }) r le planned
+planned_late g g2 low low2 before event.Rest r le planned = rested_late g g2 low low2 before le planned
+planned_late g g2 low low2 before (event.Opened o) r le planned = absurd planned
+planned_late g g2 low low2 before (event.Input line) r le planned = absurd planned
+planned_late g g2 low low2 before (event.Commit h) r le planned = absurd planned
+planned_late g g2 low low2 before event.Dispatch r le planned = absurd planned
+planned_late g g2 low low2 before event.Close r le planned = absurd planned
+
+by_late : (r r2 : Role) (low low2 : ℕ) (before : List Noted) (e : Entry) → low2 ≤ low → IsBy r r2 low before e → IsBy r r2 low2 before e
+by_late (Planner g) (Planner g2) low low2 before e le by = planned_late g g2 low low2 before e.event e.reply le by
+by_late (Planner g) Executive low low2 before e le by = absurd by
+by_late Executive (Planner g2) low low2 before e le by = absurd by
+by_late Executive Executive low low2 before e le by = by
+
+pub made_at_late : (r r2 : Role) (low low2 : ℕ) (seen : List Noted) (place : ℕ) (item : Noted) → low2 ≤ low → IsMadeAt r low seen place item r2 → IsMadeAt r low2 seen place item r2
+made_at_late r r2 low low2 seen place item le is = record {
+  before = is.before;
+  entry = is.entry;
+  behind = is.behind;
+  whole = is.whole;
+  stands = is.stands;
+  is = is.is;
+  running = is.running;
+  step = is.step;
+  by = (is.by.0, by_late r r2 low low2 is.before is.entry le is.by.1);
+}
+
 kept_by_late : (g g2 : Lcg) (low low2 : ℕ) (seen : List Noted) → low2 ≤ low → IsKeptBy g low seen g2 → IsKeptBy g low2 seen g2
 kept_by_late g g2 low low2 seen le (inl same) = inl same
 kept_by_late g g2 low low2 seen le (inr lost) =
@@ -86,3 +126,8 @@ idles_first r mid r2 low seen (x ∷ own) first all = (all.0, idles_then r mid a
 pub makes_all_append : (seen : List Noted) (r mid r2 : Role) (low : ℕ) (own more : List (ℕ × Noted)) → MakesAll r low seen own mid → MakesAll mid (low_behind low own) seen more r2 → MakesAll r low seen (own ++ more) r2
 makes_all_append seen r mid r2 low [] more first rest = idles_first r mid r2 low seen more first rest
 makes_all_append seen r mid r2 low (x ∷ own) more all rest = (all.0, all.1, all.2, all.3, makes_all_append seen all.2 mid r2 (x.0 + 1) own more all.4 rest)
+
+-- the role that made them may come too late behind them
+pub makes_all_idle : (seen : List Noted) (r mid r2 : Role) (low : ℕ) (own : List (ℕ × Noted)) → MakesAll r low seen own mid → Idles mid (low_behind low own) seen r2 → MakesAll r low seen own r2
+makes_all_idle seen r mid r2 low [] all idles = idles_then r mid r2 low seen all idles
+makes_all_idle seen r mid r2 low (x ∷ own) all idles = (all.0, all.1, all.2, all.3, makes_all_idle seen all.2 mid r2 (x.0 + 1) own all.4 idles)

@@ -1,5 +1,6 @@
 -- What is done to the plan inside a turn.
 use Rattle.std.specs.Prelude.{◌≡◌, ◌≤◌, ℕ, List, [], ◌∷◌, ◌++◌, length, drop, Bool, true, false, not, ◌&&◌, ◌||◌, Option, Some, None, is_some, Result, Ok, Err, ◌⊎◌}
+use Rattle.pl_model.specs.Checked.{IsChecked}
 use Rattle.pl_entry.specs.declared.event.Event.{Event}
 use Rattle.pl_entry.specs.declared.event.Event.TheVariants as event
 use Rattle.pl_entry.specs.declared.reply.Reply.{Reply}
@@ -127,6 +128,8 @@ pub record IsDraft (h : Held) (draft : Draft) : Type 0 where
   pub board : draft.board ≡ record { spoiled = false; state = h.machine.world.state }
   pub seen : draft.seen ≡ length h.machine.log
   pub few : h.machine.world.state.next_id ≤ 3999999000
+  pub model : h.machine.world.state.model ≡ h.machine.model
+  pub checked : IsChecked h.machine.model
 
 -- What a look finds, in this order: Spoiled, Finished, Stopped, Nothing, LogFull, a rest for a plain reason, and else a copy to be asked about.
 abbrev pub LooksIn : Held → Result Looked Stop → Held → Type 0

@@ -1,6 +1,7 @@
 -- What a planner saw before it acts: a front of the history, and what its chooser proposed in the world after it.
-use Rattle.std.specs.Prelude.{◌≡◌, ◌≤◌, ℕ, List, length, Bool, true, false, not, ◌&&◌, Option, Some, None, is_some, ◌⊎◌}
+use Rattle.std.specs.Prelude.{◌≡◌, ◌≤◌, ℕ, List, length, Bool, true, false, not, ◌&&◌, Option, Some, None, is_some, IfSome, ◌⊎◌}
 use mathlib.Core.List.{IsPrefix}
+use Rattle.pl_model.specs.declared.whole.Model.{Model}
 use Rattle.pl_entry.specs.declared.event.Event.{Event}
 use Rattle.pl_entry.specs.declared.event.Event.TheVariants as event
 use Rattle.pl_entry.specs.declared.reply.Reply.{Reply}
@@ -13,10 +14,11 @@ use Rattle.pl_cand.specs.Proposals.{IsProposal}
 use Rattle.pl_machine.specs.World.{World, plain_reason_of, reason_of}
 use Rattle.pl_machine.specs.Choices.{exec_choice_of}
 use Rattle.pl_machine.specs.Mending.{is_repairing}
+use Rattle.pl_machine.specs.Repairs.{IsMoveOf}
 use Rattle.pl_acts.specs.declared.noted.Noted.{Noted}
 use Rattle.pl_acts.specs.declared.role.Role.{Role}
 use Rattle.pl_acts.specs.declared.role.Role.TheVariants.{Planner, Executive}
-use Rattle.pl_acts.specs.Items.{entries_in, stop_in, InWorld}
+use Rattle.pl_acts.specs.Items.{entries_in, model_in, stop_in, InWorld}
 use Rattle.pl_acts.specs.Roles.{has_event, IsChosen}
 
 -- repair goes on, and nothing but candidates can tell whether it is to rest
@@ -32,6 +34,10 @@ pub record IsSight (g : Lcg) (low : ℕ) (items : List Noted) (p : Option Propos
   pub asks : InWorld front AsksIn
   pub picks : InWorld front (λ w. p ≡ seeded_pick w.state g)
   pub legal : InWorld front (λ w. IsProposal w.state p)
+
+-- what is proposed may be handed to a machine of the model
+abbrev pub Fits : List Noted → Option Proposal → Type 0
+Fits items p = (m : Model) → model_in items ≡ Some m → IfSome p (λ q. IsMoveOf m q.mv)
 
 -- A fix is what the chooser proposed on its sight, and it is made if the sight was the whole history. Where nothing could be repaired
 -- there, it is what the chooser, asked again, proposes in the world before, and it is made.

@@ -1,19 +1,35 @@
 -- What the calls that take a turn do.
-use Rattle.std.specs.Prelude.{◌≡◌, ◌≤◌, ℕ, List, [], ◌∷◌, ◌++◌, length, true, false, Option, Result, Ok, Err, ◌⊎◌}
+use Rattle.std.specs.Prelude.{◌≡◌, ◌<◌, ◌≤◌, ℕ, List, [], ◌∷◌, ◌++◌, length, drop, true, false, Option, Some, None, Result, Ok, Err, ◌⊎◌}
 use Rattle.std.specs.List.{All}
 use mathlib.Core.List.{IsPrefix}
 use Rattle.pl_turn.specs.Passes.{seen_of, mine_of, counted_of, crew_of}
+use Rattle.rand_pcg.specs.Lcg.{Lcg}
+use Rattle.pl_entry.specs.declared.event.Event.{Event}
+use Rattle.pl_entry.specs.declared.event.Event.TheVariants as event
+use Rattle.pl_entry.specs.declared.reply.Reply.{Reply}
+use Rattle.pl_entry.specs.declared.reply.Reply.TheVariants as reply
 use Rattle.pl_entry.specs.declared.entry.Entry.{Entry}
+use Rattle.pl_cand.specs.declared.proposal.Proposal.{Proposal}
+use Rattle.pl_cand.specs.Proposals.{IsProposal}
+use Rattle.pl_choose.specs.Picks.{seeded_pick, seeded_after}
 use Rattle.pl_machine.specs.declared.stop.Stop.{Stop}
 use Rattle.pl_machine.specs.declared.stop.Stop.TheVariants as stop
-use Rattle.pl_machine.specs.World.{World}
+use Rattle.pl_machine.specs.World.{World, reason_of}
+use Rattle.pl_machine.specs.Mending.{is_repairing}
 use Rattle.pl_acts.specs.declared.noted.Noted.{Noted}
 use Rattle.pl_acts.specs.declared.noted.Noted.TheVariants.{Made, Stopped}
 use Rattle.pl_acts.specs.declared.role.Role.{Role}
+use Rattle.pl_acts.specs.declared.role.Role.TheVariants.{Planner}
 use Rattle.pl_acts.specs.declared.role.Acted.{Acted}
 use Rattle.pl_acts.specs.declared.role.Acted.TheVariants as acted
-use Rattle.pl_acts.specs.Items.{model_in, stop_in, InWorld}
-use Rattle.pl_acts.specs.Roles.{worker_of, has_event, IsDueBy, IsAskedAtMost, IsInputOf, kind_of, is_entry}
+use Rattle.pl_acts.specs.declared.look.Looked.{Looked}
+use Rattle.pl_acts.specs.declared.look.Looked.TheVariants as looked
+use Rattle.pl_acts.specs.declared.sight.Sight.{Sight}
+use Rattle.pl_acts.specs.declared.sight.View.{View}
+use Rattle.pl_acts.specs.declared.sight.View.TheVariants as view
+use Rattle.pl_acts.specs.Items.{entries_in, model_in, stop_in, InWorld}
+use Rattle.pl_acts.specs.Roles.{worker_of, has_event, IsInputOf, kind_of, is_entry}
+use Rattle.pl_acts.specs.Sights.{AsksIn, IsSight, Fits, IsDueBy, IsKept, IsAskedAtMost}
 use Rattle.pl_acts.specs.Inside.{IsStepIn, can_listen}
 use Rattle.pl_acts.specs.Making.{MakesAll}
 use Rattle.pl_acts.specs.Seen.{IsFull, IsOver, WasAskedAtMost}
@@ -71,6 +87,7 @@ abbrev pub Looks : PlanPass → Result Looked Stop → PlanPass → Type 0
 Looks old (Ok (looked.Settled a)) new = (g : Lcg) → Acts (Planner g) old (Ok a) (Planner g) new
 Looks old (Ok (looked.Open draft)) new = MakesNothing old new × (stop_in (seen_of new) ≡ false) × (draft.seen ≡ length (seen_of new))
     × InWorld (seen_of new) (λ w. AsksIn w × (draft.board ≡ record { spoiled = false; state = w.state }) × (w.state.next_id ≤ 3999999000))
+    × ((p : Option Proposal) → IsProposal draft.board.state p → Fits (seen_of new) p)
 Looks old (Err s) new = (g : Lcg) → Acts (Planner g) old (Err s) (Planner g) new
 
 -- The chooser was asked on the first `seen` items, and has drawn its words once.
@@ -81,6 +98,7 @@ pub record Sees (r : Role) (old new : PlanPass) (sight : Sight) (r2 : Role) : Ty
   pub nothing : MakesNothing old new
   pub sees : IsSight before (low_of old) (seen_of new) sight.proposal
   pub long : length sees.front ≡ sight.seen
+  pub fits : Fits (seen_of new) sight.proposal
 
 -- what a call that settles asks for: the proposal is a legal candidate in the world after the first `seen` items, or there was none
 pub record CanSettle (seen : List Noted) (sight : Sight) : Type 0 where
@@ -88,6 +106,7 @@ pub record CanSettle (seen : List Noted) (sight : Sight) : Type 0 where
   pub on : IsPrefix front seen
   pub long : length front ≡ sight.seen
   pub legal : InWorld front (λ w. IsProposal w.state sight.proposal)
+  pub fits : Fits seen sight.proposal
 
 -- A view is the executive's act, an act of a planner that is over at once, or a sight.
 abbrev pub Views : Role → PlanPass → Result View Stop → Role → PlanPass → Type 0

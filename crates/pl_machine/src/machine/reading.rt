@@ -42,6 +42,7 @@ impl Machine {
         requires { self.now.spoiled ≡ false }
         ensures copy { IfOk result (λ board. board ≡ record { spoiled = false; state = self.now.world.state }) }
         ensures next_id { self.now.world.state.next_id ≤ 3999999000 }
+        ensures model { (self.now.world.state.model ≡ self.now.model) × IsChecked self.now.model }
     {
         let _state = self.standing();
         self.board.copy(alloc)
