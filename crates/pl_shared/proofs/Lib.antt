@@ -1,4 +1,5 @@
 pub mod Turning
+pub mod Viewing
 pub mod OwnEntries
 pub mod Progress
 pub mod Crossing

@@ -8,7 +8,7 @@ use Rattle.pl_acts.specs.declared.role.Role.{Role}
 use Rattle.pl_acts.specs.Sights.{IsDueBy, at_rest}
 use Rattle.pl_acts.specs.Making.{IsMadeAt, MakesAll, low_behind}
 use Rattle.pl_acts.proofs.OwnEntries.{makes_all_on, makes_all_append, made_at_late}
-use Rattle.pl_acts.proofs.Kinds.{low_within}
+use Rattle.pl_acts.proofs.EntryKinds.{low_within}
 use Rattle.pl_shared.specs.Plans.{PlanPass}
 use Rattle.pl_shared.specs.Turns.{Makes, low_of}
 

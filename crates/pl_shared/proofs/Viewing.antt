@@ -1,5 +1,5 @@
 -- Both halves of a planner's act.
-use Rattle.std.proofs.Common.{◌≡◌, ℕ, ◌≤◌, List, [], ◌∷◌, ◌++◌, length, true, false, Option, Some, None, Result, Ok, Err, refl, sym, ◌∙◌, ap, subst, ◌⊎◌, inl, inr, arith}
+use Rattle.std.proofs.Common.{◌≡◌, ℕ, ◌≤◌, List, [], ◌∷◌, ◌++◌, length, true, false, Option, Some, None, Result, Ok, Err, refl, sym, ◌∙◌, ap, subst, ◌⊎◌, inl, inr, arith, append_assoc}
 use mathlib.Core.List.{IsPrefix}
 use Rattle.pl_turn.specs.Passes.{seen_of, mine_of}
 use Rattle.pl_turn.proofs.Histories.{prefix_self, prefix_trans, prefix_length}
@@ -16,7 +16,7 @@ use Rattle.pl_cand.specs.Proposals.{IsProposal}
 use Rattle.pl_choose.specs.Picks.{seeded_pick, seeded_after}
 use Rattle.pl_machine.specs.declared.stop.Stop.{Stop}
 use Rattle.pl_machine.specs.declared.stop.Stop.TheVariants as stop
-use Rattle.pl_machine.specs.World.{World}
+use Rattle.pl_machine.specs.World.{World, reason_of}
 use Rattle.pl_machine.specs.Mending.{is_repairing}
 use Rattle.pl_acts.specs.declared.noted.Noted.{Noted}
 use Rattle.pl_acts.specs.declared.noted.Noted.TheVariants.{Made}
@@ -29,7 +29,9 @@ use Rattle.pl_acts.specs.declared.look.Looked.TheVariants as looked
 use Rattle.pl_acts.specs.declared.sight.Sight.{Sight}
 use Rattle.pl_acts.specs.declared.sight.View.TheVariants as view
 use Rattle.pl_acts.specs.Items.{stop_in, entries_in, InWorld}
-use Rattle.pl_acts.specs.Sights.{AsksIn, IsSight, Fits, IsFixed, as_seen, asked_again, HasRested, behind, IsPlanned, IsLate, IsLost, IsKeptBy, IsAskedAtMost}
+use Rattle.pl_acts.specs.Sights.{AsksIn, IsSight, Fits, IsFixed, as_seen, asked_again, HasRested, behind, IsPlanned, IsLate, IsLost, IsKeptBy, IsDueBy, IsAskedAtMost}
+use Rattle.pl_acts.specs.Roles.{worker_of}
+use Rattle.pl_acts.specs.Inside.{IsStepIn}
 use Rattle.pl_acts.proofs.FullLogs.{in_world_on}
 use Rattle.pl_shared.specs.Plans.{PlanPass}
 use Rattle.pl_shared.specs.Turns.{TakesTurn, Makes, MakesNothing, low_of, Acts, Looks, Sees, CanSettle, Views, IsSettled, Settles, SettlesAs}
@@ -67,6 +69,10 @@ viewed old new g a looks = looks g
 
 -- ---- a view, and what settles behind it
 
+-- it is too late in this world
+abbrev IsOver : List Noted → World → Type 0
+IsOver items w = (w.done ≡ true) ⊎ (is_repairing w ≡ false) ⊎ (w.options.entries ≤ length (entries_in items))
+
 module _ (old mid new : PlanPass) (g : Lcg) (sight : Sight) (sees : IsSight g (low_of old) (seen_of mid) sight.proposal) (long : length sees.front ≡ sight.seen)
     (nothing : MakesNothing old mid) (takes : TakesTurn old mid) (takes2 : TakesTurn mid new) where
   -- the sight, of a longer history
@@ -100,7 +106,6 @@ module _ (old mid new : PlanPass) (g : Lcg) (sight : Sight) (sees : IsSight g (l
 
   made_behind : (g2 : Lcg) (n : ℕ) → Settles (seeded_after g) sight mid (Ok (acted.Did n)) g2 new → Acts (Planner g) old (Ok (acted.Did n)) (Planner g2) new
   made_behind g2 n makes =
-      let P : List Noted → Type 0 = λ xs. xs ++ makes.between ≡ seen_of mid ++ makes.between in
       let more = takes.longer.0 in
       let whole : seen_of old ++ (more ++ makes.between) ≡ seen_of mid ++ makes.between = sym (append_assoc (seen_of old) more makes.between) ∙ ap (λ (xs : List Noted). xs ++ makes.between) takes.longer.1 in
       let entry = makes.entry in
@@ -122,3 +127,64 @@ module _ (old mid new : PlanPass) (g : Lcg) (sight : Sight) (sees : IsSight g (l
 
   kept : (g2 : Lcg) → g2 ≡ seeded_after g → IsLate (seen_of new) → IsKeptBy g (low_of old) (seen_of new) g2
   kept g2 drew late = inr (lost late, drew)
+
+  pub settled_acts : (g2 : Lcg) (a : Acted) → Settles (seeded_after g) sight mid (Ok a) g2 new → Acts (Planner g) old (Ok a) (Planner g2) new
+  settled_acts g2 (acted.Did n) makes = made_behind g2 n makes
+  settled_acts g2 acted.Nothing s =
+      let late = in_world_on (λ w. (w.done ≡ false) × (is_repairing w ≡ false)) (IsOver (seen_of new)) (seen_of new) (λ w h. inr (inl h.1)) s.1 in
+      (s.0 ∙ nothing, s.1, s.2, kept g2 s.3 (inr late))
+  settled_acts g2 acted.Finished s = (s.0 ∙ nothing, s.1, kept g2 s.2 (inr (in_world_on (λ w. w.done ≡ true) (IsOver (seen_of new)) (seen_of new) (λ w h. inl h) s.1)))
+  settled_acts g2 acted.Stopped s = (s.0 ∙ nothing, s.1, s.2, kept g2 s.3 (inl s.2))
+
+  -- the chooser was asked once, and again where there was no proposal
+  asked_once : (g2 : Lcg) → g2 ≡ seeded_after g → IsAskedAtMost (Planner g) (low_of old) (seen_of new) (Planner g2)
+  asked_once g2 drew = inr (inl (sight.proposal, on_front (seen_of new) takes2.longer, drew))
+
+  asked_more : (g2 : Lcg) → (g2 ≡ seeded_after g) ⊎ ((sight.proposal ≡ None) × InWorld (seen_of new) (λ w. (is_repairing w ≡ true) × (reason_of w ≡ None)) × (g2 ≡ seeded_after (seeded_after g)))
+      → IsAskedAtMost (Planner g) (low_of old) (seen_of new) (Planner g2)
+  asked_more g2 (inl drew) = asked_once g2 drew
+  asked_more g2 (inr again) = inr (inr ((sight_of (seen_of new) takes2.longer None again.0).0, again.1, again.2))
+
+  pub settle_stops : (g2 : Lcg) (s : Stop) → Settles (seeded_after g) sight mid (Err s) g2 new → Acts (Planner g) old (Err s) (Planner g2) new
+  settle_stops g2 stop.Spoiled s = (s.0 ∙ nothing, asked_once g2 s.1)
+  settle_stops g2 stop.NotNow s = absurd s
+  settle_stops g2 stop.LogFull s =
+      (s.0 ∙ nothing, s.1, s.2, s.3, kept g2 s.4 (inr (in_world_on (λ w. w.options.entries ≤ length (entries_in (seen_of new))) (IsOver (seen_of new)) (seen_of new) (λ w h. inr (inr h)) s.3)))
+  settle_stops g2 stop.Memory s = (s.0 ∙ nothing, asked_more g2 s.1)
+
+  pub settle_answers : (g2 : Lcg) (a : Result Acted Stop) → Settles (seeded_after g) sight mid a g2 new → Acts (Planner g) old a (Planner g2) new
+  settle_answers g2 (Ok a) s = settled_acts g2 a s
+  settle_answers g2 (Err s) settles = settle_stops g2 s settles
+
+-- ---- an act
+
+-- what a sight promises is what a call that settles asks for
+pub can_settle : (r r2 : Role) (old new : PlanPass) (sight : Sight) → Sees r old new sight r2 → CanSettle (seen_of new) sight
+can_settle r r2 old new sight sees = record { front = sees.sees.front; on = sees.sees.on; long = sees.long; legal = sees.sees.legal; fits = sees.fits }
+
+pub sees_planner : (r r2 : Role) (old new : PlanPass) (sight : Sight) → Sees r old new sight r2 → worker_of r2 ≡ 1
+sees_planner r r2 old new sight sees = ap worker_of sees.drew
+
+pub both_turns : (old mid new : PlanPass) → TakesTurn old mid → TakesTurn mid new → TakesTurn old new
+both_turns old mid new first second = record {
+  longer = prefix_trans (seen_of old) (seen_of mid) (seen_of new) first.longer second.longer;
+  model = second.model ∙ first.model;
+  counted = (let le = second.counted in let same = first.same_counted in omega arith);
+  same_counted = second.same_counted ∙ first.same_counted;
+  crew = second.crew ∙ first.crew;
+}
+
+settled_role : (old mid new : PlanPass) (sight : Sight) (r r2 r3 : Role) (a : Result Acted Stop) (sees : Sees r old mid sight r2) → TakesTurn old mid → TakesTurn mid new → r ≡ Planner sees.before → r2 ≡ Planner (seeded_after sees.before)
+    → SettlesAs r2 sight mid a r3 new → Acts r old a r3 new
+settled_role old mid new sight (Planner g) (Planner g1) (Planner g2) a sees takes takes2 is drew settles =
+    let one : g ≡ sees.before = cc (is) in
+    let two : g1 ≡ seeded_after sees.before = cc (drew) in
+    let P : Lcg → Type 0 = λ x. Settles x sight mid a g2 new in
+    subst (λ (x : Lcg). Acts (Planner x) old a (Planner g2) new) (sym one)
+    (settle_answers old mid new sees.before sight sees.sees sees.long sees.nothing takes takes2 g2 a (subst P two settles))
+settled_role old mid new sight (Planner g) (Planner g1) Executive a sees takes takes2 is drew settles = absurd settles
+settled_role old mid new sight (Planner g) Executive r3 a sees takes takes2 is drew settles = absurd (cc (drew))
+settled_role old mid new sight Executive r2 r3 a sees takes takes2 is drew settles = absurd (cc (is))
+
+pub acts_by_both : (old mid new : PlanPass) (sight : Sight) (r r2 r3 : Role) (a : Result Acted Stop) → Sees r old mid sight r2 → TakesTurn old mid → TakesTurn mid new → SettlesAs r2 sight mid a r3 new → Acts r old a r3 new
+acts_by_both old mid new sight r r2 r3 a sees takes takes2 settles = settled_role old mid new sight r r2 r3 a sees takes takes2 sees.is sees.drew settles

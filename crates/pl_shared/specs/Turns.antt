@@ -75,7 +75,7 @@ Acts r old (Ok (acted.Did number)) r2 new = Makes (IsDueBy r r2 (low_of old)) ol
 Acts r old (Ok acted.Nothing) r2 new = MakesNothing old new × InWorld (seen_of new) (λ w. (w.done ≡ false) × (has_event r w ≡ false)) × (stop_in (seen_of new) ≡ false) × IsKept r (low_of old) (seen_of new) r2
 Acts r old (Ok acted.Finished) r2 new = MakesNothing old new × InWorld (seen_of new) (λ w. w.done ≡ true) × IsKept r (low_of old) (seen_of new) r2
 Acts r old (Ok acted.Stopped) r2 new = MakesNothing old new × InWorld (seen_of new) (λ w. w.done ≡ false) × (stop_in (seen_of new) ≡ true) × IsKept r (low_of old) (seen_of new) r2
-Acts r old (Err stop.Spoiled) r2 new = MakesNothing old new × IsKept r (low_of old) (seen_of new) r2
+Acts r old (Err stop.Spoiled) r2 new = MakesNothing old new × IsAskedAtMost r (low_of old) (seen_of new) r2
 Acts r old (Err stop.NotNow) r2 new = ⊥
 Acts r old (Err stop.LogFull) r2 new = MakesNothing old new × InWorld (seen_of new) (λ w. (w.done ≡ false) × (has_event r w ≡ true)) × (stop_in (seen_of new) ≡ false) × IsFull (seen_of new) × IsKept r (low_of old) (seen_of new) r2
 Acts r old (Err stop.Memory) r2 new = MakesNothing old new × IsAskedAtMost r (low_of old) (seen_of new) r2
@@ -164,11 +164,11 @@ pub record WorksUntil (r : Role) (old : PlanPass) (r2 : Role) (new : PlanPass) :
   pub stopped : stop_in (seen_of new) ≡ true
   pub worker : worker_of r2 ≡ worker_of r
 
--- A count comes only where the plan is over. A refusal stops the plan, and none is NotNow. Where the log is full the round is open, and the role has an event in it. Want of memory alone may leave another role than the one behind the entries:
--- the chooser may have been asked for an entry that was not made.
+-- A count comes only where the plan is over. A refusal stops the plan, and none is NotNow. Where the log is full the round is open, and the role has an event in it. Behind want of memory, and a machine that it spoiled, the chooser may have
+-- been asked for an entry that was not made.
 abbrev pub WorksOn : Role → PlanPass → Result ℕ Stop → Role → PlanPass → Type 0
 WorksOn r old (Ok count) r2 new = Works r old count r2 new × IsOver (seen_of new)
 WorksOn r old (Err stop.NotNow) r2 new = ⊥
 WorksOn r old (Err stop.LogFull) r2 new = WorksUntil r old r2 new × IsFull (seen_of new) × InWorld (seen_of new) (λ w. (w.closed ≡ false) × (w.done ≡ false) × (has_event r2 w ≡ true))
-WorksOn r old (Err stop.Spoiled) r2 new = WorksUntil r old r2 new
+WorksOn r old (Err stop.Spoiled) r2 new = (last : Role) × (works : WorksUntil r old last new) × WasAskedAtMost last works.own (seen_of new) r2
 WorksOn r old (Err stop.Memory) r2 new = (last : Role) × (works : WorksUntil r old last new) × WasAskedAtMost last works.own (seen_of new) r2
