@@ -131,3 +131,12 @@ makes_all_append seen r mid r2 low (x ∷ own) more all rest = (all.0, all.1, al
 pub makes_all_idle : (seen : List Noted) (r mid r2 : Role) (low : ℕ) (own : List (ℕ × Noted)) → MakesAll r low seen own mid → Idles mid (low_behind low own) seen r2 → MakesAll r low seen own r2
 makes_all_idle seen r mid r2 low [] all idles = idles_then r mid r2 low seen all idles
 makes_all_idle seen r mid r2 low (x ∷ own) all idles = (all.0, all.1, all.2, all.3, makes_all_idle seen all.2 mid r2 (x.0 + 1) own all.4 idles)
+
+idles_late : (r r2 : Role) (low low2 : ℕ) (seen : List Noted) → low2 ≤ low → Idles r low seen r2 → Idles r low2 seen r2
+idles_late r r2 low low2 seen le (at_rest same) = at_rest same
+idles_late r r2 low low2 seen le (once_more mid idles kept) = once_more mid (idles_late r mid low low2 seen le idles) (kept_late mid r2 low low2 seen le kept)
+
+-- less was asked for
+pub makes_all_late : (r r2 : Role) (low low2 : ℕ) (seen : List Noted) (own : List (ℕ × Noted)) → low2 ≤ low → MakesAll r low seen own r2 → MakesAll r low2 seen own r2
+makes_all_late r r2 low low2 seen [] le all = idles_late r r2 low low2 seen le all
+makes_all_late r r2 low low2 seen (x ∷ own) le all = (all.0, idles_late r all.0 low low2 seen le all.1, all.2, made_at_late all.0 all.2 low low2 seen x.0 x.1 le all.3, all.4)

@@ -5,11 +5,11 @@ ghost use Rattle.pl_pair.specs.Duties.{role_of};
 use pl_acts::Role;
 use pl_choose::Seeded;
 
-/// What a worker is hired for: to repair, with a chooser of this seed, or to execute.
+/// What a worker is hired for: to repair, with a chooser of this seed, or to execute; and how many entries there were then.
 #[derive(Clone, Copy)]
 pub enum Duty {
-    Repair(u64),
-    Execute,
+    Repair(u64, u32),
+    Execute(u32),
 }
 
 impl Duty {
@@ -19,8 +19,8 @@ impl Duty {
         ensures { result ≡ role_of self }
     {
         match self {
-            Duty::Repair(seed) => Role::Planner(Seeded::new(seed)),
-            Duty::Execute => Role::Executive,
+            Duty::Repair(seed, _) => Role::Planner(Seeded::new(seed)),
+            Duty::Execute(_) => Role::Executive,
         }
     }
 }
