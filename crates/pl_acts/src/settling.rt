@@ -45,7 +45,11 @@ impl Held {
         }
     }
 
-    fn settle_open(&mut self, chooser: &mut Seeded, proposal: Option<Proposal>) -> Result<Acted, Stop>
+    fn settle_open(
+        &mut self,
+        chooser: &mut Seeded,
+        proposal: Option<Proposal>,
+    ) -> Result<Acted, Stop>
         requires unspoiled { self.old.machine.spoiled ≡ false }
         requires going { self.old.machine.world.done ≡ false }
         requires running { self.old.stopped ≡ false }
@@ -63,7 +67,11 @@ impl Held {
     }
 
     /// Fixes with what was proposed, rests, or asks the chooser again where nothing was.
-    pub fn settle(&mut self, chooser: &mut Seeded, proposal: Option<Proposal>) -> Result<Acted, Stop>
+    pub fn settle(
+        &mut self,
+        chooser: &mut Seeded,
+        proposal: Option<Proposal>,
+    ) -> Result<Acted, Stop>
         requires repair { IfSome proposal (λ p. IsMoveOf self.old.machine.model p.mv) }
         ensures { SettlesIn chooser.old proposal self.old result chooser.new self.new }
     {
