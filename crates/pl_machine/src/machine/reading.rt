@@ -1,4 +1,4 @@
-ghost use Rattle.std.specs.Prelude.{◌≡◌, ◌<◌, ◌≤◌, false, IfOk};
+ghost use Rattle.std.specs.Prelude.{◌≡◌, ◌<◌, ◌≤◌, false};
 ghost use Rattle.pl_model.specs.Checked.{IsChecked};
 ghost use Rattle.pl_machine.specs.Legal.{Legal, world_of, IsHistory};
 ghost use Rattle.pl_machine.specs.Taking.{Admits};
@@ -9,7 +9,6 @@ use pl_board::Board;
 use pl_entry::Entry;
 use pl_facts::Options;
 use pl_model::Model;
-use std::alloc::{AllocError, Global};
 
 impl Machine {
     /// The log. It is a legal one, and an unspoiled machine stands for the world after it, a spoiled one for all of it but the plan state.
@@ -35,17 +34,6 @@ impl Machine {
         ensures { result.now ≡ record { spoiled = self.now.spoiled; state = self.now.world.state } }
     {
         &self.board
-    }
-
-    /// A board of the same plan state, on which a chooser may be asked while this machine goes on.
-    pub fn copied_board(&self, alloc: Global) -> Result<Board, AllocError>
-        requires { self.now.spoiled ≡ false }
-        ensures copy { IfOk result (λ board. board ≡ record { spoiled = false; state = self.now.world.state }) }
-        ensures next_id { self.now.world.state.next_id ≤ 3999999000 }
-        ensures model { (self.now.world.state.model ≡ self.now.model) × IsChecked self.now.model }
-    {
-        let _state = self.standing();
-        self.board.copy(alloc)
     }
 
     /// The limits of the run: no call changes them.
