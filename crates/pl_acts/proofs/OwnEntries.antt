@@ -57,15 +57,13 @@ makes_all_on xs ys r r2 low (x ∷ own) on all = (
 -- ---- less was asked for
 
 sight_late : (g : Lcg) (low low2 : ℕ) (items : List Noted) (p : Option Proposal) → low2 ≤ low → IsSight g low items p → IsSight g low2 items p
-sight_late g low low2 items p le sight = record {
-  front = sight.front;
-  on = sight.on;
-  late = (let late = sight.late in omega (arith, late, le));
-  running = sight.running;
-  asks = sight.asks;
-  picks = sight.picks;
-  legal = sight.legal;
-}
+sight_late g low low2 items p le sight =
+    let look = sight.look in
+    record {
+      look = record { front = look.front; on = look.on; late = (let late = look.late in omega (arith, late, le)); running = look.running; asks = look.asks };
+      picks = sight.picks;
+      legal = sight.legal;
+    }
 
 fixed_late : (g g2 : Lcg) (low low2 : ℕ) (before : List Noted) (p : Proposal) (r : Reply) → low2 ≤ low → IsFixed g low before p r g2 → IsFixed g low2 before p r g2
 fixed_late g g2 low low2 before p r le (as_seen sight done drew) = as_seen (sight_late g low low2 before (Some p) le sight) done drew

@@ -24,20 +24,21 @@ use Rattle.pl_acts.specs.declared.role.Acted.TheVariants as acted
 use Rattle.pl_acts.specs.declared.part.Part.{Part}
 use Rattle.pl_acts.specs.Items.{items_of}
 use Rattle.pl_acts.specs.declared.role.Role.TheVariants.{Executive}
-use Rattle.pl_acts.specs.declared.look.Draft.{Draft}
 use Rattle.pl_acts.specs.declared.look.Looked.{Looked}
 use Rattle.pl_acts.specs.declared.look.Looked.TheVariants as looked
 use Rattle.pl_acts.specs.Roles.{has_event, IsChosen, IsInputOf}
+use Rattle.pl_acts.specs.Replicas.{IsDraft}
 use Rattle.pl_acts.specs.Sights.{AsksIn}
 
 abbrev pub items_in : Held → List Noted
 items_in h = items_of h.machine.model h.machine.log h.stopped
 
--- The log is legal, and a machine stands for the world after it; a spoiled one but for the plan state.
+-- The model is checked, the log is legal, and a machine stands for the world after it; a spoiled one but for the plan state.
 pub record IsSound (m : State) : Type 0 where
   pub legal : Legal m.model m.log
   pub others : m.world ≡ record (world_of m.model m.log) { state = m.world.state }
   pub history : m.spoiled ≡ false → IsHistory m.model m.log m.world
+  pub checked : IsChecked m.model
 
 -- the entry is a step of the world
 abbrev pub IsStepIn : World → Entry → Type 0
@@ -89,7 +90,6 @@ pub record IsPart (from : ℕ) (h : Held) (part : Part) : Type 0 where
   pub entries : part.entries ≡ drop from h.machine.log
   pub closed : part.closed ≡ h.machine.world.closed
   pub done : part.done ≡ h.machine.world.done
-  pub spoiled : part.spoiled ≡ h.machine.spoiled
   pub stopped : part.stopped ≡ h.stopped
 
 -- an unspoiled plan before the end of the input and the stop
@@ -98,7 +98,7 @@ pub record IsGoing (h : Held) : Type 0 where
   pub going : h.machine.world.done ≡ false
   pub running : h.stopped ≡ false
 
--- memory was wanting for an event, which spoils the machine, or for a copy, which changes nothing
+-- memory was wanting for an event, which spoils the machine, or for a replica, which changes nothing
 abbrev pub Wants : Held → Held → Type 0
 Wants old new = Spoiled old new ⊎ ((old.machine.spoiled ≡ false) × (new ≡ old))
 
@@ -123,21 +123,13 @@ ExecutesIn old (Err stop.Memory) new = Spoiled old new
 abbrev pub RestsAtOnce : World → Entry → Type 0
 RestsAtOnce w e = (e.event ≡ event.Rest) × (is_some (plain_reason_of w) ≡ true)
 
--- A copy of the plan, before the entry with this number.
-pub record IsDraft (h : Held) (draft : Draft) : Type 0 where
-  pub board : draft.board ≡ record { spoiled = false; state = h.machine.world.state }
-  pub seen : draft.seen ≡ length h.machine.log
-  pub few : h.machine.world.state.next_id ≤ 3999999000
-  pub model : h.machine.world.state.model ≡ h.machine.model
-  pub checked : IsChecked h.machine.model
-
--- What a look finds, in this order: Spoiled, Finished, Stopped, Nothing, LogFull, a rest for a plain reason, and else a copy to be asked about.
+-- What a look finds, in this order: Spoiled, Finished, Stopped, Nothing, LogFull, a rest for a plain reason, and else a replica to be asked about.
 abbrev pub LooksIn : Held → Result Looked Stop → Held → Type 0
 LooksIn old (Ok (looked.Settled (acted.Did number))) new = Logs RestsAtOnce old new number × (old.machine.world.done ≡ false) × (is_repairing old.machine.world ≡ true)
 LooksIn old (Ok (looked.Settled acted.Nothing)) new = IsGoing old × (is_repairing old.machine.world ≡ false) × (new ≡ old)
 LooksIn old (Ok (looked.Settled acted.Finished)) new = (old.machine.spoiled ≡ false) × (old.machine.world.done ≡ true) × (new ≡ old)
 LooksIn old (Ok (looked.Settled acted.Stopped)) new = (old.machine.spoiled ≡ false) × (old.machine.world.done ≡ false) × (old.stopped ≡ true) × (new ≡ old)
-LooksIn old (Ok (looked.Open draft)) new = IsGoing old × AsksIn old.machine.world × IsDraft old draft × (new ≡ old)
+LooksIn old (Ok (looked.Open draft)) new = IsGoing old × AsksIn old.machine.world × IsDraft old.machine draft × (new ≡ old)
 LooksIn old (Err stop.Spoiled) new = (old.machine.spoiled ≡ true) × (new ≡ old)
 LooksIn old (Err stop.NotNow) new = ⊥
 LooksIn old (Err stop.LogFull) new = IsGoing old × (is_repairing old.machine.world ≡ true) × IsFull old.machine × (new ≡ old)

@@ -1,7 +1,6 @@
 -- What a planner saw before it acts: a front of the history, and what its chooser proposed in the world after it.
-use Rattle.std.specs.Prelude.{◌≡◌, ◌≤◌, ℕ, List, length, Bool, true, false, not, ◌&&◌, Option, Some, None, is_some, IfSome, ◌⊎◌}
+use Rattle.std.specs.Prelude.{◌≡◌, ◌≤◌, ℕ, List, length, Bool, true, false, not, ◌&&◌, Option, Some, None, is_some, ◌⊎◌}
 use mathlib.Core.List.{IsPrefix}
-use Rattle.pl_model.specs.declared.whole.Model.{Model}
 use Rattle.pl_entry.specs.declared.event.Event.{Event}
 use Rattle.pl_entry.specs.declared.event.Event.TheVariants as event
 use Rattle.pl_entry.specs.declared.reply.Reply.{Reply}
@@ -14,35 +13,34 @@ use Rattle.pl_cand.specs.Proposals.{IsProposal}
 use Rattle.pl_machine.specs.World.{World, plain_reason_of, reason_of}
 use Rattle.pl_machine.specs.Choices.{exec_choice_of}
 use Rattle.pl_machine.specs.Mending.{is_repairing}
-use Rattle.pl_machine.specs.Repairs.{IsMoveOf}
 use Rattle.pl_acts.specs.declared.noted.Noted.{Noted}
 use Rattle.pl_acts.specs.declared.role.Role.{Role}
 use Rattle.pl_acts.specs.declared.role.Role.TheVariants.{Planner, Executive}
-use Rattle.pl_acts.specs.Items.{entries_in, model_in, stop_in, InWorld}
+use Rattle.pl_acts.specs.Items.{entries_in, stop_in, InWorld}
 use Rattle.pl_acts.specs.Roles.{has_event, IsChosen}
 
 -- repair goes on, and nothing but candidates can tell whether it is to rest
 abbrev pub AsksIn : World → Type 0
 AsksIn w = (w.done ≡ false) × (is_repairing w ≡ true) × (plain_reason_of w ≡ None)
 
--- A chooser was asked on a front of this history, at least so long, and proposed this there.
-pub record IsSight (g : Lcg) (low : ℕ) (items : List Noted) (p : Option Proposal) : Type 0 where
+-- A planner looked at a front of this history, at least so long, and its chooser was to be asked there.
+pub record HasLooked (low : ℕ) (items : List Noted) : Type 0 where
   pub front : List Noted
   pub on : IsPrefix front items
   pub late : low ≤ length front
   pub running : stop_in front ≡ false
   pub asks : InWorld front AsksIn
-  pub picks : InWorld front (λ w. p ≡ seeded_pick w.state g)
-  pub legal : InWorld front (λ w. IsProposal w.state p)
 
--- what is proposed may be handed to a machine of the model
-abbrev pub Fits : List Noted → Option Proposal → Type 0
-Fits items p = (m : Model) → model_in items ≡ Some m → IfSome p (λ q. IsMoveOf m q.mv)
+-- The chooser was asked there, and proposed this.
+pub record IsSight (g : Lcg) (low : ℕ) (items : List Noted) (p : Option Proposal) : Type 0 where
+  pub look : HasLooked low items
+  pub picks : InWorld look.front (λ w. p ≡ seeded_pick w.state g)
+  pub legal : InWorld look.front (λ w. IsProposal w.state p)
 
 -- A fix is what the chooser proposed on its sight, and it is made if the sight was the whole history. Where nothing could be repaired
 -- there, it is what the chooser, asked again, proposes in the world before, and it is made.
 pub data IsFixed (g : Lcg) (low : ℕ) (before : List Noted) (p : Proposal) (answer : Reply) (g2 : Lcg) : Type 0 where
-  as_seen : (sight : IsSight g low before (Some p)) → (length sight.front ≡ length before → answer ≡ reply.Done) → g2 ≡ seeded_after g → IsFixed g low before p answer g2
+  as_seen : (sight : IsSight g low before (Some p)) → (length sight.look.front ≡ length before → answer ≡ reply.Done) → g2 ≡ seeded_after g → IsFixed g low before p answer g2
   asked_again : IsSight g low before None → InWorld before (λ w. seeded_pick w.state (seeded_after g) ≡ Some p) → answer ≡ reply.Done
       → g2 ≡ seeded_after (seeded_after g) → IsFixed g low before p answer g2
 
@@ -99,10 +97,10 @@ pub data Idles (r : Role) (low : ℕ) (seen : List Noted) (r2 : Role) : Type 0 w
   at_rest : r2 ≡ r → Idles r low seen r2
   once_more : (mid : Role) → Idles r low seen mid → IsKept mid low seen r2 → Idles r low seen r2
 
--- A role that made nothing since memory was wanting: its chooser may have been asked on a sight, and again where there was no proposal.
+-- A role that made nothing since memory was wanting: its chooser may have been asked once behind a look, and again where it proposed nothing.
 abbrev pub IsAskedAtMost : Role → ℕ → List Noted → Role → Type 0
 IsAskedAtMost (Planner g) low seen (Planner g2) =
-    (g2 ≡ g) ⊎ ((p : Option Proposal) × IsSight g low seen p × (g2 ≡ seeded_after g))
+    (g2 ≡ g) ⊎ (HasLooked low seen × (g2 ≡ seeded_after g))
     ⊎ (IsSight g low seen None × InWorld seen (λ w. (is_repairing w ≡ true) × (reason_of w ≡ None)) × (g2 ≡ seeded_after (seeded_after g)))
 IsAskedAtMost (Planner g) low seen Executive = ⊥
 IsAskedAtMost Executive low seen r2 = r2 ≡ Executive

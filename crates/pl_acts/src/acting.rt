@@ -14,7 +14,8 @@ impl Held {
     pub(crate) fn can_repair(&self) -> bool
         ensures { result ≡ is_repairing self.now.machine.world }
     {
-        !self.machine.closed() && !self.machine.resting()
+        let machine = self.machine.get();
+        !machine.closed() && !machine.resting()
     }
 
     #[tactic(auto, using(crate::proofs::Answering::executed, crate::proofs::Answering::execute_stops))]
@@ -39,7 +40,7 @@ impl Held {
         requires running { self.old.stopped ≡ false }
         ensures { ExecutesIn self.old result self.new }
     {
-        match self.machine.exec_choice() {
+        match self.machine.get().exec_choice() {
             Some(choice) => self.carry_out(choice),
             None => Ok(Acted::Nothing),
         }
@@ -49,10 +50,10 @@ impl Held {
     pub fn execute(&mut self) -> Result<Acted, Stop>
         ensures { ExecutesIn self.old result self.new }
     {
-        if self.machine.spoiled() {
+        if self.machine.get().spoiled() {
             return Err(Stop::Spoiled);
         }
-        if self.machine.done() {
+        if self.machine.get().done() {
             return Ok(Acted::Finished);
         }
         if self.stopped {

@@ -1,18 +1,25 @@
 //! What a planner finds in one turn.
-ghost use Rattle.std.specs.Prelude.{◌≡◌, is_some, false, true, None};
+ghost use Rattle.std.specs.Prelude.{◌≡◌, is_some, nat_le, length, false, true, None};
 ghost use Rattle.pl_machine.specs.World.{plain_reason_of};
 ghost use Rattle.pl_machine.specs.Mending.{is_repairing};
 ghost use Rattle.pl_acts.specs.Inside.{LooksIn};
 
 use crate::held::Held;
-use crate::look::{Draft, Looked};
+use crate::look::Looked;
 use crate::role::Acted;
 use pl_machine::Stop;
 use std::alloc::Global;
 
 impl Held {
+    fn is_full(&self) -> bool
+        ensures { result ≡ nat_le self.now.machine.world.options.entries (length self.now.machine.log) }
+    {
+        let machine = self.machine.get();
+        machine.options().entries as usize <= machine.log().len()
+    }
+
     /// Repair rests, since there is a plain reason to.
-    #[tactic(auto, using(crate::proofs::Looking::rested_at_once, crate::proofs::Looking::rest_stops))]
+    #[tactic(auto, using(crate::proofs::Finding::rested_at_once, crate::proofs::Finding::rest_stops))]
     fn rest(&mut self) -> Result<Looked, Stop>
         requires unspoiled { self.old.machine.spoiled ≡ false }
         requires going { self.old.machine.world.done ≡ false }
@@ -27,22 +34,21 @@ impl Held {
         }
     }
 
-    /// A copy to be asked about, unless the log is full.
-    fn draft(&self, alloc: Global) -> Result<Looked, Stop>
-        requires unspoiled { self.now.machine.spoiled ≡ false }
-        requires going { self.now.machine.world.done ≡ false }
-        requires running { self.now.stopped ≡ false }
-        requires repairing { is_repairing self.now.machine.world ≡ true }
-        requires plain { plain_reason_of self.now.machine.world ≡ None }
-        ensures { LooksIn self.now result self.now }
+    /// Lends a replica to be asked about, unless the log is full.
+    #[tactic(auto, using(crate::proofs::Finding::lent, crate::proofs::Finding::lend_fails, crate::proofs::Finding::is_full))]
+    fn lend(&mut self, alloc: Global) -> Result<Looked, Stop>
+        requires unspoiled { self.old.machine.spoiled ≡ false }
+        requires going { self.old.machine.world.done ≡ false }
+        requires running { self.old.stopped ≡ false }
+        requires repairing { is_repairing self.old.machine.world ≡ true }
+        requires plain { plain_reason_of self.old.machine.world ≡ None }
+        ensures { LooksIn self.old result self.new }
     {
-        let log = self.machine.log();
-        if self.machine.options().entries as usize <= log.len() {
+        if self.is_full() {
             return Err(Stop::LogFull);
         }
-        let seen = log.len() as u32;
-        let board = self.machine.copied_board(alloc)?;
-        Ok(Looked::Open(Draft { board, seen }))
+        let draft = self.machine.lend(alloc)?;
+        Ok(Looked::Open(draft))
     }
 
     fn look_open(&mut self, alloc: Global) -> Result<Looked, Stop>
@@ -52,20 +58,20 @@ impl Held {
         requires repairing { is_repairing self.old.machine.world ≡ true }
         ensures { LooksIn self.old result self.new }
     {
-        match self.machine.plain_reason() {
+        match self.machine.get().plain_reason() {
             Some(_) => self.rest(),
-            None => self.draft(alloc),
+            None => self.lend(alloc),
         }
     }
 
-    /// Rests where there is a plain reason to, and hands out a copy where repair goes on.
+    /// Rests where there is a plain reason to, and lends a replica where repair goes on.
     pub fn look(&mut self, alloc: Global) -> Result<Looked, Stop>
         ensures { LooksIn self.old result self.new }
     {
-        if self.machine.spoiled() {
+        if self.machine.get().spoiled() {
             return Err(Stop::Spoiled);
         }
-        if self.machine.done() {
+        if self.machine.get().done() {
             return Ok(Looked::Settled(Acted::Finished));
         }
         if self.stopped {

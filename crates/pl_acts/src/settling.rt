@@ -3,17 +3,19 @@ ghost use Rattle.std.specs.Prelude.{◌≡◌, ◌<◌, ◌⊎◌, false, true, 
 ghost use Rattle.rand_pcg.specs.Lcg.{Lcg};
 ghost use Rattle.pl_machine.specs.Mending.{is_repairing};
 ghost use Rattle.pl_machine.specs.Repairs.{IsMoveOf};
+ghost use Rattle.pl_acts.specs.Replicas.{IsReplica};
 ghost use Rattle.pl_acts.specs.Inside.{SettlesIn};
 
 use crate::held::Held;
 use crate::role::Acted;
+use crate::sight::Sight;
 use pl_cand::Proposal;
 use pl_choose::Seeded;
 use pl_machine::Stop;
 
 impl Held {
     /// One turn of repair on the plan as it stands.
-    #[tactic(auto, using(crate::proofs::Settling::repaired_once, crate::proofs::Settling::repair_stops))]
+    #[tactic(auto, using(crate::proofs::Settled::repaired_once, crate::proofs::Settled::repair_stops))]
     fn repair(&mut self, chooser: &mut Seeded, proposal: Option<Proposal>) -> Result<Acted, Stop>
         requires unspoiled { self.old.machine.spoiled ≡ false }
         requires going { self.old.machine.world.done ≡ false }
@@ -29,7 +31,7 @@ impl Held {
     }
 
     /// Makes what was proposed, or logs why it is refused.
-    #[tactic(auto, using(crate::proofs::Settling::fixed, crate::proofs::Settling::fix_stops))]
+    #[tactic(auto, using(crate::proofs::Settled::fixed, crate::proofs::Settled::fix_stops))]
     fn fix(&mut self, proposal: Proposal) -> Result<Acted, Stop>
         requires unspoiled { self.old.machine.spoiled ≡ false }
         requires going { self.old.machine.world.done ≡ false }
@@ -39,7 +41,7 @@ impl Held {
         requires repair { IsMoveOf self.old.machine.model proposal.mv }
         ensures { (g : Lcg) → SettlesIn g (Some proposal) self.old result g self.new }
     {
-        match self.machine.fix(&proposal.conflict, &proposal.mv) {
+        match self.machine.fix(&proposal) {
             Ok(_) => Ok(Acted::Did(self.last_number())),
             Err(stop) => Err(stop),
         }
@@ -57,7 +59,8 @@ impl Held {
         requires repair { IfSome proposal (λ p. IsMoveOf self.old.machine.model p.mv) }
         ensures { SettlesIn chooser.old proposal self.old result chooser.new self.new }
     {
-        if self.machine.turn() == self.machine.options().turns {
+        let machine = self.machine.get();
+        if machine.turn() == machine.options().turns {
             return self.repair(chooser, proposal);
         }
         match proposal {
@@ -67,7 +70,7 @@ impl Held {
     }
 
     /// Fixes with what was proposed, rests, or asks the chooser again where nothing was.
-    pub fn settle(
+    fn settle_with(
         &mut self,
         chooser: &mut Seeded,
         proposal: Option<Proposal>,
@@ -75,10 +78,10 @@ impl Held {
         requires repair { IfSome proposal (λ p. IsMoveOf self.old.machine.model p.mv) }
         ensures { SettlesIn chooser.old proposal self.old result chooser.new self.new }
     {
-        if self.machine.spoiled() {
+        if self.machine.get().spoiled() {
             return Err(Stop::Spoiled);
         }
-        if self.machine.done() {
+        if self.machine.get().done() {
             return Ok(Acted::Finished);
         }
         if self.stopped {
@@ -88,5 +91,18 @@ impl Held {
             return Ok(Acted::Nothing);
         }
         self.settle_open(chooser, proposal)
+    }
+
+    /// Fixes with what a sight proposes, rests, or asks the chooser again where it proposes nothing. The sight's replica is kept.
+    pub fn settle(&mut self, chooser: &mut Seeded, sight: Sight) -> Result<Acted, Stop>
+        requires repair { IfSome sight.proposal (λ p. IsMoveOf self.old.machine.model p.mv) }
+        requires replica { IfSome sight.replica (IsReplica self.old.machine) }
+        ensures { SettlesIn chooser.old sight.proposal self.old result chooser.new self.new }
+    {
+        let Sight {
+            proposal, replica, ..
+        } = sight;
+        self.machine.keep(replica);
+        self.settle_with(chooser, proposal)
     }
 }

@@ -10,6 +10,7 @@ pub mod Sends
 pub mod Handed
 pub mod Moves
 pub mod Models
+pub mod NextSteps
 pub mod Proposed
 pub mod Closes
 pub mod Measured

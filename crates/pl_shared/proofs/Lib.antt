@@ -1,5 +1,5 @@
 pub mod Turning
-pub mod Viewing
+pub mod Halves
 pub mod OwnEntries
 pub mod Progress
 pub mod Crossing

@@ -13,8 +13,6 @@ use Rattle.pl_entry.specs.declared.reply.Reply.{Reply}
 use Rattle.pl_entry.specs.declared.reply.Reply.TheVariants as reply
 use Rattle.pl_entry.specs.declared.entry.Entry.{Entry}
 use Rattle.rand_pcg.specs.Lcg.{Lcg}
-use Rattle.pl_semantics.specs.declared.plan_state.PlanState.{PlanState}
-use Rattle.pl_board.specs.Boards.{Standing}
 use Rattle.pl_cand.specs.declared.proposal.Proposal.{Proposal}
 use Rattle.pl_cand.specs.Proposals.{IsProposal}
 use Rattle.pl_choose.specs.Picks.{seeded_pick, seeded_after}
@@ -26,9 +24,8 @@ use Rattle.pl_machine.specs.Step.{fix_reply, reply_of}
 use Rattle.pl_machine.specs.Mending.{is_repairing}
 use Rattle.pl_machine.specs.Repairs.{IsMoveOf}
 use Rattle.pl_machine.specs.Sound.{State}
-use Rattle.pl_machine.specs.Legal.{IsHistory, world_of}
+use Rattle.pl_machine.specs.Legal.{Legal, IsHistory, world_of}
 use Rattle.pl_machine.proofs.Mending.{proposed_done}
-use Rattle.pl_machine.proofs.Proposed.{proposed_move}
 use Rattle.pl_acts.specs.declared.noted.Noted.{Noted}
 use Rattle.pl_acts.specs.declared.noted.Noted.TheVariants.{Made, Stopped}
 use Rattle.pl_acts.specs.declared.held.Held.{Held}
@@ -36,15 +33,18 @@ use Rattle.pl_acts.specs.declared.part.Part.{Part}
 use Rattle.pl_acts.specs.declared.role.Role.TheVariants.{Planner, Executive}
 use Rattle.pl_acts.specs.declared.role.Acted.{Acted}
 use Rattle.pl_acts.specs.declared.role.Acted.TheVariants as acted
-use Rattle.pl_acts.specs.declared.look.Draft.{Draft}
+use Rattle.pl_acts.specs.declared.draft.Draft.{Draft}
+use Rattle.pl_acts.specs.declared.look.Looked.{Looked}
 use Rattle.pl_acts.specs.declared.look.Looked.TheVariants as looked
 use Rattle.pl_acts.specs.declared.sight.Sight.{Sight}
 use Rattle.pl_acts.specs.Items.{items_of, entries_in, model_in, stop_in, InWorld}
 use Rattle.pl_acts.specs.Roles.{has_event, IsChosen, IsInputOf}
-use Rattle.pl_acts.specs.Sights.{AsksIn, Fits, at_once, IsPlanned, IsDueBy}
+use Rattle.pl_acts.specs.Replicas.{log_of, IsReplica, IsDraft, IsDraftOf}
+use Rattle.pl_acts.specs.Sights.{AsksIn, at_once, IsPlanned, IsDueBy}
 use Rattle.pl_acts.specs.Inside as inside
-use Rattle.pl_acts.specs.Inside.{items_in, IsSound, IsStepIn, Logs, KeepsLog, Spoiled, can_listen, FeedsIn, IsPart, Wants, Executes, ExecutesIn, RestsAtOnce, IsDraft, LooksIn, SettlesIn}
+use Rattle.pl_acts.specs.Inside.{items_in, IsSound, IsStepIn, Logs, KeepsLog, Spoiled, can_listen, FeedsIn, IsPart, Wants, Executes, ExecutesIn, RestsAtOnce, LooksIn, SettlesIn}
 use Rattle.pl_acts.specs.Seen.{IsPlan, IsFull, Copies}
+use Rattle.pl_acts.proofs.Replicas.{replica_here, moves_here}
 use Rattle.pl_acts.proofs.Growing.{keeps_items, logs_items, same_held, plan_in, some_model, grown_prefix}
 use Rattle.pl_acts.proofs.Items.{length_going, model_in_items, items_stopped, in_world_of, in_world, world_in, prefix_whole, stop_in_same, entries_in_items}
 use Rattle.pl_shared.specs.declared.plan.SharedPlan.{SharedPlan}
@@ -68,6 +68,20 @@ pub record Turn (old mid new : PlanPass) (held held2 : Held) : Type 0 where
   pub same : items_in held2 ≡ seen_of mid → mine_of new ≡ mine_of mid
   pub grown : (e : Noted) → items_in held2 ≡ seen_of mid ++ e ∷ [] → mine_of new ≡ mine_of mid ++ (length (seen_of mid), e) ∷ []
   pub kept : (counted_of new ≡ counted_of mid) × (crew_of new ≡ crew_of mid)
+
+pub turn_of : (old mid new : PlanPass) (held held2 : Held) → TakesTurn old mid → mine_of mid ≡ mine_of old → seen_of mid ≡ items_in held → IsSound held.machine → IsSameOrOneMore (seen_of mid) (items_in held2) → seen_of new ≡ items_in held2
+    → IsSound held2.machine → (items_in held2 ≡ seen_of mid → mine_of new ≡ mine_of mid) → ((e : Noted) → items_in held2 ≡ seen_of mid ++ e ∷ [] → mine_of new ≡ mine_of mid ++ (length (seen_of mid), e) ∷ [])
+    → (counted_of new ≡ counted_of mid) × (crew_of new ≡ crew_of mid) → Turn old mid new held held2
+turn_of old mid new held held2 takes own found sound grows left sound2 same grown kept =
+    record { takes = takes; own = own; found = found; sound = sound; grows = grows; left = left; sound2 = sound2; same = same; grown = grown; kept = kept }
+
+-- what a call that settles asks of the plan that it finds
+pub settle_moves : (old mid : PlanPass) (held : Held) (sight : Sight) → TakesTurn old mid → seen_of mid ≡ items_in held → IsSound held.machine → CanSettle (seen_of old) sight → IfSome sight.proposal (λ p. IsMoveOf held.machine.model p.mv)
+settle_moves old mid held sight takes found sound can =
+    moves_here can.front (seen_of mid) held.machine held.stopped sight.proposal (prefix_trans can.front (seen_of old) (seen_of mid) can.on takes.longer) found sound.legal sound.checked can.legal
+
+pub settle_replica : (old mid : PlanPass) (held : Held) (sight : Sight) → TakesTurn old mid → seen_of mid ≡ items_in held → IsSound held.machine → CanSettle (seen_of old) sight → IfSome sight.replica (IsReplica held.machine)
+settle_replica old mid held sight takes found sound can = replica_here (seen_of old) (seen_of mid) held.machine held.stopped sight.replica takes.longer found sound.legal can.replica
 
 module _ (old mid new : PlanPass) (held held2 : Held) (turn : Turn old mid new held held2) where
   on : IsPrefix (seen_of mid) (seen_of new)
@@ -220,27 +234,29 @@ module _ (old mid new : PlanPass) (held held2 : Held) (turn : Turn old mid new h
       )
   look_stops g stop.Memory looks = (wants looks, inl refl)
 
-  -- a copy to be asked about
-  drafted : (draft : Draft) → IsDraft held draft → held2 ≡ held → (p : Option Proposal) → IsProposal draft.board.state p → Fits (seen_of new) p
-  drafted draft is same p proposal m found =
+  -- a replica to be asked about
+  drafted : (draft : Draft) → IsDraft held.machine draft → held.stopped ≡ false → held2 ≡ held → IsDraftOf (seen_of new) draft
+  drafted draft is running same =
       let keeps = same_held held held2 same in
-      let P : PlanState → Type 0 = λ s. IsProposal s p in
-      let proposed : IsProposal held.machine.world.state p = subst P (ap (λ (b : Standing). b.state) is.board) proposal in
-      let at : model_in (seen_of new) ≡ Some held.machine.model = ap model_in (seen_same keeps) ∙ model_in_items held.machine.model held.machine.log held.stopped turn.sound.legal in
-      let one : Some held.machine.model ≡ Some m = sym at ∙ found in
-      let model : held.machine.model ≡ m = cc in
-      subst (λ (n : Model). IfSome p (λ q. IsMoveOf n q.mv)) model (proposed_move held.machine.model held.machine.world.state p is.checked is.model proposed)
+      let model = is.replica.model in
+      let P : Model → Type 0 = λ k. Legal k (log_of draft) in
+      let Q : List Entry → Type 0 = λ es. Legal held.machine.model es in
+      record {
+        unspoiled = is.replica.unspoiled;
+        legal = subst P (sym model) (subst Q (sym is.log) turn.sound.legal);
+        is = seen_same keeps ∙ ap (λ (s : Bool). items_of held.machine.model held.machine.log s) running ∙ ap (λ (es : List Entry). items_of held.machine.model es false) (sym is.log)
+            ∙ ap (λ (k : Model). items_of k (log_of draft) false) (sym model);
+      }
 
   pub opened : (draft : Draft) → LooksIn held (Ok (looked.Open draft)) held2 → Looks old (Ok (looked.Open draft)) new
   opened draft looks =
       let keeps = same_held held held2 looks.3 in
-      let long : length (seen_of new) ≡ length held.machine.log = ap length (seen_same keeps) ∙ length_going held.machine.model held.machine.log held.stopped looks.0.running in (
-        made_none keeps,
-        stop_is keeps ∙ looks.0.running,
-        looks.2.seen ∙ sym long,
-        stands_in keeps (λ w. AsksIn w × (draft.board ≡ record { spoiled = false; state = w.state }) × (w.state.next_id ≤ 3999999000)) looks.0.unspoiled (looks.1, looks.2.board, looks.2.few),
-        drafted draft looks.2 looks.3,
-      )
+      (made_none keeps, stands_in keeps AsksIn looks.0.unspoiled looks.1, drafted draft looks.2 looks.0.running looks.3)
+
+  pub looked_at : (a : Result Looked Stop) → LooksIn held a held2 → Looks old a new
+  looked_at (Ok (looked.Settled a)) looks = λ g. looked_over g a looks
+  looked_at (Ok (looked.Open draft)) looks = opened draft looks
+  looked_at (Err s) looks = λ g. look_stops g s looks
 
   -- ---- a planner settles
 

@@ -1,5 +1,5 @@
 -- What the calls that take a turn do.
-use Rattle.std.specs.Prelude.{◌≡◌, ◌<◌, ◌≤◌, ℕ, List, [], ◌∷◌, ◌++◌, length, drop, true, false, Option, Some, None, Result, Ok, Err, ◌⊎◌}
+use Rattle.std.specs.Prelude.{◌≡◌, ◌<◌, ◌≤◌, ℕ, List, [], ◌∷◌, ◌++◌, length, drop, true, false, Option, Some, None, IfSome, Result, Ok, Err, ◌⊎◌}
 use Rattle.std.specs.List.{All}
 use mathlib.Core.List.{IsPrefix}
 use Rattle.pl_turn.specs.Passes.{seen_of, mine_of, counted_of, crew_of}
@@ -29,7 +29,8 @@ use Rattle.pl_acts.specs.declared.sight.View.{View}
 use Rattle.pl_acts.specs.declared.sight.View.TheVariants as view
 use Rattle.pl_acts.specs.Items.{entries_in, model_in, stop_in, InWorld}
 use Rattle.pl_acts.specs.Roles.{worker_of, has_event, IsInputOf, kind_of, is_entry}
-use Rattle.pl_acts.specs.Sights.{AsksIn, IsSight, Fits, IsDueBy, IsKept, IsAskedAtMost}
+use Rattle.pl_acts.specs.Replicas.{IsReplicaOf, IsDraftOf}
+use Rattle.pl_acts.specs.Sights.{AsksIn, IsSight, IsDueBy, IsKept, IsAskedAtMost}
 use Rattle.pl_acts.specs.Inside.{IsStepIn, can_listen}
 use Rattle.pl_acts.specs.Making.{MakesAll}
 use Rattle.pl_acts.specs.Seen.{IsFull, IsOver, WasAskedAtMost}
@@ -82,31 +83,31 @@ Acts r old (Err stop.Memory) r2 new = MakesNothing old new × IsAskedAtMost r (l
 
 -- ---- the two halves of a planner's act
 
--- What a planner's look finds, in this order: Finished, Stopped, Nothing, LogFull, a rest for a plain reason, and else a copy to be asked about.
+-- What a planner's look finds, in this order: Finished, Stopped, Nothing, LogFull, a rest for a plain reason, and else a replica to be asked about.
 abbrev pub Looks : PlanPass → Result Looked Stop → PlanPass → Type 0
 Looks old (Ok (looked.Settled a)) new = (g : Lcg) → Acts (Planner g) old (Ok a) (Planner g) new
-Looks old (Ok (looked.Open draft)) new = MakesNothing old new × (stop_in (seen_of new) ≡ false) × (draft.seen ≡ length (seen_of new))
-    × InWorld (seen_of new) (λ w. AsksIn w × (draft.board ≡ record { spoiled = false; state = w.state }) × (w.state.next_id ≤ 3999999000))
-    × ((p : Option Proposal) → IsProposal draft.board.state p → Fits (seen_of new) p)
+Looks old (Ok (looked.Open draft)) new = MakesNothing old new × InWorld (seen_of new) AsksIn × IsDraftOf (seen_of new) draft
 Looks old (Err s) new = (g : Lcg) → Acts (Planner g) old (Err s) (Planner g) new
 
--- The chooser was asked on the first `seen` items, and has drawn its words once.
+-- The chooser was asked in the world after all that the pass has seen behind the call, and has drawn its words once.
 pub record Sees (r : Role) (old new : PlanPass) (sight : Sight) (r2 : Role) : Type 0 where
   pub before : Lcg
   pub is : r ≡ Planner before
   pub drew : r2 ≡ Planner (seeded_after before)
   pub nothing : MakesNothing old new
   pub sees : IsSight before (low_of old) (seen_of new) sight.proposal
-  pub long : length sees.front ≡ sight.seen
-  pub fits : Fits (seen_of new) sight.proposal
+  pub whole : sees.look.front ≡ seen_of new
+  pub seen : sight.seen ≡ length (seen_of new)
+  pub replica : IfSome sight.replica (IsReplicaOf (seen_of new))
 
--- what a call that settles asks for: the proposal is a legal candidate in the world after the first `seen` items, or there was none
+-- What a call that settles asks for: the proposal is a legal candidate in the world after the first `seen` items, or there was none. A
+-- replica that comes with it is one of the plan.
 pub record CanSettle (seen : List Noted) (sight : Sight) : Type 0 where
   pub front : List Noted
   pub on : IsPrefix front seen
   pub long : length front ≡ sight.seen
   pub legal : InWorld front (λ w. IsProposal w.state sight.proposal)
-  pub fits : Fits seen sight.proposal
+  pub replica : IfSome sight.replica (IsReplicaOf seen)
 
 -- A view is the executive's act, an act of a planner that is over at once, or a sight.
 abbrev pub Views : Role → PlanPass → Result View Stop → Role → PlanPass → Type 0

@@ -11,7 +11,7 @@ use std::sync::Wait;
 impl SharedPlan {
     /// Makes the event that the role has, if it has one. A planner takes two turns, unless it has nothing to choose, and its chooser is
     /// asked between them.
-    #[tactic(auto, using(crate::proofs::Viewing::can_settle, crate::proofs::Viewing::acts_by_both, crate::proofs::Viewing::sees_planner, crate::proofs::Viewing::both_turns))]
+    #[tactic(auto, using(crate::proofs::Halves::can_settle, crate::proofs::Halves::acts_by_both, crate::proofs::Halves::sees_planner, crate::proofs::Halves::both_turns))]
     pub fn act<R: Wait>(
         &self,
         rt: &R,

@@ -43,7 +43,7 @@ impl SharedPlan {
         looked
     }
 
-    #[tactic(auto, using(crate::proofs::Viewing::viewed, crate::proofs::Viewing::copied, crate::proofs::Viewing::view_stops, crate::proofs::Viewing::ask_stops))]
+    #[tactic(auto, using(crate::proofs::Halves::viewed, crate::proofs::Halves::copied, crate::proofs::Halves::view_stops, crate::proofs::Halves::ask_stops))]
     fn view_plan<R: Wait>(
         &self,
         rt: &R,
@@ -59,7 +59,7 @@ impl SharedPlan {
         match self.look(rt, alloc, pass)? {
             Looked::Settled(acted) => Ok(View::Settled(acted)),
             Looked::Open(draft) => {
-                let sight = ask(alloc, chooser, draft)?;
+                let sight = ask(chooser, draft)?;
                 Ok(View::Copy(sight))
             }
         }
@@ -103,7 +103,7 @@ impl SharedPlan {
     {
         let mut held = self.enter(rt, pass);
         let before = held.busy();
-        let acted = held.settle(chooser, sight.proposal);
+        let acted = held.settle(chooser, sight);
         let behind = held.busy();
         self.leave(pass, held);
         self.bells.ring(rt, before, behind);

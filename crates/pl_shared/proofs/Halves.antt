@@ -9,8 +9,6 @@ use Rattle.pl_entry.specs.declared.reply.Reply.{Reply}
 use Rattle.pl_entry.specs.declared.reply.Reply.TheVariants as reply
 use Rattle.pl_entry.specs.declared.entry.Entry.{Entry}
 use Rattle.rand_pcg.specs.Lcg.{Lcg}
-use Rattle.pl_semantics.specs.declared.plan_state.PlanState.{PlanState}
-use Rattle.pl_board.specs.Boards.{Standing}
 use Rattle.pl_cand.specs.declared.proposal.Proposal.{Proposal}
 use Rattle.pl_cand.specs.Proposals.{IsProposal}
 use Rattle.pl_choose.specs.Picks.{seeded_pick, seeded_after}
@@ -24,45 +22,65 @@ use Rattle.pl_acts.specs.declared.role.Role.{Role}
 use Rattle.pl_acts.specs.declared.role.Role.TheVariants.{Planner, Executive}
 use Rattle.pl_acts.specs.declared.role.Acted.{Acted}
 use Rattle.pl_acts.specs.declared.role.Acted.TheVariants as acted
-use Rattle.pl_acts.specs.declared.look.Draft.{Draft}
+use Rattle.pl_acts.specs.declared.draft.Draft.{Draft}
 use Rattle.pl_acts.specs.declared.look.Looked.TheVariants as looked
 use Rattle.pl_acts.specs.declared.sight.Sight.{Sight}
 use Rattle.pl_acts.specs.declared.sight.View.TheVariants as view
-use Rattle.pl_acts.specs.Items.{stop_in, entries_in, InWorld}
-use Rattle.pl_acts.specs.Sights.{AsksIn, IsSight, Fits, IsFixed, as_seen, asked_again, HasRested, behind, IsPlanned, IsLate, IsLost, IsKeptBy, IsDueBy, IsAskedAtMost}
+use Rattle.pl_acts.specs.Items.{items_of, stop_in, entries_in, InWorld}
+use Rattle.pl_acts.specs.Replicas.{log_of, IsAsked}
+use Rattle.pl_acts.specs.Sights.{HasLooked, IsSight, IsFixed, as_seen, asked_again, HasRested, behind, IsPlanned, IsLate, IsLost, IsKeptBy, IsDueBy, IsAskedAtMost}
 use Rattle.pl_acts.specs.Roles.{worker_of}
 use Rattle.pl_acts.specs.Inside.{IsStepIn}
 use Rattle.pl_acts.proofs.FullLogs.{in_world_on}
+use Rattle.pl_acts.proofs.Items.{in_world_of, stop_in_same, length_going}
+use Rattle.pl_acts.proofs.Replicas.{replica_of}
 use Rattle.pl_shared.specs.Plans.{PlanPass}
 use Rattle.pl_shared.specs.Turns.{TakesTurn, Makes, MakesNothing, low_of, Acts, Looks, Sees, CanSettle, Views, IsSettled, Settles, SettlesAs}
 
 -- ---- a view
 
--- the chooser was asked on the copy
-pub copied : (old new : PlanPass) (g g2 : Lcg) (draft : Draft) (sight : Sight) → IsPrefix (seen_of old) (seen_of new) → Looks old (Ok (looked.Open draft)) new → sight.seen ≡ draft.seen
-    → sight.proposal ≡ seeded_pick draft.board.state g → IsProposal draft.board.state sight.proposal → g2 ≡ seeded_after g → Views (Planner g) old (Ok (view.Copy sight)) (Planner g2) new
-copied old new g g2 draft sight on looks seen picks legal drew =
-    let P : World → Type 0 = λ w. AsksIn w × (draft.board ≡ record { spoiled = false; state = w.state }) × (w.state.next_id ≤ 3999999000) in
+looked_here : (old new : PlanPass) (draft : Draft) → IsPrefix (seen_of old) (seen_of new) → Looks old (Ok (looked.Open draft)) new → HasLooked (low_of old) (seen_of new)
+looked_here old new draft on looks = record {
+  front = seen_of new;
+  on = prefix_self (seen_of new);
+  late = prefix_length (seen_of old) (seen_of new) on;
+  running = stop_in_same (seen_of new) draft.replica.model (log_of draft) false looks.2.is;
+  asks = looks.1;
+}
+
+-- the chooser was asked on the replica
+pub copied : (old new : PlanPass) (g g2 : Lcg) (draft : Draft) (sight : Sight) → IsPrefix (seen_of old) (seen_of new) → Looks old (Ok (looked.Open draft)) new → IsAsked g draft.replica.model (log_of draft) sight
+    → g2 ≡ seeded_after g → Views (Planner g) old (Ok (view.Copy sight)) (Planner g2) new
+copied old new g g2 draft sight on looks asked drew =
+    let model = draft.replica.model in
+    let log = log_of draft in
+    let is : seen_of new ≡ items_of model log false = looks.2.is in
+    let legal = looks.2.legal in
     record {
       before = g;
       is = refl;
       drew = ap (λ (x : Lcg). Planner x) drew;
       nothing = looks.0;
       sees = record {
-        front = seen_of new;
-        on = prefix_self (seen_of new);
-        late = prefix_length (seen_of old) (seen_of new) on;
-        running = looks.1;
-        asks = in_world_on P AsksIn (seen_of new) (λ w h. h.0) looks.3;
-        picks = in_world_on P (λ w. sight.proposal ≡ seeded_pick w.state g) (seen_of new) (λ w h. picks ∙ ap (λ (b : Standing). seeded_pick b.state g) h.1) looks.3;
-        legal = in_world_on P (λ w. IsProposal w.state sight.proposal) (seen_of new) (λ w h. subst (λ (b : Standing). IsProposal b.state sight.proposal) h.1 legal) looks.3;
+        look = looked_here old new draft on looks;
+        picks = in_world_of (λ w. sight.proposal ≡ seeded_pick w.state g) (seen_of new) model log false is legal asked.picks;
+        legal = in_world_of (λ w. IsProposal w.state sight.proposal) (seen_of new) model log false is legal asked.legal;
       };
-      long = sym looks.2 ∙ sym seen;
-      fits = looks.4 sight.proposal legal;
+      whole = refl;
+      seen = asked.seen ∙ sym (ap length is ∙ length_going model log false refl);
+      replica = replica_of (seen_of new) model log sight.replica is legal asked.replica;
     }
 
 pub view_stops : (old new : PlanPass) (g : Lcg) (s : Stop) → Looks old (Err s) new → Views (Planner g) old (Err s) (Planner g) new
 view_stops old new g s looks = looks g
+
+-- memory was wanting before the chooser was asked, or for what it was asked
+ask_none : (old new : PlanPass) (g g2 : Lcg) (draft : Draft) → IsPrefix (seen_of old) (seen_of new) → Looks old (Ok (looked.Open draft)) new → (g2 ≡ g) ⊎ (g2 ≡ seeded_after g) → IsAskedAtMost (Planner g) (low_of old) (seen_of new) (Planner g2)
+ask_none old new g g2 draft on looks (inl same) = inl same
+ask_none old new g g2 draft on looks (inr drew) = inr (inl (looked_here old new draft on looks, drew))
+
+pub ask_stops : (old new : PlanPass) (g g2 : Lcg) (draft : Draft) → IsPrefix (seen_of old) (seen_of new) → Looks old (Ok (looked.Open draft)) new → (g2 ≡ g) ⊎ (g2 ≡ seeded_after g) → Views (Planner g) old (Err stop.Memory) (Planner g2) new
+ask_stops old new g g2 draft on looks once = (looks.0, ask_none old new g g2 draft on looks once)
 
 pub viewed : (old new : PlanPass) (g : Lcg) (a : Acted) → Looks old (Ok (looked.Settled a)) new → Views (Planner g) old (Ok (view.Settled a)) (Planner g) new
 viewed old new g a looks = looks g
@@ -73,23 +91,21 @@ viewed old new g a looks = looks g
 abbrev IsOver : List Noted → World → Type 0
 IsOver items w = (w.done ≡ true) ⊎ (is_repairing w ≡ false) ⊎ (w.options.entries ≤ length (entries_in items))
 
-module _ (old mid new : PlanPass) (g : Lcg) (sight : Sight) (sees : IsSight g (low_of old) (seen_of mid) sight.proposal) (long : length sees.front ≡ sight.seen)
+module _ (old mid new : PlanPass) (g : Lcg) (sight : Sight) (sees : IsSight g (low_of old) (seen_of mid) sight.proposal) (long : length sees.look.front ≡ sight.seen)
     (nothing : MakesNothing old mid) (takes : TakesTurn old mid) (takes2 : TakesTurn mid new) where
   -- the sight, of a longer history
   on_front : (before : List Noted) → IsPrefix (seen_of mid) before → IsSight g (low_of old) before sight.proposal
-  on_front before on = record {
-    front = sees.front;
-    on = prefix_trans sees.front (seen_of mid) before sees.on on;
-    late = sees.late;
-    running = sees.running;
-    asks = sees.asks;
-    picks = sees.picks;
-    legal = sees.legal;
-  }
+  on_front before on =
+      let look = sees.look in
+      record {
+        look = record { front = look.front; on = prefix_trans look.front (seen_of mid) before look.on on; late = look.late; running = look.running; asks = look.asks };
+        picks = sees.picks;
+        legal = sees.legal;
+      }
 
-  sight_of : (before : List Noted) → IsPrefix (seen_of mid) before → (p : Option Proposal) → sight.proposal ≡ p → (s : IsSight g (low_of old) before p) × (length s.front ≡ sight.seen)
+  sight_of : (before : List Noted) → IsPrefix (seen_of mid) before → (p : Option Proposal) → sight.proposal ≡ p → (s : IsSight g (low_of old) before p) × (length s.look.front ≡ sight.seen)
   sight_of before on p same =
-      let P : Option Proposal → Type 0 = λ q. (s : IsSight g (low_of old) before q) × (length s.front ≡ sight.seen) in
+      let P : Option Proposal → Type 0 = λ q. (s : IsSight g (low_of old) before q) × (length s.look.front ≡ sight.seen) in
       subst P same (on_front before on, long)
 
   planned_by : (before : List Noted) → IsPrefix (seen_of mid) before → (g2 : Lcg) (v : Event) (r : Reply) → IsSettled (seeded_after g) sight g2 before v r → IsPlanned g (low_of old) before v r g2
@@ -138,7 +154,7 @@ module _ (old mid new : PlanPass) (g : Lcg) (sight : Sight) (sees : IsSight g (l
 
   -- the chooser was asked once, and again where there was no proposal
   asked_once : (g2 : Lcg) → g2 ≡ seeded_after g → IsAskedAtMost (Planner g) (low_of old) (seen_of new) (Planner g2)
-  asked_once g2 drew = inr (inl (sight.proposal, on_front (seen_of new) takes2.longer, drew))
+  asked_once g2 drew = inr (inl ((on_front (seen_of new) takes2.longer).look, drew))
 
   asked_more : (g2 : Lcg) → (g2 ≡ seeded_after g) ⊎ ((sight.proposal ≡ None) × InWorld (seen_of new) (λ w. (is_repairing w ≡ true) × (reason_of w ≡ None)) × (g2 ≡ seeded_after (seeded_after g)))
       → IsAskedAtMost (Planner g) (low_of old) (seen_of new) (Planner g2)
@@ -158,9 +174,18 @@ module _ (old mid new : PlanPass) (g : Lcg) (sight : Sight) (sees : IsSight g (l
 
 -- ---- an act
 
+sees_length : (r r2 : Role) (old new : PlanPass) (sight : Sight) → (sees : Sees r old new sight r2) → length sees.sees.look.front ≡ sight.seen
+sees_length r r2 old new sight sees = ap length sees.whole ∙ sym sees.seen
+
 -- what a sight promises is what a call that settles asks for
 pub can_settle : (r r2 : Role) (old new : PlanPass) (sight : Sight) → Sees r old new sight r2 → CanSettle (seen_of new) sight
-can_settle r r2 old new sight sees = record { front = sees.sees.front; on = sees.sees.on; long = sees.long; legal = sees.sees.legal; fits = sees.fits }
+can_settle r r2 old new sight sees = record {
+  front = sees.sees.look.front;
+  on = sees.sees.look.on;
+  long = sees_length r r2 old new sight sees;
+  legal = sees.sees.legal;
+  replica = sees.replica;
+}
 
 pub sees_planner : (r r2 : Role) (old new : PlanPass) (sight : Sight) → Sees r old new sight r2 → worker_of r2 ≡ 1
 sees_planner r r2 old new sight sees = ap worker_of sees.drew
@@ -181,7 +206,7 @@ settled_role old mid new sight (Planner g) (Planner g1) (Planner g2) a sees take
     let two : g1 ≡ seeded_after sees.before = cc (drew) in
     let P : Lcg → Type 0 = λ x. Settles x sight mid a g2 new in
     subst (λ (x : Lcg). Acts (Planner x) old a (Planner g2) new) (sym one)
-    (settle_answers old mid new sees.before sight sees.sees sees.long sees.nothing takes takes2 g2 a (subst P two settles))
+    (settle_answers old mid new sees.before sight sees.sees (sees_length (Planner g) (Planner g1) old mid sight sees) sees.nothing takes takes2 g2 a (subst P two settles))
 settled_role old mid new sight (Planner g) (Planner g1) Executive a sees takes takes2 is drew settles = absurd settles
 settled_role old mid new sight (Planner g) Executive r3 a sees takes takes2 is drew settles = absurd (cc (drew))
 settled_role old mid new sight Executive r2 r3 a sees takes takes2 is drew settles = absurd (cc (is))

@@ -1,6 +1,7 @@
 -- What a planner's look comes to.
-use Rattle.std.proofs.Common.{◌≡◌, ℕ, ◌+◌, List, [], ◌∷◌, length, Bool, true, false, Option, Some, None, Ok, Err, refl, sym, ◌∙◌, inl}
-use Rattle.std.specs.Prelude.{not, ◌&&◌, is_some, ◌==◌}
+use Rattle.std.proofs.Common.{◌≡◌, ℕ, ◌+◌, List, [], ◌∷◌, length, Bool, true, false, Option, Some, None, Ok, Err, refl, sym, ◌∙◌, inl, inr}
+use Rattle.std.specs.Prelude.{not, ◌&&◌, is_some, nat_le, ◌==◌}
+use Rattle.std.proofs.lemmas.Bool.{leb-true}
 use Rattle.pl_conflict.specs.declared.conflict.Conflict.{Conflict}
 use Rattle.pl_entry.specs.declared.event.Event.TheVariants as event
 use Rattle.pl_entry.specs.declared.reply.Reply.{Reply}
@@ -17,6 +18,8 @@ use Rattle.pl_machine.specs.Mending.{is_repairing}
 use Rattle.pl_acts.specs.declared.held.Held.{Held}
 use Rattle.pl_acts.specs.declared.role.Acted.TheVariants as acted
 use Rattle.pl_acts.specs.declared.look.Looked.TheVariants as looked
+use Rattle.pl_acts.specs.declared.draft.Draft.{Draft}
+use Rattle.pl_acts.specs.Replicas.{IsDraft}
 use Rattle.pl_acts.specs.Inside.{RestsAtOnce, LooksIn}
 use Rattle.pl_acts.proofs.Answering.{with_machine, took_one, same_held, spoils_held}
 
@@ -45,3 +48,18 @@ rest_stops old m stop.Spoiled unspoiled going running repairing plain answers = 
 rest_stops old m stop.NotNow unspoiled going running repairing plain answers = absurd (let h : true ≡ false = sym (rest_enabled old.machine.world repairing plain) ∙ answers.1 in cc)
 rest_stops old m stop.LogFull unspoiled going running repairing plain answers = (record { unspoiled = unspoiled; going = going; running = running }, repairing, answers.2, same_held old m answers.3)
 rest_stops old m stop.Memory unspoiled going running repairing plain answers = inl (spoils_held old m answers.0 answers.1)
+
+-- ---- a replica is lent
+
+pub lent : (old : Held) (m : State) (draft : Draft) → old.machine.spoiled ≡ false → old.machine.world.done ≡ false → old.stopped ≡ false → is_repairing old.machine.world ≡ true → plain_reason_of old.machine.world ≡ None
+    → m ≡ old.machine → IsDraft old.machine draft → LooksIn old (Ok (looked.Open draft)) (with_machine m old)
+lent old m draft unspoiled going running repairing plain same is =
+    (record { unspoiled = unspoiled; going = going; running = running }, (going, repairing, plain), is, same_held old m same)
+
+pub lend_fails : (old : Held) (m : State) → old.machine.spoiled ≡ false → m ≡ old.machine → LooksIn old (Err stop.Memory) (with_machine m old)
+lend_fails old m unspoiled same = inr (unspoiled, same_held old m same)
+
+pub is_full : (old : Held) → old.machine.spoiled ≡ false → old.machine.world.done ≡ false → old.stopped ≡ false → is_repairing old.machine.world ≡ true → nat_le old.machine.world.options.entries (length old.machine.log) ≡ true
+    → LooksIn old (Err stop.LogFull) old
+is_full old unspoiled going running repairing full =
+    (record { unspoiled = unspoiled; going = going; running = running }, repairing, leb-true old.machine.world.options.entries (length old.machine.log) full, refl)
