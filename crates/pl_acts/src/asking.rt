@@ -44,7 +44,8 @@ fn propose(chooser: &mut Seeded, mut replica: Machine) -> Result<Sight, AllocErr
     ensures asked { IfOk result (IsAsked chooser.old replica.model replica.log) }
     ensures drew { chooser.new ≡ seeded_after chooser.old }
 {
-    let seen = replica.log().len() as u32;
+    let seen = replica.entries();
+    let _log = replica.log();
     match replica.propose(chooser) {
         Ok(proposal) => Ok(Sight {
             seen,

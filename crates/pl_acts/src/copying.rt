@@ -13,7 +13,7 @@ impl Held {
     {
         let machine = self.machine.get();
         Ok(Part {
-            entries: machine.entries_from(alloc, from as usize)?,
+            entries: machine.entries_from(alloc, from)?,
             closed: machine.closed(),
             done: machine.done(),
             stopped: self.stopped,

@@ -15,7 +15,7 @@ impl Held {
         ensures { result ≡ nat_le self.now.machine.world.options.entries (length self.now.machine.log) }
     {
         let machine = self.machine.get();
-        machine.options().entries as usize <= machine.log().len()
+        machine.options().entries <= machine.entries()
     }
 
     /// Repair rests, since there is a plain reason to.

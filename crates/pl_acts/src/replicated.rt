@@ -85,8 +85,7 @@ impl Replicated {
         ensures draft { IfOk result (IsDraft self.old) }
     {
         let replica = replica_of(alloc, &self.machine, self.replica.take())?;
-        let made = replica.log().len();
-        let entries = self.machine.entries_from(alloc, made)?;
+        let entries = self.machine.entries_from(alloc, replica.entries())?;
         Ok(Draft { replica, entries })
     }
 

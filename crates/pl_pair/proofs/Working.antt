@@ -23,7 +23,7 @@ use Rattle.pl_pair.specs.declared.duty.Duty.{Duty}
 use Rattle.pl_pair.specs.declared.worker.Worker.{Worker}
 use Rattle.pl_pair.specs.Duties.{role_of, begun_of}
 use Rattle.pl_pair.specs.Served as serving
-use Rattle.pl_pair.specs.Served.{MakesUntil, MakesOwn, Refused, IsServed, IsWorker}
+use Rattle.pl_pair.specs.Served.{MakesUntil, MakesOwn, Refused, IsHired, IsServed, IsWorker}
 
 -- more of a worker that made these items so far
 module _ (plan : SharedPlan) (duty : Duty) (pass pass2 : PlanPass) (role role2 : Role) (begun : begun_of duty ≤ length (seen_of pass)) (before : MakesAll (role_of duty) (begun_of duty) (seen_of pass) (mine_of pass) role) (takes : TakesTurn pass pass2)
@@ -62,12 +62,13 @@ module _ (plan : SharedPlan) (duty : Duty) (pass pass2 : PlanPass) (role role2 :
     made = makes_until works.0 works.1;
     worker = same_number (was_asked_worker works.0 role2 works.1.own (seen_of pass2) works.2 ∙ works.1.worker);
     why = why;
+    stopped = works.1.stopped;
   }
 
   -- a refusal
   refuses : (s : Stop) → WorksOn role pass (Err s) role2 pass2 → IsServed plan (record { pass = pass2; role = role2; duty = duty; refusal = Some s })
   refuses stop.NotNow works = absurd works
-  refuses stop.LogFull works = record { own = own; begun = begun_on; made = makes_until role2 works.0; worker = same_number works.0.worker; why = (works.1, works.2) }
+  refuses stop.LogFull works = record { own = own; begun = begun_on; made = makes_until role2 works.0; worker = same_number works.0.worker; why = (works.1, works.2); stopped = works.0.stopped }
   refuses stop.Spoiled works = asked stop.Spoiled works tt
   refuses stop.Memory works = asked stop.Memory works tt
 
@@ -84,18 +85,19 @@ begins duty pass role is new =
     subst P (sym new) (at_rest is)
 
 -- a worker whose start was refused
-pub served_none : (plan : SharedPlan) (pass : PlanPass) (role : Role) (duty : Duty) → BelongsTo plan pass → begun_of duty ≤ length (seen_of pass) → mine_of pass ≡ [] → role ≡ role_of duty
+pub served_none : (plan : SharedPlan) (pass : PlanPass) (role : Role) (duty : Duty) → IsHired plan duty pass → role ≡ role_of duty
     → IsWorker plan duty (record { pass = pass; role = role; duty = duty; refusal = None })
-served_none plan pass role duty own begun new is = record {
-  served = record { own = own; begun = begun; made = begins duty pass role is new; worker = ap worker_of is; why = tt };
+served_none plan pass role duty hired is = record {
+  served = record { own = hired.own; begun = hired.begun; made = begins duty pass role is hired.new; worker = ap worker_of is; why = tt; stopped = tt };
   hired = refl;
 }
 
 -- a worker whose plan was over
-pub served_on : (plan : SharedPlan) (pass pass2 : PlanPass) (role role2 : Role) (duty : Duty) (count : ℕ) → begun_of duty ≤ length (seen_of pass) → mine_of pass ≡ [] → role ≡ role_of duty → TakesTurn pass pass2 → BelongsTo plan pass2
+pub served_on : (plan : SharedPlan) (pass pass2 : PlanPass) (role role2 : Role) (duty : Duty) (count : ℕ) → IsHired plan duty pass → role ≡ role_of duty → TakesTurn pass pass2 → BelongsTo plan pass2
     → WorksOn role pass (Ok count) role2 pass2 → IsWorker plan duty (record { pass = pass2; role = role2; duty = duty; refusal = None })
-served_on plan pass pass2 role role2 duty count begun new is takes own works =
-    let before = begins duty pass role is new in
+served_on plan pass pass2 role role2 duty count hired is takes own works =
+    let begun = hired.begun in
+    let before = begins duty pass role is hired.new in
     record {
       served = record {
         own = own;
@@ -103,15 +105,16 @@ served_on plan pass pass2 role role2 duty count begun new is takes own works =
         made = goes_on plan duty pass pass2 role role2 begun before takes own count works.0;
         worker = same_number plan duty pass pass2 role role2 begun before takes own works.0.worker;
         why = tt;
+        stopped = tt;
       };
       hired = refl;
     }
 
 -- a worker that met a refusal
-pub served_until : (plan : SharedPlan) (pass pass2 : PlanPass) (role role2 : Role) (duty : Duty) (s : Stop) → begun_of duty ≤ length (seen_of pass) → mine_of pass ≡ [] → role ≡ role_of duty → TakesTurn pass pass2 → BelongsTo plan pass2
+pub served_until : (plan : SharedPlan) (pass pass2 : PlanPass) (role role2 : Role) (duty : Duty) (s : Stop) → IsHired plan duty pass → role ≡ role_of duty → TakesTurn pass pass2 → BelongsTo plan pass2
     → WorksOn role pass (Err s) role2 pass2 → IsWorker plan duty (record { pass = pass2; role = role2; duty = duty; refusal = Some s })
-served_until plan pass pass2 role role2 duty s begun new is takes own works = record {
-  served = refuses plan duty pass pass2 role role2 begun (begins duty pass role is new) takes own s works;
+served_until plan pass pass2 role role2 duty s hired is takes own works = record {
+  served = refuses plan duty pass pass2 role role2 hired.begun (begins duty pass role is hired.new) takes own s works;
   hired = refl;
 }
 
@@ -124,7 +127,7 @@ made_none (Some s) r r2 low seen mine e made = absurd (cc)
 -- what holds of a worker without a refusal
 served_as : (plan : SharedPlan) (duty : Duty) (pass : PlanPass) (role : Role) (o : Option Stop) → o ≡ None → BelongsTo plan pass → begun_of duty ≤ length (seen_of pass) → MakesAll (role_of duty) (begun_of duty) (seen_of pass) (mine_of pass) role
     → IsServed plan (record { pass = pass; role = role; duty = duty; refusal = o })
-served_as plan duty pass role None e own begun made = record { own = own; begun = begun; made = made; worker = made_worker (seen_of pass) (role_of duty) role (begun_of duty) (mine_of pass) made; why = tt }
+served_as plan duty pass role None e own begun made = record { own = own; begun = begun; made = made; worker = made_worker (seen_of pass) (role_of duty) role (begun_of duty) (mine_of pass) made; why = tt; stopped = tt }
 served_as plan duty pass role (Some s) e own begun made = absurd (cc)
 
 acted_works : (pass pass2 : PlanPass) (role role2 : Role) (a : Acted) → TakesTurn pass pass2 → Acts role pass (Ok a) role2 pass2 → (count : ℕ) × Works role pass count role2 pass2

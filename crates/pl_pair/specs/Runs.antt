@@ -80,7 +80,7 @@ pub record History (seed : ℕ) (m : Model) (before log : List Entry) : Type 0 w
   pub repairs : Made planner_met is_repair planner
   pub executed : Made executive_met is_executed executive
   pub planner_made : MakesOwn planner_met (Planner (chooser_of seed)) (length before) (items_of m log stopped) planner planner_last
-  pub executive_made : MakesOwn executive_met Executive (length before) (items_of m log stopped) executive executive_last
+  pub executive_made : MakesOwn executive_met Executive 0 (items_of m log stopped) executive executive_last
   pub planner_is : worker_of planner_last ≡ 1
   pub executive_is : worker_of executive_last ≡ 0
   pub planner_why : Refused planner_met planner_last (items_of m log stopped)

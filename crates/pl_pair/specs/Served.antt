@@ -9,9 +9,9 @@ use Rattle.pl_acts.specs.declared.noted.Noted.{Noted}
 use Rattle.pl_acts.specs.declared.noted.Noted.TheVariants.{Stopped}
 use Rattle.pl_shared.specs.declared.plan.SharedPlan.{SharedPlan}
 use Rattle.pl_acts.specs.declared.role.Role.{Role}
-use Rattle.pl_acts.specs.Items.{InWorld}
+use Rattle.pl_acts.specs.Items.{stop_in, InWorld}
 use Rattle.pl_acts.specs.Roles.{worker_of, has_event, is_entry}
-use Rattle.pl_shared.specs.Plans.{BelongsTo}
+use Rattle.pl_shared.specs.Plans.{PlanPass, BelongsTo}
 use Rattle.pl_acts.specs.Making.{MakesAll}
 use Rattle.pl_acts.specs.Seen.{IsFull}
 use Rattle.pl_pair.specs.declared.duty.Duty.{Duty}
@@ -39,7 +39,7 @@ abbrev pub Made : Option Stop → (Event → Bool) → List (ℕ × Noted) → T
 Made None test mine = AreOf test mine
 Made (Some s) test mine = AreOfUntil test mine
 
--- Own items, each the entry that a worker makes that began with this role, in the world before it, and a stop behind them where there is one. `last` is its role behind them.
+-- Own items, each the entry that a worker makes that began with this role and had seen `low` items then, and a stop behind them where there is one. `last` is its role behind them.
 pub record MakesUntil (r : Role) (low : ℕ) (seen : List Noted) (mine : List (ℕ × Noted)) : Type 0 where
   pub own : List (ℕ × Noted)
   pub rest : List (ℕ × Noted)
@@ -65,6 +65,17 @@ Refused (Some stop.LogFull) r seen = IsFullRound r seen
 Refused (Some stop.Spoiled) r seen = ⊤
 Refused (Some stop.Memory) r seen = ⊤
 
+-- a refusal stopped the plan
+abbrev pub HasStopped : Option Stop → List Noted → Type 0
+HasStopped None seen = ⊤
+HasStopped (Some s) seen = stop_in seen ≡ true
+
+-- A pass that has made nothing yet, and has seen as much as a worker of this duty is to have seen.
+pub record IsHired (plan : SharedPlan) (duty : Duty) (pass : PlanPass) : Type 0 where
+  pub own : BelongsTo plan pass
+  pub new : mine_of pass ≡ []
+  pub begun : begun_of duty ≤ length (seen_of pass)
+
 -- A worker of the plan and what it did, from the role on that it was hired for.
 pub record IsServed (plan : SharedPlan) (w : Worker) : Type 0 where
   pub own : BelongsTo plan w.pass
@@ -72,6 +83,7 @@ pub record IsServed (plan : SharedPlan) (w : Worker) : Type 0 where
   pub made : MakesOwn w.refusal (role_of w.duty) (begun_of w.duty) (seen_of w.pass) (mine_of w.pass) w.role
   pub worker : worker_of w.role ≡ worker_of (role_of w.duty)
   pub why : Refused w.refusal w.role (seen_of w.pass)
+  pub stopped : HasStopped w.refusal (seen_of w.pass)
 
 -- The worker that was hired for this.
 pub record IsWorker (plan : SharedPlan) (duty : Duty) (w : Worker) : Type 0 where

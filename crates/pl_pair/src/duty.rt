@@ -5,11 +5,11 @@ ghost use Rattle.pl_pair.specs.Duties.{role_of};
 use pl_acts::Role;
 use pl_choose::Seeded;
 
-/// What a worker is hired for: to repair, with a chooser of this seed, or to execute; and how many entries there were then.
+/// What a worker is hired for: to repair, with a chooser of this seed, where there were so many entries, or to execute.
 #[derive(Clone, Copy)]
 pub enum Duty {
     Repair(u64, u32),
-    Execute(u32),
+    Execute,
 }
 
 impl Duty {
@@ -20,7 +20,7 @@ impl Duty {
     {
         match self {
             Duty::Repair(seed, _) => Role::Planner(Seeded::new(seed)),
-            Duty::Execute(_) => Role::Executive,
+            Duty::Execute => Role::Executive,
         }
     }
 }

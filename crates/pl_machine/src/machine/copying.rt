@@ -40,10 +40,10 @@ impl Schedule {
 
 impl Machine {
     /// The entries of the log from a number on, with memory of their own.
-    pub fn entries_from(&self, alloc: Global, from: usize) -> Result<Items<Entry>, AllocError>
+    pub fn entries_from(&self, alloc: Global, from: u32) -> Result<Items<Entry>, AllocError>
         ensures { IfOk result (λ entries. entries ≡ drop from self.now.log) }
     {
-        copy_from(alloc, &self.log, from)
+        copy_from(alloc, &self.log, from as usize)
     }
 
     /// A machine in the same world and with the same log, with memory of its own.
