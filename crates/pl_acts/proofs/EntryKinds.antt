@@ -19,7 +19,7 @@ use Rattle.pl_acts.specs.declared.role.Role.{Role}
 use Rattle.pl_acts.specs.declared.role.Role.TheVariants.{Planner, Executive}
 use Rattle.pl_acts.specs.Items.{model_in, OfWorld, InWorld, entries_in}
 use Rattle.pl_acts.specs.Roles.{worker_of, IsChosen, kind_of, is_entry, is_executed}
-use Rattle.pl_acts.specs.Sights.{IsPlanned, IsBy, IsDueBy, IsKept, Idles, at_rest, once_more, IsAskedAtMost}
+use Rattle.pl_acts.specs.Sights.{IsPlanned, IsBy, IsDueBy, IsKept, IdlesBy, Idles, IsAskedAtMost}
 use Rattle.pl_acts.specs.Making.{IsMadeAt, MakesAll, low_behind}
 use Rattle.pl_acts.specs.Seen.{WasAskedAtMost}
 
@@ -71,9 +71,12 @@ kept_worker (Planner g) (Planner g2) low seen kept = refl
 kept_worker (Planner g) Executive low seen kept = absurd kept
 kept_worker Executive r2 low seen kept = ap worker_of kept
 
+idles_by_worker : (r r2 : Role) (low : ℕ) (seen : List Noted) (mids : List Role) → IdlesBy r low seen mids r2 → worker_of r2 ≡ worker_of r
+idles_by_worker r r2 low seen [] same = ap worker_of same
+idles_by_worker r r2 low seen (mid ∷ mids) idles = idles_by_worker mid r2 low seen mids idles.1 ∙ kept_worker r mid low seen idles.0
+
 pub idles_worker : (r r2 : Role) (low : ℕ) (seen : List Noted) → Idles r low seen r2 → worker_of r2 ≡ worker_of r
-idles_worker r r2 low seen (at_rest same) = ap worker_of same
-idles_worker r r2 low seen (once_more mid idles kept) = kept_worker mid r2 low seen kept ∙ idles_worker r mid low seen idles
+idles_worker r r2 low seen idles = idles_by_worker r r2 low seen idles.0 idles.1
 
 asked_worker : (r r2 : Role) (low : ℕ) (seen : List Noted) → IsAskedAtMost r low seen r2 → worker_of r2 ≡ worker_of r
 asked_worker (Planner g) (Planner g2) low seen asked = refl

@@ -12,7 +12,7 @@ use Rattle.pl_acts.specs.declared.noted.Noted.{Noted}
 use Rattle.pl_acts.specs.declared.noted.Noted.TheVariants.{Made}
 use Rattle.pl_acts.specs.declared.role.Role.{Role}
 use Rattle.pl_acts.specs.declared.role.Role.TheVariants.{Planner, Executive}
-use Rattle.pl_acts.specs.Sights.{IsSight, IsFixed, as_seen, asked_again, HasRested, at_once, behind, IsPlanned, IsBy, IsLost, IsKeptBy, IsKept, Idles, at_rest, once_more}
+use Rattle.pl_acts.specs.Sights.{IsSight, IsFixed, as_seen, asked_again, HasRested, at_once, behind, IsPlanned, IsBy, IsLost, IsKeptBy, IsKept, IdlesBy, Idles}
 use Rattle.pl_acts.specs.Making.{IsMadeAt, MakesAll, low_behind}
 
 -- ---- the history goes on
@@ -40,9 +40,12 @@ kept_on xs ys (Planner g) (Planner g2) low on kept = kept_by_on xs ys g g2 low o
 kept_on xs ys (Planner g) Executive low on kept = absurd kept
 kept_on xs ys Executive r2 low on kept = kept
 
-pub idles_on : (xs ys : List Noted) (r r2 : Role) (low : ℕ) → IsPrefix xs ys → Idles r low xs r2 → Idles r low ys r2
-idles_on xs ys r r2 low on (at_rest same) = at_rest same
-idles_on xs ys r r2 low on (once_more mid idles kept) = once_more mid (idles_on xs ys r mid low on idles) (kept_on xs ys mid r2 low on kept)
+idles_by_on : (xs ys : List Noted) (r r2 : Role) (low : ℕ) (mids : List Role) → IsPrefix xs ys → IdlesBy r low xs mids r2 → IdlesBy r low ys mids r2
+idles_by_on xs ys r r2 low [] on idles = idles
+idles_by_on xs ys r r2 low (mid ∷ mids) on idles = (kept_on xs ys r mid low on idles.0, idles_by_on xs ys mid r2 low mids on idles.1)
+
+idles_on : (xs ys : List Noted) (r r2 : Role) (low : ℕ) → IsPrefix xs ys → Idles r low xs r2 → Idles r low ys r2
+idles_on xs ys r r2 low on idles = (idles.0, idles_by_on xs ys r r2 low idles.0 on idles.1)
 
 pub makes_all_on : (xs ys : List Noted) (r r2 : Role) (low : ℕ) (own : List (ℕ × Noted)) → IsPrefix xs ys → MakesAll r low xs own r2 → MakesAll r low ys own r2
 makes_all_on xs ys r r2 low [] on all = idles_on xs ys r r2 low on all
@@ -113,9 +116,15 @@ kept_late Executive r2 low low2 seen le kept = kept
 
 -- ---- more entries
 
-pub idles_then : (r mid r2 : Role) (low : ℕ) (seen : List Noted) → Idles r low seen mid → Idles mid low seen r2 → Idles r low seen r2
-idles_then r mid r2 low seen first (at_rest same) = subst (λ (s : Role). Idles r low seen s) (sym same) first
-idles_then r mid r2 low seen first (once_more last idles kept) = once_more last (idles_then r mid last low seen first idles) kept
+pub idles_once : (r r2 : Role) (low : ℕ) (seen : List Noted) → IsKept r low seen r2 → Idles r low seen r2
+idles_once r r2 low seen kept = (r2 ∷ [], (kept, refl))
+
+idles_by_then : (r mid r2 : Role) (low : ℕ) (seen : List Noted) (xs ys : List Role) → IdlesBy r low seen xs mid → IdlesBy mid low seen ys r2 → IdlesBy r low seen (xs ++ ys) r2
+idles_by_then r mid r2 low seen [] ys first then = subst (λ (s : Role). IdlesBy s low seen ys r2) first then
+idles_by_then r mid r2 low seen (x ∷ xs) ys first then = (first.0, idles_by_then x mid r2 low seen xs ys first.1 then)
+
+idles_then : (r mid r2 : Role) (low : ℕ) (seen : List Noted) → Idles r low seen mid → Idles mid low seen r2 → Idles r low seen r2
+idles_then r mid r2 low seen first then = (first.0 ++ then.0, idles_by_then r mid r2 low seen first.0 then.0 first.1 then.1)
 
 idles_first : (r mid r2 : Role) (low : ℕ) (seen : List Noted) (own : List (ℕ × Noted)) → Idles r low seen mid → MakesAll mid low seen own r2 → MakesAll r low seen own r2
 idles_first r mid r2 low seen [] first all = idles_then r mid r2 low seen first all
@@ -130,9 +139,12 @@ pub makes_all_idle : (seen : List Noted) (r mid r2 : Role) (low : ℕ) (own : Li
 makes_all_idle seen r mid r2 low [] all idles = idles_then r mid r2 low seen all idles
 makes_all_idle seen r mid r2 low (x ∷ own) all idles = (all.0, all.1, all.2, all.3, makes_all_idle seen all.2 mid r2 (x.0 + 1) own all.4 idles)
 
+idles_by_late : (r r2 : Role) (low low2 : ℕ) (seen : List Noted) (mids : List Role) → low2 ≤ low → IdlesBy r low seen mids r2 → IdlesBy r low2 seen mids r2
+idles_by_late r r2 low low2 seen [] le idles = idles
+idles_by_late r r2 low low2 seen (mid ∷ mids) le idles = (kept_late r mid low low2 seen le idles.0, idles_by_late mid r2 low low2 seen mids le idles.1)
+
 idles_late : (r r2 : Role) (low low2 : ℕ) (seen : List Noted) → low2 ≤ low → Idles r low seen r2 → Idles r low2 seen r2
-idles_late r r2 low low2 seen le (at_rest same) = at_rest same
-idles_late r r2 low low2 seen le (once_more mid idles kept) = once_more mid (idles_late r mid low low2 seen le idles) (kept_late mid r2 low low2 seen le kept)
+idles_late r r2 low low2 seen le idles = (idles.0, idles_by_late r r2 low low2 seen idles.0 le idles.1)
 
 -- less was asked for
 pub makes_all_late : (r r2 : Role) (low low2 : ℕ) (seen : List Noted) (own : List (ℕ × Noted)) → low2 ≤ low → MakesAll r low seen own r2 → MakesAll r low2 seen own r2

@@ -14,16 +14,16 @@ use Rattle.pl_acts.specs.declared.sight.Sight.{Sight}
 use Rattle.pl_acts.specs.Items.{items_of}
 
 -- An unspoiled machine of this model with this log.
-pub record HasLog (model : Model) (log : List Entry) (m : State) : Type 0 where
-  pub unspoiled : m.spoiled ≡ false
-  pub model : m.model ≡ model
-  pub log : m.log ≡ log
+pub record HasLog (m : Model) (es : List Entry) (machine : State) : Type 0 where
+  pub unspoiled : machine.spoiled ≡ false
+  pub model : machine.model ≡ m
+  pub log : machine.log ≡ es
 
--- An unspoiled machine of the same model, with whose log the other's begins.
-pub record IsReplica (m replica : State) : Type 0 where
-  pub unspoiled : replica.spoiled ≡ false
-  pub model : replica.model ≡ m.model
-  pub begins : IsPrefix replica.log m.log
+-- An unspoiled machine of the same model, whose log begins that of `m`.
+pub record IsReplica (m other : State) : Type 0 where
+  pub unspoiled : other.spoiled ≡ false
+  pub model : other.model ≡ m.model
+  pub begins : IsPrefix other.log m.log
 
 -- the log of a replica, and the entries that it has not made
 abbrev pub log_of : Draft → List Entry
@@ -39,19 +39,19 @@ abbrev pub IsNext : Model → List Entry → Entry → Type 0
 IsNext m log e = (more : List Entry) × Legal m (log ++ e ∷ more)
 
 -- A chooser was asked in the world after this log, and the machine on which it was asked comes with what it proposed.
-pub record IsAsked (g : Lcg) (m : Model) (log : List Entry) (sight : Sight) : Type 0 where
-  pub seen : sight.seen ≡ length log
-  pub picks : sight.proposal ≡ seeded_pick (world_of m log).state g
-  pub legal : IsProposal (world_of m log).state sight.proposal
-  pub replica : IfSome sight.replica (HasLog m log)
+pub record IsAsked (g : Lcg) (m : Model) (es : List Entry) (sight : Sight) : Type 0 where
+  pub seen : sight.seen ≡ length es
+  pub picks : sight.proposal ≡ seeded_pick (world_of m es).state g
+  pub legal : IsProposal (world_of m es).state sight.proposal
+  pub replica : IfSome sight.replica (HasLog m es)
 
 -- ---- to a caller outside the lock
 
 -- An unspoiled machine with a legal log, with whose items this history begins.
-pub record IsReplicaOf (items : List Noted) (replica : State) : Type 0 where
-  pub unspoiled : replica.spoiled ≡ false
-  pub legal : Legal replica.model replica.log
-  pub begins : IsPrefix (items_of replica.model replica.log false) items
+pub record IsReplicaOf (items : List Noted) (other : State) : Type 0 where
+  pub unspoiled : other.spoiled ≡ false
+  pub legal : Legal other.model other.log
+  pub begins : IsPrefix (items_of other.model other.log false) items
 
 -- A replica, and the rest of the legal log of which these are the items.
 pub record IsDraftOf (items : List Noted) (draft : Draft) : Type 0 where

@@ -1,5 +1,5 @@
 -- What a planner saw before it acts: a front of the history, and what its chooser proposed in the world after it.
-use Rattle.std.specs.Prelude.{◌≡◌, ◌≤◌, ℕ, List, length, Bool, true, false, not, ◌&&◌, Option, Some, None, is_some, ◌⊎◌}
+use Rattle.std.specs.Prelude.{◌≡◌, ◌≤◌, ℕ, List, [], ◌∷◌, length, Bool, true, false, not, ◌&&◌, Option, Some, None, is_some, ◌⊎◌}
 use mathlib.Core.List.{IsPrefix}
 use Rattle.pl_entry.specs.declared.event.Event.{Event}
 use Rattle.pl_entry.specs.declared.event.Event.TheVariants as event
@@ -92,10 +92,14 @@ IsKept (Planner g) low seen (Planner g2) = IsKeptBy g low seen g2
 IsKept (Planner g) low seen Executive = ⊥
 IsKept Executive low seen r2 = r2 ≡ Executive
 
--- The same any number of times.
-pub data Idles (r : Role) (low : ℕ) (seen : List Noted) (r2 : Role) : Type 0 where
-  at_rest : r2 ≡ r → Idles r low seen r2
-  once_more : (mid : Role) → Idles r low seen mid → IsKept mid low seen r2 → Idles r low seen r2
+-- the same again and again, with these roles in turn
+abbrev pub IdlesBy : Role → ℕ → List Noted → List Role → Role → Type 0
+IdlesBy r low seen [] r2 = r2 ≡ r
+IdlesBy r low seen (mid ∷ mids) r2 = IsKept r low seen mid × IdlesBy mid low seen mids r2
+
+-- the same any number of times
+abbrev pub Idles : Role → ℕ → List Noted → Role → Type 0
+Idles r low seen r2 = (mids : List Role) × IdlesBy r low seen mids r2
 
 -- A role that made nothing since memory was wanting: its chooser may have been asked once behind a look, and again where it proposed nothing.
 abbrev pub IsAskedAtMost : Role → ℕ → List Noted → Role → Type 0

@@ -1,6 +1,7 @@
 //! A machine that lends a replica of itself.
 ghost use Rattle.std.specs.Prelude.{◌≡◌, false, IfOk, IfSome};
 ghost use Rattle.std.specs.Option.{option_copied};
+ghost use Rattle.pl_entry.specs.declared.event.Event.TheVariants as event;
 ghost use Rattle.pl_entry.specs.Bounds.{IsMessageLine};
 ghost use Rattle.pl_machine.specs.Choices.{event_of};
 ghost use Rattle.pl_machine.specs.Repairs.{IsMoveOf};
@@ -101,7 +102,7 @@ impl Replicated {
     #[tactic(auto, using(crate::proofs::Replicas::still_behind))]
     pub(crate) fn input(&mut self, line: Option<&[u8]>) -> Result<Reply, Stop>
         requires { IfSome (option_copied line) IsMessageLine }
-        ensures { Answers self.old (Event.Input (option_copied line.entry)) result self.new }
+        ensures { Answers self.old (event.Input (option_copied line.entry)) result self.new }
     {
         self.machine.input(line)
     }
@@ -117,7 +118,7 @@ impl Replicated {
     /// [`Machine::rest`].
     #[tactic(auto, using(crate::proofs::Replicas::still_behind))]
     pub(crate) fn rest(&mut self) -> Result<Reply, Stop>
-        ensures { Answers self.old Event.Rest result self.new }
+        ensures { Answers self.old event.Rest result self.new }
     {
         self.machine.rest()
     }
@@ -126,7 +127,7 @@ impl Replicated {
     #[tactic(auto, using(crate::proofs::Replicas::still_behind))]
     pub(crate) fn fix(&mut self, proposal: &Proposal) -> Result<Reply, Stop>
         requires { IsMoveOf self.old.model proposal.now.mv }
-        ensures { Answers self.old (Event.Fix proposal.now.conflict proposal.now.mv) result self.new }
+        ensures { Answers self.old (event.Fix proposal.now.conflict proposal.now.mv) result self.new }
     {
         self.machine.fix(&proposal.conflict, &proposal.mv)
     }

@@ -20,7 +20,7 @@ use Rattle.pl_acts.specs.declared.role.Role.{Role}
 use Rattle.pl_acts.specs.declared.role.Role.TheVariants.{Planner, Executive}
 use Rattle.pl_acts.specs.Items.{stop_items, items_of, entries_in, model_in, InWorld}
 use Rattle.pl_acts.specs.Roles.{worker_of, is_input, is_repair, is_executed, is_entry, IsChosen}
-use Rattle.pl_acts.specs.Sights.{IsDueBy, at_rest}
+use Rattle.pl_acts.specs.Sights.{IsDueBy}
 use Rattle.pl_acts.specs.Making.{IsMadeAt, MakesAll}
 use Rattle.pl_acts.proofs.Items.{entries_in_items, length_going}
 use Rattle.pl_acts.proofs.EntryKinds.{idles_worker, made_worker}
@@ -109,7 +109,7 @@ made_here : (items : List Noted) (p low : ℕ) (r r2 : Role) (own : List (ℕ ×
 made_here items p low r r2 [] number all times = absurd (let h : 0 ≡ 1 = times in omega arith)
 made_here items p low r r2 (x ∷ own) number all times =
     let idle : worker_of all.0 ≡ 0 = idles_worker r all.0 low items all.1 ∙ number in
-    let one : MakesAll all.0 low items (x ∷ []) all.2 = (all.0, at_rest refl, all.2, all.3, at_rest refl) in
+    let one : MakesAll all.0 low items (x ∷ []) all.2 = (all.0, ([], refl), all.2, all.3, ([], refl)) in
     made_first items p low all.0 all.2 x own idle all.3 (λ t. made_here items p (x.0 + 1) all.2 r2 own (made_worker items all.0 all.2 low (x ∷ []) one ∙ idle) all.4 t) times (nat_eq x.0 p) refl
 
 -- the executive's list, and a stop behind it at most

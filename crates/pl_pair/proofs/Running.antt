@@ -16,7 +16,6 @@ use Rattle.pl_acts.specs.declared.noted.Noted.TheVariants.{Stopped}
 use Rattle.pl_shared.specs.declared.plan.SharedPlan.{SharedPlan}
 use Rattle.pl_acts.specs.Items.{items_of, model_in}
 use Rattle.pl_acts.specs.declared.role.Role.TheVariants.{Planner, Executive}
-use Rattle.pl_acts.specs.Sights.{at_rest}
 use Rattle.pl_acts.specs.Roles.{is_entry, is_input, is_repair, is_executed}
 use Rattle.pl_shared.specs.Plans.{PlanPass, BelongsTo}
 use Rattle.pl_acts.proofs.Items.{model_in_items, length_going}
@@ -77,8 +76,8 @@ runs_none seed start place held legal =
         inputs = record { own = []; rest = []; whole = refl; kinds = All-nil (λ x. is_entry is_input x.1 ≡ true); behind = inl refl };
         repairs = All-nil (λ x. is_entry is_repair x.1 ≡ true);
         executed = All-nil (λ x. is_entry is_executed x.1 ≡ true);
-        planner_made = at_rest refl;
-        executive_made = at_rest refl;
+        planner_made = ([], refl);
+        executive_made = ([], refl);
         planner_is = refl;
         executive_is = refl;
         planner_why = tt;

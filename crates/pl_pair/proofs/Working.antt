@@ -12,7 +12,6 @@ use Rattle.pl_acts.specs.declared.role.Acted.TheVariants as acted
 use Rattle.pl_acts.specs.Roles.{worker_of, kind_of}
 use Rattle.pl_shared.specs.Plans.{PlanPass, BelongsTo}
 use Rattle.pl_turn.proofs.Histories.{prefix_length}
-use Rattle.pl_acts.specs.Sights.{at_rest}
 use Rattle.pl_acts.specs.Making.{MakesAll, low_behind}
 use Rattle.pl_acts.specs.Seen.{WasAskedAtMost}
 use Rattle.pl_shared.specs.Turns.{TakesTurn, low_of, Acts, Stops, Works, WorksUntil, WorksOn}
@@ -82,7 +81,7 @@ module _ (plan : SharedPlan) (duty : Duty) (pass pass2 : PlanPass) (role role2 :
 begins : (duty : Duty) (pass : PlanPass) (role : Role) → role ≡ role_of duty → mine_of pass ≡ [] → MakesAll (role_of duty) (begun_of duty) (seen_of pass) (mine_of pass) role
 begins duty pass role is new =
     let P : List (ℕ × Noted) → Type 0 = λ l. MakesAll (role_of duty) (begun_of duty) (seen_of pass) l role in
-    subst P (sym new) (at_rest is)
+    subst P (sym new) ([], is)
 
 -- a worker whose start was refused
 pub served_none : (plan : SharedPlan) (pass : PlanPass) (role : Role) (duty : Duty) → IsHired plan duty pass → role ≡ role_of duty

@@ -5,7 +5,7 @@ use Rattle.pl_turn.specs.Passes.{seen_of}
 use Rattle.pl_acts.specs.declared.noted.Noted.{Noted}
 use Rattle.pl_acts.specs.declared.noted.Noted.TheVariants.{Made}
 use Rattle.pl_acts.specs.declared.role.Role.{Role}
-use Rattle.pl_acts.specs.Sights.{IsDueBy, at_rest}
+use Rattle.pl_acts.specs.Sights.{IsDueBy}
 use Rattle.pl_acts.specs.Making.{IsMadeAt, MakesAll, low_behind}
 use Rattle.pl_acts.proofs.OwnEntries.{makes_all_on, makes_all_append, made_at_late}
 use Rattle.pl_acts.proofs.EntryKinds.{low_within}
@@ -33,8 +33,8 @@ makes_all_push old new r mid r2 low own n on le all makes =
     let within : low_behind low own ≤ low_of old = low_within r mid low (seen_of old) own le all in
     makes_all_append (seen_of new) r mid r2 low own ((n, Made makes.entry) ∷ []) (makes_all_on (seen_of old) (seen_of new) r mid low own on all) (
       mid,
-      at_rest refl,
+      ([], refl),
       r2,
       made_at_late mid r2 (low_of old) (low_behind low own) (seen_of new) n (Made makes.entry) within (made_at old new mid r2 n makes),
-      at_rest refl,
+      ([], refl),
     )

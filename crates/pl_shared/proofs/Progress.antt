@@ -19,14 +19,14 @@ use Rattle.pl_acts.specs.declared.role.Role.TheVariants.{Planner, Executive}
 use Rattle.pl_acts.specs.declared.role.Acted.TheVariants as acted
 use Rattle.pl_acts.specs.Items.{model_in, is_stop, stop_in, InWorld}
 use Rattle.pl_acts.specs.Roles.{worker_of, has_event, kind_of, is_entry}
-use Rattle.pl_acts.specs.Sights.{IsDueBy, IsKept, Idles, at_rest, once_more, IsAskedAtMost}
+use Rattle.pl_acts.specs.Sights.{IsDueBy, IsKept, Idles, IsAskedAtMost}
 use Rattle.pl_acts.specs.Making.{low_behind}
 use Rattle.pl_acts.specs.Seen.{IsPlan, WasAskedAtMost}
 use Rattle.pl_shared.specs.Plans.{PlanPass}
 use Rattle.pl_shared.specs.Turns.{TakesTurn, low_of, Acts, Stops, was_stopped, is_stopped, Works, WorksUntil, WorksOn}
 use Rattle.pl_acts.proofs.EntryKinds.{by_kind, kind_same, kept_worker, made_within, low_within}
 use Rattle.pl_acts.proofs.FullLogs.{IsRunning, in_world_on, full_on, runs_full}
-use Rattle.pl_acts.proofs.OwnEntries.{makes_all_on, makes_all_idle, kept_late}
+use Rattle.pl_acts.proofs.OwnEntries.{makes_all_on, makes_all_idle, kept_late, idles_once}
 use Rattle.pl_shared.proofs.OwnEntries.{makes_all_push}
 
 -- ---- so far
@@ -42,7 +42,7 @@ pub record Working (start : PlanPass) (r : Role) (count : ℕ) (now : PlanPass) 
 
 pub working_none : (start : PlanPass) (r : Role) → Working start r 0 start r
 working_none start r = record {
-  works = record { own = []; mine = sym (append-nil (mine_of start)); counts = refl; made = at_rest refl; kinds = λ k d lt. absurd (omega arith); worker = refl };
+  works = record { own = []; mine = sym (append-nil (mine_of start)); counts = refl; made = ([], refl); kinds = λ k d lt. absurd (omega arith); worker = refl };
   longer = prefix_self (seen_of start);
   model = refl;
   same_counted = refl;
@@ -117,7 +117,7 @@ module _ (start now new : PlanPass) (r r2 r3 : Role) (count : ℕ) (so_far : Wor
       let still = keeps_working same in
       let low : low_behind (low_of start) so_far.works.own ≤ low_of now = low_within r r2 (low_of start) (seen_of now) so_far.works.own so_far_low so_far.works.made in
       let idles : Idles r2 (low_behind (low_of start) so_far.works.own) (seen_of new) r3 =
-      once_more r2 (at_rest refl) (kept_late r2 r3 (low_of now) (low_behind (low_of start) so_far.works.own) (seen_of new) low kept) in
+      idles_once r2 r3 (low_behind (low_of start) so_far.works.own) (seen_of new) (kept_late r2 r3 (low_of now) (low_behind (low_of start) so_far.works.own) (seen_of new) low kept) in
       record {
         works = record {
           own = still.works.own;
