@@ -8,25 +8,22 @@ use crate::draft::Draft;
 use crate::sight::Sight;
 use pl_choose::Seeded;
 use pl_entry::Entry;
-use pl_machine::Machine;
+use pl_machine::{Machine, Stop};
 use std::alloc::{AllocError, Global};
 
 /// Makes the event of the next entry of a legal log, which can be made: only memory can be wanting.
-#[tactic(auto, using(crate::proofs::Replicas::next_in_range, crate::proofs::Replicas::next_made))]
-fn follow(replica: &mut Machine, entry: &Entry) -> Result<(), AllocError>
+fn follow(replica: &mut Machine, entry: &Entry) -> Result<(), Stop>
     requires unspoiled { replica.old.spoiled ≡ false }
     requires next { IsNext replica.old.model replica.old.log entry.now }
     ensures { OnOk result (HasLog replica.old.model (replica.old.log ++ entry.now ∷ []) replica.new) }
 {
     let _log = replica.log();
-    match replica.answer(&entry.event) {
-        Ok(_) => Ok(()),
-        Err(_) => Err(AllocError),
-    }
+    replica.answer(&entry.event)?;
+    Ok(())
 }
 
 /// Makes the events of the next entries of a legal log.
-fn catch_up(replica: &mut Machine, entries: &[Entry]) -> Result<(), AllocError>
+fn catch_up(replica: &mut Machine, entries: &[Entry]) -> Result<(), Stop>
     requires unspoiled { replica.old.spoiled ≡ false }
     requires legal { Legal replica.old.model (replica.old.log ++ entries.now) }
     ensures { OnOk result (HasLog replica.old.model (replica.old.log ++ entries.now) replica.new) }
@@ -68,6 +65,8 @@ pub fn ask(chooser: &mut Seeded, draft: Draft) -> Result<Sight, AllocError>
         mut replica,
         entries,
     } = draft;
-    catch_up(&mut replica, entries.as_slice())?;
-    propose(chooser, replica)
+    match catch_up(&mut replica, entries.as_slice()) {
+        Ok(()) => propose(chooser, replica),
+        Err(_) => Err(AllocError),
+    }
 }

@@ -100,7 +100,9 @@ impl Held {
         ensures { SettlesIn chooser.old sight.proposal self.old result chooser.new self.new }
     {
         let Sight {
-            proposal, replica, ..
+            proposal,
+            replica,
+            ..
         } = sight;
         self.machine.keep(replica);
         self.settle_with(chooser, proposal)
