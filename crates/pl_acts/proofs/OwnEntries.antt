@@ -69,6 +69,7 @@ sight_late g low low2 items p le sight =
     }
 
 fixed_late : (g g2 : Lcg) (low low2 : ℕ) (before : List Noted) (p : Proposal) (r : Reply) → low2 ≤ low → IsFixed g low before p r g2 → IsFixed g low2 before p r g2
+unfolding sight_late
 fixed_late g g2 low low2 before p r le (as_seen sight done drew) = as_seen (sight_late g low low2 before (Some p) le sight) done drew
 fixed_late g g2 low low2 before p r le (asked_again sight picks done drew) = asked_again (sight_late g low low2 before None le sight) picks done drew
 

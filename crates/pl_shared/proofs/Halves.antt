@@ -104,6 +104,7 @@ module _ (old mid new : PlanPass) (g : Lcg) (sight : Sight) (sees : IsSight g (l
       }
 
   sight_of : (before : List Noted) → IsPrefix (seen_of mid) before → (p : Option Proposal) → sight.proposal ≡ p → (s : IsSight g (low_of old) before p) × (length s.look.front ≡ sight.seen)
+  unfolding on_front
   sight_of before on p same =
       let P : Option Proposal → Type 0 = λ q. (s : IsSight g (low_of old) before q) × (length s.look.front ≡ sight.seen) in
       subst P same (on_front before on, long)
