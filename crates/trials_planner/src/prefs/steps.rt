@@ -13,7 +13,8 @@ const MOST: u32 = 9;
 const GOALS: &str = "horizon 100 lead 30 kind obs { duration 5 }";
 
 /// Changes, what is preferred then, and the score with each step and the score behind it; `;` is a newline.
-const SERVING: &str = "goal 1 10 20 must;add 0 10 goal 1 => prefer obs late 2 => 20;Shift { id: 1, start: 20 } 40
+const SERVING: &str =
+    "goal 1 10 20 must;add 0 10 goal 1 => prefer obs late 2 => 20;Shift { id: 1, start: 20 } 40
 goal 1 10 20 must;add 0 10 goal 1 => prefer obs early 2 => 180
 goal 1 10 20 must;add 0 15 goal 1 => prefer obs early 1 => 85;Shift { id: 1, start: 10 } 90
 goal 1 10 20 must;add 0 10 goal 1 => prefer obs early 2;prefer obs late 3 => 210;Shift { id: 1, start: 20 } 220
@@ -24,7 +25,8 @@ goal 2 10 20 may;drop 2 => prefer obs late 2 => 0
 add 0 96 => prefer obs late 2 => conflicts 1";
 
 /// A greater gain goes first, and of equal gains that of the lesser id. What is committed counts, and stays.
-const STARTS: &str = "add 0 10;add 0 30;add 1 50 => prefer plain late 1;prefer long late 3 => 190;Shift { id: 3, start: 78 } 274;Shift { id: 1, start: 92 } 356;Shift { id: 2, start: 92 } 418
+const STARTS: &str =
+    "add 0 10;add 0 30;add 1 50 => prefer plain late 1;prefer long late 3 => 190;Shift { id: 3, start: 78 } 274;Shift { id: 1, start: 92 } 356;Shift { id: 2, start: 92 } 418
 add 0 10;add 0 30;add 1 50 => prefer long early 7 => 350;Shift { id: 3, start: 1 } 693
 add 0 10;add 0 10 => prefer plain late 1 => 20;Shift { id: 1, start: 92 } 102;Shift { id: 2, start: 92 } 184
 add 0 10;add 0 30;commit 20 => prefer plain late 1 => 40;Shift { id: 2, start: 92 } 102
@@ -35,7 +37,8 @@ add 0 10 => prefer long early 1000 => 0
  => prefer plain early 1 => 0";
 
 /// Bound and dependent values count, and one that is missing counts 0. A value that makes another bad is none to take.
-const TAKEN: &str = "add 0 10;assign 1 0 5;assign 1 1 2 => prefer free value m 10 => 20;Assign { id: 1, param: 1, value: 9 } 90
+const TAKEN: &str =
+    "add 0 10;assign 1 0 5;assign 1 1 2 => prefer free value m 10 => 20;Assign { id: 1, param: 1, value: 9 } 90
 add 1 20;assign 1 0 3 => prefer sum value n 1;prefer sum value m 1 => 7;Assign { id: 1, param: 0, value: 8 } 17
 add 4 10;assign 1 0 5 => prefer back value n 2 => 10;Assign { id: 1, param: 0, value: 9 } 18
 add 4 10;commit 11 => prefer back value n 2 => 8
