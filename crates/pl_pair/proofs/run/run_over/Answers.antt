@@ -1,8 +1,14 @@
 use Rattle.std.proofs.Common.{subst, sym}
 use Rattle.pl_input.specs.Places.{place_of}
 use Rattle.pl_pair.specs.Runs.{PairRun}
-use Rattle.pl_pair.proofs.Running.{runs_whole}
+use Rattle.pl_pair.proofs.Running.{hired_one, runs_whole}
 use Rattle.pl_pair.proofs.run.run_over.Goals as goal
+
+pub run_workers-remains-requires-clause-planner : goal.run_workers-remains-requires-clause-planner
+run_workers-remains-requires-clause-planner g c κs within =
+    let seen = rw c.unwrap-one.ensures at c.split.ensures.new_seen in
+    hired_one c.in-Ok.plan c.args.seed c.entries-begun.result c.args.machine c.in-Ok.pass c.unwrap-one.result c.entries-begun.ensures c.in-Ok.ensures.seen seen.0
+    (rw c.unwrap-one.ensures at c.split.ensures.new_own) (rw c.unwrap-one.ensures at c.split.ensures.new_mine)
 
 pub returns-clause-run : goal.returns-clause-run
 returns-clause-run g c = let ran = c.run_workers-remains in
