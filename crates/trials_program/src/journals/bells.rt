@@ -39,6 +39,7 @@ const EXECUTIVE: [bool; 4] = [false, true, false, true];
 const FEEDER: [bool; 4] = [false, false, true, true];
 
 /// What is done on a plan.
+#[derive(Drop)]
 enum Step {
     Tells(&'static [u8], u32),
     Ends(u32),
