@@ -86,7 +86,7 @@ rates_read m start place rates has = items_read which.Forecast m (rate_in m) rat
 
 pub rates_refused : (m : Model) (start place : Place) (why : Refusal) (line : List ℕ) → IsRefusal (rate_in m) start.reader start.ahead why place.reader place.ahead → line ≡ refusal_line rates_label why
     → ForewordRefuses which.Forecast m start line place
-rates_refused m start place why line refused is = items_refused which.Forecast m (rate_in m) rates_label told.Forecast (λ n lines. refl) start place why line refused is
+rates_refused m start place why line has is = items_refused which.Forecast m (rate_in m) rates_label told.Forecast (λ n lines. refl) start place why line has is
 
 pub rates_stop : (m : Model) (start place : Place) (f : LineFault) (e : Halt) → PrefaceHalts (rate_in m) start.reader start.ahead f place.reader place.ahead → HaltFor f e → ForewordReads which.Forecast m start (Err e) place
 rates_stop m start place f e stops is = items_stop which.Forecast m (rate_in m) rates_label told.Forecast (λ n lines. refl) start place f e stops is
@@ -99,7 +99,7 @@ prefers_read steps m start place prefers has = items_read (which.Improve steps) 
 
 pub prefers_refused : (steps : ℕ) (m : Model) (start place : Place) (why : Refusal) (line : List ℕ) → IsRefusal (prefer_in m) start.reader start.ahead why place.reader place.ahead → line ≡ refusal_line prefers_label why
     → ForewordRefuses (which.Improve steps) m start line place
-prefers_refused steps m start place why line refused is = items_refused (which.Improve steps) m (prefer_in m) prefers_label (told.Improve steps) (λ n lines. refl) start place why line refused is
+prefers_refused steps m start place why line has is = items_refused (which.Improve steps) m (prefer_in m) prefers_label (told.Improve steps) (λ n lines. refl) start place why line has is
 
 pub prefers_stop : (steps : ℕ) (m : Model) (start place : Place) (f : LineFault) (e : Halt) → PrefaceHalts (prefer_in m) start.reader start.ahead f place.reader place.ahead → HaltFor f e → ForewordReads (which.Improve steps) m start (Err e) place
 prefers_stop steps m start place f e stops is = items_stop (which.Improve steps) m (prefer_in m) prefers_label (told.Improve steps) (λ n lines. refl) start place f e stops is

@@ -31,7 +31,7 @@ use Rattle.pl_machine.specs.Messages.{told, told_by, told_line}
 use Rattle.pl_machine.specs.Step.{commit_reply, fix_reply, reply_of, after_input, after_fix, after_commit, after_dispatch, after}
 use Rattle.pl_machine.specs.Legal.{world_from, opening, options_in, no_options, IsOpenedRun, Legal, world_of, IsHistory}
 use Rattle.pl_machine.proofs.Runs.{world_from_push}
-use Rattle.pl_replay.proofs.Lawful.{model_of_world}
+use Rattle.pl_machine.proofs.Models.{model_of_world}
 
 -- ---- a repair
 
