@@ -28,13 +28,14 @@ use Rattle.pl_update.specs.Timelines.Mending.{IsMended, IsMoved, less}
 use Rattle.pl_update.specs.Timelines.Told.{IsTold}
 use Rattle.pl_update.proofs.AboutTimelines.StandingLines.{told_all, all_told}
 use Rattle.pl_update.proofs.AboutTimelines.ReplacingLines.{rest_told, lines_after}
+use Rattle.pl_update.proofs.AboutTimelines.StandingLater.{lines_committed, told_committed}
 use Rattle.pl_update.specs.GoalsAndActivities.Near.{near, HoldSame, Follows}
 use Rattle.pl_update.specs.GoalsAndActivities.Touched.{touched_goals, touched_ids}
 use Rattle.pl_update.proofs.AboutGoalsAndActivities.Touching.{follows_plan, follows_same}
 use Rattle.pl_update.specs.Links.Mended.{MendsLinks, KeepsLinks}
 use Rattle.pl_links.specs.Kept.{kept_of}
 use Rattle.pl_semantics.specs.Links.{placed_in}
-use Rattle.pl_update.specs.Changes.Changes.{withdrawn}
+use Rattle.pl_update.specs.Changes.Changes.{committed_to, withdrawn}
 use Rattle.pl_update.specs.Evaluations.Kept.{AreOf}
 use Rattle.pl_board.specs.declared.watched.WatchedState.{WatchedState}
 use Rattle.pl_board.specs.Boards.{IsWatched}
@@ -109,6 +110,15 @@ pub stands_moved : (s t : PlanState) (lines full : List Line) (set set2 set3 : L
 stands_moved s t lines full set set2 set3 numbers ids went came whole are is whole_t are_t mended carried follows links exchange =
     exchange ∙ found_after s t numbers ids went came full set set2 whole whole_t is follows links
     (record { are = are_t; told = carried (mended.told (told_by s lines set whole are is)); others = mended.others })
+
+-- ---- another moment up to which is committed
+
+pub stands_committed : (s : PlanState) (h : ℕ) (lines : List Line) (set set2 : List Conflict) (numbers ids : List ℕ) (went came : List Conflict)
+    → IsWhole s → AreLinesOf s lines → set ≡ conflicts_of s → IsWhole (committed_to h s) → Follows s (committed_to h s) numbers ids → MendsLinks s (committed_to h s) went came
+    → set2 ≡ exchanged set (near s numbers ids ++ went) (near (committed_to h s) numbers ids ++ came) → set2 ≡ conflicts_of (committed_to h s)
+stands_committed s h lines set set2 numbers ids went came whole are is whole_t follows links exchange =
+    exchange ∙ found_after s (committed_to h s) numbers ids went came lines set set whole whole_t is follows links
+    (record { are = lines_committed s h lines are; told = told_committed s h lines set (told_by s lines set whole are is); others = λ q other. refl })
 
 -- an exchange of nothing changes nothing, and one into nothing is the list itself
 pub nothing_exchanged : (ks : List Conflict) → AreInOrder ks → exchanged ks [] [] ≡ ks

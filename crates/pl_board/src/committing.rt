@@ -1,13 +1,13 @@
 //! What is committed, and what is withdrawn.
-ghost use Rattle.std.specs.Prelude.{◌≡◌, OnOk, ◌≤◌, IsTrue, All, false};
+ghost use Rattle.std.specs.Prelude.{◌≡◌, OnOk, ◌≤◌};
 ghost use Rattle.pl_semantics.specs.Conflicts.{conflicts_of};
-ghost use Rattle.pl_semantics.specs.Grants.{touches_before};
 ghost use Rattle.pl_semantics.specs.Whole.{IsWhole};
 ghost use Rattle.pl_update.specs.Changes.Changes.{committed_to, withdrawn};
 ghost use Rattle.pl_board.specs.Boards.{IsWatched};
 
 use crate::watched::WatchedState;
 use pl_detect::{demands, detect};
+use pl_update::goals_and_activities::committed_by;
 use std::alloc::{AllocError, Global};
 
 impl WatchedState {
@@ -18,12 +18,11 @@ impl WatchedState {
         ensures state { OnOk result (self.new.state ≡ committed_to h self.old.state) }
         ensures watched { OnOk result (IsWatched self.new) }
     {
-        let is_clear = self.is_clear_before(h);
+        let touched = committed_by(alloc, &self.conflicts, h)?;
+        let went = self.wrong_near(alloc, &touched)?;
         self.state.committed = h;
-        if is_clear {
-            return Ok(());
-        }
-        self.look_anew(alloc)?;
+        let mended = pl_update::links::pass(alloc, &self.state, &self.conflicts)?;
+        self.turn(alloc, &touched, &went, &mended)?;
         Ok(())
     }
 
@@ -51,16 +50,5 @@ impl WatchedState {
         let asked = demands(alloc, &self.state)?;
         self.conflicts = detect(alloc, &self.state, &asked)?;
         Ok(())
-    }
-
-    // Whether no conflict touches what comes before a moment.
-    fn is_clear_before(&self, h: u32) -> bool
-        requires { IsWatched self.now }
-        ensures { IsTrue result → All (λ k. touches_before h k ≡ false) self.now.conflicts }
-    {
-        match self.conflicts.first() {
-            Some(conflict) => h <= conflict.from,
-            None => true,
-        }
     }
 }

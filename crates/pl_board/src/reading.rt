@@ -52,11 +52,13 @@ impl Board {
         self.state().committed
     }
 
-    /// The least start that a repair may give.
+    /// The least start that a repair may give. A spoiled board tells any number here.
     pub fn floor(&self) -> u32
-        requires { self.now.spoiled ≡ false }
-        ensures { result ≡ floor_of self.now.state }
+        ensures { self.now.spoiled ≡ false → result ≡ floor_of self.now.state }
     {
+        if self.spoiled() {
+            return 0;
+        }
         self.state().floor()
     }
 
@@ -74,36 +76,42 @@ impl Board {
         self.state().live_limit
     }
 
-    /// How much of a capacity is in use at a moment.
+    /// How much of a capacity is in use at a moment. A spoiled board may be asked for any, and tells any number.
     pub fn use_at(&self, line: u32, t: u32) -> i64
-        requires unspoiled { self.now.spoiled ≡ false }
-        requires capacity { IsCapacityLine (slice_get self.now.state.model.timelines line) }
-        requires now { self.now.state.moment ≤ t }
-        requires before_horizon { t < self.now.state.model.horizon }
-        ensures { result ≡ use_at self.now.state line t }
+        requires capacity { self.now.spoiled ≡ false → IsCapacityLine (slice_get self.now.state.model.timelines line) }
+        requires now { self.now.spoiled ≡ false → self.now.state.moment ≤ t }
+        requires before_horizon { self.now.spoiled ≡ false → t < self.now.state.model.horizon }
+        ensures { self.now.spoiled ≡ false → result ≡ use_at self.now.state line t }
     {
+        if self.spoiled() {
+            return 0;
+        }
         self.watched().lines.use_at(line, t)
     }
 
-    /// The level at a moment.
+    /// The level at a moment, under the same conditions.
     pub fn level_at(&self, line: u32, t: u32) -> i64
-        requires unspoiled { self.now.spoiled ≡ false }
-        requires level { IsLevelLine (slice_get self.now.state.model.timelines line) }
-        requires now { self.now.state.moment ≤ t }
-        requires before_horizon { t < self.now.state.model.horizon }
-        ensures { result ≡ level_at self.now.state line t }
+        requires level { self.now.spoiled ≡ false → IsLevelLine (slice_get self.now.state.model.timelines line) }
+        requires now { self.now.spoiled ≡ false → self.now.state.moment ≤ t }
+        requires before_horizon { self.now.spoiled ≡ false → t < self.now.state.model.horizon }
+        ensures { self.now.spoiled ≡ false → result ≡ level_at self.now.state line t }
     {
+        if self.spoiled() {
+            return 0;
+        }
         self.watched().lines.level_at(line, t)
     }
 
-    /// The number of the state at a moment.
+    /// The number of the state at a moment, under the same conditions.
     pub fn state_at(&self, line: u32, t: u32) -> u32
-        requires unspoiled { self.now.spoiled ≡ false }
-        requires states { IsStateLine (slice_get self.now.state.model.timelines line) }
-        requires now { self.now.state.moment ≤ t }
-        requires before_horizon { t < self.now.state.model.horizon }
-        ensures { result ≡ state_at self.now.state line t }
+        requires states { self.now.spoiled ≡ false → IsStateLine (slice_get self.now.state.model.timelines line) }
+        requires now { self.now.spoiled ≡ false → self.now.state.moment ≤ t }
+        requires before_horizon { self.now.spoiled ≡ false → t < self.now.state.model.horizon }
+        ensures { self.now.spoiled ≡ false → result ≡ state_at self.now.state line t }
     {
+        if self.spoiled() {
+            return 0;
+        }
         self.watched().lines.state_at(line, t)
     }
 }

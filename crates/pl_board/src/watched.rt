@@ -1,5 +1,5 @@
 //! A plan state with what is kept of it, mended near each change.
-ghost use Rattle.std.specs.Prelude.{◌≡◌, OnOk, IfOk, None, ◌≤◌, ◌<◌, [], ◌∷◌, ◌++◌, slice_get, IsTrue, All, false};
+ghost use Rattle.std.specs.Prelude.{◌≡◌, OnOk, IfOk, None, ◌≤◌, ◌<◌, [], ◌∷◌, ◌++◌, slice_get};
 ghost use Rattle.pl_conflict.specs.Sorting.{exchanged};
 ghost use Rattle.pl_update.specs.GoalsAndActivities.Near.{near, HoldSame};
 ghost use Rattle.std.specs.List.Sorted.{IsStrictlyIncreasing};
@@ -56,7 +56,11 @@ impl WatchedState {
     }
 
     // What is wrong with goals and activities that a change touches.
-    fn wrong_near(&self, alloc: Global, touched: &Touched) -> Result<Vec<Conflict>, AllocError>
+    pub(crate) fn wrong_near(
+        &self,
+        alloc: Global,
+        touched: &Touched,
+    ) -> Result<Vec<Conflict>, AllocError>
         requires whole { IsWhole self.now.state }
         requires values { AreOf self.now.state self.now.values }
         ensures { IfOk result (λ all. all.items ≡ near self.now.state touched.now.numbers.items touched.now.ids.items) }
@@ -73,7 +77,7 @@ impl WatchedState {
     }
 
     // Puts what is wrong now in the place of what was wrong before the change.
-    fn turn(
+    pub(crate) fn turn(
         &mut self,
         alloc: Global,
         touched: &Touched,

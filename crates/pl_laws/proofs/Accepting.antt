@@ -11,7 +11,7 @@ use Rattle.pl_entry.proofs.DueLaws.{contains_first}
 use Rattle.pl_msg.specs.declared.message.Message.{Message}
 use Rattle.pl_msg.specs.declared.message.Message.TheVariants as message
 use Rattle.pl_semantics.specs.declared.plan_state.PlanState.{PlanState}
-use Rattle.pl_semantics.specs.PlanStates.{found, row_of, end_at}
+use Rattle.pl_semantics.specs.PlanStates.{end_at}
 use Rattle.pl_plan.specs.Values.{values_of}
 use Rattle.pl_plan.specs.Firm.{end_of}
 use Rattle.pl_laws.specs.Accepted.{accepted, NoneHalts, end_told, ends_told}

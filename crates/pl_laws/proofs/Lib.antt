@@ -14,3 +14,5 @@ pub mod PairBudgets
 pub mod Chosen
 pub mod Bounded
 pub mod Paired
+pub mod Fixed
+pub mod AfterLogs

@@ -1,5 +1,5 @@
 -- The laws that hold of each step by itself, of the world before an entry and the world after it.
-use Rattle.std.proofs.Common.{◌≡◌, ◌≤◌, [], ◌∷◌, not, nat_le, Some, Ok, sym, ◌∙◌, ap, subst}
+use Rattle.std.proofs.Common.{◌≡◌, ◌↔◌, ◌≤◌, [], ◌∷◌, not, nat_le, Some, Ok, sym, ◌∙◌, ap, subst}
 use lib.Pointwise.{bytes_decides}
 use Rattle.pl_lists.proofs.Tests.{and_third}
 use Rattle.pl_model.specs.declared.whole.Model.{Model}
@@ -9,13 +9,14 @@ use Rattle.pl_entry.specs.declared.event.Event.TheVariants as event
 use Rattle.pl_entry.specs.declared.reply.Reply.{Reply}
 use Rattle.pl_entry.specs.declared.reply.Reply.TheVariants as reply
 use Rattle.pl_semantics.specs.Conflicts.{conflicts_of}
+use Rattle.pl_semantics.specs.Grants.{IsGrantable}
 use Rattle.pl_update.specs.Changes.Changes.{committed_to}
 use Rattle.pl_machine.specs.World.{World, due_in}
 use Rattle.pl_machine.specs.Step.{all_sent, best_in, behind_of, commit_reply, reply_of, after_input, after_commit}
 use Rattle.pl_machine.specs.Messages.{read_reply, line_reply, told_by, told_line}
 use Rattle.pl_machine.specs.Legal.{world_of}
 use Rattle.pl_machine.proofs.Granting.{grants}
-use Rattle.pl_laws.specs.Laws.{FrontsAreLegal, CommitsNeverFall, HaltsWithdraw, GrantsChangeNoConflict, AllIsSentAtClose, with_entry}
+use Rattle.pl_laws.specs.Laws.{FrontsAreLegal, CommitsNeverFall, HaltsWithdraw, CommitsAreGranted, GrantsChangeNoConflict, AllIsSentAtClose, with_entry}
 use Rattle.pl_laws.proofs.Fronts.{goes_on, last_entry}
 use Rattle.pl_laws.proofs.Lasting.{lasts_on, same_model}
 use Rattle.pl_machine.proofs.Granted.{granted_same}
@@ -47,6 +48,12 @@ sent_at_close m log answer legal =
     let w = world_of m log in
     let all : w.dispatched ≡ due_in w.state = (bytes_decides w.dispatched (due_in w.state)).0 (and_third (not w.closed) w.rested (all_sent w) (nat_le (best_in w) (behind_of w.state)) last.follows.enabled) in
     subst (λ (v : World). v.dispatched ≡ due_in v.state) (sym last.leaves) all
+
+pub granted_exactly : (m : Model) → CommitsAreGranted m
+granted_exactly m log h answer legal =
+    let last = last_entry m log (event.Commit h) answer (λ begun. begun) legal in
+    let s = (world_of m log).state in
+    subst (λ (r : Reply). (r ≡ reply.Done) ↔ IsGrantable s h) (sym last.follows.answers) (grants s h)
 
 pub grants_same : (m : Model) → GrantsChangeNoConflict m
 grants_same m log h legal =

@@ -1,5 +1,5 @@
 -- What the executive of a pair commits is its choice, so the log of a run of a pair is bounded.
-use Rattle.std.proofs.Common.{◌≡◌, ℕ, ◌+◌, ◌*◌, ◌≤◌, List, [], ◌∷◌, ◌++◌, length, Bool, true, Option, Some, None, refl, sym, ◌∙◌, ap, subst, length-append, arith}
+use Rattle.std.proofs.Common.{◌≡◌, ℕ, ◌+◌, ◌*◌, ◌≤◌, List, [], ◌∷◌, ◌++◌, length, true, Option, Some, None, refl, sym, ap, subst, length-append, arith}
 use Rattle.std.proofs.Math.Nat.{mul-le-mul_left, mul-le-mul_right}
 use Rattle.pl_model.specs.declared.whole.Model.{Model}
 use Rattle.pl_model.specs.Checked.{IsChecked}
@@ -10,9 +10,8 @@ use Rattle.pl_entry.specs.declared.entry.Entry.{Entry}
 use Rattle.pl_machine.specs.declared.choice.Choice.{Choice}
 use Rattle.pl_machine.specs.declared.choice.Choice.TheVariants as choice
 use Rattle.pl_machine.specs.World.{World, fresh_world}
-use Rattle.pl_machine.specs.Step.{after}
-use Rattle.pl_machine.specs.Choices.{exec_choice_of, event_of}
-use Rattle.pl_machine.specs.Legal.{Legal, opening, options_of, world_from, world_of}
+use Rattle.pl_machine.specs.Choices.{exec_choice_of}
+use Rattle.pl_machine.specs.Legal.{Legal, opening, world_from, world_of}
 use Rattle.pl_machine.specs.Finished.{inputs_of}
 use Rattle.pl_input.specs.Words.{split_of}
 use Rattle.pl_machine.proofs.Runs.{world_from_push}

@@ -1,6 +1,6 @@
 -- The laws of the legal logs of a model. The world after a log is the one that all its entries led to, and a log with an entry more
 -- has that entry behind it.
-use Rattle.std.specs.Prelude.{◌≡◌, ℕ, ◌+◌, ◌*◌, ◌≤◌, min, true, List, [], ◌∷◌, ◌++◌, length, Option, Some, None, Ok, AllPairs}
+use Rattle.std.specs.Prelude.{◌≡◌, ℕ, ◌+◌, ◌*◌, ◌≤◌, min, true, List, [], ◌∷◌, ◌++◌, length, Option, Some, None, Ok, AllPairs, ◌↔◌}
 use Rattle.std.specs.List.{filter_map}
 use Rattle.pl_model.specs.declared.whole.Model.{Model}
 use Rattle.pl_conflict.specs.declared.conflict.Conflict.{Conflict}
@@ -14,6 +14,7 @@ use Rattle.pl_entry.specs.declared.reply.Reply.TheVariants as reply
 use Rattle.pl_entry.specs.declared.entry.Entry.{Entry}
 use Rattle.pl_semantics.specs.declared.plan_state.PlanState.{PlanState}
 use Rattle.pl_semantics.specs.Conflicts.{conflicts_of}
+use Rattle.pl_semantics.specs.Grants.{IsGrantable}
 use Rattle.pl_update.specs.Changes.Changes.{withdrawn}
 use Rattle.pl_moves.specs.Keeping.{KeepsCommitted}
 use Rattle.pl_machine.specs.declared.choice.Choice.TheVariants as choice
@@ -76,6 +77,12 @@ abbrev pub HaltsWithdraw : Model → Type 0
 HaltsWithdraw m = (log : List Entry) (line : List ℕ) (answer : Reply) → message_of m line ≡ Ok message.Halt
     → Legal m (with_entry log (event.Input (Some line)) answer)
     → (answer ≡ reply.Done) × (state_of m (with_entry log (event.Input (Some line)) answer) ≡ withdrawn (state_of m log))
+
+-- A commit is granted exactly where it goes further than the present and than what is committed, and not past the horizon, and no
+-- conflict begins before its moment.
+abbrev pub CommitsAreGranted : Model → Type 0
+CommitsAreGranted m = (log : List Entry) (h : ℕ) (answer : Reply) → Legal m (with_entry log (event.Commit h) answer)
+    → (answer ≡ reply.Done) ↔ IsGrantable (state_of m log) h
 
 -- a commit that is granted leaves the conflicts as they were
 abbrev pub GrantsChangeNoConflict : Model → Type 0

@@ -9,3 +9,5 @@ pub mod Accepted
 pub mod Standing
 pub mod Laws
 pub mod Lengths
+pub mod Fixed
+pub mod Recomputed

@@ -13,7 +13,7 @@ use Rattle.pl_plan.specs.Activities.{activity_of, ended, with_end}
 use Rattle.pl_plan.specs.Fitting.{kind_of}
 use Rattle.pl_plan.specs.Moves.{KeepsTree}
 use Rattle.pl_plan.specs.Values.{Row, values_of}
-use Rattle.pl_plan.specs.Firm.{are_in_range, has_amount, duration_in, is_firm_with, is_firm, is_firm_of, end_with, end_in, end_of}
+use Rattle.pl_plan.specs.Firm.{are_in_range, has_amount, duration_in, is_firm_with, is_firm, is_firm_of, end_with, end_of}
 use Rattle.pl_plan.proofs.Kept.{found-changed}
 use Rattle.pl_entry.specs.Due.{is_due, start_of, with_starts, due_of}
 use Rattle.pl_entry.specs.declared.reply.Reply.{Reply}

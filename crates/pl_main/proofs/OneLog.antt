@@ -62,7 +62,7 @@ waits_closed w line on = let both = both_true w.closed (not w.done) on in (both.
 closed_not : (w : World) → w.closed ≡ true → w.closed ≡ false → ⊥
 closed_not w yes_ no_ = (let h : true ≡ false = sym yes_ ∙ no_ in (cc))
 
-abbrev entry_by : Event → Reply → Entry
+abbrev pub entry_by : Event → Reply → Entry
 entry_by e r = record { event = e; reply = r }
 
 entries_same : (e f : Event) (r s : Reply) → e ≡ f → r ≡ s → entry_by e r ≡ entry_by f s
@@ -186,6 +186,35 @@ no_more_inputs xs (x ∷ more) e = absurd (
     let some : length (x ∷ more) ≡ length more + 1 = omega arith in
     omega (arith, whole, parts, some))
 
+-- what stands behind a closed log begins with an input
+by_input : (m : Model) (o : Options) (longer closed : List Entry) (z : Entry) (zs : List Entry) → IsOpened m o longer → IsOpened m o closed → (world_of m closed).closed ≡ true
+    → entries_behind longer ≡ entries_behind closed ++ z ∷ zs → (line : Message) × (inputs_of longer ≡ inputs_of closed ++ (line ∷ inputs_of zs))
+by_input m o longer closed z zs first second shut is =
+    let rest = legal_behind (fresh_world m o) (entries_behind closed) (z ∷ zs) (subst (λ (es : List Entry). legal_from (fresh_world m o) es) is first.steps) in
+    let waits : (world_from (fresh_world m o) (entries_behind closed)).closed ≡ true = ap (λ (w : World). w.closed) (sym second.world) ∙ shut in
+    let next = first_behind (world_from (fresh_world m o) (entries_behind closed)) z (input_in z.event) refl rest.0 waits in (
+      next.0,
+      first.inputs ∙ ap (λ (es : List Entry). inputs_of es) is ∙ inputs_append (entries_behind closed) (z ∷ zs)
+          ∙ ap (λ (ns : List Message). ns ++ cons_option (input_in z.event) (inputs_of zs)) (sym second.inputs)
+          ∙ ap (λ (a : Option Message). inputs_of closed ++ cons_option a (inputs_of zs)) next.1,
+    )
+
+-- Two closed logs with the same inputs are one log.
+pub closed_are_one : (m : Model) (o : Options) (one other : List Entry) → IsOpened m o one → IsOpened m o other → inputs_of other ≡ inputs_of one
+    → (world_of m one).closed ≡ true → (world_of m other).closed ≡ true → entries_behind one ≡ entries_behind other
+closed_are_one m o one other first second same shut shut2 = by (logs_are_one m o one other [] first second (same ∙ sym (append-nil (inputs_of one))))
+  where
+    none_longer : (longer closed zs : List Entry) → IsOpened m o longer → IsOpened m o closed → inputs_of longer ≡ inputs_of closed → (world_of m closed).closed ≡ true
+        → entries_behind longer ≡ entries_behind closed ++ zs → entries_behind longer ≡ entries_behind closed
+    none_longer longer closed [] a b e waits is = is ∙ append-nil (entries_behind closed)
+    none_longer longer closed (z ∷ zs) a b e waits is =
+        let on = by_input m o longer closed z zs a b waits is in
+        absurd (let none : on.0 ∷ inputs_of zs ≡ [] = no_more_inputs (inputs_of closed) (on.0 ∷ inputs_of zs) (sym e ∙ on.1) in (cc))
+
+    by : AreOne (entries_behind one) (entries_behind other) → entries_behind one ≡ entries_behind other
+    by (log_further zs is) = sym (none_longer other one zs second first same shut is)
+    by (log_shorter zs is) = none_longer one other zs first second (sym same) shut2 is
+
 -- A log as long as its options allow and a closed one whose inputs begin with its own are one log.
 pub full_and_closed : (m : Model) (o : Options) (full other : List Entry) (more : List Message) → IsOpened m o full → IsOpened m o other → inputs_of other ≡ inputs_of full ++ more
     → length full ≡ o.entries → (world_of m other).closed ≡ true → (world_of m full ≡ world_of m other) × (more ≡ [])
@@ -199,17 +228,11 @@ full_and_closed m o full other more first second e long closed = by_one (logs_ar
     by_more : (zs : List Entry) → entries_behind full ≡ entries_behind other ++ zs → (world_of m full ≡ world_of m other) × (more ≡ [])
     by_more [] is = same_log (is ∙ append-nil (entries_behind other))
     by_more (z ∷ zs) is =
-        let rest = legal_behind (fresh_world m o) (entries_behind other) (z ∷ zs) (subst (λ (es : List Entry). legal_from (fresh_world m o) es) is first.steps) in
-        let shut : (world_from (fresh_world m o) (entries_behind other)).closed ≡ true = ap (λ (w : World). w.closed) (sym second.world) ∙ closed in
-        let next = first_behind (world_from (fresh_world m o) (entries_behind other)) z (input_in z.event) refl rest.0 shut in
-        let whole : inputs_of full ≡ inputs_of other ++ (next.0 ∷ inputs_of zs) =
-        first.inputs ∙ ap (λ (es : List Entry). inputs_of es) is ∙ inputs_append (entries_behind other) (z ∷ zs)
-        ∙ ap (λ (ns : List Message). ns ++ cons_option (input_in z.event) (inputs_of zs)) (sym second.inputs)
-        ∙ ap (λ (a : Option Message). inputs_of other ++ cons_option a (inputs_of zs)) next.1 in
+        let on = by_input m o full other z zs first second closed is in
         absurd (
-        let one : length (inputs_of full) ≡ length (inputs_of other ++ (next.0 ∷ inputs_of zs)) = ap (λ (ns : List Message). length ns) whole in
-        let two : length (inputs_of other ++ (next.0 ∷ inputs_of zs)) ≡ length (inputs_of other) + length (next.0 ∷ inputs_of zs) = length-append (inputs_of other) (next.0 ∷ inputs_of zs) in
-        let three : length (next.0 ∷ inputs_of zs) ≡ length (inputs_of zs) + 1 = omega arith in
+        let one : length (inputs_of full) ≡ length (inputs_of other ++ (on.0 ∷ inputs_of zs)) = ap (λ (ns : List Message). length ns) on.1 in
+        let two : length (inputs_of other ++ (on.0 ∷ inputs_of zs)) ≡ length (inputs_of other) + length (on.0 ∷ inputs_of zs) = length-append (inputs_of other) (on.0 ∷ inputs_of zs) in
+        let three : length (on.0 ∷ inputs_of zs) ≡ length (inputs_of zs) + 1 = omega arith in
         let four : length (inputs_of other) ≡ length (inputs_of full ++ more) = ap (λ (ns : List Message). length ns) e in
         let five : length (inputs_of full ++ more) ≡ length (inputs_of full) + length more = length-append (inputs_of full) more in
         omega (arith, one, two, three, four, five))

@@ -154,7 +154,7 @@ ends_done turns seed input words place last m source_left held now behind accept
         inputs = o.inputs ∙ in_messages place behind.rest (λ messages. inputs_of run.entries ≡ messages) behind.is run.ends.messages ∙ sym behind.messages;
       };
       closed = run.ends.closed;
-      says = record { paired = o.paired; feeder = run.feeder_goes refl };
+      says = record { paired = o.paired; feeder = run.feeder_goes refl; seen = run.feeder_saw_all refl };
       read = subst (λ (is : List (Option (List ℕ))). HasRead words is input source_left) (sym o.inputs) (read_of input words place last (inputs_of run.entries) source_left behind same run.ends.read);
       written = run.ends.written;
     }

@@ -4,6 +4,7 @@ use Rattle.pl_model.specs.declared.whole.Model.{Model}
 use Rattle.pl_entry.specs.declared.entry.Entry.{Entry}
 use Rattle.pl_machine.specs.Legal.{Legal, opening, options_of, world_of}
 use Rattle.pl_machine.specs.Finished.{inputs_of}
+use Rattle.pl_acts.specs.Items.{entries_in}
 use Rattle.pl_acts.specs.Roles.{is_input}
 use Rattle.pl_pair.specs.Served.{AreOf}
 use Rattle.pl_pair.specs.Chosen.{AreChosen}
@@ -52,10 +53,11 @@ pub record IsPaired (turns seed : ℕ) (m : Model) (log : List Entry) : Type 0 w
   pub history : History seed m (opening (program_options turns) ∷ []) log
   pub chosen : AreChosen m (opening (program_options turns) ∷ []) entries
 
--- Such a log, of which the feeder's own entries are inputs and nothing else: nobody stopped the plan.
+-- Such a log, of which the feeder's own entries are inputs and nothing else: nobody stopped the plan. The feeder had seen all of it.
 pub record IsPairedToEnd (turns seed : ℕ) (m : Model) (log : List Entry) : Type 0 where
   pub paired : IsPaired turns seed m log
   pub feeder : AreOf is_input paired.history.feeder
+  pub seen : entries_in paired.history.feeder_seen ≡ log
 
 -- How far was read where memory ran out for the message behind these: it is the last line that was asked for. Or memory ran out while it was read, and then nothing is said of what the source has left.
 pub data ReadsInPart (words : List ℕ) (messages unanswered : List (Option (List ℕ))) (input : List ℕ) (source_left : Option (List ℕ)) : Type 0 where

@@ -3,7 +3,7 @@ use Rattle.std.proofs.Common.{◌≡◌, ℕ, ◌+◌, List, [], ◌++◌, Bool,
 use Rattle.std.specs.Prelude.{◌||◌, if◌then◌else◌, Err, Ok, Result}
 use Rattle.std.proofs.lemmas.List.{append-nil}
 use mathlib.Core.List.{IsPrefix}
-use Rattle.pl_turn.specs.Passes.{mine_of}
+use Rattle.pl_turn.specs.Passes.{seen_of, mine_of}
 use Rattle.pl_io.specs.declared.errors.LineFault.{LineFault}
 use Rattle.pl_io.specs.declared.errors.LineFault.TheVariants as fault
 use Rattle.pl_model.specs.declared.whole.Model.{Model}
@@ -15,6 +15,7 @@ use Rattle.pl_input.proofs.Reading.{took_none, halts_later}
 use Rattle.pl_input.specs.Reads.{ReadsLines, WhyKnown}
 use Rattle.pl_input.specs.Stops.{IsStuckKnown}
 use Rattle.pl_acts.specs.Roles.{is_input}
+use Rattle.pl_acts.specs.Items.{entries_in}
 use Rattle.pl_shared.specs.Plans.{PlanPass}
 use Rattle.pl_pair.specs.declared.cut.Cut.{Cut}
 use Rattle.pl_pair.specs.declared.cut.Cut.TheVariants as cut
@@ -84,7 +85,7 @@ never_finished e is = cc
 
 -- a run with what is known of its history
 pub pair_run : (r : Result (Unit {0}) Halt) (start : State) (first : PlanPass) (w1 w2 : Worker) (joined : Joined start.model start.log first w1 w2) (place : Place) (held now : Option (List ℕ)) (old mid : PlanPass) (end behind : Place)
-    (tells : HandsOnMessages old place mid end) (list : FeederList tells.inputs (mine_of mid) (mine_of first)) → (r ≡ Ok tt → AreOf is_input (mine_of first)) → (r ≡ Err halt.Full → (is_other w1.refusal || is_other w2.refusal) ≡ false)
+    (tells : HandsOnMessages old place mid end) (list : FeederList tells.inputs (mine_of mid) (mine_of first)) → (r ≡ Ok tt → AreOf is_input (mine_of first) × (entries_in (seen_of first) ≡ joined.whole.log)) → (r ≡ Err halt.Full → (is_other w1.refusal || is_other w2.refusal) ≡ false)
     → RunEnds r start.model joined.whole.log (entries start.model start.log first w1 w2 joined tells.inputs (mine_of mid) list) place held behind now → PairRun joined.seed start place held r behind now
 unfolding history
 pair_run r start first w1 w2 joined place held now old mid end behind tells list goes refuses ends =
@@ -96,7 +97,8 @@ pair_run r start first w1 w2 joined place held now old mid end behind tells list
       begins = begins m start.log first w1 w2 joined tells.inputs (mine_of mid) list;
       history = history m start.log first w1 w2 joined tells.inputs (mine_of mid) list;
       chosen = chosen m start.log first w1 w2 joined tells.inputs (mine_of mid) list;
-      feeder_goes = goes;
+      feeder_goes = λ e. (goes e).0;
+      feeder_saw_all = λ e. (goes e).1;
       refused = refuses;
       messages = subst (λ (is : List (Option (List ℕ))). InMessages place (λ messages. IsPrefix is messages)) (sym same)
           (told_front old mid place end tells (world_of m joined.whole.log).done (ends_told m start.log first w1 w2 joined tells.inputs (mine_of mid) list));

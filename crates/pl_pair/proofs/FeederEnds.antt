@@ -228,7 +228,10 @@ module _ (start : State) (first : PlanPass) (w1 w2 : Worker) (joined : Joined st
   pub runs_out : FeedsOut plan start.model old place held first end now → PairRun joined.seed start place held (Ok tt) end now
   runs_out feeds =
       let list = list_same feeds.tells.inputs first first feeds.tells.mine refl in
-      pair_run (Ok tt) start first w1 w2 joined place held now old first end end feeds.tells list (λ e. inputs_kind feeds.tells.inputs (mine_of first) feeds.tells.mine) (λ e. absurd (cc))
+      pair_run (Ok tt) start first w1 w2 joined place held now old first end end feeds.tells list (λ e. (
+        inputs_kind feeds.tells.inputs (mine_of first) feeds.tells.mine,
+        sym (log_is start first w1 w2 joined place held now old seen0 first end feeds.tells plan feeds.own list (prefix_self (seen_of first)) (over feeds.done) feeds.written),
+      )) (λ e. absurd (cc))
       (out_ends start first w1 w2 joined place held now old seen0 first end feeds.tells plan feeds.own list (prefix_self (seen_of first)) (over feeds.done) feeds.written feeds.done)
 
   module _ (mid : PlanPass) (takes : TakesTurn mid first) (stops : Stops mid first) where

@@ -43,6 +43,7 @@ use Rattle.pl_pair.specs.Runs.{ClosesAll, History, WritesLog}
 use Rattle.pl_machine.proofs.Going.{world_goes}
 use Rattle.pl_pair.proofs.Ending.{EndsIf, steps_behind, world_behind, run_ends}
 use Rattle.pl_pair.proofs.Working.{own_on, own_kinds}
+use Rattle.pl_pair.proofs.Feeding.{own_stands}
 use Rattle.pl_pair.specs.Chosen.{AreChosen}
 use Rattle.pl_pair.proofs.Choosing.{are_chosen}
 use Rattle.pl_pair.proofs.Closing.{FeederList, feeder_until, MoreOf, more_of, NoInputs, made_no_inputs, repair_no_input, executed_no_input, inputs_are, no_further, one_input, same_model, Rests, between, over, stopped, world_in, at_front, entries_whole, over_none, between_input, stop_none}
@@ -196,6 +197,9 @@ module _ (m : Model) (before : List Entry) (first : PlanPass) (w1 w2 : Worker) (
       feeder = mine_of first;
       planner = mine_of w1.pass;
       executive = mine_of w2.pass;
+      feeder_seen = seen_of first;
+      planner_seen = seen_of w1.pass;
+      executive_seen = seen_of w2.pass;
       planner_last = w1.role;
       executive_last = w2.role;
       planner_met = w1.refusal;
@@ -203,6 +207,9 @@ module _ (m : Model) (before : List Entry) (first : PlanPass) (w1 w2 : Worker) (
       legal = joined.whole.legal;
       stands = joined.whole.stands;
       owners = joined.whole.owners;
+      feeder_saw = record { begins = joined.whole.first_seen; holds = own_stands joined.plan first joined.own };
+      planner_saw = record { begins = joined.whole.planner_seen; holds = own_stands joined.plan w1.pass joined.one.served.own };
+      executive_saw = record { begins = joined.whole.executive_seen; holds = own_stands joined.plan w2.pass joined.two.served.own };
       inputs = feeder_until inputs own (mine_of first) list;
       repairs = made_one;
       executed = made_two;

@@ -59,6 +59,9 @@ runs_none seed start place held legal =
         feeder = [];
         planner = [];
         executive = [];
+        feeder_seen = [];
+        planner_seen = [];
+        executive_seen = [];
         planner_last = Planner (chooser_of seed);
         executive_last = Executive;
         planner_met = None;
@@ -66,6 +69,9 @@ runs_none seed start place held legal =
         legal = legal;
         stands = All-cons (StandsIn items) [] ([] ∷ [] ∷ []) tt (All-cons (StandsIn items) [] ([] ∷ []) tt (All-cons (StandsIn items) [] [] tt (All-nil (StandsIn items))));
         owners = record { inside = λ n from to. absurd (omega arith); below = λ n lt. none_own n; above = λ n le. none_own n };
+        feeder_saw = record { begins = (items, refl); holds = tt };
+        planner_saw = record { begins = (items, refl); holds = tt };
+        executive_saw = record { begins = (items, refl); holds = tt };
         inputs = record { own = []; rest = []; whole = refl; kinds = All-nil (λ x. is_entry is_input x.1 ≡ true); behind = inl refl };
         repairs = All-nil (λ x. is_entry is_repair x.1 ≡ true);
         executed = All-nil (λ x. is_entry is_executed x.1 ≡ true);
@@ -78,6 +84,7 @@ runs_none seed start place held legal =
       };
       chosen = tt;
       feeder_goes = λ e. absurd (cc);
+      feeder_saw_all = λ e. absurd (cc);
       refused = λ e. absurd (cc);
       messages = if_known place.ahead (λ bytes. IsPrefix [] (messages_of (lines_of bytes))) (λ bytes is. (messages_of (lines_of bytes), refl));
       ends = in_lines (up_to_next place place [] (heard_none place) tt) (in_first_round refl (none_written m 0 held start.log (log_is_some m start.log legal)));

@@ -22,7 +22,7 @@ use Rattle.pl_input.specs.Stops.{IsStuckKnown}
 use Rattle.pl_driver.specs.CutShort.{IsCutShort}
 use Rattle.pl_journal.specs.Written.{Adds}
 use Rattle.pl_acts.specs.declared.noted.Noted.{Noted}
-use Rattle.pl_acts.specs.Items.{items_of, model_in}
+use Rattle.pl_acts.specs.Items.{items_of, entries_in, model_in}
 use Rattle.pl_acts.specs.Roles.{worker_of, is_input, is_repair, is_executed}
 use Rattle.pl_acts.specs.declared.role.Role.{Role}
 use Rattle.pl_acts.specs.declared.role.Role.TheVariants.{Planner, Executive}
@@ -51,13 +51,21 @@ pub record ClosesAll (first planner executive : PlanPass) (machine : State) : Ty
 
 -- ---- the history
 
+-- What a caller had seen at its end: the history begins with it, and the caller's own items stand in it.
+pub record HadSeen (history seen : List Noted) (own : List (ℕ × Noted)) : Type 0 where
+  pub begins : IsPrefix seen history
+  pub holds : StandsIn seen own
+
 -- The history in the lock goes on from the entries that were handed in, and has one owner for each further entry: inputs are the feeder's, fixes and rests the planner's,
--- commits, dispatches and closes the executive's. Each own entry of the planner is what its chooser, made from the seed and passed on from entry to entry, proposes in the world before it, or a rest, and each of the executive's what it chooses there. The stop, where there is one, is the own item of the feeder, or of a worker that met a refusal. A worker that met a full log had an event of its own kind in the open round.
+-- commits, dispatches and closes the executive's. It begins with all that each of the three had seen, in which the own entries of that one stand. Each own entry of the planner is what its chooser, made from the seed and passed on from entry to entry, proposes in the world before it, or a rest, and each of the executive's what it chooses there. The stop, where there is one, is the own item of the feeder, or of a worker that met a refusal. A worker that met a full log had an event of its own kind in the open round.
 pub record History (seed : ℕ) (m : Model) (before log : List Entry) : Type 0 where
   pub stopped : Bool
   pub feeder : List (ℕ × Noted)
   pub planner : List (ℕ × Noted)
   pub executive : List (ℕ × Noted)
+  pub feeder_seen : List Noted
+  pub planner_seen : List Noted
+  pub executive_seen : List Noted
   pub planner_last : Role
   pub executive_last : Role
   pub planner_met : Option Stop
@@ -65,6 +73,9 @@ pub record History (seed : ℕ) (m : Model) (before log : List Entry) : Type 0 w
   pub legal : Legal m log
   pub stands : All (StandsIn (items_of m log stopped)) (feeder ∷ planner ∷ executive ∷ [])
   pub owners : IsEachOnce (length before) (length (items_of m log stopped)) (λ place. times_in place (feeder ∷ planner ∷ executive ∷ []))
+  pub feeder_saw : HadSeen (items_of m log stopped) feeder_seen feeder
+  pub planner_saw : HadSeen (items_of m log stopped) planner_seen planner
+  pub executive_saw : HadSeen (items_of m log stopped) executive_seen executive
   pub inputs : AreOfUntil is_input feeder
   pub repairs : Made planner_met is_repair planner
   pub executed : Made executive_met is_executed executive
@@ -206,7 +217,7 @@ RunEnds (Err halt.Full) m log entries place held behind now = RunsFull m log ent
 RunEnds (Err halt.Write) m log entries place held behind now = RunsTorn m log entries place held behind now
 RunEnds (Err halt.Memory) m log entries place held behind now = RunsShort m log entries place held behind now
 
--- A run: one history, its further inputs a front of the messages, and what its answer says. The feeder stops the plan where it met a fault, a limit or a refusal: which of them, that is the answer. It is that of a full log only where no worker met another refusal.
+-- A run: one history, its further inputs a front of the messages, and what its answer says. Where the input ended, the feeder had seen all of it. The feeder stops the plan where it met a fault, a limit or a refusal: which of them, that is the answer. It is that of a full log only where no worker met another refusal.
 pub record PairRun (seed : ℕ) (start : State) (place : Place) (held : Option (List ℕ)) (r : Result (Unit {0}) Halt) (behind : Place) (now : Option (List ℕ)) : Type 0 where
   pub log : List Entry
   pub entries : List Entry
@@ -214,6 +225,7 @@ pub record PairRun (seed : ℕ) (start : State) (place : Place) (held : Option (
   pub history : History seed start.model start.log log
   pub chosen : AreChosen start.model start.log entries
   pub feeder_goes : r ≡ Ok tt → AreOf is_input history.feeder
+  pub feeder_saw_all : r ≡ Ok tt → entries_in history.feeder_seen ≡ log
   pub refused : r ≡ Err halt.Full → (is_other history.planner_met || is_other history.executive_met) ≡ false
   pub messages : InMessages place (λ messages. IsPrefix (inputs_of entries) messages)
   pub ends : RunEnds r start.model log entries place held behind now

@@ -7,3 +7,4 @@ pub mod Passing
 pub mod Granted
 pub mod Once
 pub mod Walking
+pub mod Committing

@@ -1,3 +1,4 @@
 pub mod Near
 pub mod Touched
 pub mod Passed
+pub mod Committed

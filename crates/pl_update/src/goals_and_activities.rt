@@ -1,6 +1,7 @@
 //! What is wrong near what a change of a plan state concerns: which goals and which activities that is, what is wrong with them,
 //! and that nothing else changes.
 
+mod committed;
 mod finding;
 mod kept;
 mod laws;
@@ -8,6 +9,7 @@ mod passed;
 mod sharing;
 mod touched;
 
+pub use committed::committed_by;
 pub use finding::near;
 pub use kept::near_kept;
 pub use laws::{

@@ -128,7 +128,7 @@ module _ (s : PlanState) (h : ℕ) (later : s.committed ≤ h) where
 
   -- ---- goals
 
-  open_alike : (g : Goal) → Each (From h) (open_at s g) → open_at s g ≡ open_at next g
+  pub open_alike : (g : Goal) → Each (From h) (open_at s g) → open_at s g ≡ open_at next g
   unfolding open_at
   open_alike g each = when_alike h (is_open s g && nat_le (floor_of s) g.latest) (is_open s g && nat_le (floor_of next) g.latest) (open_goal g) there away each
     where
@@ -157,11 +157,11 @@ module _ (s : PlanState) (h : ℕ) (later : s.committed ≤ h) where
       by false true e f each = none_early a.start h wrong (ltb-true a.start h f) early each
       by false false e f each = refl
 
-  off_alike : (a : Activity) → Each (From h) (off_at s a) → off_at s a ≡ off_at next a
+  pub off_alike : (a : Activity) → Each (From h) (off_at s a) → off_at s a ≡ off_at next a
   unfolding off_at
   off_alike a each = planned_alike a (of_found (off_from a) (served_by s a)) (off_early s a) each
 
-  wrong_alike : (a : Activity) → Each (From h) (wrong_at s a) → wrong_at s a ≡ wrong_at next a
+  pub wrong_alike : (a : Activity) → Each (From h) (wrong_at s a) → wrong_at s a ≡ wrong_at next a
   unfolding wrong_at
   wrong_alike a each = planned_alike a (wrong_there s a) (wrong_early s a) each
 

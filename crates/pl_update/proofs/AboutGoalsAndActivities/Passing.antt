@@ -49,18 +49,18 @@ wrong_kept s now later a none = is_wrong_from (moved_on now s) a ∙ by (is_comm
 pub has_first : (k : Conflict) (ks : List Conflict) → has k (k ∷ ks) ≡ true
 has_first k ks = grind (arith, common_steps)
 
--- an open goal that stands and is passed is among those that are
-among_passed : (now : ℕ) (ks : List Conflict) (k : Conflict) → has k ks ≡ true → is_open_by now k ≡ true → among k.subject (map subject_of (filter (is_open_by now) ks)) ≡ true
-among_passed now [] k h passes = absurd (cc)
-among_passed now (x ∷ ks) k h passes = cases (same k x) refl (among_passed now ks k)
+-- the subject of a conflict that stands and passes a test is among the subjects of those that do
+pub among_subjects : (p : Conflict → Bool) (ks : List Conflict) (k : Conflict) → has k ks ≡ true → p k ≡ true → among k.subject (map subject_of (filter p ks)) ≡ true
+among_subjects p [] k h passes = absurd (cc)
+among_subjects p (x ∷ ks) k h passes = cases (same k x) refl (among_subjects p ks k)
   where
-    kept : (b : Bool) → is_open_by now x ≡ b → among k.subject (map subject_of (filter (is_open_by now) ks)) ≡ true → among k.subject (map subject_of (filter (is_open_by now) (x ∷ ks))) ≡ true
+    kept : (b : Bool) → p x ≡ b → among k.subject (map subject_of (filter p ks)) ≡ true → among k.subject (map subject_of (filter p (x ∷ ks))) ≡ true
     kept true e there = rw (e, there) (or-true (eqb x.subject k.subject))
     kept false e there = rw e there
 
-    cases : (b : Bool) → same k x ≡ b → (has k ks ≡ true → is_open_by now k ≡ true → among k.subject (map subject_of (filter (is_open_by now) ks)) ≡ true) → among k.subject (map subject_of (filter (is_open_by now) (x ∷ ks))) ≡ true
-    cases true e more = subst (λ (y : Conflict). among k.subject (map subject_of (filter (is_open_by now) (y ∷ ks))) ≡ true) (same_is k x e) (rw (passes, eq-eqb k.subject k.subject refl) refl)
-    cases false e more = kept (is_open_by now x) refl (more (rw e at h) passes)
+    cases : (b : Bool) → same k x ≡ b → (has k ks ≡ true → p k ≡ true → among k.subject (map subject_of (filter p ks)) ≡ true) → among k.subject (map subject_of (filter p (x ∷ ks))) ≡ true
+    cases true e more = subst (λ (y : Conflict). among k.subject (map subject_of (filter p (y ∷ ks))) ≡ true) (same_is k x e) (rw (passes, eq-eqb k.subject k.subject refl) refl)
+    cases false e more = kept (p x) refl (more (rw e at h) passes)
 
 module _ (s : PlanState) (whole : IsWhole s) (now : ℕ) (later : s.moment < now) where
   open_stands : (n : ℕ) (g : Goal) → goal_at s n ≡ Some g → is_open s g ≡ true → nat_le (floor_of s) g.latest ≡ true → has (open_goal g) (conflicts_of s) ≡ true
@@ -87,7 +87,7 @@ module _ (s : PlanState) (whole : IsWhole s) (now : ℕ) (later : s.moment < now
           let below : g.latest < floor_of (moved_on now s) = leb-false _ _ eb in
           let above : floor_of s ≤ g.latest = leb-true _ _ ea in
           let most : g.latest ≤ now = omega (arith, below, above) in
-          let passed : among g.number (passed_goals now (conflicts_of s)) ≡ true = among_passed now (conflicts_of s) (open_goal g) (open_stands n g here eo ea) (le-leb g.latest now most) in
+          let passed : among g.number (passed_goals now (conflicts_of s)) ≡ true = among_subjects (is_open_by now) (conflicts_of s) (open_goal g) (open_stands n g here eo ea) (le-leb g.latest now most) in
           absurd (false≢true (sym (subst (λ m. among m (passed_goals now (conflicts_of s)) ≡ false) (sym (found_number n s.goals g here)) other) ∙ passed))
 
   pub follows_moved : Follows s (moved_on now s) (passed_goals now (conflicts_of s)) (passed_ids s now)

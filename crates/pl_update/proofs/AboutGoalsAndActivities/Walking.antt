@@ -1,9 +1,10 @@
 -- Steps of a walk over conflicts in their order, which ends where the present is passed.
-use Rattle.std.proofs.Common.{◌≡◌, ℕ, ◌<◌, ◌≤◌, eqb, Bool, true, false, List, [], ◌∷◌, ◌++◌, map, refl, sym, ap, ◌∙◌, subst, append_assoc, append-nil, arith}
-use Rattle.std.specs.Prelude.{All, filter}
+use Rattle.std.proofs.Common.{◌≡◌, ℕ, ◌<◌, ◌≤◌, eqb, Bool, true, false, cond, List, [], ◌∷◌, ◌++◌, map, refl, sym, ap, ◌∙◌, subst, append_assoc, append-nil, arith}
+use Rattle.std.specs.Prelude.{All, filter, take_while, nat_lt}
 use Rattle.std.specs.declared.cmp.Ordering.TheVariants.{Less}
-use Rattle.std.proofs.lemmas.Bool.{lt-leb}
+use Rattle.std.proofs.lemmas.Bool.{lt-leb, ltb-false, le-ltb}
 use Rattle.std.proofs.lemmas.List.Elements.{All-head, All-tail}
+use Rattle.std.proofs.lemmas.List.Sums.{take_while-cons}
 use Rattle.std.proofs.lemmas.Map.Keys.{sorted_tail}
 use Rattle.std.proofs.lemmas.Map.Views.{All-after_first}
 use Rattle.std.proofs.Math.Bool.{and-false}
@@ -12,7 +13,9 @@ use Rattle.pl_conflict.specs.Codes.{code_number}
 use Rattle.pl_conflict.specs.Order.{conflict_cmp}
 use Rattle.pl_conflict.specs.Sorting.{AreInOrder}
 use Rattle.pl_conflict.proofs.OrderLaws.{from_rises}
+use Rattle.pl_semantics.specs.Grants.{touches_before}
 use Rattle.pl_update.specs.GoalsAndActivities.Passed.{is_open_by, subject_of}
+use Rattle.pl_update.specs.GoalsAndActivities.Committed.{early}
 
 -- the subjects of those that are open by then
 abbrev pub subjects : ℕ → List Conflict → List ℕ
@@ -47,3 +50,22 @@ walk_on now rest next k was then all is grown e =
 
 pub still_ordered : (rest next : List Conflict) (k : Conflict) → rest ≡ k ∷ next → AreInOrder rest → AreInOrder next
 still_ordered rest next k is ordered = sorted_tail conflict_cmp k next (subst AreInOrder is ordered)
+
+-- ---- those that begin before a moment come first
+
+none_early : (h : ℕ) (k : Conflict) (ks : List Conflict) → h ≤ k.from → All (λ q. conflict_cmp k q ≡ Less) ks → early h ks ≡ []
+none_early h k [] late rising = refl
+none_early h k (q ∷ ks) late rising =
+    let le : k.from ≤ q.from = from_rises k q (All-head (λ q. conflict_cmp k q ≡ Less) q ks rising) in
+    rw (le-ltb q.from h (omega (arith, late, le))) (none_early h k ks late (All-tail (λ q. conflict_cmp k q ≡ Less) q ks rising))
+
+pub front_is_early : (h : ℕ) (ks : List Conflict) → AreInOrder ks → take_while (touches_before h) ks ≡ early h ks
+front_is_early h [] ordered = refl
+front_is_early h (k ∷ ks) ordered = cases (nat_lt k.from h) refl (front_is_early h ks (sorted_tail conflict_cmp k ks ordered))
+  where
+    front_of : (b : Bool) → nat_lt k.from h ≡ b → take_while (touches_before h) (k ∷ ks) ≡ cond b (k ∷ take_while (touches_before h) ks) []
+    front_of b e = take_while-cons (touches_before h) k ks ∙ ap (λ (c : Bool). cond c (k ∷ take_while (touches_before h) ks) []) e
+
+    cases : (b : Bool) → nat_lt k.from h ≡ b → take_while (touches_before h) ks ≡ early h ks → take_while (touches_before h) (k ∷ ks) ≡ early h (k ∷ ks)
+    cases true e more = front_of true e ∙ rw e (ap (λ (l : List Conflict). k ∷ l) more)
+    cases false e more = front_of false e ∙ rw e (sym (none_early h k ks (ltb-false k.from h e) (All-after_first conflict_cmp k ks ordered)))

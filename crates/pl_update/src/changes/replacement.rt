@@ -1,4 +1,4 @@
-ghost use Rattle.std.specs.Prelude.{◌≡◌, OnOk, IsTrue, ◌+◌, ◌≤◌, ◌++◌, All, IfSome, map, length};
+ghost use Rattle.std.specs.Prelude.{◌≡◌, OnOk, IsTrue, ◌+◌, ◌≤◌, ◌++◌, All, IfSome, map};
 ghost use Rattle.pl_plan.specs.Activities.{AreRising, IsLive, KeepsPlace};
 ghost use Rattle.pl_plan.specs.Trees.{id_of};
 ghost use Rattle.pl_update.specs.Changes.Replaced.{taken, put, replaced, next_after};

@@ -13,6 +13,7 @@ ghost use Rattle.pl_plan.specs.declared.activity.Activity.{Activity};
 ghost use Rattle.pl_update.specs.Changes.Replaced.{CanReplace, with_plan};
 ghost use Rattle.pl_update.specs.GoalsAndActivities.Near.{near, IsPlain, Follows};
 ghost use Rattle.pl_update.specs.GoalsAndActivities.Passed.{passed_goals, passed_ids};
+ghost use Rattle.pl_update.specs.GoalsAndActivities.Committed.{missed_goals, early_ids};
 ghost use Rattle.pl_update.specs.GoalsAndActivities.Touched.{touched_goals, touched_ids};
 
 /// Where a change concerns some goals and activities alone, what stood at these goes and what stands at them now comes, and no
@@ -42,7 +43,9 @@ pub fn laws_of_moments()
     ensures { (s : PlanState) (now : ℕ) → IsWhole s → s.moment < now → Follows s (moved_on now s) (passed_goals now (conflicts_of s)) (passed_ids s now) }
 {}
 
-/// A commit changes no conflict where none touches what comes before it.
+/// A commit concerns the open goals that can no longer be met, and the activities of which something is wrong before its moment. Where
+/// no conflict touches what comes before it, it changes none.
 pub fn laws_of_commits()
-    ensures { (s : PlanState) (h : ℕ) → s.committed ≤ h → All (λ k. touches_before h k ≡ false) (conflicts_of s) → conflicts_of (committed_to h s) ≡ conflicts_of s }
+    ensures concerns { (s : PlanState) (h : ℕ) → IsWhole s → s.committed ≤ h → Follows s (committed_to h s) (missed_goals h (conflicts_of s)) (early_ids h (conflicts_of s)) }
+    ensures none { (s : PlanState) (h : ℕ) → s.committed ≤ h → All (λ k. touches_before h k ≡ false) (conflicts_of s) → conflicts_of (committed_to h s) ≡ conflicts_of s }
 {}

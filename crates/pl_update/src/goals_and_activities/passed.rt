@@ -1,6 +1,4 @@
 ghost use Rattle.std.specs.Prelude.{◌≡◌, ◌<◌, ◌++◌, ◌∷◌, [], filter, map, IfOk, OnOk};
-ghost use Rattle.pl_conflict.specs.Sorting.{AreInOrder};
-ghost use Rattle.pl_semantics.specs.Conflicts.{conflicts_of};
 ghost use Rattle.pl_update.specs.GoalsAndActivities.Passed.{becomes_late, is_open_by, passed_goals, passed_ids, subject_of};
 
 use crate::goals_and_activities::touched::Touched;

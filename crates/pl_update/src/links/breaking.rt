@@ -1,5 +1,5 @@
 //! What is broken near a replacement.
-ghost use Rattle.std.specs.Prelude.{◌≡◌, ◌++◌, OnOk, IfOk, filter};
+ghost use Rattle.std.specs.Prelude.{◌≡◌, IfOk, filter};
 ghost use Rattle.std.specs.List.{flat_map};
 ghost use Rattle.pl_links.specs.Sets.{has};
 ghost use Rattle.pl_detect.specs.Broken.{broken_conflict};

@@ -1,5 +1,5 @@
 //! Whose links and orders a replacement may touch.
-ghost use Rattle.std.specs.Prelude.{◌≡◌, ◌++◌, OnOk, IfOk, option_to_list};
+ghost use Rattle.std.specs.Prelude.{◌≡◌, ◌++◌, OnOk, IfOk};
 ghost use Rattle.std.specs.List.{flat_map};
 ghost use Rattle.pl_update.specs.Links.Near.{own_and_parent, ids_at, near};
 

@@ -1,5 +1,5 @@
 //! What is asked of a timeline of any sort, taken and given back.
-ghost use Rattle.std.specs.Prelude.{◌≡◌, Some, IfOk};
+ghost use Rattle.std.specs.Prelude.{Some, IfOk};
 ghost use Rattle.pl_detect.specs.Bounds.{IsBounded};
 ghost use Rattle.pl_update.specs.Timelines.Mending.{IsOfSort};
 ghost use Rattle.pl_update.specs.Timelines.Changed.{IsLineChanged, HasOne, HasRoom, more_by, less_by};

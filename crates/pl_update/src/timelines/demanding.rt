@@ -1,5 +1,5 @@
 //! What is asked of the timelines, given back and taken, with the set mended.
-ghost use Rattle.std.specs.Prelude.{◌≡◌, All, OnOk};
+ghost use Rattle.std.specs.Prelude.{All, OnOk};
 ghost use Rattle.pl_update.specs.Timelines.Held.{asked_at, HoldAll, HaveRoom};
 ghost use Rattle.pl_update.specs.Timelines.Named.{AreNamed};
 ghost use Rattle.pl_update.specs.Timelines.Mending.{IsMended, IsMoved, less, CanAsk};

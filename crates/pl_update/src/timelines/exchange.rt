@@ -1,5 +1,5 @@
 //! Which conflicts leave a timeline, and which come, as it changes.
-ghost use Rattle.std.specs.Prelude.{◌≡◌, ◌++◌, List, map, IfOk};
+ghost use Rattle.std.specs.Prelude.{◌++◌, List, map, IfOk};
 ghost use Rattle.pl_points.specs.declared.span.Span.{Span};
 ghost use Rattle.pl_points.specs.Changes.{IsChange};
 ghost use Rattle.pl_level.specs.Soundness.{AreChanges as AreLevelChanges};

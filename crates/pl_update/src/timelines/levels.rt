@@ -1,5 +1,5 @@
 //! Effects on a level, taken and given back.
-ghost use Rattle.std.specs.Prelude.{◌≡◌, Some, IfOk};
+ghost use Rattle.std.specs.Prelude.{Some, IfOk};
 ghost use Rattle.pl_level.specs.Effects.{IsEffect};
 ghost use Rattle.pl_semantics.specs.declared.demand.Asked.TheVariants as asked;
 ghost use Rattle.pl_update.specs.Timelines.Mending.{IsOfSort};

@@ -1,5 +1,5 @@
 //! Sets and musts of a state, taken and given back.
-ghost use Rattle.std.specs.Prelude.{◌≡◌, ◌≤◌, Some, IfOk};
+ghost use Rattle.std.specs.Prelude.{◌≤◌, Some, IfOk};
 ghost use Rattle.pl_semantics.specs.declared.demand.Asked.TheVariants as asked;
 ghost use Rattle.pl_update.specs.Timelines.Mending.{IsOfSort};
 ghost use Rattle.pl_update.specs.Timelines.Changed.{IsLineChanged, HasOne, more_by, less_by};

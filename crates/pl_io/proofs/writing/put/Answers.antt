@@ -1,4 +1,4 @@
-use Rattle.std.proofs.Common.{arith, ◌≤◌}
+use Rattle.std.proofs.Common.{◌≡◌, ◌∙◌, arith}
 use Rattle.std.proofs.lemmas.Grind.{common_steps}
 use Rattle.pl_io.proofs.Grown.{front_grows}
 use Rattle.pl_io.proofs.writing.put.Goals as goal
@@ -6,9 +6,9 @@ use Rattle.pl_io.proofs.writing.put.Goals as goal
 pub loop-written-preserved : goal.loop-written-preserved
 loop-written-preserved g c =
     let kept = c.loop-written.invariant in
-    let later : g.O.Sink.faults c.args.out.now ≤ g.O.Sink.faults c.write.new.self = omega (arith, c.in_ok-written.ensures.cause.later) in (
+    let still : g.O.Sink.faults c.write.new.self ≡ g.O.Sink.faults c.args.out.now = c.in_ok-written.ensures.cause.still ∙ kept.3 in (
       grind (arith, common_steps),
       front_grows _ _ _ c.args.bytes.now c.loop-written.written _ kept.1 c.in_ok-written.ensures.bytes,
       λ none. c.in_ok-written.ensures.untold (kept.2 none),
-      later,
+      still,
     )

@@ -1,4 +1,4 @@
-use Rattle.std.proofs.Common.{◌≡◌, ◌∙◌, ap}
+use Rattle.std.proofs.Common.{◌≡◌, ◌∙◌, false, sym, ap}
 use Rattle.pl_update.proofs.AboutTimelines.StandingReadings.{level_readable, level_read}
 use Rattle.std.proofs.Common.{rules}
 use mir.Syntax.{w64}
@@ -11,14 +11,15 @@ use Rattle.pl_board.proofs.board.Board.level_at.Goals as goal
 pub level_at-requires : goal.level_at-requires
 level_at-requires c =
     let w = c.watched.result.now in
-    let kept = c.watched.ensures.watched c.requires.unspoiled in
-    level_readable w.state w.lines kept.timelines c.args.line c.args.t (rw c.watched.ensures.state c.requires.level) (rw c.watched.ensures.state c.requires.now) (rw c.watched.ensures.state c.requires.before_horizon)
+    let unspoiled : c.args.self.now.spoiled ≡ false = sym c.spoiled.ensures ∙ c.if-spoiled.false in
+    let kept = c.watched.ensures.watched unspoiled in
+    level_readable w.state w.lines kept.timelines c.args.line c.args.t (rw c.watched.ensures.state (c.requires.level unspoiled)) (rw c.watched.ensures.state (c.requires.now unspoiled)) (rw c.watched.ensures.state (c.requires.before_horizon unspoiled))
 
 pub returns : goal.returns
-returns c =
+returns c = λ unspoiled.
     let w = c.watched.result.now in
-    let kept = c.watched.ensures.watched c.requires.unspoiled in
+    let kept = c.watched.ensures.watched unspoiled in
     let is : c.level_at.result ≡ Demands.level_at c.args.self.now.state c.args.line c.args.t =
-    c.level_at.ensures ∙ level_read w.state w.lines kept.timelines c.args.line c.args.t (rw c.watched.ensures.state c.requires.level) ∙ ap (λ (s : PlanState). Demands.level_at s c.args.line c.args.t) c.watched.ensures.state in
+    c.level_at.ensures ∙ level_read w.state w.lines kept.timelines c.args.line c.args.t (rw c.watched.ensures.state (c.requires.level unspoiled)) ∙ ap (λ (s : PlanState). Demands.level_at s c.args.line c.args.t) c.watched.ensures.state in
     let fits : SFits w64 c.level_at.result = search rules in
     to_z-of_z w64 c.level_at.result fits ∙ is

@@ -1,4 +1,4 @@
-use Rattle.std.proofs.Common.{◌≡◌, ◌∙◌, ap}
+use Rattle.std.proofs.Common.{◌≡◌, ◌∙◌, false, sym, ap}
 use Rattle.pl_update.proofs.AboutTimelines.StandingReadings.{capacity_at, used_at}
 use Rattle.std.proofs.Common.{rules}
 use mir.Syntax.{w64}
@@ -11,14 +11,15 @@ use Rattle.pl_board.proofs.board.Board.use_at.Goals as goal
 pub use_at-requires : goal.use_at-requires
 use_at-requires c =
     let w = c.watched.result.now in
-    let kept = c.watched.ensures.watched c.requires.unspoiled in
-    capacity_at w.state w.lines kept.timelines c.args.line c.args.t (rw c.watched.ensures.state c.requires.capacity) (rw c.watched.ensures.state c.requires.now) (rw c.watched.ensures.state c.requires.before_horizon)
+    let unspoiled : c.args.self.now.spoiled ≡ false = sym c.spoiled.ensures ∙ c.if-spoiled.false in
+    let kept = c.watched.ensures.watched unspoiled in
+    capacity_at w.state w.lines kept.timelines c.args.line c.args.t (rw c.watched.ensures.state (c.requires.capacity unspoiled)) (rw c.watched.ensures.state (c.requires.now unspoiled)) (rw c.watched.ensures.state (c.requires.before_horizon unspoiled))
 
 pub returns : goal.returns
-returns c =
+returns c = λ unspoiled.
     let w = c.watched.result.now in
-    let kept = c.watched.ensures.watched c.requires.unspoiled in
+    let kept = c.watched.ensures.watched unspoiled in
     let is : c.use_at.result ≡ Demands.use_at c.args.self.now.state c.args.line c.args.t =
-    c.use_at.ensures ∙ used_at w.state w.lines kept.timelines c.args.line c.args.t (rw c.watched.ensures.state c.requires.capacity) ∙ ap (λ (s : PlanState). Demands.use_at s c.args.line c.args.t) c.watched.ensures.state in
+    c.use_at.ensures ∙ used_at w.state w.lines kept.timelines c.args.line c.args.t (rw c.watched.ensures.state (c.requires.capacity unspoiled)) ∙ ap (λ (s : PlanState). Demands.use_at s c.args.line c.args.t) c.watched.ensures.state in
     let fits : SFits w64 c.use_at.result = search rules in
     to_z-of_z w64 c.use_at.result fits ∙ is

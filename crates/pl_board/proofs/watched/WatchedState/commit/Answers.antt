@@ -1,33 +1,35 @@
-use Rattle.std.proofs.Common.{◌≡◌, ◌∙◌, sym, subst, false}
-use Rattle.std.specs.Prelude.{All}
-use Rattle.pl_conflict.specs.declared.conflict.Conflict.{Conflict}
-use Rattle.pl_semantics.specs.Grants.{touches_before}
-use Rattle.pl_update.proofs.AboutGoalsAndActivities.Granted.{committed_same}
-use Rattle.pl_update.proofs.AboutTimelines.StandingLater.{lines_committed}
-use Rattle.pl_update.proofs.AboutChanges.Keeping.{whole_committed}
+use Rattle.std.proofs.Common.{◌++◌, ◌∙◌, ap}
+use Rattle.pl_conflict.specs.Sorting.{exchanged}
 use Rattle.pl_update.specs.Changes.Changes.{committed_to}
-use Rattle.pl_board.proofs.Watching.{watched_anew}
+use Rattle.pl_update.specs.GoalsAndActivities.Near.{near, Follows}
+use Rattle.pl_update.proofs.AboutChanges.Keeping.{whole_committed}
+use Rattle.pl_update.proofs.AboutGoalsAndActivities.Committing.{follows_committed}
+use Rattle.pl_update.proofs.AboutLinks.Keeping.{before_committed, shows_links}
+use Rattle.pl_update.proofs.AboutTimelines.StandingLater.{lines_committed}
+use Rattle.pl_board.proofs.Watching.{stands_committed, watched_anew}
 use Rattle.pl_board.proofs.watched.WatchedState.commit.Goals as goal
 
-pub returns-then-is_clear-clause-watched : goal.returns-then-is_clear-clause-watched
-returns-then-is_clear-clause-watched c =
-    let s = c.args.self.now.state in
-    let is = c.requires.watched.found in
-    record {
-      whole = whole_committed s c.args.h c.requires.watched.whole c.requires.least c.requires.most;
-      values = c.requires.watched.values;
-      timelines = lines_committed s c.args.h c.args.self.now.lines c.requires.watched.timelines;
-      store = c.requires.watched.store;
-      found = is ∙ sym (committed_same s c.args.h c.requires.least (subst (All (λ (k : Conflict). touches_before c.args.h k ≡ false)) is (c.is_clear_before-is_clear.ensures c.if-is_clear.true)));
-    }
+pub pass-requires : goal.pass-requires
+pass-requires c = whole_committed c.args.self.now.state c.args.h c.requires.watched.whole c.requires.least c.requires.most
 
-pub look_anew-requires : goal.look_anew-requires
-look_anew-requires c = whole_committed c.args.self.now.state c.args.h c.requires.watched.whole c.requires.least c.requires.most
+pub turn-requires-clause-whole : goal.turn-requires-clause-whole
+turn-requires-clause-whole c = whole_committed c.args.self.now.state c.args.h c.requires.watched.whole c.requires.least c.requires.most
 
 pub returns-clause-watched : goal.returns-clause-watched
 returns-clause-watched c =
     let w = c.args.self.now in
     let s = w.state in
-    watched_anew (record w { state = committed_to c.args.h s }) c.look_anew.new.self
-    (whole_committed s c.args.h c.requires.watched.whole c.requires.least c.requires.most) c.requires.watched.values
-    (lines_committed s c.args.h w.lines c.requires.watched.timelines) c.requires.watched.store c.in_ok-look_anew.ensures.same c.in_ok-look_anew.ensures.conflicts
+    let t = committed_to c.args.h s in
+    let numbers = c.in_ok-touched.touched.numbers.items in
+    let ids = c.in_ok-touched.touched.ids.items in
+    let went = c.in_ok-mended.mended.went.items in
+    let came = c.in_ok-mended.mended.came.items in
+    let whole_t = whole_committed s c.args.h c.requires.watched.whole c.requires.least c.requires.most in
+    let links = c.in_ok-mended.ensures s (before_committed s c.args.h c.requires.least) (shows_links s w.conflicts c.requires.watched.found) in
+    let follows : Follows s t numbers ids =
+    rw (c.in_ok-touched.ensures.numbers, c.in_ok-touched.ensures.ids, c.requires.watched.found) (follows_committed s c.args.h c.requires.watched.whole c.requires.least) in
+    let found = stands_committed s c.args.h w.lines w.conflicts c.turn.new.self.conflicts numbers ids went came
+    c.requires.watched.whole c.requires.watched.timelines c.requires.watched.found whole_t follows links
+    (c.in_ok-turn.ensures.conflicts ∙ ap (λ l. exchanged w.conflicts (l ++ went) (near t numbers ids ++ came)) (c.deref.ensures.value ∙ c.in_ok-went.ensures)) in
+    watched_anew (record w { state = t }) c.turn.new.self whole_t c.requires.watched.values (lines_committed s c.args.h w.lines c.requires.watched.timelines)
+    c.requires.watched.store c.in_ok-turn.ensures.same found
