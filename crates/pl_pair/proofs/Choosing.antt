@@ -19,10 +19,11 @@ use Rattle.pl_acts.specs.declared.noted.Noted.TheVariants.{Opened, Made, Stopped
 use Rattle.pl_acts.specs.declared.role.Role.{Role}
 use Rattle.pl_acts.specs.declared.role.Role.TheVariants.{Planner, Executive}
 use Rattle.pl_acts.specs.Items.{stop_items, items_of, entries_in, model_in, InWorld}
-use Rattle.pl_acts.specs.Roles.{worker_of, is_input, is_repair, is_executed, is_entry, IsChosen, IsDueBy}
+use Rattle.pl_acts.specs.Roles.{worker_of, is_input, is_repair, is_executed, is_entry, IsChosen}
+use Rattle.pl_acts.specs.Sights.{IsDueBy}
 use Rattle.pl_acts.specs.Making.{IsMadeAt, MakesAll}
 use Rattle.pl_acts.proofs.Items.{entries_in_items, length_going}
-use Rattle.pl_acts.proofs.EntryKinds.{made_worker}
+use Rattle.pl_acts.proofs.EntryKinds.{idles_worker, made_worker}
 use Rattle.pl_pair.specs.Served as serving
 use Rattle.pl_pair.specs.Served.{AreOf, IsStopAtMost, AreOfUntil, MakesUntil, MakesOwn}
 use Rattle.pl_pair.specs.Chosen.{AreChosen}
@@ -90,34 +91,36 @@ times_apart h low p e (x ∷ xs) s fails at passes =
 pub record MadeHere (items : List Noted) (p : ℕ) : Type 0 where
   pub role : Role
   pub role2 : Role
+  pub low : ℕ
   pub item : Noted
   pub executive : worker_of role ≡ 0
-  pub made : IsMadeAt role items p item role2
+  pub made : IsMadeAt role low items p item role2
 
-made_first : (items : List Noted) (p : ℕ) (r r2 : Role) (x : ℕ × Noted) (own : List (ℕ × Noted)) → worker_of r ≡ 0 → IsMadeAt r items x.0 x.1 r2 → (times_at p own ≡ 1 → MadeHere items p) → times_at p (x ∷ own) ≡ 1
+made_first : (items : List Noted) (p low : ℕ) (r r2 : Role) (x : ℕ × Noted) (own : List (ℕ × Noted)) → worker_of r ≡ 0 → IsMadeAt r low items x.0 x.1 r2 → (times_at p own ≡ 1 → MadeHere items p) → times_at p (x ∷ own) ≡ 1
     → (b : Bool) → nat_eq x.0 p ≡ b → MadeHere items p
-made_first items p r r2 x own number made rest times true e =
+made_first items p low r r2 x own number made rest times true e =
     let same : x.0 ≡ p = eqb-true x.0 p e in
-    record { role = r; role2 = r2; item = x.1; executive = number; made = subst (λ (k : ℕ). IsMadeAt r items k x.1 r2) same made }
-made_first items p r r2 x own number made rest times false e =
+    record { role = r; role2 = r2; low = low; item = x.1; executive = number; made = subst (λ (k : ℕ). IsMadeAt r low items k x.1 r2) same made }
+made_first items p low r r2 x own number made rest times false e =
     let none : one_at p x ≡ 0 = ap (λ (b : Bool). cond b 1 0) e in
     rest (omega (arith, times, none, sum_by-cons (one_at p) x own))
 
-made_here : (items : List Noted) (p : ℕ) (r r2 : Role) (own : List (ℕ × Noted)) → worker_of r ≡ 0 → MakesAll r items own r2 → times_at p own ≡ 1 → MadeHere items p
-made_here items p r r2 [] number all times = absurd (let h : 0 ≡ 1 = times in omega arith)
-made_here items p r r2 (x ∷ own) number all times =
-    let one : MakesAll r items (x ∷ []) all.0 = (all.0, all.1, refl) in
-    made_first items p r all.0 x own number all.1 (λ t. made_here items p all.0 r2 own (made_worker items r all.0 (x ∷ []) one ∙ number) all.2 t) times (nat_eq x.0 p) refl
+made_here : (items : List Noted) (p low : ℕ) (r r2 : Role) (own : List (ℕ × Noted)) → worker_of r ≡ 0 → MakesAll r low items own r2 → times_at p own ≡ 1 → MadeHere items p
+made_here items p low r r2 [] number all times = absurd (let h : 0 ≡ 1 = times in omega arith)
+made_here items p low r r2 (x ∷ own) number all times =
+    let idle : worker_of all.0 ≡ 0 = idles_worker r all.0 low items all.1 ∙ number in
+    let one : MakesAll all.0 low items (x ∷ []) all.2 = (all.0, ([], refl), all.2, all.3, ([], refl)) in
+    made_first items p low all.0 all.2 x own idle all.3 (λ t. made_here items p (x.0 + 1) all.2 r2 own (made_worker items all.0 all.2 low (x ∷ []) one ∙ idle) all.4 t) times (nat_eq x.0 p) refl
 
 -- the executive's list, and a stop behind it at most
-makes_split : (met : Option Stop) (items : List Noted) (mine : List (ℕ × Noted)) (last : Role) → MakesOwn met Executive items mine last → MakesUntil Executive items mine
+makes_split : (met : Option Stop) (items : List Noted) (mine : List (ℕ × Noted)) (last : Role) → MakesOwn met Executive 0 items mine last → MakesUntil Executive 0 items mine
 makes_split None items mine last made = record { own = mine; rest = []; whole = sym (append-nil mine); last = last; made = made; behind = inl refl }
 makes_split (Some s) items mine last made = made
 
-due_chosen : (r r2 : Role) (w : World) (e : Entry) → worker_of r ≡ 0 → IsDueBy r r2 w e → IsChosen (exec_choice_of w) e.event
-due_chosen (Planner g) r2 w e number due = absurd (omega arith)
-due_chosen Executive (Planner g2) w e number due = absurd due.2
-due_chosen Executive Executive w e number due = due.2
+due_chosen : (r r2 : Role) (low : ℕ) (before : List Noted) (e : Entry) → worker_of r ≡ 0 → IsDueBy r r2 low before e → InWorld before (λ w. IsChosen (exec_choice_of w) e.event)
+due_chosen (Planner g) r2 low before e number due = absurd (omega arith)
+due_chosen Executive (Planner g2) low before e number due = absurd due.1
+due_chosen Executive Executive low before e number due = due.1
 
 -- ---- the items of a log, taken apart behind a front of it
 
@@ -150,7 +153,7 @@ made_same a b e = cc
 
 module _ (m : Model) (whole : List Entry) (stop : Bool) (feeder planner executive : List (ℕ × Noted)) (opening : ℕ) (stands : All (StandsIn (items_of m whole stop)) (feeder ∷ planner ∷ executive ∷ []))
     (owners : IsEachOnce opening (length (items_of m whole stop)) (λ place. times_in place (feeder ∷ planner ∷ executive ∷ []))) (inputs : AreOfUntil is_input feeder) (met : Option Stop) (repairs : serving.Made met is_repair planner)
-    (met2 : Option Stop) (last : Role) (makes : MakesOwn met2 Executive (items_of m whole stop) executive last) where
+    (met2 : Option Stop) (last : Role) (makes : MakesOwn met2 Executive 0 (items_of m whole stop) executive last) where
   feeder_stands : StandsIn (items_of m whole stop) feeder
   feeder_stands = All-head (StandsIn (items_of m whole stop)) feeder (planner ∷ executive ∷ []) stands
 
@@ -177,7 +180,7 @@ module _ (m : Model) (whole : List Entry) (stop : Bool) (feeder planner executiv
       let y = sum_by-cons (times_at p) planner (executive ∷ []) in
       let z = sum_by-cons (times_at p) executive [] in
       let sum : times_at p executive ≡ times_at p split.own + times_at p split.rest = ap (λ (l : List (ℕ × Noted)). times_at p l) split.whole ∙ sum_by-append (one_at p) split.own split.rest in
-      made_here items p Executive split.last split.own refl split.made (omega (arith, a, b, c, one, x, y, z, sum))
+      made_here items p 0 Executive split.last split.own refl split.made (omega (arith, a, b, c, one, x, y, z, sum))
 
   module _ (log es : List Entry) (e : Entry) (some : 0 < length log) (past : opening ≤ length log) (is : whole ≡ log ++ e ∷ es) where
     parts : items_of m whole stop ≡ items_of m log false ++ Made e ∷ (map Made es ++ stop_items stop)
@@ -207,11 +210,10 @@ module _ (m : Model) (whole : List Entry) (stop : Bool) (feeder planner executiv
         let at : slice_get (items_of m whole stop) (length log) ≡ Some (Made is'.entry) =
         ap (λ (xs : List Noted). slice_get xs (length log)) is'.whole ∙ ap (λ (k : ℕ). slice_get (is'.before ++ Made is'.entry ∷ is'.behind) k) is'.stands ∙ at_front is'.before is'.behind (Made is'.entry) in
         let same : is'.entry ≡ e = made_same is'.entry e (sym at ∙ here) in
-        let P : World → Type 0 = λ w. IsDueBy made.role made.role2 w is'.entry in
-        let by : InWorld (items_of m log false) P = subst (λ (xs : List Noted). InWorld xs P) before is'.by in
+        let P : World → Type 0 = λ w. IsChosen (exec_choice_of w) is'.entry.event in
+        let by : InWorld (items_of m log false) P = subst (λ (xs : List Noted). InWorld xs P) before (due_chosen made.role made.role2 made.low is'.before is'.entry made.executive is'.by) in
         let at_world : P (world_of m (entries_in (items_of m log false))) = world_in P (items_of m log false) m (model_some m log false some) by in
-        let due : P (world_of m log) = subst (λ (l : List Entry). P (world_of m l)) (entries_in_items m log false) at_world in
-        let chosen = due_chosen made.role made.role2 (world_of m log) is'.entry made.executive due in
+        let chosen : P (world_of m log) = subst (λ (l : List Entry). P (world_of m l)) (entries_in_items m log false) at_world in
         subst (λ (x : Entry). IsChosen (exec_choice_of (world_of m log)) x.event) same chosen
 
     chosen_here : is_executed e.event ≡ true → IsChosen (exec_choice_of (world_of m log)) e.event

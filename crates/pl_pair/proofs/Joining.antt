@@ -34,7 +34,7 @@ use Rattle.pl_acts.proofs.FullLogs.{log_is_bounded, world_options, full_ends, sa
 use Rattle.pl_pair.specs.declared.duty.Duty.{Duty}
 use Rattle.pl_pair.specs.declared.duty.Duty.TheVariants.{Repair, Execute}
 use Rattle.pl_pair.specs.declared.worker.Worker.{Worker}
-use Rattle.pl_pair.specs.Duties.{chooser_of, role_of}
+use Rattle.pl_pair.specs.Duties.{chooser_of, role_of, begun_of}
 use Rattle.pl_pair.specs.Served as serving
 use Rattle.pl_pair.specs.Served.{MakesOwn, IsFullRound, Refused, IsWorker}
 use Rattle.pl_pair.specs.Feeds.{AreInputs, HandsOne, WritesAll}
@@ -136,7 +136,7 @@ pub record Joined (m : Model) (before : List Entry) (first : PlanPass) (w1 w2 : 
   pub opened : IsPrefix (items_of m before false) (seen_of first)
   pub own : BelongsTo plan first
   pub seed : ℕ
-  pub one : IsWorker plan (Repair seed) w1
+  pub one : IsWorker plan (Repair seed (length before)) w1
   pub two : IsWorker plan Execute w2
 
 module _ (m : Model) (before : List Entry) (first : PlanPass) (w1 w2 : Worker) (joined : Joined m before first w1 w2) where
@@ -150,21 +150,21 @@ module _ (m : Model) (before : List Entry) (first : PlanPass) (w1 w2 : Worker) (
   model_seen seen plan onto = same_model seen (items_of m joined.whole.log joined.whole.stop) m plan onto model_items
 
   -- what the workers made, in the whole history
-  pub all_one : MakesOwn w1.refusal (Planner (chooser_of joined.seed)) (items_of m joined.whole.log joined.whole.stop) (mine_of w1.pass) w1.role
+  pub all_one : MakesOwn w1.refusal (Planner (chooser_of joined.seed)) (length before) (items_of m joined.whole.log joined.whole.stop) (mine_of w1.pass) w1.role
   all_one =
-      let P : Duty → Type 0 = λ d. MakesOwn w1.refusal (role_of d) (seen_of w1.pass) (mine_of w1.pass) w1.role in
-      own_on w1.refusal (seen_of w1.pass) (items_of m joined.whole.log joined.whole.stop) (Planner (chooser_of joined.seed)) w1.role (mine_of w1.pass) joined.whole.planner_seen (subst P joined.one.hired joined.one.served.made)
+      let P : Duty → Type 0 = λ d. MakesOwn w1.refusal (role_of d) (begun_of d) (seen_of w1.pass) (mine_of w1.pass) w1.role in
+      own_on w1.refusal (seen_of w1.pass) (items_of m joined.whole.log joined.whole.stop) (Planner (chooser_of joined.seed)) w1.role (length before) (mine_of w1.pass) joined.whole.planner_seen (subst P joined.one.hired joined.one.served.made)
 
-  pub all_two : MakesOwn w2.refusal Executive (items_of m joined.whole.log joined.whole.stop) (mine_of w2.pass) w2.role
+  pub all_two : MakesOwn w2.refusal Executive 0 (items_of m joined.whole.log joined.whole.stop) (mine_of w2.pass) w2.role
   all_two =
-      let P : Duty → Type 0 = λ d. MakesOwn w2.refusal (role_of d) (seen_of w2.pass) (mine_of w2.pass) w2.role in
-      own_on w2.refusal (seen_of w2.pass) (items_of m joined.whole.log joined.whole.stop) Executive w2.role (mine_of w2.pass) joined.whole.executive_seen (subst P joined.two.hired joined.two.served.made)
+      let P : Duty → Type 0 = λ d. MakesOwn w2.refusal (role_of d) (begun_of d) (seen_of w2.pass) (mine_of w2.pass) w2.role in
+      own_on w2.refusal (seen_of w2.pass) (items_of m joined.whole.log joined.whole.stop) Executive w2.role 0 (mine_of w2.pass) joined.whole.executive_seen (subst P joined.two.hired joined.two.served.made)
 
   pub made_one : serving.Made w1.refusal is_repair (mine_of w1.pass)
-  made_one = own_kinds w1.refusal (items_of m joined.whole.log joined.whole.stop) (Planner (chooser_of joined.seed)) w1.role (mine_of w1.pass) all_one
+  made_one = own_kinds w1.refusal (items_of m joined.whole.log joined.whole.stop) (Planner (chooser_of joined.seed)) w1.role (length before) (mine_of w1.pass) all_one
 
   pub made_two : serving.Made w2.refusal is_executed (mine_of w2.pass)
-  made_two = own_kinds w2.refusal (items_of m joined.whole.log joined.whole.stop) Executive w2.role (mine_of w2.pass) all_two
+  made_two = own_kinds w2.refusal (items_of m joined.whole.log joined.whole.stop) Executive w2.role 0 (mine_of w2.pass) all_two
 
   pub none_one : NoInputs (mine_of w1.pass)
   none_one = made_no_inputs w1.refusal is_repair repair_no_input (mine_of w1.pass) made_one

@@ -1,10 +1,10 @@
 -- What a run comes to.
-use Rattle.std.proofs.Common.{◌≡◌, ℕ, ◌+◌, List, [], ◌∷◌, length, true, false, Option, Some, None, Result, Ok, Err, refl, sym, ◌∙◌, ap, subst, arith, inl}
+use Rattle.std.proofs.Common.{◌≡◌, ℕ, ◌+◌, ◌≤◌, List, [], ◌∷◌, length, true, false, Option, Some, None, Result, Ok, Err, refl, sym, ◌∙◌, ap, subst, arith, inl}
 use Rattle.std.proofs.lemmas.List.{append-nil}
 use Rattle.std.proofs.lemmas.List.Elements.{All-nil, All-cons}
 use mathlib.Core.List.{IsPrefix}
 use Rattle.pl_turn.specs.History.{StandsIn, times_in}
-use Rattle.pl_turn.specs.Passes.{seen_of, crew_of, leads, made_by, joined_by, opening_of}
+use Rattle.pl_turn.specs.Passes.{seen_of, mine_of, crew_of, leads, made_by, joined_by, opening_of}
 use Rattle.pl_model.specs.declared.whole.Model.{Model}
 use Rattle.pl_machine.specs.World.{World}
 use Rattle.pl_machine.specs.Legal.{Legal, world_of}
@@ -25,7 +25,7 @@ use Rattle.pl_input.specs.declared.halt.Halt.TheVariants as halt
 use Rattle.pl_pair.specs.declared.duty.Duty.TheVariants.{Repair, Execute}
 use Rattle.pl_pair.specs.declared.worker.Worker.{Worker}
 use Rattle.pl_pair.specs.Duties.{chooser_of}
-use Rattle.pl_pair.specs.Served.{IsWorker}
+use Rattle.pl_pair.specs.Served.{IsHired, IsWorker}
 use Rattle.pl_pair.specs.Rounds.{Follows}
 use Rattle.pl_input.specs.Places.{Place}
 use Rattle.pl_pair.specs.Feeds.{FeedsShort, for_lines, for_message, for_reader, FeedsCut, refused, FeedsAll, FeedsToEnd}
@@ -75,8 +75,8 @@ runs_none seed start place held legal =
         inputs = record { own = []; rest = []; whole = refl; kinds = All-nil (λ x. is_entry is_input x.1 ≡ true); behind = inl refl };
         repairs = All-nil (λ x. is_entry is_repair x.1 ≡ true);
         executed = All-nil (λ x. is_entry is_executed x.1 ≡ true);
-        planner_made = refl;
-        executive_made = refl;
+        planner_made = ([], refl);
+        executive_made = ([], refl);
         planner_is = refl;
         executive_is = refl;
         planner_why = tt;
@@ -116,6 +116,16 @@ feeds_follows plan m old new place end held now (Err c) feeds = follows_on old f
     by cut.Full f = follows_on old f.mid feeds.mid f.waiting.tells.follows f.follows
     by cut.Stopped f = by_cut f
 
+-- the passes that the workers are handed
+pub hired_one : (plan : SharedPlan) (seed begun : ℕ) (start : State) (new one : PlanPass) → begun ≡ length start.log → seen_of new ≡ items_of start.model start.log false → seen_of one ≡ seen_of new → BelongsTo plan one → mine_of one ≡ []
+    → IsHired plan (Repair seed begun) one
+hired_one plan seed begun start new one is seen same own none =
+    let long : length (seen_of one) ≡ length start.log = ap length (same ∙ seen) ∙ length_going start.model start.log false refl in
+    record { own = own; new = none; begun = omega (arith, is, long) }
+
+pub hired_two : (plan : SharedPlan) (two : PlanPass) → BelongsTo plan two → mine_of two ≡ [] → IsHired plan Execute two
+hired_two plan two own none = record { own = own; new = none; begun = omega arith }
+
 -- The plan's first pass, and the same once two were split off.
 pub record Split (start : State) (new p1 p2 : PlanPass) : Type 0 where
   pub seen : seen_of new ≡ items_of start.model start.log false
@@ -141,7 +151,7 @@ module _ (start : State) (new p1 p2 : PlanPass) (split : Split start new p1 p2) 
         ap (λ c. c.joined) same ∙ (ap (λ c. c.joined) split.crew2 ∙ (ap (λ c. c.joined) split.crew1 ∙ ap (λ c. c.joined) split.crew)),
       )
 
-  abbrev pub joined_of : (plan : SharedPlan) (seed : ℕ) (first : PlanPass) (w1 w2 : Worker) (machine : State) → Legal start.model start.log → (world_of start.model start.log).done ≡ false → Follows p2 first → BelongsTo plan first → IsWorker plan (Repair seed) w1 → IsWorker plan Execute w2
+  abbrev pub joined_of : (plan : SharedPlan) (seed : ℕ) (first : PlanPass) (w1 w2 : Worker) (machine : State) → Legal start.model start.log → (world_of start.model start.log).done ≡ false → Follows p2 first → BelongsTo plan first → IsWorker plan (Repair seed (length start.log)) w1 → IsWorker plan Execute w2
       → ClosesAll first w1.pass w2.pass machine → Joined start.model start.log first w1 w2
   joined_of plan seed first w1 w2 machine legal going follows own one two closes =
       let model : model_in (seen_of first) ≡ Some start.model = follows.model ∙ (ap model_in split_seen ∙ model_in_items start.model start.log false legal) in
@@ -159,9 +169,10 @@ module _ (start : State) (new p1 p2 : PlanPass) (split : Split start new p1 p2) 
       }
 
   -- the whole run
-  pub runs_whole : (plan : SharedPlan) (seed : ℕ) (first : PlanPass) (w1 w2 : Worker) (machine : State) (place end : Place) (held now : Option (List ℕ)) (r : Result (Unit {0}) Cut) (m : Model) → m ≡ start.model → Legal start.model start.log → (world_of start.model start.log).done ≡ false
-      → BelongsTo plan first → IsWorker plan (Repair seed) w1 → IsWorker plan Execute w2 → ClosesAll first w1.pass w2.pass machine → FeedsToEnd plan m p2 place held r first end now → PairRun seed start place held (ended_of r w1.refusal w2.refusal) end now
-  runs_whole plan seed first w1 w2 machine place end held now r m same legal going own one two closes feeds =
+  pub runs_whole : (plan : SharedPlan) (seed begun : ℕ) (first : PlanPass) (w1 w2 : Worker) (machine : State) (place end : Place) (held now : Option (List ℕ)) (r : Result (Unit {0}) Cut) (m : Model) → m ≡ start.model → Legal start.model start.log → (world_of start.model start.log).done ≡ false
+      → begun ≡ length start.log → BelongsTo plan first → IsWorker plan (Repair seed begun) w1 → IsWorker plan Execute w2 → ClosesAll first w1.pass w2.pass machine → FeedsToEnd plan m p2 place held r first end now → PairRun seed start place held (ended_of r w1.refusal w2.refusal) end now
+  runs_whole plan seed begun first w1 w2 machine place end held now r m same legal going entries own one two closes feeds =
+      let first_one : IsWorker plan (Repair seed (length start.log)) w1 = subst (λ (n : ℕ). IsWorker plan (Repair seed n) w1) entries one in
       let feeds' = subst (λ (k : Model). FeedsToEnd plan k p2 place held r first end now) same feeds in
       let follows = feeds_follows plan start.model p2 first place end held now r feeds' in
-      runs start first w1 w2 (joined_of plan seed first w1 w2 machine legal going follows own one two closes) place held now p2 split_seen plan end r feeds'
+      runs start first w1 w2 (joined_of plan seed first w1 w2 machine legal going follows own first_one two closes) place held now p2 split_seen plan end r feeds'

@@ -57,7 +57,7 @@ pub record HadSeen (history seen : List Noted) (own : List (ℕ × Noted)) : Typ
   pub holds : StandsIn seen own
 
 -- The history in the lock goes on from the entries that were handed in, and has one owner for each further entry: inputs are the feeder's, fixes and rests the planner's,
--- commits, dispatches and closes the executive's. It begins with all that each of the three had seen, in which the own entries of that one stand. Each own entry of the planner is what its chooser, made from the seed and passed on from entry to entry, proposes in the world before it, or a rest, and each of the executive's what it chooses there. The stop, where there is one, is the own item of the feeder, or of a worker that met a refusal. A worker that met a full log had an event of its own kind in the open round.
+-- commits, dispatches and closes the executive's. It begins with all that each of the three had seen, in which the own entries of that one stand. Each own entry of the planner is what its chooser, made from the seed and passed on from entry to entry, proposes on a sight, a front of the history that holds the entries handed in and its own entry before, or a rest, and each of the executive's what it chooses there. The stop, where there is one, is the own item of the feeder, or of a worker that met a refusal. A worker that met a full log had an event of its own kind in the open round.
 pub record History (seed : ℕ) (m : Model) (before log : List Entry) : Type 0 where
   pub stopped : Bool
   pub feeder : List (ℕ × Noted)
@@ -79,8 +79,8 @@ pub record History (seed : ℕ) (m : Model) (before log : List Entry) : Type 0 w
   pub inputs : AreOfUntil is_input feeder
   pub repairs : Made planner_met is_repair planner
   pub executed : Made executive_met is_executed executive
-  pub planner_made : MakesOwn planner_met (Planner (chooser_of seed)) (items_of m log stopped) planner planner_last
-  pub executive_made : MakesOwn executive_met Executive (items_of m log stopped) executive executive_last
+  pub planner_made : MakesOwn planner_met (Planner (chooser_of seed)) (length before) (items_of m log stopped) planner planner_last
+  pub executive_made : MakesOwn executive_met Executive 0 (items_of m log stopped) executive executive_last
   pub planner_is : worker_of planner_last ≡ 1
   pub executive_is : worker_of executive_last ≡ 0
   pub planner_why : Refused planner_met planner_last (items_of m log stopped)

@@ -2,7 +2,7 @@
 ghost use Rattle.std.specs.Prelude.{◌≡◌, ◌≤◌, None, IsErrOf};
 ghost use Rattle.std.specs.Thread.{IsSync};
 ghost use Rattle.pl_io.specs.Faults.{Rose};
-ghost use Rattle.pl_pair.specs.Served.{IsWorker};
+ghost use Rattle.pl_pair.specs.Served.{IsHired, IsWorker};
 ghost use Rattle.pl_pair.specs.Workers.{AreHands, IsHand, duty_of};
 ghost use Rattle.pl_input.specs.Places.{place_of};
 ghost use Rattle.pl_pair.specs.Joins.{IsFresh, Joins};
@@ -82,14 +82,14 @@ fn hire<'s, E, R: Wait + Sync, G: Gate + Sync>(
     duty: Duty,
     refused: &'s AtomicBool,
 ) -> Hand<'s>
-    requires fresh { IsFresh plan.now pass }
+    requires hired { IsHired plan.now duty pass }
     ensures hand { IsHand plan.now result }
     ensures duty { duty_of result ≡ duty }
 {
     let started = scope.spawn_with(
         Hired { plan, duty },
         move || -> Worker
-            requires { IsFresh plan.now pass }
+            requires { IsHired plan.now duty pass }
             ensures { IsWorker plan.entry.now duty result }
         { serve_unless(rt, alloc, plan, gate, pass, duty, refused) },
     );
@@ -112,16 +112,16 @@ pub(crate) fn run_workers<R: Threads + Wait + Sync, S: Source, O: Sink, G: Gate 
     pass: Pass,
     one: Pass,
     two: Pass,
-    seed: u64,
+    repair: Duty,
     lines: &mut LineReader,
     src: &mut S,
     out: &mut O,
 ) -> Remains
     requires feeder { IsFresh plan.now pass }
-    requires planner { IsFresh plan.now one }
-    requires executive { IsFresh plan.now two }
+    requires planner { IsHired plan.now repair one }
+    requires executive { IsHired plan.now Duty.Execute two }
     requires limit { lines.old.limit ≤ 4096 }
-    ensures joins { Joins plan.now model.now pass (Duty.Repair seed) Duty.Execute (place_of lines.old (S.left src.old)) (O.held out.old) result
+    ensures joins { Joins plan.now model.now pass repair Duty.Execute (place_of lines.old (S.left src.old)) (O.held out.old) result
         (place_of lines.new (S.left src.new)) (O.held out.new) }
     ensures read { IsErrOf result.fed Cut.Read → lines.old.failed ≡ None → Rose (S.faults src.old) (S.faults src.new) }
     ensures write { IsErrOf result.fed Cut.Write → Rose (O.faults out.old) (O.faults out.new) }
@@ -133,23 +133,14 @@ pub(crate) fn run_workers<R: Threads + Wait + Sync, S: Source, O: Sink, G: Gate 
         thread::scope_env(),
         rt,
         move |scope|
-            requires { IsSync R.row × IsSync G.row × IsFresh plan.now pass × IsFresh plan.now one × IsFresh plan.now two × (lines.now.limit ≤ 4096) }
-            ensures joins { Joins plan.entry.now model.entry.now pass (Duty.Repair seed) Duty.Execute (place_of lines.entry.now (S.left src.entry.now))
+            requires { IsSync R.row × IsSync G.row × IsFresh plan.now pass × IsHired plan.now repair one × IsHired plan.now Duty.Execute two × (lines.now.limit ≤ 4096) }
+            ensures joins { Joins plan.entry.now model.entry.now pass repair Duty.Execute (place_of lines.entry.now (S.left src.entry.now))
                 (O.held out.entry.now) result.3 (place_of result.0.now (S.left result.1.now)) (O.held result.2.now) }
             ensures back { (result.0.ghost_name ≡ lines.entry.ghost_name) × (result.1.ghost_name ≡ src.entry.ghost_name) × (result.2.ghost_name ≡ out.entry.ghost_name) }
             ensures read { IsErrOf result.3.fed Cut.Read → lines.entry.now.failed ≡ None → Rose (S.faults src.entry.now) (S.faults result.1.now) }
             ensures write { IsErrOf result.3.fed Cut.Write → Rose (O.faults out.entry.now) (O.faults result.2.now) }
         {
-            let planner = hire(
-                scope,
-                rt,
-                alloc,
-                plan,
-                gate,
-                one,
-                Duty::Repair(seed),
-                flag_one,
-            );
+            let planner = hire(scope, rt, alloc, plan, gate, one, repair, flag_one);
             let executive = hire(scope, rt, alloc, plan, gate, two, Duty::Execute, flag_two);
             let hands = Hands { planner, executive };
             let remains = feed_and_join(rt, alloc, plan, model, pass, hands, lines, src, out);

@@ -7,6 +7,7 @@ ghost use Rattle.pl_shared.specs.Plans.{BelongsTo};
 ghost use Rattle.pl_input.specs.Places.{place_of};
 ghost use Rattle.pl_pair.specs.Runs.{ClosesAll, PairRun};
 
+use crate::duty::Duty;
 use crate::endings::ended;
 use crate::pairing::{Remains, run_workers};
 use pl_input::Halt;
@@ -35,7 +36,7 @@ fn close(plan: SharedPlan, mut pass: Pass, planner: Pass, executive: Pass) -> Ma
 }
 
 /// A run over a model that is the machine's.
-#[tactic(auto, using(crate::proofs::Running::runs_none, crate::proofs::Causes::ended_read, crate::proofs::Causes::ended_write))]
+#[tactic(auto, using(crate::proofs::Running::runs_none, crate::proofs::Running::hired_two, crate::proofs::Causes::ended_read, crate::proofs::Causes::ended_write))]
 fn run_over<R: Threads + Wait + Sync, S: Source, O: Sink, G: Gate + Sync>(
     rt: &R,
     alloc: Global,
@@ -56,13 +57,15 @@ fn run_over<R: Threads + Wait + Sync, S: Source, O: Sink, G: Gate + Sync>(
     ensures read { IsErrOf result Halt.Read → lines.old.failed ≡ None → Rose (S.faults src.old) (S.faults src.new) }
     ensures write { IsErrOf result Halt.Write → Rose (O.faults out.old) (O.faults out.new) }
 {
+    let begun = machine.entries();
     let Ok((plan, mut pass)) = SharedPlan::new(alloc, machine) else {
         return Err(Halt::Memory);
     };
     let one = plan.split(alloc, &mut pass).unwrap();
     let two = plan.split(alloc, &mut pass).unwrap();
+    let repair = Duty::Repair(seed, begun);
     let remains = run_workers(
-        rt, alloc, &plan, gate, model, pass, one, two, seed, lines, src, out,
+        rt, alloc, &plan, gate, model, pass, one, two, repair, lines, src, out,
     );
     let Remains {
         pass,
