@@ -31,13 +31,6 @@ const THREE_USES: Row<'static> = (
     "10 over 0 0 10 30",
 );
 
-#[test]
-fn sums_uses(rt: HostRuntime) {
-    assert_row(&rt, rt.alloc(), CAPACITY, OVERLAPPING);
-    assert_row(&rt, rt.alloc(), CAPACITY, ADJOINING);
-    assert_row(&rt, rt.alloc(), CAPACITY, THREE_USES);
-}
-
 const LEVEL: &str = "horizon 100 lead 30 level bat 0 100 20
 kind drain { duration 10 lower bat 30 at end }
 kind draw { duration 5 lower bat 10 at start }";
@@ -50,23 +43,11 @@ const TOLD_LEVEL: Row<'static> = (
     "",
 );
 
-#[test]
-fn follows_levels(rt: HostRuntime) {
-    assert_row(&rt, rt.alloc(), LEVEL, BEHIND_THE_HORIZON);
-    assert_row(&rt, rt.alloc(), LEVEL, TOLD_LEVEL);
-}
-
 const LEAST: &str = "horizon 100 lead 30 level bat 5 100 20";
 
 const AT_THE_LEAST: Row<'static> = ("tele 0 5", "level 0 0 = 5", "");
 
 const BELOW_THE_LEAST: Row<'static> = ("tele 0 4", "level 0 0 = 4", "0 low 0 0 0 100");
-
-#[test]
-fn allows_the_least_level(rt: HostRuntime) {
-    assert_row(&rt, rt.alloc(), LEAST, AT_THE_LEAST);
-    assert_row(&rt, rt.alloc(), LEAST, BELOW_THE_LEAST);
-}
 
 const STATES: &str = "horizon 100 lead 30
 state camera { off warm on } start off step off warm step warm on step on off
@@ -86,12 +67,6 @@ const ON_FIRST: Row<'static> = (
     "10 bad-step 3 0 10 0\n10 bad-step 7 0 10 0",
 );
 
-#[test]
-fn sets_states_by_id(rt: HostRuntime) {
-    assert_row(&rt, rt.alloc(), STATES, WARM_FIRST);
-    assert_row(&rt, rt.alloc(), STATES, ON_FIRST);
-}
-
 const TOLD_ON: Row<'static> = ("tele 0 2", "state 0 0 = 2\nstate 0 99 = 2", "");
 
 const TOLD_WARM: Row<'static> = ("add 2 10\ntele 0 1", "state 0 9 = 1\nstate 0 10 = 2", "");
@@ -102,9 +77,26 @@ const TOLD_OFF: Row<'static> = (
     "10 bad-step 1 0 10 0",
 );
 
+/// Models, and a row of each: uses that are summed, levels that are followed, the least level, states that are set in the order of
+/// their ids, and states that are told.
+const ROWS: [(&str, Row<'static>); 12] = [
+    (CAPACITY, OVERLAPPING),
+    (CAPACITY, ADJOINING),
+    (CAPACITY, THREE_USES),
+    (LEVEL, BEHIND_THE_HORIZON),
+    (LEVEL, TOLD_LEVEL),
+    (LEAST, AT_THE_LEAST),
+    (LEAST, BELOW_THE_LEAST),
+    (STATES, WARM_FIRST),
+    (STATES, ON_FIRST),
+    (STATES, TOLD_ON),
+    (STATES, TOLD_WARM),
+    (STATES, TOLD_OFF),
+];
+
 #[test]
-fn follows_a_state_that_is_told(rt: HostRuntime) {
-    assert_row(&rt, rt.alloc(), STATES, TOLD_ON);
-    assert_row(&rt, rt.alloc(), STATES, TOLD_WARM);
-    assert_row(&rt, rt.alloc(), STATES, TOLD_OFF);
+fn tells_values_and_conflicts(rt: HostRuntime) {
+    for (model, row) in ROWS {
+        assert_row(&rt, rt.alloc(), model, row);
+    }
 }

@@ -56,37 +56,20 @@ fn judge_change(rt: &impl Abort, alloc: Global, row: &str) {
     judge(rt, alloc, journal.as_bytes(), wanted);
 }
 
-fn judge_changes(rt: &impl Abort, alloc: Global, table: &str) {
-    for row in table.lines() {
-        judge_change(rt, alloc, row);
-    }
-}
-
-const ENTRIES: &str = "turns 8 => turns 0 => NotALine(0)
+/// The first wrong entry is named, entries are judged by the plan, and lines are taken as they are written.
+const CHANGES: &str = "turns 8 => turns 0 => NotALine(0)
 entries 250000 => entries 3 => Full(3)
 2 fix => 3 fix => NotALine(2)
 open-goal 1 => open-goal 2 => OtherReply(2, Stale)
 rest clear => rest spent => OtherReply(3, Rested(Clear))
-commit 30 => commit 101 => OtherReply(4, CommitBeyond)";
-
-#[test]
-fn names_the_first_wrong_entry(rt: HostRuntime) {
-    judge_changes(&rt, rt.alloc(), ENTRIES);
-}
-
-const PLANS: &str = "0 open => 0 open => Legal { entries: 12, done: true }
+commit 30 => commit 101 => OtherReply(4, CommitBeyond)
+0 open => 0 open => Legal { entries: 12, done: true }
 commit 30 => commit 31 => Legal { entries: 12, done: true }
 commit 30 => commit 100 => OtherReply(9, CommitBehind)
 8 dispatch 1 obs 10;9 commit 40 : ok;10 close;11 => 8 commit 40 : ok;9 close;10 => NotNow(9)
 1 obs 10;9 => 1 obs 11;9 => OtherReply(8, Sent {
-end : end => end : fin => OtherReply(11, BadLine)";
-
-#[test]
-fn judges_by_the_plan(rt: HostRuntime) {
-    judge_changes(&rt, rt.alloc(), PLANS);
-}
-
-const WRITTEN: &str = "3 rest => ; \t; # no entry;3 rest => Legal { entries: 12, done: true }
+end : end => end : fin => OtherReply(11, BadLine)
+3 rest => ; \t; # no entry;3 rest => Legal { entries: 12, done: true }
 3 rest clear => 3 rest clear\r => NotALine(3)
 3 rest clear => 3 rest clear # so far => NotALine(3)
 1 in => 0 open turns 8 live 1 goals 1 entries 1;1 in => NotALine(1)
@@ -94,8 +77,10 @@ const WRITTEN: &str = "3 rest => ; \t; # no entry;3 rest => Legal { entries: 12,
 11 in end : end; => 11 in e => NotALine(11)";
 
 #[test]
-fn takes_lines_as_they_are_written(rt: HostRuntime) {
-    judge_changes(&rt, rt.alloc(), WRITTEN);
+fn judges_changed_journals(rt: HostRuntime) {
+    for row in CHANGES.lines() {
+        judge_change(&rt, rt.alloc(), row);
+    }
 }
 
 /// Journals, each with its verdict; `;` is a newline.
