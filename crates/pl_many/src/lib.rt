@@ -5,4 +5,4 @@ mod lines;
 mod tally;
 
 pub use lines::write_tallies;
-pub use tally::{Tally, tally};
+pub use tally::{Tally, tally_for};

@@ -5,7 +5,7 @@ ghost use Rattle.pl_io.specs.Writes.{AppendsFront};
 ghost use Rattle.pl_journal.specs.Written.{Adds, WriteStops};
 ghost use Rattle.pl_many.specs.Tallies.{planner_line, lines_of, AreWithin};
 
-use crate::tally::{Tally, tally};
+use crate::tally::{Tally, tally_for};
 use pl_entry::Entry;
 use pl_input::Halt;
 use pl_io::{Sink, put};
@@ -50,7 +50,7 @@ pub fn write_tallies<O: Sink>(
 {
     for before in 0..planners {
         let number = before + 1;
-        write_tally(alloc, number, tally(number, marks, log), out)?;
+        write_tally(alloc, number, tally_for(number, marks, log), out)?;
     }
     Ok(())
 }

@@ -32,7 +32,7 @@ fn is_mark_by(number: u8, mark: &Mark) -> bool
 }
 
 /// What the planner of this number made of a log with these marks.
-pub fn tally(number: u8, marks: &[Mark], log: &[Entry]) -> Tally
+pub fn tally_for(number: u8, marks: &[Mark], log: &[Entry]) -> Tally
     requires few { length marks.now < 2 ^ 32 }
     requires within { AreWithin log.now marks.now }
     ensures { result ≡ tally_of number marks.now log.now }

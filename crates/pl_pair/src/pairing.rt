@@ -1,14 +1,17 @@
-//! The two threads, and the feeder beside them.
-ghost use Rattle.std.specs.Prelude.{◌≡◌, ◌≤◌, None, IsErrOf};
+//! The threads of the workers, and the feeder beside them.
+ghost use Rattle.std.specs.Prelude.{◌≡◌, ◌+◌, ◌≤◌, true, length, None, IsErrOf, vec_len, vec_capacity};
 ghost use Rattle.std.specs.Thread.{IsSync};
+ghost use Rattle.pl_turn.specs.Passes.{leads, made_by};
 ghost use Rattle.pl_io.specs.Faults.{Rose};
+ghost use Rattle.pl_shared.specs.Plans.{BelongsTo};
 ghost use Rattle.pl_pair.specs.Served.{IsWorker};
-ghost use Rattle.pl_pair.specs.Workers.{AreHands, IsHand, duty_of};
+ghost use Rattle.pl_pair.specs.Workers.{AreHands, IsHand, duty_of, duties_of};
 ghost use Rattle.pl_input.specs.Places.{place_of};
-ghost use Rattle.pl_pair.specs.Joins.{IsFresh, Joins};
+ghost use Rattle.pl_pair.specs.Joins.{IsFresh, IsFirst, Splits, Feeds, Joins};
 
 use crate::cut::Cut;
 use crate::duty::Duty;
+use crate::endings::Met;
 use crate::feeder::feed_or_stop;
 use crate::hands::{Hand, Hands, Hired};
 use crate::worker::{Worker, serve_unless};
@@ -21,13 +24,12 @@ use std::sync::Wait;
 use std::sync::atomic::{AtomicBool, Ordering};
 use std::thread::{self, Scope, Threads};
 
-/// What remains of a run: the three passes, and how the feeder and the workers ended.
+/// What remains of a run: the first pass, which has taken all others in, and what the feeder and the workers met.
 #[derive(Drop)]
 pub struct Remains {
     pub pass: Pass,
-    pub planner: Worker,
-    pub executive: Worker,
     pub fed: Result<(), Cut>,
+    pub met: Met,
 }
 
 /// Feeds the plan up to the end, and joins the workers.
@@ -43,25 +45,19 @@ fn feed_and_join<R: Threads + Wait, S: Source, O: Sink>(
     out: &mut O,
 ) -> Remains
     requires fresh { IsFresh plan.now pass }
+    requires first { leads pass ≡ true }
     requires hands { AreHands plan.now hands }
     requires limit { lines.old.limit ≤ 4096 }
-    ensures joins { Joins plan.now model.now pass (duty_of hands.entry.planner) (duty_of hands.entry.executive)
-        (place_of lines.old (S.left src.old)) (O.held out.old) result (place_of lines.new (S.left src.new)) (O.held out.new) }
+    ensures feeds { Feeds plan.now model.now pass (duties_of hands.entry) (place_of lines.old (S.left src.old)) (O.held out.old) result
+        (place_of lines.new (S.left src.new)) (O.held out.new) }
     ensures read { IsErrOf result.fed Cut.Read → lines.old.failed ≡ None → Rose (S.faults src.old) (S.faults src.new) }
     ensures write { IsErrOf result.fed Cut.Write → Rose (O.faults out.old) (O.faults out.new) }
 {
     let fed = feed_or_stop(
         rt, alloc, plan, model, &mut pass, &mut hands, lines, src, out,
     );
-    let Hands { planner, executive } = hands;
-    let planner = planner.joined(rt);
-    let executive = executive.joined(rt);
-    Remains {
-        pass,
-        planner,
-        executive,
-        fed,
-    }
+    let met = hands.join_all(rt, plan, &mut pass);
+    Remains { pass, fed, met }
 }
 
 /// The references that a scope handed back end here, unchanged.
@@ -102,6 +98,46 @@ fn hire<'s, E, R: Wait + Sync, G: Gate + Sync>(
     }
 }
 
+/// Starts a worker for each duty, with a pass of its own. There is room for all.
+fn hire_all<'s, E, R: Wait + Sync, G: Gate + Sync>(
+    scope: &Scope<'s, E>,
+    rt: &'s R,
+    alloc: Global,
+    plan: &'s SharedPlan,
+    gate: &'s G,
+    pass: &mut Pass,
+    duties: &[Duty],
+    refused: &'s [AtomicBool],
+    room: Vec<Hand<'s>>,
+) -> Hands<'s>
+    requires first { IsFirst plan.now pass.old }
+    requires few { length duties.now ≤ 9 }
+    requires flags { length duties.now ≤ length refused.now }
+    requires empty { vec_len room ≡ 0 }
+    requires room { length duties.now ≤ vec_capacity room }
+    ensures own { IsFresh plan.now pass.new }
+    ensures splits { Splits pass.old (length duties.now) pass.new }
+    ensures hands { AreHands plan.now result }
+    ensures duties { duties_of result ≡ duties.now }
+{
+    let mut all = room;
+    for place in 0..duties.len() {
+        let own = plan.split(alloc, pass).unwrap();
+        let hand = hire(
+            scope,
+            rt,
+            alloc,
+            plan,
+            gate,
+            own,
+            duties[place],
+            &refused[place],
+        );
+        all.push_reserved(hand);
+    }
+    Hands { all }
+}
+
 /// Starts the workers, feeds them, and joins them.
 pub(crate) fn run_workers<R: Threads + Wait + Sync, S: Source, O: Sink, G: Gate + Sync>(
     rt: &R,
@@ -110,49 +146,40 @@ pub(crate) fn run_workers<R: Threads + Wait + Sync, S: Source, O: Sink, G: Gate 
     gate: &G,
     model: &Model,
     pass: Pass,
-    one: Pass,
-    two: Pass,
-    seed: u64,
+    duties: &[Duty],
+    refused: &[AtomicBool],
+    room: Vec<Hand<'_>>,
     lines: &mut LineReader,
     src: &mut S,
     out: &mut O,
 ) -> Remains
-    requires feeder { IsFresh plan.now pass }
-    requires planner { IsFresh plan.now one }
-    requires executive { IsFresh plan.now two }
+    requires first { IsFirst plan.now pass }
+    requires few { length duties.now ≤ 9 }
+    requires flags { length duties.now ≤ length refused.now }
+    requires empty { vec_len room ≡ 0 }
+    requires room { length duties.now ≤ vec_capacity room }
     requires limit { lines.old.limit ≤ 4096 }
-    ensures joins { Joins plan.now model.now pass (Duty.Repair seed) Duty.Execute (place_of lines.old (S.left src.old)) (O.held out.old) result
+    ensures joins { Joins plan.now model.now pass duties.now (place_of lines.old (S.left src.old)) (O.held out.old) result
         (place_of lines.new (S.left src.new)) (O.held out.new) }
     ensures read { IsErrOf result.fed Cut.Read → lines.old.failed ≡ None → Rose (S.faults src.old) (S.faults src.new) }
     ensures write { IsErrOf result.fed Cut.Write → Rose (O.faults out.old) (O.faults out.new) }
 {
-    let no_planner = AtomicBool::new(false);
-    let no_executive = AtomicBool::new(false);
-    let (flag_one, flag_two) = (&no_planner, &no_executive);
     let (lines, src, out, remains) = thread::scope(
         thread::scope_env(),
         rt,
         move |scope|
-            requires { IsSync R.row × IsSync G.row × IsFresh plan.now pass × IsFresh plan.now one × IsFresh plan.now two × (lines.now.limit ≤ 4096) }
-            ensures joins { Joins plan.entry.now model.entry.now pass (Duty.Repair seed) Duty.Execute (place_of lines.entry.now (S.left src.entry.now))
+            requires { IsSync R.row × IsSync G.row × IsFirst plan.now pass × (length duties.now ≤ 9) × (length duties.now ≤ length refused.now) × (vec_len room ≡ 0) × (length duties.now ≤ vec_capacity room) × (lines.now.limit ≤ 4096) }
+            ensures joins { Joins plan.entry.now model.entry.now pass duties.entry.now (place_of lines.entry.now (S.left src.entry.now))
                 (O.held out.entry.now) result.3 (place_of result.0.now (S.left result.1.now)) (O.held result.2.now) }
             ensures back { (result.0.ghost_name ≡ lines.entry.ghost_name) × (result.1.ghost_name ≡ src.entry.ghost_name) × (result.2.ghost_name ≡ out.entry.ghost_name) }
             ensures read { IsErrOf result.3.fed Cut.Read → lines.entry.now.failed ≡ None → Rose (S.faults src.entry.now) (S.faults result.1.now) }
             ensures write { IsErrOf result.3.fed Cut.Write → Rose (O.faults out.entry.now) (O.faults result.2.now) }
         {
-            let planner = hire(
-                scope,
-                rt,
-                alloc,
-                plan,
-                gate,
-                one,
-                Duty::Repair(seed),
-                flag_one,
+            let mut first = pass;
+            let hands = hire_all(
+                scope, rt, alloc, plan, gate, &mut first, duties, refused, room,
             );
-            let executive = hire(scope, rt, alloc, plan, gate, two, Duty::Execute, flag_two);
-            let hands = Hands { planner, executive };
-            let remains = feed_and_join(rt, alloc, plan, model, pass, hands, lines, src, out);
+            let remains = feed_and_join(rt, alloc, plan, model, first, hands, lines, src, out);
             (lines, src, out, remains)
         },
     );

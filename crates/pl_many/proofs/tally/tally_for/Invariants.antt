@@ -1,7 +1,7 @@
 use Rattle.std.proofs.Common.{◌≡◌, ◌≤◌, take}
 use Rattle.std.specs.List.{count_by}
 use Rattle.pl_many.specs.Tallies.{is_mark_by, is_repair_by}
-use Rattle.pl_many.proofs.tally.tally.Given as goal
+use Rattle.pl_many.proofs.tally.tally_for.Given as goal
 
 abbrev pub invariant-loop-mark : goal.invariant-loop-mark
 invariant-loop-mark l =
