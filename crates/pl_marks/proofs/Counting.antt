@@ -11,7 +11,7 @@ use Rattle.pl_marks.specs.Marks.{Signed, marks_of, signed_by, AreFew, AreCounted
 use Rattle.pl_marks.proofs.Authors.{same_self, same_author, slot_few, slot_apart}
 use Rattle.pl_marks.proofs.Numbering.{mark_at, one_more, times_here, times_there}
 
-abbrev authors_in : List Mark → List Author
+abbrev pub authors_in : List Mark → List Author
 authors_in marks = map (λ (m : Mark). m.author) marks
 
 -- ---- one more, or one less, at the end

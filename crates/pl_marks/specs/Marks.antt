@@ -32,9 +32,9 @@ counts_of a marks = map (λ m. m.count) (filter (λ m. is_same a m.author) marks
 abbrev pub signed_by : ℕ → List Mark → Signed
 signed_by opening marks = record { opening = opening; authors = map (λ m. m.author) marks }
 
--- one more entry has a number
+-- one more entry has a number, and a count
 abbrev pub AreFew : Signed → Type 0
-AreFew s = s.opening + length s.authors < 2 ^ 32
+AreFew s = s.opening + length s.authors + 1 < 2 ^ 32
 
 -- the marks are those of their authors, with the number of each one's entries beside them
 pub record AreCounted (opening : ℕ) (marks : List Mark) (counts : List ℕ) : Type 0 where
