@@ -136,7 +136,7 @@ feeds_follows plan m old new place end held now (Err c) feeds = follows_on old f
 -- the pass that a plan is made with
 pub first_pass : (plan : SharedPlan) (pass : PlanPass) (opening : ℕ) → BelongsTo plan pass → mine_of pass ≡ [] → crew_of pass ≡ record { leads = true; opening = opening; made = 0; joined = [] } → IsFirst plan pass
 first_pass plan pass opening own new crew =
-    record { fresh = record { own = own; new = new }; leads = ap (λ c. c.leads) crew; alone = ap (λ c. c.made) crew; none = ap (λ c. c.joined) crew }
+    record { fresh = record { own = own; new = new }; first = ap (λ c. c.leads) crew; alone = ap (λ c. c.made) crew; none = ap (λ c. c.joined) crew }
 
 -- The plan's first pass, and all that came of it.
 pub record Ran (duties : List Duty) (start : State) (plan : SharedPlan) (new : PlanPass) (remains : Remains) (m : Model) (place end : Place) (held now : Option (List ℕ)) : Type 0 where
@@ -200,4 +200,4 @@ module _ (duties : List Duty) (start : State) (plan : SharedPlan) (new : PlanPas
   runs_whole machine same legal going closes =
       let feeds' = subst (λ (k : Model). FeedsToEnd plan k begun place held remains.fed mid end now) same ran.joins.feeds.feeds in
       let E : Met → Type 0 = λ met. TeamRun duties start place held (ended_of remains.fed met) end now in
-      subst E (sym ran.joins.feeds.team.met) (runs start mid ws (joined_of machine same legal going closes) place held now begun begun_seen plan end remains.fed feeds')
+      subst E (sym ran.joins.feeds.team.together) (runs start mid ws (joined_of machine same legal going closes) place held now begun begun_seen plan end remains.fed feeds')

@@ -1,5 +1,5 @@
 -- What remains of a run once its workers are joined.
-use Rattle.std.specs.Prelude.{◌≡◌, ◌+◌, ℕ, List, [], ◌++◌, length, map, Option, true}
+use Rattle.std.specs.Prelude.{◌≡◌, ◌+◌, ℕ, List, [], ◌++◌, length, map, Option, Some, None, true}
 use Rattle.std.specs.List.{All}
 use mathlib.Core.List.{IsPrefix}
 use Rattle.pl_turn.specs.Passes.{seen_of, mine_of, crew_of, leads, made_by, joined_by}
@@ -15,6 +15,8 @@ use Rattle.pl_pair.specs.declared.endings.Met.{Met}
 use Rattle.pl_pair.specs.declared.pairing.Remains.{Remains}
 use Rattle.pl_pair.specs.Served.{IsServed}
 use Rattle.pl_pair.specs.Endings.{met_by}
+use Rattle.pl_pair.specs.declared.hands.Hands.{Hands}
+use Rattle.pl_pair.specs.Workers.{AreHands, duties_of}
 use Rattle.pl_pair.specs.Feeds.{FeedsToEnd}
 
 -- A pass of the plan that has made nothing yet.
@@ -25,7 +27,7 @@ pub record IsFresh (plan : SharedPlan) (pass : PlanPass) : Type 0 where
 -- The plan's first pass, behind which no other was split off.
 pub record IsFirst (plan : SharedPlan) (pass : PlanPass) : Type 0 where
   pub fresh : IsFresh plan pass
-  pub leads : leads pass ≡ true
+  pub first : leads pass ≡ true
   pub alone : made_by pass ≡ 0
   pub none : joined_by pass ≡ []
 
@@ -66,7 +68,14 @@ pub record JoinsTeam (plan : SharedPlan) (duties : List Duty) (old : PlanPass) (
   pub workers : List Worker
   pub hired : duties_in workers ≡ duties
   pub joins : JoinsAll plan workers old new
-  pub met : met ≡ met_by (refusals workers)
+  pub together : met ≡ met_by (refusals workers)
+
+-- A worker was hired for each of these duties, with a pass of its own.
+pub record Hires (plan : SharedPlan) (old : PlanPass) (duties : List Duty) (new : PlanPass) (all : Hands) : Type 0 where
+  pub fresh : IsFresh plan new
+  pub splits : Splits old (length duties) new
+  pub hands : AreHands plan all
+  pub hired : duties_of all ≡ duties
 
 -- The feeder fed the plan up to its end, from this pass on, and the workers that were hired for these duties were joined.
 pub record Feeds (plan : SharedPlan) (model : Model) (begun : PlanPass) (duties : List Duty) (start : Place) (held : Option (List ℕ)) (remains : Remains) (behind : Place) (now : Option (List ℕ)) : Type 0 where
@@ -80,3 +89,8 @@ pub record Joins (plan : SharedPlan) (model : Model) (pass : PlanPass) (duties :
   pub begun : PlanPass
   pub splits : Splits pass (length duties) begun
   pub feeds : Feeds plan model begun duties start held remains behind now
+
+-- Want of memory before a thread was started changes nothing.
+abbrev pub JoinsIf : SharedPlan → Model → PlanPass → List Duty → Place → Option (List ℕ) → Option Remains → Place → Option (List ℕ) → Type 0
+JoinsIf plan model pass duties start held (Some remains) behind now = Joins plan model pass duties start held remains behind now
+JoinsIf plan model pass duties start held None behind now = (behind ≡ start) × (now ≡ held)

@@ -1,13 +1,13 @@
 //! The threads of the workers, and the feeder beside them.
-ghost use Rattle.std.specs.Prelude.{◌≡◌, ◌+◌, ◌≤◌, true, length, None, IsErrOf, vec_len, vec_capacity};
+ghost use Rattle.std.specs.Prelude.{◌≡◌, ◌+◌, ◌≤◌, true, length, None, IsErrOf, IfSome};
 ghost use Rattle.std.specs.Thread.{IsSync};
-ghost use Rattle.pl_turn.specs.Passes.{leads, made_by};
+ghost use Rattle.pl_turn.specs.Passes.{leads};
 ghost use Rattle.pl_io.specs.Faults.{Rose};
 ghost use Rattle.pl_shared.specs.Plans.{BelongsTo};
 ghost use Rattle.pl_pair.specs.Served.{IsWorker};
 ghost use Rattle.pl_pair.specs.Workers.{AreHands, IsHand, duty_of, duties_of};
 ghost use Rattle.pl_input.specs.Places.{place_of};
-ghost use Rattle.pl_pair.specs.Joins.{IsFresh, IsFirst, Splits, Feeds, Joins};
+ghost use Rattle.pl_pair.specs.Joins.{IsFresh, IsFirst, Hires, Feeds, JoinsIf};
 
 use crate::cut::Cut;
 use crate::duty::Duty;
@@ -98,7 +98,7 @@ fn hire<'s, E, R: Wait + Sync, G: Gate + Sync>(
     }
 }
 
-/// Starts a worker for each duty, with a pass of its own. There is room for all.
+/// Starts a worker for each duty, with a pass of its own. `None` where memory is wanting, and then no thread was started.
 fn hire_all<'s, E, R: Wait + Sync, G: Gate + Sync>(
     scope: &Scope<'s, E>,
     rt: &'s R,
@@ -108,19 +108,13 @@ fn hire_all<'s, E, R: Wait + Sync, G: Gate + Sync>(
     pass: &mut Pass,
     duties: &[Duty],
     refused: &'s [AtomicBool],
-    room: Vec<Hand<'s>>,
-) -> Hands<'s>
+) -> Option<Hands<'s>>
     requires first { IsFirst plan.now pass.old }
     requires few { length duties.now ≤ 9 }
     requires flags { length duties.now ≤ length refused.now }
-    requires empty { vec_len room ≡ 0 }
-    requires room { length duties.now ≤ vec_capacity room }
-    ensures own { IsFresh plan.now pass.new }
-    ensures splits { Splits pass.old (length duties.now) pass.new }
-    ensures hands { AreHands plan.now result }
-    ensures duties { duties_of result ≡ duties.now }
+    ensures hired { IfSome result (Hires plan.now pass.old duties.now pass.new) }
 {
-    let mut all = room;
+    let mut all = Vec::with_capacity(alloc, duties.len()).ok()?;
     for place in 0..duties.len() {
         let own = plan.split(alloc, pass).unwrap();
         let hand = hire(
@@ -135,10 +129,10 @@ fn hire_all<'s, E, R: Wait + Sync, G: Gate + Sync>(
         );
         all.push_reserved(hand);
     }
-    Hands { all }
+    Some(Hands { all })
 }
 
-/// Starts the workers, feeds them, and joins them.
+/// Starts the workers, feeds them, and joins them. `None` where memory is wanting before a thread was started.
 pub(crate) fn run_workers<R: Threads + Wait + Sync, S: Source, O: Sink, G: Gate + Sync>(
     rt: &R,
     alloc: Global,
@@ -148,39 +142,39 @@ pub(crate) fn run_workers<R: Threads + Wait + Sync, S: Source, O: Sink, G: Gate 
     pass: Pass,
     duties: &[Duty],
     refused: &[AtomicBool],
-    room: Vec<Hand<'_>>,
     lines: &mut LineReader,
     src: &mut S,
     out: &mut O,
-) -> Remains
+) -> Option<Remains>
     requires first { IsFirst plan.now pass }
     requires few { length duties.now ≤ 9 }
     requires flags { length duties.now ≤ length refused.now }
-    requires empty { vec_len room ≡ 0 }
-    requires room { length duties.now ≤ vec_capacity room }
     requires limit { lines.old.limit ≤ 4096 }
-    ensures joins { Joins plan.now model.now pass duties.now (place_of lines.old (S.left src.old)) (O.held out.old) result
+    ensures joins { JoinsIf plan.now model.now pass duties.now (place_of lines.old (S.left src.old)) (O.held out.old) result
         (place_of lines.new (S.left src.new)) (O.held out.new) }
-    ensures read { IsErrOf result.fed Cut.Read → lines.old.failed ≡ None → Rose (S.faults src.old) (S.faults src.new) }
-    ensures write { IsErrOf result.fed Cut.Write → Rose (O.faults out.old) (O.faults out.new) }
+    ensures read { IfSome result (λ remains. IsErrOf remains.fed Cut.Read → lines.old.failed ≡ None → Rose (S.faults src.old) (S.faults src.new)) }
+    ensures write { IfSome result (λ remains. IsErrOf remains.fed Cut.Write → Rose (O.faults out.old) (O.faults out.new)) }
 {
     let (lines, src, out, remains) = thread::scope(
         thread::scope_env(),
         rt,
         move |scope|
-            requires { IsSync R.row × IsSync G.row × IsFirst plan.now pass × (length duties.now ≤ 9) × (length duties.now ≤ length refused.now) × (vec_len room ≡ 0) × (length duties.now ≤ vec_capacity room) × (lines.now.limit ≤ 4096) }
-            ensures joins { Joins plan.entry.now model.entry.now pass duties.entry.now (place_of lines.entry.now (S.left src.entry.now))
+            requires { IsSync R.row × IsSync G.row × IsFirst plan.now pass × (length duties.now ≤ 9) × (length duties.now ≤ length refused.now) × (lines.now.limit ≤ 4096) }
+            ensures joins { JoinsIf plan.entry.now model.entry.now pass duties.entry.now (place_of lines.entry.now (S.left src.entry.now))
                 (O.held out.entry.now) result.3 (place_of result.0.now (S.left result.1.now)) (O.held result.2.now) }
             ensures back { (result.0.ghost_name ≡ lines.entry.ghost_name) × (result.1.ghost_name ≡ src.entry.ghost_name) × (result.2.ghost_name ≡ out.entry.ghost_name) }
-            ensures read { IsErrOf result.3.fed Cut.Read → lines.entry.now.failed ≡ None → Rose (S.faults src.entry.now) (S.faults result.1.now) }
-            ensures write { IsErrOf result.3.fed Cut.Write → Rose (O.faults out.entry.now) (O.faults result.2.now) }
+            ensures read { IfSome result.3 (λ remains. IsErrOf remains.fed Cut.Read → lines.entry.now.failed ≡ None → Rose (S.faults src.entry.now) (S.faults result.1.now)) }
+            ensures write { IfSome result.3 (λ remains. IsErrOf remains.fed Cut.Write → Rose (O.faults out.entry.now) (O.faults result.2.now)) }
         {
             let mut first = pass;
-            let hands = hire_all(
-                scope, rt, alloc, plan, gate, &mut first, duties, refused, room,
-            );
-            let remains = feed_and_join(rt, alloc, plan, model, first, hands, lines, src, out);
-            (lines, src, out, remains)
+            match hire_all(scope, rt, alloc, plan, gate, &mut first, duties, refused) {
+                Some(hands) => {
+                    let remains =
+                        feed_and_join(rt, alloc, plan, model, first, hands, lines, src, out);
+                    (lines, src, out, Some(remains))
+                }
+                None => (lines, src, out, None),
+            }
         },
     );
     let_go(lines, src, out);

@@ -57,15 +57,14 @@ fn run_over<R: Threads + Wait + Sync, S: Source, O: Sink, G: Gate + Sync>(
     let Ok(refused) = flags_for(alloc, duties.len()) else {
         return Err(Halt::Memory);
     };
-    let Ok(room) = Vec::with_capacity(alloc, duties.len()) else {
-        return Err(Halt::Memory);
-    };
     let Ok((plan, pass)) = SharedPlan::new(alloc, machine) else {
         return Err(Halt::Memory);
     };
-    let remains = run_workers(
-        rt, alloc, &plan, gate, model, pass, duties, &refused, room, lines, src, out,
-    );
+    let Some(remains) = run_workers(
+        rt, alloc, &plan, gate, model, pass, duties, &refused, lines, src, out,
+    ) else {
+        return Err(Halt::Memory);
+    };
     let Remains { pass, fed, met } = remains;
     let answer = ended(&fed, met);
     let _machine = plan.close(pass);
