@@ -22,7 +22,7 @@ pub returns-in-Some : goal.returns-in-Some
 returns-in-Some c = λ authors author e.
     let was : c.self.inside.marks.items ≡ c.pop.new.self.items ++ c.in-Some.mark ∷ [] = c.in-Some.ensures.items in
     let kept = subst (λ (ms : List Mark). AreCounted c.self.inside.opening ms c.self.inside.counts) was c.self.invariant in
-    let same : c.args.self.now ≡ signed_by c.self.inside.opening c.self.inside.marks.items = c.self.view_is in
+    let same : c.args.self.now ≡ signed_by c.self.inside.opening c.self.inside.marks.items = sym c.self.view_is in
     let were : authors_in (c.pop.new.self.items ++ c.in-Some.mark ∷ []) ≡ authors ++ author ∷ [] = ap authors_in (sym was) ∙ sym (ap (λ (s : Signed). s.authors) same) ∙ e in
     others_are c.self.inside.opening c.pop.new.self.items c.in-Some.mark c.self.inside.counts kept authors author were
     ∙ ap (λ (n : ℕ). record { opening = n; authors = authors }) (sym (ap (λ (s : Signed). s.opening) same))
