@@ -77,6 +77,9 @@ module _ (plan : SharedPlan) (workers : List Worker) (first last : PlanPass) (jo
         owners = subst O (λ i. (opening i, joined_lists i)) closes.owners;
       }
 
+pub still_leads : (old new : PlanPass) (joined : List (List (ℕ × Noted))) → crew_of new ≡ record (crew_of old) { joined = joined } → leads old ≡ true → leads new ≡ true
+still_leads old new joined crew first = ap (λ c. c.leads) crew ∙ first
+
 -- ---- what goes on from a history
 
 -- further items of a history: entries, and a stop behind them where there is one

@@ -88,6 +88,7 @@ impl<'p> Hands<'p> {
     }
 
     /// Acts for the workers that have no thread. Answers whether an entry was made.
+    #[tactic(auto, using(crate::proofs::Handing::all_set, crate::proofs::Handing::duties_set))]
     pub(crate) fn act<R: Wait>(&mut self, rt: &R, alloc: Global, plan: &SharedPlan) -> bool
         requires { AreHands plan.now self.old }
         ensures hands { AreHands plan.now self.new }
@@ -100,6 +101,7 @@ impl<'p> Hands<'p> {
         acted
     }
 
+    #[tactic(auto, using(crate::proofs::Handing::joins_none, crate::proofs::Handing::joins_more, crate::proofs::Handing::joins_all, crate::proofs::Closing::still_leads))]
     /// Joins the workers, whose threads have to end, and takes their passes in. Answers what they met. It takes no memory.
     pub(crate) fn join_all<R: Threads>(self, rt: &R, plan: &SharedPlan, pass: &mut Pass) -> Met
         requires hands { AreHands plan.now self }

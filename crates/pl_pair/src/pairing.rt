@@ -99,6 +99,7 @@ fn hire<'s, E, R: Wait + Sync, G: Gate + Sync>(
 }
 
 /// Starts a worker for each duty, with a pass of its own. `None` where memory is wanting, and then no thread was started.
+#[tactic(auto, using(crate::proofs::Handing::all_more, crate::proofs::Handing::duties_more, crate::proofs::Handing::splits_none, crate::proofs::Handing::splits_more, crate::proofs::Handing::splits_lead, crate::proofs::Handing::splits_few))]
 fn hire_all<'s, E, R: Wait + Sync, G: Gate + Sync>(
     scope: &Scope<'s, E>,
     rt: &'s R,
