@@ -32,7 +32,7 @@ fn flags_for(alloc: Global, count: usize) -> Result<Vec<AtomicBool>, AllocError>
 }
 
 /// A run over a model that is the machine's.
-#[tactic(auto, using(crate::proofs::Running::runs_none, crate::proofs::Running::first_pass, crate::proofs::Running::all_joined, crate::proofs::Causes::ended_read, crate::proofs::Causes::ended_write))]
+#[tactic(auto, using(crate::proofs::Running::runs_none, crate::proofs::Running::first_pass, crate::proofs::Causes::ended_read, crate::proofs::Causes::ended_write))]
 fn run_over<R: Threads + Wait + Sync, S: Source, O: Sink, G: Gate + Sync>(
     rt: &R,
     alloc: Global,
