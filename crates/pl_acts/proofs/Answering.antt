@@ -25,10 +25,10 @@ use Rattle.pl_choose.specs.Picks.{seeded_pick, seeded_after}
 use Rattle.pl_acts.specs.declared.held.Held.{Held}
 use Rattle.pl_acts.specs.declared.role.Role.TheVariants.{Planner, Executive}
 use Rattle.pl_acts.specs.declared.role.Acted.TheVariants as acted
-use Rattle.pl_acts.specs.Roles.{has_event, IsChosen, IsBy, IsAskedAtMost, IsInputOf}
-use Rattle.pl_acts.specs.Inside.{Logs, Spoiled, can_listen, FeedsIn, ActsIn}
+use Rattle.pl_acts.specs.Roles.{IsChosen, IsInputOf}
+use Rattle.pl_acts.specs.Inside.{Logs, Spoiled, can_listen, FeedsIn, Executes, ExecutesIn}
 
-abbrev with_machine : State → Held → Held
+abbrev pub with_machine : State → Held → Held
 with_machine m h = record h { machine = m }
 
 -- an entry that the machine took
@@ -46,10 +46,10 @@ took_one By old m v r n going may takes last by = record {
   by = by;
 }
 
-same_held : (old : Held) (m : State) → m ≡ old.machine → with_machine m old ≡ old
+pub same_held : (old : Held) (m : State) → m ≡ old.machine → with_machine m old ≡ old
 same_held old m e = ap (λ (x : State). with_machine x old) e
 
-spoils_held : (old : Held) (m : State) → old.machine.spoiled ≡ false → Spoils old.machine m → Spoiled old (with_machine m old)
+pub spoils_held : (old : Held) (m : State) → old.machine.spoiled ≡ false → Spoils old.machine m → Spoiled old (with_machine m old)
 spoils_held old m unspoiled spoils = (unspoiled, record { log = spoils.log; model = spoils.model; same = refl }, spoils.spoiled)
 
 -- ---- an input
@@ -83,54 +83,22 @@ some_chosen : (o : Option Choice) (choice : Choice) → o ≡ Some choice → is
 some_chosen o choice e = ap (λ (x : Option Choice). is_some x) e
 
 pub executed : (old : Held) (m : State) (choice : Choice) (r : Reply) (n : ℕ) → Chosen old choice → old.machine.world.done ≡ false → old.stopped ≡ false
-    → Answers old.machine (event_of choice) (Ok r) m → n + 1 ≡ length m.log → ActsIn Executive old (Ok (acted.Did n)) Executive (with_machine m old)
+    → Answers old.machine (event_of choice) (Ok r) m → n + 1 ≡ length m.log → ExecutesIn old (Ok (acted.Did n)) (with_machine m old)
 executed old m choice r n chosen going running answers last =
     let P : Option Choice → Type 0 = λ o. IsChosen o (event_of choice) in (
-      took_one (IsBy Executive Executive) old m (event_of choice) r n running answers.0 answers.1 last (subst P (sym chosen) refl),
+      took_one Executes old m (event_of choice) r n running answers.0 answers.1 last (subst P (sym chosen) refl),
       going,
       some_chosen (exec_choice_of old.machine.world) choice chosen,
     )
 
 pub execute_stops : (old : Held) (m : State) (choice : Choice) (s : Stop) → Chosen old choice → is_enabled old.machine.world (event_of choice) ≡ true → old.machine.spoiled ≡ false
-    → old.machine.world.done ≡ false → old.stopped ≡ false → Answers old.machine (event_of choice) (Err s) m → ActsIn Executive old (Err s) Executive (with_machine m old)
-execute_stops old m choice stop.Spoiled chosen enabled unspoiled going running answers = (answers.0, same_held old m answers.1, refl)
+    → old.machine.world.done ≡ false → old.stopped ≡ false → Answers old.machine (event_of choice) (Err s) m → ExecutesIn old (Err s) (with_machine m old)
+execute_stops old m choice stop.Spoiled chosen enabled unspoiled going running answers = (answers.0, same_held old m answers.1)
 execute_stops old m choice stop.NotNow chosen enabled unspoiled going running answers = absurd (let h : true ≡ false = sym enabled ∙ answers.1 in cc)
 execute_stops old m choice stop.LogFull chosen enabled unspoiled going running answers =
-    (record { unspoiled = unspoiled; going = going; running = running }, some_chosen (exec_choice_of old.machine.world) choice chosen, answers.2, same_held old m answers.3, refl)
-execute_stops old m choice stop.Memory chosen enabled unspoiled going running answers = (spoils_held old m answers.0 answers.1, refl)
+    (record { unspoiled = unspoiled; going = going; running = running }, some_chosen (exec_choice_of old.machine.world) choice chosen, answers.2, same_held old m answers.3)
+execute_stops old m choice stop.Memory chosen enabled unspoiled going running answers = spoils_held old m answers.0 answers.1
 
 pub execute_none : (old : Held) → exec_choice_of old.machine.world ≡ None → old.machine.spoiled ≡ false → old.machine.world.done ≡ false → old.stopped ≡ false
-    → ActsIn Executive old (Ok acted.Nothing) Executive old
-execute_none old none unspoiled going running = (record { unspoiled = unspoiled; going = going; running = running }, ap (λ (x : Option Choice). is_some x) none, refl, refl)
-
--- ---- the planner
-
--- what the seeded chooser proposes, and its generator behind it
-abbrev seeded : Picks Lcg
-seeded g w p g2 = (p ≡ seeded_pick w g) × (g2 ≡ seeded_after g)
-
-abbrev words_drawn : Drawn Lcg
-words_drawn g g2 = g2 ≡ seeded_after g
-
-asked_role : (w : World) (g g2 : Lcg) → mending.IsAskedAtMost words_drawn w g g2 → IsAskedAtMost (Planner g) w (Planner g2)
-asked_role w g g2 (inl same) = inl (ap (λ (x : Lcg). Planner x) same)
-asked_role w g g2 (inr asked) = inr (asked.0, asked.1, ap (λ (x : Lcg). Planner x) asked.2)
-
-pub planned : (old : Held) (m : State) (g g2 : Lcg) (done : Repaired) (n : ℕ) → old.machine.world.done ≡ false → old.stopped ≡ false → has_event (Planner g) old.machine.world ≡ true
-    → HasRepaired seeded old.machine g done m g2 → n + 1 ≡ length m.log → ActsIn (Planner g) old (Ok (acted.Did n)) (Planner g2) (with_machine m old)
-planned old m g g2 (repaired.Fixed p) n going running has did last =
-    (took_one (IsBy (Planner g) (Planner g2)) old m (event.Fix p.conflict p.mv) reply.Done n running did.3 did.4 last (sym did.1.0, did.1.1, refl), going, has)
-planned old m g g2 (repaired.Rested why) n going running has did last =
-    (took_one (IsBy (Planner g) (Planner g2)) old m event.Rest (reply.Rested why) n running did.1 did.2 last did.3, going, has)
-
-pub plan_stops : (old : Held) (m : State) (g g2 : Lcg) (s : Stop) → old.machine.spoiled ≡ false → old.machine.world.done ≡ false → old.stopped ≡ false → has_event (Planner g) old.machine.world ≡ true
-    → RepairsOnce seeded words_drawn old.machine g (Err s) m g2 → ActsIn (Planner g) old (Err s) (Planner g2) (with_machine m old)
-plan_stops old m g g2 stop.Spoiled unspoiled going running has answers = (answers.0, same_held old m answers.1, ap (λ (x : Lcg). Planner x) answers.2)
-plan_stops old m g g2 stop.NotNow unspoiled going running has answers = absurd (let h : true ≡ false = sym has ∙ answers.1 in cc)
-plan_stops old m g g2 stop.LogFull unspoiled going running has answers =
-    (record { unspoiled = unspoiled; going = going; running = running }, has, answers.2, same_held old m answers.3, ap (λ (x : Lcg). Planner x) answers.4)
-plan_stops old m g g2 stop.Memory unspoiled going running has answers = (spoils_held old m answers.0 answers.1, asked_role old.machine.world g g2 answers.2)
-
-pub plan_none : (old : Held) (g : Lcg) → has_event (Planner g) old.machine.world ≡ false → old.machine.spoiled ≡ false → old.machine.world.done ≡ false → old.stopped ≡ false
-    → ActsIn (Planner g) old (Ok acted.Nothing) (Planner g) old
-plan_none old g none unspoiled going running = (record { unspoiled = unspoiled; going = going; running = running }, none, refl, refl)
+    → ExecutesIn old (Ok acted.Nothing) old
+execute_none old none unspoiled going running = (record { unspoiled = unspoiled; going = going; running = running }, ap (λ (x : Option Choice). is_some x) none, refl)

@@ -5,6 +5,8 @@ use Rattle.pl_turn.specs.History.{IsSameOrOneMore}
 use Rattle.pl_turn.proofs.Histories.{prefix_of_same}
 use Rattle.pl_model.specs.declared.whole.Model.{Model}
 use Rattle.pl_entry.specs.declared.entry.Entry.{Entry}
+use Rattle.rand_pcg.specs.Lcg.{Lcg}
+use Rattle.pl_cand.specs.declared.proposal.Proposal.{Proposal}
 use Rattle.pl_machine.specs.declared.stop.Stop.{Stop}
 use Rattle.pl_machine.specs.declared.stop.Stop.TheVariants as stop
 use Rattle.pl_machine.specs.World.{World}
@@ -12,12 +14,13 @@ use Rattle.pl_machine.specs.Sound.{State}
 use Rattle.pl_acts.specs.declared.noted.Noted.{Noted}
 use Rattle.pl_acts.specs.declared.noted.Noted.TheVariants.{Made, Stopped}
 use Rattle.pl_acts.specs.declared.held.Held.{Held}
-use Rattle.pl_acts.specs.declared.role.Role.{Role}
 use Rattle.pl_acts.specs.declared.role.Acted.{Acted}
 use Rattle.pl_acts.specs.declared.role.Acted.TheVariants as acted
 use Rattle.pl_acts.specs.Items.{items_of, model_in}
-use Rattle.pl_acts.specs.Roles.{IsBy, IsInputOf}
-use Rattle.pl_acts.specs.Inside.{items_in, IsSound, Logs, KeepsLog, FeedsIn, ActsIn}
+use Rattle.pl_acts.specs.declared.look.Looked.{Looked}
+use Rattle.pl_acts.specs.declared.look.Looked.TheVariants as looked
+use Rattle.pl_acts.specs.Roles.{IsInputOf}
+use Rattle.pl_acts.specs.Inside.{items_in, IsSound, Logs, KeepsLog, FeedsIn, Wants, Executes, ExecutesIn, RestsAtOnce, LooksIn, Settles, SettlesIn}
 use Rattle.pl_acts.specs.Seen.{IsPlan}
 use Rattle.pl_acts.proofs.Items.{model_in_items, model_in_prefix, items_push, items_stopped}
 
@@ -54,15 +57,40 @@ grows_fed line seen old new (Err stop.NotNow) found sound feeds = grows_same see
 grows_fed line seen old new (Err stop.LogFull) found sound feeds = grows_same seen old new found (same_held old new feeds.3)
 grows_fed line seen old new (Err stop.Memory) found sound feeds = grows_same seen old new found feeds.1
 
-pub grows_acted : (r r2 : Role) (seen : List Noted) (old new : Held) (a : Result Acted Stop) → seen ≡ items_in old → IsSound old.machine → ActsIn r old a r2 new → IsSameOrOneMore seen (items_in new)
-grows_acted r r2 seen old new (Ok (acted.Did n)) found sound acts = grows_more (IsBy r r2) seen old new n found sound acts.0
-grows_acted r r2 seen old new (Ok acted.Nothing) found sound acts = grows_same seen old new found (same_held old new acts.2)
-grows_acted r r2 seen old new (Ok acted.Finished) found sound acts = grows_same seen old new found (same_held old new acts.2)
-grows_acted r r2 seen old new (Ok acted.Stopped) found sound acts = grows_same seen old new found (same_held old new acts.3)
-grows_acted r r2 seen old new (Err stop.Spoiled) found sound acts = grows_same seen old new found (same_held old new acts.1)
-grows_acted r r2 seen old new (Err stop.NotNow) found sound acts = absurd acts
-grows_acted r r2 seen old new (Err stop.LogFull) found sound acts = grows_same seen old new found (same_held old new acts.3)
-grows_acted r r2 seen old new (Err stop.Memory) found sound acts = grows_same seen old new found acts.0.1
+pub grows_executed : (seen : List Noted) (old new : Held) (a : Result Acted Stop) → seen ≡ items_in old → IsSound old.machine → ExecutesIn old a new → IsSameOrOneMore seen (items_in new)
+grows_executed seen old new (Ok (acted.Did n)) found sound acts = grows_more Executes seen old new n found sound acts.0
+grows_executed seen old new (Ok acted.Nothing) found sound acts = grows_same seen old new found (same_held old new acts.2)
+grows_executed seen old new (Ok acted.Finished) found sound acts = grows_same seen old new found (same_held old new acts.2)
+grows_executed seen old new (Ok acted.Stopped) found sound acts = grows_same seen old new found (same_held old new acts.3)
+grows_executed seen old new (Err stop.Spoiled) found sound acts = grows_same seen old new found (same_held old new acts.1)
+grows_executed seen old new (Err stop.NotNow) found sound acts = absurd acts
+grows_executed seen old new (Err stop.LogFull) found sound acts = grows_same seen old new found (same_held old new acts.3)
+grows_executed seen old new (Err stop.Memory) found sound acts = grows_same seen old new found acts.1
+
+wants_keeps : (old new : Held) → Wants old new → KeepsLog old new
+wants_keeps old new (inl spoiled) = spoiled.1
+wants_keeps old new (inr same) = same_held old new same.1
+
+pub grows_looked : (seen : List Noted) (old new : Held) (a : Result Looked Stop) → seen ≡ items_in old → IsSound old.machine → LooksIn old a new → IsSameOrOneMore seen (items_in new)
+grows_looked seen old new (Ok (looked.Settled (acted.Did n))) found sound looks = grows_more RestsAtOnce seen old new n found sound looks.0
+grows_looked seen old new (Ok (looked.Settled acted.Nothing)) found sound looks = grows_same seen old new found (same_held old new looks.2)
+grows_looked seen old new (Ok (looked.Settled acted.Finished)) found sound looks = grows_same seen old new found (same_held old new looks.2)
+grows_looked seen old new (Ok (looked.Settled acted.Stopped)) found sound looks = grows_same seen old new found (same_held old new looks.3)
+grows_looked seen old new (Ok (looked.Open draft)) found sound looks = grows_same seen old new found (same_held old new looks.3)
+grows_looked seen old new (Err stop.Spoiled) found sound looks = grows_same seen old new found (same_held old new looks.1)
+grows_looked seen old new (Err stop.NotNow) found sound looks = absurd looks
+grows_looked seen old new (Err stop.LogFull) found sound looks = grows_same seen old new found (same_held old new looks.3)
+grows_looked seen old new (Err stop.Memory) found sound looks = grows_same seen old new found (wants_keeps old new looks)
+
+pub grows_settled : (g g2 : Lcg) (p : Option Proposal) (seen : List Noted) (old new : Held) (a : Result Acted Stop) → seen ≡ items_in old → IsSound old.machine → SettlesIn g p old a g2 new → IsSameOrOneMore seen (items_in new)
+grows_settled g g2 p seen old new (Ok (acted.Did n)) found sound acts = grows_more (λ w e. Settles g p g2 w e.event e.reply) seen old new n found sound acts.0
+grows_settled g g2 p seen old new (Ok acted.Nothing) found sound acts = grows_same seen old new found (same_held old new acts.2)
+grows_settled g g2 p seen old new (Ok acted.Finished) found sound acts = grows_same seen old new found (same_held old new acts.2)
+grows_settled g g2 p seen old new (Ok acted.Stopped) found sound acts = grows_same seen old new found (same_held old new acts.3)
+grows_settled g g2 p seen old new (Err stop.Spoiled) found sound acts = grows_same seen old new found (same_held old new acts.1)
+grows_settled g g2 p seen old new (Err stop.NotNow) found sound acts = absurd acts
+grows_settled g g2 p seen old new (Err stop.LogFull) found sound acts = grows_same seen old new found (same_held old new acts.3)
+grows_settled g g2 p seen old new (Err stop.Memory) found sound acts = grows_same seen old new found acts.0.1
 
 stop_mark : (m : Model) (log : List Entry) (s : Bool) → IsSameOrOneMore (items_of m log s) (items_of m log true)
 stop_mark m log true = inl refl

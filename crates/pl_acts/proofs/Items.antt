@@ -101,3 +101,26 @@ in_world P items m log s w is history p = in_world_of P items m log s is history
 
 pub stop_in_same : (items : List Noted) (m : Model) (log : List Entry) (s : Bool) → items ≡ items_of m log s → stop_in items ≡ s
 stop_in_same items m log s is = ap stop_in is ∙ stop_in_items m log s
+
+-- ---- and back
+
+back_of_world : (P : World → Type 0) (o : Option Model) (es : List Entry) (m : Model) (log : List Entry) → o ≡ Some m → es ≡ log → OfWorld o es P → P (world_of m log)
+back_of_world P o es m log is same p =
+    let Q : Option Model → Type 0 = λ o. OfWorld o es P in
+    let R : List Entry → Type 0 = λ xs. P (world_of m xs) in
+    subst R same (subst Q is p)
+
+pub world_in : (P : World → Type 0) (items : List Noted) (m : Model) (log : List Entry) (s : Bool) (w : World) → items ≡ items_of m log s → IsHistory m log w → InWorld items P → P w
+world_in P items m log s w is history p =
+    subst P (sym history.world)
+    (back_of_world P (model_in items) (entries_in items) m log (ap model_in is ∙ model_in_items m log s history.legal) (ap entries_in is ∙ entries_in_items m log s) p)
+
+-- a front as long as the whole is the whole
+pub prefix_whole : (xs ys : List Noted) → IsPrefix xs ys → length xs ≡ length ys → xs ≡ ys
+prefix_whole [] [] on long = refl
+prefix_whole [] (y ∷ ys) on long = absurd (omega arith)
+prefix_whole (x ∷ xs) [] on long = absurd (omega arith)
+prefix_whole (x ∷ xs) (y ∷ ys) on long =
+    let rest : xs ≡ ys = prefix_whole xs ys (on.0, cc (on.1)) (omega arith) in
+    let first : x ≡ y = cc (on.1) in
+    ap (λ (zs : List Noted). x ∷ zs) rest ∙ ap (λ (z : Noted). z ∷ ys) first

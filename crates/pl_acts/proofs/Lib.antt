@@ -1,5 +1,8 @@
 pub mod Items
+pub mod Replicas
 pub mod Answering
+pub mod Finding
+pub mod Settled
 pub mod Growing
 pub mod OwnEntries
 pub mod EntryKinds

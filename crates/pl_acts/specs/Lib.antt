@@ -9,6 +9,8 @@ pub use Rattle.pl_machine.specs.Sound
 pub use Rattle.pl_machine.specs.Taking
 pub mod Items
 pub mod Roles
+pub mod Replicas
+pub mod Sights
 pub mod Inside
 pub mod Making
 pub mod Seen

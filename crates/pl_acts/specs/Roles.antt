@@ -25,31 +25,10 @@ abbrev pub has_event : Role → World → Bool
 has_event (Planner g) w = not w.closed && not w.rested
 has_event Executive w = is_some (exec_choice_of w)
 
--- A repair is the one that the chooser proposes in the world before, and it is made. Else repair rests, and the chooser is not asked.
-abbrev pub IsPlanned : Lcg → World → Event → Reply → Lcg → Type 0
-IsPlanned g w (event.Fix k m) answer g2 = (seeded_pick w.state g ≡ Some (record { conflict = k; mv = m })) × (g2 ≡ seeded_after g) × (answer ≡ reply.Done)
-IsPlanned g w event.Rest answer g2 = g2 ≡ g
-IsPlanned g w _ answer g2 = ⊥
-
 -- what the executive chooses in the world before
 abbrev pub IsChosen : Option Choice → Event → Type 0
 IsChosen None e = ⊥
 IsChosen (Some choice) e = e ≡ event_of choice
-
--- an entry that the role makes in this world, and the role behind it
-abbrev pub IsBy : Role → Role → World → Entry → Type 0
-IsBy (Planner g) (Planner g2) w e = IsPlanned g w e.event e.reply g2
-IsBy Executive Executive w e = IsChosen (exec_choice_of w) e.event
-IsBy _ _ w e = ⊥
-
--- the same, before the end of the input, where the role has an event
-abbrev pub IsDueBy : Role → Role → World → Entry → Type 0
-IsDueBy r r2 w e = (w.done ≡ false) × (has_event r w ≡ true) × IsBy r r2 w e
-
--- Its chooser is as it was, or it was asked once, where repair goes on, and has drawn its words.
-abbrev pub IsAskedAtMost : Role → World → Role → Type 0
-IsAskedAtMost (Planner g) w r2 = (r2 ≡ Planner g) ⊎ ((has_event (Planner g) w ≡ true) × (reason_of w ≡ None) × (r2 ≡ Planner (seeded_after g)))
-IsAskedAtMost Executive w r2 = r2 ≡ Executive
 
 -- an input with this line
 abbrev pub IsInputOf : Option (List ℕ) → World → Entry → Type 0

@@ -9,7 +9,7 @@ use Rattle.pl_acts.specs.declared.noted.Noted.{Noted}
 use Rattle.pl_acts.specs.declared.part.Part.{Part}
 use Rattle.pl_acts.specs.declared.role.Role.{Role}
 use Rattle.pl_acts.specs.Items.{items_of, entries_in, stop_in, InWorld}
-use Rattle.pl_acts.specs.Roles.{IsAskedAtMost}
+use Rattle.pl_acts.specs.Sights.{IsAskedAtMost}
 
 -- the items of a legal log
 pub record IsPlan (items : List Noted) : Type 0 where
@@ -33,9 +33,10 @@ pub record Copies (from : ℕ) (seen : List Noted) (part : Part) : Type 0 where
   pub world : InWorld seen (λ w. (part.closed ≡ w.closed) × (part.done ≡ w.done))
   pub stopped : part.stopped ≡ stop_in seen
 
--- In the world after some of what was seen, among it all of these own items, the chooser of the role was asked once at most.
+-- Behind some of what was seen, among it all of these own items, memory was wanting for an act of the role.
 pub record WasAskedAtMost (r : Role) (own : List (ℕ × Noted)) (seen : List Noted) (r2 : Role) : Type 0 where
   pub before : List Noted
   pub front : IsPrefix before seen
-  pub behind : All (λ x. x.0 < length before) own
-  pub asked : InWorld before (λ w. IsAskedAtMost r w r2)
+  pub low : ℕ
+  pub behind : All (λ x. x.0 < low) own
+  pub asked : IsAskedAtMost r low before r2

@@ -1,36 +1,21 @@
-//! A role's event, inside a turn.
+//! The executive's event, inside a turn.
 ghost use Rattle.std.specs.Prelude.{◌≡◌, ◌&&◌, not, false, true, Some};
 ghost use Rattle.pl_machine.specs.Step.{is_enabled};
 ghost use Rattle.pl_machine.specs.Choices.{exec_choice_of, event_of};
-ghost use Rattle.pl_acts.specs.Inside.{ActsIn};
+ghost use Rattle.pl_machine.specs.Mending.{is_repairing};
+ghost use Rattle.pl_acts.specs.Inside.{ExecutesIn};
 
 use crate::held::Held;
-use crate::role::{Acted, Role};
-use pl_choose::Seeded;
+use crate::role::Acted;
 use pl_machine::{Choice, Stop};
 
 impl Held {
     /// Whether the planner has an event.
     pub(crate) fn can_repair(&self) -> bool
-        ensures { result ≡ (not self.now.machine.world.closed && not self.now.machine.world.rested) }
+        ensures { result ≡ is_repairing self.now.machine.world }
     {
-        !self.machine.closed() && !self.machine.resting()
-    }
-
-    #[tactic(auto, using(crate::proofs::Answering::planned, crate::proofs::Answering::plan_stops, crate::proofs::Answering::plan_none))]
-    fn plan(&mut self, chooser: &mut Seeded) -> Result<Acted, Stop>
-        requires unspoiled { self.old.machine.spoiled ≡ false }
-        requires going { self.old.machine.world.done ≡ false }
-        requires running { self.old.stopped ≡ false }
-        ensures { ActsIn (Role.Planner chooser.old) self.old result (Role.Planner chooser.new) self.new }
-    {
-        if !self.can_repair() {
-            return Ok(Acted::Nothing);
-        }
-        match self.machine.repair_once(chooser) {
-            Ok(_) => Ok(Acted::Did(self.last_number())),
-            Err(stop) => Err(stop),
-        }
+        let machine = self.machine.get();
+        !machine.closed() && !machine.resting()
     }
 
     #[tactic(auto, using(crate::proofs::Answering::executed, crate::proofs::Answering::execute_stops))]
@@ -40,7 +25,7 @@ impl Held {
         requires running { self.old.stopped ≡ false }
         requires chosen { exec_choice_of self.old.machine.world ≡ Some choice }
         requires enabled { is_enabled self.old.machine.world (event_of choice) ≡ true }
-        ensures { ActsIn Role.Executive self.old result Role.Executive self.new }
+        ensures { ExecutesIn self.old result self.new }
     {
         match self.machine.execute(choice) {
             Ok(_) => Ok(Acted::Did(self.last_number())),
@@ -49,34 +34,31 @@ impl Held {
     }
 
     #[tactic(auto, using(crate::proofs::Answering::execute_none))]
-    fn execute(&mut self) -> Result<Acted, Stop>
+    fn execute_going(&mut self) -> Result<Acted, Stop>
         requires unspoiled { self.old.machine.spoiled ≡ false }
         requires going { self.old.machine.world.done ≡ false }
         requires running { self.old.stopped ≡ false }
-        ensures { ActsIn Role.Executive self.old result Role.Executive self.new }
+        ensures { ExecutesIn self.old result self.new }
     {
-        match self.machine.exec_choice() {
+        match self.machine.get().exec_choice() {
             Some(choice) => self.carry_out(choice),
             None => Ok(Acted::Nothing),
         }
     }
 
-    /// Makes the event that the role has, if it has one.
-    pub fn act(&mut self, role: &mut Role) -> Result<Acted, Stop>
-        ensures { ActsIn role.old self.old result role.new self.new }
+    /// Makes the event that the executive has, if it has one.
+    pub fn execute(&mut self) -> Result<Acted, Stop>
+        ensures { ExecutesIn self.old result self.new }
     {
-        if self.machine.spoiled() {
+        if self.machine.get().spoiled() {
             return Err(Stop::Spoiled);
         }
-        if self.machine.done() {
+        if self.machine.get().done() {
             return Ok(Acted::Finished);
         }
         if self.stopped {
             return Ok(Acted::Stopped);
         }
-        match role {
-            Role::Planner(chooser) => self.plan(chooser),
-            Role::Executive => self.execute(),
-        }
+        self.execute_going()
     }
 }

@@ -19,7 +19,8 @@ impl Held {
         ensures over { result ≡ is_over self.now }
         ensures unspoiled { result ≡ false → self.now.machine.spoiled ≡ false }
     {
-        self.machine.spoiled() || self.machine.done() || self.stopped
+        let machine = self.machine.get();
+        machine.spoiled() || machine.done() || self.stopped
     }
 
     /// Who has something to do: a worker whose role has an event, or that has to find out that the plan goes no further, and the feeder once
@@ -39,7 +40,7 @@ impl Held {
         }
         Busy {
             planner: self.can_repair(),
-            executive: self.machine.exec_choice().is_some(),
+            executive: self.machine.get().exec_choice().is_some(),
             feeder,
         }
     }

@@ -12,6 +12,7 @@ fn is_sound(machine: &Machine)
     ensures { IsSound machine.now }
 {
     let _log = machine.log();
+    let _model = machine.model();
 }
 
 impl Held {
@@ -19,7 +20,7 @@ impl Held {
     pub fn is_sound(&self)
         ensures { IsSound self.now.machine }
     {
-        is_sound(&self.machine)
+        is_sound(self.machine.get())
     }
 
     /// The number of the last entry.
@@ -27,7 +28,7 @@ impl Held {
     pub(crate) fn last_number(&self) -> u32
         ensures { result + 1 ≡ length self.now.machine.log }
     {
-        (self.machine.log().len() - 1) as u32
+        (self.machine.get().log().len() - 1) as u32
     }
 
     /// Takes a message line, or the end of the input.
@@ -36,7 +37,7 @@ impl Held {
         requires { IfSome (option_copied line) IsMessageLine }
         ensures { FeedsIn (option_copied line.entry) self.old result self.new }
     {
-        if self.machine.spoiled() {
+        if self.machine.get().spoiled() {
             return Err(Stop::Spoiled);
         }
         if self.stopped {
@@ -52,7 +53,7 @@ impl Held {
     pub fn round_over(&self) -> bool
         ensures { result ≡ (self.now.machine.world.closed || self.now.stopped) }
     {
-        self.machine.closed() || self.stopped
+        self.machine.get().closed() || self.stopped
     }
 
     /// Marks the plan as stopped.

@@ -11,7 +11,6 @@ pub struct Part {
     pub entries: Entries,
     pub closed: bool,
     pub done: bool,
-    pub spoiled: bool,
     pub stopped: bool,
 }
 
@@ -21,7 +20,6 @@ impl Copied for Part {
             entries: self.entries.copy(alloc)?,
             closed: self.closed,
             done: self.done,
-            spoiled: self.spoiled,
             stopped: self.stopped,
         })
     }

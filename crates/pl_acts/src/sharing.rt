@@ -6,6 +6,7 @@ use crate::held::Held;
 use crate::noted::Noted;
 use crate::part::Part;
 use crate::role::{Acted, Role};
+use crate::sight::{Sight, View};
 use pl_lists::may_be_shared;
 
 /// Shows that threads may share this crate's types, as long as this compiles.
@@ -18,4 +19,6 @@ pub fn shared_types() {
     may_be_shared::<Noted>();
     may_be_shared::<Part>();
     may_be_shared::<Role>();
+    may_be_shared::<Sight>();
+    may_be_shared::<View>();
 }

@@ -8,6 +8,9 @@ pub mod Granting
 pub mod Repairs
 pub mod Sends
 pub mod Handed
+pub mod Moves
+pub mod Models
+pub mod NextSteps
 pub mod Proposed
 pub mod Closes
 pub mod Measured

@@ -1,7 +1,9 @@
+mod answering;
 mod appending;
 mod choosing;
 mod closing;
 mod committing;
+mod copying;
 mod executing;
 mod fixing;
 mod listening;

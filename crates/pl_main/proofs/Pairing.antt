@@ -40,7 +40,7 @@ use Rattle.pl_main.proofs.Heading.{shows_limit, shows_none, split_is}
 
 pub none_opened : (turns seed : ℕ) (m : Model) (place : Place) (held : Option (List ℕ)) → IsChecked m → (1 ≤ turns) × (turns ≤ 1000) → PairRun seed (fresh_state turns m) place held (Err halt.Memory) place held
 none_opened turns seed m place held checked bounds =
-    runs_none (pair_of seed) (fresh_state turns m) place held
+    runs_none (pair_of seed 1) (fresh_state turns m) place held
     record {
       answers = refl;
       options = record { turns = (bounds.0, bounds.1); live = (omega arith, omega arith); goals = (omega arith, omega arith); entries = (omega arith, omega arith) };

@@ -50,7 +50,7 @@ look_run turns = run_by IsAheadEvent turns
 pub record IsPaired (turns seed : ℕ) (m : Model) (log : List Entry) : Type 0 where
   pub entries : List Entry
   pub opened : log ≡ opening (program_options turns) ∷ entries
-  pub history : History (pair_of seed) m (opening (program_options turns) ∷ []) log
+  pub history : History (pair_of seed 1) m (opening (program_options turns) ∷ []) log
   pub chosen : AreChosen m (opening (program_options turns) ∷ []) entries
 
 -- Such a log, of which the feeder's own entries are inputs and nothing else: nobody stopped the plan. The feeder had seen all of it.

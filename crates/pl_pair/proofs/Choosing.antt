@@ -19,11 +19,12 @@ use Rattle.pl_acts.specs.declared.noted.Noted.TheVariants.{Opened, Made, Stopped
 use Rattle.pl_acts.specs.declared.role.Role.{Role}
 use Rattle.pl_acts.specs.declared.role.Role.TheVariants.{Planner, Executive}
 use Rattle.pl_acts.specs.Items.{stop_items, items_of, entries_in, model_in, InWorld}
-use Rattle.pl_acts.specs.Roles.{is_input, is_repair, is_executed, is_entry, IsChosen, IsDueBy}
+use Rattle.pl_acts.specs.Roles.{is_input, is_repair, is_executed, is_entry, IsChosen}
+use Rattle.pl_acts.specs.Sights.{IsDueBy}
 use Rattle.pl_acts.specs.Making.{IsMadeAt, MakesAll}
 use Rattle.pl_acts.proofs.Items.{entries_in_items, length_going}
 use Rattle.pl_acts.proofs.EntryKinds.{by_kind}
-use Rattle.pl_pair.specs.Duties.{role_of}
+use Rattle.pl_pair.specs.Duties.{role_of, begun_of}
 use Rattle.pl_pair.specs.Served.{AreOf, IsStopAtMost, AreOfUntil, MakesUntil, MakesOwn}
 use Rattle.pl_pair.specs.Runs.{Service, ServedIn, owns_of}
 use Rattle.pl_pair.specs.Chosen.{AreChosen}
@@ -87,41 +88,42 @@ times_apart h low p e (x ∷ xs) s fails at passes =
 pub record MadeHere (items : List Noted) (p : ℕ) : Type 0 where
   pub role : Role
   pub role2 : Role
+  pub low : ℕ
   pub item : Noted
-  pub made : IsMadeAt role items p item role2
+  pub made : IsMadeAt role low items p item role2
 
-made_first : (items : List Noted) (p : ℕ) (r r2 : Role) (x : ℕ × Noted) (own : List (ℕ × Noted)) → IsMadeAt r items x.0 x.1 r2 → (times_at p own ≡ 1 → MadeHere items p) → times_at p (x ∷ own) ≡ 1
+made_first : (items : List Noted) (p low : ℕ) (r r2 : Role) (x : ℕ × Noted) (own : List (ℕ × Noted)) → IsMadeAt r low items x.0 x.1 r2 → (times_at p own ≡ 1 → MadeHere items p) → times_at p (x ∷ own) ≡ 1
     → (b : Bool) → nat_eq x.0 p ≡ b → MadeHere items p
-made_first items p r r2 x own made rest times true e =
+made_first items p low r r2 x own made rest times true e =
     let same : x.0 ≡ p = eqb-true x.0 p e in
-    record { role = r; role2 = r2; item = x.1; made = subst (λ (k : ℕ). IsMadeAt r items k x.1 r2) same made }
-made_first items p r r2 x own made rest times false e =
+    record { role = r; role2 = r2; low = low; item = x.1; made = subst (λ (k : ℕ). IsMadeAt r low items k x.1 r2) same made }
+made_first items p low r r2 x own made rest times false e =
     let none : one_at p x ≡ 0 = ap (λ (b : Bool). cond b 1 0) e in
     rest (omega (arith, times, none, sum_by-cons (one_at p) x own))
 
-made_here : (items : List Noted) (p : ℕ) (r r2 : Role) (own : List (ℕ × Noted)) → MakesAll r items own r2 → times_at p own ≡ 1 → MadeHere items p
-made_here items p r r2 [] all times = absurd (let h : 0 ≡ 1 = times in omega arith)
-made_here items p r r2 (x ∷ own) all times = made_first items p r all.0 x own all.1 (λ t. made_here items p all.0 r2 own all.2 t) times (nat_eq x.0 p) refl
+made_here : (items : List Noted) (p low : ℕ) (r r2 : Role) (own : List (ℕ × Noted)) → MakesAll r low items own r2 → times_at p own ≡ 1 → MadeHere items p
+made_here items p low r r2 [] all times = absurd (let h : 0 ≡ 1 = times in omega arith)
+made_here items p low r r2 (x ∷ own) all times = made_first items p low all.0 all.2 x own all.3 (λ t. made_here items p (x.0 + 1) all.2 r2 own all.4 t) times (nat_eq x.0 p) refl
 
 -- a worker's list, and a stop behind it at most
-makes_split : (met : Option Stop) (r : Role) (items : List Noted) (mine : List (ℕ × Noted)) (last : Role) → MakesOwn met r items mine last → MakesUntil r items mine
-makes_split None r items mine last made = record { own = mine; rest = []; whole = sym (append-nil mine); last = last; made = made; behind = inl refl }
-makes_split (Some s) r items mine last made = made
+makes_split : (met : Option Stop) (r : Role) (low : ℕ) (items : List Noted) (mine : List (ℕ × Noted)) (last : Role) → MakesOwn met r low items mine last → MakesUntil r low items mine
+makes_split None r low items mine last made = record { own = mine; rest = []; whole = sym (append-nil mine); last = last; made = made; behind = inl refl }
+makes_split (Some s) r low items mine last made = made
 
 -- what a role makes of this kind is the executive's
-due_chosen : (r r2 : Role) (w : World) (e : Entry) → is_executed e.event ≡ true → IsDueBy r r2 w e → IsChosen (exec_choice_of w) e.event
-due_chosen (Planner g) r2 w e executed due =
-    absurd (let kind : is_repair e.event ≡ true = (by_kind (Planner g) r2 w e due.2).0 in let both : true ≡ false = sym executed ∙ repair_apart e.event kind in cc)
-due_chosen Executive (Planner g2) w e executed due = absurd due.2
-due_chosen Executive Executive w e executed due = due.2
+due_chosen : (r r2 : Role) (low : ℕ) (before : List Noted) (e : Entry) → is_executed e.event ≡ true → IsDueBy r r2 low before e → InWorld before (λ w. IsChosen (exec_choice_of w) e.event)
+due_chosen (Planner g) r2 low before e executed due =
+    absurd (let kind : is_repair e.event ≡ true = (by_kind (Planner g) r2 low before e due.1).0 in let both : true ≡ false = sym executed ∙ repair_apart e.event kind in cc)
+due_chosen Executive (Planner g2) low before e executed due = absurd due.1
+due_chosen Executive Executive low before e executed due = due.1
 
 -- it is a worker's
 module _ (items : List Noted) (p : ℕ) (e : Entry) (at : slice_get items p ≡ Some (Made e)) (executed : is_executed e.event ≡ true) where
   owned_by : (s : Service) (rest : ℕ) → StandsIn items s.own → ServedIn items s → times_at p s.own + rest ≡ 1 → (rest ≡ 1 → MadeHere items p) → MadeHere items p
   owned_by s rest stands served one other = by (times_at p split.own) refl
     where
-      split : MakesUntil (role_of s.duty) items s.own
-      split = makes_split s.met (role_of s.duty) items s.own s.last served.made
+      split : MakesUntil (role_of s.duty) (begun_of s.duty) items s.own
+      split = makes_split s.met (role_of s.duty) (begun_of s.duty) items s.own s.last served.made
 
       stop_none : times_at p split.rest ≡ 0
       stop_none =
@@ -133,7 +135,7 @@ module _ (items : List Noted) (p : ℕ) (e : Entry) (at : slice_get items p ≡ 
 
       by : (n : ℕ) → times_at p split.own ≡ n → MadeHere items p
       by zero is = other (omega (arith, one, parts, stop_none, is))
-      by (suc n) is = made_here items p (role_of s.duty) split.last split.own split.made (omega (arith, one, parts, stop_none, is))
+      by (suc n) is = made_here items p (begun_of s.duty) (role_of s.duty) split.last split.own split.made (omega (arith, one, parts, stop_none, is))
 
   owned : (services : List Service) → All (StandsIn items) (owns_of services) → All (ServedIn items) services → times_in p (owns_of services) ≡ 1 → MadeHere items p
   owned [] stands each one = absurd (let h : 0 ≡ 1 = one in omega arith)
@@ -210,11 +212,10 @@ module _ (m : Model) (whole : List Entry) (stop : Bool) (feeder : List (ℕ × N
         let at : slice_get (items_of m whole stop) (length log) ≡ Some (Made is'.entry) =
         ap (λ (xs : List Noted). slice_get xs (length log)) is'.whole ∙ ap (λ (k : ℕ). slice_get (is'.before ++ Made is'.entry ∷ is'.behind) k) is'.stands ∙ at_front is'.before is'.behind (Made is'.entry) in
         let same : is'.entry ≡ e = made_same is'.entry e (sym at ∙ here) in
-        let P : World → Type 0 = λ w. IsDueBy made.role made.role2 w is'.entry in
-        let by : InWorld (items_of m log false) P = subst (λ (xs : List Noted). InWorld xs P) before is'.by in
+        let P : World → Type 0 = λ w. IsChosen (exec_choice_of w) is'.entry.event in
+        let by : InWorld (items_of m log false) P = subst (λ (xs : List Noted). InWorld xs P) before (due_chosen made.role made.role2 made.low is'.before is'.entry (ap (λ (x : Entry). is_executed x.event) same ∙ executed) is'.by) in
         let at_world : P (world_of m (entries_in (items_of m log false))) = world_in P (items_of m log false) m (model_some m log false some) by in
-        let due : P (world_of m log) = subst (λ (l : List Entry). P (world_of m l)) (entries_in_items m log false) at_world in
-        let chosen = due_chosen made.role made.role2 (world_of m log) is'.entry (ap (λ (x : Entry). is_executed x.event) same ∙ executed) due in
+        let chosen : P (world_of m log) = subst (λ (l : List Entry). P (world_of m l)) (entries_in_items m log false) at_world in
         subst (λ (x : Entry). IsChosen (exec_choice_of (world_of m log)) x.event) same chosen
 
     chosen_here : is_executed e.event ≡ true → IsChosen (exec_choice_of (world_of m log)) e.event

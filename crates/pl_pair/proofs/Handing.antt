@@ -18,10 +18,11 @@ use Rattle.pl_pair.specs.declared.duty.Duty.{Duty}
 use Rattle.pl_pair.specs.declared.worker.Worker.{Worker}
 use Rattle.pl_pair.specs.declared.hands.Hand.{Hand}
 use Rattle.pl_pair.specs.declared.endings.Met.{Met}
-use Rattle.pl_pair.specs.Served.{IsServed}
+use Rattle.pl_pair.specs.Duties.{begun_of}
+use Rattle.pl_pair.specs.Served.{IsHired, IsServed}
 use Rattle.pl_pair.specs.Workers.{IsHand, duty_of}
 use Rattle.pl_pair.specs.Endings.{is_full, is_other, met_by}
-use Rattle.pl_pair.specs.Joins.{IsFirst, Splits, refusals, duties_in, own_lists_of, HasSeenIn, JoinsAll, JoinsTeam}
+use Rattle.pl_pair.specs.Joins.{IsFirst, HasBegun, Splits, refusals, duties_in, own_lists_of, HasSeenIn, JoinsAll, JoinsTeam}
 
 -- ---- one hand is replaced
 
@@ -56,6 +57,14 @@ splits_lead plan old mid count first so_far = ap (λ c. c.leads) so_far.crew ∙
 
 pub splits_few : (plan : SharedPlan) (old mid : PlanPass) (count : ℕ) → IsFirst plan old → Splits old count mid → count ≤ 9 → made_by mid < 1000
 splits_few plan old mid count first so_far few = let made = ap (λ c. c.made) so_far.crew in let none = first.alone in omega (arith, made, none, few)
+
+-- what a worker is handed
+pub hired_at : (plan : SharedPlan) (duties : List Duty) (old mid own : PlanPass) (k : ℕ) (d : Duty) → All (HasBegun old) duties → k < length duties → Splits old k mid → seen_of own ≡ seen_of mid → BelongsTo plan own → mine_of own ≡ []
+    → IsHired plan (get_or duties k d) own
+hired_at plan duties old mid own k d begun within so_far seen belongs none =
+    let long : length (seen_of own) ≡ length (seen_of old) = ap length (seen ∙ so_far.seen) in
+    let here : begun_of (get_or duties k d) ≤ length (seen_of old) = begun k d within in
+    record { own = belongs; new = none; begun = omega (arith, long, here) }
 
 -- ---- one after another is joined
 

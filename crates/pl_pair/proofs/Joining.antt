@@ -34,7 +34,7 @@ use Rattle.pl_acts.proofs.Items.{entries_in_items, model_in_items, length_going,
 use Rattle.pl_acts.proofs.FullLogs.{log_is_bounded, world_options, full_ends, same_world, full_on}
 use Rattle.pl_pair.specs.declared.duty.Duty.{Duty}
 use Rattle.pl_pair.specs.declared.worker.Worker.{Worker}
-use Rattle.pl_pair.specs.Duties.{role_of}
+use Rattle.pl_pair.specs.Duties.{role_of, begun_of}
 use Rattle.pl_pair.specs.Served.{IsFullRound, Refused, IsServed}
 use Rattle.pl_pair.specs.Feeds.{AreInputs, HandsOne, WritesAll}
 use Rattle.pl_pair.specs.Endings.{is_full, met_by}
@@ -173,10 +173,10 @@ module _ (m : Model) (before : List Entry) (first : PlanPass) (ws : List Worker)
   -- what a worker did, in the whole history
   served_in : (w : Worker) → IsServed joined.plan w → HasSeenIn items w → ServedIn items (service_of w)
   served_in w served seen =
-      let made = own_on w.refusal (seen_of w.pass) items (role_of w.duty) w.role (mine_of w.pass) seen served.made in
+      let made = own_on w.refusal (seen_of w.pass) items (role_of w.duty) w.role (begun_of w.duty) (mine_of w.pass) seen served.made in
       record {
         saw = record { begins = seen; holds = own_stands joined.plan w.pass served.own };
-        kinds = own_kinds w.refusal items (role_of w.duty) w.role (mine_of w.pass) made;
+        kinds = own_kinds w.refusal items (role_of w.duty) w.role (begun_of w.duty) (mine_of w.pass) made;
         made = made;
         is = served.worker;
         why = refused_on w.refusal w.role (seen_of w.pass) items served.own.seen plan_items seen (model_items ∙ sym (model_seen (seen_of w.pass) served.own.seen seen)) served.why;

@@ -1,5 +1,5 @@
 -- What a run comes to.
-use Rattle.std.proofs.Common.{◌≡◌, ℕ, ◌+◌, List, [], ◌∷◌, length, map, true, false, Option, Some, None, Result, Ok, Err, refl, sym, ◌∙◌, ap, subst, arith, inl}
+use Rattle.std.proofs.Common.{◌≡◌, ℕ, ◌+◌, ◌≤◌, List, [], ◌∷◌, length, map, get_or, true, false, Option, Some, None, Result, Ok, Err, refl, sym, ◌∙◌, ap, subst, arith, inl}
 use Rattle.std.specs.List.{All}
 use Rattle.std.proofs.lemmas.List.{append-nil, length-map}
 use Rattle.std.proofs.lemmas.List.Sums.{sum_by-cons}
@@ -27,14 +27,15 @@ use Rattle.pl_pair.specs.declared.duty.Duty.{Duty}
 use Rattle.pl_pair.specs.declared.endings.Met.{Met}
 use Rattle.pl_pair.specs.declared.pairing.Remains.{Remains}
 use Rattle.pl_pair.specs.declared.worker.Worker.{Worker}
-use Rattle.pl_pair.specs.Duties.{role_of}
-use Rattle.pl_pair.specs.Joins.{IsFresh, IsFirst, Joins}
+use Rattle.pl_pair.specs.Duties.{role_of, begun_of}
+use Rattle.pl_pair.specs.Joins.{IsFresh, IsFirst, HasBegun, Joins}
 use Rattle.pl_pair.specs.Rounds.{Follows}
 use Rattle.pl_input.specs.Places.{Place}
 use Rattle.pl_pair.specs.Feeds.{FeedsShort, for_lines, for_message, for_reader, FeedsCut, refused, FeedsAll, FeedsToEnd}
 use Rattle.pl_pair.specs.Feeds as fed
 use Rattle.pl_pair.specs.Endings.{ended_of}
-use Rattle.pl_pair.specs.Runs.{Service, ServedIn, owns_of, in_first_round, in_lines, TeamRun}
+use Rattle.pl_pair.specs.declared.duty.Duty.TheVariants.{Repair, Execute}
+use Rattle.pl_pair.specs.Runs.{Service, ServedIn, owns_of, pair_of, in_first_round, in_lines, TeamRun}
 use Rattle.pl_pair.proofs.Saying.{up_to_next, if_known}
 use Rattle.pl_pair.proofs.Passing.{took_follows, follows_on, none_written}
 use Rattle.pl_pair.proofs.Feeding.{heard_none}
@@ -72,7 +73,7 @@ idle_served items [] = All-nil (ServedIn items)
 idle_served items (d ∷ duties) = All-cons (ServedIn items) (idle d) (idles duties) (record {
   saw = record { begins = (items, refl); holds = tt };
   kinds = All-nil (λ x. is_entry (kind_of (role_of d)) x.1 ≡ true);
-  made = refl;
+  made = ([], refl);
   is = refl;
   why = tt;
 }) (idle_served items duties)
@@ -137,6 +138,18 @@ feeds_follows plan m old new place end held now (Err c) feeds = follows_on old f
 pub first_pass : (plan : SharedPlan) (pass : PlanPass) (opening : ℕ) → BelongsTo plan pass → mine_of pass ≡ [] → crew_of pass ≡ record { leads = true; opening = opening; made = 0; joined = [] } → IsFirst plan pass
 first_pass plan pass opening own new crew =
     record { fresh = record { own = own; new = new }; first = ap (λ c. c.leads) crew; alone = ap (λ c. c.made) crew; none = ap (λ c. c.joined) crew }
+
+-- it has seen all entries that were handed in
+pub begun_first : (start : State) (duties : List Duty) (new : PlanPass) → All (λ d. begun_of d ≤ length start.log) duties → seen_of new ≡ items_of start.model start.log false → All (HasBegun new) duties
+begun_first start duties new begun seen =
+    let long : length (seen_of new) ≡ length start.log = ap length seen ∙ length_going start.model start.log false refl in
+    λ k d within. let here : begun_of (get_or duties k d) ≤ length start.log = begun k d within in omega (arith, here, long)
+
+-- a planner that is hired behind them, and an executive
+pub begun_pair : (start : State) (seed begun : ℕ) → begun ≡ length start.log → All (λ d. begun_of d ≤ length start.log) (pair_of seed begun)
+begun_pair start seed begun is =
+    let P : Duty → Type 0 = λ d. begun_of d ≤ length start.log in
+    All-cons P (Repair seed begun) (Execute ∷ []) (omega (arith, is)) (All-cons P Execute [] (omega arith) (All-nil P))
 
 -- The plan's first pass, and all that came of it.
 pub record Ran (duties : List Duty) (start : State) (plan : SharedPlan) (new : PlanPass) (remains : Remains) (m : Model) (place end : Place) (held now : Option (List ℕ)) : Type 0 where

@@ -13,5 +13,10 @@ chooser_of seed = started 64 multiplier_64 seed (increment_of 64 0)
 
 -- the role that a worker begins with
 abbrev pub role_of : Duty → Role
-role_of (Repair seed) = Planner (chooser_of seed)
+role_of (Repair seed begun) = Planner (chooser_of seed)
 role_of Execute = Executive
+
+-- how many entries its first sight goes back to at least
+abbrev pub begun_of : Duty → ℕ
+begun_of (Repair seed begun) = begun
+begun_of Execute = 0

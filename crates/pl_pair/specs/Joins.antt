@@ -1,5 +1,5 @@
 -- What remains of a run once its workers are joined.
-use Rattle.std.specs.Prelude.{◌≡◌, ◌+◌, ℕ, List, [], ◌++◌, length, map, Option, Some, None, true}
+use Rattle.std.specs.Prelude.{◌≡◌, ◌≤◌, ◌+◌, ℕ, List, [], ◌++◌, length, map, Option, Some, None, true}
 use Rattle.std.specs.List.{All}
 use mathlib.Core.List.{IsPrefix}
 use Rattle.pl_turn.specs.Passes.{seen_of, mine_of, crew_of, leads, made_by, joined_by}
@@ -13,6 +13,7 @@ use Rattle.pl_pair.specs.declared.duty.Duty.{Duty}
 use Rattle.pl_pair.specs.declared.worker.Worker.{Worker}
 use Rattle.pl_pair.specs.declared.endings.Met.{Met}
 use Rattle.pl_pair.specs.declared.pairing.Remains.{Remains}
+use Rattle.pl_pair.specs.Duties.{begun_of}
 use Rattle.pl_pair.specs.Served.{IsServed}
 use Rattle.pl_pair.specs.Endings.{met_by}
 use Rattle.pl_pair.specs.declared.hands.Hands.{Hands}
@@ -30,6 +31,10 @@ pub record IsFirst (plan : SharedPlan) (pass : PlanPass) : Type 0 where
   pub first : leads pass ≡ true
   pub alone : made_by pass ≡ 0
   pub none : joined_by pass ≡ []
+
+-- a worker of this duty is to have seen no more than the pass has
+abbrev pub HasBegun : PlanPass → Duty → Type 0
+HasBegun pass d = begun_of d ≤ length (seen_of pass)
 
 -- So many passes were split off from it.
 pub record Splits (old : PlanPass) (count : ℕ) (new : PlanPass) : Type 0 where

@@ -5,10 +5,10 @@ ghost use Rattle.pl_pair.specs.Duties.{role_of};
 use pl_acts::Role;
 use pl_choose::Seeded;
 
-/// What a worker is hired for: to repair, with a chooser of this seed, or to execute.
+/// What a worker is hired for: to repair, with a chooser of this seed, where there were so many entries, or to execute.
 #[derive(Clone, Copy)]
 pub enum Duty {
-    Repair(u64),
+    Repair(u64, u32),
     Execute,
 }
 
@@ -19,7 +19,7 @@ impl Duty {
         ensures { result ≡ role_of self }
     {
         match self {
-            Duty::Repair(seed) => Role::Planner(Seeded::new(seed)),
+            Duty::Repair(seed, _) => Role::Planner(Seeded::new(seed)),
             Duty::Execute => Role::Executive,
         }
     }

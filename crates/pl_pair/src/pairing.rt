@@ -3,11 +3,11 @@ ghost use Rattle.std.specs.Prelude.{◌≡◌, ◌+◌, ◌≤◌, true, length,
 ghost use Rattle.std.specs.Thread.{IsSync};
 ghost use Rattle.pl_turn.specs.Passes.{leads};
 ghost use Rattle.pl_io.specs.Faults.{Rose};
-ghost use Rattle.pl_shared.specs.Plans.{BelongsTo};
-ghost use Rattle.pl_pair.specs.Served.{IsWorker};
+ghost use Rattle.std.specs.List.{All};
+ghost use Rattle.pl_pair.specs.Served.{IsHired, IsWorker};
 ghost use Rattle.pl_pair.specs.Workers.{AreHands, IsHand, duty_of, duties_of};
 ghost use Rattle.pl_input.specs.Places.{place_of};
-ghost use Rattle.pl_pair.specs.Joins.{IsFresh, IsFirst, Hires, Feeds, JoinsIf};
+ghost use Rattle.pl_pair.specs.Joins.{IsFresh, IsFirst, HasBegun, Hires, Feeds, JoinsIf};
 
 use crate::cut::Cut;
 use crate::duty::Duty;
@@ -78,14 +78,14 @@ fn hire<'s, E, R: Wait + Sync, G: Gate + Sync>(
     duty: Duty,
     refused: &'s AtomicBool,
 ) -> Hand<'s>
-    requires fresh { IsFresh plan.now pass }
+    requires hired { IsHired plan.now duty pass }
     ensures hand { IsHand plan.now result }
     ensures duty { duty_of result ≡ duty }
 {
     let started = scope.spawn_with(
         Hired { plan, duty },
         move || -> Worker
-            requires { IsFresh plan.now pass }
+            requires { IsHired plan.now duty pass }
             ensures { IsWorker plan.entry.now duty result }
         { serve_unless(rt, alloc, plan, gate, pass, duty, refused) },
     );
@@ -99,7 +99,7 @@ fn hire<'s, E, R: Wait + Sync, G: Gate + Sync>(
 }
 
 /// Starts a worker for each duty, with a pass of its own. `None` where memory is wanting, and then no thread was started.
-#[tactic(auto, using(crate::proofs::Handing::all_more, crate::proofs::Handing::duties_more, crate::proofs::Handing::splits_none, crate::proofs::Handing::splits_more, crate::proofs::Handing::splits_lead, crate::proofs::Handing::splits_few))]
+#[tactic(auto, using(crate::proofs::Handing::all_more, crate::proofs::Handing::duties_more, crate::proofs::Handing::splits_none, crate::proofs::Handing::splits_more, crate::proofs::Handing::splits_lead, crate::proofs::Handing::hired_at, crate::proofs::Handing::splits_few))]
 fn hire_all<'s, E, R: Wait + Sync, G: Gate + Sync>(
     scope: &Scope<'s, E>,
     rt: &'s R,
@@ -111,6 +111,7 @@ fn hire_all<'s, E, R: Wait + Sync, G: Gate + Sync>(
     refused: &'s [AtomicBool],
 ) -> Option<Hands<'s>>
     requires first { IsFirst plan.now pass.old }
+    requires begun { All (HasBegun pass.old) duties.now }
     requires few { length duties.now ≤ 9 }
     requires flags { length duties.now ≤ length refused.now }
     ensures hired { IfSome result (Hires plan.now pass.old duties.now pass.new) }
@@ -148,6 +149,7 @@ pub(crate) fn run_workers<R: Threads + Wait + Sync, S: Source, O: Sink, G: Gate 
     out: &mut O,
 ) -> Option<Remains>
     requires first { IsFirst plan.now pass }
+    requires begun { All (HasBegun pass) duties.now }
     requires few { length duties.now ≤ 9 }
     requires flags { length duties.now ≤ length refused.now }
     requires limit { lines.old.limit ≤ 4096 }
@@ -160,7 +162,7 @@ pub(crate) fn run_workers<R: Threads + Wait + Sync, S: Source, O: Sink, G: Gate 
         thread::scope_env(),
         rt,
         move |scope|
-            requires { IsSync R.row × IsSync G.row × IsFirst plan.now pass × (length duties.now ≤ 9) × (length duties.now ≤ length refused.now) × (lines.now.limit ≤ 4096) }
+            requires { IsSync R.row × IsSync G.row × IsFirst plan.now pass × All (HasBegun pass) duties.now × (length duties.now ≤ 9) × (length duties.now ≤ length refused.now) × (lines.now.limit ≤ 4096) }
             ensures joins { JoinsIf plan.entry.now model.entry.now pass duties.entry.now (place_of lines.entry.now (S.left src.entry.now))
                 (O.held out.entry.now) result.3 (place_of result.0.now (S.left result.1.now)) (O.held result.2.now) }
             ensures back { (result.0.ghost_name ≡ lines.entry.ghost_name) × (result.1.ghost_name ≡ src.entry.ghost_name) × (result.2.ghost_name ≡ out.entry.ghost_name) }

@@ -1,8 +1,10 @@
 //! The whole run.
 ghost use Rattle.std.specs.Prelude.{◌≡◌, ◌≤◌, false, length, None, IsErrOf, IfOk, vec_len};
+ghost use Rattle.std.specs.List.{All};
 ghost use Rattle.pl_io.specs.Faults.{Rose};
 ghost use Rattle.pl_machine.specs.Legal.{Legal, world_of};
 ghost use Rattle.pl_input.specs.Places.{place_of};
+ghost use Rattle.pl_pair.specs.Duties.{begun_of};
 ghost use Rattle.pl_pair.specs.Runs.{PairRun, TeamRun};
 
 use crate::duty::Duty;
@@ -32,7 +34,7 @@ fn flags_for(alloc: Global, count: usize) -> Result<Vec<AtomicBool>, AllocError>
 }
 
 /// A run over a model that is the machine's.
-#[tactic(auto, using(crate::proofs::Running::runs_none, crate::proofs::Running::first_pass, crate::proofs::Causes::ended_read, crate::proofs::Causes::ended_write))]
+#[tactic(auto, using(crate::proofs::Running::runs_none, crate::proofs::Running::first_pass, crate::proofs::Running::begun_first, crate::proofs::Causes::ended_read, crate::proofs::Causes::ended_write))]
 fn run_over<R: Threads + Wait + Sync, S: Source, O: Sink, G: Gate + Sync>(
     rt: &R,
     alloc: Global,
@@ -47,6 +49,7 @@ fn run_over<R: Threads + Wait + Sync, S: Source, O: Sink, G: Gate + Sync>(
     requires legal { Legal machine.model machine.log }
     requires going { (world_of machine.model machine.log).done ≡ false }
     requires model { model.now ≡ machine.model }
+    requires begun { All (λ d. begun_of d ≤ length machine.log) duties.now }
     requires few { length duties.now ≤ 9 }
     requires limit { lines.old.limit ≤ 4096 }
     ensures run { TeamRun duties.now machine (place_of lines.old (S.left src.old)) (O.held out.old) result
@@ -85,6 +88,7 @@ pub(crate) fn run_team<R: Threads + Wait + Sync, I: Source, O: Sink, G: Gate + S
     out: &mut O,
 ) -> Result<(), Halt>
     requires going { machine.world.done ≡ false }
+    requires begun { All (λ d. begun_of d ≤ length machine.log) duties.now }
     requires few { length duties.now ≤ 9 }
     requires limit { lines.old.limit ≤ 4096 }
     ensures run { TeamRun duties.now machine (place_of lines.old (I.left src.old)) (O.held out.old) result
@@ -101,6 +105,7 @@ pub(crate) fn run_team<R: Threads + Wait + Sync, I: Source, O: Sink, G: Gate + S
 
 /// Runs a planner, with a chooser of this seed, and an executive in threads of their own, feeds them the messages that a reader has left,
 /// and writes the lines of the whole log, those of the entries handed in first. It waits for its threads.
+#[tactic(auto, using(crate::proofs::Running::begun_pair))]
 pub fn run_pair<R: Threads + Wait + Sync, I: Source, O: Sink, G: Gate + Sync>(
     rt: &R,
     alloc: Global,
@@ -118,6 +123,6 @@ pub fn run_pair<R: Threads + Wait + Sync, I: Source, O: Sink, G: Gate + Sync>(
     ensures read { IsErrOf result Halt.Read → (lines.old.failed ≡ None) → Rose (I.faults src.old) (I.faults src.new) }
     ensures write { IsErrOf result Halt.Write → Rose (O.faults out.old) (O.faults out.new) }
 {
-    let duties = [Duty::Repair(seed), Duty::Execute];
+    let duties = [Duty::Repair(seed, machine.entries()), Duty::Execute];
     run_team(rt, alloc, machine, &duties, gate, lines, src, out)
 }

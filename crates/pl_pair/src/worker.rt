@@ -1,8 +1,6 @@
 //! A worker of a pair, in a thread of its own or in the feeder's.
-ghost use Rattle.std.specs.Prelude.{◌≡◌, []};
-ghost use Rattle.pl_turn.specs.Passes.{mine_of};
-ghost use Rattle.pl_shared.specs.Plans.{BelongsTo};
-ghost use Rattle.pl_pair.specs.Served.{IsServed, IsWorker};
+ghost use Rattle.std.specs.Prelude.{◌≡◌, None};
+ghost use Rattle.pl_pair.specs.Served.{IsHired, IsServed, IsWorker};
 
 use crate::duty::Duty;
 use pl_acts::{Acted, Role};
@@ -32,8 +30,7 @@ fn serve<R: Wait, G: Gate>(
     mut pass: Pass,
     duty: Duty,
 ) -> Worker
-    requires own { BelongsTo plan.now pass }
-    requires new { mine_of pass ≡ [] }
+    requires { IsHired plan.now duty pass }
     ensures { IsWorker plan.now duty result }
 {
     let mut role = duty.role();
@@ -64,8 +61,7 @@ pub(crate) fn serve_unless<R: Wait, G: Gate>(
     duty: Duty,
     refused: &AtomicBool,
 ) -> Worker
-    requires own { BelongsTo plan.now pass }
-    requires new { mine_of pass ≡ [] }
+    requires { IsHired plan.now duty pass }
     ensures { IsWorker plan.now duty result }
 {
     if refused.load(Ordering::SeqCst) {

@@ -1,5 +1,4 @@
 mod Blanks
-mod Moves
 mod Found
 mod Logs
 mod Judged

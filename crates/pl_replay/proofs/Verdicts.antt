@@ -18,7 +18,8 @@ use Rattle.pl_replay.specs.declared.verdict.Verdict.{Verdict}
 use Rattle.pl_replay.specs.declared.verdict.Verdict.TheVariants as verdict
 use Rattle.pl_replay.specs.Journals.{lines_from, IsJournalOf, IsNoLine, IsWrongBehind, IsWrongNext, IsWrongAtLast}
 use Rattle.pl_replay.proofs.Logs.{legal_small}
-use Rattle.pl_replay.proofs.Lawful.{written, IsNextStep, next_step}
+use Rattle.pl_machine.proofs.NextSteps.{IsNextStep, next_step}
+use Rattle.pl_replay.proofs.Lawful.{written}
 
 -- ---- lines of entries
 

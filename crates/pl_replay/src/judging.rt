@@ -5,7 +5,6 @@ ghost use Rattle.pl_journal.specs.Rendering.Lines.{text_of};
 ghost use Rattle.pl_machine.specs.Legal.{IsHistory, options_in};
 ghost use Rattle.pl_replay.specs.Journals.{IsNextLine, Opens, ReadsAt, Differs, JudgesLine};
 
-use crate::answering::answer;
 use crate::verdict::Verdict;
 use pl_entry::{Entry, Event, Reason, Reply};
 use pl_facts::Options;
@@ -115,7 +114,7 @@ fn compare(
     ensures { IfOk result (λ wrong. JudgesLine machine.old line.now wrong machine.new) }
 {
     let Entry { event, reply: read } = entry;
-    match answer(machine, &event) {
+    match machine.answer(&event) {
         Ok(reply) => {
             let answered = Entry { event, reply };
             difference(alloc, machine.model(), number, answered, &read, line)

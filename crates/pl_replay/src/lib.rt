@@ -1,7 +1,6 @@
 //! A journal checked against the machine that would have written it.
 #![tactic(auto)]
 
-mod answering;
 mod judging;
 mod laws;
 mod sharing;

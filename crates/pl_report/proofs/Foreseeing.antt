@@ -5,7 +5,7 @@ use Rattle.pl_model.specs.declared.whole.Model.{Model}
 use Rattle.pl_entry.specs.declared.entry.Entry.{Entry}
 use Rattle.pl_machine.specs.World.{World}
 use Rattle.pl_machine.specs.Legal.{IsHistory}
-use Rattle.pl_replay.proofs.Lawful.{model_of_world}
+use Rattle.pl_machine.proofs.Models.{model_of_world}
 use Rattle.pl_semantics.specs.declared.plan_state.PlanState.{PlanState}
 use Rattle.pl_rate.specs.declared.rate.Rate.{Rate}
 use Rattle.pl_rate.specs.Rates.{IsRateOf}

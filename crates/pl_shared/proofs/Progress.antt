@@ -1,5 +1,5 @@
 -- What a worker made so far.
-use Rattle.std.proofs.Common.{◌≡◌, ℕ, ◌+◌, ◌<◌, ◌≤◌, List, [], ◌∷◌, ◌++◌, length, Bool, true, Ok, Err, refl, sym, ◌∙◌, ap, subst, arith, inl, inr, append_assoc, length-append}
+use Rattle.std.proofs.Common.{◌≡◌, ℕ, ◌+◌, ◌<◌, ◌≤◌, List, [], ◌∷◌, ◌++◌, length, Bool, true, false, Ok, Err, refl, sym, ◌∙◌, ap, subst, arith, inl, inr, append_assoc, length-append}
 use Rattle.std.proofs.lemmas.List.{append-nil}
 use Rattle.std.proofs.lemmas.List.Folds.{list_any-append}
 use Rattle.std.specs.List.{All}
@@ -11,18 +11,22 @@ use Rattle.pl_turn.proofs.Histories.{prefix_self, prefix_trans, prefix_length}
 use Rattle.pl_entry.specs.declared.event.Event.{Event}
 use Rattle.pl_machine.specs.declared.stop.Stop.{Stop}
 use Rattle.pl_machine.specs.declared.stop.Stop.TheVariants as stop
+use Rattle.pl_machine.specs.World.{World}
 use Rattle.pl_acts.specs.declared.noted.Noted.{Noted}
 use Rattle.pl_acts.specs.declared.noted.Noted.TheVariants.{Made, Stopped}
 use Rattle.pl_acts.specs.declared.role.Role.{Role}
+use Rattle.pl_acts.specs.declared.role.Role.TheVariants.{Planner, Executive}
 use Rattle.pl_acts.specs.declared.role.Acted.TheVariants as acted
 use Rattle.pl_acts.specs.Items.{model_in, is_stop, stop_in, InWorld}
-use Rattle.pl_acts.specs.Roles.{worker_of, IsDueBy, kind_of, is_entry}
+use Rattle.pl_acts.specs.Roles.{worker_of, has_event, kind_of, is_entry}
+use Rattle.pl_acts.specs.Sights.{IsDueBy, IsKept, Idles, IsAskedAtMost}
+use Rattle.pl_acts.specs.Making.{low_behind}
 use Rattle.pl_acts.specs.Seen.{IsPlan, WasAskedAtMost}
 use Rattle.pl_shared.specs.Plans.{PlanPass}
-use Rattle.pl_shared.specs.Turns.{TakesTurn, Acts, Stops, was_stopped, is_stopped, Works, WorksUntil, WorksOn}
-use Rattle.pl_acts.proofs.EntryKinds.{from_world, by_kind, kind_same, made_within}
-use Rattle.pl_acts.proofs.FullLogs.{IsRunning, full_on, runs_full}
-use Rattle.pl_acts.proofs.OwnEntries.{makes_all_on}
+use Rattle.pl_shared.specs.Turns.{TakesTurn, low_of, Acts, Stops, was_stopped, is_stopped, Works, WorksUntil, WorksOn}
+use Rattle.pl_acts.proofs.EntryKinds.{by_kind, kind_same, kept_worker, made_within, low_within}
+use Rattle.pl_acts.proofs.FullLogs.{IsRunning, in_world_on, full_on, runs_full}
+use Rattle.pl_acts.proofs.OwnEntries.{makes_all_on, makes_all_idle, kept_late, idles_once}
 use Rattle.pl_shared.proofs.OwnEntries.{makes_all_push}
 
 -- ---- so far
@@ -38,7 +42,7 @@ pub record Working (start : PlanPass) (r : Role) (count : ℕ) (now : PlanPass) 
 
 pub working_none : (start : PlanPass) (r : Role) → Working start r 0 start r
 working_none start r = record {
-  works = record { own = []; mine = sym (append-nil (mine_of start)); counts = refl; made = refl; kinds = λ k d lt. absurd (omega arith); worker = refl };
+  works = record { own = []; mine = sym (append-nil (mine_of start)); counts = refl; made = ([], refl); kinds = λ k d lt. absurd (omega arith); worker = refl };
   longer = prefix_self (seen_of start);
   model = refl;
   same_counted = refl;
@@ -50,6 +54,9 @@ module _ (start now new : PlanPass) (r r2 r3 : Role) (count : ℕ) (so_far : Wor
   on : IsPrefix (seen_of start) (seen_of new)
   on = prefix_trans (seen_of start) (seen_of now) (seen_of new) so_far.longer takes.longer
 
+  so_far_low : low_of start ≤ low_of now
+  so_far_low = prefix_length (seen_of start) (seen_of now) so_far.longer
+
   -- an act that made nothing
   keeps_working : mine_of new ≡ mine_of now → Working start r count new r2
   keeps_working same = record {
@@ -57,7 +64,7 @@ module _ (start now new : PlanPass) (r r2 r3 : Role) (count : ℕ) (so_far : Wor
       own = so_far.works.own;
       mine = same ∙ so_far.works.mine;
       counts = so_far.works.counts;
-      made = makes_all_on (seen_of now) (seen_of new) r r2 so_far.works.own takes.longer so_far.works.made;
+      made = makes_all_on (seen_of now) (seen_of new) r r2 (low_of start) so_far.works.own takes.longer so_far.works.made;
       kinds = so_far.works.kinds;
       worker = so_far.works.worker;
     };
@@ -80,8 +87,7 @@ module _ (start now new : PlanPass) (r r2 r3 : Role) (count : ℕ) (so_far : Wor
   pub works_on : (n : ℕ) → Acts r2 now (Ok (acted.Did n)) r3 new → Working start r (count + 1) new r3
   works_on n makes =
       let e = makes.entry in
-      let kind = from_world (λ w. IsDueBy r2 r3 w e) ((kind_of r2 e.event ≡ true) × (worker_of r3 ≡ worker_of r2)) (seen_of now ++ makes.between) makes.by
-      (λ w h. by_kind r2 r3 w e h.2) in
+      let kind = by_kind r2 r3 (low_of now) (seen_of now ++ makes.between) e makes.by.1 in
       let same : kind_of r2 ≡ kind_of r = kind_same r r2 so_far.works.worker in
       let fits : is_entry (kind_of r) (Made e) ≡ true = sym (ap (λ (k : Event → Bool). k e.event) same) ∙ kind.0 in
       let own = so_far.works.own in
@@ -94,7 +100,7 @@ module _ (start now new : PlanPass) (r r2 r3 : Role) (count : ℕ) (so_far : Wor
           own = own ++ (n, Made e) ∷ [];
           mine = makes.mine ∙ ap (λ (xs : List (ℕ × Noted)). xs ++ (n, Made e) ∷ []) so_far.works.mine ∙ append_assoc (mine_of start) own ((n, Made e) ∷ []);
           counts = (let counts = so_far.works.counts in let more = length-append own ((n, Made e) ∷ []) in omega arith);
-          made = makes_all_push now new r r2 r3 own n takes.longer so_far.works.made makes;
+          made = makes_all_push now new r r2 r3 (low_of start) own n takes.longer so_far_low so_far.works.made makes;
           kinds = All-push P own (n, Made e) so_far.works.kinds fits;
           worker = kind.1 ∙ so_far.works.worker;
         };
@@ -105,9 +111,29 @@ module _ (start now new : PlanPass) (r r2 r3 : Role) (count : ℕ) (so_far : Wor
         few = omega (arith, long, front, few);
       }
 
-  -- and left the role as it was
-  idle : mine_of new ≡ mine_of now → r3 ≡ r2 → Working start r count new r3
-  idle same kept = subst (λ (s : Role). Working start r count new s) (sym kept) (keeps_working same)
+  -- and its chooser may have been asked in vain
+  idle : mine_of new ≡ mine_of now → IsKept r2 (low_of now) (seen_of new) r3 → Working start r count new r3
+  unfolding keeps_working
+  idle same kept =
+      let still = keeps_working same in
+      let low : low_behind (low_of start) so_far.works.own ≤ low_of now = low_within r r2 (low_of start) (seen_of now) so_far.works.own so_far_low so_far.works.made in
+      let idles : Idles r2 (low_behind (low_of start) so_far.works.own) (seen_of new) r3 =
+      idles_once r2 r3 (low_behind (low_of start) so_far.works.own) (seen_of new) (kept_late r2 r3 (low_of now) (low_behind (low_of start) so_far.works.own) (seen_of new) low kept) in
+      record {
+        works = record {
+          own = still.works.own;
+          mine = still.works.mine;
+          counts = still.works.counts;
+          made = makes_all_idle (seen_of new) r r2 r3 (low_of start) so_far.works.own still.works.made idles;
+          kinds = still.works.kinds;
+          worker = kept_worker r2 r3 (low_of now) (seen_of new) kept ∙ so_far.works.worker;
+        };
+        longer = still.longer;
+        model = still.model;
+        same_counted = still.same_counted;
+        crew = still.crew;
+        few = still.few;
+      }
 
   pub works_idle : Acts r2 now (Ok acted.Nothing) r3 new → Working start r count new r3
   works_idle acts = idle acts.0 acts.3
@@ -125,6 +151,19 @@ module _ (start now new : PlanPass) (r r2 r3 : Role) (count : ℕ) (so_far : Wor
   refused stop.LogFull acts = keeps_working acts.0
   refused stop.Memory acts = keeps_working acts.0
 
+  pub refused_full : Acts r2 now (Err stop.LogFull) r3 new → Working start r count new r3
+  refused_full acts = idle acts.0 acts.4
+
+  -- memory was wanting, and the chooser may have been asked
+  pub was_asked : mine_of new ≡ mine_of now → IsAskedAtMost r2 (low_of now) (seen_of new) r3 → (last : List Noted) → IsPrefix (seen_of new) last → WasAskedAtMost r2 so_far.works.own last r3
+  was_asked same asked last more = record {
+    before = seen_of new;
+    front = more;
+    low = low_of now;
+    behind = made_within r r2 (low_of start) (seen_of now) so_far.works.own so_far.works.made;
+    asked = asked;
+  }
+
 -- the stop behind a refusal, and the same own entries
 abbrev Until : (start new : PlanPass) (r r2 : Role) → List (ℕ × Noted) → Type 0
 Until start new r r2 own = (works : WorksUntil r start r2 new) × (works.own ≡ own)
@@ -135,7 +174,7 @@ until start now new r r2 count so_far on (was_stopped same stopped) =
       own = so_far.works.own;
       rest = [];
       mine = same ∙ so_far.works.mine ∙ sym (append-nil (mine_of start ++ so_far.works.own));
-      made = makes_all_on (seen_of now) (seen_of new) r r2 so_far.works.own on so_far.works.made;
+      made = makes_all_on (seen_of now) (seen_of new) r r2 (low_of start) so_far.works.own on so_far.works.made;
       kinds = so_far.works.kinds;
       behind = inl refl;
       stopped = stopped;
@@ -147,7 +186,7 @@ until start now new r r2 count so_far on (is_stopped seen prefix going is mine) 
       own = so_far.works.own;
       rest = (length seen, Stopped) ∷ [];
       mine = mine ∙ ap (λ (xs : List (ℕ × Noted)). xs ++ (length seen, Stopped) ∷ []) so_far.works.mine;
-      made = makes_all_on (seen_of now) (seen_of new) r r2 so_far.works.own on so_far.works.made;
+      made = makes_all_on (seen_of now) (seen_of new) r r2 (low_of start) so_far.works.own on so_far.works.made;
       kinds = so_far.works.kinds;
       behind = inr (length seen, refl);
       stopped = ap stop_in is ∙ list_any-append is_stop seen (Stopped ∷ []) ∙ or-true (stop_in seen);
@@ -157,32 +196,35 @@ until start now new r r2 count so_far on (is_stopped seen prefix going is mine) 
 
 -- ---- a refusal, and then the stop
 
+-- a role that made nothing has an event where it had one
+kept_event : (r r2 : Role) (low : ℕ) (seen : List Noted) → IsKept r low seen r2 → (w : World) → has_event r2 w ≡ has_event r w
+kept_event (Planner g) (Planner g2) low seen kept w = refl
+kept_event (Planner g) Executive low seen kept w = absurd kept
+kept_event Executive r2 low seen kept w = ap (λ (r : Role). has_event r w) kept
+
 module _ (start now mid new : PlanPass) (r r2 r3 : Role) (count : ℕ) where
-  stopped_behind : (s : Stop) → Working start r count now r2 → TakesTurn now mid → Acts r2 now (Err s) r3 mid → TakesTurn mid new → Stops mid new → WorksUntil r start r2 new
-  stopped_behind s so_far takes acts takes2 stops = (until start mid new r r2 count (refused start now mid r r2 r3 count so_far takes s acts) takes2.longer stops).0
-
   -- what the chooser is where memory was wanting
-  asked_behind : Working start r count now r2 → TakesTurn now mid → Acts r2 now (Err stop.Memory) r3 mid → TakesTurn mid new → Stops mid new → (works : WorksUntil r start r2 new) × WasAskedAtMost r2 works.own (seen_of new) r3
-  asked_behind so_far takes acts takes2 stops =
-      let still : Working start r count mid r2 = refused start now mid r r2 r3 count so_far takes stop.Memory acts in
+  asked_behind : (so_far : Working start r count now r2) → TakesTurn now mid → mine_of mid ≡ mine_of now → IsAskedAtMost r2 (low_of now) (seen_of mid) r3 → TakesTurn mid new → Stops mid new
+      → (works : WorksUntil r start r2 new) × WasAskedAtMost r2 works.own (seen_of new) r3
+  unfolding keeps_working
+  asked_behind so_far takes same asked takes2 stops =
+      let still : Working start r count mid r2 = keeps_working start now mid r r2 r3 count so_far takes same in
       let all : Until start new r r2 still.works.own = until start mid new r r2 count still takes2.longer stops in
-      let P : List (ℕ × Noted) → Type 0 = λ own. All (λ x. x.0 < length (seen_of mid)) own in
-      let within : P still.works.own = made_within r r2 (seen_of mid) still.works.own still.works.made in
-      (all.0, record { before = seen_of mid; front = takes2.longer; behind = subst P (sym all.1) within; asked = acts.1 })
-
-  -- where the refusal left the role as it was
-  same_behind : r3 ≡ r2 → WorksUntil r start r2 new → WorksUntil r start r3 new
-  same_behind kept works = subst (λ (s : Role). WorksUntil r start s new) (sym kept) works
+      let P : List (ℕ × Noted) → Type 0 = λ own. WasAskedAtMost r2 own (seen_of new) r3 in
+      (all.0, subst P (sym all.1) (was_asked start now mid r r2 r3 count so_far takes same asked (seen_of new) takes2.longer))
 
   pub worked_until : (s : Stop) → Working start r count now r2 → IsPlan (seen_of mid) → TakesTurn now mid → Acts r2 now (Err s) r3 mid → IsPlan (seen_of new) → TakesTurn mid new → Stops mid new → WorksOn r start (Err s) r3 new
-  worked_until stop.Spoiled so_far plan takes acts plan2 takes2 stops = same_behind acts.1 (stopped_behind stop.Spoiled so_far takes acts takes2 stops)
+  worked_until stop.Spoiled so_far plan takes acts plan2 takes2 stops = let asked = asked_behind so_far takes acts.0 acts.1 takes2 stops in (r2, asked.0, asked.1)
   worked_until stop.NotNow so_far plan takes acts plan2 takes2 stops = absurd acts
-  worked_until stop.LogFull so_far plan takes acts plan2 takes2 stops = (
-    same_behind acts.4 (stopped_behind stop.LogFull so_far takes acts takes2 stops),
-    full_on (seen_of mid) (seen_of new) plan takes2.longer takes2.model acts.3,
-    subst (λ (s : Role). InWorld (seen_of new) (IsRunning s)) (sym acts.4) (runs_full r2 (seen_of mid) (seen_of new) plan plan2 takes2.longer takes2.model acts.3 acts.1),
-  )
-  worked_until stop.Memory so_far plan takes acts plan2 takes2 stops = let asked = asked_behind so_far takes acts takes2 stops in (r2, asked.0, asked.1)
+  worked_until stop.LogFull so_far plan takes acts plan2 takes2 stops =
+      let still : Working start r count mid r3 = refused_full start now mid r r2 r3 count so_far takes acts in
+      let runs = in_world_on (λ w. (w.done ≡ false) × (has_event r2 w ≡ true)) (λ w. (w.done ≡ false) × (has_event r3 w ≡ true)) (seen_of mid)
+      (λ w h. (h.0, kept_event r2 r3 (low_of now) (seen_of mid) acts.4 w ∙ h.1)) acts.1 in (
+        (until start mid new r r3 count still takes2.longer stops).0,
+        full_on (seen_of mid) (seen_of new) plan takes2.longer takes2.model acts.3,
+        runs_full r3 (seen_of mid) (seen_of new) plan plan2 takes2.longer takes2.model acts.3 runs,
+      )
+  worked_until stop.Memory so_far plan takes acts plan2 takes2 stops = let asked = asked_behind so_far takes acts.0 acts.1 takes2 stops in (r2, asked.0, asked.1)
 
   pub took_until : (s : Stop) → Working start r count now r2 → TakesTurn now mid → Acts r2 now (Err s) r3 mid → TakesTurn mid new → TakesTurn start new
   took_until s so_far takes acts takes2 = took_all start mid new r r2 r3 count (refused start now mid r r2 r3 count so_far takes s acts) takes2

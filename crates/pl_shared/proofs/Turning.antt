@@ -1,33 +1,55 @@
 -- From what is done inside a turn to what the pass knows behind it.
-use Rattle.std.proofs.Common.{◌≡◌, ℕ, ◌≤◌, List, [], ◌∷◌, ◌++◌, length, drop, Bool, true, false, Option, Result, Ok, Err, IfOk, sym, ◌∙◌, ap, subst, arith}
+use Rattle.std.proofs.Common.{◌≡◌, ℕ, ◌≤◌, List, [], ◌∷◌, ◌++◌, length, drop, Bool, true, false, Option, Some, None, Result, Ok, Err, IfOk, IfSome, refl, sym, ◌∙◌, ap, subst, ◌⊎◌, inl, inr, arith}
 use mathlib.Core.List.{IsPrefix}
-use Rattle.std.specs.Prelude.{nat_lt, cond, ◌||◌}
+use Rattle.std.specs.Prelude.{nat_lt, cond, ◌||◌, is_some}
 use Rattle.std.specs.List.{All}
 use Rattle.pl_turn.specs.History.{IsSameOrOneMore, IsEachOnce, StandsIn, times_in, longer}
 use Rattle.pl_turn.specs.Passes.{IsPassOf, seen_of, mine_of, counted_of, in_turn, crew_of, opening_of, lists_of}
 use Rattle.pl_turn.proofs.Histories.{prefix_trans, prefix_length}
+use Rattle.pl_model.specs.declared.whole.Model.{Model}
+use Rattle.pl_entry.specs.declared.event.Event.{Event}
+use Rattle.pl_entry.specs.declared.event.Event.TheVariants as event
+use Rattle.pl_entry.specs.declared.reply.Reply.{Reply}
+use Rattle.pl_entry.specs.declared.reply.Reply.TheVariants as reply
 use Rattle.pl_entry.specs.declared.entry.Entry.{Entry}
+use Rattle.rand_pcg.specs.Lcg.{Lcg}
+use Rattle.pl_cand.specs.declared.proposal.Proposal.{Proposal}
+use Rattle.pl_cand.specs.Proposals.{IsProposal}
+use Rattle.pl_choose.specs.Picks.{seeded_pick, seeded_after}
 use Rattle.pl_machine.specs.declared.stop.Stop.{Stop}
 use Rattle.pl_machine.specs.declared.stop.Stop.TheVariants as stop
-use Rattle.pl_machine.specs.World.{World}
+use Rattle.pl_machine.specs.World.{World, plain_reason_of, reason_of}
+use Rattle.pl_machine.specs.Choices.{exec_choice_of}
+use Rattle.pl_machine.specs.Step.{fix_reply, reply_of}
+use Rattle.pl_machine.specs.Mending.{is_repairing}
+use Rattle.pl_machine.specs.Repairs.{IsMoveOf}
 use Rattle.pl_machine.specs.Sound.{State}
-use Rattle.pl_machine.specs.Legal.{IsHistory, world_of}
+use Rattle.pl_machine.specs.Legal.{Legal, IsHistory, world_of}
+use Rattle.pl_machine.proofs.Mending.{proposed_done}
 use Rattle.pl_acts.specs.declared.noted.Noted.{Noted}
 use Rattle.pl_acts.specs.declared.noted.Noted.TheVariants.{Made, Stopped}
 use Rattle.pl_acts.specs.declared.held.Held.{Held}
 use Rattle.pl_acts.specs.declared.part.Part.{Part}
-use Rattle.pl_acts.specs.declared.role.Role.{Role}
+use Rattle.pl_acts.specs.declared.role.Role.TheVariants.{Planner, Executive}
 use Rattle.pl_acts.specs.declared.role.Acted.{Acted}
 use Rattle.pl_acts.specs.declared.role.Acted.TheVariants as acted
+use Rattle.pl_acts.specs.declared.draft.Draft.{Draft}
+use Rattle.pl_acts.specs.declared.look.Looked.{Looked}
+use Rattle.pl_acts.specs.declared.look.Looked.TheVariants as looked
+use Rattle.pl_acts.specs.declared.sight.Sight.{Sight}
 use Rattle.pl_acts.specs.Items.{items_of, entries_in, model_in, stop_in, InWorld}
-use Rattle.pl_acts.specs.Roles.{has_event, IsBy, IsDueBy, IsAskedAtMost, IsInputOf}
-use Rattle.pl_acts.specs.Inside.{items_in, IsSound, IsStepIn, Logs, KeepsLog, can_listen, FeedsIn, IsPart, ActsIn}
-use Rattle.pl_shared.specs.declared.plan.SharedPlan.{SharedPlan}
+use Rattle.pl_acts.specs.Roles.{has_event, IsChosen, IsInputOf}
+use Rattle.pl_acts.specs.Replicas.{log_of, IsReplica, IsDraft, IsDraftOf}
+use Rattle.pl_acts.specs.Sights.{AsksIn, at_once, IsPlanned, IsDueBy}
+use Rattle.pl_acts.specs.Inside as inside
+use Rattle.pl_acts.specs.Inside.{items_in, IsSound, IsStepIn, Logs, KeepsLog, Spoiled, can_listen, FeedsIn, IsPart, Wants, Executes, ExecutesIn, RestsAtOnce, LooksIn, SettlesIn}
 use Rattle.pl_acts.specs.Seen.{IsPlan, IsFull, Copies}
-use Rattle.pl_shared.specs.Plans.{PlanPass, BelongsTo, Closes}
-use Rattle.pl_shared.specs.Turns.{TakesTurn, Makes, MakesNothing, Feeds, Acts, Stops, was_stopped, is_stopped}
+use Rattle.pl_acts.proofs.Replicas.{replica_here, moves_here}
 use Rattle.pl_acts.proofs.Growing.{keeps_items, logs_items, same_held, plan_in, some_model, grown_prefix}
-use Rattle.pl_acts.proofs.Items.{length_going, model_in_items, items_stopped, in_world_of, in_world, stop_in_same, entries_in_items}
+use Rattle.pl_acts.proofs.Items.{length_going, model_in_items, items_stopped, in_world_of, in_world, world_in, prefix_whole, stop_in_same, entries_in_items}
+use Rattle.pl_shared.specs.declared.plan.SharedPlan.{SharedPlan}
+use Rattle.pl_shared.specs.Plans.{PlanPass, BelongsTo, Closes}
+use Rattle.pl_shared.specs.Turns.{TakesTurn, Makes, MakesNothing, low_of, Feeds, Acts, Looks, CanSettle, IsSettled, Settles, Stops, was_stopped, is_stopped}
 
 -- a turn begins
 pub enters : (old mid : PlanPass) → IsPlan (seen_of old) → IsPrefix (seen_of old) (seen_of mid) → counted_of old ≤ length (seen_of mid)
@@ -46,6 +68,20 @@ pub record Turn (old mid new : PlanPass) (held held2 : Held) : Type 0 where
   pub same : items_in held2 ≡ seen_of mid → mine_of new ≡ mine_of mid
   pub grown : (e : Noted) → items_in held2 ≡ seen_of mid ++ e ∷ [] → mine_of new ≡ mine_of mid ++ (length (seen_of mid), e) ∷ []
   pub kept : (counted_of new ≡ counted_of mid) × (crew_of new ≡ crew_of mid)
+
+pub turn_of : (old mid new : PlanPass) (held held2 : Held) → TakesTurn old mid → mine_of mid ≡ mine_of old → seen_of mid ≡ items_in held → IsSound held.machine → IsSameOrOneMore (seen_of mid) (items_in held2) → seen_of new ≡ items_in held2
+    → IsSound held2.machine → (items_in held2 ≡ seen_of mid → mine_of new ≡ mine_of mid) → ((e : Noted) → items_in held2 ≡ seen_of mid ++ e ∷ [] → mine_of new ≡ mine_of mid ++ (length (seen_of mid), e) ∷ [])
+    → (counted_of new ≡ counted_of mid) × (crew_of new ≡ crew_of mid) → Turn old mid new held held2
+turn_of old mid new held held2 takes own found sound grows left sound2 same grown kept =
+    record { takes = takes; own = own; found = found; sound = sound; grows = grows; left = left; sound2 = sound2; same = same; grown = grown; kept = kept }
+
+-- what a call that settles asks of the plan that it finds
+pub settle_moves : (old mid : PlanPass) (held : Held) (sight : Sight) → TakesTurn old mid → seen_of mid ≡ items_in held → IsSound held.machine → CanSettle (seen_of old) sight → IfSome sight.proposal (λ p. IsMoveOf held.machine.model p.mv)
+settle_moves old mid held sight takes found sound can =
+    moves_here can.front (seen_of mid) held.machine held.stopped sight.proposal (prefix_trans can.front (seen_of old) (seen_of mid) can.on takes.longer) found sound.legal sound.checked can.legal
+
+pub settle_replica : (old mid : PlanPass) (held : Held) (sight : Sight) → TakesTurn old mid → seen_of mid ≡ items_in held → IsSound held.machine → CanSettle (seen_of old) sight → IfSome sight.replica (IsReplica held.machine)
+settle_replica old mid held sight takes found sound can = replica_here (seen_of old) (seen_of mid) held.machine held.stopped sight.replica takes.longer found sound.legal can.replica
 
 module _ (old mid new : PlanPass) (held held2 : Held) (turn : Turn old mid new held held2) where
   on : IsPrefix (seen_of mid) (seen_of new)
@@ -70,12 +106,20 @@ module _ (old mid new : PlanPass) (held held2 : Held) (turn : Turn old mid new h
   seen_same : KeepsLog held held2 → seen_of new ≡ items_of held.machine.model held.machine.log held.stopped
   seen_same keeps = turn.left ∙ keeps_items held held2 keeps
 
-  made_one : (By By2 : World → Entry → Type 0) (n : ℕ) → IsHistory held.machine.model held.machine.log held.machine.world → (logs : Logs By held held2 n)
-      → By2 held.machine.world logs.entry → Makes By2 old new n
+  -- the items before an entry of this turn
+  abbrev pub IsHere : List Noted → Type 0
+  IsHere before = before ≡ items_of held.machine.model held.machine.log held.stopped
+
+  -- what holds in the world of this turn
+  pub here : (P : World → Type 0) (before : List Noted) → IsHere before → IsHistory held.machine.model held.machine.log held.machine.world → P held.machine.world → InWorld before P
+  here P before is history p = in_world P before held.machine.model held.machine.log held.stopped held.machine.world is history p
+
+  pub made_one : (By : World → Entry → Type 0) (By2 : List Noted → Entry → Type 0) (n : ℕ) → IsHistory held.machine.model held.machine.log held.machine.world → (logs : Logs By held held2 n)
+      → ((before : List Noted) → IsHere before → IsPrefix (seen_of old) before → By2 before logs.entry) → Makes By2 old new n
   made_one By By2 n history logs by2 =
       let between = turn.takes.longer.0 in
       let before : seen_of old ++ between ≡ seen_of mid = turn.takes.longer.1 in
-      let items : seen_of old ++ between ≡ items_of held.machine.model held.machine.log held.stopped = before ∙ turn.found in
+      let items : IsHere (seen_of old ++ between) = before ∙ turn.found in
       let more : items_in held2 ≡ seen_of mid ++ Made logs.entry ∷ [] =
       logs_items By held held2 n turn.sound logs ∙ ap (λ (xs : List Noted). xs ++ Made logs.entry ∷ []) (sym turn.found) in
       let place : n ≡ length (seen_of mid) = logs.place ∙ sym (ap length turn.found ∙ length_going held.machine.model held.machine.log held.stopped logs.going) in
@@ -87,8 +131,8 @@ module _ (old mid new : PlanPass) (held held2 : Held) (turn : Turn old mid new h
         mine = turn.grown (Made logs.entry) more ∙ ap (λ (xs : List (ℕ × Noted)). xs ++ (length (seen_of mid), Made logs.entry) ∷ []) turn.own
             ∙ ap (λ (k : ℕ). mine_of old ++ (k, Made logs.entry) ∷ []) (sym place);
         running = stop_in_same (seen_of old ++ between) held.machine.model held.machine.log held.stopped items ∙ logs.going;
-        step = in_world (λ w. IsStepIn w logs.entry) (seen_of old ++ between) held.machine.model held.machine.log held.stopped held.machine.world items history logs.step;
-        by = in_world (λ w. By2 w logs.entry) (seen_of old ++ between) held.machine.model held.machine.log held.stopped held.machine.world items history by2;
+        step = here (λ w. IsStepIn w logs.entry) (seen_of old ++ between) items history logs.step;
+        by = by2 (seen_of old ++ between) items (between, refl);
       }
 
   module _ (keeps : KeepsLog held held2) where
@@ -110,38 +154,177 @@ module _ (old mid new : PlanPass) (held held2 : Held) (turn : Turn old mid new h
     listens_in b unspoiled e = stands_in (λ w. can_listen w (stop_in (seen_of new)) ≡ b) unspoiled (ap (λ (s : Bool). can_listen held.machine.world s) stop_is ∙ e)
 
   pub fed : (line : Option (List ℕ)) (r : Result ℕ Stop) → FeedsIn line held r held2 → Feeds line old r new
-  fed line (Ok n) feeds = made_one (IsInputOf line) (IsInputOf line) n (turn.sound.history feeds.unspoiled) feeds feeds.by
+  fed line (Ok n) feeds =
+      let history = turn.sound.history feeds.unspoiled in
+      made_one (IsInputOf line) (λ before e. InWorld before (λ w. IsInputOf line w e)) n history feeds (λ before is on. here (λ w. IsInputOf line w feeds.entry) before is history feeds.by)
   fed line (Err stop.Spoiled) feeds = made_none (same_held held held2 feeds.1)
   fed line (Err stop.NotNow) feeds = let keeps = same_held held held2 feeds.2 in (made_none keeps, listens_in keeps false feeds.0 feeds.1)
   fed line (Err stop.LogFull) feeds =
       let keeps = same_held held held2 feeds.3 in (made_none keeps, listens_in keeps true feeds.0 feeds.1, full_in keeps feeds.0 feeds.2)
   fed line (Err stop.Memory) feeds = made_none feeds.1
 
-  pub did : (r r2 : Role) (a : Result Acted Stop) → ActsIn r held a r2 held2 → Acts r old a r2 new
-  did r r2 (Ok (acted.Did n)) acts =
-      made_one (IsBy r r2) (IsDueBy r r2) n (turn.sound.history acts.0.unspoiled) acts.0 (acts.1, acts.2, acts.0.by)
-  did r r2 (Ok acted.Nothing) acts =
+  -- the executive
+  pub did : (a : Result Acted Stop) → ExecutesIn held a held2 → Acts Executive old a Executive new
+  did (Ok (acted.Did n)) acts =
+      let history = turn.sound.history acts.0.unspoiled in
+      made_one Executes (IsDueBy Executive Executive (low_of old)) n history acts.0 (λ before is on. (
+        here (λ w. (w.done ≡ false) × (has_event Executive w ≡ true)) before is history (acts.1, acts.2),
+        here (λ w. IsChosen (exec_choice_of w) acts.0.entry.event) before is history acts.0.by,
+      ))
+  did (Ok acted.Nothing) acts =
       let keeps = same_held held held2 acts.2 in (
         made_none keeps,
-        stands_in keeps (λ w. (w.done ≡ false) × (has_event r w ≡ false)) acts.0.unspoiled (acts.0.going, acts.1),
+        stands_in keeps (λ w. (w.done ≡ false) × (has_event Executive w ≡ false)) acts.0.unspoiled (acts.0.going, acts.1),
+        stop_is keeps ∙ acts.0.running,
+        refl,
+      )
+  did (Ok acted.Finished) acts =
+      let keeps = same_held held held2 acts.2 in (made_none keeps, stands_in keeps (λ w. w.done ≡ true) acts.0 acts.1, refl)
+  did (Ok acted.Stopped) acts =
+      let keeps = same_held held held2 acts.3 in (made_none keeps, stands_in keeps (λ w. w.done ≡ false) acts.0 acts.1, stop_is keeps ∙ acts.2, refl)
+  did (Err stop.Spoiled) acts = (made_none (same_held held held2 acts.1), refl)
+  did (Err stop.NotNow) acts = absurd acts
+  did (Err stop.LogFull) acts =
+      let keeps = same_held held held2 acts.3 in (
+        made_none keeps,
+        stands_in keeps (λ w. (w.done ≡ false) × (has_event Executive w ≡ true)) acts.0.unspoiled (acts.0.going, acts.1),
+        stop_is keeps ∙ acts.0.running,
+        full_in keeps acts.0.unspoiled acts.2,
+        refl,
+      )
+  did (Err stop.Memory) acts = (made_none acts.1, refl)
+
+  -- a planner's look that is over at once
+  rests : (g : Lcg) (before : List Noted) (e : Entry) → InWorld before (λ w. is_some (plain_reason_of w) ≡ true) → e.event ≡ event.Rest → IsPlanned g (low_of old) before e.event e.reply g
+  rests g before e plain is = subst (λ (v : Event). IsPlanned g (low_of old) before v e.reply g) (sym is) (at_once plain refl)
+
+  pub looked_over : (g : Lcg) (a : Acted) → LooksIn held (Ok (looked.Settled a)) held2 → Acts (Planner g) old (Ok a) (Planner g) new
+  looked_over g (acted.Did n) looks =
+      let history = turn.sound.history looks.0.unspoiled in
+      made_one RestsAtOnce (IsDueBy (Planner g) (Planner g) (low_of old)) n history looks.0 (λ before is on. (
+        here (λ w. (w.done ≡ false) × (has_event (Planner g) w ≡ true)) before is history (looks.1, looks.2),
+        rests g before looks.0.entry (here (λ w. is_some (plain_reason_of w) ≡ true) before is history looks.0.by.1) looks.0.by.0,
+      ))
+  looked_over g acted.Nothing looks =
+      let keeps = same_held held held2 looks.2 in (
+        made_none keeps,
+        stands_in keeps (λ w. (w.done ≡ false) × (has_event (Planner g) w ≡ false)) looks.0.unspoiled (looks.0.going, looks.1),
+        stop_is keeps ∙ looks.0.running,
+        inl refl,
+      )
+  looked_over g acted.Finished looks =
+      let keeps = same_held held held2 looks.2 in (made_none keeps, stands_in keeps (λ w. w.done ≡ true) looks.0 looks.1, inl refl)
+  looked_over g acted.Stopped looks =
+      let keeps = same_held held held2 looks.3 in (made_none keeps, stands_in keeps (λ w. w.done ≡ false) looks.0 looks.1, stop_is keeps ∙ looks.2, inl refl)
+
+  wants : Wants held held2 → MakesNothing old new
+  wants (inl spoiled) = made_none spoiled.1
+  wants (inr same) = made_none (same_held held held2 same.1)
+
+  pub look_stops : (g : Lcg) (s : Stop) → LooksIn held (Err s) held2 → Acts (Planner g) old (Err s) (Planner g) new
+  look_stops g stop.Spoiled looks = (made_none (same_held held held2 looks.1), inl refl)
+  look_stops g stop.NotNow looks = absurd looks
+  look_stops g stop.LogFull looks =
+      let keeps = same_held held held2 looks.3 in (
+        made_none keeps,
+        stands_in keeps (λ w. (w.done ≡ false) × (has_event (Planner g) w ≡ true)) looks.0.unspoiled (looks.0.going, looks.1),
+        stop_is keeps ∙ looks.0.running,
+        full_in keeps looks.0.unspoiled looks.2,
+        inl refl,
+      )
+  look_stops g stop.Memory looks = (wants looks, inl refl)
+
+  -- a replica to be asked about
+  drafted : (draft : Draft) → IsDraft held.machine draft → held.stopped ≡ false → held2 ≡ held → IsDraftOf (seen_of new) draft
+  drafted draft is running same =
+      let keeps = same_held held held2 same in
+      let model = is.replica.model in
+      let P : Model → Type 0 = λ k. Legal k (log_of draft) in
+      let Q : List Entry → Type 0 = λ es. Legal held.machine.model es in
+      record {
+        unspoiled = is.replica.unspoiled;
+        legal = subst P (sym model) (subst Q (sym is.log) turn.sound.legal);
+        is = seen_same keeps ∙ ap (λ (s : Bool). items_of held.machine.model held.machine.log s) running ∙ ap (λ (es : List Entry). items_of held.machine.model es false) (sym is.log)
+            ∙ ap (λ (k : Model). items_of k (log_of draft) false) (sym model);
+      }
+
+  pub opened : (draft : Draft) → LooksIn held (Ok (looked.Open draft)) held2 → Looks old (Ok (looked.Open draft)) new
+  opened draft looks =
+      let keeps = same_held held held2 looks.3 in
+      (made_none keeps, stands_in keeps AsksIn looks.0.unspoiled looks.1, drafted draft looks.2 looks.0.running looks.3)
+
+  pub looked_at : (a : Result Looked Stop) → LooksIn held a held2 → Looks old a new
+  looked_at (Ok (looked.Settled a)) looks = λ g. looked_over g a looks
+  looked_at (Ok (looked.Open draft)) looks = opened draft looks
+  looked_at (Err s) looks = λ g. look_stops g s looks
+
+  -- ---- a planner settles
+
+  -- what was proposed on the whole history is legal now
+  legal_here : (sight : Sight) → CanSettle (seen_of old) sight → IsHistory held.machine.model held.machine.log held.machine.world → (before : List Noted) → IsHere before → IsPrefix (seen_of old) before
+      → length before ≡ sight.seen → IsProposal held.machine.world.state sight.proposal
+  legal_here sight can history before is on long =
+      let P : List Noted → Type 0 = λ xs. InWorld xs (λ w. IsProposal w.state sight.proposal) in
+      let same : can.front ≡ before = prefix_whole can.front before (prefix_trans can.front (seen_of old) before can.on on) (can.long ∙ sym long) in
+      world_in (λ w. IsProposal w.state sight.proposal) before held.machine.model held.machine.log held.stopped held.machine.world is history (subst P same can.legal)
+
+  fix_done : (sight : Sight) (q : Proposal) (r : Reply) → r ≡ fix_reply held.machine.world.state q.conflict q.mv → sight.proposal ≡ Some q → IsProposal held.machine.world.state sight.proposal → r ≡ reply.Done
+  fix_done sight q r answers same legal =
+      let P : Option Proposal → Type 0 = λ p. IsProposal held.machine.world.state p in
+      answers ∙ proposed_done held.machine.world.state q (subst P same legal)
+
+  rests_for : (sight : Sight) (before : List Noted) → IsHere before → IsHistory held.machine.model held.machine.log held.machine.world
+      → (sight.proposal ≡ None) ⊎ (held.machine.world.turn ≡ held.machine.world.options.turns) → (sight.proposal ≡ None) ⊎ InWorld before (λ w. w.turn ≡ w.options.turns)
+  rests_for sight before is history (inl none) = inl none
+  rests_for sight before is history (inr spent) = inr (here (λ w. w.turn ≡ w.options.turns) before is history spent)
+
+  settled_entry : (g g2 : Lcg) (sight : Sight) → CanSettle (seen_of old) sight → IsHistory held.machine.model held.machine.log held.machine.world → (before : List Noted) → IsHere before → IsPrefix (seen_of old) before
+      → (v : Event) (r : Reply) → r ≡ reply_of held.machine.world v → inside.Settles g sight.proposal g2 held.machine.world v r → IsSettled g sight g2 before v r
+  settled_entry g g2 sight can history before is on (event.Fix k m) r answers (inl seen) =
+      inl (seen.0, λ long. fix_done sight (record { conflict = k; mv = m }) r answers seen.0 (legal_here sight can history before is on long), seen.1)
+  settled_entry g g2 sight can history before is on (event.Fix k m) r answers (inr asked) =
+      inr (asked.0, here (λ w. seeded_pick w.state g ≡ Some (record { conflict = k; mv = m })) before is history asked.1, asked.3, asked.2)
+  settled_entry g g2 sight can history before is on event.Rest r answers settles = (rests_for sight before is history settles.0, settles.1)
+  settled_entry g g2 sight can history before is on (event.Opened o) r answers settles = absurd settles
+  settled_entry g g2 sight can history before is on (event.Input line) r answers settles = absurd settles
+  settled_entry g g2 sight can history before is on (event.Commit h) r answers settles = absurd settles
+  settled_entry g g2 sight can history before is on event.Dispatch r answers settles = absurd settles
+  settled_entry g g2 sight can history before is on event.Close r answers settles = absurd settles
+
+  asked_twice : (g g2 : Lcg) (p : Option Proposal) → Spoiled held held2 → (g2 ≡ g) ⊎ ((p ≡ None) × (is_repairing held.machine.world ≡ true) × (reason_of held.machine.world ≡ None) × (g2 ≡ seeded_after g))
+      → (g2 ≡ g) ⊎ ((p ≡ None) × InWorld (seen_of new) (λ w. (is_repairing w ≡ true) × (reason_of w ≡ None)) × (g2 ≡ seeded_after g))
+  asked_twice g g2 p spoiled (inl same) = inl same
+  asked_twice g g2 p spoiled (inr asked) = inr (asked.0, stands_in spoiled.1 (λ w. (is_repairing w ≡ true) × (reason_of w ≡ None)) spoiled.0 (asked.1, asked.2), asked.3)
+
+  pub settled : (g g2 : Lcg) (sight : Sight) (a : Result Acted Stop) → CanSettle (seen_of old) sight → SettlesIn g sight.proposal held a g2 held2 → Settles g sight old a g2 new
+  settled g g2 sight (Ok (acted.Did n)) can acts =
+      let history = turn.sound.history acts.0.unspoiled in
+      made_one (λ w e. inside.Settles g sight.proposal g2 w e.event e.reply) (λ before e. InWorld before (λ w. (w.done ≡ false) × (is_repairing w ≡ true)) × IsSettled g sight g2 before e.event e.reply) n history acts.0 (λ before is on. (
+        here (λ w. (w.done ≡ false) × (is_repairing w ≡ true)) before is history (acts.1, acts.2),
+        settled_entry g g2 sight can history before is on acts.0.entry.event acts.0.entry.reply acts.0.step.1 acts.0.by,
+      ))
+  settled g g2 sight (Ok acted.Nothing) can acts =
+      let keeps = same_held held held2 acts.2 in (
+        made_none keeps,
+        stands_in keeps (λ w. (w.done ≡ false) × (is_repairing w ≡ false)) acts.0.unspoiled (acts.0.going, acts.1),
         stop_is keeps ∙ acts.0.running,
         acts.3,
       )
-  did r r2 (Ok acted.Finished) acts =
+  settled g g2 sight (Ok acted.Finished) can acts =
       let keeps = same_held held held2 acts.2 in (made_none keeps, stands_in keeps (λ w. w.done ≡ true) acts.0 acts.1, acts.3)
-  did r r2 (Ok acted.Stopped) acts =
+  settled g g2 sight (Ok acted.Stopped) can acts =
       let keeps = same_held held held2 acts.3 in (made_none keeps, stands_in keeps (λ w. w.done ≡ false) acts.0 acts.1, stop_is keeps ∙ acts.2, acts.4)
-  did r r2 (Err stop.Spoiled) acts = (made_none (same_held held held2 acts.1), acts.2)
-  did r r2 (Err stop.NotNow) acts = absurd acts
-  did r r2 (Err stop.LogFull) acts =
+  settled g g2 sight (Err stop.Spoiled) can acts = (made_none (same_held held held2 acts.1), acts.2)
+  settled g g2 sight (Err stop.NotNow) can acts = absurd acts
+  settled g g2 sight (Err stop.LogFull) can acts =
       let keeps = same_held held held2 acts.3 in (
         made_none keeps,
-        stands_in keeps (λ w. (w.done ≡ false) × (has_event r w ≡ true)) acts.0.unspoiled (acts.0.going, acts.1),
+        stands_in keeps (λ w. (w.done ≡ false) × (is_repairing w ≡ true)) acts.0.unspoiled (acts.0.going, acts.1),
         stop_is keeps ∙ acts.0.running,
         full_in keeps acts.0.unspoiled acts.2,
         acts.4,
       )
-  did r r2 (Err stop.Memory) acts = (made_none acts.0.1, stands_in acts.0.1 (λ w. IsAskedAtMost r w r2) acts.0.0 acts.1)
+  settled g g2 sight (Err stop.Memory) can acts = (made_none acts.0.1, asked_twice g g2 sight.proposal acts.0 acts.1)
 
   copied : (from : ℕ) (part : Part) → held2 ≡ held → IsPart from held part → Copies from (seen_of new) part
   copied from part same is =

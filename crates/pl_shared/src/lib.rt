@@ -10,6 +10,7 @@ mod plan;
 mod sharing;
 mod stopping;
 mod turns;
+mod viewing;
 mod waiting;
 mod working;
 

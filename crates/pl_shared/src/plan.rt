@@ -29,17 +29,14 @@ impl SharedPlan {
         ensures first { IfOk result (λ made. crew_of made.1 ≡ record { leads = true; opening = length (items_of machine.model machine.log false); made = 0; joined = [] }) }
         ensures back { IfErr result (λ same. same ≡ machine) }
     {
-        let held = Held {
-            machine,
-            stopped: false,
-        };
+        let held = Held::new(machine);
         held.is_sound();
         match TurnLock::new(alloc, held) {
             Ok((lock, pass)) => {
                 let bells = Bells::new();
                 Ok((SharedPlan { lock, bells }, pass))
             }
-            Err(Held { machine, .. }) => Err(machine),
+            Err(held) => Err(held.into_machine()),
         }
     }
 
@@ -55,6 +52,6 @@ impl SharedPlan {
         drop(bells);
         let held = lock.close(pass);
         held.is_sound();
-        held.machine
+        held.into_machine()
     }
 }

@@ -1,4 +1,4 @@
-ghost use Rattle.std.specs.Prelude.{◌≡◌, ◌<◌, ◌≤◌, false};
+ghost use Rattle.std.specs.Prelude.{◌≡◌, ◌<◌, ◌≤◌, length, false};
 ghost use Rattle.pl_model.specs.Checked.{IsChecked};
 ghost use Rattle.pl_machine.specs.Legal.{Legal, world_of, IsHistory};
 ghost use Rattle.pl_machine.specs.Taking.{Admits};
@@ -19,6 +19,14 @@ impl Machine {
         ensures history { self.now.spoiled ≡ false → IsHistory self.now.model self.now.log self.now.world }
     {
         self.log.as_slice()
+    }
+
+    /// How many entries the log has.
+    #[tactic(auto, using(crate::proofs::ShortLogs::log_is_short))]
+    pub fn entries(&self) -> u32
+        ensures { result ≡ length self.now.log }
+    {
+        self.log.len() as u32
     }
 
     /// The model that it was opened with: no call changes it.

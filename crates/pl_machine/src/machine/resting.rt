@@ -11,7 +11,7 @@ use std::alloc::AllocError;
 
 impl Machine {
     /// Why repair is to rest, if that is told without a look at candidates: no conflict is left, or the turns are spent.
-    pub(crate) fn plain_reason(&self) -> Option<Reason>
+    pub fn plain_reason(&self) -> Option<Reason>
         requires { self.now.spoiled ≡ false }
         ensures { result ≡ plain_reason_of self.now.world }
     {

@@ -1,5 +1,5 @@
 use Rattle.std.proofs.Common.{◌≡◌, take}
-use Rattle.pl_acts.proofs.copying.copy_of.Given as goal
+use Rattle.pl_machine.proofs.machine.copying.copy_of.Given as goal
 
 -- the copy has the entries so far
 abbrev pub invariant-loop-entry : goal.invariant-loop-entry

@@ -1,4 +1,4 @@
--- A move of a journal may be handed to a machine.
+-- A move of a log may be handed in.
 use Rattle.pl_model.specs.declared.whole.Model.{Model}
 use Rattle.pl_plan.specs.declared.repair.RepairMove.{RepairMove}
 use Rattle.pl_plan.specs.declared.repair.RepairMove.TheVariants as repair

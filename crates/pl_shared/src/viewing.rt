@@ -1,0 +1,135 @@
+//! The two halves of a planner's act: its chooser is asked between two turns.
+ghost use Rattle.std.specs.Prelude.{◌≡◌};
+ghost use Rattle.pl_turn.specs.Passes.{seen_of};
+ghost use Rattle.pl_acts.specs.Roles.{worker_of};
+ghost use Rattle.pl_shared.specs.Plans.{BelongsTo};
+ghost use Rattle.pl_shared.specs.Turns.{TakesTurn, Acts, Looks, Views, CanSettle, Settles, SettlesAs};
+
+use crate::plan::{Pass, SharedPlan};
+use pl_acts::{Acted, Looked, Role, Sight, View, ask};
+use pl_choose::Seeded;
+use pl_machine::Stop;
+use std::alloc::Global;
+use std::sync::Wait;
+
+impl SharedPlan {
+    fn execute<R: Wait>(&self, rt: &R, pass: &mut Pass) -> Result<Acted, Stop>
+        requires { BelongsTo self.now pass.old }
+        ensures own { BelongsTo self.now pass.new }
+        ensures takes { TakesTurn pass.old pass.new }
+        ensures acts { Acts Role.Executive pass.old result Role.Executive pass.new }
+    {
+        let mut held = self.enter(rt, pass);
+        let before = held.busy();
+        let acted = held.execute();
+        let behind = held.busy();
+        self.leave(pass, held);
+        self.bells.ring(rt, before, behind);
+        acted
+    }
+
+    fn look<R: Wait>(&self, rt: &R, alloc: Global, pass: &mut Pass) -> Result<Looked, Stop>
+        requires { BelongsTo self.now pass.old }
+        ensures own { BelongsTo self.now pass.new }
+        ensures takes { TakesTurn pass.old pass.new }
+        ensures looks { Looks pass.old result pass.new }
+    {
+        let mut held = self.enter(rt, pass);
+        let before = held.busy();
+        let looked = held.look(alloc);
+        let behind = held.busy();
+        self.leave(pass, held);
+        self.bells.ring(rt, before, behind);
+        looked
+    }
+
+    #[tactic(auto, using(crate::proofs::Halves::viewed, crate::proofs::Halves::copied, crate::proofs::Halves::view_stops))]
+    fn view_plan<R: Wait>(
+        &self,
+        rt: &R,
+        alloc: Global,
+        pass: &mut Pass,
+        chooser: &mut Seeded,
+    ) -> Result<View, Stop>
+        requires { BelongsTo self.now pass.old }
+        ensures own { BelongsTo self.now pass.new }
+        ensures takes { TakesTurn pass.old pass.new }
+        ensures views { Views (Role.Planner chooser.old) pass.old result (Role.Planner chooser.new) pass.new }
+    {
+        match self.look(rt, alloc, pass)? {
+            Looked::Settled(acted) => Ok(View::Settled(acted)),
+            Looked::Open(draft) => match ask(chooser, draft) {
+                Ok(sight) => Ok(View::Copy(sight)),
+                Err(_) => Err(Stop::Memory),
+            },
+        }
+    }
+
+    /// The first half of an act, in one turn. An executive's act is over with it, and so is a planner's that has nothing to choose. Else
+    /// the planner's chooser is asked on a copy of the plan, outside the turn.
+    pub fn view<R: Wait>(
+        &self,
+        rt: &R,
+        alloc: Global,
+        pass: &mut Pass,
+        role: &mut Role,
+    ) -> Result<View, Stop>
+        requires { BelongsTo self.now pass.old }
+        ensures own { BelongsTo self.now pass.new }
+        ensures takes { TakesTurn pass.old pass.new }
+        ensures views { Views role.old pass.old result role.new pass.new }
+    {
+        match role {
+            Role::Planner(chooser) => self.view_plan(rt, alloc, pass, chooser),
+            Role::Executive => {
+                let acted = self.execute(rt, pass)?;
+                Ok(View::Settled(acted))
+            }
+        }
+    }
+
+    fn settle_plan<R: Wait>(
+        &self,
+        rt: &R,
+        pass: &mut Pass,
+        chooser: &mut Seeded,
+        sight: Sight,
+    ) -> Result<Acted, Stop>
+        requires own { BelongsTo self.now pass.old }
+        requires sight { CanSettle (seen_of pass.old) sight }
+        ensures own { BelongsTo self.now pass.new }
+        ensures takes { TakesTurn pass.old pass.new }
+        ensures settles { Settles chooser.old sight pass.old result chooser.new pass.new }
+    {
+        let mut held = self.enter(rt, pass);
+        let before = held.busy();
+        let acted = held.settle(chooser, sight);
+        let behind = held.busy();
+        self.leave(pass, held);
+        self.bells.ring(rt, before, behind);
+        acted
+    }
+
+    /// The second half of a planner's act, in one turn: what was proposed is fixed, or repair rests, or the chooser is asked again on the
+    /// standing plan.
+    pub fn settle<R: Wait>(
+        &self,
+        rt: &R,
+        _alloc: Global,
+        pass: &mut Pass,
+        role: &mut Role,
+        sight: Sight,
+    ) -> Result<Acted, Stop>
+        requires own { BelongsTo self.now pass.old }
+        requires planner { worker_of role.old ≡ 1 }
+        requires sight { CanSettle (seen_of pass.old) sight }
+        ensures own { BelongsTo self.now pass.new }
+        ensures takes { TakesTurn pass.old pass.new }
+        ensures settles { SettlesAs role.old sight pass.old result role.new pass.new }
+    {
+        match role {
+            Role::Planner(chooser) => self.settle_plan(rt, pass, chooser, sight),
+            Role::Executive => unreachable!(),
+        }
+    }
+}
