@@ -18,15 +18,15 @@ kind short { duration 10 use cam 6 }
 kind long { duration 20 use cam 6 }";
 
 const OVERLAPPING: Row<'static> = (
-    "add 0 5\nadd 0 10",
+    "add 0 5;add 0 10",
     "use 0 9 = 6\nuse 0 10 = 12\nuse 0 14 = 12\nuse 0 15 = 6",
     "10 over 0 0 10 15",
 );
 
-const ADJOINING: Row<'static> = ("add 0 5\nadd 0 15", "use 0 14 = 6\nuse 0 15 = 6", "");
+const ADJOINING: Row<'static> = ("add 0 5;add 0 15", "use 0 14 = 6\nuse 0 15 = 6", "");
 
 const THREE_USES: Row<'static> = (
-    "add 1 10\nadd 0 10\nadd 0 20",
+    "add 1 10;add 0 10;add 0 20",
     "use 0 19 = 12\nuse 0 20 = 12",
     "10 over 0 0 10 30",
 );
@@ -38,7 +38,7 @@ kind draw { duration 5 lower bat 10 at start }";
 const BEHIND_THE_HORIZON: Row<'static> = ("add 0 90", "level 0 99 = 20", "");
 
 const TOLD_LEVEL: Row<'static> = (
-    "add 1 50\nadd 1 51\ncommit 60\ntick 50\ntele 0 40",
+    "add 1 50;add 1 51;commit 60;tick 50;tele 0 40",
     "level 0 50 = 40\nlevel 0 51 = 30",
     "",
 );
@@ -56,23 +56,23 @@ kind heat { duration 5 set camera warm at start }
 kind turn_on { duration 5 set camera on at start }";
 
 const WARM_FIRST: Row<'static> = (
-    "add 0 1\nadd 0 1\nadd 1 10\nadd 0 1\nadd 0 1\nadd 0 1\nadd 2 10",
+    "add 0 1;add 0 1;add 1 10;add 0 1;add 0 1;add 0 1;add 2 10",
     "state 0 9 = 0\nstate 0 10 = 2",
     "",
 );
 
 const ON_FIRST: Row<'static> = (
-    "add 0 1\nadd 0 1\nadd 2 10\nadd 0 1\nadd 0 1\nadd 0 1\nadd 1 10",
+    "add 0 1;add 0 1;add 2 10;add 0 1;add 0 1;add 0 1;add 1 10",
     "state 0 10 = 1",
-    "10 bad-step 3 0 10 0\n10 bad-step 7 0 10 0",
+    "10 bad-step 3 0 10 0;10 bad-step 7 0 10 0",
 );
 
 const TOLD_ON: Row<'static> = ("tele 0 2", "state 0 0 = 2\nstate 0 99 = 2", "");
 
-const TOLD_WARM: Row<'static> = ("add 2 10\ntele 0 1", "state 0 9 = 1\nstate 0 10 = 2", "");
+const TOLD_WARM: Row<'static> = ("add 2 10;tele 0 1", "state 0 9 = 1\nstate 0 10 = 2", "");
 
 const TOLD_OFF: Row<'static> = (
-    "add 2 10\ntele 0 0",
+    "add 2 10;tele 0 0",
     "state 0 9 = 0\nstate 0 10 = 2",
     "10 bad-step 1 0 10 0",
 );
