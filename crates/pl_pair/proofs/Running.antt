@@ -213,6 +213,7 @@ module _ (duties : List Duty) (start : State) (plan : SharedPlan) (new : PlanPas
 
   -- the whole run
   pub runs_whole : (machine : State) → m ≡ start.model → Legal start.model start.log → (world_of start.model start.log).done ≡ false → Closes remains.pass machine → TeamRun duties start place held (ended_of remains.fed remains.met) end now
+  unfolding joined_of
   runs_whole machine same legal going closes =
       let feeds' = subst (λ (k : Model). FeedsToEnd plan k begun place held remains.fed mid end now) same ran.joins.feeds.feeds in
       let E : Met → Type 0 = λ met. TeamRun duties start place held (ended_of remains.fed met) end now in
