@@ -41,6 +41,18 @@ contained() {
   }'
 }
 
+# a head, a piece that comes over and over up to so many bytes, and a tail
+repeated() {
+  awk -v size="$1" -v head="$2" -v piece="$3" -v tail="$4" 'BEGIN {
+    print head
+    for (n = length(head); n + length(piece) + length(tail) + 9 < size; n += length(piece) + 1) print piece
+    print tail "\nbegin"
+  }'
+}
+
+small='kind shot { param n 1 9 param k 0 3 default 2 duration 4 use cam 6-n-1 raise bat min(n,3) at start set mode on at start link start shot end -3 - 0 }'
+states='horizon 100 lead 30 state s {'
+
 seconds() {
   best=
   for _ in 1 2 3; do
@@ -53,3 +65,7 @@ seconds() {
 
 for kinds in 64 128 256; do filled $kinds > "$text"; seconds filled; done
 for kinds in 64 128 256; do contained $kinds > "$text"; seconds contained; done
+for size in 262144 524288 1048576; do repeated $size 'horizon 100 lead 30' "$small" '' > "$text"; seconds kinds; done
+for size in 262144 524288 1048576; do repeated $size "$states" a '} start a any' > "$text"; seconds states; done
+for size in 262144 524288 1048576; do repeated $size "$states" horizo '} start a any' > "$text"; seconds 'long names'; done
+for size in 262144 524288 1048576; do repeated $size "$states a } start a" 'step a a' '' > "$text"; seconds steps; done

@@ -1,22 +1,38 @@
-//! Capacities: the cost of a change beside that of a recomputation.
-ghost use Rattle.std.specs.Prelude.{◌≡◌, ◌≤◌, ◌<◌, [], length, OnOk, IfOk, vec_len};
+//! Capacities: the cost of a change.
+ghost use Rattle.std.specs.Prelude.{◌≡◌, ◌≤◌, ◌<◌, [], length, OnOk, IfOk};
 ghost use Rattle.lundocsef_bench.specs.Sizes.{CanTry};
 
-mod bookings;
-
 use crate::places::place_of;
-use crate::report::{Cost, Found, nanos_each, show};
+use crate::report::{Found, nanos_each, show};
 use anyhow::Result;
-use bookings::{
-    Booking, MOST, SPACING, booking_at, extra_at, listed, recomputed, recomputed_twice,
-};
-use pl_blocks::BlockPoints;
 use pl_capacity::Capacity;
-use pl_points::{PlainPoints, Points, Quiet, Steps};
+use pl_points::{Points, Quiet, Span, Steps};
 use std::alloc::{AllocError, Global};
 use std::time::CpuClock;
 
-const ROUNDS: u32 = 40;
+const SPACING: u32 = 100;
+
+const MOST: i64 = 10;
+
+/// The span of a use: most of them reach into the next place's.
+fn span_at(place: u32) -> Span
+    requires { place < 10000 }
+    ensures { result.from < result.to }
+{
+    let from = place * SPACING + 1;
+    let to = from + 85 + place % 20 * 2;
+    Span { from, to }
+}
+
+/// The span of a use that lies within the use of its place.
+fn extra_at(place: u32) -> Span
+    requires { place < 10000 }
+    ensures { result.from < result.to }
+{
+    let from = place * SPACING + 31;
+    let to = from + 50;
+    Span { from, to }
+}
 
 fn filled<P: Points>(
     alloc: Global,
@@ -29,29 +45,29 @@ fn filled<P: Points>(
     ensures { IfOk result (λ c. length c.uses ≡ count) }
 {
     let mut steps = Steps::new(Quiet);
-    let mut timeline = Capacity::new(alloc, count * SPACING, i64::from(MOST), points);
+    let mut timeline = Capacity::new(alloc, count * SPACING, MOST, points);
     for index in 0..count {
-        let new = booking_at(place_of(index, count), amount);
-        timeline.add(new.from, new.to, i64::from(new.amount), &mut steps)?;
+        let new = span_at(place_of(index, count));
+        timeline.add(new.from, new.to, i64::from(amount), &mut steps)?;
     }
     Ok(timeline)
 }
 
-// One use comes and goes.
+/// One use comes and goes.
 #[tactic(auto, using(crate::proofs::Pairs::use_stands, crate::proofs::Pairs::use_gone))]
-fn change<P: Points>(timeline: &mut Capacity<P>, new: Booking) -> Result<(), AllocError>
+fn change<P: Points>(timeline: &mut Capacity<P>, new: Span, amount: u16) -> Result<(), AllocError>
     requires few { length timeline.old.uses ≤ 10000 }
     requires new { new.from < new.to }
     ensures { OnOk result (length timeline.new.uses ≡ length timeline.old.uses) }
 {
     let mut steps = Steps::new(Quiet);
-    let amount = i64::from(new.amount);
+    let amount = i64::from(amount);
     timeline.add(new.from, new.to, amount, &mut steps)?;
     timeline.remove(new.from, new.to, amount, &mut steps)?;
     Ok(())
 }
 
-// Changes at so many of the places.
+/// Changes at so many of the places.
 fn changed<P: Points>(
     timeline: &mut Capacity<P>,
     count: u32,
@@ -63,76 +79,13 @@ fn changed<P: Points>(
     requires changes { changes ≤ count }
 {
     for index in 0..changes {
-        change(timeline, extra_at(place_of(index, count), amount))?;
+        change(timeline, extra_at(place_of(index, count)), amount)?;
     }
     Ok(())
 }
 
-// Times the changes, and the recomputations.
-fn measure<P: Points>(
-    rt: &impl CpuClock,
-    alloc: Global,
-    timeline: &mut Capacity<P>,
-    bookings: &mut Vec<Booking>,
-    count: u32,
-    amount: u16,
-    changes: u32,
-) -> Result<Cost>
-    requires uses { length timeline.old.uses ≤ 10000 }
-    requires bookings { vec_len bookings.old ≤ 10000 }
-    requires sizes { CanTry 10000 count count changes }
-    ensures { OnOk result (vec_len bookings.new ≡ vec_len bookings.old) }
-{
-    let start = rt.thread_cpu_time()?;
-    changed(timeline, count, amount, changes)?;
-    let middle = rt.thread_cpu_time()?;
-    recomputed_twice(alloc, bookings, count, amount, ROUNDS)?;
-    let end = rt.thread_cpu_time()?;
-    Ok(Cost {
-        change: nanos_each(start, middle, changes),
-        plain: nanos_each(middle, end, ROUNDS),
-    })
-}
-
-// Holds what the timeline tells against what is recomputed.
-fn compare<P: Points>(
-    alloc: Global,
-    timeline: &Capacity<P>,
-    bookings: &[Booking],
-    horizon: u32,
-) -> Result<Found, AllocError>
-    requires { length bookings.now ≤ 10001 }
-{
-    let spans = recomputed(alloc, bookings, horizon)?;
-    Ok(Found {
-        count: spans.len(),
-        same: !timeline.spoiled() && timeline.spans() == spans.as_slice(),
-    })
-}
-
-// Changes, recomputes, and says what was found.
-fn try_out<P: Points>(
-    rt: &(impl Print + CpuClock),
-    alloc: Global,
-    name: &str,
-    timeline: &mut Capacity<P>,
-    bookings: &mut Vec<Booking>,
-    count: u32,
-    amount: u16,
-    changes: u32,
-    is_timed: bool,
-) -> Result<()>
-    requires uses { length timeline.old.uses ≤ 10000 }
-    requires bookings { vec_len bookings.old ≤ 10000 }
-    requires sizes { CanTry 10000 count count changes }
-{
-    let cost = measure(rt, alloc, timeline, bookings, count, amount, changes)?;
-    let found = compare(alloc, timeline, bookings, count * SPACING)?;
-    show(rt, name, "spans", found, cost, is_timed)
-}
-
-// Changes a capacity over the points, recomputes beside it, and says what both found.
-fn run_over<P: Points>(
+/// Changes a capacity over the points, with so many uses of the amount, and says what it tells then and what a change cost.
+pub fn run<P: Points>(
     rt: &(impl Print + CpuClock),
     alloc: Global,
     points: P,
@@ -146,44 +99,12 @@ fn run_over<P: Points>(
     requires sizes { CanTry 10000 count count changes }
 {
     let mut timeline = filled(alloc, points, count, amount)?;
-    let mut bookings = listed(alloc, count, amount)?;
-    try_out(
-        rt,
-        alloc,
-        name,
-        &mut timeline,
-        &mut bookings,
-        count,
-        amount,
-        changes,
-        is_timed,
-    )
-}
-
-/// The same for a capacity over plain points and for one over blocks, with uses of the amount.
-pub fn run(
-    rt: &(impl Print + CpuClock),
-    alloc: Global,
-    count: u32,
-    amount: u16,
-    changes: u32,
-    is_timed: bool,
-) -> Result<()>
-    requires { CanTry 10000 count count changes }
-{
-    let plain = PlainPoints::new(alloc);
-    run_over(
-        rt, alloc, plain, "capacity", count, amount, changes, is_timed,
-    )?;
-    let blocks = BlockPoints::new(alloc);
-    run_over(
-        rt,
-        alloc,
-        blocks,
-        "capacity over blocks",
-        count,
-        amount,
-        changes,
-        is_timed,
-    )
+    let start = rt.thread_cpu_time()?;
+    changed(&mut timeline, count, amount, changes)?;
+    let end = rt.thread_cpu_time()?;
+    let found = Found {
+        count: timeline.spans().len(),
+        nanos: nanos_each(start, end, changes),
+    };
+    show(rt, name, "spans", found, is_timed)
 }

@@ -1,22 +1,49 @@
-//! Levels: the cost of a change beside that of a recomputation.
-ghost use Rattle.std.specs.Prelude.{◌≡◌, ◌≤◌, ◌<◌, [], length, OnOk, IfOk, vec_len};
+//! Levels: the cost of a change.
+ghost use Rattle.std.specs.Prelude.{◌≡◌, ◌≤◌, ◌<◌, [], length, OnOk, IfOk};
 ghost use Rattle.lundocsef_bench.specs.Sizes.{CanTry};
 
-mod jumps;
-
 use crate::places::place_of;
-use crate::report::{Cost, Found, nanos_each, show};
+use crate::report::{Found, nanos_each, show};
 use anyhow::Result;
-use jumps::{
-    Jump, LEAST, MOST, SPACING, START, extra_at, jump_at, listed, recomputed, recomputed_twice,
-};
-use pl_blocks::BlockPoints;
 use pl_level::Level;
-use pl_points::{PlainPoints, Points, Quiet, Steps};
+use pl_points::{Points, Quiet, Steps};
 use std::alloc::{AllocError, Global};
 use std::time::CpuClock;
 
-const ROUNDS: u32 = 40;
+const SPACING: u32 = 50;
+
+const START: i64 = 5;
+
+const LEAST: i64 = 3;
+
+const MOST: i64 = 7;
+
+/// The moment of the effect of a place.
+fn moment_at(place: u32) -> u32
+    requires { place < 20000 }
+    ensures { 1 ≤ result }
+{
+    place * SPACING + 1
+}
+
+/// A moment between the effects of its place and the next.
+fn extra_at(place: u32) -> u32
+    requires { place < 20000 }
+    ensures { 1 ≤ result }
+{
+    place * SPACING + 26
+}
+
+/// The effect of a place: up and back, down and back, in turn. Before the place `calm` the level stays within its limits.
+fn jump_at(place: u32, calm: u32) -> i16 {
+    let is_up = matches!(place % 4, 0 | 3);
+    match (place < calm, is_up) {
+        (true, true) => 1,
+        (true, false) => -1,
+        (false, true) => 3,
+        (false, false) => -3,
+    }
+}
 
 fn filled<P: Points>(
     alloc: Global,
@@ -30,36 +57,29 @@ fn filled<P: Points>(
     ensures { IfOk result (λ c. length c.effects ≡ count) }
 {
     let mut steps = Steps::new(Quiet);
-    let mut timeline = Level::new(
-        alloc,
-        count * SPACING,
-        i64::from(LEAST),
-        i64::from(MOST),
-        i64::from(START),
-        points,
-    );
+    let mut timeline = Level::new(alloc, count * SPACING, LEAST, MOST, START, points);
     for index in 0..count {
-        let new = jump_at(place_of(index, count), calm);
-        timeline.add(new.at, i64::from(new.by), &mut steps)?;
+        let place = place_of(index, count);
+        let jump = i64::from(jump_at(place, calm));
+        timeline.add(moment_at(place), jump, &mut steps)?;
     }
     Ok(timeline)
 }
 
-// One effect comes and goes.
+/// An effect of one comes and goes.
 #[tactic(auto, using(crate::proofs::Pairs::effect_stands, crate::proofs::Pairs::effect_gone))]
-fn change<P: Points>(timeline: &mut Level<P>, new: Jump) -> Result<(), AllocError>
+fn change<P: Points>(timeline: &mut Level<P>, at: u32) -> Result<(), AllocError>
     requires few { length timeline.old.effects ≤ 20000 }
-    requires new { 1 ≤ new.at }
+    requires new { 1 ≤ at }
     ensures { OnOk result (length timeline.new.effects ≡ length timeline.old.effects) }
 {
     let mut steps = Steps::new(Quiet);
-    let delta = i64::from(new.by);
-    timeline.add(new.at, delta, &mut steps)?;
-    timeline.remove(new.at, delta, &mut steps)?;
+    timeline.add(at, 1, &mut steps)?;
+    timeline.remove(at, 1, &mut steps)?;
     Ok(())
 }
 
-// Changes at so many of the places.
+/// Changes at so many of the places.
 fn changed<P: Points>(timeline: &mut Level<P>, count: u32, changes: u32) -> Result<(), AllocError>
     requires few { length timeline.old.effects ≤ 20000 }
     requires count { count ≤ 20000 }
@@ -71,71 +91,9 @@ fn changed<P: Points>(timeline: &mut Level<P>, count: u32, changes: u32) -> Resu
     Ok(())
 }
 
-// Times the changes, and the recomputations.
-fn measure<P: Points>(
-    rt: &impl CpuClock,
-    alloc: Global,
-    timeline: &mut Level<P>,
-    jumps: &mut Vec<Jump>,
-    count: u32,
-    changes: u32,
-) -> Result<Cost>
-    requires effects { length timeline.old.effects ≤ 20000 }
-    requires jumps { vec_len jumps.old ≤ 20000 }
-    requires sizes { CanTry 20000 count count changes }
-    ensures { OnOk result (vec_len jumps.new ≡ vec_len jumps.old) }
-{
-    let start = rt.thread_cpu_time()?;
-    changed(timeline, count, changes)?;
-    let middle = rt.thread_cpu_time()?;
-    recomputed_twice(alloc, jumps, count, ROUNDS)?;
-    let end = rt.thread_cpu_time()?;
-    Ok(Cost {
-        change: nanos_each(start, middle, changes),
-        plain: nanos_each(middle, end, ROUNDS),
-    })
-}
-
-// Holds what the timeline tells against what is recomputed.
-fn compare<P: Points>(
-    alloc: Global,
-    timeline: &Level<P>,
-    jumps: &[Jump],
-    horizon: u32,
-) -> Result<Found, AllocError>
-    requires { length jumps.now ≤ 20001 }
-{
-    let outside = recomputed(alloc, jumps, horizon)?;
-    let same_low = timeline.low_spans() == outside.low.as_slice();
-    let same_high = timeline.high_spans() == outside.high.as_slice();
-    Ok(Found {
-        count: outside.low.len().saturating_add(outside.high.len()),
-        same: !timeline.spoiled() && same_low && same_high,
-    })
-}
-
-// Changes, recomputes, and says what was found.
-fn try_out<P: Points>(
-    rt: &(impl Print + CpuClock),
-    alloc: Global,
-    name: &str,
-    timeline: &mut Level<P>,
-    jumps: &mut Vec<Jump>,
-    count: u32,
-    changes: u32,
-    is_timed: bool,
-) -> Result<()>
-    requires effects { length timeline.old.effects ≤ 20000 }
-    requires jumps { vec_len jumps.old ≤ 20000 }
-    requires sizes { CanTry 20000 count count changes }
-{
-    let cost = measure(rt, alloc, timeline, jumps, count, changes)?;
-    let found = compare(alloc, timeline, jumps, count * SPACING)?;
-    show(rt, name, "spans", found, cost, is_timed)
-}
-
-// Changes a level over the points, recomputes beside it, and says what both found.
-fn run_over<P: Points>(
+/// Changes a level over the points, with so many effects, and says what it tells then and what a change cost. It stays within its
+/// limits up to the place `calm`.
+pub fn run<P: Points>(
     rt: &(impl Print + CpuClock),
     alloc: Global,
     points: P,
@@ -149,42 +107,13 @@ fn run_over<P: Points>(
     requires sizes { CanTry 20000 count count changes }
 {
     let mut timeline = filled(alloc, points, count, calm)?;
-    let mut jumps = listed(alloc, count, calm)?;
-    try_out(
-        rt,
-        alloc,
-        name,
-        &mut timeline,
-        &mut jumps,
-        count,
-        changes,
-        is_timed,
-    )
-}
-
-/// The same for a level over plain points and for one over blocks, which stays within its limits
-/// up to the place `calm`.
-pub fn run(
-    rt: &(impl Print + CpuClock),
-    alloc: Global,
-    count: u32,
-    calm: u32,
-    changes: u32,
-    is_timed: bool,
-) -> Result<()>
-    requires { CanTry 20000 count count changes }
-{
-    let plain = PlainPoints::new(alloc);
-    run_over(rt, alloc, plain, "level", count, calm, changes, is_timed)?;
-    let blocks = BlockPoints::new(alloc);
-    run_over(
-        rt,
-        alloc,
-        blocks,
-        "level over blocks",
-        count,
-        calm,
-        changes,
-        is_timed,
-    )
+    let start = rt.thread_cpu_time()?;
+    changed(&mut timeline, count, changes)?;
+    let end = rt.thread_cpu_time()?;
+    let (low, high) = (timeline.low_spans().len(), timeline.high_spans().len());
+    let found = Found {
+        count: low.saturating_add(high),
+        nanos: nanos_each(start, end, changes),
+    };
+    show(rt, name, "spans", found, is_timed)
 }

@@ -1,2 +1,1 @@
 pub mod Model
-pub mod Timelines

@@ -12,13 +12,6 @@ pub(crate) fn holds(rt: &impl Abort, what: &str, it: bool)
     assert!(rt; it, "{what}");
 }
 
-/// Asserts that it holds in the sequence of a seed.
-pub(crate) fn holds_for(rt: &impl Abort, seed: u64, it: bool)
-    ensures { it ≡ true }
-{
-    assert!(rt; it, "seed {seed}");
-}
-
 /// Whether the copy is the same.
 pub(crate) fn is_copied<T: Copied + PartialEq + Drop>(
     rt: &impl Abort,

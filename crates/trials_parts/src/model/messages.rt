@@ -87,11 +87,6 @@ goal 1 obs 2 5 end => bad line
 goal 0 pic 5 2 may frames=99 $ => bad line
 goal 0 pic 5 2 may frames=99 => unknown name";
 
-#[test]
-fn goals(rt: HostRuntime) {
-    assert_read(&rt, rt.alloc(), GOALS);
-}
-
 const OTHERS: &str = "tele bat 1000000000000 => TeleLevel(1, 1000000000000)
 tele bat 1000000000001 => out of range
 tele bat on => out of range
@@ -126,6 +121,8 @@ stop => bad line
  => bad line";
 
 #[test]
-fn others(rt: HostRuntime) {
-    assert_read(&rt, rt.alloc(), OTHERS);
+fn reads_messages(rt: HostRuntime) {
+    for table in [GOALS, OTHERS] {
+        assert_read(&rt, rt.alloc(), table);
+    }
 }

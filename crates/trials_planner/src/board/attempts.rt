@@ -13,9 +13,9 @@ const CAPACITY: &str = "horizon 100 lead 30 capacity cam 10
 kind short { duration 10 use cam 6 }";
 
 /// Two uses that overlap, and an open goal: two conflicts, and 3 is the next id.
-const CHANGES: &str = "add 0 5\nadd 0 10\ngoal 1 40 60 may";
+const CHANGES: &str = "add 0 5;add 0 10;goal 1 40 60 may";
 
-const BOTH: &str = "10 over 0 0 10 15\n60 open-goal 1 0 40 60";
+const BOTH: &str = "10 over 0 0 10 15;60 open-goal 1 0 40 60";
 
 /// The next id after a legal move is tried; asserts what comes of it, and what is wrong then.
 fn assert_attempt(

@@ -12,11 +12,13 @@ pub fn empty(rt: &impl Abort, alloc: Global, text: &str) -> Board {
     Board::new(alloc, shared, 10_000).expect(rt, "memory")
 }
 
-/// A board of a model's text after the changes of a script, one a line.
+/// A board of a model's text after the changes of a script; `;` parts them.
 pub fn changed(rt: &impl Abort, alloc: Global, text: &str, script: &str) -> Board {
     let mut board = empty(rt, alloc, text);
-    for line in script.lines() {
-        change(rt, alloc, &mut board, line);
+    for line in script.split(';') {
+        if !line.is_empty() {
+            change(rt, alloc, &mut board, line);
+        }
     }
     board
 }

@@ -158,13 +158,17 @@ pub fn make<L: Ledger>(
 /// its window and its word, or a move.
 pub fn change(rt: &impl Abort, alloc: Global, board: &mut Board, line: &str) {
     let mut rest = line;
-    match word(&mut rest) {
-        "tick" => tick(rt, board, number(&mut rest)),
-        "commit" => commit(rt, board, number(&mut rest)),
+    let name = word(&mut rest);
+    let asked = rest;
+    let first = number(&mut rest);
+    let second = number(&mut rest);
+    match name {
+        "tick" => tick(rt, board, first),
+        "commit" => commit(rt, board, first),
         "withdraw" => board.withdraw().expect(rt, "memory"),
-        "until" => until(rt, board, number(&mut rest), number(&mut rest)),
-        "tele" => tell(rt, board, number(&mut rest), number(&mut rest)),
-        "goal" => ask(rt, alloc, board, rest),
+        "until" => until(rt, board, first, second),
+        "tele" => tell(rt, board, first, second),
+        "goal" => ask(rt, alloc, board, asked),
         _ => make(rt, alloc, board, &repair(line), &mut Steps::new(Quiet)),
     }
 }

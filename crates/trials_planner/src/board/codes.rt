@@ -8,7 +8,7 @@ pub const PLAIN: &str = "horizon 100 lead 30
 kind plain { duration 5 }
 kind long { duration 20 }";
 
-/// Changes, and all that is wrong then; `;` is a newline.
+/// Changes, and all that is wrong then.
 const GOALS: &str = "goal 1 10 20 must => 20 open-goal 1 0 10 20
 goal 7 10 20 may => 20 open-goal 7 0 10 20
 goal 7 10 20 may;drop 7 =>
@@ -154,13 +154,8 @@ add 0 5;add 0 20 =>";
 /// Asserts what is wrong behind some changes.
 pub fn assert_row(rt: &impl Abort, alloc: Global, model: &str, row: &str) {
     let (changes, wrong) = row.split_once(" =>").unwrap_or((row, ""));
-    let changes = changes.replace(alloc, ";", "\n").expect(rt, "memory");
-    let wrong = wrong
-        .trim_start()
-        .replace(alloc, ";", "\n")
-        .expect(rt, "memory");
-    let board = changed(rt, alloc, model, changes.as_str());
-    assert_conflicts(rt, alloc, &board, wrong.as_str());
+    let board = changed(rt, alloc, model, changes);
+    assert_conflicts(rt, alloc, &board, wrong.trim_start());
 }
 
 #[test]

@@ -35,7 +35,7 @@ const BELOW: &str = "shift 1 30 = [2]\ndelete 1 = [1]";
 
 #[test]
 fn knows_what_stays_below_its_least(rt: HostRuntime) {
-    let changes = "add 0 10\ngoal 1 40 60 must";
+    let changes = "add 0 10;goal 1 40 60 must";
     assert_least(&rt, rt.alloc(), LEVEL, changes, BELOW);
 }
 
@@ -46,14 +46,14 @@ const ABOVE: &str = "shift 2 8 = [1]\nshift 2 20 = [0]\nadd 0 9 = [1]";
 
 #[test]
 fn knows_what_stays_above_its_most(rt: HostRuntime) {
-    assert_least(&rt, rt.alloc(), CAPACITY, "add 0 5\nadd 0 10", ABOVE);
+    assert_least(&rt, rt.alloc(), CAPACITY, "add 0 5;add 0 10", ABOVE);
 }
 
 // The warm-up ends at most 60 moments before the image.
 const LINKED: &str = "horizon 300 lead 30 kind warm_up { duration 20 }
 kind image { duration 40 link start warm_up end -60 0 }";
 
-const WARM: &str = "add 0 50\nadd 1 100";
+const WARM: &str = "add 0 50;add 1 100";
 
 const SHIFTED: &str = "shift 2 69 = [1]
 shift 2 70 = [0]

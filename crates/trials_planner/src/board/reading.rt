@@ -35,39 +35,34 @@ pub fn conflict(line: &str) -> Conflict {
     }
 }
 
+/// The goal that a move's last words name.
+fn goal(rest: &str) -> Option<u32> {
+    let (first, name) = rest.split_once(' ')?;
+    if first == "goal" {
+        name.parse().ok()
+    } else {
+        None
+    }
+}
+
 /// The move of a line; a kind is its number.
 pub fn repair(line: &str) -> RepairMove {
     let mut rest = line;
-    match word(&mut rest) {
-        "add" => RepairMove::Add {
-            kind: number(&mut rest),
-            start: number(&mut rest),
-            goal: match word(&mut rest) {
-                "goal" => Some(number(&mut rest)),
-                _ => None,
-            },
-        },
-        "delete" => RepairMove::Delete {
-            id: number(&mut rest),
-        },
-        "shift" => RepairMove::Shift {
-            id: number(&mut rest),
-            start: number(&mut rest),
-        },
-        "detail" => RepairMove::Detail {
-            id: number(&mut rest),
-            alternative: number(&mut rest),
-        },
-        "abstract" => RepairMove::Abstract {
-            id: number(&mut rest),
-        },
+    let name = word(&mut rest);
+    let id = number(&mut rest);
+    let second = number(&mut rest);
+    let (kind, start, alternative, goal) = (id, second, second, goal(rest));
+    match name {
+        "add" => RepairMove::Add { kind, start, goal },
+        "delete" => RepairMove::Delete { id },
+        "shift" => RepairMove::Shift { id, start },
+        "detail" => RepairMove::Detail { id, alternative },
+        "abstract" => RepairMove::Abstract { id },
         "assign" => RepairMove::Assign {
-            id: number(&mut rest),
-            param: word(&mut rest).parse().unwrap_or(0),
-            value: word(&mut rest).parse().unwrap_or(0),
+            id,
+            param: u8::try_from(second).unwrap_or(0),
+            value: i64::from(number(&mut rest)),
         },
-        _ => RepairMove::Drop {
-            goal: number(&mut rest),
-        },
+        _ => RepairMove::Drop { goal: id },
     }
 }

@@ -10,7 +10,7 @@ const SCAN: &str = "horizon 100 lead 30 kind shot { duration 5 }
 kind scan { duration 10 alternative { slot a shot slot b shot order a end b start 0 3 } }
 kind wide { param n 1 9 default 5 duration n }";
 
-/// Changes, a move, and why it is refused, as it is printed; `;` is a newline.
+/// Changes, a move, and why it is refused, as it is printed.
 const REFUSED: &str = "add 1 40;detail 1 0;shift 2 25;commit 30 => shift 1 45 => Some(Locked(2))
 add 1 40;detail 1 0;shift 2 25;commit 30 => shift 3 46 => None
 add 1 40;detail 1 0;shift 2 25;commit 30 => delete 1 => Some(Locked(2))
@@ -47,8 +47,7 @@ goal 1 10 20 may;tick 20 => drop 1 => None";
 fn assert_refused(rt: &impl Abort, alloc: Global, row: &str) {
     let (changes, rest) = row.split_once(" => ").unwrap_or((row, ""));
     let (line, wanted) = rest.split_once(" => ").unwrap_or((rest, ""));
-    let changes = changes.replace(alloc, ";", "\n").expect(rt, "memory");
-    let board = changed(rt, alloc, SCAN, changes.as_str());
+    let board = changed(rt, alloc, SCAN, changes);
     let mv = repair(line);
     holds(rt, "enough memory", !board.spoiled());
     holds(rt, "a proper move", proper(&board, &mv));

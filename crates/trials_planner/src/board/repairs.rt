@@ -15,7 +15,7 @@ fn copied(rt: &impl Abort, alloc: Global, board: &Board) -> Board {
 const SCAN: &str = "horizon 100 lead 30 kind shot { duration 5 }
 kind scan { duration 10 alternative { slot a shot slot b shot order a end b start 0 3 } }";
 
-const COMMITTED: &str = "add 1 40\ndetail 1 0\nshift 2 25\ncommit 30";
+const COMMITTED: &str = "add 1 40;detail 1 0;shift 2 25;commit 30";
 
 #[test]
 fn copies_what_is_wrong(rt: HostRuntime) {
@@ -41,7 +41,7 @@ fn evaluated(rt: &impl Abort, alloc: Global, board: &Board, id: u32) -> Evaluate
 #[test]
 fn uses_nothing_where_a_value_is_bad(rt: HostRuntime) {
     let alloc = rt.alloc();
-    let board = changed(&rt, alloc, TWICE, "add 0 10\nassign 1 0 8");
+    let board = changed(&rt, alloc, TWICE, "add 0 10;assign 1 0 8");
     let found = evaluated(&rt, alloc, &board, 1);
     let printed = format!(in alloc; "{:?}", found.values.as_slice());
     assert_printed(&rt, printed, "[Some(8), Some(16)]");
@@ -70,7 +70,7 @@ fn spreads_starts(rt: HostRuntime) {
 #[test]
 fn tries_starts_of_what_is_committed(rt: HostRuntime) {
     let alloc = rt.alloc();
-    let board = changed(&rt, alloc, SEEN, "add 0 40\ncommit 30");
+    let board = changed(&rt, alloc, SEEN, "add 0 40;commit 30");
     let wanted = "[30, 30, 35, 40, 45, 50, 55, 60, 65, 70, 75, 80, 85, 90, 95]";
     assert_is(&rt, alloc, &starts(&rt, alloc, &board, 1), wanted);
 }

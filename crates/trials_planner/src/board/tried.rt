@@ -11,7 +11,7 @@ const GOALS: &str = "horizon 6 lead 3
 kind plain { duration 1 }
 kind long { duration 3 }";
 
-/// Changes, a conflict, and the moves that are tried for it; `;` is a newline.
+/// Changes, a conflict, and the moves that are tried for it.
 const FOR_GOALS: &str = "goal 1 3 4 must => 4 open-goal 1 0 3 4 => add 0 3 goal 1;add 0 4 goal 1
 goal 1 3 4 may => 4 open-goal 1 0 3 4 => add 0 3 goal 1;add 0 4 goal 1;drop 1
 goal 1 1 4 may;tick 2 => 4 open-goal 1 0 1 4 => add 0 3 goal 1;add 0 4 goal 1;drop 1
@@ -81,8 +81,7 @@ fn moves_in(rt: &impl Abort, alloc: Global, text: &str) -> Vec<RepairMove> {
 fn assert_tried(rt: &impl Abort, alloc: Global, model: &str, row: &str) {
     let (changes, rest) = row.split_once(" => ").unwrap_or((row, ""));
     let (wrong, moves) = rest.split_once(" => ").unwrap_or((rest, ""));
-    let changes = changes.replace(alloc, ";", "\n").expect(rt, "memory");
-    let board = changed(rt, alloc, model, changes.as_str());
+    let board = changed(rt, alloc, model, changes);
     let wrong = conflict(wrong);
     holds(rt, row, board.conflicts().has(&wrong));
     holds(rt, "enough memory", !board.spoiled());

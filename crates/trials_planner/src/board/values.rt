@@ -87,16 +87,18 @@ pub fn assert_values(rt: &impl Abort, board: &Board, values: &str) {
     }
 }
 
-/// The conflicts of a text, one a line.
+/// The conflicts of a text; `;` parts them.
 fn conflicts_in(rt: &impl Abort, alloc: Global, text: &str) -> Vec<Conflict> {
     let mut all = Vec::new(alloc);
-    for line in text.lines() {
-        all.push(conflict(line)).expect(rt, "memory");
+    for line in text.split(';') {
+        if !line.is_empty() {
+            all.push(conflict(line)).expect(rt, "memory");
+        }
     }
     all
 }
 
-/// Asserts that these are the conflicts, one a line, in their order.
+/// Asserts that these are the conflicts, in their order; `;` parts them.
 pub fn assert_conflicts(rt: &impl Abort, alloc: Global, board: &Board, conflicts: &str) {
     let wanted = conflicts_in(rt, alloc, conflicts);
     let found = board.conflicts().list(alloc).expect(rt, "memory");

@@ -4,6 +4,7 @@ ghost use Rattle.std.specs.List.{list_any};
 ghost use Rattle.pl_entry.specs.Bounds.{AreOptions};
 
 use crate::asserting::holds;
+use crate::machine::until_and_halt::{GOES_ON, HALTED, MEASURED};
 use crate::reading::{model, number, word};
 use pl_cand::is_stuck;
 use pl_choose::Least;
@@ -149,13 +150,7 @@ fn play(rt: &impl Abort, alloc: Global, machine: &mut Machine, script: &str) {
 }
 
 /// Plays two scripts, one behind the other, from the first call on.
-pub(crate) fn assert_plays(
-    rt: &impl Abort,
-    alloc: Global,
-    options: Options,
-    first: &str,
-    then: &str,
-)
+fn assert_plays(rt: &impl Abort, alloc: Global, options: Options, first: &str, then: &str)
     requires { AreOptions options }
 {
     let mut machine = fresh(rt, alloc, options);
@@ -163,19 +158,15 @@ pub(crate) fn assert_plays(
     play(rt, alloc, &mut machine, then);
 }
 
-pub(crate) const COMMITTED: &str = "goal 1 obs 10 20 must = Ok(Done)
+const COMMITTED: &str = "goal 1 obs 10 20 must = Ok(Done)
 add-for-1 10 = Ok(Done)
 rest = Ok(Rested(Clear))
 commit 30 = Ok(Done)";
 
+/// Why a commit is refused.
 const CAUSES: &str = "commit 30 = Ok(CommitBehind)
 commit 101 = Ok(CommitBeyond)
 commit 100 = Ok(Done)";
-
-#[test]
-fn tells_why_a_commit_is_refused(rt: HostRuntime) {
-    assert_plays(&rt, rt.alloc(), BOUNDS, COMMITTED, CAUSES);
-}
 
 const FULL_PLAN: Options = Options {
     turns: 8,
@@ -211,16 +202,12 @@ fn takes_so_many_goals(rt: HostRuntime) {
     assert_plays(&rt, rt.alloc(), ONE_GOAL, COMMITTED, REFUSED);
 }
 
+/// It waits for a message.
 const CLOSED: &str = "rest = Err(NotNow)
 dispatch = Err(NotNow)
 close = Err(NotNow)
 commit 1 = Err(NotNow)
 add-for-1 10 = Err(NotNow)";
-
-#[test]
-fn waits_for_a_message(rt: HostRuntime) {
-    assert_plays(&rt, rt.alloc(), BOUNDS, CLOSED, "");
-}
 
 const TWO_ENTRIES: Options = Options {
     turns: 8,
@@ -235,15 +222,12 @@ fn stops_where_the_log_is_full(rt: HostRuntime) {
     assert_plays(&rt, rt.alloc(), TWO_ENTRIES, full, "");
 }
 
+/// A commit is held for its conflict.
 const HELD: &str = "goal 1 obs 10 20 must = Ok(Done)
 commit 20 = Ok(Done)
 commit 21 = Ok(Held(Conflict { from: 20, code: OpenGoal, subject: 1, detail: 0, a: 10, b: 20 }))";
 
-#[test]
-fn holds_a_commit_for_its_conflict(rt: HostRuntime) {
-    assert_plays(&rt, rt.alloc(), BOUNDS, HELD, "");
-}
-
+/// A command is sent in its round.
 const BEHIND: &str = "close = Ok(Done)
 tick 10 = Ok(Done)
 rest = Ok(Rested(Clear))
@@ -260,26 +244,34 @@ end = Ok(Ended)
 eof = Err(NotNow)
 log = 15, sent at [8], closed true, done true";
 
-#[test]
-fn sends_a_command_in_its_round(rt: HostRuntime) {
-    assert_plays(&rt, rt.alloc(), BOUNDS, COMMITTED, BEHIND);
-}
-
-#[test]
-fn has_nothing_to_do_at_first(rt: HostRuntime) {
-    let nothing = "choice = None\npropose = Ok(None)";
-    assert_plays(&rt, rt.alloc(), BOUNDS, nothing, "");
-}
+const NOTHING: &str = "choice = None
+propose = Ok(None)";
 
 const ASKED: &str = "goal 1 obs 10 20 must = Ok(Done)";
 
+/// What is next while a goal is open.
 const NEXT: &str = "choice = Some(Commit(30))
 propose = Ok(Some(Proposal { conflict: Conflict { from: 20, code: OpenGoal, subject: 1, detail: 0, a: 10, b: 20 }, mv: Add { kind: 0, start: 10, goal: Some(1) } }))
 stuck = false";
 
+/// Scripts, two by two, each pair from the first call on.
+const SCRIPTS: [(&str, &str); 9] = [
+    (COMMITTED, CAUSES),
+    (CLOSED, ""),
+    (HELD, ""),
+    (COMMITTED, BEHIND),
+    (NOTHING, ""),
+    (ASKED, NEXT),
+    (COMMITTED, MEASURED),
+    (COMMITTED, HALTED),
+    (COMMITTED, GOES_ON),
+];
+
 #[test]
-fn knows_what_is_next_while_a_goal_is_open(rt: HostRuntime) {
-    assert_plays(&rt, rt.alloc(), BOUNDS, ASKED, NEXT);
+fn answers_each_call(rt: HostRuntime) {
+    for (first, then) in SCRIPTS {
+        assert_plays(&rt, rt.alloc(), BOUNDS, first, then);
+    }
 }
 
 /// A machine with one open goal.

@@ -1,8 +1,6 @@
 //! Scripts of the messages about what has begun and what has not.
-
-use crate::machine::calls::{BOUNDS, COMMITTED, assert_plays};
-
-const MEASURED: &str = "close = Ok(Done)
+/// The end of what has begun is measured.
+pub(crate) const MEASURED: &str = "close = Ok(Done)
 until 1 30 = Ok(NotBegun)
 rest = Ok(Rested(Clear))
 close = Ok(Done)
@@ -35,12 +33,8 @@ close = Ok(Done)
 until 1 11 = Ok(Done)
 halted = false";
 
-#[test]
-fn measures_the_end_of_what_has_begun(rt: HostRuntime) {
-    assert_plays(&rt, rt.alloc(), BOUNDS, COMMITTED, MEASURED);
-}
-
-const HALTED: &str = "close = Ok(Done)
+/// What has not begun is halted.
+pub(crate) const HALTED: &str = "close = Ok(Done)
 goal 2 obs 5 8 must = Ok(TooLate)
 rest = Ok(Rested(Clear))
 close = Ok(Done)
@@ -57,12 +51,8 @@ rest = Err(NotNow)
 commit 2 = Ok(Done)
 halted = true";
 
-#[test]
-fn halts_what_has_not_begun(rt: HostRuntime) {
-    assert_plays(&rt, rt.alloc(), BOUNDS, COMMITTED, HALTED);
-}
-
-const GOES_ON: &str = "close = Ok(Done)
+/// A tick ends the halt.
+pub(crate) const GOES_ON: &str = "close = Ok(Done)
 halt = Ok(Done)
 rest = Ok(Rested(Clear))
 close = Ok(Done)
@@ -77,8 +67,3 @@ close = Ok(Done)
 tick 5 = Ok(Done)
 halted = false
 choice = Some(Commit(35))";
-
-#[test]
-fn commits_again_behind_a_tick(rt: HostRuntime) {
-    assert_plays(&rt, rt.alloc(), BOUNDS, COMMITTED, GOES_ON);
-}

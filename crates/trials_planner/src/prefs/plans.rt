@@ -48,7 +48,7 @@ pub fn scored_on(
     Scored::new(alloc, board, prefers)
 }
 
-/// The same of a model's text after the changes of a script, one a line.
+/// The same of a model's text after the changes of a script.
 pub fn scored(
     rt: &impl Abort,
     alloc: Global,

@@ -107,9 +107,8 @@ fn lines(rt: &impl Abort, alloc: Global, text: &str) -> String {
 fn assert_row(rt: &impl Abort, alloc: Global, model: &str, row: &str) {
     let (changes, rest) = row.split_once(" => ").unwrap_or((row, ""));
     let (prefers, wanted) = rest.split_once(" => ").unwrap_or((rest, ""));
-    let changes = lines(rt, alloc, changes);
     let prefers = lines(rt, alloc, prefers);
-    let found = outcome(rt, alloc, model, changes.as_str(), prefers.as_str());
+    let found = outcome(rt, alloc, model, changes, prefers.as_str());
     assert!(rt; found.as_str() == wanted, "{row}: {found}");
 }
 
