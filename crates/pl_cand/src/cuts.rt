@@ -8,7 +8,7 @@ ghost use Rattle.pl_semantics.specs.Candidates.{is_worth, once_from, same_move};
 ghost use Rattle.pl_cand.specs.Cuts.{are_alike, standing};
 ghost use Rattle.pl_cand.specs.Marks.{AreMarked};
 
-use crate::marks::{PLACES, mark, place_of};
+use crate::marks::{PLACES, is_marked, mark};
 use crate::worth::is_worth;
 use pl_plan::RepairMove;
 use pl_semantics::PlanState;
@@ -97,12 +97,13 @@ fn contains(kept: &[RepairMove], mv: &RepairMove) -> bool
 }
 
 // Whether it is among those that are kept. All of these are marked, so of one without a mark it is known at once.
+#[tactic(auto, using(crate::proofs::Marking::unmarked))]
 fn is_kept(kept: &[RepairMove], marks: &[bool], mv: &RepairMove) -> bool
     requires count { length marks.now ≡ 1024 }
     requires marked { AreMarked marks.now kept.now }
     ensures { result ≡ list_any (same_move mv.now) kept.now }
 {
-    if !marks[place_of(mv)] {
+    if !is_marked(marks, mv) {
         return false;
     }
     contains(kept, mv)

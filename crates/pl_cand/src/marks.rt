@@ -1,7 +1,6 @@
 //! Marks that tell of most moves that they were not kept, without a look at those that were.
-ghost use Rattle.std.specs.Prelude.{◌≡◌, ◌<◌, ◌+◌, ◌*◌, ◌%◌, length};
-ghost use Rattle.pl_plan.specs.declared.repair.RepairMove.{RepairMove};
-ghost use Rattle.pl_cand.specs.Marks.{place_by, place_of, AreMarked, KeepsMarked};
+ghost use Rattle.std.specs.Prelude.{◌≡◌, ◌<◌, length};
+ghost use Rattle.pl_cand.specs.Marks.{place_by, place_of, is_marked, KeepsMarked};
 
 use pl_plan::RepairMove;
 
@@ -27,6 +26,14 @@ pub(crate) fn place_of(mv: &RepairMove) -> usize
         RepairMove::Delete { id } => place_by(id, 0),
         _ => 0,
     }
+}
+
+/// Whether a move is marked, or another with the same place.
+pub(crate) fn is_marked(marks: &[bool], mv: &RepairMove) -> bool
+    requires { length marks.now ≡ 1024 }
+    ensures { result ≡ is_marked marks.now mv.now }
+{
+    marks[place_of(mv)]
 }
 
 /// Marks a move.
