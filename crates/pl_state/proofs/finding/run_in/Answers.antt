@@ -4,6 +4,6 @@ pub returns-clause-cut : goal.returns-clause-cut
 returns-clause-cut g c = record {
   before = c.end_from-begin.ensures.front;
   on = c.end_from-begin.ensures.rest;
-  having = c.end_from-behind.ensures.front;
-  rest = c.end_from-behind.ensures.rest;
+  having = c.end_near-behind.ensures.front;
+  rest = c.end_near-behind.ensures.rest;
 }

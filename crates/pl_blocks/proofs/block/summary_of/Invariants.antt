@@ -2,10 +2,10 @@
 use Rattle.std.proofs.Common.{◌≡◌, ◌≤◌, ◌+◌, drop, ◌+ℤ◌}
 use Rattle.pl_points.specs.Points.{AreNear}
 use Rattle.pl_blocks.specs.Blocks.{change_of, least_along, greatest_along, least_sum, greatest_sum}
-use Rattle.pl_blocks.proofs.block.Block.new.Given as goal
+use Rattle.pl_blocks.proofs.block.summary_of.Given as goal
 
 abbrev pub invariant-loop-point : goal.invariant-loop-point
-invariant-loop-point g l = record {
+invariant-loop-point l = record {
   near : AreNear l.sum (drop l.point-index l.point-items);
   adds_up : l.sum +ℤ change_of (drop l.point-index l.point-items) ≡ change_of l.point-items;
   lowest : least_along l.least l.sum (drop l.point-index l.point-items) ≡ least_sum l.point-items;
