@@ -235,11 +235,10 @@ exchange_for_none ks went [] new none is ordered = sym (sorted_itself new ordere
 exchange_for_none ks went (k ∷ came) new none is ordered = absurd (omega (arith, none))
 
 -- a single one comes, which did not go
-pub exchange_for_one : (ks went : List Conflict) (k : Conflict) (new : List Conflict) → AreInOrder ks → has k went ≡ false → new ≡ left_by went (insert_key conflict_cmp ks k) → new ≡ exchanged ks went (k ∷ [])
-exchange_for_one ks went k new ordered stays is =
-    let all : List Conflict = insert_key conflict_cmp ks k in
-    is ∙ conflict_unique conflict_exact (left_by went all) (exchanged ks went (k ∷ [])) (ordered-left went all (ordered-insert ks k ordered)) (ordered-exchanged ks went (k ∷ []))
-    (λ q. has-left went all q ∙ ap (λ b. b && not (has q went)) (has-insert ks k q) ∙ cases q (same q k) refl ∙ sym (has-exchanged ks went (k ∷ []) q))
+pub exchange_for_one : (ks went : List Conflict) (k : Conflict) (mid new : List Conflict) → mid ≡ insert_key conflict_cmp ks k → AreInOrder mid → has k went ≡ false → new ≡ left_by went mid → new ≡ exchanged ks went (k ∷ [])
+exchange_for_one ks went k mid new grown ordered stays is =
+    is ∙ conflict_unique conflict_exact (left_by went mid) (exchanged ks went (k ∷ [])) (ordered-left went mid ordered) (ordered-exchanged ks went (k ∷ []))
+    (λ q. has-left went mid q ∙ ap (λ b. b && not (has q went)) (ap (has q) grown ∙ has-insert ks k q) ∙ cases q (same q k) refl ∙ sym (has-exchanged ks went (k ∷ []) q))
   where
     come : (b : Bool) → true ≡ (b || true)
     come true = refl
