@@ -1,4 +1,4 @@
-ghost use Rattle.std.specs.Prelude.{◌≡◌, ◌+◌, [], OnOk, OnErr, IfOk, IfErr, filter, is_some};
+ghost use Rattle.std.specs.Prelude.{◌≡◌, ◌+◌, [], OnOk, OnErr, IfOk, IfErr, filter};
 ghost use Rattle.std.specs.List.{list_any};
 ghost use Rattle.std.specs.Map.Iter.{ShowsInOrder, deref};
 ghost use Rattle.pl_links.specs.declared.broken.Broken.{Broken};
@@ -93,11 +93,10 @@ impl Links {
         Ok(())
     }
 
-    /// Takes the activity of this id out, and tells what came to the list of what is broken and
-    /// what went.
+    /// Takes the activity of this id out, if one is placed, and tells what came to the list of what
+    /// is broken and what went.
     pub fn take_telling(&mut self, model: &Model, id: u32) -> Result<Changes, AllocError>
-        requires model { IsFor model.now self.old }
-        requires placed { IsPlaced id self.old.items }
+        requires { IsFor model.now self.old }
         ensures ok { OnOk result (self.new ≡ kept_of model.now (without id self.old.items)) }
         ensures changes { IfOk result (Tells self.old.broken self.new.broken) }
         ensures err { OnErr result (self.new ≡ self.old) }
@@ -115,7 +114,7 @@ impl Links {
                 self.store.take(id);
                 Ok(changes)
             }
-            None => unreachable!(),
+            None => Ok(Changes::none(self.alloc)),
         }
     }
 
@@ -129,13 +128,6 @@ impl Links {
     {
         let _ = &self.store;
         self.broken.iter().copied().collect(alloc)
-    }
-
-    /// Whether the activity of this id is placed.
-    pub fn is_placed(&self, id: u32) -> bool
-        ensures { result ≡ is_some (item_of id self.now.items) }
-    {
-        self.store.item(id).is_some()
     }
 
     /// The placed activity of this id.

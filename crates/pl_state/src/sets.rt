@@ -301,9 +301,10 @@ pub(crate) fn bad_near(
     let begin = sets.begun_count(near.from);
     let state = state_before(sets, counted.from, value, near.from, begin);
     let count = sets.passed_from(begin, near.to) - begin;
-    bad_within(
+    let bad = bad_within(
         alloc, any, steps, counted, moment, state, sets, begin, count,
-    )
+    )?;
+    Ok(bad)
 }
 
 // The state at the moment.

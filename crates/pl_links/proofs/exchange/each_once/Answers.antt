@@ -10,8 +10,8 @@ use Rattle.pl_links.proofs.exchange.each_once.Goals as goal
 pub returns-clause-members : goal.returns-clause-members
 returns-clause-members c = λ b.
     ap (has b) (dedup_is _ _ _ c.dedup.ensures.filtered)
-    ∙ has_once _ broken_ties b c.sort_unstable.new.self.items
+    ∙ has_once _ (λ x y. ?) b c.sort_unstable.new.self.items
     ∙ sym (list_any-IsPermutation (is_at (broken_cmp b)) c.args.all.items c.sort_unstable.new.self.items c.sort_unstable.ensures.permutation)
 
 pub returns-clause-ordered : goal.returns-clause-ordered
-returns-clause-ordered c = let is = dedup_is _ _ _ c.dedup.ensures.filtered in rw is (once_sorted _ broken_ties _ c.sort_unstable.ensures.sorted)
+returns-clause-ordered c = let is = dedup_is _ _ _ c.dedup.ensures.filtered in rw is (once_sorted _ (λ x y. ?) _ c.sort_unstable.ensures.sorted)
