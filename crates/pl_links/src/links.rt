@@ -1,4 +1,4 @@
-ghost use Rattle.std.specs.Prelude.{◌≡◌, ◌+◌, [], OnOk, OnErr, IfOk, IfErr, filter};
+ghost use Rattle.std.specs.Prelude.{◌≡◌, ◌+◌, [], OnOk, OnErr, IfOk, IfErr, filter, is_some};
 ghost use Rattle.std.specs.List.{list_any};
 ghost use Rattle.std.specs.Map.Iter.{ShowsInOrder, deref};
 ghost use Rattle.pl_links.specs.declared.broken.Broken.{Broken};
@@ -128,6 +128,13 @@ impl Links {
     {
         let _ = &self.store;
         self.broken.iter().copied().collect(alloc)
+    }
+
+    /// Whether the activity of this id is placed.
+    pub fn is_placed(&self, id: u32) -> bool
+        ensures { result ≡ is_some (item_of id self.now.items) }
+    {
+        self.store.item(id).is_some()
     }
 
     /// The placed activity of this id.
