@@ -25,8 +25,8 @@ mend-requires-clause-listed c = λ b.
     let is : c.self.inside.broken.keys ≡ broken_of model xs = ap (λ (k : Kept). k.broken) c.self.view_is ∙ c.requires ∙ ap (λ (k : Kept). broken_of model k.items) (sym c.self.view_is) in
     now_stands model xs c.self.inside.broken.keys b c.self.invariant.rising is
 
-pub returns-clause-ok : goal.returns-clause-ok
-returns-clause-ok c =
+pub returns-in_ok-changes-in-Some-clause-ok : goal.returns-in_ok-changes-in-Some-clause-ok
+returns-in_ok-changes-in-Some-clause-ok c =
     let model = c.args.model.now in
     let after = without c.args.id c.args.self.now.items in
     let is : c.take.new.self ≡ after = c.take.ensures.after ∙ ap (λ (k : Kept). without c.args.id k.items) c.self.view_is in
