@@ -1,5 +1,4 @@
-use Rattle.std.proofs.Common.{rules, ◌≡◌, ◌+◌, ◌<◌, true, false, refl, arith, length}
-use Rattle.std.proofs.lemmas.Grind.{common_steps}
+use Rattle.std.proofs.Common.{◌≡◌, ◌+◌, ◌<◌, true, false, refl, arith, length}
 use Rattle.pl_state.specs.Rows.{is_covered}
 use Rattle.pl_state.proofs.Nearby.{none_passed, passed_next, stops_there}
 use Rattle.pl_state.proofs.rows.Rows.end_near.Goals as goal
