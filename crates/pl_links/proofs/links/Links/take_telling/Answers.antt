@@ -1,9 +1,7 @@
-use Rattle.std.proofs.Common.{◌≡◌, ◌∙◌, refl, sym, ap, subst, List, Some, None}
-use Rattle.pl_links.specs.declared.placed.Placed.{Placed}
-use Rattle.pl_links.specs.declared.broken.Broken.{Broken}
-use Rattle.pl_links.specs.Items.{AreRising, AreApart, item_of, without}
+use Rattle.std.proofs.Common.{◌≡◌, ◌∙◌, sym, ap, subst, Some}
+use Rattle.pl_links.specs.Items.{AreRising, item_of, without}
 use Rattle.pl_links.specs.Broken.{broken_of}
-use Rattle.pl_links.specs.Kept.{Kept, IsSound}
+use Rattle.pl_links.specs.Kept.{Kept}
 use Rattle.pl_links.specs.Standing.{stands}
 use Rattle.pl_links.proofs.Left.{item_is}
 use Rattle.pl_links.proofs.Keeping.{listed, now_stands, same_kept, absent_stays, tells_nothing}
