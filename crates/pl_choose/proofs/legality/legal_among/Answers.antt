@@ -1,5 +1,5 @@
 use Rattle.std.proofs.Common.{◌+◌, drop, get_or, None}
-use Rattle.std.proofs.lemmas.List.Elements.{All-contains, Contains-get_or}
+use Rattle.std.proofs.lemmas.List.Elements.{All-contains, All-drop, Contains-get_or}
 use Rattle.std.specs.Prelude.{filter}
 use Rattle.std.proofs.lemmas.List.{drop_more}
 use Rattle.pl_plan.specs.declared.repair.RepairMove.TheVariants.{Add}
@@ -9,11 +9,11 @@ use Rattle.pl_choose.proofs.Finding.{filter_step}
 use Rattle.pl_choose.proofs.legality.legal_among.Goals as goal
 
 pub add_if_legal-requires-clause-proper : goal.add_if_legal-requires-clause-proper
-add_if_legal-requires-clause-proper c = All-contains (IsProper c.args.board.now.state) c.args.tried.now (get_or c.args.tried.now c.loop-mv.mv-index (Add 0 0 None)) c.requires.proper (Contains-get_or c.args.tried.now c.loop-mv.mv-index (Add 0 0 None) c.loop-mv-test.true)
+add_if_legal-requires-clause-proper c = All-contains (IsProper c.args.board.now.state) c.args.tried.now (get_or c.args.tried.now c.loop-place.place (Add 0 0 None)) c.requires.proper (Contains-get_or c.args.tried.now c.loop-place.place (Add 0 0 None) c.loop-place-test.true)
 
-pub loop-mv-preserved : goal.loop-mv-preserved
-loop-mv-preserved c =
+pub loop-place-preserved-clause-kept : goal.loop-place-preserved-clause-kept
+loop-place-preserved-clause-kept c =
     let tried = c.args.tried.now in
-    let i = c.loop-mv.mv-index in
+    let i = c.loop-place.place in
     let p = is_legal c.args.board.now.state in
-    filter_step p (drop i tried) (drop (i + 1) tried) c.loop-mv.all.items c.add_if_legal.new.all.items (get_or tried i (Add 0 0 None)) (filter p tried) (drop_more tried i (Add 0 0 None) c.loop-mv-test.true) c.in_ok-add_if_legal.ensures c.loop-mv.invariant
+    filter_step p (drop i tried) (drop (i + 1) tried) c.loop-place.all.items c.add_if_legal.new.all.items (get_or tried i (Add 0 0 None)) (filter p tried) (drop_more tried i (Add 0 0 None) c.loop-place-test.true) c.in_ok-add_if_legal.ensures c.loop-place.invariant.kept
