@@ -4,3 +4,4 @@ pub mod Aims
 pub mod Finding
 pub mod Proposing
 pub mod Between
+pub mod Opening

@@ -10,6 +10,7 @@ mod fewest;
 mod hopes;
 mod least;
 mod legality;
+mod opening;
 mod picked;
 mod picking;
 mod purpose;

@@ -1,0 +1,44 @@
+use Rattle.std.proofs.Common.{◌≡◌, ◌<◌, ◌+◌, List, length, take, drop, get_or, ℕ, None, refl, ◌∙◌, arith}
+use Rattle.pl_plan.specs.declared.repair.RepairMove.{RepairMove}
+use Rattle.pl_plan.specs.declared.repair.RepairMove.TheVariants.{Add}
+use Rattle.pl_semantics.specs.Legal.{left_after}
+use Rattle.pl_choose.specs.declared.best.Best.{Best}
+use Rattle.pl_choose.specs.Alone.{AreEnough}
+use Rattle.pl_choose.specs.Picked.{enough_for}
+use Rattle.pl_choose.specs.Tried.{better_of, best_of}
+use Rattle.pl_choose.proofs.Aims.{is_mended, few_enough}
+use Rattle.pl_choose.proofs.Opening.{first_made, opened}
+use Rattle.pl_choose.proofs.Trying.{best, least_take}
+use Rattle.pl_choose.proofs.opening.try_first_aim.Goals as goal
+
+pub best_by_bounds-requires-clause-least : goal.best_by_bounds-requires-clause-least
+best_by_bounds-requires-clause-least c =
+    let tried = rw c.in-Undone.is at c.in_ok-try_alone.ensures.tried in
+    rw tried.2 (least_take c.args.board.now.state c.lowest_place-at.result c.args.moves.now c.args.bounds.now c.requires.least)
+
+pub returns-in-Made-clause-opening : goal.returns-in-Made-clause-opening
+returns-in-Made-clause-opening c =
+    let s = c.args.board.now.state in
+    let moves : List RepairMove = c.args.moves.now in
+    let at : ℕ = c.lowest_place-at.result in
+    let within : at < length moves = rw c.requires.count at c.lowest_place-at.ensures in
+    let made = rw c.in-Made.is at c.in_ok-try_alone.ensures.tried in
+    let few : AreEnough (enough_for c.args.purpose c.enough_first.result) (left_after s (get_or moves at (Add 0 0 None))) = rw c.enough_for-enough.ensures at made.0 in (
+      is_mended c.args.purpose c.enough_first.result (left_after s (get_or moves at (Add 0 0 None))) few,
+      first_made s moves c.args.bounds.now at (Add 0 0 None) c.enough_first.result within c.requires.least (few_enough c.args.purpose c.enough_first.result (left_after s (get_or moves at (Add 0 0 None))) few) c.enough_first.ensures.before c.enough_first.ensures.others,
+      made.1,
+    )
+
+pub returns-in_ok-before-in-Undone-clause-opening : goal.returns-in_ok-before-in-Undone-clause-opening
+returns-in_ok-before-in-Undone-clause-opening c =
+    let s = c.args.board.now.state in
+    let moves : List RepairMove = c.args.moves.now in
+    let at : ℕ = c.lowest_place-at.result in
+    let aim : RepairMove = get_or moves at (Add 0 0 None) in
+    let left : ℕ = c.in-Undone.left in
+    let front : Best = c.in_ok-before-in-Undone.before in
+    let within : at < length moves = rw c.requires.count at c.lowest_place-at.ensures in
+    let tried = rw c.in-Undone.is at c.in_ok-try_alone.ensures.tried in
+    let one : front ≡ best_of (left_after s) (best aim (left + 1)) (take at moves) = rw tried.2 at c.in_ok-before-in-Undone.ensures.best in
+    let last : Best = best_of (left_after s) (better_of front aim left) (drop (at + 1) moves) in
+    (rw c.better.ensures (opened s moves at (Add 0 0 None) left front last within tried.0 one refl), omega (arith, within), c.in_ok-before-in-Undone.ensures.same ∙ tried.2)
