@@ -4,4 +4,3 @@ pub mod Aims
 pub mod Finding
 pub mod Proposing
 pub mod Between
-pub mod Opening

@@ -1,5 +1,5 @@
 -- What comes of the aim.
-use Rattle.std.specs.Prelude.{◌≡◌, ◌≤◌, List, Some, drop, length}
+use Rattle.std.specs.Prelude.{◌≡◌, ◌≤◌, List, drop, length}
 use Rattle.pl_plan.specs.declared.repair.RepairMove.{RepairMove}
 use Rattle.pl_semantics.specs.Moves.{applied}
 use Rattle.pl_semantics.specs.Legal.{left_after}
@@ -9,7 +9,6 @@ use Rattle.pl_choose.specs.declared.aiming.Aimed.TheVariants.{Made, Passed}
 use Rattle.pl_choose.specs.declared.best.Best.{Best}
 use Rattle.pl_choose.specs.declared.purpose.Purpose.{Purpose}
 use Rattle.pl_choose.specs.declared.purpose.Purpose.TheVariants.{Mend}
-use Rattle.pl_choose.specs.Picks.{fewest}
 use Rattle.pl_choose.specs.Tried.{best_of}
 
 -- What a move is looked for, the best so far, the hopes, the board before, what came of the aim, and the board then. The aim is the
@@ -17,9 +16,3 @@ use Rattle.pl_choose.specs.Tried.{best_of}
 abbrev pub IsAimed : Purpose → Best → List RepairMove → Standing → Aimed → Standing → Type 0
 IsAimed why b moves before (Made m) now = (why ≡ Mend) × (m ≡ (best_of (left_after before.state) b moves).mv) × (now ≡ after (applied before.state m))
 IsAimed why b moves before (Passed t) now = (best_of (left_after before.state) t.best (drop t.count moves) ≡ best_of (left_after before.state) b moves) × (t.count ≤ length moves) × (now ≡ before)
-
--- The same where no move is known to be the best so far. The aim leaves the fewest of all and stays made, or the best of it and those
--- before it leads with those behind it to the one that does.
-abbrev pub IsOpening : Purpose → List RepairMove → Standing → Aimed → Standing → Type 0
-IsOpening why moves before (Made m) now = (why ≡ Mend) × (fewest before.state moves ≡ Some m) × (now ≡ after (applied before.state m))
-IsOpening why moves before (Passed t) now = (fewest before.state moves ≡ Some (best_of (left_after before.state) t.best (drop t.count moves)).mv) × (t.count ≤ length moves) × (now ≡ before)

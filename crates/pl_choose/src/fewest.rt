@@ -1,16 +1,15 @@
 //! The move that leaves the fewest conflicts. It is looked for by trying moves on the board, so one that is the best may stay made.
-ghost use Rattle.std.specs.Prelude.{◌≡◌, ◌<◌, ◌≤◌, ◌∷◌, true, false, All, Some, IfOk, OnErr, length};
+ghost use Rattle.std.specs.Prelude.{◌≡◌, ◌<◌, ◌≤◌, ◌∷◌, true, false, All, Some, IfOk, OnErr};
 ghost use Rattle.pl_semantics.specs.Legal.{left_after};
 ghost use Rattle.pl_choose.specs.Found.{IsAllowed};
 ghost use Rattle.pl_choose.specs.Picked.{IsPicked, IsFewest};
 ghost use Rattle.pl_choose.specs.Picks.{fewest};
 ghost use Rattle.pl_choose.specs.Started.{IsStarted};
 
-use crate::aiming::{Aimed, pick_by_aims};
+use crate::aiming::pick_by_aims;
 use crate::alone::{Alone, try_alone};
 use crate::best::Best;
-use crate::bounded::bounds_of;
-use crate::opening::try_first_aim;
+use crate::bounded::{bounds_of, lowest_of};
 use crate::picked::Picked;
 use crate::purpose::{Purpose, enough_for};
 use pl_board::Board;
@@ -94,32 +93,27 @@ fn pick_of_few(
     }
 }
 
-// The best of some moves. Before one is tried it is worked out how many conflicts each leaves at least.
+// The best of the first and the others. Before the first is tried it is worked out how many conflicts each of the others leaves at
+// least.
 fn pick_of_many(
     alloc: Global,
     board: &mut Board,
-    moves: &[RepairMove],
+    first: &RepairMove,
+    rest: &[RepairMove],
     purpose: Purpose,
 ) -> Result<Picked, AllocError>
     requires unspoiled { board.old.spoiled ≡ false }
     requires next { board.old.state.next_id ≤ 3999999000 }
-    requires some { 0 < length moves.now }
-    requires allowed { All (IsAllowed board.old.state) moves.now }
-    ensures picked { IfOk result (λ p. IsPicked purpose (λ m. fewest board.old.state moves.now ≡ Some m) board.old p board.new) }
+    requires first { IsAllowed board.old.state first.now }
+    requires rest { All (IsAllowed board.old.state) rest.now }
+    ensures picked { IfOk result (λ p. IsPicked purpose (λ m. fewest board.old.state (first.now ∷ rest.now) ≡ Some m) board.old p board.new) }
     ensures err { OnErr result (board.new.spoiled ≡ true) }
 {
-    let bounds = bounds_of(alloc, board, moves)?;
-    match try_first_aim(alloc, board, moves, &bounds, purpose)? {
-        Aimed::Made(mv) => Ok(Picked::Made(mv)),
-        Aimed::Passed(tried) => pick_by_aims(
-            alloc,
-            board,
-            tried.best,
-            &moves[tried.count..],
-            &bounds[tried.count..],
-            purpose,
-            AIMS,
-        ),
+    let bounds = bounds_of(alloc, board, rest)?;
+    let least = lowest_of(u32::MAX, &bounds);
+    match start_with(alloc, board, first, least, purpose)? {
+        Started::Settled(picked) => Ok(picked),
+        Started::Open(best) => pick_by_aims(alloc, board, best, rest, &bounds, purpose, AIMS),
     }
 }
 
@@ -128,17 +122,15 @@ fn pick_of_many(
 fn pick(
     alloc: Global,
     board: &mut Board,
-    moves: &[RepairMove],
     first: &RepairMove,
     rest: &[RepairMove],
     purpose: Purpose,
 ) -> Result<Picked, AllocError>
     requires unspoiled { board.old.spoiled ≡ false }
     requires next { board.old.state.next_id ≤ 3999999000 }
-    requires moves { moves.now ≡ first.now ∷ rest.now }
     requires first { IsAllowed board.old.state first.now }
     requires rest { All (IsAllowed board.old.state) rest.now }
-    ensures picked { IfOk result (λ p. IsPicked purpose (λ m. fewest board.old.state moves.now ≡ Some m) board.old p board.new) }
+    ensures picked { IfOk result (λ p. IsPicked purpose (λ m. fewest board.old.state (first.now ∷ rest.now) ≡ Some m) board.old p board.new) }
     ensures err { OnErr result (board.new.spoiled ≡ true) }
 {
     if rest.is_empty() {
@@ -148,7 +140,7 @@ fn pick(
     if board.conflicts().len() <= least.saturating_add(1) {
         return pick_of_few(alloc, board, first, rest, least, purpose);
     }
-    pick_of_many(alloc, board, moves, purpose)
+    pick_of_many(alloc, board, first, rest, purpose)
 }
 
 /// The first of some moves that leaves the fewest conflicts. A single move is not tried. Want of memory spoils the board.
@@ -167,5 +159,5 @@ pub(crate) fn fewest(
     let Some((first, rest)) = moves.split_first() else {
         return Ok(None);
     };
-    Ok(Some(pick(alloc, board, moves, first, rest, purpose)?))
+    Ok(Some(pick(alloc, board, first, rest, purpose)?))
 }

@@ -10,7 +10,6 @@ mod fewest;
 mod hopes;
 mod least;
 mod legality;
-mod opening;
 mod picked;
 mod picking;
 mod purpose;
