@@ -1,5 +1,5 @@
 -- Starts between which moves are legal.
-use Rattle.std.specs.Prelude.{◌≡◌, ◌≤◌, ◌×◌, true}
+use Rattle.std.specs.Prelude.{◌≡◌, ◌≤◌, true}
 use Rattle.pl_plan.specs.declared.repair.RepairMove.{RepairMove}
 use Rattle.pl_semantics.specs.declared.plan_state.PlanState.{PlanState}
 use Rattle.pl_semantics.specs.Legal.{is_legal}

@@ -1,5 +1,5 @@
 //! Starts between which moves are legal.
-ghost use Rattle.std.specs.Prelude.{◌≡◌, ◌≤◌, ◌<◌, ◌×◌, true, false, All, IfSome, IsTrue, length};
+ghost use Rattle.std.specs.Prelude.{◌≡◌, ◌≤◌, ◌<◌, true, false, All, IfSome, IsTrue, length};
 ghost use Rattle.pl_plan.specs.declared.repair.RepairMove.{RepairMove};
 ghost use Rattle.pl_semantics.specs.declared.plan_state.PlanState.{PlanState};
 ghost use Rattle.pl_semantics.specs.Legal.{is_legal};
