@@ -1,6 +1,7 @@
 -- A move that starts between two legal ones, and places the same, is legal.
 use Rattle.std.proofs.Common.{◌≡◌, ℕ, ◌+◌, ◌-◌, ◌≤◌, ◌<◌, true, false, List, [], ◌∷◌, map, filter, refl, sym, ap, ◌∙◌, arith, inr}
 use Rattle.std.specs.Prelude.{All, Option, Some, None, is_none}
+use Rattle.std.proofs.lemmas.Bool.{and_from, and_parts}
 use Rattle.std.proofs.lemmas.List.Elements.{All-nil, All-cons, All-head, All-tail}
 use Rattle.pl_plan.specs.declared.activity.Activity.{Activity}
 use Rattle.pl_plan.specs.declared.repair.RepairMove.{RepairMove}
@@ -9,10 +10,11 @@ use Rattle.pl_semantics.specs.declared.plan_state.PlanState.{PlanState}
 use Rattle.pl_semantics.specs.declared.refusal.Refusal.{Refusal}
 use Rattle.pl_semantics.specs.PlanStates.{floor_of, found}
 use Rattle.pl_semantics.specs.Legal.{MayBeMade, is_legal}
-use Rattle.pl_semantics.specs.Moves.{is_under, moved, moved_with, refusal_of, root_for}
+use Rattle.pl_semantics.specs.Moves.{is_proper, is_under, moved, moved_with, refusal_of, root_for}
 use Rattle.pl_semantics.proofs.Refusing.{may, not_refused}
 use Rattle.pl_moves.specs.Runs.{start_of, goes_on}
 use Rattle.pl_bounds.proofs.Alike.{alike_shift, alike_add}
+use Rattle.pl_choose.specs.Stretches.{is_kin, IsStretch}
 
 is_made : (s : PlanState) (m : RepairMove) → is_legal s m ≡ true → MayBeMade s m
 is_made s m legal = by (refusal_of s m) refl
@@ -101,3 +103,19 @@ legal_between s (Detail id alternative) one m other first last legal_one legal_o
 legal_between s (Abstract id) one m other first last legal_one legal_other on low high = absurd (cc)
 legal_between s (Assign id param value) one m other first last legal_one legal_other on low high = absurd (cc)
 legal_between s (Drop goal) one m other first last legal_one legal_other on low high = absurd (cc)
+
+-- ---- some that make sense and place the same
+
+pub all_kin : (s : PlanState) (first : RepairMove) (ms : List RepairMove) → All (λ m. is_proper s m ≡ true) ms → All (λ m. goes_on first m ≡ true) ms → All (λ m. is_kin s first m ≡ true) ms
+all_kin s first [] proper same = All-nil (λ m. is_kin s first m ≡ true)
+all_kin s first (m ∷ ms) proper same =
+    All-cons (λ x. is_kin s first x ≡ true) m ms
+    (and_from (is_proper s m) (goes_on first m) (All-head (λ x. is_proper s x ≡ true) m ms proper) (All-head (λ x. goes_on first x ≡ true) m ms same))
+    (all_kin s first ms (All-tail (λ x. is_proper s x ≡ true) m ms proper) (All-tail (λ x. goes_on first x ≡ true) m ms same))
+
+-- a stretch from one of them to another, where both are legal
+pub reaches : (s : PlanState) (of one other : RepairMove) (from to : ℕ) → is_kin s of one ≡ true → is_kin s of other ≡ true → is_legal s one ≡ true → is_legal s other ≡ true → from ≡ start_of one → to ≡ start_of other → IsStretch s (record { of = of; from = from; to = to })
+reaches s of one other from to kin kin_too legal legal_too first last = λ m same low high.
+    let a : start_of one ≤ start_of m = omega (arith, low, first) in
+    let b : start_of m ≤ start_of other = omega (arith, high, last) in
+    legal_between s of one m other (and_parts (is_proper s one) (goes_on of one) kin).1 (and_parts (is_proper s other) (goes_on of other) kin_too).1 legal legal_too same a b

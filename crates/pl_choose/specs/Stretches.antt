@@ -1,5 +1,5 @@
 -- Starts between which moves are legal.
-use Rattle.std.specs.Prelude.{◌≡◌, ◌≤◌, true}
+use Rattle.std.specs.Prelude.{◌≡◌, ◌≤◌, Bool, true, ◌&&◌}
 use Rattle.pl_plan.specs.declared.repair.RepairMove.{RepairMove}
 use Rattle.pl_semantics.specs.declared.plan_state.PlanState.{PlanState}
 use Rattle.pl_semantics.specs.Legal.{is_legal}
@@ -8,9 +8,8 @@ use Rattle.pl_moves.specs.Runs.{start_of, goes_on}
 use Rattle.pl_choose.specs.declared.stretch.Stretch.{Stretch}
 
 -- it makes sense, and places the same as the first one
-pub record IsKin (s : PlanState) (first : RepairMove) (m : RepairMove) : Type 0 where
-  pub proper : is_proper s m ≡ true
-  pub same : goes_on first m ≡ true
+abbrev pub is_kin : PlanState → RepairMove → RepairMove → Bool
+is_kin s first m = is_proper s m && goes_on first m
 
 -- what places the same as the stretch's move, and starts at one of these starts, is legal
 abbrev pub IsStretch : PlanState → Stretch → Type 0

@@ -1,12 +1,12 @@
 //! Starts between which moves are legal.
-ghost use Rattle.std.specs.Prelude.{◌≡◌, ◌≤◌, ◌<◌, true, false, All, IfSome, IsTrue, length};
+ghost use Rattle.std.specs.Prelude.{◌≡◌, ◌≤◌, ◌<◌, Bool, true, false, All, IfSome, IsTrue, length};
 ghost use Rattle.pl_plan.specs.declared.repair.RepairMove.{RepairMove};
 ghost use Rattle.pl_semantics.specs.declared.plan_state.PlanState.{PlanState};
 ghost use Rattle.pl_semantics.specs.Legal.{is_legal};
 ghost use Rattle.pl_semantics.specs.Moves.{is_proper};
 ghost use Rattle.pl_moves.specs.Runs.{goes_on, start_of};
 ghost use Rattle.pl_choose.specs.Found.{IsProper};
-ghost use Rattle.pl_choose.specs.Stretches.{IsKin, IsStretch};
+ghost use Rattle.pl_choose.specs.Stretches.{is_kin, IsStretch};
 
 use pl_board::Board;
 use pl_moves::{goes_on, is_legal, run_length, start_of};
@@ -31,7 +31,7 @@ struct Ends {
 }
 
 fn earlier(one: RepairMove, other: RepairMove) -> RepairMove
-    ensures { (P : RepairMove → Type 0) → P one → P other → P result }
+    ensures { (P : RepairMove → Bool) → P one ≡ true → P other ≡ true → P result ≡ true }
 {
     if start_of(&other) < start_of(&one) {
         return other;
@@ -40,7 +40,7 @@ fn earlier(one: RepairMove, other: RepairMove) -> RepairMove
 }
 
 fn later(one: RepairMove, other: RepairMove) -> RepairMove
-    ensures { (P : RepairMove → Type 0) → P one → P other → P result }
+    ensures { (P : RepairMove → Bool) → P one ≡ true → P other ≡ true → P result ≡ true }
 {
     if start_of(&one) < start_of(&other) {
         return other;
@@ -50,8 +50,8 @@ fn later(one: RepairMove, other: RepairMove) -> RepairMove
 
 // The ends of some moves and one more.
 fn ends_with(ends: Option<Ends>, mv: RepairMove) -> Ends
-    ensures first { (P : RepairMove → Type 0) → IfSome ends (λ e. P e.first) → P mv → P result.first }
-    ensures last { (P : RepairMove → Type 0) → IfSome ends (λ e. P e.last) → P mv → P result.last }
+    ensures first { (P : RepairMove → Bool) → IfSome ends (λ e. P e.first ≡ true) → P mv ≡ true → P result.first ≡ true }
+    ensures last { (P : RepairMove → Bool) → IfSome ends (λ e. P e.last ≡ true) → P mv ≡ true → P result.last ≡ true }
 {
     match ends {
         Some(ends) => Ends {
@@ -64,8 +64,8 @@ fn ends_with(ends: Option<Ends>, mv: RepairMove) -> Ends
 
 // The ends of those that start from the floor on.
 fn ends_of(floor: u32, moves: &[RepairMove]) -> Option<Ends>
-    ensures first { (P : RepairMove → Type 0) → All P moves.now → IfSome result (λ e. P e.first) }
-    ensures last { (P : RepairMove → Type 0) → All P moves.now → IfSome result (λ e. P e.last) }
+    ensures first { (P : RepairMove → Bool) → All (λ m. P m ≡ true) moves.now → IfSome result (λ e. P e.first ≡ true) }
+    ensures last { (P : RepairMove → Bool) → All (λ m. P m ≡ true) moves.now → IfSome result (λ e. P e.last ≡ true) }
 {
     let mut ends = None;
     for mv in moves {
@@ -106,11 +106,11 @@ impl Stretch {
 }
 
 // From the start of one move to that of another, if both are legal.
-#[tactic(auto, using(crate::proofs::Between::legal_between))]
+#[tactic(auto, using(crate::proofs::Between::reaches))]
 fn between(board: &Board, of: RepairMove, ends: Ends) -> Stretch
     requires unspoiled { board.now.spoiled ≡ false }
-    requires first { IsKin board.now.state of ends.first }
-    requires last { IsKin board.now.state of ends.last }
+    requires first { is_kin board.now.state of ends.first ≡ true }
+    requires last { is_kin board.now.state of ends.last ≡ true }
     ensures { IsStretch board.now.state result }
 {
     if is_legal(board, &ends.first) && is_legal(board, &ends.last) {
@@ -126,7 +126,7 @@ fn between(board: &Board, of: RepairMove, ends: Ends) -> Stretch
 // A stretch for moves that place the same as one, from the floor on.
 fn stretch_among(board: &Board, of: RepairMove, run: &[RepairMove]) -> Stretch
     requires unspoiled { board.now.spoiled ≡ false }
-    requires kin { All (IsKin board.now.state of) run.now }
+    requires kin { All (λ m. is_kin board.now.state of m ≡ true) run.now }
     ensures { IsStretch board.now.state result }
 {
     match ends_of(board.floor(), run) {
