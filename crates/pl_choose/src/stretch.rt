@@ -58,7 +58,10 @@ fn ends_with(ends: Option<Ends>, mv: RepairMove) -> Ends
             first: earlier(ends.first, mv),
             last: later(ends.last, mv),
         },
-        None => Ends { first: mv, last: mv },
+        None => Ends {
+            first: mv,
+            last: mv,
+        },
     }
 }
 
