@@ -1,6 +1,6 @@
 -- Marks that come to moves, and moves that have none.
-use Rattle.std.proofs.Common.{◌≡◌, ◌≢◌, ⊎_elim, ℕ, refl, ◌<◌, List, [], ◌∷◌, ◌++◌, length, set, true, false, Bool, sym, ◌∙◌, subst, ap}
-use Rattle.std.specs.Prelude.{All, slice_index_or}
+use Rattle.std.proofs.Common.{◌≡◌, ◌≢◌, ⊎_elim, refl, ◌<◌, List, [], ◌∷◌, length, set, true, false, Bool, sym, ◌∙◌, subst, ap}
+use Rattle.std.specs.Prelude.{slice_index_or}
 use Rattle.std.specs.List.{list_any}
 use Rattle.std.proofs.lemmas.Bool.{cases_eq}
 use Rattle.std.proofs.lemmas.List.{get_or-set_same, get_or-set_other}
