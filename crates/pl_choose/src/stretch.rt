@@ -109,7 +109,6 @@ impl Stretch {
 }
 
 // From the start of one move to that of another, if both are legal.
-#[tactic(auto, using(crate::proofs::Between::reaches))]
 fn between(board: &Board, of: RepairMove, ends: Ends) -> Stretch
     requires unspoiled { board.now.spoiled ≡ false }
     requires first { is_kin board.now.state of ends.first ≡ true }

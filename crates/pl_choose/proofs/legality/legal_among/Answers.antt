@@ -8,11 +8,11 @@ use Rattle.pl_choose.specs.Found.{IsProper}
 use Rattle.pl_choose.proofs.Finding.{filter_step}
 use Rattle.pl_choose.proofs.legality.legal_among.Goals as goal
 
-pub stretch_then-requires-clause-some : goal.stretch_then-requires-clause-some
-stretch_then-requires-clause-some c = rw take_rest (let rest = length-drop c.loop-place.place c.args.tried.now in omega (arith, rest, c.loop-place-test.true))
+pub stretch_then-stretch-requires-clause-some : goal.stretch_then-stretch-requires-clause-some
+stretch_then-stretch-requires-clause-some c = rw take_rest (let rest = length-drop c.loop-place.place c.args.tried.now in omega (arith, rest, c.loop-place-test.true))
 
-pub stretch_then-requires-clause-proper : goal.stretch_then-requires-clause-proper
-stretch_then-requires-clause-proper c = rw take_rest (All-drop (IsProper c.args.board.now.state) c.loop-place.place c.args.tried.now c.requires.proper)
+pub stretch_then-stretch-requires-clause-proper : goal.stretch_then-stretch-requires-clause-proper
+stretch_then-stretch-requires-clause-proper c = rw take_rest (All-drop (IsProper c.args.board.now.state) c.loop-place.place c.args.tried.now c.requires.proper)
 
 pub add_if_legal-requires-clause-proper : goal.add_if_legal-requires-clause-proper
 add_if_legal-requires-clause-proper c = All-contains (IsProper c.args.board.now.state) c.args.tried.now (get_or c.args.tried.now c.loop-place.place (Add 0 0 None)) c.requires.proper (Contains-get_or c.args.tried.now c.loop-place.place (Add 0 0 None) c.loop-place-test.true)
