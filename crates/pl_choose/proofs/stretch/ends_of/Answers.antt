@@ -12,7 +12,7 @@ loop-mv-preserved c =
     let mv : RepairMove = get_or moves c.loop-mv.mv-index (Add 0 0 None) in
     let here : (P : RepairMove → Bool) → All (λ m. P m ≡ true) moves → P mv ≡ true = λ P all. All-contains (λ m. P m ≡ true) moves mv all (Contains-get_or moves c.loop-mv.mv-index (Add 0 0 None) c.loop-mv-test.true) in
     elim c.if-floor-start_of.branch [
-      then-floor-start_of w ↦ record {
+      | then-floor-start_of w ↦ record {
         first = λ P all. rw w.ends-is (w.ends_with.ensures.first P (c.loop-mv.invariant.first P all) (here P all));
         last = λ P all. rw w.ends-is (w.ends_with.ensures.last P (c.loop-mv.invariant.last P all) (here P all));
       }
