@@ -95,7 +95,7 @@ fn contains(kept: &[RepairMove], mv: &RepairMove) -> bool
 }
 
 // A move that was looked at, and whether it makes sense and changes something.
-#[derive(Clone, Copy, Debug)]
+#[derive(Clone, Copy)]
 struct Looked {
     mv: RepairMove,
     worth: bool,

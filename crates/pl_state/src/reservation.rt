@@ -21,7 +21,7 @@ pub struct Must {
 }
 
 // A must where its start stands.
-#[derive(Clone, Copy, Debug)]
+#[derive(Clone, Copy)]
 pub(crate) struct Started {
     pub(crate) must: Must,
 }
