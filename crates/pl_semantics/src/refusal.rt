@@ -1,5 +1,5 @@
 /// Why a repair move is refused. `Locked`, `Behind` and `Beyond` tell the id of the activity.
-#[derive(Clone, Copy, PartialEq, Eq)]
+#[derive(Clone, Copy, Debug, PartialEq, Eq)]
 pub enum Refusal {
     /// The move would change this one, which is committed.
     Locked(u32),
