@@ -39,11 +39,11 @@ pub(crate) fn insert_all(listed: &mut BTreeSet<Broken>, came: &[Broken]) -> Resu
 }
 
 /// Each of these once, in order.
-pub(crate) fn each_once(alloc: Global, all: &[Broken]) -> Result<Vec<Broken>, AllocError>
-    ensures members { IfOk result (λ list. (b : Broken) → has b list.items ≡ has b all.now) }
-    ensures ordered { IfOk result (λ list. IsStrictlySortedBy broken_cmp list.items) }
+pub(crate) fn each_once(mut all: Vec<Broken>) -> Vec<Broken>
+    ensures members { (b : Broken) → has b result.items ≡ has b all.items }
+    ensures ordered { IsStrictlySortedBy broken_cmp result.items }
 {
-    let mut listed = BTreeSet::new(alloc);
-    insert_all(&mut listed, all)?;
-    listed.iter().copied().collect(alloc)
+    all.sort_unstable();
+    all.dedup();
+    all
 }

@@ -163,8 +163,7 @@ impl Store {
         ensures ordered { IfOk result (λ all. IsStrictlySortedBy broken_cmp all.items) }
     {
         let found = near(alloc, model, &self.files, item, self.parent_of(item))?;
-        let all = each_once(alloc, found.as_slice())?;
-        Ok(all)
+        Ok(each_once(found))
     }
 }
 

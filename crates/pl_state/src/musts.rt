@@ -1,7 +1,8 @@
 ghost use Rattle.std.specs.Prelude.{◌≡◌, ◌≤◌, ◌-◌, length, take, drop, ◌++◌, ◌∷◌, ◌==◌, true, not, max, min, [], OnOk, IfOk, if◌then◌else◌};
+ghost use Rattle.pl_lists.specs.Lists.{back};
 ghost use Rattle.pl_points.specs.Spans.{span, joined, spans_of};
 ghost use Rattle.pl_points.specs.Standing.{without};
-ghost use Rattle.pl_state.specs.Keys.{AreSorted, AreRising, Has, IsRun};
+ghost use Rattle.pl_state.specs.Keys.{is_before, AreSorted, AreRising, Has, IsRun};
 ghost use Rattle.pl_state.specs.Sets.{AreInOrder, state_from};
 ghost use Rattle.pl_state.specs.declared.reservation.Must.{Must};
 ghost use Rattle.pl_state.specs.Musts.{must_key, same_must, with_must, broken_spans};
@@ -77,6 +78,15 @@ impl Musts {
         self.items.len()
     }
 
+    /// How many come before the key.
+    pub(crate) fn begun_count(&self, key: Key) -> usize
+        ensures sorted { AreSorted must_key self.now }
+        ensures bound { result ≤ length self.now }
+        ensures rest { drop result self.now ≡ back (is_before must_key key) self.now }
+    {
+        self.items.count(Bound::Before(key))
+    }
+
     /// Where those with the key stand, from a place on.
     pub(crate) fn run_of(&self, from: usize, key: Key) -> Run
         requires { from ≤ length self.now }
@@ -89,13 +99,26 @@ impl Musts {
         run_in(&self.items, from, key)
     }
 
-    /// Those of a run.
-    pub(crate) fn part(&self, alloc: Global, run: Run) -> Result<Vec<Must>, AllocError>
-        requires { run.begin ≤ run.behind }
-        ensures { IfOk result (λ v. v.items ≡ take (run.behind - run.begin) (drop run.begin self.now)) }
+    /// Where those of a run are broken.
+    pub(crate) fn groups_in(
+        &self,
+        alloc: Global,
+        sets: &Sets,
+        present: Present,
+        run: Run,
+    ) -> Result<Vec<BrokenMust>, AllocError>
+        requires run { run.begin ≤ run.behind }
+        requires ordered { AreInOrder 0 sets.now }
+        ensures { IfOk result (λ v. v.items ≡ broken_at present sets.now (take (run.behind - run.begin) (drop run.begin self.now))) }
     {
-        let part = self.items.part(alloc, run.begin, run.behind - run.begin)?;
-        Ok(part)
+        let count = run.behind - run.begin;
+        match self.items.within(run.begin, count) {
+            Some(musts) => groups_of(alloc, sets, present, musts),
+            None => {
+                let musts = self.items.part(alloc, run.begin, count)?;
+                groups_of(alloc, sets, present, &musts)
+            }
+        }
     }
 
     pub(crate) fn copy(&self, alloc: Global) -> Result<Musts, AllocError>
@@ -261,8 +284,8 @@ fn push_group(
     Ok(())
 }
 
-/// Where the musts are broken.
-pub(crate) fn groups_of(
+// Where the musts are broken.
+fn groups_of(
     alloc: Global,
     sets: &Sets,
     present: Present,

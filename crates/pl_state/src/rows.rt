@@ -1,5 +1,5 @@
 //! A sorted list in rows, so that an item that comes or goes moves no more than a row.
-ghost use Rattle.std.specs.Prelude.{◌≡◌, ◌<◌, ◌≤◌, ◌-◌, ◌^◌, ◌++◌, ◌∷◌, [], suc, length, take, drop, slice_index_or, OnOk, OnErr, IfOk};
+ghost use Rattle.std.specs.Prelude.{◌≡◌, ◌<◌, ◌≤◌, ◌+◌, ◌-◌, ◌^◌, ◌++◌, ◌∷◌, [], suc, length, take, drop, slice_index_or, OnOk, OnErr, IfOk, IfSome};
 ghost use Rattle.pl_lists.specs.Lists.{front, back};
 ghost use Rattle.pl_state.specs.Keys.{AreSorted};
 ghost use Rattle.pl_state.specs.Rows.{is_covered, last_passes, together, AreFilled, IsSpot};
@@ -12,6 +12,9 @@ use std::marker::Model;
 
 // A row that has as many is split before one more comes.
 const MOST: usize = 512;
+
+// So many items are looked at one by one before those behind them are searched.
+const FEW: usize = 4;
 
 /// A list in rows of 1 to 512 items.
 #[derive(Drop)]
@@ -65,6 +68,18 @@ fn covered_count<T: Keyed>(rows: &[Row<T>], bound: Bound) -> usize
         ≡ back (last_passes (is_covered T.key bound)) rows.now }
 {
     rows.partition_point(|row| row.is_covered(bound))
+}
+
+// So many items from the place on, if there are as many.
+fn few_from<T>(items: &[T], from: usize, count: usize) -> Option<&[T]>
+    requires { from ≤ length items.now }
+    ensures value { IfSome result (λ v. v.now ≡ take count (drop from items.now)) }
+    ensures few { IfSome result (λ v. from + count ≤ length items.now) }
+{
+    if count > items.len() - from {
+        return None;
+    }
+    Some(&items[from..from + count])
 }
 
 // How many items the rows have.
@@ -261,6 +276,40 @@ impl<T: Keyed> Rows<T> {
             ≡ back (is_covered T.key bound) (drop from self.now) }
     {
         self.count(bound).max(from)
+    }
+
+    /// The same, where these items are most likely few.
+    pub(crate) fn end_near(&self, from: usize, bound: Bound) -> usize
+        requires from { from ≤ length self.now }
+        requires sorted { AreSorted T.key self.now }
+        ensures low { from ≤ result }
+        ensures bound { result ≤ length self.now }
+        ensures front { take (result - from) (drop from self.now)
+            ≡ front (is_covered T.key bound) (drop from self.now) }
+        ensures rest { drop result self.now
+            ≡ back (is_covered T.key bound) (drop from self.now) }
+    {
+        for place in from..self.len().min(from.saturating_add(FEW)) {
+            if !bound.covers(self.at(place).key()) {
+                return place;
+            }
+        }
+        self.end_from(from, bound)
+    }
+
+    /// So many items from the place on, where one row has them all.
+    pub(crate) fn within(&self, from: usize, count: usize) -> Option<&[T]>
+        ensures { IfSome result (λ v. v.now ≡ take count (drop from self.now)) }
+    {
+        let mut skipped = from;
+        for row in &self.rows {
+            let items = row.as_slice();
+            if skipped < items.len() {
+                return few_from(items, skipped, count);
+            }
+            skipped -= items.len();
+        }
+        None
     }
 
     /// So many items from the place on.

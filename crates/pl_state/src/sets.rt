@@ -86,6 +86,7 @@ impl Sets {
     // How many sets come before the moment.
     fn begun_count(&self, at: u32) -> usize
         ensures bound { result ≤ length self.now }
+        ensures front { take result self.now ≡ front (comes_before at) self.now }
         ensures rest { drop result self.now ≡ back (comes_before at) self.now }
     {
         self.items.count(Bound::Earlier(at))
@@ -107,7 +108,7 @@ impl Sets {
         ensures front { take (result - from) (drop from self.now)
             ≡ front (is_passed at) (drop from self.now) }
     {
-        self.items.end_from(from, Bound::By(at))
+        self.items.end_near(from, Bound::By(at))
     }
 
     // So many sets from the place on.
@@ -228,15 +229,54 @@ pub(crate) fn end_of_base(sets: &Sets, base: u32, horizon: u32) -> u32
     next_moment(sets, count, horizon)
 }
 
-// The state that the sets before the moment leave.
-fn state_before(sets: &Sets, base: u32, value: u32, at: u32) -> u32
-    requires { AreInOrder 0 sets.now }
+// The state that the first sets leave, which are all that are at a moment or before it.
+fn state_left(sets: &Sets, base: u32, value: u32, count: usize) -> u32
+    requires ordered { AreInOrder 0 sets.now }
+    requires bound { count ≤ length sets.now }
+    ensures { (at : ℕ) → take count sets.now ≡ front (is_passed at) sets.now → result ≡ state_from base at value sets.now }
+{
+    if count == 0 {
+        return value;
+    }
+    let last = sets.at(count - 1);
+    if base < last.at { last.state } else { value }
+}
+
+// The state that the sets before the moment leave, so many.
+fn state_before(sets: &Sets, base: u32, value: u32, at: u32, begun: usize) -> u32
+    requires ordered { AreInOrder 0 sets.now }
+    requires bound { begun ≤ length sets.now }
+    requires begun { take begun sets.now ≡ front (comes_before at) sets.now }
     ensures { result ≡ state_before base at value sets.now }
 {
     if at == 0 {
         value
     } else {
-        state_of(sets, base, value, at - 1)
+        state_left(sets, base, value, begun)
+    }
+}
+
+// The sets of a part whose step is not allowed.
+fn bad_within(
+    alloc: Global,
+    any: bool,
+    steps: &[(u32, u32)],
+    counted: Span,
+    moment: u32,
+    value: u32,
+    sets: &Sets,
+    begin: usize,
+    count: usize,
+) -> Result<Vec<BadSet>, AllocError>
+    ensures { IfOk result (λ v. v.items ≡ bad_from
+        (is_allowed any steps.now) counted.from counted.to moment value (take count (drop begin sets.now))) }
+{
+    match sets.items.within(begin, count) {
+        Some(part) => bad_of(alloc, any, steps, counted, moment, value, part),
+        None => {
+            let part = sets.part(alloc, begin, count)?;
+            bad_of(alloc, any, steps, counted, moment, value, &part)
+        }
     }
 }
 
@@ -258,11 +298,12 @@ pub(crate) fn bad_near(
         (state_before counted.from near.from value sets.now)
         (front (is_passed near.to) (back (comes_before near.from) sets.now))) }
 {
-    let state = state_before(sets, counted.from, value, near.from);
     let begin = sets.begun_count(near.from);
-    let end = sets.passed_from(begin, near.to);
-    let window = sets.part(alloc, begin, end - begin)?;
-    let bad = bad_of(alloc, any, steps, counted, moment, state, &window)?;
+    let state = state_before(sets, counted.from, value, near.from, begin);
+    let count = sets.passed_from(begin, near.to) - begin;
+    let bad = bad_within(
+        alloc, any, steps, counted, moment, state, sets, begin, count,
+    )?;
     Ok(bad)
 }
 
@@ -272,11 +313,7 @@ pub(crate) fn state_of(sets: &Sets, base: u32, value: u32, at: u32) -> u32
     ensures { result ≡ state_from base at value sets.now }
 {
     let count = sets.passed_count(at);
-    if count == 0 {
-        return value;
-    }
-    let last = sets.at(count - 1);
-    if base < last.at { last.state } else { value }
+    state_left(sets, base, value, count)
 }
 
 // Up to where the state stays as it is at the moment.

@@ -6,18 +6,18 @@ use Rattle.std.proofs.lemmas.List.{get_or_default}
 use Rattle.pl_points.proofs.PointLists.{near_step}
 use Rattle.pl_blocks.specs.Blocks.{change_of, least_sum, greatest_sum}
 use Rattle.pl_blocks.proofs.Summaries.{low_step, high_step}
-use Rattle.pl_blocks.proofs.block.Block.new.Goals as goal
+use Rattle.pl_blocks.proofs.block.summary_of.Goals as goal
 
 pub overflow_add-sum : goal.overflow_add-sum
 overflow_add-sum g c =
-    let ps = c.as_slice-point-items.result.now in
+    let ps = c.args.points.now in
     let i = c.loop-point.point-index in
     let p = get_or ps i (0, pos 0) in
     (near_step (to_z w64 c.loop-point.sum-bits) ps i (i + 1) p c.loop-point-test.true refl (get_or_default ps i (0, pos 0) p c.loop-point-test.true) c.loop-point.invariant.near).0
 
 pub loop-point-preserved : goal.loop-point-preserved
 loop-point-preserved g c =
-    let ps = c.as_slice-point-items.result.now in
+    let ps = c.args.points.now in
     let i = c.loop-point.point-index in
     let p = get_or ps i (0, pos 0) in
     let s = to_z w64 c.loop-point.sum-bits in
