@@ -1,10 +1,10 @@
 -- Marks that come to moves, and moves that have none.
-use Rattle.std.proofs.Common.{◌≡◌, ◌≢◌, ⊎_elim, ℕ, refl, ◌<◌, List, [], ◌∷◌, ◌++◌, length, set, true, false, Bool, sym, ◌∙◌, subst, ap}
-use Rattle.std.specs.Prelude.{All, slice_index_or}
+use Rattle.std.proofs.Common.{◌≡◌, ◌≢◌, ⊎_elim, refl, ◌<◌, List, [], ◌∷◌, length, set, true, false, Bool, sym, ◌∙◌, subst, ap}
+use Rattle.std.specs.Prelude.{slice_index_or}
 use Rattle.std.specs.List.{list_any}
 use Rattle.std.proofs.lemmas.Bool.{cases_eq}
 use Rattle.std.proofs.lemmas.List.{get_or-set_same, get_or-set_other}
-use Rattle.std.proofs.lemmas.List.Elements.{All-push, All-weaker}
+use Rattle.std.proofs.lemmas.List.Elements.{All-head, All-push, All-tail, All-weaker}
 use Rattle.pl_plan.specs.declared.repair.RepairMove.{RepairMove}
 use Rattle.pl_semantics.specs.Candidates.{same_move}
 use Rattle.pl_cand.specs.Marks.{place_of, is_marked, AreMarked, KeepsMarked}
@@ -25,8 +25,11 @@ marked_more marks m within = λ kept marked.
 -- a move without a mark is none of those that are marked
 pub unmarked : (marks : List Bool) (m : RepairMove) (kept : List RepairMove) → AreMarked marks kept → is_marked marks m ≡ false → list_any (same_move m) kept ≡ false
 unmarked marks m [] marked none = refl
-unmarked marks m (k ∷ kept) marked none = cases (same_move m k) refl
+unmarked marks m (k ∷ kept) marked none = cases (same_move m k) refl (unmarked marks m kept (All-tail (λ j. is_marked marks j ≡ true) k kept marked) none)
   where
-    cases : (b : Bool) → same_move m k ≡ b → list_any (same_move m) (k ∷ kept) ≡ false
-    cases true e = let there : is_marked marks m ≡ true = ap (is_marked marks) (one_move m k e) ∙ marked.0 in absurd (cc)
-    cases false e = rw e (unmarked marks m kept marked.1 none)
+    cases : (b : Bool) → same_move m k ≡ b → list_any (same_move m) kept ≡ false → list_any (same_move m) (k ∷ kept) ≡ false
+    cases true e rest =
+        let of_kept : is_marked marks k ≡ true = All-head (λ j. is_marked marks j ≡ true) k kept marked in
+        let there : is_marked marks m ≡ true = ap (is_marked marks) (one_move m k e) ∙ of_kept in
+        absurd (cc)
+    cases false e rest = rw e rest
