@@ -6,7 +6,7 @@ ghost use Rattle.pl_acts.specs.Inside.{is_over};
 use crate::held::Held;
 
 /// Who has something to do in a plan as it stands.
-#[derive(Clone, Copy, Debug, PartialEq, Eq)]
+#[derive(Clone, Copy, PartialEq, Eq)]
 pub struct Busy {
     pub planner: bool,
     pub executive: bool,

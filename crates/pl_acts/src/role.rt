@@ -32,7 +32,7 @@ impl Role {
 }
 
 /// What came of one act.
-#[derive(Clone, Copy, Debug, PartialEq, Eq)]
+#[derive(Clone, Copy, PartialEq, Eq)]
 pub enum Acted {
     /// The entry with this number was made.
     Did(u32),

@@ -110,7 +110,7 @@ fn is_kept(kept: &[RepairMove], marks: &[bool], mv: &RepairMove) -> bool
 }
 
 // A move that was looked at, and whether it makes sense and changes something.
-#[derive(Clone, Copy, Debug)]
+#[derive(Clone, Copy)]
 struct Looked {
     mv: RepairMove,
     worth: bool,

@@ -13,7 +13,7 @@ use std::alloc::{AllocError, Global};
 use std::collections::BTreeSet;
 
 /// What came to the list of what is broken, and what went, each once and in order.
-#[derive(Debug, Drop)]
+#[derive(Drop)]
 pub struct Changes {
     pub came: Vec<Broken>,
     pub went: Vec<Broken>,

@@ -21,7 +21,7 @@ use std::collections::BTreeSet;
 use std::collections::btree_set::Range;
 
 /// The placed activities, which contracts see by rising id, and the list of what they break.
-#[derive(Debug, Drop)]
+#[derive(Drop)]
 pub struct Links {
     alloc: Global,
     store: Store,

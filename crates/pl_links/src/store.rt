@@ -23,7 +23,7 @@ use std::alloc::{AllocError, Global};
 use std::collections::BTreeMap;
 
 /// The placed activities with their indexes, which contracts see by rising id.
-#[derive(Debug, Drop)]
+#[derive(Drop)]
 pub(crate) struct Store {
     items: BTreeMap<u32, Placed>,
     files: Files,

@@ -1,5 +1,5 @@
 /// What the words ask for.
-#[derive(Clone, Copy, Debug, PartialEq, Eq)]
+#[derive(Clone, Copy, PartialEq, Eq)]
 pub enum Command {
     /// Plans a mission with a planner and an executive in threads of their own. The repair turns of a round are from 1 to
     /// 1,000, the seed of the planner's chooser is up to 999,999,999,999,999,999.
@@ -8,7 +8,7 @@ pub enum Command {
 }
 
 /// A job of one thread. The repair turns of a round are from 1 to 1,000.
-#[derive(Clone, Copy, Debug, PartialEq, Eq)]
+#[derive(Clone, Copy, PartialEq, Eq)]
 pub enum Task {
     /// Plans a mission.
     Solo { turns: u32 },
@@ -32,7 +32,7 @@ pub enum Task {
 
 /// Plans a mission and looks ahead. The repair turns of a round are from 1 to 1,000, and up to 1,000,000 plans may be looked at for
 /// a message.
-#[derive(Clone, Copy, Debug, PartialEq, Eq)]
+#[derive(Clone, Copy, PartialEq, Eq)]
 pub struct Ahead {
     pub turns: u32,
     pub worlds: u32,

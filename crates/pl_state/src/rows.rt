@@ -36,7 +36,7 @@ impl<T> Model for Rows<T> {
 }
 
 // Where a place lies: in which row, and behind how many items of the row.
-#[derive(Clone, Copy, Debug)]
+#[derive(Clone, Copy)]
 struct Spot {
     row: usize,
     at: usize,
