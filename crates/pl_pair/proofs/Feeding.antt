@@ -39,7 +39,7 @@ use Rattle.pl_pair.specs.Rounds.{Follows, LooksAtPlan, IsBetween, lines_behind, 
 use Rattle.std.specs.Prelude.{IsErrOf}
 use Rattle.std.proofs.lemmas.Option.{same_Some}
 use Rattle.pl_input.specs.Places.{Place}
-use Rattle.pl_pair.specs.Asking.{Asks, HandsOn, HandsNone, Passes, PassesTo}
+use Rattle.pl_pair.specs.Asking.{Asks, IsFed, HandsOn, HandsNone, Passes, PassesTo}
 use Rattle.pl_pair.specs.Feeds.{spoken, said_in, IsInput, AreInputs, Reads, unasked, asked, Heard, HandsOnMessages, HandsOne, WritesAll, FeedsRound, FeedsLastRound, StepsCut, in_round, at_message, FeedsRoundOrStops, Feeding, Waiting, FeedsOut, FeedsUntil, FeedsRefused, FeedsTorn, for_lines, for_message, for_reader, refused, stopped, FeedsAll, FeedsToEnd}
 use Rattle.pl_pair.proofs.Passing.{follows_self, follows_on, entries_longer, behind_looks}
 
@@ -186,7 +186,7 @@ pub own_stands : (plan : SharedPlan) (pass : PlanPass) → BelongsTo plan pass �
 own_stands plan pass own = All-head (StandsIn (seen_of pass)) (mine_of pass) (crew_of pass).joined own.lock.stands
 
 -- its entry stands behind what was seen before it
-one_due : (mid new : PlanPass) (next number : ℕ) (line : Option (List ℕ)) → Makes (IsInputOf line) mid new number → next ≡ length (entries_in (seen_of mid)) → next < length (entries_in (seen_of new))
+one_due : (mid new : PlanPass) (next number : ℕ) (line : Option (List ℕ)) → Makes (IsFed line) mid new number → next ≡ length (entries_in (seen_of mid)) → next < length (entries_in (seen_of new))
 one_due mid new next number line makes count =
     let before = seen_of mid ++ makes.between in
     let whole : entries_in (seen_of new) ≡ entries_in before ++ makes.entry ∷ [] = ap entries_in makes.seen ∙ filter_map-append entry_in before (Made makes.entry ∷ []) in
@@ -194,7 +194,7 @@ one_due mid new next number line makes count =
     let longer = entries_longer (seen_of mid) before (makes.between, refl) in
     omega (arith, long, longer, count)
 
-hands_one : (plan : SharedPlan) (old mid new : PlanPass) (number : ℕ) (line : Option (List ℕ)) → BelongsTo plan mid → Follows old mid → Makes (IsInputOf line) mid new number → InWorld (seen_of mid) IsBetween → HandsOne old (seen_of mid) (mine_of new)
+hands_one : (plan : SharedPlan) (old mid new : PlanPass) (number : ℕ) (line : Option (List ℕ)) → BelongsTo plan mid → Follows old mid → Makes (IsFed line) mid new number → InWorld (seen_of mid) IsBetween → HandsOne old (seen_of mid) (mine_of new)
 hands_one plan old mid new number line own follows makes between = record {
   longer = follows.longer;
   plan = own.seen;

@@ -22,10 +22,9 @@ use Rattle.pl_acts.proofs.Items.{model_in_items, length_going}
 use Rattle.pl_pair.specs.declared.cut.Cut.{Cut}
 use Rattle.pl_pair.specs.declared.cut.Cut.TheVariants as cut
 use Rattle.pl_input.specs.declared.halt.Halt.TheVariants as halt
-use Rattle.pl_pair.specs.declared.duty.Duty.{Duty}
 use Rattle.pl_pair.specs.declared.duty.Duty.TheVariants.{Repair, Execute}
 use Rattle.pl_pair.specs.declared.worker.Worker.{Worker}
-use Rattle.pl_pair.specs.Duties.{chooser_of, begun_of}
+use Rattle.pl_pair.specs.Duties.{chooser_of}
 use Rattle.pl_pair.specs.Served.{IsHired, IsWorker}
 use Rattle.pl_pair.specs.Rounds.{Follows}
 use Rattle.pl_input.specs.Places.{Place}
@@ -117,6 +116,16 @@ feeds_follows plan m old new place end held now (Err c) feeds = follows_on old f
     by cut.Full f = follows_on old f.mid feeds.mid f.waiting.tells.follows f.follows
     by cut.Stopped f = by_cut f
 
+-- the passes that the workers are handed
+pub hired_one : (plan : SharedPlan) (seed begun : ℕ) (start : State) (new one : PlanPass) → begun ≡ length start.log → seen_of new ≡ items_of start.model start.log false → seen_of one ≡ seen_of new → BelongsTo plan one → mine_of one ≡ []
+    → IsHired plan (Repair seed begun) one
+hired_one plan seed begun start new one is seen same own none =
+    let long : length (seen_of one) ≡ length start.log = ap length (same ∙ seen) ∙ length_going start.model start.log false refl in
+    record { own = own; new = none; begun = omega (arith, is, long) }
+
+pub hired_two : (plan : SharedPlan) (two : PlanPass) → BelongsTo plan two → mine_of two ≡ [] → IsHired plan Execute two
+hired_two plan two own none = record { own = own; new = none; begun = omega arith }
+
 -- The plan's first pass, and the same once two were split off.
 pub record Split (start : State) (new p1 p2 : PlanPass) : Type 0 where
   pub seen : seen_of new ≡ items_of start.model start.log false
@@ -141,18 +150,6 @@ module _ (start : State) (new p1 p2 : PlanPass) (split : Split start new p1 p2) 
         ap (λ c. c.made) same ∙ two,
         ap (λ c. c.joined) same ∙ (ap (λ c. c.joined) split.crew2 ∙ (ap (λ c. c.joined) split.crew1 ∙ ap (λ c. c.joined) split.crew)),
       )
-
-  -- the passes that the workers are handed
-  hired_of : (plan : SharedPlan) (duty : Duty) (pass : PlanPass) → begun_of duty ≤ length start.log → BelongsTo plan pass → mine_of pass ≡ [] → seen_of pass ≡ items_of start.model start.log false → IsHired plan duty pass
-  hired_of plan duty pass le own none same =
-      let long : length (seen_of pass) ≡ length start.log = ap length same ∙ length_going start.model start.log false refl in
-      record { own = own; new = none; begun = omega (arith, le, long) }
-
-  pub hired_one : (plan : SharedPlan) (seed begun : ℕ) (one : PlanPass) → begun ≡ length start.log → BelongsTo plan one → mine_of one ≡ [] → seen_of one ≡ seen_of new → IsHired plan (Repair seed begun) one
-  hired_one plan seed begun one is own none same = hired_of plan (Repair seed begun) one (omega (arith, is)) own none (same ∙ split.seen)
-
-  pub hired_two : (plan : SharedPlan) (two : PlanPass) → BelongsTo plan two → mine_of two ≡ [] → seen_of two ≡ seen_of p1 → IsHired plan Execute two
-  hired_two plan two own none same = hired_of plan Execute two (omega arith) own none (same ∙ (split.seen1 ∙ split.seen))
 
   abbrev pub joined_of : (plan : SharedPlan) (seed : ℕ) (first : PlanPass) (w1 w2 : Worker) (machine : State) → Legal start.model start.log → (world_of start.model start.log).done ≡ false → Follows p2 first → BelongsTo plan first → IsWorker plan (Repair seed (length start.log)) w1 → IsWorker plan Execute w2
       → ClosesAll first w1.pass w2.pass machine → Joined start.model start.log first w1 w2

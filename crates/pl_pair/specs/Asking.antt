@@ -6,6 +6,9 @@ use Rattle.pl_machine.specs.declared.stop.Stop.TheVariants as stop
 use Rattle.pl_input.specs.Reads.{OneLine}
 use Rattle.pl_input.specs.Waits.{MessageGives, GetsFault, line_in}
 use Rattle.pl_input.specs.Places.{Place}
+use Rattle.pl_entry.specs.declared.entry.Entry.{Entry}
+use Rattle.pl_acts.specs.declared.noted.Noted.{Noted}
+use Rattle.pl_acts.specs.Items.{InWorld}
 use Rattle.pl_acts.specs.Roles.{IsInputOf}
 use Rattle.pl_shared.specs.Plans.{PlanPass}
 use Rattle.pl_shared.specs.Turns.{Makes, MakesNothing, Feeds}
@@ -28,9 +31,13 @@ abbrev pub Asks : Place → Result (Option NumberedLine) LineFault → Place →
 Asks old (Ok message) new = (old.reader.failed ≡ None) × MessageGives old.reader old.ahead (Ok message) new.reader new.ahead
 Asks old (Err f) new = Faults old f new
 
+-- the entry of this line, or of the end of the input
+abbrev pub IsFed : Option (List ℕ) → List Noted → Entry → Type 0
+IsFed line before e = InWorld before (λ w. IsInputOf line w e)
+
 -- what came of handing a message to the plan
 abbrev pub HandsIn : Option (List ℕ) → PlanPass → Result (Unit {0}) Cut → PlanPass → Type 0
-HandsIn line old (Ok u) new = (number : ℕ) × Makes (IsInputOf line) old new number
+HandsIn line old (Ok u) new = (number : ℕ) × Makes (IsFed line) old new number
 HandsIn line old (Err cut.Full) new = Feeds line old (Err stop.LogFull) new
 HandsIn line old (Err cut.Stopped) new = Feeds line old (Err stop.NotNow) new
 HandsIn line old (Err cut.Memory) new = MakesNothing old new

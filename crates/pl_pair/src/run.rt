@@ -36,7 +36,7 @@ fn close(plan: SharedPlan, mut pass: Pass, planner: Pass, executive: Pass) -> Ma
 }
 
 /// A run over a model that is the machine's.
-#[tactic(auto, using(crate::proofs::Running::runs_none, crate::proofs::Causes::ended_read, crate::proofs::Causes::ended_write))]
+#[tactic(auto, using(crate::proofs::Running::runs_none, crate::proofs::Running::hired_one, crate::proofs::Running::hired_two, crate::proofs::Causes::ended_read, crate::proofs::Causes::ended_write))]
 fn run_over<R: Threads + Wait + Sync, S: Source, O: Sink, G: Gate + Sync>(
     rt: &R,
     alloc: Global,

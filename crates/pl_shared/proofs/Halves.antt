@@ -51,6 +51,7 @@ looked_here old new draft on looks = record {
 -- the chooser was asked on the replica
 pub copied : (old new : PlanPass) (g g2 : Lcg) (draft : Draft) (sight : Sight) → IsPrefix (seen_of old) (seen_of new) → Looks old (Ok (looked.Open draft)) new → IsAsked g draft.replica.model (log_of draft) sight
     → g2 ≡ seeded_after g → Views (Planner g) old (Ok (view.Copy sight)) (Planner g2) new
+unfolding looked_here
 copied old new g g2 draft sight on looks asked drew =
     let model = draft.replica.model in
     let log = log_of draft in

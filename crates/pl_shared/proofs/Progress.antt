@@ -113,6 +113,7 @@ module _ (start now new : PlanPass) (r r2 r3 : Role) (count : ℕ) (so_far : Wor
 
   -- and its chooser may have been asked in vain
   idle : mine_of new ≡ mine_of now → IsKept r2 (low_of now) (seen_of new) r3 → Working start r count new r3
+  unfolding keeps_working
   idle same kept =
       let still = keeps_working same in
       let low : low_behind (low_of start) so_far.works.own ≤ low_of now = low_within r r2 (low_of start) (seen_of now) so_far.works.own so_far_low so_far.works.made in
@@ -205,6 +206,7 @@ module _ (start now mid new : PlanPass) (r r2 r3 : Role) (count : ℕ) where
   -- what the chooser is where memory was wanting
   asked_behind : (so_far : Working start r count now r2) → TakesTurn now mid → mine_of mid ≡ mine_of now → IsAskedAtMost r2 (low_of now) (seen_of mid) r3 → TakesTurn mid new → Stops mid new
       → (works : WorksUntil r start r2 new) × WasAskedAtMost r2 works.own (seen_of new) r3
+  unfolding keeps_working
   asked_behind so_far takes same asked takes2 stops =
       let still : Working start r count mid r2 = keeps_working start now mid r r2 r3 count so_far takes same in
       let all : Until start new r r2 still.works.own = until start mid new r r2 count still takes2.longer stops in

@@ -43,7 +43,7 @@ impl SharedPlan {
         looked
     }
 
-    #[tactic(auto, using(crate::proofs::Halves::viewed, crate::proofs::Halves::copied, crate::proofs::Halves::view_stops, crate::proofs::Halves::ask_stops))]
+    #[tactic(auto, using(crate::proofs::Halves::viewed, crate::proofs::Halves::copied, crate::proofs::Halves::view_stops))]
     fn view_plan<R: Wait>(
         &self,
         rt: &R,
@@ -58,10 +58,10 @@ impl SharedPlan {
     {
         match self.look(rt, alloc, pass)? {
             Looked::Settled(acted) => Ok(View::Settled(acted)),
-            Looked::Open(draft) => {
-                let sight = ask(chooser, draft)?;
-                Ok(View::Copy(sight))
-            }
+            Looked::Open(draft) => match ask(chooser, draft) {
+                Ok(sight) => Ok(View::Copy(sight)),
+                Err(_) => Err(Stop::Memory),
+            },
         }
     }
 

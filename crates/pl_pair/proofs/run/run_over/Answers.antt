@@ -4,12 +4,6 @@ use Rattle.pl_pair.specs.Runs.{PairRun}
 use Rattle.pl_pair.proofs.Running.{runs_whole}
 use Rattle.pl_pair.proofs.run.run_over.Goals as goal
 
-pub run_workers-remains-requires-clause-planner : goal.run_workers-remains-requires-clause-planner
-run_workers-remains-requires-clause-planner g c =
-    hired_one c.args.machine c.in-Ok.pass c.split.new.pass c.split-2.new.pass
-    (record { seen = c.in-Ok.ensures.seen; crew = c.in-Ok.ensures.first; seen1 = c.split.ensures.kept.0; crew1 = c.split.ensures.crew; seen2 = c.split-2.ensures.kept.0; crew2 = c.split-2.ensures.crew })
-    c.in-Ok.plan c.args.seed c.entries-begun.result _ c.entries-begun.ensures ? ? ?
-
 pub returns-clause-run : goal.returns-clause-run
 returns-clause-run g c = let ran = c.run_workers-remains in
     let start = place_of c.args.lines.now (g.S.Source.left c.args.src.now) in
