@@ -28,6 +28,16 @@ impl Author {
     }
 }
 
+impl Author {
+    /// What a gate is told of who acts: a planner's number, and 0 for all others.
+    pub fn worker(self) -> u8 {
+        match self {
+            Author::Feeder | Author::Executive => 0,
+            Author::Planner(number) => number,
+        }
+    }
+}
+
 impl Copied for Author {
     fn copy(&self, _alloc: Global) -> Result<Author, AllocError> {
         Ok(*self)
