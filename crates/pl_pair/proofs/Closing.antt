@@ -1,8 +1,9 @@
 -- What the whole history says of the three own lists.
-use Rattle.std.proofs.Common.{◌≡◌, ◌≢◌, ℕ, suc, ◌+◌, ◌≤◌, ◌<◌, List, [], ◌∷◌, ◌++◌, length, map, drop, filter, cond, nat_eq, Bool, true, false, not, Option, Some, None, slice_get, refl, sym, ◌∙◌, ap, subst, arith, inl, inr, ne_eqb, append_assoc, length-append}
+use Rattle.std.proofs.Common.{◌≡◌, ◌≢◌, ℕ, suc, ◌+◌, ◌≤◌, ◌<◌, List, [], ◌∷◌, ◌++◌, length, map, drop, filter, cond, nat_eq, Bool, true, false, not, Option, Some, None, slice_get, get_or, refl, sym, ◌∙◌, ap, subst, arith, inl, inr, ne_eqb, append_assoc, length-append}
 use Rattle.std.specs.Prelude.{◌&&◌}
 use Rattle.std.specs.List.{All, filter_map, list_any}
 use Rattle.std.proofs.lemmas.Bool.{eqb-true}
+use Rattle.std.proofs.lemmas.List.{length-map}
 use Rattle.std.proofs.lemmas.List.Sums.{sum_by-cons, sum_by-append}
 use Rattle.std.proofs.lemmas.List.Elements.{All-nil, All-cons, All-head, All-tail, All-append}
 use Rattle.std.proofs.lemmas.Option.{slice_get_within, same_Some}
@@ -27,12 +28,15 @@ use Rattle.pl_acts.specs.declared.noted.Noted.TheVariants.{Opened, Made, Stopped
 use Rattle.pl_acts.specs.Items.{stop_items, items_of, entries_in, model_in, is_stop, stop_in, OfWorld, InWorld}
 use Rattle.pl_acts.specs.Roles.{is_input, is_repair, is_executed, is_entry}
 use Rattle.pl_acts.specs.Seen.{IsPlan}
+use Rattle.pl_shared.specs.declared.plan.SharedPlan.{SharedPlan}
 use Rattle.pl_shared.specs.Plans.{PlanPass, Closes}
 use Rattle.pl_acts.proofs.Items.{entries_in_items, model_in_items, model_in_prefix}
 use Rattle.pl_pair.specs.Served as serving
 use Rattle.pl_pair.specs.Served.{AreOf, IsStopAtMost, AreOfUntil}
 use Rattle.pl_pair.specs.Rounds.{IsBetween}
 use Rattle.pl_pair.specs.Feeds.{IsInput, AreInputs}
+use Rattle.pl_pair.specs.declared.worker.Worker.{Worker}
+use Rattle.pl_pair.specs.Joins.{JoinsAll, own_lists_of}
 use Rattle.pl_pair.specs.Runs.{ClosesAll}
 use Rattle.pl_machine.proofs.Going.{world_goes}
 use Rattle.pl_pair.proofs.Ending.{enabled_going, steps_behind}
@@ -47,46 +51,31 @@ same_model seen whole m plan on is =
     let there : Some plan.model ≡ Some m = sym (model_in_prefix seen whole plan.model on here) ∙ is in
     here ∙ there
 
-module _ (first planner executive mid last : PlanPass) (machine : State) where
-  joined_lists : joined_by first ≡ [] → joined_by mid ≡ joined_by first ++ mine_of planner ∷ [] → joined_by last ≡ joined_by mid ++ mine_of executive ∷ [] → mine_of mid ≡ mine_of first → mine_of last ≡ mine_of mid
-      → lists_of last ≡ mine_of first ∷ mine_of planner ∷ mine_of executive ∷ []
-  joined_lists none one two same same2 =
-      let j1 : joined_by mid ≡ mine_of planner ∷ [] = one ∙ ap (λ (ls : List (List (ℕ × Noted))). ls ++ mine_of planner ∷ []) none in
-      let j2 : joined_by last ≡ mine_of planner ∷ mine_of executive ∷ [] = two ∙ ap (λ (ls : List (List (ℕ × Noted))). ls ++ mine_of executive ∷ []) j1 in
-      ap (λ (l : List (ℕ × Noted)). l ∷ joined_by last) (same2 ∙ same) ∙ ap (λ (ls : List (List (ℕ × Noted))). mine_of first ∷ ls) j2
+module _ (plan : SharedPlan) (workers : List Worker) (first last : PlanPass) (joins : JoinsAll plan workers first last) (none : joined_by first ≡ []) where
+  joined_is : joined_by last ≡ own_lists_of workers
+  joined_is = ap (λ c. c.joined) joins.crew ∙ ap (λ (ls : List (List (ℕ × Noted))). ls ++ own_lists_of workers) none
 
-  module _ (none : joined_by first ≡ []) (crew1 : crew_of mid ≡ record (crew_of first) { joined = joined_by first ++ mine_of planner ∷ [] })
-      (crew2 : crew_of last ≡ record (crew_of mid) { joined = joined_by mid ++ mine_of executive ∷ [] }) where
-    one : joined_by mid ≡ joined_by first ++ mine_of planner ∷ []
-    one = ap (λ c. c.joined) crew1
+  joined_lists : lists_of last ≡ mine_of first ∷ own_lists_of workers
+  joined_lists = ap (λ (l : List (ℕ × Noted)). l ∷ joined_by last) joins.mine ∙ ap (λ (ls : List (List (ℕ × Noted))). mine_of first ∷ ls) joined_is
 
-    two : joined_by last ≡ joined_by mid ++ mine_of executive ∷ []
-    two = ap (λ c. c.joined) crew2
+  -- every pass that was split off is joined
+  pub all_joined : made_by first ≡ length workers → made_by last ≡ length (joined_by last)
+  all_joined made = ap (λ c. c.made) joins.crew ∙ made ∙ sym (ap (λ (ls : List (List (ℕ × Noted))). length ls) joined_is ∙ length-map workers (λ (w : Worker). mine_of w.pass))
 
-    pub all_joined : made_by first ≡ 2 → made_by last ≡ length (joined_by last)
-    all_joined made =
-        let j1 : joined_by mid ≡ mine_of planner ∷ [] = one ∙ ap (λ (ls : List (List (ℕ × Noted))). ls ++ mine_of planner ∷ []) none in
-        let j2 : joined_by last ≡ mine_of planner ∷ mine_of executive ∷ [] = two ∙ ap (λ (ls : List (List (ℕ × Noted))). ls ++ mine_of executive ∷ []) j1 in
-        ap (λ c. c.made) crew2 ∙ (ap (λ c. c.made) crew1 ∙ (made ∙ sym (ap (λ (ls : List (List (ℕ × Noted))). length ls) j2)))
-
-    pub closes_all : IsPlan (seen_of first) → IsPrefix (seen_of first) (seen_of mid) × IsPrefix (seen_of planner) (seen_of mid) → mine_of mid ≡ mine_of first
-        → IsPrefix (seen_of mid) (seen_of last) × IsPrefix (seen_of executive) (seen_of last) → mine_of last ≡ mine_of mid → Closes last machine → ClosesAll first planner executive machine
-    closes_all plan begins same begins2 same2 closes =
-        let items = items_of machine.model machine.log closes.stopped in
-        let lists = joined_lists none one two same same2 in
-        let opening : opening_of last ≡ opening_of first = ap (λ c. c.opening) crew2 ∙ ap (λ c. c.opening) crew1 in
-        let O : (ℕ × List (List (ℕ × Noted))) → Type 0 = λ t. IsEachOnce t.0 (length items) (λ place. times_in place t.1) in
-        let behind : IsPrefix (seen_of mid) items = prefix_trans (seen_of mid) (seen_of last) items begins2.0 closes.history in
-        record {
-          stopped = closes.stopped;
-          legal = closes.legal;
-          model = same_model (seen_of first) (seen_of last) machine.model plan (prefix_trans (seen_of first) (seen_of mid) (seen_of last) begins.0 begins2.0) closes.model;
-          first_seen = prefix_trans (seen_of first) (seen_of mid) items begins.0 behind;
-          planner_seen = prefix_trans (seen_of planner) (seen_of mid) items begins.1 behind;
-          executive_seen = prefix_trans (seen_of executive) (seen_of last) items begins2.1 closes.history;
-          stands = subst (λ (ls : List (List (ℕ × Noted))). All (StandsIn items) ls) lists closes.stands;
-          owners = subst O (λ i. (opening i, lists i)) closes.owners;
-        }
+  pub closes_all : (machine : State) → IsPlan (seen_of first) → Closes last machine → ClosesAll first workers machine
+  closes_all machine plan' closes =
+      let items = items_of machine.model machine.log closes.stopped in
+      let opening : opening_of last ≡ opening_of first = ap (λ c. c.opening) joins.crew in
+      let O : (ℕ × List (List (ℕ × Noted))) → Type 0 = λ t. IsEachOnce t.0 (length items) (λ place. times_in place t.1) in
+      record {
+        stopped = closes.stopped;
+        legal = closes.legal;
+        model = same_model (seen_of first) (seen_of last) machine.model plan' joins.longer closes.model;
+        first_seen = prefix_trans (seen_of first) (seen_of last) items joins.longer closes.history;
+        workers_seen = λ k w lt. prefix_trans (seen_of (get_or workers k w).pass) (seen_of last) items (joins.begins k w lt) closes.history;
+        stands = subst (λ (ls : List (List (ℕ × Noted))). All (StandsIn items) ls) joined_lists closes.stands;
+        owners = subst O (λ i. (opening i, joined_lists i)) closes.owners;
+      }
 
 pub still_leads : (old new : PlanPass) (joined : List (List (ℕ × Noted))) → crew_of new ≡ record (crew_of old) { joined = joined } → leads old ≡ true → leads new ≡ true
 still_leads old new joined crew first = ap (λ c. c.leads) crew ∙ first
@@ -168,6 +157,9 @@ at_other p x ne = ap (λ (b : Bool). cond b 1 0) (ne_eqb x.0 p ne)
 at_same : (p : ℕ) (x : ℕ × Noted) → one_at p x ≡ 1 → x.0 ≡ p
 at_same p x e = eqb-true x.0 p (spends_true (nat_eq x.0 p) e)
 
+abbrev pub NoInputs : List (ℕ × Noted) → Type 0
+NoInputs own = All (λ x. is_entry is_input x.1 ≡ false) own
+
 -- of entries that are no inputs none stands at an input's place
 times_failing : (h : List Noted) (low p : ℕ) (e : Noted) (own : List (ℕ × Noted)) → StandsFrom h low own → All (λ x. is_entry is_input x.1 ≡ false) own → slice_get h p ≡ Some e → is_entry is_input e ≡ true → times_at p own ≡ 0
 times_failing h low p e [] s fails at passes = refl
@@ -178,6 +170,13 @@ times_failing h low p e (x ∷ xs) s fails at passes =
     let both : true ≡ false = sym passes ∙ (ap (is_entry is_input) (sym is) ∙ All-head (λ y. is_entry is_input y.1 ≡ false) x xs fails) in absurd (cc both)) in
     let none = at_other p x here in
     let rest = times_failing h (suc x.0) p e xs s.2 (All-tail (λ y. is_entry is_input y.1 ≡ false) x xs fails) at passes in omega (arith, sum_by-cons (one_at p) x xs)
+
+-- nor in several such lists
+none_failing : (h : List Noted) (p : ℕ) (e : Noted) (lists : List (List (ℕ × Noted))) → All (StandsIn h) lists → All NoInputs lists → slice_get h p ≡ Some e → is_entry is_input e ≡ true → times_in p lists ≡ 0
+none_failing h p e [] stands none at passes = refl
+none_failing h p e (own ∷ lists) stands none at passes =
+    let here = times_failing h 0 p e own (All-head (StandsIn h) own lists stands) (All-head NoInputs own lists none) at passes in
+    let rest = none_failing h p e lists (All-tail (StandsIn h) own lists stands) (All-tail NoInputs own lists none) at passes in omega (arith, sum_by-cons (times_at p) own lists, here, rest)
 
 -- what stands in a front has no place behind it
 times_within : (h : List Noted) (low p : ℕ) (own : List (ℕ × Noted)) → StandsFrom h low own → length h ≤ p → times_at p own ≡ 0
@@ -206,9 +205,6 @@ executed_no_input event.Rest e = refl
 executed_no_input (event.Commit h) e = refl
 executed_no_input event.Dispatch e = refl
 executed_no_input event.Close e = refl
-
-abbrev pub NoInputs : List (ℕ × Noted) → Type 0
-NoInputs own = All (λ x. is_entry is_input x.1 ≡ false) own
 
 item_no_input : (test : Event → Bool) → ((v : Event) → test v ≡ true → is_input v ≡ false) → (x : Noted) → is_entry test x ≡ true → is_entry is_input x ≡ false
 item_no_input test apart (Opened m e) is = refl
@@ -328,34 +324,30 @@ pub feeder_until : (inputs : List (Option (List ℕ))) (own mine : List (ℕ × 
 feeder_until inputs own mine list = record { own = own; rest = list.rest; whole = list.whole; kinds = inputs_kind inputs own list.are; behind = list.behind }
 
 -- the own lists with the feeder's taken apart
-module _ (items : List Noted) (inputs : List (Option (List ℕ))) (own feeder planner executive : List (ℕ × Noted)) (list : FeederList inputs own feeder)
-    (stands : All (StandsIn items) (feeder ∷ planner ∷ executive ∷ [])) (no_planner : NoInputs planner) (no_executive : NoInputs executive) where
+module _ (items : List Noted) (inputs : List (Option (List ℕ))) (own feeder : List (ℕ × Noted)) (others : List (List (ℕ × Noted))) (list : FeederList inputs own feeder)
+    (stands : All (StandsIn items) (feeder ∷ others)) (no_others : All NoInputs others) where
   feeder_stands : StandsIn items (own ++ list.rest)
-  feeder_stands = subst (λ (l : List (ℕ × Noted)). StandsIn items l) list.whole (All-head (StandsIn items) feeder (planner ∷ executive ∷ []) stands)
+  feeder_stands = subst (λ (l : List (ℕ × Noted)). StandsIn items l) list.whole (All-head (StandsIn items) feeder others stands)
 
-  behind_stands : All (StandsIn items) (planner ∷ executive ∷ [])
-  behind_stands = All-tail (StandsIn items) feeder (planner ∷ executive ∷ []) stands
+  rest_stands : All (StandsIn items) (list.rest ∷ others)
+  rest_stands = All-cons (StandsIn items) list.rest others (stands_back items 0 own list.rest feeder_stands) (All-tail (StandsIn items) feeder others stands)
 
-  apart_stands : All (StandsIn items) (own ∷ list.rest ∷ planner ∷ executive ∷ [])
-  apart_stands =
-      All-cons (StandsIn items) own (list.rest ∷ planner ∷ executive ∷ []) (stands_front items 0 own list.rest feeder_stands)
-      (All-cons (StandsIn items) list.rest (planner ∷ executive ∷ []) (stands_back items 0 own list.rest feeder_stands) behind_stands)
+  apart_stands : All (StandsIn items) (own ∷ list.rest ∷ others)
+  apart_stands = All-cons (StandsIn items) own (list.rest ∷ others) (stands_front items 0 own list.rest feeder_stands) rest_stands
 
-  apart_times : (p : ℕ) → times_in p (feeder ∷ planner ∷ executive ∷ []) ≡ times_in p (own ∷ list.rest ∷ planner ∷ executive ∷ [])
+  apart_times : (p : ℕ) → times_in p (feeder ∷ others) ≡ times_in p (own ∷ list.rest ∷ others)
   apart_times p =
       let whole : times_at p feeder ≡ times_at p own + times_at p list.rest = ap (λ (l : List (ℕ × Noted)). times_at p l) list.whole ∙ sum_by-append (one_at p) own list.rest in
-      let a = sum_by-cons (times_at p) feeder (planner ∷ executive ∷ []) in
-      let b = sum_by-cons (times_at p) own (list.rest ∷ planner ∷ executive ∷ []) in
-      let c = sum_by-cons (times_at p) list.rest (planner ∷ executive ∷ []) in
+      let a = sum_by-cons (times_at p) feeder others in
+      let b = sum_by-cons (times_at p) own (list.rest ∷ others) in
+      let c = sum_by-cons (times_at p) list.rest others in
       omega (arith, whole, a, b, c)
 
-  no_inputs_behind : All NoInputs (list.rest ∷ planner ∷ executive ∷ [])
-  no_inputs_behind =
-      All-cons NoInputs list.rest (planner ∷ executive ∷ []) (stop_no_inputs list.rest list.behind)
-      (All-cons NoInputs planner (executive ∷ []) no_planner (All-cons NoInputs executive [] no_executive (All-nil NoInputs)))
+  no_inputs_behind : All NoInputs (list.rest ∷ others)
+  no_inputs_behind = All-cons NoInputs list.rest others (stop_no_inputs list.rest list.behind) no_others
 
-  module _ (opening : ℕ) (owners : IsEachOnce opening (length items) (λ place. times_in place (feeder ∷ planner ∷ executive ∷ []))) where
-    apart_owners : IsEachOnce opening (length items) (λ place. times_in place (own ∷ list.rest ∷ planner ∷ executive ∷ []))
+  module _ (opening : ℕ) (owners : IsEachOnce opening (length items) (λ place. times_in place (feeder ∷ others))) where
+    apart_owners : IsEachOnce opening (length items) (λ place. times_in place (own ∷ list.rest ∷ others))
     apart_owners = record {
       inside = λ n from to. sym (apart_times n) ∙ owners.inside n from to;
       below = λ n lt. sym (apart_times n) ∙ owners.below n lt;
@@ -363,7 +355,7 @@ module _ (items : List Noted) (inputs : List (Option (List ℕ))) (own feeder pl
     }
 
     picked : map (λ x. x.1) own ≡ filter (is_entry is_input) (drop opening items)
-    picked = sifted (is_entry is_input) items opening [] (list.rest ∷ planner ∷ executive ∷ []) own apart_stands apart_owners (inputs_kind inputs own list.are) (All-nil NoInputs) no_inputs_behind
+    picked = sifted (is_entry is_input) items opening [] (list.rest ∷ others) own apart_stands apart_owners (inputs_kind inputs own list.are) (All-nil NoInputs) no_inputs_behind
 
     -- the inputs of the entries past the opening are those of the feeder, in their order
     pub inputs_are : (before : List Noted) (es : List Entry) (s : Bool) → opening ≡ length before → items ≡ before ++ (map Made es ++ stop_items s) → inputs_of es ≡ inputs
@@ -376,24 +368,17 @@ module _ (items : List Noted) (inputs : List (Option (List ℕ))) (own feeder pl
         ∙ own_inputs inputs own list.are
 
     -- an input has the place of an own entry of the feeder
-    nobody_else : (p : ℕ) (e : Entry) → slice_get items p ≡ Some (Made e) → is_input e.event ≡ true → times_in p (list.rest ∷ planner ∷ executive ∷ []) ≡ 0
-    nobody_else p e at is =
-        let a = times_failing items 0 p (Made e) list.rest (All-head (StandsIn items) list.rest (planner ∷ executive ∷ []) (All-tail (StandsIn items) own (list.rest ∷ planner ∷ executive ∷ []) apart_stands)) (stop_no_inputs list.rest list.behind) at is in
-        let b = times_failing items 0 p (Made e) planner (All-head (StandsIn items) planner (executive ∷ []) behind_stands) no_planner at is in
-        let c = times_failing items 0 p (Made e) executive (All-head (StandsIn items) executive [] (All-tail (StandsIn items) planner (executive ∷ []) behind_stands)) no_executive at is in
-        let x = sum_by-cons (times_at p) list.rest (planner ∷ executive ∷ []) in
-        let y = sum_by-cons (times_at p) planner (executive ∷ []) in
-        let z = sum_by-cons (times_at p) executive [] in
-        omega (arith, a, b, c, x, y, z)
+    nobody_else : (p : ℕ) (e : Entry) → slice_get items p ≡ Some (Made e) → is_input e.event ≡ true → times_in p (list.rest ∷ others) ≡ 0
+    nobody_else p e at is = none_failing items p (Made e) (list.rest ∷ others) rest_stands no_inputs_behind at is
 
     -- so behind a front that has all of them there is no further input
     pub no_further : (front : List Noted) (e : Entry) (p : ℕ) → StandsIn front own → length front ≤ p → opening ≤ p → p < length items → slice_get items p ≡ Some (Made e) → is_input e.event ≡ true → ⊥
     no_further front e p here behind past within at is =
         let one = apart_owners.inside p past within in
         let none = times_within front 0 p own here behind in
-        let others = nobody_else p e at is in
-        let sum = sum_by-cons (times_at p) own (list.rest ∷ planner ∷ executive ∷ []) in
-        omega (arith, one, none, others, sum)
+        let nobody = nobody_else p e at is in
+        let sum = sum_by-cons (times_at p) own (list.rest ∷ others) in
+        omega (arith, one, none, nobody, sum)
 
     -- all own items but the last stand in a front
     module _ (front : List Noted) (earlier : List (ℕ × Noted)) (last : ℕ × Noted) (whole : own ≡ earlier ++ last ∷ []) (here : StandsIn front earlier) (past : opening ≤ length front) where
@@ -402,11 +387,11 @@ module _ (items : List Noted) (inputs : List (Option (List ℕ))) (own feeder pl
       last_at e p behind within at is =
           let one = apart_owners.inside p (omega (arith, past, behind)) within in
           let none = times_within front 0 p earlier here behind in
-          let others = nobody_else p e at is in
-          let sum = sum_by-cons (times_at p) own (list.rest ∷ planner ∷ executive ∷ []) in
+          let nobody = nobody_else p e at is in
+          let sum = sum_by-cons (times_at p) own (list.rest ∷ others) in
           let parts : times_at p own ≡ times_at p earlier + times_at p (last ∷ []) = ap (λ (l : List (ℕ × Noted)). times_at p l) whole ∙ sum_by-append (one_at p) earlier (last ∷ []) in
           let alone = sum_by-cons (one_at p) last [] in
-          at_same p last (omega (arith, one, none, others, sum, parts, alone))
+          at_same p last (omega (arith, one, none, nobody, sum, parts, alone))
 
       entry_at : (before : List Noted) (e : Entry) (rest : List Noted) → items ≡ before ++ Made e ∷ rest → (length before < length items) × (slice_get items (length before) ≡ Some (Made e))
       entry_at before e rest is =
