@@ -1,7 +1,7 @@
 -- A history's items, and what is read back of them.
-use Rattle.std.proofs.Common.{◌≡◌, ℕ, zero, suc, ◌+◌, ◌-◌, ◌<◌, List, [], ◌∷◌, ◌++◌, length, Bool, true, false, Option, Some, None, refl, sym, ◌∙◌, ap, subst, arith, length-append}
+use Rattle.std.proofs.Common.{◌≡◌, ℕ, zero, suc, ◌+◌, ◌-◌, ◌<◌, List, [], ◌∷◌, ◌++◌, length, map, Bool, true, false, Option, Some, None, refl, sym, ◌∙◌, ap, subst, arith, length-append}
 use Rattle.std.specs.List.{filter_map, list_any}
-use Rattle.std.proofs.lemmas.List.{append-nil}
+use Rattle.std.proofs.lemmas.List.{append-nil, length-map}
 use mathlib.Core.List.{IsPrefix}
 use Rattle.pl_marks.specs.declared.author.Author.{Author}
 use Rattle.pl_marks.specs.Marks.{Signed}
@@ -11,7 +11,7 @@ use Rattle.pl_machine.specs.World.{World}
 use Rattle.pl_machine.specs.Legal.{Legal, world_of, IsHistory}
 use Rattle.pl_acts.specs.declared.noted.Noted.{Noted}
 use Rattle.pl_acts.specs.declared.noted.Noted.TheVariants.{Opened, Made, Stopped}
-use Rattle.pl_acts.specs.Items.{Signs, signed_on, made_items, log_items, stop_items, items_of, entry_in, entries_in, model_in, is_stop, stop_in, OfWorld, InWorld}
+use Rattle.pl_acts.specs.Items.{Signs, SignedEntry, made_of, entries_of, with_authors, signed_on, made_items, log_items, stop_items, items_of, entry_in, entries_in, model_in, is_stop, stop_in, OfWorld, InWorld}
 
 -- ---- how long a history is
 
@@ -23,13 +23,16 @@ no_stop_length : (s : Bool) → s ≡ false → length (stop_items s) ≡ 0
 no_stop_length true e = absurd (cc)
 no_stop_length false e = refl
 
+with_length : (k : ℕ) (authors : List Author) (es : List Entry) → length (with_authors k authors es) ≡ length es
+with_length (suc k) authors [] = refl
+with_length (suc k) authors (e ∷ es) = ap suc (with_length k authors es)
+with_length zero [] [] = refl
+with_length zero [] (e ∷ es) = ap suc (with_length zero [] es)
+with_length zero (a ∷ authors) [] = refl
+with_length zero (a ∷ authors) (e ∷ es) = ap suc (with_length zero authors es)
+
 pub made_length : (k : ℕ) (authors : List Author) (es : List Entry) → length (made_items k authors es) ≡ length es
-made_length (suc k) authors [] = refl
-made_length (suc k) authors (e ∷ es) = ap suc (made_length k authors es)
-made_length zero [] [] = refl
-made_length zero [] (e ∷ es) = ap suc (made_length zero [] es)
-made_length zero (a ∷ authors) [] = refl
-made_length zero (a ∷ authors) (e ∷ es) = ap suc (made_length zero authors es)
+made_length k authors es = length-map (with_authors k authors es) made_of ∙ with_length k authors es
 
 log_length : (m : Model) (log : List Entry) (s : Signed) → length (log_items m log s) ≡ length log
 log_length m [] s = refl
@@ -49,35 +52,37 @@ stop_entries : (t : Bool) → filter_map entry_in (stop_items t) ≡ []
 stop_entries true = refl
 stop_entries false = refl
 
-pub made_entries : (k : ℕ) (authors : List Author) (es : List Entry) (t : Bool) → filter_map entry_in (made_items k authors es ++ stop_items t) ≡ es
-made_entries (suc k) authors [] t = stop_entries t
-made_entries (suc k) authors (e ∷ es) t = ap (λ (xs : List Entry). e ∷ xs) (made_entries k authors es t)
-made_entries zero [] [] t = stop_entries t
-made_entries zero [] (e ∷ es) t = ap (λ (xs : List Entry). e ∷ xs) (made_entries zero [] es t)
-made_entries zero (a ∷ authors) [] t = stop_entries t
-made_entries zero (a ∷ authors) (e ∷ es) t = ap (λ (xs : List Entry). e ∷ xs) (made_entries zero authors es t)
+pub made_entries : (xs : List SignedEntry) (t : Bool) → filter_map entry_in (map made_of xs ++ stop_items t) ≡ entries_of xs
+made_entries [] t = stop_entries t
+made_entries (x ∷ xs) t = ap (λ (es : List Entry). x.1 ∷ es) (made_entries xs t)
+
+pub entries_with : (k : ℕ) (authors : List Author) (es : List Entry) → entries_of (with_authors k authors es) ≡ es
+entries_with (suc k) authors [] = refl
+entries_with (suc k) authors (e ∷ es) = ap (λ (xs : List Entry). e ∷ xs) (entries_with k authors es)
+entries_with zero [] [] = refl
+entries_with zero [] (e ∷ es) = ap (λ (xs : List Entry). e ∷ xs) (entries_with zero [] es)
+entries_with zero (a ∷ authors) [] = refl
+entries_with zero (a ∷ authors) (e ∷ es) = ap (λ (xs : List Entry). e ∷ xs) (entries_with zero authors es)
 
 pub entries_in_items : (m : Model) (log : List Entry) (s : Signs) → entries_in (items_of m log s) ≡ log
 unfolding items_of
 entries_in_items m [] s = stop_entries s.stopped
-entries_in_items m (first ∷ es) s = ap (λ (xs : List Entry). first ∷ xs) (made_entries (s.by.opening - 1) s.by.authors es s.stopped)
+entries_in_items m (first ∷ es) s =
+    let all = with_authors (s.by.opening - 1) s.by.authors es in
+    ap (λ (xs : List Entry). first ∷ xs) (made_entries all s.stopped ∙ entries_with (s.by.opening - 1) s.by.authors es)
 
 stop_stop : (t : Bool) → list_any is_stop (stop_items t) ≡ t
 stop_stop true = refl
 stop_stop false = refl
 
-made_stop : (k : ℕ) (authors : List Author) (es : List Entry) (t : Bool) → list_any is_stop (made_items k authors es ++ stop_items t) ≡ t
-made_stop (suc k) authors [] t = stop_stop t
-made_stop (suc k) authors (e ∷ es) t = made_stop k authors es t
-made_stop zero [] [] t = stop_stop t
-made_stop zero [] (e ∷ es) t = made_stop zero [] es t
-made_stop zero (a ∷ authors) [] t = stop_stop t
-made_stop zero (a ∷ authors) (e ∷ es) t = made_stop zero authors es t
+made_stop : (xs : List SignedEntry) (t : Bool) → list_any is_stop (map made_of xs ++ stop_items t) ≡ t
+made_stop [] t = stop_stop t
+made_stop (x ∷ xs) t = made_stop xs t
 
 pub stop_in_items : (m : Model) (log : List Entry) (s : Signs) → stop_in (items_of m log s) ≡ s.stopped
 unfolding items_of
 stop_in_items m [] s = stop_stop s.stopped
-stop_in_items m (first ∷ es) s = made_stop (s.by.opening - 1) s.by.authors es s.stopped
+stop_in_items m (first ∷ es) s = made_stop (with_authors (s.by.opening - 1) s.by.authors es) s.stopped
 
 pub model_in_items : (m : Model) (log : List Entry) (s : Signs) → Legal m log → model_in (items_of m log s) ≡ Some m
 unfolding items_of

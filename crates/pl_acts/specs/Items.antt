@@ -1,5 +1,5 @@
 -- The list that a plan under its lock stands for: one item for each entry of its log, the first with the model, and a last one where it was stopped.
-use Rattle.std.specs.Prelude.{ℕ, zero, suc, ◌-◌, List, [], ◌∷◌, ◌++◌, length, Bool, true, false, Option, Some, None}
+use Rattle.std.specs.Prelude.{ℕ, zero, suc, ◌-◌, List, [], ◌∷◌, ◌++◌, length, map, Bool, true, false, Option, Some, None}
 use Rattle.std.specs.List.{filter_map, list_any}
 use Rattle.pl_marks.specs.declared.author.Author.{Author}
 use Rattle.pl_marks.specs.Marks.{Signed}
@@ -23,12 +23,25 @@ handed_in log = record { by = record { opening = length log; authors = [] }; sto
 abbrev pub signed_on : Author → Signed → Signed
 signed_on a s = record s { authors = s.authors ++ a ∷ [] }
 
+-- an entry with its author, if it was not handed in
+abbrev pub SignedEntry : Type 0
+SignedEntry = Option Author × Entry
+
+abbrev pub made_of : SignedEntry → Noted
+made_of x = Made x.0 x.1
+
+abbrev pub entries_of : List SignedEntry → List Entry
+entries_of signed = map (λ (x : SignedEntry). x.1) signed
+
 -- Entries behind the open one, the first so many of which were handed in, and who made those behind them.
+abbrev pub with_authors : ℕ → List Author → List Entry → List SignedEntry
+with_authors handed authors [] = []
+with_authors (suc handed) authors (e ∷ entries) = (None, e) ∷ with_authors handed authors entries
+with_authors zero [] (e ∷ entries) = (None, e) ∷ with_authors zero [] entries
+with_authors zero (a ∷ authors) (e ∷ entries) = (Some a, e) ∷ with_authors zero authors entries
+
 abbrev pub made_items : ℕ → List Author → List Entry → List Noted
-made_items handed authors [] = []
-made_items (suc handed) authors (e ∷ entries) = Made None e ∷ made_items handed authors entries
-made_items zero [] (e ∷ entries) = Made None e ∷ made_items zero [] entries
-made_items zero (a ∷ authors) (e ∷ entries) = Made (Some a) e ∷ made_items zero authors entries
+made_items handed authors entries = map made_of (with_authors handed authors entries)
 
 abbrev pub log_items : Model → List Entry → Signed → List Noted
 log_items m [] s = []
