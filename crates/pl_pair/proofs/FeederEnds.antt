@@ -21,7 +21,7 @@ use Rattle.pl_driver.specs.CutShort.{answers, IsCutShort}
 use Rattle.pl_acts.specs.declared.noted.Noted.{Noted}
 use Rattle.pl_acts.specs.declared.noted.Noted.TheVariants.{Stopped}
 use Rattle.pl_shared.specs.declared.plan.SharedPlan.{SharedPlan}
-use Rattle.pl_acts.specs.Items.{items_of, entries_in, model_in, InWorld}
+use Rattle.pl_acts.specs.Items.{handed_in, items_of, entries_in, model_in, InWorld}
 use Rattle.pl_shared.specs.Plans.{PlanPass, BelongsTo}
 use Rattle.pl_acts.specs.Seen.{IsFull}
 use Rattle.pl_shared.specs.Turns.{TakesTurn, Stops}
@@ -72,7 +72,7 @@ pub closed_by : (w : World) (closed : Bool) → w.closed ≡ closed → Goes w �
 closed_by w true is goes done = refl
 closed_by w false is goes done = absurd (let both : true ≡ false = sym done ∙ goes is in cc)
 
-module _ (start : State) (first : PlanPass) (ws : List Worker) (joined : Joined start.model start.log first ws) (place : Place) (held now : Option (List ℕ)) (old : PlanPass) (seen0 : seen_of old ≡ items_of start.model start.log false) where
+module _ (start : State) (first : PlanPass) (ws : List Worker) (joined : Joined start.model start.log first ws) (place : Place) (held now : Option (List ℕ)) (old : PlanPass) (seen0 : seen_of old ≡ items_of start.model start.log (handed_in start.log)) where
   pub opening_of_front : (front : List Noted) → IsPrefix (seen_of old) front → length start.log ≤ length front
   opening_of_front front longer =
       let le = prefix_length (seen_of old) front longer in
@@ -225,7 +225,7 @@ list_behind inputs before mid first are same stops =
     let Q : List (ℕ × Noted) → Type 0 = λ own. AreInputs inputs own in
     subst P same (list_stop inputs mid first (subst Q (sym same) are) stops)
 
-module _ (start : State) (first : PlanPass) (ws : List Worker) (joined : Joined start.model start.log first ws) (place : Place) (held now : Option (List ℕ)) (old : PlanPass) (seen0 : seen_of old ≡ items_of start.model start.log false) (plan : SharedPlan) (end : Place) where
+module _ (start : State) (first : PlanPass) (ws : List Worker) (joined : Joined start.model start.log first ws) (place : Place) (held now : Option (List ℕ)) (old : PlanPass) (seen0 : seen_of old ≡ items_of start.model start.log (handed_in start.log)) (plan : SharedPlan) (end : Place) where
   pub runs_out : FeedsOut plan start.model old place held first end now → TeamRun joined.duties start place held (Ok tt) end now
   runs_out feeds =
       let list = list_same feeds.tells.inputs first first feeds.tells.mine refl in

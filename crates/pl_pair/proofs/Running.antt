@@ -8,6 +8,7 @@ use mathlib.Core.List.{IsPrefix}
 use Rattle.pl_turn.specs.History.{StandsIn, times_at, times_in}
 use Rattle.pl_turn.specs.declared.known.Crew.{Crew}
 use Rattle.pl_turn.specs.Passes.{seen_of, mine_of, crew_of, leads, made_by, joined_by, opening_of}
+use Rattle.pl_marks.specs.Marks.{Signed}
 use Rattle.pl_model.specs.declared.whole.Model.{Model}
 use Rattle.pl_machine.specs.World.{World}
 use Rattle.pl_machine.specs.Legal.{Legal, world_of}
@@ -16,7 +17,7 @@ use Rattle.pl_machine.specs.Sound.{State}
 use Rattle.pl_io.specs.Lines.{lines_of}
 use Rattle.pl_acts.specs.declared.noted.Noted.{Noted}
 use Rattle.pl_shared.specs.declared.plan.SharedPlan.{SharedPlan}
-use Rattle.pl_acts.specs.Items.{items_of, model_in}
+use Rattle.pl_acts.specs.Items.{handed_in, items_of, model_in}
 use Rattle.pl_acts.specs.Roles.{is_entry, kind_of, is_input}
 use Rattle.pl_shared.specs.Plans.{PlanPass, BelongsTo, Closes}
 use Rattle.pl_acts.proofs.Items.{model_in_items, length_going}
@@ -81,14 +82,14 @@ idle_served items (d ∷ duties) = All-cons (ServedIn items) (idle d) (idles dut
 pub runs_none : (duties : List Duty) (start : State) (place : Place) (held : Option (List ℕ)) → Legal start.model start.log → TeamRun duties start place held (Err halt.Memory) place held
 runs_none duties start place held legal =
     let m = start.model in
-    let items = items_of m start.log false in
-    let long = length_going m start.log false refl in
+    let items = items_of m start.log (handed_in start.log) in
+    let long = length_going m start.log (handed_in start.log) refl in
     record {
       log = start.log;
       entries = [];
       begins = sym (append-nil start.log);
       history = record {
-        stopped = false;
+        signs = handed_in start.log;
         feeder = [];
         feeder_seen = [];
         workers = idles duties;
@@ -140,9 +141,9 @@ first_pass plan pass opening own new crew =
     record { fresh = record { own = own; new = new }; first = ap (λ c. c.leads) crew; alone = ap (λ c. c.made) crew; none = ap (λ c. c.joined) crew }
 
 -- it has seen all entries that were handed in
-pub begun_first : (start : State) (duties : List Duty) (new : PlanPass) → All (λ d. begun_of d ≤ length start.log) duties → seen_of new ≡ items_of start.model start.log false → All (HasBegun new) duties
+pub begun_first : (start : State) (duties : List Duty) (new : PlanPass) → All (λ d. begun_of d ≤ length start.log) duties → seen_of new ≡ items_of start.model start.log (handed_in start.log) → All (HasBegun new) duties
 begun_first start duties new begun seen =
-    let long : length (seen_of new) ≡ length start.log = ap length seen ∙ length_going start.model start.log false refl in
+    let long : length (seen_of new) ≡ length start.log = ap length seen ∙ length_going start.model start.log (handed_in start.log) refl in
     λ k d within. let here : begun_of (get_or duties k d) ≤ length start.log = begun k d within in omega (arith, here, long)
 
 -- a planner that is hired behind them, and an executive
@@ -153,8 +154,8 @@ begun_pair start seed begun is =
 
 -- The plan's first pass, and all that came of it.
 pub record Ran (duties : List Duty) (start : State) (plan : SharedPlan) (new : PlanPass) (remains : Remains) (m : Model) (place end : Place) (held now : Option (List ℕ)) : Type 0 where
-  pub seen : seen_of new ≡ items_of start.model start.log false
-  pub crew : crew_of new ≡ record { leads = true; opening = length (items_of start.model start.log false); made = 0; joined = [] }
+  pub seen : seen_of new ≡ items_of start.model start.log (handed_in start.log)
+  pub crew : crew_of new ≡ record { leads = true; opening = length (items_of start.model start.log (handed_in start.log)); made = 0; joined = [] }
   pub joins : Joins plan m new duties place held remains end now
 
 module _ (duties : List Duty) (start : State) (plan : SharedPlan) (new : PlanPass) (remains : Remains) (m : Model) (place end : Place) (held now : Option (List ℕ)) (ran : Ran duties start plan new remains m place end held now) where
@@ -167,16 +168,16 @@ module _ (duties : List Duty) (start : State) (plan : SharedPlan) (new : PlanPas
   abbrev ws : List Worker
   ws = ran.joins.feeds.team.workers
 
-  begun_seen : seen_of begun ≡ items_of start.model start.log false
+  begun_seen : seen_of begun ≡ items_of start.model start.log (handed_in start.log)
   begun_seen = ran.joins.splits.seen ∙ ran.seen
 
   abbrev same_crew : Follows begun mid
   same_crew = feeds_follows plan m begun mid place end held now remains.fed ran.joins.feeds.feeds
 
-  begun_crew : crew_of begun ≡ record { leads = true; opening = length (items_of start.model start.log false); made = 0 + length duties; joined = [] }
+  begun_crew : crew_of begun ≡ record { leads = true; opening = length (items_of start.model start.log (handed_in start.log)); made = 0 + length duties; joined = [] }
   begun_crew = ran.joins.splits.crew ∙ ap (λ (c : Crew Noted). record c { made = c.made + length duties }) ran.crew
 
-  mid_crew : crew_of mid ≡ record { leads = true; opening = length (items_of start.model start.log false); made = 0 + length duties; joined = [] }
+  mid_crew : crew_of mid ≡ record { leads = true; opening = length (items_of start.model start.log (handed_in start.log)); made = 0 + length duties; joined = [] }
   mid_crew = same_crew.crew ∙ begun_crew
 
   mid_none : joined_by mid ≡ []
@@ -192,13 +193,13 @@ module _ (duties : List Duty) (start : State) (plan : SharedPlan) (new : PlanPas
     all_joined plan ws mid remains.pass ran.joins.feeds.team.joins mid_none (ap (λ c. c.made) mid_crew ∙ (let many = as_many in omega arith)),
   )
 
-  joined_of : (machine : State) → m ≡ start.model → Legal start.model start.log → (world_of start.model start.log).done ≡ false → Closes remains.pass machine → Joined start.model start.log mid ws
-  joined_of machine same legal going closes =
-      let model : model_in (seen_of mid) ≡ Some start.model = same_crew.model ∙ (ap model_in begun_seen ∙ model_in_items start.model start.log false legal) in
-      let opening : opening_of mid ≡ length start.log = ap (λ c. c.opening) mid_crew ∙ length_going start.model start.log false refl in
+  joined_of : (machine : State) (by : Signed) → m ≡ start.model → Legal start.model start.log → (world_of start.model start.log).done ≡ false → Closes remains.pass machine by → Joined start.model start.log mid ws
+  joined_of machine by same legal going closes =
+      let model : model_in (seen_of mid) ≡ Some start.model = same_crew.model ∙ (ap model_in begun_seen ∙ model_in_items start.model start.log (handed_in start.log) legal) in
+      let opening : opening_of mid ≡ length start.log = ap (λ c. c.opening) mid_crew ∙ length_going start.model start.log (handed_in start.log) refl in
       record {
         plan = plan;
-        whole = whole_of start.model start.log mid ws machine model opening (closes_all plan ws mid remains.pass ran.joins.feeds.team.joins mid_none machine ran.joins.feeds.own.seen closes);
+        whole = whole_of start.model start.log mid ws machine model opening (closes_all plan ws mid remains.pass ran.joins.feeds.team.joins mid_none machine by ran.joins.feeds.own.seen closes);
         legal = legal;
         going = going;
         opened = subst (λ (xs : List Noted). IsPrefix xs (seen_of mid)) begun_seen same_crew.longer;
@@ -209,8 +210,8 @@ module _ (duties : List Duty) (start : State) (plan : SharedPlan) (new : PlanPas
       }
 
   -- the whole run
-  pub runs_whole : (machine : State) → m ≡ start.model → Legal start.model start.log → (world_of start.model start.log).done ≡ false → Closes remains.pass machine → TeamRun duties start place held (ended_of remains.fed remains.met) end now
-  runs_whole machine same legal going closes =
+  pub runs_whole : (machine : State) (by : Signed) → m ≡ start.model → Legal start.model start.log → (world_of start.model start.log).done ≡ false → Closes remains.pass machine by → TeamRun duties start place held (ended_of remains.fed remains.met) end now
+  runs_whole machine by same legal going closes =
       let feeds' = subst (λ (k : Model). FeedsToEnd plan k begun place held remains.fed mid end now) same ran.joins.feeds.feeds in
       let E : Met → Type 0 = λ met. TeamRun duties start place held (ended_of remains.fed met) end now in
-      subst E (sym ran.joins.feeds.team.together) (runs start mid ws (joined_of machine same legal going closes) place held now begun begun_seen plan end remains.fed feeds')
+      subst E (sym ran.joins.feeds.team.together) (runs start mid ws (joined_of machine by same legal going closes) place held now begun begun_seen plan end remains.fed feeds')

@@ -22,7 +22,7 @@ use Rattle.pl_input.specs.Stops.{IsStuckKnown}
 use Rattle.pl_driver.specs.CutShort.{IsCutShort}
 use Rattle.pl_journal.specs.Written.{Adds}
 use Rattle.pl_acts.specs.declared.noted.Noted.{Noted}
-use Rattle.pl_acts.specs.Items.{items_of, entries_in, model_in}
+use Rattle.pl_acts.specs.Items.{Signs, items_of, entries_in, model_in}
 use Rattle.pl_acts.specs.Roles.{worker_of, kind_of, is_input}
 use Rattle.pl_acts.specs.declared.role.Role.{Role}
 use Rattle.pl_shared.specs.Plans.{PlanPass}
@@ -43,13 +43,13 @@ use Rattle.pl_pair.specs.Feeds.{EndsUsed, EndsRead}
 
 -- The machine has the whole history, which begins with what each of these passes has seen, and each place past the opening stands in one own list of theirs.
 pub record ClosesAll (first : PlanPass) (workers : List Worker) (machine : State) : Type 0 where
-  pub stopped : Bool
+  pub signs : Signs
   pub legal : Legal machine.model machine.log
   pub model : model_in (seen_of first) ≡ Some machine.model
-  pub first_seen : IsPrefix (seen_of first) (items_of machine.model machine.log stopped)
-  pub workers_seen : All (HasSeenIn (items_of machine.model machine.log stopped)) workers
-  pub stands : All (StandsIn (items_of machine.model machine.log stopped)) (mine_of first ∷ own_lists_of workers)
-  pub owners : IsEachOnce (opening_of first) (length (items_of machine.model machine.log stopped)) (λ place. times_in place (mine_of first ∷ own_lists_of workers))
+  pub first_seen : IsPrefix (seen_of first) (items_of machine.model machine.log signs)
+  pub workers_seen : All (HasSeenIn (items_of machine.model machine.log signs)) workers
+  pub stands : All (StandsIn (items_of machine.model machine.log signs)) (mine_of first ∷ own_lists_of workers)
+  pub owners : IsEachOnce (opening_of first) (length (items_of machine.model machine.log signs)) (λ place. times_in place (mine_of first ∷ own_lists_of workers))
 
 -- ---- the history
 
@@ -87,17 +87,17 @@ mets_of workers = map (λ (d : Service). d.met) workers
 -- The history in the lock goes on from the entries that were handed in, and has one owner for each further entry: inputs are the feeder's, fixes and rests a planner's, commits, dispatches and closes the executive's.
 -- It begins with all that the feeder had seen, in which its own entries stand, and with what each worker had seen. The stop, where there is one, is the own item of the feeder, or of a worker that met a refusal.
 pub record History (duties : List Duty) (m : Model) (before log : List Entry) : Type 0 where
-  pub stopped : Bool
+  pub signs : Signs
   pub feeder : List (ℕ × Noted)
   pub feeder_seen : List Noted
   pub workers : List Service
   pub hired : map (λ (d : Service). d.duty) workers ≡ duties
   pub legal : Legal m log
-  pub stands : All (StandsIn (items_of m log stopped)) (feeder ∷ owns_of workers)
-  pub owners : IsEachOnce (length before) (length (items_of m log stopped)) (λ place. times_in place (feeder ∷ owns_of workers))
-  pub feeder_saw : HadSeen (items_of m log stopped) feeder_seen feeder
+  pub stands : All (StandsIn (items_of m log signs)) (feeder ∷ owns_of workers)
+  pub owners : IsEachOnce (length before) (length (items_of m log signs)) (λ place. times_in place (feeder ∷ owns_of workers))
+  pub feeder_saw : HadSeen (items_of m log signs) feeder_seen feeder
   pub inputs : AreOfUntil is_input feeder
-  pub each : All (ServedIn (items_of m log stopped)) workers
+  pub each : All (ServedIn (items_of m log signs)) workers
 
 -- ---- the messages
 
