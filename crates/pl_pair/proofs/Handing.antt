@@ -63,8 +63,8 @@ pub hired_at : (plan : SharedPlan) (duties : List Duty) (old mid own : PlanPass)
     → IsHired plan (get_or duties k d) own
 hired_at plan duties old mid own k d begun within so_far seen belongs none =
     let long : length (seen_of own) ≡ length (seen_of old) = ap length (seen ∙ so_far.seen) in
-    let here : begun_of (get_or duties k d) ≤ length (seen_of old) = begun k d within in
-    record { own = belongs; new = none; begun = omega (arith, long, here) }
+    let here : begun_of (get_or duties k d) ≤ length (seen_of old) = (begun k d within).0 in
+    record { own = belongs; new = none; begun = omega (arith, long, here); known = (begun k d within).1 }
 
 -- ---- one after another is joined
 

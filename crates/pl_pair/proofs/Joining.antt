@@ -179,6 +179,7 @@ module _ (m : Model) (before : List Entry) (first : PlanPass) (ws : List Worker)
         saw = record { begins = seen; holds = own_stands joined.plan w.pass served.own };
         kinds = own_kinds w.refusal items (role_of w.duty) w.role (begun_of w.duty) (mine_of w.pass) made;
         made = made;
+        signed = served.signed.1;
         is = served.worker;
         why = refused_on w.refusal w.role (seen_of w.pass) items served.own.seen plan_items seen (model_items ∙ sym (model_seen (seen_of w.pass) served.own.seen seen)) served.why;
       }

@@ -1,5 +1,5 @@
 -- What a run comes to.
-use Rattle.std.proofs.Common.{◌≡◌, ℕ, ◌+◌, ◌≤◌, List, [], ◌∷◌, length, map, get_or, true, false, Option, Some, None, Result, Ok, Err, refl, sym, ◌∙◌, ap, subst, arith, inl}
+use Rattle.std.proofs.Common.{◌≡◌, ℕ, ◌+◌, ◌≤◌, List, [], ◌∷◌, length, map, get_or, true, false, Option, Some, None, Result, Ok, Err, refl, sym, ◌∙◌, ap, subst, arith, ◌⊎◌, inl}
 use Rattle.std.specs.List.{All}
 use Rattle.std.proofs.lemmas.List.{append-nil, length-map}
 use Rattle.std.proofs.lemmas.List.Sums.{sum_by-cons}
@@ -8,6 +8,7 @@ use mathlib.Core.List.{IsPrefix}
 use Rattle.pl_turn.specs.History.{StandsIn, times_at, times_in}
 use Rattle.pl_turn.specs.declared.known.Crew.{Crew}
 use Rattle.pl_turn.specs.Passes.{seen_of, mine_of, crew_of, leads, made_by, joined_by, opening_of}
+use Rattle.pl_marks.specs.Authors.{IsAuthor}
 use Rattle.pl_marks.specs.Marks.{Signed}
 use Rattle.pl_model.specs.declared.whole.Model.{Model}
 use Rattle.pl_machine.specs.World.{World}
@@ -17,7 +18,7 @@ use Rattle.pl_machine.specs.Sound.{State}
 use Rattle.pl_io.specs.Lines.{lines_of}
 use Rattle.pl_acts.specs.declared.noted.Noted.{Noted}
 use Rattle.pl_shared.specs.declared.plan.SharedPlan.{SharedPlan}
-use Rattle.pl_acts.specs.Items.{handed_in, items_of, model_in}
+use Rattle.pl_acts.specs.Items.{handed_in, items_of, is_stop, signer_in, model_in}
 use Rattle.pl_acts.specs.Roles.{is_entry, kind_of, is_input}
 use Rattle.pl_shared.specs.Plans.{PlanPass, BelongsTo, Closes}
 use Rattle.pl_acts.proofs.Items.{model_in_items, length_going}
@@ -28,7 +29,7 @@ use Rattle.pl_pair.specs.declared.duty.Duty.{Duty}
 use Rattle.pl_pair.specs.declared.endings.Met.{Met}
 use Rattle.pl_pair.specs.declared.pairing.Remains.{Remains}
 use Rattle.pl_pair.specs.declared.worker.Worker.{Worker}
-use Rattle.pl_pair.specs.Duties.{role_of, begun_of}
+use Rattle.pl_pair.specs.Duties.{role_of, begun_of, author_of}
 use Rattle.pl_pair.specs.Joins.{IsFresh, IsFirst, HasBegun, Joins}
 use Rattle.pl_pair.specs.Rounds.{Follows}
 use Rattle.pl_input.specs.Places.{Place}
@@ -75,6 +76,7 @@ idle_served items (d ∷ duties) = All-cons (ServedIn items) (idle d) (idles dut
   saw = record { begins = (items, refl); holds = tt };
   kinds = All-nil (λ x. is_entry (kind_of (role_of d)) x.1 ≡ true);
   made = ([], refl);
+  signed = All-nil (λ x. (is_stop x.1 ≡ true) ⊎ (signer_in x.1 ≡ Some (author_of d)));
   is = refl;
   why = tt;
 }) (idle_served items duties)
@@ -141,16 +143,16 @@ first_pass plan pass opening own new crew =
     record { fresh = record { own = own; new = new }; first = ap (λ c. c.leads) crew; alone = ap (λ c. c.made) crew; none = ap (λ c. c.joined) crew }
 
 -- it has seen all entries that were handed in
-pub begun_first : (start : State) (duties : List Duty) (new : PlanPass) → All (λ d. begun_of d ≤ length start.log) duties → seen_of new ≡ items_of start.model start.log (handed_in start.log) → All (HasBegun new) duties
+pub begun_first : (start : State) (duties : List Duty) (new : PlanPass) → All (λ d. (begun_of d ≤ length start.log) × IsAuthor (author_of d)) duties → seen_of new ≡ items_of start.model start.log (handed_in start.log) → All (HasBegun new) duties
 begun_first start duties new begun seen =
     let long : length (seen_of new) ≡ length start.log = ap length seen ∙ length_going start.model start.log (handed_in start.log) refl in
-    λ k d within. let here : begun_of (get_or duties k d) ≤ length start.log = begun k d within in omega (arith, here, long)
+    λ k d within. let here : begun_of (get_or duties k d) ≤ length start.log = (begun k d within).0 in (omega (arith, here, long), (begun k d within).1)
 
 -- a planner that is hired behind them, and an executive
-pub begun_pair : (start : State) (seed begun : ℕ) → begun ≡ length start.log → All (λ d. begun_of d ≤ length start.log) (pair_of seed begun)
+pub begun_pair : (start : State) (seed begun : ℕ) → begun ≡ length start.log → All (λ d. (begun_of d ≤ length start.log) × IsAuthor (author_of d)) (pair_of seed begun)
 begun_pair start seed begun is =
-    let P : Duty → Type 0 = λ d. begun_of d ≤ length start.log in
-    All-cons P (Repair seed begun) (Execute ∷ []) (omega (arith, is)) (All-cons P Execute [] (omega arith) (All-nil P))
+    let P : Duty → Type 0 = λ d. (begun_of d ≤ length start.log) × IsAuthor (author_of d) in
+    All-cons P (Repair 1 seed begun) (Execute ∷ []) (omega (arith, is), (omega arith, omega arith)) (All-cons P Execute [] (omega arith, tt) (All-nil P))
 
 -- The plan's first pass, and all that came of it.
 pub record Ran (duties : List Duty) (start : State) (plan : SharedPlan) (new : PlanPass) (remains : Remains) (m : Model) (place end : Place) (held now : Option (List ℕ)) : Type 0 where

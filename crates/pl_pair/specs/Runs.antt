@@ -31,9 +31,9 @@ use Rattle.pl_input.specs.declared.halt.Halt.TheVariants as halt
 use Rattle.pl_pair.specs.declared.duty.Duty.{Duty}
 use Rattle.pl_pair.specs.declared.duty.Duty.TheVariants.{Repair, Execute}
 use Rattle.pl_pair.specs.declared.worker.Worker.{Worker}
-use Rattle.pl_pair.specs.Duties.{role_of, begun_of}
+use Rattle.pl_pair.specs.Duties.{role_of, begun_of, author_of}
 use Rattle.pl_pair.specs.Joins.{own_lists_of, HasSeenIn}
-use Rattle.pl_pair.specs.Served.{AreOf, AreOfUntil, Made, MakesOwn, Refused}
+use Rattle.pl_pair.specs.Served.{AreOf, AreOfUntil, Made, MakesOwn, AreSigned, Refused}
 use Rattle.pl_pair.specs.Rounds.{IsBetween}
 use Rattle.pl_pair.specs.Endings.{met_by}
 use Rattle.pl_pair.specs.Chosen.{AreChosen}
@@ -69,12 +69,13 @@ pub record Service : Type 0 where
 abbrev pub service_of : Worker → Service
 service_of w = record { duty = w.duty; own = mine_of w.pass; seen = seen_of w.pass; last = w.role; met = w.refusal }
 
--- The history begins with all that the worker had seen, in which its own items stand. These are entries of its kind: a planner's are what its chooser, made from its seed and passed on from entry to entry, proposes on a sight, a front
+-- The history begins with all that the worker had seen, in which its own items stand. These are entries of its kind, signed by it: a planner's are what its chooser, made from its seed and passed on from entry to entry, proposes on a sight, a front
 -- of the history that holds the entries that it was hired behind and its own entry before, or a rest; an executive's are what it chooses in the world before. A worker that met a refusal may have stopped the plan; one that met a full log had an event of its own kind in the open round.
 pub record ServedIn (items : List Noted) (d : Service) : Type 0 where
   pub saw : HadSeen items d.seen d.own
   pub kinds : Made d.met (kind_of (role_of d.duty)) d.own
   pub made : MakesOwn d.met (role_of d.duty) (begun_of d.duty) items d.own d.last
+  pub signed : AreSigned (author_of d.duty) d.own
   pub is : worker_of d.last ≡ worker_of (role_of d.duty)
   pub why : Refused d.met d.last items
 
@@ -245,7 +246,7 @@ pub record TeamRun (duties : List Duty) (start : State) (place : Place) (held : 
 
 -- a planner, hired behind so many entries, and an executive
 abbrev pub pair_of : ℕ → ℕ → List Duty
-pair_of seed begun = Repair seed begun ∷ Execute ∷ []
+pair_of seed begun = Repair 1 seed begun ∷ Execute ∷ []
 
 abbrev pub PairRun : ℕ → State → Place → Option (List ℕ) → Result (Unit {0}) Halt → Place → Option (List ℕ) → Type 0
 PairRun seed start place held r behind now = TeamRun (pair_of seed (length start.log)) start place held r behind now

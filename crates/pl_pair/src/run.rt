@@ -4,7 +4,8 @@ ghost use Rattle.std.specs.List.{All};
 ghost use Rattle.pl_io.specs.Faults.{Rose};
 ghost use Rattle.pl_machine.specs.Legal.{Legal, world_of};
 ghost use Rattle.pl_input.specs.Places.{place_of};
-ghost use Rattle.pl_pair.specs.Duties.{begun_of};
+ghost use Rattle.pl_marks.specs.Authors.{IsAuthor};
+ghost use Rattle.pl_pair.specs.Duties.{begun_of, author_of};
 ghost use Rattle.pl_pair.specs.Runs.{PairRun, TeamRun};
 
 use crate::duty::Duty;
@@ -49,7 +50,7 @@ fn run_over<R: Threads + Wait + Sync, S: Source, O: Sink, G: Gate + Sync>(
     requires legal { Legal machine.model machine.log }
     requires going { (world_of machine.model machine.log).done ≡ false }
     requires model { model.now ≡ machine.model }
-    requires begun { All (λ d. begun_of d ≤ length machine.log) duties.now }
+    requires begun { All (λ d. (begun_of d ≤ length machine.log) × IsAuthor (author_of d)) duties.now }
     requires few { length duties.now ≤ 9 }
     requires limit { lines.old.limit ≤ 4096 }
     ensures run { TeamRun duties.now machine (place_of lines.old (S.left src.old)) (O.held out.old) result
@@ -70,7 +71,7 @@ fn run_over<R: Threads + Wait + Sync, S: Source, O: Sink, G: Gate + Sync>(
     };
     let Remains { pass, fed, met } = remains;
     let answer = ended(&fed, met);
-    let _machine = plan.close(pass);
+    let (_machine, _marks) = plan.close(pass);
     answer
 }
 
@@ -88,7 +89,7 @@ pub(crate) fn run_team<R: Threads + Wait + Sync, I: Source, O: Sink, G: Gate + S
     out: &mut O,
 ) -> Result<(), Halt>
     requires going { machine.world.done ≡ false }
-    requires begun { All (λ d. begun_of d ≤ length machine.log) duties.now }
+    requires begun { All (λ d. (begun_of d ≤ length machine.log) × IsAuthor (author_of d)) duties.now }
     requires few { length duties.now ≤ 9 }
     requires limit { lines.old.limit ≤ 4096 }
     ensures run { TeamRun duties.now machine (place_of lines.old (I.left src.old)) (O.held out.old) result
@@ -123,6 +124,6 @@ pub fn run_pair<R: Threads + Wait + Sync, I: Source, O: Sink, G: Gate + Sync>(
     ensures read { IsErrOf result Halt.Read → (lines.old.failed ≡ None) → Rose (I.faults src.old) (I.faults src.new) }
     ensures write { IsErrOf result Halt.Write → Rose (O.faults out.old) (O.faults out.new) }
 {
-    let duties = [Duty::Repair(seed, machine.entries()), Duty::Execute];
+    let duties = [Duty::Repair(1, seed, machine.entries()), Duty::Execute];
     run_team(rt, alloc, machine, &duties, gate, lines, src, out)
 }
