@@ -187,7 +187,7 @@ pub own_stands : (plan : SharedPlan) (pass : PlanPass) → BelongsTo plan pass �
 own_stands plan pass own = All-head (StandsIn (seen_of pass)) (mine_of pass) (crew_of pass).joined own.lock.stands
 
 -- its entry stands behind what was seen before it
-one_due : (mid new : PlanPass) (next number : ℕ) (line : Option (List ℕ)) → Makes (IsFed line) mid new number → next ≡ length (entries_in (seen_of mid)) → next < length (entries_in (seen_of new))
+one_due : (mid new : PlanPass) (next number : ℕ) (line : Option (List ℕ)) → Makes (IsFed line) Feeder mid new number → next ≡ length (entries_in (seen_of mid)) → next < length (entries_in (seen_of new))
 one_due mid new next number line makes count =
     let before = seen_of mid ++ makes.between in
     let whole : entries_in (seen_of new) ≡ entries_in before ++ makes.entry ∷ [] = ap entries_in makes.seen ∙ filter_map-append entry_in before (Made (Some Feeder) makes.entry ∷ []) in
@@ -195,7 +195,7 @@ one_due mid new next number line makes count =
     let longer = entries_longer (seen_of mid) before (makes.between, refl) in
     omega (arith, long, longer, count)
 
-hands_one : (plan : SharedPlan) (old mid new : PlanPass) (number : ℕ) (line : Option (List ℕ)) → BelongsTo plan mid → Follows old mid → Makes (IsFed line) mid new number → InWorld (seen_of mid) IsBetween → HandsOne old (seen_of mid) (mine_of new)
+hands_one : (plan : SharedPlan) (old mid new : PlanPass) (number : ℕ) (line : Option (List ℕ)) → BelongsTo plan mid → Follows old mid → Makes (IsFed line) Feeder mid new number → InWorld (seen_of mid) IsBetween → HandsOne old (seen_of mid) (mine_of new)
 hands_one plan old mid new number line own follows makes between = record {
   longer = follows.longer;
   plan = own.seen;
