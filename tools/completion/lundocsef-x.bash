@@ -4,7 +4,7 @@ _lundocsef_x() {
     local word=${COMP_WORDS[COMP_CWORD]} before=${COMP_WORDS[COMP_CWORD-1]} command= each
     for each in "${COMP_WORDS[@]:1:COMP_CWORD-1}"; do
         case $each in
-            run|check|replay|report|demo|flex|forecast) [[ -z $command ]] && command=$each ;;
+            run|check|replay|report|demo|flex|forecast|improve) [[ -z $command ]] && command=$each ;;
         esac
     done
     COMPREPLY=()
@@ -19,7 +19,7 @@ _lundocsef_x() {
         elif [[ $command == run ]]; then COMPREPLY=($(compgen -W '--help --turns --seed' -- "$word"))
         else COMPREPLY=($(compgen -W '--help' -- "$word")); fi
     elif [[ -z $command ]]; then
-        COMPREPLY=($(compgen -W 'run check replay report demo flex forecast' -- "$word"))
+        COMPREPLY=($(compgen -W 'run check replay report demo flex forecast improve' -- "$word"))
     elif [[ $command != demo ]]; then
         compopt -o filenames 2> /dev/null
         COMPREPLY=($(compgen -f -- "$word"))

@@ -9,7 +9,7 @@ _lundocsef_x() {
         '--version[say which program is called]' \
         '--completion[write the completion for this shell]:shell:(bash zsh)' \
         '--program[the planner]:program:_files' \
-        '1:command:((run\:"plan, and write the journal" check\:"say whether a text is a model" replay\:"say whether a journal is legal" report\:"write the plan behind a journal" demo\:"plan N built-in goals" flex\:"say how far activities can move" forecast\:"say where levels leave their limits"))' \
+        '1:command:((run\:"plan, and write the journal" check\:"say whether a text is a model" replay\:"say whether a journal is legal" report\:"write the plan behind a journal" demo\:"plan N built-in goals" flex\:"say how far activities can move" forecast\:"say where levels leave their limits" improve\:"say how steps better the plan"))' \
         '*::argument:->arguments'
     [[ $state == arguments ]] || return
     case $line[1] in
@@ -19,6 +19,7 @@ _lundocsef_x() {
         demo) _arguments '1:N:' ;;
         flex) _arguments '1:id:' '2:model:_files' '3:journal:_files' ;;
         forecast) _arguments '1:rates:_files' '2:model:_files' '3:journal:_files' ;;
+        improve) _arguments '1:N:' '2:preferences:_files' '3:model:_files' '4:journal:_files' ;;
     esac
 }
 _lundocsef_x "$@"

@@ -195,7 +195,7 @@ class WrapperTest(unittest.TestCase):
 
     def test_the_completion_for_bash(self):
         script = '. tools/completion/lundocsef-x.bash; COMP_WORDS=(lundocsef-x %s); COMP_CWORD=%d; _lundocsef_x; echo "${COMPREPLY[@]}"'
-        for words, at, wanted in (('""', 1, 'run check replay report demo flex forecast'), ('run --t', 2, '--turns'), ('--c', 1, '--completion'), ('check READ', 2, 'README.md')):
+        for words, at, wanted in (('""', 1, 'run check replay report demo flex forecast improve'), ('run --t', 2, '--turns'), ('--c', 1, '--completion'), ('check READ', 2, 'README.md')):
             done = subprocess.run(['bash', '-c', script % (words, at)], capture_output=True, encoding='utf-8', cwd=os.path.dirname(TOOLS))
             self.assertEqual(done.stdout.strip(), wanted, done.stderr)
 

@@ -9,7 +9,7 @@ from support import program
 MODEL = 'horizon 100000 lead 30 kind obs { duration 5 }\nbegin\n'
 OPEN = '0 open turns 8 live 10000 goals 20000 entries 250000\n'
 JOURNAL = OPEN + '1 in end : end\n'
-USAGE = 'usage: run solo N | run pair N SEED | check | replay | report | demo N | flex ID | forecast\n'
+USAGE = 'usage: run solo N | run pair N SEED | check | replay | report | demo N | flex ID | forecast | improve N\n'
 RUNS = 'run solo 8', 'run pair 8 7'
 # rounds of four entries, and two of three: the log has 249,999 entries with the open one, and room for one more
 FULL = MODEL + ''.join('tick %d\n' % moment for moment in range(1, 62499)) + 'x\nx\n'
@@ -35,8 +35,14 @@ ENDINGS = [(words, text, status, output) for words in RUNS for text, status, out
     ('forecast', MODEL, 3, 'rate: no journal\n'),
     ('forecast', MODEL + 'journal\n', 8, 'journal: entry 0: not a line\n'),
     ('forecast', MODEL + 'x' * 4161, 6, ''),
+    ('improve 1', MODEL + 'prefer obs late 2\njournal\n' + JOURNAL, 0, 'improve score 0\nimprove steps 0 score 0\n'),
+    ('improve 1', MODEL + JOURNAL, 3, 'prefer: line 3: bad line\n'),
+    ('improve 1', MODEL, 3, 'prefer: no journal\n'),
+    ('improve 1', MODEL + 'journal\n', 8, 'journal: entry 0: not a line\n'),
+    ('improve 1', MODEL + 'x' * 4161, 6, ''),
     ('demo 2', '', 0, 'demo 2 entries 20 activities 4 dispatched 0 conflicts 0\n'),
-    ('', '', 2, USAGE), ('flex', '', 2, USAGE), ('run solo 0', '', 2, USAGE), ('run', '', 2, USAGE), ('--help', '', 2, USAGE)]
+    ('', '', 2, USAGE), ('flex', '', 2, USAGE), ('improve 0', '', 2, USAGE), ('improve 1001', '', 2, USAGE),
+    ('run solo 0', '', 2, USAGE), ('run', '', 2, USAGE), ('--help', '', 2, USAGE)]
 
 
 def ended(words, **streams):
@@ -54,7 +60,7 @@ class StatusesTest(unittest.TestCase):
                     self.assertEqual(written.decode('latin-1'), output)
 
     def test_a_read_fails(self):
-        for words in RUNS + ('check', 'replay', 'report', 'flex 0', 'forecast'):
+        for words in RUNS + ('check', 'replay', 'report', 'flex 0', 'forecast', 'improve 1'):
             with self.subTest(words=words):
                 folder = os.open('/', os.O_RDONLY)
                 try:
@@ -63,7 +69,7 @@ class StatusesTest(unittest.TestCase):
                     os.close(folder)
 
     def test_a_write_fails(self):
-        for words in RUNS + ('check', 'replay', 'report', 'flex 0', 'forecast', 'demo 1', 'run'):
+        for words in RUNS + ('check', 'replay', 'report', 'flex 0', 'forecast', 'improve 1', 'demo 1', 'run'):
             with self.subTest(words=words), open('/dev/full', 'wb') as full:
                 self.assertEqual(ended(words, input=(MODEL + 'end\n').encode(), stdout=full)[0], 5)
 

@@ -63,6 +63,7 @@ job_statuses task.Replay = reads (8 ∷ 9 ∷ []) from_eight
 job_statuses task.Report = reads (8 ∷ 9 ∷ []) from_eight
 job_statuses (task.Flex id) = reads (8 ∷ 9 ∷ []) from_eight
 job_statuses task.Forecast = reads (8 ∷ 9 ∷ []) from_eight
+job_statuses (task.Improve steps) = reads (8 ∷ 9 ∷ []) from_eight
 job_statuses (task.Demo goals) =
     more 0 (5 ∷ 7 ∷ 9 ∷ []) (is_done refl)
     (more 5 (7 ∷ 9 ∷ []) (is_write refl) from_seven)
@@ -160,6 +161,10 @@ flex_status id r never = journal_place r never
 pub forecast_status : (r : Result Judgement Halt) → (IsErrOf r halt.Full → ⊥) → IsStatusOf task.Forecast (status_of_journal r)
 unfolding IsStatusOf
 forecast_status r never = journal_place r never
+
+pub improve_status : (steps : ℕ) (r : Result Judgement Halt) → (IsErrOf r halt.Full → ⊥) → IsStatusOf (task.Improve steps) (status_of_journal r)
+unfolding IsStatusOf
+improve_status steps r never = journal_place r never
 
 demo_place : (goals : ℕ) (held now : Option (List ℕ)) (r : Result Outcome Halt) → Shows goals held now r → Contains (statuses_of (task.Demo goals)) (status_of r)
 demo_place goals held now (Ok outcome.Done) shows = at (statuses_of (task.Demo goals)) 0 refl

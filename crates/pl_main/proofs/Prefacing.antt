@@ -13,11 +13,13 @@ use Rattle.pl_input.proofs.Beginning.{head_then}
 use Rattle.pl_input.proofs.Reading.{took_none}
 use Rattle.pl_input.proofs.Stopping.{never_full, never_writes}
 use Rattle.pl_rate.specs.declared.rate.Rate.{Rate}
+use Rattle.pl_prefs.specs.declared.prefer.Prefer.{Prefer}
 use Rattle.pl_preface.specs.declared.refusal.Refusal.{Refusal}
 use Rattle.pl_preface.specs.declared.refusal.Refusal.TheVariants as refusal
-use Rattle.pl_preface.specs.Prefaces.{Said, so_far, whole, refused, said}
+use Rattle.pl_preface.specs.Prefaces.{Reading, Said, so_far, whole, refused, said}
 use Rattle.pl_preface.specs.Gives.{HasPreface, IsRefusal, PrefaceHalts}
 use Rattle.pl_preface.specs.RateLines.{rate_in}
+use Rattle.pl_preface.specs.PreferLines.{prefer_in}
 use Rattle.pl_preface.specs.Refusals.{refusal_line}
 use Rattle.pl_preface.proofs.Lines.{whole_later, refused_later}
 use Rattle.pl_main.specs.declared.form.Form.{Form}
@@ -25,7 +27,7 @@ use Rattle.pl_main.specs.declared.form.Form.TheVariants as which
 use Rattle.pl_main.specs.declared.foreword.Foreword.TheVariants as foreword
 use Rattle.pl_main.specs.declared.told.Told.{Told}
 use Rattle.pl_main.specs.declared.told.Told.TheVariants as told
-use Rattle.pl_main.specs.Forewords.{SaidBefore, unended, tells, refuses, rates_label, by_rates, said_from, lines_to_begin, said_before, ForewordTells, ForewordRefuses, ForewordReads}
+use Rattle.pl_main.specs.Forewords.{SaidBefore, unended, tells, refuses, rates_label, prefers_label, by_items, said_from, lines_to_begin, said_before, ForewordTells, ForewordRefuses, ForewordStops, ForewordReads}
 use Rattle.pl_main.proofs.OneInput.{behind_goes_on}
 
 abbrev Lines : Type 0
@@ -45,27 +47,65 @@ nothing_for_report m start working = nothing_read which.Report m start told.Repo
 pub nothing_for_flex : (id : ℕ) (m : Model) (start : Place) → start.reader.failed ≡ None → ForewordReads (which.Flex id) m start (Ok (foreword.Tells (told.Flex id))) start
 nothing_for_flex id m start working = nothing_read (which.Flex id) m start (told.Flex id) working refl
 
+-- ---- items up to the line `journal`
+
+-- the form asks for such items, each of which a line says
+abbrev AsksFor : {X : Type 0} → Form → Model → Reading X → List ℕ → (List X → Told) → Type 0
+AsksFor form m read label asks = (n : ℕ) (lines : Lines) → said_from form m n lines ≡ by_items label asks (said read n [] lines)
+
+items_read : {X : Type 0} (form : Form) (m : Model) (read : Reading X) (label : List ℕ) (asks : List X → Told) → AsksFor form m read label asks
+    → (start place : Place) (items : List X) → HasPreface read start.reader start.ahead items place.reader place.ahead → ForewordTells form m start (asks items) place
+items_read form m read label asks by start place items has = record { lines = has.lines; took = has.took; says = by start.reader.number has.lines ∙ ap (by_items label asks) has.says }
+
+items_refused : {X : Type 0} (form : Form) (m : Model) (read : Reading X) (label : List ℕ) (asks : List X → Told) → AsksFor form m read label asks
+    → (start place : Place) (why : Refusal) (line : List ℕ) → IsRefusal read start.reader start.ahead why place.reader place.ahead → line ≡ refusal_line label why → ForewordRefuses form m start line place
+items_refused form m read label asks by start place why line (inl has) is = record { lines = has.lines; took = has.took; says = inl (by start.reader.number has.lines ∙ ap (by_items label asks) has.says ∙ ap (λ (t : List ℕ). refuses t []) (sym is)) }
+items_refused form m read label asks by start place why line (inr has) is = record {
+  lines = has.1.lines;
+  took = has.1.took;
+  says = inr (by start.reader.number has.1.lines ∙ ap (by_items label asks) has.1.says ∙ ap unended (ap (refusal_line label) (sym has.0) ∙ sym is), has.1.used_up);
+}
+
+items_halt : {X : Type 0} (form : Form) (m : Model) (read : Reading X) (label : List ℕ) (asks : List X → Told) → AsksFor form m read label asks
+    → (start place : Place) (f : LineFault) (e : Halt) → PrefaceHalts read start.reader start.ahead f place.reader place.ahead → HaltFor f e → ForewordStops e form m start place
+items_halt form m read label asks by start place f e stops is = record { reason = f; lines = stops.lines; text = refusal_line label refusal.NoJournal; halts = stops.halts; stops = is; says = by start.reader.number stops.lines ∙ ap (by_items label asks) stops.says }
+
+items_stop : {X : Type 0} (form : Form) (m : Model) (read : Reading X) (label : List ℕ) (asks : List X → Told) → AsksFor form m read label asks
+    → (start place : Place) (f : LineFault) (e : Halt) → PrefaceHalts read start.reader start.ahead f place.reader place.ahead → HaltFor f e → ForewordReads form m start (Err e) place
+items_stop form m read label asks by start place f halt.Limit stops is = items_halt form m read label asks by start place f halt.Limit stops is
+items_stop form m read label asks by start place f halt.Read stops is = items_halt form m read label asks by start place f halt.Read stops is
+items_stop form m read label asks by start place f halt.Full stops is = absurd (never_full f is)
+items_stop form m read label asks by start place f halt.Write stops is = absurd (never_writes f is)
+items_stop form m read label asks by start place f halt.Memory stops is = tt
+
+items_unread : (form : Form) (m : Model) (start place : Place) (e : Halt) → e ≡ halt.Memory → ForewordReads form m start (Err e) place
+items_unread form m start place e is = subst (λ (h : Halt). ForewordReads form m start (Err h) place) (sym is) tt
+
 pub rates_read : (m : Model) (start place : Place) (rates : List Rate) → HasPreface (rate_in m) start.reader start.ahead rates place.reader place.ahead → ForewordTells which.Forecast m start (told.Forecast rates) place
-rates_read m start place rates has = record { lines = has.lines; took = has.took; says = ap by_rates has.says }
+rates_read m start place rates has = items_read which.Forecast m (rate_in m) rates_label told.Forecast (λ n lines. refl) start place rates has
 
 pub rates_refused : (m : Model) (start place : Place) (why : Refusal) (line : List ℕ) → IsRefusal (rate_in m) start.reader start.ahead why place.reader place.ahead → line ≡ refusal_line rates_label why
     → ForewordRefuses which.Forecast m start line place
-rates_refused m start place why line (inl has) is = record { lines = has.lines; took = has.took; says = inl (ap by_rates has.says ∙ ap (λ (t : List ℕ). refuses t []) (sym is)) }
-rates_refused m start place why line (inr has) is = record {
-  lines = has.1.lines;
-  took = has.1.took;
-  says = inr (ap by_rates has.1.says ∙ ap unended (ap (refusal_line rates_label) (sym has.0) ∙ sym is), has.1.used_up);
-}
+rates_refused m start place why line has is = items_refused which.Forecast m (rate_in m) rates_label told.Forecast (λ n lines. refl) start place why line has is
 
 pub rates_stop : (m : Model) (start place : Place) (f : LineFault) (e : Halt) → PrefaceHalts (rate_in m) start.reader start.ahead f place.reader place.ahead → HaltFor f e → ForewordReads which.Forecast m start (Err e) place
-rates_stop m start place f halt.Limit stops is = record { reason = f; lines = stops.lines; text = refusal_line rates_label refusal.NoJournal; halts = stops.halts; stops = is; says = ap by_rates stops.says }
-rates_stop m start place f halt.Read stops is = record { reason = f; lines = stops.lines; text = refusal_line rates_label refusal.NoJournal; halts = stops.halts; stops = is; says = ap by_rates stops.says }
-rates_stop m start place f halt.Full stops is = absurd (never_full f is)
-rates_stop m start place f halt.Write stops is = absurd (never_writes f is)
-rates_stop m start place f halt.Memory stops is = tt
+rates_stop m start place f e stops is = items_stop which.Forecast m (rate_in m) rates_label told.Forecast (λ n lines. refl) start place f e stops is
 
 pub rates_unread : (m : Model) (start place : Place) (e : Halt) → e ≡ halt.Memory → ForewordReads which.Forecast m start (Err e) place
-rates_unread m start place e is = subst (λ (h : Halt). ForewordReads which.Forecast m start (Err h) place) (sym is) tt
+rates_unread m start place e is = items_unread which.Forecast m start place e is
+
+pub prefers_read : (steps : ℕ) (m : Model) (start place : Place) (prefers : List Prefer) → HasPreface (prefer_in m) start.reader start.ahead prefers place.reader place.ahead → ForewordTells (which.Improve steps) m start (told.Improve steps prefers) place
+prefers_read steps m start place prefers has = items_read (which.Improve steps) m (prefer_in m) prefers_label (told.Improve steps) (λ n lines. refl) start place prefers has
+
+pub prefers_refused : (steps : ℕ) (m : Model) (start place : Place) (why : Refusal) (line : List ℕ) → IsRefusal (prefer_in m) start.reader start.ahead why place.reader place.ahead → line ≡ refusal_line prefers_label why
+    → ForewordRefuses (which.Improve steps) m start line place
+prefers_refused steps m start place why line has is = items_refused (which.Improve steps) m (prefer_in m) prefers_label (told.Improve steps) (λ n lines. refl) start place why line has is
+
+pub prefers_stop : (steps : ℕ) (m : Model) (start place : Place) (f : LineFault) (e : Halt) → PrefaceHalts (prefer_in m) start.reader start.ahead f place.reader place.ahead → HaltFor f e → ForewordReads (which.Improve steps) m start (Err e) place
+prefers_stop steps m start place f e stops is = items_stop (which.Improve steps) m (prefer_in m) prefers_label (told.Improve steps) (λ n lines. refl) start place f e stops is
+
+pub prefers_unread : (steps : ℕ) (m : Model) (start place : Place) (e : Halt) → e ≡ halt.Memory → ForewordReads (which.Improve steps) m start (Err e) place
+prefers_unread steps m start place e is = items_unread (which.Improve steps) m start place e is
 
 pub tells_working : (form : Form) (m : Model) (start : Place) (what : Told) (place : Place) → ForewordTells form m start what place → place.reader.failed ≡ None
 tells_working form m start what place before = before.took.working
@@ -101,16 +141,18 @@ lengthened more (unended line) = unended line
 lengthened more (tells what behind) = tells what (behind ++ more)
 lengthened more (refuses line behind) = refuses line (behind ++ more)
 
-rates_on : (m : Model) (n : ℕ) (lines more : Lines) (s : Said Rate) → said (rate_in m) n [] lines ≡ s → IsClear (by_rates s) → by_rates (said (rate_in m) n [] (lines ++ more)) ≡ lengthened more (by_rates s)
-rates_on m n lines more (so_far rates) is clear = absurd clear
-rates_on m n lines more (whole rates behind) is clear = ap by_rates (whole_later (rate_in m) n lines more behind rates is)
-rates_on m n lines more (refused why behind) is clear = ap by_rates (refused_later (rate_in m) n lines more behind why is)
+items_on : {X : Type 0} (read : Reading X) (label : List ℕ) (asks : List X → Told) (n : ℕ) (lines more : Lines) (s : Said X) → said read n [] lines ≡ s → IsClear (by_items label asks s)
+    → by_items label asks (said read n [] (lines ++ more)) ≡ lengthened more (by_items label asks s)
+items_on read label asks n lines more (so_far items) is clear = absurd clear
+items_on read label asks n lines more (whole items behind) is clear = ap (by_items label asks) (whole_later read n lines more behind items is)
+items_on read label asks n lines more (refused why behind) is clear = ap (by_items label asks) (refused_later read n lines more behind why is)
 
 from_on : (form : Form) (m : Model) (n : ℕ) (lines more : Lines) → IsClear (said_from form m n lines) → said_from form m n (lines ++ more) ≡ lengthened more (said_from form m n lines)
 from_on which.Replay m n lines more clear = refl
 from_on which.Report m n lines more clear = refl
 from_on (which.Flex id) m n lines more clear = refl
-from_on which.Forecast m n lines more clear = rates_on m n lines more (said (rate_in m) n [] lines) refl clear
+from_on which.Forecast m n lines more clear = items_on (rate_in m) rates_label told.Forecast n lines more (said (rate_in m) n [] lines) refl clear
+from_on (which.Improve steps) m n lines more clear = items_on (prefer_in m) prefers_label (told.Improve steps) n lines more (said (prefer_in m) n [] lines) refl clear
 
 count_step : (b : Bool) (x : List ℕ) (xs more : Lines) (words : List ℕ) (text : Option (List ℕ)) → model_text_of xs ≡ text → text_before x b text ≡ Some words
     → ((w : List ℕ) → model_text_of xs ≡ Some w → lines_to_begin (xs ++ more) ≡ lines_to_begin xs) → suc (if b then 0 else lines_to_begin (xs ++ more)) ≡ suc (if b then 0 else lines_to_begin xs)

@@ -10,7 +10,7 @@ use Rattle.pl_main.specs.declared.command.Command.TheVariants as command
 use Rattle.pl_main.specs.declared.command.Task.{Task}
 use Rattle.pl_main.specs.declared.command.Task.TheVariants as task
 use Rattle.pl_main.specs.Numbers.{number_in}
-use Rattle.pl_main.specs.Words.{turns_by, pair_by, goals_by, flex_by, command_in, command_of}
+use Rattle.pl_main.specs.Words.{turns_by, pair_by, goals_by, flex_by, improve_by, command_in, command_of}
 use Rattle.pl_main.specs.Replays.{ReadsBack, ReadsBackKnown}
 use Rattle.pl_main.specs.Statuses.{IsTask, status_of, status_of_journal, SaysReadBack, SaysKnown, SaysEndedKnown}
 use Rattle.pl_main.specs.Demos.{Shows}
@@ -80,6 +80,10 @@ pub says_foreseen : (input source_left held now : Option (List ℕ)) (r : Result
 says_foreseen None source_left held now r read = tt
 says_foreseen (Some input) source_left held now r read = reads_back which.Forecast input source_left held now r read
 
+pub says_bettered : (steps : ℕ) (input source_left held now : Option (List ℕ)) (r : Result Judgement Halt) → ReadsBackKnown (which.Improve steps) input source_left held now r → SaysKnown (task.Improve steps) input source_left held now (status_of_journal r)
+says_bettered steps None source_left held now r read = tt
+says_bettered steps (Some input) source_left held now r read = reads_back (which.Improve steps) input source_left held now r read
+
 pub read_failed : (r : Result Outcome Halt) → status_of r ≡ 4 → r ≡ Err halt.Read
 read_failed (Ok outcome.Done) e = absurd (omega (arith, e))
 read_failed (Ok outcome.Refused) e = absurd (omega (arith, e))
@@ -100,26 +104,24 @@ write_failed (Err halt.Memory) e = absurd (omega (arith, e))
 
 -- ---- the words
 
-by_bounds : (n : ℕ) (a b : Bool) → nat_le 1 n ≡ a → nat_le n 1000 ≡ b → (t : Task) → (if a && b then Some (command.Alone (task.Solo n)) else None) ≡ Some (command.Alone t) → IsTask t
-by_bounds n true true low high t e =
-    let is : task.Solo n ≡ t = (let h : Some (command.Alone (task.Solo n)) ≡ Some (command.Alone t) = e in (cc)) in
-    let fits : (1 ≤ n) × (n ≤ 1000) = (leb-true 1 n low, leb-true n 1000 high) in
-    subst (λ (x : Task). IsTask x) is fits
-by_bounds n true false low high t e = absurd (let h : None ≡ Some (command.Alone t) = e in (cc))
-by_bounds n false b low high t e = absurd (let h : None ≡ Some (command.Alone t) = e in (cc))
-
-by_turns : (n : Option ℕ) (t : Task) → turns_by n ≡ Some (command.Alone t) → IsTask t
-by_turns None t e = absurd (let h : None ≡ Some (command.Alone t) = e in (cc))
-by_turns (Some n) t e = by_bounds n (nat_le 1 n) (nat_le n 1000) refl refl t e
-
-by_form : (b : Bool) (n : Option ℕ) (t : Task) → (if b then turns_by n else None) ≡ Some (command.Alone t) → IsTask t
-by_form true n t e = by_turns n t e
-by_form false n t e = absurd (let h : None ≡ Some (command.Alone t) = e in (cc))
-
 the_task : (a t : Task) → IsTask a → Some (command.Alone a) ≡ Some (command.Alone t) → IsTask t
 the_task a t is e =
     let same : a ≡ t = (let h : Some (command.Alone a) ≡ Some (command.Alone t) = e in (cc)) in
     subst (λ (x : Task). IsTask x) same is
+
+-- a number from 1 to a greatest one
+by_bounds : (n most : ℕ) (a b : Bool) → nat_le 1 n ≡ a → nat_le n most ≡ b → (made t : Task) → ((1 ≤ n) × (n ≤ most) → IsTask made) → (if a && b then Some (command.Alone made) else None) ≡ Some (command.Alone t) → IsTask t
+by_bounds n most true true low high made t fits e = the_task made t (fits (leb-true 1 n low, leb-true n most high)) e
+by_bounds n most true false low high made t fits e = absurd (let h : None ≡ Some (command.Alone t) = e in (cc))
+by_bounds n most false b low high made t fits e = absurd (let h : None ≡ Some (command.Alone t) = e in (cc))
+
+by_turns : (n : Option ℕ) (t : Task) → turns_by n ≡ Some (command.Alone t) → IsTask t
+by_turns None t e = absurd (let h : None ≡ Some (command.Alone t) = e in (cc))
+by_turns (Some n) t e = by_bounds n 1000 (nat_le 1 n) (nat_le n 1000) refl refl (task.Solo n) t (λ is. is) e
+
+by_form : (b : Bool) (n : Option ℕ) (t : Task) → (if b then turns_by n else None) ≡ Some (command.Alone t) → IsTask t
+by_form true n t e = by_turns n t e
+by_form false n t e = absurd (let h : None ≡ Some (command.Alone t) = e in (cc))
 
 by_single : (a b c d : Bool) (t : Task)
     → (if a then Some (command.Alone task.Check) else if b then Some (command.Alone task.Replay) else if c then Some (command.Alone task.Report) else if d then Some (command.Alone task.Forecast) else None) ≡ Some (command.Alone t) → IsTask t
@@ -129,26 +131,23 @@ by_single false false true d t e = the_task task.Report t tt e
 by_single false false false true t e = the_task task.Forecast t tt e
 by_single false false false false t e = absurd (let h : None ≡ Some (command.Alone t) = e in (cc))
 
-by_goal_bounds : (n : ℕ) (a b : Bool) → nat_le 1 n ≡ a → nat_le n 4000 ≡ b → (t : Task) → (if a && b then Some (command.Alone (task.Demo n)) else None) ≡ Some (command.Alone t) → IsTask t
-by_goal_bounds n true true low high t e =
-    let is : task.Demo n ≡ t = (let h : Some (command.Alone (task.Demo n)) ≡ Some (command.Alone t) = e in (cc)) in
-    let fits : (1 ≤ n) × (n ≤ 4000) = (leb-true 1 n low, leb-true n 4000 high) in
-    subst (λ (x : Task). IsTask x) is fits
-by_goal_bounds n true false low high t e = absurd (let h : None ≡ Some (command.Alone t) = e in (cc))
-by_goal_bounds n false b low high t e = absurd (let h : None ≡ Some (command.Alone t) = e in (cc))
-
 by_goals : (n : Option ℕ) (t : Task) → goals_by n ≡ Some (command.Alone t) → IsTask t
 by_goals None t e = absurd (let h : None ≡ Some (command.Alone t) = e in (cc))
-by_goals (Some n) t e = by_goal_bounds n (nat_le 1 n) (nat_le n 4000) refl refl t e
+by_goals (Some n) t e = by_bounds n 4000 (nat_le 1 n) (nat_le n 4000) refl refl (task.Demo n) t (λ is. is) e
 
 by_flex : (n : Option ℕ) (t : Task) → flex_by n ≡ Some (command.Alone t) → IsTask t
 by_flex None t e = absurd (let h : None ≡ Some (command.Alone t) = e in (cc))
 by_flex (Some id) t e = the_task (task.Flex id) t tt e
 
-by_two : (a b : Bool) (n : Option ℕ) (t : Task) → (if a then goals_by n else if b then flex_by n else None) ≡ Some (command.Alone t) → IsTask t
-by_two true b n t e = by_goals n t e
-by_two false true n t e = by_flex n t e
-by_two false false n t e = absurd (let h : None ≡ Some (command.Alone t) = e in (cc))
+by_improve : (n : Option ℕ) (t : Task) → improve_by n ≡ Some (command.Alone t) → IsTask t
+by_improve None t e = absurd (let h : None ≡ Some (command.Alone t) = e in (cc))
+by_improve (Some n) t e = by_bounds n 1000 (nat_le 1 n) (nat_le n 1000) refl refl (task.Improve n) t (λ is. is) e
+
+by_two : (a b c : Bool) (n : Option ℕ) (t : Task) → (if a then goals_by n else if b then flex_by n else if c then improve_by n else None) ≡ Some (command.Alone t) → IsTask t
+by_two true b c n t e = by_goals n t e
+by_two false true c n t e = by_flex n t e
+by_two false false true n t e = by_improve n t e
+by_two false false false n t e = absurd (let h : None ≡ Some (command.Alone t) = e in (cc))
 
 -- a pair is no task of one thread
 no_pair_task : (n s : ℕ) (b : Bool) (t : Task) → (if b then Some (command.Pair n s) else None) ≡ Some (command.Alone t) → IsTask t
@@ -167,7 +166,7 @@ no_task false n s t e = absurd (let h : None ≡ Some (command.Alone t) = e in (
 by_words : (ws : List (List ℕ)) (t : Task) → command_in ws ≡ Some (command.Alone t) → IsTask t
 by_words [] t e = absurd (let h : None ≡ Some (command.Alone t) = e in (cc))
 by_words (a ∷ []) t e = by_single (bytes_eq a (codes "check")) (bytes_eq a (codes "replay")) (bytes_eq a (codes "report")) (bytes_eq a (codes "forecast")) t e
-by_words (a ∷ n ∷ []) t e = by_two (bytes_eq a (codes "demo")) (bytes_eq a (codes "flex")) (number_in n) t e
+by_words (a ∷ n ∷ []) t e = by_two (bytes_eq a (codes "demo")) (bytes_eq a (codes "flex")) (bytes_eq a (codes "improve")) (number_in n) t e
 by_words (a ∷ b ∷ n ∷ []) t e = by_form (bytes_eq a (codes "run") && bytes_eq b (codes "solo")) (number_in n) t e
 by_words (a ∷ b ∷ n ∷ d ∷ []) t e = no_task (bytes_eq a (codes "run") && bytes_eq b (codes "pair")) (number_in n) (number_in d) t e
 by_words (a ∷ b ∷ n ∷ d ∷ x ∷ xs) t e = absurd (let h : None ≡ Some (command.Alone t) = e in (cc))
@@ -207,10 +206,15 @@ flex_no_pair : (n : Option ℕ) (turns seed : ℕ) → IsPair (flex_by n) turns 
 flex_no_pair None turns seed e = none_no_pair turns seed e
 flex_no_pair (Some id) turns seed e = alone_no_pair (task.Flex id) turns seed e
 
-two_no_pair : (a b : Bool) (n : Option ℕ) (turns seed : ℕ) → IsPair (if a then goals_by n else if b then flex_by n else None) turns seed → ⊥
-two_no_pair true b n turns seed e = goals_no_pair n turns seed e
-two_no_pair false true n turns seed e = flex_no_pair n turns seed e
-two_no_pair false false n turns seed e = none_no_pair turns seed e
+improve_no_pair : (n : Option ℕ) (turns seed : ℕ) → IsPair (improve_by n) turns seed → ⊥
+improve_no_pair None turns seed e = none_no_pair turns seed e
+improve_no_pair (Some n) turns seed e = if_no_pair (nat_le 1 n && nat_le n 1000) (Some (command.Alone (task.Improve n))) turns seed (alone_no_pair (task.Improve n) turns seed) e
+
+two_no_pair : (a b c : Bool) (n : Option ℕ) (turns seed : ℕ) → IsPair (if a then goals_by n else if b then flex_by n else if c then improve_by n else None) turns seed → ⊥
+two_no_pair true b c n turns seed e = goals_no_pair n turns seed e
+two_no_pair false true c n turns seed e = flex_no_pair n turns seed e
+two_no_pair false false true n turns seed e = improve_no_pair n turns seed e
+two_no_pair false false false n turns seed e = none_no_pair turns seed e
 
 turns_no_pair : (n : Option ℕ) (turns seed : ℕ) → IsPair (turns_by n) turns seed → ⊥
 turns_no_pair None turns seed e = none_no_pair turns seed e
@@ -235,7 +239,7 @@ pair_in false n s turns seed e = absurd (none_no_pair turns seed e)
 pair_words : (ws : List (List ℕ)) (turns seed : ℕ) → IsPair (command_in ws) turns seed → (1 ≤ turns) × (turns ≤ 1000)
 pair_words [] turns seed e = absurd (none_no_pair turns seed e)
 pair_words (a ∷ []) turns seed e = absurd (single_no_pair (bytes_eq a (codes "check")) (bytes_eq a (codes "replay")) (bytes_eq a (codes "report")) (bytes_eq a (codes "forecast")) turns seed e)
-pair_words (a ∷ n ∷ []) turns seed e = absurd (two_no_pair (bytes_eq a (codes "demo")) (bytes_eq a (codes "flex")) (number_in n) turns seed e)
+pair_words (a ∷ n ∷ []) turns seed e = absurd (two_no_pair (bytes_eq a (codes "demo")) (bytes_eq a (codes "flex")) (bytes_eq a (codes "improve")) (number_in n) turns seed e)
 pair_words (a ∷ b ∷ n ∷ []) turns seed e = absurd (if_no_pair (bytes_eq a (codes "run") && bytes_eq b (codes "solo")) (turns_by (number_in n)) turns seed (turns_no_pair (number_in n) turns seed) e)
 pair_words (a ∷ b ∷ n ∷ s ∷ []) turns seed e = pair_in (bytes_eq a (codes "run") && bytes_eq b (codes "pair")) (number_in n) (number_in s) turns seed e
 pair_words (a ∷ b ∷ n ∷ s ∷ x ∷ xs) turns seed e = absurd (none_no_pair turns seed e)

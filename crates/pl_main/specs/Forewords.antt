@@ -1,5 +1,5 @@
--- What stands between the line `begin` and a journal: nothing, or rates up to the line `journal`.
-use Rattle.std.specs.Prelude.{◌≡◌, ℕ, suc, List, [], ◌∷◌, All, ◌⊎◌, Result, Ok, Err, if◌then◌else◌, codes, ⊤}
+-- What stands between the line `begin` and a journal: nothing, or rates or preferences up to the line `journal`.
+use Rattle.std.specs.Prelude.{◌≡◌, ℕ, suc, ◌≤◌, List, [], ◌∷◌, length, All, ◌⊎◌, Result, Ok, Err, if◌then◌else◌, codes, ⊤}
 use Rattle.pl_io.specs.declared.errors.LineFault.{LineFault}
 use Rattle.pl_model.specs.declared.whole.Model.{Model}
 use Rattle.pl_input.specs.declared.halt.Halt.{Halt}
@@ -10,9 +10,12 @@ use Rattle.pl_input.specs.Places.{Place}
 use Rattle.pl_input.specs.Stops.{HaltFor}
 use Rattle.pl_rate.specs.declared.rate.Rate.{Rate}
 use Rattle.pl_rate.specs.Rates.{IsRateOf}
+use Rattle.pl_prefs.specs.declared.prefer.Prefer.{Prefer}
+use Rattle.pl_prefs.specs.Prefers.{IsPreferOf}
 use Rattle.pl_preface.specs.declared.refusal.Refusal.TheVariants as refusal
 use Rattle.pl_preface.specs.Prefaces.{Said, so_far, whole, refused, said}
 use Rattle.pl_preface.specs.RateLines.{rate_in}
+use Rattle.pl_preface.specs.PreferLines.{prefer_in}
 use Rattle.pl_preface.specs.Refusals.{refusal_line}
 use Rattle.pl_main.specs.declared.form.Form.{Form}
 use Rattle.pl_main.specs.declared.form.Form.TheVariants as which
@@ -33,17 +36,22 @@ pub data SaidBefore : Type 0 where
 abbrev pub rates_label : List ℕ
 rates_label = codes "rate"
 
-abbrev pub by_rates : Said Rate → SaidBefore
-by_rates (so_far rates) = unended (refusal_line rates_label refusal.NoJournal)
-by_rates (whole rates behind) = tells (told.Forecast rates) behind
-by_rates (refused why behind) = refuses (refusal_line rates_label why) behind
+abbrev pub prefers_label : List ℕ
+prefers_label = codes "prefer"
+
+-- by what lines say up to the line `journal`, where such items ask for this to be told
+abbrev pub by_items : {X : Type 0} → List ℕ → (List X → Told) → Said X → SaidBefore
+by_items label asks (so_far items) = unended (refusal_line label refusal.NoJournal)
+by_items label asks (whole items behind) = tells (asks items) behind
+by_items label asks (refused why behind) = refuses (refusal_line label why) behind
 
 -- by what is asked, the lines behind so many of the input, up to the line `begin`
 abbrev pub said_from : Form → Model → ℕ → List (List ℕ) → SaidBefore
 said_from which.Replay m n lines = tells told.Verdict lines
 said_from which.Report m n lines = tells told.Report lines
 said_from (which.Flex id) m n lines = tells (told.Flex id) lines
-said_from which.Forecast m n lines = by_rates (said (rate_in m) n [] lines)
+said_from which.Forecast m n lines = by_items rates_label told.Forecast (said (rate_in m) n [] lines)
+said_from (which.Improve steps) m n lines = by_items prefers_label (told.Improve steps) (said (prefer_in m) n [] lines)
 
 -- how many lines there are up to and with the first `begin` line
 abbrev pub lines_to_begin : List (List ℕ) → ℕ
@@ -89,12 +97,13 @@ ForewordReads form m start (Err halt.Memory) place = ⊤
 
 -- ---- what holds of it
 
--- rates are those of the model
+-- rates and preferences are those of the model
 abbrev pub FitsTold : Model → Told → Type 0
 FitsTold m told.Verdict = ⊤
 FitsTold m told.Report = ⊤
 FitsTold m (told.Flex id) = ⊤
 FitsTold m (told.Forecast rates) = All (IsRateOf m) rates
+FitsTold m (told.Improve steps prefers) = All (IsPreferOf m) prefers × (length prefers ≤ 64)
 
 abbrev pub FitsForeword : Model → Foreword → Type 0
 FitsForeword m (foreword.Tells what) = FitsTold m what

@@ -78,6 +78,7 @@ IsDoneBy task.Replay status = (status ≡ 0) ⊎ (status ≡ 9)
 IsDoneBy task.Report status = (status ≡ 0) ⊎ (status ≡ 9)
 IsDoneBy (task.Flex id) status = (status ≡ 0) ⊎ (status ≡ 9)
 IsDoneBy task.Forecast status = (status ≡ 0) ⊎ (status ≡ 9)
+IsDoneBy (task.Improve steps) status = (status ≡ 0) ⊎ (status ≡ 9)
 IsDoneBy (task.Demo goals) status = (status ≡ 0) ⊎ ((status ≡ 7) ⊎ (status ≡ 9))
 
 -- a run that can be done is done, or memory ran out, or the log is full
@@ -98,4 +99,5 @@ Completes task.Replay input status = IfSome input (λ bytes. Decides which.Repla
 Completes task.Report input status = IfSome input (λ bytes. Decides which.Report bytes status)
 Completes (task.Flex id) input status = IfSome input (λ bytes. Decides (which.Flex id) bytes status)
 Completes task.Forecast input status = IfSome input (λ bytes. Decides which.Forecast bytes status)
+Completes (task.Improve steps) input status = IfSome input (λ bytes. Decides (which.Improve steps) bytes status)
 Completes (task.Demo goals) input status = IsDoneBy (task.Demo goals) status

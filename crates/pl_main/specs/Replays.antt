@@ -1,4 +1,4 @@
--- What is promised of `replay`, `report`, `flex ID` and `forecast`.
+-- What is promised of `replay`, `report`, `flex ID`, `forecast` and `improve N`.
 use Rattle.std.specs.Prelude.{◌≡◌, ℕ, ◌⊎◌, List, [], length, false, Option, Some, None, Result, Ok, Err, ⊤}
 use Rattle.pl_io.specs.Writes.{AppendsFront}
 use Rattle.pl_model.specs.declared.whole.Model.{Model}
@@ -19,6 +19,7 @@ use Rattle.pl_replay.specs.Verifying.{EndsInEntry}
 use Rattle.pl_report.specs.Reports.{report_of}
 use Rattle.pl_report.specs.Flexes.{IsFlexText}
 use Rattle.pl_report.specs.Forecasts.{forecast_text}
+use Rattle.pl_report.specs.Improvements.{IsImprovement}
 use Rattle.pl_report.specs.Verdicts.{verdict_line}
 use Rattle.pl_main.specs.declared.form.Form.{Form}
 use Rattle.pl_main.specs.declared.told.Told.{Told}
@@ -36,12 +37,14 @@ journal_line_limit = 4160
 abbrev pub state_of : Model → List Entry → State
 state_of m log = record { spoiled = false; model = m; log = log; world = world_of m log }
 
--- what may be written of a legal journal: the verdict, the report, how far activities can move, or where levels leave their limits
+-- what may be written of a legal journal: the verdict, the report, how far activities can move, where levels leave their limits, or
+-- how steps better the plan
 abbrev pub IsTextOf : Told → State → List ℕ → Type 0
 IsTextOf told.Verdict s text = text ≡ verdict_line s.model (verdict.Legal (length s.log) s.world.done)
 IsTextOf told.Report s text = text ≡ report_of s
 IsTextOf (told.Flex id) s text = IsFlexText s.world.state id text
 IsTextOf (told.Forecast rates) s text = text ≡ forecast_text s.world.state rates
+IsTextOf (told.Improve steps prefers) s text = IsImprovement s.world.state prefers steps text
 
 -- The lines that were taken, each within the limits: the text of a model up to a `begin` line, what is asked for before the
 -- journal, by which this is to be told of it, and these lines behind. With them came fewer bytes than one read asks for.

@@ -40,6 +40,7 @@ IsTask task.Replay = ⊤
 IsTask task.Report = ⊤
 IsTask (task.Flex id) = ⊤
 IsTask task.Forecast = ⊤
+IsTask (task.Improve steps) = (1 ≤ steps) × (steps ≤ 1000)
 IsTask (task.Demo goals) = (1 ≤ goals) × (goals ≤ 4000)
 
 -- What the status of a run says where the input's bytes are known. Only what was written needs those of the sink.
@@ -70,7 +71,7 @@ pub record SaysChecked (input : List ℕ) (source_left held now : Option (List �
   pub never_wrong : status ≡ 8 → ⊥
   pub silent : status ≡ 9 → now ≡ held
 
--- What the status of a replay says, of a report, of what moves, or of a forecast.
+-- What the status of a replay says, of a report, of what moves, of a forecast, or of what betters a plan.
 pub record SaysReadBack (form : Form) (input : List ℕ) (source_left held now : Option (List ℕ)) (status : ℕ)
     : Type 0 where
   pub done : status ≡ 0 → IsRightJournal form input source_left held now
@@ -112,6 +113,9 @@ SaysKnown (task.Flex id) (Some input) source_left held now status =
 SaysKnown task.Forecast None source_left held now status = ⊤
 SaysKnown task.Forecast (Some input) source_left held now status =
     SaysReadBack which.Forecast input source_left held now status
+SaysKnown (task.Improve steps) None source_left held now status = ⊤
+SaysKnown (task.Improve steps) (Some input) source_left held now status =
+    SaysReadBack (which.Improve steps) input source_left held now status
 SaysKnown (task.Demo goals) input source_left held now status = SaysShown goals held now status
 
 -- The statuses that a job of one thread can end with, whatever is told of its input: 3, 4 and 6 come of a job that reads its
@@ -123,6 +127,7 @@ statuses_of task.Replay = 0 ∷ 3 ∷ 4 ∷ 5 ∷ 6 ∷ 8 ∷ 9 ∷ []
 statuses_of task.Report = 0 ∷ 3 ∷ 4 ∷ 5 ∷ 6 ∷ 8 ∷ 9 ∷ []
 statuses_of (task.Flex id) = 0 ∷ 3 ∷ 4 ∷ 5 ∷ 6 ∷ 8 ∷ 9 ∷ []
 statuses_of task.Forecast = 0 ∷ 3 ∷ 4 ∷ 5 ∷ 6 ∷ 8 ∷ 9 ∷ []
+statuses_of (task.Improve steps) = 0 ∷ 3 ∷ 4 ∷ 5 ∷ 6 ∷ 8 ∷ 9 ∷ []
 statuses_of (task.Demo goals) = 0 ∷ 5 ∷ 7 ∷ 9 ∷ []
 
 -- The statuses that a run of a pair can end with, and a run that looks ahead.
@@ -136,4 +141,4 @@ unfoldable pub IsPairStatus : ℕ → Type 0
 IsPairStatus status = Contains pair_statuses status
 
 abbrev pub usage_line : List ℕ
-usage_line = codes "usage: run solo N | run pair N SEED | check | replay | report | demo N | flex ID | forecast" ++ 10 ∷ []
+usage_line = codes "usage: run solo N | run pair N SEED | check | replay | report | demo N | flex ID | forecast | improve N" ++ 10 ∷ []

@@ -1,4 +1,4 @@
--- The forms of the command line: `run solo N`, `run pair N SEED`, `run crew N P SEED`, `check`, `replay`, `report`, `demo N`, `flex ID` and `forecast`.
+-- The forms of the command line: `run solo N`, `run pair N SEED`, `run crew N P SEED`, `check`, `replay`, `report`, `demo N`, `flex ID`, `forecast` and `improve N`.
 use Rattle.std.specs.Prelude.{ℕ, List, [], ◌∷◌, ◌&&◌, nat_le, if◌then◌else◌, Option, Some, None, codes, map}
 use Rattle.std.specs.Str.{bytes_eq}
 use Rattle.std.specs.String.{string_bytes}
@@ -38,6 +38,11 @@ abbrev pub flex_by : Option ℕ → Option Command
 flex_by None = None
 flex_by (Some id) = Some (command.Alone (task.Flex id))
 
+-- the steps that better a plan, from 1 to 1,000
+abbrev pub improve_by : Option ℕ → Option Command
+improve_by None = None
+improve_by (Some n) = if nat_le 1 n && nat_le n 1000 then Some (command.Alone (task.Improve n)) else None
+
 -- a task that is one word
 abbrev pub single_word : List ℕ → Option Command
 single_word word =
@@ -52,6 +57,7 @@ command_in (word ∷ []) = single_word word
 command_in (word ∷ number ∷ []) =
     if bytes_eq word (codes "demo") then goals_by (number_in number)
     else if bytes_eq word (codes "flex") then flex_by (number_in number)
+    else if bytes_eq word (codes "improve") then improve_by (number_in number)
     else None
 command_in (run ∷ solo ∷ turns ∷ []) = if bytes_eq run (codes "run") && bytes_eq solo (codes "solo") then turns_by (number_in turns) else None
 command_in (run ∷ pair ∷ turns ∷ seed ∷ []) = if bytes_eq run (codes "run") && bytes_eq pair (codes "pair") then pair_by (number_in turns) (number_in seed) else None

@@ -26,6 +26,9 @@ pub enum Task {
     Flex { id: u64 },
     /// Says where levels of the plan behind a legal journal leave their limits, by the rates that stand before the journal.
     Forecast,
+    /// Betters the plan behind a legal journal by so many steps, from 1 to 1,000, if it has no conflicts, by the preferences that stand
+    /// before the journal.
+    Improve { steps: u32 },
     /// Plans a mission of so many goals, from 1 to 4,000, and says how it ended.
     Demo { goals: u32 },
 }

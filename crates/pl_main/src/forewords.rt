@@ -38,6 +38,32 @@ fn read_rates<S: Source>(
     }
 }
 
+#[tactic(auto, using(crate::proofs::Prefacing::prefers_read, crate::proofs::Prefacing::prefers_refused, crate::proofs::Prefacing::prefers_stop, crate::proofs::Prefacing::prefers_unread))]
+fn read_prefers<S: Source>(
+    alloc: Global,
+    steps: u32,
+    model: &Model,
+    lines: &mut LineReader,
+    src: &mut S,
+) -> Result<Foreword, Halt>
+    requires checked { IsChecked model.now }
+    requires limit { lines.old.limit ≡ 4160 }
+    requires working { lines.old.failed ≡ None }
+    ensures reads { ForewordReads (Form.Improve steps) model.now (place_of lines.old (S.left src.old)) result (place_of lines.new (S.left src.new)) }
+    ensures fits { IfOk result (FitsForeword model.now) }
+    ensures read { IsErrOf result Halt.Read → Rose (S.faults src.old) (S.faults src.new) }
+    ensures later { S.faults src.old ≤ S.faults src.new }
+{
+    match read_preface(alloc, model, lines, src) {
+        Err(fault) => Err(halt_of(fault)),
+        Ok(Preface::Given(prefers)) => Ok(Foreword::Tells(Told::Improve { steps, prefers })),
+        Ok(Preface::Refused(why)) => {
+            let line = refusal_line(alloc, b"prefer", why)?;
+            Ok(Foreword::Refuses(line))
+        }
+    }
+}
+
 /// Reads what is asked for between the line `begin` and a journal.
 #[tactic(auto, using(crate::proofs::Prefacing::nothing_for_replay, crate::proofs::Prefacing::nothing_for_report, crate::proofs::Prefacing::nothing_for_flex))]
 pub fn read_foreword<S: Source>(
@@ -60,5 +86,6 @@ pub fn read_foreword<S: Source>(
         Form::Report => Ok(Foreword::Tells(Told::Report)),
         Form::Flex { id } => Ok(Foreword::Tells(Told::Flex { id })),
         Form::Forecast => read_rates(alloc, model, lines, src),
+        Form::Improve { steps } => read_prefers(alloc, steps, model, lines, src),
     }
 }

@@ -12,7 +12,7 @@ use pl_io::{Sink, put};
 use pl_machine::Machine;
 use pl_model::Model;
 use pl_replay::Verdict;
-use pl_report::{flex_text, forecast_text, report, verdict_line};
+use pl_report::{flex_text, forecast_text, improvement_text, report, verdict_line};
 use std::alloc::{AllocError, Global};
 
 /// Writes a text, which says this of a journal.
@@ -48,6 +48,9 @@ fn legal_text(
         Told::Report => report(alloc, machine),
         Told::Flex { id } => flex_text(alloc, machine, *id),
         Told::Forecast(rates) => forecast_text(alloc, machine, rates.as_slice()),
+        Told::Improve { steps, prefers } => {
+            improvement_text(alloc, machine, prefers.as_slice(), *steps)
+        }
     }
 }
 

@@ -50,7 +50,7 @@ fn status_of_journal(ended: Result<Judgement, Halt>) -> u8
     }
 }
 
-#[tactic(auto, using(crate::proofs::Topping::says_of, crate::proofs::Topping::says_checked, crate::proofs::Topping::says_shown, crate::proofs::Topping::says_replayed, crate::proofs::Topping::says_reported, crate::proofs::Topping::says_moved, crate::proofs::Topping::says_foreseen, crate::proofs::Jobs::solo_status, crate::proofs::Jobs::check_status, crate::proofs::Jobs::replay_status, crate::proofs::Jobs::report_status, crate::proofs::Jobs::flex_status, crate::proofs::Jobs::forecast_status, crate::proofs::Jobs::demo_status))]
+#[tactic(auto, using(crate::proofs::Topping::says_of, crate::proofs::Topping::says_checked, crate::proofs::Topping::says_shown, crate::proofs::Topping::says_replayed, crate::proofs::Topping::says_reported, crate::proofs::Topping::says_moved, crate::proofs::Topping::says_foreseen, crate::proofs::Topping::says_bettered, crate::proofs::Jobs::solo_status, crate::proofs::Jobs::check_status, crate::proofs::Jobs::replay_status, crate::proofs::Jobs::report_status, crate::proofs::Jobs::flex_status, crate::proofs::Jobs::forecast_status, crate::proofs::Jobs::improve_status, crate::proofs::Jobs::demo_status))]
 fn task_status<I: Source, O: Sink>(alloc: Global, task: &Task, input: &mut I, out: &mut O) -> u8
     requires { IsTask task.now }
     ensures status { IsStatusOf task.now result }
@@ -69,6 +69,9 @@ fn task_status<I: Source, O: Sink>(alloc: Global, task: &Task, input: &mut I, ou
             status_of_journal(read_back(alloc, Form::Flex { id: *id }, input, out))
         }
         Task::Forecast => status_of_journal(read_back(alloc, Form::Forecast, input, out)),
+        Task::Improve { steps } => {
+            status_of_journal(read_back(alloc, Form::Improve { steps: *steps }, input, out))
+        }
         Task::Demo { goals } => status_of(demo(alloc, *goals, out)),
     }
 }
@@ -98,7 +101,7 @@ fn usage<O: Sink>(out: &mut O) -> u8
 {
     match put(
         out,
-        b"usage: run solo N | run pair N SEED | check | replay | report | demo N | flex ID | forecast\n",
+        b"usage: run solo N | run pair N SEED | check | replay | report | demo N | flex ID | forecast | improve N\n",
     ) {
         Ok(()) => 2,
         Err(_) => 5,

@@ -1,5 +1,5 @@
 ghost use Rattle.std.specs.Prelude.{◌≡◌};
-ghost use Rattle.pl_main.specs.Words.{turns_by, pair_by, crew_by, goals_by, flex_by, single_word, command_of};
+ghost use Rattle.pl_main.specs.Words.{turns_by, pair_by, crew_by, goals_by, flex_by, improve_by, single_word, command_of};
 
 use crate::command::{Command, Task};
 use crate::number::read_number;
@@ -68,6 +68,17 @@ fn flex(id: Option<u64>) -> Option<Command>
     Some(Command::Alone(Task::Flex { id }))
 }
 
+fn improve(steps: Option<u64>) -> Option<Command>
+    ensures { result ≡ improve_by steps }
+{
+    match steps {
+        Some(steps) if 1 <= steps && steps <= 1000 => Some(Command::Alone(Task::Improve {
+            steps: steps as u32,
+        })),
+        _ => None,
+    }
+}
+
 fn demo(goals: Option<u64>) -> Option<Command>
     ensures { result ≡ goals_by goals }
 {
@@ -81,7 +92,7 @@ fn demo(goals: Option<u64>) -> Option<Command>
 
 /// What the words behind the program's name ask for: `run solo N`, N from 1 to 1,000, `run pair N SEED`, SEED of at most 18
 /// digits, `run crew N P SEED`, P from 2 to 8, `check`, `replay`, `report`, `demo N`, N from 1 to 4,000, `flex ID`, ID of at most 18
-/// digits, or `forecast`.
+/// digits, `forecast`, or `improve N`, N from 1 to 1,000.
 #[tactic(auto, unfolding(crate::specs::Words::command_of))]
 pub fn read_words(words: &[String]) -> Option<Command>
     ensures { result ≡ command_of words.now }
@@ -93,6 +104,8 @@ pub fn read_words(words: &[String]) -> Option<Command>
                 demo(read_number(number.as_bytes()))
             } else if word.as_bytes() == b"flex".as_slice() {
                 flex(read_number(number.as_bytes()))
+            } else if word.as_bytes() == b"improve".as_slice() {
+                improve(read_number(number.as_bytes()))
             } else {
                 None
             }

@@ -21,7 +21,6 @@ pub struct Worker {
 }
 
 /// Works until the plan is over.
-#[tactic(auto, using(crate::proofs::Working::served_on, crate::proofs::Working::served_until))]
 fn serve<R: Wait, G: Gate>(
     rt: &R,
     alloc: Global,

@@ -1,8 +1,9 @@
 -- What stands before a journal, line by line.
-use Rattle.std.proofs.Common.{◌≡◌, ℕ, suc, ◌+◌, List, [], ◌∷◌, ◌++◌, length, Bool, true, false, if◌then◌else◌, Option, Some, None, ◌⊎◌, inl, inr, refl, sym, ◌∙◌, ap, add-zero, arith}
+use Rattle.std.proofs.Common.{◌≡◌, ℕ, suc, ◌+◌, ◌≤◌, List, [], ◌∷◌, ◌++◌, length, Bool, true, false, if◌then◌else◌, Option, Some, None, ◌⊎◌, inl, inr, refl, sym, ◌∙◌, ap, subst, add-zero, length-append, arith}
+use Rattle.std.proofs.lemmas.Bool.{ltb-true}
 use Rattle.std.proofs.lemmas.List.{append-nil}
 use Rattle.std.proofs.lemmas.List.Elements.{All-nil, All-push}
-use Rattle.std.specs.Prelude.{nat_lt, All}
+use Rattle.std.specs.Prelude.{nat_lt, All, ⊤}
 use Rattle.pl_io.specs.declared.errors.LineFault.{LineFault}
 use Rattle.pl_io.specs.Reader.{Reader}
 use Rattle.pl_input.specs.Reads.{ReadsLines, Halts, IsUsedUp}
@@ -120,3 +121,41 @@ step_fits fits number items found.Journal all one = all
 step_fits fits number items found.Blank all one = all
 step_fits fits number items (found.Item x) all one = added_fits fits (nat_lt (length items) most_items) (refusal.TooMany number) items x all one
 step_fits fits number items (found.Faulty p) all one = tt
+
+-- ---- how many items there are
+
+abbrev FewSoFar : {X : Type 0} → Step X → Type 0
+FewSoFar (step.More items) = length items ≤ most_items
+FewSoFar (step.Given items) = length items ≤ most_items
+FewSoFar (step.Refused why) = ⊤
+FewSoFar step.Ended = ⊤
+
+abbrev FewSaid : {X : Type 0} → Said X → Type 0
+FewSaid (so_far items) = length items ≤ most_items
+FewSaid (whole items behind) = length items ≤ most_items
+FewSaid (refused why behind) = ⊤
+
+few_added : {X : Type 0} (b : Bool) (why : Refusal) (items : List X) (x : X) → nat_lt (length items) most_items ≡ b → FewSoFar (if b then step.More (items ++ x ∷ []) else step.Refused why)
+few_added true why items x test = omega (arith, length-append items (x ∷ []), ltb-true (length items) most_items test)
+few_added false why items x test = tt
+
+few_by : {X : Type 0} (number : ℕ) (items : List X) (it : Found X) → length items ≤ most_items → FewSoFar (step_by number items it)
+few_by number items found.Journal few = few
+few_by number items found.Blank few = few
+few_by number items (found.Item x) few = few_added (nat_lt (length items) most_items) (refusal.TooMany number) items x refl
+few_by number items (found.Faulty p) few = tt
+
+few_behind : {X : Type 0} (next : Step X) (lines : Lines) (rest : List X → Said X) → FewSoFar next → ((items : List X) → length items ≤ most_items → FewSaid (rest items)) → FewSaid (goes_on next lines rest)
+few_behind (step.More items) lines rest few on = on items few
+few_behind (step.Given items) lines rest few on = few
+few_behind (step.Refused why) lines rest few on = tt
+few_behind step.Ended lines rest few on = tt
+
+few_said : {X : Type 0} (read : Reading X) (n : ℕ) (items : List X) (lines : Lines) → length items ≤ most_items → FewSaid (said read n items lines)
+few_said read n items [] few = few
+few_said {X} read n items (x ∷ xs) few =
+    few_behind (step_by (suc n) items (found_in read x)) xs (λ (ys : List X). said read (suc n) ys xs) (few_by (suc n) items (found_in read x) few)
+    (λ ys le. few_said read (suc n) ys xs le)
+
+pub few_given : {X : Type 0} (read : Reading X) (old : Reader) (before : Option (List ℕ)) (items : List X) (new : Reader) (after : Option (List ℕ)) → HasPreface read old before items new after → length items ≤ most_items
+few_given {X} read old before items new after has = subst (λ (s : Said X). FewSaid s) has.says (few_said read old.number [] has.lines (omega arith))

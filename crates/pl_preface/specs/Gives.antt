@@ -1,5 +1,5 @@
 -- What a reader gives of the lines before a journal.
-use Rattle.std.specs.Prelude.{◌≡◌, ℕ, ◌<◌, ◌⊎◌, List, [], ◌∷◌, All, Option, Result, Ok, Err, ⊤}
+use Rattle.std.specs.Prelude.{◌≡◌, ℕ, ◌<◌, ◌≤◌, ◌⊎◌, List, [], ◌∷◌, length, All, Option, Result, Ok, Err, ⊤}
 use Rattle.pl_io.specs.declared.errors.LineFault.{LineFault}
 use Rattle.pl_io.specs.Reader.{Reader}
 use Rattle.pl_input.specs.Reads.{ReadsLines, Halts, IsUsedUp}
@@ -9,7 +9,7 @@ use Rattle.pl_preface.specs.declared.found.Step.{Step}
 use Rattle.pl_preface.specs.declared.found.Step.TheVariants as step
 use Rattle.pl_preface.specs.declared.preface.Preface.{Preface}
 use Rattle.pl_preface.specs.declared.preface.Preface.TheVariants as preface
-use Rattle.pl_preface.specs.Prefaces.{Reading, found_in, step_by, said, so_far, whole, refused}
+use Rattle.pl_preface.specs.Prefaces.{Reading, most_items, found_in, step_by, said, so_far, whole, refused}
 
 -- One more line, and how the reading goes on behind it.
 pub record SeesLine {X : Type 0} (read : Reading X) (old : Reader) (before : Option (List ℕ)) (items : List X) (next : Step X) (new : Reader) (after : Option (List ℕ)) : Type 0 where
@@ -71,3 +71,8 @@ GivesPreface read old before (Err f) new after = PrefaceHalts read old before f 
 abbrev pub FitsPreface : {X : Type 0} → (X → Type 0) → Preface X → Type 0
 FitsPreface fits (preface.Given items) = All fits items
 FitsPreface fits (preface.Refused why) = ⊤
+
+-- at most 64 of them
+abbrev pub HasFewItems : {X : Type 0} → Preface X → Type 0
+HasFewItems (preface.Given items) = length items ≤ most_items
+HasFewItems (preface.Refused why) = ⊤

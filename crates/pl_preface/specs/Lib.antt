@@ -4,3 +4,4 @@ pub mod Prefaces
 pub mod Gives
 pub mod Refusals
 pub mod RateLines
+pub mod PreferLines

@@ -20,6 +20,11 @@ most_items = 64
 abbrev pub Reading : Type 0 → Type 0
 Reading X = List ℕ → Result X Problem
 
+-- what a line says, where its fault is told as a problem
+abbrev pub told : {X F : Type 0} → (F → Problem) → Result X F → Result X Problem
+told problem (Ok x) = Ok x
+told problem (Err e) = Err (problem e)
+
 -- ---- one line
 
 abbrev pub found_by : {X : Type 0} → Result X Problem → Found X

@@ -1,5 +1,5 @@
 -- Lines of rates before a journal.
-use Rattle.std.specs.Prelude.{ℕ, List, Result, Ok, Err}
+use Rattle.std.specs.Prelude.{ℕ, List}
 use Rattle.pl_model.specs.declared.whole.Model.{Model}
 use Rattle.pl_rate.specs.declared.rate.Rate.{Rate}
 use Rattle.pl_rate.specs.declared.fault.RateFault.{RateFault}
@@ -7,7 +7,7 @@ use Rattle.pl_rate.specs.declared.fault.RateFault.TheVariants as fault
 use Rattle.pl_rate.specs.Rates.{rate_of}
 use Rattle.pl_preface.specs.declared.problem.Problem.{Problem}
 use Rattle.pl_preface.specs.declared.problem.Problem.TheVariants as problem
-use Rattle.pl_preface.specs.Prefaces.{Reading}
+use Rattle.pl_preface.specs.Prefaces.{Reading, told}
 
 -- No line means a want of memory.
 abbrev pub problem_of : RateFault → Problem
@@ -16,10 +16,6 @@ problem_of fault.UnknownName = problem.UnknownName
 problem_of fault.OutOfRange = problem.OutOfRange
 problem_of fault.Memory = problem.BadLine
 
-abbrev pub told : Result Rate RateFault → Result Rate Problem
-told (Ok r) = Ok r
-told (Err e) = Err (problem_of e)
-
 -- the rate of a line, or why it is refused
 abbrev pub rate_in : Model → Reading Rate
-rate_in model line = told (rate_of model line)
+rate_in model line = told problem_of (rate_of model line)

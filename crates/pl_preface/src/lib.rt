@@ -4,6 +4,7 @@
 mod asked;
 mod found;
 mod preface;
+mod prefers;
 mod problem;
 mod rates;
 mod reading;

@@ -3,7 +3,7 @@ ghost use Rattle.pl_io.specs.Faults.{Rose};
 ghost use Rattle.pl_io.specs.Lines.{ahead};
 ghost use Rattle.pl_model.specs.Checked.{IsChecked};
 ghost use Rattle.pl_preface.specs.Prefaces.{found_in, step_by, FitsStep};
-ghost use Rattle.pl_preface.specs.Gives.{ReadsStep, GivesPreface, FitsPreface};
+ghost use Rattle.pl_preface.specs.Gives.{ReadsStep, GivesPreface, FitsPreface, HasFewItems};
 
 use crate::asked::Asked;
 use crate::found::Step;
@@ -76,6 +76,7 @@ pub fn read_preface<T: Asked, S: Source>(
     requires working { lines.old.failed ≡ None }
     ensures preface { GivesPreface (T.meant model.now) lines.old (ahead lines.old.held (S.left src.old)) result lines.new (ahead lines.new.held (S.left src.new)) }
     ensures fits { IfOk result (FitsPreface (T.fits model.now)) }
+    ensures few { IfOk result HasFewItems }
     ensures cause { IsErrOf result LineFault.Read → Rose (S.faults src.old) (S.faults src.new) }
     ensures later { S.faults src.old ≤ S.faults src.new }
 {

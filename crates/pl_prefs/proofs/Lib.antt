@@ -4,11 +4,11 @@ pub mod Apart
 pub mod Staying
 pub mod Changed
 pub mod Gained
-pub mod Dropped
 pub mod Listed
+pub mod Sorts
+pub mod Proper
 pub mod Picking
 pub mod Chosen
 pub mod Counted
-pub mod Sorts
 pub mod Stepped
 pub mod Ranges

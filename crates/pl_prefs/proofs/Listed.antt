@@ -9,7 +9,6 @@ use Rattle.pl_model.specs.declared.parameters.Param.{Param}
 use Rattle.pl_model.specs.Checked.{IsCheckedParam, params_of}
 use Rattle.pl_plan.specs.declared.activity.Activity.{Activity}
 use Rattle.pl_plan.specs.declared.repair.RepairMove.{RepairMove}
-use Rattle.pl_plan.specs.Activities.{activity_of}
 use Rattle.pl_plan.specs.Fitting.{kind_of}
 use Rattle.pl_plan.specs.Trees.{id_of}
 use Rattle.pl_plan.proofs.FirmSteps.{checked_kind}
@@ -58,9 +57,11 @@ module _ (s : PlanState) (whole : IsWhole s) (a : Activity) where
 
 -- ---- activities
 
+pub movable_live : (s : PlanState) → IsWhole s → All (λ x. found s x.id ≡ Some x) (movable s)
+movable_live s whole = All-take (λ x. found s x.id ≡ Some x) 256 _ (All-filter _ (λ x. found s x.id ≡ Some x) s.plan.activities (each_found s.plan.activities whole.rising))
+
 pub changes_listed : (s : PlanState) → IsWhole s → (ids : List ℕ) → ids ≡ map id_of (movable s) → flat_map (λ id. of_found (changes_of s) (found s id)) ids ≡ changes_in s
 unfolding changes_in
 changes_listed s whole ids are =
     ap (flat_map (λ id. of_found (changes_of s) (found s id))) are
-    ∙ by_ids s (changes_of s) (movable s)
-    (All-take (λ x. activity_of x.id s.plan.activities ≡ Some x) 256 _ (All-filter _ (λ x. activity_of x.id s.plan.activities ≡ Some x) s.plan.activities (each_found s.plan.activities whole.rising)))
+    ∙ by_ids s (changes_of s) (movable s) (movable_live s whole)

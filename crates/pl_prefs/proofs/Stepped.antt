@@ -1,14 +1,15 @@
 -- What a step leaves.
 use Rattle.std.proofs.Common.{◌≡◌, ℕ, ◌≤◌, eqb, Bool, true, false, ◌&&◌, List, [], length, refl, sym, ap, ◌∙◌, subst, arith, ℤ, ◌+ℤ◌, leb, ltb}
-use Rattle.std.specs.Prelude.{All, Option, Some, None, is_none}
+use Rattle.std.specs.Prelude.{All, Some, None}
 use Rattle.std.proofs.lemmas.Int.{ints}
+use Rattle.std.proofs.lemmas.List.{nil_from_length}
 use Rattle.std.proofs.lemmas.Bool.{and_parts, eqb-true, eq-eqb, leb-true}
+use Rattle.pl_lists.proofs.Elements.{none_from_test}
 use Rattle.pl_plan.specs.declared.repair.RepairMove.{RepairMove}
 use Rattle.pl_semantics.specs.declared.plan_state.PlanState.{PlanState}
-use Rattle.pl_semantics.specs.declared.refusal.Refusal.{Refusal}
 use Rattle.pl_semantics.specs.Conflicts.{conflicts_of}
 use Rattle.pl_semantics.specs.Legal.{is_legal, left_after}
-use Rattle.pl_semantics.specs.Moves.{is_proper, refusal_of, applied}
+use Rattle.pl_semantics.specs.Moves.{refusal_of, applied}
 use Rattle.pl_semantics.specs.Whole.{IsWhole}
 use Rattle.pl_board.specs.Boards.{Standing}
 use Rattle.pl_moves.specs.Attempts.{is_enough}
@@ -18,20 +19,16 @@ use Rattle.pl_prefs.specs.declared.prefer.Prefer.{Prefer}
 use Rattle.pl_prefs.specs.declared.choice.Choice.{Choice}
 use Rattle.pl_prefs.specs.Prefers.{IsPreferOf}
 use Rattle.pl_prefs.specs.Scores.{score}
-use Rattle.pl_prefs.specs.Betters.{is_clear, better, changes_in}
+use Rattle.pl_prefs.specs.Betters.{IsProperChange, is_clear, better, changes_in}
 use Rattle.pl_prefs.specs.Chances.{IsChosen, IsBestMade}
 use Rattle.pl_prefs.specs.Scoreds.{Scoring, IsScored, IsScoring, IsStepped}
-use Rattle.pl_prefs.proofs.Counted.{no_conflicts}
-use Rattle.pl_prefs.proofs.Sorts.{all_changes, best_change, keeps_next}
+use Rattle.pl_prefs.proofs.Proper.{all_proper_changes}
+use Rattle.pl_prefs.proofs.Sorts.{all_changes, best_is, best_change, keeps_next}
 
 -- ---- a clear move
 
-none_is : (o : Option Refusal) → is_none o ≡ true → o ≡ None
-none_is None e = refl
-none_is (Some r) e = absurd (cc)
-
 pub legal_may : (s : PlanState) (m : RepairMove) → is_legal s m ≡ true → refusal_of s m ≡ None
-legal_may s m legal = none_is (refusal_of s m) legal
+legal_may s m legal = none_from_test (refusal_of s m) legal
 
 -- no conflict is enough exactly where none is left
 pub none_enough : (n : ℕ) (b : Bool) → is_enough (Some 0) n ≡ b → eqb n 0 ≡ b
@@ -45,42 +42,40 @@ none_enough n false e = by (eqb n 0) refl
         let enough : is_enough (Some 0) n ≡ true = ap (is_enough (Some 0)) none in
         absurd (let bad : true ≡ false = sym enough ∙ e in cc)
 
-pub clear_as : (s : PlanState) (m : RepairMove) (b : Bool) → is_proper s m ≡ true → is_legal s m ≡ true → is_enough (Some 0) (left_after s m) ≡ b → is_clear s m ≡ b
-clear_as s m b proper legal enough =
-    ap (λ t. t && is_legal s m && (eqb (left_after s m) 0)) proper ∙ (ap (λ t. true && t && (eqb (left_after s m) 0)) legal ∙ none_enough (left_after s m) b enough)
+pub clear_as : (s : PlanState) (m : RepairMove) (b : Bool) → is_legal s m ≡ true → is_enough (Some 0) (left_after s m) ≡ b → is_clear s m ≡ b
+clear_as s m b legal enough = ap (λ t. t && (eqb (left_after s m) 0)) legal ∙ none_enough (left_after s m) b enough
 
-pub not_proper : (s : PlanState) (m : RepairMove) → is_proper s m ≡ false → is_clear s m ≡ false
-not_proper s m e = ap (λ t. t && is_legal s m && (eqb (left_after s m) 0)) e
-
-pub not_legal : (s : PlanState) (m : RepairMove) → is_proper s m ≡ true → is_legal s m ≡ false → is_clear s m ≡ false
-not_legal s m proper e = ap (λ t. t && is_legal s m && (eqb (left_after s m) 0)) proper ∙ ap (λ t. true && t && (eqb (left_after s m) 0)) e
+pub not_legal : (s : PlanState) (m : RepairMove) → is_legal s m ≡ false → is_clear s m ≡ false
+not_legal s m e = ap (λ t. t && (eqb (left_after s m) 0)) e
 
 pub record IsClear (s : PlanState) (m : RepairMove) : Type 0 where
-  pub proper : is_proper s m ≡ true
   pub allowed : refusal_of s m ≡ None
   pub none_left : conflicts_of (applied s m) ≡ []
 
 pub clear_is : (s : PlanState) (m : RepairMove) → is_clear s m ≡ true → IsClear s m
 unfolding left_after
 clear_is s m clear =
-    let both = and_parts (is_proper s m && is_legal s m) (eqb (left_after s m) 0) clear in
-    let first = and_parts (is_proper s m) (is_legal s m) both.0 in
+    let both = and_parts (is_legal s m) (eqb (left_after s m) 0) clear in
     record {
-      proper = first.0;
-      allowed = legal_may s m first.1;
-      none_left = no_conflicts (conflicts_of (applied s m)) (eqb-true (length (conflicts_of (applied s m))) 0 both.1);
+      allowed = legal_may s m both.0;
+      none_left = nil_from_length (conflicts_of (applied s m)) (eqb-true (length (conflicts_of (applied s m))) 0 both.1);
     }
 
 -- ---- what is left
 
+-- the best of what is tried is proper and is not refused, so what is committed stays
+pub kept_by : (s : PlanState) (prefers : List Prefer) (choice : Choice) (now : Standing) → IsWhole s → IsBestMade s prefers (changes_in s) choice now → KeepsCommitted s (applied s choice.mv)
+kept_by s prefers choice now whole made =
+    let change = best_is (IsProperChange s) _ _ (changes_in s) choice.mv (all_proper_changes s whole) made.best in
+    keeps s choice.mv whole change.0 (clear_is s choice.mv made.clear).allowed
+
 pub scored_then : (s : PlanState) (prefers : List Prefer) (before points : ℤ) (choice : Choice) (now : Standing) → IsWhole s → IsScored s prefers before → IsBestMade s prefers (changes_in s) choice now → points ≡ score (applied s choice.mv) prefers → IsScored (applied s choice.mv) prefers points
 scored_then s prefers before points choice now whole scored made is =
-    let clear = clear_is s choice.mv made.clear in
-    let kept = keeps s choice.mv whole clear.proper clear.allowed in
+    let kept = kept_by s prefers choice now whole made in
     let change = best_change _ _ (changes_in s) choice.mv (all_changes s) made.best in
     record {
       score_is = is;
-      clear = clear.none_left;
+      clear = (clear_is s choice.mv made.clear).none_left;
       fits = subst (λ m. All (IsPreferOf m) prefers) (sym kept.model) scored.fits;
       few = scored.few;
       next = subst (λ (n : ℕ). n ≤ 3999999000) (sym (keeps_next s choice.mv change)) scored.next;
@@ -113,17 +108,15 @@ module _ (before : Scoring) (choice : Choice) (now : Standing) (whole : IsWhole 
 
   pub stepped_some : (points : ℤ) → points ≡ score now.state before.prefers → IsStepped (Some choice.mv) before (record { board = now; prefers = before.prefers; score = points })
   unfolding better
-  stepped_some points is =
-      let clear = clear_is before.board.state choice.mv made.clear in
-      record {
-        best = made.best;
-        made = made.made;
-        score_is = is;
-        clear = subst (λ (b : Standing). conflicts_of b.state ≡ []) (sym made.made) clear.none_left;
-        risen = omega (arith, ints, is, sum_then, made.gains);
-        same = λ e. absurd (cc (e));
-        committed = subst (λ (b : Standing). KeepsCommitted before.board.state b.state) (sym made.made) (keeps before.board.state choice.mv whole clear.proper clear.allowed);
-      }
+  stepped_some points is = record {
+    best = made.best;
+    made = made.made;
+    score_is = is;
+    clear = subst (λ (b : Standing). conflicts_of b.state ≡ []) (sym made.made) (clear_is before.board.state choice.mv made.clear).none_left;
+    risen = omega (arith, ints, is, sum_then, made.gains);
+    same = λ e. absurd (cc (e));
+    committed = subst (λ (b : Standing). KeepsCommitted before.board.state b.state) (sym made.made) (kept_by before.board.state before.prefers choice now whole made);
+  }
 
 -- ---- none was made
 

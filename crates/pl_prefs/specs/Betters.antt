@@ -1,5 +1,5 @@
 -- The moves that better a plan, and the best of them.
-use Rattle.std.specs.Prelude.{◌≡◌, ◌==◌, ◌&&◌, not, Bool, ℤ, int_lt, ◌<ℤ◌, ◌≤ℤ◌, List, [], ◌∷◌, ◌++◌, All, filter, take, Option, Some, None}
+use Rattle.std.specs.Prelude.{◌≡◌, ◌==◌, ◌&&◌, not, Bool, true, ℤ, int_lt, ◌<ℤ◌, ◌≤ℤ◌, List, [], ◌∷◌, ◌++◌, All, filter, take, Option, Some, None}
 use Rattle.std.specs.List.{flat_map}
 use Rattle.pl_model.specs.declared.parameters.Param.{Param}
 use Rattle.pl_model.specs.Checked.{IsAmount}
@@ -11,6 +11,7 @@ use Rattle.pl_semantics.specs.Starts.{shifts_of}
 use Rattle.pl_semantics.specs.Repairs.{all_assigns}
 use Rattle.pl_semantics.specs.Moves.{is_proper, applied}
 use Rattle.pl_semantics.specs.Legal.{is_legal, left_after}
+use Rattle.pl_moves.specs.Changes.{IsOfActivities}
 use Rattle.pl_prefs.specs.declared.prefer.Prefer.{Prefer}
 use Rattle.pl_prefs.specs.Scores.{score}
 
@@ -28,6 +29,13 @@ changes_of s a = shifts_of s a ++ all_assigns s a
 unfoldable pub changes_in : PlanState → List RepairMove
 changes_in s = flat_map (changes_of s) (movable s)
 
+-- a change of activities that makes sense, as each one that is tried does
+abbrev pub IsProperChange : PlanState → RepairMove → Type 0
+IsProperChange s m = (is_proper s m ≡ true) × IsOfActivities m
+
+abbrev pub AreProperChanges : PlanState → List RepairMove → Type 0
+AreProperChanges s moves = All (IsProperChange s) moves
+
 -- the bounds of a parameter, as a checked model has them
 abbrev pub HasAmounts : Param → Type 0
 HasAmounts p = IsAmount p.low × IsAmount p.high
@@ -37,9 +45,9 @@ HasAmounts p = IsAmount p.low × IsAmount p.high
 abbrev pub score_after : PlanState → List Prefer → RepairMove → ℤ
 score_after s prefers m = score (applied s m) prefers
 
--- it is proper, nothing refuses it, and it leaves no conflict
+-- nothing refuses it, and it leaves no conflict
 abbrev pub is_clear : PlanState → RepairMove → Bool
-is_clear s m = is_proper s m && is_legal s m && (left_after s m == 0)
+is_clear s m = is_legal s m && (left_after s m == 0)
 
 -- and the score rises
 abbrev pub is_better : PlanState → List Prefer → RepairMove → Bool

@@ -10,7 +10,7 @@ ghost use Rattle.pl_semantics.specs.Starts.{starting, shift_to};
 ghost use Rattle.pl_semantics.specs.Repairs.{assigns, all_assigns};
 ghost use Rattle.pl_semantics.specs.Whole.{IsWhole};
 ghost use Rattle.pl_cand.specs.Details.{assign_to, assigns_if_free};
-ghost use Rattle.pl_prefs.specs.Betters.{HasAmounts, movable, changes_of, changes_in};
+ghost use Rattle.pl_prefs.specs.Betters.{AreProperChanges, HasAmounts, movable, changes_of, changes_in};
 
 use pl_board::Board;
 use pl_cand::{places, spread};
@@ -218,7 +218,8 @@ fn add_changes_of_all(
 /// The moves that are tried to better a plan.
 pub(crate) fn changes(alloc: Global, board: &Board) -> Result<Vec<RepairMove>, AllocError>
     requires { board.now.spoiled ≡ false }
-    ensures { IfOk result (λ all. all.items ≡ changes_in board.now.state) }
+    ensures moves { IfOk result (λ all. all.items ≡ changes_in board.now.state) }
+    ensures changes { IfOk result (λ all. AreProperChanges board.now.state all.items) }
 {
     let ids = movable(alloc, board.state())?;
     let mut all = Vec::new(alloc);

@@ -1,5 +1,6 @@
 //! The choice among moves by what they gain.
 ghost use Rattle.std.specs.Prelude.{◌≡◌, ◌≤◌, ◌<◌, ◌+◌, length, false, true, IfOk, OnErr, Some, slice_get};
+ghost use Rattle.pl_prefs.specs.Betters.{AreProperChanges};
 ghost use Rattle.pl_prefs.specs.Chances.{IsMostAt, IsGreatest, AreGains, IsChosen};
 ghost use Rattle.pl_prefs.specs.Tries.{IsTried};
 
@@ -50,6 +51,7 @@ pub(crate) fn best_made<L: Ledger>(
 ) -> Result<Option<Choice>, AllocError>
     requires unspoiled { board.old.spoiled ≡ false }
     requires next { board.old.state.next_id ≤ 3999999000 }
+    requires changes { AreProperChanges board.old.state moves.now }
     requires gains { AreGains board.old.state prefers.now moves.now gains.old }
     ensures chosen { IfOk result (λ choice. IsChosen prefers.now moves.now choice board.old board.new) }
     ensures err { OnErr result (board.new.spoiled ≡ true) }

@@ -7,7 +7,7 @@ ghost use Rattle.pl_update.specs.Changes.Changes.{with_next};
 ghost use Rattle.pl_update.specs.Changes.Replaced.{CanReplace, with_plan};
 ghost use Rattle.pl_moves.specs.Changes.{IsOfActivities};
 ghost use Rattle.pl_moves.specs.Runs.{CanBeMade, IsTrialOf};
-ghost use Rattle.pl_prefs.specs.Betters.{is_clear};
+ghost use Rattle.pl_prefs.specs.Betters.{IsProperChange, AreProperChanges, is_clear};
 ghost use Rattle.pl_prefs.specs.Bounds.{IsWithin};
 ghost use Rattle.pl_prefs.specs.Chances.{AreGains};
 ghost use Rattle.pl_prefs.specs.Prefers.{IsPreferOf};
@@ -17,7 +17,7 @@ use crate::prefer::Prefer;
 use crate::worths::worth_of_all;
 use pl_board::Board;
 use pl_lists::Copied;
-use pl_moves::{Change, Trial, is_legal, proper, trial_of};
+use pl_moves::{Change, Trial, is_legal, trial_of};
 use pl_plan::RepairMove;
 use pl_semantics::PlanState;
 use pl_update::changes;
@@ -58,8 +58,8 @@ fn worth_then(
     Ok(worth)
 }
 
-// What a move of activities gains.
-fn gain_of_change(
+// What a move of activities gains that may be made.
+fn gain_of(
     alloc: Global,
     s: &mut PlanState,
     prefers: &[Prefer],
@@ -80,28 +80,7 @@ fn gain_of_change(
     Ok(then - before)
 }
 
-// What a move gains that may be made. A goal that is dropped counts nothing.
-fn gain_of(
-    alloc: Global,
-    s: &mut PlanState,
-    prefers: &[Prefer],
-    mv: &RepairMove,
-) -> Result<i128, AllocError>
-    requires whole { IsWhole s.old }
-    requires next { s.old.next_id ≤ 3999999000 }
-    requires allowed { CanBeMade s.old mv.now }
-    requires fits { All (IsPreferOf s.old.model) prefers.now }
-    requires few { length prefers.now ≤ 64 }
-    ensures gain { IfOk result (λ z. z ≡ gain_of s.old prefers.now mv.now) }
-    ensures same { OnOk result (s.new ≡ s.old) }
-{
-    match *mv {
-        RepairMove::Drop { .. } => Ok(0),
-        _ => gain_of_change(alloc, s, prefers, mv),
-    }
-}
-
-// What a move gains, if it is one that may be made; else 0.
+// What a proper change gains, if nothing refuses it; else 0.
 fn gain_if_legal(
     alloc: Global,
     board: &Board,
@@ -112,15 +91,13 @@ fn gain_if_legal(
     requires unspoiled { board.now.spoiled ≡ false }
     requires next { board.now.state.next_id ≤ 3999999000 }
     requires of_board { s.old ≡ board.now.state }
+    requires change { IsProperChange board.now.state mv.now }
     requires fits { All (IsPreferOf board.now.state.model) prefers.now }
     requires few { length prefers.now ≤ 64 }
     ensures gain { IfOk result (λ z. is_clear board.now.state mv.now ≡ true → z ≡ gain_of board.now.state prefers.now mv.now) }
     ensures same { OnOk result (s.new ≡ s.old) }
 {
     let _state = board.state();
-    if !proper(board, mv) {
-        return Ok(0);
-    }
     if !is_legal(board, mv) {
         return Ok(0);
     }
@@ -128,7 +105,7 @@ fn gain_if_legal(
     Ok(gain)
 }
 
-/// What each of some moves gains, if it is one that may be made.
+/// What each of some proper changes gains, if nothing refuses it.
 pub(crate) fn gains(
     alloc: Global,
     board: &Board,
@@ -139,6 +116,7 @@ pub(crate) fn gains(
     requires next { board.now.state.next_id ≤ 3999999000 }
     requires fits { All (IsPreferOf board.now.state.model) prefers.now }
     requires few { length prefers.now ≤ 64 }
+    requires changes { AreProperChanges board.now.state moves.now }
     ensures { IfOk result (λ all. AreGains board.now.state prefers.now moves.now all.items) }
 {
     let mut s = board.state().copy(alloc)?;

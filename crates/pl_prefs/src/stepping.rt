@@ -1,7 +1,7 @@
 //! A step on a board: the best of the moves is made.
 ghost use Rattle.std.specs.Prelude.{◌≡◌, ◌≤◌, false, true, length, All, IfOk, OnErr};
 ghost use Rattle.pl_semantics.specs.Whole.{IsWhole};
-ghost use Rattle.pl_prefs.specs.Betters.{changes_in};
+ghost use Rattle.pl_prefs.specs.Betters.{AreProperChanges, changes_in};
 ghost use Rattle.pl_prefs.specs.Chances.{AreGains, IsChosen};
 ghost use Rattle.pl_prefs.specs.Prefers.{IsPreferOf};
 
@@ -28,6 +28,7 @@ fn chances_of(alloc: Global, board: &Board, prefers: &[Prefer]) -> Result<Chance
     requires fits { All (IsPreferOf board.now.state.model) prefers.now }
     requires few { length prefers.now ≤ 64 }
     ensures moves { IfOk result (λ c. c.moves.items ≡ changes_in board.now.state) }
+    ensures changes { IfOk result (λ c. AreProperChanges board.now.state c.moves.items) }
     ensures gains { IfOk result (λ c. AreGains board.now.state prefers.now c.moves.items c.gains.items) }
 {
     let moves = changes(alloc, board)?;

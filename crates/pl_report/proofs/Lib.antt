@@ -3,4 +3,6 @@ pub mod Texts
 pub mod Inputs
 pub mod Lines
 pub mod Sending
-pub mod Foreseeing
+pub mod OfModel
+pub mod FewIds
+pub mod Improving

@@ -4,6 +4,7 @@ pub mod DemoModel
 pub mod Demonstration
 pub mod Flexes
 pub mod Forecasts
+pub mod Improvements
 pub mod Lines
 pub mod Reports
 pub mod Sent

@@ -4,13 +4,12 @@ ghost use Rattle.std.specs.Fmt.{signed_decimal};
 ghost use Rattle.pl_journal.specs.Rendering.Words.{spaced};
 ghost use Rattle.pl_report.specs.Flexes.{IsFlexText, IsTextFor, IsWindowsText, windows_line, window_line, edge_line, edge_lines, path_lines, windows_text, no_schedule_text};
 
-use crate::heading::push_length;
+use crate::heading::{push_length, push_value};
 use pl_flex::{Flex, Flexed, Window, flex_windows};
 use pl_journal::push_count;
 use pl_lists::Items;
 use pl_machine::Machine;
 use pl_stn::Edge;
-use pl_text::push_number;
 use std::alloc::{AllocError, Global};
 
 #[tactic(auto, using(crate::proofs::Texts::line_joined))]
@@ -52,22 +51,13 @@ fn push_window_lines(text: &mut Vec<u8>, windows: &[Window]) -> Result<(), Alloc
     Ok(())
 }
 
-#[tactic(auto, using(pl_journal::proofs::AboutRendering::Texts::word_joined))]
-fn push_most(text: &mut Vec<u8>, most: i64) -> Result<(), AllocError>
-    ensures { OnOk result (text.new.items ≡ text.old.items ++ spaced (signed_decimal most ∷ [])) }
-{
-    text.extend_from_slice(b" ")?;
-    push_number(text, most)?;
-    Ok(())
-}
-
 #[tactic(auto, using(pl_journal::proofs::AboutRendering::Texts::words_joined))]
 fn push_edge_words(text: &mut Vec<u8>, edge: &Edge) -> Result<(), AllocError>
     ensures { OnOk result (text.new.items ≡ text.old.items ++ spaced (decimal edge.now.from ∷ decimal edge.now.to ∷ signed_decimal edge.now.most ∷ [])) }
 {
     push_count(text, edge.from)?;
     push_count(text, edge.to)?;
-    push_most(text, edge.most)?;
+    push_value(text, edge.most)?;
     Ok(())
 }
 

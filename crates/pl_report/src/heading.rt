@@ -1,9 +1,11 @@
 ghost use Rattle.std.specs.Prelude.{◌≡◌, [], ◌∷◌, ◌++◌, OnOk, decimal};
+ghost use Rattle.std.specs.Fmt.{signed_decimal};
 ghost use Rattle.pl_journal.specs.Rendering.Words.{spaced};
 ghost use Rattle.pl_report.specs.Reports.{heading_words, heading_line};
 
 use pl_journal::{push_labelled, push_word};
 use pl_semantics::PlanState;
+use pl_text::push_number;
 use std::alloc::AllocError;
 
 /// Appends a blank and a count.
@@ -15,6 +17,16 @@ pub(crate) fn push_length(text: &mut Vec<u8>, count: usize) -> Result<(), AllocE
     let alloc = *text.allocator();
     let digits = count.to_string(alloc)?;
     text.extend_from_slice(digits.as_bytes())?;
+    Ok(())
+}
+
+/// Appends a blank and a value.
+#[tactic(auto, using(pl_journal::proofs::AboutRendering::Texts::word_joined))]
+pub(crate) fn push_value(text: &mut Vec<u8>, value: i64) -> Result<(), AllocError>
+    ensures { OnOk result (text.new.items ≡ text.old.items ++ spaced (signed_decimal value ∷ [])) }
+{
+    text.extend_from_slice(b" ")?;
+    push_number(text, value)?;
     Ok(())
 }
 

@@ -1,4 +1,4 @@
-//! A replayed journal's report, the line of the demonstration, and the demonstration's input.
+//! A replayed journal's report and other texts on it, the line of the demonstration, and the demonstration's input.
 #![tactic(auto)]
 
 mod activities;
@@ -10,6 +10,7 @@ mod flexes;
 mod forecasts;
 mod goals;
 mod heading;
+mod improvements;
 mod laws;
 mod reporting;
 mod verdicts;
@@ -18,6 +19,7 @@ pub use demonstration::demo_input;
 pub use demonstration_model::laws_of_demonstration;
 pub use flexes::flex_text;
 pub use forecasts::forecast_text;
+pub use improvements::improvement_text;
 pub use laws::{demo_input_laws, laws_of_reports};
 pub use reporting::report;
 pub use verdicts::verdict_line;

@@ -1,9 +1,9 @@
 //! Tests of boards: worked rows of models, changes, and what is wrong and what is tried then.
 
 mod attempts;
-mod boards;
-mod changes;
-mod codes;
+pub mod boards;
+pub mod changes;
+pub mod codes;
 mod counted;
 mod outlook;
 mod reading;

@@ -1,4 +1,4 @@
-//! Tests of the planner: boards, repairs, choosers, the machine.
+//! Tests of the planner: boards, repairs, choosers, the machine, preferences.
 #![tactic(auto)]
 
 #[cfg(test)]
@@ -7,5 +7,7 @@ mod asserting;
 mod board;
 #[cfg(test)]
 mod machine;
+#[cfg(test)]
+mod prefs;
 #[cfg(test)]
 mod reading;

@@ -24,6 +24,7 @@ EXAMPLES = """examples:
   lundocsef-x report examples/camera.txt examples/camera.journal
   lundocsef-x flex 3 examples/camera.txt examples/camera.journal
   lundocsef-x forecast rates.txt model.txt day.journal
+  lundocsef-x improve 20 wishes.txt model.txt day.journal
   lundocsef-x --completion bash > ~/.local/share/bash-completion/completions/lundocsef-x
 
 status: that of the program (2: its words, 3: the model, 4: reading, 5: writing, 6: too long, 7: the journal is full,
@@ -35,6 +36,7 @@ BEHIND = {
     'report': 'the journal: a file or `-` (default: what stands behind `begin` in MODEL)',
     'flex': 'the journal: a file or `-` (default: what stands behind `begin` in MODEL)',
     'forecast': 'the journal: a file or `-` (default: what stands behind `begin` in MODEL)',
+    'improve': 'the journal: a file or `-` (default: what stands behind `begin` in MODEL)',
 }
 HELP = {
     'run': 'plan, and write the journal', 'check': 'say whether a text is a model, or its first fault',
@@ -42,6 +44,7 @@ HELP = {
     'demo': 'plan N built-in goals',
     'flex': 'say how far each activity behind a journal can move, and what keeps one of them there',
     'forecast': 'say where levels leave their limits by rates, behind a journal',
+    'improve': 'say how single steps better the plan behind a journal by what is preferred',
 }
 
 
@@ -78,7 +81,10 @@ def make_parser():
         if name == 'flex':
             command.add_argument('id', metavar='ID', type=int, help='the number of the activity whose limits are written')
         if name == 'forecast':
-            command.add_argument('rates', metavar='RATES', help='a file with lines of rates and drifts')
+            command.add_argument('before', metavar='RATES', help='a file with lines of rates and drifts')
+        if name == 'improve':
+            command.add_argument('steps', metavar='N', type=int, help='the most steps, 1 to 1000')
+            command.add_argument('before', metavar='PREFERENCES', help='a file with lines of preferences')
         command.add_argument('model', metavar='MODEL', help='a file with the model')
         if name in BEHIND:
             command.add_argument('behind', metavar='MESSAGES' if name == 'run' else 'JOURNAL', nargs='?', help=BEHIND[name])
@@ -95,6 +101,8 @@ def words_of(given):
         return ['demo', str(given.count)]
     if given.command == 'flex':
         return ['flex', str(given.id)]
+    if given.command == 'improve':
+        return ['improve', str(given.steps)]
     if given.command == 'run':
         return ['run', 'solo', str(given.turns)] if given.seed is None else ['run', 'pair', str(given.turns), str(given.seed)]
     return [given.command]
@@ -107,7 +115,7 @@ def feeder_of(given):
     text = read_text(given.model)
     model, lines = split_at_begin(text)
     behind = getattr(given, 'behind', None)
-    before = rates_of(given.rates) if given.command == 'forecast' else ''
+    before = lines_before(given.before) if given.command in ('forecast', 'improve') else ''
     if behind is None and before:
         whole = with_begin(model) + before + ''.join(line + '\n' for line in lines or [])
         return lambda stream: stream.write(whole.encode('latin-1'))
@@ -130,8 +138,8 @@ def with_begin(model):
     return ended(model) + 'begin\n'
 
 
-def rates_of(path):
-    """The lines of rates, and the line behind them."""
+def lines_before(path):
+    """The lines of rates or preferences, and the line behind them."""
     return ended(read_text(path)) + 'journal\n'
 
 

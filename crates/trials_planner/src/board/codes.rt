@@ -31,7 +31,7 @@ add 1 81 => 81 overrun 1 0 101 0
 add 0 50;add 1 99 => 99 overrun 2 0 119 0
 add 1 90;commit 91 =>";
 
-const VALUES: &str = "horizon 100 lead 30
+pub const VALUES: &str = "horizon 100 lead 30
 capacity cam 2000000
 kind free { param n 1 9 param m 1 9 duration n }
 kind sum { param n 0 9 default 9 param m 0 9 = n + 1 duration 5 }

@@ -31,11 +31,15 @@ fn rung(before: &[u64; 4], behind: &[u64; 4]) -> [bool; 4] {
 }
 
 const NOBODY: [bool; 4] = [false, false, false, false];
+
 const WORKERS: [bool; 4] = [true, true, false, true];
+
 const EXECUTIVE: [bool; 4] = [false, true, false, true];
+
 const FEEDER: [bool; 4] = [false, false, true, true];
 
 /// What is done on a plan.
+#[derive(Drop)]
 enum Step {
     Tells(&'static [u8], u32),
     Ends(u32),

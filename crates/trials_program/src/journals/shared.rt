@@ -20,7 +20,11 @@ use std::process::Abort;
 use std::sync::Wait;
 
 /// A plan with nothing planned, and its first pass.
-pub fn opened(rt: &impl Abort, alloc: Global, entries: u32) -> Result<(SharedPlan, Pass), AllocError>
+pub fn opened(
+    rt: &impl Abort,
+    alloc: Global,
+    entries: u32,
+) -> Result<(SharedPlan, Pass), AllocError>
     requires some { 1 ≤ entries }
     requires bounded { entries ≤ 250000 }
     ensures own { IfOk result (λ made. BelongsTo made.0 made.1) }

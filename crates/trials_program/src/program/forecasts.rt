@@ -1,9 +1,5 @@
 //! Forecasts: what the rates before a journal come to, and what is refused there.
-use crate::running::{Failing, NONE, assert_does, joined, lines, sides};
-use std::alloc::Global;
-use std::process::Abort;
-use std::sync::Wait;
-use std::thread::Threads;
+use crate::program::prefaces::{Setting, assert_answers, assert_repeated, assert_row};
 
 /// A battery that holds 20 and may hold 0 to 50, and a kind.
 const MODEL: &str = "horizon 100
@@ -36,83 +32,31 @@ drift bat 1; => 3 => rate: no journal;
  => 3 => rate: no journal;
 journal;journal; => 8 => journal: entry 0: not a line;";
 
-/// Asserts what a forecast says of these lines behind `begin`.
-fn assert_foretells<R: Abort + Threads + Wait + Sync>(
-    rt: &R,
-    alloc: Global,
-    failing: Failing<'_>,
-    before: &str,
-    status: u8,
-    text: &str,
-) {
-    let (before, text) = (lines(rt, alloc, before), lines(rt, alloc, text));
-    let entries = if before.contains("journal") {
-        ENTRIES
-    } else {
-        ""
-    };
-    let behind = format!(in alloc; "{before}{entries}").expect(rt, "memory");
-    let input = joined(rt, alloc, MODEL, behind.as_bytes());
-    assert_does(
-        rt,
-        alloc,
-        "forecast",
-        failing,
-        &input,
-        status,
-        text.as_bytes(),
-    );
-}
-
-/// Asserts a row of these.
-fn assert_row<R: Abort + Threads + Wait + Sync>(rt: &R, alloc: Global, row: &str) {
-    let (before, rest) = sides(row);
-    let (status, text) = sides(rest);
-    let status = status.parse().unwrap_or(255);
-    assert_foretells(rt, alloc, NONE, before, status, text);
-}
+const FORECAST: Setting<'static> = ("forecast", MODEL, ENTRIES);
 
 #[test]
 fn foretells(rt: HostRuntime) {
     for row in ROWS.lines() {
-        assert_row(&rt, rt.alloc(), row);
+        assert_row(&rt, rt.alloc(), FORECAST, row);
     }
-}
-
-/// So many drifts, and then a line.
-fn drifts(rt: &impl Abort, alloc: Global, count: usize, last: &str) -> String {
-    let drifts = "drift bat 1;".repeat(alloc, count).expect(rt, "memory");
-    format!(in alloc; "{drifts}{last}").expect(rt, "memory")
-}
-
-/// Asserts what a forecast says of so many drifts, and then a line.
-fn assert_drifts<R: Abort + Threads + Wait + Sync>(
-    rt: &R,
-    alloc: Global,
-    count: usize,
-    last: &str,
-    status: u8,
-    text: &str,
-) {
-    let before = drifts(rt, alloc, count, last);
-    assert_foretells(rt, alloc, NONE, before.as_str(), status, text);
 }
 
 #[test]
 fn takes_64_rates(rt: HostRuntime) {
     let alloc = rt.alloc();
+    let drift = "drift bat 1;";
     let high = "forecast spans 1;high bat 1 100;";
-    assert_drifts(&rt, alloc, 64, "journal;", 0, high);
+    assert_repeated(&rt, alloc, FORECAST, (drift, 64), "journal;", 0, high);
     let many = "rate: line 72: too many;";
-    assert_drifts(&rt, alloc, 65, "journal;", 3, many);
+    assert_repeated(&rt, alloc, FORECAST, (drift, 65), "journal;", 3, many);
     let bad = "rate: line 72: bad line;";
-    assert_drifts(&rt, alloc, 64, "drift;journal;", 3, bad);
+    assert_repeated(&rt, alloc, FORECAST, (drift, 64), "drift;journal;", 3, bad);
 }
 
 #[test]
 fn tells_of_faults(rt: HostRuntime) {
     let alloc = rt.alloc();
-    assert_foretells(&rt, alloc, (&[1], &[]), "journal;", 4, "");
-    assert_foretells(&rt, alloc, (&[], &[1]), "journal;", 5, "");
-    assert_foretells(&rt, alloc, (&[], &[1]), "drift;journal;", 5, "");
+    assert_answers(&rt, alloc, FORECAST, (&[1], &[]), "journal;", 4, "");
+    assert_answers(&rt, alloc, FORECAST, (&[], &[1]), "journal;", 5, "");
+    assert_answers(&rt, alloc, FORECAST, (&[], &[1]), "drift;journal;", 5, "");
 }

@@ -5,8 +5,9 @@ use pl_main::{Command, Task, read_words};
 use std::alloc::Global;
 use std::process::Abort;
 
-/// What the words ask for: the turns of a run, 0 for a check, 1,001 for a replay, 1,002 for a report and 1,003 for a forecast, the goals of a
-/// demonstration, the id of an activity whose paths are asked for, the turns and the seed of a pair added up, and the planners of a crew with them, nothing where they are no command.
+/// What the words ask for: the turns of a run, 0 for a check, 1,001 for a replay, 1,002 for a report and 1,003 for a forecast, 10,000 and
+/// the steps that better a plan, the goals of a demonstration, the id of an activity whose paths are asked for, the turns and the seed
+/// of a pair added up, and the planners of a crew with them, nothing where they are no command.
 fn number_of(words: &[String]) -> Option<u64> {
     match read_words(words)? {
         Command::Pair { turns, seed } => seed.checked_add(u64::from(turns)),
@@ -23,6 +24,7 @@ fn number_of(words: &[String]) -> Option<u64> {
         Command::Alone(Task::Report) => Some(1002),
         Command::Alone(Task::Flex { id }) => Some(id),
         Command::Alone(Task::Forecast) => Some(1003),
+        Command::Alone(Task::Improve { steps }) => u64::from(steps).checked_add(10_000),
         Command::Alone(Task::Demo { goals }) => Some(u64::from(goals)),
     }
 }
@@ -84,7 +86,14 @@ flex 1 2 = none
 flex -1 = none
 forecast = 1003
 forecast 8 = none
-Forecast = none";
+Forecast = none
+improve 1 = 10001
+improve 000000000000001000 = 11000
+improve 0 = none
+improve 1001 = none
+improve = none
+improve 1 2 = none
+Improve 1 = none";
 
 /// Asserts a row of these.
 fn assert_read(rt: &impl Abort, alloc: Global, row: &str) {

@@ -18,6 +18,11 @@ is_made-requires-clause-unspoiled g c = rw c.turns.invariant.same c.requires.uns
 pub is_made-requires-clause-next : goal.is_made-requires-clause-next
 is_made-requires-clause-next g c = rw c.turns.invariant.same c.requires.next
 
+pub is_made-requires-clause-change : goal.is_made-requires-clause-change
+is_made-requires-clause-change g c =
+    let within : c.in-Some.place < length c.args.moves.now = omega (arith, c.in-Some.ensures.within, c.turns.invariant.of_all.all) in
+    rw c.turns.invariant.same (c.requires.changes c.in-Some.place (Add 0 0 None) within)
+
 pub bounds-moves-place : goal.bounds-moves-place
 bounds-moves-place g c = omega (arith, c.in-Some.ensures.within, c.turns.invariant.of_all.all)
 

@@ -6,6 +6,9 @@ use Rattle.std.proofs.lemmas.Option.{slice_get-get_or}
 use Rattle.pl_prefs.proofs.Chosen.{gained_more, gained_all}
 use Rattle.pl_prefs.proofs.gains.gains.Goals as goal
 
+pub gain_if_legal-requires-clause-change : goal.gain_if_legal-requires-clause-change
+gain_if_legal-requires-clause-change c = c.requires.changes c.loop-mv.mv-index _ c.loop-mv-test.true
+
 pub loop-mv-preserved : goal.loop-mv-preserved
 loop-mv-preserved c =
     let s = c.args.board.now.state in

@@ -1,0 +1,28 @@
+use crate::asked::Asked;
+use crate::problem::Problem;
+use pl_model::Model;
+use pl_prefs::{Prefer, PreferFault, read_prefer};
+use std::alloc::{AllocError, Global};
+
+impl Asked for Prefer {
+    ghost use Rattle.pl_prefs.specs.Prefers.{IsPreferOf};
+    ghost use Rattle.pl_preface.specs.PreferLines.{prefer_in};
+
+    ghost meant = { prefer_in };
+
+    ghost fits = { IsPreferOf };
+
+    fn read(
+        alloc: Global,
+        model: &Model,
+        line: &[u8],
+    ) -> Result<Result<Prefer, Problem>, AllocError> {
+        match read_prefer(alloc, model, line) {
+            Ok(prefer) => Ok(Ok(prefer)),
+            Err(PreferFault::BadLine) => Ok(Err(Problem::BadLine)),
+            Err(PreferFault::UnknownName) => Ok(Err(Problem::UnknownName)),
+            Err(PreferFault::OutOfRange) => Ok(Err(Problem::OutOfRange)),
+            Err(PreferFault::Memory) => Err(AllocError),
+        }
+    }
+}
