@@ -90,7 +90,7 @@ was_asked_worker r r2 own seen was = asked_worker r r2 was.low was.before was.as
 
 place_within : (r r2 : Role) (low : ℕ) (seen : List Noted) (place : ℕ) (item : Noted) → IsMadeAt r low seen place item r2 → place < length seen
 place_within r r2 low seen place item is =
-    let long : length seen ≡ length is.before + length (Made is.entry ∷ is.behind) = ap length is.whole ∙ length-append is.before (Made is.entry ∷ is.behind) in
+    let long : length seen ≡ length is.before + length (Made is.author is.entry ∷ is.behind) = ap length is.whole ∙ length-append is.before (Made is.author is.entry ∷ is.behind) in
     let stands = is.stands in
     omega (arith, long, stands)
 

@@ -20,9 +20,10 @@ use Rattle.pl_acts.specs.Making.{IsMadeAt, MakesAll, low_behind}
 made_at_on : (xs ys : List Noted) (r r2 : Role) (low place : ℕ) (item : Noted) → IsPrefix xs ys → IsMadeAt r low xs place item r2 → IsMadeAt r low ys place item r2
 made_at_on xs ys r r2 low place item on is = record {
   before = is.before;
+  author = is.author;
   entry = is.entry;
   behind = is.behind ++ on.0;
-  whole = sym on.1 ∙ ap (λ (zs : List Noted). zs ++ on.0) is.whole ∙ append_assoc is.before (Made is.entry ∷ is.behind) on.0;
+  whole = sym on.1 ∙ ap (λ (zs : List Noted). zs ++ on.0) is.whole ∙ append_assoc is.before (Made is.author is.entry ∷ is.behind) on.0;
   stands = is.stands;
   is = is.is;
   running = is.running;
@@ -95,6 +96,7 @@ by_late Executive Executive low low2 before e le by = by
 pub made_at_late : (r r2 : Role) (low low2 : ℕ) (seen : List Noted) (place : ℕ) (item : Noted) → low2 ≤ low → IsMadeAt r low seen place item r2 → IsMadeAt r low2 seen place item r2
 made_at_late r r2 low low2 seen place item le is = record {
   before = is.before;
+  author = is.author;
   entry = is.entry;
   behind = is.behind;
   whole = is.whole;

@@ -33,7 +33,7 @@ use Rattle.pl_machine.proofs.NextSteps.{next_step}
 use Rattle.pl_machine.proofs.Proposed.{proposed_move}
 use Rattle.pl_acts.specs.declared.sight.Sight.{Sight}
 use Rattle.pl_acts.specs.declared.noted.Noted.{Noted}
-use Rattle.pl_acts.specs.Items.{items_of, entry_in, entries_in, model_in, OfWorld, InWorld}
+use Rattle.pl_acts.specs.Items.{Signs, items_of, entry_in, entries_in, model_in, OfWorld, InWorld}
 use Rattle.pl_acts.specs.Replicas.{HasLog, IsReplica, IsNext, IsAsked, IsReplicaOf}
 use Rattle.pl_acts.proofs.Items.{model_in_items, model_in_prefix, entries_in_items}
 
@@ -114,36 +114,24 @@ asked old new g p seen unspoiled same history long picks legal =
 -- ---- replicas of a history
 
 -- a machine that has come to the end of a history's log
-pub replica_of : (items : List Noted) (m : Model) (log : List Entry) (o : Option State) → items ≡ items_of m log false → Legal m log → IfSome o (HasLog m log) → IfSome o (IsReplicaOf items)
-replica_of items m log None is legal has = tt
-replica_of items m log (Some r) is legal has =
-    let P : List Entry → Type 0 = λ es. Legal r.model es in
-    let Q : Model → Type 0 = λ k. Legal k log in
-    let same : items_of r.model r.log false ≡ items = ap (λ (k : Model). items_of k r.log false) has.model ∙ ap (λ (es : List Entry). items_of m es false) has.log ∙ sym is in
-    record {
-      unspoiled = has.unspoiled;
-      legal = subst P (sym has.log) (subst Q (sym has.model) legal);
-      begins = prefix_of_same (items_of r.model r.log false) items same;
-    }
+pub replica_of : (items : List Noted) (m : Model) (log : List Entry) (s : Signs) (o : Option State) → items ≡ items_of m log s → Legal m log → IfSome o (HasLog m log) → IfSome o (IsReplicaOf items)
+replica_of items m log s None is legal has = tt
+replica_of items m log s (Some r) is legal has = record {
+  unspoiled = has.unspoiled;
+  model = ap model_in is ∙ model_in_items m log s legal ∙ ap (λ (k : Model). Some k) (sym has.model);
+  begins = prefix_of_same r.log (entries_in items) (has.log ∙ sym (ap entries_in is ∙ entries_in_items m log s));
+}
 
 -- what a turn finds goes on from a replica
-pub replica_here : (old mid : List Noted) (m : State) (s : Bool) (o : Option State) → IsPrefix old mid → mid ≡ items_of m.model m.log s → Legal m.model m.log → IfSome o (IsReplicaOf old) → IfSome o (IsReplica m)
+pub replica_here : (old mid : List Noted) (m : State) (s : Signs) (o : Option State) → IsPrefix old mid → mid ≡ items_of m.model m.log s → Legal m.model m.log → IfSome o (IsReplicaOf old) → IfSome o (IsReplica m)
 replica_here old mid m s None on is legal behind = tt
 replica_here old mid m s (Some r) on is legal behind =
-    let items = items_of r.model r.log false in
-    let on2 : IsPrefix items mid = prefix_trans items old mid behind.begins on in
     let here : model_in mid ≡ Some m.model = ap model_in is ∙ model_in_items m.model m.log s legal in
-    let there : model_in mid ≡ Some r.model = model_in_prefix items mid r.model on2 (model_in_items r.model r.log false behind.legal) in
+    let there : model_in mid ≡ Some r.model = model_in_prefix old mid r.model on behind.model in
     let models : Some r.model ≡ Some m.model = sym there ∙ here in
     let log : entries_in mid ≡ m.log = ap entries_in is ∙ entries_in_items m.model m.log s in
-    record {
-      unspoiled = behind.unspoiled;
-      model = cc (models);
-      begins = (
-        entries_in on2.0,
-        ap (λ (es : List Entry). es ++ entries_in on2.0) (sym (entries_in_items r.model r.log false)) ∙ sym (filter_map-append entry_in items on2.0) ∙ ap entries_in on2.1 ∙ log,
-      );
-    }
+    let onto : IsPrefix (entries_in old) m.log = (entries_in on.0, sym (filter_map-append entry_in old on.0) ∙ ap entries_in on.1 ∙ log) in
+    record { unspoiled = behind.unspoiled; model = cc (models); begins = prefix_trans r.log (entries_in old) m.log behind.begins onto }
 
 -- ---- what was proposed on a front may be handed in
 
@@ -151,7 +139,7 @@ moves_in : (m : Model) (o : Option Model) (es : List Entry) (p : Option Proposal
 moves_in m None es p checked same legal = absurd legal
 moves_in m (Some k) es p checked same legal = proposed_move m (world_of k es).state p checked (model_of_world k es ∙ same k refl) legal
 
-pub moves_here : (front mid : List Noted) (m : State) (s : Bool) (p : Option Proposal) → IsPrefix front mid → mid ≡ items_of m.model m.log s → Legal m.model m.log → IsChecked m.model → InWorld front (λ w. IsProposal w.state p)
+pub moves_here : (front mid : List Noted) (m : State) (s : Signs) (p : Option Proposal) → IsPrefix front mid → mid ≡ items_of m.model m.log s → Legal m.model m.log → IsChecked m.model → InWorld front (λ w. IsProposal w.state p)
     → IfSome p (λ q. IsMoveOf m.model q.mv)
 moves_here front mid m s p on is legal checked proposal =
     let here : model_in mid ≡ Some m.model = ap model_in is ∙ model_in_items m.model m.log s legal in

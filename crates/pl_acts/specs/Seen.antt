@@ -8,16 +8,16 @@ use Rattle.pl_machine.specs.Legal.{Legal}
 use Rattle.pl_acts.specs.declared.noted.Noted.{Noted}
 use Rattle.pl_acts.specs.declared.part.Part.{Part}
 use Rattle.pl_acts.specs.declared.role.Role.{Role}
-use Rattle.pl_acts.specs.Items.{items_of, entries_in, stop_in, InWorld}
+use Rattle.pl_acts.specs.Items.{Signs, items_of, entries_in, stop_in, InWorld}
 use Rattle.pl_acts.specs.Sights.{IsAskedAtMost}
 
 -- the items of a legal log
 pub record IsPlan (items : List Noted) : Type 0 where
   pub model : Model
   pub log : List Entry
-  pub stopped : Bool
+  pub signs : Signs
   pub legal : Legal model log
-  pub is : items ≡ items_of model log stopped
+  pub is : items ≡ items_of model log signs
 
 -- as many entries as the options allow
 abbrev pub IsFull : List Noted → Type 0

@@ -23,7 +23,7 @@ use Rattle.pl_input.specs.Stops.{HaltFor, IsStuck, ReadLeaves, LimitLeaves}
 use Rattle.pl_driver.specs.CutShort.{IsCutShort}
 use Rattle.pl_input.proofs.Reading.{known, gave_append, gave_lines}
 use Rattle.pl_input.specs.Places.{Place}
-use Rattle.pl_pair.specs.Runs.{InMessages, HadLimit, WhyNone, IsCauseOf, StoppedBy, ReadUpTo, RunsUntil, IsWrittenInPart, ReadsShort, one_behind, one_unread, RunsShort, in_lines, all_lines, behind_lines, PairRun}
+use Rattle.pl_pair.specs.Runs.{pair_of, InMessages, HadLimit, WhyNone, IsCauseOf, StoppedBy, ReadUpTo, RunsUntil, IsWrittenInPart, ReadsShort, one_behind, one_unread, RunsShort, in_lines, all_lines, behind_lines, PairRun}
 use Rattle.pl_pair.proofs.Cutting.{cut_short}
 use Rattle.pl_pair.proofs.Running.{runs_none}
 use Rattle.pl_main.specs.Runs.{fresh_state, PairRuns}
@@ -40,7 +40,7 @@ use Rattle.pl_main.proofs.Heading.{shows_limit, shows_none, split_is}
 
 pub none_opened : (turns seed : ℕ) (m : Model) (place : Place) (held : Option (List ℕ)) → IsChecked m → (1 ≤ turns) × (turns ≤ 1000) → PairRun seed (fresh_state turns m) place held (Err halt.Memory) place held
 none_opened turns seed m place held checked bounds =
-    runs_none seed (fresh_state turns m) place held
+    runs_none (pair_of seed 1) (fresh_state turns m) place held
     record {
       answers = refl;
       options = record { turns = (bounds.0, bounds.1); live = (omega arith, omega arith); goals = (omega arith, omega arith); entries = (omega arith, omega arith) };

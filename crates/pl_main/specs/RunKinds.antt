@@ -8,7 +8,7 @@ use Rattle.pl_acts.specs.Items.{entries_in}
 use Rattle.pl_acts.specs.Roles.{is_input}
 use Rattle.pl_pair.specs.Served.{AreOf}
 use Rattle.pl_pair.specs.Chosen.{AreChosen}
-use Rattle.pl_pair.specs.Runs.{History}
+use Rattle.pl_pair.specs.Runs.{pair_of, History}
 use Rattle.pl_main.specs.Solo.{Rule, FollowsAll, IsSoloEvent, IsAheadEvent}
 use Rattle.pl_main.specs.Top.{program_options, HasRead, WasGiven}
 use Rattle.pl_main.specs.Endings.{RunKind}
@@ -50,7 +50,7 @@ look_run turns = run_by IsAheadEvent turns
 pub record IsPaired (turns seed : ℕ) (m : Model) (log : List Entry) : Type 0 where
   pub entries : List Entry
   pub opened : log ≡ opening (program_options turns) ∷ entries
-  pub history : History seed m (opening (program_options turns) ∷ []) log
+  pub history : History (pair_of seed 1) m (opening (program_options turns) ∷ []) log
   pub chosen : AreChosen m (opening (program_options turns) ∷ []) entries
 
 -- Such a log, of which the feeder's own entries are inputs and nothing else: nobody stopped the plan. The feeder had seen all of it.

@@ -1,6 +1,7 @@
 -- Why a run ended as it did: what the workers refused, and what a reader met.
 use Rattle.std.proofs.Common.{◌≡◌, ℕ, ◌+◌, List, [], ◌++◌, Bool, true, false, Option, Some, None, refl, sym, ◌∙◌, ap, subst, inl, inr}
 use Rattle.std.specs.Prelude.{◌||◌, if◌then◌else◌, Err, Ok, Result}
+use Rattle.std.specs.List.{list_any}
 use Rattle.std.proofs.lemmas.List.{append-nil}
 use mathlib.Core.List.{IsPrefix}
 use Rattle.pl_turn.specs.Passes.{seen_of, mine_of}
@@ -27,12 +28,14 @@ use Rattle.pl_pair.specs.Served.{AreOf}
 use Rattle.pl_input.specs.Places.{Place}
 use Rattle.pl_pair.specs.Asking.{Faults, now_failed, had_failed}
 use Rattle.pl_pair.specs.Feeds.{Reads, unasked, asked, HandsOnMessages, refused}
-use Rattle.pl_pair.specs.Endings.{is_full, is_other, ended_of}
-use Rattle.pl_pair.specs.Runs.{InMessages, HadLimit, MayFault, WhyNone, IsCauseOf, Given, RunsFull, RunsShort, RunEnds, PairRun}
+use Rattle.pl_pair.specs.declared.endings.Met.{Met}
+use Rattle.pl_pair.specs.Endings.{is_other, met_by, ended_of}
+use Rattle.pl_pair.specs.Joins.{refusals}
+use Rattle.pl_pair.specs.Runs.{InMessages, HadLimit, MayFault, WhyNone, IsCauseOf, Given, RunsFull, RunsShort, RunEnds, TeamRun}
 use Rattle.pl_pair.proofs.Ending.{NoEnds}
 use Rattle.pl_pair.proofs.Saying.{told_front, told_lines, told_gave, messages_on, skip_blanks, none_left}
 use Rattle.pl_pair.proofs.Closing.{FeederList, stopped}
-use Rattle.pl_pair.proofs.Joining.{Joined, entries, history, begins, chosen, inputs_same, ends_told}
+use Rattle.pl_pair.proofs.Joining.{Joined, mets_same, entries, history, begins, chosen, inputs_same, ends_told}
 use Rattle.pl_machine.specs.declared.stop.Stop.{Stop}
 use Rattle.pl_pair.proofs.Feeding.{works_on}
 
@@ -57,23 +60,23 @@ no_fault true c e never_memory never_full is = never_memory (same_halt halt.Memo
 no_fault false true e never_memory never_full is = never_full (same_halt halt.Full e is)
 no_fault false false e never_memory never_full is = never_memory (same_halt halt.Memory e is)
 
-pub ended_read : (fed : Result (Unit {0}) Cut) (planner executive : Option Stop) → ended_of fed planner executive ≡ Err halt.Read → fed ≡ Err cut.Read
-ended_read (Ok u) planner executive is = absurd (let h : Ok u ≡ failed_by halt.Read = is in (cc))
-ended_read (Err cut.Read) planner executive is = refl
-ended_read (Err cut.Write) planner executive is = absurd (let h : halt.Write ≡ halt.Read = same_halt halt.Write halt.Read is in (cc))
-ended_read (Err cut.Limit) planner executive is = absurd (let h : halt.Limit ≡ halt.Read = same_halt halt.Limit halt.Read is in (cc))
-ended_read (Err cut.Memory) planner executive is = absurd (let h : halt.Memory ≡ halt.Read = same_halt halt.Memory halt.Read is in (cc))
-ended_read (Err cut.Full) planner executive is = absurd (no_fault (is_other planner || is_other executive) (true || (is_full planner || is_full executive)) halt.Read (λ e. cc) (λ e. cc) is)
-ended_read (Err cut.Stopped) planner executive is = absurd (no_fault (is_other planner || is_other executive) (false || (is_full planner || is_full executive)) halt.Read (λ e. cc) (λ e. cc) is)
+pub ended_read : (fed : Result (Unit {0}) Cut) (met : Met) → ended_of fed met ≡ Err halt.Read → fed ≡ Err cut.Read
+ended_read (Ok u) met is = absurd (let h : Ok u ≡ failed_by halt.Read = is in (cc))
+ended_read (Err cut.Read) met is = refl
+ended_read (Err cut.Write) met is = absurd (let h : halt.Write ≡ halt.Read = same_halt halt.Write halt.Read is in (cc))
+ended_read (Err cut.Limit) met is = absurd (let h : halt.Limit ≡ halt.Read = same_halt halt.Limit halt.Read is in (cc))
+ended_read (Err cut.Memory) met is = absurd (let h : halt.Memory ≡ halt.Read = same_halt halt.Memory halt.Read is in (cc))
+ended_read (Err cut.Full) met is = absurd (no_fault met.other (true || met.full) halt.Read (λ e. cc) (λ e. cc) is)
+ended_read (Err cut.Stopped) met is = absurd (no_fault met.other (false || met.full) halt.Read (λ e. cc) (λ e. cc) is)
 
-pub ended_write : (fed : Result (Unit {0}) Cut) (planner executive : Option Stop) → ended_of fed planner executive ≡ Err halt.Write → fed ≡ Err cut.Write
-ended_write (Ok u) planner executive is = absurd (let h : Ok u ≡ failed_by halt.Write = is in (cc))
-ended_write (Err cut.Write) planner executive is = refl
-ended_write (Err cut.Read) planner executive is = absurd (let h : halt.Read ≡ halt.Write = same_halt halt.Read halt.Write is in (cc))
-ended_write (Err cut.Limit) planner executive is = absurd (let h : halt.Limit ≡ halt.Write = same_halt halt.Limit halt.Write is in (cc))
-ended_write (Err cut.Memory) planner executive is = absurd (let h : halt.Memory ≡ halt.Write = same_halt halt.Memory halt.Write is in (cc))
-ended_write (Err cut.Full) planner executive is = absurd (no_fault (is_other planner || is_other executive) (true || (is_full planner || is_full executive)) halt.Write (λ e. cc) (λ e. cc) is)
-ended_write (Err cut.Stopped) planner executive is = absurd (no_fault (is_other planner || is_other executive) (false || (is_full planner || is_full executive)) halt.Write (λ e. cc) (λ e. cc) is)
+pub ended_write : (fed : Result (Unit {0}) Cut) (met : Met) → ended_of fed met ≡ Err halt.Write → fed ≡ Err cut.Write
+ended_write (Ok u) met is = absurd (let h : Ok u ≡ failed_by halt.Write = is in (cc))
+ended_write (Err cut.Write) met is = refl
+ended_write (Err cut.Read) met is = absurd (let h : halt.Read ≡ halt.Write = same_halt halt.Read halt.Write is in (cc))
+ended_write (Err cut.Limit) met is = absurd (let h : halt.Limit ≡ halt.Write = same_halt halt.Limit halt.Write is in (cc))
+ended_write (Err cut.Memory) met is = absurd (let h : halt.Memory ≡ halt.Write = same_halt halt.Memory halt.Write is in (cc))
+ended_write (Err cut.Full) met is = absurd (no_fault met.other (true || met.full) halt.Write (λ e. cc) (λ e. cc) is)
+ended_write (Err cut.Stopped) met is = absurd (no_fault met.other (false || met.full) halt.Write (λ e. cc) (λ e. cc) is)
 
 -- a full log is the answer only where nobody met another refusal
 pub no_other : (b c : Bool) → failed_by (if b then halt.Memory else if c then halt.Full else halt.Memory) ≡ failed_by halt.Full → b ≡ false
@@ -84,24 +87,24 @@ pub never_finished : (e : Halt) → failed_by e ≡ Ok tt → ⊥
 never_finished e is = cc
 
 -- a run with what is known of its history
-pub pair_run : (r : Result (Unit {0}) Halt) (start : State) (first : PlanPass) (w1 w2 : Worker) (joined : Joined start.model start.log first w1 w2) (place : Place) (held now : Option (List ℕ)) (old mid : PlanPass) (end behind : Place)
-    (tells : HandsOnMessages old place mid end) (list : FeederList tells.inputs (mine_of mid) (mine_of first)) → (r ≡ Ok tt → AreOf is_input (mine_of first) × (entries_in (seen_of first) ≡ joined.whole.log)) → (r ≡ Err halt.Full → (is_other w1.refusal || is_other w2.refusal) ≡ false)
-    → RunEnds r start.model joined.whole.log (entries start.model start.log first w1 w2 joined tells.inputs (mine_of mid) list) place held behind now → PairRun joined.seed start place held r behind now
+pub team_run : (r : Result (Unit {0}) Halt) (start : State) (first : PlanPass) (ws : List Worker) (joined : Joined start.model start.log first ws) (place : Place) (held now : Option (List ℕ)) (old mid : PlanPass) (end behind : Place)
+    (tells : HandsOnMessages old place mid end) (list : FeederList tells.inputs (mine_of mid) (mine_of first)) → (r ≡ Ok tt → AreOf is_input (mine_of first) × (entries_in (seen_of first) ≡ joined.whole.log)) → (r ≡ Err halt.Full → ((met_by (refusals ws)).other) ≡ false)
+    → RunEnds r start.model joined.whole.log (entries start.model start.log first ws joined tells.inputs (mine_of mid) list) place held behind now → TeamRun joined.duties start place held r behind now
 unfolding history
-pair_run r start first w1 w2 joined place held now old mid end behind tells list goes refuses ends =
+team_run r start first ws joined place held now old mid end behind tells list goes refuses ends =
     let m = start.model in
-    let same = inputs_same m start.log first w1 w2 joined tells.inputs (mine_of mid) list in
+    let same = inputs_same m start.log first ws joined tells.inputs (mine_of mid) list in
     record {
       log = joined.whole.log;
-      entries = entries m start.log first w1 w2 joined tells.inputs (mine_of mid) list;
-      begins = begins m start.log first w1 w2 joined tells.inputs (mine_of mid) list;
-      history = history m start.log first w1 w2 joined tells.inputs (mine_of mid) list;
-      chosen = chosen m start.log first w1 w2 joined tells.inputs (mine_of mid) list;
+      entries = entries m start.log first ws joined tells.inputs (mine_of mid) list;
+      begins = begins m start.log first ws joined tells.inputs (mine_of mid) list;
+      history = history m start.log first ws joined tells.inputs (mine_of mid) list;
+      chosen = chosen m start.log first ws joined tells.inputs (mine_of mid) list;
       feeder_goes = λ e. (goes e).0;
       feeder_saw_all = λ e. (goes e).1;
-      refused = refuses;
+      refused = λ e. ap (λ (os : List (Option Stop)). list_any is_other os) (mets_same ws) ∙ refuses e;
       messages = subst (λ (is : List (Option (List ℕ))). InMessages place (λ messages. IsPrefix is messages)) (sym same)
-          (told_front old mid place end tells (world_of m joined.whole.log).done (ends_told m start.log first w1 w2 joined tells.inputs (mine_of mid) list));
+          (told_front old mid place end tells (world_of m joined.whole.log).done (ends_told m start.log first ws joined tells.inputs (mine_of mid) list));
       ends = ends;
     }
 

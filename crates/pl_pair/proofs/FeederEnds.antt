@@ -21,7 +21,7 @@ use Rattle.pl_driver.specs.CutShort.{answers, IsCutShort}
 use Rattle.pl_acts.specs.declared.noted.Noted.{Noted}
 use Rattle.pl_acts.specs.declared.noted.Noted.TheVariants.{Stopped}
 use Rattle.pl_shared.specs.declared.plan.SharedPlan.{SharedPlan}
-use Rattle.pl_acts.specs.Items.{items_of, entries_in, model_in, InWorld}
+use Rattle.pl_acts.specs.Items.{handed_in, items_of, entries_in, model_in, InWorld}
 use Rattle.pl_shared.specs.Plans.{PlanPass, BelongsTo}
 use Rattle.pl_acts.specs.Seen.{IsFull}
 use Rattle.pl_shared.specs.Turns.{TakesTurn, Stops}
@@ -37,8 +37,9 @@ use Rattle.pl_input.specs.Places.{Place}
 use Rattle.pl_pair.specs.Asking.{Faults, Asks}
 use Rattle.pl_pair.specs.Feeds.{AreInputs, HandsOnMessages, HandsOne, Writes, WritesAll, FeedsOut, FeedsUntil, FeedsRefused, FeedsStopped, FeedsTorn, FeedsShort, for_lines, for_message, for_reader, FeedsCut, refused, FeedsAll, FeedsToEnd}
 use Rattle.pl_pair.specs.Feeds as fed
-use Rattle.pl_pair.specs.Endings.{is_full, is_other, refusal_of, ended_of}
-use Rattle.pl_pair.specs.Runs.{InMessages, Given, WritesLog, ReadUpTo, RunsUntil, RunsFull, IsWrittenInPart, in_last_round, in_first_round, one_behind, one_unread, RunsShort, in_lines, all_lines, behind_lines, RunEnds, PairRun}
+use Rattle.pl_pair.specs.Endings.{met_by, refusal_of, ended_of}
+use Rattle.pl_pair.specs.Joins.{refusals}
+use Rattle.pl_pair.specs.Runs.{InMessages, Given, WritesLog, ReadUpTo, RunsUntil, RunsFull, IsWrittenInPart, in_last_round, in_first_round, one_behind, one_unread, RunsShort, in_lines, all_lines, behind_lines, RunEnds, TeamRun}
 use Rattle.pl_machine.proofs.Going.{Goes, world_goes}
 use Rattle.pl_pair.proofs.Ending.{NoEnds, LastEnds, EndsIf}
 use Rattle.pl_pair.proofs.Saying.{told_on, told_all, up_to_last, up_to_told, if_known, asks_begins}
@@ -47,7 +48,7 @@ use Rattle.pl_pair.proofs.Feeding.{entries_on, own_stands, heard_more}
 use Rattle.pl_pair.proofs.Cutting.{twice_on, twice_is, rest_some, rest_torn, whole_torn}
 use Rattle.pl_pair.proofs.Closing.{FeederList, inputs_kind, same_model, Rests, between, over, stopped, world_in}
 use Rattle.pl_pair.proofs.Joining.{Joined, Settled, list_same, list_stop, met_full, entries, ends_told, inputs_same, settled_log, settled_text, settled_world, one_message, full_seen, full_round}
-use Rattle.pl_pair.proofs.Causes.{Whys, ends_refusal, given_by, limit_whys, memory_by, never_finished, no_other, pair_run, read_whys, same_halt}
+use Rattle.pl_pair.proofs.Causes.{Whys, ends_refusal, given_by, limit_whys, memory_by, never_finished, no_other, team_run, read_whys, same_halt}
 use Rattle.pl_acts.proofs.FullLogs.{some_entries}
 
 -- ---- how the feeder ended
@@ -71,7 +72,7 @@ pub closed_by : (w : World) (closed : Bool) → w.closed ≡ closed → Goes w �
 closed_by w true is goes done = refl
 closed_by w false is goes done = absurd (let both : true ≡ false = sym done ∙ goes is in cc)
 
-module _ (start : State) (first : PlanPass) (w1 w2 : Worker) (joined : Joined start.model start.log first w1 w2) (place : Place) (held now : Option (List ℕ)) (old : PlanPass) (seen0 : seen_of old ≡ items_of start.model start.log false) where
+module _ (start : State) (first : PlanPass) (ws : List Worker) (joined : Joined start.model start.log first ws) (place : Place) (held now : Option (List ℕ)) (old : PlanPass) (seen0 : seen_of old ≡ items_of start.model start.log (handed_in start.log)) where
   pub opening_of_front : (front : List Noted) → IsPrefix (seen_of old) front → length start.log ≤ length front
   opening_of_front front longer =
       let le = prefix_length (seen_of old) front longer in
@@ -90,13 +91,13 @@ module _ (start : State) (first : PlanPass) (w1 w2 : Worker) (joined : Joined st
     onto = prefix_trans (seen_of mid) (seen_of first) (items_of start.model joined.whole.log joined.whole.stop) to_first joined.whole.first_seen
 
     abbrev more_entries : List Entry
-    more_entries = entries start.model start.log first w1 w2 joined tells.inputs (mine_of mid) list
+    more_entries = entries start.model start.log first ws joined tells.inputs (mine_of mid) list
 
     told_same : inputs_of more_entries ≡ tells.inputs
-    told_same = inputs_same start.model start.log first w1 w2 joined tells.inputs (mine_of mid) list
+    told_same = inputs_same start.model start.log first ws joined tells.inputs (mine_of mid) list
 
     told_ends : EndsIf (world_of start.model joined.whole.log).done tells.inputs
-    told_ends = ends_told start.model start.log first w1 w2 joined tells.inputs (mine_of mid) list
+    told_ends = ends_told start.model start.log first ws joined tells.inputs (mine_of mid) list
 
     -- how far was read, whether the input has ended or not
     told_read : ReadUpTo place (inputs_of more_entries) end
@@ -126,7 +127,7 @@ module _ (start : State) (first : PlanPass) (w1 w2 : Worker) (joined : Joined st
           let here : IsPrefix writes.front (items_of start.model joined.whole.log joined.whole.stop) = (behind_front, front_onto) in
           let model = same_model writes.front (items_of start.model joined.whole.log joined.whole.stop) start.model handed.plan here (model_in_items start.model joined.whole.log joined.whole.stop joined.whole.legal) in
           let due = rest_some start.model writes.front (seen_of mid) (items_of start.model joined.whole.log joined.whole.stop) writes.in_front onto next writes.count writes.due in
-          let one = one_message start.model start.log first w1 w2 joined tells.inputs (mine_of mid) list old writes.front handed here (opening_of_front writes.front handed.longer) due in
+          let one = one_message start.model start.log first ws joined tells.inputs (mine_of mid) list old writes.front handed here (opening_of_front writes.front handed.longer) due in
           record {
             earlier = entries_in writes.front;
             last = entries_in behind_front;
@@ -150,13 +151,13 @@ module _ (start : State) (first : PlanPass) (w1 w2 : Worker) (joined : Joined st
       settled = record { plan = own.seen; model = model_of mid tells.follows; rests = rests; stands = own_stands plan mid own; written = written }
 
       log_is : joined.whole.log ≡ entries_in (seen_of mid)
-      log_is = settled_log start.model start.log first w1 w2 joined tells.inputs (mine_of mid) list held now (seen_of mid) settled onto (opening_in mid tells.follows)
+      log_is = settled_log start.model start.log first ws joined tells.inputs (mine_of mid) list held now (seen_of mid) settled onto (opening_in mid tells.follows)
 
       text_is : WritesLog start.model joined.whole.log held now
-      text_is = settled_text start.model start.log first w1 w2 joined tells.inputs (mine_of mid) list held now (seen_of mid) settled onto (opening_in mid tells.follows)
+      text_is = settled_text start.model start.log first ws joined tells.inputs (mine_of mid) list held now (seen_of mid) settled onto (opening_in mid tells.follows)
 
       world_is : (P : World → Type 0) → InWorld (seen_of mid) P → P (world_of start.model joined.whole.log)
-      world_is P here = settled_world start.model start.log first w1 w2 joined tells.inputs (mine_of mid) list held now (seen_of mid) settled onto (opening_in mid tells.follows) P here
+      world_is P here = settled_world start.model start.log first ws joined tells.inputs (mine_of mid) list held now (seen_of mid) settled onto (opening_in mid tells.follows) P here
 
       out_ends : InWorld (seen_of mid) (λ w. w.done ≡ true) → RunEnds (Ok tt) start.model joined.whole.log more_entries place held end now
       out_ends done =
@@ -180,15 +181,15 @@ module _ (start : State) (first : PlanPass) (w1 w2 : Worker) (joined : Joined st
           }
 
       -- a worker met a full log, in an open round
-      worker_open : (is_full w1.refusal || is_full w2.refusal) ≡ true → (world_of start.model joined.whole.log).closed ≡ false
+      worker_open : ((met_by (refusals ws)).full) ≡ true → (world_of start.model joined.whole.log).closed ≡ false
       worker_open is =
-          let met = met_full start.model start.log first w1 w2 joined is in
-          (full_round start.model start.log first w1 w2 joined tells.inputs (mine_of mid) list met.0 met.1).1
+          let met = met_full start.model start.log first ws joined is in
+          (full_round start.model start.log first ws joined tells.inputs (mine_of mid) list met.0 met.1).1
 
-      worker_full : (is_full w1.refusal || is_full w2.refusal) ≡ true → RunsFull start.model joined.whole.log more_entries place held end now
+      worker_full : ((met_by (refusals ws)).full) ≡ true → RunsFull start.model joined.whole.log more_entries place held end now
       worker_full is =
-          let met = met_full start.model start.log first w1 w2 joined is in
-          let at = full_round start.model start.log first w1 w2 joined tells.inputs (mine_of mid) list met.0 met.1 in
+          let met = met_full start.model start.log first ws joined is in
+          let at = full_round start.model start.log first ws joined tells.inputs (mine_of mid) list met.0 met.1 in
           record {
             full = at.0;
             going = at.2;
@@ -224,150 +225,150 @@ list_behind inputs before mid first are same stops =
     let Q : List (ℕ × Noted) → Type 0 = λ own. AreInputs inputs own in
     subst P same (list_stop inputs mid first (subst Q (sym same) are) stops)
 
-module _ (start : State) (first : PlanPass) (w1 w2 : Worker) (joined : Joined start.model start.log first w1 w2) (place : Place) (held now : Option (List ℕ)) (old : PlanPass) (seen0 : seen_of old ≡ items_of start.model start.log false) (plan : SharedPlan) (end : Place) where
-  pub runs_out : FeedsOut plan start.model old place held first end now → PairRun joined.seed start place held (Ok tt) end now
+module _ (start : State) (first : PlanPass) (ws : List Worker) (joined : Joined start.model start.log first ws) (place : Place) (held now : Option (List ℕ)) (old : PlanPass) (seen0 : seen_of old ≡ items_of start.model start.log (handed_in start.log)) (plan : SharedPlan) (end : Place) where
+  pub runs_out : FeedsOut plan start.model old place held first end now → TeamRun joined.duties start place held (Ok tt) end now
   runs_out feeds =
       let list = list_same feeds.tells.inputs first first feeds.tells.mine refl in
-      pair_run (Ok tt) start first w1 w2 joined place held now old first end end feeds.tells list (λ e. (
+      team_run (Ok tt) start first ws joined place held now old first end end feeds.tells list (λ e. (
         inputs_kind feeds.tells.inputs (mine_of first) feeds.tells.mine,
-        sym (log_is start first w1 w2 joined place held now old seen0 first end feeds.tells plan feeds.own list (prefix_self (seen_of first)) (over feeds.done) feeds.written),
+        sym (log_is start first ws joined place held now old seen0 first end feeds.tells plan feeds.own list (prefix_self (seen_of first)) (over feeds.done) feeds.written),
       )) (λ e. absurd (cc))
-      (out_ends start first w1 w2 joined place held now old seen0 first end feeds.tells plan feeds.own list (prefix_self (seen_of first)) (over feeds.done) feeds.written feeds.done)
+      (out_ends start first ws joined place held now old seen0 first end feeds.tells plan feeds.own list (prefix_self (seen_of first)) (over feeds.done) feeds.written feeds.done)
 
   module _ (mid : PlanPass) (takes : TakesTurn mid first) (stops : Stops mid first) where
     runs_until : (r : Halt) (c : Cut) → (r ≡ halt.Full → ⊥)
         → ((entries : List Entry) → RunsUntil r start.model joined.whole.log entries place held end now → RunEnds (Err r) start.model joined.whole.log entries place held end now)
-        → Whys r c place → FeedsUntil plan start.model c old place held mid end now → PairRun joined.seed start place held (Err r) end now
+        → Whys r c place → FeedsUntil plan start.model c old place held mid end now → TeamRun joined.duties start place held (Err r) end now
     runs_until r c never_full as' whys feeds =
         let tells = feeds.waiting.tells in
         let list = list_stop tells.inputs mid first tells.mine stops in
-        pair_run (Err r) start first w1 w2 joined place held now old mid feeds.middle end tells list (λ e. absurd (never_finished r e)) (λ e. absurd (never_full (same_halt r halt.Full e)))
-        (as' (more_entries start first w1 w2 joined place held now old seen0 mid feeds.middle tells plan feeds.waiting.own list takes.longer)
-        (until_ends start first w1 w2 joined place held now old seen0 mid feeds.middle tells plan feeds.waiting.own list takes.longer (between feeds.waiting.between) feeds.waiting.written
+        team_run (Err r) start first ws joined place held now old mid feeds.middle end tells list (λ e. absurd (never_finished r e)) (λ e. absurd (never_full (same_halt r halt.Full e)))
+        (as' (more_entries start first ws joined place held now old seen0 mid feeds.middle tells plan feeds.waiting.own list takes.longer)
+        (until_ends start first ws joined place held now old seen0 mid feeds.middle tells plan feeds.waiting.own list takes.longer (between feeds.waiting.between) feeds.waiting.written
         r c feeds.fault end whys feeds.cut feeds.asks feeds.waiting.between))
 
     -- a write failed
-    runs_torn : FeedsTorn plan start.model old place held mid end now → PairRun joined.seed start place held (Err halt.Write) end now
+    runs_torn : FeedsTorn plan start.model old place held mid end now → TeamRun joined.duties start place held (Err halt.Write) end now
     runs_torn feeds =
         let tells = feeds.feeding.tells in
         let list = list_stop tells.inputs mid first tells.mine stops in
-        pair_run (Err halt.Write) start first w1 w2 joined place held now old mid end end tells list (λ e. absurd (never_finished halt.Write e)) (λ e. absurd (let h : halt.Write ≡ halt.Full = same_halt halt.Write halt.Full e in (cc)))
+        team_run (Err halt.Write) start first ws joined place held now old mid end end tells list (λ e. absurd (never_finished halt.Write e)) (λ e. absurd (let h : halt.Write ≡ halt.Full = same_halt halt.Write halt.Full e in (cc)))
         (record {
-          read = told_read start first w1 w2 joined place held now old seen0 mid end tells plan feeds.feeding.own list takes.longer;
-          written = in_part start first w1 w2 joined place held now old seen0 mid end tells plan feeds.feeding.own list takes.longer feeds.next feeds.so_far feeds.feeding.writes feeds.torn;
+          read = told_read start first ws joined place held now old seen0 mid end tells plan feeds.feeding.own list takes.longer;
+          written = in_part start first ws joined place held now old seen0 mid end tells plan feeds.feeding.own list takes.longer feeds.next feeds.so_far feeds.feeding.writes feeds.torn;
         })
 
     -- memory was wanting for the lines of a round
-    runs_part : FeedsTorn plan start.model old place held mid end now → PairRun joined.seed start place held (Err halt.Memory) end now
+    runs_part : FeedsTorn plan start.model old place held mid end now → TeamRun joined.duties start place held (Err halt.Memory) end now
     runs_part feeds =
         let tells = feeds.feeding.tells in
         let list = list_stop tells.inputs mid first tells.mine stops in
-        pair_run (Err halt.Memory) start first w1 w2 joined place held now old mid end end tells list (λ e. absurd (never_finished halt.Memory e)) (λ e. absurd (let h : halt.Memory ≡ halt.Full = same_halt halt.Memory halt.Full e in (cc)))
-        (in_lines (told_read start first w1 w2 joined place held now old seen0 mid end tells plan feeds.feeding.own list takes.longer)
-        (in_part start first w1 w2 joined place held now old seen0 mid end tells plan feeds.feeding.own list takes.longer feeds.next feeds.so_far feeds.feeding.writes feeds.torn))
+        team_run (Err halt.Memory) start first ws joined place held now old mid end end tells list (λ e. absurd (never_finished halt.Memory e)) (λ e. absurd (let h : halt.Memory ≡ halt.Full = same_halt halt.Memory halt.Full e in (cc)))
+        (in_lines (told_read start first ws joined place held now old seen0 mid end tells plan feeds.feeding.own list takes.longer)
+        (in_part start first ws joined place held now old seen0 mid end tells plan feeds.feeding.own list takes.longer feeds.next feeds.so_far feeds.feeding.writes feeds.torn))
 
     -- to read a message
-    runs_unread : FeedsUntil plan start.model cut.Memory old place held mid end now → PairRun joined.seed start place held (Err halt.Memory) end now
+    runs_unread : FeedsUntil plan start.model cut.Memory old place held mid end now → TeamRun joined.duties start place held (Err halt.Memory) end now
     runs_unread feeds =
         let tells = feeds.waiting.tells in
         let list = list_stop tells.inputs mid first tells.mine stops in
         let rests = between feeds.waiting.between in
-        let at = world_is start first w1 w2 joined place held now old seen0 mid feeds.middle tells plan feeds.waiting.own list takes.longer rests feeds.waiting.written IsBetween feeds.waiting.between in
+        let at = world_is start first ws joined place held now old seen0 mid feeds.middle tells plan feeds.waiting.own list takes.longer rests feeds.waiting.written IsBetween feeds.waiting.between in
         let P : LineFault → Type 0 = λ f. Faults feeds.middle f end in
-        pair_run (Err halt.Memory) start first w1 w2 joined place held now old mid feeds.middle end tells list (λ e. absurd (never_finished halt.Memory e)) (λ e. absurd (let h : halt.Memory ≡ halt.Full = same_halt halt.Memory halt.Full e in (cc)))
+        team_run (Err halt.Memory) start first ws joined place held now old mid feeds.middle end tells list (λ e. absurd (never_finished halt.Memory e)) (λ e. absurd (let h : halt.Memory ≡ halt.Full = same_halt halt.Memory halt.Full e in (cc)))
         (behind_lines at
-        (one_unread feeds.middle (told_read start first w1 w2 joined place held now old seen0 mid feeds.middle tells plan feeds.waiting.own list takes.longer) (subst P (memory_by feeds.fault feeds.cut) feeds.asks))
-        (text_is start first w1 w2 joined place held now old seen0 mid feeds.middle tells plan feeds.waiting.own list takes.longer rests feeds.waiting.written))
+        (one_unread feeds.middle (told_read start first ws joined place held now old seen0 mid feeds.middle tells plan feeds.waiting.own list takes.longer) (subst P (memory_by feeds.fault feeds.cut) feeds.asks))
+        (text_is start first ws joined place held now old seen0 mid feeds.middle tells plan feeds.waiting.own list takes.longer rests feeds.waiting.written))
 
     -- a message was read that the plan did not take
     short_refused : (c : Cut) (feeds : FeedsRefused plan start.model c old place held mid end now) (same : mine_of mid ≡ mine_of feeds.mid)
         → RunsShort start.model joined.whole.log
-        (more_entries start first w1 w2 joined place held now old seen0 feeds.mid feeds.middle feeds.waiting.tells plan feeds.waiting.own (list_behind feeds.waiting.tells.inputs feeds.mid mid first feeds.waiting.tells.mine same stops)
+        (more_entries start first ws joined place held now old seen0 feeds.mid feeds.middle feeds.waiting.tells plan feeds.waiting.own (list_behind feeds.waiting.tells.inputs feeds.mid mid first feeds.waiting.tells.mine same stops)
         (prefix_trans (seen_of feeds.mid) (seen_of mid) (seen_of first) feeds.follows.longer takes.longer)) place held end now
     short_refused c feeds same =
         let tells = feeds.waiting.tells in
         let list = list_behind tells.inputs feeds.mid mid first tells.mine same stops in
         let to_first = prefix_trans (seen_of feeds.mid) (seen_of mid) (seen_of first) feeds.follows.longer takes.longer in
         let rests = between feeds.waiting.between in
-        let at = world_is start first w1 w2 joined place held now old seen0 feeds.mid feeds.middle tells plan feeds.waiting.own list to_first rests feeds.waiting.written IsBetween feeds.waiting.between in
+        let at = world_is start first ws joined place held now old seen0 feeds.mid feeds.middle tells plan feeds.waiting.own list to_first rests feeds.waiting.written IsBetween feeds.waiting.between in
         behind_lines at
         (one_behind (line_in feeds.step.message)
-        (read_next start first w1 w2 joined place held now old seen0 feeds.mid feeds.middle tells plan feeds.waiting.own list to_first rests feeds.waiting.written at.1 feeds.step.message end feeds.step.asks)
-        (next_read start first w1 w2 joined place held now old seen0 feeds.mid feeds.middle tells plan feeds.waiting.own list to_first rests feeds.waiting.written at.1 feeds.step.message end feeds.step.asks))
-        (text_is start first w1 w2 joined place held now old seen0 feeds.mid feeds.middle tells plan feeds.waiting.own list to_first rests feeds.waiting.written)
+        (read_next start first ws joined place held now old seen0 feeds.mid feeds.middle tells plan feeds.waiting.own list to_first rests feeds.waiting.written at.1 feeds.step.message end feeds.step.asks)
+        (next_read start first ws joined place held now old seen0 feeds.mid feeds.middle tells plan feeds.waiting.own list to_first rests feeds.waiting.written at.1 feeds.step.message end feeds.step.asks))
+        (text_is start first ws joined place held now old seen0 feeds.mid feeds.middle tells plan feeds.waiting.own list to_first rests feeds.waiting.written)
 
     -- to hand a message on
-    runs_untaken : FeedsRefused plan start.model cut.Memory old place held mid end now → PairRun joined.seed start place held (Err halt.Memory) end now
+    runs_untaken : FeedsRefused plan start.model cut.Memory old place held mid end now → TeamRun joined.duties start place held (Err halt.Memory) end now
     runs_untaken feeds =
         let tells = feeds.waiting.tells in
         let list = list_behind tells.inputs feeds.mid mid first tells.mine feeds.step.hands stops in
-        pair_run (Err halt.Memory) start first w1 w2 joined place held now old feeds.mid feeds.middle end tells list (λ e. absurd (never_finished halt.Memory e)) (λ e. absurd (let h : halt.Memory ≡ halt.Full = same_halt halt.Memory halt.Full e in (cc))) (short_refused cut.Memory feeds feeds.step.hands)
+        team_run (Err halt.Memory) start first ws joined place held now old feeds.mid feeds.middle end tells list (λ e. absurd (never_finished halt.Memory e)) (λ e. absurd (let h : halt.Memory ≡ halt.Full = same_halt halt.Memory halt.Full e in (cc))) (short_refused cut.Memory feeds feeds.step.hands)
 
-    runs_short : FeedsShort plan start.model old place held mid end now → PairRun joined.seed start place held (Err halt.Memory) end now
+    runs_short : FeedsShort plan start.model old place held mid end now → TeamRun joined.duties start place held (Err halt.Memory) end now
     runs_short (for_lines feeds) = runs_part feeds
     runs_short (for_message feeds) = runs_untaken feeds
     runs_short (for_reader feeds) = runs_unread feeds
 
     -- the plan refused a message, for a full log or since a worker had stopped it
-    runs_refused : (full : Bool) (c : Cut) (feeds : FeedsRefused plan start.model c old place held mid end now) → mine_of mid ≡ mine_of feeds.mid → (full ≡ true → IsFull (seen_of mid)) → PairRun joined.seed start place held (Err (refusal_of full w1.refusal w2.refusal)) end now
+    runs_refused : (full : Bool) (c : Cut) (feeds : FeedsRefused plan start.model c old place held mid end now) → mine_of mid ≡ mine_of feeds.mid → (full ≡ true → IsFull (seen_of mid)) → TeamRun joined.duties start place held (Err (refusal_of full (met_by (refusals ws)))) end now
     runs_refused full c feeds same is_full' =
         let tells = feeds.waiting.tells in
         let list = list_behind tells.inputs feeds.mid mid first tells.mine same stops in
         let to_first = prefix_trans (seen_of feeds.mid) (seen_of mid) (seen_of first) feeds.follows.longer takes.longer in
-        let others = is_other w1.refusal || is_other w2.refusal in
-        let workers = is_full w1.refusal || is_full w2.refusal in
-        let more = more_entries start first w1 w2 joined place held now old seen0 feeds.mid feeds.middle tells plan feeds.waiting.own list to_first in
-        pair_run (Err (refusal_of full w1.refusal w2.refusal)) start first w1 w2 joined place held now old feeds.mid feeds.middle end tells list (λ e. absurd (never_finished (refusal_of full w1.refusal w2.refusal) e)) (λ e. no_other others (full || workers) e)
+        let others = (met_by (refusals ws)).other in
+        let workers = (met_by (refusals ws)).full in
+        let more = more_entries start first ws joined place held now old seen0 feeds.mid feeds.middle tells plan feeds.waiting.own list to_first in
+        team_run (Err (refusal_of full (met_by (refusals ws)))) start first ws joined place held now old feeds.mid feeds.middle end tells list (λ e. absurd (never_finished (refusal_of full (met_by (refusals ws))) e)) (λ e. no_other others (full || workers) e)
         (ends_refusal others (full || workers) start.model joined.whole.log more place end held now (short_refused c feeds same) (λ e is. by_full full is is_full'))
       where
-        by_full : (f : Bool) → (f || (is_full w1.refusal || is_full w2.refusal)) ≡ true → (f ≡ true → IsFull (seen_of mid))
+        by_full : (f : Bool) → (f || ((met_by (refusals ws)).full)) ≡ true → (f ≡ true → IsFull (seen_of mid))
             → RunsFull start.model joined.whole.log
-            (more_entries start first w1 w2 joined place held now old seen0 feeds.mid feeds.middle feeds.waiting.tells plan feeds.waiting.own (list_behind feeds.waiting.tells.inputs feeds.mid mid first feeds.waiting.tells.mine same stops)
+            (more_entries start first ws joined place held now old seen0 feeds.mid feeds.middle feeds.waiting.tells plan feeds.waiting.own (list_behind feeds.waiting.tells.inputs feeds.mid mid first feeds.waiting.tells.mine same stops)
             (prefix_trans (seen_of feeds.mid) (seen_of mid) (seen_of first) feeds.follows.longer takes.longer)) place held end now
         by_full true is full' =
             let tells = feeds.waiting.tells in
             let list = list_behind tells.inputs feeds.mid mid first tells.mine same stops in
             let to_first = prefix_trans (seen_of feeds.mid) (seen_of mid) (seen_of first) feeds.follows.longer takes.longer in
             let rests = between feeds.waiting.between in
-            let at = world_is start first w1 w2 joined place held now old seen0 feeds.mid feeds.middle tells plan feeds.waiting.own list to_first rests feeds.waiting.written IsBetween feeds.waiting.between in
+            let at = world_is start first ws joined place held now old seen0 feeds.mid feeds.middle tells plan feeds.waiting.own list to_first rests feeds.waiting.written IsBetween feeds.waiting.between in
             let follows = follows_on old feeds.mid mid tells.follows feeds.follows in
             record {
-              full = full_seen start.model start.log first w1 w2 joined tells.inputs (mine_of feeds.mid) list (seen_of mid) feeds.own.seen (model_of start first w1 w2 joined place held now old seen0 mid follows)
+              full = full_seen start.model start.log first ws joined tells.inputs (mine_of feeds.mid) list (seen_of mid) feeds.own.seen (model_of start first ws joined place held now old seen0 mid follows)
                   (prefix_trans (seen_of mid) (seen_of first) (items_of start.model joined.whole.log joined.whole.stop) takes.longer joined.whole.first_seen) (full' refl);
               going = at.1;
               pending = line_in feeds.step.message ∷ [];
-              read = read_next start first w1 w2 joined place held now old seen0 feeds.mid feeds.middle tells plan feeds.waiting.own list to_first rests feeds.waiting.written at.1 feeds.step.message end feeds.step.asks;
-              due = inr (at.0, (line_in feeds.step.message, (refl, next_read start first w1 w2 joined place held now old seen0 feeds.mid feeds.middle tells plan feeds.waiting.own list to_first rests feeds.waiting.written at.1 feeds.step.message end feeds.step.asks)));
-              written = text_is start first w1 w2 joined place held now old seen0 feeds.mid feeds.middle tells plan feeds.waiting.own list to_first rests feeds.waiting.written;
+              read = read_next start first ws joined place held now old seen0 feeds.mid feeds.middle tells plan feeds.waiting.own list to_first rests feeds.waiting.written at.1 feeds.step.message end feeds.step.asks;
+              due = inr (at.0, (line_in feeds.step.message, (refl, next_read start first ws joined place held now old seen0 feeds.mid feeds.middle tells plan feeds.waiting.own list to_first rests feeds.waiting.written at.1 feeds.step.message end feeds.step.asks)));
+              written = text_is start first ws joined place held now old seen0 feeds.mid feeds.middle tells plan feeds.waiting.own list to_first rests feeds.waiting.written;
             }
         by_full false is full' =
             let tells = feeds.waiting.tells in
             let list = list_behind tells.inputs feeds.mid mid first tells.mine same stops in
             let to_first = prefix_trans (seen_of feeds.mid) (seen_of mid) (seen_of first) feeds.follows.longer takes.longer in
             let rests = between feeds.waiting.between in
-            let at = world_is start first w1 w2 joined place held now old seen0 feeds.mid feeds.middle tells plan feeds.waiting.own list to_first rests feeds.waiting.written IsBetween feeds.waiting.between in
-            absurd (let both : true ≡ false = sym at.0 ∙ worker_open start first w1 w2 joined place held now old seen0 feeds.mid feeds.middle tells plan feeds.waiting.own list to_first rests feeds.waiting.written is in cc)
+            let at = world_is start first ws joined place held now old seen0 feeds.mid feeds.middle tells plan feeds.waiting.own list to_first rests feeds.waiting.written IsBetween feeds.waiting.between in
+            absurd (let both : true ≡ false = sym at.0 ∙ worker_open start first ws joined place held now old seen0 feeds.mid feeds.middle tells plan feeds.waiting.own list to_first rests feeds.waiting.written is in cc)
 
     -- a worker had stopped the plan in an open round
-    runs_stopped : FeedsStopped plan start.model old place held mid end now → PairRun joined.seed start place held (Err (refusal_of false w1.refusal w2.refusal)) end now
+    runs_stopped : FeedsStopped plan start.model old place held mid end now → TeamRun joined.duties start place held (Err (refusal_of false (met_by (refusals ws)))) end now
     runs_stopped feeds =
         let tells = feeds.tells in
         let list = list_stop tells.inputs mid first tells.mine stops in
         let rests = stopped feeds.stopped in
-        let others = is_other w1.refusal || is_other w2.refusal in
-        let workers = is_full w1.refusal || is_full w2.refusal in
-        pair_run (Err (refusal_of false w1.refusal w2.refusal)) start first w1 w2 joined place held now old mid end end tells list (λ e. absurd (never_finished (refusal_of false w1.refusal w2.refusal) e)) (λ e. no_other others workers e)
-        (ends_refusal others workers start.model joined.whole.log (more_entries start first w1 w2 joined place held now old seen0 mid end tells plan feeds.own list takes.longer) place end held now
-        (all_lines (told_read start first w1 w2 joined place held now old seen0 mid end tells plan feeds.own list takes.longer)
-        (world_is start first w1 w2 joined place held now old seen0 mid end tells plan feeds.own list takes.longer rests feeds.written (λ w. w.done ≡ false) feeds.going)
-        (text_is start first w1 w2 joined place held now old seen0 mid end tells plan feeds.own list takes.longer rests feeds.written))
-        (λ e is. worker_full start first w1 w2 joined place held now old seen0 mid end tells plan feeds.own list takes.longer rests feeds.written is))
+        let others = (met_by (refusals ws)).other in
+        let workers = (met_by (refusals ws)).full in
+        team_run (Err (refusal_of false (met_by (refusals ws)))) start first ws joined place held now old mid end end tells list (λ e. absurd (never_finished (refusal_of false (met_by (refusals ws))) e)) (λ e. no_other others workers e)
+        (ends_refusal others workers start.model joined.whole.log (more_entries start first ws joined place held now old seen0 mid end tells plan feeds.own list takes.longer) place end held now
+        (all_lines (told_read start first ws joined place held now old seen0 mid end tells plan feeds.own list takes.longer)
+        (world_is start first ws joined place held now old seen0 mid end tells plan feeds.own list takes.longer rests feeds.written (λ w. w.done ≡ false) feeds.going)
+        (text_is start first ws joined place held now old seen0 mid end tells plan feeds.own list takes.longer rests feeds.written))
+        (λ e is. worker_full start first ws joined place held now old seen0 mid end tells plan feeds.own list takes.longer rests feeds.written is))
 
-    runs_cut : FeedsCut plan start.model old place held mid end now → PairRun joined.seed start place held (Err (refusal_of false w1.refusal w2.refusal)) end now
+    runs_cut : FeedsCut plan start.model old place held mid end now → TeamRun joined.duties start place held (Err (refusal_of false (met_by (refusals ws)))) end now
     runs_cut (refused feeds) = runs_refused false cut.Stopped feeds feeds.step.hands.0 (λ e. absurd (cc))
     runs_cut (fed.stopped feeds) = runs_stopped feeds
 
-    runs_err : (c : Cut) → FeedsAll plan start.model old place held (Err c) mid end now → PairRun joined.seed start place held (ended_of (Err c) w1.refusal w2.refusal) end now
+    runs_err : (c : Cut) → FeedsAll plan start.model old place held (Err c) mid end now → TeamRun joined.duties start place held (ended_of (Err c) (met_by (refusals ws))) end now
     runs_err cut.Read feeds = runs_until halt.Read cut.Read (λ e. cc) (λ es until. until) (read_whys place) feeds
     runs_err cut.Limit feeds = runs_until halt.Limit cut.Limit (λ e. cc) (λ es until. until) (limit_whys place) feeds
     runs_err cut.Write feeds = runs_torn feeds
@@ -375,6 +376,6 @@ module _ (start : State) (first : PlanPass) (w1 w2 : Worker) (joined : Joined st
     runs_err cut.Full feeds = runs_refused true cut.Full feeds feeds.step.hands.0 (λ e. feeds.step.hands.2)
     runs_err cut.Stopped feeds = runs_cut feeds
 
-  pub runs : (r : Result (Unit {0}) Cut) → FeedsToEnd plan start.model old place held r first end now → PairRun joined.seed start place held (ended_of r w1.refusal w2.refusal) end now
+  pub runs : (r : Result (Unit {0}) Cut) → FeedsToEnd plan start.model old place held r first end now → TeamRun joined.duties start place held (ended_of r (met_by (refusals ws))) end now
   runs (Ok u) feeds = runs_out feeds
   runs (Err c) feeds = runs_err feeds.mid feeds.takes feeds.stops c feeds.feeds

@@ -2,13 +2,15 @@
 use Rattle.std.proofs.lemmas.Option.{same_Some}
 use Rattle.std.proofs.lemmas.Bool.{or_cases}
 use Rattle.std.proofs.Common.{◌≡◌, ℕ, ◌+◌, ◌≤◌, ◌<◌, List, [], ◌∷◌, ◌++◌, length, map, Bool, true, false, Option, Some, None, slice_get, refl, sym, ◌∙◌, ap, subst, arith, inl, inr, ◌⊎◌, length-append}
-use Rattle.std.specs.Prelude.{◌||◌}
-use Rattle.std.specs.List.{All}
+use Rattle.std.specs.List.{All, list_any}
+use Rattle.std.proofs.lemmas.List.Elements.{All-nil, All-cons, All-head, All-tail}
+use Rattle.pl_entry.specs.declared.event.Event.{Event}
 use Rattle.std.proofs.lemmas.List.{append-nil}
 use mathlib.Core.List.{IsPrefix}
 use Rattle.pl_turn.specs.History.{IsEachOnce, StandsIn, times_in}
 use Rattle.pl_turn.specs.Passes.{seen_of, mine_of, opening_of}
 use Rattle.pl_turn.proofs.Histories.{prefix_trans}
+use Rattle.pl_marks.specs.declared.author.Author.{Author}
 use Rattle.pl_model.specs.declared.whole.Model.{Model}
 use Rattle.pl_entry.specs.declared.entry.Entry.{Entry}
 use Rattle.pl_machine.specs.declared.stop.Stop.{Stop}
@@ -22,24 +24,23 @@ use Rattle.pl_journal.specs.Written.{Adds}
 use Rattle.pl_acts.specs.declared.noted.Noted.{Noted}
 use Rattle.pl_acts.specs.declared.noted.Noted.TheVariants.{Made, Stopped}
 use Rattle.pl_shared.specs.declared.plan.SharedPlan.{SharedPlan}
-use Rattle.pl_acts.specs.Items.{stop_items, items_of, entries_in, model_in, InWorld}
+use Rattle.pl_acts.specs.Items.{Signs, SignedEntry, made_of, entries_of, handed_in, stop_items, items_of, entries_in, model_in, InWorld}
 use Rattle.pl_acts.specs.declared.role.Role.{Role}
 use Rattle.pl_acts.specs.declared.role.Role.TheVariants.{Planner, Executive}
-use Rattle.pl_acts.specs.Roles.{worker_of, has_event, is_repair, is_executed}
+use Rattle.pl_acts.specs.Roles.{has_event, is_input, kind_of}
 use Rattle.pl_acts.specs.Seen.{IsPlan, IsFull}
 use Rattle.pl_shared.specs.Plans.{PlanPass, BelongsTo}
 use Rattle.pl_shared.specs.Turns.{Stops, was_stopped, is_stopped}
 use Rattle.pl_acts.proofs.Items.{entries_in_items, model_in_items, length_going, made_entries}
 use Rattle.pl_acts.proofs.FullLogs.{log_is_bounded, world_options, full_ends, same_world, full_on}
 use Rattle.pl_pair.specs.declared.duty.Duty.{Duty}
-use Rattle.pl_pair.specs.declared.duty.Duty.TheVariants.{Repair, Execute}
 use Rattle.pl_pair.specs.declared.worker.Worker.{Worker}
-use Rattle.pl_pair.specs.Duties.{chooser_of, role_of, begun_of}
-use Rattle.pl_pair.specs.Served as serving
-use Rattle.pl_pair.specs.Served.{MakesOwn, IsFullRound, Refused, IsWorker}
+use Rattle.pl_pair.specs.Duties.{role_of, begun_of}
+use Rattle.pl_pair.specs.Served.{IsFullRound, Refused, IsServed}
 use Rattle.pl_pair.specs.Feeds.{AreInputs, HandsOne, WritesAll}
-use Rattle.pl_pair.specs.Endings.{is_full}
-use Rattle.pl_pair.specs.Runs.{ClosesAll, History, WritesLog}
+use Rattle.pl_pair.specs.Endings.{is_full, met_by}
+use Rattle.pl_pair.specs.Joins.{refusals, duties_in, own_lists_of, HasSeenIn}
+use Rattle.pl_pair.specs.Runs.{ClosesAll, Service, service_of, ServedIn, owns_of, mets_of, History, WritesLog}
 use Rattle.pl_machine.proofs.Going.{world_goes}
 use Rattle.pl_pair.proofs.Ending.{EndsIf, steps_behind, world_behind, run_ends}
 use Rattle.pl_pair.proofs.Working.{own_on, own_kinds}
@@ -51,34 +52,31 @@ use Rattle.pl_machine.proofs.ShortLogs.{log_is_some}
 
 -- ---- the whole history, of the model that was handed in
 
-pub record Whole (m : Model) (before : List Entry) (first planner executive : PlanPass) : Type 0 where
+pub record Whole (m : Model) (before : List Entry) (first : PlanPass) (workers : List Worker) : Type 0 where
   pub log : List Entry
-  pub stop : Bool
+  pub stop : Signs
   pub legal : Legal m log
   pub first_seen : IsPrefix (seen_of first) (items_of m log stop)
-  pub planner_seen : IsPrefix (seen_of planner) (items_of m log stop)
-  pub executive_seen : IsPrefix (seen_of executive) (items_of m log stop)
-  pub stands : All (StandsIn (items_of m log stop)) (mine_of first ∷ mine_of planner ∷ mine_of executive ∷ [])
-  pub owners : IsEachOnce (length before) (length (items_of m log stop)) (λ place. times_in place (mine_of first ∷ mine_of planner ∷ mine_of executive ∷ []))
+  pub workers_seen : All (HasSeenIn (items_of m log stop)) workers
+  pub stands : All (StandsIn (items_of m log stop)) (mine_of first ∷ own_lists_of workers)
+  pub owners : IsEachOnce (length before) (length (items_of m log stop)) (λ place. times_in place (mine_of first ∷ own_lists_of workers))
 
-pub whole_of : (m : Model) (before : List Entry) (first planner executive : PlanPass) (machine : State) → model_in (seen_of first) ≡ Some m → opening_of first ≡ length before → ClosesAll first planner executive machine
-    → Whole m before first planner executive
-whole_of m before first planner executive machine model opening closes =
+pub whole_of : (m : Model) (before : List Entry) (first : PlanPass) (workers : List Worker) (machine : State) → model_in (seen_of first) ≡ Some m → opening_of first ≡ length before → ClosesAll first workers machine
+    → Whole m before first workers
+whole_of m before first workers machine model opening closes =
     let same : machine.model ≡ m = same_Some machine.model m (sym closes.model ∙ model) in
-    let lists = mine_of first ∷ mine_of planner ∷ mine_of executive ∷ [] in
-    let W : Model → Type 0 = λ k. Legal k machine.log × IsPrefix (seen_of first) (items_of k machine.log closes.stopped) × IsPrefix (seen_of planner) (items_of k machine.log closes.stopped)
-    × IsPrefix (seen_of executive) (items_of k machine.log closes.stopped) × All (StandsIn (items_of k machine.log closes.stopped)) lists
-    × IsEachOnce (opening_of first) (length (items_of k machine.log closes.stopped)) (λ place. times_in place lists) in
-    let w : W m = subst W same (closes.legal, closes.first_seen, closes.planner_seen, closes.executive_seen, closes.stands, closes.owners) in
+    let lists = mine_of first ∷ own_lists_of workers in
+    let W : Model → Type 0 = λ k. Legal k machine.log × IsPrefix (seen_of first) (items_of k machine.log closes.signs) × All (HasSeenIn (items_of k machine.log closes.signs)) workers
+    × All (StandsIn (items_of k machine.log closes.signs)) lists × IsEachOnce (opening_of first) (length (items_of k machine.log closes.signs)) (λ place. times_in place lists) in
+    let w : W m = subst W same (closes.legal, closes.first_seen, closes.workers_seen, closes.stands, closes.owners) in
     record {
       log = machine.log;
-      stop = closes.stopped;
+      stop = closes.signs;
       legal = w.0;
       first_seen = w.1;
-      planner_seen = w.2;
-      executive_seen = w.3;
-      stands = w.4;
-      owners = subst (λ (n : ℕ). IsEachOnce n (length (items_of m machine.log closes.stopped)) (λ place. times_in place lists)) opening w.5;
+      workers_seen = w.2;
+      stands = w.3;
+      owners = subst (λ (n : ℕ). IsEachOnce n (length (items_of m machine.log closes.signs)) (λ place. times_in place lists)) opening w.4;
     }
 
 -- ---- workers
@@ -112,12 +110,12 @@ list_stop inputs mid first are (is_stopped seen on going is mine) = record { res
 
 -- ---- one whole history
 
-pub more_first : (more : List Noted) (of : MoreOf more) (e : Entry) (es : List Entry) → entries_in more ≡ e ∷ es → (rest : List Noted) × (more ≡ Made e ∷ rest)
-more_first more of e es is = by of.entries (of.is) (sym (ap entries_in of.is ∙ made_entries of.entries of.stop) ∙ is)
+pub more_first : (more : List Noted) (of : MoreOf more) (e : Entry) (es : List Entry) → entries_in more ≡ e ∷ es → (author : Option Author) × (rest : List Noted) × (more ≡ Made author e ∷ rest)
+more_first more of e es is = by of.signed (of.is) (sym (ap entries_in of.is ∙ made_entries of.signed of.stop) ∙ is)
   where
-    by : (xs : List Entry) → more ≡ map Made xs ++ stop_items of.stop → xs ≡ e ∷ es → (rest : List Noted) × (more ≡ Made e ∷ rest)
+    by : (xs : List SignedEntry) → more ≡ map made_of xs ++ stop_items of.stop → entries_of xs ≡ e ∷ es → (author : Option Author) × (rest : List Noted) × (more ≡ Made author e ∷ rest)
     by [] at same = absurd (cc)
-    by (x ∷ xs) at same = (map Made xs ++ stop_items of.stop, at ∙ ap (λ (y : Entry). Made y ∷ (map Made xs ++ stop_items of.stop)) (let h : x ∷ xs ≡ e ∷ es = same in (cc)))
+    by (x ∷ xs) at same = (x.0, map made_of xs ++ stop_items of.stop, at ∙ ap (λ (y : Entry). Made x.0 y ∷ (map made_of xs ++ stop_items of.stop)) (let h : x.1 ∷ entries_of xs ≡ e ∷ es = same in (cc)))
 
 -- What was written of a history behind which nothing follows.
 pub record Settled (m : Model) (held now : Option (List ℕ)) (front : List Noted) (own : List (ℕ × Noted)) : Type 0 where
@@ -127,127 +125,145 @@ pub record Settled (m : Model) (held now : Option (List ℕ)) (front : List Note
   pub stands : StandsIn front own
   pub written : WritesAll m held front now
 
+-- ---- what the workers did
+
+kind_no_input : (r : Role) (v : Event) → kind_of r v ≡ true → is_input v ≡ false
+kind_no_input (Planner g) v is = repair_no_input v is
+kind_no_input Executive v is = executed_no_input v is
+
+abbrev pub services_of : List Worker → List Service
+services_of workers = map service_of workers
+
+pub owns_same : (workers : List Worker) → owns_of (services_of workers) ≡ own_lists_of workers
+owns_same [] = refl
+owns_same (w ∷ workers) = ap (λ (ls : List (List (ℕ × Noted))). mine_of w.pass ∷ ls) (owns_same workers)
+
+pub mets_same : (workers : List Worker) → mets_of (services_of workers) ≡ refusals workers
+mets_same [] = refl
+mets_same (w ∷ workers) = ap (λ (os : List (Option Stop)). w.refusal ∷ os) (mets_same workers)
+
+pub hired_same : (workers : List Worker) → map (λ (d : Service). d.duty) (services_of workers) ≡ duties_in workers
+hired_same [] = refl
+hired_same (w ∷ workers) = ap (λ (ds : List Duty). w.duty ∷ ds) (hired_same workers)
+
 -- What is known once the threads are joined, and nothing is said yet of how the feeder ended.
-pub record Joined (m : Model) (before : List Entry) (first : PlanPass) (w1 w2 : Worker) : Type 0 where
+pub record Joined (m : Model) (before : List Entry) (first : PlanPass) (ws : List Worker) : Type 0 where
   pub plan : SharedPlan
-  pub whole : Whole m before first w1.pass w2.pass
+  pub whole : Whole m before first ws
   pub legal : Legal m before
   pub going : (world_of m before).done ≡ false
-  pub opened : IsPrefix (items_of m before false) (seen_of first)
+  pub opened : IsPrefix (items_of m before (handed_in before)) (seen_of first)
   pub own : BelongsTo plan first
-  pub seed : ℕ
-  pub one : IsWorker plan (Repair seed (length before)) w1
-  pub two : IsWorker plan Execute w2
+  pub duties : List Duty
+  pub hired : duties_in ws ≡ duties
+  pub each : All (IsServed plan) ws
 
-module _ (m : Model) (before : List Entry) (first : PlanPass) (w1 w2 : Worker) (joined : Joined m before first w1 w2) where
+module _ (m : Model) (before : List Entry) (first : PlanPass) (ws : List Worker) (joined : Joined m before first ws) where
+  abbrev pub items : List Noted
+  items = items_of m joined.whole.log joined.whole.stop
+
   pub model_items : model_in (items_of m joined.whole.log joined.whole.stop) ≡ Some m
   model_items = model_in_items m joined.whole.log joined.whole.stop joined.whole.legal
 
   pub plan_items : IsPlan (items_of m joined.whole.log joined.whole.stop)
-  plan_items = record { model = m; log = joined.whole.log; stopped = joined.whole.stop; legal = joined.whole.legal; is = refl }
+  plan_items = record { model = m; log = joined.whole.log; signs = joined.whole.stop; legal = joined.whole.legal; is = refl }
 
   pub model_seen : (seen : List Noted) → IsPlan seen → IsPrefix seen (items_of m joined.whole.log joined.whole.stop) → model_in seen ≡ Some m
   model_seen seen plan onto = same_model seen (items_of m joined.whole.log joined.whole.stop) m plan onto model_items
 
-  -- what the workers made, in the whole history
-  pub all_one : MakesOwn w1.refusal (Planner (chooser_of joined.seed)) (length before) (items_of m joined.whole.log joined.whole.stop) (mine_of w1.pass) w1.role
-  all_one =
-      let P : Duty → Type 0 = λ d. MakesOwn w1.refusal (role_of d) (begun_of d) (seen_of w1.pass) (mine_of w1.pass) w1.role in
-      own_on w1.refusal (seen_of w1.pass) (items_of m joined.whole.log joined.whole.stop) (Planner (chooser_of joined.seed)) w1.role (length before) (mine_of w1.pass) joined.whole.planner_seen (subst P joined.one.hired joined.one.served.made)
+  -- what a worker did, in the whole history
+  served_in : (w : Worker) → IsServed joined.plan w → HasSeenIn items w → ServedIn items (service_of w)
+  served_in w served seen =
+      let made = own_on w.refusal (seen_of w.pass) items (role_of w.duty) w.role (begun_of w.duty) (mine_of w.pass) seen served.made in
+      record {
+        saw = record { begins = seen; holds = own_stands joined.plan w.pass served.own };
+        kinds = own_kinds w.refusal items (role_of w.duty) w.role (begun_of w.duty) (mine_of w.pass) made;
+        made = made;
+        signed = served.signed.1;
+        is = served.worker;
+        why = refused_on w.refusal w.role (seen_of w.pass) items served.own.seen plan_items seen (model_items ∙ sym (model_seen (seen_of w.pass) served.own.seen seen)) served.why;
+      }
 
-  pub all_two : MakesOwn w2.refusal Executive 0 (items_of m joined.whole.log joined.whole.stop) (mine_of w2.pass) w2.role
-  all_two =
-      let P : Duty → Type 0 = λ d. MakesOwn w2.refusal (role_of d) (begun_of d) (seen_of w2.pass) (mine_of w2.pass) w2.role in
-      own_on w2.refusal (seen_of w2.pass) (items_of m joined.whole.log joined.whole.stop) Executive w2.role 0 (mine_of w2.pass) joined.whole.executive_seen (subst P joined.two.hired joined.two.served.made)
+  all_served : (workers : List Worker) → All (IsServed joined.plan) workers → All (HasSeenIn items) workers → All (ServedIn items) (services_of workers)
+  all_served [] served seen = All-nil (ServedIn items)
+  all_served (w ∷ workers) served seen =
+      All-cons (ServedIn items) (service_of w) (services_of workers) (served_in w (All-head (IsServed joined.plan) w workers served) (All-head (HasSeenIn items) w workers seen))
+      (all_served workers (All-tail (IsServed joined.plan) w workers served) (All-tail (HasSeenIn items) w workers seen))
 
-  pub made_one : serving.Made w1.refusal is_repair (mine_of w1.pass)
-  made_one = own_kinds w1.refusal (items_of m joined.whole.log joined.whole.stop) (Planner (chooser_of joined.seed)) w1.role (length before) (mine_of w1.pass) all_one
+  pub each_served : All (ServedIn items) (services_of ws)
+  each_served = all_served ws joined.each joined.whole.workers_seen
 
-  pub made_two : serving.Made w2.refusal is_executed (mine_of w2.pass)
-  made_two = own_kinds w2.refusal (items_of m joined.whole.log joined.whole.stop) Executive w2.role 0 (mine_of w2.pass) all_two
+  none_in : (services : List Service) → All (ServedIn items) services → All NoInputs (owns_of services)
+  none_in [] each = All-nil NoInputs
+  none_in (s ∷ services) each =
+      let here = All-head (ServedIn items) s services each in
+      All-cons NoInputs s.own (owns_of services) (made_no_inputs s.met (kind_of (role_of s.duty)) (kind_no_input (role_of s.duty)) s.own here.kinds) (none_in services (All-tail (ServedIn items) s services each))
 
-  pub none_one : NoInputs (mine_of w1.pass)
-  none_one = made_no_inputs w1.refusal is_repair repair_no_input (mine_of w1.pass) made_one
+  -- no worker made an input
+  pub none_others : All NoInputs (own_lists_of ws)
+  none_others = subst (λ (ls : List (List (ℕ × Noted))). All NoInputs ls) (owns_same ws) (none_in (services_of ws) each_served)
 
-  pub none_two : NoInputs (mine_of w2.pass)
-  none_two = made_no_inputs w2.refusal is_executed executed_no_input (mine_of w2.pass) made_two
+  pub service_stands : All (StandsIn items) (mine_of first ∷ owns_of (services_of ws))
+  service_stands = subst (λ (ls : List (List (ℕ × Noted))). All (StandsIn items) (mine_of first ∷ ls)) (sym (owns_same ws)) joined.whole.stands
 
-  pub why_one : Refused w1.refusal w1.role (items_of m joined.whole.log joined.whole.stop)
-  why_one =
-      let model = model_seen (seen_of w1.pass) joined.one.served.own.seen joined.whole.planner_seen in
-      refused_on w1.refusal w1.role (seen_of w1.pass) (items_of m joined.whole.log joined.whole.stop) joined.one.served.own.seen plan_items joined.whole.planner_seen (model_items ∙ sym model) joined.one.served.why
+  pub service_owners : IsEachOnce (length before) (length items) (λ place. times_in place (mine_of first ∷ owns_of (services_of ws)))
+  service_owners = subst (λ (ls : List (List (ℕ × Noted))). IsEachOnce (length before) (length items) (λ place. times_in place (mine_of first ∷ ls))) (sym (owns_same ws)) joined.whole.owners
 
-  pub why_two : Refused w2.refusal w2.role (items_of m joined.whole.log joined.whole.stop)
-  why_two =
-      let model = model_seen (seen_of w2.pass) joined.two.served.own.seen joined.whole.executive_seen in
-      refused_on w2.refusal w2.role (seen_of w2.pass) (items_of m joined.whole.log joined.whole.stop) joined.two.served.own.seen plan_items joined.whole.executive_seen (model_items ∙ sym model) joined.two.served.why
+  full_in : (services : List Service) → All (ServedIn items) services → list_any is_full (mets_of services) ≡ true → (r : Role) × IsFullRound r items
+  full_in [] each is = absurd (cc)
+  full_in (s ∷ services) each is = by (or_cases (is_full s.met) (list_any is_full (mets_of services)) is)
+    where
+      by : (is_full s.met ≡ true) ⊎ (list_any is_full (mets_of services) ≡ true) → (r : Role) × IsFullRound r items
+      by (inl e) = (s.last, refused_full s.met s.last items e (All-head (ServedIn items) s services each).why)
+      by (inr e) = full_in services (All-tail (ServedIn items) s services each) e
 
   -- one of the workers met a full log
-  pub met_full : (is_full w1.refusal || is_full w2.refusal) ≡ true → (r : Role) × IsFullRound r (items_of m joined.whole.log joined.whole.stop)
-  met_full is = by (or_cases (is_full w1.refusal) (is_full w2.refusal) is)
-    where
-      by : (is_full w1.refusal ≡ true) ⊎ (is_full w2.refusal ≡ true) → (r : Role) × IsFullRound r (items_of m joined.whole.log joined.whole.stop)
-      by (inl e) = (w1.role, refused_full w1.refusal w1.role (items_of m joined.whole.log joined.whole.stop) e why_one)
-      by (inr e) = (w2.role, refused_full w2.refusal w2.role (items_of m joined.whole.log joined.whole.stop) e why_two)
+  pub met_full : (met_by (refusals ws)).full ≡ true → (r : Role) × IsFullRound r items
+  met_full is = full_in (services_of ws) each_served (ap (λ (os : List (Option Stop)). list_any is_full os) (mets_same ws) ∙ is)
 
   module _ (inputs : List (Option (List ℕ))) (own : List (ℕ × Noted)) (list : FeederList inputs own (mine_of first)) where
-    unfoldable pub history : History joined.seed m before joined.whole.log
+    unfoldable pub history : History joined.duties m before joined.whole.log
     history = record {
-      stopped = joined.whole.stop;
+      signs = joined.whole.stop;
       feeder = mine_of first;
-      planner = mine_of w1.pass;
-      executive = mine_of w2.pass;
       feeder_seen = seen_of first;
-      planner_seen = seen_of w1.pass;
-      executive_seen = seen_of w2.pass;
-      planner_last = w1.role;
-      executive_last = w2.role;
-      planner_met = w1.refusal;
-      executive_met = w2.refusal;
+      workers = services_of ws;
+      hired = hired_same ws ∙ joined.hired;
       legal = joined.whole.legal;
-      stands = joined.whole.stands;
-      owners = joined.whole.owners;
+      stands = service_stands;
+      owners = service_owners;
       feeder_saw = record { begins = joined.whole.first_seen; holds = own_stands joined.plan first joined.own };
-      planner_saw = record { begins = joined.whole.planner_seen; holds = own_stands joined.plan w1.pass joined.one.served.own };
-      executive_saw = record { begins = joined.whole.executive_seen; holds = own_stands joined.plan w2.pass joined.two.served.own };
       inputs = feeder_until inputs own (mine_of first) list;
-      repairs = made_one;
-      executed = made_two;
-      planner_made = all_one;
-      executive_made = all_two;
-      planner_is = joined.one.served.worker ∙ ap (λ (d : Duty). worker_of (role_of d)) joined.one.hired;
-      executive_is = joined.two.served.worker ∙ ap (λ (d : Duty). worker_of (role_of d)) joined.two.hired;
-      planner_why = why_one;
-      executive_why = why_two;
+      each = each_served;
     }
 
-    opening_plan : IsPlan (items_of m before false)
-    opening_plan = record { model = m; log = before; stopped = false; legal = joined.legal; is = refl }
+    opening_plan : IsPlan (items_of m before (handed_in before))
+    opening_plan = record { model = m; log = before; signs = handed_in before; legal = joined.legal; is = refl }
 
-    pub on : IsPrefix (items_of m before false) (items_of m joined.whole.log joined.whole.stop)
-    on = prefix_trans (items_of m before false) (seen_of first) (items_of m joined.whole.log joined.whole.stop) joined.opened joined.whole.first_seen
+    pub on : IsPrefix (items_of m before (handed_in before)) (items_of m joined.whole.log joined.whole.stop)
+    on = prefix_trans (items_of m before (handed_in before)) (seen_of first) (items_of m joined.whole.log joined.whole.stop) joined.opened joined.whole.first_seen
 
     pub more : MoreOf on.0
-    more = more_of (items_of m before false) m joined.whole.log joined.whole.stop opening_plan joined.whole.legal on
+    more = more_of (items_of m before (handed_in before)) m joined.whole.log joined.whole.stop opening_plan joined.whole.legal on
 
     abbrev pub entries : List Entry
-    entries = more.entries
+    entries = entries_of more.signed
 
     pub begins : joined.whole.log ≡ before ++ entries
     begins =
-        entries_whole m joined.whole.log joined.whole.stop joined.whole.legal (items_of m before false) opening_plan (model_in_items m before false joined.legal) on
-        ∙ ap (λ (xs : List Entry). xs ++ entries_in on.0) (entries_in_items m before false)
-        ∙ ap (λ (xs : List Entry). before ++ xs) (ap entries_in more.is ∙ made_entries more.entries more.stop)
+        entries_whole m joined.whole.log joined.whole.stop joined.whole.legal (items_of m before (handed_in before)) opening_plan (model_in_items m before (handed_in before) joined.legal) on
+        ∙ ap (λ (xs : List Entry). xs ++ entries_in on.0) (entries_in_items m before (handed_in before))
+        ∙ ap (λ (xs : List Entry). before ++ xs) (ap entries_in more.is ∙ made_entries more.signed more.stop)
 
     pub chosen : AreChosen m before entries
     chosen =
-        are_chosen m joined.whole.log joined.whole.stop (mine_of first) (mine_of w1.pass) (mine_of w2.pass) (length before) joined.whole.stands joined.whole.owners (feeder_until inputs own (mine_of first) list)
-        w1.refusal made_one w2.refusal w2.role all_two before entries (log_is_some m before joined.legal) (omega arith) begins
+        are_chosen m joined.whole.log joined.whole.stop (mine_of first) (services_of ws) (length before) service_stands service_owners (feeder_until inputs own (mine_of first) list) each_served before entries (log_is_some m before joined.legal)
+        (omega arith) begins
 
     pub inputs_same : inputs_of entries ≡ inputs
     inputs_same =
-        inputs_are (items_of m joined.whole.log joined.whole.stop) inputs own (mine_of first) (mine_of w1.pass) (mine_of w2.pass) list joined.whole.stands none_one none_two (length before) joined.whole.owners
-        (items_of m before false) entries more.stop (sym (length_going m before false refl)) (sym on.1 ∙ ap (λ (xs : List Noted). items_of m before false ++ xs) more.is)
+        inputs_are (items_of m joined.whole.log joined.whole.stop) inputs own (mine_of first) (own_lists_of ws) list joined.whole.stands none_others (length before) joined.whole.owners
+        (items_of m before (handed_in before)) more.signed more.stop (sym (length_going m before (handed_in before) refl)) (sym on.1 ∙ ap (λ (xs : List Noted). items_of m before (handed_in before) ++ xs) more.is)
 
     pub ends_if : EndsIf (world_of m joined.whole.log).done (inputs_of entries)
     ends_if =
@@ -267,11 +283,11 @@ module _ (m : Model) (before : List Entry) (first : PlanPass) (w1 w2 : Worker) (
       no_entry (stopped stops) e es is = (let both : e ∷ es ≡ [] = sym is ∙ stop_none m joined.whole.log joined.whole.stop joined.whole.legal front settled.plan settled.model onto stops in cc)
       no_entry (between here) e es is =
           let first' = more_first onto.0 (more_of front m joined.whole.log joined.whole.stop settled.plan joined.whole.legal onto) e es is in
-          let whole' : items_of m joined.whole.log joined.whole.stop ≡ front ++ Made e ∷ first'.0 = sym onto.1 ∙ ap (λ (xs : List Noted). front ++ xs) first'.1 in
-          let at : slice_get (items_of m joined.whole.log joined.whole.stop) (length front) ≡ Some (Made e) = ap (λ (xs : List Noted). slice_get xs (length front)) whole' ∙ at_front front first'.0 (Made e) in
-          let long = ap (λ (xs : List Noted). length xs) whole' ∙ length-append front (Made e ∷ first'.0) in
-          no_further (items_of m joined.whole.log joined.whole.stop) inputs own (mine_of first) (mine_of w1.pass) (mine_of w2.pass) list joined.whole.stands none_one none_two (length before) joined.whole.owners
-          front e (length front) settled.stands (omega arith) past (omega (arith, long)) at
+          let whole' : items_of m joined.whole.log joined.whole.stop ≡ front ++ Made first'.0 e ∷ first'.1 = sym onto.1 ∙ ap (λ (xs : List Noted). front ++ xs) first'.2 in
+          let at : slice_get (items_of m joined.whole.log joined.whole.stop) (length front) ≡ Some (Made first'.0 e) = ap (λ (xs : List Noted). slice_get xs (length front)) whole' ∙ at_front front first'.1 (Made first'.0 e) in
+          let long = ap (λ (xs : List Noted). length xs) whole' ∙ length-append front (Made first'.0 e ∷ first'.1) in
+          no_further (items_of m joined.whole.log joined.whole.stop) inputs own (mine_of first) (own_lists_of ws) list joined.whole.stands none_others (length before) joined.whole.owners
+          front (first'.0, e) (length front) settled.stands (omega arith) past (omega (arith, long)) at
           (between_input m joined.whole.log joined.whole.stop joined.whole.legal front settled.plan settled.model onto here e es is)
 
       settled_by : (es : List Entry) → entries_in onto.0 ≡ es → joined.whole.log ≡ entries_in front
@@ -291,25 +307,25 @@ module _ (m : Model) (before : List Entry) (first : PlanPass) (w1 w2 : Worker) (
     -- ---- one message follows what was written
 
     module _ (old : PlanPass) (front : List Noted) (handed : HandsOne old front own) (onto : IsPrefix front (items_of m joined.whole.log joined.whole.stop)) (past : length before ≤ length front) where
-      message_by : (behind : MoreOf onto.0) (es : List Entry) → behind.entries ≡ es → 0 < length (entries_in onto.0) → (message : Option (List ℕ)) × (inputs_of (entries_in onto.0) ≡ message ∷ [])
+      message_by : (behind : MoreOf onto.0) (es : List SignedEntry) → behind.signed ≡ es → 0 < length (entries_in onto.0) → (message : Option (List ℕ)) × (inputs_of (entries_in onto.0) ≡ message ∷ [])
       message_by behind [] is due =
-          let none : entries_in onto.0 ≡ [] = ap entries_in behind.is ∙ made_entries behind.entries behind.stop ∙ is in
+          let none : entries_in onto.0 ≡ [] = ap entries_in behind.is ∙ made_entries behind.signed behind.stop ∙ ap entries_of is in
           let long = ap (λ (es : List Entry). length es) none in
           absurd (omega (arith, long, due))
       message_by behind (e ∷ es) is due =
-          let same : entries_in onto.0 ≡ e ∷ es = ap entries_in behind.is ∙ made_entries behind.entries behind.stop ∙ is in
-          let whole' : items_of m joined.whole.log joined.whole.stop ≡ front ++ (map Made (e ∷ es) ++ stop_items behind.stop) =
-          sym onto.1 ∙ ap (λ (xs : List Noted). front ++ xs) (behind.is ∙ ap (λ (xs : List Entry). map Made xs ++ stop_items behind.stop) is) in
+          let same : entries_in onto.0 ≡ e.1 ∷ entries_of es = ap entries_in behind.is ∙ made_entries behind.signed behind.stop ∙ ap entries_of is in
+          let whole' : items_of m joined.whole.log joined.whole.stop ≡ front ++ (map made_of (e ∷ es) ++ stop_items behind.stop) =
+          sym onto.1 ∙ ap (λ (xs : List Noted). front ++ xs) (behind.is ∙ ap (λ (xs : List SignedEntry). map made_of xs ++ stop_items behind.stop) is) in
           let model = model_seen front handed.plan onto in
-          let input = between_input m joined.whole.log joined.whole.stop joined.whole.legal front handed.plan model onto handed.between e es same in
-          let one = one_input (items_of m joined.whole.log joined.whole.stop) inputs own (mine_of first) (mine_of w1.pass) (mine_of w2.pass) list joined.whole.stands none_one none_two (length before) joined.whole.owners
+          let input = between_input m joined.whole.log joined.whole.stop joined.whole.legal front handed.plan model onto handed.between e.1 (entries_of es) same in
+          let one = one_input (items_of m joined.whole.log joined.whole.stop) inputs own (mine_of first) (own_lists_of ws) list joined.whole.stands none_others (length before) joined.whole.owners
           front handed.earlier handed.last handed.own handed.stands past e es behind.stop whole' input in
           (one.0, ap inputs_of same ∙ one.1)
 
       pub one_message : 0 < length (entries_in onto.0) → (message : Option (List ℕ)) × (inputs_of (entries_in onto.0) ≡ message ∷ [])
       one_message due =
           let behind = more_of front m joined.whole.log joined.whole.stop handed.plan joined.whole.legal onto in
-          message_by behind behind.entries refl due
+          message_by behind behind.signed refl due
 
     -- ---- a full log
 

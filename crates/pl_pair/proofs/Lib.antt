@@ -12,4 +12,5 @@ pub mod Joining
 pub mod Causes
 pub mod FeederEnds
 pub mod Running
+pub mod Handing
 pub mod Crossing

@@ -61,12 +61,12 @@ looks_more old mid new first takes same = looks_on old mid new first (record { f
 entries_few : (xs : List Noted) → length (entries_in xs) ≤ length xs
 entries_few [] = omega arith
 entries_few (Opened m e ∷ xs) = (let le = entries_few xs in omega arith)
-entries_few (Made e ∷ xs) = (let le = entries_few xs in omega arith)
+entries_few (Made by e ∷ xs) = (let le = entries_few xs in omega arith)
 entries_few (Stopped ∷ xs) = (let le = entries_few xs in omega arith)
 
 pub entries_short : (xs : List Noted) → IsPlan xs → length (entries_in xs) ≤ 250000
 entries_short xs plan =
-    let same = ap (λ (es : List Entry). length es) (ap entries_in plan.is ∙ entries_in_items plan.model plan.log plan.stopped) in
+    let same = ap (λ (es : List Entry). length es) (ap entries_in plan.is ∙ entries_in_items plan.model plan.log plan.signs) in
     let le = log_is_short plan.model plan.log plan.legal in
     omega arith
 

@@ -1,10 +1,15 @@
 -- What a run comes to.
-use Rattle.std.proofs.Common.{◌≡◌, ℕ, ◌+◌, ◌≤◌, List, [], ◌∷◌, length, true, false, Option, Some, None, Result, Ok, Err, refl, sym, ◌∙◌, ap, subst, arith, inl}
-use Rattle.std.proofs.lemmas.List.{append-nil}
+use Rattle.std.proofs.Common.{◌≡◌, ℕ, ◌+◌, ◌≤◌, List, [], ◌∷◌, length, map, get_or, true, false, Option, Some, None, Result, Ok, Err, refl, sym, ◌∙◌, ap, subst, arith, ◌⊎◌, inl}
+use Rattle.std.specs.List.{All}
+use Rattle.std.proofs.lemmas.List.{append-nil, length-map}
+use Rattle.std.proofs.lemmas.List.Sums.{sum_by-cons}
 use Rattle.std.proofs.lemmas.List.Elements.{All-nil, All-cons}
 use mathlib.Core.List.{IsPrefix}
-use Rattle.pl_turn.specs.History.{StandsIn, times_in}
+use Rattle.pl_turn.specs.History.{StandsIn, times_at, times_in}
+use Rattle.pl_turn.specs.declared.known.Crew.{Crew}
 use Rattle.pl_turn.specs.Passes.{seen_of, mine_of, crew_of, leads, made_by, joined_by, opening_of}
+use Rattle.pl_marks.specs.Authors.{IsAuthor}
+use Rattle.pl_marks.specs.Marks.{Signed}
 use Rattle.pl_model.specs.declared.whole.Model.{Model}
 use Rattle.pl_machine.specs.World.{World}
 use Rattle.pl_machine.specs.Legal.{Legal, world_of}
@@ -12,75 +17,91 @@ use Rattle.pl_input.specs.Words.{messages_of}
 use Rattle.pl_machine.specs.Sound.{State}
 use Rattle.pl_io.specs.Lines.{lines_of}
 use Rattle.pl_acts.specs.declared.noted.Noted.{Noted}
-use Rattle.pl_acts.specs.declared.noted.Noted.TheVariants.{Stopped}
 use Rattle.pl_shared.specs.declared.plan.SharedPlan.{SharedPlan}
-use Rattle.pl_acts.specs.Items.{items_of, model_in}
-use Rattle.pl_acts.specs.declared.role.Role.TheVariants.{Planner, Executive}
-use Rattle.pl_acts.specs.Roles.{is_entry, is_input, is_repair, is_executed}
-use Rattle.pl_shared.specs.Plans.{PlanPass, BelongsTo}
+use Rattle.pl_acts.specs.Items.{handed_in, items_of, is_stop, signer_in, model_in}
+use Rattle.pl_acts.specs.Roles.{is_entry, kind_of, is_input}
+use Rattle.pl_shared.specs.Plans.{PlanPass, BelongsTo, Closes}
 use Rattle.pl_acts.proofs.Items.{model_in_items, length_going}
 use Rattle.pl_pair.specs.declared.cut.Cut.{Cut}
 use Rattle.pl_pair.specs.declared.cut.Cut.TheVariants as cut
 use Rattle.pl_input.specs.declared.halt.Halt.TheVariants as halt
-use Rattle.pl_pair.specs.declared.duty.Duty.TheVariants.{Repair, Execute}
+use Rattle.pl_pair.specs.declared.duty.Duty.{Duty}
+use Rattle.pl_pair.specs.declared.endings.Met.{Met}
+use Rattle.pl_pair.specs.declared.pairing.Remains.{Remains}
 use Rattle.pl_pair.specs.declared.worker.Worker.{Worker}
-use Rattle.pl_pair.specs.Duties.{chooser_of}
-use Rattle.pl_pair.specs.Served.{IsHired, IsWorker}
+use Rattle.pl_pair.specs.Duties.{role_of, begun_of, author_of}
+use Rattle.pl_pair.specs.Joins.{IsFresh, IsFirst, HasBegun, Joins}
 use Rattle.pl_pair.specs.Rounds.{Follows}
 use Rattle.pl_input.specs.Places.{Place}
 use Rattle.pl_pair.specs.Feeds.{FeedsShort, for_lines, for_message, for_reader, FeedsCut, refused, FeedsAll, FeedsToEnd}
 use Rattle.pl_pair.specs.Feeds as fed
 use Rattle.pl_pair.specs.Endings.{ended_of}
-use Rattle.pl_pair.specs.Runs.{ClosesAll, in_first_round, in_lines, PairRun}
+use Rattle.pl_pair.specs.declared.duty.Duty.TheVariants.{Repair, Execute}
+use Rattle.pl_pair.specs.Runs.{Service, ServedIn, owns_of, pair_of, in_first_round, in_lines, TeamRun}
 use Rattle.pl_pair.proofs.Saying.{up_to_next, if_known}
 use Rattle.pl_pair.proofs.Passing.{took_follows, follows_on, none_written}
 use Rattle.pl_pair.proofs.Feeding.{heard_none}
-use Rattle.pl_pair.proofs.Closing.{stopped}
+use Rattle.pl_pair.proofs.Closing.{stopped, all_joined, closes_all}
 use Rattle.pl_pair.proofs.Joining.{Joined, whole_of}
 use Rattle.pl_pair.proofs.FeederEnds.{runs}
 use Rattle.pl_machine.proofs.ShortLogs.{log_is_some}
 
 -- ---- want of memory before the threads start
 
-pub none_own : (place : ℕ) → times_in {I = Noted} place ([] ∷ [] ∷ [] ∷ []) ≡ 0
-none_own place = refl
+-- a worker that did nothing
+abbrev idle : Duty → Service
+idle d = record { duty = d; own = []; seen = []; last = role_of d; met = None }
 
-pub runs_none : (seed : ℕ) (start : State) (place : Place) (held : Option (List ℕ)) → Legal start.model start.log → PairRun seed start place held (Err halt.Memory) place held
-runs_none seed start place held legal =
+abbrev idles : List Duty → List Service
+idles duties = map idle duties
+
+idle_hired : (duties : List Duty) → map (λ (s : Service). s.duty) (idles duties) ≡ duties
+idle_hired [] = refl
+idle_hired (d ∷ duties) = ap (λ (ds : List Duty). d ∷ ds) (idle_hired duties)
+
+idle_stands : (items : List Noted) (duties : List Duty) → All (StandsIn items) (owns_of (idles duties))
+idle_stands items [] = All-nil (StandsIn items)
+idle_stands items (d ∷ duties) = All-cons (StandsIn items) [] (owns_of (idles duties)) tt (idle_stands items duties)
+
+idle_times : (place : ℕ) (duties : List Duty) → times_in place (owns_of (idles duties)) ≡ 0
+idle_times place [] = refl
+idle_times place (d ∷ duties) = let rest = idle_times place duties in omega (arith, rest, sum_by-cons (times_at place) [] (owns_of (idles duties)))
+
+none_own : (place : ℕ) (duties : List Duty) → times_in place ([] ∷ owns_of (idles duties)) ≡ 0
+none_own place duties = let rest = idle_times place duties in omega (arith, rest, sum_by-cons (times_at place) [] (owns_of (idles duties)))
+
+idle_served : (items : List Noted) (duties : List Duty) → All (ServedIn items) (idles duties)
+idle_served items [] = All-nil (ServedIn items)
+idle_served items (d ∷ duties) = All-cons (ServedIn items) (idle d) (idles duties) (record {
+  saw = record { begins = (items, refl); holds = tt };
+  kinds = All-nil (λ x. is_entry (kind_of (role_of d)) x.1 ≡ true);
+  made = ([], refl);
+  signed = All-nil (λ x. (is_stop x.1 ≡ true) ⊎ (signer_in x.1 ≡ Some (author_of d)));
+  is = refl;
+  why = tt;
+}) (idle_served items duties)
+
+pub runs_none : (duties : List Duty) (start : State) (place : Place) (held : Option (List ℕ)) → Legal start.model start.log → TeamRun duties start place held (Err halt.Memory) place held
+runs_none duties start place held legal =
     let m = start.model in
-    let items = items_of m start.log false in
-    let long = length_going m start.log false refl in
+    let items = items_of m start.log (handed_in start.log) in
+    let long = length_going m start.log (handed_in start.log) refl in
     record {
       log = start.log;
       entries = [];
       begins = sym (append-nil start.log);
       history = record {
-        stopped = false;
+        signs = handed_in start.log;
         feeder = [];
-        planner = [];
-        executive = [];
         feeder_seen = [];
-        planner_seen = [];
-        executive_seen = [];
-        planner_last = Planner (chooser_of seed);
-        executive_last = Executive;
-        planner_met = None;
-        executive_met = None;
+        workers = idles duties;
+        hired = idle_hired duties;
         legal = legal;
-        stands = All-cons (StandsIn items) [] ([] ∷ [] ∷ []) tt (All-cons (StandsIn items) [] ([] ∷ []) tt (All-cons (StandsIn items) [] [] tt (All-nil (StandsIn items))));
-        owners = record { inside = λ n from to. absurd (omega arith); below = λ n lt. none_own n; above = λ n le. none_own n };
+        stands = All-cons (StandsIn items) [] (owns_of (idles duties)) tt (idle_stands items duties);
+        owners = record { inside = λ n from to. absurd (omega arith); below = λ n lt. none_own n duties; above = λ n le. none_own n duties };
         feeder_saw = record { begins = (items, refl); holds = tt };
-        planner_saw = record { begins = (items, refl); holds = tt };
-        executive_saw = record { begins = (items, refl); holds = tt };
         inputs = record { own = []; rest = []; whole = refl; kinds = All-nil (λ x. is_entry is_input x.1 ≡ true); behind = inl refl };
-        repairs = All-nil (λ x. is_entry is_repair x.1 ≡ true);
-        executed = All-nil (λ x. is_entry is_executed x.1 ≡ true);
-        planner_made = ([], refl);
-        executive_made = ([], refl);
-        planner_is = refl;
-        executive_is = refl;
-        planner_why = tt;
-        executive_why = tt;
+        each = idle_served items duties;
       };
       chosen = tt;
       feeder_goes = λ e. absurd (cc);
@@ -116,63 +137,83 @@ feeds_follows plan m old new place end held now (Err c) feeds = follows_on old f
     by cut.Full f = follows_on old f.mid feeds.mid f.waiting.tells.follows f.follows
     by cut.Stopped f = by_cut f
 
--- the passes that the workers are handed
-pub hired_one : (plan : SharedPlan) (seed begun : ℕ) (start : State) (new one : PlanPass) → begun ≡ length start.log → seen_of new ≡ items_of start.model start.log false → seen_of one ≡ seen_of new → BelongsTo plan one → mine_of one ≡ []
-    → IsHired plan (Repair seed begun) one
-hired_one plan seed begun start new one is seen same own none =
-    let long : length (seen_of one) ≡ length start.log = ap length (same ∙ seen) ∙ length_going start.model start.log false refl in
-    record { own = own; new = none; begun = omega (arith, is, long) }
+-- the pass that a plan is made with
+pub first_pass : (plan : SharedPlan) (pass : PlanPass) (opening : ℕ) → BelongsTo plan pass → mine_of pass ≡ [] → crew_of pass ≡ record { leads = true; opening = opening; made = 0; joined = [] } → IsFirst plan pass
+first_pass plan pass opening own new crew =
+    record { fresh = record { own = own; new = new }; first = ap (λ c. c.leads) crew; alone = ap (λ c. c.made) crew; none = ap (λ c. c.joined) crew }
 
-pub hired_two : (plan : SharedPlan) (two : PlanPass) → BelongsTo plan two → mine_of two ≡ [] → IsHired plan Execute two
-hired_two plan two own none = record { own = own; new = none; begun = omega arith }
+-- it has seen all entries that were handed in
+pub begun_first : (start : State) (duties : List Duty) (new : PlanPass) → All (λ d. (begun_of d ≤ length start.log) × IsAuthor (author_of d)) duties → seen_of new ≡ items_of start.model start.log (handed_in start.log) → All (HasBegun new) duties
+begun_first start duties new begun seen =
+    let long : length (seen_of new) ≡ length start.log = ap length seen ∙ length_going start.model start.log (handed_in start.log) refl in
+    λ k d within. let here : begun_of (get_or duties k d) ≤ length start.log = (begun k d within).0 in (omega (arith, here, long), (begun k d within).1)
 
--- The plan's first pass, and the same once two were split off.
-pub record Split (start : State) (new p1 p2 : PlanPass) : Type 0 where
-  pub seen : seen_of new ≡ items_of start.model start.log false
-  pub crew : crew_of new ≡ record { leads = true; opening = length (items_of start.model start.log false); made = 0; joined = [] }
-  pub seen1 : seen_of p1 ≡ seen_of new
-  pub crew1 : crew_of p1 ≡ record (crew_of new) { made = made_by new + 1 }
-  pub seen2 : seen_of p2 ≡ seen_of p1
-  pub crew2 : crew_of p2 ≡ record (crew_of p1) { made = made_by p1 + 1 }
+-- a planner that is hired behind them, and an executive
+pub begun_pair : (start : State) (seed begun : ℕ) → begun ≡ length start.log → All (λ d. (begun_of d ≤ length start.log) × IsAuthor (author_of d)) (pair_of seed begun)
+begun_pair start seed begun is =
+    let P : Duty → Type 0 = λ d. (begun_of d ≤ length start.log) × IsAuthor (author_of d) in
+    All-cons P (Repair 1 seed begun) (Execute ∷ []) (omega (arith, is), (omega arith, omega arith)) (All-cons P Execute [] (omega arith, tt) (All-nil P))
 
-module _ (start : State) (new p1 p2 : PlanPass) (split : Split start new p1 p2) where
-  pub split_seen : seen_of p2 ≡ items_of start.model start.log false
-  split_seen = split.seen2 ∙ (split.seen1 ∙ split.seen)
+-- The plan's first pass, and all that came of it.
+pub record Ran (duties : List Duty) (start : State) (plan : SharedPlan) (new : PlanPass) (remains : Remains) (m : Model) (place end : Place) (held now : Option (List ℕ)) : Type 0 where
+  pub seen : seen_of new ≡ items_of start.model start.log (handed_in start.log)
+  pub crew : crew_of new ≡ record { leads = true; opening = length (items_of start.model start.log (handed_in start.log)); made = 0; joined = [] }
+  pub joins : Joins plan m new duties place held remains end now
 
-  pub split_opening : opening_of p2 ≡ length (items_of start.model start.log false)
-  split_opening = ap (λ c. c.opening) split.crew2 ∙ (ap (λ c. c.opening) split.crew1 ∙ ap (λ c. c.opening) split.crew)
+module _ (duties : List Duty) (start : State) (plan : SharedPlan) (new : PlanPass) (remains : Remains) (m : Model) (place end : Place) (held now : Option (List ℕ)) (ran : Ran duties start plan new remains m place end held now) where
+  abbrev begun : PlanPass
+  begun = ran.joins.begun
+
+  abbrev mid : PlanPass
+  mid = ran.joins.feeds.mid
+
+  abbrev ws : List Worker
+  ws = ran.joins.feeds.team.workers
+
+  begun_seen : seen_of begun ≡ items_of start.model start.log (handed_in start.log)
+  begun_seen = ran.joins.splits.seen ∙ ran.seen
+
+  abbrev same_crew : Follows begun mid
+  same_crew = feeds_follows plan m begun mid place end held now remains.fed ran.joins.feeds.feeds
+
+  begun_crew : crew_of begun ≡ record { leads = true; opening = length (items_of start.model start.log (handed_in start.log)); made = 0 + length duties; joined = [] }
+  begun_crew = ran.joins.splits.crew ∙ ap (λ (c : Crew Noted). record c { made = c.made + length duties }) ran.crew
+
+  mid_crew : crew_of mid ≡ record { leads = true; opening = length (items_of start.model start.log (handed_in start.log)); made = 0 + length duties; joined = [] }
+  mid_crew = same_crew.crew ∙ begun_crew
+
+  mid_none : joined_by mid ≡ []
+  mid_none = ap (λ c. c.joined) mid_crew
+
+  as_many : length duties ≡ length ws
+  as_many = sym (ap (λ (ds : List Duty). length ds) ran.joins.feeds.team.hired) ∙ length-map ws (λ (w : Worker). w.duty)
 
   -- what `close` asks of the first pass
-  pub split_crew : (first : PlanPass) → crew_of first ≡ crew_of p2 → (leads first ≡ true) × (made_by first ≡ 2) × (joined_by first ≡ [])
-  split_crew first same =
-      let two : made_by p2 ≡ 2 = ap (λ c. c.made) split.crew2 ∙ ap (λ (n : ℕ). n + 1) (ap (λ c. c.made) split.crew1 ∙ ap (λ (n : ℕ). n + 1) (ap (λ c. c.made) split.crew)) in (
-        ap (λ c. c.leads) same ∙ (ap (λ c. c.leads) split.crew2 ∙ (ap (λ c. c.leads) split.crew1 ∙ ap (λ c. c.leads) split.crew)),
-        ap (λ c. c.made) same ∙ two,
-        ap (λ c. c.joined) same ∙ (ap (λ c. c.joined) split.crew2 ∙ (ap (λ c. c.joined) split.crew1 ∙ ap (λ c. c.joined) split.crew)),
-      )
+  pub closes_first : (leads remains.pass ≡ true) × (made_by remains.pass ≡ length (joined_by remains.pass))
+  closes_first = (
+    ap (λ c. c.leads) ran.joins.feeds.team.joins.crew ∙ ap (λ c. c.leads) mid_crew,
+    all_joined plan ws mid remains.pass ran.joins.feeds.team.joins mid_none (ap (λ c. c.made) mid_crew ∙ (let many = as_many in omega arith)),
+  )
 
-  abbrev pub joined_of : (plan : SharedPlan) (seed : ℕ) (first : PlanPass) (w1 w2 : Worker) (machine : State) → Legal start.model start.log → (world_of start.model start.log).done ≡ false → Follows p2 first → BelongsTo plan first → IsWorker plan (Repair seed (length start.log)) w1 → IsWorker plan Execute w2
-      → ClosesAll first w1.pass w2.pass machine → Joined start.model start.log first w1 w2
-  joined_of plan seed first w1 w2 machine legal going follows own one two closes =
-      let model : model_in (seen_of first) ≡ Some start.model = follows.model ∙ (ap model_in split_seen ∙ model_in_items start.model start.log false legal) in
-      let opening : opening_of first ≡ length start.log = ap (λ c. c.opening) follows.crew ∙ (split_opening ∙ length_going start.model start.log false refl) in
+  joined_of : (machine : State) (by : Signed) → m ≡ start.model → Legal start.model start.log → (world_of start.model start.log).done ≡ false → Closes remains.pass machine by → Joined start.model start.log mid ws
+  joined_of machine by same legal going closes =
+      let model : model_in (seen_of mid) ≡ Some start.model = same_crew.model ∙ (ap model_in begun_seen ∙ model_in_items start.model start.log (handed_in start.log) legal) in
+      let opening : opening_of mid ≡ length start.log = ap (λ c. c.opening) mid_crew ∙ length_going start.model start.log (handed_in start.log) refl in
       record {
         plan = plan;
-        whole = whole_of start.model start.log first w1.pass w2.pass machine model opening closes;
+        whole = whole_of start.model start.log mid ws machine model opening (closes_all plan ws mid remains.pass ran.joins.feeds.team.joins mid_none machine by ran.joins.feeds.own.seen closes);
         legal = legal;
         going = going;
-        opened = subst (λ (xs : List Noted). IsPrefix xs (seen_of first)) split_seen follows.longer;
-        own = own;
-        seed = seed;
-        one = one;
-        two = two;
+        opened = subst (λ (xs : List Noted). IsPrefix xs (seen_of mid)) begun_seen same_crew.longer;
+        own = ran.joins.feeds.own;
+        duties = duties;
+        hired = ran.joins.feeds.team.hired;
+        each = ran.joins.feeds.team.joins.each;
       }
 
   -- the whole run
-  pub runs_whole : (plan : SharedPlan) (seed begun : ℕ) (first : PlanPass) (w1 w2 : Worker) (machine : State) (place end : Place) (held now : Option (List ℕ)) (r : Result (Unit {0}) Cut) (m : Model) → m ≡ start.model → Legal start.model start.log → (world_of start.model start.log).done ≡ false
-      → begun ≡ length start.log → BelongsTo plan first → IsWorker plan (Repair seed begun) w1 → IsWorker plan Execute w2 → ClosesAll first w1.pass w2.pass machine → FeedsToEnd plan m p2 place held r first end now → PairRun seed start place held (ended_of r w1.refusal w2.refusal) end now
-  runs_whole plan seed begun first w1 w2 machine place end held now r m same legal going entries own one two closes feeds =
-      let first_one : IsWorker plan (Repair seed (length start.log)) w1 = subst (λ (n : ℕ). IsWorker plan (Repair seed n) w1) entries one in
-      let feeds' = subst (λ (k : Model). FeedsToEnd plan k p2 place held r first end now) same feeds in
-      let follows = feeds_follows plan start.model p2 first place end held now r feeds' in
-      runs start first w1 w2 (joined_of plan seed first w1 w2 machine legal going follows own first_one two closes) place held now p2 split_seen plan end r feeds'
+  pub runs_whole : (machine : State) (by : Signed) → m ≡ start.model → Legal start.model start.log → (world_of start.model start.log).done ≡ false → Closes remains.pass machine by → TeamRun duties start place held (ended_of remains.fed remains.met) end now
+  runs_whole machine by same legal going closes =
+      let feeds' = subst (λ (k : Model). FeedsToEnd plan k begun place held remains.fed mid end now) same ran.joins.feeds.feeds in
+      let E : Met → Type 0 = λ met. TeamRun duties start place held (ended_of remains.fed met) end now in
+      subst E (sym ran.joins.feeds.team.together) (runs start mid ws (joined_of machine by same legal going closes) place held now begun begun_seen plan end remains.fed feeds')

@@ -40,7 +40,7 @@ said_in inputs = filter_map (λ (m : Option (List ℕ)). m) inputs
 -- an item is an entry with this input
 abbrev pub IsInput : Option (List ℕ) → Noted → Type 0
 IsInput line (Opened m e) = ⊥
-IsInput line (Made e) = e.event ≡ event.Input line
+IsInput line (Made by e) = e.event ≡ event.Input line
 IsInput line Stopped = ⊥
 
 -- own items, each the entry with its input

@@ -1,5 +1,5 @@
 -- What a run of a pair comes to.
-use Rattle.std.specs.Prelude.{◌≡◌, ◌<◌, ◌||◌, ℕ, List, [], ◌∷◌, ◌++◌, length, Bool, true, false, Option, Some, None, Result, Ok, Err, IfSome, ◌⊎◌, ⊤}
+use Rattle.std.specs.Prelude.{◌≡◌, ◌<◌, ℕ, List, [], ◌∷◌, ◌++◌, length, map, Bool, true, false, Option, Some, None, Result, Ok, Err, IfSome, ◌⊎◌, ⊤}
 use Rattle.std.specs.List.{All}
 use mathlib.Core.List.{IsPrefix}
 use Rattle.pl_turn.specs.History.{IsEachOnce, StandsIn, times_in}
@@ -22,32 +22,34 @@ use Rattle.pl_input.specs.Stops.{IsStuckKnown}
 use Rattle.pl_driver.specs.CutShort.{IsCutShort}
 use Rattle.pl_journal.specs.Written.{Adds}
 use Rattle.pl_acts.specs.declared.noted.Noted.{Noted}
-use Rattle.pl_acts.specs.Items.{items_of, entries_in, model_in}
-use Rattle.pl_acts.specs.Roles.{worker_of, is_input, is_repair, is_executed}
+use Rattle.pl_acts.specs.Items.{Signs, items_of, entries_in, model_in}
+use Rattle.pl_acts.specs.Roles.{worker_of, kind_of, is_input}
 use Rattle.pl_acts.specs.declared.role.Role.{Role}
-use Rattle.pl_acts.specs.declared.role.Role.TheVariants.{Planner, Executive}
 use Rattle.pl_shared.specs.Plans.{PlanPass}
 use Rattle.pl_input.specs.declared.halt.Halt.{Halt}
 use Rattle.pl_input.specs.declared.halt.Halt.TheVariants as halt
-use Rattle.pl_pair.specs.Duties.{chooser_of}
-use Rattle.pl_pair.specs.Served.{AreOf, AreOfUntil, Made, MakesOwn, Refused}
+use Rattle.pl_pair.specs.declared.duty.Duty.{Duty}
+use Rattle.pl_pair.specs.declared.duty.Duty.TheVariants.{Repair, Execute}
+use Rattle.pl_pair.specs.declared.worker.Worker.{Worker}
+use Rattle.pl_pair.specs.Duties.{role_of, begun_of, author_of}
+use Rattle.pl_pair.specs.Joins.{own_lists_of, HasSeenIn}
+use Rattle.pl_pair.specs.Served.{AreOf, AreOfUntil, Made, MakesOwn, AreSigned, Refused}
 use Rattle.pl_pair.specs.Rounds.{IsBetween}
-use Rattle.pl_pair.specs.Endings.{is_other}
+use Rattle.pl_pair.specs.Endings.{met_by}
 use Rattle.pl_pair.specs.Chosen.{AreChosen}
 use Rattle.pl_input.specs.Places.{Place}
 use Rattle.pl_pair.specs.Asking.{Faults}
 use Rattle.pl_pair.specs.Feeds.{EndsUsed, EndsRead}
 
--- The machine has the whole history, which begins with what each of three passes has seen, and each place past the opening stands in one own list of theirs.
-pub record ClosesAll (first planner executive : PlanPass) (machine : State) : Type 0 where
-  pub stopped : Bool
+-- The machine has the whole history, which begins with what each of these passes has seen, and each place past the opening stands in one own list of theirs.
+pub record ClosesAll (first : PlanPass) (workers : List Worker) (machine : State) : Type 0 where
+  pub signs : Signs
   pub legal : Legal machine.model machine.log
   pub model : model_in (seen_of first) ≡ Some machine.model
-  pub first_seen : IsPrefix (seen_of first) (items_of machine.model machine.log stopped)
-  pub planner_seen : IsPrefix (seen_of planner) (items_of machine.model machine.log stopped)
-  pub executive_seen : IsPrefix (seen_of executive) (items_of machine.model machine.log stopped)
-  pub stands : All (StandsIn (items_of machine.model machine.log stopped)) (mine_of first ∷ mine_of planner ∷ mine_of executive ∷ [])
-  pub owners : IsEachOnce (opening_of first) (length (items_of machine.model machine.log stopped)) (λ place. times_in place (mine_of first ∷ mine_of planner ∷ mine_of executive ∷ []))
+  pub first_seen : IsPrefix (seen_of first) (items_of machine.model machine.log signs)
+  pub workers_seen : All (HasSeenIn (items_of machine.model machine.log signs)) workers
+  pub stands : All (StandsIn (items_of machine.model machine.log signs)) (mine_of first ∷ own_lists_of workers)
+  pub owners : IsEachOnce (opening_of first) (length (items_of machine.model machine.log signs)) (λ place. times_in place (mine_of first ∷ own_lists_of workers))
 
 -- ---- the history
 
@@ -56,35 +58,47 @@ pub record HadSeen (history seen : List Noted) (own : List (ℕ × Noted)) : Typ
   pub begins : IsPrefix seen history
   pub holds : StandsIn seen own
 
--- The history in the lock goes on from the entries that were handed in, and has one owner for each further entry: inputs are the feeder's, fixes and rests the planner's,
--- commits, dispatches and closes the executive's. It begins with all that each of the three had seen, in which the own entries of that one stand. Each own entry of the planner is what its chooser, made from the seed and passed on from entry to entry, proposes on a sight, a front of the history that holds the entries handed in and its own entry before, or a rest, and each of the executive's what it chooses there. The stop, where there is one, is the own item of the feeder, or of a worker that met a refusal. A worker that met a full log had an event of its own kind in the open round.
-pub record History (seed : ℕ) (m : Model) (before log : List Entry) : Type 0 where
-  pub stopped : Bool
+-- What a worker that was hired for this did.
+pub record Service : Type 0 where
+  pub duty : Duty
+  pub own : List (ℕ × Noted)
+  pub seen : List Noted
+  pub last : Role
+  pub met : Option Stop
+
+abbrev pub service_of : Worker → Service
+service_of w = record { duty = w.duty; own = mine_of w.pass; seen = seen_of w.pass; last = w.role; met = w.refusal }
+
+-- The history begins with all that the worker had seen, in which its own items stand. These are entries of its kind, signed by it: a planner's are what its chooser, made from its seed and passed on from entry to entry, proposes on a sight, a front
+-- of the history that holds the entries that it was hired behind and its own entry before, or a rest; an executive's are what it chooses in the world before. A worker that met a refusal may have stopped the plan; one that met a full log had an event of its own kind in the open round.
+pub record ServedIn (items : List Noted) (d : Service) : Type 0 where
+  pub saw : HadSeen items d.seen d.own
+  pub kinds : Made d.met (kind_of (role_of d.duty)) d.own
+  pub made : MakesOwn d.met (role_of d.duty) (begun_of d.duty) items d.own d.last
+  pub signed : AreSigned (author_of d.duty) d.own
+  pub is : worker_of d.last ≡ worker_of (role_of d.duty)
+  pub why : Refused d.met d.last items
+
+abbrev pub owns_of : List Service → List (List (ℕ × Noted))
+owns_of workers = map (λ (d : Service). d.own) workers
+
+abbrev pub mets_of : List Service → List (Option Stop)
+mets_of workers = map (λ (d : Service). d.met) workers
+
+-- The history in the lock goes on from the entries that were handed in, and has one owner for each further entry: inputs are the feeder's, fixes and rests a planner's, commits, dispatches and closes the executive's.
+-- It begins with all that the feeder had seen, in which its own entries stand, and with what each worker had seen. The stop, where there is one, is the own item of the feeder, or of a worker that met a refusal.
+pub record History (duties : List Duty) (m : Model) (before log : List Entry) : Type 0 where
+  pub signs : Signs
   pub feeder : List (ℕ × Noted)
-  pub planner : List (ℕ × Noted)
-  pub executive : List (ℕ × Noted)
   pub feeder_seen : List Noted
-  pub planner_seen : List Noted
-  pub executive_seen : List Noted
-  pub planner_last : Role
-  pub executive_last : Role
-  pub planner_met : Option Stop
-  pub executive_met : Option Stop
+  pub workers : List Service
+  pub hired : map (λ (d : Service). d.duty) workers ≡ duties
   pub legal : Legal m log
-  pub stands : All (StandsIn (items_of m log stopped)) (feeder ∷ planner ∷ executive ∷ [])
-  pub owners : IsEachOnce (length before) (length (items_of m log stopped)) (λ place. times_in place (feeder ∷ planner ∷ executive ∷ []))
-  pub feeder_saw : HadSeen (items_of m log stopped) feeder_seen feeder
-  pub planner_saw : HadSeen (items_of m log stopped) planner_seen planner
-  pub executive_saw : HadSeen (items_of m log stopped) executive_seen executive
+  pub stands : All (StandsIn (items_of m log signs)) (feeder ∷ owns_of workers)
+  pub owners : IsEachOnce (length before) (length (items_of m log signs)) (λ place. times_in place (feeder ∷ owns_of workers))
+  pub feeder_saw : HadSeen (items_of m log signs) feeder_seen feeder
   pub inputs : AreOfUntil is_input feeder
-  pub repairs : Made planner_met is_repair planner
-  pub executed : Made executive_met is_executed executive
-  pub planner_made : MakesOwn planner_met (Planner (chooser_of seed)) (length before) (items_of m log stopped) planner planner_last
-  pub executive_made : MakesOwn executive_met Executive 0 (items_of m log stopped) executive executive_last
-  pub planner_is : worker_of planner_last ≡ 1
-  pub executive_is : worker_of executive_last ≡ 0
-  pub planner_why : Refused planner_met planner_last (items_of m log stopped)
-  pub executive_why : Refused executive_met executive_last (items_of m log stopped)
+  pub each : All (ServedIn (items_of m log signs)) workers
 
 -- ---- the messages
 
@@ -218,14 +232,21 @@ RunEnds (Err halt.Write) m log entries place held behind now = RunsTorn m log en
 RunEnds (Err halt.Memory) m log entries place held behind now = RunsShort m log entries place held behind now
 
 -- A run: one history, its further inputs a front of the messages, and what its answer says. Where the input ended, the feeder had seen all of it. The feeder stops the plan where it met a fault, a limit or a refusal: which of them, that is the answer. It is that of a full log only where no worker met another refusal.
-pub record PairRun (seed : ℕ) (start : State) (place : Place) (held : Option (List ℕ)) (r : Result (Unit {0}) Halt) (behind : Place) (now : Option (List ℕ)) : Type 0 where
+pub record TeamRun (duties : List Duty) (start : State) (place : Place) (held : Option (List ℕ)) (r : Result (Unit {0}) Halt) (behind : Place) (now : Option (List ℕ)) : Type 0 where
   pub log : List Entry
   pub entries : List Entry
   pub begins : log ≡ start.log ++ entries
-  pub history : History seed start.model start.log log
+  pub history : History duties start.model start.log log
   pub chosen : AreChosen start.model start.log entries
   pub feeder_goes : r ≡ Ok tt → AreOf is_input history.feeder
   pub feeder_saw_all : r ≡ Ok tt → entries_in history.feeder_seen ≡ log
-  pub refused : r ≡ Err halt.Full → (is_other history.planner_met || is_other history.executive_met) ≡ false
+  pub refused : r ≡ Err halt.Full → (met_by (mets_of history.workers)).other ≡ false
   pub messages : InMessages place (λ messages. IsPrefix (inputs_of entries) messages)
   pub ends : RunEnds r start.model log entries place held behind now
+
+-- a planner, hired behind so many entries, and an executive
+abbrev pub pair_of : ℕ → ℕ → List Duty
+pair_of seed begun = Repair 1 seed begun ∷ Execute ∷ []
+
+abbrev pub PairRun : ℕ → State → Place → Option (List ℕ) → Result (Unit {0}) Halt → Place → Option (List ℕ) → Type 0
+PairRun seed start place held r behind now = TeamRun (pair_of seed (length start.log)) start place held r behind now

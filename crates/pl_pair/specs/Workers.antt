@@ -1,5 +1,6 @@
 -- How the feeder holds its workers.
-use Rattle.std.specs.Prelude.{◌≡◌}
+use Rattle.std.specs.Prelude.{◌≡◌, List, map}
+use Rattle.std.specs.List.{All}
 use Rattle.pl_shared.specs.declared.plan.SharedPlan.{SharedPlan}
 use Rattle.pl_pair.specs.declared.duty.Duty.{Duty}
 use Rattle.pl_pair.specs.declared.hands.Hand.{Hand}
@@ -17,11 +18,14 @@ abbrev pub duty_of : Hand → Duty
 duty_of (Away child) = child.promise.duty
 duty_of (Here w) = w.duty
 
--- The planner and the executive of the plan.
-pub record AreHands (plan : SharedPlan) (hands : Hands) : Type 0 where
-  pub planner : IsHand plan hands.planner
-  pub executive : IsHand plan hands.executive
+-- each is a worker of the plan
+abbrev pub AreHands : SharedPlan → Hands → Type 0
+AreHands plan hands = All (IsHand plan) hands.all.items
+
+-- what the workers were hired for, in order
+abbrev pub duties_of : Hands → List Duty
+duties_of hands = map duty_of hands.all.items
 
 -- each is hired for what it was hired for
 abbrev pub SameDuties : Hands → Hands → Type 0
-SameDuties old new = (duty_of new.planner ≡ duty_of old.planner) × (duty_of new.executive ≡ duty_of old.executive)
+SameDuties old new = duties_of new ≡ duties_of old

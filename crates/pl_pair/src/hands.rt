@@ -1,8 +1,9 @@
-//! The two workers, wherever they are.
+//! The workers, wherever they are.
 use crate::duty::Duty;
+use crate::endings::Met;
 use crate::worker::Worker;
 use pl_acts::Listener;
-use pl_shared::SharedPlan;
+use pl_shared::{Pass, SharedPlan};
 use std::alloc::Global;
 use std::sync::Wait;
 use std::thread::{Promise, PromisedHandle, Threads};
@@ -64,19 +65,22 @@ impl<'p> Hand<'p> {
     }
 }
 
-/// The planner and the executive.
+/// All workers.
 #[derive(Drop)]
 pub struct Hands<'p> {
-    pub planner: Hand<'p>,
-    pub executive: Hand<'p>,
+    pub all: Vec<Hand<'p>>,
 }
 
 impl<'p> Hands<'p> {
-    ghost use Rattle.pl_pair.specs.Workers.{AreHands, SameDuties};
+    ghost use Rattle.std.specs.Prelude.{◌≡◌, true};
+    ghost use Rattle.pl_turn.specs.Passes.{leads};
+    ghost use Rattle.pl_shared.specs.Plans.{BelongsTo};
+    ghost use Rattle.pl_pair.specs.Workers.{AreHands, SameDuties, duties_of};
+    ghost use Rattle.pl_pair.specs.Joins.{JoinsTeam};
 
     /// Which bell the feeder waits for: its own, unless it acts for workers too.
     pub(crate) fn listener(&self) -> Listener {
-        if self.planner.is_away() && self.executive.is_away() {
+        if self.all.iter().all(|hand| hand.is_away()) {
             Listener::Feeder
         } else {
             Listener::Anyone
@@ -84,13 +88,34 @@ impl<'p> Hands<'p> {
     }
 
     /// Acts for the workers that have no thread. Answers whether an entry was made.
+    #[tactic(auto, using(crate::proofs::Handing::all_set, crate::proofs::Handing::duties_set))]
     pub(crate) fn act<R: Wait>(&mut self, rt: &R, alloc: Global, plan: &SharedPlan) -> bool
         requires { AreHands plan.now self.old }
         ensures hands { AreHands plan.now self.new }
         ensures duties { SameDuties self.old self.new }
     {
-        let repaired = self.planner.act(rt, alloc, plan);
-        let executed = self.executive.act(rt, alloc, plan);
-        repaired || executed
+        let mut acted = false;
+        for hand in self.all.iter_mut() {
+            acted = hand.act(rt, alloc, plan) || acted;
+        }
+        acted
+    }
+
+    #[tactic(auto, using(crate::proofs::Handing::joins_none, crate::proofs::Handing::joins_more, crate::proofs::Handing::joins_all, crate::proofs::Closing::still_leads))]
+    /// Joins the workers, whose threads have to end, and takes their passes in. Answers what they met. It takes no memory.
+    pub(crate) fn join_all<R: Threads>(self, rt: &R, plan: &SharedPlan, pass: &mut Pass) -> Met
+        requires hands { AreHands plan.now self }
+        requires own { BelongsTo plan.now pass.old }
+        requires first { leads pass.old ≡ true }
+        ensures { JoinsTeam plan.now (duties_of self.entry) pass.old result pass.new }
+    {
+        let Hands { all } = self;
+        let mut met = Met::nothing();
+        for hand in all {
+            let worker = hand.joined(rt);
+            met = met.with(&worker.refusal);
+            plan.join(pass, worker.pass);
+        }
+        met
     }
 }

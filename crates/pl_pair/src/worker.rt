@@ -33,7 +33,7 @@ fn serve<R: Wait, G: Gate>(
     ensures { IsWorker plan.now duty result }
 {
     let mut role = duty.role();
-    match work(rt, alloc, plan, gate, &mut pass, &mut role) {
+    match work(rt, alloc, plan, gate, &mut pass, duty.author(), &mut role) {
         Ok(_) => Worker {
             pass,
             role,
@@ -83,7 +83,7 @@ impl Worker {
         ensures served { IsServed plan.now self.new }
         ensures duty { self.new.duty ≡ self.old.duty }
     {
-        match plan.act(rt, alloc, &mut self.pass, &mut self.role) {
+        match plan.act(rt, alloc, &mut self.pass, self.duty.author(), &mut self.role) {
             Ok(Acted::Did(_)) => true,
             Ok(_) => false,
             Err(stop) => {

@@ -9,6 +9,7 @@ use Rattle.pl_entry.specs.declared.reply.Reply.{Reply}
 use Rattle.pl_entry.specs.declared.reply.Reply.TheVariants as reply
 use Rattle.pl_entry.specs.declared.entry.Entry.{Entry}
 use Rattle.rand_pcg.specs.Lcg.{Lcg}
+use Rattle.pl_marks.specs.declared.author.Author.{Author}
 use Rattle.pl_cand.specs.declared.proposal.Proposal.{Proposal}
 use Rattle.pl_cand.specs.Proposals.{IsProposal}
 use Rattle.pl_choose.specs.Picks.{seeded_pick, seeded_after}
@@ -39,23 +40,23 @@ use Rattle.pl_shared.specs.Turns.{TakesTurn, Makes, MakesNothing, low_of, Acts, 
 
 -- ---- a view
 
-looked_here : (old new : PlanPass) (draft : Draft) → IsPrefix (seen_of old) (seen_of new) → Looks old (Ok (looked.Open draft)) new → HasLooked (low_of old) (seen_of new)
-looked_here old new draft on looks = record {
+looked_here : (by : Author) (old new : PlanPass) (draft : Draft) → IsPrefix (seen_of old) (seen_of new) → Looks by old (Ok (looked.Open draft)) new → HasLooked (low_of old) (seen_of new)
+looked_here by old new draft on looks = record {
   front = seen_of new;
   on = prefix_self (seen_of new);
   late = prefix_length (seen_of old) (seen_of new) on;
-  running = stop_in_same (seen_of new) draft.replica.model (log_of draft) false looks.2.is;
+  running = stop_in_same (seen_of new) draft.replica.model (log_of draft) looks.2.signs looks.2.is ∙ looks.2.going;
   asks = looks.1;
 }
 
 -- the chooser was asked on the replica
-pub copied : (old new : PlanPass) (g g2 : Lcg) (draft : Draft) (sight : Sight) → IsPrefix (seen_of old) (seen_of new) → Looks old (Ok (looked.Open draft)) new → IsAsked g draft.replica.model (log_of draft) sight
-    → g2 ≡ seeded_after g → Views (Planner g) old (Ok (view.Copy sight)) (Planner g2) new
+pub copied : (by : Author) (old new : PlanPass) (g g2 : Lcg) (draft : Draft) (sight : Sight) → IsPrefix (seen_of old) (seen_of new) → Looks by old (Ok (looked.Open draft)) new → IsAsked g draft.replica.model (log_of draft) sight
+    → g2 ≡ seeded_after g → Views by (Planner g) old (Ok (view.Copy sight)) (Planner g2) new
 unfolding looked_here
-copied old new g g2 draft sight on looks asked drew =
+copied by old new g g2 draft sight on looks asked drew =
     let model = draft.replica.model in
     let log = log_of draft in
-    let is : seen_of new ≡ items_of model log false = looks.2.is in
+    let is : seen_of new ≡ items_of model log looks.2.signs = looks.2.is in
     let legal = looks.2.legal in
     record {
       before = g;
@@ -63,28 +64,28 @@ copied old new g g2 draft sight on looks asked drew =
       drew = ap (λ (x : Lcg). Planner x) drew;
       nothing = looks.0;
       sees = record {
-        look = looked_here old new draft on looks;
-        picks = in_world_of (λ w. sight.proposal ≡ seeded_pick w.state g) (seen_of new) model log false is legal asked.picks;
-        legal = in_world_of (λ w. IsProposal w.state sight.proposal) (seen_of new) model log false is legal asked.legal;
+        look = looked_here by old new draft on looks;
+        picks = in_world_of (λ w. sight.proposal ≡ seeded_pick w.state g) (seen_of new) model log looks.2.signs is legal asked.picks;
+        legal = in_world_of (λ w. IsProposal w.state sight.proposal) (seen_of new) model log looks.2.signs is legal asked.legal;
       };
       whole = refl;
-      seen = asked.seen ∙ sym (ap length is ∙ length_going model log false refl);
-      replica = replica_of (seen_of new) model log sight.replica is legal asked.replica;
+      seen = asked.seen ∙ sym (ap length is ∙ length_going model log looks.2.signs looks.2.going);
+      replica = replica_of (seen_of new) model log looks.2.signs sight.replica is legal asked.replica;
     }
 
-pub view_stops : (old new : PlanPass) (g : Lcg) (s : Stop) → Looks old (Err s) new → Views (Planner g) old (Err s) (Planner g) new
-view_stops old new g s looks = looks g
+pub view_stops : (by : Author) (old new : PlanPass) (g : Lcg) (s : Stop) → Looks by old (Err s) new → Views by (Planner g) old (Err s) (Planner g) new
+view_stops by old new g s looks = looks g
 
 -- memory was wanting before the chooser was asked, or for what it was asked
-ask_none : (old new : PlanPass) (g g2 : Lcg) (draft : Draft) → IsPrefix (seen_of old) (seen_of new) → Looks old (Ok (looked.Open draft)) new → (g2 ≡ g) ⊎ (g2 ≡ seeded_after g) → IsAskedAtMost (Planner g) (low_of old) (seen_of new) (Planner g2)
-ask_none old new g g2 draft on looks (inl same) = inl same
-ask_none old new g g2 draft on looks (inr drew) = inr (inl (looked_here old new draft on looks, drew))
+ask_none : (by : Author) (old new : PlanPass) (g g2 : Lcg) (draft : Draft) → IsPrefix (seen_of old) (seen_of new) → Looks by old (Ok (looked.Open draft)) new → (g2 ≡ g) ⊎ (g2 ≡ seeded_after g) → IsAskedAtMost (Planner g) (low_of old) (seen_of new) (Planner g2)
+ask_none by old new g g2 draft on looks (inl same) = inl same
+ask_none by old new g g2 draft on looks (inr drew) = inr (inl (looked_here by old new draft on looks, drew))
 
-pub ask_stops : (old new : PlanPass) (g g2 : Lcg) (draft : Draft) → IsPrefix (seen_of old) (seen_of new) → Looks old (Ok (looked.Open draft)) new → (g2 ≡ g) ⊎ (g2 ≡ seeded_after g) → Views (Planner g) old (Err stop.Memory) (Planner g2) new
-ask_stops old new g g2 draft on looks once = (looks.0, ask_none old new g g2 draft on looks once)
+pub ask_stops : (by : Author) (old new : PlanPass) (g g2 : Lcg) (draft : Draft) → IsPrefix (seen_of old) (seen_of new) → Looks by old (Ok (looked.Open draft)) new → (g2 ≡ g) ⊎ (g2 ≡ seeded_after g) → Views by (Planner g) old (Err stop.Memory) (Planner g2) new
+ask_stops by old new g g2 draft on looks once = (looks.0, ask_none by old new g g2 draft on looks once)
 
-pub viewed : (old new : PlanPass) (g : Lcg) (a : Acted) → Looks old (Ok (looked.Settled a)) new → Views (Planner g) old (Ok (view.Settled a)) (Planner g) new
-viewed old new g a looks = looks g
+pub viewed : (by : Author) (old new : PlanPass) (g : Lcg) (a : Acted) → Looks by old (Ok (looked.Settled a)) new → Views by (Planner g) old (Ok (view.Settled a)) (Planner g) new
+viewed by old new g a looks = looks g
 
 -- ---- a view, and what settles behind it
 
@@ -92,7 +93,7 @@ viewed old new g a looks = looks g
 abbrev IsOver : List Noted → World → Type 0
 IsOver items w = (w.done ≡ true) ⊎ (is_repairing w ≡ false) ⊎ (w.options.entries ≤ length (entries_in items))
 
-module _ (old mid new : PlanPass) (g : Lcg) (sight : Sight) (sees : IsSight g (low_of old) (seen_of mid) sight.proposal) (long : length sees.look.front ≡ sight.seen)
+module _ (by : Author) (old mid new : PlanPass) (g : Lcg) (sight : Sight) (sees : IsSight g (low_of old) (seen_of mid) sight.proposal) (long : length sees.look.front ≡ sight.seen)
     (nothing : MakesNothing old mid) (takes : TakesTurn old mid) (takes2 : TakesTurn mid new) where
   -- the sight, of a longer history
   on_front : (before : List Noted) → IsPrefix (seen_of mid) before → IsSight g (low_of old) before sight.proposal
@@ -122,7 +123,7 @@ module _ (old mid new : PlanPass) (g : Lcg) (sight : Sight) (sees : IsSight g (l
   planned_by before on g2 event.Dispatch r settled = absurd settled
   planned_by before on g2 event.Close r settled = absurd settled
 
-  made_behind : (g2 : Lcg) (n : ℕ) → Settles (seeded_after g) sight mid (Ok (acted.Did n)) g2 new → Acts (Planner g) old (Ok (acted.Did n)) (Planner g2) new
+  made_behind : (g2 : Lcg) (n : ℕ) → Settles by (seeded_after g) sight mid (Ok (acted.Did n)) g2 new → Acts by (Planner g) old (Ok (acted.Did n)) (Planner g2) new
   made_behind g2 n makes =
       let more = takes.longer.0 in
       let whole : seen_of old ++ (more ++ makes.between) ≡ seen_of mid ++ makes.between = sym (append_assoc (seen_of old) more makes.between) ∙ ap (λ (xs : List Noted). xs ++ makes.between) takes.longer.1 in
@@ -130,9 +131,9 @@ module _ (old mid new : PlanPass) (g : Lcg) (sight : Sight) (sees : IsSight g (l
       record {
         between = more ++ makes.between;
         entry = entry;
-        seen = makes.seen ∙ ap (λ (xs : List Noted). xs ++ Made entry ∷ []) (sym whole);
+        seen = makes.seen ∙ ap (λ (xs : List Noted). xs ++ Made (Some by) entry ∷ []) (sym whole);
         place = makes.place ∙ ap length (sym whole);
-        mine = makes.mine ∙ ap (λ (xs : List (ℕ × Noted)). xs ++ (n, Made entry) ∷ []) nothing;
+        mine = makes.mine ∙ ap (λ (xs : List (ℕ × Noted)). xs ++ (n, Made (Some by) entry) ∷ []) nothing;
         running = ap stop_in whole ∙ makes.running;
         step = subst (λ (xs : List Noted). InWorld xs (λ w. IsStepIn w entry)) (sym whole) makes.step;
         by = subst (λ (xs : List Noted). IsDueBy (Planner g) (Planner g2) (low_of old) xs entry) (sym whole)
@@ -146,7 +147,7 @@ module _ (old mid new : PlanPass) (g : Lcg) (sight : Sight) (sees : IsSight g (l
   kept : (g2 : Lcg) → g2 ≡ seeded_after g → IsLate (seen_of new) → IsKeptBy g (low_of old) (seen_of new) g2
   kept g2 drew late = inr (lost late, drew)
 
-  pub settled_acts : (g2 : Lcg) (a : Acted) → Settles (seeded_after g) sight mid (Ok a) g2 new → Acts (Planner g) old (Ok a) (Planner g2) new
+  pub settled_acts : (g2 : Lcg) (a : Acted) → Settles by (seeded_after g) sight mid (Ok a) g2 new → Acts by (Planner g) old (Ok a) (Planner g2) new
   settled_acts g2 (acted.Did n) makes = made_behind g2 n makes
   settled_acts g2 acted.Nothing s =
       let late = in_world_on (λ w. (w.done ≡ false) × (is_repairing w ≡ false)) (IsOver (seen_of new)) (seen_of new) (λ w h. inr (inl h.1)) s.1 in
@@ -163,14 +164,14 @@ module _ (old mid new : PlanPass) (g : Lcg) (sight : Sight) (sees : IsSight g (l
   asked_more g2 (inl drew) = asked_once g2 drew
   asked_more g2 (inr again) = inr (inr ((sight_of (seen_of new) takes2.longer None again.0).0, again.1, again.2))
 
-  pub settle_stops : (g2 : Lcg) (s : Stop) → Settles (seeded_after g) sight mid (Err s) g2 new → Acts (Planner g) old (Err s) (Planner g2) new
+  pub settle_stops : (g2 : Lcg) (s : Stop) → Settles by (seeded_after g) sight mid (Err s) g2 new → Acts by (Planner g) old (Err s) (Planner g2) new
   settle_stops g2 stop.Spoiled s = (s.0 ∙ nothing, asked_once g2 s.1)
   settle_stops g2 stop.NotNow s = absurd s
   settle_stops g2 stop.LogFull s =
       (s.0 ∙ nothing, s.1, s.2, s.3, kept g2 s.4 (inr (in_world_on (λ w. w.options.entries ≤ length (entries_in (seen_of new))) (IsOver (seen_of new)) (seen_of new) (λ w h. inr (inr h)) s.3)))
   settle_stops g2 stop.Memory s = (s.0 ∙ nothing, asked_more g2 s.1)
 
-  pub settle_answers : (g2 : Lcg) (a : Result Acted Stop) → Settles (seeded_after g) sight mid a g2 new → Acts (Planner g) old a (Planner g2) new
+  pub settle_answers : (g2 : Lcg) (a : Result Acted Stop) → Settles by (seeded_after g) sight mid a g2 new → Acts by (Planner g) old a (Planner g2) new
   settle_answers g2 (Ok a) s = settled_acts g2 a s
   settle_answers g2 (Err s) settles = settle_stops g2 s settles
 
@@ -201,17 +202,17 @@ both_turns old mid new first second = record {
   crew = second.crew ∙ first.crew;
 }
 
-settled_role : (old mid new : PlanPass) (sight : Sight) (r r2 r3 : Role) (a : Result Acted Stop) (sees : Sees r old mid sight r2) → TakesTurn old mid → TakesTurn mid new → r ≡ Planner sees.before → r2 ≡ Planner (seeded_after sees.before)
-    → SettlesAs r2 sight mid a r3 new → Acts r old a r3 new
-settled_role old mid new sight (Planner g) (Planner g1) (Planner g2) a sees takes takes2 is drew settles =
+settled_role : (by : Author) (old mid new : PlanPass) (sight : Sight) (r r2 r3 : Role) (a : Result Acted Stop) (sees : Sees r old mid sight r2) → TakesTurn old mid → TakesTurn mid new → r ≡ Planner sees.before → r2 ≡ Planner (seeded_after sees.before)
+    → SettlesAs by r2 sight mid a r3 new → Acts by r old a r3 new
+settled_role by old mid new sight (Planner g) (Planner g1) (Planner g2) a sees takes takes2 is drew settles =
     let one : g ≡ sees.before = cc (is) in
     let two : g1 ≡ seeded_after sees.before = cc (drew) in
-    let P : Lcg → Type 0 = λ x. Settles x sight mid a g2 new in
-    subst (λ (x : Lcg). Acts (Planner x) old a (Planner g2) new) (sym one)
-    (settle_answers old mid new sees.before sight sees.sees (sees_length (Planner g) (Planner g1) old mid sight sees) sees.nothing takes takes2 g2 a (subst P two settles))
-settled_role old mid new sight (Planner g) (Planner g1) Executive a sees takes takes2 is drew settles = absurd settles
-settled_role old mid new sight (Planner g) Executive r3 a sees takes takes2 is drew settles = absurd (cc (drew))
-settled_role old mid new sight Executive r2 r3 a sees takes takes2 is drew settles = absurd (cc (is))
+    let P : Lcg → Type 0 = λ x. Settles by x sight mid a g2 new in
+    subst (λ (x : Lcg). Acts by (Planner x) old a (Planner g2) new) (sym one)
+    (settle_answers by old mid new sees.before sight sees.sees (sees_length (Planner g) (Planner g1) old mid sight sees) sees.nothing takes takes2 g2 a (subst P two settles))
+settled_role by old mid new sight (Planner g) (Planner g1) Executive a sees takes takes2 is drew settles = absurd settles
+settled_role by old mid new sight (Planner g) Executive r3 a sees takes takes2 is drew settles = absurd (cc (drew))
+settled_role by old mid new sight Executive r2 r3 a sees takes takes2 is drew settles = absurd (cc (is))
 
-pub acts_by_both : (old mid new : PlanPass) (sight : Sight) (r r2 r3 : Role) (a : Result Acted Stop) → Sees r old mid sight r2 → TakesTurn old mid → TakesTurn mid new → SettlesAs r2 sight mid a r3 new → Acts r old a r3 new
-acts_by_both old mid new sight r r2 r3 a sees takes takes2 settles = settled_role old mid new sight r r2 r3 a sees takes takes2 sees.is sees.drew settles
+pub acts_by_both : (by : Author) (old mid new : PlanPass) (sight : Sight) (r r2 r3 : Role) (a : Result Acted Stop) → Sees r old mid sight r2 → TakesTurn old mid → TakesTurn mid new → SettlesAs by r2 sight mid a r3 new → Acts by r old a r3 new
+acts_by_both by old mid new sight r r2 r3 a sees takes takes2 settles = settled_role by old mid new sight r r2 r3 a sees takes takes2 sees.is sees.drew settles

@@ -1,7 +1,8 @@
 -- The own entry that an act made.
-use Rattle.std.proofs.Common.{ℕ, ◌≤◌, List, [], ◌∷◌, ◌++◌, length, refl, arith}
+use Rattle.std.proofs.Common.{ℕ, ◌≤◌, List, [], ◌∷◌, ◌++◌, length, Option, Some, refl, arith}
 use mathlib.Core.List.{IsPrefix}
 use Rattle.pl_turn.specs.Passes.{seen_of}
+use Rattle.pl_marks.specs.declared.author.Author.{Author}
 use Rattle.pl_acts.specs.declared.noted.Noted.{Noted}
 use Rattle.pl_acts.specs.declared.noted.Noted.TheVariants.{Made}
 use Rattle.pl_acts.specs.declared.role.Role.{Role}
@@ -13,9 +14,10 @@ use Rattle.pl_shared.specs.Plans.{PlanPass}
 use Rattle.pl_shared.specs.Turns.{Makes, low_of}
 
 -- the entry that an act made
-pub made_at : (old new : PlanPass) (r r2 : Role) (n : ℕ) (makes : Makes (IsDueBy r r2 (low_of old)) old new n) → IsMadeAt r (low_of old) (seen_of new) n (Made makes.entry) r2
-made_at old new r r2 n makes = record {
+pub made_at : (by : Author) (old new : PlanPass) (r r2 : Role) (n : ℕ) (makes : Makes (IsDueBy r r2 (low_of old)) by old new n) → IsMadeAt r (low_of old) (seen_of new) n (Made (Some by) makes.entry) r2
+made_at by old new r r2 n makes = record {
   before = seen_of old ++ makes.between;
+  author = Some by;
   entry = makes.entry;
   behind = [];
   whole = makes.seen;
@@ -27,14 +29,14 @@ made_at old new r r2 n makes = record {
 }
 
 -- one more, behind those that were made before
-pub makes_all_push : (old new : PlanPass) (r mid r2 : Role) (low : ℕ) (own : List (ℕ × Noted)) (n : ℕ) → IsPrefix (seen_of old) (seen_of new) → low ≤ low_of old → MakesAll r low (seen_of old) own mid
-    → (makes : Makes (IsDueBy mid r2 (low_of old)) old new n) → MakesAll r low (seen_of new) (own ++ (n, Made makes.entry) ∷ []) r2
-makes_all_push old new r mid r2 low own n on le all makes =
+pub makes_all_push : (by : Author) (old new : PlanPass) (r mid r2 : Role) (low : ℕ) (own : List (ℕ × Noted)) (n : ℕ) → IsPrefix (seen_of old) (seen_of new) → low ≤ low_of old → MakesAll r low (seen_of old) own mid
+    → (makes : Makes (IsDueBy mid r2 (low_of old)) by old new n) → MakesAll r low (seen_of new) (own ++ (n, Made (Some by) makes.entry) ∷ []) r2
+makes_all_push by old new r mid r2 low own n on le all makes =
     let within : low_behind low own ≤ low_of old = low_within r mid low (seen_of old) own le all in
-    makes_all_append (seen_of new) r mid r2 low own ((n, Made makes.entry) ∷ []) (makes_all_on (seen_of old) (seen_of new) r mid low own on all) (
+    makes_all_append (seen_of new) r mid r2 low own ((n, Made (Some by) makes.entry) ∷ []) (makes_all_on (seen_of old) (seen_of new) r mid low own on all) (
       mid,
       ([], refl),
       r2,
-      made_at_late mid r2 (low_of old) (low_behind low own) (seen_of new) n (Made makes.entry) within (made_at old new mid r2 n makes),
+      made_at_late mid r2 (low_of old) (low_behind low own) (seen_of new) n (Made (Some by) makes.entry) within (made_at by old new mid r2 n makes),
       ([], refl),
     )

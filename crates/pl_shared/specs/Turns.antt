@@ -4,6 +4,8 @@ use Rattle.std.specs.List.{All}
 use mathlib.Core.List.{IsPrefix}
 use Rattle.pl_turn.specs.Passes.{seen_of, mine_of, counted_of, crew_of}
 use Rattle.rand_pcg.specs.Lcg.{Lcg}
+use Rattle.pl_marks.specs.declared.author.Author.{Author}
+use Rattle.pl_marks.specs.declared.author.Author.TheVariants.{Feeder}
 use Rattle.pl_entry.specs.declared.event.Event.{Event}
 use Rattle.pl_entry.specs.declared.event.Event.TheVariants as event
 use Rattle.pl_entry.specs.declared.reply.Reply.{Reply}
@@ -27,7 +29,7 @@ use Rattle.pl_acts.specs.declared.look.Looked.TheVariants as looked
 use Rattle.pl_acts.specs.declared.sight.Sight.{Sight}
 use Rattle.pl_acts.specs.declared.sight.View.{View}
 use Rattle.pl_acts.specs.declared.sight.View.TheVariants as view
-use Rattle.pl_acts.specs.Items.{entries_in, model_in, stop_in, InWorld}
+use Rattle.pl_acts.specs.Items.{entries_in, model_in, signer_in, stop_in, InWorld}
 use Rattle.pl_acts.specs.Roles.{worker_of, has_event, IsInputOf, kind_of, is_entry}
 use Rattle.pl_acts.specs.Replicas.{IsReplicaOf, IsDraftOf}
 use Rattle.pl_acts.specs.Sights.{AsksIn, IsSight, IsDueBy, IsKept, IsAskedAtMost}
@@ -44,13 +46,13 @@ pub record TakesTurn (old new : PlanPass) : Type 0 where
   pub same_counted : counted_of new ≡ counted_of old
   pub crew : crew_of new ≡ crew_of old
 
--- The call made the entry of this number, the last that the pass has seen, and its newest own one.
-pub record Makes (By : List Noted → Entry → Type 0) (old new : PlanPass) (number : ℕ) : Type 0 where
+-- The call made the entry of this number, as this author's, the last that the pass has seen, and its newest own one.
+pub record Makes (By : List Noted → Entry → Type 0) (author : Author) (old new : PlanPass) (number : ℕ) : Type 0 where
   pub between : List Noted
   pub entry : Entry
-  pub seen : seen_of new ≡ (seen_of old ++ between) ++ Made entry ∷ []
+  pub seen : seen_of new ≡ (seen_of old ++ between) ++ Made (Some author) entry ∷ []
   pub place : number ≡ length (seen_of old ++ between)
-  pub mine : mine_of new ≡ mine_of old ++ (number, Made entry) ∷ []
+  pub mine : mine_of new ≡ mine_of old ++ (number, Made (Some author) entry) ∷ []
   pub running : stop_in (seen_of old ++ between) ≡ false
   pub step : InWorld (seen_of old ++ between) (λ w. IsStepIn w entry)
   pub by : By (seen_of old ++ between) entry
@@ -60,7 +62,7 @@ MakesNothing old new = mine_of new ≡ mine_of old
 
 -- NotNow and LogFull come in this order, exactly by their causes.
 abbrev pub Feeds : Option (List ℕ) → PlanPass → Result ℕ Stop → PlanPass → Type 0
-Feeds line old (Ok number) new = Makes (λ before e. InWorld before (λ w. IsInputOf line w e)) old new number
+Feeds line old (Ok number) new = Makes (λ before e. InWorld before (λ w. IsInputOf line w e)) Feeder old new number
 Feeds line old (Err stop.NotNow) new = MakesNothing old new × InWorld (seen_of new) (λ w. can_listen w (stop_in (seen_of new)) ≡ false)
 Feeds line old (Err stop.LogFull) new = MakesNothing old new × InWorld (seen_of new) (λ w. can_listen w (stop_in (seen_of new)) ≡ true) × IsFull (seen_of new)
 Feeds line old (Err stop.Spoiled) new = MakesNothing old new
@@ -71,23 +73,23 @@ abbrev pub low_of : PlanPass → ℕ
 low_of pass = length (seen_of pass)
 
 -- Finished, Stopped, Nothing and LogFull come in this order, exactly by their causes. Behind a sight a planner's chooser has been asked, whatever the answer.
-abbrev pub Acts : Role → PlanPass → Result Acted Stop → Role → PlanPass → Type 0
-Acts r old (Ok (acted.Did number)) r2 new = Makes (IsDueBy r r2 (low_of old)) old new number
-Acts r old (Ok acted.Nothing) r2 new = MakesNothing old new × InWorld (seen_of new) (λ w. (w.done ≡ false) × (has_event r w ≡ false)) × (stop_in (seen_of new) ≡ false) × IsKept r (low_of old) (seen_of new) r2
-Acts r old (Ok acted.Finished) r2 new = MakesNothing old new × InWorld (seen_of new) (λ w. w.done ≡ true) × IsKept r (low_of old) (seen_of new) r2
-Acts r old (Ok acted.Stopped) r2 new = MakesNothing old new × InWorld (seen_of new) (λ w. w.done ≡ false) × (stop_in (seen_of new) ≡ true) × IsKept r (low_of old) (seen_of new) r2
-Acts r old (Err stop.Spoiled) r2 new = MakesNothing old new × IsAskedAtMost r (low_of old) (seen_of new) r2
-Acts r old (Err stop.NotNow) r2 new = ⊥
-Acts r old (Err stop.LogFull) r2 new = MakesNothing old new × InWorld (seen_of new) (λ w. (w.done ≡ false) × (has_event r w ≡ true)) × (stop_in (seen_of new) ≡ false) × IsFull (seen_of new) × IsKept r (low_of old) (seen_of new) r2
-Acts r old (Err stop.Memory) r2 new = MakesNothing old new × IsAskedAtMost r (low_of old) (seen_of new) r2
+abbrev pub Acts : Author → Role → PlanPass → Result Acted Stop → Role → PlanPass → Type 0
+Acts by r old (Ok (acted.Did number)) r2 new = Makes (IsDueBy r r2 (low_of old)) by old new number
+Acts by r old (Ok acted.Nothing) r2 new = MakesNothing old new × InWorld (seen_of new) (λ w. (w.done ≡ false) × (has_event r w ≡ false)) × (stop_in (seen_of new) ≡ false) × IsKept r (low_of old) (seen_of new) r2
+Acts by r old (Ok acted.Finished) r2 new = MakesNothing old new × InWorld (seen_of new) (λ w. w.done ≡ true) × IsKept r (low_of old) (seen_of new) r2
+Acts by r old (Ok acted.Stopped) r2 new = MakesNothing old new × InWorld (seen_of new) (λ w. w.done ≡ false) × (stop_in (seen_of new) ≡ true) × IsKept r (low_of old) (seen_of new) r2
+Acts by r old (Err stop.Spoiled) r2 new = MakesNothing old new × IsAskedAtMost r (low_of old) (seen_of new) r2
+Acts by r old (Err stop.NotNow) r2 new = ⊥
+Acts by r old (Err stop.LogFull) r2 new = MakesNothing old new × InWorld (seen_of new) (λ w. (w.done ≡ false) × (has_event r w ≡ true)) × (stop_in (seen_of new) ≡ false) × IsFull (seen_of new) × IsKept r (low_of old) (seen_of new) r2
+Acts by r old (Err stop.Memory) r2 new = MakesNothing old new × IsAskedAtMost r (low_of old) (seen_of new) r2
 
 -- ---- the two halves of a planner's act
 
 -- What a planner's look finds, in this order: Finished, Stopped, Nothing, LogFull, a rest for a plain reason, and else a replica to be asked about.
-abbrev pub Looks : PlanPass → Result Looked Stop → PlanPass → Type 0
-Looks old (Ok (looked.Settled a)) new = (g : Lcg) → Acts (Planner g) old (Ok a) (Planner g) new
-Looks old (Ok (looked.Open draft)) new = MakesNothing old new × InWorld (seen_of new) AsksIn × IsDraftOf (seen_of new) draft
-Looks old (Err s) new = (g : Lcg) → Acts (Planner g) old (Err s) (Planner g) new
+abbrev pub Looks : Author → PlanPass → Result Looked Stop → PlanPass → Type 0
+Looks by old (Ok (looked.Settled a)) new = (g : Lcg) → Acts by (Planner g) old (Ok a) (Planner g) new
+Looks by old (Ok (looked.Open draft)) new = MakesNothing old new × InWorld (seen_of new) AsksIn × IsDraftOf (seen_of new) draft
+Looks by old (Err s) new = (g : Lcg) → Acts by (Planner g) old (Err s) (Planner g) new
 
 -- The chooser was asked in the world after all that the pass has seen behind the call, and has drawn its words once.
 pub record Sees (r : Role) (old new : PlanPass) (sight : Sight) (r2 : Role) : Type 0 where
@@ -110,10 +112,10 @@ pub record CanSettle (seen : List Noted) (sight : Sight) : Type 0 where
   pub replica : IfSome sight.replica (IsReplicaOf seen)
 
 -- A view is the executive's act, an act of a planner that is over at once, or a sight.
-abbrev pub Views : Role → PlanPass → Result View Stop → Role → PlanPass → Type 0
-Views r old (Ok (view.Settled a)) r2 new = Acts r old (Ok a) r2 new
-Views r old (Ok (view.Copy sight)) r2 new = Sees r old new sight r2
-Views r old (Err s) r2 new = Acts r old (Err s) r2 new
+abbrev pub Views : Author → Role → PlanPass → Result View Stop → Role → PlanPass → Type 0
+Views by r old (Ok (view.Settled a)) r2 new = Acts by r old (Ok a) r2 new
+Views by r old (Ok (view.Copy sight)) r2 new = Sees r old new sight r2
+Views by r old (Err s) r2 new = Acts by r old (Err s) r2 new
 
 -- A fix is the sight's, and made if the sight was the whole history; or, without a proposal, the one that the chooser proposes in the
 -- world before, which is made. Repair rests where the turns are spent, or where there was no proposal.
@@ -125,19 +127,19 @@ IsSettled g sight g2 before event.Rest answer = ((sight.proposal ≡ None) ⊎ I
 IsSettled g sight g2 before _ answer = ⊥
 
 -- Finished, Stopped, Nothing and LogFull come in this order, exactly by their causes, and leave the chooser as it was.
-abbrev pub Settles : Lcg → Sight → PlanPass → Result Acted Stop → Lcg → PlanPass → Type 0
-Settles g sight old (Ok (acted.Did number)) g2 new = Makes (λ before e. InWorld before (λ w. (w.done ≡ false) × (is_repairing w ≡ true)) × IsSettled g sight g2 before e.event e.reply) old new number
-Settles g sight old (Ok acted.Nothing) g2 new = MakesNothing old new × InWorld (seen_of new) (λ w. (w.done ≡ false) × (is_repairing w ≡ false)) × (stop_in (seen_of new) ≡ false) × (g2 ≡ g)
-Settles g sight old (Ok acted.Finished) g2 new = MakesNothing old new × InWorld (seen_of new) (λ w. w.done ≡ true) × (g2 ≡ g)
-Settles g sight old (Ok acted.Stopped) g2 new = MakesNothing old new × InWorld (seen_of new) (λ w. w.done ≡ false) × (stop_in (seen_of new) ≡ true) × (g2 ≡ g)
-Settles g sight old (Err stop.Spoiled) g2 new = MakesNothing old new × (g2 ≡ g)
-Settles g sight old (Err stop.NotNow) g2 new = ⊥
-Settles g sight old (Err stop.LogFull) g2 new = MakesNothing old new × InWorld (seen_of new) (λ w. (w.done ≡ false) × (is_repairing w ≡ true)) × (stop_in (seen_of new) ≡ false) × IsFull (seen_of new) × (g2 ≡ g)
-Settles g sight old (Err stop.Memory) g2 new = MakesNothing old new × ((g2 ≡ g) ⊎ ((sight.proposal ≡ None) × InWorld (seen_of new) (λ w. (is_repairing w ≡ true) × (reason_of w ≡ None)) × (g2 ≡ seeded_after g)))
+abbrev pub Settles : Author → Lcg → Sight → PlanPass → Result Acted Stop → Lcg → PlanPass → Type 0
+Settles by g sight old (Ok (acted.Did number)) g2 new = Makes (λ before e. InWorld before (λ w. (w.done ≡ false) × (is_repairing w ≡ true)) × IsSettled g sight g2 before e.event e.reply) by old new number
+Settles by g sight old (Ok acted.Nothing) g2 new = MakesNothing old new × InWorld (seen_of new) (λ w. (w.done ≡ false) × (is_repairing w ≡ false)) × (stop_in (seen_of new) ≡ false) × (g2 ≡ g)
+Settles by g sight old (Ok acted.Finished) g2 new = MakesNothing old new × InWorld (seen_of new) (λ w. w.done ≡ true) × (g2 ≡ g)
+Settles by g sight old (Ok acted.Stopped) g2 new = MakesNothing old new × InWorld (seen_of new) (λ w. w.done ≡ false) × (stop_in (seen_of new) ≡ true) × (g2 ≡ g)
+Settles by g sight old (Err stop.Spoiled) g2 new = MakesNothing old new × (g2 ≡ g)
+Settles by g sight old (Err stop.NotNow) g2 new = ⊥
+Settles by g sight old (Err stop.LogFull) g2 new = MakesNothing old new × InWorld (seen_of new) (λ w. (w.done ≡ false) × (is_repairing w ≡ true)) × (stop_in (seen_of new) ≡ false) × IsFull (seen_of new) × (g2 ≡ g)
+Settles by g sight old (Err stop.Memory) g2 new = MakesNothing old new × ((g2 ≡ g) ⊎ ((sight.proposal ≡ None) × InWorld (seen_of new) (λ w. (is_repairing w ≡ true) × (reason_of w ≡ None)) × (g2 ≡ seeded_after g)))
 
-abbrev pub SettlesAs : Role → Sight → PlanPass → Result Acted Stop → Role → PlanPass → Type 0
-SettlesAs (Planner g) sight old a (Planner g2) new = Settles g sight old a g2 new
-SettlesAs _ sight old a r2 new = ⊥
+abbrev pub SettlesAs : Author → Role → Sight → PlanPass → Result Acted Stop → Role → PlanPass → Type 0
+SettlesAs by (Planner g) sight old a (Planner g2) new = Settles by g sight old a g2 new
+SettlesAs by _ sight old a r2 new = ⊥
 
 -- The plan is stopped. Where it was not yet, the stop is the pass's newest own item, and the last that it has seen.
 pub data Stops (old new : PlanPass) : Type 0 where
@@ -145,31 +147,33 @@ pub data Stops (old new : PlanPass) : Type 0 where
   is_stopped : (seen : List Noted) → IsPrefix (seen_of old) seen → stop_in seen ≡ false → seen_of new ≡ seen ++ Stopped ∷ []
       → mine_of new ≡ mine_of old ++ (length seen, Stopped) ∷ [] → Stops old new
 
--- The pass's new own entries, in order: each is what the role makes in the world before it, and of the kind of the role. `r2` is the role behind them.
-pub record Works (r : Role) (old : PlanPass) (count : ℕ) (r2 : Role) (new : PlanPass) : Type 0 where
+-- The pass's new own entries, in order: each is what the role makes in the world before it, of the kind of the role, and this author's. `r2` is the role behind them.
+pub record Works (author : Author) (r : Role) (old : PlanPass) (count : ℕ) (r2 : Role) (new : PlanPass) : Type 0 where
   pub own : List (ℕ × Noted)
   pub mine : mine_of new ≡ mine_of old ++ own
   pub counts : length own ≡ count
   pub made : MakesAll r (low_of old) (seen_of new) own r2
   pub kinds : All (λ x. is_entry (kind_of r) x.1 ≡ true) own
+  pub signed : All (λ x. signer_in x.1 ≡ Some author) own
   pub worker : worker_of r2 ≡ worker_of r
 
 -- The same, and then the stop where the plan was not stopped yet.
-pub record WorksUntil (r : Role) (old : PlanPass) (r2 : Role) (new : PlanPass) : Type 0 where
+pub record WorksUntil (author : Author) (r : Role) (old : PlanPass) (r2 : Role) (new : PlanPass) : Type 0 where
   pub own : List (ℕ × Noted)
   pub rest : List (ℕ × Noted)
   pub mine : mine_of new ≡ (mine_of old ++ own) ++ rest
   pub made : MakesAll r (low_of old) (seen_of new) own r2
   pub kinds : All (λ x. is_entry (kind_of r) x.1 ≡ true) own
+  pub signed : All (λ x. signer_in x.1 ≡ Some author) own
   pub behind : (rest ≡ []) ⊎ ((place : ℕ) × (rest ≡ (place, Stopped) ∷ []))
   pub stopped : stop_in (seen_of new) ≡ true
   pub worker : worker_of r2 ≡ worker_of r
 
 -- A count comes only where the plan is over. A refusal stops the plan, and none is NotNow. Where the log is full the round is open, and the role has an event in it. Behind want of memory, and a machine that it spoiled, the chooser may have
 -- been asked for an entry that was not made.
-abbrev pub WorksOn : Role → PlanPass → Result ℕ Stop → Role → PlanPass → Type 0
-WorksOn r old (Ok count) r2 new = Works r old count r2 new × IsOver (seen_of new)
-WorksOn r old (Err stop.NotNow) r2 new = ⊥
-WorksOn r old (Err stop.LogFull) r2 new = WorksUntil r old r2 new × IsFull (seen_of new) × InWorld (seen_of new) (λ w. (w.closed ≡ false) × (w.done ≡ false) × (has_event r2 w ≡ true))
-WorksOn r old (Err stop.Spoiled) r2 new = (last : Role) × (works : WorksUntil r old last new) × WasAskedAtMost last works.own (seen_of new) r2
-WorksOn r old (Err stop.Memory) r2 new = (last : Role) × (works : WorksUntil r old last new) × WasAskedAtMost last works.own (seen_of new) r2
+abbrev pub WorksOn : Author → Role → PlanPass → Result ℕ Stop → Role → PlanPass → Type 0
+WorksOn by r old (Ok count) r2 new = Works by r old count r2 new × IsOver (seen_of new)
+WorksOn by r old (Err stop.NotNow) r2 new = ⊥
+WorksOn by r old (Err stop.LogFull) r2 new = WorksUntil by r old r2 new × IsFull (seen_of new) × InWorld (seen_of new) (λ w. (w.closed ≡ false) × (w.done ≡ false) × (has_event r2 w ≡ true))
+WorksOn by r old (Err stop.Spoiled) r2 new = (last : Role) × (works : WorksUntil by r old last new) × WasAskedAtMost last works.own (seen_of new) r2
+WorksOn by r old (Err stop.Memory) r2 new = (last : Role) × (works : WorksUntil by r old last new) × WasAskedAtMost last works.own (seen_of new) r2

@@ -6,6 +6,7 @@ ghost use Rattle.pl_shared.specs.Turns.{TakesTurn, Feeds};
 
 use crate::plan::{Pass, SharedPlan};
 use pl_machine::Stop;
+use pl_marks::Author;
 use std::sync::Wait;
 
 impl SharedPlan {
@@ -19,7 +20,7 @@ impl SharedPlan {
     {
         let mut held = self.enter(rt, pass);
         let before = held.busy();
-        let fed = held.feed(line);
+        let fed = held.feed(Author::Feeder, line);
         let behind = held.busy();
         self.leave(pass, held);
         self.bells.ring(rt, before, behind);

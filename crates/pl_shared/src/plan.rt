@@ -1,11 +1,12 @@
 //! The plan under its lock.
 ghost use Rattle.std.specs.Prelude.{◌≡◌, [], false, true, length, IfOk, IfErr};
 ghost use Rattle.pl_turn.specs.Passes.{seen_of, mine_of, crew_of, leads, made_by, joined_by};
-ghost use Rattle.pl_acts.specs.Items.{items_of};
+ghost use Rattle.pl_acts.specs.Items.{handed_in, items_of};
 ghost use Rattle.pl_shared.specs.Plans.{BelongsTo, Closes};
 
 use pl_acts::{Bells, Held};
 use pl_machine::Machine;
+use pl_marks::Marks;
 use pl_turn::TurnLock;
 use std::alloc::Global;
 
@@ -24,34 +25,37 @@ impl SharedPlan {
     #[tactic(auto, using(crate::proofs::Turning::belongs_in))]
     pub fn new(alloc: Global, machine: Machine) -> Result<(SharedPlan, Pass), Machine>
         ensures own { IfOk result (λ made. BelongsTo made.0 made.1) }
-        ensures seen { IfOk result (λ made. seen_of made.1 ≡ items_of machine.model machine.log false) }
+        ensures seen { IfOk result (λ made. seen_of made.1 ≡ items_of machine.model machine.log (handed_in machine.log)) }
         ensures mine { IfOk result (λ made. mine_of made.1 ≡ []) }
-        ensures first { IfOk result (λ made. crew_of made.1 ≡ record { leads = true; opening = length (items_of machine.model machine.log false); made = 0; joined = [] }) }
+        ensures first { IfOk result (λ made. crew_of made.1 ≡ record { leads = true; opening = length (items_of machine.model machine.log (handed_in machine.log)); made = 0; joined = [] }) }
         ensures back { IfErr result (λ same. same ≡ machine) }
     {
-        let held = Held::new(machine);
+        let held = Held::new(alloc, machine);
         held.is_sound();
         match TurnLock::new(alloc, held) {
             Ok((lock, pass)) => {
                 let bells = Bells::new();
                 Ok((SharedPlan { lock, bells }, pass))
             }
-            Err(held) => Err(held.into_machine()),
+            Err(held) => {
+                let (machine, _marks) = held.into_parts();
+                Err(machine)
+            }
         }
     }
 
-    /// The machine, once every pass that was split off is joined.
+    /// The machine and the marks of its entries, once every pass that was split off is joined.
     #[tactic(auto, using(crate::proofs::Turning::closed))]
-    pub fn close(self, pass: Pass) -> Machine
+    pub fn close(self, pass: Pass) -> (Machine, Marks)
         requires own { BelongsTo self pass }
         requires first { leads pass ≡ true }
         requires all_joined { made_by pass ≡ length (joined_by pass) }
-        ensures { Closes pass result }
+        ensures { Closes pass result.0 result.1 }
     {
         let SharedPlan { lock, bells } = self;
         drop(bells);
         let held = lock.close(pass);
         held.is_sound();
-        held.into_machine()
+        held.into_parts()
     }
 }

@@ -18,7 +18,7 @@ impl SharedPlan {
         ensures own { IsPassOf self.now.lock pass.new }
         ensures turn { in_turn pass.new ≡ true }
         ensures history { seen_of pass.new ≡ items_in result }
-        ensures sound { IsSound result.machine }
+        ensures sound { IsSound result.plan }
         ensures takes { TakesTurn pass.old pass.new }
         ensures mine { mine_of pass.new ≡ mine_of pass.old }
     {
@@ -34,7 +34,7 @@ impl SharedPlan {
         requires grows { IsSameOrOneMore (seen_of pass.old) (items_in held) }
         ensures own { BelongsTo self.now pass.new }
         ensures seen { seen_of pass.new ≡ items_in held }
-        ensures sound { IsSound held.machine }
+        ensures sound { IsSound held.plan }
         ensures same { items_in held ≡ seen_of pass.old → mine_of pass.new ≡ mine_of pass.old }
         ensures grown { (e : Noted) → items_in held ≡ seen_of pass.old ++ e ∷ [] → mine_of pass.new ≡ mine_of pass.old ++ (length (seen_of pass.old), e) ∷ [] }
         ensures kept { (counted_of pass.new ≡ counted_of pass.old) × (crew_of pass.new ≡ crew_of pass.old) }

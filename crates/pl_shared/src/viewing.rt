@@ -1,6 +1,7 @@
 //! The two halves of a planner's act: its chooser is asked between two turns.
 ghost use Rattle.std.specs.Prelude.{◌≡◌};
 ghost use Rattle.pl_turn.specs.Passes.{seen_of};
+ghost use Rattle.pl_marks.specs.Authors.{IsAuthor};
 ghost use Rattle.pl_acts.specs.Roles.{worker_of};
 ghost use Rattle.pl_shared.specs.Plans.{BelongsTo};
 ghost use Rattle.pl_shared.specs.Turns.{TakesTurn, Acts, Looks, Views, CanSettle, Settles, SettlesAs};
@@ -9,34 +10,43 @@ use crate::plan::{Pass, SharedPlan};
 use pl_acts::{Acted, Looked, Role, Sight, View, ask};
 use pl_choose::Seeded;
 use pl_machine::Stop;
+use pl_marks::Author;
 use std::alloc::Global;
 use std::sync::Wait;
 
 impl SharedPlan {
-    fn execute<R: Wait>(&self, rt: &R, pass: &mut Pass) -> Result<Acted, Stop>
-        requires { BelongsTo self.now pass.old }
+    fn execute<R: Wait>(&self, rt: &R, pass: &mut Pass, by: Author) -> Result<Acted, Stop>
+        requires own { BelongsTo self.now pass.old }
+        requires author { IsAuthor by }
         ensures own { BelongsTo self.now pass.new }
         ensures takes { TakesTurn pass.old pass.new }
-        ensures acts { Acts Role.Executive pass.old result Role.Executive pass.new }
+        ensures acts { Acts by Role.Executive pass.old result Role.Executive pass.new }
     {
         let mut held = self.enter(rt, pass);
         let before = held.busy();
-        let acted = held.execute();
+        let acted = held.execute(by);
         let behind = held.busy();
         self.leave(pass, held);
         self.bells.ring(rt, before, behind);
         acted
     }
 
-    fn look<R: Wait>(&self, rt: &R, alloc: Global, pass: &mut Pass) -> Result<Looked, Stop>
-        requires { BelongsTo self.now pass.old }
+    fn look<R: Wait>(
+        &self,
+        rt: &R,
+        alloc: Global,
+        pass: &mut Pass,
+        by: Author,
+    ) -> Result<Looked, Stop>
+        requires own { BelongsTo self.now pass.old }
+        requires author { IsAuthor by }
         ensures own { BelongsTo self.now pass.new }
         ensures takes { TakesTurn pass.old pass.new }
-        ensures looks { Looks pass.old result pass.new }
+        ensures looks { Looks by pass.old result pass.new }
     {
         let mut held = self.enter(rt, pass);
         let before = held.busy();
-        let looked = held.look(alloc);
+        let looked = held.look(by, alloc);
         let behind = held.busy();
         self.leave(pass, held);
         self.bells.ring(rt, before, behind);
@@ -49,14 +59,16 @@ impl SharedPlan {
         rt: &R,
         alloc: Global,
         pass: &mut Pass,
+        by: Author,
         chooser: &mut Seeded,
     ) -> Result<View, Stop>
-        requires { BelongsTo self.now pass.old }
+        requires own { BelongsTo self.now pass.old }
+        requires author { IsAuthor by }
         ensures own { BelongsTo self.now pass.new }
         ensures takes { TakesTurn pass.old pass.new }
-        ensures views { Views (Role.Planner chooser.old) pass.old result (Role.Planner chooser.new) pass.new }
+        ensures views { Views by (Role.Planner chooser.old) pass.old result (Role.Planner chooser.new) pass.new }
     {
-        match self.look(rt, alloc, pass)? {
+        match self.look(rt, alloc, pass, by)? {
             Looked::Settled(acted) => Ok(View::Settled(acted)),
             Looked::Open(draft) => match ask(chooser, draft) {
                 Ok(sight) => Ok(View::Copy(sight)),
@@ -72,17 +84,19 @@ impl SharedPlan {
         rt: &R,
         alloc: Global,
         pass: &mut Pass,
+        by: Author,
         role: &mut Role,
     ) -> Result<View, Stop>
-        requires { BelongsTo self.now pass.old }
+        requires own { BelongsTo self.now pass.old }
+        requires author { IsAuthor by }
         ensures own { BelongsTo self.now pass.new }
         ensures takes { TakesTurn pass.old pass.new }
-        ensures views { Views role.old pass.old result role.new pass.new }
+        ensures views { Views by role.old pass.old result role.new pass.new }
     {
         match role {
-            Role::Planner(chooser) => self.view_plan(rt, alloc, pass, chooser),
+            Role::Planner(chooser) => self.view_plan(rt, alloc, pass, by, chooser),
             Role::Executive => {
-                let acted = self.execute(rt, pass)?;
+                let acted = self.execute(rt, pass, by)?;
                 Ok(View::Settled(acted))
             }
         }
@@ -92,18 +106,20 @@ impl SharedPlan {
         &self,
         rt: &R,
         pass: &mut Pass,
+        by: Author,
         chooser: &mut Seeded,
         sight: Sight,
     ) -> Result<Acted, Stop>
         requires own { BelongsTo self.now pass.old }
+        requires author { IsAuthor by }
         requires sight { CanSettle (seen_of pass.old) sight }
         ensures own { BelongsTo self.now pass.new }
         ensures takes { TakesTurn pass.old pass.new }
-        ensures settles { Settles chooser.old sight pass.old result chooser.new pass.new }
+        ensures settles { Settles by chooser.old sight pass.old result chooser.new pass.new }
     {
         let mut held = self.enter(rt, pass);
         let before = held.busy();
-        let acted = held.settle(chooser, sight);
+        let acted = held.settle(by, chooser, sight);
         let behind = held.busy();
         self.leave(pass, held);
         self.bells.ring(rt, before, behind);
@@ -117,18 +133,20 @@ impl SharedPlan {
         rt: &R,
         _alloc: Global,
         pass: &mut Pass,
+        by: Author,
         role: &mut Role,
         sight: Sight,
     ) -> Result<Acted, Stop>
         requires own { BelongsTo self.now pass.old }
+        requires author { IsAuthor by }
         requires planner { worker_of role.old ≡ 1 }
         requires sight { CanSettle (seen_of pass.old) sight }
         ensures own { BelongsTo self.now pass.new }
         ensures takes { TakesTurn pass.old pass.new }
-        ensures settles { SettlesAs role.old sight pass.old result role.new pass.new }
+        ensures settles { SettlesAs by role.old sight pass.old result role.new pass.new }
     {
         match role {
-            Role::Planner(chooser) => self.settle_plan(rt, pass, chooser, sight),
+            Role::Planner(chooser) => self.settle_plan(rt, pass, by, chooser, sight),
             Role::Executive => unreachable!(),
         }
     }

@@ -1,10 +1,12 @@
 ghost use Rattle.std.specs.Prelude.{◌≡◌};
+ghost use Rattle.pl_marks.specs.Authors.{IsAuthor};
 ghost use Rattle.pl_shared.specs.Plans.{BelongsTo};
 ghost use Rattle.pl_shared.specs.Turns.{TakesTurn, Acts, WorksOn};
 
 use crate::plan::{Pass, SharedPlan};
 use pl_acts::{Acted, Role};
 use pl_machine::Stop;
+use pl_marks::Author;
 use pl_turn::Gate;
 use std::alloc::Global;
 use std::sync::Wait;
@@ -16,19 +18,21 @@ pub(crate) fn work_once<R: Wait, G: Gate>(
     plan: &SharedPlan,
     gate: &G,
     pass: &mut Pass,
+    by: Author,
     role: &mut Role,
     acts: u64,
 ) -> Result<Acted, Stop>
-    requires { BelongsTo plan.now pass.old }
+    requires own { BelongsTo plan.now pass.old }
+    requires author { IsAuthor by }
     ensures own { BelongsTo plan.now pass.new }
     ensures takes { TakesTurn pass.old pass.new }
-    ensures acts { Acts role.old pass.old result role.new pass.new }
+    ensures acts { Acts by role.old pass.old result role.new pass.new }
 {
     let listener = role.listener();
     let heard = plan.changes(rt, listener);
-    let worker = role.worker();
+    let worker = by.worker();
     gate.before(rt, worker, acts);
-    let acted = plan.act(rt, alloc, pass, role);
+    let acted = plan.act(rt, alloc, pass, by, role);
     match acted {
         Ok(Acted::Did(entry)) => gate.after(rt, worker, entry),
         Ok(Acted::Nothing) => plan.wait(rt, listener, heard),
@@ -37,7 +41,7 @@ pub(crate) fn work_once<R: Wait, G: Gate>(
     acted
 }
 
-/// Acts until the input has ended or the plan was stopped, and answers how many entries it made. A refusal stops the plan.
+/// Acts as this author until the input has ended or the plan was stopped, and answers how many entries it made. A refusal stops the plan.
 #[tactic(auto, using(crate::proofs::Progress::working_none, crate::proofs::Progress::works_on, crate::proofs::Progress::works_idle, crate::proofs::Progress::works_finished, crate::proofs::Progress::works_stopped, crate::proofs::Progress::worked_until, crate::proofs::Progress::took_until, crate::proofs::Progress::took_all))]
 pub fn work<R: Wait, G: Gate>(
     rt: &R,
@@ -45,16 +49,18 @@ pub fn work<R: Wait, G: Gate>(
     plan: &SharedPlan,
     gate: &G,
     pass: &mut Pass,
+    by: Author,
     role: &mut Role,
 ) -> Result<u64, Stop>
-    requires { BelongsTo plan.now pass.old }
+    requires own { BelongsTo plan.now pass.old }
+    requires author { IsAuthor by }
     ensures own { BelongsTo plan.now pass.new }
     ensures takes { TakesTurn pass.old pass.new }
-    ensures works { WorksOn role.old pass.old result role.new pass.new }
+    ensures works { WorksOn by role.old pass.old result role.new pass.new }
 {
     let mut acts = 0;
     for _ in rt.forever() {
-        match work_once(rt, alloc, plan, gate, pass, role, acts) {
+        match work_once(rt, alloc, plan, gate, pass, by, role, acts) {
             Ok(Acted::Did(_)) => acts += 1,
             Ok(Acted::Nothing) => {}
             Ok(Acted::Finished | Acted::Stopped) => return Ok(acts),

@@ -1,20 +1,28 @@
 use Rattle.std.proofs.Common.{subst, sym}
 use Rattle.pl_input.specs.Places.{place_of}
-use Rattle.pl_pair.specs.Runs.{PairRun}
-use Rattle.pl_pair.proofs.Running.{hired_one, runs_whole}
+use Rattle.pl_pair.specs.Runs.{TeamRun}
+use Rattle.pl_pair.proofs.Running.{runs_whole, closes_first}
 use Rattle.pl_pair.proofs.run.run_over.Goals as goal
 
-pub run_workers-remains-requires-clause-planner : goal.run_workers-remains-requires-clause-planner
-run_workers-remains-requires-clause-planner g c κs within =
-    let seen = rw c.unwrap-one.ensures at c.split.ensures.new_seen in
-    hired_one c.in-Ok.plan c.args.seed c.entries-begun.result c.args.machine c.in-Ok.pass c.unwrap-one.result c.entries-begun.ensures c.in-Ok.ensures.seen seen.0
-    (rw c.unwrap-one.ensures at c.split.ensures.new_own) (rw c.unwrap-one.ensures at c.split.ensures.new_mine)
+pub close-requires-clause-first : goal.close-requires-clause-first
+close-requires-clause-first g c =
+    let start = place_of c.args.lines.now (g.S.Source.left c.args.src.now) in
+    let ran = c.run_workers in
+    (closes_first c.args.duties.now c.args.machine c.in-Ok-2.plan c.in-Ok-2.pass c.in-Some.remains c.args.model.now start (place_of ran.new.lines (g.S.Source.left ran.new.src)) (g.O.Sink.held c.args.out.now) (g.O.Sink.held ran.new.out)
+    (record { seen = c.in-Ok-2.ensures.seen; crew = c.in-Ok-2.ensures.first; joins = c.in-Some.ensures.joins })).0
+
+pub close-requires-clause-all_joined : goal.close-requires-clause-all_joined
+close-requires-clause-all_joined g c =
+    let start = place_of c.args.lines.now (g.S.Source.left c.args.src.now) in
+    let ran = c.run_workers in
+    (closes_first c.args.duties.now c.args.machine c.in-Ok-2.plan c.in-Ok-2.pass c.in-Some.remains c.args.model.now start (place_of ran.new.lines (g.S.Source.left ran.new.src)) (g.O.Sink.held c.args.out.now) (g.O.Sink.held ran.new.out)
+    (record { seen = c.in-Ok-2.ensures.seen; crew = c.in-Ok-2.ensures.first; joins = c.in-Some.ensures.joins })).1
 
 pub returns-clause-run : goal.returns-clause-run
-returns-clause-run g c = let ran = c.run_workers-remains in
+returns-clause-run g c =
     let start = place_of c.args.lines.now (g.S.Source.left c.args.src.now) in
-    subst (λ r. PairRun c.args.seed c.args.machine start (g.O.Sink.held c.args.out.now) r (place_of ran.new.lines (g.S.Source.left ran.new.src)) (g.O.Sink.held ran.new.out)) (sym c.ended-answer.ensures)
-    (runs_whole c.args.machine c.in-Ok.pass c.split.new.pass c.split-2.new.pass
-    (record { seen = c.in-Ok.ensures.seen; crew = c.in-Ok.ensures.first; seen1 = c.split.ensures.kept.0; crew1 = c.split.ensures.crew; seen2 = c.split-2.ensures.kept.0; crew2 = c.split-2.ensures.crew })
-    c.in-Ok.plan c.args.seed c.entries-begun.result ran.result.pass ran.result.planner ran.result.executive c.close-machine.result start (place_of ran.new.lines (g.S.Source.left ran.new.src)) (g.O.Sink.held c.args.out.now) (g.O.Sink.held ran.new.out) ran.result.fed c.args.model.now
-    c.requires.model c.requires.legal c.requires.going c.entries-begun.ensures ran.ensures.joins.own ran.ensures.joins.first ran.ensures.joins.second c.close-machine.ensures ran.ensures.joins.feeds)
+    let ran = c.run_workers in
+    let end = place_of ran.new.lines (g.S.Source.left ran.new.src) in
+    subst (λ r. TeamRun c.args.duties.now c.args.machine start (g.O.Sink.held c.args.out.now) r end (g.O.Sink.held ran.new.out)) (sym c.ended-answer.ensures)
+    (runs_whole c.args.duties.now c.args.machine c.in-Ok-2.plan c.in-Ok-2.pass c.in-Some.remains c.args.model.now start end (g.O.Sink.held c.args.out.now) (g.O.Sink.held ran.new.out)
+    (record { seen = c.in-Ok-2.ensures.seen; crew = c.in-Ok-2.ensures.first; joins = c.in-Some.ensures.joins }) c.close.result.0 c.close.result.1 c.requires.model c.requires.legal c.requires.going c.close.ensures)

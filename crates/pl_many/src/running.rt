@@ -1,0 +1,67 @@
+//! The whole run of a crew.
+ghost use Rattle.std.specs.Prelude.{◌≡◌, ◌≤◌, false, None, IsErrOf};
+ghost use Rattle.pl_io.specs.Faults.{Rose};
+ghost use Rattle.pl_input.specs.Places.{place_of};
+ghost use Rattle.pl_many.specs.CrewRuns.{CrewRun, duties_for};
+
+use crate::lines::write_tallies;
+use pl_input::Halt;
+use pl_io::{LineReader, Sink, Source};
+use pl_machine::Machine;
+use pl_team::{Duty, Ended, run_team};
+use pl_turn::Gate;
+use std::alloc::{AllocError, Global};
+use std::sync::Wait;
+use std::thread::Threads;
+
+/// An executive, and so many planners by number.
+fn duties(alloc: Global, planners: u8, seed: u64) -> Result<Vec<Duty>, AllocError>
+    requires planners { planners ≤ 8 }
+    requires seed { seed ≤ 999999999999999999 }
+    ensures { IfOk result (λ duties. duties.items ≡ duties_for planners seed) }
+{
+    let mut duties = Vec::with_capacity(alloc, 9)?;
+    duties.push(Duty::Execute)?;
+    for before in 0..planners {
+        let planner = before + 1;
+        duties.push(Duty::Repair {
+            planner,
+            seed: seed + u64::from(planner),
+        })?;
+    }
+    Ok(duties)
+}
+
+/// Writes what each planner made, once the run has come to its end.
+fn tell<O: Sink>(alloc: Global, planners: u8, ended: &Ended, out: &mut O) -> Result<(), Halt>
+    requires planners { planners ≤ 8 }
+{
+    write_tallies(alloc, planners, &ended.marks, ended.machine.log(), out)
+}
+
+/// Runs an executive and planners in threads of their own, feeds them the messages that a reader has left, and writes the lines of the whole
+/// log, and behind it a line for each planner. It waits for its threads.
+pub fn run_crew<R: Threads + Wait + Sync, I: Source, O: Sink, G: Gate + Sync>(
+    rt: &R,
+    alloc: Global,
+    machine: Machine,
+    planners: u8,
+    seed: u64,
+    gate: &G,
+    lines: &mut LineReader,
+    src: &mut I,
+    out: &mut O,
+) -> Result<(), Halt>
+    requires planners { (2 ≤ planners) × (planners ≤ 8) }
+    requires seed { seed ≤ 999999999999999999 }
+    requires going { machine.world.done ≡ false }
+    requires limit { lines.old.limit ≤ 4096 }
+    ensures run { CrewRun planners seed machine (place_of lines.old (I.left src.old)) (O.held out.old) result
+        (place_of lines.new (I.left src.new)) (O.held out.new) }
+    ensures read { IsErrOf result Halt.Read → (lines.old.failed ≡ None) → Rose (I.faults src.old) (I.faults src.new) }
+    ensures write { IsErrOf result Halt.Write → Rose (O.faults out.old) (O.faults out.new) }
+{
+    let duties = duties(alloc, planners, seed)?;
+    let ended = run_team(rt, alloc, machine, &duties, gate, lines, src, out)?;
+    tell(alloc, planners, &ended, out)
+}

@@ -1,0 +1,3 @@
+pub mod Authors
+pub mod Counting
+pub mod Numbering
