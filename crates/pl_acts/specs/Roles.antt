@@ -55,7 +55,7 @@ is_input _ = false
 abbrev pub is_entry : (Event → Bool) → Noted → Bool
 is_entry test (Opened m e) = false
 is_entry test (Made by e) = test e.event
-is_entry test Stopped = false
+is_entry test (Stopped by) = false
 
 -- the kind of entry that a role makes
 abbrev pub kind_of : Role → Event → Bool
