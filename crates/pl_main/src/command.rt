@@ -4,9 +4,6 @@ pub enum Command {
     /// Plans a mission with a planner and an executive in threads of their own. The repair turns of a round are from 1 to
     /// 1,000, the seed of the planner's chooser is up to 999,999,999,999,999,999.
     Pair { turns: u32, seed: u64 },
-    /// Plans a mission with an executive and several planners, 2 to 8, each in a thread of its own. The chooser of each planner is made from the
-    /// seed and the planner's number added up.
-    Crew { turns: u32, planners: u8, seed: u64 },
     Alone(Task),
 }
 
