@@ -1,4 +1,4 @@
--- What the whole history says of the three own lists.
+-- What the whole history says of the own lists.
 use Rattle.std.proofs.Common.{◌≡◌, ◌≢◌, ℕ, suc, ◌+◌, ◌-◌, ◌≤◌, ◌<◌, List, [], ◌∷◌, ◌++◌, length, map, drop, filter, cond, nat_eq, Bool, true, false, not, Option, Some, None, slice_get, get_or, refl, sym, ◌∙◌, ap, subst, arith, inl, inr, ne_eqb, append_assoc, length-append}
 use Rattle.std.specs.Prelude.{◌&&◌}
 use Rattle.std.specs.List.{All, filter_map, list_any}
