@@ -125,7 +125,9 @@ impl Replicated {
     /// There is a mark for each entry that was not handed in: a look shows that.
     pub(crate) fn is_tied(&self)
         ensures { IsTied self.now }
-    {}
+    {
+        let _marks = &self.marks;
+    }
 
     /// The machine and its marks by themselves.
     pub(crate) fn into_parts(self) -> (Machine, Marks)

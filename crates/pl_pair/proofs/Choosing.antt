@@ -57,7 +57,7 @@ input_apart event.Close e = absurd (cc)
 item_apart : (test : Event → Bool) → ((v : Event) → test v ≡ true → is_executed v ≡ false) → (x : Noted) → is_entry test x ≡ true → is_entry is_executed x ≡ false
 item_apart test apart (Opened m e) is = refl
 item_apart test apart (Made by e) is = apart e.event is
-item_apart test apart Stopped is = refl
+item_apart test apart (Stopped by) is = refl
 
 own_apart : (test : Event → Bool) → ((v : Event) → test v ≡ true → is_executed v ≡ false) → (own : List (ℕ × Noted)) → AreOf test own → NoneExecuted own
 own_apart test apart [] are = All-nil (λ x. is_entry is_executed x.1 ≡ false)
@@ -66,7 +66,7 @@ own_apart test apart (x ∷ xs) are =
 
 stop_apart : (rest : List (ℕ × Noted)) → IsStopAtMost rest → NoneExecuted rest
 stop_apart rest (inl none) = subst NoneExecuted (sym none) (All-nil (λ x. is_entry is_executed x.1 ≡ false))
-stop_apart rest (inr one) = subst NoneExecuted (sym one.1) (All-cons (λ x. is_entry is_executed x.1 ≡ false) (one.0, Stopped) [] refl (All-nil (λ x. is_entry is_executed x.1 ≡ false)))
+stop_apart rest (inr one) = subst NoneExecuted (sym one.2) (All-cons (λ x. is_entry is_executed x.1 ≡ false) (one.0, Stopped one.1) [] refl (All-nil (λ x. is_entry is_executed x.1 ≡ false)))
 
 until_apart : (test : Event → Bool) → ((v : Event) → test v ≡ true → is_executed v ≡ false) → (mine : List (ℕ × Noted)) → AreOfUntil test mine → NoneExecuted mine
 until_apart test apart mine made =

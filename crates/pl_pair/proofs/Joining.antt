@@ -102,11 +102,17 @@ refused_full (Some stop.Memory) r seen is why = absurd (cc)
 -- ---- the feeder's list
 
 pub list_same : (inputs : List (Option (List ℕ))) (mid first : PlanPass) → AreInputs inputs (mine_of mid) → mine_of first ≡ mine_of mid → FeederList inputs (mine_of mid) (mine_of first)
-list_same inputs mid first are same = record { rest = []; whole = same ∙ sym (append-nil (mine_of mid)); are = are; behind = inl refl }
+list_same inputs mid first are same = record { rest = []; whole = same ∙ sym (append-nil (mine_of mid)); are = are; behind = inl refl; signed = subst (AreSigned Feeder) (sym same) (inputs_signed inputs (mine_of mid) are) }
 
-pub list_stop : (inputs : List (Option (List ℕ))) (mid first : PlanPass) → AreInputs inputs (mine_of mid) → Stops mid first → FeederList inputs (mine_of mid) (mine_of first)
+pub list_stop : (inputs : List (Option (List ℕ))) (mid first : PlanPass) → AreInputs inputs (mine_of mid) → Stops Feeder mid first → FeederList inputs (mine_of mid) (mine_of first)
 list_stop inputs mid first are (was_stopped same stops) = list_same inputs mid first are same
-list_stop inputs mid first are (is_stopped seen on going is mine) = record { rest = (length seen, Stopped) ∷ []; whole = mine; are = are; behind = inr (length seen, refl) }
+list_stop inputs mid first are (is_stopped seen on going is mine) = record {
+  rest = (length seen, Stopped Feeder) ∷ [];
+  whole = mine;
+  are = are;
+  behind = inr (length seen, Feeder, refl);
+  signed = subst (AreSigned Feeder) (sym mine) (All-push (λ x. signer_in x.1 ≡ Some Feeder) (mine_of mid) (length seen, Stopped Feeder) (inputs_signed inputs (mine_of mid) are) refl);
+}
 
 -- ---- one whole history
 
