@@ -35,7 +35,7 @@ made_signed zero (b ∷ authors) (x ∷ es) t (suc p) a e at = (let rest = made_
 items_signed_at : (m : Model) (log : List Entry) (s : Signs) (p : ℕ) (a : Author) (e : Entry) → 0 < s.by.opening → slice_get (items_of m log s) p ≡ Some (Made (Some a) e) → IsSigned s.by.opening s.by.authors p a
 unfolding items_of
 items_signed_at m [] s p a e some at = absurd (let h = no_signer s.stopper p a e at in cc)
-items_signed_at m (first ∷ es) s zero a e some at = absurd (let h : Some (Opened m first) ≡ Some (Made (Some a) e) = at in cc)
+items_signed_at m (first ∷ es) s zero a e some at = absurd (let h : Some (Opened m s.by.opening first) ≡ Some (Made (Some a) e) = at in cc)
 items_signed_at m (first ∷ es) s (suc p) a e some at =
     let rest = made_signed (s.by.opening - 1) s.by.authors es s.stopper p a e at in
     let place = rest.1 in (rest.0, omega (arith, place, some), rest.2)

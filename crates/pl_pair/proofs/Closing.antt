@@ -102,14 +102,14 @@ more_made (x ∷ xs) more (y ∷ es) s e = more_made xs more es s (let h : x ∷
 some_items : (m : Model) (log : List Entry) (s : Signs) → Legal m log → (x : Noted) × (xs : List Noted) × (items_of m log s ≡ x ∷ xs)
 unfolding items_of
 some_items m [] s legal = absurd legal
-some_items m (first ∷ es) s legal = (Opened m first, map made_of (with_authors (s.by.opening - 1) s.by.authors es) ++ stop_items s.stopper, refl)
+some_items m (first ∷ es) s legal = (Opened m s.by.opening first, map made_of (with_authors (s.by.opening - 1) s.by.authors es) ++ stop_items s.stopper, refl)
 
 items_more : (xs more : List Noted) (x : Noted) (m : Model) (log : List Entry) (s : Signs) → Legal m log → (x ∷ xs) ++ more ≡ items_of m log s → MoreOf more
 unfolding items_of
 items_more xs more x m [] s legal e = absurd legal
 items_more xs more x m (first ∷ es) s legal e =
     let all = with_authors (s.by.opening - 1) s.by.authors es in
-    more_made xs more all s.stopper (let h : x ∷ (xs ++ more) ≡ Opened m first ∷ (map made_of all ++ stop_items s.stopper) = e in (cc))
+    more_made xs more all s.stopper (let h : x ∷ (xs ++ more) ≡ Opened m s.by.opening first ∷ (map made_of all ++ stop_items s.stopper) = e in (cc))
 
 pub more_of : (front : List Noted) (m : Model) (log : List Entry) (s : Signs) → IsPlan front → Legal m log → (on : IsPrefix front (items_of m log s)) → MoreOf on.0
 more_of front m log s plan legal on =
@@ -132,8 +132,8 @@ unfolding items_of
 items_stop xs more x m [] s legal e stops = absurd legal
 items_stop xs more x m (first ∷ es) s legal e stops =
     let all = with_authors (s.by.opening - 1) s.by.authors es in
-    let head : x ≡ Opened m first = (let h : x ∷ (xs ++ more) ≡ Opened m first ∷ (map made_of all ++ stop_items s.stopper) = e in (cc)) in
-    let rest : xs ++ more ≡ map made_of all ++ stop_items s.stopper = (let h : x ∷ (xs ++ more) ≡ Opened m first ∷ (map made_of all ++ stop_items s.stopper) = e in (cc)) in
+    let head : x ≡ Opened m s.by.opening first = (let h : x ∷ (xs ++ more) ≡ Opened m s.by.opening first ∷ (map made_of all ++ stop_items s.stopper) = e in (cc)) in
+    let rest : xs ++ more ≡ map made_of all ++ stop_items s.stopper = (let h : x ∷ (xs ++ more) ≡ Opened m s.by.opening first ∷ (map made_of all ++ stop_items s.stopper) = e in (cc)) in
     stop_tail xs more all s.stopper rest (subst (λ (z : Noted). stop_in (z ∷ xs) ≡ true) head stops)
 
 pub nothing_behind_stop : (front : List Noted) (m : Model) (log : List Entry) (s : Signs) → IsPlan front → Legal m log → (on : IsPrefix front (items_of m log s)) → stop_in front ≡ true → on.0 ≡ []
@@ -211,7 +211,7 @@ executed_no_input event.Dispatch e = refl
 executed_no_input event.Close e = refl
 
 item_no_input : (test : Event → Bool) → ((v : Event) → test v ≡ true → is_input v ≡ false) → (x : Noted) → is_entry test x ≡ true → is_entry is_input x ≡ false
-item_no_input test apart (Opened m e) is = refl
+item_no_input test apart (Opened m n e) is = refl
 item_no_input test apart (Made by e) is = apart e.event is
 item_no_input test apart (Stopped by) is = refl
 
@@ -236,14 +236,14 @@ inputs_kind (i ∷ inputs) [] are = absurd are
 inputs_kind (i ∷ inputs) (x ∷ own) are = All-cons (λ y. is_entry is_input y.1 ≡ true) x own (item_kind i x.1 are.0) (inputs_kind inputs own are.1)
   where
     item_kind : (i : Option (List ℕ)) (x : Noted) → IsInput i x → is_entry is_input x ≡ true
-    item_kind i (Opened m e) is = absurd is
+    item_kind i (Opened m n e) is = absurd is
     item_kind i (Made by e) is = ap is_input is.1
     item_kind i (Stopped by) is = absurd is
 
 -- ---- the inputs of the history are the feeder's
 
 abbrev input_of : Noted → Option (Option (List ℕ))
-input_of (Opened m e) = None
+input_of (Opened m n e) = None
 input_of (Made by e) = input_in e.event
 input_of (Stopped by) = None
 
@@ -251,7 +251,7 @@ own_inputs : (inputs : List (Option (List ℕ))) (own : List (ℕ × Noted)) →
 own_inputs [] [] are = refl
 own_inputs [] (x ∷ own) are = absurd are
 own_inputs (i ∷ inputs) [] are = absurd are
-own_inputs (i ∷ inputs) ((place, Opened m e) ∷ own) are = absurd are.0
+own_inputs (i ∷ inputs) ((place, Opened m n e) ∷ own) are = absurd are.0
 own_inputs (i ∷ inputs) ((place, Stopped by) ∷ own) are = absurd are.0
 own_inputs (i ∷ inputs) ((place, Made by e) ∷ own) are = rw are.0.1 (ap (λ (is : List (Option (List ℕ))). i ∷ is) (own_inputs inputs own are.1))
 
@@ -268,9 +268,9 @@ more_by : (o : Option (Option (List ℕ))) (e : SignedEntry) (es : List Entry) (
 more_by None e es ys is same = rw is same
 more_by (Some i) e es ys is same = rw is (ap (λ (is : List (Option (List ℕ))). i ∷ is) same)
 
-more_inputs : (es : List SignedEntry) (s : Bool) → filter_map input_of (filter (is_entry is_input) (map made_of es ++ stop_items s)) ≡ inputs_of (entries_of es)
-more_inputs [] true = refl
-more_inputs [] false = refl
+more_inputs : (es : List SignedEntry) (s : Option Author) → filter_map input_of (filter (is_entry is_input) (map made_of es ++ stop_items s)) ≡ inputs_of (entries_of es)
+more_inputs [] (Some a) = refl
+more_inputs [] None = refl
 more_inputs (e ∷ es) s =
     made_input e.1.event (is_input e.1.event) refl e refl (map made_of es ++ stop_items s)
     ∙ more_by (input_in e.1.event) e (entries_of es) (filter (is_entry is_input) (map made_of es ++ stop_items s)) refl (more_inputs es s)
@@ -325,7 +325,7 @@ inputs_signed (i ∷ inputs) [] are = absurd are
 inputs_signed (i ∷ inputs) (x ∷ own) are = All-cons (λ y. signer_in y.1 ≡ Some Feeder) x own (item_signed i x.1 are.0) (inputs_signed inputs own are.1)
   where
     item_signed : (i : Option (List ℕ)) (x : Noted) → IsInput i x → signer_in x ≡ Some Feeder
-    item_signed i (Opened m e) is = absurd is
+    item_signed i (Opened m n e) is = absurd is
     item_signed i (Made by e) is = is.0
     item_signed i (Stopped by) is = absurd is
 
@@ -375,7 +375,7 @@ module _ (items : List Noted) (inputs : List (Option (List ℕ))) (own feeder : 
     picked = sifted (is_entry is_input) items opening [] (list.rest ∷ others) own apart_stands apart_owners (inputs_kind inputs own list.are) (All-nil NoInputs) no_inputs_behind
 
     -- the inputs of the entries past the opening are those of the feeder, in their order
-    pub inputs_are : (before : List Noted) (es : List SignedEntry) (s : Bool) → opening ≡ length before → items ≡ before ++ (map made_of es ++ stop_items s) → inputs_of (entries_of es) ≡ inputs
+    pub inputs_are : (before : List Noted) (es : List SignedEntry) (s : Option Author) → opening ≡ length before → items ≡ before ++ (map made_of es ++ stop_items s) → inputs_of (entries_of es) ≡ inputs
     inputs_are before es s begins is =
         let behind : drop opening items ≡ map made_of es ++ stop_items s =
         ap (λ (k : ℕ). drop k items) begins ∙ ap (λ (xs : List Noted). drop (length before) xs) is ∙ drop_front before (map made_of es ++ stop_items s) in
@@ -416,7 +416,7 @@ module _ (items : List Noted) (inputs : List (Option (List ℕ))) (own feeder : 
           (omega (arith, long), ap (λ (xs : List Noted). slice_get xs (length before)) is ∙ at_front before rest (made_of e))
 
       -- and where it stands right behind the front, there is none behind it
-      none_behind : (before : List Noted) (es : List SignedEntry) (s : Bool) → items ≡ before ++ (map made_of es ++ stop_items s) → last.0 ≡ length front → length front < length before → inputs_of (entries_of es) ≡ []
+      none_behind : (before : List Noted) (es : List SignedEntry) (s : Option Author) → items ≡ before ++ (map made_of es ++ stop_items s) → last.0 ≡ length front → length front < length before → inputs_of (entries_of es) ≡ []
       none_behind before [] s is at less = refl
       none_behind before (e ∷ es) s is at less =
           let there = entry_at before e (map made_of es ++ stop_items s) is in
@@ -425,7 +425,7 @@ module _ (items : List Noted) (inputs : List (Option (List ℕ))) (own feeder : 
           none_more (input_in e.1.event) e.1 (entries_of es) refl (λ input. let same = last_at e (length before) (omega arith) there.0 there.1 input in omega (arith, same, at, less))
           (none_behind (before ++ made_of e ∷ []) es s next at (omega (arith, long, less)))
 
-      pub one_input : (e : SignedEntry) (es : List SignedEntry) (s : Bool) → items ≡ front ++ (map made_of (e ∷ es) ++ stop_items s) → is_input e.1.event ≡ true → (message : Option (List ℕ)) × (inputs_of (entries_of (e ∷ es)) ≡ message ∷ [])
+      pub one_input : (e : SignedEntry) (es : List SignedEntry) (s : Option Author) → items ≡ front ++ (map made_of (e ∷ es) ++ stop_items s) → is_input e.1.event ≡ true → (message : Option (List ℕ)) × (inputs_of (entries_of (e ∷ es)) ≡ message ∷ [])
       one_input e es s is input =
           let there = entry_at front e (map made_of es ++ stop_items s) is in
           let at = last_at e (length front) (omega arith) there.0 there.1 input in

@@ -47,7 +47,7 @@ use Rattle.pl_pair.proofs.Working.{own_on, own_kinds}
 use Rattle.pl_pair.proofs.Feeding.{own_stands}
 use Rattle.pl_pair.specs.Chosen.{AreChosen}
 use Rattle.pl_pair.proofs.Choosing.{are_chosen}
-use Rattle.pl_pair.proofs.Closing.{FeederList, feeder_until, MoreOf, more_of, NoInputs, made_no_inputs, repair_no_input, executed_no_input, inputs_are, no_further, one_input, same_model, Rests, between, over, stopped, world_in, at_front, entries_whole, over_none, between_input, stop_none}
+use Rattle.pl_pair.proofs.Closing.{FeederList, feeder_until, inputs_signed, MoreOf, more_of, NoInputs, made_no_inputs, repair_no_input, executed_no_input, inputs_are, no_further, one_input, same_model, Rests, between, over, stopped, world_in, at_front, entries_whole, over_none, between_input, stop_none}
 use Rattle.pl_machine.proofs.ShortLogs.{log_is_some}
 
 -- ---- the whole history, of the model that was handed in
@@ -240,6 +240,7 @@ module _ (m : Model) (before : List Entry) (first : PlanPass) (ws : List Worker)
       owners = service_owners;
       feeder_saw = record { begins = joined.whole.first_seen; holds = own_stands joined.plan first joined.own };
       inputs = feeder_until inputs own (mine_of first) list;
+      signed = list.signed;
       each = each_served;
     }
 
