@@ -219,7 +219,7 @@ module _ (start : State) (first : PlanPass) (ws : List Worker) (joined : Joined 
           (up_to_last place after tells.inputs (line_in message) (heard_more place end after tells.inputs message tells.heard asks) (no_ends (world_of start.model joined.whole.log).done tells.inputs going told_ends))
 
 -- the feeder's list behind a refusal, which made nothing
-pub list_behind : (inputs : List (Option (List ℕ))) (before mid first : PlanPass) → AreInputs inputs (mine_of before) → mine_of mid ≡ mine_of before → Stops Feeder mid first → FeederList inputs (mine_of before) (mine_of first)
+pub list_behind : (inputs : List (Option (List ℕ))) (before mid first : PlanPass) → AreInputs inputs (mine_of before) → mine_of mid ≡ mine_of before → Stops mid first → FeederList inputs (mine_of before) (mine_of first)
 list_behind inputs before mid first are same stops =
     let P : List (ℕ × Noted) → Type 0 = λ own. FeederList inputs own (mine_of first) in
     let Q : List (ℕ × Noted) → Type 0 = λ own. AreInputs inputs own in
@@ -235,7 +235,7 @@ module _ (start : State) (first : PlanPass) (ws : List Worker) (joined : Joined 
       )) (λ e. absurd (cc))
       (out_ends start first ws joined place held now old seen0 first end feeds.tells plan feeds.own list (prefix_self (seen_of first)) (over feeds.done) feeds.written feeds.done)
 
-  module _ (mid : PlanPass) (takes : TakesTurn mid first) (stops : Stops Feeder mid first) where
+  module _ (mid : PlanPass) (takes : TakesTurn mid first) (stops : Stops mid first) where
     runs_until : (r : Halt) (c : Cut) → (r ≡ halt.Full → ⊥)
         → ((entries : List Entry) → RunsUntil r start.model joined.whole.log entries place held end now → RunEnds (Err r) start.model joined.whole.log entries place held end now)
         → Whys r c place → FeedsUntil plan start.model c old place held mid end now → TeamRun joined.duties start place held (Err r) end now

@@ -179,7 +179,7 @@ tells_more plan old mid new start middle place tells follows step =
       follows = follows_on old mid new tells.follows follows;
       inputs = tells.inputs ++ line ∷ [];
       heard = heard_more start middle place tells.inputs step.message tells.heard step.asks;
-      mine = (let P : List (ℕ × Noted) → Type 0 = λ xs. AreInputs (tells.inputs ++ line ∷ []) xs in subst P (sym makes.mine) (inputs_push tells.inputs (mine_of mid) line (step.hands.0, Made (Some Feeder) makes.entry) tells.mine (refl, is)));
+      mine = (let P : List (ℕ × Noted) → Type 0 = λ xs. AreInputs (tells.inputs ++ line ∷ []) xs in subst P (sym makes.mine) (inputs_push tells.inputs (mine_of mid) line (step.hands.0, Made (Some Feeder) makes.entry) tells.mine is));
     }
 
 -- a pass's own items stand in what it has seen

@@ -47,7 +47,7 @@ use Rattle.pl_pair.proofs.Working.{own_on, own_kinds}
 use Rattle.pl_pair.proofs.Feeding.{own_stands}
 use Rattle.pl_pair.specs.Chosen.{AreChosen}
 use Rattle.pl_pair.proofs.Choosing.{are_chosen}
-use Rattle.pl_pair.proofs.Closing.{FeederList, feeder_until, inputs_signed, MoreOf, more_of, NoInputs, made_no_inputs, repair_no_input, executed_no_input, inputs_are, no_further, one_input, same_model, Rests, between, over, stopped, world_in, at_front, entries_whole, over_none, between_input, stop_none}
+use Rattle.pl_pair.proofs.Closing.{FeederList, feeder_until, MoreOf, more_of, NoInputs, made_no_inputs, repair_no_input, executed_no_input, inputs_are, no_further, one_input, same_model, Rests, between, over, stopped, world_in, at_front, entries_whole, over_none, between_input, stop_none}
 use Rattle.pl_machine.proofs.ShortLogs.{log_is_some}
 
 -- ---- the whole history, of the model that was handed in
@@ -102,17 +102,11 @@ refused_full (Some stop.Memory) r seen is why = absurd (cc)
 -- ---- the feeder's list
 
 pub list_same : (inputs : List (Option (List ℕ))) (mid first : PlanPass) → AreInputs inputs (mine_of mid) → mine_of first ≡ mine_of mid → FeederList inputs (mine_of mid) (mine_of first)
-list_same inputs mid first are same = record { rest = []; whole = same ∙ sym (append-nil (mine_of mid)); are = are; behind = inl refl; signed = subst (AreSigned Feeder) (sym same) (inputs_signed inputs (mine_of mid) are) }
+list_same inputs mid first are same = record { rest = []; whole = same ∙ sym (append-nil (mine_of mid)); are = are; behind = inl refl }
 
-pub list_stop : (inputs : List (Option (List ℕ))) (mid first : PlanPass) → AreInputs inputs (mine_of mid) → Stops Feeder mid first → FeederList inputs (mine_of mid) (mine_of first)
+pub list_stop : (inputs : List (Option (List ℕ))) (mid first : PlanPass) → AreInputs inputs (mine_of mid) → Stops mid first → FeederList inputs (mine_of mid) (mine_of first)
 list_stop inputs mid first are (was_stopped same stops) = list_same inputs mid first are same
-list_stop inputs mid first are (is_stopped seen on going is mine) = record {
-  rest = (length seen, Stopped Feeder) ∷ [];
-  whole = mine;
-  are = are;
-  behind = inr (length seen, Feeder, refl);
-  signed = subst (AreSigned Feeder) (sym mine) (All-push (λ x. signer_in x.1 ≡ Some Feeder) (mine_of mid) (length seen, Stopped Feeder) (inputs_signed inputs (mine_of mid) are) refl);
-}
+list_stop inputs mid first are (is_stopped seen on going is mine) = record { rest = (length seen, Stopped) ∷ []; whole = mine; are = are; behind = inr (length seen, refl) }
 
 -- ---- one whole history
 
@@ -240,7 +234,6 @@ module _ (m : Model) (before : List Entry) (first : PlanPass) (ws : List Worker)
       owners = service_owners;
       feeder_saw = record { begins = joined.whole.first_seen; holds = own_stands joined.plan first joined.own };
       inputs = feeder_until inputs own (mine_of first) list;
-      signed = list.signed;
       each = each_served;
     }
 

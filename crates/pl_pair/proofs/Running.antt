@@ -76,7 +76,7 @@ idle_served items (d ∷ duties) = All-cons (ServedIn items) (idle d) (idles dut
   saw = record { begins = (items, refl); holds = tt };
   kinds = All-nil (λ x. is_entry (kind_of (role_of d)) x.1 ≡ true);
   made = ([], refl);
-  signed = All-nil (λ x. signer_in x.1 ≡ Some (author_of d));
+  signed = All-nil (λ x. (is_stop x.1 ≡ true) ⊎ (signer_in x.1 ≡ Some (author_of d)));
   is = refl;
   why = tt;
 }) (idle_served items duties)

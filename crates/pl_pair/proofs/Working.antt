@@ -45,19 +45,19 @@ module _ (plan : SharedPlan) (duty : Duty) (pass pass2 : PlanPass) (role role2 :
       makes_all_append (seen_of pass2) (role_of duty) role last (begun_of duty) (mine_of pass) more start_on
       (makes_all_late role last (low_of pass) (low_behind (begun_of duty) (mine_of pass)) (seen_of pass2) more low made)
 
-  -- each is the worker's
+  -- each is the worker's, or a stop
   abbrev Signs : ℕ × Noted → Type 0
-  Signs x = signer_in x.1 ≡ Some (author_of duty)
+  Signs x = (is_stop x.1 ≡ true) ⊎ (signer_in x.1 ≡ Some (author_of duty))
 
   signs_more : (more : List (ℕ × Noted)) → All (λ x. signer_in x.1 ≡ Some (author_of duty)) more → All Signs (mine_of pass ++ more)
-  signs_more more by = All-append Signs (mine_of pass) more signed.1 by
+  signs_more more by = All-append Signs (mine_of pass) more signed.1 (All-weaker (λ x. signer_in x.1 ≡ Some (author_of duty)) Signs (λ x h. inr h) more by)
 
   signs_on : (own2 : List (ℕ × Noted)) → mine_of pass2 ≡ mine_of pass ++ own2 → All (λ x. signer_in x.1 ≡ Some (author_of duty)) own2 → SignsOwn duty (mine_of pass2)
   signs_on own2 mine by = (signed.0, subst (All Signs) (sym mine) (signs_more own2 by))
 
-  signs_rest : (rest : List (ℕ × Noted)) → (rest ≡ []) ⊎ ((place : ℕ) × (rest ≡ (place, Stopped (author_of duty)) ∷ [])) → All Signs rest
+  signs_rest : (rest : List (ℕ × Noted)) → (rest ≡ []) ⊎ ((place : ℕ) × (rest ≡ (place, Stopped) ∷ [])) → All Signs rest
   signs_rest rest (inl none) = subst (All Signs) (sym none) (All-nil Signs)
-  signs_rest rest (inr one) = subst (All Signs) (sym one.1) (All-cons Signs (one.0, Stopped (author_of duty)) [] refl (All-nil Signs))
+  signs_rest rest (inr one) = subst (All Signs) (sym one.1) (All-cons Signs (one.0, Stopped) [] (inl refl) (All-nil Signs))
 
   signs_until : (last : Role) → WorksUntil (author_of duty) role pass last pass2 → SignsOwn duty (mine_of pass2)
   signs_until last works =
@@ -179,7 +179,7 @@ acts_on plan w pass2 role2 a served going own takes acts =
 
 -- an act that met one, and the stop behind it
 pub acts_until : (plan : SharedPlan) (w : Worker) (mid new : PlanPass) (role2 : Role) (s : Stop) → IsServed plan w → w.refusal ≡ None → BelongsTo plan mid → TakesTurn w.pass mid → Acts (author_of w.duty) w.role w.pass (Err s) role2 mid
-    → BelongsTo plan new → TakesTurn mid new → Stops (author_of w.duty) mid new → IsServed plan (record { pass = new; role = role2; duty = w.duty; refusal = Some s })
+    → BelongsTo plan new → TakesTurn mid new → Stops mid new → IsServed plan (record { pass = new; role = role2; duty = w.duty; refusal = Some s })
 acts_until plan w mid new role2 s served going own takes acts own2 takes2 stops =
     let none = working_none (author_of w.duty) w.pass w.role in
     let before = made_none w.refusal (role_of w.duty) w.role (begun_of w.duty) (seen_of w.pass) (mine_of w.pass) going served.made in

@@ -86,7 +86,7 @@ abbrev pub mets_of : List Service → List (Option Stop)
 mets_of workers = map (λ (d : Service). d.met) workers
 
 -- The history in the lock goes on from the entries that were handed in, and has one owner for each further entry: inputs are the feeder's, fixes and rests a planner's, commits, dispatches and closes the executive's.
--- It begins with all that the feeder had seen, in which its own entries stand, and with what each worker had seen. Each own item has its owner as its author. The stop, where there is one, is the own item of the feeder, or of a worker that met a refusal.
+-- It begins with all that the feeder had seen, in which its own entries stand, and with what each worker had seen. The stop, where there is one, is the own item of the feeder, or of a worker that met a refusal.
 pub record History (duties : List Duty) (m : Model) (before log : List Entry) : Type 0 where
   pub signs : Signs
   pub feeder : List (ℕ × Noted)
@@ -98,7 +98,6 @@ pub record History (duties : List Duty) (m : Model) (before log : List Entry) : 
   pub owners : IsEachOnce (length before) (length (items_of m log signs)) (λ place. times_in place (feeder ∷ owns_of workers))
   pub feeder_saw : HadSeen (items_of m log signs) feeder_seen feeder
   pub inputs : AreOfUntil is_input feeder
-  pub signed : AreSigned Feeder feeder
   pub each : All (ServedIn (items_of m log signs)) workers
 
 -- ---- the messages

@@ -71,7 +71,7 @@ fn run_over<R: Threads + Wait + Sync, S: Source, O: Sink, G: Gate + Sync>(
     };
     let Remains { pass, fed, met } = remains;
     let answer = ended(&fed, met);
-    let (_machine, _marks) = plan.close_signed(pass);
+    let (_machine, _marks) = plan.close(pass);
     answer
 }
 
