@@ -1,6 +1,6 @@
 use Rattle.std.proofs.Common.{arith}
 use Rattle.pl_acts.proofs.FullLogs.{plan_short}
-use Rattle.pl_locked.proofs.Progress.{works_on, works_idle, worked_until}
+use Rattle.pl_locked.proofs.Progress.{working_none, works_on, works_idle, worked_until}
 use Rattle.pl_locked.proofs.working.work_as.Goals as goal
 
 pub overflow_add-acts : goal.overflow_add-acts
@@ -8,6 +8,9 @@ overflow_add-acts g c =
     let few = c.loop.invariant.1.few in
     let short = plan_short _ c.loop.invariant.0.seen in
     omega (arith, few, short)
+
+pub loop-init : goal.loop-init
+loop-init g c = (c.requires.own, working_none c.args.by c.args.pass.now c.args.role.now)
 
 pub loop-preserved-in-Ok-Did : goal.loop-preserved-in-Ok-Did
 loop-preserved-in-Ok-Did g c = (
