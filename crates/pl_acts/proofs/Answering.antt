@@ -7,9 +7,7 @@ use Rattle.pl_marks.specs.Marks.{Signed}
 use Rattle.pl_entry.specs.declared.event.Event.{Event}
 use Rattle.pl_entry.specs.declared.event.Event.TheVariants as event
 use Rattle.pl_entry.specs.declared.reply.Reply.{Reply}
-use Rattle.pl_entry.specs.declared.reply.Reply.TheVariants as reply
 use Rattle.pl_entry.specs.declared.entry.Entry.{Entry}
-use Rattle.rand_pcg.specs.Lcg.{Lcg}
 use Rattle.pl_machine.specs.declared.stop.Stop.{Stop}
 use Rattle.pl_machine.specs.declared.stop.Stop.TheVariants as stop
 use Rattle.pl_machine.specs.declared.choice.Choice.{Choice}
@@ -17,15 +15,8 @@ use Rattle.pl_machine.specs.World.{World}
 use Rattle.pl_machine.specs.Step.{is_enabled}
 use Rattle.pl_machine.specs.Choices.{exec_choice_of, event_of}
 use Rattle.pl_machine.specs.Sound.{State}
-use Rattle.pl_machine.specs.Taking.{IsOpen, Takes, Spoils, Answers}
-use Rattle.pl_machine.specs.Solo.{Picks, Drawn}
-use Rattle.pl_machine.specs.declared.repaired.Repaired.{Repaired}
-use Rattle.pl_machine.specs.declared.repaired.Repaired.TheVariants as repaired
-use Rattle.pl_machine.specs.Mending as mending
-use Rattle.pl_machine.specs.Mending.{HasRepaired, RepairsOnce}
-use Rattle.pl_choose.specs.Picks.{seeded_pick, seeded_after}
+use Rattle.pl_machine.specs.Taking.{IsOpen, Takes, Spoils}
 use Rattle.pl_acts.specs.declared.held.Held.{Held}
-use Rattle.pl_acts.specs.declared.role.Role.TheVariants.{Planner, Executive}
 use Rattle.pl_acts.specs.declared.role.Acted.TheVariants as acted
 use Rattle.pl_acts.specs.Roles.{IsChosen, IsInputOf}
 use Rattle.pl_acts.specs.Items.{signed_on}

@@ -1,5 +1,5 @@
 -- Of which kind what a role makes is.
-use Rattle.std.proofs.Common.{◌≡◌, ℕ, ◌+◌, ◌<◌, ◌≤◌, List, [], ◌∷◌, length, Bool, true, Option, Some, None, refl, sym, ◌∙◌, ap, subst, arith, inl, inr, length-append}
+use Rattle.std.proofs.Common.{◌≡◌, ℕ, ◌+◌, ◌<◌, ◌≤◌, List, [], ◌∷◌, length, Bool, true, Option, Some, None, refl, sym, ◌∙◌, ap, subst, arith, length-append}
 use Rattle.std.specs.List.{All}
 use Rattle.std.proofs.lemmas.List.Elements.{All-nil, All-cons}
 use Rattle.pl_model.specs.declared.whole.Model.{Model}
@@ -19,7 +19,7 @@ use Rattle.pl_acts.specs.declared.role.Role.{Role}
 use Rattle.pl_acts.specs.declared.role.Role.TheVariants.{Planner, Executive}
 use Rattle.pl_acts.specs.Items.{model_in, OfWorld, InWorld, entries_in}
 use Rattle.pl_acts.specs.Roles.{worker_of, IsChosen, kind_of, is_entry, is_executed}
-use Rattle.pl_acts.specs.Sights.{IsPlanned, IsBy, IsDueBy, IsKept, IdlesBy, Idles, IsAskedAtMost}
+use Rattle.pl_acts.specs.Sights.{IsPlanned, IsBy, IsKept, IdlesBy, Idles, IsAskedAtMost}
 use Rattle.pl_acts.specs.Making.{IsMadeAt, MakesAll, low_behind}
 use Rattle.pl_acts.specs.Seen.{WasAskedAtMost}
 

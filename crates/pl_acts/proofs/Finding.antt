@@ -1,5 +1,5 @@
 -- What a planner's look comes to.
-use Rattle.std.proofs.Common.{◌≡◌, ℕ, ◌+◌, List, [], ◌∷◌, length, Bool, true, false, Option, Some, None, Ok, Err, refl, sym, ◌∙◌, inl, inr}
+use Rattle.std.proofs.Common.{◌≡◌, ℕ, ◌+◌, List, [], ◌∷◌, length, Bool, true, false, Option, None, Ok, Err, refl, sym, ◌∙◌, inr}
 use Rattle.std.specs.Prelude.{not, ◌&&◌, is_some, nat_le, ◌==◌}
 use Rattle.std.proofs.lemmas.Bool.{leb-true}
 use Rattle.pl_conflict.specs.declared.conflict.Conflict.{Conflict}
@@ -13,8 +13,6 @@ use Rattle.pl_machine.specs.declared.stop.Stop.{Stop}
 use Rattle.pl_machine.specs.declared.stop.Stop.TheVariants as stop
 use Rattle.pl_machine.specs.World.{World, reason_by, plain_reason_of, reason_of}
 use Rattle.pl_machine.specs.Step.{is_enabled}
-use Rattle.pl_machine.specs.Sound.{State}
-use Rattle.pl_machine.specs.Taking.{Answers}
 use Rattle.pl_machine.specs.Mending.{is_repairing}
 use Rattle.pl_acts.specs.declared.held.Held.{Held}
 use Rattle.pl_acts.specs.declared.role.Acted.TheVariants as acted

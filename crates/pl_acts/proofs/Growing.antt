@@ -13,13 +13,12 @@ use Rattle.pl_cand.specs.declared.proposal.Proposal.{Proposal}
 use Rattle.pl_machine.specs.declared.stop.Stop.{Stop}
 use Rattle.pl_machine.specs.declared.stop.Stop.TheVariants as stop
 use Rattle.pl_machine.specs.World.{World}
-use Rattle.pl_machine.specs.Sound.{State}
 use Rattle.pl_acts.specs.declared.noted.Noted.{Noted}
 use Rattle.pl_acts.specs.declared.noted.Noted.TheVariants.{Made, Stopped}
 use Rattle.pl_acts.specs.declared.held.Held.{Held}
 use Rattle.pl_acts.specs.declared.role.Acted.{Acted}
 use Rattle.pl_acts.specs.declared.role.Acted.TheVariants as acted
-use Rattle.pl_acts.specs.Items.{Signs, signed_on, items_of, model_in, opening_in}
+use Rattle.pl_acts.specs.Items.{signed_on, items_of, model_in, opening_in}
 use Rattle.pl_acts.specs.declared.look.Looked.{Looked}
 use Rattle.pl_acts.specs.declared.look.Looked.TheVariants as looked
 use Rattle.pl_acts.specs.Roles.{IsInputOf}

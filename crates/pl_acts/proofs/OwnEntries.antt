@@ -1,5 +1,5 @@
 -- Own entries, as the history goes on.
-use Rattle.std.proofs.Common.{◌≡◌, ℕ, ◌+◌, ◌≤◌, List, [], ◌∷◌, ◌++◌, length, Option, Some, None, refl, sym, ◌∙◌, ap, subst, arith, inl, inr, append_assoc}
+use Rattle.std.proofs.Common.{ℕ, ◌+◌, ◌≤◌, List, [], ◌∷◌, ◌++◌, Option, Some, None, refl, sym, ◌∙◌, ap, subst, arith, inl, inr, append_assoc}
 use mathlib.Core.List.{IsPrefix}
 use Rattle.pl_turn.proofs.Histories.{prefix_trans}
 use Rattle.pl_entry.specs.declared.event.Event.{Event}
@@ -12,7 +12,7 @@ use Rattle.pl_acts.specs.declared.noted.Noted.{Noted}
 use Rattle.pl_acts.specs.declared.noted.Noted.TheVariants.{Made}
 use Rattle.pl_acts.specs.declared.role.Role.{Role}
 use Rattle.pl_acts.specs.declared.role.Role.TheVariants.{Planner, Executive}
-use Rattle.pl_acts.specs.Sights.{IsSight, IsFixed, as_seen, asked_again, HasRested, at_once, behind, IsPlanned, IsBy, IsLost, IsKeptBy, IsKept, IdlesBy, Idles}
+use Rattle.pl_acts.specs.Sights.{IsSight, IsFixed, as_seen, asked_again, HasRested, at_once, behind, IsPlanned, IsBy, IsKeptBy, IsKept, IdlesBy, Idles}
 use Rattle.pl_acts.specs.Making.{IsMadeAt, MakesAll, low_behind}
 
 -- ---- the history goes on

@@ -1,7 +1,7 @@
 -- Replicas of a machine stay behind it, and come up to it.
 use Rattle.std.proofs.Common.{◌≡◌, ℕ, List, [], ◌∷◌, ◌++◌, length, drop, get_or, Bool, true, false, cond, Option, Some, None, IfSome, Result, Ok, Err, refl, sym, ◌∙◌, ap, subst}
 use mathlib.Core.List.{IsPrefix}
-use Rattle.pl_turn.proofs.Histories.{prefix_self, prefix_of_same, prefix_trans}
+use Rattle.pl_turn.proofs.Histories.{prefix_of_same, prefix_trans}
 use Rattle.std.specs.List.{All}
 use Rattle.std.specs.Option.{option_to_list}
 use Rattle.std.proofs.lemmas.List.Elements.{filter_map-append, All-nil, All-cons, All-push, All-head, All-tail}
@@ -14,7 +14,6 @@ use Rattle.pl_entry.specs.declared.reply.Reply.TheVariants as reply
 use Rattle.pl_entry.specs.declared.entry.Entry.{Entry}
 use Rattle.pl_entry.specs.Bounds.{IsEventInRange}
 use Rattle.rand_pcg.specs.Lcg.{Lcg}
-use Rattle.pl_semantics.specs.declared.plan_state.PlanState.{PlanState}
 use Rattle.pl_cand.specs.declared.proposal.Proposal.{Proposal}
 use Rattle.pl_cand.specs.Proposals.{IsProposal}
 use Rattle.pl_choose.specs.Picks.{seeded_pick}
@@ -33,7 +32,6 @@ use Rattle.pl_machine.specs.Mending.{RepairsOnce}
 use Rattle.pl_machine.proofs.Models.{model_of_world}
 use Rattle.pl_machine.proofs.NextSteps.{next_step}
 use Rattle.pl_machine.proofs.Proposed.{proposed_move}
-use Rattle.pl_acts.specs.declared.sight.Sight.{Sight}
 use Rattle.pl_acts.specs.declared.noted.Noted.{Noted}
 use Rattle.pl_acts.specs.Items.{Signs, items_of, entry_in, entries_in, model_in, OfWorld, InWorld}
 use Rattle.pl_acts.specs.Replicas.{HasLog, IsReplica, IsNext, IsAsked, IsReplicaOf}

@@ -1,5 +1,5 @@
 -- What comes of a planner's second turn.
-use Rattle.std.proofs.Common.{◌≡◌, ℕ, ◌+◌, ◌<◌, List, [], ◌∷◌, length, Bool, true, false, Option, Some, None, Ok, Err, refl, sym, ◌∙◌, ap, ◌⊎◌, inl, inr, eq-eqb}
+use Rattle.std.proofs.Common.{◌≡◌, ℕ, ◌+◌, ◌<◌, List, [], ◌∷◌, length, Bool, true, false, Option, Some, None, Ok, Err, refl, sym, ◌∙◌, ◌⊎◌, inl, inr, eq-eqb}
 use Rattle.std.specs.Prelude.{not, ◌&&◌, nat_lt, is_some, ◌==◌}
 use Rattle.std.proofs.lemmas.Bool.{lt-ltb}
 use Rattle.pl_marks.specs.declared.author.Author.{Author}
@@ -18,9 +18,6 @@ use Rattle.pl_machine.specs.declared.stop.Stop.TheVariants as stop
 use Rattle.pl_machine.specs.declared.repaired.Repaired.{Repaired}
 use Rattle.pl_machine.specs.declared.repaired.Repaired.TheVariants as repaired
 use Rattle.pl_machine.specs.World.{World, reason_by, reason_of}
-use Rattle.pl_machine.specs.Step.{is_enabled}
-use Rattle.pl_machine.specs.Sound.{State}
-use Rattle.pl_machine.specs.Taking.{Answers}
 use Rattle.pl_machine.specs.Solo.{Picks, Drawn}
 use Rattle.pl_machine.specs.Mending as mending
 use Rattle.pl_machine.specs.Mending.{is_repairing, HasRepaired, RepairsOnce}

@@ -1,13 +1,12 @@
 -- The author of each item, found by its place.
-use Rattle.std.proofs.Common.{◌≡◌, ℕ, zero, suc, ◌+◌, ◌-◌, ◌<◌, List, [], ◌∷◌, ◌++◌, Bool, true, false, Option, Some, None, slice_get, refl, sym, ◌∙◌, ap, subst, arith}
+use Rattle.std.proofs.Common.{◌≡◌, ℕ, zero, suc, ◌+◌, ◌-◌, ◌<◌, List, [], ◌∷◌, ◌++◌, true, false, Option, Some, None, slice_get, refl, ap, arith}
 use Rattle.pl_marks.specs.declared.author.Author.{Author}
-use Rattle.pl_marks.specs.Marks.{Signed, marks_of, mark_of}
+use Rattle.pl_marks.specs.Marks.{marks_of, mark_of}
 use Rattle.pl_marks.proofs.Numbering.{marked}
 use Rattle.pl_model.specs.declared.whole.Model.{Model}
 use Rattle.pl_entry.specs.declared.entry.Entry.{Entry}
-use Rattle.pl_acts.specs.declared.noted.Noted.{Noted}
-use Rattle.pl_acts.specs.declared.noted.Noted.TheVariants.{Opened, Made, Stopped}
-use Rattle.pl_acts.specs.Items.{Signs, made_items, log_items, stop_items, items_of}
+use Rattle.pl_acts.specs.declared.noted.Noted.TheVariants.{Opened, Made}
+use Rattle.pl_acts.specs.Items.{Signs, made_items, stop_items, items_of}
 
 no_signer : (t : Option Author) (p : ℕ) (a : Author) (e : Entry) → slice_get (stop_items t) p ≡ Some (Made (Some a) e) → true ≡ false
 no_signer (Some b) zero a e at = absurd (cc)

@@ -1,5 +1,5 @@
 -- A mark beside each entry.
-use Rattle.std.proofs.Common.{◌≡◌, ℕ, ◌+◌, ◌<◌, ◌≤◌, List, [], ◌∷◌, ◌++◌, length, Option, Some, None, Result, Ok, Err, OnOk, OnErr, refl, sym, ◌∙◌, ap, subst, inl, inr, arith, length-append}
+use Rattle.std.proofs.Common.{◌≡◌, ◌<◌, ◌≤◌, List, [], ◌∷◌, ◌++◌, length, Result, Ok, Err, OnOk, OnErr, refl, sym, ◌∙◌, ap, subst, inl, inr, arith, length-append}
 use Rattle.pl_marks.specs.declared.author.Author.{Author}
 use Rattle.pl_marks.specs.Marks.{Signed, AreFew}
 use Rattle.pl_entry.specs.declared.event.Event.{Event}
@@ -13,10 +13,9 @@ use Rattle.pl_machine.specs.declared.repaired.Repaired.{Repaired}
 use Rattle.pl_machine.specs.declared.repaired.Repaired.TheVariants as repaired
 use Rattle.pl_machine.specs.Sound.{State}
 use Rattle.pl_machine.specs.Solo.{Picks, Drawn}
-use Rattle.pl_machine.specs.Taking.{Takes, Spoils, Answers}
+use Rattle.pl_machine.specs.Taking.{Answers}
 use Rattle.pl_machine.specs.Mending.{RepairsOnce}
 use Rattle.pl_acts.specs.Items.{signed_on}
-use Rattle.pl_acts.specs.Replicas.{IsReplica}
 use Rattle.pl_acts.specs.Signing.{Written, IsTied, IsWritten, TakesBack, SignedAnswers, RepairsSigned}
 use Rattle.pl_acts.proofs.Replicas.{still_behind, behind_repaired}
 

@@ -1,5 +1,5 @@
 -- A second machine that makes the events of a plan's log again, so that a chooser can be asked on it outside the turn.
-use Rattle.std.specs.Prelude.{◌≡◌, List, [], ◌∷◌, ◌++◌, length, false, Option, Some, IfSome, is_some}
+use Rattle.std.specs.Prelude.{◌≡◌, List, ◌∷◌, ◌++◌, length, false, Some, IfSome, is_some}
 use mathlib.Core.List.{IsPrefix}
 use Rattle.pl_model.specs.declared.whole.Model.{Model}
 use Rattle.pl_entry.specs.declared.entry.Entry.{Entry}

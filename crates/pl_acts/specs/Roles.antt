@@ -1,16 +1,12 @@
 -- Which entries a role makes.
-use Rattle.std.specs.Prelude.{◌≡◌, ℕ, List, Bool, true, false, not, ◌&&◌, Option, Some, None, is_some, ◌⊎◌}
+use Rattle.std.specs.Prelude.{◌≡◌, ℕ, List, Bool, true, false, not, ◌&&◌, Option, Some, None, is_some}
 use Rattle.pl_marks.specs.declared.author.Author.{Author}
 use Rattle.pl_marks.specs.declared.author.Author.TheVariants as author
 use Rattle.pl_entry.specs.declared.event.Event.{Event}
 use Rattle.pl_entry.specs.declared.event.Event.TheVariants as event
-use Rattle.pl_entry.specs.declared.reply.Reply.{Reply}
-use Rattle.pl_entry.specs.declared.reply.Reply.TheVariants as reply
 use Rattle.pl_entry.specs.declared.entry.Entry.{Entry}
-use Rattle.rand_pcg.specs.Lcg.{Lcg}
-use Rattle.pl_choose.specs.Picks.{seeded_pick, seeded_after}
 use Rattle.pl_machine.specs.declared.choice.Choice.{Choice}
-use Rattle.pl_machine.specs.World.{World, reason_of}
+use Rattle.pl_machine.specs.World.{World}
 use Rattle.pl_machine.specs.Choices.{exec_choice_of, event_of}
 use Rattle.pl_acts.specs.declared.role.Role.{Role}
 use Rattle.pl_acts.specs.declared.role.Role.TheVariants.{Planner, Executive}
