@@ -1,13 +1,11 @@
 -- Both halves of a planner's act.
 use Rattle.std.proofs.Common.{◌≡◌, ℕ, ◌≤◌, List, [], ◌∷◌, ◌++◌, length, true, false, Option, Some, None, Result, Ok, Err, refl, sym, ◌∙◌, ap, subst, ◌⊎◌, inl, inr, arith, append_assoc}
 use mathlib.Core.List.{IsPrefix}
-use Rattle.pl_turn.specs.Passes.{seen_of, mine_of}
+use Rattle.pl_turn.specs.Passes.{seen_of}
 use Rattle.pl_turn.proofs.Histories.{prefix_self, prefix_trans, prefix_length}
 use Rattle.pl_entry.specs.declared.event.Event.{Event}
 use Rattle.pl_entry.specs.declared.event.Event.TheVariants as event
 use Rattle.pl_entry.specs.declared.reply.Reply.{Reply}
-use Rattle.pl_entry.specs.declared.reply.Reply.TheVariants as reply
-use Rattle.pl_entry.specs.declared.entry.Entry.{Entry}
 use Rattle.rand_pcg.specs.Lcg.{Lcg}
 use Rattle.pl_marks.specs.declared.author.Author.{Author}
 use Rattle.pl_cand.specs.declared.proposal.Proposal.{Proposal}
@@ -29,14 +27,14 @@ use Rattle.pl_acts.specs.declared.sight.Sight.{Sight}
 use Rattle.pl_acts.specs.declared.sight.View.TheVariants as view
 use Rattle.pl_acts.specs.Items.{items_of, stop_in, entries_in, InWorld}
 use Rattle.pl_acts.specs.Replicas.{log_of, IsAsked}
-use Rattle.pl_acts.specs.Sights.{HasLooked, IsSight, IsFixed, as_seen, asked_again, HasRested, behind, IsPlanned, IsLate, IsLost, IsKeptBy, IsDueBy, IsAskedAtMost}
+use Rattle.pl_acts.specs.Sights.{HasLooked, IsSight, as_seen, asked_again, behind, IsPlanned, IsLate, IsLost, IsKeptBy, IsDueBy, IsAskedAtMost}
 use Rattle.pl_acts.specs.Roles.{worker_of}
 use Rattle.pl_acts.specs.Inside.{IsStepIn}
 use Rattle.pl_acts.proofs.FullLogs.{in_world_on}
 use Rattle.pl_acts.proofs.Items.{in_world_of, stop_in_same, length_going}
 use Rattle.pl_acts.proofs.Replicas.{replica_of}
 use Rattle.pl_locked.specs.Plans.{PlanPass}
-use Rattle.pl_locked.specs.Turns.{TakesTurn, Makes, MakesNothing, low_of, Acts, Looks, Sees, CanSettle, Views, IsSettled, Settles, SettlesAs}
+use Rattle.pl_locked.specs.Turns.{TakesTurn, MakesNothing, low_of, Acts, Looks, Sees, CanSettle, Views, IsSettled, Settles, SettlesAs}
 
 -- ---- a view
 

@@ -1,8 +1,7 @@
 -- What a worker made so far.
-use Rattle.std.proofs.Common.{◌≡◌, ℕ, ◌+◌, ◌<◌, ◌≤◌, List, [], ◌∷◌, ◌++◌, length, Bool, true, false, Option, Some, Ok, Err, refl, sym, ◌∙◌, ap, subst, arith, inl, inr, append_assoc, length-append}
+use Rattle.std.proofs.Common.{◌≡◌, ℕ, ◌+◌, ◌≤◌, List, [], ◌∷◌, ◌++◌, length, Bool, true, false, Some, Ok, Err, refl, sym, ◌∙◌, ap, subst, arith, inl, inr, append_assoc, length-append}
 use Rattle.std.proofs.lemmas.List.{append-nil}
 use Rattle.std.proofs.lemmas.List.Folds.{list_any-append}
-use Rattle.std.specs.List.{All}
 use Rattle.std.proofs.lemmas.List.Elements.{All-push}
 use Rattle.std.proofs.Math.Bool.{or-true}
 use mathlib.Core.List.{IsPrefix}
@@ -18,15 +17,15 @@ use Rattle.pl_acts.specs.declared.noted.Noted.TheVariants.{Made, Stopped}
 use Rattle.pl_acts.specs.declared.role.Role.{Role}
 use Rattle.pl_acts.specs.declared.role.Role.TheVariants.{Planner, Executive}
 use Rattle.pl_acts.specs.declared.role.Acted.TheVariants as acted
-use Rattle.pl_acts.specs.Items.{model_in, signer_in, is_stop, stop_in, InWorld}
-use Rattle.pl_acts.specs.Roles.{worker_of, has_event, kind_of, is_entry}
-use Rattle.pl_acts.specs.Sights.{IsDueBy, IsKept, Idles, IsAskedAtMost}
+use Rattle.pl_acts.specs.Items.{model_in, signer_in, is_stop, stop_in}
+use Rattle.pl_acts.specs.Roles.{has_event, kind_of, is_entry}
+use Rattle.pl_acts.specs.Sights.{IsKept, Idles, IsAskedAtMost}
 use Rattle.pl_acts.specs.Making.{low_behind}
 use Rattle.pl_acts.specs.Seen.{IsPlan, WasAskedAtMost}
 use Rattle.pl_locked.specs.Plans.{PlanPass}
 use Rattle.pl_locked.specs.Turns.{TakesTurn, low_of, Acts, Stops, was_stopped, is_stopped, Works, WorksUntil, WorksOn}
 use Rattle.pl_acts.proofs.EntryKinds.{by_kind, kind_same, kept_worker, made_within, low_within}
-use Rattle.pl_acts.proofs.FullLogs.{IsRunning, in_world_on, full_on, runs_full}
+use Rattle.pl_acts.proofs.FullLogs.{in_world_on, full_on, runs_full}
 use Rattle.pl_acts.proofs.OwnEntries.{makes_all_on, makes_all_idle, kept_late, idles_once}
 use Rattle.pl_locked.proofs.OwnEntries.{makes_all_push}
 

@@ -9,7 +9,6 @@ use Rattle.pl_turn.proofs.Histories.{prefix_trans, prefix_length}
 use Rattle.pl_model.specs.declared.whole.Model.{Model}
 use Rattle.pl_marks.specs.declared.author.Author.{Author}
 use Rattle.pl_marks.specs.declared.author.Author.TheVariants.{Feeder}
-use Rattle.pl_marks.specs.Marks.{Signed}
 use Rattle.pl_entry.specs.declared.event.Event.{Event}
 use Rattle.pl_entry.specs.declared.event.Event.TheVariants as event
 use Rattle.pl_entry.specs.declared.reply.Reply.{Reply}
@@ -26,7 +25,6 @@ use Rattle.pl_machine.specs.Choices.{exec_choice_of}
 use Rattle.pl_machine.specs.Step.{fix_reply, reply_of}
 use Rattle.pl_machine.specs.Mending.{is_repairing}
 use Rattle.pl_machine.specs.Repairs.{IsMoveOf}
-use Rattle.pl_machine.specs.Sound.{State}
 use Rattle.pl_machine.specs.Legal.{Legal, IsHistory, world_of}
 use Rattle.pl_machine.proofs.Mending.{proposed_done}
 use Rattle.pl_acts.specs.declared.noted.Noted.{Noted}
@@ -40,7 +38,7 @@ use Rattle.pl_acts.specs.declared.draft.Draft.{Draft}
 use Rattle.pl_acts.specs.declared.look.Looked.{Looked}
 use Rattle.pl_acts.specs.declared.look.Looked.TheVariants as looked
 use Rattle.pl_acts.specs.declared.sight.Sight.{Sight}
-use Rattle.pl_acts.specs.Items.{Signs, items_of, entries_in, model_in, stop_in, InWorld}
+use Rattle.pl_acts.specs.Items.{items_of, entries_in, model_in, stop_in, InWorld}
 use Rattle.pl_acts.specs.Roles.{has_event, IsChosen, IsInputOf}
 use Rattle.pl_acts.specs.Replicas.{log_of, IsReplica, IsDraft, IsDraftOf}
 use Rattle.pl_acts.specs.Sights.{AsksIn, at_once, IsPlanned, IsDueBy}

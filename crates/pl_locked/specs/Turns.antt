@@ -1,5 +1,5 @@
 -- What the calls that take a turn do.
-use Rattle.std.specs.Prelude.{◌≡◌, ◌<◌, ◌≤◌, ℕ, List, [], ◌∷◌, ◌++◌, length, drop, true, false, Option, Some, None, IfSome, Result, Ok, Err, ◌⊎◌}
+use Rattle.std.specs.Prelude.{◌≡◌, ◌≤◌, ℕ, List, [], ◌∷◌, ◌++◌, length, true, false, Option, Some, None, IfSome, Result, Ok, Err, ◌⊎◌}
 use Rattle.std.specs.List.{All}
 use mathlib.Core.List.{IsPrefix}
 use Rattle.pl_turn.specs.Passes.{seen_of, mine_of, counted_of, crew_of}
@@ -11,12 +11,11 @@ use Rattle.pl_entry.specs.declared.event.Event.TheVariants as event
 use Rattle.pl_entry.specs.declared.reply.Reply.{Reply}
 use Rattle.pl_entry.specs.declared.reply.Reply.TheVariants as reply
 use Rattle.pl_entry.specs.declared.entry.Entry.{Entry}
-use Rattle.pl_cand.specs.declared.proposal.Proposal.{Proposal}
 use Rattle.pl_cand.specs.Proposals.{IsProposal}
 use Rattle.pl_choose.specs.Picks.{seeded_pick, seeded_after}
 use Rattle.pl_machine.specs.declared.stop.Stop.{Stop}
 use Rattle.pl_machine.specs.declared.stop.Stop.TheVariants as stop
-use Rattle.pl_machine.specs.World.{World, reason_of}
+use Rattle.pl_machine.specs.World.{reason_of}
 use Rattle.pl_machine.specs.Mending.{is_repairing}
 use Rattle.pl_acts.specs.declared.noted.Noted.{Noted}
 use Rattle.pl_acts.specs.declared.noted.Noted.TheVariants.{Made, Stopped}
@@ -29,7 +28,7 @@ use Rattle.pl_acts.specs.declared.look.Looked.TheVariants as looked
 use Rattle.pl_acts.specs.declared.sight.Sight.{Sight}
 use Rattle.pl_acts.specs.declared.sight.View.{View}
 use Rattle.pl_acts.specs.declared.sight.View.TheVariants as view
-use Rattle.pl_acts.specs.Items.{entries_in, model_in, signer_in, stop_in, InWorld}
+use Rattle.pl_acts.specs.Items.{model_in, signer_in, stop_in, InWorld}
 use Rattle.pl_acts.specs.Roles.{worker_of, has_event, IsInputOf, kind_of, is_entry}
 use Rattle.pl_acts.specs.Replicas.{IsReplicaOf, IsDraftOf}
 use Rattle.pl_acts.specs.Sights.{AsksIn, IsSight, IsDueBy, IsKept, IsAskedAtMost}
