@@ -1,8 +1,10 @@
-use pl_acts::Role;
-use pl_locked::Pass;
-use pl_marks::Author;
+ghost use Rattle.std.specs.Prelude.{◌≡◌};
 
-/// One of a crew: who it is, what it knows of the history, and what it does, unless it is the feeder.
+use pl_acts::Role;
+use pl_marks::Author;
+use pl_shared::Pass;
+
+/// One of a crew: who it is, what it knows of the history, and how it acts, unless it is the feeder.
 #[derive(Drop)]
 pub struct Member {
     pub(crate) author: Author,
@@ -11,8 +13,6 @@ pub struct Member {
 }
 
 impl Member {
-    ghost use Rattle.std.specs.Prelude.{◌≡◌};
-
     /// Who it is.
     pub fn author(&self) -> Author
         ensures { result ≡ self.now.author }
