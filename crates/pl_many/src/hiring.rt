@@ -1,7 +1,6 @@
 //! How a crew begins.
 ghost use Rattle.std.specs.Prelude.{◌≡◌, ◌≤◌, ◌<◌, ◌+◌, [], ◌∷◌, ◌++◌, length, true, IfOk, IfErr, vec_len, vec_capacity};
 ghost use Rattle.pl_many.specs.Members.{IsHired};
-ghost use Rattle.pl_many.specs.Hiring.{IsBegun, IsManned};
 
 use crate::crew::{Crew, Hired};
 use crate::member::Member;

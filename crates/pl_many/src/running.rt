@@ -1,46 +1,42 @@
 //! The whole run of a crew.
-ghost use Rattle.std.specs.Prelude.{◌≡◌, ◌≤◌, false, None, IsErrOf};
+ghost use Rattle.std.specs.Prelude.{◌≡◌, ◌≤◌, ◌∷◌, [], false, None, IsErrOf, IfOk};
 ghost use Rattle.pl_io.specs.Faults.{Rose};
 ghost use Rattle.pl_input.specs.Places.{place_of};
-ghost use Rattle.pl_many.specs.CrewRuns.{CrewRun, duties_for};
+ghost use Rattle.pl_many.specs.CrewRuns.{CrewRun, crew_of};
 
 use crate::lines::write_tallies;
 use pl_input::Halt;
 use pl_io::{LineReader, Sink, Source};
 use pl_machine::Machine;
-use pl_team::{Duty, Ended, run_team};
+use pl_pair::{Duty, run_team};
 use pl_turn::Gate;
 use std::alloc::{AllocError, Global};
 use std::sync::Wait;
 use std::thread::Threads;
 
-/// An executive, and so many planners by number.
-fn duties(alloc: Global, planners: u8, seed: u64) -> Result<Vec<Duty>, AllocError>
+/// An executive, and so many planners by number, hired where there were so many entries. The chooser of each planner is made from the
+/// seed and its number added up.
+fn duties(
+    alloc: Global,
+    planners: u8,
+    seed: u64,
+    begun: u32,
+) -> Result<Vec<Duty>, AllocError>
     requires planners { planners ≤ 8 }
     requires seed { seed ≤ 999999999999999999 }
-    ensures { IfOk result (λ duties. duties.items ≡ duties_for planners seed) }
+    ensures { IfOk result (λ duties. duties.items ≡ crew_of planners seed begun) }
 {
     let mut duties = Vec::with_capacity(alloc, 9)?;
     duties.push(Duty::Execute)?;
     for before in 0..planners {
-        let planner = before + 1;
-        duties.push(Duty::Repair {
-            planner,
-            seed: seed + u64::from(planner),
-        })?;
+        let number = before + 1;
+        duties.push(Duty::Repair(number, seed + u64::from(number), begun))?;
     }
     Ok(duties)
 }
 
-/// Writes what each planner made, once the run has come to its end.
-fn tell<O: Sink>(alloc: Global, planners: u8, ended: &Ended, out: &mut O) -> Result<(), Halt>
-    requires planners { planners ≤ 8 }
-{
-    write_tallies(alloc, planners, &ended.marks, ended.machine.log(), out)
-}
-
-/// Runs an executive and planners in threads of their own, feeds them the messages that a reader has left, and writes the lines of the whole
-/// log, and behind it a line for each planner. It waits for its threads.
+/// Runs an executive and planners in threads of their own, feeds them the messages that a reader has left, and writes the lines of the
+/// whole log, and behind them a line for each planner. It waits for its threads.
 pub fn run_crew<R: Threads + Wait + Sync, I: Source, O: Sink, G: Gate + Sync>(
     rt: &R,
     alloc: Global,
@@ -61,7 +57,11 @@ pub fn run_crew<R: Threads + Wait + Sync, I: Source, O: Sink, G: Gate + Sync>(
     ensures read { IsErrOf result Halt.Read → (lines.old.failed ≡ None) → Rose (I.faults src.old) (I.faults src.new) }
     ensures write { IsErrOf result Halt.Write → Rose (O.faults out.old) (O.faults out.new) }
 {
-    let duties = duties(alloc, planners, seed)?;
-    let ended = run_team(rt, alloc, machine, &duties, gate, lines, src, out)?;
-    tell(alloc, planners, &ended, out)
+    let Ok(duties) = duties(alloc, planners, seed, machine.entries()) else {
+        return Err(Halt::Memory);
+    };
+    match run_team(rt, alloc, machine, &duties, gate, lines, src, out) {
+        Ok(ended) => write_tallies(alloc, planners, &ended.marks, ended.machine.log(), out),
+        Err(halt) => Err(halt),
+    }
 }
