@@ -10,6 +10,14 @@ pub enum Command {
     Alone(Task),
 }
 
+/// Who repairs a plan, beside an executive: a planner with a chooser of this seed, or several, numbered from 1, each with a chooser of
+/// the seed and its number added up.
+#[derive(Clone, Copy, Debug, PartialEq, Eq)]
+pub enum Team {
+    Pair { seed: u64 },
+    Crew { planners: u8, seed: u64 },
+}
+
 /// A job of one thread. The repair turns of a round are from 1 to 1,000.
 #[derive(Clone, Copy, Debug, PartialEq, Eq)]
 pub enum Task {

@@ -7,18 +7,48 @@ ghost use Rattle.pl_main.specs.Endings.{EndedAsKnown};
 ghost use Rattle.pl_main.specs.RunKinds.{pair_run};
 ghost use Rattle.pl_main.specs.Runs.{PairRuns, TextRuns};
 
+use crate::command::Team;
 use crate::judging::{NO_BEGIN, model_of, refuse};
 use crate::outcome::Outcome;
 use crate::whole::{LINE_LIMIT, TOTAL_LIMIT, open_machine};
 use pl_check::Accepted;
 use pl_input::{Halt, Head, halt_of, read_head};
 use pl_io::{LineReader, Sink, Source};
+use pl_machine::Machine;
 use pl_model::Model;
+use pl_many::run_crew;
 use pl_pair::run_pair;
 use pl_turn::Gate;
 use std::alloc::Global;
 use std::sync::Wait;
 use std::thread::Threads;
+
+/// Has the messages answered by a team.
+fn run_as<R: Threads + Wait + Sync, S: Source, O: Sink, G: Gate + Sync>(
+    rt: &R,
+    alloc: Global,
+    team: Team,
+    machine: Machine,
+    gate: &G,
+    lines: &mut LineReader,
+    src: &mut S,
+    out: &mut O,
+) -> Result<(), Halt>
+    requires going { machine.world.done ≡ false }
+    requires team { IsTeam team }
+    requires limit { lines.old.limit ≤ 4096 }
+    ensures run { RunsAs team machine (place_of lines.old (S.left src.old)) (O.held out.old) result
+        (place_of lines.new (S.left src.new)) (O.held out.new) }
+    ensures read { IsErrOf result Halt.Read → lines.old.failed ≡ None → Rose (S.faults src.old) (S.faults src.new) }
+    ensures write { IsErrOf result Halt.Write → Rose (O.faults out.old) (O.faults out.new) }
+{
+    match team {
+        Team::Pair { seed } => run_pair(rt, alloc, machine, seed, gate, lines, src, out),
+        Team::Crew { planners, seed } => run_crew(
+            rt, alloc, machine, planners, seed, gate, lines, src, out,
+        ),
+    }
+}
 
 /// Opens a journal over a model, and has the messages answered.
 #[tactic(auto, using(crate::proofs::Pairing::none_opened))]
@@ -26,7 +56,7 @@ fn run_model<R: Threads + Wait + Sync, S: Source, O: Sink, G: Gate + Sync>(
     rt: &R,
     alloc: Global,
     turns: u32,
-    seed: u64,
+    team: Team,
     model: Model,
     gate: &G,
     lines: &mut LineReader,
@@ -43,7 +73,7 @@ fn run_model<R: Threads + Wait + Sync, S: Source, O: Sink, G: Gate + Sync>(
     ensures write { IsErrOf result Halt.Write → Rose (O.faults out.old) (O.faults out.new) }
 {
     match open_machine(alloc, turns, model) {
-        Ok(machine) => run_pair(rt, alloc, machine, seed, gate, lines, src, out),
+        Ok(machine) => run_as(rt, alloc, team, machine, gate, lines, src, out),
         Err(_) => Err(Halt::Memory),
     }
 }
@@ -53,7 +83,7 @@ fn run_text<R: Threads + Wait + Sync, S: Source, O: Sink, G: Gate + Sync>(
     rt: &R,
     alloc: Global,
     turns: u32,
-    seed: u64,
+    team: Team,
     kept: Option<Vec<u8>>,
     gate: &G,
     lines: &mut LineReader,
@@ -71,7 +101,7 @@ fn run_text<R: Threads + Wait + Sync, S: Source, O: Sink, G: Gate + Sync>(
     match model_of(alloc, &kept)? {
         Accepted::Refused(line) => refuse(out, line.as_slice()),
         Accepted::Model(model) => match run_model(
-            rt, alloc, turns, seed, model, gate, lines, src, out,
+            rt, alloc, turns, team, model, gate, lines, src, out,
         ) {
             Ok(()) => Ok(Outcome::Done),
             Err(halt) => Err(halt),
@@ -86,7 +116,7 @@ pub fn paired<R: Threads + Wait + Sync, S: Source, O: Sink, G: Gate + Sync>(
     rt: &R,
     alloc: Global,
     turns: u32,
-    seed: u64,
+    team: Team,
     src: &mut S,
     out: &mut O,
     gate: &G,
@@ -101,6 +131,6 @@ pub fn paired<R: Threads + Wait + Sync, S: Source, O: Sink, G: Gate + Sync>(
     match read_head(alloc, &mut lines, src) {
         Err(fault) => Err(halt_of(fault)),
         Ok(Head::NoBegin) => refuse(out, NO_BEGIN),
-        Ok(Head::Text(kept)) => run_text(rt, alloc, turns, seed, kept, gate, &mut lines, src, out),
+        Ok(Head::Text(kept)) => run_text(rt, alloc, turns, team, kept, gate, &mut lines, src, out),
     }
 }

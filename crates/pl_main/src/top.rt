@@ -8,7 +8,7 @@ ghost use Rattle.pl_main.specs.Statuses.{IsTask, IsStatusOf, IsPairStatus, statu
 ghost use Rattle.pl_journal.specs.Written.{Adds};
 
 use crate::check::check;
-use crate::command::{Command, Task};
+use crate::command::{Command, Task, Team};
 use crate::demo::demo;
 use crate::form::Form;
 use crate::journals::read_back;
@@ -101,7 +101,7 @@ fn usage<O: Sink>(out: &mut O) -> u8
 {
     match put(
         out,
-        b"usage: run solo N | run pair N SEED | check | replay | report | demo N | flex ID | forecast | improve N\n",
+        b"usage: run solo N | run pair N SEED | check | replay | report | demo N | run crew N P SEED | flex ID | forecast | improve N\n",
     ) {
         Ok(()) => 2,
         Err(_) => 5,
@@ -110,11 +110,11 @@ fn usage<O: Sink>(out: &mut O) -> u8
 
 /// Does the job of a planner and an executive in threads of their own, and answers its status.
 #[tactic(auto, using(crate::proofs::Topping::says_of, crate::proofs::Jobs::pair_status))]
-fn pair<R: Threads + Wait + Sync, I: Source, O: Sink, G: Gate + Sync>(
+fn team_status<R: Threads + Wait + Sync, I: Source, O: Sink, G: Gate + Sync>(
     rt: &R,
     alloc: Global,
     turns: u32,
-    seed: u64,
+    team: Team,
     input: &mut I,
     out: &mut O,
     gate: &G,
@@ -128,7 +128,7 @@ fn pair<R: Threads + Wait + Sync, I: Source, O: Sink, G: Gate + Sync>(
         → (Rose (O.faults out.old) (O.faults out.new) → ⊥)
         → CompletesRun (pair_run turns seed) (I.left input.old) result }
 {
-    status_of(paired(rt, alloc, turns, seed, input, out, gate))
+    status_of(paired(rt, alloc, turns, team, input, out, gate))
 }
 
 /// Does what the words behind the program's name ask for, and answers the program's status. `run pair N SEED` alone starts
@@ -167,7 +167,22 @@ pub fn run<R: Threads + Wait + Sync, I: Source, O: Sink, G: Gate + Sync>(
 {
     match read_words(words) {
         None => usage(out),
-        Some(Command::Pair { turns, seed }) => { pair(rt, alloc, turns, seed, input, out, gate) }
+        Some(Command::Pair { turns, seed }) => {
+            team_status(rt, alloc, turns, Team::Pair { seed }, input, out, gate)
+        }
+        Some(Command::Crew {
+            turns,
+            planners,
+            seed,
+        }) => team_status(
+            rt,
+            alloc,
+            turns,
+            Team::Crew { planners, seed },
+            input,
+            out,
+            gate,
+        ),
         Some(Command::Alone(task)) => run_solo(alloc, &task, input, out),
     }
 }

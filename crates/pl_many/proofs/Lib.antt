@@ -1,1 +1,3 @@
 pub mod Tallying
+pub mod Membering
+pub mod Naming
