@@ -78,7 +78,7 @@ idles_by_worker r r2 low seen (mid ∷ mids) idles = idles_by_worker mid r2 low 
 pub idles_worker : (r r2 : Role) (low : ℕ) (seen : List Noted) → Idles r low seen r2 → worker_of r2 ≡ worker_of r
 idles_worker r r2 low seen idles = idles_by_worker r r2 low seen idles.0 idles.1
 
-asked_worker : (r r2 : Role) (low : ℕ) (seen : List Noted) → IsAskedAtMost r low seen r2 → worker_of r2 ≡ worker_of r
+pub asked_worker : (r r2 : Role) (low : ℕ) (seen : List Noted) → IsAskedAtMost r low seen r2 → worker_of r2 ≡ worker_of r
 asked_worker (Planner g) (Planner g2) low seen asked = refl
 asked_worker (Planner g) Executive low seen asked = absurd asked
 asked_worker Executive r2 low seen same = ap worker_of same

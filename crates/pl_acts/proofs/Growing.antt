@@ -118,7 +118,7 @@ grows_copied seen old found = inl (sym found)
 -- ---- what a pass has seen
 
 pub plan_in : (seen : List Noted) (h : Held) → seen ≡ items_in h → IsSound h.plan → IsPlan seen
-plan_in seen h is sound = record { model = h.plan.machine.model; log = h.plan.machine.log; signs = signs_in h; legal = sound.legal; is = is }
+plan_in seen h is sound = record { model = h.plan.machine.model; log = h.plan.machine.log; signs = signs_in h; legal = sound.legal; some = sound.tied.some; each = sound.tied.each; is = is }
 
 pub some_model : (xs ys : List Noted) → IsPlan xs → IsPrefix xs ys → model_in ys ≡ model_in xs
 some_model xs ys plan on =

@@ -1,5 +1,5 @@
 -- What a list of items tells of the plan behind it.
-use Rattle.std.specs.Prelude.{◌≡◌, ◌<◌, ◌≤◌, ℕ, List, length, drop, Bool, true, ◌⊎◌}
+use Rattle.std.specs.Prelude.{◌≡◌, ◌+◌, ◌<◌, ◌≤◌, ℕ, List, length, drop, Bool, true, ◌⊎◌}
 use Rattle.std.specs.List.{All}
 use mathlib.Core.List.{IsPrefix}
 use Rattle.pl_model.specs.declared.whole.Model.{Model}
@@ -11,12 +11,14 @@ use Rattle.pl_acts.specs.declared.role.Role.{Role}
 use Rattle.pl_acts.specs.Items.{Signs, items_of, entries_in, stop_in, InWorld}
 use Rattle.pl_acts.specs.Sights.{IsAskedAtMost}
 
--- the items of a legal log
+-- The items of a legal log, each entry of which was handed in or has an author.
 pub record IsPlan (items : List Noted) : Type 0 where
   pub model : Model
   pub log : List Entry
   pub signs : Signs
   pub legal : Legal model log
+  pub some : 0 < signs.by.opening
+  pub each : signs.by.opening + length signs.by.authors ≡ length log
   pub is : items ≡ items_of model log signs
 
 -- as many entries as the options allow

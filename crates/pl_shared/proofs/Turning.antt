@@ -398,6 +398,7 @@ closed pass h plan sound on counted stands owners = record {
   signs = signs_in h;
   signed = refl;
   some = sound.tied.some;
+  each = sound.tied.each;
   legal = sound.legal;
   model = sym (some_model (seen_of pass) (items_in h) plan on) ∙ model_in_items h.plan.machine.model h.plan.machine.log (signs_in h) sound.legal;
   history = on;

@@ -1,5 +1,5 @@
 -- Passes of a plan, and what they have seen.
-use Rattle.std.specs.Prelude.{◌≡◌, ◌<◌, ◌≤◌, length, false, Some}
+use Rattle.std.specs.Prelude.{◌≡◌, ◌+◌, ◌<◌, ◌≤◌, length, false, Some}
 use Rattle.std.specs.List.{All}
 use mathlib.Core.List.{IsPrefix}
 use Rattle.pl_turn.specs.declared.pass.Pass.{Pass}
@@ -29,6 +29,7 @@ pub record Closes (pass : PlanPass) (machine : State) (by : Signed) : Type 0 whe
   pub signs : Signs
   pub signed : signs.by ≡ by
   pub some : 0 < by.opening
+  pub each : by.opening + length by.authors ≡ length machine.log
   pub legal : Legal machine.model machine.log
   pub model : model_in (seen_of pass) ≡ Some machine.model
   pub history : IsPrefix (seen_of pass) (items_of machine.model machine.log signs)
