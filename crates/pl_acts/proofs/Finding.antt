@@ -25,7 +25,7 @@ use Rattle.pl_acts.specs.Signing.{Written, SignedAnswers}
 use Rattle.pl_acts.specs.Inside.{RestsAtOnce, LooksIn}
 use Rattle.pl_acts.proofs.Answering.{with_plan, took_one, same_plan, same_held, wants_held}
 
-pub rested_at_once : (a : Author) (old : Held) (p : Written) (r : Reply) (n : ℕ) → old.plan.machine.world.done ≡ false → old.stopped ≡ false → is_repairing old.plan.machine.world ≡ true → is_some (plain_reason_of old.plan.machine.world) ≡ true
+pub rested_at_once : (a : Author) (old : Held) (p : Written) (r : Reply) (n : ℕ) → old.plan.machine.world.done ≡ false → is_some old.stopper ≡ false → is_repairing old.plan.machine.world ≡ true → is_some (plain_reason_of old.plan.machine.world) ≡ true
     → SignedAnswers a old.plan event.Rest (Ok r) p → n + 1 ≡ length p.machine.log → LooksIn a old (Ok (looked.Settled (acted.Did n))) (with_plan p old)
 rested_at_once a old p r n going running repairing plain answers last =
     (took_one RestsAtOnce a old p event.Rest r n running answers.0.0 answers.0.1 answers.1 last (refl, plain), going, repairing)
@@ -44,7 +44,7 @@ may_rest false false o e f = f
 rest_enabled : (w : World) → is_repairing w ≡ true → is_some (plain_reason_of w) ≡ true → is_enabled w event.Rest ≡ true
 rest_enabled w repairing plain = may_rest w.closed w.rested (reason_of w) repairing (still_reason (conflicts_of w.state) (w.turn == w.options.turns) (is_stuck w.state) plain)
 
-pub rest_stops : (a : Author) (old : Held) (p : Written) (s : Stop) → old.plan.machine.spoiled ≡ false → old.plan.machine.world.done ≡ false → old.stopped ≡ false → is_repairing old.plan.machine.world ≡ true → is_some (plain_reason_of old.plan.machine.world) ≡ true
+pub rest_stops : (a : Author) (old : Held) (p : Written) (s : Stop) → old.plan.machine.spoiled ≡ false → old.plan.machine.world.done ≡ false → is_some old.stopper ≡ false → is_repairing old.plan.machine.world ≡ true → is_some (plain_reason_of old.plan.machine.world) ≡ true
     → SignedAnswers a old.plan event.Rest (Err s) p → LooksIn a old (Err s) (with_plan p old)
 rest_stops a old p stop.Spoiled unspoiled going running repairing plain answers = (answers.0.0, same_held old p answers.0.1 answers.1)
 rest_stops a old p stop.NotNow unspoiled going running repairing plain answers = absurd (let h : true ≡ false = sym (rest_enabled old.plan.machine.world repairing plain) ∙ answers.0.1 in cc)
@@ -53,7 +53,7 @@ rest_stops a old p stop.Memory unspoiled going running repairing plain answers =
 
 -- ---- a replica is lent
 
-pub lent : (a : Author) (old : Held) (p : Written) (draft : Draft) → old.plan.machine.spoiled ≡ false → old.plan.machine.world.done ≡ false → old.stopped ≡ false → is_repairing old.plan.machine.world ≡ true → plain_reason_of old.plan.machine.world ≡ None
+pub lent : (a : Author) (old : Held) (p : Written) (draft : Draft) → old.plan.machine.spoiled ≡ false → old.plan.machine.world.done ≡ false → is_some old.stopper ≡ false → is_repairing old.plan.machine.world ≡ true → plain_reason_of old.plan.machine.world ≡ None
     → p ≡ old.plan → IsDraft old.plan.machine draft → LooksIn a old (Ok (looked.Open draft)) (with_plan p old)
 lent a old p draft unspoiled going running repairing plain same is =
     (record { unspoiled = unspoiled; going = going; running = running }, (going, repairing, plain), is, same_plan old p same)
@@ -61,7 +61,7 @@ lent a old p draft unspoiled going running repairing plain same is =
 pub lend_fails : (a : Author) (old : Held) (p : Written) → old.plan.machine.spoiled ≡ false → p ≡ old.plan → LooksIn a old (Err stop.Memory) (with_plan p old)
 lend_fails a old p unspoiled same = inr (unspoiled, same_plan old p same)
 
-pub is_full : (a : Author) (old : Held) → old.plan.machine.spoiled ≡ false → old.plan.machine.world.done ≡ false → old.stopped ≡ false → is_repairing old.plan.machine.world ≡ true → nat_le old.plan.machine.world.options.entries (length old.plan.machine.log) ≡ true
+pub is_full : (a : Author) (old : Held) → old.plan.machine.spoiled ≡ false → old.plan.machine.world.done ≡ false → is_some old.stopper ≡ false → is_repairing old.plan.machine.world ≡ true → nat_le old.plan.machine.world.options.entries (length old.plan.machine.log) ≡ true
     → LooksIn a old (Err stop.LogFull) old
 is_full a old unspoiled going running repairing full =
     (record { unspoiled = unspoiled; going = going; running = running }, repairing, leb-true old.plan.machine.world.options.entries (length old.plan.machine.log) full, refl)

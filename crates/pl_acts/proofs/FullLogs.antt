@@ -26,12 +26,12 @@ use Rattle.pl_acts.specs.Seen.{IsPlan, IsFull}
 use Rattle.pl_machine.proofs.ShortLogs.{log_is_some, log_is_short}
 use Rattle.pl_acts.proofs.Items.{length_stopped, length_going, entries_in_items, model_in_items}
 
-plan_length_by : (m : Model) (log : List Entry) (s : Signs) (t : Bool) → s.stopped ≡ t → length log ≤ 250000 → length (items_of m log s) ≤ 250001
+plan_length_by : (m : Model) (log : List Entry) (s : Signs) (t : Bool) → is_some s.stopper ≡ t → length log ≤ 250000 → length (items_of m log s) ≤ 250001
 plan_length_by m log s true is le = (let e = length_stopped m log s is in omega arith)
 plan_length_by m log s false is le = (let e = length_going m log s is in omega arith)
 
 plan_length : (m : Model) (log : List Entry) (s : Signs) → length log ≤ 250000 → length (items_of m log s) ≤ 250001
-plan_length m log s le = plan_length_by m log s s.stopped refl le
+plan_length m log s le = plan_length_by m log s (is_some s.stopper) refl le
 
 pub plan_short : (seen : List Noted) → IsPlan seen → length seen ≤ 250001
 plan_short seen plan =

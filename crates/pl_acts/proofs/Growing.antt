@@ -1,5 +1,6 @@
 -- What is done inside a turn adds one item to the history, or none.
 use Rattle.std.proofs.Common.{◌≡◌, ℕ, List, [], ◌∷◌, ◌++◌, Bool, true, false, Option, Some, Result, Ok, Err, refl, sym, ◌∙◌, ap, subst, inl, inr}
+use Rattle.std.specs.Prelude.{is_some}
 use mathlib.Core.List.{IsPrefix}
 use Rattle.pl_turn.specs.History.{IsSameOrOneMore}
 use Rattle.pl_turn.proofs.Histories.{prefix_of_same}
@@ -33,19 +34,19 @@ pub keeps_items : (old new : Held) → KeepsLog old new → items_in new ≡ ite
 keeps_items old new keeps =
     ap (λ (m : Model). items_of m new.plan.machine.log (signs_in new)) keeps.model
     ∙ ap (λ (log : List Entry). items_of old.plan.machine.model log (signs_in new)) keeps.log
-    ∙ ap (λ (s : Signed). items_of old.plan.machine.model old.plan.machine.log (record { by = s; stopped = new.stopped })) keeps.signs
-    ∙ ap (λ (s : Bool). items_of old.plan.machine.model old.plan.machine.log (record { by = old.plan.signs; stopped = s })) keeps.same
+    ∙ ap (λ (s : Signed). items_of old.plan.machine.model old.plan.machine.log (record { by = s; stopper = new.stopper })) keeps.signs
+    ∙ ap (λ (s : Option Author). items_of old.plan.machine.model old.plan.machine.log (record { by = old.plan.signs; stopper = s })) keeps.same
 
 pub logs_items : (By : World → Entry → Type 0) (a : Author) (old new : Held) (n : ℕ) → IsSound old.plan → (logs : Logs By a old new n) → items_in new ≡ items_in old ++ Made (Some a) logs.entry ∷ []
 logs_items By a old new n sound logs =
     ap (λ (m : Model). items_of m new.plan.machine.log (signs_in new)) logs.model
     ∙ ap (λ (log : List Entry). items_of old.plan.machine.model log (signs_in new)) logs.log
-    ∙ ap (λ (s : Signed). items_of old.plan.machine.model (old.plan.machine.log ++ logs.entry ∷ []) (record { by = s; stopped = new.stopped })) logs.signs
-    ∙ ap (λ (s : Bool). items_of old.plan.machine.model (old.plan.machine.log ++ logs.entry ∷ []) (record { by = signed_on a old.plan.signs; stopped = s })) logs.same
+    ∙ ap (λ (s : Signed). items_of old.plan.machine.model (old.plan.machine.log ++ logs.entry ∷ []) (record { by = s; stopper = new.stopper })) logs.signs
+    ∙ ap (λ (s : Option Author). items_of old.plan.machine.model (old.plan.machine.log ++ logs.entry ∷ []) (record { by = signed_on a old.plan.signs; stopper = s })) logs.same
     ∙ items_push old.plan.machine.model old.plan.machine.log (signs_in old) a logs.entry sound.legal logs.going sound.tied.some sound.tied.each
 
 pub same_held : (old new : Held) → new ≡ old → KeepsLog old new
-same_held old new e = record { log = ap (λ (h : Held). h.plan.machine.log) e; model = ap (λ (h : Held). h.plan.machine.model) e; signs = ap (λ (h : Held). h.plan.signs) e; same = ap (λ (h : Held). h.stopped) e }
+same_held old new e = record { log = ap (λ (h : Held). h.plan.machine.log) e; model = ap (λ (h : Held). h.plan.machine.model) e; signs = ap (λ (h : Held). h.plan.signs) e; same = ap (λ (h : Held). h.stopper) e }
 
 grows_same : (seen : List Noted) (old new : Held) → seen ≡ items_in old → KeepsLog old new → IsSameOrOneMore seen (items_in new)
 grows_same seen old new found keeps = inl (keeps_items old new keeps ∙ sym found)
@@ -96,21 +97,25 @@ grows_settled a g g2 p seen old new (Err stop.NotNow) found sound acts = absurd 
 grows_settled a g g2 p seen old new (Err stop.LogFull) found sound acts = grows_same seen old new found (same_held old new acts.3)
 grows_settled a g g2 p seen old new (Err stop.Memory) found sound acts = grows_same seen old new found (wants_keeps old new acts.0)
 
-stop_mark_by : (m : Model) (log : List Entry) (s : Signs) (t : Bool) → s.stopped ≡ t → IsSameOrOneMore (items_of m log s) (items_of m log (record s { stopped = true }))
-stop_mark_by m log s true is = inl (ap (λ (t : Bool). items_of m log (record s { stopped = t })) (sym is))
-stop_mark_by m log s false is = inr (Stopped, items_stopped m log s is)
+-- the plan that was stopped, by whoever stopped it first
+pub stopped_as : (old new : Held) (s : Option Author) → new.plan ≡ old.plan → new.stopper ≡ s → items_in new ≡ items_of old.plan.machine.model old.plan.machine.log (record (signs_in old) { stopper = s })
+stopped_as old new s plan stopper =
+    ap (λ (w : Written). items_of w.machine.model w.machine.log (record { by = w.signs; stopper = new.stopper })) plan
+    ∙ ap (λ (s : Option Author). items_of old.plan.machine.model old.plan.machine.log (record { by = old.plan.signs; stopper = s })) stopper
 
-stop_mark : (m : Model) (log : List Entry) (s : Signs) → IsSameOrOneMore (items_of m log s) (items_of m log (record s { stopped = true }))
-stop_mark m log s = stop_mark_by m log s s.stopped refl
+pub stopped_first : (by : Author) (old new : Held) → new.plan ≡ old.plan → is_some old.stopper ≡ false → new.stopper ≡ Some by → items_in new ≡ items_in old ++ Stopped by ∷ []
+stopped_first by old new plan going stopper = stopped_as old new (Some by) plan stopper ∙ items_stopped old.plan.machine.model old.plan.machine.log (signs_in old) by going
 
-pub grows_stopped : (seen : List Noted) (old new : Held) → seen ≡ items_in old → new.plan ≡ old.plan → new.stopped ≡ true → IsSameOrOneMore seen (items_in new)
-grows_stopped seen old new found plan stopped =
+grows_stopped_by : (by : Author) (old new : Held) (t : Bool) → is_some old.stopper ≡ t → new.plan ≡ old.plan → (is_some old.stopper ≡ false → new.stopper ≡ Some by) → (is_some old.stopper ≡ true → new.stopper ≡ old.stopper)
+    → IsSameOrOneMore (items_in old) (items_in new)
+grows_stopped_by by old new true is plan first again = inl (stopped_as old new old.stopper plan (again is))
+grows_stopped_by by old new false is plan first again = inr (Stopped by, stopped_first by old new plan is (first is))
+
+pub grows_stopped : (by : Author) (seen : List Noted) (old new : Held) → seen ≡ items_in old → new.plan ≡ old.plan → (is_some old.stopper ≡ false → new.stopper ≡ Some by) → (is_some old.stopper ≡ true → new.stopper ≡ old.stopper)
+    → IsSameOrOneMore seen (items_in new)
+grows_stopped by seen old new found plan first again =
     let P : List Noted → Type 0 = λ xs. IsSameOrOneMore xs (items_in new) in
-    let Q : List Noted → Type 0 = λ xs. IsSameOrOneMore (items_in old) xs in
-    let is : items_in new ≡ items_of old.plan.machine.model old.plan.machine.log (record (signs_in old) { stopped = true }) =
-    ap (λ (w : Written). items_of w.machine.model w.machine.log (record { by = w.signs; stopped = new.stopped })) plan
-    ∙ ap (λ (s : Bool). items_of old.plan.machine.model old.plan.machine.log (record { by = old.plan.signs; stopped = s })) stopped in
-    subst P (sym found) (subst Q (sym is) (stop_mark old.plan.machine.model old.plan.machine.log (signs_in old)))
+    subst P (sym found) (grows_stopped_by by old new (is_some old.stopper) refl plan first again)
 
 pub grows_copied : (seen : List Noted) (old : Held) → seen ≡ items_in old → IsSameOrOneMore seen (items_in old)
 grows_copied seen old found = inl (sym found)

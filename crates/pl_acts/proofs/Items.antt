@@ -1,5 +1,6 @@
 -- A history's items, and what is read back of them.
 use Rattle.std.proofs.Common.{◌≡◌, ℕ, zero, suc, ◌+◌, ◌-◌, ◌<◌, List, [], ◌∷◌, ◌++◌, length, map, Bool, true, false, Option, Some, None, refl, sym, ◌∙◌, ap, subst, arith, length-append}
+use Rattle.std.specs.Prelude.{is_some}
 use Rattle.std.specs.List.{filter_map, list_any}
 use Rattle.std.proofs.lemmas.List.{append-nil, length-map}
 use mathlib.Core.List.{IsPrefix}
@@ -15,13 +16,13 @@ use Rattle.pl_acts.specs.Items.{Signs, SignedEntry, made_of, entries_of, with_au
 
 -- ---- how long a history is
 
-stop_length : (s : Bool) → s ≡ true → length (stop_items s) ≡ 1
-stop_length true e = refl
-stop_length false e = absurd (cc)
+stop_length : (s : Option Author) → is_some s ≡ true → length (stop_items s) ≡ 1
+stop_length (Some a) e = refl
+stop_length None e = absurd (cc)
 
-no_stop_length : (s : Bool) → s ≡ false → length (stop_items s) ≡ 0
-no_stop_length true e = absurd (cc)
-no_stop_length false e = refl
+no_stop : (s : Option Author) → is_some s ≡ false → stop_items s ≡ []
+no_stop (Some a) e = absurd (cc)
+no_stop None e = refl
 
 with_length : (k : ℕ) (authors : List Author) (es : List Entry) → length (with_authors k authors es) ≡ length es
 with_length (suc k) authors [] = refl
@@ -38,21 +39,21 @@ log_length : (m : Model) (log : List Entry) (s : Signed) → length (log_items m
 log_length m [] s = refl
 log_length m (first ∷ es) s = ap suc (made_length (s.opening - 1) s.authors es)
 
-pub length_stopped : (m : Model) (log : List Entry) (s : Signs) → s.stopped ≡ true → length (items_of m log s) ≡ length log + 1
+pub length_stopped : (m : Model) (log : List Entry) (s : Signs) → is_some s.stopper ≡ true → length (items_of m log s) ≡ length log + 1
 unfolding items_of
-length_stopped m log s e = omega (arith, length-append (log_items m log s.by) (stop_items s.stopped), log_length m log s.by, stop_length s.stopped e)
+length_stopped m log s e = omega (arith, length-append (log_items m log s.by) (stop_items s.stopper), log_length m log s.by, stop_length s.stopper e)
 
-pub length_going : (m : Model) (log : List Entry) (s : Signs) → s.stopped ≡ false → length (items_of m log s) ≡ length log
+pub length_going : (m : Model) (log : List Entry) (s : Signs) → is_some s.stopper ≡ false → length (items_of m log s) ≡ length log
 unfolding items_of
-length_going m log s e = omega (arith, length-append (log_items m log s.by) (stop_items s.stopped), log_length m log s.by, no_stop_length s.stopped e)
+length_going m log s e = omega (arith, length-append (log_items m log s.by) (stop_items s.stopper), log_length m log s.by, ap length (no_stop s.stopper e))
 
 -- ---- read back
 
-stop_entries : (t : Bool) → filter_map entry_in (stop_items t) ≡ []
-stop_entries true = refl
-stop_entries false = refl
+stop_entries : (t : Option Author) → filter_map entry_in (stop_items t) ≡ []
+stop_entries (Some a) = refl
+stop_entries None = refl
 
-pub made_entries : (xs : List SignedEntry) (t : Bool) → filter_map entry_in (map made_of xs ++ stop_items t) ≡ entries_of xs
+pub made_entries : (xs : List SignedEntry) (t : Option Author) → filter_map entry_in (map made_of xs ++ stop_items t) ≡ entries_of xs
 made_entries [] t = stop_entries t
 made_entries (x ∷ xs) t = ap (λ (es : List Entry). x.1 ∷ es) (made_entries xs t)
 
@@ -66,23 +67,23 @@ entries_with zero (a ∷ authors) (e ∷ es) = ap (λ (xs : List Entry). e ∷ x
 
 pub entries_in_items : (m : Model) (log : List Entry) (s : Signs) → entries_in (items_of m log s) ≡ log
 unfolding items_of
-entries_in_items m [] s = stop_entries s.stopped
+entries_in_items m [] s = stop_entries s.stopper
 entries_in_items m (first ∷ es) s =
     let all = with_authors (s.by.opening - 1) s.by.authors es in
-    ap (λ (xs : List Entry). first ∷ xs) (made_entries all s.stopped ∙ entries_with (s.by.opening - 1) s.by.authors es)
+    ap (λ (xs : List Entry). first ∷ xs) (made_entries all s.stopper ∙ entries_with (s.by.opening - 1) s.by.authors es)
 
-stop_stop : (t : Bool) → list_any is_stop (stop_items t) ≡ t
-stop_stop true = refl
-stop_stop false = refl
+stop_stop : (t : Option Author) → list_any is_stop (stop_items t) ≡ is_some t
+stop_stop (Some a) = refl
+stop_stop None = refl
 
-made_stop : (xs : List SignedEntry) (t : Bool) → list_any is_stop (map made_of xs ++ stop_items t) ≡ t
+made_stop : (xs : List SignedEntry) (t : Option Author) → list_any is_stop (map made_of xs ++ stop_items t) ≡ is_some t
 made_stop [] t = stop_stop t
 made_stop (x ∷ xs) t = made_stop xs t
 
-pub stop_in_items : (m : Model) (log : List Entry) (s : Signs) → stop_in (items_of m log s) ≡ s.stopped
+pub stop_in_items : (m : Model) (log : List Entry) (s : Signs) → stop_in (items_of m log s) ≡ is_some s.stopper
 unfolding items_of
-stop_in_items m [] s = stop_stop s.stopped
-stop_in_items m (first ∷ es) s = made_stop (with_authors (s.by.opening - 1) s.by.authors es) s.stopped
+stop_in_items m [] s = stop_stop s.stopper
+stop_in_items m (first ∷ es) s = made_stop (with_authors (s.by.opening - 1) s.by.authors es) s.stopper
 
 pub model_in_items : (m : Model) (log : List Entry) (s : Signs) → Legal m log → model_in (items_of m log s) ≡ Some m
 unfolding items_of
@@ -95,7 +96,7 @@ model_in_prefix [] ys m p e = absurd (cc)
 model_in_prefix (Opened n first ∷ xs) [] m p e = absurd (cc (p.1))
 model_in_prefix (Opened n first ∷ xs) (y ∷ ys) m p e = (let h : Opened n first ≡ y = cc (p.1) in subst (λ (x : Noted). model_in (x ∷ ys) ≡ Some m) h e)
 model_in_prefix (Made by first ∷ xs) ys m p e = absurd (cc)
-model_in_prefix (Stopped ∷ xs) ys m p e = absurd (cc)
+model_in_prefix (Stopped by ∷ xs) ys m p e = absurd (cc)
 
 -- ---- a history goes on
 
@@ -115,23 +116,23 @@ log_push m [] s a e legal some each = absurd legal
 log_push m (first ∷ es) s a e legal some each = ap (λ (xs : List Noted). Opened m first ∷ xs) (made_push (s.opening - 1) s.authors a es e (omega (arith, some, each)))
 
 -- before a stop
-going_items : (m : Model) (log : List Entry) (s : Signs) → s.stopped ≡ false → items_of m log s ≡ log_items m log s.by
+going_items : (m : Model) (log : List Entry) (s : Signs) → is_some s.stopper ≡ false → items_of m log s ≡ log_items m log s.by
 unfolding items_of
-going_items m log s going = ap (λ (t : Bool). log_items m log s.by ++ stop_items t) going ∙ append-nil (log_items m log s.by)
+going_items m log s going = ap (λ (xs : List Noted). log_items m log s.by ++ xs) (no_stop s.stopper going) ∙ append-nil (log_items m log s.by)
 
-pub items_push : (m : Model) (log : List Entry) (s : Signs) (a : Author) (e : Entry) → Legal m log → s.stopped ≡ false → 0 < s.by.opening → s.by.opening + length s.by.authors ≡ length log
+pub items_push : (m : Model) (log : List Entry) (s : Signs) (a : Author) (e : Entry) → Legal m log → is_some s.stopper ≡ false → 0 < s.by.opening → s.by.opening + length s.by.authors ≡ length log
     → items_of m (log ++ e ∷ []) (record s { by = signed_on a s.by }) ≡ items_of m log s ++ Made (Some a) e ∷ []
 items_push m log s a e legal going some each =
     going_items m (log ++ e ∷ []) (record s { by = signed_on a s.by }) going
     ∙ log_push m log s.by a e legal some each
     ∙ ap (λ (xs : List Noted). xs ++ Made (Some a) e ∷ []) (sym (going_items m log s going))
 
-stopped_items : (m : Model) (log : List Entry) (s : Signs) → items_of m log (record s { stopped = true }) ≡ log_items m log s.by ++ Stopped ∷ []
+stopped_items : (m : Model) (log : List Entry) (s : Signs) (a : Author) → items_of m log (record s { stopper = Some a }) ≡ log_items m log s.by ++ Stopped a ∷ []
 unfolding items_of
-stopped_items m log s = refl
+stopped_items m log s a = refl
 
-pub items_stopped : (m : Model) (log : List Entry) (s : Signs) → s.stopped ≡ false → items_of m log (record s { stopped = true }) ≡ items_of m log s ++ Stopped ∷ []
-items_stopped m log s going = stopped_items m log s ∙ ap (λ (xs : List Noted). xs ++ Stopped ∷ []) (sym (going_items m log s going))
+pub items_stopped : (m : Model) (log : List Entry) (s : Signs) (a : Author) → is_some s.stopper ≡ false → items_of m log (record s { stopper = Some a }) ≡ items_of m log s ++ Stopped a ∷ []
+items_stopped m log s a going = stopped_items m log s a ∙ ap (λ (xs : List Noted). xs ++ Stopped a ∷ []) (sym (going_items m log s going))
 
 -- ---- the world after a history
 
@@ -149,7 +150,7 @@ in_world_of P items m log s is legal p =
 pub in_world : (P : World → Type 0) (items : List Noted) (m : Model) (log : List Entry) (s : Signs) (w : World) → items ≡ items_of m log s → IsHistory m log w → P w → InWorld items P
 in_world P items m log s w is history p = in_world_of P items m log s is history.legal (subst P history.world p)
 
-pub stop_in_same : (items : List Noted) (m : Model) (log : List Entry) (s : Signs) → items ≡ items_of m log s → stop_in items ≡ s.stopped
+pub stop_in_same : (items : List Noted) (m : Model) (log : List Entry) (s : Signs) → items ≡ items_of m log s → stop_in items ≡ is_some s.stopper
 stop_in_same items m log s is = ap stop_in is ∙ stop_in_items m log s
 
 -- ---- and back

@@ -1,6 +1,6 @@
 -- What comes of a planner's second turn.
 use Rattle.std.proofs.Common.{◌≡◌, ℕ, ◌+◌, ◌<◌, List, [], ◌∷◌, length, Bool, true, false, Option, Some, None, Ok, Err, refl, sym, ◌∙◌, ap, ◌⊎◌, inl, inr, eq-eqb}
-use Rattle.std.specs.Prelude.{not, ◌&&◌, nat_lt, ◌==◌}
+use Rattle.std.specs.Prelude.{not, ◌&&◌, nat_lt, is_some, ◌==◌}
 use Rattle.std.proofs.lemmas.Bool.{lt-ltb}
 use Rattle.pl_marks.specs.declared.author.Author.{Author}
 use Rattle.pl_conflict.specs.declared.conflict.Conflict.{Conflict}
@@ -56,7 +56,7 @@ none_proposed p w (inl none) reason = none
 none_proposed p w (inr spent) reason =
     absurd (let h : true ≡ false = spent_rests (conflicts_of w.state) (w.turn == w.options.turns) (is_stuck w.state) (eq-eqb w.turn w.options.turns spent) reason in cc)
 
-pub repaired_once : (a : Author) (old : Held) (w : Written) (g g2 : Lcg) (p : Option Proposal) (done : Repaired) (n : ℕ) → old.plan.machine.world.done ≡ false → old.stopped ≡ false → is_repairing old.plan.machine.world ≡ true → IsFree p old.plan.machine.world
+pub repaired_once : (a : Author) (old : Held) (w : Written) (g g2 : Lcg) (p : Option Proposal) (done : Repaired) (n : ℕ) → old.plan.machine.world.done ≡ false → is_some old.stopper ≡ false → is_repairing old.plan.machine.world ≡ true → IsFree p old.plan.machine.world
     → RepairsSigned seeded words_drawn a old.plan g (Ok done) w g2 → n + 1 ≡ length w.machine.log → SettlesIn a g p old (Ok (acted.Did n)) g2 (with_plan w old)
 repaired_once a old w g g2 p (repaired.Fixed q) n going running repairing free did last = (
   took_one (by g p g2) a old w (event.Fix q.conflict q.mv) reply.Done n running did.0.3 did.0.4 did.1 last (inr (none_proposed p old.plan.machine.world free did.0.0, sym did.0.1.0, did.0.1.1, refl)),
@@ -71,7 +71,7 @@ asked_again : (p : Option Proposal) (w : World) (g g2 : Lcg) → IsFree p w → 
 asked_again p w g g2 free (inl same) = inl same
 asked_again p w g g2 free (inr asked) = inr (none_proposed p w free asked.1, asked.0, asked.1, asked.2)
 
-pub repair_stops : (a : Author) (old : Held) (w : Written) (g g2 : Lcg) (p : Option Proposal) (s : Stop) → old.plan.machine.spoiled ≡ false → old.plan.machine.world.done ≡ false → old.stopped ≡ false → is_repairing old.plan.machine.world ≡ true
+pub repair_stops : (a : Author) (old : Held) (w : Written) (g g2 : Lcg) (p : Option Proposal) (s : Stop) → old.plan.machine.spoiled ≡ false → old.plan.machine.world.done ≡ false → is_some old.stopper ≡ false → is_repairing old.plan.machine.world ≡ true
     → IsFree p old.plan.machine.world → RepairsSigned seeded words_drawn a old.plan g (Err s) w g2 → SettlesIn a g p old (Err s) g2 (with_plan w old)
 repair_stops a old w g g2 p stop.Spoiled unspoiled going running repairing free answers = (answers.0.0, same_held old w answers.0.1 answers.1, answers.0.2)
 repair_stops a old w g g2 p stop.NotNow unspoiled going running repairing free answers = absurd (let h : true ≡ false = sym repairing ∙ answers.0.1 in cc)
@@ -83,7 +83,7 @@ repair_stops a old w g g2 p stop.Memory unspoiled going running repairing free (
 
 -- ---- what was proposed before
 
-pub fixed : (a : Author) (old : Held) (w : Written) (g : Lcg) (q : Proposal) (r : Reply) (n : ℕ) → old.plan.machine.world.done ≡ false → old.stopped ≡ false → is_repairing old.plan.machine.world ≡ true
+pub fixed : (a : Author) (old : Held) (w : Written) (g : Lcg) (q : Proposal) (r : Reply) (n : ℕ) → old.plan.machine.world.done ≡ false → is_some old.stopper ≡ false → is_repairing old.plan.machine.world ≡ true
     → SignedAnswers a old.plan (event.Fix q.conflict q.mv) (Ok r) w → n + 1 ≡ length w.machine.log → SettlesIn a g (Some q) old (Ok (acted.Did n)) g (with_plan w old)
 fixed a old w g q r n going running repairing answers last =
     (took_one (by g (Some q) g) a old w (event.Fix q.conflict q.mv) r n running answers.0.0 answers.0.1 answers.1 last (inl (refl, refl)), going, repairing)
@@ -93,7 +93,7 @@ may_fix true rested b e f = absurd (cc)
 may_fix false true b e f = absurd (cc)
 may_fix false false b e f = f
 
-pub fix_stops : (a : Author) (old : Held) (p : Written) (g : Lcg) (q : Proposal) (s : Stop) → old.plan.machine.spoiled ≡ false → old.plan.machine.world.done ≡ false → old.stopped ≡ false → is_repairing old.plan.machine.world ≡ true
+pub fix_stops : (a : Author) (old : Held) (p : Written) (g : Lcg) (q : Proposal) (s : Stop) → old.plan.machine.spoiled ≡ false → old.plan.machine.world.done ≡ false → is_some old.stopper ≡ false → is_repairing old.plan.machine.world ≡ true
     → old.plan.machine.world.turn < old.plan.machine.world.options.turns → SignedAnswers a old.plan (event.Fix q.conflict q.mv) (Err s) p → SettlesIn a g (Some q) old (Err s) g (with_plan p old)
 fix_stops a old p g q stop.Spoiled unspoiled going running repairing turns answers = (answers.0.0, same_held old p answers.0.1 answers.1, refl)
 fix_stops a old p g q stop.NotNow unspoiled going running repairing turns answers =

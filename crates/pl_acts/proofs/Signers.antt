@@ -9,10 +9,10 @@ use Rattle.pl_acts.specs.declared.noted.Noted.{Noted}
 use Rattle.pl_acts.specs.declared.noted.Noted.TheVariants.{Opened, Made, Stopped}
 use Rattle.pl_acts.specs.Items.{Signs, made_items, log_items, stop_items, items_of}
 
-no_signer : (t : Bool) (p : ℕ) (a : Author) (e : Entry) → slice_get (stop_items t) p ≡ Some (Made (Some a) e) → true ≡ false
-no_signer true zero a e at = absurd (cc)
-no_signer true (suc p) a e at = absurd (cc)
-no_signer false p a e at = absurd (cc)
+no_signer : (t : Option Author) (p : ℕ) (a : Author) (e : Entry) → slice_get (stop_items t) p ≡ Some (Made (Some a) e) → true ≡ false
+no_signer (Some b) zero a e at = absurd (cc)
+no_signer (Some b) (suc p) a e at = absurd (cc)
+no_signer None p a e at = absurd (cc)
 
 -- so many places behind these that were handed in
 abbrev pub IsSigned : ℕ → List Author → ℕ → Author → Type 0
@@ -21,7 +21,7 @@ IsSigned handed authors p a = (q : ℕ) × (p ≡ handed + q) × (slice_get auth
 none_signed : (x e : Entry) (a : Author) → Some (Made None x) ≡ Some (Made (Some a) e) → true ≡ false
 none_signed x e a at = (let h : Some (Made None x) ≡ Some (Made (Some a) e) = at in absurd (cc))
 
-made_signed : (k : ℕ) (authors : List Author) (es : List Entry) (t : Bool) (p : ℕ) (a : Author) (e : Entry) → slice_get (made_items k authors es ++ stop_items t) p ≡ Some (Made (Some a) e) → IsSigned k authors p a
+made_signed : (k : ℕ) (authors : List Author) (es : List Entry) (t : Option Author) (p : ℕ) (a : Author) (e : Entry) → slice_get (made_items k authors es ++ stop_items t) p ≡ Some (Made (Some a) e) → IsSigned k authors p a
 made_signed (suc k) authors [] t p a e at = absurd (let h = no_signer t p a e at in cc)
 made_signed (suc k) authors (x ∷ es) t zero a e at = absurd (let h = none_signed x e a at in cc)
 made_signed (suc k) authors (x ∷ es) t (suc p) a e at = (let rest = made_signed k authors es t p a e at in (rest.0, ap suc rest.1, rest.2))
@@ -34,10 +34,10 @@ made_signed zero (b ∷ authors) (x ∷ es) t (suc p) a e at = (let rest = made_
 
 items_signed_at : (m : Model) (log : List Entry) (s : Signs) (p : ℕ) (a : Author) (e : Entry) → 0 < s.by.opening → slice_get (items_of m log s) p ≡ Some (Made (Some a) e) → IsSigned s.by.opening s.by.authors p a
 unfolding items_of
-items_signed_at m [] s p a e some at = absurd (let h = no_signer s.stopped p a e at in cc)
+items_signed_at m [] s p a e some at = absurd (let h = no_signer s.stopper p a e at in cc)
 items_signed_at m (first ∷ es) s zero a e some at = absurd (let h : Some (Opened m first) ≡ Some (Made (Some a) e) = at in cc)
 items_signed_at m (first ∷ es) s (suc p) a e some at =
-    let rest = made_signed (s.by.opening - 1) s.by.authors es s.stopped p a e at in
+    let rest = made_signed (s.by.opening - 1) s.by.authors es s.stopper p a e at in
     let place = rest.1 in (rest.0, omega (arith, place, some), rest.2)
 
 -- an entry that an author made has the author's mark

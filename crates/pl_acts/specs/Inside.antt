@@ -34,7 +34,7 @@ use Rattle.pl_acts.specs.Sights.{AsksIn}
 
 -- what there is beside the log
 abbrev pub signs_in : Held → Signs
-signs_in h = record { by = h.plan.signs; stopped = h.stopped }
+signs_in h = record { by = h.plan.signs; stopper = h.stopper }
 
 abbrev pub items_in : Held → List Noted
 items_in h = items_of h.plan.machine.model h.plan.machine.log (signs_in h)
@@ -55,11 +55,11 @@ IsStepIn w e = (is_enabled w e.event ≡ true) × (e.reply ≡ reply_of w e.even
 pub record Logs (By : World → Entry → Type 0) (author : Author) (old new : Held) (number : ℕ) : Type 0 where
   pub entry : Entry
   pub unspoiled : old.plan.machine.spoiled ≡ false
-  pub going : old.stopped ≡ false
+  pub going : is_some old.stopper ≡ false
   pub log : new.plan.machine.log ≡ old.plan.machine.log ++ entry ∷ []
   pub model : new.plan.machine.model ≡ old.plan.machine.model
   pub signs : new.plan.signs ≡ signed_on author old.plan.signs
-  pub same : new.stopped ≡ old.stopped
+  pub same : new.stopper ≡ old.stopper
   pub place : number ≡ length old.plan.machine.log
   pub step : IsStepIn old.plan.machine.world entry
   pub by : By old.plan.machine.world entry
@@ -69,7 +69,7 @@ pub record KeepsLog (old new : Held) : Type 0 where
   pub log : new.plan.machine.log ≡ old.plan.machine.log
   pub model : new.plan.machine.model ≡ old.plan.machine.model
   pub signs : new.plan.signs ≡ old.plan.signs
-  pub same : new.stopped ≡ old.stopped
+  pub same : new.stopper ≡ old.stopper
 
 -- memory was wanting
 abbrev pub Spoiled : Held → Held → Type 0
@@ -84,7 +84,7 @@ IsFull m = m.world.options.entries ≤ length m.log
 
 -- whether the plan goes no further: memory was wanting, the input has ended, or the plan was stopped
 abbrev pub is_over : Held → Bool
-is_over h = h.plan.machine.spoiled || (h.plan.machine.world.done || h.stopped)
+is_over h = h.plan.machine.spoiled || (h.plan.machine.world.done || is_some h.stopper)
 
 -- whether a message is taken: between rounds, and before the end of the input and the stop
 abbrev pub can_listen : World → Bool → Bool
@@ -94,8 +94,8 @@ can_listen w stopped = (w.closed && not w.done) && not stopped
 abbrev pub FeedsIn : Author → Option (List ℕ) → Held → Result ℕ Stop → Held → Type 0
 FeedsIn by line old (Ok number) new = Logs (IsInputOf line) by old new number
 FeedsIn by line old (Err stop.Spoiled) new = (old.plan.machine.spoiled ≡ true) × (new ≡ old)
-FeedsIn by line old (Err stop.NotNow) new = (old.plan.machine.spoiled ≡ false) × (can_listen old.plan.machine.world old.stopped ≡ false) × (new ≡ old)
-FeedsIn by line old (Err stop.LogFull) new = (old.plan.machine.spoiled ≡ false) × (can_listen old.plan.machine.world old.stopped ≡ true) × IsFull old.plan.machine × (new ≡ old)
+FeedsIn by line old (Err stop.NotNow) new = (old.plan.machine.spoiled ≡ false) × (can_listen old.plan.machine.world (is_some old.stopper) ≡ false) × (new ≡ old)
+FeedsIn by line old (Err stop.LogFull) new = (old.plan.machine.spoiled ≡ false) × (can_listen old.plan.machine.world (is_some old.stopper) ≡ true) × IsFull old.plan.machine × (new ≡ old)
 FeedsIn by line old (Err stop.Memory) new = Wants old new
 
 -- the entries from this number on, and where the plan stands behind them
@@ -103,13 +103,13 @@ pub record IsPart (from : ℕ) (h : Held) (part : Part) : Type 0 where
   pub entries : part.entries ≡ drop from h.plan.machine.log
   pub closed : part.closed ≡ h.plan.machine.world.closed
   pub done : part.done ≡ h.plan.machine.world.done
-  pub stopped : part.stopped ≡ h.stopped
+  pub stopped : part.stopped ≡ is_some h.stopper
 
 -- an unspoiled plan before the end of the input and the stop
 pub record IsGoing (h : Held) : Type 0 where
   pub unspoiled : h.plan.machine.spoiled ≡ false
   pub going : h.plan.machine.world.done ≡ false
-  pub running : h.stopped ≡ false
+  pub running : is_some h.stopper ≡ false
 
 -- what an executive does
 abbrev pub Executes : World → Entry → Type 0
@@ -120,7 +120,7 @@ abbrev pub ExecutesIn : Author → Held → Result Acted Stop → Held → Type 
 ExecutesIn by old (Ok (acted.Did number)) new = Logs Executes by old new number × (old.plan.machine.world.done ≡ false) × (has_event Executive old.plan.machine.world ≡ true)
 ExecutesIn by old (Ok acted.Nothing) new = IsGoing old × (has_event Executive old.plan.machine.world ≡ false) × (new ≡ old)
 ExecutesIn by old (Ok acted.Finished) new = (old.plan.machine.spoiled ≡ false) × (old.plan.machine.world.done ≡ true) × (new ≡ old)
-ExecutesIn by old (Ok acted.Stopped) new = (old.plan.machine.spoiled ≡ false) × (old.plan.machine.world.done ≡ false) × (old.stopped ≡ true) × (new ≡ old)
+ExecutesIn by old (Ok acted.Stopped) new = (old.plan.machine.spoiled ≡ false) × (old.plan.machine.world.done ≡ false) × (is_some old.stopper ≡ true) × (new ≡ old)
 ExecutesIn by old (Err stop.Spoiled) new = (old.plan.machine.spoiled ≡ true) × (new ≡ old)
 ExecutesIn by old (Err stop.NotNow) new = ⊥
 ExecutesIn by old (Err stop.LogFull) new = IsGoing old × (has_event Executive old.plan.machine.world ≡ true) × IsFull old.plan.machine × (new ≡ old)
@@ -137,7 +137,7 @@ abbrev pub LooksIn : Author → Held → Result Looked Stop → Held → Type 0
 LooksIn by old (Ok (looked.Settled (acted.Did number))) new = Logs RestsAtOnce by old new number × (old.plan.machine.world.done ≡ false) × (is_repairing old.plan.machine.world ≡ true)
 LooksIn by old (Ok (looked.Settled acted.Nothing)) new = IsGoing old × (is_repairing old.plan.machine.world ≡ false) × (new ≡ old)
 LooksIn by old (Ok (looked.Settled acted.Finished)) new = (old.plan.machine.spoiled ≡ false) × (old.plan.machine.world.done ≡ true) × (new ≡ old)
-LooksIn by old (Ok (looked.Settled acted.Stopped)) new = (old.plan.machine.spoiled ≡ false) × (old.plan.machine.world.done ≡ false) × (old.stopped ≡ true) × (new ≡ old)
+LooksIn by old (Ok (looked.Settled acted.Stopped)) new = (old.plan.machine.spoiled ≡ false) × (old.plan.machine.world.done ≡ false) × (is_some old.stopper ≡ true) × (new ≡ old)
 LooksIn by old (Ok (looked.Open draft)) new = IsGoing old × AsksIn old.plan.machine.world × IsDraft old.plan.machine draft × (new ≡ old)
 LooksIn by old (Err stop.Spoiled) new = (old.plan.machine.spoiled ≡ true) × (new ≡ old)
 LooksIn by old (Err stop.NotNow) new = ⊥
@@ -158,7 +158,7 @@ abbrev pub SettlesIn : Author → Lcg → Option Proposal → Held → Result Ac
 SettlesIn by g p old (Ok (acted.Did number)) g2 new = Logs (λ w e. Settles g p g2 w e.event e.reply) by old new number × (old.plan.machine.world.done ≡ false) × (is_repairing old.plan.machine.world ≡ true)
 SettlesIn by g p old (Ok acted.Nothing) g2 new = IsGoing old × (is_repairing old.plan.machine.world ≡ false) × (new ≡ old) × (g2 ≡ g)
 SettlesIn by g p old (Ok acted.Finished) g2 new = (old.plan.machine.spoiled ≡ false) × (old.plan.machine.world.done ≡ true) × (new ≡ old) × (g2 ≡ g)
-SettlesIn by g p old (Ok acted.Stopped) g2 new = (old.plan.machine.spoiled ≡ false) × (old.plan.machine.world.done ≡ false) × (old.stopped ≡ true) × (new ≡ old) × (g2 ≡ g)
+SettlesIn by g p old (Ok acted.Stopped) g2 new = (old.plan.machine.spoiled ≡ false) × (old.plan.machine.world.done ≡ false) × (is_some old.stopper ≡ true) × (new ≡ old) × (g2 ≡ g)
 SettlesIn by g p old (Err stop.Spoiled) g2 new = (old.plan.machine.spoiled ≡ true) × (new ≡ old) × (g2 ≡ g)
 SettlesIn by g p old (Err stop.NotNow) g2 new = ⊥
 SettlesIn by g p old (Err stop.LogFull) g2 new = IsGoing old × (is_repairing old.plan.machine.world ≡ true) × IsFull old.plan.machine × (new ≡ old) × (g2 ≡ g)

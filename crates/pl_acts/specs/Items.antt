@@ -10,14 +10,14 @@ use Rattle.pl_machine.specs.Legal.{world_of}
 use Rattle.pl_acts.specs.declared.noted.Noted.{Noted}
 use Rattle.pl_acts.specs.declared.noted.Noted.TheVariants.{Opened, Made, Stopped}
 
--- What there is beside the log: who made its entries, and whether the plan was stopped behind it.
+-- What there is beside the log: who made its entries, and who stopped the plan behind it, if anybody did.
 pub record Signs : Type 0 where
   pub by : Signed
-  pub stopped : Bool
+  pub stopper : Option Author
 
 -- as many entries as these were handed in, and nobody has done anything
 abbrev pub handed_in : List Entry → Signs
-handed_in log = record { by = record { opening = length log; authors = [] }; stopped = false }
+handed_in log = record { by = record { opening = length log; authors = [] }; stopper = None }
 
 -- one more entry of an author's
 abbrev pub signed_on : Author → Signed → Signed
@@ -47,20 +47,20 @@ abbrev pub log_items : Model → List Entry → Signed → List Noted
 log_items m [] s = []
 log_items m (first ∷ entries) s = Opened m first ∷ made_items (s.opening - 1) s.authors entries
 
-abbrev pub stop_items : Bool → List Noted
-stop_items true = Stopped ∷ []
-stop_items false = []
+abbrev pub stop_items : Option Author → List Noted
+stop_items (Some by) = Stopped by ∷ []
+stop_items None = []
 
 -- the items of a log of this model, and of what there is beside it
 unfoldable pub items_of : Model → List Entry → Signs → List Noted
-items_of m log s = log_items m log s.by ++ stop_items s.stopped
+items_of m log s = log_items m log s.by ++ stop_items s.stopper
 
 -- ---- read back
 
 abbrev pub entry_in : Noted → Option Entry
 entry_in (Opened m e) = Some e
 entry_in (Made by e) = Some e
-entry_in Stopped = None
+entry_in (Stopped by) = None
 
 -- the log
 abbrev pub entries_in : List Noted → List Entry
@@ -71,18 +71,18 @@ abbrev pub model_in : List Noted → Option Model
 model_in [] = None
 model_in (Opened m e ∷ items) = Some m
 model_in (Made by e ∷ items) = None
-model_in (Stopped ∷ items) = None
+model_in (Stopped by ∷ items) = None
 
 abbrev pub is_stop : Noted → Bool
 is_stop (Opened m e) = false
 is_stop (Made by e) = false
-is_stop Stopped = true
+is_stop (Stopped by) = true
 
--- who made the entry, if it was not handed in
+-- who made the entry, if it was not handed in, or who stopped the plan
 abbrev pub signer_in : Noted → Option Author
 signer_in (Opened m e) = None
 signer_in (Made by e) = by
-signer_in Stopped = None
+signer_in (Stopped by) = Some by
 
 -- whether the plan was stopped
 abbrev pub stop_in : List Noted → Bool

@@ -1,5 +1,5 @@
 -- A second machine that makes the events of a plan's log again, so that a chooser can be asked on it outside the turn.
-use Rattle.std.specs.Prelude.{◌≡◌, List, [], ◌∷◌, ◌++◌, length, false, Option, Some, IfSome}
+use Rattle.std.specs.Prelude.{◌≡◌, List, [], ◌∷◌, ◌++◌, length, false, Option, Some, IfSome, is_some}
 use mathlib.Core.List.{IsPrefix}
 use Rattle.pl_model.specs.declared.whole.Model.{Model}
 use Rattle.pl_entry.specs.declared.entry.Entry.{Entry}
@@ -57,6 +57,6 @@ pub record IsReplicaOf (items : List Noted) (other : State) : Type 0 where
 pub record IsDraftOf (items : List Noted) (draft : Draft) : Type 0 where
   pub signs : Signs
   pub unspoiled : draft.replica.spoiled ≡ false
-  pub going : signs.stopped ≡ false
+  pub going : is_some signs.stopper ≡ false
   pub legal : Legal draft.replica.model (log_of draft)
   pub is : items ≡ items_of draft.replica.model (log_of draft) signs

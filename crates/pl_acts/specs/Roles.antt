@@ -1,5 +1,7 @@
 -- Which entries a role makes.
 use Rattle.std.specs.Prelude.{◌≡◌, ℕ, List, Bool, true, false, not, ◌&&◌, Option, Some, None, is_some, ◌⊎◌}
+use Rattle.pl_marks.specs.declared.author.Author.{Author}
+use Rattle.pl_marks.specs.declared.author.Author.TheVariants as author
 use Rattle.pl_entry.specs.declared.event.Event.{Event}
 use Rattle.pl_entry.specs.declared.event.Event.TheVariants as event
 use Rattle.pl_entry.specs.declared.reply.Reply.{Reply}
@@ -19,6 +21,11 @@ use Rattle.pl_acts.specs.declared.noted.Noted.TheVariants.{Opened, Made, Stopped
 abbrev pub worker_of : Role → ℕ
 worker_of (Planner g) = 1
 worker_of Executive = 0
+
+-- who acts in this role where there is one planner
+abbrev pub role_author : Role → Author
+role_author (Planner g) = author.Planner 1
+role_author Executive = author.Executive
 
 -- Whether the role has an event: the planner in each open round that does not rest, the executive where it chooses one.
 abbrev pub has_event : Role → World → Bool
@@ -55,7 +62,7 @@ is_input _ = false
 abbrev pub is_entry : (Event → Bool) → Noted → Bool
 is_entry test (Opened m e) = false
 is_entry test (Made by e) = test e.event
-is_entry test Stopped = false
+is_entry test (Stopped by) = false
 
 -- the kind of entry that a role makes
 abbrev pub kind_of : Role → Event → Bool

@@ -1,5 +1,5 @@
 //! The executive's event, inside a turn.
-ghost use Rattle.std.specs.Prelude.{◌≡◌, ◌&&◌, not, false, true, Some};
+ghost use Rattle.std.specs.Prelude.{◌≡◌, ◌&&◌, not, false, true, Some, is_some};
 ghost use Rattle.pl_marks.specs.Authors.{IsAuthor};
 ghost use Rattle.pl_machine.specs.Step.{is_enabled};
 ghost use Rattle.pl_machine.specs.Choices.{exec_choice_of, event_of};
@@ -25,7 +25,7 @@ impl Held {
         requires author { IsAuthor by }
         requires unspoiled { self.old.plan.machine.spoiled ≡ false }
         requires going { self.old.plan.machine.world.done ≡ false }
-        requires running { self.old.stopped ≡ false }
+        requires running { is_some self.old.stopper ≡ false }
         requires chosen { exec_choice_of self.old.plan.machine.world ≡ Some choice }
         requires enabled { is_enabled self.old.plan.machine.world (event_of choice) ≡ true }
         ensures { ExecutesIn by self.old result self.new }
@@ -41,7 +41,7 @@ impl Held {
         requires author { IsAuthor by }
         requires unspoiled { self.old.plan.machine.spoiled ≡ false }
         requires going { self.old.plan.machine.world.done ≡ false }
-        requires running { self.old.stopped ≡ false }
+        requires running { is_some self.old.stopper ≡ false }
         ensures { ExecutesIn by self.old result self.new }
     {
         match self.plan.get().exec_choice() {
@@ -61,7 +61,7 @@ impl Held {
         if self.plan.get().done() {
             return Ok(Acted::Finished);
         }
-        if self.stopped {
+        if self.stopper.is_some() {
             return Ok(Acted::Stopped);
         }
         self.execute_going(by)

@@ -20,7 +20,7 @@ impl Held {
         ensures unspoiled { result ≡ false → self.now.plan.machine.spoiled ≡ false }
     {
         let machine = self.plan.get();
-        machine.spoiled() || machine.done() || self.stopped
+        machine.spoiled() || machine.done() || self.stopper.is_some()
     }
 
     /// Who has something to do: a worker whose role has an event, or that has to find out that the plan goes no further, and the feeder once
@@ -28,7 +28,7 @@ impl Held {
     pub fn busy(&self) -> Busy
         ensures planner { result.planner ≡ (is_over self.now || (not self.now.plan.machine.world.closed && not self.now.plan.machine.world.rested)) }
         ensures executive { result.executive ≡ (is_over self.now || is_some (exec_choice_of self.now.plan.machine.world)) }
-        ensures feeder { result.feeder ≡ (self.now.plan.machine.world.closed || self.now.stopped) }
+        ensures feeder { result.feeder ≡ (self.now.plan.machine.world.closed || is_some self.now.stopper) }
     {
         let feeder = self.round_over();
         if self.is_over() {

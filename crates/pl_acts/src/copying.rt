@@ -16,7 +16,7 @@ impl Held {
             entries: machine.entries_from(alloc, from)?,
             closed: machine.closed(),
             done: machine.done(),
-            stopped: self.stopped,
+            stopped: self.stopper.is_some(),
         })
     }
 }

@@ -1,25 +1,25 @@
-ghost use Rattle.std.specs.Prelude.{◌≡◌, length, [], false};
+ghost use Rattle.std.specs.Prelude.{◌≡◌, length, [], None};
 
 use crate::replicated::Replicated;
 use pl_machine::Machine;
-use pl_marks::Marks;
+use pl_marks::{Author, Marks};
 use std::alloc::Global;
 
-/// What lies under the lock: a machine with the marks of its entries, and whether the plan was stopped.
+/// What lies under the lock: a machine with the marks of its entries, and who stopped the plan, if anybody did.
 #[derive(Drop)]
 pub struct Held {
     pub(crate) plan: Replicated,
-    pub(crate) stopped: bool,
+    pub(crate) stopper: Option<Author>,
 }
 
 impl Held {
     /// A plan that was not stopped, of whose entries nobody made one.
     pub fn new(alloc: Global, machine: Machine) -> Held
-        ensures { result ≡ record { plan = record { machine = machine; signs = record { opening = length machine.log; authors = [] } }; stopped = false } }
+        ensures { result ≡ record { plan = record { machine = machine; signs = record { opening = length machine.log; authors = [] } }; stopper = None } }
     {
         Held {
             plan: Replicated::new(alloc, machine),
-            stopped: false,
+            stopper: None,
         }
     }
 

@@ -1,5 +1,5 @@
 //! What is done to the plan inside a turn.
-ghost use Rattle.std.specs.Prelude.{◌≡◌, ◌+◌, ◌||◌, length, IfSome, true};
+ghost use Rattle.std.specs.Prelude.{◌≡◌, ◌+◌, ◌||◌, length, IfSome, Some, is_some, false, true};
 ghost use Rattle.std.specs.Option.{option_copied};
 ghost use Rattle.pl_marks.specs.Authors.{IsAuthor};
 ghost use Rattle.pl_entry.specs.Bounds.{IsMessageLine};
@@ -45,7 +45,7 @@ impl Held {
         if self.plan.get().spoiled() {
             return Err(Stop::Spoiled);
         }
-        if self.stopped {
+        if self.stopper.is_some() {
             return Err(Stop::NotNow);
         }
         match self.plan.input(by, line) {
@@ -56,16 +56,19 @@ impl Held {
 
     /// Whether the round is closed or the plan was stopped.
     pub fn round_over(&self) -> bool
-        ensures { result ≡ (self.now.plan.machine.world.closed || self.now.stopped) }
+        ensures { result ≡ (self.now.plan.machine.world.closed || is_some self.now.stopper) }
     {
-        self.plan.get().closed() || self.stopped
+        self.plan.get().closed() || self.stopper.is_some()
     }
 
-    /// Marks the plan as stopped.
-    pub fn stop(&mut self)
+    /// Stops the plan as this author, unless somebody has stopped it before.
+    pub fn stop(&mut self, by: Author)
         ensures plan { self.new.plan ≡ self.old.plan }
-        ensures stopped { self.new.stopped ≡ true }
+        ensures first { is_some self.old.stopper ≡ false → self.new.stopper ≡ Some by }
+        ensures again { is_some self.old.stopper ≡ true → self.new.stopper ≡ self.old.stopper }
     {
-        self.stopped = true;
+        if self.stopper.is_none() {
+            self.stopper = Some(by);
+        }
     }
 }

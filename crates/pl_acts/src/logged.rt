@@ -13,6 +13,10 @@ impl Logged for Held {
     #[tactic(auto, using(crate::proofs::Items::length_stopped, crate::proofs::Items::length_going, pl_machine::proofs::ShortLogs::log_is_short))]
     fn logged(&self) -> u64 {
         let entries = self.plan.get().log().len() as u64;
-        if self.stopped { entries + 1 } else { entries }
+        if self.stopper.is_some() {
+            entries + 1
+        } else {
+            entries
+        }
     }
 }

@@ -26,7 +26,7 @@ impl Held {
         requires author { IsAuthor by }
         requires unspoiled { self.old.plan.machine.spoiled ≡ false }
         requires going { self.old.plan.machine.world.done ≡ false }
-        requires running { self.old.stopped ≡ false }
+        requires running { is_some self.old.stopper ≡ false }
         requires repairing { is_repairing self.old.plan.machine.world ≡ true }
         requires plain { is_some (plain_reason_of self.old.plan.machine.world) ≡ true }
         ensures { LooksIn by self.old result self.new }
@@ -42,7 +42,7 @@ impl Held {
     fn lend(&mut self, by: Author, alloc: Global) -> Result<Looked, Stop>
         requires unspoiled { self.old.plan.machine.spoiled ≡ false }
         requires going { self.old.plan.machine.world.done ≡ false }
-        requires running { self.old.stopped ≡ false }
+        requires running { is_some self.old.stopper ≡ false }
         requires repairing { is_repairing self.old.plan.machine.world ≡ true }
         requires plain { plain_reason_of self.old.plan.machine.world ≡ None }
         ensures { LooksIn by self.old result self.new }
@@ -58,7 +58,7 @@ impl Held {
         requires author { IsAuthor by }
         requires unspoiled { self.old.plan.machine.spoiled ≡ false }
         requires going { self.old.plan.machine.world.done ≡ false }
-        requires running { self.old.stopped ≡ false }
+        requires running { is_some self.old.stopper ≡ false }
         requires repairing { is_repairing self.old.plan.machine.world ≡ true }
         ensures { LooksIn by self.old result self.new }
     {
@@ -79,7 +79,7 @@ impl Held {
         if self.plan.get().done() {
             return Ok(Looked::Settled(Acted::Finished));
         }
-        if self.stopped {
+        if self.stopper.is_some() {
             return Ok(Looked::Settled(Acted::Stopped));
         }
         if !self.can_repair() {

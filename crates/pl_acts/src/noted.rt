@@ -8,6 +8,6 @@ pub enum Noted {
     Opened(Model, Entry),
     /// A later entry, and who made it, if it was not handed in.
     Made(Option<Author>, Entry),
-    /// No event is made from here on.
-    Stopped,
+    /// No event is made from here on, and who saw to that.
+    Stopped(Author),
 }

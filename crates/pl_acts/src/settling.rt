@@ -1,5 +1,5 @@
 //! What a planner does in a second turn, with what its chooser proposed meanwhile.
-ghost use Rattle.std.specs.Prelude.{◌≡◌, ◌<◌, ◌⊎◌, false, true, Some, None, IfSome};
+ghost use Rattle.std.specs.Prelude.{◌≡◌, ◌<◌, ◌⊎◌, false, true, Some, None, IfSome, is_some};
 ghost use Rattle.rand_pcg.specs.Lcg.{Lcg};
 ghost use Rattle.pl_marks.specs.Authors.{IsAuthor};
 ghost use Rattle.pl_machine.specs.Mending.{is_repairing};
@@ -27,7 +27,7 @@ impl Held {
         requires author { IsAuthor by }
         requires unspoiled { self.old.plan.machine.spoiled ≡ false }
         requires going { self.old.plan.machine.world.done ≡ false }
-        requires running { self.old.stopped ≡ false }
+        requires running { is_some self.old.stopper ≡ false }
         requires repairing { is_repairing self.old.plan.machine.world ≡ true }
         requires free { (proposal ≡ None) ⊎ (self.old.plan.machine.world.turn ≡ self.old.plan.machine.world.options.turns) }
         ensures { SettlesIn by chooser.old proposal self.old result chooser.new self.new }
@@ -44,7 +44,7 @@ impl Held {
         requires author { IsAuthor by }
         requires unspoiled { self.old.plan.machine.spoiled ≡ false }
         requires going { self.old.plan.machine.world.done ≡ false }
-        requires running { self.old.stopped ≡ false }
+        requires running { is_some self.old.stopper ≡ false }
         requires repairing { is_repairing self.old.plan.machine.world ≡ true }
         requires turns { self.old.plan.machine.world.turn < self.old.plan.machine.world.options.turns }
         requires repair { IsMoveOf self.old.plan.machine.model proposal.mv }
@@ -65,7 +65,7 @@ impl Held {
         requires author { IsAuthor by }
         requires unspoiled { self.old.plan.machine.spoiled ≡ false }
         requires going { self.old.plan.machine.world.done ≡ false }
-        requires running { self.old.stopped ≡ false }
+        requires running { is_some self.old.stopper ≡ false }
         requires repairing { is_repairing self.old.plan.machine.world ≡ true }
         requires repair { IfSome proposal (λ p. IsMoveOf self.old.plan.machine.model p.mv) }
         ensures { SettlesIn by chooser.old proposal self.old result chooser.new self.new }
@@ -97,7 +97,7 @@ impl Held {
         if self.plan.get().done() {
             return Ok(Acted::Finished);
         }
-        if self.stopped {
+        if self.stopper.is_some() {
             return Ok(Acted::Stopped);
         }
         if !self.can_repair() {

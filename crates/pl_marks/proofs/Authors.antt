@@ -1,5 +1,5 @@
 -- Authors told apart.
-use Rattle.std.proofs.Common.{◌≡◌, ◌≢◌, ℕ, ◌+◌, ◌<◌, ◌==◌, Bool, true, false, refl, ap, sym, ◌∙◌, arith, ne_eqb}
+use Rattle.std.proofs.Common.{◌≡◌, ◌≢◌, ℕ, ◌<◌, ◌==◌, true, false, refl, ap, sym, ◌∙◌, arith}
 use Rattle.std.proofs.lemmas.Bool.{eqb-true, eq-eqb}
 use Rattle.pl_marks.specs.declared.author.Author.{Author}
 use Rattle.pl_marks.specs.declared.author.Author.TheVariants.{Feeder, Executive, Planner}

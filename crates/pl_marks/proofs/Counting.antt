@@ -1,5 +1,5 @@
 -- The marks as they are kept, with the number of each author's entries beside them.
-use Rattle.std.proofs.Common.{◌≡◌, ℕ, suc, ◌+◌, ◌-◌, ◌<◌, ◌≤◌, List, [], ◌∷◌, ◌++◌, length, map, set, get_or, Bool, true, false, refl, sym, ◌∙◌, ap, subst, arith, length-append}
+use Rattle.std.proofs.Common.{◌≡◌, ℕ, ◌+◌, ◌-◌, ◌<◌, ◌≤◌, List, [], ◌∷◌, ◌++◌, length, map, set, get_or, Bool, true, false, refl, sym, ◌∙◌, ap, arith, length-append}
 use Rattle.std.specs.List.{All}
 use Rattle.std.proofs.lemmas.List.{map-append, length-map, append_cancel_right, length-set, get_or-set_same, get_or-set_other}
 use Rattle.std.proofs.lemmas.List.Elements.{All-nil, All-cons, All-push, All-head, All-tail}
@@ -7,7 +7,7 @@ use Rattle.std.proofs.lemmas.List.Sums.{count_by-le-length}
 use Rattle.pl_marks.specs.declared.author.Author.{Author}
 use Rattle.pl_marks.specs.declared.mark.Mark.{Mark}
 use Rattle.pl_marks.specs.Authors.{IsAuthor, slot_of, is_same, times}
-use Rattle.pl_marks.specs.Marks.{Signed, marks_of, signed_by, AreFew, AreCounted}
+use Rattle.pl_marks.specs.Marks.{marks_of, signed_by, AreCounted}
 use Rattle.pl_marks.proofs.Authors.{same_self, same_author, slot_few, slot_apart}
 use Rattle.pl_marks.proofs.Numbering.{mark_at, one_more, times_here, times_there}
 

@@ -1,13 +1,13 @@
 -- What the marks of some authors are, entry by entry and author by author.
-use Rattle.std.proofs.Common.{◌≡◌, ℕ, suc, zero, ◌+◌, List, [], ◌∷◌, ◌++◌, length, map, take, cond, Bool, true, false, Option, Some, None, slice_get, refl, sym, ◌∙◌, ap, subst, arith, append_assoc, length-append}
-use Rattle.std.specs.List.{range_with_len, count_by, filter}
+use Rattle.std.proofs.Common.{◌≡◌, ℕ, suc, zero, ◌+◌, List, [], ◌∷◌, ◌++◌, length, map, take, cond, Bool, true, false, Some, slice_get, refl, sym, ◌∙◌, ap, arith, append_assoc}
+use Rattle.std.specs.List.{range_with_len, filter}
 use Rattle.std.proofs.lemmas.List.{append-nil}
 use Rattle.std.proofs.lemmas.List.Sums.{sum_by-append, sum_by-cons}
 use Rattle.pl_marks.specs.declared.author.Author.{Author}
 use Rattle.pl_marks.specs.declared.mark.Mark.{Mark}
 use Rattle.pl_marks.specs.Authors.{is_same, times}
 use Rattle.pl_marks.specs.Marks.{Signed, marks_from, marks_of, mark_of, counts_of}
-use Rattle.pl_marks.proofs.Authors.{same_self, same_author}
+use Rattle.pl_marks.proofs.Authors.{same_author}
 
 abbrev one_of : Author → Author → ℕ
 one_of a b = cond (is_same a b) 1 0

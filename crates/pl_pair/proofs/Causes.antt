@@ -17,7 +17,7 @@ use Rattle.pl_input.specs.Reads.{ReadsLines, WhyKnown}
 use Rattle.pl_input.specs.Stops.{IsStuckKnown}
 use Rattle.pl_acts.specs.Roles.{is_input}
 use Rattle.pl_acts.specs.Items.{entries_in}
-use Rattle.pl_shared.specs.Plans.{PlanPass}
+use Rattle.pl_locked.specs.Plans.{PlanPass}
 use Rattle.pl_pair.specs.declared.cut.Cut.{Cut}
 use Rattle.pl_pair.specs.declared.cut.Cut.TheVariants as cut
 use Rattle.pl_input.specs.declared.halt.Halt.{Halt}

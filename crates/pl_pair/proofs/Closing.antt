@@ -29,8 +29,8 @@ use Rattle.pl_acts.specs.declared.noted.Noted.TheVariants.{Opened, Made, Stopped
 use Rattle.pl_acts.specs.Items.{Signs, SignedEntry, made_of, entries_of, with_authors, stop_items, items_of, entries_in, model_in, is_stop, stop_in, OfWorld, InWorld}
 use Rattle.pl_acts.specs.Roles.{is_input, is_repair, is_executed, is_entry}
 use Rattle.pl_acts.specs.Seen.{IsPlan}
-use Rattle.pl_shared.specs.declared.plan.SharedPlan.{SharedPlan}
-use Rattle.pl_shared.specs.Plans.{PlanPass, Closes}
+use Rattle.pl_locked.specs.declared.plan.SharedPlan.{SharedPlan}
+use Rattle.pl_locked.specs.Plans.{PlanPass, Closes}
 use Rattle.pl_acts.proofs.Items.{entries_in_items, model_in_items, model_in_prefix}
 use Rattle.pl_pair.specs.Served as serving
 use Rattle.pl_pair.specs.Served.{AreOf, IsStopAtMost, AreOfUntil}

@@ -20,11 +20,11 @@ use Rattle.pl_input.specs.Waits.{line_in}
 use Rattle.pl_driver.specs.CutShort.{answers, IsCutShort}
 use Rattle.pl_acts.specs.declared.noted.Noted.{Noted}
 use Rattle.pl_acts.specs.declared.noted.Noted.TheVariants.{Stopped}
-use Rattle.pl_shared.specs.declared.plan.SharedPlan.{SharedPlan}
+use Rattle.pl_locked.specs.declared.plan.SharedPlan.{SharedPlan}
 use Rattle.pl_acts.specs.Items.{handed_in, items_of, entries_in, model_in, InWorld}
-use Rattle.pl_shared.specs.Plans.{PlanPass, BelongsTo}
+use Rattle.pl_locked.specs.Plans.{PlanPass, BelongsTo}
 use Rattle.pl_acts.specs.Seen.{IsFull}
-use Rattle.pl_shared.specs.Turns.{TakesTurn, Stops}
+use Rattle.pl_locked.specs.Turns.{TakesTurn, Stops}
 use Rattle.pl_acts.proofs.Items.{entries_in_items, model_in_items, length_going}
 use Rattle.pl_pair.specs.declared.cut.Cut.{Cut}
 use Rattle.pl_pair.specs.declared.cut.Cut.TheVariants as cut

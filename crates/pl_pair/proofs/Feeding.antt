@@ -25,11 +25,11 @@ use Rattle.pl_input.proofs.Reading.{took_more, used_later}
 use Rattle.pl_journal.proofs.AboutWriting.{some_held, adds_then}
 use Rattle.pl_acts.specs.declared.noted.Noted.{Noted}
 use Rattle.pl_acts.specs.declared.noted.Noted.TheVariants.{Made, Stopped}
-use Rattle.pl_shared.specs.declared.plan.SharedPlan.{SharedPlan}
+use Rattle.pl_locked.specs.declared.plan.SharedPlan.{SharedPlan}
 use Rattle.pl_acts.specs.Items.{entry_in, entries_in, InWorld}
 use Rattle.pl_acts.specs.Roles.{IsInputOf}
-use Rattle.pl_shared.specs.Plans.{PlanPass, BelongsTo}
-use Rattle.pl_shared.specs.Turns.{TakesTurn, Makes, Stops}
+use Rattle.pl_locked.specs.Plans.{PlanPass, BelongsTo}
+use Rattle.pl_locked.specs.Turns.{TakesTurn, Makes, Stops}
 use Rattle.pl_acts.proofs.EntryKinds.{from_world}
 use Rattle.pl_acts.proofs.FullLogs.{some_entries}
 use Rattle.pl_pair.specs.declared.cut.Cut.{Cut}

@@ -12,8 +12,8 @@ use Rattle.pl_turn.specs.Passes.{seen_of, mine_of, crew_of, leads, made_by, join
 use Rattle.pl_turn.proofs.Histories.{prefix_self, prefix_trans}
 use Rattle.pl_machine.specs.declared.stop.Stop.{Stop}
 use Rattle.pl_acts.specs.declared.noted.Noted.{Noted}
-use Rattle.pl_shared.specs.declared.plan.SharedPlan.{SharedPlan}
-use Rattle.pl_shared.specs.Plans.{PlanPass, BelongsTo}
+use Rattle.pl_locked.specs.declared.plan.SharedPlan.{SharedPlan}
+use Rattle.pl_locked.specs.Plans.{PlanPass, BelongsTo}
 use Rattle.pl_pair.specs.declared.duty.Duty.{Duty}
 use Rattle.pl_pair.specs.declared.worker.Worker.{Worker}
 use Rattle.pl_pair.specs.declared.hands.Hand.{Hand}

@@ -23,14 +23,14 @@ use Rattle.pl_journal.specs.Rendering.Lines.{text_from}
 use Rattle.pl_journal.specs.Written.{Adds}
 use Rattle.pl_acts.specs.declared.noted.Noted.{Noted}
 use Rattle.pl_acts.specs.declared.noted.Noted.TheVariants.{Made, Stopped}
-use Rattle.pl_shared.specs.declared.plan.SharedPlan.{SharedPlan}
+use Rattle.pl_locked.specs.declared.plan.SharedPlan.{SharedPlan}
 use Rattle.pl_acts.specs.Items.{Signs, SignedEntry, made_of, entries_of, handed_in, stop_items, items_of, entries_in, model_in, InWorld}
 use Rattle.pl_acts.specs.declared.role.Role.{Role}
 use Rattle.pl_acts.specs.declared.role.Role.TheVariants.{Planner, Executive}
 use Rattle.pl_acts.specs.Roles.{has_event, is_input, kind_of}
 use Rattle.pl_acts.specs.Seen.{IsPlan, IsFull}
-use Rattle.pl_shared.specs.Plans.{PlanPass, BelongsTo}
-use Rattle.pl_shared.specs.Turns.{Stops, was_stopped, is_stopped}
+use Rattle.pl_locked.specs.Plans.{PlanPass, BelongsTo}
+use Rattle.pl_locked.specs.Turns.{Stops, was_stopped, is_stopped}
 use Rattle.pl_acts.proofs.Items.{entries_in_items, model_in_items, length_going, made_entries}
 use Rattle.pl_acts.proofs.FullLogs.{log_is_bounded, world_options, full_ends, same_world, full_on}
 use Rattle.pl_pair.specs.declared.duty.Duty.{Duty}

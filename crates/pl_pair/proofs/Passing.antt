@@ -18,10 +18,10 @@ use Rattle.pl_acts.specs.declared.noted.Noted.{Noted}
 use Rattle.pl_acts.specs.declared.noted.Noted.TheVariants.{Opened, Made, Stopped}
 use Rattle.pl_acts.specs.declared.part.Part.{Part}
 use Rattle.pl_acts.specs.Items.{entry_in, entries_in}
-use Rattle.pl_shared.specs.declared.plan.SharedPlan.{SharedPlan}
+use Rattle.pl_locked.specs.declared.plan.SharedPlan.{SharedPlan}
 use Rattle.pl_acts.specs.Seen.{IsPlan, Copies}
-use Rattle.pl_shared.specs.Plans.{PlanPass, BelongsTo}
-use Rattle.pl_shared.specs.Turns.{TakesTurn}
+use Rattle.pl_locked.specs.Plans.{PlanPass, BelongsTo}
+use Rattle.pl_locked.specs.Turns.{TakesTurn}
 use Rattle.pl_machine.proofs.ShortLogs.{log_is_short}
 use Rattle.pl_acts.proofs.Items.{entries_in_items}
 use Rattle.pl_acts.proofs.FullLogs.{in_world_on}

@@ -17,10 +17,10 @@ use Rattle.pl_input.specs.Words.{messages_of}
 use Rattle.pl_machine.specs.Sound.{State}
 use Rattle.pl_io.specs.Lines.{lines_of}
 use Rattle.pl_acts.specs.declared.noted.Noted.{Noted}
-use Rattle.pl_shared.specs.declared.plan.SharedPlan.{SharedPlan}
+use Rattle.pl_locked.specs.declared.plan.SharedPlan.{SharedPlan}
 use Rattle.pl_acts.specs.Items.{handed_in, items_of, is_stop, signer_in, model_in}
 use Rattle.pl_acts.specs.Roles.{is_entry, kind_of, is_input}
-use Rattle.pl_shared.specs.Plans.{PlanPass, BelongsTo, Closes}
+use Rattle.pl_locked.specs.Plans.{PlanPass, BelongsTo, Closes}
 use Rattle.pl_acts.proofs.Items.{model_in_items, length_going}
 use Rattle.pl_pair.specs.declared.cut.Cut.{Cut}
 use Rattle.pl_pair.specs.declared.cut.Cut.TheVariants as cut

@@ -11,18 +11,18 @@ use Rattle.pl_marks.specs.Authors.{IsAuthor}
 use Rattle.pl_acts.specs.declared.noted.Noted.{Noted}
 use Rattle.pl_acts.specs.declared.noted.Noted.TheVariants.{Stopped}
 use Rattle.pl_acts.specs.Items.{is_stop, signer_in}
-use Rattle.pl_shared.specs.declared.plan.SharedPlan.{SharedPlan}
+use Rattle.pl_locked.specs.declared.plan.SharedPlan.{SharedPlan}
 use Rattle.pl_acts.specs.declared.role.Role.{Role}
 use Rattle.pl_acts.specs.declared.role.Acted.{Acted}
 use Rattle.pl_acts.specs.declared.role.Acted.TheVariants as acted
 use Rattle.pl_acts.specs.Roles.{worker_of, kind_of}
-use Rattle.pl_shared.specs.Plans.{PlanPass, BelongsTo}
+use Rattle.pl_locked.specs.Plans.{PlanPass, BelongsTo}
 use Rattle.pl_turn.proofs.Histories.{prefix_length}
 use Rattle.pl_acts.specs.Making.{MakesAll, low_behind}
 use Rattle.pl_acts.specs.Seen.{WasAskedAtMost}
-use Rattle.pl_shared.specs.Turns.{TakesTurn, low_of, Acts, Stops, Works, WorksUntil, WorksOn}
+use Rattle.pl_locked.specs.Turns.{TakesTurn, low_of, Acts, Stops, Works, WorksUntil, WorksOn}
 use Rattle.pl_acts.proofs.OwnEntries.{makes_all_on, makes_all_append, makes_all_late}
-use Rattle.pl_shared.proofs.Progress.{working_none, works_on, works_idle, works_finished, works_stopped, worked_until, took_until}
+use Rattle.pl_locked.proofs.Progress.{working_none, works_on, works_idle, works_finished, works_stopped, worked_until, took_until}
 use Rattle.pl_acts.proofs.EntryKinds.{made_worker, made_kinds, low_within, was_asked_worker}
 use Rattle.pl_pair.specs.declared.duty.Duty.{Duty}
 use Rattle.pl_pair.specs.declared.worker.Worker.{Worker}

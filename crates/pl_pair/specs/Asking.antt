@@ -11,8 +11,8 @@ use Rattle.pl_marks.specs.declared.author.Author.TheVariants.{Feeder}
 use Rattle.pl_acts.specs.declared.noted.Noted.{Noted}
 use Rattle.pl_acts.specs.Items.{InWorld}
 use Rattle.pl_acts.specs.Roles.{IsInputOf}
-use Rattle.pl_shared.specs.Plans.{PlanPass}
-use Rattle.pl_shared.specs.Turns.{Makes, MakesNothing, Feeds}
+use Rattle.pl_locked.specs.Plans.{PlanPass}
+use Rattle.pl_locked.specs.Turns.{Makes, MakesNothing, Feeds}
 use Rattle.pl_pair.specs.declared.cut.Cut.{Cut}
 use Rattle.pl_pair.specs.declared.cut.Cut.TheVariants as cut
 use Rattle.pl_pair.specs.Cuts.{cut_by}

@@ -14,11 +14,11 @@ use Rattle.pl_input.specs.Reads.{ReadsLines, IsUsedUp}
 use Rattle.pl_journal.specs.Written.{Adds}
 use Rattle.pl_acts.specs.declared.noted.Noted.{Noted}
 use Rattle.pl_acts.specs.declared.noted.Noted.TheVariants.{Opened, Made, Stopped}
-use Rattle.pl_shared.specs.declared.plan.SharedPlan.{SharedPlan}
+use Rattle.pl_locked.specs.declared.plan.SharedPlan.{SharedPlan}
 use Rattle.pl_acts.specs.Items.{entries_in, stop_in, InWorld}
 use Rattle.pl_acts.specs.Seen.{IsPlan}
-use Rattle.pl_shared.specs.Plans.{PlanPass, BelongsTo}
-use Rattle.pl_shared.specs.Turns.{TakesTurn, Stops}
+use Rattle.pl_locked.specs.Plans.{PlanPass, BelongsTo}
+use Rattle.pl_locked.specs.Turns.{TakesTurn, Stops}
 use Rattle.pl_pair.specs.declared.cut.Cut.{Cut}
 use Rattle.pl_pair.specs.declared.cut.Cut.TheVariants as cut
 use Rattle.pl_pair.specs.Cuts.{cut_by}

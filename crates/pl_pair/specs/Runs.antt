@@ -25,7 +25,7 @@ use Rattle.pl_acts.specs.declared.noted.Noted.{Noted}
 use Rattle.pl_acts.specs.Items.{Signs, items_of, entries_in, model_in}
 use Rattle.pl_acts.specs.Roles.{worker_of, kind_of, is_input}
 use Rattle.pl_acts.specs.declared.role.Role.{Role}
-use Rattle.pl_shared.specs.Plans.{PlanPass}
+use Rattle.pl_locked.specs.Plans.{PlanPass}
 use Rattle.pl_input.specs.declared.halt.Halt.{Halt}
 use Rattle.pl_input.specs.declared.halt.Halt.TheVariants as halt
 use Rattle.pl_marks.specs.declared.author.Author.TheVariants.{Feeder}

@@ -9,11 +9,11 @@ use Rattle.pl_machine.specs.declared.stop.Stop.{Stop}
 use Rattle.pl_machine.specs.declared.stop.Stop.TheVariants as stop
 use Rattle.pl_acts.specs.declared.noted.Noted.{Noted}
 use Rattle.pl_acts.specs.declared.noted.Noted.TheVariants.{Stopped}
-use Rattle.pl_shared.specs.declared.plan.SharedPlan.{SharedPlan}
+use Rattle.pl_locked.specs.declared.plan.SharedPlan.{SharedPlan}
 use Rattle.pl_acts.specs.declared.role.Role.{Role}
 use Rattle.pl_acts.specs.Items.{is_stop, signer_in, stop_in, InWorld}
 use Rattle.pl_acts.specs.Roles.{worker_of, has_event, is_entry}
-use Rattle.pl_shared.specs.Plans.{PlanPass, BelongsTo}
+use Rattle.pl_locked.specs.Plans.{PlanPass, BelongsTo}
 use Rattle.pl_acts.specs.Making.{MakesAll}
 use Rattle.pl_acts.specs.Seen.{IsFull}
 use Rattle.pl_pair.specs.declared.duty.Duty.{Duty}

@@ -17,7 +17,7 @@ use crate::hands::{Hand, Hands, Hired};
 use crate::worker::{Worker, serve_unless};
 use pl_io::{LineReader, Sink, Source};
 use pl_model::Model;
-use pl_shared::{Pass, SharedPlan};
+use pl_locked::{Pass, SharedPlan};
 use pl_turn::Gate;
 use std::alloc::Global;
 use std::sync::Wait;

@@ -18,7 +18,7 @@ use pl_lists::Copied;
 use pl_machine::Machine;
 use pl_marks::Marks;
 use pl_model::Model;
-use pl_shared::SharedPlan;
+use pl_locked::SharedPlan;
 use pl_turn::Gate;
 use std::alloc::{AllocError, Global};
 use std::sync::Wait;

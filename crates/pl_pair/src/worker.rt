@@ -5,7 +5,7 @@ ghost use Rattle.pl_pair.specs.Served.{IsHired, IsServed, IsWorker};
 use crate::duty::Duty;
 use pl_acts::{Acted, Role};
 use pl_machine::Stop;
-use pl_shared::{Pass, SharedPlan, work};
+use pl_locked::{Pass, SharedPlan, work};
 use pl_turn::Gate;
 use std::alloc::Global;
 use std::sync::Wait;

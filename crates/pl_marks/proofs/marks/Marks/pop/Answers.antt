@@ -1,4 +1,4 @@
-use Rattle.std.proofs.Common.{◌≡◌, ℕ, ◌≤◌, ◌-◌, ◌++◌, ◌∷◌, [], List, arith, sym, ◌∙◌, ap, subst, slice_index_or, slice_set}
+use Rattle.std.proofs.Common.{◌≡◌, ℕ, ◌-◌, ◌++◌, ◌∷◌, [], List, arith, sym, ◌∙◌, ap, subst, slice_index_or, slice_set}
 use Rattle.pl_marks.specs.declared.mark.Mark.{Mark}
 use Rattle.pl_marks.specs.Marks.{Signed, signed_by, AreCounted}
 use Rattle.pl_marks.proofs.Counting.{authors_in, last_counted, popped, others_are}

@@ -1,4 +1,4 @@
-use Rattle.std.proofs.Common.{◌≡◌, arith, length, ap}
+use Rattle.std.proofs.Common.{arith, length, ap}
 use Rattle.std.proofs.lemmas.List.{length-map}
 use Rattle.pl_marks.specs.declared.mark.Mark.{Mark}
 use Rattle.pl_marks.specs.Marks.{Signed}
