@@ -1,5 +1,5 @@
 -- A member stays one through its calls.
-use Rattle.std.proofs.Common.{◌≡◌, ◌≢◌, ℕ, ◌+◌, ◌≤◌, List, [], ◌∷◌, ◌++◌, length, take, true, false, Option, Some, None, Result, Ok, Err, IfSome, refl, sym, ◌∙◌, ap, subst, inl, inr, ◌⊎◌, arith}
+use Rattle.std.proofs.Common.{◌≡◌, ◌≢◌, ℕ, ◌+◌, ◌≤◌, List, [], ◌∷◌, ◌++◌, length, take, true, false, Option, Some, None, Result, Ok, Err, IfSome, refl, sym, ◌∙◌, ap, subst, arith}
 use Rattle.std.specs.List.{All}
 use Rattle.std.proofs.lemmas.List.{take-append-le}
 use Rattle.std.proofs.lemmas.List.Elements.{All-push}
@@ -24,12 +24,12 @@ use Rattle.pl_acts.specs.declared.role.Acted.TheVariants as acted
 use Rattle.pl_acts.specs.declared.sight.Sight.{Sight}
 use Rattle.pl_acts.specs.declared.sight.View.{View}
 use Rattle.pl_acts.specs.declared.sight.View.TheVariants as view
-use Rattle.pl_acts.specs.Items.{is_stop, signer_in, InWorld}
+use Rattle.pl_acts.specs.Items.{signer_in, InWorld}
 use Rattle.pl_acts.specs.Roles.{worker_of, IsInputOf}
 use Rattle.pl_acts.specs.Sights.{IsDueBy}
 use Rattle.pl_acts.proofs.EntryKinds.{by_kind, kept_worker, asked_worker}
-use Rattle.pl_shared.specs.Plans.{PlanPass, BelongsTo}
-use Rattle.pl_shared.specs.Turns.{TakesTurn, Makes, Feeds, Stops, was_stopped, is_stopped, low_of, Acts, Views, IsSettled, Settles, SettlesAs}
+use Rattle.pl_locked.specs.Plans.{PlanPass, BelongsTo}
+use Rattle.pl_locked.specs.Turns.{TakesTurn, Makes, Feeds, Stops, was_stopped, is_stopped, low_of, Acts, Views, IsSettled, Settles, SettlesAs}
 use Rattle.pl_pair.specs.Served.{AreSigned}
 use Rattle.pl_many.specs.declared.crew.Crew.{Crew}
 use Rattle.pl_many.specs.declared.member.Member.{Member}
@@ -61,17 +61,17 @@ fits_on (Planner k) r r2 fits same = same ∙ fits
 
 module _ (by : Author) where
   abbrev Signs : ℕ × Noted → Type 0
-  Signs x = (is_stop x.1 ≡ true) ⊎ (signer_in x.1 ≡ Some by)
+  Signs x = signer_in x.1 ≡ Some by
 
   pub signs_same : (old new : List (ℕ × Noted)) → new ≡ old → AreSigned by old → AreSigned by new
   signs_same old new same all = subst (All Signs) (sym same) all
 
   signs_made : (By : List Noted → Entry → Type 0) (old new : PlanPass) (n : ℕ) → Makes By by old new n → AreSigned by (mine_of old) → AreSigned by (mine_of new)
-  signs_made By old new n makes all = subst (All Signs) (sym makes.mine) (All-push Signs (mine_of old) (n, Made (Some by) makes.entry) all (inr refl))
+  signs_made By old new n makes all = subst (All Signs) (sym makes.mine) (All-push Signs (mine_of old) (n, Made (Some by) makes.entry) all refl)
 
-  pub signs_stops : (old new : PlanPass) → Stops old new → AreSigned by (mine_of old) → AreSigned by (mine_of new)
+  pub signs_stops : (old new : PlanPass) → Stops by old new → AreSigned by (mine_of old) → AreSigned by (mine_of new)
   signs_stops old new (was_stopped same is) all = signs_same (mine_of old) (mine_of new) same all
-  signs_stops old new (is_stopped seen on going is mine) all = subst (All Signs) (sym mine) (All-push Signs (mine_of old) (length seen, Stopped) all (inl refl))
+  signs_stops old new (is_stopped seen on going is mine) all = subst (All Signs) (sym mine) (All-push Signs (mine_of old) (length seen, Stopped by) all refl)
 
   -- an act
   pub signs_acts : (r r2 : Role) (old new : PlanPass) (a : Result Acted Stop) → Acts by r old a r2 new → AreSigned by (mine_of old) → AreSigned by (mine_of new)

@@ -1,5 +1,5 @@
 -- Whose entry stands at which place, and which mark names it.
-use Rattle.std.proofs.Common.{◌≡◌, ℕ, zero, suc, ◌+◌, ◌-◌, ◌<◌, ◌≤◌, ◌==◌, List, [], ◌∷◌, ◌++◌, length, map, take, get_or, Bool, true, false, cond, Option, Some, None, slice_get, refl, sym, ◌∙◌, ap, subst, inl, inr, ◌⊎◌, arith, length-append}
+use Rattle.std.proofs.Common.{◌≡◌, ℕ, zero, suc, ◌+◌, ◌-◌, ◌<◌, ◌≤◌, ◌==◌, List, [], ◌∷◌, ◌++◌, length, map, take, get_or, Bool, true, false, cond, is_some, Option, Some, None, slice_get, refl, sym, ◌∙◌, ap, subst, inl, inr, ◌⊎◌, arith, length-append}
 use Rattle.std.specs.List.{All, Contains, range_with_len}
 use Rattle.std.proofs.lemmas.Bool.{eqb-true}
 use Rattle.std.proofs.lemmas.List.{length-map}
@@ -28,7 +28,7 @@ use Rattle.pl_acts.specs.Items.{Signs, made_items, stop_items, items_of, is_stop
 use Rattle.pl_acts.specs.Seen.{IsPlan}
 use Rattle.pl_acts.proofs.Items.{length_stopped, length_going}
 use Rattle.pl_acts.proofs.Signers.{items_marked}
-use Rattle.pl_shared.specs.Plans.{PlanPass, Closes}
+use Rattle.pl_locked.specs.Plans.{PlanPass, Closes}
 use Rattle.pl_pair.specs.Served.{AreSigned}
 use Rattle.pl_many.specs.declared.crew.Crew.{Crew}
 use Rattle.pl_many.specs.declared.member.Member.{Member}
@@ -39,15 +39,14 @@ use Rattle.pl_many.specs.Closing.{AreMarksOf, IsNamed, IsMarked, NamesOwn, Close
 
 -- nobody of the crew made it
 abbrev IsHanded : Noted → Type 0
-IsHanded i = (is_stop i ≡ false) × (signer_in i ≡ None)
+IsHanded i = signer_in i ≡ None
 
 -- somebody did
 abbrev IsTheirs : Noted → Type 0
-IsTheirs i = (is_stop i ≡ true) ⊎ ((a : Author) × (signer_in i ≡ Some a))
+IsTheirs i = (a : Author) × (signer_in i ≡ Some a)
 
 never_both : (i : Noted) → IsHanded i → IsTheirs i → ⊥
-never_both i handed (inl stop) = (let h : true ≡ false = sym stop ∙ handed.0 in (cc))
-never_both i handed (inr by) = (let h : None ≡ Some by.0 = sym handed.1 ∙ by.1 in (cc))
+never_both i handed by = (let h : None ≡ Some by.0 = sym handed ∙ by.1 in (cc))
 
 -- an entry of this author's, at a place that is told
 abbrev IsEntryOf : Author → Noted → Type 0
@@ -59,29 +58,29 @@ same_item x i e = (cc)
 no_item : {A : Type 0} (i : Noted) → None ≡ Some i → A
 no_item i e = absurd (cc)
 
-stop_theirs : (t : Bool) (p : ℕ) (i : Noted) → slice_get (stop_items t) p ≡ Some i → IsTheirs i
-stop_theirs true zero i at = inl (sym (ap is_stop (same_item Stopped i at)))
-stop_theirs true (suc p) i at = no_item i at
-stop_theirs false p i at = no_item i at
+stop_theirs : (t : Option Author) (p : ℕ) (i : Noted) → slice_get (stop_items t) p ≡ Some i → IsTheirs i
+stop_theirs (Some by) zero i at = (by, sym (ap signer_in (same_item (Stopped by) i at)))
+stop_theirs (Some by) (suc p) i at = no_item i at
+stop_theirs None p i at = no_item i at
 
 -- of entries behind the open one, the first so many of which were handed in
-made_before : (k : ℕ) (authors : List Author) (es : List Entry) (t : Bool) (p : ℕ) (i : Noted) → p < k → p < length es → slice_get (made_items k authors es ++ stop_items t) p ≡ Some i → IsHanded i
+made_before : (k : ℕ) (authors : List Author) (es : List Entry) (t : Option Author) (p : ℕ) (i : Noted) → p < k → p < length es → slice_get (made_items k authors es ++ stop_items t) p ≡ Some i → IsHanded i
 made_before zero authors es t p i few within at = absurd (omega (arith, few))
 made_before (suc k) authors [] t p i few within at = absurd (omega (arith, within))
-made_before (suc k) authors (x ∷ es) t zero i few within at = (let is : Made None x ≡ i = same_item (Made None x) i at in (sym (ap is_stop is), sym (ap signer_in is)))
+made_before (suc k) authors (x ∷ es) t zero i few within at = sym (ap signer_in (same_item (Made None x) i at))
 made_before (suc k) authors (x ∷ es) t (suc p) i few within at = made_before k authors es t p i (omega arith) (omega arith) at
 
-made_behind : (k : ℕ) (authors : List Author) (es : List Entry) (t : Bool) (p : ℕ) (i : Noted) → length es ≡ k + length authors → k ≤ p → slice_get (made_items k authors es ++ stop_items t) p ≡ Some i → IsTheirs i
+made_behind : (k : ℕ) (authors : List Author) (es : List Entry) (t : Option Author) (p : ℕ) (i : Noted) → length es ≡ k + length authors → k ≤ p → slice_get (made_items k authors es ++ stop_items t) p ≡ Some i → IsTheirs i
 made_behind (suc k) authors [] t p i long past at = absurd (omega (arith, long))
 made_behind (suc k) authors (x ∷ es) t zero i long past at = absurd (omega (arith, past))
 made_behind (suc k) authors (x ∷ es) t (suc p) i long past at = made_behind k authors es t p i (omega (arith, long)) (omega arith) at
 made_behind zero [] [] t p i long past at = stop_theirs t p i at
 made_behind zero [] (x ∷ es) t p i long past at = absurd (omega (arith, long))
 made_behind zero (a ∷ authors) [] t p i long past at = absurd (omega (arith, long))
-made_behind zero (a ∷ authors) (x ∷ es) t zero i long past at = inr (a, sym (ap signer_in (same_item (Made (Some a) x) i at)))
+made_behind zero (a ∷ authors) (x ∷ es) t zero i long past at = (a, sym (ap signer_in (same_item (Made (Some a) x) i at)))
 made_behind zero (a ∷ authors) (x ∷ es) t (suc p) i long past at = made_behind zero authors es t p i (omega (arith, long)) (omega arith) at
 
-made_at : (k : ℕ) (authors : List Author) (es : List Entry) (t : Bool) (q : ℕ) (a : Author) (i : Noted) → length es ≡ k + length authors → slice_get authors q ≡ Some a → slice_get (made_items k authors es ++ stop_items t) (k + q) ≡ Some i → IsEntryOf a i
+made_at : (k : ℕ) (authors : List Author) (es : List Entry) (t : Option Author) (q : ℕ) (a : Author) (i : Noted) → length es ≡ k + length authors → slice_get authors q ≡ Some a → slice_get (made_items k authors es ++ stop_items t) (k + q) ≡ Some i → IsEntryOf a i
 made_at (suc k) authors [] t q a i long by at = absurd (omega (arith, long))
 made_at (suc k) authors (x ∷ es) t q a i long by at =
     made_at k authors es t q a i (omega (arith, long)) by (ap (λ (p : ℕ). slice_get (made_items (suc k) authors (x ∷ es) ++ stop_items t) p) (let e : suc (k + q) ≡ suc k + q = omega arith in e) ∙ at)
@@ -99,8 +98,8 @@ module _ (m : Model) (log : List Entry) (s : Signs) (some : 0 < s.by.opening) (e
   before_by : (log2 : List Entry) → log ≡ log2 → (p : ℕ) (i : Noted) → p < s.by.opening → p < length log2 → slice_get (items_of m log2 s) p ≡ Some i → IsHanded i
   unfolding items_of
   before_by [] same p i few within at = absurd (omega (arith, within))
-  before_by (first ∷ es) same zero i few within at = (let is : Opened m first ≡ i = same_item (Opened m first) i at in (sym (ap is_stop is), sym (ap signer_in is)))
-  before_by (first ∷ es) same (suc p) i few within at = made_before (s.by.opening - 1) s.by.authors es s.stopped p i (omega (arith, few)) (omega (arith, within)) at
+  before_by (first ∷ es) same zero i few within at = sym (ap signer_in (same_item (Opened m first) i at))
+  before_by (first ∷ es) same (suc p) i few within at = made_before (s.by.opening - 1) s.by.authors es s.stopper p i (omega (arith, few)) (omega (arith, within)) at
 
   before_opening : (p : ℕ) (i : Noted) → p < s.by.opening → p < length log → slice_get (items_of m log s) p ≡ Some i → IsHanded i
   before_opening p i few within at = before_by log refl p i few within at
@@ -109,7 +108,7 @@ module _ (m : Model) (log : List Entry) (s : Signs) (some : 0 < s.by.opening) (e
   unfolding items_of
   behind_by [] same p i past at = absurd (let long = ap length same in omega (arith, long, some, each))
   behind_by (first ∷ es) same zero i past at = absurd (omega (arith, some, past))
-  behind_by (first ∷ es) same (suc p) i past at = (let long = ap length same in made_behind (s.by.opening - 1) s.by.authors es s.stopped p i (omega (arith, long, each, some)) (omega (arith, past, some)) at)
+  behind_by (first ∷ es) same (suc p) i past at = (let long = ap length same in made_behind (s.by.opening - 1) s.by.authors es s.stopper p i (omega (arith, long, each, some)) (omega (arith, past, some)) at)
 
   behind_opening : (p : ℕ) (i : Noted) → s.by.opening ≤ p → slice_get (items_of m log s) p ≡ Some i → IsTheirs i
   behind_opening p i past at = behind_by log refl p i past at
@@ -121,7 +120,7 @@ module _ (m : Model) (log : List Entry) (s : Signs) (some : 0 < s.by.opening) (e
   entry_by (first ∷ es) same (suc p) q a i is by at =
       let long = ap length same in
       let place : p ≡ s.by.opening - 1 + q = omega (arith, is, some) in
-      made_at (s.by.opening - 1) s.by.authors es s.stopped q a i (omega (arith, long, each, some)) by (ap (λ (n : ℕ). slice_get (made_items (s.by.opening - 1) s.by.authors es ++ stop_items s.stopped) n) (sym place) ∙ at)
+      made_at (s.by.opening - 1) s.by.authors es s.stopper q a i (omega (arith, long, each, some)) by (ap (λ (n : ℕ). slice_get (made_items (s.by.opening - 1) s.by.authors es ++ stop_items s.stopper) n) (sym place) ∙ at)
 
   entry_at : (q : ℕ) (a : Author) (i : Noted) → slice_get s.by.authors q ≡ Some a → slice_get (items_of m log s) (s.by.opening + q) ≡ Some i → IsEntryOf a i
   entry_at q a i by at = entry_by log refl (s.by.opening + q) q a i refl by at
@@ -172,21 +171,12 @@ marks_are s log each = record {
   counts = λ a. counts_are s a ∙ ap (λ (n : ℕ). range_with_len 1 n) (sym (ap length (counts_are s a) ∙ length-range_with_len 1 (times a s.authors)));
 }
 
-abbrev Signs : Author → ℕ × Noted → Type 0
-Signs by x = (is_stop x.1 ≡ true) ⊎ (signer_in x.1 ≡ Some by)
-
-signed_theirs : (a : Author) (i : Noted) → (is_stop i ≡ true) ⊎ (signer_in i ≡ Some a) → IsTheirs i
-signed_theirs a i (inl stop) = inl stop
-signed_theirs a i (inr signed) = inr (a, signed)
-
--- who has an entry of an author is that author
-signer_is : (a b : Author) (i : Noted) → IsEntryOf a i → (is_stop i ≡ true) ⊎ (signer_in i ≡ Some b) → b ≡ a
-signer_is a b i entry (inl stop) = absurd (let h : true ≡ false = sym stop ∙ entry.0 in (cc))
-signer_is a b i entry (inr signed) = (let h : Some b ≡ Some a = sym signed ∙ entry.1 in (cc))
+abbrev SignedBy : Author → ℕ × Noted → Type 0
+SignedBy by x = signer_in x.1 ≡ Some by
 
 whose_is : (own : List (ℕ × Noted)) (a : Author) (i : Noted) → IsSomeones own → (place : ℕ) → Contains own (place, i) → IsEntryOf a i → AreSigned a own
 whose_is own a i whose place has entry =
-    let same : whose.0 ≡ a = signer_is a whose.0 i entry (All-contains (Signs whose.0) own (place, i) whose.2 has) in
+    let same : whose.0 ≡ a = (let h : Some whose.0 ≡ Some a = sym (All-contains (SignedBy whose.0) own (place, i) whose.2 has) ∙ entry.1 in (cc)) in
     subst (λ (b : Author). AreSigned b own) same whose.2
 
 get_take : (n : ℕ) (xs : List Noted) (k : ℕ) (x : Noted) → k < n → slice_get xs k ≡ Some x → slice_get (take n xs) k ≡ Some x
@@ -210,7 +200,7 @@ module _ (pass : PlanPass) (machine : State) (by : Signed) (gathers : Gathers pa
   all_theirs : All IsSomeones (lists_of pass)
   all_theirs = All-cons IsSomeones (mine_of pass) (joined_by pass) mine gathers.joined
 
-  whole_by : (t : Bool) → closes.signs.stopped ≡ t → length machine.log ≤ length whole
+  whole_by : (t : Bool) → is_some closes.signs.stopper ≡ t → length machine.log ≤ length whole
   whole_by true is = (let e = length_stopped machine.model machine.log closes.signs is in omega (arith, e))
   whole_by false is = (let e = length_going machine.model machine.log closes.signs is in omega (arith, e))
 
@@ -238,10 +228,10 @@ module _ (pass : PlanPass) (machine : State) (by : Signed) (gathers : Gathers pa
       }
 
   own_theirs : (own : List (ℕ × Noted)) → IsSomeones own → (place : ℕ) (i : Noted) → Contains own (place, i) → IsTheirs i
-  own_theirs own whose place i has = signed_theirs whose.0 i (All-contains (Signs whose.0) own (place, i) whose.2 has)
+  own_theirs own whose place i has = (whose.0, All-contains (SignedBy whose.0) own (place, i) whose.2 has)
 
   whole_long : length machine.log ≤ length whole
-  whole_long = whole_by closes.signs.stopped refl
+  whole_long = whole_by (is_some closes.signs.stopper) refl
 
   -- nobody of the crew made what was handed in, and somebody did what stands behind it
   low : by.opening ≤ opening_of pass
@@ -257,8 +247,8 @@ module _ (pass : PlanPass) (machine : State) (by : Signed) (gathers : Gathers pa
       let is : closes.signs.by.opening ≡ by.opening = ap (λ (s : Signed). s.opening) closes.signed in
       let here : by.opening < opening_of pass = omega arith in
       let long = gathers.long in
-      let found = slice_get-get_or (seen_of pass) by.opening (Stopped) (omega (arith, long)) in
-      let i : Noted = get_or (seen_of pass) by.opening Stopped in
+      let found = slice_get-get_or (seen_of pass) by.opening (Stopped Feeder) (omega (arith, long)) in
+      let i : Noted = get_or (seen_of pass) by.opening (Stopped Feeder) in
       let at : slice_get whole by.opening ≡ Some i = prefix_get (seen_of pass) whole by.opening i closes.history found in
       never_both i (All-contains IsHanded (take (opening_of pass) (seen_of pass)) i gathers.handed (contains_at (take (opening_of pass) (seen_of pass)) by.opening i (get_take (opening_of pass) (seen_of pass) by.opening i here found)))
       (behind_opening machine.model machine.log closes.signs some_opening each_signed by.opening i (omega (arith, is)) at)))
@@ -300,24 +290,23 @@ module _ (pass : PlanPass) (machine : State) (by : Signed) (gathers : Gathers pa
 
 -- ---- what a member has seen
 
-entry_of_signer : (i : Noted) (a : Author) → signer_in i ≡ Some a → (e : Entry) × (i ≡ Made (Some a) e)
-entry_of_signer (Opened m e) a is = absurd (let h : None ≡ Some a = is in (cc))
-entry_of_signer (Made None e) a is = absurd (let h : None ≡ Some a = is in (cc))
-entry_of_signer (Made (Some b) e) a is = (e, (let same : b ≡ a = (let h : Some b ≡ Some a = is in (cc)) in ap (λ (c : Author). Made (Some c) e) same))
-entry_of_signer Stopped a is = absurd (let h : None ≡ Some a = is in (cc))
+entry_or_stop : (i : Noted) (a : Author) → signer_in i ≡ Some a → (is_stop i ≡ true) ⊎ ((e : Entry) × (i ≡ Made (Some a) e))
+entry_or_stop (Opened m e) a is = absurd (let h : None ≡ Some a = is in (cc))
+entry_or_stop (Made None e) a is = absurd (let h : None ≡ Some a = is in (cc))
+entry_or_stop (Made (Some b) e) a is = inr (e, (let same : b ≡ a = (let h : Some b ≡ Some a = is in (cc)) in ap (λ (c : Author). Made (Some c) e) same))
+entry_or_stop (Stopped by) a is = inl refl
 
 module _ (m : Member) (plan : IsPlan (seen_of m.pass)) (stands : StandsIn (seen_of m.pass) (mine_of m.pass)) (signed : AreSigned m.author (mine_of m.pass)) where
-  named_entry : (place : ℕ) (i : Noted) → Contains (mine_of m.pass) (place, i) → signer_in i ≡ Some m.author → IsNamed (marks_of plan.signs.by) m.author (place, i)
-  named_entry place i has is =
-      let e = entry_of_signer i m.author is in
+  named_by : (place : ℕ) (i : Noted) → Contains (mine_of m.pass) (place, i) → (is_stop i ≡ true) ⊎ ((e : Entry) × (i ≡ Made (Some m.author) e)) → IsNamed (marks_of plan.signs.by) m.author (place, i)
+  named_by place i has (inl stop) = inl stop
+  named_by place i has (inr e) =
       let at : slice_get (items_of plan.model plan.log plan.signs) place ≡ Some (Made (Some m.author) e.0) =
       ap (λ (xs : List Noted). slice_get xs place) (sym plan.is) ∙ (stands_at (seen_of m.pass) 0 (mine_of m.pass) stands place i has ∙ ap (λ (x : Noted). Some x) e.1) in
       let mark = items_marked plan.model plan.log plan.signs place m.author e.0 plan.some at in
       inr (mark_of plan.signs.by mark.0 m.author, contains_at (marks_of plan.signs.by) mark.0 (mark_of plan.signs.by mark.0 m.author) mark.2, sym mark.1, refl)
 
-  named_own : (x : ℕ × Noted) → Contains (mine_of m.pass) x → (is_stop x.1 ≡ true) ⊎ (signer_in x.1 ≡ Some m.author) → IsNamed (marks_of plan.signs.by) m.author x
-  named_own x has (inl stop) = inl stop
-  named_own x has (inr is) = named_entry x.0 x.1 has is
+  named_own : (x : ℕ × Noted) → Contains (mine_of m.pass) x → signer_in x.1 ≡ Some m.author → IsNamed (marks_of plan.signs.by) m.author x
+  named_own x has is = named_by x.0 x.1 has (entry_or_stop x.1 m.author is)
 
   pub is_marked : IsMarked m
   is_marked = record {

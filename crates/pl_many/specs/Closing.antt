@@ -12,7 +12,7 @@ use Rattle.pl_marks.specs.Authors.{times}
 use Rattle.pl_marks.specs.Marks.{Signed, marks_of, counts_of}
 use Rattle.pl_acts.specs.declared.noted.Noted.{Noted}
 use Rattle.pl_acts.specs.Items.{Signs, items_of, is_stop}
-use Rattle.pl_shared.specs.Plans.{PlanPass, Closes}
+use Rattle.pl_locked.specs.Plans.{PlanPass, Closes}
 use Rattle.pl_pair.specs.Served.{AreSigned}
 use Rattle.pl_many.specs.declared.member.Member.{Member}
 
@@ -39,7 +39,7 @@ pub record IsMarked (m : Member) : Type 0 where
 
 -- ---- at the end
 
--- one of these lists is all of the mark's author, stops aside, and has an entry at the mark's place
+-- one of these lists is all of the mark's author, and has an entry at the mark's place
 abbrev pub NamesOwn : List (List (ℕ × Noted)) → Mark → Type 0
 NamesOwn lists mark = (own : List (ℕ × Noted)) × Contains lists own × AreSigned mark.author own × ((item : Noted) × Contains own (mark.entry, item) × (is_stop item ≡ false))
 

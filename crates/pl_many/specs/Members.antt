@@ -1,5 +1,5 @@
 -- Who belongs to a crew, and what its calls say of a member.
-use Rattle.std.specs.Prelude.{◌≡◌, ◌≤◌, ◌+◌, ℕ, zero, suc, List, [], ◌∷◌, length, map, take, true, false, Option, Some, None, Result, IfSome, ⊤}
+use Rattle.std.specs.Prelude.{◌≡◌, ◌≤◌, ◌+◌, ℕ, zero, suc, List, [], ◌∷◌, length, map, take, true, Option, Some, None, Result, IfSome, ⊤}
 use Rattle.std.specs.List.{All}
 use Rattle.pl_turn.specs.Passes.{seen_of, mine_of, opening_of, leads, made_by, joined_by}
 use Rattle.pl_machine.specs.declared.stop.Stop.{Stop}
@@ -13,10 +13,10 @@ use Rattle.pl_acts.specs.declared.role.Role.TheVariants as role
 use Rattle.pl_acts.specs.declared.role.Acted.{Acted}
 use Rattle.pl_acts.specs.declared.sight.Sight.{Sight}
 use Rattle.pl_acts.specs.declared.sight.View.{View}
-use Rattle.pl_acts.specs.Items.{handed_in, items_of, is_stop, signer_in}
+use Rattle.pl_acts.specs.Items.{handed_in, items_of, signer_in}
 use Rattle.pl_acts.specs.Roles.{worker_of}
-use Rattle.pl_shared.specs.Plans.{PlanPass, BelongsTo}
-use Rattle.pl_shared.specs.Turns.{Acts, Views, SettlesAs}
+use Rattle.pl_locked.specs.Plans.{PlanPass, BelongsTo}
+use Rattle.pl_locked.specs.Turns.{Acts, Views, SettlesAs}
 use Rattle.pl_pair.specs.Duties.{chooser_of}
 use Rattle.pl_pair.specs.Served.{AreSigned}
 use Rattle.pl_many.specs.declared.crew.Crew.{Crew}
@@ -34,13 +34,13 @@ Fits Executive (Some r) = worker_of r ≡ 0
 Fits (Planner k) None = ⊥
 Fits (Planner k) (Some r) = worker_of r ≡ 1
 
--- each own item is one author's entry, or a stop
+-- each own item is one author's
 abbrev pub IsSomeones : List (ℕ × Noted) → Type 0
 IsSomeones own = (by : Author) × IsAuthor by × AreSigned by own
 
 -- Nobody of the crew made these items.
 abbrev pub AreHandedIn : List Noted → Type 0
-AreHandedIn items = All (λ i. (is_stop i ≡ false) × (signer_in i ≡ None)) items
+AreHandedIn items = All (λ i. signer_in i ≡ None) items
 
 -- What the pass that takes the others in has seen begins with what was handed in, and each list that it took in is somebody's.
 pub record Gathers (pass : PlanPass) : Type 0 where
@@ -48,7 +48,7 @@ pub record Gathers (pass : PlanPass) : Type 0 where
   pub handed : AreHandedIn (take (opening_of pass) (seen_of pass))
   pub joined : All IsSomeones (joined_by pass)
 
--- A member of the crew: its pass is one of the plan, and each of its own items is an entry that it signed, or a stop.
+-- A member of the crew: its pass is one of the plan, and each of its own items carries its name.
 pub record IsMember (crew : Crew) (m : Member) : Type 0 where
   pub own : BelongsTo crew.plan m.pass
   pub known : IsAuthor m.author

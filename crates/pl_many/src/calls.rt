@@ -4,7 +4,7 @@ ghost use Rattle.std.specs.Option.{option_copied};
 ghost use Rattle.pl_turn.specs.Passes.{seen_of, mine_of};
 ghost use Rattle.pl_entry.specs.Bounds.{IsMessageLine};
 ghost use Rattle.pl_acts.specs.Seen.{Copies};
-ghost use Rattle.pl_shared.specs.Turns.{TakesTurn, Feeds, Stops, CanSettle};
+ghost use Rattle.pl_locked.specs.Turns.{TakesTurn, Feeds, Stops, CanSettle};
 ghost use Rattle.pl_many.specs.Members.{IsMember, ActsAs, ViewsAs, SettlesBy, SameMember};
 
 use crate::crew::Crew;
@@ -43,7 +43,7 @@ impl Crew {
     {
         let author = member.author;
         match &mut member.role {
-            Some(role) => self.plan.view(rt, alloc, &mut member.pass, author, role),
+            Some(role) => self.plan.view_as(rt, alloc, &mut member.pass, author, role),
             None => unreachable!(),
         }
     }
@@ -52,7 +52,7 @@ impl Crew {
     pub fn settle<R: Wait>(
         &self,
         rt: &R,
-        alloc: Global,
+        _alloc: Global,
         member: &mut Member,
         sight: Sight,
     ) -> Result<Acted, Stop>
@@ -67,7 +67,7 @@ impl Crew {
         match &mut member.role {
             Some(role) => self
                 .plan
-                .settle(rt, alloc, &mut member.pass, author, role, sight),
+                .settle_as(rt, &mut member.pass, author, role, sight),
             None => unreachable!(),
         }
     }
@@ -82,7 +82,7 @@ impl Crew {
     {
         let author = member.author;
         match &mut member.role {
-            Some(role) => self.plan.act(rt, alloc, &mut member.pass, author, role),
+            Some(role) => self.plan.act_as(rt, alloc, &mut member.pass, author, role),
             None => unreachable!(),
         }
     }
@@ -112,8 +112,9 @@ impl Crew {
         ensures own { IsMember self.now member.new }
         ensures same { SameMember member.old member.new }
         ensures takes { TakesTurn member.old.pass member.new.pass }
-        ensures stops { Stops member.old.pass member.new.pass }
+        ensures stops { Stops member.old.author member.old.pass member.new.pass }
     {
-        self.plan.stop(rt, &mut member.pass);
+        let author = member.author;
+        self.plan.stop_as(rt, &mut member.pass, author);
     }
 }

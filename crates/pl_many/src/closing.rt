@@ -46,7 +46,7 @@ impl Crew {
             pass,
             role: _,
         } = feeder;
-        let (machine, marks) = plan.close(pass);
+        let (machine, marks) = plan.close_signed(pass);
         (machine, marks.into_vec())
     }
 }

@@ -1,7 +1,7 @@
 //! Several planners, an executive and a feeder on one plan, each with a name of its own.
 
 use crate::member::Member;
-use pl_shared::SharedPlan;
+use pl_locked::SharedPlan;
 
 /// The plan of a crew.
 #[derive(Drop)]

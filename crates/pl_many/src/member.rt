@@ -2,7 +2,7 @@ ghost use Rattle.std.specs.Prelude.{◌≡◌};
 
 use pl_acts::Role;
 use pl_marks::Author;
-use pl_shared::Pass;
+use pl_locked::Pass;
 
 /// One of a crew: who it is, what it knows of the history, and how it acts, unless it is the feeder.
 #[derive(Drop)]
