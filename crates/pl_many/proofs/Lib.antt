@@ -1,3 +1,4 @@
 pub mod Tallying
 pub mod Membering
 pub mod Naming
+pub mod Hiring

@@ -2,10 +2,10 @@
 use Rattle.std.proofs.Common.{◌≡◌, ℕ, zero, suc, ◌+◌, ◌-◌, ◌<◌, ◌≤◌, ◌==◌, List, [], ◌∷◌, ◌++◌, length, map, take, get_or, Bool, true, false, cond, is_some, Option, Some, None, slice_get, refl, sym, ◌∙◌, ap, subst, inl, inr, ◌⊎◌, arith, length-append}
 use Rattle.std.specs.List.{All, Contains, range_with_len}
 use Rattle.std.proofs.lemmas.Bool.{eqb-true}
-use Rattle.std.proofs.lemmas.List.{length-map}
+use Rattle.std.proofs.lemmas.List.{length-map, append-nil}
 use Rattle.std.proofs.lemmas.List.FromFn.{length-range_with_len}
 use Rattle.std.proofs.lemmas.List.Sums.{sum_by-cons}
-use Rattle.std.proofs.lemmas.List.Elements.{All-cons, All-head, All-contains, Contains-get_or}
+use Rattle.std.proofs.lemmas.List.Elements.{All-nil, All-cons, All-head, All-contains, Contains-get_or}
 use Rattle.std.proofs.lemmas.Option.{slice_get_within, slice_get-get_or, get_or_from_slice_get}
 use mathlib.Core.Logic.{dite}
 use native.Mathlib.Decide.{dec_le}
@@ -24,7 +24,7 @@ use Rattle.pl_marks.specs.declared.author.Author.TheVariants.{Feeder}
 use Rattle.pl_marks.proofs.Numbering.{entries_are, authors_are, counts_are, marked}
 use Rattle.pl_acts.specs.declared.noted.Noted.{Noted}
 use Rattle.pl_acts.specs.declared.noted.Noted.TheVariants.{Opened, Made, Stopped}
-use Rattle.pl_acts.specs.Items.{Signs, made_items, stop_items, items_of, is_stop, signer_in}
+use Rattle.pl_acts.specs.Items.{Signs, handed_in, made_items, stop_items, items_of, is_stop, signer_in}
 use Rattle.pl_acts.specs.Seen.{IsPlan}
 use Rattle.pl_acts.proofs.Items.{length_stopped, length_going}
 use Rattle.pl_acts.proofs.Signers.{items_marked}
@@ -124,6 +124,19 @@ module _ (m : Model) (log : List Entry) (s : Signs) (some : 0 < s.by.opening) (e
 
   entry_at : (q : ℕ) (a : Author) (i : Noted) → slice_get s.by.authors q ≡ Some a → slice_get (items_of m log s) (s.by.opening + q) ≡ Some i → IsEntryOf a i
   entry_at q a i by at = entry_by log refl (s.by.opening + q) q a i refl by at
+
+-- nobody of a crew made what was handed in
+handed_made : (k : ℕ) (es : List Entry) → All IsHanded (made_items k [] es)
+handed_made (suc k) [] = All-nil IsHanded
+handed_made (suc k) (e ∷ es) = All-cons IsHanded (Made None e) (made_items k [] es) refl (handed_made k es)
+handed_made zero [] = All-nil IsHanded
+handed_made zero (e ∷ es) = All-cons IsHanded (Made None e) (made_items zero [] es) refl (handed_made zero es)
+
+pub handed_are : (m : Model) (log : List Entry) → AreHandedIn (items_of m log (handed_in log))
+unfolding items_of
+handed_are m [] = All-nil IsHanded
+handed_are m (first ∷ es) =
+    subst (All IsHanded) (sym (append-nil (Opened m first ∷ made_items (length (first ∷ es) - 1) [] es))) (All-cons IsHanded (Opened m first) (made_items (length (first ∷ es) - 1) [] es) refl (handed_made (length (first ∷ es) - 1) es))
 
 -- ---- own items by place
 

@@ -17,7 +17,9 @@ use Rattle.pl_acts.specs.Items.{handed_in, items_of, signer_in}
 use Rattle.pl_acts.specs.Roles.{worker_of}
 use Rattle.pl_locked.specs.Plans.{PlanPass, BelongsTo}
 use Rattle.pl_locked.specs.Turns.{Acts, Views, SettlesAs}
+use Rattle.pl_locked.specs.declared.plan.SharedPlan.{SharedPlan}
 use Rattle.pl_pair.specs.Duties.{chooser_of}
+use Rattle.pl_pair.specs.Joins.{IsFresh, Splits}
 use Rattle.pl_pair.specs.Served.{AreSigned}
 use Rattle.pl_many.specs.declared.crew.Crew.{Crew}
 use Rattle.pl_many.specs.declared.crew.Hired.{Hired}
@@ -48,13 +50,16 @@ pub record Gathers (pass : PlanPass) : Type 0 where
   pub handed : AreHandedIn (take (opening_of pass) (seen_of pass))
   pub joined : All IsSomeones (joined_by pass)
 
--- A member of the crew: its pass is one of the plan, and each of its own items carries its name.
-pub record IsMember (crew : Crew) (m : Member) : Type 0 where
-  pub own : BelongsTo crew.plan m.pass
+-- A member of a crew over this plan: its pass is one of the plan, and each of its own items carries its name.
+pub record IsMemberOf (plan : SharedPlan) (m : Member) : Type 0 where
+  pub own : BelongsTo plan m.pass
   pub known : IsAuthor m.author
   pub fits : Fits m.author m.role
   pub signed : AreSigned m.author (mine_of m.pass)
   pub gathers : leads m.pass ≡ true → Gathers m.pass
+
+abbrev pub IsMember : Crew → Member → Type 0
+IsMember crew m = IsMemberOf crew.plan m
 
 -- ---- a crew begins
 
@@ -73,26 +78,37 @@ first_role seed Feeder = None
 first_role seed Executive = Some role.Executive
 first_role seed (Planner k) = Some (role.Planner (chooser_of (seed + k)))
 
--- A member that has made nothing yet, and has seen the machine's log.
-pub record IsNew (crew : Crew) (seed : ℕ) (machine : State) (m : Member) : Type 0 where
-  pub member : IsMember crew m
+-- A member that has made nothing yet, and has seen this.
+pub record IsNew (plan : SharedPlan) (seed : ℕ) (seen : List Noted) (m : Member) : Type 0 where
+  pub member : IsMemberOf plan m
   pub begins : m.role ≡ first_role seed m.author
-  pub seen : seen_of m.pass ≡ items_of machine.model machine.log (handed_in machine.log)
+  pub saw : seen_of m.pass ≡ seen
   pub none : mine_of m.pass ≡ []
 
 -- who these members are, in order
 abbrev pub authors_of : List Member → List Author
 authors_of members = map (λ (m : Member). m.author) members
 
+-- Members with these authors, in order, each with a pass of its own that was split off from the first, which has made nothing.
+pub record Crewed (plan : SharedPlan) (seed : ℕ) (authors : List Author) (old first : PlanPass) (members : List Member) : Type 0 where
+  pub are : authors_of members ≡ authors
+  pub new : All (IsNew plan seed (seen_of old)) members
+  pub fresh : IsFresh plan first
+  pub splits : Splits old (length authors) first
+
+-- what a plan's history is before anybody has done anything
+abbrev pub handed_items : State → List Noted
+handed_items machine = items_of machine.model machine.log (handed_in machine.log)
+
 -- The feeder, whose pass takes the others in, and the executive and so many planners by number.
 pub record IsHired (planners seed : ℕ) (machine : State) (h : Hired) : Type 0 where
-  pub feeder : IsNew h.crew seed machine h.feeder
+  pub feeder : IsNew h.crew.plan seed (handed_items machine) h.feeder
   pub feeds : h.feeder.author ≡ Feeder
   pub leads : leads h.feeder.pass ≡ true
   pub made : made_by h.feeder.pass ≡ planners + 1
   pub none_joined : joined_by h.feeder.pass ≡ []
   pub workers : authors_of h.members.items ≡ workers_of planners
-  pub members : All (IsNew h.crew seed machine) h.members.items
+  pub members : All (IsNew h.crew.plan seed (handed_items machine)) h.members.items
 
 -- ---- calls
 

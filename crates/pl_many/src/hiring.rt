@@ -1,6 +1,9 @@
 //! How a crew begins.
 ghost use Rattle.std.specs.Prelude.{◌≡◌, ◌≤◌, ◌<◌, ◌+◌, [], ◌∷◌, ◌++◌, length, true, IfOk, IfErr, vec_len, vec_capacity};
-ghost use Rattle.pl_many.specs.Members.{IsHired};
+ghost use Rattle.pl_turn.specs.Passes.{seen_of, leads, made_by};
+ghost use Rattle.pl_marks.specs.Authors.{IsAuthor};
+ghost use Rattle.pl_pair.specs.Joins.{IsFresh, IsFirst, Splits};
+ghost use Rattle.pl_many.specs.Members.{first_role, workers_of, IsNew, Crewed, IsHired};
 
 use crate::crew::{Crew, Hired};
 use crate::member::Member;
@@ -25,7 +28,17 @@ fn first_role(seed: u64, author: Author) -> Option<Role>
 }
 
 /// A member with a pass of its own, which has seen as much as the first.
+#[tactic(auto, using(crate::proofs::Hiring::new_member, crate::proofs::Hiring::fits_first))]
 fn hire(alloc: Global, plan: &SharedPlan, first: &mut Pass, seed: u64, author: Author) -> Member
+    requires fresh { IsFresh plan.now first.old }
+    requires leads { leads first.old ≡ true }
+    requires room { made_by first.old < 1000 }
+    requires seed { seed ≤ 999999999999999999 }
+    requires author { IsAuthor author }
+    ensures fresh { IsFresh plan.now first.new }
+    ensures splits { Splits first.old 1 first.new }
+    ensures who { result.author ≡ author }
+    ensures new { IsNew plan.now seed (seen_of first.old) result }
 {
     let pass = plan.split(alloc, first).unwrap();
     Member {
@@ -35,7 +48,8 @@ fn hire(alloc: Global, plan: &SharedPlan, first: &mut Pass, seed: u64, author: A
     }
 }
 
-/// The executive and the planners by number. There is room for them.
+/// The executive and the planners by number, for whom there is room.
+#[tactic(auto, using(crate::proofs::Hiring::crew_none, crate::proofs::Hiring::crew_more, crate::proofs::Hiring::crew_planner, crate::proofs::Hiring::crew_leads, crate::proofs::Hiring::crew_few))]
 fn hire_all(
     alloc: Global,
     plan: &SharedPlan,
@@ -44,6 +58,12 @@ fn hire_all(
     seed: u64,
     members: &mut Vec<Member>,
 )
+    requires first { IsFirst plan.now first.old }
+    requires planners { planners ≤ 8 }
+    requires seed { seed ≤ 999999999999999999 }
+    requires none { (members.old.items ≡ []) × (vec_len members.old ≡ 0) }
+    requires room { 9 ≤ vec_capacity members.old }
+    ensures { Crewed plan.now seed (workers_of planners) first.old first.new members.new.items }
 {
     members.push_reserved(hire(alloc, plan, first, seed, Author::Executive));
     for before in 0..planners {
@@ -53,6 +73,7 @@ fn hire_all(
 }
 
 impl Crew {
+    #[tactic(auto, using(crate::proofs::Hiring::first_pass, crate::proofs::Hiring::crew_hired))]
     /// A crew over a machine. For want of memory the machine comes back.
     pub fn new(alloc: Global, machine: Machine, planners: u8, seed: u64) -> Result<Hired, Machine>
         requires planners { (2 ≤ planners) × (planners ≤ 8) }
