@@ -3,7 +3,7 @@ use std::sync::Wait;
 use std::sync::atomic::{AtomicU64, Ordering};
 
 /// So often a worker looks for the others in one call before it gives up.
-const MOST_LOADS: u32 = 1_000_000_000;
+const MOST_LOOKS: u32 = 500_000_000;
 
 /// What is known of one worker.
 #[derive(Drop)]
@@ -21,10 +21,10 @@ impl Flags {
     }
 }
 
-/// Whether a flag is set, after so many looks at most.
-fn is_seen(flag: &AtomicU64) -> bool {
-    for _ in 0..MOST_LOADS {
-        if flag.load(Ordering::SeqCst) == 1 {
+/// Whether each of these flags is set, after so many looks at most.
+fn are_seen(flags: &[&AtomicU64]) -> bool {
+    for _ in 0..MOST_LOOKS {
+        if flags.iter().all(|flag| flag.load(Ordering::SeqCst) == 1) {
             return true;
         }
     }
@@ -68,8 +68,8 @@ impl Gathering {
         }
     }
 
-    fn wait_for(&self, flag: &AtomicU64) {
-        if !is_seen(flag) {
+    fn wait_for(&self, flags: &[&AtomicU64]) {
+        if !are_seen(flags) {
             self.gave_up.store(1, Ordering::SeqCst);
         }
     }
@@ -94,10 +94,9 @@ impl Gate for Gathering {
         let (one, two) = self.others_of(worker);
         if acts == 0 {
             self.flags_of(worker).came.store(1, Ordering::SeqCst);
-            self.wait_for(&one.came);
-            self.wait_for(&two.came);
+            self.wait_for(&[&one.came, &two.came]);
         } else if worker > 0 {
-            self.wait_for(&one.made);
+            self.wait_for(&[&one.made]);
         }
     }
 
