@@ -86,7 +86,7 @@ fn run_over<R: Threads + Wait + Sync, S: Source, O: Sink, G: Gate + Sync>(
     };
     let Remains { pass, fed, met } = remains;
     let answer = ended(&fed, met);
-    let (machine, marks) = plan.close(pass);
+    let (machine, marks) = plan.close_signed(pass);
     ended_with(answer, machine, marks)
 }
 
