@@ -16,14 +16,14 @@ use Rattle.pl_acts.specs.declared.role.Role.{Role}
 use Rattle.pl_acts.specs.Items.{signer_in}
 use Rattle.pl_locked.specs.declared.plan.SharedPlan.{SharedPlan}
 use Rattle.pl_locked.specs.Plans.{PlanPass, BelongsTo}
-use Rattle.pl_pair.specs.Served.{AreSigned}
+use Rattle.pl_pair.specs.Served.{AreSigned, IsSomeones, AreHandedIn}
 use Rattle.pl_pair.specs.Joins.{IsFresh, IsFirst, Splits}
 use Rattle.pl_pair.proofs.Handing.{splits_none, splits_more}
 use Rattle.pl_many.specs.declared.crew.Crew.{Crew}
 use Rattle.pl_many.specs.declared.crew.Hired.{Hired}
 use Rattle.pl_many.specs.declared.member.Member.{Member}
-use Rattle.pl_many.specs.Members.{Fits, AreHandedIn, IsSomeones, Gathers, IsMemberOf, planners_from, workers_of, first_role, IsNew, authors_of, Crewed, handed_items, IsHired}
-use Rattle.pl_many.proofs.Naming.{handed_are}
+use Rattle.pl_many.specs.Members.{Fits, Gathers, IsMemberOf, planners_from, workers_of, first_role, IsNew, authors_of, Crewed, handed_items, IsHired}
+use Rattle.pl_pair.proofs.Owning.{handed_are}
 
 -- ---- one member
 

@@ -30,10 +30,10 @@ use Rattle.pl_acts.specs.Sights.{IsDueBy}
 use Rattle.pl_acts.proofs.EntryKinds.{by_kind, kept_worker, asked_worker}
 use Rattle.pl_locked.specs.Plans.{PlanPass, BelongsTo}
 use Rattle.pl_locked.specs.Turns.{TakesTurn, Makes, Feeds, Stops, was_stopped, is_stopped, low_of, Acts, Views, IsSettled, Settles, SettlesAs}
-use Rattle.pl_pair.specs.Served.{AreSigned}
+use Rattle.pl_pair.specs.Served.{AreSigned, IsSomeones, AreHandedIn}
 use Rattle.pl_many.specs.declared.crew.Crew.{Crew}
 use Rattle.pl_many.specs.declared.member.Member.{Member}
-use Rattle.pl_many.specs.Members.{Fits, AreHandedIn, IsSomeones, Gathers, IsMember}
+use Rattle.pl_many.specs.Members.{Fits, Gathers, IsMember}
 
 -- ---- how a member acts
 

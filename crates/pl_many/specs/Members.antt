@@ -13,14 +13,14 @@ use Rattle.pl_acts.specs.declared.role.Role.TheVariants as role
 use Rattle.pl_acts.specs.declared.role.Acted.{Acted}
 use Rattle.pl_acts.specs.declared.sight.Sight.{Sight}
 use Rattle.pl_acts.specs.declared.sight.View.{View}
-use Rattle.pl_acts.specs.Items.{handed_in, items_of, signer_in}
+use Rattle.pl_acts.specs.Items.{handed_in, items_of}
 use Rattle.pl_acts.specs.Roles.{worker_of}
 use Rattle.pl_locked.specs.Plans.{PlanPass, BelongsTo}
 use Rattle.pl_locked.specs.Turns.{Acts, Views, SettlesAs}
 use Rattle.pl_locked.specs.declared.plan.SharedPlan.{SharedPlan}
 use Rattle.pl_pair.specs.Duties.{chooser_of}
 use Rattle.pl_pair.specs.Joins.{IsFresh, Splits}
-use Rattle.pl_pair.specs.Served.{AreSigned}
+use Rattle.pl_pair.specs.Served.{AreSigned, IsSomeones, AreHandedIn}
 use Rattle.pl_many.specs.declared.crew.Crew.{Crew}
 use Rattle.pl_many.specs.declared.crew.Hired.{Hired}
 use Rattle.pl_many.specs.declared.member.Member.{Member}
@@ -35,14 +35,6 @@ Fits Executive None = ⊥
 Fits Executive (Some r) = worker_of r ≡ 0
 Fits (Planner k) None = ⊥
 Fits (Planner k) (Some r) = worker_of r ≡ 1
-
--- each own item is one author's
-abbrev pub IsSomeones : List (ℕ × Noted) → Type 0
-IsSomeones own = (by : Author) × IsAuthor by × AreSigned by own
-
--- Nobody of the crew made these items.
-abbrev pub AreHandedIn : List Noted → Type 0
-AreHandedIn items = All (λ i. signer_in i ≡ None) items
 
 -- What the pass that takes the others in has seen begins with what was handed in, and each list that it took in is somebody's.
 pub record Gathers (pass : PlanPass) : Type 0 where

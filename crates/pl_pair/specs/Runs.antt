@@ -47,6 +47,8 @@ use Rattle.pl_pair.specs.Feeds.{EndsUsed, EndsRead}
 -- The machine has the whole history, which begins with what each of these passes has seen, and each place past the opening stands in one own list of theirs.
 pub record ClosesAll (first : PlanPass) (workers : List Worker) (machine : State) : Type 0 where
   pub signs : Signs
+  pub some : 0 < signs.by.opening
+  pub each : signs.by.opening + length signs.by.authors ≡ length machine.log
   pub legal : Legal machine.model machine.log
   pub model : model_in (seen_of first) ≡ Some machine.model
   pub first_seen : IsPrefix (seen_of first) (items_of machine.model machine.log signs)
@@ -268,6 +270,12 @@ EndsWith (Err d) machine by (Err h) = h ≡ d
 abbrev pub HandsBack : Result Ended Halt → Model → List Entry → Signed → Type 0
 HandsBack (Ok e) m log by = (e.machine.model ≡ m) × (e.machine.log ≡ log) × (e.marks.items ≡ marks_of by)
 HandsBack (Err h) m log by = ⊤
+
+-- A run whose log is this, with these authors.
+pub record RunsTo (whole : List Entry) (by : Signed) (duties : List Duty) (start : State) (place : Place) (held : Option (List ℕ)) (r : Result (Unit {0}) Halt) (behind : Place) (now : Option (List ℕ)) : Type 0 where
+  pub run : TeamRun duties start place held r behind now
+  pub log_is : run.log ≡ whole
+  pub by_is : run.history.signs.by ≡ by
 
 -- A run, and what it hands back.
 pub record RunsTeam (duties : List Duty) (start : State) (place : Place) (held : Option (List ℕ)) (r : Result Ended Halt) (behind : Place) (now : Option (List ℕ)) : Type 0 where

@@ -50,7 +50,7 @@ fn ended_with(answer: Result<(), Halt>, machine: Machine, marks: Marks) -> Resul
 }
 
 /// A run over a model that is the machine's.
-#[tactic(auto, using(crate::proofs::Running::runs_none, crate::proofs::Running::first_pass, crate::proofs::Running::begun_first, crate::proofs::Causes::ended_read, crate::proofs::Causes::ended_write))]
+#[tactic(auto, using(crate::proofs::Running::back_none, crate::proofs::Running::first_pass, crate::proofs::Running::begun_first, crate::proofs::Causes::ended_read, crate::proofs::Causes::ended_write))]
 fn run_over<R: Threads + Wait + Sync, S: Source, O: Sink, G: Gate + Sync>(
     rt: &R,
     alloc: Global,
@@ -93,7 +93,7 @@ fn run_over<R: Threads + Wait + Sync, S: Source, O: Sink, G: Gate + Sync>(
 /// Runs workers for these duties in threads of their own, feeds them the messages that a reader has left, and writes the lines of the
 /// whole log, those of the entries handed in first. It waits for its threads. A run that comes to its end hands its machine back, with the
 /// marks of its entries.
-#[tactic(auto, using(crate::proofs::Running::runs_none, crate::proofs::Running::not_done))]
+#[tactic(auto, using(crate::proofs::Running::back_none, crate::proofs::Running::not_done))]
 pub fn run_team<R: Threads + Wait + Sync, I: Source, O: Sink, G: Gate + Sync>(
     rt: &R,
     alloc: Global,
@@ -122,7 +122,7 @@ pub fn run_team<R: Threads + Wait + Sync, I: Source, O: Sink, G: Gate + Sync>(
 
 /// Runs a planner, with a chooser of this seed, and an executive in threads of their own, feeds them the messages that a reader has left,
 /// and writes the lines of the whole log, those of the entries handed in first. It waits for its threads.
-#[tactic(auto, using(crate::proofs::Running::begun_pair))]
+#[tactic(auto, using(crate::proofs::Running::begun_pair, crate::proofs::Running::pair_back))]
 pub fn run_pair<R: Threads + Wait + Sync, I: Source, O: Sink, G: Gate + Sync>(
     rt: &R,
     alloc: Global,
