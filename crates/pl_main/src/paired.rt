@@ -1,11 +1,11 @@
-//! A run of a planner and an executive in threads of their own.
-ghost use Rattle.std.specs.Prelude.{◌≡◌, ◌≤◌, None, IsErrOf};
+//! A run of an executive and planners in threads of their own.
+ghost use Rattle.std.specs.Prelude.{◌≡◌, ◌≤◌, false, None, IsErrOf};
 ghost use Rattle.pl_io.specs.Faults.{Rose};
 ghost use Rattle.pl_model.specs.Checked.{IsChecked};
 ghost use Rattle.pl_input.specs.Places.{place_of};
 ghost use Rattle.pl_main.specs.Endings.{EndedAsKnown};
-ghost use Rattle.pl_main.specs.RunKinds.{pair_run};
-ghost use Rattle.pl_main.specs.Runs.{PairRuns, TextRuns};
+ghost use Rattle.pl_main.specs.RunKinds.{run_of};
+ghost use Rattle.pl_main.specs.Runs.{RunsAs, IsTeam, ModelRunsAs, TextRuns};
 
 use crate::command::Team;
 use crate::judging::{NO_BEGIN, model_of, refuse};
@@ -51,7 +51,7 @@ fn run_as<R: Threads + Wait + Sync, S: Source, O: Sink, G: Gate + Sync>(
 }
 
 /// Opens a journal over a model, and has the messages answered.
-#[tactic(auto, using(crate::proofs::Pairing::none_opened))]
+#[tactic(auto, using(crate::proofs::Crewing::none_ran))]
 fn run_model<R: Threads + Wait + Sync, S: Source, O: Sink, G: Gate + Sync>(
     rt: &R,
     alloc: Global,
@@ -65,9 +65,10 @@ fn run_model<R: Threads + Wait + Sync, S: Source, O: Sink, G: Gate + Sync>(
 ) -> Result<(), Halt>
     requires checked { IsChecked model }
     requires turns { (1 ≤ turns) × (turns ≤ 1000) }
+    requires team { IsTeam team }
     requires limit { lines.old.limit ≡ 4096 }
     requires working { lines.old.failed ≡ None }
-    ensures run { PairRuns turns seed model (place_of lines.old (S.left src.old)) (O.held out.old) result
+    ensures run { ModelRunsAs team turns model (place_of lines.old (S.left src.old)) (O.held out.old) result
         (place_of lines.new (S.left src.new)) (O.held out.new) }
     ensures read { IsErrOf result Halt.Read → Rose (S.faults src.old) (S.faults src.new) }
     ensures write { IsErrOf result Halt.Write → Rose (O.faults out.old) (O.faults out.new) }
@@ -91,9 +92,10 @@ fn run_text<R: Threads + Wait + Sync, S: Source, O: Sink, G: Gate + Sync>(
     out: &mut O,
 ) -> Result<Outcome, Halt>
     requires turns { (1 ≤ turns) × (turns ≤ 1000) }
+    requires team { IsTeam team }
     requires limit { lines.old.limit ≡ 4096 }
     requires working { lines.old.failed ≡ None }
-    ensures run { TextRuns (PairRuns turns seed) kept (place_of lines.old (S.left src.old)) (O.held out.old) result
+    ensures run { TextRuns (ModelRunsAs team turns) kept (place_of lines.old (S.left src.old)) (O.held out.old) result
         (place_of lines.new (S.left src.new)) (O.held out.new) }
     ensures read { IsErrOf result Halt.Read → Rose (S.faults src.old) (S.faults src.new) }
     ensures write { IsErrOf result Halt.Write → Rose (O.faults out.old) (O.faults out.new) }
@@ -109,8 +111,8 @@ fn run_text<R: Threads + Wait + Sync, S: Source, O: Sink, G: Gate + Sync>(
     }
 }
 
-/// Reads a model, and has its messages answered by a planner and an executive in threads of their own, while the journal is
-/// written. It waits for its threads.
+/// Reads a model, and has its messages answered by a team in threads of its own, while the journal is written. It waits for its
+/// threads.
 #[tactic(auto, using(crate::proofs::Running::no_reader, crate::proofs::Running::head_run))]
 pub fn paired<R: Threads + Wait + Sync, S: Source, O: Sink, G: Gate + Sync>(
     rt: &R,
@@ -122,7 +124,8 @@ pub fn paired<R: Threads + Wait + Sync, S: Source, O: Sink, G: Gate + Sync>(
     gate: &G,
 ) -> Result<Outcome, Halt>
     requires turns { (1 ≤ turns) × (turns ≤ 1000) }
-    ensures ran { EndedAsKnown (pair_run turns seed) (S.left src.old) (S.left src.new) (O.held out.old) (O.held out.new)
+    requires team { IsTeam team }
+    ensures ran { EndedAsKnown (run_of team turns) (S.left src.old) (S.left src.new) (O.held out.old) (O.held out.new)
         result }
     ensures read { IsErrOf result Halt.Read → Rose (S.faults src.old) (S.faults src.new) }
     ensures write { IsErrOf result Halt.Write → Rose (O.faults out.old) (O.faults out.new) }

@@ -1,6 +1,6 @@
 -- What each planner made, and the lines that tell it.
-use Rattle.std.specs.Prelude.{◌≡◌, ℕ, zero, suc, ◌<◌, ◌==◌, ◌&&◌, Bool, true, false, List, [], ◌∷◌, ◌++◌, length, codes, decimal, Option, Some, None, slice_get}
-use Rattle.std.specs.List.{All, count_by}
+use Rattle.std.specs.Prelude.{◌≡◌, ℕ, zero, suc, ◌+◌, ◌==◌, ◌&&◌, Bool, true, false, List, [], ◌++◌, codes, decimal, Option, Some, None, slice_get}
+use Rattle.std.specs.List.{count_by}
 use Rattle.pl_entry.specs.declared.event.Event.{Event}
 use Rattle.pl_entry.specs.declared.event.Event.TheVariants as event
 use Rattle.pl_entry.specs.declared.reply.Reply.{Reply}
@@ -42,10 +42,6 @@ is_repair_by number log mark = is_mark_by number mark && is_repair_in (slice_get
 -- how many marks the planner of this number has, and how many of them are of repairs that were made
 abbrev pub tally_of : ℕ → List Mark → List Entry → Tally
 tally_of number marks log = record { entries = count_by (is_mark_by number) marks; repairs = count_by (is_repair_by number log) marks }
-
--- each mark is of an entry of the log
-abbrev pub AreWithin : List Entry → List Mark → Type 0
-AreWithin log marks = All (λ m. m.entry < length log) marks
 
 -- ---- lines
 

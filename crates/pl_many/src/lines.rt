@@ -3,7 +3,7 @@ ghost use Rattle.std.specs.Prelude.{◌≤◌, ◌<◌, ◌^◌, length, IfErr, 
 ghost use Rattle.std.specs.String.{string_bytes};
 ghost use Rattle.pl_io.specs.Writes.{AppendsFront};
 ghost use Rattle.pl_journal.specs.Written.{Adds, WriteStops};
-ghost use Rattle.pl_many.specs.Tallies.{planner_line, lines_of, AreWithin};
+ghost use Rattle.pl_many.specs.Tallies.{planner_line, lines_of};
 
 use crate::tally::{Tally, tally_for};
 use pl_entry::Entry;
@@ -41,7 +41,6 @@ pub fn write_tallies<O: Sink>(
     out: &mut O,
 ) -> Result<(), Halt>
     requires few { length marks.now < 2 ^ 32 }
-    requires within { AreWithin log.now marks.now }
     requires planners { planners ≤ 8 }
     ensures text { OnOk result (Adds (O.held out.old) (O.held out.new) (lines_of planners marks.now log.now)) }
     ensures front { OnErr result (AppendsFront (O.held out.old) (O.held out.new) (lines_of planners marks.now log.now)) }

@@ -1,6 +1,6 @@
 //! What one planner made.
-ghost use Rattle.std.specs.Prelude.{◌≡◌, ◌<◌, ◌^◌, length};
-ghost use Rattle.pl_many.specs.Tallies.{is_made_repair, is_mark_by, tally_of, AreWithin};
+ghost use Rattle.std.specs.Prelude.{◌≡◌, ◌<◌, ◌^◌, length, count_by};
+ghost use Rattle.pl_many.specs.Tallies.{is_made_repair, is_mark_by, is_repair_by, tally_of};
 
 use pl_entry::{Entry, Event, Reply};
 use pl_marks::{Author, Mark};
@@ -12,7 +12,6 @@ pub struct Tally {
     pub repairs: u32,
 }
 
-/// Whether an entry is a repair that was made.
 fn is_made_repair(entry: &Entry) -> bool
     ensures { result ≡ is_made_repair entry.now }
 {
@@ -31,21 +30,39 @@ fn is_mark_by(number: u8, mark: &Mark) -> bool
     }
 }
 
+/// Whether a mark is of a repair that this planner made.
+fn is_repair_by(number: u8, mark: &Mark, log: &[Entry]) -> bool
+    ensures { result ≡ is_repair_by number log.now mark.now }
+{
+    match log.get(mark.entry as usize) {
+        Some(entry) => is_mark_by(number, mark) && is_made_repair(entry),
+        None => false,
+    }
+}
+
+fn count_entries(number: u8, marks: &[Mark]) -> usize
+    ensures { result ≡ count_by (is_mark_by number) marks.now }
+{
+    marks.iter().filter(|mark| is_mark_by(number, mark)).count()
+}
+
+fn count_repairs(number: u8, marks: &[Mark], log: &[Entry]) -> usize
+    ensures { result ≡ count_by (is_repair_by number log.now) marks.now }
+{
+    marks
+        .iter()
+        .filter(|mark| is_repair_by(number, mark, log))
+        .count()
+}
+
 /// What the planner of this number made of a log with these marks.
+#[tactic(auto, using(crate::proofs::Tallying::few_entries, crate::proofs::Tallying::few_repairs))]
 pub fn tally_for(number: u8, marks: &[Mark], log: &[Entry]) -> Tally
-    requires few { length marks.now < 2 ^ 32 }
-    requires within { AreWithin log.now marks.now }
+    requires { length marks.now < 2 ^ 32 }
     ensures { result ≡ tally_of number marks.now log.now }
 {
-    let mut entries = 0;
-    let mut repairs = 0;
-    for mark in marks {
-        if is_mark_by(number, mark) {
-            entries += 1;
-            if is_made_repair(&log[mark.entry as usize]) {
-                repairs += 1;
-            }
-        }
+    Tally {
+        entries: count_entries(number, marks) as u32,
+        repairs: count_repairs(number, marks, log) as u32,
     }
-    Tally { entries, repairs }
 }
