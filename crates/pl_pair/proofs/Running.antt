@@ -48,6 +48,7 @@ use Rattle.pl_pair.proofs.Passing.{took_follows, follows_on, none_written}
 use Rattle.pl_pair.proofs.Feeding.{heard_none}
 use Rattle.pl_pair.proofs.Closing.{stopped, all_joined, closes_all}
 use Rattle.pl_pair.proofs.Joining.{Joined, whole_of}
+use Rattle.pl_pair.proofs.Causes.{ended_read, ended_write}
 use Rattle.pl_pair.proofs.FeederEnds.{runs}
 use Rattle.pl_machine.proofs.ShortLogs.{log_is_some}
 
@@ -250,6 +251,19 @@ same_answer (Ok u) (Ok e) machine by ends = refl
 same_answer (Ok u) (Err h) machine by ends = absurd ends
 same_answer (Err d) (Ok e) machine by ends = absurd ends
 same_answer (Err d) (Err h) machine by ends = ap (λ (x : Halt). Err x) (sym ends)
+
+-- a fault that a run answers is the feeder's
+back_err : (answer : Result (Unit {0}) Halt) (r : Result Ended Halt) (machine : State) (by : Signed) (h : Halt) → EndsWith answer machine by r → r ≡ Err h → answer ≡ Err h
+back_err (Ok u) (Ok e) machine by h ends is = absurd (cc)
+back_err (Ok u) (Err d) machine by h ends is = absurd ends
+back_err (Err d) (Ok e) machine by h ends is = absurd ends
+back_err (Err d) (Err f) machine by h ends is = ap (λ (x : Halt). Err x) (sym ends) ∙ is
+
+pub back_read : (fed : Result (Unit {0}) Cut) (met : Met) (answer : Result (Unit {0}) Halt) (r : Result Ended Halt) (machine : State) (by : Signed) → answer ≡ ended_of fed met → EndsWith answer machine by r → r ≡ Err halt.Read → fed ≡ Err cut.Read
+back_read fed met answer r machine by same ends is = ended_read fed met (sym same ∙ back_err answer r machine by halt.Read ends is)
+
+pub back_write : (fed : Result (Unit {0}) Cut) (met : Met) (answer : Result (Unit {0}) Halt) (r : Result Ended Halt) (machine : State) (by : Signed) → answer ≡ ended_of fed met → EndsWith answer machine by r → r ≡ Err halt.Write → fed ≡ Err cut.Write
+back_write fed met answer r machine by same ends is = ended_write fed met (sym same ∙ back_err answer r machine by halt.Write ends is)
 
 -- a run that was closed
 pub runs_back : (duties : List Duty) (start : State) (plan : SharedPlan) (new : PlanPass) (remains : Remains) (m : Model) (place end : Place) (held now : Option (List ℕ)) → Ran duties start plan new remains m place end held now

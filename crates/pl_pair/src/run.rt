@@ -50,7 +50,7 @@ fn ended_with(answer: Result<(), Halt>, machine: Machine, marks: Marks) -> Resul
 }
 
 /// A run over a model that is the machine's.
-#[tactic(auto, using(crate::proofs::Running::back_none, crate::proofs::Running::first_pass, crate::proofs::Running::begun_first, crate::proofs::Causes::ended_read, crate::proofs::Causes::ended_write))]
+#[tactic(auto, using(crate::proofs::Running::back_none, crate::proofs::Running::first_pass, crate::proofs::Running::begun_first))]
 fn run_over<R: Threads + Wait + Sync, S: Source, O: Sink, G: Gate + Sync>(
     rt: &R,
     alloc: Global,

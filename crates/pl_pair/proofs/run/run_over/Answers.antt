@@ -1,7 +1,7 @@
 use Rattle.pl_input.specs.Places.{place_of}
 use Rattle.std.proofs.Common.{subst, sym}
 use Rattle.pl_pair.specs.Runs.{EndsWith}
-use Rattle.pl_pair.proofs.Running.{runs_back, closes_first}
+use Rattle.pl_pair.proofs.Running.{runs_back, back_read, back_write, closes_first}
 use Rattle.pl_pair.proofs.run.run_over.Goals as goal
 
 pub close_signed-requires-clause-first : goal.close_signed-requires-clause-first
@@ -26,3 +26,11 @@ returns-clause-run g c =
     runs_back c.args.duties.now c.args.machine c.in-Ok-2.plan c.in-Ok-2.pass c.in-Some.remains c.args.model.now start end (g.O.Sink.held c.args.out.now) (g.O.Sink.held ran.new.out)
     (record { seen = c.in-Ok-2.ensures.seen; crew = c.in-Ok-2.ensures.first; joins = c.in-Some.ensures.joins }) c.close_signed.result.0 c.close_signed.result.1 c.ended_with.result c.requires.model c.requires.legal c.requires.going c.close_signed.ensures
     (subst (λ a. EndsWith a c.close_signed.result.0 c.close_signed.result.1 c.ended_with.result) c.ended-answer.ensures c.ended_with.ensures)
+
+pub returns-clause-read : goal.returns-clause-read
+returns-clause-read g c = λ is works.
+    c.in-Some.ensures.read (back_read c.in-Some.remains.fed c.in-Some.remains.met c.ended-answer.result c.ended_with.result c.close_signed.result.0 c.close_signed.result.1 c.ended-answer.ensures c.ended_with.ensures is) works
+
+pub returns-clause-write : goal.returns-clause-write
+returns-clause-write g c = λ is.
+    c.in-Some.ensures.write (back_write c.in-Some.remains.fed c.in-Some.remains.met c.ended-answer.result c.ended_with.result c.close_signed.result.0 c.close_signed.result.1 c.ended-answer.ensures c.ended_with.ensures is)
