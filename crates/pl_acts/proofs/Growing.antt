@@ -19,14 +19,14 @@ use Rattle.pl_acts.specs.declared.noted.Noted.TheVariants.{Made, Stopped}
 use Rattle.pl_acts.specs.declared.held.Held.{Held}
 use Rattle.pl_acts.specs.declared.role.Acted.{Acted}
 use Rattle.pl_acts.specs.declared.role.Acted.TheVariants as acted
-use Rattle.pl_acts.specs.Items.{Signs, signed_on, items_of, model_in}
+use Rattle.pl_acts.specs.Items.{Signs, signed_on, items_of, model_in, opening_in}
 use Rattle.pl_acts.specs.declared.look.Looked.{Looked}
 use Rattle.pl_acts.specs.declared.look.Looked.TheVariants as looked
 use Rattle.pl_acts.specs.Roles.{IsInputOf}
 use Rattle.pl_acts.specs.Signing.{Written}
 use Rattle.pl_acts.specs.Inside.{signs_in, items_in, IsSound, Logs, KeepsLog, FeedsIn, Wants, Executes, ExecutesIn, RestsAtOnce, LooksIn, Settles, SettlesIn}
 use Rattle.pl_acts.specs.Seen.{IsPlan}
-use Rattle.pl_acts.proofs.Items.{model_in_items, model_in_prefix, items_push, items_stopped}
+use Rattle.pl_acts.proofs.Items.{model_in_items, model_in_prefix, opening_in_items, opening_in_prefix, items_push, items_stopped}
 
 -- ---- the lists
 
@@ -129,6 +129,11 @@ pub some_model : (xs ys : List Noted) → IsPlan xs → IsPrefix xs ys → model
 some_model xs ys plan on =
     let here : model_in xs ≡ Some plan.model = ap model_in plan.is ∙ model_in_items plan.model plan.log plan.signs plan.legal in
     model_in_prefix xs ys plan.model on here ∙ sym here
+
+pub some_opening : (xs ys : List Noted) → IsPlan xs → IsPrefix xs ys → opening_in ys ≡ opening_in xs
+some_opening xs ys plan on =
+    let here : opening_in xs ≡ Some plan.signs.by.opening = ap opening_in plan.is ∙ opening_in_items plan.model plan.log plan.signs plan.legal in
+    opening_in_prefix xs ys plan.signs.by.opening on here ∙ sym here
 
 pub grown_prefix : (xs ys : List Noted) → IsSameOrOneMore xs ys → IsPrefix xs ys
 grown_prefix xs ys (inl same) = prefix_of_same xs ys (sym same)

@@ -12,7 +12,7 @@ use Rattle.pl_machine.specs.World.{World}
 use Rattle.pl_machine.specs.Legal.{Legal, world_of, IsHistory}
 use Rattle.pl_acts.specs.declared.noted.Noted.{Noted}
 use Rattle.pl_acts.specs.declared.noted.Noted.TheVariants.{Opened, Made, Stopped}
-use Rattle.pl_acts.specs.Items.{Signs, SignedEntry, made_of, entries_of, with_authors, signed_on, made_items, log_items, stop_items, items_of, entry_in, entries_in, model_in, is_stop, stop_in, OfWorld, InWorld}
+use Rattle.pl_acts.specs.Items.{Signs, SignedEntry, made_of, entries_of, with_authors, signed_on, made_items, log_items, stop_items, items_of, entry_in, entries_in, model_in, opening_in, is_stop, stop_in, OfWorld, InWorld}
 
 -- ---- how long a history is
 
@@ -93,10 +93,23 @@ model_in_items m (first ∷ es) s legal = refl
 -- what goes on from an opening has its model
 pub model_in_prefix : (xs ys : List Noted) (m : Model) → IsPrefix xs ys → model_in xs ≡ Some m → model_in ys ≡ Some m
 model_in_prefix [] ys m p e = absurd (cc)
-model_in_prefix (Opened n first ∷ xs) [] m p e = absurd (cc (p.1))
-model_in_prefix (Opened n first ∷ xs) (y ∷ ys) m p e = (let h : Opened n first ≡ y = cc (p.1) in subst (λ (x : Noted). model_in (x ∷ ys) ≡ Some m) h e)
+model_in_prefix (Opened n k first ∷ xs) [] m p e = absurd (cc (p.1))
+model_in_prefix (Opened n k first ∷ xs) (y ∷ ys) m p e = (let h : Opened n k first ≡ y = cc (p.1) in subst (λ (x : Noted). model_in (x ∷ ys) ≡ Some m) h e)
 model_in_prefix (Made by first ∷ xs) ys m p e = absurd (cc)
 model_in_prefix (Stopped by ∷ xs) ys m p e = absurd (cc)
+
+pub opening_in_items : (m : Model) (log : List Entry) (s : Signs) → Legal m log → opening_in (items_of m log s) ≡ Some s.by.opening
+unfolding items_of
+opening_in_items m [] s legal = absurd legal
+opening_in_items m (first ∷ es) s legal = refl
+
+-- and as many entries were handed in
+pub opening_in_prefix : (xs ys : List Noted) (k : ℕ) → IsPrefix xs ys → opening_in xs ≡ Some k → opening_in ys ≡ Some k
+opening_in_prefix [] ys k p e = absurd (cc)
+opening_in_prefix (Opened n j first ∷ xs) [] k p e = absurd (cc (p.1))
+opening_in_prefix (Opened n j first ∷ xs) (y ∷ ys) k p e = (let h : Opened n j first ≡ y = cc (p.1) in subst (λ (x : Noted). opening_in (x ∷ ys) ≡ Some k) h e)
+opening_in_prefix (Made by first ∷ xs) ys k p e = absurd (cc)
+opening_in_prefix (Stopped by ∷ xs) ys k p e = absurd (cc)
 
 -- ---- a history goes on
 
@@ -113,7 +126,7 @@ made_push zero (b ∷ authors) a (x ∷ es) e long = ap (λ (xs : List Noted). M
 log_push : (m : Model) (log : List Entry) (s : Signed) (a : Author) (e : Entry) → Legal m log → 0 < s.opening → s.opening + length s.authors ≡ length log
     → log_items m (log ++ e ∷ []) (signed_on a s) ≡ log_items m log s ++ Made (Some a) e ∷ []
 log_push m [] s a e legal some each = absurd legal
-log_push m (first ∷ es) s a e legal some each = ap (λ (xs : List Noted). Opened m first ∷ xs) (made_push (s.opening - 1) s.authors a es e (omega (arith, some, each)))
+log_push m (first ∷ es) s a e legal some each = ap (λ (xs : List Noted). Opened m s.opening first ∷ xs) (made_push (s.opening - 1) s.authors a es e (omega (arith, some, each)))
 
 -- before a stop
 going_items : (m : Model) (log : List Entry) (s : Signs) → is_some s.stopper ≡ false → items_of m log s ≡ log_items m log s.by

@@ -24,18 +24,18 @@ none_signed x e a at = (let h : Some (Made None x) ≡ Some (Made (Some a) e) = 
 made_signed : (k : ℕ) (authors : List Author) (es : List Entry) (t : Option Author) (p : ℕ) (a : Author) (e : Entry) → slice_get (made_items k authors es ++ stop_items t) p ≡ Some (Made (Some a) e) → IsSigned k authors p a
 made_signed (suc k) authors [] t p a e at = absurd (let h = no_signer t p a e at in cc)
 made_signed (suc k) authors (x ∷ es) t zero a e at = absurd (let h = none_signed x e a at in cc)
-made_signed (suc k) authors (x ∷ es) t (suc p) a e at = (let rest = made_signed k authors es t p a e at in (rest.0, ap suc rest.1, rest.2))
+made_signed (suc k) authors (x ∷ es) t (suc p) a e at = (let rest = made_signed k authors es t p a e at in let place = rest.1 in (rest.0, omega (arith, place), rest.2))
 made_signed zero [] [] t p a e at = absurd (let h = no_signer t p a e at in cc)
 made_signed zero [] (x ∷ es) t zero a e at = absurd (let h = none_signed x e a at in cc)
 made_signed zero [] (x ∷ es) t (suc p) a e at = (let rest = made_signed zero [] es t p a e at in absurd (let h : slice_get [] rest.0 ≡ Some a = rest.2 in cc))
 made_signed zero (b ∷ authors) [] t p a e at = absurd (let h = no_signer t p a e at in cc)
 made_signed zero (b ∷ authors) (x ∷ es) t zero a e at = (let same : b ≡ a = (let h : Some (Made (Some b) x) ≡ Some (Made (Some a) e) = at in cc) in (zero, refl, ap (λ (c : Author). Some c) same))
-made_signed zero (b ∷ authors) (x ∷ es) t (suc p) a e at = (let rest = made_signed zero authors es t p a e at in (suc rest.0, ap suc rest.1, rest.2))
+made_signed zero (b ∷ authors) (x ∷ es) t (suc p) a e at = (let rest = made_signed zero authors es t p a e at in let place = rest.1 in (suc rest.0, omega (arith, place), rest.2))
 
 items_signed_at : (m : Model) (log : List Entry) (s : Signs) (p : ℕ) (a : Author) (e : Entry) → 0 < s.by.opening → slice_get (items_of m log s) p ≡ Some (Made (Some a) e) → IsSigned s.by.opening s.by.authors p a
 unfolding items_of
 items_signed_at m [] s p a e some at = absurd (let h = no_signer s.stopper p a e at in cc)
-items_signed_at m (first ∷ es) s zero a e some at = absurd (let h : Some (Opened m first) ≡ Some (Made (Some a) e) = at in cc)
+items_signed_at m (first ∷ es) s zero a e some at = absurd (let h : Some (Opened m s.by.opening first) ≡ Some (Made (Some a) e) = at in cc)
 items_signed_at m (first ∷ es) s (suc p) a e some at =
     let rest = made_signed (s.by.opening - 1) s.by.authors es s.stopper p a e at in
     let place = rest.1 in (rest.0, omega (arith, place, some), rest.2)

@@ -1,5 +1,5 @@
--- A signature beside each entry.
-use Rattle.std.proofs.Common.{◌≡◌, ℕ, ◌+◌, ◌<◌, ◌≤◌, List, [], ◌∷◌, ◌++◌, length, Option, Some, None, IfSome, Result, Ok, Err, refl, sym, ◌∙◌, ap, subst, inl, inr, arith, length-append}
+-- A mark beside each entry.
+use Rattle.std.proofs.Common.{◌≡◌, ℕ, ◌+◌, ◌<◌, ◌≤◌, List, [], ◌∷◌, ◌++◌, length, Option, Some, None, Result, Ok, Err, OnOk, OnErr, refl, sym, ◌∙◌, ap, subst, inl, inr, arith, length-append}
 use Rattle.pl_marks.specs.declared.author.Author.{Author}
 use Rattle.pl_marks.specs.Marks.{Signed, AreFew}
 use Rattle.pl_entry.specs.declared.event.Event.{Event}
@@ -17,12 +17,8 @@ use Rattle.pl_machine.specs.Taking.{Takes, Spoils, Answers}
 use Rattle.pl_machine.specs.Mending.{RepairsOnce}
 use Rattle.pl_acts.specs.Items.{signed_on}
 use Rattle.pl_acts.specs.Replicas.{IsReplica}
-use Rattle.pl_acts.specs.Signing.{Written, IsTied, IsWritten, SignedAnswers, RepairsSigned}
+use Rattle.pl_acts.specs.Signing.{Written, IsTied, IsWritten, TakesBack, SignedAnswers, RepairsSigned}
 use Rattle.pl_acts.proofs.Replicas.{still_behind, behind_repaired}
-
--- a mark that was added can be taken back
-abbrev pub TakesBack : Signed → Signed → Type 0
-TakesBack s s2 = (authors : List Author) (author : Author) → s.authors ≡ authors ++ author ∷ [] → s2 ≡ record s { authors = authors }
 
 authors_on : (by : Author) (s s1 : Signed) → s1 ≡ signed_on by s → s1.authors ≡ s.authors ++ by ∷ []
 authors_on by s s1 more = ap (λ (x : Signed). x.authors) more
@@ -35,8 +31,8 @@ taken_back by s s1 s2 more back = back s.authors by (authors_on by s s1 more) �
 
 -- ---- how many there are
 
-pub few : (o : Option State) (w : Written) → IsWritten o w → length w.machine.log ≤ 250000 → AreFew w.signs
-few o w is short = (let each = is.tied.each in omega (arith, each, short))
+pub few : (w : Written) → IsTied w → length w.machine.log ≤ 250000 → AreFew w.signs
+few w tied short = (let each = tied.each in omega (arith, each, short))
 
 tied_more : (by : Author) (old : Written) (m : State) (s : Signed) (e : Entry) → IsTied old → m.log ≡ old.machine.log ++ e ∷ [] → s ≡ signed_on by old.signs → IsTied (record { machine = m; signs = s })
 tied_more by old m s e tied log more =
@@ -65,54 +61,52 @@ refused_log old m e stop.Memory answers = answers.1.log
 
 -- ---- an event
 
-pub signed : (by : Author) (old : Written) (m : State) (s : Signed) (e : Event) (r : Reply) → Answers old.machine e (Ok r) m → s ≡ signed_on by old.signs → SignedAnswers by old e (Ok r) (record { machine = m; signs = s })
-signed by old m s e r answers more = (answers, more)
-
 refused_by : (by : Author) (old : Written) (m : State) (s : Signed) (e : Event) (st : Stop) → Answers old.machine e (Err st) m → s ≡ old.signs → SignedAnswers by old e (Err st) (record { machine = m; signs = s })
 refused_by by old m s e stop.Spoiled answers same = (answers, same)
 refused_by by old m s e stop.NotNow answers same = (answers, same)
 refused_by by old m s e stop.LogFull answers same = (answers, same)
 refused_by by old m s e stop.Memory answers same = inl (answers, same)
 
-pub refused : (by : Author) (old : Written) (m : State) (s s2 : Signed) (e : Event) (st : Stop) → Answers old.machine e (Err st) m → s ≡ signed_on by old.signs → TakesBack s s2
-    → SignedAnswers by old e (Err st) (record { machine = m; signs = s2 })
-refused by old m s s2 e st answers more back = refused_by by old m s2 e st answers (taken_back by old.signs s s2 more back)
+-- the mark stays where the event was made, and is taken back where it was refused
+pub signed_answers : (by : Author) (old : Written) (m : State) (s s2 : Signed) (e : Event) (r : Result Reply Stop) → Answers old.machine e r m → s ≡ signed_on by old.signs → OnOk r (s2 ≡ s) → OnErr r (TakesBack s s2)
+    → SignedAnswers by old e r (record { machine = m; signs = s2 })
+signed_answers by old m s s2 e (Ok r) answers more same back = (answers, same ∙ more)
+signed_answers by old m s s2 e (Err st) answers more same back = refused_by by old m s2 e st answers (taken_back by old.signs s s2 more back)
+
+pub written_answers : (by : Author) (rs : List State) (old : Written) (m : State) (s s2 : Signed) (e : Event) (r : Result Reply Stop) → IsWritten rs old → Answers old.machine e r m → s ≡ signed_on by old.signs → OnOk r (s2 ≡ s) → OnErr r (TakesBack s s2)
+    → IsWritten rs (record { machine = m; signs = s2 })
+written_answers by rs old m s s2 e (Ok r) is answers more same back = record {
+  behind = still_behind old.machine m e (Ok r) rs is.behind answers;
+  tied = tied_more by old m s2 (record { event = e; reply = r }) is.tied answers.1.log (same ∙ more);
+}
+written_answers by rs old m s s2 e (Err st) is answers more same back = record {
+  behind = still_behind old.machine m e (Err st) rs is.behind answers;
+  tied = tied_same old m s2 is.tied (refused_log old.machine m e st answers) (taken_back by old.signs s s2 more back);
+}
 
 same_written : (old : Written) (s : Signed) → s ≡ old.signs → record { machine = old.machine; signs = s } ≡ old
 same_written old s same = ap (λ (x : Signed). record old { signs = x }) same
 
-pub unsigned : (by : Author) (old : Written) (s : Signed) (e : Event) → s ≡ old.signs → SignedAnswers by old e (Err stop.Memory) (record { machine = old.machine; signs = s })
-unsigned by old s e same = inr (same_written old s same)
+-- memory was wanting for the mark
+pub unsigned : (by : Author) (old : Written) (s : Signed) (e : Event) (st : Stop) → (st ≡ stop.Memory) × (s ≡ old.signs) → SignedAnswers by old e (Err st) (record { machine = old.machine; signs = s })
+unsigned by old s e st why = (let P : Stop → Type 0 = λ x. SignedAnswers by old e (Err x) (record { machine = old.machine; signs = s }) in subst P (sym why.0) (inr (same_written old s why.1)))
 
-pub written_signed : (by : Author) (o : Option State) (old : Written) (m : State) (s : Signed) (e : Event) (r : Reply) → IsWritten o old → Answers old.machine e (Ok r) m → s ≡ signed_on by old.signs
-    → IsWritten o (record { machine = m; signs = s })
-written_signed by o old m s e r is answers more =
-    record { behind = still_behind old.machine m e (Ok r) o is.behind answers; tied = tied_more by old m s (record { event = e; reply = r }) is.tied answers.1.log more }
-
-pub written_refused : (by : Author) (o : Option State) (old : Written) (m : State) (s s2 : Signed) (e : Event) (st : Stop) → IsWritten o old → Answers old.machine e (Err st) m → s ≡ signed_on by old.signs → TakesBack s s2
-    → IsWritten o (record { machine = m; signs = s2 })
-written_refused by o old m s s2 e st is answers more back = record {
-  behind = still_behind old.machine m e (Err st) o is.behind answers;
-  tied = tied_same old m s2 is.tied (refused_log old.machine m e st answers) (taken_back by old.signs s s2 more back);
-}
-
-pub written_same : (o : Option State) (old : Written) (s : Signed) → IsWritten o old → s ≡ old.signs → IsWritten o (record { machine = old.machine; signs = s })
-written_same o old s is same = record { behind = is.behind; tied = tied_same old old.machine s is.tied refl same }
+pub written_same : (rs : List State) (old : Written) (s : Signed) (st : Stop) → IsWritten rs old → (st ≡ stop.Memory) × (s ≡ old.signs) → IsWritten rs (record { machine = old.machine; signs = s })
+written_same rs old s st is why = record { behind = is.behind; tied = tied_same old old.machine s is.tied refl why.1 }
 
 -- ---- one turn of repair
 
 module _ {C : Type 0} (picks : Picks C) (drawn : Drawn C) (by : Author) (old : Written) (m : State) (c c2 : C) where
-  pub repaired : (s : Signed) (done : Repaired) → RepairsOnce picks drawn old.machine c (Ok done) m c2 → s ≡ signed_on by old.signs → RepairsSigned picks drawn by old c (Ok done) (record { machine = m; signs = s }) c2
-  repaired s done did more = (did, more)
+  not_repaired : (s : Signed) (st : Stop) → RepairsOnce picks drawn old.machine c (Err st) m c2 → s ≡ old.signs → RepairsSigned picks drawn by old c (Err st) (record { machine = m; signs = s }) c2
+  not_repaired s stop.Spoiled did same = (did, same)
+  not_repaired s stop.NotNow did same = (did, same)
+  not_repaired s stop.LogFull did same = (did, same)
+  not_repaired s stop.Memory did same = inl (did, same)
 
-  not_repaired_by : (s : Signed) (st : Stop) → RepairsOnce picks drawn old.machine c (Err st) m c2 → s ≡ old.signs → RepairsSigned picks drawn by old c (Err st) (record { machine = m; signs = s }) c2
-  not_repaired_by s stop.Spoiled did same = (did, same)
-  not_repaired_by s stop.NotNow did same = (did, same)
-  not_repaired_by s stop.LogFull did same = (did, same)
-  not_repaired_by s stop.Memory did same = inl (did, same)
-
-  pub not_repaired : (s s2 : Signed) (st : Stop) → RepairsOnce picks drawn old.machine c (Err st) m c2 → s ≡ signed_on by old.signs → TakesBack s s2 → RepairsSigned picks drawn by old c (Err st) (record { machine = m; signs = s2 }) c2
-  not_repaired s s2 st did more back = not_repaired_by s2 st did (taken_back by old.signs s s2 more back)
+  pub signed_repair : (s s2 : Signed) (r : Result Repaired Stop) → RepairsOnce picks drawn old.machine c r m c2 → s ≡ signed_on by old.signs → OnOk r (s2 ≡ s) → OnErr r (TakesBack s s2)
+      → RepairsSigned picks drawn by old c r (record { machine = m; signs = s2 }) c2
+  signed_repair s s2 (Ok done) did more same back = (did, same ∙ more)
+  signed_repair s s2 (Err st) did more same back = not_repaired s2 st did (taken_back by old.signs s s2 more back)
 
   repaired_log : (done : Repaired) → RepairsOnce picks drawn old.machine c (Ok done) m c2 → (e : Entry) × (m.log ≡ old.machine.log ++ e ∷ [])
   repaired_log (repaired.Fixed p) did = (record { event = event.Fix p.conflict p.mv; reply = reply.Done }, did.4.log)
@@ -124,16 +118,18 @@ module _ {C : Type 0} (picks : Picks C) (drawn : Drawn C) (by : Author) (old : W
   not_repaired_log stop.LogFull did = ap (λ (x : State). x.log) did.3
   not_repaired_log stop.Memory did = did.1.log
 
-  pub written_repaired : (o : Option State) (s : Signed) (done : Repaired) → IsWritten o old → RepairsOnce picks drawn old.machine c (Ok done) m c2 → s ≡ signed_on by old.signs → IsWritten o (record { machine = m; signs = s })
-  written_repaired o s done is did more =
+  pub written_repair : (rs : List State) (s s2 : Signed) (r : Result Repaired Stop) → IsWritten rs old → RepairsOnce picks drawn old.machine c r m c2 → s ≡ signed_on by old.signs → OnOk r (s2 ≡ s) → OnErr r (TakesBack s s2)
+      → IsWritten rs (record { machine = m; signs = s2 })
+  written_repair rs s s2 (Ok done) is did more same back =
       let logged = repaired_log done did in
-      record { behind = behind_repaired picks drawn old.machine m c c2 (Ok done) o is.behind did; tied = tied_more by old m s logged.0 is.tied logged.1 more }
-
-  pub written_not_repaired : (o : Option State) (s s2 : Signed) (st : Stop) → IsWritten o old → RepairsOnce picks drawn old.machine c (Err st) m c2 → s ≡ signed_on by old.signs → TakesBack s s2 → IsWritten o (record { machine = m; signs = s2 })
-  written_not_repaired o s s2 st is did more back = record {
-    behind = behind_repaired picks drawn old.machine m c c2 (Err st) o is.behind did;
+      record { behind = behind_repaired picks drawn old.machine m c c2 (Ok done) rs is.behind did; tied = tied_more by old m s2 logged.0 is.tied logged.1 (same ∙ more) }
+  written_repair rs s s2 (Err st) is did more same back = record {
+    behind = behind_repaired picks drawn old.machine m c c2 (Err st) rs is.behind did;
     tied = tied_same old m s2 is.tied (not_repaired_log st did) (taken_back by old.signs s s2 more back);
   }
 
-pub not_marked : {C : Type 0} (picks : Picks C) (drawn : Drawn C) (by : Author) (old : Written) (c : C) (s : Signed) → s ≡ old.signs → RepairsSigned picks drawn by old c (Err stop.Memory) (record { machine = old.machine; signs = s }) c
-not_marked picks drawn by old c s same = inr (same_written old s same, refl)
+-- memory was wanting for the mark, and the chooser was not asked
+pub not_marked : {C : Type 0} (picks : Picks C) (drawn : Drawn C) (by : Author) (old : Written) (c : C) (s : Signed) (st : Stop) → (st ≡ stop.Memory) × (s ≡ old.signs) → RepairsSigned picks drawn by old c (Err st) (record { machine = old.machine; signs = s }) c
+not_marked picks drawn by old c s st why =
+    let P : Stop → Type 0 = λ x. RepairsSigned picks drawn by old c (Err x) (record { machine = old.machine; signs = s }) c in
+    subst P (sym why.0) (inr (same_written old s why.1, refl))

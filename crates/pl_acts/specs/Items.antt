@@ -1,4 +1,4 @@
--- The list that a plan under its lock stands for: one item for each entry of its log, the first with the model, and a last one where it was stopped.
+-- The list that a plan under its lock stands for: one item for each entry of its log, the first with the model and with how many entries were handed in, and a last one where it was stopped.
 use Rattle.std.specs.Prelude.{ℕ, zero, suc, ◌-◌, List, [], ◌∷◌, ◌++◌, length, map, Bool, true, false, Option, Some, None}
 use Rattle.std.specs.List.{filter_map, list_any}
 use Rattle.pl_marks.specs.declared.author.Author.{Author}
@@ -45,7 +45,7 @@ made_items handed authors entries = map made_of (with_authors handed authors ent
 
 abbrev pub log_items : Model → List Entry → Signed → List Noted
 log_items m [] s = []
-log_items m (first ∷ entries) s = Opened m first ∷ made_items (s.opening - 1) s.authors entries
+log_items m (first ∷ entries) s = Opened m s.opening first ∷ made_items (s.opening - 1) s.authors entries
 
 abbrev pub stop_items : Option Author → List Noted
 stop_items (Some by) = Stopped by ∷ []
@@ -58,7 +58,7 @@ items_of m log s = log_items m log s.by ++ stop_items s.stopper
 -- ---- read back
 
 abbrev pub entry_in : Noted → Option Entry
-entry_in (Opened m e) = Some e
+entry_in (Opened m n e) = Some e
 entry_in (Made by e) = Some e
 entry_in (Stopped by) = None
 
@@ -69,18 +69,25 @@ entries_in items = filter_map entry_in items
 -- the model
 abbrev pub model_in : List Noted → Option Model
 model_in [] = None
-model_in (Opened m e ∷ items) = Some m
+model_in (Opened m n e ∷ items) = Some m
 model_in (Made by e ∷ items) = None
 model_in (Stopped by ∷ items) = None
 
+-- how many entries were handed in
+abbrev pub opening_in : List Noted → Option ℕ
+opening_in [] = None
+opening_in (Opened m n e ∷ items) = Some n
+opening_in (Made by e ∷ items) = None
+opening_in (Stopped by ∷ items) = None
+
 abbrev pub is_stop : Noted → Bool
-is_stop (Opened m e) = false
+is_stop (Opened m n e) = false
 is_stop (Made by e) = false
 is_stop (Stopped by) = true
 
 -- who made the entry, if it was not handed in, or who stopped the plan
 abbrev pub signer_in : Noted → Option Author
-signer_in (Opened m e) = None
+signer_in (Opened m n e) = None
 signer_in (Made by e) = by
 signer_in (Stopped by) = Some by
 

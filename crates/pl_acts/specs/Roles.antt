@@ -60,7 +60,7 @@ is_input _ = false
 
 -- whether an item is an entry of this kind
 abbrev pub is_entry : (Event → Bool) → Noted → Bool
-is_entry test (Opened m e) = false
+is_entry test (Opened m n e) = false
 is_entry test (Made by e) = test e.event
 is_entry test (Stopped by) = false
 

@@ -1,5 +1,6 @@
 -- A machine with the authors of its entries.
-use Rattle.std.specs.Prelude.{◌≡◌, ◌+◌, ◌<◌, ℕ, List, [], ◌∷◌, ◌++◌, length, false, Option, IfSome, Result, Ok, Err, ◌⊎◌}
+use Rattle.std.specs.Prelude.{◌≡◌, ◌+◌, ◌<◌, ℕ, List, [], ◌∷◌, ◌++◌, length, Result, Ok, Err, ◌⊎◌}
+use Rattle.std.specs.List.{All}
 use Rattle.pl_marks.specs.declared.author.Author.{Author}
 use Rattle.pl_marks.specs.Marks.{Signed}
 use Rattle.pl_entry.specs.declared.event.Event.{Event}
@@ -24,17 +25,16 @@ pub record IsTied (w : Written) : Type 0 where
   pub some : 0 < w.signs.opening
   pub each : w.signs.opening + length w.signs.authors ≡ length w.machine.log
 
--- the same, with a replica
-pub record IsWritten (replica : Option State) (w : Written) : Type 0 where
-  pub behind : IfSome replica (IsReplica w.machine)
+-- the same, with replicas
+pub record IsWritten (replicas : List State) (w : Written) : Type 0 where
+  pub behind : All (IsReplica w.machine) replicas
   pub tied : IsTied w
 
--- an entry has this author, and where none was made nobody has signed
-abbrev pub SignsAs : {A : Type 0} → Author → Result A Stop → Signed → Signed → Type 0
-SignsAs by (Ok a) old new = new ≡ signed_on by old
-SignsAs by (Err s) old new = new ≡ old
+-- the last author is gone
+abbrev pub TakesBack : Signed → Signed → Type 0
+TakesBack old new = (authors : List Author) (author : Author) → old.authors ≡ authors ++ author ∷ [] → new ≡ record old { authors = authors }
 
--- An event as this author's. Memory may be wanting for the signature alone, which changes nothing.
+-- An event as this author's. Memory may be wanting for the mark alone, which changes nothing.
 abbrev pub SignedAnswers : Author → Written → Event → Result Reply Stop → Written → Type 0
 SignedAnswers by old e (Ok r) new = Answers old.machine e (Ok r) new.machine × (new.signs ≡ signed_on by old.signs)
 SignedAnswers by old e (Err stop.Memory) new = (Answers old.machine e (Err stop.Memory) new.machine × (new.signs ≡ old.signs)) ⊎ (new ≡ old)

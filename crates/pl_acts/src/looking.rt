@@ -1,5 +1,6 @@
 //! What a planner finds in one turn.
 ghost use Rattle.std.specs.Prelude.{◌≡◌, is_some, nat_le, length, false, true, None};
+ghost use Rattle.pl_marks.specs.declared.author.Author.{Author};
 ghost use Rattle.pl_marks.specs.Authors.{IsAuthor};
 ghost use Rattle.pl_machine.specs.World.{plain_reason_of};
 ghost use Rattle.pl_machine.specs.Mending.{is_repairing};
@@ -39,13 +40,13 @@ impl Held {
 
     /// Lends a replica to be asked about, unless the log is full.
     #[tactic(auto, using(crate::proofs::Finding::lent, crate::proofs::Finding::lend_fails, crate::proofs::Finding::is_full))]
-    fn lend(&mut self, by: Author, alloc: Global) -> Result<Looked, Stop>
+    fn lend(&mut self, alloc: Global) -> Result<Looked, Stop>
         requires unspoiled { self.old.plan.machine.spoiled ≡ false }
         requires going { self.old.plan.machine.world.done ≡ false }
         requires running { is_some self.old.stopper ≡ false }
         requires repairing { is_repairing self.old.plan.machine.world ≡ true }
         requires plain { plain_reason_of self.old.plan.machine.world ≡ None }
-        ensures { LooksIn by self.old result self.new }
+        ensures { (by : Author) → LooksIn by self.old result self.new }
     {
         if self.is_full() {
             return Err(Stop::LogFull);
@@ -64,7 +65,7 @@ impl Held {
     {
         match self.plan.get().plain_reason() {
             Some(_) => self.rest(by),
-            None => self.lend(by, alloc),
+            None => self.lend(alloc),
         }
     }
 

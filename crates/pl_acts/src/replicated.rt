@@ -1,5 +1,5 @@
-//! A machine with the marks of its entries, that lends a replica of itself.
-ghost use Rattle.std.specs.Prelude.{◌≡◌, ◌<◌, ◌≤◌, length, [], false, IfOk, IfSome};
+//! A machine with the marks of its entries, that lends replicas of itself.
+ghost use Rattle.std.specs.Prelude.{◌≡◌, ◌<◌, ◌≤◌, length, [], false, IfOk, IfErr, IfSome, OnOk, OnErr};
 ghost use Rattle.std.specs.Option.{option_copied};
 ghost use Rattle.pl_marks.specs.Authors.{IsAuthor};
 ghost use Rattle.pl_entry.specs.declared.event.Event.TheVariants as event;
@@ -7,7 +7,8 @@ ghost use Rattle.pl_entry.specs.Bounds.{IsMessageLine};
 ghost use Rattle.pl_machine.specs.Choices.{event_of};
 ghost use Rattle.pl_machine.specs.Repairs.{IsMoveOf};
 ghost use Rattle.pl_acts.specs.Replicas.{IsReplica, IsDraft};
-ghost use Rattle.pl_acts.specs.Signing.{IsTied, SignedAnswers, RepairsSigned};
+ghost use Rattle.pl_acts.specs.Items.{signed_on};
+ghost use Rattle.pl_acts.specs.Signing.{IsTied, TakesBack, SignedAnswers, RepairsSigned};
 
 use crate::draft::Draft;
 use pl_cand::{Chooser, Proposal};
@@ -16,13 +17,13 @@ use pl_machine::{Choice, Machine, Repaired, Stop};
 use pl_marks::{Author, Marks};
 use std::alloc::{AllocError, Global};
 
-/// A machine, who made its entries, and a replica of it that has made the first events of its log, if there is one. Contracts see the machine
-/// and who made its entries.
+/// A machine, who made its entries, and replicas of it that have made the first events of its log: as many as are lent at one time, once each
+/// has come back. Contracts see the machine and who made its entries.
 #[derive(Drop)]
 pub struct Replicated {
     machine: Machine,
     marks: Marks,
-    replica: Option<Machine>,
+    replicas: Vec<Machine>,
 }
 
 impl std::marker::Model for Replicated {
@@ -36,7 +37,7 @@ impl std::marker::Model for Replicated {
 
     ghost view = { λ r. record { machine = r.machine; signs = r.marks } };
 
-    ghost invariant = { λ r. IsWritten r.replica (record { machine = r.machine; signs = r.marks }) };
+    ghost invariant = { λ r. IsWritten r.replicas.items (record { machine = r.machine; signs = r.marks }) };
 }
 
 /// The log is short, whatever was done: a look at it shows that.
@@ -64,6 +65,35 @@ fn replica_of(
     }
 }
 
+/// Marks the entry of the next event.
+#[tactic(auto, using(crate::proofs::Signing::few))]
+fn sign(machine: &Machine, marks: &mut Marks, by: Author) -> Result<(), Stop>
+    requires author { IsAuthor by }
+    requires tied { IsTied (record { machine = machine.now; signs = marks.old }) }
+    ensures ok { OnOk result (marks.new ≡ signed_on by marks.old) }
+    ensures err { IfErr result (λ e. (e ≡ Stop.Memory) × (marks.new ≡ marks.old)) }
+{
+    is_short(machine);
+    marks.push(by)?;
+    Ok(())
+}
+
+/// Takes the mark of an event back where the event was refused.
+fn unless_refused<T>(marks: &mut Marks, answer: Result<T, Stop>) -> Result<T, Stop>
+    requires { 0 < length marks.old.authors }
+    ensures same { result ≡ answer }
+    ensures ok { OnOk answer (marks.new ≡ marks.old) }
+    ensures err { OnErr answer (TakesBack marks.old marks.new) }
+{
+    match answer {
+        Ok(value) => Ok(value),
+        Err(stop) => {
+            marks.pop();
+            Err(stop)
+        }
+    }
+}
+
 impl Replicated {
     /// A machine all of whose entries were handed in.
     pub(crate) fn new(alloc: Global, machine: Machine) -> Replicated
@@ -74,7 +104,7 @@ impl Replicated {
         Replicated {
             machine,
             marks: Marks::new(alloc, opening),
-            replica: None,
+            replicas: Vec::new(alloc),
         }
     }
 
@@ -95,7 +125,9 @@ impl Replicated {
     /// There is a mark for each entry that was not handed in: a look shows that.
     pub(crate) fn is_tied(&self)
         ensures { IsTied self.now }
-    {}
+    {
+        let _marks = &self.marks;
+    }
 
     /// The machine and its marks by themselves.
     pub(crate) fn into_parts(self) -> (Machine, Marks)
@@ -105,106 +137,86 @@ impl Replicated {
         let Replicated {
             machine,
             marks,
-            replica: _,
+            replicas: _,
         } = self;
         (machine, marks)
     }
 
-    /// Lends the replica, or a new one, with the entries that it has not made.
+    /// Lends the replica that came back last, or a new one, with the entries that it has not made.
+    #[tactic(auto, using(crate::proofs::Replicas::one_less))]
     pub(crate) fn lend(&mut self, alloc: Global) -> Result<Draft, AllocError>
         requires unspoiled { self.old.machine.spoiled ≡ false }
         ensures same { self.new ≡ self.old }
         ensures draft { IfOk result (IsDraft self.old.machine) }
     {
-        let replica = replica_of(alloc, &self.machine, self.replica.take())?;
+        let replica = replica_of(alloc, &self.machine, self.replicas.pop())?;
         let entries = self.machine.entries_from(alloc, replica.entries())?;
         Ok(Draft { replica, entries })
     }
 
-    /// Takes a replica back.
+    /// Takes a replica back, if there is room for it.
+    #[tactic(auto, using(crate::proofs::Replicas::one_more))]
     pub(crate) fn keep(&mut self, replica: Option<Machine>)
         requires { IfSome replica (IsReplica self.old.machine) }
         ensures { self.new ≡ self.old }
     {
-        self.replica = replica;
+        if let Some(replica) = replica {
+            self.replicas.push(replica).ok();
+        }
     }
 
-    /// [`Machine::input`], as this author's.
-    #[tactic(auto, using(crate::proofs::Signing::signed, crate::proofs::Signing::refused, crate::proofs::Signing::unsigned, crate::proofs::Signing::written_signed, crate::proofs::Signing::written_refused, crate::proofs::Signing::written_same, crate::proofs::Signing::some_signed, crate::proofs::Signing::few))]
+    /// [`Machine::input`], as this author.
+    #[tactic(auto, using(crate::proofs::Signing::signed_answers, crate::proofs::Signing::unsigned, crate::proofs::Signing::written_answers, crate::proofs::Signing::written_same, crate::proofs::Signing::some_signed))]
     pub(crate) fn input(&mut self, by: Author, line: Option<&[u8]>) -> Result<Reply, Stop>
         requires unspoiled { self.old.machine.spoiled ≡ false }
         requires author { IsAuthor by }
         requires line { IfSome (option_copied line) IsMessageLine }
         ensures { SignedAnswers by self.old (event.Input (option_copied line.entry)) result self.new }
     {
-        is_short(&self.machine);
-        self.marks.push(by)?;
-        match self.machine.input(line) {
-            Ok(reply) => Ok(reply),
-            Err(stop) => {
-                self.marks.pop();
-                Err(stop)
-            }
-        }
+        sign(&self.machine, &mut self.marks, by)?;
+        let answer = self.machine.input(line);
+        unless_refused(&mut self.marks, answer)
     }
 
-    /// [`Machine::execute`], as this author's.
-    #[tactic(auto, using(crate::proofs::Signing::signed, crate::proofs::Signing::refused, crate::proofs::Signing::unsigned, crate::proofs::Signing::written_signed, crate::proofs::Signing::written_refused, crate::proofs::Signing::written_same, crate::proofs::Signing::some_signed, crate::proofs::Signing::few))]
+    /// [`Machine::execute`], as this author.
+    #[tactic(auto, using(crate::proofs::Signing::signed_answers, crate::proofs::Signing::unsigned, crate::proofs::Signing::written_answers, crate::proofs::Signing::written_same, crate::proofs::Signing::some_signed))]
     pub(crate) fn execute(&mut self, by: Author, choice: Choice) -> Result<Reply, Stop>
         requires unspoiled { self.old.machine.spoiled ≡ false }
         requires author { IsAuthor by }
         ensures { SignedAnswers by self.old (event_of choice) result self.new }
     {
-        is_short(&self.machine);
-        self.marks.push(by)?;
-        match self.machine.execute(choice) {
-            Ok(reply) => Ok(reply),
-            Err(stop) => {
-                self.marks.pop();
-                Err(stop)
-            }
-        }
+        sign(&self.machine, &mut self.marks, by)?;
+        let answer = self.machine.execute(choice);
+        unless_refused(&mut self.marks, answer)
     }
 
-    /// [`Machine::rest`], as this author's.
-    #[tactic(auto, using(crate::proofs::Signing::signed, crate::proofs::Signing::refused, crate::proofs::Signing::unsigned, crate::proofs::Signing::written_signed, crate::proofs::Signing::written_refused, crate::proofs::Signing::written_same, crate::proofs::Signing::some_signed, crate::proofs::Signing::few))]
+    /// [`Machine::rest`], as this author.
+    #[tactic(auto, using(crate::proofs::Signing::signed_answers, crate::proofs::Signing::unsigned, crate::proofs::Signing::written_answers, crate::proofs::Signing::written_same, crate::proofs::Signing::some_signed))]
     pub(crate) fn rest(&mut self, by: Author) -> Result<Reply, Stop>
         requires unspoiled { self.old.machine.spoiled ≡ false }
         requires author { IsAuthor by }
         ensures { SignedAnswers by self.old event.Rest result self.new }
     {
-        is_short(&self.machine);
-        self.marks.push(by)?;
-        match self.machine.rest() {
-            Ok(reply) => Ok(reply),
-            Err(stop) => {
-                self.marks.pop();
-                Err(stop)
-            }
-        }
+        sign(&self.machine, &mut self.marks, by)?;
+        let answer = self.machine.rest();
+        unless_refused(&mut self.marks, answer)
     }
 
-    /// [`Machine::fix`], as this author's.
-    #[tactic(auto, using(crate::proofs::Signing::signed, crate::proofs::Signing::refused, crate::proofs::Signing::unsigned, crate::proofs::Signing::written_signed, crate::proofs::Signing::written_refused, crate::proofs::Signing::written_same, crate::proofs::Signing::some_signed, crate::proofs::Signing::few))]
+    /// [`Machine::fix`], as this author.
+    #[tactic(auto, using(crate::proofs::Signing::signed_answers, crate::proofs::Signing::unsigned, crate::proofs::Signing::written_answers, crate::proofs::Signing::written_same, crate::proofs::Signing::some_signed))]
     pub(crate) fn fix(&mut self, by: Author, proposal: &Proposal) -> Result<Reply, Stop>
         requires unspoiled { self.old.machine.spoiled ≡ false }
         requires author { IsAuthor by }
         requires repair { IsMoveOf self.old.machine.model proposal.now.mv }
         ensures { SignedAnswers by self.old (event.Fix proposal.now.conflict proposal.now.mv) result self.new }
     {
-        is_short(&self.machine);
-        self.marks.push(by)?;
-        match self.machine.fix(&proposal.conflict, &proposal.mv) {
-            Ok(reply) => Ok(reply),
-            Err(stop) => {
-                self.marks.pop();
-                Err(stop)
-            }
-        }
+        sign(&self.machine, &mut self.marks, by)?;
+        let answer = self.machine.fix(&proposal.conflict, &proposal.mv);
+        unless_refused(&mut self.marks, answer)
     }
 
-    /// [`Machine::repair_once`], as this author's.
-    #[tactic(auto, using(crate::proofs::Signing::repaired, crate::proofs::Signing::not_repaired, crate::proofs::Signing::not_marked, crate::proofs::Signing::written_repaired, crate::proofs::Signing::written_not_repaired, crate::proofs::Signing::written_same, crate::proofs::Signing::some_signed, crate::proofs::Signing::few))]
+    /// [`Machine::repair_once`], as this author.
+    #[tactic(auto, using(crate::proofs::Signing::signed_repair, crate::proofs::Signing::not_marked, crate::proofs::Signing::written_repair, crate::proofs::Signing::written_same, crate::proofs::Signing::some_signed))]
     pub(crate) fn repair_once<C: Chooser>(
         &mut self,
         by: Author,
@@ -214,14 +226,8 @@ impl Replicated {
         requires author { IsAuthor by }
         ensures { RepairsSigned C.picks C.drawn by self.old chooser.old result self.new chooser.new }
     {
-        is_short(&self.machine);
-        self.marks.push(by)?;
-        match self.machine.repair_once(chooser) {
-            Ok(repaired) => Ok(repaired),
-            Err(stop) => {
-                self.marks.pop();
-                Err(stop)
-            }
-        }
+        sign(&self.machine, &mut self.marks, by)?;
+        let answer = self.machine.repair_once(chooser);
+        unless_refused(&mut self.marks, answer)
     }
 }

@@ -49,8 +49,8 @@ use Rattle.pl_acts.specs.Signing.{Written}
 use Rattle.pl_acts.specs.Inside.{signs_in, items_in, IsSound, IsStepIn, Logs, KeepsLog, Spoiled, can_listen, FeedsIn, IsPart, Wants, Executes, ExecutesIn, RestsAtOnce, LooksIn, SettlesIn}
 use Rattle.pl_acts.specs.Seen.{IsPlan, IsFull, Copies}
 use Rattle.pl_acts.proofs.Replicas.{replica_here, moves_here}
-use Rattle.pl_acts.proofs.Growing.{keeps_items, logs_items, stopped_first, same_held, plan_in, some_model, grown_prefix}
-use Rattle.pl_acts.proofs.Items.{length_going, model_in_items, items_stopped, in_world_of, in_world, world_in, prefix_whole, stop_in_same, entries_in_items}
+use Rattle.pl_acts.proofs.Growing.{keeps_items, logs_items, stopped_first, same_held, plan_in, some_model, some_opening, grown_prefix}
+use Rattle.pl_acts.proofs.Items.{length_going, model_in_items, opening_in_items, in_world_of, in_world, world_in, prefix_whole, stop_in_same, entries_in_items}
 use Rattle.pl_locked.specs.declared.plan.SharedPlan.{SharedPlan}
 use Rattle.pl_locked.specs.Plans.{PlanPass, BelongsTo, Closes}
 use Rattle.pl_locked.specs.Turns.{TakesTurn, Makes, MakesNothing, low_of, Feeds, Acts, Looks, CanSettle, IsSettled, Settles, Stops, was_stopped, is_stopped}
@@ -398,6 +398,7 @@ closed pass h plan sound on counted stands owners = record {
   signed = refl;
   some = sound.tied.some;
   each = sound.tied.each;
+  handed = sym (some_opening (seen_of pass) (items_in h) plan on) ∙ opening_in_items h.plan.machine.model h.plan.machine.log (signs_in h) sound.legal;
   legal = sound.legal;
   model = sym (some_model (seen_of pass) (items_in h) plan on) ∙ model_in_items h.plan.machine.model h.plan.machine.log (signs_in h) sound.legal;
   history = on;

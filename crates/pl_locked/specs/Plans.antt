@@ -10,7 +10,7 @@ use Rattle.pl_machine.specs.Legal.{Legal}
 use Rattle.pl_machine.specs.Sound.{State}
 use Rattle.pl_acts.specs.declared.noted.Noted.{Noted}
 use Rattle.pl_acts.specs.declared.held.Held.{Held}
-use Rattle.pl_acts.specs.Items.{Signs, items_of, model_in}
+use Rattle.pl_acts.specs.Items.{Signs, items_of, model_in, opening_in}
 use Rattle.pl_acts.specs.Seen.{IsPlan}
 use Rattle.pl_locked.specs.declared.plan.SharedPlan.{SharedPlan}
 
@@ -24,12 +24,13 @@ pub record BelongsTo (plan : SharedPlan) (pass : PlanPass) : Type 0 where
   pub outside : in_turn pass ≡ false
   pub seen : IsPlan (seen_of pass)
 
--- The machine has the whole history, with these authors, which begins with what the pass has seen. Each place past the opening stands in one own list, the pass's or that of one that was joined.
+-- The machine has the whole history, which begins with what the pass has seen. Each entry behind those that were handed in has one of these authors. Each place past the opening stands in one own list, the pass's or that of one that was joined.
 pub record Closes (pass : PlanPass) (machine : State) (by : Signed) : Type 0 where
   pub signs : Signs
   pub signed : signs.by ≡ by
   pub some : 0 < by.opening
   pub each : by.opening + length by.authors ≡ length machine.log
+  pub handed : opening_in (seen_of pass) ≡ Some by.opening
   pub legal : Legal machine.model machine.log
   pub model : model_in (seen_of pass) ≡ Some machine.model
   pub history : IsPrefix (seen_of pass) (items_of machine.model machine.log signs)

@@ -93,7 +93,7 @@ module _ (pass : PlanPass) (machine : State) (by : Signed) (gathers : Gathers pa
 -- ---- what a member has seen
 
 entry_or_stop : (i : Noted) (a : Author) → signer_in i ≡ Some a → (is_stop i ≡ true) ⊎ ((e : Entry) × (i ≡ Made (Some a) e))
-entry_or_stop (Opened m e) a is = absurd (let h : None ≡ Some a = is in (cc))
+entry_or_stop (Opened m n e) a is = absurd (let h : None ≡ Some a = is in (cc))
 entry_or_stop (Made None e) a is = absurd (let h : None ≡ Some a = is in (cc))
 entry_or_stop (Made (Some b) e) a is = inr (e, (let same : b ≡ a = (let h : Some b ≡ Some a = is in (cc)) in ap (λ (c : Author). Made (Some c) e) same))
 entry_or_stop (Stopped by) a is = inl refl

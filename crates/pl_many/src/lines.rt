@@ -16,7 +16,8 @@ use std::alloc::{AllocError, Global};
 fn line(alloc: Global, number: u8, tally: Tally) -> Result<String, AllocError>
     ensures { IfOk result (λ text. string_bytes text ≡ planner_line number tally) }
 {
-    format!(in alloc; "# planner {} entries {} ok {}\n", number, tally.entries, tally.repairs)
+    let text = format!(in alloc; "# planner {} entries {} ok {}\n", number, tally.entries, tally.repairs)?;
+    Ok(text)
 }
 
 #[tactic(auto, using(crate::proofs::Tallying::front_none))]
@@ -32,7 +33,7 @@ fn write_tally<O: Sink>(alloc: Global, number: u8, tally: Tally, out: &mut O) ->
 }
 
 /// Writes a line for each planner, by number.
-#[tactic(auto, using(pl_journal::proofs::AboutWriting::adds_none, pl_journal::proofs::AboutWriting::adds_more, pl_journal::proofs::AboutWriting::front_behind))]
+#[tactic(auto, using(pl_journal::proofs::AboutWriting::adds_none))]
 pub fn write_tallies<O: Sink>(
     alloc: Global,
     planners: u8,

@@ -1,4 +1,4 @@
--- What the whole history says of the three own lists.
+-- What the whole history says of the own lists.
 use Rattle.std.proofs.Common.{◌≡◌, ◌≢◌, ℕ, suc, ◌+◌, ◌-◌, ◌≤◌, ◌<◌, List, [], ◌∷◌, ◌++◌, length, map, drop, filter, cond, nat_eq, Bool, true, false, not, Option, Some, None, slice_get, get_or, refl, sym, ◌∙◌, ap, subst, arith, inl, inr, ne_eqb, append_assoc, length-append}
 use Rattle.std.specs.Prelude.{◌&&◌}
 use Rattle.std.specs.List.{All, filter_map, list_any}
@@ -106,14 +106,14 @@ more_made (x ∷ xs) more (y ∷ es) s e = more_made xs more es s (let h : x ∷
 some_items : (m : Model) (log : List Entry) (s : Signs) → Legal m log → (x : Noted) × (xs : List Noted) × (items_of m log s ≡ x ∷ xs)
 unfolding items_of
 some_items m [] s legal = absurd legal
-some_items m (first ∷ es) s legal = (Opened m first, map made_of (with_authors (s.by.opening - 1) s.by.authors es) ++ stop_items s.stopper, refl)
+some_items m (first ∷ es) s legal = (Opened m s.by.opening first, map made_of (with_authors (s.by.opening - 1) s.by.authors es) ++ stop_items s.stopper, refl)
 
 items_more : (xs more : List Noted) (x : Noted) (m : Model) (log : List Entry) (s : Signs) → Legal m log → (x ∷ xs) ++ more ≡ items_of m log s → MoreOf more
 unfolding items_of
 items_more xs more x m [] s legal e = absurd legal
 items_more xs more x m (first ∷ es) s legal e =
     let all = with_authors (s.by.opening - 1) s.by.authors es in
-    more_made xs more all s.stopper (let h : x ∷ (xs ++ more) ≡ Opened m first ∷ (map made_of all ++ stop_items s.stopper) = e in (cc))
+    more_made xs more all s.stopper (let h : x ∷ (xs ++ more) ≡ Opened m s.by.opening first ∷ (map made_of all ++ stop_items s.stopper) = e in (cc))
 
 pub more_of : (front : List Noted) (m : Model) (log : List Entry) (s : Signs) → IsPlan front → Legal m log → (on : IsPrefix front (items_of m log s)) → MoreOf on.0
 more_of front m log s plan legal on =
@@ -136,8 +136,8 @@ unfolding items_of
 items_stop xs more x m [] s legal e stops = absurd legal
 items_stop xs more x m (first ∷ es) s legal e stops =
     let all = with_authors (s.by.opening - 1) s.by.authors es in
-    let head : x ≡ Opened m first = (let h : x ∷ (xs ++ more) ≡ Opened m first ∷ (map made_of all ++ stop_items s.stopper) = e in (cc)) in
-    let rest : xs ++ more ≡ map made_of all ++ stop_items s.stopper = (let h : x ∷ (xs ++ more) ≡ Opened m first ∷ (map made_of all ++ stop_items s.stopper) = e in (cc)) in
+    let head : x ≡ Opened m s.by.opening first = (let h : x ∷ (xs ++ more) ≡ Opened m s.by.opening first ∷ (map made_of all ++ stop_items s.stopper) = e in (cc)) in
+    let rest : xs ++ more ≡ map made_of all ++ stop_items s.stopper = (let h : x ∷ (xs ++ more) ≡ Opened m s.by.opening first ∷ (map made_of all ++ stop_items s.stopper) = e in (cc)) in
     stop_tail xs more all s.stopper rest (subst (λ (z : Noted). stop_in (z ∷ xs) ≡ true) head stops)
 
 pub nothing_behind_stop : (front : List Noted) (m : Model) (log : List Entry) (s : Signs) → IsPlan front → Legal m log → (on : IsPrefix front (items_of m log s)) → stop_in front ≡ true → on.0 ≡ []
@@ -215,7 +215,7 @@ executed_no_input event.Dispatch e = refl
 executed_no_input event.Close e = refl
 
 item_no_input : (test : Event → Bool) → ((v : Event) → test v ≡ true → is_input v ≡ false) → (x : Noted) → is_entry test x ≡ true → is_entry is_input x ≡ false
-item_no_input test apart (Opened m e) is = refl
+item_no_input test apart (Opened m n e) is = refl
 item_no_input test apart (Made by e) is = apart e.event is
 item_no_input test apart (Stopped by) is = refl
 
@@ -240,14 +240,14 @@ inputs_kind (i ∷ inputs) [] are = absurd are
 inputs_kind (i ∷ inputs) (x ∷ own) are = All-cons (λ y. is_entry is_input y.1 ≡ true) x own (item_kind i x.1 are.0) (inputs_kind inputs own are.1)
   where
     item_kind : (i : Option (List ℕ)) (x : Noted) → IsInput i x → is_entry is_input x ≡ true
-    item_kind i (Opened m e) is = absurd is
+    item_kind i (Opened m n e) is = absurd is
     item_kind i (Made by e) is = ap is_input is.1
     item_kind i (Stopped by) is = absurd is
 
 -- ---- the inputs of the history are the feeder's
 
 abbrev input_of : Noted → Option (Option (List ℕ))
-input_of (Opened m e) = None
+input_of (Opened m n e) = None
 input_of (Made by e) = input_in e.event
 input_of (Stopped by) = None
 
@@ -255,7 +255,7 @@ own_inputs : (inputs : List (Option (List ℕ))) (own : List (ℕ × Noted)) →
 own_inputs [] [] are = refl
 own_inputs [] (x ∷ own) are = absurd are
 own_inputs (i ∷ inputs) [] are = absurd are
-own_inputs (i ∷ inputs) ((place, Opened m e) ∷ own) are = absurd are.0
+own_inputs (i ∷ inputs) ((place, Opened m n e) ∷ own) are = absurd are.0
 own_inputs (i ∷ inputs) ((place, Stopped by) ∷ own) are = absurd are.0
 own_inputs (i ∷ inputs) ((place, Made by e) ∷ own) are = rw are.0.1 (ap (λ (is : List (Option (List ℕ))). i ∷ is) (own_inputs inputs own are.1))
 
@@ -340,7 +340,7 @@ inputs_signed (i ∷ inputs) [] are = absurd are
 inputs_signed (i ∷ inputs) (x ∷ own) are = All-cons (λ y. signer_in y.1 ≡ Some Feeder) x own (item_signed x.1 are.0) (inputs_signed inputs own are.1)
   where
     item_signed : (x : Noted) → IsInput i x → signer_in x ≡ Some Feeder
-    item_signed (Opened m e) is = absurd is
+    item_signed (Opened m n e) is = absurd is
     item_signed (Made by e) is = is.0
     item_signed (Stopped by) is = absurd is
 

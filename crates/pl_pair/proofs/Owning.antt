@@ -84,7 +84,7 @@ module _ (m : Model) (log : List Entry) (s : Signs) (some : 0 < s.by.opening) (e
   before_by : (log2 : List Entry) → log ≡ log2 → (p : ℕ) (i : Noted) → p < s.by.opening → p < length log2 → slice_get (items_of m log2 s) p ≡ Some i → IsHanded i
   unfolding items_of
   before_by [] same p i few within at = absurd (omega (arith, within))
-  before_by (first ∷ es) same zero i few within at = sym (ap signer_in (same_item (Opened m first) i at))
+  before_by (first ∷ es) same zero i few within at = sym (ap signer_in (same_item (Opened m s.by.opening first) i at))
   before_by (first ∷ es) same (suc p) i few within at = made_before (s.by.opening - 1) s.by.authors es s.stopper p i (omega (arith, few)) (omega (arith, within)) at
 
   before_opening : (p : ℕ) (i : Noted) → p < s.by.opening → p < length log → slice_get (items_of m log s) p ≡ Some i → IsHanded i
@@ -122,7 +122,7 @@ pub handed_are : (m : Model) (log : List Entry) → AreHandedIn (items_of m log 
 unfolding items_of
 handed_are m [] = All-nil IsHanded
 handed_are m (first ∷ es) =
-    subst (All IsHanded) (sym (append-nil (Opened m first ∷ made_items (length (first ∷ es) - 1) [] es))) (All-cons IsHanded (Opened m first) (made_items (length (first ∷ es) - 1) [] es) refl (handed_made (length (first ∷ es) - 1) es))
+    subst (All IsHanded) (sym (append-nil (Opened m (length (first ∷ es)) first ∷ made_items (length (first ∷ es) - 1) [] es))) (All-cons IsHanded (Opened m (length (first ∷ es)) first) (made_items (length (first ∷ es) - 1) [] es) refl (handed_made (length (first ∷ es) - 1) es))
 
 -- ---- own items by place
 

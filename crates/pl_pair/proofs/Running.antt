@@ -146,6 +146,9 @@ feeds_follows plan m old new place end held now (Err c) feeds = follows_on old f
     by cut.Full f = follows_on old f.mid feeds.mid f.waiting.tells.follows f.follows
     by cut.Stopped f = by_cut f
 
+pub fed_leads : (plan : SharedPlan) (m : Model) (old new : PlanPass) (place end : Place) (held now : Option (List ℕ)) (r : Result (Unit {0}) Cut) → FeedsToEnd plan m old place held r new end now → leads old ≡ true → leads new ≡ true
+fed_leads plan m old new place end held now r feeds first = ap (λ c. c.leads) (feeds_follows plan m old new place end held now r feeds).crew ∙ first
+
 -- the pass that a plan is made with
 pub first_pass : (plan : SharedPlan) (pass : PlanPass) (opening : ℕ) → BelongsTo plan pass → mine_of pass ≡ [] → crew_of pass ≡ record { leads = true; opening = opening; made = 0; joined = [] } → IsFirst plan pass
 first_pass plan pass opening own new crew =

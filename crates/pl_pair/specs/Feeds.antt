@@ -40,7 +40,7 @@ said_in inputs = filter_map (λ (m : Option (List ℕ)). m) inputs
 
 -- an item is the feeder's entry with this input
 abbrev pub IsInput : Option (List ℕ) → Noted → Type 0
-IsInput line (Opened m e) = ⊥
+IsInput line (Opened m n e) = ⊥
 IsInput line (Made by e) = (by ≡ Some Feeder) × (e.event ≡ event.Input line)
 IsInput line (Stopped by) = ⊥
 

@@ -1,4 +1,4 @@
--- What a run of a pair comes to.
+-- What a run of a feeder and several workers comes to.
 use Rattle.std.specs.Prelude.{◌≡◌, ◌<◌, ◌+◌, ℕ, List, [], ◌∷◌, ◌++◌, length, map, Bool, true, false, Option, Some, None, Result, Ok, Err, IfSome, ◌⊎◌, ⊤}
 use Rattle.std.specs.List.{All}
 use mathlib.Core.List.{IsPrefix}

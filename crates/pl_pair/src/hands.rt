@@ -101,8 +101,8 @@ impl<'p> Hands<'p> {
         acted
     }
 
-    #[tactic(auto, using(crate::proofs::Handing::joins_none, crate::proofs::Handing::joins_more, crate::proofs::Handing::joins_all, crate::proofs::Closing::still_leads))]
     /// Joins the workers, whose threads have to end, and takes their passes in. Answers what they met. It takes no memory.
+    #[tactic(auto, using(crate::proofs::Handing::joins_none, crate::proofs::Handing::joins_all))]
     pub(crate) fn join_all<R: Threads>(self, rt: &R, plan: &SharedPlan, pass: &mut Pass) -> Met
         requires hands { AreHands plan.now self }
         requires own { BelongsTo plan.now pass.old }

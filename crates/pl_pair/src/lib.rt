@@ -1,4 +1,4 @@
-//! A planner and an executive in threads of their own, and a feeder that reads, writes and waits for each round.
+//! Workers in threads of their own, as a planner and an executive, and a feeder that reads, writes and waits for each round.
 #![tactic(auto)]
 
 mod asking;

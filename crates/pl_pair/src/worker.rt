@@ -1,4 +1,4 @@
-//! A worker of a pair, in a thread of its own or in the feeder's.
+//! A worker, in a thread of its own or in the feeder's.
 ghost use Rattle.std.specs.Prelude.{◌≡◌, None};
 ghost use Rattle.pl_pair.specs.Served.{IsHired, IsServed, IsWorker};
 
