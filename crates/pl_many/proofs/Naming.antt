@@ -17,7 +17,8 @@ use Rattle.pl_marks.specs.Marks.{Signed, marks_of, mark_of}
 use Rattle.pl_marks.proofs.Numbering.{entries_are, authors_are, counts_are, marked}
 use Rattle.pl_acts.specs.declared.noted.Noted.{Noted}
 use Rattle.pl_acts.specs.declared.noted.Noted.TheVariants.{Opened, Made, Stopped}
-use Rattle.pl_acts.specs.Items.{items_of, is_stop, signer_in}
+use Rattle.pl_acts.specs.Items.{items_of, opening_in, is_stop, signer_in}
+use Rattle.pl_acts.proofs.Items.{opening_in_items}
 use Rattle.pl_acts.specs.Seen.{IsPlan}
 use Rattle.pl_acts.proofs.Signers.{items_marked}
 use Rattle.pl_locked.specs.Plans.{PlanPass, Closes}
@@ -117,6 +118,7 @@ module _ (m : Member) (plan : IsPlan (seen_of m.pass)) (stands : StandsIn (seen_
     signs = plan.signs;
     legal = plan.legal;
     seen = plan.is;
+    handed = ap opening_in plan.is ∙ opening_in_items plan.model plan.log plan.signs plan.legal;
     marks = marks_are plan.signs.by plan.log plan.each;
     named = λ k d within. named_own (get_or (mine_of m.pass) k d) (Contains-get_or (mine_of m.pass) k d within) (signed k d within);
   }

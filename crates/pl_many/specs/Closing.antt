@@ -1,5 +1,5 @@
 -- What a crew's marks say: of what a member has seen, and of the whole history at the end.
-use Rattle.std.specs.Prelude.{◌≡◌, ◌+◌, ◌-◌, ℕ, List, length, map, Bool, true, false, ◌⊎◌}
+use Rattle.std.specs.Prelude.{◌≡◌, ◌+◌, ◌-◌, ℕ, List, length, map, Bool, true, false, Option, Some, ◌⊎◌}
 use Rattle.std.specs.List.{All, Contains, range_with_len}
 use Rattle.pl_turn.specs.Passes.{seen_of, mine_of, opening_of, lists_of}
 use Rattle.pl_model.specs.declared.whole.Model.{Model}
@@ -11,7 +11,7 @@ use Rattle.pl_marks.specs.declared.mark.Mark.{Mark}
 use Rattle.pl_marks.specs.Authors.{times}
 use Rattle.pl_marks.specs.Marks.{Signed, marks_of, counts_of}
 use Rattle.pl_acts.specs.declared.noted.Noted.{Noted}
-use Rattle.pl_acts.specs.Items.{Signs, items_of, is_stop}
+use Rattle.pl_acts.specs.Items.{Signs, items_of, opening_in, is_stop}
 use Rattle.pl_locked.specs.Plans.{PlanPass, Closes}
 use Rattle.pl_pair.specs.Served.{AreSigned}
 use Rattle.pl_many.specs.declared.member.Member.{Member}
@@ -27,13 +27,14 @@ pub record AreMarksOf (opening : ℕ) (log : List Entry) (marks : List Mark) : T
 abbrev pub IsNamed : List Mark → Author → ℕ × Noted → Type 0
 IsNamed marks by x = (is_stop x.1 ≡ true) ⊎ ((m : Mark) × Contains marks m × (m.entry ≡ x.0) × (m.author ≡ by))
 
--- What a member has seen is a legal log with its marks, and each own entry of the member, the stop aside, is named by a mark of the member's.
+-- What a member has seen is a legal log with its marks, one for each entry behind those that its first item says were handed in. Each own entry of the member, the stop aside, is named by a mark of the member's.
 pub record IsMarked (m : Member) : Type 0 where
   pub model : Model
   pub log : List Entry
   pub signs : Signs
   pub legal : Legal model log
   pub seen : seen_of m.pass ≡ items_of model log signs
+  pub handed : opening_in (seen_of m.pass) ≡ Some signs.by.opening
   pub marks : AreMarksOf signs.by.opening log (marks_of signs.by)
   pub named : All (IsNamed (marks_of signs.by) m.author) (mine_of m.pass)
 
