@@ -1,4 +1,4 @@
 pub mod Tallying
 pub mod Membering
 pub mod Naming
-pub mod Hiring
+pub mod Beginning

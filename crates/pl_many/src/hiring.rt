@@ -28,7 +28,7 @@ fn first_role(seed: u64, author: Author) -> Option<Role>
 }
 
 /// A member with a pass of its own, which has seen as much as the first.
-#[tactic(auto, using(crate::proofs::Hiring::new_member, crate::proofs::Hiring::fits_first))]
+#[tactic(auto, using(crate::proofs::Beginning::new_member, crate::proofs::Beginning::fits_first))]
 fn hire(alloc: Global, plan: &SharedPlan, first: &mut Pass, seed: u64, author: Author) -> Member
     requires fresh { IsFresh plan.now first.old }
     requires leads { leads first.old ≡ true }
@@ -49,7 +49,7 @@ fn hire(alloc: Global, plan: &SharedPlan, first: &mut Pass, seed: u64, author: A
 }
 
 /// The executive and the planners by number, for whom there is room.
-#[tactic(auto, using(crate::proofs::Hiring::crew_none, crate::proofs::Hiring::crew_more, crate::proofs::Hiring::crew_planner, crate::proofs::Hiring::crew_leads, crate::proofs::Hiring::crew_few))]
+#[tactic(auto, using(crate::proofs::Beginning::crew_none, crate::proofs::Beginning::crew_more, crate::proofs::Beginning::crew_planner, crate::proofs::Beginning::crew_leads, crate::proofs::Beginning::crew_few))]
 fn hire_all(
     alloc: Global,
     plan: &SharedPlan,
@@ -73,7 +73,7 @@ fn hire_all(
 }
 
 impl Crew {
-    #[tactic(auto, using(crate::proofs::Hiring::first_pass, crate::proofs::Hiring::crew_hired))]
+    #[tactic(auto, using(crate::proofs::Beginning::first_pass, crate::proofs::Beginning::crew_hired))]
     /// A crew over a machine. For want of memory the machine comes back.
     pub fn new(alloc: Global, machine: Machine, planners: u8, seed: u64) -> Result<Hired, Machine>
         requires planners { (2 ≤ planners) × (planners ≤ 8) }
