@@ -1,5 +1,5 @@
 -- The end of a run of a crew over an input: that of its team, and the lines of the planners.
-use Rattle.std.proofs.Common.{◌≡◌, ℕ, zero, suc, ◌+◌, ◌<◌, ◌≤◌, List, [], ◌∷◌, ◌++◌, length, Option, Some, None, Result, Ok, Err, refl, sym, ◌∙◌, ap, subst, arith, length-append}
+use Rattle.std.proofs.Common.{◌≡◌, ℕ, zero, suc, ◌+◌, ◌<◌, ◌≤◌, List, [], ◌∷◌, ◌++◌, length, Option, Some, Result, Ok, Err, refl, sym, ◌∙◌, ap, subst, arith, length-append}
 use Rattle.std.proofs.lemmas.List.{append-nil}
 use Rattle.std.specs.declared.vec.Vec.{Vec}
 use Rattle.std.specs.declared.alloc.Global.{Global}
@@ -18,12 +18,11 @@ use Rattle.pl_marks.specs.declared.mark.Mark.{Mark}
 use Rattle.pl_marks.specs.Marks.{Signed, marks_of}
 use Rattle.pl_pair.specs.Runs.{pair_of, TeamRun}
 use Rattle.pl_many.specs.Tallies.{lines_from, lines_of, planner_line, tally_of}
-use Rattle.pl_many.specs.CrewRuns.{crew_of, Tails, CrewRun}
+use Rattle.pl_many.specs.CrewRuns.{crew_of, Tails}
 use Rattle.pl_journal.proofs.AboutWriting.{adds_then}
 use Rattle.pl_many.proofs.Tallying.{line_some}
 use Rattle.pl_main.specs.declared.command.Team.{Team}
 use Rattle.pl_main.specs.declared.command.Team.TheVariants as team
-use Rattle.pl_main.specs.declared.outcome.Outcome.{Outcome}
 use Rattle.pl_main.specs.Top.{line_limit, fresh_reader}
 use Rattle.pl_main.specs.Runs.{fresh_state, IsKeptModel, RunsAs, IsTeam, ModelRunsAs}
 use Rattle.pl_main.specs.Endings.{text_with, EndedAs, IsToldInPart, in_tail, behind_journal}

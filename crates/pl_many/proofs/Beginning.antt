@@ -1,5 +1,5 @@
 -- How a crew begins.
-use Rattle.std.proofs.Common.{◌≡◌, ℕ, zero, suc, ◌+◌, ◌<◌, ◌≤◌, List, [], ◌∷◌, ◌++◌, length, map, take, true, false, Option, Some, None, Result, Ok, refl, sym, ◌∙◌, ap, subst, arith, length-append}
+use Rattle.std.proofs.Common.{◌≡◌, ℕ, zero, suc, ◌+◌, ◌<◌, ◌≤◌, List, [], ◌∷◌, ◌++◌, length, take, true, false, Option, Some, None, refl, sym, ◌∙◌, ap, subst, arith, length-append}
 use Rattle.std.specs.List.{All}
 use Rattle.std.proofs.lemmas.List.{map-append, take_all}
 use Rattle.std.proofs.lemmas.List.Elements.{All-nil, All-push}
@@ -19,10 +19,8 @@ use Rattle.pl_locked.specs.Plans.{PlanPass, BelongsTo}
 use Rattle.pl_pair.specs.Served.{AreSigned, IsSomeones, AreHandedIn}
 use Rattle.pl_pair.specs.Joins.{IsFresh, IsFirst, Splits}
 use Rattle.pl_pair.proofs.Handing.{splits_none, splits_more}
-use Rattle.pl_many.specs.declared.crew.Crew.{Crew}
-use Rattle.pl_many.specs.declared.crew.Hired.{Hired}
 use Rattle.pl_many.specs.declared.member.Member.{Member}
-use Rattle.pl_many.specs.Members.{Fits, Gathers, IsMemberOf, planners_from, workers_of, first_role, IsNew, authors_of, Crewed, handed_items, IsHired}
+use Rattle.pl_many.specs.Members.{Fits, planners_from, workers_of, first_role, IsNew, Crewed, handed_items, IsHired}
 use Rattle.pl_pair.proofs.Owning.{handed_are}
 
 -- ---- one member

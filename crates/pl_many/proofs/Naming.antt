@@ -1,5 +1,5 @@
 -- Which mark names which entry.
-use Rattle.std.proofs.Common.{◌≡◌, ℕ, ◌+◌, ◌-◌, ◌<◌, List, [], ◌∷◌, length, map, get_or, true, false, Option, Some, None, slice_get, refl, sym, ◌∙◌, ap, subst, inl, inr, ◌⊎◌, arith}
+use Rattle.std.proofs.Common.{◌≡◌, ℕ, ◌+◌, ◌-◌, ◌<◌, List, length, get_or, true, Some, None, slice_get, refl, sym, ◌∙◌, ap, subst, inl, inr, ◌⊎◌, arith}
 use Rattle.std.specs.List.{All, Contains, range_with_len}
 use Rattle.std.proofs.lemmas.List.{length-map}
 use Rattle.std.proofs.lemmas.List.FromFn.{length-range_with_len}
@@ -23,7 +23,7 @@ use Rattle.pl_acts.specs.Seen.{IsPlan}
 use Rattle.pl_acts.proofs.Signers.{items_marked}
 use Rattle.pl_locked.specs.Plans.{PlanPass, Closes}
 use Rattle.pl_pair.specs.Served.{AreSigned, IsSomeones}
-use Rattle.pl_pair.proofs.Owning.{contains_at, stands_at, IsEntryOf, entry_at, whose_is, whole_long, Owned, owned, opening_is}
+use Rattle.pl_pair.proofs.Owning.{contains_at, stands_at, IsEntryOf, entry_at, whose_is, whole_long, owned, opening_is}
 use Rattle.pl_many.specs.declared.crew.Crew.{Crew}
 use Rattle.pl_many.specs.declared.member.Member.{Member}
 use Rattle.pl_many.specs.Members.{Gathers, IsMember}

@@ -1,5 +1,5 @@
 -- What a crew's marks say: of what a member has seen, and of the whole history at the end.
-use Rattle.std.specs.Prelude.{◌≡◌, ◌+◌, ◌-◌, ℕ, List, length, map, Bool, true, false, Option, Some, ◌⊎◌}
+use Rattle.std.specs.Prelude.{◌≡◌, ◌-◌, ℕ, List, length, map, true, false, Some, ◌⊎◌}
 use Rattle.std.specs.List.{All, Contains, range_with_len}
 use Rattle.pl_turn.specs.Passes.{seen_of, mine_of, opening_of, lists_of}
 use Rattle.pl_model.specs.declared.whole.Model.{Model}
@@ -8,7 +8,6 @@ use Rattle.pl_machine.specs.Legal.{Legal}
 use Rattle.pl_machine.specs.Sound.{State}
 use Rattle.pl_marks.specs.declared.author.Author.{Author}
 use Rattle.pl_marks.specs.declared.mark.Mark.{Mark}
-use Rattle.pl_marks.specs.Authors.{times}
 use Rattle.pl_marks.specs.Marks.{Signed, marks_of, counts_of}
 use Rattle.pl_acts.specs.declared.noted.Noted.{Noted}
 use Rattle.pl_acts.specs.Items.{Signs, items_of, opening_in, is_stop}

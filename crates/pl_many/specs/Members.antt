@@ -1,5 +1,5 @@
 -- Who belongs to a crew, and what its calls say of a member.
-use Rattle.std.specs.Prelude.{◌≡◌, ◌≤◌, ◌+◌, ℕ, zero, suc, List, [], ◌∷◌, length, map, take, true, Option, Some, None, Result, IfSome, ⊤}
+use Rattle.std.specs.Prelude.{◌≡◌, ◌≤◌, ◌+◌, ℕ, zero, suc, List, [], ◌∷◌, length, map, take, true, Option, Some, None, Result, ⊤}
 use Rattle.std.specs.List.{All}
 use Rattle.pl_turn.specs.Passes.{seen_of, mine_of, opening_of, leads, made_by, joined_by}
 use Rattle.pl_machine.specs.declared.stop.Stop.{Stop}

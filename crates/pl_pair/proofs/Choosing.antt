@@ -19,7 +19,7 @@ use Rattle.pl_acts.specs.declared.noted.Noted.{Noted}
 use Rattle.pl_acts.specs.declared.noted.Noted.TheVariants.{Opened, Made, Stopped}
 use Rattle.pl_acts.specs.declared.role.Role.{Role}
 use Rattle.pl_acts.specs.declared.role.Role.TheVariants.{Planner, Executive}
-use Rattle.pl_acts.specs.Items.{Signs, SignedEntry, made_of, with_authors, log_items, stop_items, items_of, entries_in, model_in, InWorld}
+use Rattle.pl_acts.specs.Items.{Signs, SignedEntry, made_of, with_authors, stop_items, items_of, entries_in, model_in, InWorld}
 use Rattle.pl_acts.specs.Roles.{is_input, is_repair, is_executed, is_entry, IsChosen}
 use Rattle.pl_acts.specs.Sights.{IsDueBy}
 use Rattle.pl_acts.specs.Making.{IsMadeAt, MakesAll}

@@ -1,5 +1,5 @@
 -- What a run comes to.
-use Rattle.std.proofs.Common.{◌≡◌, ℕ, ◌+◌, ◌≤◌, List, [], ◌∷◌, length, map, get_or, true, false, Option, Some, None, Result, Ok, Err, refl, sym, ◌∙◌, ap, subst, arith, ◌⊎◌, inl}
+use Rattle.std.proofs.Common.{◌≡◌, ℕ, ◌+◌, ◌≤◌, List, [], ◌∷◌, length, map, get_or, true, false, Option, Some, None, Result, Ok, Err, refl, sym, ◌∙◌, ap, subst, arith, inl}
 use Rattle.std.specs.List.{All}
 use Rattle.std.proofs.lemmas.List.{append-nil, length-map}
 use Rattle.std.proofs.lemmas.List.Sums.{sum_by-cons}
@@ -35,7 +35,7 @@ use Rattle.pl_pair.specs.declared.endings.Met.{Met}
 use Rattle.pl_pair.specs.declared.pairing.Remains.{Remains}
 use Rattle.pl_pair.specs.declared.worker.Worker.{Worker}
 use Rattle.pl_pair.specs.Duties.{role_of, begun_of, author_of}
-use Rattle.pl_pair.specs.Joins.{IsFresh, IsFirst, HasBegun, Joins}
+use Rattle.pl_pair.specs.Joins.{IsFirst, HasBegun, Joins}
 use Rattle.pl_pair.specs.Rounds.{Follows}
 use Rattle.pl_input.specs.Places.{Place}
 use Rattle.pl_pair.specs.Feeds.{FeedsShort, for_lines, for_message, for_reader, FeedsCut, refused, FeedsAll, FeedsToEnd}

@@ -1,5 +1,5 @@
 -- What a run of a feeder and several workers comes to.
-use Rattle.std.specs.Prelude.{◌≡◌, ◌<◌, ◌+◌, ℕ, List, [], ◌∷◌, ◌++◌, length, map, Bool, true, false, Option, Some, None, Result, Ok, Err, IfSome, ◌⊎◌, ⊤}
+use Rattle.std.specs.Prelude.{◌≡◌, ◌<◌, ◌+◌, ℕ, List, [], ◌∷◌, ◌++◌, length, map, true, false, Option, Some, None, Result, Ok, Err, IfSome, ◌⊎◌, ⊤}
 use Rattle.std.specs.List.{All}
 use mathlib.Core.List.{IsPrefix}
 use Rattle.pl_turn.specs.History.{IsEachOnce, StandsIn, times_in}

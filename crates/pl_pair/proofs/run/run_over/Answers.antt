@@ -1,5 +1,5 @@
 use Rattle.pl_input.specs.Places.{place_of}
-use Rattle.std.proofs.Common.{subst, sym}
+use Rattle.std.proofs.Common.{subst}
 use Rattle.pl_pair.specs.Runs.{EndsWith}
 use Rattle.pl_pair.proofs.Running.{runs_back, back_read, back_write, closes_first}
 use Rattle.pl_pair.proofs.run.run_over.Goals as goal
