@@ -2,3 +2,4 @@ pub mod Tallying
 pub mod Membering
 pub mod Naming
 pub mod Beginning
+pub mod Crewing

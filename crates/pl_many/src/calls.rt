@@ -3,6 +3,7 @@ ghost use Rattle.std.specs.Prelude.{◌≡◌, ◌≢◌, ◌≤◌, length, IfO
 ghost use Rattle.std.specs.Option.{option_copied};
 ghost use Rattle.pl_turn.specs.Passes.{seen_of, mine_of};
 ghost use Rattle.pl_entry.specs.Bounds.{IsMessageLine};
+ghost use Rattle.pl_marks.specs.declared.author.Author.TheVariants.{Feeder, Executive};
 ghost use Rattle.pl_acts.specs.Seen.{Copies};
 ghost use Rattle.pl_locked.specs.Turns.{TakesTurn, Feeds, Stops, CanSettle};
 ghost use Rattle.pl_many.specs.Members.{IsMember, ActsAs, ViewsAs, SettlesBy, SameMember};
@@ -23,7 +24,7 @@ impl Crew {
         line: Option<&[u8]>,
     ) -> Result<u32, Stop>
         requires own { IsMember self.now feeder.old }
-        requires feeder { feeder.old.author ≡ Author.Feeder }
+        requires feeder { feeder.old.author ≡ Feeder }
         requires line { IfSome (option_copied line) IsMessageLine }
         ensures own { IsMember self.now feeder.new }
         ensures same { SameMember feeder.old feeder.new }
@@ -36,7 +37,7 @@ impl Crew {
     /// The first half of an act. An executive's act is over with it.
     pub fn view<R: Wait>(&self, rt: &R, alloc: Global, member: &mut Member) -> Result<View, Stop>
         requires own { IsMember self.now member.old }
-        requires worker { member.old.author ≢ Author.Feeder }
+        requires worker { member.old.author ≢ Feeder }
         ensures own { IsMember self.now member.new }
         ensures takes { TakesTurn member.old.pass member.new.pass }
         ensures views { ViewsAs member.old result member.new }
@@ -57,7 +58,7 @@ impl Crew {
         sight: Sight,
     ) -> Result<Acted, Stop>
         requires own { IsMember self.now member.old }
-        requires planner { (member.old.author ≢ Author.Feeder) × (member.old.author ≢ Author.Executive) }
+        requires planner { (member.old.author ≢ Feeder) × (member.old.author ≢ Executive) }
         requires sight { CanSettle (seen_of member.old.pass) sight }
         ensures own { IsMember self.now member.new }
         ensures takes { TakesTurn member.old.pass member.new.pass }
@@ -75,7 +76,7 @@ impl Crew {
     /// Makes the event that the member has, if it has one.
     pub fn act<R: Wait>(&self, rt: &R, alloc: Global, member: &mut Member) -> Result<Acted, Stop>
         requires own { IsMember self.now member.old }
-        requires worker { member.old.author ≢ Author.Feeder }
+        requires worker { member.old.author ≢ Feeder }
         ensures own { IsMember self.now member.new }
         ensures takes { TakesTurn member.old.pass member.new.pass }
         ensures acts { ActsAs member.old result member.new }

@@ -16,6 +16,7 @@ use std::thread::Threads;
 
 /// An executive, and so many planners by number, hired where there were so many entries. The chooser of each planner is made from the
 /// seed and its number added up.
+#[tactic(auto, using(crate::proofs::Crewing::duties_more))]
 fn duties(
     alloc: Global,
     planners: u8,
@@ -37,6 +38,7 @@ fn duties(
 
 /// Runs an executive and planners in threads of their own, feeds them the messages that a reader has left, and writes the lines of the
 /// whole log, and behind them a line for each planner. It waits for its threads.
+#[tactic(auto, using(crate::proofs::Crewing::begun_crew, crate::proofs::Crewing::crew_long, crate::proofs::Crewing::few_marks, crate::proofs::Crewing::crew_ran, crate::proofs::Crewing::crew_halts))]
 pub fn run_crew<R: Threads + Wait + Sync, I: Source, O: Sink, G: Gate + Sync>(
     rt: &R,
     alloc: Global,
