@@ -73,8 +73,8 @@ fn hire_all(
 }
 
 impl Crew {
-    #[tactic(auto, using(crate::proofs::Beginning::first_pass, crate::proofs::Beginning::crew_hired))]
     /// A crew over a machine. For want of memory the machine comes back.
+    #[tactic(auto, using(crate::proofs::Beginning::first_pass, crate::proofs::Beginning::crew_hired))]
     pub fn new(alloc: Global, machine: Machine, planners: u8, seed: u64) -> Result<Hired, Machine>
         requires planners { (2 ≤ planners) × (planners ≤ 8) }
         requires seed { seed ≤ 999999999999999999 }
