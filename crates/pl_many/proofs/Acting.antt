@@ -1,5 +1,5 @@
 -- What each call leaves is a member again.
-use Rattle.std.proofs.Common.{◌≡◌, ◌≢◌, ℕ, List, [], ◌∷◌, ◌++◌, true, Option, Some, None, Result, sym, ◌∙◌, ap, subst}
+use Rattle.std.proofs.Common.{◌≡◌, ◌≢◌, ℕ, List, [], ◌∷◌, ◌++◌, true, Option, Some, None, Result, sym, ap, subst}
 use Rattle.std.specs.List.{All}
 use Rattle.std.proofs.lemmas.List.Elements.{All-push}
 use mathlib.Core.List.{IsPrefix}
@@ -19,7 +19,7 @@ use Rattle.pl_acts.specs.declared.sight.Sight.{Sight}
 use Rattle.pl_acts.specs.declared.sight.View.{View}
 use Rattle.pl_acts.specs.Roles.{worker_of}
 use Rattle.pl_locked.specs.Plans.{BelongsTo, Closes}
-use Rattle.pl_locked.specs.Turns.{TakesTurn, Feeds, Stops, Acts, Views, SettlesAs}
+use Rattle.pl_locked.specs.Turns.{TakesTurn, Feeds, Stops}
 use Rattle.pl_pair.specs.Served.{AreSigned, IsSomeones}
 use Rattle.pl_many.specs.declared.crew.Crew.{Crew}
 use Rattle.pl_many.specs.declared.member.Member.{Member}

@@ -228,11 +228,11 @@ module _ (m : Model) (before : List Entry) (first : PlanPass) (ws : List Worker)
 
   full_in : (services : List Service) → All (ServedIn items) services → list_any is_full (mets_of services) ≡ true → (r : Role) × IsFullRound r items
   full_in [] each is = absurd (cc)
-  full_in (s ∷ services) each is = by (or_cases (is_full s.met) (list_any is_full (mets_of services)) is)
+  full_in (s ∷ services) each is = by (or_cases (is_full s.met) (list_any is_full (mets_of services)) is) (λ e. full_in services (All-tail (ServedIn items) s services each) e)
     where
-      by : (is_full s.met ≡ true) ⊎ (list_any is_full (mets_of services) ≡ true) → (r : Role) × IsFullRound r items
-      by (inl e) = (s.last, refused_full s.met s.last items e (All-head (ServedIn items) s services each).why)
-      by (inr e) = full_in services (All-tail (ServedIn items) s services each) e
+      by : (is_full s.met ≡ true) ⊎ (list_any is_full (mets_of services) ≡ true) → (list_any is_full (mets_of services) ≡ true → (r : Role) × IsFullRound r items) → (r : Role) × IsFullRound r items
+      by (inl e) rest = (s.last, refused_full s.met s.last items e (All-head (ServedIn items) s services each).why)
+      by (inr e) rest = rest e
 
   -- one of the workers met a full log
   pub met_full : (met_by (refusals ws)).full ≡ true → (r : Role) × IsFullRound r items
