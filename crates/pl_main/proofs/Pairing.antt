@@ -171,20 +171,20 @@ ends_done turns duties tail input words place last m source_left held now behind
     let o = opened turns duties m place held (Ok tt) last now run in
     record {
       done = record {
-      model = m;
-      log = run.log;
-      words = words;
-      text = behind.text;
-      accepted = accepted;
-      finished = record {
-        legal = run.history.legal;
-        done = run.ends.done;
-        inputs = o.inputs ∙ in_messages place behind.rest (λ messages. inputs_of run.entries ≡ messages) behind.is run.ends.messages ∙ sym behind.messages;
-      };
-      closed = run.ends.closed;
-      says = record { team = o.team; feeder = run.feeder_goes refl; seen = run.feeder_saw_all refl };
-      read = subst (λ (is : List (Option (List ℕ))). HasRead words is input source_left) (sym o.inputs) (read_of input words place last (inputs_of run.entries) source_left behind same run.ends.read);
-      written = tt;
+        model = m;
+        log = run.log;
+        words = words;
+        text = behind.text;
+        accepted = accepted;
+        finished = record {
+          legal = run.history.legal;
+          done = run.ends.done;
+          inputs = o.inputs ∙ in_messages place behind.rest (λ messages. inputs_of run.entries ≡ messages) behind.is run.ends.messages ∙ sym behind.messages;
+        };
+        closed = run.ends.closed;
+        says = record { team = o.team; feeder = run.feeder_goes refl; seen = run.feeder_saw_all refl };
+        read = subst (λ (is : List (Option (List ℕ))). HasRead words is input source_left) (sym o.inputs) (read_of input words place last (inputs_of run.entries) source_left behind same run.ends.read);
+        written = tt;
       };
       written = run.ends.written;
       log_is = refl;

@@ -179,11 +179,13 @@ pub fn run<R: Threads + Wait + Sync, I: Source, O: Sink, G: Gate + Sync>(
         Some(Command::Pair { turns, seed }) => {
             team_status(rt, alloc, turns, Team::Pair { seed }, input, out, gate)
         }
-        Some(Command::Crew {
-            turns,
-            planners,
-            seed,
-        }) => team_status(
+        Some(
+            Command::Crew {
+                turns,
+                planners,
+                seed,
+            },
+        ) => team_status(
             rt,
             alloc,
             turns,

@@ -32,8 +32,7 @@ fn crew(turns: Option<u64>, planners: Option<u64>, seed: Option<u64>) -> Option<
 {
     match (turns, planners, seed) {
         (Some(turns), Some(planners), Some(seed))
-            if 1 <= turns && turns <= 1000 && (2 <= planners && planners <= 8) =>
-        {
+            if 1 <= turns && turns <= 1000 && (2 <= planners && planners <= 8) => {
             Some(Command::Crew {
                 turns: turns as u32,
                 planners: planners as u8,

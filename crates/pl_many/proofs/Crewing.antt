@@ -34,8 +34,8 @@ planners_more k (suc n) seed begun =
 pub duties_more : (before seed begun : ℕ) → crew_of before seed begun ++ Repair (before + 1) (seed + (before + 1)) begun ∷ [] ≡ crew_of (before + 1) seed begun
 duties_more before seed begun =
     ap (λ (ds : List Duty). Execute ∷ ds)
-        (ap (λ (x : ℕ). planners_from 1 before seed begun ++ Repair x (seed + x) begun ∷ []) (let e : before + 1 ≡ 1 + before = omega arith in e)
-          ∙ (sym (planners_more 1 before seed begun) ∙ ap (λ (n : ℕ). planners_from 1 n seed begun) (let e : suc before ≡ before + 1 = omega arith in e)))
+    (ap (λ (x : ℕ). planners_from 1 before seed begun ++ Repair x (seed + x) begun ∷ []) (let e : before + 1 ≡ 1 + before = omega arith in e)
+    ∙ (sym (planners_more 1 before seed begun) ∙ ap (λ (n : ℕ). planners_from 1 n seed begun) (let e : suc before ≡ before + 1 = omega arith in e)))
 
 module _ (start : State) where
   abbrev IsBegun : Duty → Type 0

@@ -9,9 +9,9 @@ use crate::crew::{Crew, Hired};
 use crate::member::Member;
 use pl_acts::Role;
 use pl_choose::Seeded;
+use pl_locked::{Pass, SharedPlan};
 use pl_machine::Machine;
 use pl_marks::Author;
-use pl_locked::{Pass, SharedPlan};
 use std::alloc::Global;
 
 /// How an author begins to act. The chooser of a planner is made from the seed and the planner's number added up.

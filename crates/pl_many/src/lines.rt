@@ -16,7 +16,10 @@ use std::alloc::{AllocError, Global};
 fn line(alloc: Global, number: u8, tally: Tally) -> Result<String, AllocError>
     ensures { IfOk result (λ text. string_bytes text ≡ planner_line number tally) }
 {
-    let text = format!(in alloc; "# planner {} entries {} ok {}\n", number, tally.entries, tally.repairs)?;
+    let text = format!(in alloc;
+        "# planner {} entries {} ok {}\n",
+        number, tally.entries, tally.repairs
+    )?;
     Ok(text)
 }
 

@@ -1,8 +1,8 @@
 ghost use Rattle.std.specs.Prelude.{◌≡◌};
 
 use pl_acts::Role;
-use pl_marks::Author;
 use pl_locked::Pass;
+use pl_marks::Author;
 
 /// One of a crew: who it is, what it knows of the history, and how it acts, unless it is the feeder.
 #[derive(Drop)]

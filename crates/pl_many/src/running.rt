@@ -17,12 +17,7 @@ use std::thread::Threads;
 /// An executive, and so many planners by number, hired where there were so many entries. The chooser of each planner is made from the
 /// seed and its number added up.
 #[tactic(auto, using(crate::proofs::Crewing::duties_more))]
-fn duties(
-    alloc: Global,
-    planners: u8,
-    seed: u64,
-    begun: u32,
-) -> Result<Vec<Duty>, AllocError>
+fn duties(alloc: Global, planners: u8, seed: u64, begun: u32) -> Result<Vec<Duty>, AllocError>
     requires planners { planners ≤ 8 }
     requires seed { seed ≤ 999999999999999999 }
     ensures { IfOk result (λ duties. duties.items ≡ crew_of planners seed begun) }

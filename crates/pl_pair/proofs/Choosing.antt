@@ -183,9 +183,12 @@ unfolding items_of
 items_split m [] es e s some = absurd (omega arith)
 items_split m (first ∷ log) es e s some =
     let k = s.by.opening - 1 in
-    let r = with_split k s.by.authors log es e in
-    (r.0, r.1, ap (λ (zs : List SignedEntry). Opened m s.by.opening first ∷ (map made_of zs ++ stop_items s.stopper)) r.2
-      ∙ ap (λ (zs : List Noted). Opened m s.by.opening first ∷ zs) (made_split (with_authors k s.by.authors log) r.1 (r.0, e) s.stopper))
+    let r = with_split k s.by.authors log es e in (
+      r.0,
+      r.1,
+      ap (λ (zs : List SignedEntry). Opened m s.by.opening first ∷ (map made_of zs ++ stop_items s.stopper)) r.2
+          ∙ ap (λ (zs : List Noted). Opened m s.by.opening first ∷ zs) (made_split (with_authors k s.by.authors log) r.1 (r.0, e) s.stopper),
+    )
 
 model_some : (m : Model) (log : List Entry) (s : Signs) → 0 < length log → model_in (items_of m log s) ≡ Some m
 unfolding items_of

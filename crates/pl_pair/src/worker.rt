@@ -4,8 +4,8 @@ ghost use Rattle.pl_pair.specs.Served.{IsHired, IsServed, IsWorker};
 
 use crate::duty::Duty;
 use pl_acts::{Acted, Role};
-use pl_machine::Stop;
 use pl_locked::{Pass, SharedPlan, work_as};
+use pl_machine::Stop;
 use pl_turn::Gate;
 use std::alloc::Global;
 use std::sync::Wait;

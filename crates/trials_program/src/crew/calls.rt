@@ -39,14 +39,33 @@ fn sight_of<R: Abort + Wait>(rt: &R, alloc: Global, crew: &Crew, planner: &mut M
 #[test]
 fn the_second_repair_is_stale(rt: HostRuntime) {
     let alloc = rt.alloc();
-    let Hired { crew, mut feeder, members } = hired(&rt, alloc).expect(&rt, "memory");
+    let Hired {
+        crew,
+        mut feeder,
+        members,
+    } = hired(&rt, alloc).expect(&rt, "memory");
     let fed = crew.feed(&rt, &mut feeder, Some(b"goal 1 obs 10 20 must"));
     holds(&rt, "the goal", fed == Ok(1));
     let [executive, mut first, mut second] = three(&rt, members);
-    let (one, two) = (sight_of(&rt, alloc, &crew, &mut first), sight_of(&rt, alloc, &crew, &mut second));
-    holds(&rt, "the first repair", crew.settle(&rt, alloc, &mut first, one) == Ok(Acted::Did(2)));
-    holds(&rt, "the second", crew.settle(&rt, alloc, &mut second, two) == Ok(Acted::Did(3)));
-    holds(&rt, "a rest", crew.act(&rt, alloc, &mut second) == Ok(Acted::Did(4)));
+    let (one, two) = (
+        sight_of(&rt, alloc, &crew, &mut first),
+        sight_of(&rt, alloc, &crew, &mut second),
+    );
+    holds(
+        &rt,
+        "the first repair",
+        crew.settle(&rt, alloc, &mut first, one) == Ok(Acted::Did(2)),
+    );
+    holds(
+        &rt,
+        "the second",
+        crew.settle(&rt, alloc, &mut second, two) == Ok(Acted::Did(3)),
+    );
+    holds(
+        &rt,
+        "a rest",
+        crew.act(&rt, alloc, &mut second) == Ok(Acted::Did(4)),
+    );
     for member in [executive, first, second] {
         crew.join(&mut feeder, member);
     }
@@ -65,7 +84,11 @@ const MARKS: [(u32, Author, u32); 4] = [
 fn assert_marks(rt: &impl Abort, marks: &[Mark]) {
     holds(rt, "four marks", marks.len() == 4);
     for (mark, (entry, author, count)) in marks.iter().zip(&MARKS) {
-        let wanted = Mark { entry: *entry, author: *author, count: *count };
+        let wanted = Mark {
+            entry: *entry,
+            author: *author,
+            count: *count,
+        };
         holds(rt, "a mark", *mark == wanted);
     }
 }
@@ -95,7 +118,15 @@ fn three(rt: &impl Abort, mut members: Vec<Member>) -> [Member; 3] {
     let second = members.pop().expect(rt, "planner 2");
     let first = members.pop().expect(rt, "planner 1");
     let executive = members.pop().expect(rt, "the executive");
-    holds(rt, "by number", second.author() == Author::Planner(2) && first.author() == Author::Planner(1));
-    holds(rt, "the executive", executive.author() == Author::Executive && members.is_empty());
+    holds(
+        rt,
+        "by number",
+        second.author() == Author::Planner(2) && first.author() == Author::Planner(1),
+    );
+    holds(
+        rt,
+        "the executive",
+        executive.author() == Author::Executive && members.is_empty(),
+    );
     [executive, first, second]
 }

@@ -42,12 +42,24 @@ fn assert_finished<R: Abort + Threads + Wait + Sync>(
 #[test]
 fn planners_without_messages(rt: HostRuntime) {
     let alloc = rt.alloc();
-    let text = format!(in alloc; "{OPEN}1 in eof\n# planner 1 entries 0 ok 0\n# planner 2 entries 0 ok 0\n")
-        .expect(&rt, "memory");
-    assert_does(&rt, alloc, "run crew 8 2 7", NONE, HEAD.as_bytes(), 0, text.as_bytes());
+    let text = format!(in alloc;
+        "{OPEN}1 in eof\n# planner 1 entries 0 ok 0\n# planner 2 entries 0 ok 0\n"
+    ).expect(&rt, "memory");
+    assert_does(
+        &rt,
+        alloc,
+        "run crew 8 2 7",
+        NONE,
+        HEAD.as_bytes(),
+        0,
+        text.as_bytes(),
+    );
 }
 
-const BOTH: [&str; 2] = ["# planner 1 entries 0 ok 0\n", "# planner 2 entries 0 ok 0\n"];
+const BOTH: [&str; 2] = [
+    "# planner 1 entries 0 ok 0\n",
+    "# planner 2 entries 0 ok 0\n",
+];
 
 /// The journal of an input without messages is written, and then the line of a planner is not: what stands before it is there.
 #[test]
@@ -56,10 +68,25 @@ fn a_planner_is_not_told_of(rt: HostRuntime) {
     for told in 0..BOTH.len() {
         let write = told.wrapping_add(3) as u64;
         let failing: Failing = (&[], &[write]);
-        let (status, out) = does(&rt, alloc, "run crew 8 2 7", HEAD.as_bytes(), failing, &NoGate);
-        let before = BOTH.get(..told).unwrap_or(&[]).concat(alloc).expect(&rt, "memory");
+        let (status, out) = does(
+            &rt,
+            alloc,
+            "run crew 8 2 7",
+            HEAD.as_bytes(),
+            failing,
+            &NoGate,
+        );
+        let before = BOTH
+            .get(..told)
+            .unwrap_or(&[])
+            .concat(alloc)
+            .expect(&rt, "memory");
         let text = format!(in alloc; "{OPEN}1 in eof\n{before}").expect(&rt, "memory");
-        holds(&rt, "the lines before it", status == 5 && out.bytes() == text.as_bytes());
+        holds(
+            &rt,
+            "the lines before it",
+            status == 5 && out.bytes() == text.as_bytes(),
+        );
     }
 }
 
@@ -80,7 +107,11 @@ fn two_planners_meet(rt: HostRuntime) {
 fn journals_of_crews_are_legal(rt: HostRuntime) {
     let alloc = rt.alloc();
     let input = joined(&rt, alloc, LARGE, IMAGE.as_bytes());
-    for (words, planners) in [("run crew 16 2 1", 2), ("run crew 16 4 1", 4), ("run crew 16 8 1", 8)] {
+    for (words, planners) in [
+        ("run crew 16 2 1", 2),
+        ("run crew 16 4 1", 4),
+        ("run crew 16 8 1", 8),
+    ] {
         let (status, out) = does(&rt, alloc, words, &input, NONE, &NoGate);
         holds(&rt, words, status == 0);
         assert_finished(&rt, alloc, LARGE, out.bytes(), planners);
