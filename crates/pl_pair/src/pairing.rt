@@ -172,8 +172,9 @@ pub(crate) fn run_workers<R: Threads + Wait + Sync, S: Source, O: Sink, G: Gate 
             let mut first = pass;
             match hire_all(scope, rt, alloc, plan, gate, &mut first, duties, refused) {
                 Some(hands) => {
-                    let remains =
-                        feed_and_join(rt, alloc, plan, model, first, hands, lines, src, out);
+                    let remains = feed_and_join(
+                        rt, alloc, plan, model, first, hands, lines, src, out,
+                    );
                     (lines, src, out, Some(remains))
                 }
                 None => (lines, src, out, None),
