@@ -107,7 +107,12 @@ impl Held {
     }
 
     /// Fixes with what a sight proposes, rests, or asks the chooser again where it proposes nothing. The sight's replica is kept.
-    pub fn settle(&mut self, by: Author, chooser: &mut Seeded, sight: Sight) -> Result<Acted, Stop>
+    pub fn settle(
+        &mut self,
+        by: Author,
+        chooser: &mut Seeded,
+        sight: Sight,
+    ) -> Result<Acted, Stop>
         requires author { IsAuthor by }
         requires repair { IfSome sight.proposal (λ p. IsMoveOf self.old.plan.machine.model p.mv) }
         requires replica { IfSome sight.replica (IsReplica self.old.plan.machine) }
