@@ -19,7 +19,7 @@ use Rattle.pl_acts.specs.declared.noted.Noted.{Noted}
 use Rattle.pl_acts.specs.declared.noted.Noted.TheVariants.{Opened, Made, Stopped}
 use Rattle.pl_acts.specs.declared.role.Role.{Role}
 use Rattle.pl_acts.specs.declared.role.Role.TheVariants.{Planner, Executive}
-use Rattle.pl_acts.specs.Items.{Signs, SignedEntry, made_of, with_authors, log_items, stop_items, items_of, entries_in, model_in, InWorld}
+use Rattle.pl_acts.specs.Items.{Signs, SignedEntry, made_of, with_authors, stop_items, items_of, entries_in, model_in, InWorld}
 use Rattle.pl_acts.specs.Roles.{is_input, is_repair, is_executed, is_entry, IsChosen}
 use Rattle.pl_acts.specs.Sights.{IsDueBy}
 use Rattle.pl_acts.specs.Making.{IsMadeAt, MakesAll}
@@ -55,9 +55,9 @@ input_apart event.Dispatch e = absurd (cc)
 input_apart event.Close e = absurd (cc)
 
 item_apart : (test : Event → Bool) → ((v : Event) → test v ≡ true → is_executed v ≡ false) → (x : Noted) → is_entry test x ≡ true → is_entry is_executed x ≡ false
-item_apart test apart (Opened m e) is = refl
+item_apart test apart (Opened m n e) is = refl
 item_apart test apart (Made by e) is = apart e.event is
-item_apart test apart Stopped is = refl
+item_apart test apart (Stopped by) is = refl
 
 own_apart : (test : Event → Bool) → ((v : Event) → test v ≡ true → is_executed v ≡ false) → (own : List (ℕ × Noted)) → AreOf test own → NoneExecuted own
 own_apart test apart [] are = All-nil (λ x. is_entry is_executed x.1 ≡ false)
@@ -66,7 +66,7 @@ own_apart test apart (x ∷ xs) are =
 
 stop_apart : (rest : List (ℕ × Noted)) → IsStopAtMost rest → NoneExecuted rest
 stop_apart rest (inl none) = subst NoneExecuted (sym none) (All-nil (λ x. is_entry is_executed x.1 ≡ false))
-stop_apart rest (inr one) = subst NoneExecuted (sym one.1) (All-cons (λ x. is_entry is_executed x.1 ≡ false) (one.0, Stopped) [] refl (All-nil (λ x. is_entry is_executed x.1 ≡ false)))
+stop_apart rest (inr one) = subst NoneExecuted (sym one.2) (All-cons (λ x. is_entry is_executed x.1 ≡ false) (one.0, Stopped one.1) [] refl (All-nil (λ x. is_entry is_executed x.1 ≡ false)))
 
 until_apart : (test : Event → Bool) → ((v : Event) → test v ≡ true → is_executed v ≡ false) → (mine : List (ℕ × Noted)) → AreOfUntil test mine → NoneExecuted mine
 until_apart test apart mine made =
@@ -171,21 +171,24 @@ with_split zero (a ∷ authors) (x ∷ log) es e = (let r = with_split zero auth
 
 -- the same history, before a stop
 abbrev going : Signs → Signs
-going s = record s { stopped = false }
+going s = record s { stopper = None }
 
-made_split : (xs ys : List SignedEntry) (x : SignedEntry) (s : Bool) → map made_of (xs ++ x ∷ ys) ++ stop_items s ≡ (map made_of xs ++ []) ++ made_of x ∷ (map made_of ys ++ stop_items s)
+made_split : (xs ys : List SignedEntry) (x : SignedEntry) (s : Option Author) → map made_of (xs ++ x ∷ ys) ++ stop_items s ≡ (map made_of xs ++ []) ++ made_of x ∷ (map made_of ys ++ stop_items s)
 made_split [] ys x s = refl
 made_split (z ∷ xs) ys x s = ap (λ (zs : List Noted). made_of z ∷ zs) (made_split xs ys x s)
 
 items_split : (m : Model) (log es : List Entry) (e : Entry) (s : Signs) → 0 < length log
-    → (by : Option Author) × (rest : List SignedEntry) × (items_of m (log ++ e ∷ es) s ≡ items_of m log (going s) ++ Made by e ∷ (map made_of rest ++ stop_items s.stopped))
+    → (by : Option Author) × (rest : List SignedEntry) × (items_of m (log ++ e ∷ es) s ≡ items_of m log (going s) ++ Made by e ∷ (map made_of rest ++ stop_items s.stopper))
 unfolding items_of
 items_split m [] es e s some = absurd (omega arith)
 items_split m (first ∷ log) es e s some =
     let k = s.by.opening - 1 in
-    let r = with_split k s.by.authors log es e in
-    (r.0, r.1, ap (λ (zs : List SignedEntry). Opened m first ∷ (map made_of zs ++ stop_items s.stopped)) r.2
-      ∙ ap (λ (zs : List Noted). Opened m first ∷ zs) (made_split (with_authors k s.by.authors log) r.1 (r.0, e) s.stopped))
+    let r = with_split k s.by.authors log es e in (
+      r.0,
+      r.1,
+      ap (λ (zs : List SignedEntry). Opened m s.by.opening first ∷ (map made_of zs ++ stop_items s.stopper)) r.2
+          ∙ ap (λ (zs : List Noted). Opened m s.by.opening first ∷ zs) (made_split (with_authors k s.by.authors log) r.1 (r.0, e) s.stopper),
+    )
 
 model_some : (m : Model) (log : List Entry) (s : Signs) → 0 < length log → model_in (items_of m log s) ≡ Some m
 unfolding items_of
@@ -210,14 +213,14 @@ module _ (m : Model) (whole : List Entry) (stop : Signs) (feeder : List (ℕ × 
     abbrev front : List Noted
     front = items_of m log (going stop)
 
-    split_at : (by : Option Author) × (rest : List SignedEntry) × (items_of m (log ++ e ∷ es) stop ≡ front ++ Made by e ∷ (map made_of rest ++ stop_items stop.stopped))
+    split_at : (by : Option Author) × (rest : List SignedEntry) × (items_of m (log ++ e ∷ es) stop ≡ front ++ Made by e ∷ (map made_of rest ++ stop_items stop.stopper))
     split_at = items_split m log es e stop some
 
     abbrev by : Option Author
     by = split_at.0
 
     abbrev behind : List Noted
-    behind = map made_of split_at.1 ++ stop_items stop.stopped
+    behind = map made_of split_at.1 ++ stop_items stop.stopper
 
     parts : items_of m whole stop ≡ front ++ Made by e ∷ behind
     parts = ap (λ (l : List Entry). items_of m l stop) is ∙ split_at.2

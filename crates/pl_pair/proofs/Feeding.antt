@@ -179,7 +179,7 @@ tells_more plan old mid new start middle place tells follows step =
       follows = follows_on old mid new tells.follows follows;
       inputs = tells.inputs ++ line ∷ [];
       heard = heard_more start middle place tells.inputs step.message tells.heard step.asks;
-      mine = (let P : List (ℕ × Noted) → Type 0 = λ xs. AreInputs (tells.inputs ++ line ∷ []) xs in subst P (sym makes.mine) (inputs_push tells.inputs (mine_of mid) line (step.hands.0, Made (Some Feeder) makes.entry) tells.mine is));
+      mine = (let P : List (ℕ × Noted) → Type 0 = λ xs. AreInputs (tells.inputs ++ line ∷ []) xs in subst P (sym makes.mine) (inputs_push tells.inputs (mine_of mid) line (step.hands.0, Made (Some Feeder) makes.entry) tells.mine (refl, is)));
     }
 
 -- a pass's own items stand in what it has seen
@@ -415,6 +415,6 @@ passes_no_write next start place old new (Err c) a b passes is = absurd (let P :
 
 -- ---- the stop behind it
 
-pub ends_stopped : (plan : SharedPlan) (m : Model) (c : Cut) (old mid new : PlanPass) (start place : Place) (held now : Option (List ℕ)) → FeedsAll plan m old start held (Err c) mid place now → TakesTurn mid new → Stops mid new
+pub ends_stopped : (plan : SharedPlan) (m : Model) (c : Cut) (old mid new : PlanPass) (start place : Place) (held now : Option (List ℕ)) → FeedsAll plan m old start held (Err c) mid place now → TakesTurn mid new → Stops Feeder mid new
     → FeedsToEnd plan m old start held (Err c) new place now
 ends_stopped plan m c old mid new start place held now feeds takes stops = record { mid = mid; feeds = feeds; takes = takes; stops = stops }

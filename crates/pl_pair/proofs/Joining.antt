@@ -1,16 +1,17 @@
 -- One whole history, joined from those of the feeder and of the workers.
 use Rattle.std.proofs.lemmas.Option.{same_Some}
 use Rattle.std.proofs.lemmas.Bool.{or_cases}
-use Rattle.std.proofs.Common.{◌≡◌, ℕ, ◌+◌, ◌≤◌, ◌<◌, List, [], ◌∷◌, ◌++◌, length, map, Bool, true, false, Option, Some, None, slice_get, refl, sym, ◌∙◌, ap, subst, arith, inl, inr, ◌⊎◌, length-append}
+use Rattle.std.proofs.Common.{◌≡◌, ℕ, ◌+◌, ◌≤◌, ◌<◌, List, [], ◌∷◌, ◌++◌, length, map, true, false, Option, Some, None, slice_get, refl, sym, ◌∙◌, ap, subst, arith, inl, inr, ◌⊎◌, length-append}
 use Rattle.std.specs.List.{All, list_any}
 use Rattle.std.proofs.lemmas.List.Elements.{All-nil, All-cons, All-head, All-tail}
 use Rattle.pl_entry.specs.declared.event.Event.{Event}
-use Rattle.std.proofs.lemmas.List.{append-nil}
+use Rattle.std.proofs.lemmas.List.{append-nil, take_all}
 use mathlib.Core.List.{IsPrefix}
 use Rattle.pl_turn.specs.History.{IsEachOnce, StandsIn, times_in}
 use Rattle.pl_turn.specs.Passes.{seen_of, mine_of, opening_of}
 use Rattle.pl_turn.proofs.Histories.{prefix_trans}
 use Rattle.pl_marks.specs.declared.author.Author.{Author}
+use Rattle.pl_marks.specs.declared.author.Author.TheVariants.{Feeder}
 use Rattle.pl_model.specs.declared.whole.Model.{Model}
 use Rattle.pl_entry.specs.declared.entry.Entry.{Entry}
 use Rattle.pl_machine.specs.declared.stop.Stop.{Stop}
@@ -24,7 +25,7 @@ use Rattle.pl_journal.specs.Written.{Adds}
 use Rattle.pl_acts.specs.declared.noted.Noted.{Noted}
 use Rattle.pl_acts.specs.declared.noted.Noted.TheVariants.{Made, Stopped}
 use Rattle.pl_locked.specs.declared.plan.SharedPlan.{SharedPlan}
-use Rattle.pl_acts.specs.Items.{Signs, SignedEntry, made_of, entries_of, handed_in, stop_items, items_of, entries_in, model_in, InWorld}
+use Rattle.pl_acts.specs.Items.{Signs, SignedEntry, made_of, entries_of, handed_in, stop_items, items_of, entries_in, model_in, signer_in, InWorld}
 use Rattle.pl_acts.specs.declared.role.Role.{Role}
 use Rattle.pl_acts.specs.declared.role.Role.TheVariants.{Planner, Executive}
 use Rattle.pl_acts.specs.Roles.{has_event, is_input, kind_of}
@@ -35,8 +36,8 @@ use Rattle.pl_acts.proofs.Items.{entries_in_items, model_in_items, length_going,
 use Rattle.pl_acts.proofs.FullLogs.{log_is_bounded, world_options, full_ends, same_world, full_on}
 use Rattle.pl_pair.specs.declared.duty.Duty.{Duty}
 use Rattle.pl_pair.specs.declared.worker.Worker.{Worker}
-use Rattle.pl_pair.specs.Duties.{role_of, begun_of}
-use Rattle.pl_pair.specs.Served.{IsFullRound, Refused, IsServed}
+use Rattle.pl_pair.specs.Duties.{role_of, begun_of, author_of}
+use Rattle.pl_pair.specs.Served.{IsSomeones, AreHandedIn, IsFullRound, Refused, IsServed}
 use Rattle.pl_pair.specs.Feeds.{AreInputs, HandsOne, WritesAll}
 use Rattle.pl_pair.specs.Endings.{is_full, met_by}
 use Rattle.pl_pair.specs.Joins.{refusals, duties_in, own_lists_of, HasSeenIn}
@@ -45,9 +46,10 @@ use Rattle.pl_machine.proofs.Going.{world_goes}
 use Rattle.pl_pair.proofs.Ending.{EndsIf, steps_behind, world_behind, run_ends}
 use Rattle.pl_pair.proofs.Working.{own_on, own_kinds}
 use Rattle.pl_pair.proofs.Feeding.{own_stands}
+use Rattle.pl_pair.proofs.Owning.{handed_are, opening_is}
 use Rattle.pl_pair.specs.Chosen.{AreChosen}
 use Rattle.pl_pair.proofs.Choosing.{are_chosen}
-use Rattle.pl_pair.proofs.Closing.{FeederList, feeder_until, MoreOf, more_of, NoInputs, made_no_inputs, repair_no_input, executed_no_input, inputs_are, no_further, one_input, same_model, Rests, between, over, stopped, world_in, at_front, entries_whole, over_none, between_input, stop_none}
+use Rattle.pl_pair.proofs.Closing.{FeederList, feeder_until, feeder_signed, MoreOf, more_of, NoInputs, made_no_inputs, repair_no_input, executed_no_input, inputs_are, no_further, one_input, same_model, Rests, between, over, stopped, world_in, at_front, entries_whole, over_none, between_input, stop_none}
 use Rattle.pl_machine.proofs.ShortLogs.{log_is_some}
 
 -- ---- the whole history, of the model that was handed in
@@ -55,13 +57,15 @@ use Rattle.pl_machine.proofs.ShortLogs.{log_is_some}
 pub record Whole (m : Model) (before : List Entry) (first : PlanPass) (workers : List Worker) : Type 0 where
   pub log : List Entry
   pub stop : Signs
+  pub some : 0 < stop.by.opening
+  pub each : stop.by.opening + length stop.by.authors ≡ length log
   pub legal : Legal m log
   pub first_seen : IsPrefix (seen_of first) (items_of m log stop)
   pub workers_seen : All (HasSeenIn (items_of m log stop)) workers
   pub stands : All (StandsIn (items_of m log stop)) (mine_of first ∷ own_lists_of workers)
   pub owners : IsEachOnce (length before) (length (items_of m log stop)) (λ place. times_in place (mine_of first ∷ own_lists_of workers))
 
-pub whole_of : (m : Model) (before : List Entry) (first : PlanPass) (workers : List Worker) (machine : State) → model_in (seen_of first) ≡ Some m → opening_of first ≡ length before → ClosesAll first workers machine
+unfoldable pub whole_of : (m : Model) (before : List Entry) (first : PlanPass) (workers : List Worker) (machine : State) → model_in (seen_of first) ≡ Some m → opening_of first ≡ length before → ClosesAll first workers machine
     → Whole m before first workers
 whole_of m before first workers machine model opening closes =
     let same : machine.model ≡ m = same_Some machine.model m (sym closes.model ∙ model) in
@@ -72,6 +76,8 @@ whole_of m before first workers machine model opening closes =
     record {
       log = machine.log;
       stop = closes.signs;
+      some = closes.some;
+      each = closes.each;
       legal = w.0;
       first_seen = w.1;
       workers_seen = w.2;
@@ -102,11 +108,17 @@ refused_full (Some stop.Memory) r seen is why = absurd (cc)
 -- ---- the feeder's list
 
 pub list_same : (inputs : List (Option (List ℕ))) (mid first : PlanPass) → AreInputs inputs (mine_of mid) → mine_of first ≡ mine_of mid → FeederList inputs (mine_of mid) (mine_of first)
-list_same inputs mid first are same = record { rest = []; whole = same ∙ sym (append-nil (mine_of mid)); are = are; behind = inl refl }
+list_same inputs mid first are same = record { rest = []; whole = same ∙ sym (append-nil (mine_of mid)); are = are; behind = inl refl; signed = All-nil (λ x. signer_in x.1 ≡ Some Feeder) }
 
-pub list_stop : (inputs : List (Option (List ℕ))) (mid first : PlanPass) → AreInputs inputs (mine_of mid) → Stops mid first → FeederList inputs (mine_of mid) (mine_of first)
+pub list_stop : (inputs : List (Option (List ℕ))) (mid first : PlanPass) → AreInputs inputs (mine_of mid) → Stops Feeder mid first → FeederList inputs (mine_of mid) (mine_of first)
 list_stop inputs mid first are (was_stopped same stops) = list_same inputs mid first are same
-list_stop inputs mid first are (is_stopped seen on going is mine) = record { rest = (length seen, Stopped) ∷ []; whole = mine; are = are; behind = inr (length seen, refl) }
+list_stop inputs mid first are (is_stopped seen on going is mine) = record {
+  rest = (length seen, Stopped Feeder) ∷ [];
+  whole = mine;
+  are = are;
+  behind = inr (length seen, Feeder, refl);
+  signed = All-cons (λ x. signer_in x.1 ≡ Some Feeder) (length seen, Stopped Feeder) [] refl (All-nil (λ x. signer_in x.1 ≡ Some Feeder));
+}
 
 -- ---- one whole history
 
@@ -166,7 +178,7 @@ module _ (m : Model) (before : List Entry) (first : PlanPass) (ws : List Worker)
   model_items = model_in_items m joined.whole.log joined.whole.stop joined.whole.legal
 
   pub plan_items : IsPlan (items_of m joined.whole.log joined.whole.stop)
-  plan_items = record { model = m; log = joined.whole.log; signs = joined.whole.stop; legal = joined.whole.legal; is = refl }
+  plan_items = record { model = m; log = joined.whole.log; signs = joined.whole.stop; legal = joined.whole.legal; some = joined.whole.some; each = joined.whole.each; is = refl }
 
   pub model_seen : (seen : List Noted) → IsPlan seen → IsPrefix seen (items_of m joined.whole.log joined.whole.stop) → model_in seen ≡ Some m
   model_seen seen plan onto = same_model seen (items_of m joined.whole.log joined.whole.stop) m plan onto model_items
@@ -190,6 +202,11 @@ module _ (m : Model) (before : List Entry) (first : PlanPass) (ws : List Worker)
       All-cons (ServedIn items) (service_of w) (services_of workers) (served_in w (All-head (IsServed joined.plan) w workers served) (All-head (HasSeenIn items) w workers seen))
       (all_served workers (All-tail (IsServed joined.plan) w workers served) (All-tail (HasSeenIn items) w workers seen))
 
+  workers_theirs : (workers : List Worker) → All (IsServed joined.plan) workers → All IsSomeones (own_lists_of workers)
+  workers_theirs [] served = All-nil IsSomeones
+  workers_theirs (w ∷ workers) served =
+      All-cons IsSomeones (mine_of w.pass) (own_lists_of workers) (author_of w.duty, (All-head (IsServed joined.plan) w workers served).signed.1) (workers_theirs workers (All-tail (IsServed joined.plan) w workers served))
+
   pub each_served : All (ServedIn items) (services_of ws)
   each_served = all_served ws joined.each joined.whole.workers_seen
 
@@ -211,17 +228,27 @@ module _ (m : Model) (before : List Entry) (first : PlanPass) (ws : List Worker)
 
   full_in : (services : List Service) → All (ServedIn items) services → list_any is_full (mets_of services) ≡ true → (r : Role) × IsFullRound r items
   full_in [] each is = absurd (cc)
-  full_in (s ∷ services) each is = by (or_cases (is_full s.met) (list_any is_full (mets_of services)) is)
+  full_in (s ∷ services) each is = by (or_cases (is_full s.met) (list_any is_full (mets_of services)) is) (λ e. full_in services (All-tail (ServedIn items) s services each) e)
     where
-      by : (is_full s.met ≡ true) ⊎ (list_any is_full (mets_of services) ≡ true) → (r : Role) × IsFullRound r items
-      by (inl e) = (s.last, refused_full s.met s.last items e (All-head (ServedIn items) s services each).why)
-      by (inr e) = full_in services (All-tail (ServedIn items) s services each) e
+      by : (is_full s.met ≡ true) ⊎ (list_any is_full (mets_of services) ≡ true) → (list_any is_full (mets_of services) ≡ true → (r : Role) × IsFullRound r items) → (r : Role) × IsFullRound r items
+      by (inl e) rest = (s.last, refused_full s.met s.last items e (All-head (ServedIn items) s services each).why)
+      by (inr e) rest = rest e
 
   -- one of the workers met a full log
   pub met_full : (met_by (refusals ws)).full ≡ true → (r : Role) × IsFullRound r items
   met_full is = full_in (services_of ws) each_served (ap (λ (os : List (Option Stop)). list_any is_full os) (mets_same ws) ∙ is)
 
   module _ (inputs : List (Option (List ℕ))) (own : List (ℕ × Noted)) (list : FeederList inputs own (mine_of first)) where
+    -- as many entries were handed in as there were before
+    handed_whole : joined.whole.stop.by.opening ≡ length before
+    handed_whole =
+        let start : List Noted = items_of m before (handed_in before) in
+        let long : length start ≡ length before = length_going m before (handed_in before) refl in
+        opening_is m joined.whole.log joined.whole.stop joined.whole.some joined.whole.each (mine_of first ∷ own_lists_of ws) (length before) joined.whole.stands joined.whole.owners
+        (All-cons IsSomeones (mine_of first) (own_lists_of ws) (Feeder, feeder_signed inputs own (mine_of first) list) (workers_theirs ws joined.each))
+        start (prefix_trans start (seen_of first) items joined.opened joined.whole.first_seen) (omega (arith, long))
+        (subst AreHandedIn (sym (take_all (length before) start (omega (arith, long)))) (handed_are m before))
+
     unfoldable pub history : History joined.duties m before joined.whole.log
     history = record {
       signs = joined.whole.stop;
@@ -233,12 +260,15 @@ module _ (m : Model) (before : List Entry) (first : PlanPass) (ws : List Worker)
       stands = service_stands;
       owners = service_owners;
       feeder_saw = record { begins = joined.whole.first_seen; holds = own_stands joined.plan first joined.own };
+      handed = handed_whole;
+      each_signed = joined.whole.each;
+      feeder_signed = feeder_signed inputs own (mine_of first) list;
       inputs = feeder_until inputs own (mine_of first) list;
       each = each_served;
     }
 
     opening_plan : IsPlan (items_of m before (handed_in before))
-    opening_plan = record { model = m; log = before; signs = handed_in before; legal = joined.legal; is = refl }
+    opening_plan = record { model = m; log = before; signs = handed_in before; legal = joined.legal; some = log_is_some m before joined.legal; each = (let e : length before + 0 ≡ length before = omega arith in e); is = refl }
 
     pub on : IsPrefix (items_of m before (handed_in before)) (items_of m joined.whole.log joined.whole.stop)
     on = prefix_trans (items_of m before (handed_in before)) (seen_of first) (items_of m joined.whole.log joined.whole.stop) joined.opened joined.whole.first_seen

@@ -60,9 +60,9 @@ looks_more old mid new first takes same = looks_on old mid new first (record { f
 
 entries_few : (xs : List Noted) → length (entries_in xs) ≤ length xs
 entries_few [] = omega arith
-entries_few (Opened m e ∷ xs) = (let le = entries_few xs in omega arith)
+entries_few (Opened m n e ∷ xs) = (let le = entries_few xs in omega arith)
 entries_few (Made by e ∷ xs) = (let le = entries_few xs in omega arith)
-entries_few (Stopped ∷ xs) = (let le = entries_few xs in omega arith)
+entries_few (Stopped by ∷ xs) = (let le = entries_few xs in omega arith)
 
 pub entries_short : (xs : List Noted) → IsPlan xs → length (entries_in xs) ≤ 250000
 entries_short xs plan =

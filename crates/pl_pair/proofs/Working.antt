@@ -1,7 +1,7 @@
 -- What a worker hands back.
 use Rattle.std.proofs.Common.{◌≡◌, ℕ, ◌+◌, ◌≤◌, List, [], ◌∷◌, ◌++◌, length, arith, true, Option, Some, None, Ok, Err, refl, sym, ◌∙◌, ap, subst, ◌⊎◌, inl, inr}
 use Rattle.std.specs.List.{All}
-use Rattle.std.proofs.lemmas.List.Elements.{All-nil, All-cons, All-append, All-weaker}
+use Rattle.std.proofs.lemmas.List.Elements.{All-nil, All-cons, All-append}
 use mathlib.Core.List.{IsPrefix}
 use Rattle.pl_turn.specs.Passes.{seen_of, mine_of}
 use Rattle.pl_machine.specs.declared.stop.Stop.{Stop}
@@ -10,7 +10,7 @@ use Rattle.pl_marks.specs.declared.author.Author.{Author}
 use Rattle.pl_marks.specs.Authors.{IsAuthor}
 use Rattle.pl_acts.specs.declared.noted.Noted.{Noted}
 use Rattle.pl_acts.specs.declared.noted.Noted.TheVariants.{Stopped}
-use Rattle.pl_acts.specs.Items.{is_stop, signer_in}
+use Rattle.pl_acts.specs.Items.{signer_in}
 use Rattle.pl_locked.specs.declared.plan.SharedPlan.{SharedPlan}
 use Rattle.pl_acts.specs.declared.role.Role.{Role}
 use Rattle.pl_acts.specs.declared.role.Acted.{Acted}
@@ -28,7 +28,7 @@ use Rattle.pl_pair.specs.declared.duty.Duty.{Duty}
 use Rattle.pl_pair.specs.declared.worker.Worker.{Worker}
 use Rattle.pl_pair.specs.Duties.{role_of, begun_of, author_of}
 use Rattle.pl_pair.specs.Served as serving
-use Rattle.pl_pair.specs.Served.{MakesUntil, MakesOwn, SignsOwn, Refused, IsHired, IsServed, IsWorker}
+use Rattle.pl_pair.specs.Served.{IsStopAtMost, MakesUntil, MakesOwn, SignsOwn, Refused, IsHired, IsServed, IsWorker}
 
 -- more of a worker that made these items so far
 module _ (plan : SharedPlan) (duty : Duty) (pass pass2 : PlanPass) (role role2 : Role) (begun : begun_of duty ≤ length (seen_of pass)) (before : MakesAll (role_of duty) (begun_of duty) (seen_of pass) (mine_of pass) role) (takes : TakesTurn pass pass2)
@@ -47,21 +47,25 @@ module _ (plan : SharedPlan) (duty : Duty) (pass pass2 : PlanPass) (role role2 :
 
   -- each is the worker's, or a stop
   abbrev Signs : ℕ × Noted → Type 0
-  Signs x = (is_stop x.1 ≡ true) ⊎ (signer_in x.1 ≡ Some (author_of duty))
+  Signs x = signer_in x.1 ≡ Some (author_of duty)
 
   signs_more : (more : List (ℕ × Noted)) → All (λ x. signer_in x.1 ≡ Some (author_of duty)) more → All Signs (mine_of pass ++ more)
-  signs_more more by = All-append Signs (mine_of pass) more signed.1 (All-weaker (λ x. signer_in x.1 ≡ Some (author_of duty)) Signs (λ x h. inr h) more by)
+  signs_more more by = All-append Signs (mine_of pass) more signed.1 by
 
   signs_on : (own2 : List (ℕ × Noted)) → mine_of pass2 ≡ mine_of pass ++ own2 → All (λ x. signer_in x.1 ≡ Some (author_of duty)) own2 → SignsOwn duty (mine_of pass2)
   signs_on own2 mine by = (signed.0, subst (All Signs) (sym mine) (signs_more own2 by))
 
-  signs_rest : (rest : List (ℕ × Noted)) → (rest ≡ []) ⊎ ((place : ℕ) × (rest ≡ (place, Stopped) ∷ [])) → All Signs rest
+  signs_rest : (rest : List (ℕ × Noted)) → (rest ≡ []) ⊎ ((place : ℕ) × (rest ≡ (place, Stopped (author_of duty)) ∷ [])) → All Signs rest
   signs_rest rest (inl none) = subst (All Signs) (sym none) (All-nil Signs)
-  signs_rest rest (inr one) = subst (All Signs) (sym one.1) (All-cons Signs (one.0, Stopped) [] (inl refl) (All-nil Signs))
+  signs_rest rest (inr one) = subst (All Signs) (sym one.1) (All-cons Signs (one.0, Stopped (author_of duty)) [] refl (All-nil Signs))
 
   signs_until : (last : Role) → WorksUntil (author_of duty) role pass last pass2 → SignsOwn duty (mine_of pass2)
   signs_until last works =
       (signed.0, subst (All Signs) (sym works.mine) (All-append Signs (mine_of pass ++ works.own) works.rest (signs_more works.own works.signed) (signs_rest works.rest works.behind)))
+
+  stop_at_most : (rest : List (ℕ × Noted)) → (rest ≡ []) ⊎ ((place : ℕ) × (rest ≡ (place, Stopped (author_of duty)) ∷ [])) → IsStopAtMost rest
+  stop_at_most rest (inl none) = inl none
+  stop_at_most rest (inr one) = inr (one.0, author_of duty, one.1)
 
   -- own items, and a stop behind them at most
   makes_until : (last : Role) → WorksUntil (author_of duty) role pass last pass2 → MakesUntil (role_of duty) (begun_of duty) (seen_of pass2) (mine_of pass2)
@@ -71,7 +75,7 @@ module _ (plan : SharedPlan) (duty : Duty) (pass pass2 : PlanPass) (role role2 :
     whole = works.mine;
     last = last;
     made = more_made last works.own works.made;
-    behind = works.behind;
+    behind = stop_at_most works.rest works.behind;
   }
 
   same_number : worker_of role2 ≡ worker_of role → worker_of role2 ≡ worker_of (role_of duty)
@@ -110,7 +114,7 @@ begins duty pass role is new =
 
 none_signed : (duty : Duty) (mine : List (ℕ × Noted)) → IsAuthor (author_of duty) → mine ≡ [] → SignsOwn duty mine
 none_signed duty mine known new =
-    let P : (ℕ × Noted) → Type 0 = λ x. (is_stop x.1 ≡ true) ⊎ (signer_in x.1 ≡ Some (author_of duty)) in
+    let P : (ℕ × Noted) → Type 0 = λ x. signer_in x.1 ≡ Some (author_of duty) in
     (known, subst (All P) (sym new) (All-nil P))
 
 -- a worker whose start was refused
@@ -179,7 +183,7 @@ acts_on plan w pass2 role2 a served going own takes acts =
 
 -- an act that met one, and the stop behind it
 pub acts_until : (plan : SharedPlan) (w : Worker) (mid new : PlanPass) (role2 : Role) (s : Stop) → IsServed plan w → w.refusal ≡ None → BelongsTo plan mid → TakesTurn w.pass mid → Acts (author_of w.duty) w.role w.pass (Err s) role2 mid
-    → BelongsTo plan new → TakesTurn mid new → Stops mid new → IsServed plan (record { pass = new; role = role2; duty = w.duty; refusal = Some s })
+    → BelongsTo plan new → TakesTurn mid new → Stops (author_of w.duty) mid new → IsServed plan (record { pass = new; role = role2; duty = w.duty; refusal = Some s })
 acts_until plan w mid new role2 s served going own takes acts own2 takes2 stops =
     let none = working_none (author_of w.duty) w.pass w.role in
     let before = made_none w.refusal (role_of w.duty) w.role (begun_of w.duty) (seen_of w.pass) (mine_of w.pass) going served.made in

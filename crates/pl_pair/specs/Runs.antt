@@ -1,5 +1,5 @@
 -- What a run of a feeder and several workers comes to.
-use Rattle.std.specs.Prelude.{◌≡◌, ◌<◌, ℕ, List, [], ◌∷◌, ◌++◌, length, map, Bool, true, false, Option, Some, None, Result, Ok, Err, IfSome, ◌⊎◌, ⊤}
+use Rattle.std.specs.Prelude.{◌≡◌, ◌<◌, ◌+◌, ℕ, List, [], ◌∷◌, ◌++◌, length, map, true, false, Option, Some, None, Result, Ok, Err, IfSome, ◌⊎◌, ⊤}
 use Rattle.std.specs.List.{All}
 use mathlib.Core.List.{IsPrefix}
 use Rattle.pl_turn.specs.History.{IsEachOnce, StandsIn, times_in}
@@ -28,6 +28,9 @@ use Rattle.pl_acts.specs.declared.role.Role.{Role}
 use Rattle.pl_locked.specs.Plans.{PlanPass}
 use Rattle.pl_input.specs.declared.halt.Halt.{Halt}
 use Rattle.pl_input.specs.declared.halt.Halt.TheVariants as halt
+use Rattle.pl_marks.specs.declared.author.Author.TheVariants.{Feeder}
+use Rattle.pl_marks.specs.Marks.{Signed, marks_of}
+use Rattle.pl_pair.specs.declared.ended.Ended.{Ended}
 use Rattle.pl_pair.specs.declared.duty.Duty.{Duty}
 use Rattle.pl_pair.specs.declared.duty.Duty.TheVariants.{Repair, Execute}
 use Rattle.pl_pair.specs.declared.worker.Worker.{Worker}
@@ -44,6 +47,8 @@ use Rattle.pl_pair.specs.Feeds.{EndsUsed, EndsRead}
 -- The machine has the whole history, which begins with what each of these passes has seen, and each place past the opening stands in one own list of theirs.
 pub record ClosesAll (first : PlanPass) (workers : List Worker) (machine : State) : Type 0 where
   pub signs : Signs
+  pub some : 0 < signs.by.opening
+  pub each : signs.by.opening + length signs.by.authors ≡ length machine.log
   pub legal : Legal machine.model machine.log
   pub model : model_in (seen_of first) ≡ Some machine.model
   pub first_seen : IsPrefix (seen_of first) (items_of machine.model machine.log signs)
@@ -96,6 +101,9 @@ pub record History (duties : List Duty) (m : Model) (before log : List Entry) : 
   pub legal : Legal m log
   pub stands : All (StandsIn (items_of m log signs)) (feeder ∷ owns_of workers)
   pub owners : IsEachOnce (length before) (length (items_of m log signs)) (λ place. times_in place (feeder ∷ owns_of workers))
+  pub handed : signs.by.opening ≡ length before
+  pub each_signed : signs.by.opening + length signs.by.authors ≡ length log
+  pub feeder_signed : AreSigned Feeder feeder
   pub feeder_saw : HadSeen (items_of m log signs) feeder_seen feeder
   pub inputs : AreOfUntil is_input feeder
   pub each : All (ServedIn (items_of m log signs)) workers
@@ -243,6 +251,38 @@ pub record TeamRun (duties : List Duty) (start : State) (place : Place) (held : 
   pub refused : r ≡ Err halt.Full → (met_by (mets_of history.workers)).other ≡ false
   pub messages : InMessages place (λ messages. IsPrefix (inputs_of entries) messages)
   pub ends : RunEnds r start.model log entries place held behind now
+
+-- ---- what a run hands back
+
+-- how it ended
+abbrev pub answer_of : Result Ended Halt → Result (Unit {0}) Halt
+answer_of (Ok e) = Ok tt
+answer_of (Err h) = Err h
+
+-- Where it came to its end it hands a machine back, and its marks.
+abbrev pub EndsWith : Result (Unit {0}) Halt → State → Signed → Result Ended Halt → Type 0
+EndsWith (Ok u) machine by (Ok e) = (e.machine ≡ machine) × (e.marks.items ≡ marks_of by)
+EndsWith (Ok u) machine by (Err h) = ⊥
+EndsWith (Err d) machine by (Ok e) = ⊥
+EndsWith (Err d) machine by (Err h) = h ≡ d
+
+-- the machine has the whole log, and the marks are those of its authors
+abbrev pub HandsBack : Result Ended Halt → Model → List Entry → Signed → Type 0
+HandsBack (Ok e) m log by = (e.machine.model ≡ m) × (e.machine.log ≡ log) × (e.marks.items ≡ marks_of by)
+HandsBack (Err h) m log by = ⊤
+
+-- A run whose log is this, with these authors.
+pub record RunsTo (whole : List Entry) (by : Signed) (duties : List Duty) (start : State) (place : Place) (held : Option (List ℕ)) (r : Result (Unit {0}) Halt) (behind : Place) (now : Option (List ℕ)) : Type 0 where
+  pub run : TeamRun duties start place held r behind now
+  pub log_is : run.log ≡ whole
+  pub by_is : run.history.signs.by ≡ by
+
+-- A run, and what it hands back.
+pub record RunsTeam (duties : List Duty) (start : State) (place : Place) (held : Option (List ℕ)) (r : Result Ended Halt) (behind : Place) (now : Option (List ℕ)) : Type 0 where
+  pub run : TeamRun duties start place held (answer_of r) behind now
+  pub back : HandsBack r start.model run.log run.history.signs.by
+
+-- ---- a pair
 
 -- a planner, hired behind so many entries, and an executive
 abbrev pub pair_of : ℕ → ℕ → List Duty

@@ -11,7 +11,7 @@ use Rattle.pl_acts.specs.declared.noted.Noted.{Noted}
 use Rattle.pl_acts.specs.declared.noted.Noted.TheVariants.{Stopped}
 use Rattle.pl_locked.specs.declared.plan.SharedPlan.{SharedPlan}
 use Rattle.pl_acts.specs.declared.role.Role.{Role}
-use Rattle.pl_acts.specs.Items.{is_stop, signer_in, stop_in, InWorld}
+use Rattle.pl_acts.specs.Items.{signer_in, stop_in, InWorld}
 use Rattle.pl_acts.specs.Roles.{worker_of, has_event, is_entry}
 use Rattle.pl_locked.specs.Plans.{PlanPass, BelongsTo}
 use Rattle.pl_acts.specs.Making.{MakesAll}
@@ -20,9 +20,17 @@ use Rattle.pl_pair.specs.declared.duty.Duty.{Duty}
 use Rattle.pl_pair.specs.declared.worker.Worker.{Worker}
 use Rattle.pl_pair.specs.Duties.{role_of, begun_of, author_of}
 
--- each own item is this author's entry, or a stop
+-- each own item carries this author's name
 abbrev pub AreSigned : Author → List (ℕ × Noted) → Type 0
-AreSigned by own = All (λ x. (is_stop x.1 ≡ true) ⊎ (signer_in x.1 ≡ Some by)) own
+AreSigned by own = All (λ x. signer_in x.1 ≡ Some by) own
+
+-- somebody's
+abbrev pub IsSomeones : List (ℕ × Noted) → Type 0
+IsSomeones own = (by : Author) × AreSigned by own
+
+-- nobody made these items
+abbrev pub AreHandedIn : List Noted → Type 0
+AreHandedIn items = All (λ i. signer_in i ≡ None) items
 
 -- and the author is one that there can be
 abbrev pub SignsOwn : Duty → List (ℕ × Noted) → Type 0
@@ -34,7 +42,7 @@ AreOf test own = All (λ x. is_entry test x.1 ≡ true) own
 
 -- nothing, or a stop
 abbrev pub IsStopAtMost : List (ℕ × Noted) → Type 0
-IsStopAtMost rest = (rest ≡ []) ⊎ ((place : ℕ) × (rest ≡ (place, Stopped) ∷ []))
+IsStopAtMost rest = (rest ≡ []) ⊎ ((place : ℕ) × (by : Author) × (rest ≡ (place, Stopped by) ∷ []))
 
 -- Own items, each an entry of this kind, and a stop behind them where there is one.
 pub record AreOfUntil (test : Event → Bool) (mine : List (ℕ × Noted)) : Type 0 where

@@ -12,8 +12,8 @@ ghost use Rattle.pl_pair.specs.Rounds.{Follows};
 use crate::cut::Cut;
 use pl_input::{halt_of, is_blank_line, line_in, next_message};
 use pl_io::{Line, LineFault, LineReader, Source};
-use pl_machine::Stop;
 use pl_locked::{Pass, SharedPlan};
+use pl_machine::Stop;
 use std::sync::Wait;
 
 /// The next line, or the fault that the reader met, now or before.

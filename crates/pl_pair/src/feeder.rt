@@ -15,8 +15,8 @@ use crate::cut::Cut;
 use crate::hands::Hands;
 use crate::rounds::{Stage, write_round};
 use pl_io::{LineReader, Sink, Source};
-use pl_model::Model;
 use pl_locked::{Pass, SharedPlan};
+use pl_model::Model;
 use std::alloc::Global;
 use std::sync::Wait;
 

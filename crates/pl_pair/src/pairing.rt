@@ -16,8 +16,8 @@ use crate::feeder::feed_or_stop;
 use crate::hands::{Hand, Hands, Hired};
 use crate::worker::{Worker, serve_unless};
 use pl_io::{LineReader, Sink, Source};
-use pl_model::Model;
 use pl_locked::{Pass, SharedPlan};
+use pl_model::Model;
 use pl_turn::Gate;
 use std::alloc::Global;
 use std::sync::Wait;
@@ -172,8 +172,9 @@ pub(crate) fn run_workers<R: Threads + Wait + Sync, S: Source, O: Sink, G: Gate 
             let mut first = pass;
             match hire_all(scope, rt, alloc, plan, gate, &mut first, duties, refused) {
                 Some(hands) => {
-                    let remains =
-                        feed_and_join(rt, alloc, plan, model, first, hands, lines, src, out);
+                    let remains = feed_and_join(
+                        rt, alloc, plan, model, first, hands, lines, src, out,
+                    );
                     (lines, src, out, Some(remains))
                 }
                 None => (lines, src, out, None),

@@ -13,8 +13,8 @@ use crate::waiting::closed_round;
 use pl_acts::Part;
 use pl_io::Sink;
 use pl_journal::write_entries;
-use pl_model::Model;
 use pl_locked::{Pass, SharedPlan};
+use pl_model::Model;
 use std::alloc::Global;
 use std::sync::Wait;
 

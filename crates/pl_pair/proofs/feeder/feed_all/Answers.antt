@@ -5,7 +5,7 @@ use Rattle.pl_pair.proofs.feeder.feed_all.Goals as goal
 pub loop-init : goal.loop-init
 loop-init g c = record {
   hands = c.requires.hands;
-  duties = (refl, refl);
+  duties = refl;
   so_far = feeding_none c.args.plan.now c.args.model.now c.args.pass.now _ _ c.requires.own c.requires.new;
   reads = omega arith;
   writes = omega arith;
@@ -20,7 +20,7 @@ loop-preserved g c =
     let so_far = c.loop.invariant in
     record {
       hands = step.hands;
-      duties = (step.duties.0 ∙ so_far.duties.0, step.duties.1 ∙ so_far.duties.1);
+      duties = step.duties ∙ so_far.duties;
       so_far = feeds_on _ _ _ _ _ _ _ _ _ so_far.so_far _ _ _ _ step.own (rw c.in-Ok-Some.field-0-is at c.in-Ok-Some.ensures.steps);
       reads = omega (arith, so_far.reads, step.later.0);
       writes = omega (arith, so_far.writes, step.later.1);
