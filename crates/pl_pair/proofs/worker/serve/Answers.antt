@@ -3,8 +3,8 @@ use Rattle.pl_pair.proofs.worker.serve.Goals as goal
 
 pub returns-in-Ok : goal.returns-in-Ok
 returns-in-Ok g c =
-    served_on c.args.plan.now c.args.pass c.work_as.new.pass c.role-role.result c.work_as.new.role c.args.duty c.in-Ok.field-0 c.requires c.role-role.ensures c.work_as.ensures.takes c.work_as.ensures.own c.in-Ok.ensures.works
+    served_on c.args.plan.now c.args.pass c.work_as.new.pass c.role-role.result c.work_as.new.role c.args.duty c.in-Ok.field-0 c.requires c.role-role.ensures c.work_as.ensures.takes c.work_as.ensures.own (rw c.author.ensures at c.in-Ok.ensures.works)
 
 pub returns-in-Err : goal.returns-in-Err
 returns-in-Err g c =
-    served_until c.args.plan.now c.args.pass c.work_as.new.pass c.role-role.result c.work_as.new.role c.args.duty c.in-Err.stop c.requires c.role-role.ensures c.work_as.ensures.takes c.work_as.ensures.own c.in-Err.ensures.works
+    served_until c.args.plan.now c.args.pass c.work_as.new.pass c.role-role.result c.work_as.new.role c.args.duty c.in-Err.stop c.requires c.role-role.ensures c.work_as.ensures.takes c.work_as.ensures.own (rw c.author.ensures at c.in-Err.ensures.works)
