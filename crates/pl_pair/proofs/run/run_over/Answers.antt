@@ -1,8 +1,25 @@
-use Rattle.pl_input.specs.Places.{place_of}
-use Rattle.std.proofs.Common.{subst}
-use Rattle.pl_pair.specs.Runs.{EndsWith}
-use Rattle.pl_pair.proofs.Running.{begun_first, runs_back, back_read, back_write, closes_first}
+use Rattle.pl_input.specs.Places.{Place, place_of}
+use Rattle.std.proofs.Common.{ℕ, List, Option, Err, sym, subst}
+use Rattle.pl_input.specs.declared.halt.Halt.TheVariants.{Memory}
+use Rattle.pl_pair.specs.Runs.{EndsWith, RunsTeam}
+use Rattle.pl_pair.proofs.Running.{begun_first, back_none, runs_back, back_read, back_write, closes_first}
 use Rattle.pl_pair.proofs.run.run_over.Goals as goal
+
+pub returns-in_default-clause-run : goal.returns-in_default-clause-run
+returns-in_default-clause-run g c = back_none c.args.duties.now c.args.machine (place_of c.args.lines.now (g.S.Source.left c.args.src.now)) (g.O.Sink.held c.args.out.now) c.requires.legal
+
+pub returns-in_default-new-clause-run : goal.returns-in_default-new-clause-run
+returns-in_default-new-clause-run g c = back_none c.args.duties.now c.args.machine (place_of c.args.lines.now (g.S.Source.left c.args.src.now)) (g.O.Sink.held c.args.out.now) c.requires.legal
+
+-- nothing was read or written before the first thread started
+pub returns-in_default-run_workers-clause-run : goal.returns-in_default-run_workers-clause-run
+returns-in_default-run_workers-clause-run g c =
+    let start = place_of c.args.lines.now (g.S.Source.left c.args.src.now) in
+    let held = g.O.Sink.held c.args.out.now in
+    let same = c.in_default-run_workers.ensures.joins in
+    let P : Place → Type 0 = λ p. RunsTeam c.args.duties.now c.args.machine start held (Err Memory) p held in
+    let Q : Option (List ℕ) → Type 0 = λ h. RunsTeam c.args.duties.now c.args.machine start held (Err Memory) (place_of c.run_workers.new.lines (g.S.Source.left c.run_workers.new.src)) h in
+    subst Q (sym same.1) (subst P (sym same.0) (back_none c.args.duties.now c.args.machine start held c.requires.legal))
 
 pub run_workers-requires-clause-begun : goal.run_workers-requires-clause-begun
 run_workers-requires-clause-begun g c κs within = begun_first c.args.machine c.args.duties.now c.in-Ok-new.pass c.requires.begun c.in-Ok-new.ensures.seen
