@@ -13,10 +13,10 @@ returns-clause-run g c =
     let now = g.O.Sink.held c.run_team.new.out in
     let P : Result (Unit {0}) Halt → Type 0 = λ r. TeamRun (pair_of c.args.seed (length c.args.machine.log)) c.args.machine start held r end now in
     elim c.match-run_team.branch [
-      in-Ok w ↦
-        let Q : ℕ → Type 0 = λ n. TeamRun (pair_of c.args.seed n) c.args.machine start held (Ok tt) end now in
-        subst P (sym w.result-is) (subst Q c.entries.ensures w.in-Ok.ensures.run.run)
+      | in-Ok w ↦
+          let Q : ℕ → Type 0 = λ n. TeamRun (pair_of c.args.seed n) c.args.machine start held (Ok tt) end now in
+          subst P (sym w.result-is) (subst Q c.entries.ensures w.in-Ok.ensures.run.run)
       | in-Err w ↦
-        let Q : ℕ → Type 0 = λ n. TeamRun (pair_of c.args.seed n) c.args.machine start held (Err w.in-Err.halt) end now in
-        subst P (sym w.result-is) (subst Q c.entries.ensures w.in-Err.ensures.run.run)
+          let Q : ℕ → Type 0 = λ n. TeamRun (pair_of c.args.seed n) c.args.machine start held (Err w.in-Err.halt) end now in
+          subst P (sym w.result-is) (subst Q c.entries.ensures w.in-Err.ensures.run.run)
     ]
