@@ -1,5 +1,5 @@
 -- Each commit, dispatch and close of a history is what the executive chooses there.
-use Rattle.std.proofs.Common.{◌≡◌, ◌≢◌, ℕ, zero, suc, ◌+◌, ◌≤◌, ◌<◌, List, [], ◌∷◌, ◌++◌, length, map, cond, nat_eq, Bool, true, false, Option, Some, None, slice_get, refl, sym, ◌∙◌, ap, subst, arith, inl, inr, append_assoc, eqb-true, length-append}
+use Rattle.std.proofs.Common.{◌≡◌, ◌≢◌, ℕ, zero, suc, ◌+◌, ◌-◌, ◌≤◌, ◌<◌, List, [], ◌∷◌, ◌++◌, length, map, cond, nat_eq, Bool, true, false, Option, Some, None, slice_get, refl, sym, ◌∙◌, ap, subst, arith, inl, inr, append_assoc, eqb-true, length-append}
 use Rattle.std.specs.List.{All}
 use Rattle.std.proofs.lemmas.List.{append-nil}
 use Rattle.std.proofs.lemmas.List.Sums.{sum_by-cons, sum_by-append}
@@ -121,7 +121,7 @@ due_chosen Executive Executive low before e executed due = due.1
 -- it is a worker's
 module _ (items : List Noted) (p : ℕ) (by : Option Author) (e : Entry) (at : slice_get items p ≡ Some (Made by e)) (executed : is_executed e.event ≡ true) where
   owned_by : (s : Service) (rest : ℕ) → StandsIn items s.own → ServedIn items s → times_at p s.own + rest ≡ 1 → (rest ≡ 1 → MadeHere items p) → MadeHere items p
-  owned_by s rest stands served one other = by (times_at p split.own) refl
+  owned_by s rest stands served one other = by_times (times_at p split.own) refl
     where
       split : MakesUntil (role_of s.duty) (begun_of s.duty) items s.own
       split = makes_split s.met (role_of s.duty) (begun_of s.duty) items s.own s.last served.made
@@ -134,9 +134,9 @@ module _ (items : List Noted) (p : ℕ) (by : Option Author) (e : Entry) (at : s
       parts : times_at p s.own ≡ times_at p split.own + times_at p split.rest
       parts = ap (λ (l : List (ℕ × Noted)). times_at p l) split.whole ∙ sum_by-append (one_at p) split.own split.rest
 
-      by : (n : ℕ) → times_at p split.own ≡ n → MadeHere items p
-      by zero is = other (omega (arith, one, parts, stop_none, is))
-      by (suc n) is = made_here items p (begun_of s.duty) (role_of s.duty) split.last split.own split.made (omega (arith, one, parts, stop_none, is))
+      by_times : (n : ℕ) → times_at p split.own ≡ n → MadeHere items p
+      by_times zero is = other (omega (arith, one, parts, stop_none, is))
+      by_times (suc n) is = made_here items p (begun_of s.duty) (role_of s.duty) split.last split.own split.made (omega (arith, one, parts, stop_none, is))
 
   owned : (services : List Service) → All (StandsIn items) (owns_of services) → All (ServedIn items) services → times_in p (owns_of services) ≡ 1 → MadeHere items p
   owned [] stands each one = absurd (let h : 0 ≡ 1 = one in omega arith)

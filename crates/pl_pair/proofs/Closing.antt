@@ -58,7 +58,7 @@ module _ (plan : SharedPlan) (workers : List Worker) (first last : PlanPass) (jo
   joined_is : joined_by last ≡ own_lists_of workers
   joined_is = ap (λ c. c.joined) joins.crew ∙ ap (λ (ls : List (List (ℕ × Noted))). ls ++ own_lists_of workers) none
 
-  joined_lists : lists_of last ≡ mine_of first ∷ own_lists_of workers
+  pub joined_lists : lists_of last ≡ mine_of first ∷ own_lists_of workers
   joined_lists = ap (λ (l : List (ℕ × Noted)). l ∷ joined_by last) joins.mine ∙ ap (λ (ls : List (List (ℕ × Noted))). mine_of first ∷ ls) joined_is
 
   -- every pass that was split off is joined

@@ -76,14 +76,14 @@ module _ (start : State) (first : PlanPass) (ws : List Worker) (joined : Joined 
   pub opening_of_front : (front : List Noted) → IsPrefix (seen_of old) front → length start.log ≤ length front
   opening_of_front front longer =
       let le = prefix_length (seen_of old) front longer in
-      let same = ap (λ (xs : List Noted). length xs) seen0 ∙ length_going start.model start.log false refl in
+      let same = ap (λ (xs : List Noted). length xs) seen0 ∙ length_going start.model start.log (handed_in start.log) refl in
       omega (arith, le, same)
 
   pub opening_in : (mid : PlanPass) → Follows old mid → length start.log ≤ length (seen_of mid)
   opening_in mid follows = opening_of_front (seen_of mid) follows.longer
 
   pub model_of : (mid : PlanPass) → Follows old mid → model_in (seen_of mid) ≡ Some start.model
-  model_of mid follows = follows.model ∙ (ap model_in seen0 ∙ model_in_items start.model start.log false joined.legal)
+  model_of mid follows = follows.model ∙ (ap model_in seen0 ∙ model_in_items start.model start.log (handed_in start.log) joined.legal)
 
   -- the run where a history that was written whole is all
   module _ (mid : PlanPass) (end : Place) (tells : HandsOnMessages old place mid end) (plan : SharedPlan) (own : BelongsTo plan mid) (list : FeederList tells.inputs (mine_of mid) (mine_of first)) (to_first : IsPrefix (seen_of mid) (seen_of first)) where

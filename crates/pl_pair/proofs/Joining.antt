@@ -240,7 +240,7 @@ module _ (m : Model) (before : List Entry) (first : PlanPass) (ws : List Worker)
 
   module _ (inputs : List (Option (List ℕ))) (own : List (ℕ × Noted)) (list : FeederList inputs own (mine_of first)) where
     -- as many entries were handed in as there were before
-    handed_whole : joined.whole.stop.by.opening ≡ length before
+    pub handed_whole : joined.whole.stop.by.opening ≡ length before
     handed_whole =
         let start : List Noted = items_of m before (handed_in before) in
         let long : length start ≡ length before = length_going m before (handed_in before) refl in

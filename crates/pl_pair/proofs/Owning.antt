@@ -141,7 +141,7 @@ stands_at h low (x ∷ own) stands place i (zero, within, is) = (let P : (ℕ ×
 stands_at h low (x ∷ own) stands place i (suc k, within, is) = stands_at h (suc x.0) own stands.2 place i (k, omega arith, is)
 
 -- the first of these, or one behind it
-own_first : (place : ℕ) (x : ℕ × Noted) (own : List (ℕ × Noted)) (b : Bool) → (x.0 == place) ≡ b → (cond (x.0 == place) 1 0 ≡ 0 → (i : Noted) × Contains own (place, i)) → (i : Noted) × Contains (x ∷ own) (place, i)
+own_first : (place : ℕ) (x : ℕ × Noted) (own : List (ℕ × Noted)) (b : Bool) → (x.0 == place) ≡ b → (◌≡◌ {A = ℕ} (cond (x.0 == place) 1 0) 0 → (i : Noted) × Contains own (place, i)) → (i : Noted) × Contains (x ∷ own) (place, i)
 own_first place x own true here rest = (x.1, (0, omega arith, λ j. (eqb-true x.0 place here j, x.1)))
 own_first place x own false there rest = (let r = rest (ap (λ (b : Bool). cond b 1 0) there) in (r.0, contains_tail x (place, r.0) own r.1))
 

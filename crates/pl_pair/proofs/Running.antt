@@ -260,7 +260,7 @@ back_err : (answer : Result (Unit {0}) Halt) (r : Result Ended Halt) (machine : 
 back_err (Ok u) (Ok e) machine by h ends is = absurd (cc)
 back_err (Ok u) (Err d) machine by h ends is = absurd ends
 back_err (Err d) (Ok e) machine by h ends is = absurd ends
-back_err (Err d) (Err f) machine by h ends is = ap (λ (x : Halt). Err x) (sym ends) ∙ is
+back_err (Err d) (Err f) machine by h ends is = (let same : f ≡ h = cc (is) in ap (λ (x : Halt). Err x) (sym ends ∙ same))
 
 pub back_read : (fed : Result (Unit {0}) Cut) (met : Met) (answer : Result (Unit {0}) Halt) (r : Result Ended Halt) (machine : State) (by : Signed) → answer ≡ ended_of fed met → EndsWith answer machine by r → r ≡ Err halt.Read → fed ≡ Err cut.Read
 back_read fed met answer r machine by same ends is = ended_read fed met (sym same ∙ back_err answer r machine by halt.Read ends is)
