@@ -1,10 +1,10 @@
 -- A sorted list that holds what stands is the list of what is broken.
-use Rattle.std.proofs.Common.{◌≡◌, ⊎_elim, eqb, ltb, ℕ, suc, ◌<◌, ◌+◌, Bool, true, false, List, [], ◌∷◌, length, get_or, Option, Some, None, IfSome, refl, sym, ap, ◌∙◌, subst, arith}
-use Rattle.std.specs.Prelude.{Contains, ◌⊎◌, ◌&&◌, not}
+use Rattle.std.proofs.Common.{◌≡◌, ⊎_elim, eqb, ltb, ℕ, ◌<◌, ◌+◌, Bool, true, false, List, [], ◌∷◌, get_or, Option, Some, None, IfSome, refl, sym, ap, ◌∙◌, subst, arith}
+use Rattle.std.specs.Prelude.{◌⊎◌, ◌&&◌, not}
 use Rattle.std.specs.declared.cmp.Ordering.TheVariants.{Less}
 use Rattle.std.specs.Ordering.{nat_cmp, bool_cmp, ordering_then}
 use Rattle.std.specs.List.Sorted.{IsStrictlySortedBy}
-use Rattle.std.proofs.lemmas.Bool.{lt-ltb, le-ltb, eq-eqb}
+use Rattle.std.proofs.lemmas.Bool.{eq-eqb}
 use Rattle.std.proofs.lemmas.Map.Keys.{sorted_from_all_adjacent}
 use Rattle.pl_lists.proofs.Tests.{same_test}
 use Rattle.pl_model.specs.declared.whole.Model.{Model}
@@ -13,8 +13,8 @@ use Rattle.pl_links.specs.declared.broken.Broken.{Broken}
 use Rattle.pl_links.specs.declared.changes.Changes.{Changes}
 use Rattle.pl_links.specs.Changes.{Tells}
 use Rattle.pl_links.specs.Items.{AreRising, item_of, with_item, without}
-use Rattle.pl_links.specs.Broken.{links_of, orders_of, broken_of}
-use Rattle.pl_links.specs.Laws.{IsBefore, IsBroken, fails_at}
+use Rattle.pl_links.specs.Broken.{broken_of}
+use Rattle.pl_links.specs.Laws.{IsBefore, IsBroken}
 use Rattle.pl_links.specs.Standing.{stands_at, stands}
 use Rattle.pl_links.specs.Sets.{broken_cmp, has}
 use Rattle.pl_links.specs.Filed.{left}

@@ -104,6 +104,7 @@ impl Sets {
     // The place behind the sets from a place on that are at the moment or before it.
     fn passed_from(&self, from: usize, at: u32) -> usize
         requires { from ≤ length self.now }
+        ensures sorted { AreSorted set_key self.now }
         ensures low { from ≤ result }
         ensures front { take (result - from) (drop from self.now)
             ≡ front (is_passed at) (drop from self.now) }
@@ -113,8 +114,7 @@ impl Sets {
 
     // So many sets from the place on.
     fn part(&self, alloc: Global, from: usize, count: usize) -> Result<Vec<Setting>, AllocError>
-        ensures sorted { AreSorted set_key self.now }
-        ensures part { IfOk result (λ v. v.items ≡ take count (drop from self.now)) }
+        ensures { IfOk result (λ v. v.items ≡ take count (drop from self.now)) }
     {
         let part = self.items.part(alloc, from, count)?;
         Ok(part)

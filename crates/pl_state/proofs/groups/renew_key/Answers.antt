@@ -2,7 +2,7 @@ use Rattle.std.proofs.Common.{◌-◌, ◌++◌, take, drop, refl, ap, ◌∙◌
 use Rattle.pl_state.specs.Sets.{state_from}
 use Rattle.pl_state.specs.Timelines.{same_broken}
 use Rattle.pl_lists.specs.Lists.{left_out}
-use Rattle.pl_state.specs.Present.{group_at, broken_at}
+use Rattle.pl_state.specs.Present.{group_at}
 use Rattle.pl_state.proofs.Parts.{one_keyed}
 use Rattle.pl_state.proofs.Renewing.{one_key}
 use Rattle.pl_state.proofs.groups.renew_key.Goals as goal

@@ -1,9 +1,7 @@
-use Rattle.std.proofs.Common.{◌≡◌, ◌∙◌, refl, sym, ap, subst, List, Some, None}
-use Rattle.pl_links.specs.declared.placed.Placed.{Placed}
-use Rattle.pl_links.specs.declared.broken.Broken.{Broken}
-use Rattle.pl_links.specs.Items.{AreRising, AreApart, item_of, without}
+use Rattle.std.proofs.Common.{◌≡◌, ◌∙◌, sym, ap, subst, Some}
+use Rattle.pl_links.specs.Items.{AreRising, item_of, without}
 use Rattle.pl_links.specs.Broken.{broken_of}
-use Rattle.pl_links.specs.Kept.{Kept, IsSound}
+use Rattle.pl_links.specs.Kept.{Kept}
 use Rattle.pl_links.specs.Standing.{stands}
 use Rattle.pl_links.proofs.Left.{item_is}
 use Rattle.pl_links.proofs.Keeping.{listed, now_stands, same_kept, absent_stays, tells_nothing}
@@ -25,8 +23,8 @@ mend-requires-clause-listed c = λ b.
     let is : c.self.inside.broken.keys ≡ broken_of model xs = ap (λ (k : Kept). k.broken) c.self.view_is ∙ c.requires ∙ ap (λ (k : Kept). broken_of model k.items) (sym c.self.view_is) in
     now_stands model xs c.self.inside.broken.keys b c.self.invariant.rising is
 
-pub returns-clause-ok : goal.returns-clause-ok
-returns-clause-ok c =
+pub returns-in_ok-changes-in-Some-clause-ok : goal.returns-in_ok-changes-in-Some-clause-ok
+returns-in_ok-changes-in-Some-clause-ok c =
     let model = c.args.model.now in
     let after = without c.args.id c.args.self.now.items in
     let is : c.take.new.self ≡ after = c.take.ensures.after ∙ ap (λ (k : Kept). without c.args.id k.items) c.self.view_is in

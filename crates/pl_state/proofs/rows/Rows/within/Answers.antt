@@ -1,4 +1,4 @@
-use Rattle.std.proofs.Common.{◌≡◌, ◌∷◌, ◌+◌, ◌-◌, ◌++◌, take, drop, refl, ap, sym, ◌∙◌, arith, length}
+use Rattle.std.proofs.Common.{◌≡◌, ◌∷◌, ◌+◌, ◌-◌, drop, refl, ap, sym, ◌∙◌, arith, length}
 use Rattle.std.proofs.lemmas.List.{drop_more}
 use Rattle.pl_state.specs.Rows.{together}
 use Rattle.pl_state.proofs.InRows.{drop_past}
