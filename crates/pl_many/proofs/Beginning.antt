@@ -56,7 +56,7 @@ crew_none plan seed first fresh = record { are = refl; new = All-nil (IsNew plan
 pub crew_more : (plan : SharedPlan) (seed : ℕ) (authors : List Author) (a : Author) (old mid new : PlanPass) (members : List Member) (m : Member) → Crewed plan seed authors old mid members → IsFresh plan new → Splits mid 1 new → m.author ≡ a → IsNew plan seed (seen_of mid) m
     → Crewed plan seed (authors ++ a ∷ []) old new (members ++ m ∷ [])
 crew_more plan seed authors a old mid new members m so_far fresh splits who is = record {
-  are = map-append (λ (x : Member). x.author) members (m ∷ []) ∙ (ap (λ (as : List Author). as ++ m.author ∷ []) so_far.are ∙ ap (λ (x : Author). authors ++ x ∷ []) who);
+  are = map-append (λ (x : Member). x.author) members (m ∷ []) ∙ (ap (λ (l : List Author). l ++ m.author ∷ []) so_far.are ∙ ap (λ (x : Author). authors ++ x ∷ []) who);
   new = All-push (IsNew plan seed (seen_of old)) members m so_far.new (subst (λ (seen : List Noted). IsNew plan seed seen m) so_far.splits.seen is);
   fresh = fresh;
   splits = subst (λ (n : ℕ). Splits old n new) (sym (length-append authors (a ∷ []))) (splits_more old mid new (length authors) so_far.splits splits.seen splits.crew);
@@ -64,15 +64,15 @@ crew_more plan seed authors a old mid new members m so_far fresh splits who is =
 
 planners_more : (k n : ℕ) → planners_from k (suc n) ≡ planners_from k n ++ Planner (k + n) ∷ []
 planners_more k zero = ap (λ (x : ℕ). Planner x ∷ []) (let e : k ≡ k + 0 = omega arith in e)
-planners_more k (suc n) = ap (λ (as : List Author). Planner k ∷ as) (planners_more (k + 1) n ∙ ap (λ (x : ℕ). planners_from (k + 1) n ++ Planner x ∷ []) (let e : k + 1 + n ≡ k + suc n = omega arith in e))
+planners_more k (suc n) = ap (λ (l : List Author). Planner k ∷ l) (planners_more (k + 1) n ∙ ap (λ (x : ℕ). planners_from (k + 1) n ++ Planner x ∷ []) (let e : k + 1 + n ≡ k + suc n = omega arith in e))
 
 -- one planner more
 pub crew_planner : (plan : SharedPlan) (seed n : ℕ) (old mid new : PlanPass) (members : List Member) (m : Member) → Crewed plan seed (workers_of n) old mid members → IsFresh plan new → Splits mid 1 new → m.author ≡ Planner (n + 1) → IsNew plan seed (seen_of mid) m
     → Crewed plan seed (workers_of (n + 1)) old new (members ++ m ∷ [])
 crew_planner plan seed n old mid new members m so_far fresh splits who is =
     let same : workers_of n ++ Planner (n + 1) ∷ [] ≡ workers_of (n + 1) =
-    ap (λ (as : List Author). Executive ∷ as) (ap (λ (x : ℕ). planners_from 1 n ++ Planner x ∷ []) (let e : n + 1 ≡ 1 + n = omega arith in e) ∙ (sym (planners_more 1 n) ∙ ap (λ (x : ℕ). planners_from 1 x) (let e : suc n ≡ n + 1 = omega arith in e))) in
-    subst (λ (as : List Author). Crewed plan seed as old new (members ++ m ∷ [])) same (crew_more plan seed (workers_of n) (Planner (n + 1)) old mid new members m so_far fresh splits who is)
+    ap (λ (l : List Author). Executive ∷ l) (ap (λ (x : ℕ). planners_from 1 n ++ Planner x ∷ []) (let e : n + 1 ≡ 1 + n = omega arith in e) ∙ (sym (planners_more 1 n) ∙ ap (λ (x : ℕ). planners_from 1 x) (let e : suc n ≡ n + 1 = omega arith in e))) in
+    subst (λ (l : List Author). Crewed plan seed l old new (members ++ m ∷ [])) same (crew_more plan seed (workers_of n) (Planner (n + 1)) old mid new members m so_far fresh splits who is)
 
 pub crew_leads : (plan : SharedPlan) (seed : ℕ) (authors : List Author) (old mid : PlanPass) (members : List Member) → Crewed plan seed authors old mid members → leads old ≡ true → leads mid ≡ true
 crew_leads plan seed authors old mid members so_far first = ap (λ (c : Known Noted). c.leads) so_far.splits.crew ∙ first
