@@ -1,8 +1,10 @@
 ghost use Rattle.std.specs.Prelude.{◌≡◌};
-ghost use Rattle.pl_acts.specs.Roles.{worker_of};
+ghost use Rattle.pl_marks.specs.Authors.{IsAuthor};
+ghost use Rattle.pl_acts.specs.Roles.{worker_of, role_author};
 
 use crate::bells::Listener;
 use pl_choose::Seeded;
+use pl_marks::Author;
 
 /// What a worker does: it repairs the plan, or it commits, sends commands and closes rounds.
 #[derive(Drop)]
@@ -19,6 +21,17 @@ impl Role {
         match self {
             Role::Planner(_) => 1,
             Role::Executive => 0,
+        }
+    }
+
+    /// The author that acts in this role where there is one planner.
+    pub fn author(&self) -> Author
+        ensures is { result ≡ role_author self.now }
+        ensures known { IsAuthor result }
+    {
+        match self {
+            Role::Planner(_) => Author::Planner(1),
+            Role::Executive => Author::Executive,
         }
     }
 

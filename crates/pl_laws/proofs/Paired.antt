@@ -1,4 +1,4 @@
--- What the executive of a pair commits is its choice, so the log of a run of a pair is bounded.
+-- What the executive of a team commits is its choice, so the log of a run of a team is bounded.
 use Rattle.std.proofs.Common.{◌≡◌, ℕ, ◌+◌, ◌*◌, ◌≤◌, List, [], ◌∷◌, ◌++◌, length, true, Option, Some, None, refl, sym, ap, subst, length-append, arith}
 use Rattle.std.proofs.Math.Nat.{mul-le-mul_left, mul-le-mul_right}
 use Rattle.pl_model.specs.declared.whole.Model.{Model}
@@ -19,10 +19,11 @@ use Rattle.pl_check.proofs.Apart.{checked_model}
 use Rattle.pl_laws.specs.Laws.{IsExecutiveChoice, executive_from, AreCommitsOfExecutive}
 use Rattle.pl_laws.proofs.PairBudgets.{pair_bounded}
 use Rattle.pl_acts.specs.Roles.{is_executed, IsChosen}
+use Rattle.pl_pair.specs.declared.duty.Duty.{Duty}
 use Rattle.pl_pair.specs.Chosen.{AreChosen}
 use Rattle.pl_main.specs.Top.{program_options}
 use Rattle.pl_main.specs.Endings.{IsFull}
-use Rattle.pl_main.specs.RunKinds.{IsPaired, pair_run}
+use Rattle.pl_main.specs.RunKinds.{IsTeamLog, TeamTail, team_run}
 
 -- an event that was chosen, and is a commit
 commit_is : (o : Option Choice) (h : ℕ) → IsChosen o (event.Commit h) → o ≡ Some (choice.Commit h)
@@ -48,8 +49,8 @@ all_chosen m o before (e ∷ es) chosen = (
   subst (λ (w : World). executive_from w es) (world_from_push (fresh_world m o) before e) (all_chosen m o (before ++ e ∷ []) es chosen.1),
 )
 
-pub paired_bounded : (m : Model) → IsChecked m → (turns seed : ℕ) (log : List Entry) → IsPaired turns seed m log → length log ≤ 10001 + length (inputs_of log) * (2 * turns + 6)
-paired_bounded m checked turns seed log paired =
+pub paired_bounded : (m : Model) → IsChecked m → (turns : ℕ) (duties : List Duty) (log : List Entry) → IsTeamLog turns duties m log → length log ≤ 10001 + length (inputs_of log) * (2 * turns + 6)
+paired_bounded m checked turns duties log paired =
     let o = program_options turns in
     let legal : Legal m (opening o ∷ paired.entries) = subst (λ (l : List Entry). Legal m l) paired.opened paired.history.legal in
     let chosen : AreCommitsOfExecutive m (opening o ∷ paired.entries) = all_chosen m o [] paired.entries paired.chosen in
@@ -58,11 +59,11 @@ paired_bounded m checked turns seed log paired =
     let more : n * (2 * turns + 5) ≤ n * (2 * turns + 6) = mul-le-mul_left n (omega arith) in
     subst (λ (l : List Entry). length l ≤ 10001 + length (inputs_of l) * (2 * turns + 6)) (sym paired.opened) (omega (arith, short, more))
 
-pub pair_full_bounded : (turns seed : ℕ) (input : List ℕ) (left held now : Option (List ℕ)) → IsFull (pair_run turns seed) input left held now
+pub pair_full_bounded : (turns : ℕ) (duties : List Duty) (tail : TeamTail turns duties) (input : List ℕ) (left held now : Option (List ℕ)) → IsFull (team_run turns duties tail) input left held now
     → 250000 ≤ 10001 + length (split_of input).messages * (2 * turns + 6)
-pair_full_bounded turns seed input left held now full =
+pair_full_bounded turns duties tail input left held now full =
     let checked : IsChecked full.model = checked_model full.words full.model full.accepted in
-    let short : length full.log ≤ 10001 + length (inputs_of full.log) * (2 * turns + 6) = paired_bounded full.model checked turns seed full.log full.says in
+    let short : length full.log ≤ 10001 + length (inputs_of full.log) * (2 * turns + 6) = paired_bounded full.model checked turns duties full.log full.says in
     let all = ap (λ (ms : List (Option (List ℕ))). length ms) full.messages in
     let few : length (inputs_of full.log) ≤ length (split_of input).messages = omega (arith, all, length-append (inputs_of full.log) full.unanswered) in
     let more : length (inputs_of full.log) * (2 * turns + 6) ≤ length (split_of input).messages * (2 * turns + 6) = mul-le-mul_right (2 * turns + 6) few in

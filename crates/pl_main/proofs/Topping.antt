@@ -10,7 +10,7 @@ use Rattle.pl_main.specs.declared.command.Command.TheVariants as command
 use Rattle.pl_main.specs.declared.command.Task.{Task}
 use Rattle.pl_main.specs.declared.command.Task.TheVariants as task
 use Rattle.pl_main.specs.Numbers.{number_in}
-use Rattle.pl_main.specs.Words.{turns_by, pair_by, goals_by, flex_by, improve_by, command_in, command_of}
+use Rattle.pl_main.specs.Words.{turns_by, pair_by, crew_by, goals_by, flex_by, improve_by, command_in, command_of}
 use Rattle.pl_main.specs.Replays.{ReadsBack, ReadsBackKnown}
 use Rattle.pl_main.specs.Statuses.{IsTask, status_of, status_of_journal, SaysReadBack, SaysKnown, SaysEndedKnown}
 use Rattle.pl_main.specs.Demos.{Shows}
@@ -163,13 +163,29 @@ no_task : (b : Bool) (n s : Option ℕ) (t : Task) → (if b then pair_by n s el
 no_task true n s t e = no_pair_by n s t e
 no_task false n s t e = absurd (let h : None ≡ Some (command.Alone t) = e in (cc))
 
+-- nor is a crew
+no_crew_made : (b : Bool) (n p s : ℕ) (t : Task) → (if b then Some (command.Crew n p s) else None) ≡ Some (command.Alone t) → IsTask t
+no_crew_made true n p s t e = absurd (let h : command.Crew n p s ≡ command.Alone t = (let i : Some (command.Crew n p s) ≡ Some (command.Alone t) = e in (cc)) in (cc))
+no_crew_made false n p s t e = absurd (let h : None ≡ Some (command.Alone t) = e in (cc))
+
+no_crew_by : (n p s : Option ℕ) (t : Task) → crew_by n p s ≡ Some (command.Alone t) → IsTask t
+no_crew_by None p s t e = absurd (let h : None ≡ Some (command.Alone t) = e in (cc))
+no_crew_by (Some n) None s t e = absurd (let h : None ≡ Some (command.Alone t) = e in (cc))
+no_crew_by (Some n) (Some p) None t e = absurd (let h : None ≡ Some (command.Alone t) = e in (cc))
+no_crew_by (Some n) (Some p) (Some s) t e = no_crew_made (nat_le 1 n && nat_le n 1000 && (nat_le 2 p && nat_le p 8)) n p s t e
+
+no_crew_task : (b : Bool) (n p s : Option ℕ) (t : Task) → (if b then crew_by n p s else None) ≡ Some (command.Alone t) → IsTask t
+no_crew_task true n p s t e = no_crew_by n p s t e
+no_crew_task false n p s t e = absurd (let h : None ≡ Some (command.Alone t) = e in (cc))
+
 by_words : (ws : List (List ℕ)) (t : Task) → command_in ws ≡ Some (command.Alone t) → IsTask t
 by_words [] t e = absurd (let h : None ≡ Some (command.Alone t) = e in (cc))
 by_words (a ∷ []) t e = by_single (bytes_eq a (codes "check")) (bytes_eq a (codes "replay")) (bytes_eq a (codes "report")) (bytes_eq a (codes "forecast")) t e
 by_words (a ∷ n ∷ []) t e = by_two (bytes_eq a (codes "demo")) (bytes_eq a (codes "flex")) (bytes_eq a (codes "improve")) (number_in n) t e
 by_words (a ∷ b ∷ n ∷ []) t e = by_form (bytes_eq a (codes "run") && bytes_eq b (codes "solo")) (number_in n) t e
 by_words (a ∷ b ∷ n ∷ d ∷ []) t e = no_task (bytes_eq a (codes "run") && bytes_eq b (codes "pair")) (number_in n) (number_in d) t e
-by_words (a ∷ b ∷ n ∷ d ∷ x ∷ xs) t e = absurd (let h : None ≡ Some (command.Alone t) = e in (cc))
+by_words (a ∷ b ∷ n ∷ d ∷ x ∷ []) t e = no_crew_task (bytes_eq a (codes "run") && bytes_eq b (codes "crew")) (number_in n) (number_in d) (number_in x) t e
+by_words (a ∷ b ∷ n ∷ d ∷ x ∷ y ∷ xs) t e = absurd (let h : None ≡ Some (command.Alone t) = e in (cc))
 
 pub task_fits : (words : List (String Global)) (t : Task) → command_of words ≡ Some (command.Alone t) → IsTask t
 unfolding command_of
@@ -220,6 +236,15 @@ turns_no_pair : (n : Option ℕ) (turns seed : ℕ) → IsPair (turns_by n) turn
 turns_no_pair None turns seed e = none_no_pair turns seed e
 turns_no_pair (Some n) turns seed e = if_no_pair (nat_le 1 n && nat_le n 1000) (Some (command.Alone (task.Solo n))) turns seed (alone_no_pair (task.Solo n) turns seed) e
 
+crew_made_no_pair : (n p s turns seed : ℕ) → IsPair (Some (command.Crew n p s)) turns seed → ⊥
+crew_made_no_pair n p s turns seed e = (let h : command.Crew n p s ≡ command.Pair turns seed = (let i : Some (command.Crew n p s) ≡ Some (command.Pair turns seed) = e in (cc)) in (cc))
+
+crew_no_pair : (n p s : Option ℕ) (turns seed : ℕ) → IsPair (crew_by n p s) turns seed → ⊥
+crew_no_pair None p s turns seed e = none_no_pair turns seed e
+crew_no_pair (Some n) None s turns seed e = none_no_pair turns seed e
+crew_no_pair (Some n) (Some p) None turns seed e = none_no_pair turns seed e
+crew_no_pair (Some n) (Some p) (Some s) turns seed e = if_no_pair (nat_le 1 n && nat_le n 1000 && (nat_le 2 p && nat_le p 8)) (Some (command.Crew n p s)) turns seed (crew_made_no_pair n p s turns seed) e
+
 pair_bounds : (n s : ℕ) (a b : Bool) → nat_le 1 n ≡ a → nat_le n 1000 ≡ b → (turns seed : ℕ) → IsPair (if a && b then Some (command.Pair n s) else None) turns seed → (1 ≤ turns) × (turns ≤ 1000)
 pair_bounds n s true true low high turns seed e =
     let is : n ≡ turns = (let h : command.Pair n s ≡ command.Pair turns seed = (let i : Some (command.Pair n s) ≡ Some (command.Pair turns seed) = e in (cc)) in (cc)) in
@@ -242,7 +267,8 @@ pair_words (a ∷ []) turns seed e = absurd (single_no_pair (bytes_eq a (codes "
 pair_words (a ∷ n ∷ []) turns seed e = absurd (two_no_pair (bytes_eq a (codes "demo")) (bytes_eq a (codes "flex")) (bytes_eq a (codes "improve")) (number_in n) turns seed e)
 pair_words (a ∷ b ∷ n ∷ []) turns seed e = absurd (if_no_pair (bytes_eq a (codes "run") && bytes_eq b (codes "solo")) (turns_by (number_in n)) turns seed (turns_no_pair (number_in n) turns seed) e)
 pair_words (a ∷ b ∷ n ∷ s ∷ []) turns seed e = pair_in (bytes_eq a (codes "run") && bytes_eq b (codes "pair")) (number_in n) (number_in s) turns seed e
-pair_words (a ∷ b ∷ n ∷ s ∷ x ∷ xs) turns seed e = absurd (none_no_pair turns seed e)
+pair_words (a ∷ b ∷ n ∷ p ∷ s ∷ []) turns seed e = absurd (if_no_pair (bytes_eq a (codes "run") && bytes_eq b (codes "crew")) (crew_by (number_in n) (number_in p) (number_in s)) turns seed (crew_no_pair (number_in n) (number_in p) (number_in s) turns seed) e)
+pair_words (a ∷ b ∷ n ∷ p ∷ s ∷ x ∷ xs) turns seed e = absurd (none_no_pair turns seed e)
 
 pub turns_fit : (words : List (String Global)) (turns seed : ℕ) → command_of words ≡ Some (command.Pair turns seed) → (1 ≤ turns) × (turns ≤ 1000)
 unfolding command_of

@@ -141,4 +141,4 @@ unfoldable pub IsPairStatus : ℕ → Type 0
 IsPairStatus status = Contains pair_statuses status
 
 abbrev pub usage_line : List ℕ
-usage_line = codes "usage: run solo N | run pair N SEED | check | replay | report | demo N | flex ID | forecast | improve N" ++ 10 ∷ []
+usage_line = codes "usage: run solo N | run pair N SEED | check | replay | report | demo N | run crew N P SEED | flex ID | forecast | improve N" ++ 10 ∷ []

@@ -4,7 +4,18 @@ pub enum Command {
     /// Plans a mission with a planner and an executive in threads of their own. The repair turns of a round are from 1 to
     /// 1,000, the seed of the planner's chooser is up to 999,999,999,999,999,999.
     Pair { turns: u32, seed: u64 },
+    /// Plans a mission with an executive and several planners, 2 to 8, each in a thread of its own. The chooser of each planner is made from the
+    /// seed and the planner's number added up.
+    Crew { turns: u32, planners: u8, seed: u64 },
     Alone(Task),
+}
+
+/// Who repairs a plan, beside an executive: a planner with a chooser of this seed, or several, numbered from 1, each with a chooser of
+/// the seed and its number added up.
+#[derive(Clone, Copy, Debug, PartialEq, Eq)]
+pub enum Team {
+    Pair { seed: u64 },
+    Crew { planners: u8, seed: u64 },
 }
 
 /// A job of one thread. The repair turns of a round are from 1 to 1,000.

@@ -3,7 +3,7 @@ ghost use Rattle.std.specs.Prelude.{◌≡◌, ◌≤◌, ◌<◌, [], length, N
 ghost use Rattle.pl_io.specs.Faults.{Rose};
 ghost use Rattle.pl_turn.specs.Passes.{seen_of, mine_of};
 ghost use Rattle.pl_acts.specs.Items.{entries_in};
-ghost use Rattle.pl_shared.specs.Plans.{BelongsTo};
+ghost use Rattle.pl_locked.specs.Plans.{BelongsTo};
 ghost use Rattle.pl_pair.specs.Workers.{AreHands, SameDuties};
 ghost use Rattle.pl_input.specs.Places.{place_of};
 ghost use Rattle.pl_pair.specs.Asking.{PassesTo};
@@ -15,8 +15,8 @@ use crate::cut::Cut;
 use crate::hands::Hands;
 use crate::rounds::{Stage, write_round};
 use pl_io::{LineReader, Sink, Source};
+use pl_locked::{Pass, SharedPlan};
 use pl_model::Model;
-use pl_shared::{Pass, SharedPlan};
 use std::alloc::Global;
 use std::sync::Wait;
 
