@@ -1,11 +1,11 @@
 //! The list of what is broken, with what comes and without what goes.
-ghost use Rattle.std.specs.Prelude.{◌≡◌, ◌&&◌, ◌||◌, not, false, All, IfOk, OnOk, OnErr};
+ghost use Rattle.std.specs.Prelude.{◌≡◌, ◌&&◌, ◌||◌, not, false, All, OnOk, OnErr};
 ghost use Rattle.std.specs.List.Sorted.{IsStrictlySortedBy};
 ghost use Rattle.pl_links.specs.declared.broken.Broken.{Broken};
 ghost use Rattle.pl_links.specs.Sets.{broken_cmp, has};
 
 use crate::broken::Broken;
-use std::alloc::{AllocError, Global};
+use std::alloc::AllocError;
 use std::collections::BTreeSet;
 
 /// Takes these out.

@@ -1,10 +1,11 @@
-ghost use Rattle.std.specs.Prelude.{◌≡◌, ◌<◌, ◌≤◌, ◌-◌, ◌++◌, ◌∷◌, [], ℕ, List, true, length, take, drop, suc, min, max, slice_index_or, OnOk, OnErr, IfOk};
+ghost use Rattle.std.specs.Prelude.{◌≡◌, ◌<◌, ◌≤◌, ◌-◌, [], ℕ, List, length, take, drop, min, max, slice_index_or, OnOk, IfOk};
 ghost use Rattle.pl_lists.specs.Lists.{front, back};
-ghost use Rattle.pl_points.specs.Standing.{stands, without};
-ghost use Rattle.pl_state.specs.Sets.{set_key, set_before, same_setting, with_set, state_from, is_listed, is_allowed, bad_from, is_passed, AreInOrder};
+ghost use Rattle.pl_points.specs.Standing.{without};
+ghost use Rattle.pl_state.specs.Sets.{set_key, set_before, same_setting, with_set, state_from, is_allowed, bad_from, is_passed, AreInOrder};
 ghost use Rattle.pl_state.specs.Keys.{AreSorted};
 ghost use Rattle.pl_state.specs.Near.{next_moment, rest_after, comes_before, state_before};
 
+use crate::allowed::bad_of;
 use crate::answer::BadSet;
 use crate::bound::Bound;
 use crate::finding::position_in;
@@ -121,23 +122,6 @@ impl Sets {
     }
 }
 
-fn is_listed(steps: &[(u32, u32)], from: u32, to: u32) -> bool
-    ensures { result ≡ is_listed steps.now from to }
-{
-    for step in steps {
-        if step.0 == from && step.1 == to {
-            return true;
-        }
-    }
-    false
-}
-
-pub(crate) fn is_allowed(any: bool, steps: &[(u32, u32)], from: u32, to: u32) -> bool
-    ensures { result ≡ is_allowed any steps.now from to }
-{
-    any || from == to || is_listed(steps, from, to)
-}
-
 // The moment of the first set from the place on, at most the horizon.
 fn next_moment(sets: &Sets, from: usize, horizon: u32) -> u32
     ensures { result ≡ next_moment horizon (drop from sets.now) }
@@ -188,35 +172,6 @@ pub(crate) fn remove_set(sets: &mut Sets, set: Setting, horizon: u32) -> Span
         }
         None => window_from(sets, sets.len(), set.at, horizon),
     }
-}
-
-// The sets whose step is not allowed.
-fn bad_of(
-    alloc: Global,
-    any: bool,
-    steps: &[(u32, u32)],
-    counted: Span,
-    moment: u32,
-    value: u32,
-    sets: &[Setting],
-) -> Result<Vec<BadSet>, AllocError>
-    ensures { IfOk result (λ v. v.items ≡ bad_from
-        (is_allowed any steps.now) counted.from counted.to moment value sets.now) }
-{
-    let mut bad = Vec::new(alloc);
-    let mut state = value;
-    for set in sets {
-        let counts = counted.from < set.at && set.at < counted.to;
-        if counts && (moment <= set.at && !is_allowed(any, steps, state, set.state)) {
-            bad.push(BadSet {
-                at: set.at,
-                id: set.id,
-                index: set.index,
-            })?;
-        }
-        state = if counts { set.state } else { state };
-    }
-    Ok(bad)
 }
 
 // The moment of the first set after the base, at most the horizon.

@@ -1,7 +1,7 @@
 use Rattle.std.proofs.Common.{◌≡◌, ◌<◌, ◌+◌, ◌/◌, ◌++◌, ◌∷◌, [], suc, ap, sym, ◌∙◌, arith, length, take, drop, set, get_or, subst}
 use Rattle.std.proofs.lemmas.List.{take_rest, length-drop, length-take, get_or_default}
 use Rattle.pl_state.proofs.InRows.{split_there, split_filled, read_split}
-use Rattle.pl_state.proofs.rows.split.Goals as goal
+use Rattle.pl_state.proofs.filling.split.Goals as goal
 
 pub returns-clause-same : goal.returns-clause-same
 returns-clause-same g c =

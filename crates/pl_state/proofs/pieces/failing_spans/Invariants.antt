@@ -2,7 +2,7 @@
 use Rattle.std.proofs.Common.{◌≤◌, ◌-◌, ◌==◌, not}
 use Rattle.pl_points.specs.Spans.{AreMaximal}
 use Rattle.pl_state.specs.Sets.{state_from}
-use Rattle.pl_state.proofs.musts.failing_spans.Given as goal
+use Rattle.pl_state.proofs.pieces.failing_spans.Given as goal
 
 abbrev pub invariant-pieces : goal.invariant-pieces
 invariant-pieces l = record {

@@ -4,7 +4,7 @@ use Rattle.pl_points.specs.Spans.{AreMaximal}
 use Rattle.pl_points.proofs.Maximal.{is_spans_of}
 use Rattle.pl_state.specs.Sets.{state_from}
 use Rattle.pl_state.proofs.Failing.{more_maximal}
-use Rattle.pl_state.proofs.musts.failing_spans.Goals as goal
+use Rattle.pl_state.proofs.pieces.failing_spans.Goals as goal
 
 pub pieces-preserved : goal.pieces-preserved
 pieces-preserved c =

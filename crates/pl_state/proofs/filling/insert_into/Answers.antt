@@ -1,7 +1,7 @@
 use Rattle.std.proofs.Common.{◌++◌, ◌∷◌, take, drop, set, ap, ◌∙◌, subst}
 use Rattle.pl_state.specs.Rows.{IsSpot}
 use Rattle.pl_state.proofs.InRows.{put_there, put_filled}
-use Rattle.pl_state.proofs.rows.insert_into.Goals as goal
+use Rattle.pl_state.proofs.filling.insert_into.Goals as goal
 
 pub returns-clause-ok : goal.returns-clause-ok
 returns-clause-ok g c =

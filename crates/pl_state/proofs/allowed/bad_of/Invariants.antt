@@ -1,7 +1,7 @@
 -- the rest gives the whole
 use Rattle.std.proofs.Common.{◌≡◌, ◌++◌, drop}
 use Rattle.pl_state.specs.Sets.{bad_from, is_allowed}
-use Rattle.pl_state.proofs.sets.bad_of.Given as goal
+use Rattle.pl_state.proofs.allowed.bad_of.Given as goal
 
 abbrev pub invariant-loop-set : goal.invariant-loop-set
 invariant-loop-set l =

@@ -2,7 +2,7 @@ use Rattle.std.proofs.Common.{◌≡◌, ◌<◌, ◌++◌, [], suc, ap, sym, �
 use Rattle.std.proofs.lemmas.List.{get_or_default, length-drop, length-append, length-take, nil_from_length}
 use Rattle.pl_state.specs.Rows.{together}
 use Rattle.pl_state.proofs.InRows.{with_row, together_append, filled_append, filled_take, filled_drop, filled_set}
-use Rattle.pl_state.proofs.rows.take_out.Goals as goal
+use Rattle.pl_state.proofs.filling.take_out.Goals as goal
 
 pub returns-then-len-eq1-clause-gone : goal.returns-then-len-eq1-clause-gone
 returns-then-len-eq1-clause-gone g c =

@@ -2,8 +2,8 @@ use Rattle.std.proofs.Common.{◌≡◌, ◌<◌, ◌-◌, suc, ℕ, length, ari
 use Rattle.pl_points.specs.declared.span.Span.{Span}
 use Rattle.pl_points.specs.Spans.{span}
 use Rattle.pl_points.proofs.Spanning.{joined_set, joined_push, read_same}
-use Rattle.pl_state.proofs.musts.extend.Goals as goal
-use Rattle.pl_state.proofs.musts.extend.Goals.{else-count-gt0-via-then-count-gt0+else-index-from, else-count-gt0-via-else-count-gt0}
+use Rattle.pl_state.proofs.pieces.extend.Goals as goal
+use Rattle.pl_state.proofs.pieces.extend.Goals.{else-count-gt0-via-then-count-gt0+else-index-from, else-count-gt0-via-else-count-gt0}
 
 pub returns-then-index-from : goal.returns-then-index-from
 returns-then-index-from c =

@@ -1,7 +1,7 @@
 use Rattle.std.proofs.Common.{◌≡◌, ◌<◌, ◌+◌, ◌-◌, suc, ap, sym, ◌∙◌, subst, arith, length}
 use Rattle.std.proofs.lemmas.List.{get_or_default}
 use Rattle.pl_state.proofs.InRows.{IsNear, next_row}
-use Rattle.pl_state.proofs.rows.spot_of.Goals as goal
+use Rattle.pl_state.proofs.filling.spot_of.Goals as goal
 
 pub rows-preserved : goal.rows-preserved
 rows-preserved g c =
