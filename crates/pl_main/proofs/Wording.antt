@@ -31,15 +31,14 @@ more_digits value k d small is =
 abbrev IsBelow : ℕ → Option ℕ → Type 0
 IsBelow digits number = IfSome number (λ n. n < 10 ^ digits)
 
+digit_by : (b : Bool) (k more : ℕ) (number : Option ℕ) → (b ≡ true → IsBelow (k + 1 + more) number) → IsBelow (k + suc more) (if b then number else None)
+digit_by true k more number less = subst (λ (x : ℕ). IsBelow x number) (let same : k + 1 + more ≡ k + suc more = omega arith in same) (less refl)
+digit_by false k more number less = tt
+
 digits_small : (ds : List ℕ) (value k : ℕ) → value < 10 ^ k → IsBelow (k + length ds) (digits_on value ds)
 digits_small [] value k small = subst (λ (x : ℕ). value < 10 ^ x) (let same : k ≡ k + 0 = omega arith in same) small
-digits_small (d ∷ ds) value k small = by (is_digit d) refl
-  where
-    by : (b : Bool) → is_digit d ≡ b → IsBelow (k + suc (length ds)) (if b then digits_on (value * 10 + (d - 48)) ds else None)
-    by true is =
-        let less = digits_small ds (value * 10 + (d - 48)) (k + 1) (more_digits value k d small is) in
-        subst (λ (x : ℕ). IsBelow x (digits_on (value * 10 + (d - 48)) ds)) (let same : k + 1 + length ds ≡ k + suc (length ds) = omega arith in same) less
-    by false is = tt
+digits_small (d ∷ ds) value k small =
+    digit_by (is_digit d) k (length ds) (digits_on (value * 10 + (d - 48)) ds) (λ is. digits_small ds (value * 10 + (d - 48)) (k + 1) (more_digits value k d small is))
 
 abbrev IsSmall : Option ℕ → Type 0
 IsSmall number = IfSome number (λ n. n ≤ 999999999999999999)
