@@ -1,7 +1,6 @@
 use Rattle.std.proofs.Common.{◌≡◌, Some}
 use Rattle.pl_main.specs.declared.command.Command.TheVariants as command
 use Rattle.pl_main.specs.Words.{command_of}
-use Rattle.pl_main.proofs.Jobs.{job_not_usage, pair_not_usage}
 use Rattle.pl_main.proofs.Wording.{pair_fits, crew_fits}
 use Rattle.pl_main.proofs.top.run.Goals as goal
 
@@ -28,21 +27,3 @@ team_status-requires-in-Some-Crew-clause-team g c κs within =
     let crew = c.in-Some-Crew.field-0-is in
     let is : command_of c.args.words.now ≡ Some (command.Crew c.in-Some-Crew.turns c.in-Some-Crew.planners c.in-Some-Crew.seed) = cc in
     (crew_fits c.args.words.now c.in-Some-Crew.turns c.in-Some-Crew.planners c.in-Some-Crew.seed is).1
-
-pub returns-in-Some-Pair-clause-usage : goal.returns-in-Some-Pair-clause-usage
-returns-in-Some-Pair-clause-usage g c = λ two. absurd (pair_not_usage _ c.team_status.ensures.status two)
-
-pub returns-in-Some-Pair-clause-usage_text : goal.returns-in-Some-Pair-clause-usage_text
-returns-in-Some-Pair-clause-usage_text g c = λ two. absurd (pair_not_usage _ c.team_status.ensures.status two)
-
-pub returns-in-Some-Crew-clause-usage : goal.returns-in-Some-Crew-clause-usage
-returns-in-Some-Crew-clause-usage g c = λ two. absurd (pair_not_usage _ c.team_status-in-Some-Crew.ensures.status two)
-
-pub returns-in-Some-Crew-clause-usage_text : goal.returns-in-Some-Crew-clause-usage_text
-returns-in-Some-Crew-clause-usage_text g c = λ two. absurd (pair_not_usage _ c.team_status-in-Some-Crew.ensures.status two)
-
-pub returns-in-Some-Alone-clause-usage : goal.returns-in-Some-Alone-clause-usage
-returns-in-Some-Alone-clause-usage g c = λ two. absurd (job_not_usage _ _ c.run_solo.ensures.status two)
-
-pub returns-in-Some-Alone-clause-usage_text : goal.returns-in-Some-Alone-clause-usage_text
-returns-in-Some-Alone-clause-usage_text g c = λ two. absurd (job_not_usage _ _ c.run_solo.ensures.status two)
