@@ -1,16 +1,30 @@
 //! The calls of a crew, on one thread.
+ghost use Rattle.std.specs.Prelude.{◌≡◌, ◌≢◌, [], length, true, IfOk};
+ghost use Rattle.std.specs.List.{All};
+ghost use Rattle.pl_turn.specs.Passes.{seen_of, crew_of, leads, made_by, joined_by};
+ghost use Rattle.pl_marks.specs.declared.author.Author.TheVariants.{Feeder, Executive};
+ghost use Rattle.pl_locked.specs.Turns.{CanSettle};
+ghost use Rattle.pl_many.specs.Members.{IsMember};
+
 use crate::asserting::holds;
 use crate::journals::models::{MODEL, model, shared_model};
+use crate::journals::shared::has_newline;
 use pl_facts::Options;
 use pl_journal::render;
-use pl_machine::{Machine, Stop};
+use pl_machine::Machine;
 use pl_many::{Acted, Author, Crew, Hired, Mark, Member, Sight, View};
 use std::alloc::{AllocError, Global};
 use std::process::Abort;
 use std::sync::Wait;
 
 /// A crew of two planners over a plan with nothing planned.
-fn hired(rt: &impl Abort, alloc: Global) -> Result<Hired, AllocError> {
+fn hired(rt: &impl Abort, alloc: Global) -> Result<Hired, AllocError>
+    ensures feeder { IfOk result (λ hired. IsMember hired.crew hired.feeder) }
+    ensures feeds { IfOk result (λ hired. hired.feeder.author ≡ Feeder) }
+    ensures first { IfOk result (λ hired. leads hired.feeder.pass ≡ true) }
+    ensures three { IfOk result (λ hired. (made_by hired.feeder.pass ≡ 3) × (joined_by hired.feeder.pass ≡ [])) }
+    ensures members { IfOk result (λ hired. All (IsMember hired.crew) hired.members.items) }
+{
     let options = Options {
         turns: 8,
         live: 10000,
@@ -27,12 +41,110 @@ fn hired(rt: &impl Abort, alloc: Global) -> Result<Hired, AllocError> {
     }
 }
 
+/// Takes the last of the members, who has this author.
+fn last_of(rt: &impl Abort, crew: &Crew, members: &mut Vec<Member>, wanted: Author) -> Member
+    requires { All (IsMember crew.now) members.old.items }
+    ensures rest { All (IsMember crew.now) members.new.items }
+    ensures own { IsMember crew.now result }
+{
+    let member = members.pop().expect(rt, "a member");
+    holds(rt, "its author", member.author() == wanted);
+    member
+}
+
+/// Feeds a message, the first of all.
+fn tell<R: Abort + Wait>(rt: &R, alloc: Global, crew: &Crew, feeder: &mut Member, line: &[u8])
+    requires own { IsMember crew.now feeder.old }
+    requires feeder { feeder.old.author ≡ Feeder }
+    ensures own { IsMember crew.now feeder.new }
+    ensures crew { crew_of feeder.new.pass ≡ crew_of feeder.old.pass }
+{
+    holds(rt, "few bytes", line.len() <= 4096);
+    holds(rt, "one line", !has_newline(line));
+    let fed = crew.feed(rt, alloc, feeder, Some(line));
+    holds(rt, "entry 1", fed == Ok(1));
+}
+
+fn is_planner(member: &Member) -> bool
+    ensures { result ≡ true → (member.now.author ≢ Feeder) × (member.now.author ≢ Executive) }
+{
+    matches!(member.author(), Author::Planner(_))
+}
+
 /// What a planner saw.
-fn sight_of<R: Abort + Wait>(rt: &R, alloc: Global, crew: &Crew, planner: &mut Member) -> Sight {
+fn sight_of<R: Abort + Wait>(rt: &R, alloc: Global, crew: &Crew, planner: &mut Member) -> Sight
+    requires { IsMember crew.now planner.old }
+    ensures own { IsMember crew.now planner.new }
+    ensures sight { CanSettle (seen_of planner.new.pass) result }
+{
+    holds(rt, "a planner", is_planner(planner));
     match crew.view(rt, alloc, planner) {
         Ok(View::Copy(sight)) => sight,
         _ => panic!(rt; "no sight"),
     }
+}
+
+/// Settles, and compares the number of the entry.
+fn settles<R: Abort + Wait>(
+    rt: &R,
+    alloc: Global,
+    crew: &Crew,
+    planner: &mut Member,
+    sight: Sight,
+    entry: u32,
+)
+    requires own { IsMember crew.now planner.old }
+    requires sight { CanSettle (seen_of planner.old.pass) sight }
+    ensures { IsMember crew.now planner.new }
+{
+    holds(rt, "a planner", is_planner(planner));
+    let settled = crew.settle(rt, alloc, planner, sight);
+    holds(rt, "what settles", settled == Ok(Acted::Did(entry)));
+}
+
+/// Both planners look, then both settle.
+fn both_repair<R: Abort + Wait>(
+    rt: &R,
+    alloc: Global,
+    crew: &Crew,
+    first: &mut Member,
+    second: &mut Member,
+)
+    requires first { IsMember crew.now first.old }
+    requires second { IsMember crew.now second.old }
+    ensures first { IsMember crew.now first.new }
+    ensures second { IsMember crew.now second.new }
+{
+    let one = sight_of(rt, alloc, crew, first);
+    let two = sight_of(rt, alloc, crew, second);
+    settles(rt, alloc, crew, first, one, 2);
+    settles(rt, alloc, crew, second, two, 3);
+}
+
+/// Acts once more.
+fn rests<R: Abort + Wait>(rt: &R, alloc: Global, crew: &Crew, planner: &mut Member)
+    requires { IsMember crew.now planner.old }
+    ensures { IsMember crew.now planner.new }
+{
+    holds(rt, "a planner", is_planner(planner));
+    let acted = crew.act(rt, alloc, planner);
+    holds(rt, "a rest", acted == Ok(Acted::Did(4)));
+}
+
+fn join_three(crew: &Crew, feeder: &mut Member, executive: Member, first: Member, second: Member)
+    requires feeder { IsMember crew.now feeder.old }
+    requires first_pass { leads feeder.old.pass ≡ true }
+    requires three { (made_by feeder.old.pass ≡ 3) × (joined_by feeder.old.pass ≡ []) }
+    requires executive { IsMember crew.now executive }
+    requires first { IsMember crew.now first }
+    requires second { IsMember crew.now second }
+    ensures feeder { IsMember crew.now feeder.new }
+    ensures first_pass { leads feeder.new.pass ≡ true }
+    ensures all_joined { made_by feeder.new.pass ≡ length (joined_by feeder.new.pass) }
+{
+    crew.join(feeder, executive);
+    crew.join(feeder, first);
+    crew.join(feeder, second);
 }
 
 /// Both planners look, then both settle: the second repair is stale, and counts as an entry of the second planner. Then it rests.
@@ -42,33 +154,16 @@ fn the_second_repair_is_stale(rt: HostRuntime) {
     let Hired {
         crew,
         mut feeder,
-        members,
+        mut members,
     } = hired(&rt, alloc).expect(&rt, "memory");
-    let fed = crew.feed(&rt, &mut feeder, Some(b"goal 1 obs 10 20 must"));
-    holds(&rt, "the goal", fed == Ok(1));
-    let [executive, mut first, mut second] = three(&rt, members);
-    let (one, two) = (
-        sight_of(&rt, alloc, &crew, &mut first),
-        sight_of(&rt, alloc, &crew, &mut second),
-    );
-    holds(
-        &rt,
-        "the first repair",
-        crew.settle(&rt, alloc, &mut first, one) == Ok(Acted::Did(2)),
-    );
-    holds(
-        &rt,
-        "the second",
-        crew.settle(&rt, alloc, &mut second, two) == Ok(Acted::Did(3)),
-    );
-    holds(
-        &rt,
-        "a rest",
-        crew.act(&rt, alloc, &mut second) == Ok(Acted::Did(4)),
-    );
-    for member in [executive, first, second] {
-        crew.join(&mut feeder, member);
-    }
+    tell(&rt, alloc, &crew, &mut feeder, b"goal 1 obs 10 20 must");
+    let mut second = last_of(&rt, &crew, &mut members, Author::Planner(2));
+    let mut first = last_of(&rt, &crew, &mut members, Author::Planner(1));
+    let executive = last_of(&rt, &crew, &mut members, Author::Executive);
+    holds(&rt, "no other member", members.is_empty());
+    both_repair(&rt, alloc, &crew, &mut first, &mut second);
+    rests(&rt, alloc, &crew, &mut second);
+    join_three(&crew, &mut feeder, executive, first, second);
     let (machine, marks) = crew.close(feeder);
     assert_log(&rt, alloc, &machine);
     assert_marks(&rt, &marks);
@@ -111,22 +206,4 @@ fn assert_log(rt: &impl Abort, alloc: Global, machine: &Machine) {
         let text = std::str::from_utf8(&line).unwrap_or("").trim_end();
         holds(rt, front, text.starts_with(front) && text.ends_with(end));
     }
-}
-
-/// The executive and the two planners.
-fn three(rt: &impl Abort, mut members: Vec<Member>) -> [Member; 3] {
-    let second = members.pop().expect(rt, "planner 2");
-    let first = members.pop().expect(rt, "planner 1");
-    let executive = members.pop().expect(rt, "the executive");
-    holds(
-        rt,
-        "by number",
-        second.author() == Author::Planner(2) && first.author() == Author::Planner(1),
-    );
-    holds(
-        rt,
-        "the executive",
-        executive.author() == Author::Executive && members.is_empty(),
-    );
-    [executive, first, second]
 }
