@@ -56,6 +56,17 @@ number_small : (text : List ℕ) → IsSmall (number_in text)
 unfolding number_in
 number_small text = number_by (nat_lt 0 (length text)) (nat_le (length text) 18) text refl
 
+-- ---- what is read where a test holds
+
+pub tested : {C : Type 0} (P : C → Type 0) (b : Bool) (c : Option C) → (b ≡ true → IfSome c P) → IfSome (if b then c else None) P
+tested P true c fits = fits refl
+tested P false c fits = tt
+
+within : (least n most : ℕ) → (nat_le least n && nat_le n most) ≡ true → (least ≤ n) × (n ≤ most)
+within least n most is =
+    let parts = and_parts (nat_le least n) (nat_le n most) is in
+    (leb-true least n parts.0, leb-true n most parts.1)
+
 -- ---- what the words ask for
 
 -- what a command asks for is within its bounds
@@ -67,31 +78,21 @@ Fits (command.Crew turns planners seed) = ((1 ≤ turns) × (turns ≤ 1000)) ×
 abbrev FitsIfAny : Option Command → Type 0
 FitsIfAny c = IfSome c Fits
 
--- a command that is read where a test holds
-tested : (b : Bool) (c : Option Command) → (b ≡ true → FitsIfAny c) → FitsIfAny (if b then c else None)
-tested true c fits = fits refl
-tested false c fits = tt
-
-within : (least n most : ℕ) → (nat_le least n && nat_le n most) ≡ true → (least ≤ n) × (n ≤ most)
-within least n most is =
-    let parts = and_parts (nat_le least n) (nat_le n most) is in
-    (leb-true least n parts.0, leb-true n most parts.1)
-
 by_turns : (n : Option ℕ) → FitsIfAny (turns_by n)
 by_turns None = tt
-by_turns (Some n) = tested (nat_le 1 n && nat_le n 1000) (Some (command.Alone (task.Solo n))) (within 1 n 1000)
+by_turns (Some n) = tested Fits (nat_le 1 n && nat_le n 1000) (Some (command.Alone (task.Solo n))) (within 1 n 1000)
 
 by_pair : (n seed : Option ℕ) → FitsIfAny (pair_by n seed)
 by_pair None seed = tt
 by_pair (Some n) None = tt
-by_pair (Some n) (Some seed) = tested (nat_le 1 n && nat_le n 1000) (Some (command.Pair n seed)) (within 1 n 1000)
+by_pair (Some n) (Some seed) = tested Fits (nat_le 1 n && nat_le n 1000) (Some (command.Pair n seed)) (within 1 n 1000)
 
 by_crew : (n p seed : Option ℕ) → IsSmall seed → FitsIfAny (crew_by n p seed)
 by_crew None p seed small = tt
 by_crew (Some n) None seed small = tt
 by_crew (Some n) (Some p) None small = tt
 by_crew (Some n) (Some p) (Some seed) small =
-    tested (nat_le 1 n && nat_le n 1000 && (nat_le 2 p && nat_le p 8)) (Some (command.Crew n p seed))
+    tested Fits (nat_le 1 n && nat_le n 1000 && (nat_le 2 p && nat_le p 8)) (Some (command.Crew n p seed))
     (λ is.
         let parts = and_parts (nat_le 1 n && nat_le n 1000) (nat_le 2 p && nat_le p 8) is in
         let planners = within 2 p 8 parts.1 in
@@ -99,7 +100,7 @@ by_crew (Some n) (Some p) (Some seed) small =
 
 by_goals : (n : Option ℕ) → FitsIfAny (goals_by n)
 by_goals None = tt
-by_goals (Some n) = tested (nat_le 1 n && nat_le n 4000) (Some (command.Alone (task.Demo n))) (within 1 n 4000)
+by_goals (Some n) = tested Fits (nat_le 1 n && nat_le n 4000) (Some (command.Alone (task.Demo n))) (within 1 n 4000)
 
 by_flex : (id : Option ℕ) → FitsIfAny (flex_by id)
 by_flex None = tt
@@ -107,7 +108,7 @@ by_flex (Some id) = tt
 
 by_improve : (n : Option ℕ) → FitsIfAny (improve_by n)
 by_improve None = tt
-by_improve (Some n) = tested (nat_le 1 n && nat_le n 1000) (Some (command.Alone (task.Improve n))) (within 1 n 1000)
+by_improve (Some n) = tested Fits (nat_le 1 n && nat_le n 1000) (Some (command.Alone (task.Improve n))) (within 1 n 1000)
 
 by_word : (a b c d : Bool)
     → FitsIfAny (if a then Some (command.Alone task.Check) else if b then Some (command.Alone task.Replay) else if c then Some (command.Alone task.Report) else if d then Some (command.Alone task.Forecast) else None)
@@ -127,10 +128,10 @@ by_words : (ws : List (List ℕ)) → FitsIfAny (command_in ws)
 by_words [] = tt
 by_words (a ∷ []) = by_word (bytes_eq a (codes "check")) (bytes_eq a (codes "replay")) (bytes_eq a (codes "report")) (bytes_eq a (codes "forecast"))
 by_words (a ∷ n ∷ []) = by_two (bytes_eq a (codes "demo")) (bytes_eq a (codes "flex")) (bytes_eq a (codes "improve")) (number_in n)
-by_words (a ∷ b ∷ n ∷ []) = tested (bytes_eq a (codes "run") && bytes_eq b (codes "solo")) (turns_by (number_in n)) (λ _. by_turns (number_in n))
-by_words (a ∷ b ∷ n ∷ s ∷ []) = tested (bytes_eq a (codes "run") && bytes_eq b (codes "pair")) (pair_by (number_in n) (number_in s)) (λ _. by_pair (number_in n) (number_in s))
+by_words (a ∷ b ∷ n ∷ []) = tested Fits (bytes_eq a (codes "run") && bytes_eq b (codes "solo")) (turns_by (number_in n)) (λ _. by_turns (number_in n))
+by_words (a ∷ b ∷ n ∷ s ∷ []) = tested Fits (bytes_eq a (codes "run") && bytes_eq b (codes "pair")) (pair_by (number_in n) (number_in s)) (λ _. by_pair (number_in n) (number_in s))
 by_words (a ∷ b ∷ n ∷ p ∷ s ∷ []) =
-    tested (bytes_eq a (codes "run") && bytes_eq b (codes "crew")) (crew_by (number_in n) (number_in p) (number_in s))
+    tested Fits (bytes_eq a (codes "run") && bytes_eq b (codes "crew")) (crew_by (number_in n) (number_in p) (number_in s))
     (λ _. by_crew (number_in n) (number_in p) (number_in s) (number_small s))
 by_words (a ∷ b ∷ n ∷ p ∷ s ∷ x ∷ xs) = tt
 
