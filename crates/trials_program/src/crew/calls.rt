@@ -44,7 +44,7 @@ fn the_second_repair_is_stale(rt: HostRuntime) {
         mut feeder,
         members,
     } = hired(&rt, alloc).expect(&rt, "memory");
-    let fed = crew.feed(&rt, &mut feeder, Some(b"goal 1 obs 10 20 must"));
+    let fed = crew.feed(&rt, alloc, &mut feeder, Some(b"goal 1 obs 10 20 must"));
     holds(&rt, "the goal", fed == Ok(1));
     let [executive, mut first, mut second] = three(&rt, members);
     let (one, two) = (
