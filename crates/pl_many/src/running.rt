@@ -54,6 +54,7 @@ pub fn run_crew<R: Threads + Wait + Sync, I: Source, O: Sink, G: Gate + Sync>(
     ensures read { IsErrOf result Halt.Read → (lines.old.failed ≡ None) → Rose (I.faults src.old) (I.faults src.new) }
     ensures write { IsErrOf result Halt.Write → Rose (O.faults out.old) (O.faults out.new) }
 {
+    let _log = machine.log();
     let Ok(duties) = duties(alloc, planners, seed, machine.entries()) else {
         return Err(Halt::Memory);
     };
