@@ -1,106 +1,15 @@
 //! The calls of a crew, on one thread.
-ghost use Rattle.std.specs.Prelude.{◌≡◌, ◌≢◌, [], length, true, IfOk};
-ghost use Rattle.std.specs.List.{All};
-ghost use Rattle.pl_turn.specs.Passes.{seen_of, crew_of, leads, made_by, joined_by};
-ghost use Rattle.pl_marks.specs.declared.author.Author.TheVariants.{Feeder, Executive};
-ghost use Rattle.pl_locked.specs.Turns.{CanSettle};
 ghost use Rattle.pl_many.specs.Members.{IsMember};
 
 use crate::asserting::holds;
-use crate::journals::models::{MODEL, model, shared_model};
-use crate::journals::shared::has_newline;
-use pl_facts::Options;
+use crate::crew::members::{acts, hired, is_told, join_three, last_of, settles, sight_of, tell};
+use crate::journals::models::{MODEL, model};
 use pl_journal::render;
 use pl_machine::Machine;
-use pl_many::{Acted, Author, Crew, Hired, Mark, Member, Sight, View};
-use std::alloc::{AllocError, Global};
+use pl_many::{Acted, Author, Crew, Hired, Mark, Member};
+use std::alloc::Global;
 use std::process::Abort;
 use std::sync::Wait;
-
-/// A crew of two planners over a plan with nothing planned.
-fn hired(rt: &impl Abort, alloc: Global) -> Result<Hired, AllocError>
-    ensures feeder { IfOk result (λ hired. IsMember hired.crew hired.feeder) }
-    ensures feeds { IfOk result (λ hired. hired.feeder.author ≡ Feeder) }
-    ensures first { IfOk result (λ hired. leads hired.feeder.pass ≡ true) }
-    ensures three { IfOk result (λ hired. (made_by hired.feeder.pass ≡ 3) × (joined_by hired.feeder.pass ≡ [])) }
-    ensures members { IfOk result (λ hired. All (IsMember hired.crew) hired.members.items) }
-{
-    let options = Options {
-        turns: 8,
-        live: 10000,
-        goals: 20000,
-        entries: 250000,
-    };
-    let machine = Machine::fresh(alloc, shared_model(rt, alloc), options)?;
-    match Crew::new(alloc, machine, 2, 7) {
-        Ok(hired) => Ok(hired),
-        Err(machine) => {
-            drop(machine);
-            Err(AllocError)
-        }
-    }
-}
-
-/// Takes the last of the members, who has this author.
-fn last_of(rt: &impl Abort, crew: &Crew, members: &mut Vec<Member>, wanted: Author) -> Member
-    requires { All (IsMember crew.now) members.old.items }
-    ensures rest { All (IsMember crew.now) members.new.items }
-    ensures own { IsMember crew.now result }
-{
-    let member = members.pop().expect(rt, "a member");
-    holds(rt, "its author", member.author() == wanted);
-    member
-}
-
-/// Feeds a message, the first of all.
-fn tell<R: Abort + Wait>(rt: &R, alloc: Global, crew: &Crew, feeder: &mut Member, line: &[u8])
-    requires own { IsMember crew.now feeder.old }
-    requires feeder { feeder.old.author ≡ Feeder }
-    ensures own { IsMember crew.now feeder.new }
-    ensures crew { crew_of feeder.new.pass ≡ crew_of feeder.old.pass }
-{
-    holds(rt, "few bytes", line.len() <= 4096);
-    holds(rt, "one line", !has_newline(line));
-    let fed = crew.feed(rt, alloc, feeder, Some(line));
-    holds(rt, "entry 1", fed == Ok(1));
-}
-
-fn is_planner(member: &Member) -> bool
-    ensures { result ≡ true → (member.now.author ≢ Feeder) × (member.now.author ≢ Executive) }
-{
-    matches!(member.author(), Author::Planner(_))
-}
-
-/// What a planner saw.
-fn sight_of<R: Abort + Wait>(rt: &R, alloc: Global, crew: &Crew, planner: &mut Member) -> Sight
-    requires { IsMember crew.now planner.old }
-    ensures own { IsMember crew.now planner.new }
-    ensures sight { CanSettle (seen_of planner.new.pass) result }
-{
-    holds(rt, "a planner", is_planner(planner));
-    match crew.view(rt, alloc, planner) {
-        Ok(View::Copy(sight)) => sight,
-        _ => panic!(rt; "no sight"),
-    }
-}
-
-/// Settles, and compares the number of the entry.
-fn settles<R: Abort + Wait>(
-    rt: &R,
-    alloc: Global,
-    crew: &Crew,
-    planner: &mut Member,
-    sight: Sight,
-    entry: u32,
-)
-    requires own { IsMember crew.now planner.old }
-    requires sight { CanSettle (seen_of planner.old.pass) sight }
-    ensures { IsMember crew.now planner.new }
-{
-    holds(rt, "a planner", is_planner(planner));
-    let settled = crew.settle(rt, alloc, planner, sight);
-    holds(rt, "what settles", settled == Ok(Acted::Did(entry)));
-}
 
 /// Both planners look, then both settle.
 fn both_repair<R: Abort + Wait>(
@@ -121,32 +30,6 @@ fn both_repair<R: Abort + Wait>(
     settles(rt, alloc, crew, second, two, 3);
 }
 
-/// Acts once more.
-fn rests<R: Abort + Wait>(rt: &R, alloc: Global, crew: &Crew, planner: &mut Member)
-    requires { IsMember crew.now planner.old }
-    ensures { IsMember crew.now planner.new }
-{
-    holds(rt, "a planner", is_planner(planner));
-    let acted = crew.act(rt, alloc, planner);
-    holds(rt, "a rest", acted == Ok(Acted::Did(4)));
-}
-
-fn join_three(crew: &Crew, feeder: &mut Member, executive: Member, first: Member, second: Member)
-    requires feeder { IsMember crew.now feeder.old }
-    requires first_pass { leads feeder.old.pass ≡ true }
-    requires three { (made_by feeder.old.pass ≡ 3) × (joined_by feeder.old.pass ≡ []) }
-    requires executive { IsMember crew.now executive }
-    requires first { IsMember crew.now first }
-    requires second { IsMember crew.now second }
-    ensures feeder { IsMember crew.now feeder.new }
-    ensures first_pass { leads feeder.new.pass ≡ true }
-    ensures all_joined { made_by feeder.new.pass ≡ length (joined_by feeder.new.pass) }
-{
-    crew.join(feeder, executive);
-    crew.join(feeder, first);
-    crew.join(feeder, second);
-}
-
 /// Both planners look, then both settle: the second repair is stale, and counts as an entry of the second planner. Then it rests.
 #[test]
 fn the_second_repair_is_stale(rt: HostRuntime) {
@@ -162,7 +45,7 @@ fn the_second_repair_is_stale(rt: HostRuntime) {
     let executive = last_of(&rt, &crew, &mut members, Author::Executive);
     holds(&rt, "no other member", members.is_empty());
     both_repair(&rt, alloc, &crew, &mut first, &mut second);
-    rests(&rt, alloc, &crew, &mut second);
+    acts(&rt, alloc, &crew, &mut second, Acted::Did(4));
     join_three(&crew, &mut feeder, executive, first, second);
     let (machine, marks) = crew.close(feeder);
     assert_log(&rt, alloc, &machine);
@@ -206,4 +89,32 @@ fn assert_log(rt: &impl Abort, alloc: Global, machine: &Machine) {
         let text = std::str::from_utf8(&line).unwrap_or("").trim_end();
         holds(rt, front, text.starts_with(front) && text.ends_with(end));
     }
+}
+
+/// A planner and the executive act, the feeder is told of it, and another planner stops the plan: nobody makes an entry any more.
+#[test]
+fn a_planner_stops_the_plan(rt: HostRuntime) {
+    let alloc = rt.alloc();
+    let Hired {
+        crew,
+        mut feeder,
+        mut members,
+    } = hired(&rt, alloc).expect(&rt, "memory");
+    tell(&rt, alloc, &crew, &mut feeder, b"goal 1 obs 10 20 must");
+    let mut second = last_of(&rt, &crew, &mut members, Author::Planner(2));
+    let mut first = last_of(&rt, &crew, &mut members, Author::Planner(1));
+    let mut executive = last_of(&rt, &crew, &mut members, Author::Executive);
+    acts(&rt, alloc, &crew, &mut first, Acted::Did(2));
+    acts(&rt, alloc, &crew, &mut first, Acted::Did(3));
+    acts(&rt, alloc, &crew, &mut executive, Acted::Did(4));
+    let is_told_of_all = is_told(&rt, alloc, &crew, &mut feeder, (5, false));
+    holds(&rt, "five entries", is_told_of_all);
+    crew.stop(&rt, &mut second);
+    acts(&rt, alloc, &crew, &mut first, Acted::Stopped);
+    acts(&rt, alloc, &crew, &mut executive, Acted::Stopped);
+    let is_told_of_stop = is_told(&rt, alloc, &crew, &mut feeder, (5, true));
+    holds(&rt, "stopped behind five entries", is_told_of_stop);
+    join_three(&crew, &mut feeder, executive, first, second);
+    let (machine, marks) = crew.close(feeder);
+    holds(&rt, "a mark for each entry", machine.log().len() == 5 && marks.len() == 4);
 }
