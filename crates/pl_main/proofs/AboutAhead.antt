@@ -20,9 +20,9 @@ by_numbers (Some turns) None = tt
 by_numbers (Some turns) (Some worlds) =
     tested Fits (nat_le 1 turns && (nat_le turns 1000 && nat_le worlds 1000000)) (Some (record { turns = turns; worlds = worlds }))
     (λ is.
-        let low = and_parts (nat_le 1 turns) (nat_le turns 1000 && nat_le worlds 1000000) is in
-        let high = and_parts (nat_le turns 1000) (nat_le worlds 1000000) low.1 in
-        (leb-true 1 turns low.0, leb-true turns 1000 high.0))
+    let low = and_parts (nat_le 1 turns) (nat_le turns 1000 && nat_le worlds 1000000) is in
+    let high = and_parts (nat_le turns 1000) (nat_le worlds 1000000) low.1 in
+    (leb-true 1 turns low.0, leb-true turns 1000 high.0))
 
 by_words : (words : List (List ℕ)) → IfSome (ahead_in words) Fits
 by_words (run ∷ turns ∷ worlds ∷ []) = tested Fits (bytes_eq run (codes "run")) (ahead_by (number_in turns) (number_in worlds)) (λ _. by_numbers (number_in turns) (number_in worlds))

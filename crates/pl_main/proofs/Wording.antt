@@ -94,9 +94,9 @@ by_crew (Some n) (Some p) None small = tt
 by_crew (Some n) (Some p) (Some seed) small =
     tested Fits (nat_le 1 n && nat_le n 1000 && (nat_le 2 p && nat_le p 8)) (Some (command.Crew n p seed))
     (λ is.
-        let parts = and_parts (nat_le 1 n && nat_le n 1000) (nat_le 2 p && nat_le p 8) is in
-        let planners = within 2 p 8 parts.1 in
-        (within 1 n 1000 parts.0, (planners.0, planners.1, small)))
+    let parts = and_parts (nat_le 1 n && nat_le n 1000) (nat_le 2 p && nat_le p 8) is in
+    let planners = within 2 p 8 parts.1 in
+    (within 1 n 1000 parts.0, (planners.0, planners.1, small)))
 
 by_goals : (n : Option ℕ) → FitsIfAny (goals_by n)
 by_goals None = tt

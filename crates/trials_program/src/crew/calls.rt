@@ -116,5 +116,9 @@ fn a_planner_stops_the_plan(rt: HostRuntime) {
     holds(&rt, "stopped behind five entries", is_told_of_stop);
     join_three(&crew, &mut feeder, executive, first, second);
     let (machine, marks) = crew.close(feeder);
-    holds(&rt, "a mark for each entry", machine.log().len() == 5 && marks.len() == 4);
+    holds(
+        &rt,
+        "a mark for each entry",
+        machine.log().len() == 5 && marks.len() == 4,
+    );
 }

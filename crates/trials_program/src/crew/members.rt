@@ -108,13 +108,7 @@ fn is_worker(member: &Member) -> bool
 }
 
 /// Lets a member act, and compares the answer.
-pub fn acts<R: Abort + Wait>(
-    rt: &R,
-    alloc: Global,
-    crew: &Crew,
-    member: &mut Member,
-    wanted: Acted,
-)
+pub fn acts<R: Abort + Wait>(rt: &R, alloc: Global, crew: &Crew, member: &mut Member, wanted: Acted)
     requires { IsMember crew.now member.old }
     ensures { IsMember crew.now member.new }
 {
@@ -141,7 +135,13 @@ pub fn is_told<R: Abort + Wait>(
 }
 
 /// Joins the executive and both planners to the feeder.
-pub fn join_three(crew: &Crew, feeder: &mut Member, executive: Member, first: Member, second: Member)
+pub fn join_three(
+    crew: &Crew,
+    feeder: &mut Member,
+    executive: Member,
+    first: Member,
+    second: Member,
+)
     requires feeder { IsMember crew.now feeder.old }
     requires first_pass { leads feeder.old.pass ≡ true }
     requires three { (made_by feeder.old.pass ≡ 3) × (joined_by feeder.old.pass ≡ []) }
