@@ -15,3 +15,15 @@ returns-in_default-clause-run g c =
     let held = g.O.Sink.held c.args.out.now in
     let duties = crew_of c.args.planners c.args.seed (length c.args.machine.log) in
     crew_halts c.args.planners c.args.seed c.args.machine place held place Memory held (back_none duties c.args.machine place held c.log-log.ensures.legal)
+
+pub run_team-requires-clause-begun : goal.run_team-requires-clause-begun
+run_team-requires-clause-begun g c = ?
+
+pub run_team-requires-clause-few : goal.run_team-requires-clause-few
+run_team-requires-clause-few g c = ?
+
+pub returns-in-Ok-run_team-clause-run : goal.returns-in-Ok-run_team-clause-run
+returns-in-Ok-run_team-clause-run g c = ?
+
+pub returns-in-Ok-run_team-clause-write : goal.returns-in-Ok-run_team-clause-write
+returns-in-Ok-run_team-clause-write g c = ?
