@@ -62,11 +62,9 @@ crew_long planners seed begun few = (let long = planners_long 1 planners seed be
 -- a write of a line failed
 pub lines_torn : (r : Result (Unit {0}) Halt) (before middle after : ℕ) → before ≤ middle → IfErr r (WriteStops middle after) → IsErrOf r halt.Write → Rose before after
 lines_torn (Ok u) before middle after later cause is = absurd (let h : Ok u ≡ Err halt.Write = is in (cc))
-lines_torn (Err halt.Write) before middle after later cause is = omega (arith, later, cause)
-lines_torn (Err halt.Memory) before middle after later cause is = absurd (let h : Err {T = Unit {0}} halt.Memory ≡ Err halt.Write = is in (cc))
-lines_torn (Err halt.Read) before middle after later cause is = absurd cause
-lines_torn (Err halt.Limit) before middle after later cause is = absurd cause
-lines_torn (Err halt.Full) before middle after later cause is = absurd cause
+lines_torn (Err h) before middle after later cause is =
+    let same : h ≡ halt.Write = (let e : ◌≡◌ {A = Result (Unit {0}) Halt} (Err h) (Err halt.Write) = is in (cc)) in
+    let torn : Rose middle after = subst (WriteStops middle after) same cause in omega (arith, later, torn)
 
 module _ (planners seed : ℕ) (start : State) (place : Place) (held : Option (List ℕ)) (behind : Place) where
   -- a log is short, and has at most as many marks
