@@ -1,5 +1,5 @@
 //! How a crew begins.
-ghost use Rattle.std.specs.Prelude.{◌≡◌, ◌≤◌, ◌<◌, ◌+◌, [], ◌∷◌, ◌++◌, length, true, IfOk, IfErr, vec_len, vec_capacity};
+ghost use Rattle.std.specs.Prelude.{◌≡◌, ◌≤◌, ◌<◌, [], true, IfOk, IfErr, vec_len, vec_capacity};
 ghost use Rattle.pl_turn.specs.Passes.{seen_of, leads, made_by};
 ghost use Rattle.pl_marks.specs.Authors.{IsAuthor};
 ghost use Rattle.pl_pair.specs.Joins.{IsFresh, IsFirst, Splits};

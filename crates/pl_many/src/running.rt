@@ -1,5 +1,5 @@
 //! The whole run of a crew.
-ghost use Rattle.std.specs.Prelude.{◌≡◌, ◌≤◌, ◌∷◌, [], false, None, IsErrOf, IfOk};
+ghost use Rattle.std.specs.Prelude.{◌≡◌, ◌≤◌, false, None, IsErrOf, IfOk};
 ghost use Rattle.pl_io.specs.Faults.{Rose};
 ghost use Rattle.pl_input.specs.Places.{place_of};
 ghost use Rattle.pl_many.specs.CrewRuns.{CrewRun, crew_of};
