@@ -9,7 +9,7 @@ import tempfile
 import unittest
 from unittest import mock
 
-from support import CAMERA, TOOLS, program, text_of
+from support import CAMERA, EXAMPLES, TOOLS, program, text_of
 from lundocsef_tools.command import start
 
 COMMANDS = ('lundocsef-x', 'man-pages', 'model-look', 'plan-best', 'plan-diff', 'plan-film', 'plan-goals', 'plan-live', 'plan-svg')
@@ -133,6 +133,13 @@ class GoodInputTest(unittest.TestCase):
     def test_one_file_with_all_of_it(self):
         whole = text_of(CAMERA[0]).split('begin\n')[0] + 'begin\n' + text_of(CAMERA[1])
         self.assertEqual(call('plan-svg', '-', text=whole)[:2], call('plan-svg', *CAMERA)[:2])
+
+    def test_the_lines_of_planners_are_passed_over(self):
+        crew = os.path.join(EXAMPLES, 'crew', 'camera.journal')
+        for command in ('plan-svg', 'plan-film', 'model-look'):
+            with self.subTest(command=command):
+                self.assertEqual(call(command, CAMERA[0], crew)[::2], (0, ''))
+        self.assertEqual(call('plan-live', CAMERA[0], text=text_of(crew))[::2], (0, ''))
 
     def test_plan_film(self):
         status, output, errors = call('plan-film', *CAMERA)
