@@ -181,6 +181,11 @@ class WrapperTest(unittest.TestCase):
         self.assertEqual(call_apart('lundocsef-x', 'report', *CAMERA)[1].split()[:3], ['report', 'entries', '44'])
         self.assertEqual(call_apart('lundocsef-x', 'demo', '2')[1], 'demo 2 entries 20 activities 4 dispatched 0 conflicts 0\n')
 
+    def test_several_planners(self):
+        status, journal, _ = call_apart('lundocsef-x', 'run', '--seed', '7', '--planners', '2', CAMERA[0])
+        self.assertEqual(status, 0)
+        self.assertEqual([line.split()[:3] for line in journal.split('\n') if line.startswith('#')], [['#', 'planner', '1'], ['#', 'planner', '2']])
+
     def test_it_ends_with_the_programs_status(self):
         status, output, errors = call_apart('lundocsef-x', 'replay', CAMERA[0], CAMERA[0])
         self.assertEqual((status, output), (8, 'journal: entry 0: not a line\n'))

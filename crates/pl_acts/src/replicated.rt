@@ -115,13 +115,6 @@ impl Replicated {
         &self.machine
     }
 
-    /// Who made its entries.
-    pub fn marks(&self) -> &Marks
-        ensures { result.now ≡ self.now.signs }
-    {
-        &self.marks
-    }
-
     /// There is a mark for each entry that was not handed in: a look shows that.
     pub(crate) fn is_tied(&self)
         ensures { IsTied self.now }

@@ -1,6 +1,6 @@
 ghost use Rattle.std.specs.Prelude.{◌≡◌};
 ghost use Rattle.pl_marks.specs.Authors.{IsAuthor};
-ghost use Rattle.pl_acts.specs.Roles.{worker_of, role_author};
+ghost use Rattle.pl_acts.specs.Roles.{role_author};
 
 use crate::bells::Listener;
 use pl_choose::Seeded;
@@ -14,16 +14,6 @@ pub enum Role {
 }
 
 impl Role {
-    /// 0 for the executive and 1 for the planner.
-    pub fn worker(&self) -> u8
-        ensures { result ≡ worker_of self.now }
-    {
-        match self {
-            Role::Planner(_) => 1,
-            Role::Executive => 0,
-        }
-    }
-
     /// The author that acts in this role where there is one planner.
     pub fn author(&self) -> Author
         ensures is { result ≡ role_author self.now }

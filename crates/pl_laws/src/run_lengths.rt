@@ -6,8 +6,8 @@ ghost use Rattle.pl_laws.specs.Lengths.{SoloIsBounded, AheadIsBounded, TeamIsBou
 pub fn laws_of_runs()
     ensures length { (m : Model) → IsChecked m → SoloIsBounded m }
     ensures ahead { (m : Model) → IsChecked m → AheadIsBounded m }
-    ensures pair { (m : Model) → IsChecked m → TeamIsBounded m }
+    ensures team { (m : Model) → IsChecked m → TeamIsBounded m }
     ensures full { FullHasMany }
     ensures ahead_full { AheadFullHasMany }
-    ensures pair_full { TeamFullHasMany }
+    ensures team_full { TeamFullHasMany }
 {}

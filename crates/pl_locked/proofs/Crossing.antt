@@ -11,10 +11,10 @@ use Rattle.pl_acts.specs.contracts.held.Held
 use Rattle.pl_acts.specs.contracts.noted.Noted
 use Rattle.pl_locked.specs.contracts.plan.SharedPlan
 
-plan_send_fields : IsSend SharedPlan.the_field.row
+pub plan_send_fields : IsSend SharedPlan.the_field.row
 plan_send_fields = struct_send (shape SharedPlan.the_type) (lock.the_field_send Held.the_row Noted.the_row _ held_whole, (bells.the_field_send, tt))
 
-plan_sync_fields : IsSync SharedPlan.the_field.row
+pub plan_sync_fields : IsSync SharedPlan.the_field.row
 plan_sync_fields = struct_sync (shape SharedPlan.the_type) (lock.the_field_sync Held.the_row Noted.the_row _ held_whole, (bells.the_field_sync, tt))
 
 pub plan_send : IsSend SharedPlan.the_row

@@ -22,7 +22,7 @@ impl SharedPlan {
         self.bells.ring(rt, before, behind);
     }
 
-    /// [`SharedPlan::stop_as`] the feeder.
+    /// Lets no event be made from here on, with the feeder as the author of the stop. It takes one turn and no memory.
     pub fn stop<R: Wait>(&self, rt: &R, pass: &mut Pass)
         requires { BelongsTo self.now pass.old }
         ensures own { BelongsTo self.now pass.new }

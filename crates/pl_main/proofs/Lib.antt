@@ -16,7 +16,7 @@ pub mod Pairing
 pub mod Crewing
 pub mod Jobs
 pub mod Topping
-pub mod Teaming
+pub mod Wording
 pub mod OneInput
 pub mod OneLog
 pub mod Causes

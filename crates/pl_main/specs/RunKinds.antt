@@ -1,4 +1,4 @@
--- The kinds of run: of one thread, and of a team in threads of its own.
+-- The kinds of run: of one thread, and of an executive and planners in threads of their own.
 use Rattle.std.specs.Prelude.{◌≡◌, ℕ, List, [], ◌∷◌, ◌++◌, true, Option}
 use Rattle.pl_model.specs.declared.whole.Model.{Model}
 use Rattle.pl_entry.specs.declared.entry.Entry.{Entry}
@@ -52,34 +52,38 @@ look_run turns = run_by IsAheadEvent turns
 
 -- ---- an executive and planners in threads of their own
 
--- A legal log that was opened with the turns of the words and the limits of the program. Behind the open entry, inputs are the feeder's own entries, fixes and rests a planner's,
--- commits, dispatches and closes the executive's. Each of a planner's is what its chooser, made from the seed of its duty, proposes in the world after a front of the log, or a rest, and each of the executive's what it chooses in the world before.
+-- The log of a run by a feeder, which is the thread that reads the messages, and by workers with these duties, each in a thread
+-- of its own. It was opened with the turns of the words and the limits of the program, it is legal (`history.legal`), and each
+-- entry behind the open one was made by exactly one of them (`history`): the inputs by the feeder, the repairs and the rests by a
+-- planner, the commits, dispatches and closes by the executive. A planner's repair is what its chooser, made from the seed of its
+-- duty, proposes in the world behind some front of the log, which is the world that the planner had looked at. The executive's
+-- entry is what it chooses in the world before the entry (`chosen`).
 pub record IsTeamLog (turns : ℕ) (duties : List Duty) (m : Model) (log : List Entry) : Type 0 where
   pub entries : List Entry
   pub opened : log ≡ opening (program_options turns) ∷ entries
   pub history : History duties m (opening (program_options turns) ∷ []) log
   pub chosen : AreChosen m (opening (program_options turns) ∷ []) entries
 
--- Such a log, of which the feeder's own entries are inputs and nothing else: nobody stopped the plan. The feeder had seen all of it.
+-- Such a log of a run that was not stopped: the feeder made inputs, and nothing else. The feeder, which writes the journal, had
+-- seen all of the log at the end.
 pub record IsTeamLogToEnd (turns : ℕ) (duties : List Duty) (m : Model) (log : List Entry) : Type 0 where
   pub team : IsTeamLog turns duties m log
   pub feeder : AreOf is_input team.history.feeder
   pub seen : entries_in team.history.feeder_seen ≡ log
 
-abbrev pub IsPaired : (turns seed : ℕ) → Model → List Entry → Type 0
-IsPaired turns seed m log = IsTeamLog turns (pair_of seed 1) m log
-
--- How far was read where memory ran out for the message behind these: it is the last line that was asked for. Or memory ran out while it was read, and then nothing is said of what the source has left.
+-- Memory ran out for the message that follows these. Either it was read, and no line behind it was asked for; or memory ran out
+-- while it was read, and then nothing is said of what the source has left.
 pub data ReadsInPart (words : List ℕ) (messages unanswered : List (Option (List ℕ))) (input : List ℕ) (source_left : Option (List ℕ)) : Type 0 where
   to_next : (next : Option (List ℕ)) (more : List (Option (List ℕ))) → unanswered ≡ next ∷ more → HasRead words (messages ++ next ∷ []) input source_left → ReadsInPart words messages unanswered input source_left
   at_next : WasGiven words messages input → ReadsInPart words messages unanswered input source_left
 
--- Memory ran out within a round, and the last line that was asked for is the last message; or between two rounds, for the next message.
+-- Memory ran out within a round, and no line behind the round's message was asked for; or it ran out between two rounds, for the
+-- message of the next one.
 pub data IsWithinOrBetween (words : List ℕ) (m : Model) (log : List Entry) (unanswered : List (Option (List ℕ))) (input : List ℕ) (source_left : Option (List ℕ)) : Type 0 where
   in_round : HasRead words (inputs_of log) input source_left → IsWithinOrBetween words m log unanswered input source_left
   between_rounds : ReadsInPart words (inputs_of log) unanswered input source_left → (world_of m log).closed ≡ true → IsWithinOrBetween words m log unanswered input source_left
 
--- what stands behind the journal of a team that is done
+-- what is written behind the journal of a run that is done
 abbrev pub TeamTail : ℕ → List Duty → Type 0
 TeamTail turns duties = (m : Model) (log : List Entry) → IsTeamLogToEnd turns duties m log → List ℕ
 
@@ -94,15 +98,15 @@ team_run turns duties tail = record {
 abbrev pub no_tail : (turns : ℕ) (duties : List Duty) → TeamTail turns duties
 no_tail turns duties m log says = []
 
--- one planner
+-- the run of one planner, behind whose journal nothing is written
 abbrev pub pair_run : (turns seed : ℕ) → RunKind
 pair_run turns seed = team_run turns (pair_of seed 1) (no_tail turns (pair_of seed 1))
 
--- a line for each planner, by number: how many entries it made, and how many of them are repairs that were made
+-- A line for each planner, by number: how many entries it made, and how many of them are repairs that were answered `ok`.
 abbrev pub planner_lines : (turns planners seed : ℕ) → TeamTail turns (crew_of planners seed 1)
 planner_lines turns planners seed m log says = lines_of planners (marks_of says.team.history.signs.by) log
 
--- several planners
+-- the run of several planners, behind whose journal stand their lines
 abbrev pub crew_run : (turns planners seed : ℕ) → RunKind
 crew_run turns planners seed = team_run turns (crew_of planners seed 1) (planner_lines turns planners seed)
 

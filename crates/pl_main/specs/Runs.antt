@@ -20,8 +20,7 @@ use Rattle.pl_input.specs.Places.{Place}
 use Rattle.pl_main.specs.Solo.{Rule}
 use Rattle.pl_main.specs.Plays.{AnswersAllOrStops}
 use Rattle.pl_main.specs.Top.{program_options, model_ok_line}
-use Rattle.pl_pair.specs.declared.duty.Duty.{Duty}
-use Rattle.pl_pair.specs.Runs.{TeamRun, PairRun}
+use Rattle.pl_pair.specs.Runs.{PairRun}
 use Rattle.pl_many.specs.CrewRuns.{CrewRun}
 use Rattle.pl_main.specs.declared.command.Team.{Team}
 use Rattle.pl_main.specs.declared.command.Team.TheVariants as team
@@ -61,14 +60,6 @@ ModelRuns R turns model start held (Err halt.Write) place now =
     ModelBreaks R halt.Write turns model start held place now
 ModelRuns R turns model start held (Err halt.Memory) place now =
     ModelBreaks R halt.Memory turns model start held place now
-
--- what a run of workers with these duties comes to over a model
-abbrev pub TeamRuns : ℕ → List Duty → Model → Place → Option (List ℕ) → Result (Unit {0}) Halt → Place → Option (List ℕ) → Type 0
-TeamRuns turns duties model start held r place now = TeamRun duties (fresh_state turns model) start held r place now
-
--- the same with the lines of planners behind the journal
-abbrev pub CrewRuns : (turns planners seed : ℕ) → Model → Place → Option (List ℕ) → Result (Unit {0}) Halt → Place → Option (List ℕ) → Type 0
-CrewRuns turns planners seed model start held r place now = CrewRun planners seed (fresh_state turns model) start held r place now
 
 -- what a team does with a machine
 abbrev pub RunsAs : Team → State → Place → Option (List ℕ) → Result (Unit {0}) Halt → Place → Option (List ℕ) → Type 0

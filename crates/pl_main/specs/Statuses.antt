@@ -130,7 +130,7 @@ statuses_of task.Forecast = 0 ∷ 3 ∷ 4 ∷ 5 ∷ 6 ∷ 8 ∷ 9 ∷ []
 statuses_of (task.Improve steps) = 0 ∷ 3 ∷ 4 ∷ 5 ∷ 6 ∷ 8 ∷ 9 ∷ []
 statuses_of (task.Demo goals) = 0 ∷ 5 ∷ 7 ∷ 9 ∷ []
 
--- The statuses that a run of a pair can end with, and a run that looks ahead.
+-- The statuses that a run of a pair or a crew can end with, and a run that looks ahead.
 abbrev pub pair_statuses : List ℕ
 pair_statuses = 0 ∷ 3 ∷ 4 ∷ 5 ∷ 6 ∷ 7 ∷ 9 ∷ []
 

@@ -135,7 +135,7 @@ fn team_status<R: Threads + Wait + Sync, I: Source, O: Sink, G: Gate + Sync>(
 
 /// Does what the words behind the program's name ask for, and answers the program's status. `run pair N SEED` and
 /// `run crew N P SEED` alone start threads, and wait for them; the gate is called by these, and by nobody else.
-#[tactic(auto, using(crate::proofs::Topping::task_fits, crate::proofs::Topping::turns_fit, crate::proofs::Teaming::crew_fits))]
+#[tactic(auto, using(crate::proofs::Wording::task_fits, crate::proofs::Wording::pair_fits, crate::proofs::Wording::crew_fits, crate::proofs::Jobs::pair_not_usage, crate::proofs::Jobs::job_not_usage))]
 pub fn run<R: Threads + Wait + Sync, I: Source, O: Sink, G: Gate + Sync>(
     rt: &R,
     alloc: Global,

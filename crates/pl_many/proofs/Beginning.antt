@@ -13,7 +13,8 @@ use Rattle.pl_marks.specs.declared.author.Author.TheVariants.{Feeder, Executive,
 use Rattle.pl_marks.specs.Authors.{IsAuthor}
 use Rattle.pl_acts.specs.declared.noted.Noted.{Noted}
 use Rattle.pl_acts.specs.declared.role.Role.{Role}
-use Rattle.pl_acts.specs.Items.{signer_in}
+use Rattle.pl_acts.specs.Items.{handed_in, signer_in}
+use Rattle.pl_acts.proofs.Items.{length_going}
 use Rattle.pl_locked.specs.declared.plan.SharedPlan.{SharedPlan}
 use Rattle.pl_locked.specs.Plans.{PlanPass, BelongsTo}
 use Rattle.pl_pair.specs.Served.{AreSigned, IsSomeones, AreHandedIn}
@@ -125,6 +126,7 @@ crew_hired plan planners seed machine old first members crew saw are =
       leads = ap (λ (c : Known Noted). c.leads) crews;
       made = ap (λ (c : Known Noted). c.made) crews ∙ (let long = workers_long 1 planners in let e : 0 + length (workers_of planners) ≡ planners + 1 = omega (arith, long) in e);
       none_joined = none;
+      opening = opening ∙ length_going machine.model machine.log (handed_in machine.log) refl;
       workers = are.are;
       members = subst (λ (seen : List Noted). All (IsNew plan seed seen) members.items) saw are.new;
     }

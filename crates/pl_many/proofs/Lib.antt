@@ -4,3 +4,4 @@ pub mod Naming
 pub mod Beginning
 pub mod Acting
 pub mod Crewing
+pub mod Crossing

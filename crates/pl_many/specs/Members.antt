@@ -92,13 +92,14 @@ pub record Crewed (plan : SharedPlan) (seed : ℕ) (authors : List Author) (old 
 abbrev pub handed_items : State → List Noted
 handed_items machine = items_of machine.model machine.log (handed_in machine.log)
 
--- The feeder, whose pass takes the others in, and the executive and so many planners by number.
+-- The feeder, whose pass takes the others in and opens where the log handed in ends, and the executive and so many planners by number.
 pub record IsHired (planners seed : ℕ) (machine : State) (h : Hired) : Type 0 where
   pub feeder : IsNew h.crew.plan seed (handed_items machine) h.feeder
   pub feeds : h.feeder.author ≡ Feeder
   pub leads : leads h.feeder.pass ≡ true
   pub made : made_by h.feeder.pass ≡ planners + 1
   pub none_joined : joined_by h.feeder.pass ≡ []
+  pub opening : opening_of h.feeder.pass ≡ length machine.log
   pub workers : authors_of h.members.items ≡ workers_of planners
   pub members : All (IsNew h.crew.plan seed (handed_items machine)) h.members.items
 

@@ -21,6 +21,7 @@ impl Crew {
     pub fn feed<R: Wait>(
         &self,
         rt: &R,
+        _alloc: Global,
         feeder: &mut Member,
         line: Option<&[u8]>,
     ) -> Result<u32, Stop>

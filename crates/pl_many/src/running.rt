@@ -33,7 +33,7 @@ fn duties(alloc: Global, planners: u8, seed: u64, begun: u32) -> Result<Vec<Duty
 
 /// Runs an executive and planners in threads of their own, feeds them the messages that a reader has left, and writes the lines of the
 /// whole log, and behind them a line for each planner. It waits for its threads.
-#[tactic(auto, using(crate::proofs::Crewing::begun_crew, crate::proofs::Crewing::crew_long, crate::proofs::Crewing::few_marks, crate::proofs::Crewing::crew_ran, crate::proofs::Crewing::crew_halts))]
+#[tactic(auto, using(pl_machine::proofs::ShortLogs::log_is_short, crate::proofs::Crewing::begun_crew, crate::proofs::Crewing::crew_long, crate::proofs::Crewing::few_marks, crate::proofs::Crewing::crew_ran, crate::proofs::Crewing::crew_halts))]
 pub fn run_crew<R: Threads + Wait + Sync, I: Source, O: Sink, G: Gate + Sync>(
     rt: &R,
     alloc: Global,
@@ -54,7 +54,8 @@ pub fn run_crew<R: Threads + Wait + Sync, I: Source, O: Sink, G: Gate + Sync>(
     ensures read { IsErrOf result Halt.Read → (lines.old.failed ≡ None) → Rose (I.faults src.old) (I.faults src.new) }
     ensures write { IsErrOf result Halt.Write → Rose (O.faults out.old) (O.faults out.new) }
 {
-    let Ok(duties) = duties(alloc, planners, seed, machine.entries()) else {
+    let log = machine.log();
+    let Ok(duties) = duties(alloc, planners, seed, log.len() as u32) else {
         return Err(Halt::Memory);
     };
     match run_team(rt, alloc, machine, &duties, gate, lines, src, out) {

@@ -100,6 +100,7 @@ fn feed_all<R: Wait, S: Source, O: Sink>(
         (place_of lines.new (S.left src.new)) (O.held out.new) }
     ensures read { IsErrOf result Cut.Read → lines.old.failed ≡ None → Rose (S.faults src.old) (S.faults src.new) }
     ensures write { IsErrOf result Cut.Write → Rose (O.faults out.old) (O.faults out.new) }
+    ensures later { O.faults out.old ≤ O.faults out.new }
 {
     let mut from = 0;
     for _ in rt.forever() {
@@ -136,6 +137,7 @@ pub(crate) fn feed_or_stop<R: Wait, S: Source, O: Sink>(
         (place_of lines.new (S.left src.new)) (O.held out.new) }
     ensures read { IsErrOf result Cut.Read → lines.old.failed ≡ None → Rose (S.faults src.old) (S.faults src.new) }
     ensures write { IsErrOf result Cut.Write → Rose (O.faults out.old) (O.faults out.new) }
+    ensures later { O.faults out.old ≤ O.faults out.new }
 {
     match feed_all(rt, alloc, plan, model, pass, hands, lines, src, out) {
         Ok(()) => Ok(()),

@@ -72,6 +72,7 @@ fn run_over<R: Threads + Wait + Sync, S: Source, O: Sink, G: Gate + Sync>(
         (place_of lines.new (S.left src.new)) (O.held out.new) }
     ensures read { IsErrOf result Halt.Read → lines.old.failed ≡ None → Rose (S.faults src.old) (S.faults src.new) }
     ensures write { IsErrOf result Halt.Write → Rose (O.faults out.old) (O.faults out.new) }
+    ensures later { O.faults out.old ≤ O.faults out.new }
 {
     let Ok(refused) = flags_for(alloc, duties.len()) else {
         return Err(Halt::Memory);
@@ -112,6 +113,7 @@ pub fn run_team<R: Threads + Wait + Sync, I: Source, O: Sink, G: Gate + Sync>(
         (place_of lines.new (I.left src.new)) (O.held out.new) }
     ensures read { IsErrOf result Halt.Read → (lines.old.failed ≡ None) → Rose (I.faults src.old) (I.faults src.new) }
     ensures write { IsErrOf result Halt.Write → Rose (O.faults out.old) (O.faults out.new) }
+    ensures later { O.faults out.old ≤ O.faults out.new }
 {
     let _log = machine.log();
     match machine.model().copy(alloc) {

@@ -2,4 +2,5 @@
 
 mod calls;
 mod gathering;
+mod members;
 mod runs;

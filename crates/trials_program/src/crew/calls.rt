@@ -1,38 +1,33 @@
 //! The calls of a crew, on one thread.
+ghost use Rattle.pl_many.specs.Members.{IsMember};
+
 use crate::asserting::holds;
-use crate::journals::models::{MODEL, model, shared_model};
-use pl_facts::Options;
+use crate::crew::members::{acts, hired, is_told, join_three, last_of, settles, sight_of, tell};
+use crate::journals::models::{MODEL, model};
 use pl_journal::render;
-use pl_machine::{Machine, Stop};
-use pl_many::{Acted, Author, Crew, Hired, Mark, Member, Sight, View};
-use std::alloc::{AllocError, Global};
+use pl_machine::Machine;
+use pl_many::{Acted, Author, Crew, Hired, Mark, Member};
+use std::alloc::Global;
 use std::process::Abort;
 use std::sync::Wait;
 
-/// A crew of two planners over a plan with nothing planned.
-fn hired(rt: &impl Abort, alloc: Global) -> Result<Hired, AllocError> {
-    let options = Options {
-        turns: 8,
-        live: 10000,
-        goals: 20000,
-        entries: 250000,
-    };
-    let machine = Machine::fresh(alloc, shared_model(rt, alloc), options)?;
-    match Crew::new(alloc, machine, 2, 7) {
-        Ok(hired) => Ok(hired),
-        Err(machine) => {
-            drop(machine);
-            Err(AllocError)
-        }
-    }
-}
-
-/// What a planner saw.
-fn sight_of<R: Abort + Wait>(rt: &R, alloc: Global, crew: &Crew, planner: &mut Member) -> Sight {
-    match crew.view(rt, alloc, planner) {
-        Ok(View::Copy(sight)) => sight,
-        _ => panic!(rt; "no sight"),
-    }
+/// Both planners look, then both settle.
+fn both_repair<R: Abort + Wait>(
+    rt: &R,
+    alloc: Global,
+    crew: &Crew,
+    first: &mut Member,
+    second: &mut Member,
+)
+    requires first { IsMember crew.now first.old }
+    requires second { IsMember crew.now second.old }
+    ensures first { IsMember crew.now first.new }
+    ensures second { IsMember crew.now second.new }
+{
+    let one = sight_of(rt, alloc, crew, first);
+    let two = sight_of(rt, alloc, crew, second);
+    settles(rt, alloc, crew, first, one, 2);
+    settles(rt, alloc, crew, second, two, 3);
 }
 
 /// Both planners look, then both settle: the second repair is stale, and counts as an entry of the second planner. Then it rests.
@@ -42,33 +37,16 @@ fn the_second_repair_is_stale(rt: HostRuntime) {
     let Hired {
         crew,
         mut feeder,
-        members,
+        mut members,
     } = hired(&rt, alloc).expect(&rt, "memory");
-    let fed = crew.feed(&rt, &mut feeder, Some(b"goal 1 obs 10 20 must"));
-    holds(&rt, "the goal", fed == Ok(1));
-    let [executive, mut first, mut second] = three(&rt, members);
-    let (one, two) = (
-        sight_of(&rt, alloc, &crew, &mut first),
-        sight_of(&rt, alloc, &crew, &mut second),
-    );
-    holds(
-        &rt,
-        "the first repair",
-        crew.settle(&rt, alloc, &mut first, one) == Ok(Acted::Did(2)),
-    );
-    holds(
-        &rt,
-        "the second",
-        crew.settle(&rt, alloc, &mut second, two) == Ok(Acted::Did(3)),
-    );
-    holds(
-        &rt,
-        "a rest",
-        crew.act(&rt, alloc, &mut second) == Ok(Acted::Did(4)),
-    );
-    for member in [executive, first, second] {
-        crew.join(&mut feeder, member);
-    }
+    tell(&rt, alloc, &crew, &mut feeder, b"goal 1 obs 10 20 must");
+    let mut second = last_of(&rt, &crew, &mut members, Author::Planner(2));
+    let mut first = last_of(&rt, &crew, &mut members, Author::Planner(1));
+    let executive = last_of(&rt, &crew, &mut members, Author::Executive);
+    holds(&rt, "no other member", members.is_empty());
+    both_repair(&rt, alloc, &crew, &mut first, &mut second);
+    acts(&rt, alloc, &crew, &mut second, Acted::Did(4));
+    join_three(&crew, &mut feeder, executive, first, second);
     let (machine, marks) = crew.close(feeder);
     assert_log(&rt, alloc, &machine);
     assert_marks(&rt, &marks);
@@ -113,20 +91,34 @@ fn assert_log(rt: &impl Abort, alloc: Global, machine: &Machine) {
     }
 }
 
-/// The executive and the two planners.
-fn three(rt: &impl Abort, mut members: Vec<Member>) -> [Member; 3] {
-    let second = members.pop().expect(rt, "planner 2");
-    let first = members.pop().expect(rt, "planner 1");
-    let executive = members.pop().expect(rt, "the executive");
+/// A planner and the executive act, the feeder is told of it, and another planner stops the plan: nobody makes an entry any more.
+#[test]
+fn a_planner_stops_the_plan(rt: HostRuntime) {
+    let alloc = rt.alloc();
+    let Hired {
+        crew,
+        mut feeder,
+        mut members,
+    } = hired(&rt, alloc).expect(&rt, "memory");
+    tell(&rt, alloc, &crew, &mut feeder, b"goal 1 obs 10 20 must");
+    let mut second = last_of(&rt, &crew, &mut members, Author::Planner(2));
+    let mut first = last_of(&rt, &crew, &mut members, Author::Planner(1));
+    let mut executive = last_of(&rt, &crew, &mut members, Author::Executive);
+    acts(&rt, alloc, &crew, &mut first, Acted::Did(2));
+    acts(&rt, alloc, &crew, &mut first, Acted::Did(3));
+    acts(&rt, alloc, &crew, &mut executive, Acted::Did(4));
+    let is_told_of_all = is_told(&rt, alloc, &crew, &mut feeder, (5, false));
+    holds(&rt, "five entries", is_told_of_all);
+    crew.stop(&rt, &mut second);
+    acts(&rt, alloc, &crew, &mut first, Acted::Stopped);
+    acts(&rt, alloc, &crew, &mut executive, Acted::Stopped);
+    let is_told_of_stop = is_told(&rt, alloc, &crew, &mut feeder, (5, true));
+    holds(&rt, "stopped behind five entries", is_told_of_stop);
+    join_three(&crew, &mut feeder, executive, first, second);
+    let (machine, marks) = crew.close(feeder);
     holds(
-        rt,
-        "by number",
-        second.author() == Author::Planner(2) && first.author() == Author::Planner(1),
+        &rt,
+        "a mark for each entry",
+        machine.log().len() == 5 && marks.len() == 4,
     );
-    holds(
-        rt,
-        "the executive",
-        executive.author() == Author::Executive && members.is_empty(),
-    );
-    [executive, first, second]
 }

@@ -2,8 +2,8 @@ use pl_turn::Gate;
 use std::sync::Wait;
 use std::sync::atomic::{AtomicU64, Ordering};
 
-/// So often a worker looks for the others in one call before it gives up.
-const MOST_LOOKS: u32 = 500_000_000;
+/// So often a worker looks at a flag of the others in one call before it gives up.
+const MOST_LOADS: u32 = 1_000_000_000;
 
 /// What is known of one worker.
 #[derive(Drop)]
@@ -21,14 +21,20 @@ impl Flags {
     }
 }
 
-/// Whether each of these flags is set, after so many looks at most.
+/// Whether each of these flags is seen to be set. A flag that was seen is not looked at again.
 fn are_seen(flags: &[&AtomicU64]) -> bool {
-    for _ in 0..MOST_LOOKS {
-        if flags.iter().all(|flag| flag.load(Ordering::SeqCst) == 1) {
-            return true;
+    let mut rest = flags;
+    for _ in 0..MOST_LOADS {
+        match rest {
+            [] => return true,
+            [first, more @ ..] => {
+                if first.load(Ordering::SeqCst) == 1 {
+                    rest = more;
+                }
+            }
         }
     }
-    false
+    rest.is_empty()
 }
 
 /// Holds an executive and two planners ahead of their first act until all three have come, and each planner ahead of its second act until the

@@ -47,7 +47,7 @@ pub fn opened(
     }
 }
 
-fn has_newline(line: &[u8]) -> bool
+pub fn has_newline(line: &[u8]) -> bool
     ensures { result ≡ list_any (λ byte. byte == 10) line.now }
 {
     line.iter().any(|byte| *byte == b'\n')

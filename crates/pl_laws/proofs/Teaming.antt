@@ -49,21 +49,21 @@ all_chosen m o before (e ∷ es) chosen = (
   subst (λ (w : World). executive_from w es) (world_from_push (fresh_world m o) before e) (all_chosen m o (before ++ e ∷ []) es chosen.1),
 )
 
-pub paired_bounded : (m : Model) → IsChecked m → (turns : ℕ) (duties : List Duty) (log : List Entry) → IsTeamLog turns duties m log → length log ≤ 10001 + length (inputs_of log) * (2 * turns + 6)
-paired_bounded m checked turns duties log paired =
+pub team_bounded : (m : Model) → IsChecked m → (turns : ℕ) (duties : List Duty) (log : List Entry) → IsTeamLog turns duties m log → length log ≤ 10001 + length (inputs_of log) * (2 * turns + 6)
+team_bounded m checked turns duties log team =
     let o = program_options turns in
-    let legal : Legal m (opening o ∷ paired.entries) = subst (λ (l : List Entry). Legal m l) paired.opened paired.history.legal in
-    let chosen : AreCommitsOfExecutive m (opening o ∷ paired.entries) = all_chosen m o [] paired.entries paired.chosen in
-    let n : ℕ = length (inputs_of paired.entries) in
-    let short : length (opening o ∷ paired.entries) ≤ 10001 + n * (2 * turns + 5) = pair_bounded m checked (opening o ∷ paired.entries) legal chosen in
+    let legal : Legal m (opening o ∷ team.entries) = subst (λ (l : List Entry). Legal m l) team.opened team.history.legal in
+    let chosen : AreCommitsOfExecutive m (opening o ∷ team.entries) = all_chosen m o [] team.entries team.chosen in
+    let n : ℕ = length (inputs_of team.entries) in
+    let short : length (opening o ∷ team.entries) ≤ 10001 + n * (2 * turns + 5) = pair_bounded m checked (opening o ∷ team.entries) legal chosen in
     let more : n * (2 * turns + 5) ≤ n * (2 * turns + 6) = mul-le-mul_left n (omega arith) in
-    subst (λ (l : List Entry). length l ≤ 10001 + length (inputs_of l) * (2 * turns + 6)) (sym paired.opened) (omega (arith, short, more))
+    subst (λ (l : List Entry). length l ≤ 10001 + length (inputs_of l) * (2 * turns + 6)) (sym team.opened) (omega (arith, short, more))
 
-pub pair_full_bounded : (turns : ℕ) (duties : List Duty) (tail : TeamTail turns duties) (input : List ℕ) (left held now : Option (List ℕ)) → IsFull (team_run turns duties tail) input left held now
+pub team_full_bounded : (turns : ℕ) (duties : List Duty) (tail : TeamTail turns duties) (input : List ℕ) (left held now : Option (List ℕ)) → IsFull (team_run turns duties tail) input left held now
     → 250000 ≤ 10001 + length (split_of input).messages * (2 * turns + 6)
-pair_full_bounded turns duties tail input left held now full =
+team_full_bounded turns duties tail input left held now full =
     let checked : IsChecked full.model = checked_model full.words full.model full.accepted in
-    let short : length full.log ≤ 10001 + length (inputs_of full.log) * (2 * turns + 6) = paired_bounded full.model checked turns duties full.log full.says in
+    let short : length full.log ≤ 10001 + length (inputs_of full.log) * (2 * turns + 6) = team_bounded full.model checked turns duties full.log full.says in
     let all = ap (λ (ms : List (Option (List ℕ))). length ms) full.messages in
     let few : length (inputs_of full.log) ≤ length (split_of input).messages = omega (arith, all, length-append (inputs_of full.log) full.unanswered) in
     let more : length (inputs_of full.log) * (2 * turns + 6) ≤ length (split_of input).messages * (2 * turns + 6) = mul-le-mul_right (2 * turns + 6) few in
