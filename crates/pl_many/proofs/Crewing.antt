@@ -1,10 +1,11 @@
 -- The run of a crew, and the lines behind it.
-use Rattle.std.proofs.Common.{◌≡◌, ℕ, zero, suc, ◌+◌, ◌<◌, ◌≤◌, ◌^◌, List, [], ◌∷◌, ◌++◌, length, Option, Result, Ok, Err, OnOk, OnErr, IfErr, refl, sym, ◌∙◌, ap, subst, arith}
+use Rattle.std.proofs.Common.{◌≡◌, ℕ, zero, suc, ◌+◌, ◌<◌, ◌≤◌, ◌^◌, List, [], ◌∷◌, ◌++◌, length, Option, Result, Ok, Err, OnOk, OnErr, IfErr, IsErrOf, refl, sym, ◌∙◌, ap, subst, arith}
 use Rattle.std.specs.List.{All}
 use Rattle.std.proofs.lemmas.List.{length-map}
 use Rattle.std.proofs.lemmas.List.Elements.{All-nil, All-cons}
 use Rattle.pl_entry.specs.declared.entry.Entry.{Entry}
 use Rattle.pl_io.specs.Writes.{AppendsFront}
+use Rattle.pl_io.specs.Faults.{Rose}
 use Rattle.pl_journal.specs.Written.{Adds, WriteStops}
 use Rattle.pl_input.specs.declared.halt.Halt.{Halt}
 use Rattle.pl_input.specs.declared.halt.Halt.TheVariants as halt
@@ -58,6 +59,13 @@ crew_long planners seed begun few = (let long = planners_long 1 planners seed be
 
 -- ---- the lines behind the journal
 
+-- a write of a line failed
+pub lines_torn : (r : Result (Unit {0}) Halt) (before middle after : ℕ) → before ≤ middle → IfErr r (WriteStops middle after) → IsErrOf r halt.Write → Rose before after
+lines_torn (Ok u) before middle after later cause is = absurd (let h : Ok u ≡ Err halt.Write = is in (cc))
+lines_torn (Err h) before middle after later cause is =
+    let same : h ≡ halt.Write = (let e : ◌≡◌ {A = Result (Unit {0}) Halt} (Err h) (Err halt.Write) = is in (cc)) in
+    let torn : Rose middle after = subst (WriteStops middle after) same cause in omega (arith, later, torn)
+
 module _ (planners seed : ℕ) (start : State) (place : Place) (held : Option (List ℕ)) (behind : Place) where
   -- a log is short, and has at most as many marks
   pub few_marks : (e : Ended) (now : Option (List ℕ)) → RunsTeam (crew_of planners seed (length start.log)) start place held (Ok e) behind now → length e.marks.items < 2 ^ 32
@@ -78,17 +86,19 @@ module _ (planners seed : ℕ) (start : State) (place : Place) (held : Option (L
   tails (Err halt.Full) before after written now lines adds front cause = absurd cause
 
   -- the team came to its end, and the lines were written or not
-  pub crew_ran : (e : Ended) (r : Result (Unit {0}) Halt) (before after : ℕ) (written now : Option (List ℕ)) → RunsTeam (crew_of planners seed (length start.log)) start place held (Ok e) behind written
-      → OnOk r (Adds written now (lines_of planners e.marks.items e.machine.log)) → OnErr r (AppendsFront written now (lines_of planners e.marks.items e.machine.log)) → IfErr r (WriteStops before after)
+  pub crew_ran : (duties : List Duty) (e : Ended) (marks : List Mark) (log : List Entry) (r : Result (Unit {0}) Halt) (before after : ℕ) (written now : Option (List ℕ)) → duties ≡ crew_of planners seed (length start.log) → RunsTeam duties start place held (Ok e) behind written
+      → marks ≡ e.marks.items → log ≡ e.machine.log → OnOk r (Adds written now (lines_of planners marks log)) → OnErr r (AppendsFront written now (lines_of planners marks log)) → IfErr r (WriteStops before after)
       → CrewRun planners seed start place held r behind now
-  crew_ran e r before after written now runs adds front cause = record {
-    answer = Ok tt;
-    written = written;
-    run = runs.run;
-    tail = subst (λ (lines : List ℕ). Tails (Ok tt) r written now lines)
-        (ap (λ (marks : List Mark). lines_of planners marks e.machine.log) runs.back.2 ∙ ap (λ (log : List Entry). lines_of planners (marks_of runs.run.history.signs.by) log) runs.back.1)
-        (tails r before after written now (lines_of planners e.marks.items e.machine.log) adds front cause);
-  }
+  crew_ran duties e marks log r before after written now hired ran theirs whole adds front cause =
+      let runs : RunsTeam (crew_of planners seed (length start.log)) start place held (Ok e) behind written = subst (λ (ds : List Duty). RunsTeam ds start place held (Ok e) behind written) hired ran in
+      record {
+        answer = Ok tt;
+        written = written;
+        run = runs.run;
+        tail = subst (λ (lines : List ℕ). Tails (Ok tt) r written now lines)
+            (ap (λ (ms : List Mark). lines_of planners ms log) (theirs ∙ runs.back.2) ∙ ap (λ (es : List Entry). lines_of planners (marks_of runs.run.history.signs.by) es) (whole ∙ runs.back.1))
+            (tails r before after written now (lines_of planners marks log) adds front cause);
+      }
 
   -- the team was halted
   pub crew_halts : (h : Halt) (now : Option (List ℕ)) → RunsTeam (crew_of planners seed (length start.log)) start place held (Err h) behind now → CrewRun planners seed start place held (Err h) behind now

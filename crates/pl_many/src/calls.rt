@@ -17,7 +17,6 @@ use std::sync::Wait;
 
 impl Crew {
     /// Takes a message line, or the end of the input, in one turn, and answers the number of its entry.
-    #[tactic(auto, using(crate::proofs::Acting::fed))]
     pub fn feed<R: Wait>(
         &self,
         rt: &R,
@@ -37,7 +36,7 @@ impl Crew {
     }
 
     /// The first half of an act. An executive's act is over with it.
-    #[tactic(auto, using(crate::proofs::Acting::acts_somehow, crate::proofs::Acting::viewed_as))]
+    #[tactic(auto, using(crate::proofs::Acting::acts_somehow))]
     pub fn view<R: Wait>(&self, rt: &R, alloc: Global, member: &mut Member) -> Result<View, Stop>
         requires own { IsMember self.now member.old }
         requires worker { member.old.author ≢ Feeder }
@@ -53,7 +52,7 @@ impl Crew {
     }
 
     /// The second half of a planner's act.
-    #[tactic(auto, using(crate::proofs::Acting::acts_somehow, crate::proofs::Acting::repairs, crate::proofs::Acting::settled_by))]
+    #[tactic(auto, using(crate::proofs::Acting::acts_somehow, crate::proofs::Acting::repairs))]
     pub fn settle<R: Wait>(
         &self,
         rt: &R,
@@ -78,7 +77,7 @@ impl Crew {
     }
 
     /// Makes the event that the member has, if it has one.
-    #[tactic(auto, using(crate::proofs::Acting::acts_somehow, crate::proofs::Acting::acted_as))]
+    #[tactic(auto, using(crate::proofs::Acting::acts_somehow))]
     pub fn act<R: Wait>(&self, rt: &R, alloc: Global, member: &mut Member) -> Result<Acted, Stop>
         requires own { IsMember self.now member.old }
         requires worker { member.old.author ≢ Feeder }
@@ -94,7 +93,6 @@ impl Crew {
     }
 
     /// The entries of the log from a number on, as they stand in one turn. Nothing is changed.
-    #[tactic(auto, using(crate::proofs::Acting::copied))]
     pub fn copy_from<R: Wait>(
         &self,
         rt: &R,
@@ -114,7 +112,6 @@ impl Crew {
     }
 
     /// Lets no event be made from here on. It takes one turn and no memory.
-    #[tactic(auto, using(crate::proofs::Acting::stopped))]
     pub fn stop<R: Wait>(&self, rt: &R, member: &mut Member)
         requires { IsMember self.now member.old }
         ensures own { IsMember self.now member.new }

@@ -13,7 +13,6 @@ use pl_marks::Mark;
 
 impl Crew {
     /// Takes in what a member made.
-    #[tactic(auto, using(crate::proofs::Acting::joined))]
     pub fn join(&self, feeder: &mut Member, other: Member)
         requires own { IsMember self.now feeder.old }
         requires other { IsMember self.now other }
@@ -35,7 +34,6 @@ impl Crew {
     }
 
     /// The machine, and the mark of each entry past those that it had when it was handed in, once every other member is joined.
-    #[tactic(auto, using(crate::proofs::Acting::closes_by))]
     pub fn close(self, feeder: Member) -> (Machine, Vec<Mark>)
         requires own { IsMember self feeder }
         requires first { leads feeder.pass ≡ true }

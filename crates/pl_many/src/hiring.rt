@@ -1,5 +1,5 @@
 //! How a crew begins.
-ghost use Rattle.std.specs.Prelude.{◌≡◌, ◌≤◌, ◌<◌, ◌+◌, [], ◌∷◌, ◌++◌, length, true, IfOk, IfErr, vec_len, vec_capacity};
+ghost use Rattle.std.specs.Prelude.{◌≡◌, ◌≤◌, ◌<◌, [], true, IfOk, IfErr, vec_len, vec_capacity};
 ghost use Rattle.pl_turn.specs.Passes.{seen_of, leads, made_by};
 ghost use Rattle.pl_marks.specs.Authors.{IsAuthor};
 ghost use Rattle.pl_pair.specs.Joins.{IsFresh, IsFirst, Splits};
@@ -28,7 +28,6 @@ fn first_role(seed: u64, author: Author) -> Option<Role>
 }
 
 /// A member with a pass of its own, which has seen as much as the first.
-#[tactic(auto, using(crate::proofs::Beginning::new_member, crate::proofs::Beginning::fits_first))]
 fn hire(alloc: Global, plan: &SharedPlan, first: &mut Pass, seed: u64, author: Author) -> Member
     requires fresh { IsFresh plan.now first.old }
     requires leads { leads first.old ≡ true }
@@ -49,7 +48,7 @@ fn hire(alloc: Global, plan: &SharedPlan, first: &mut Pass, seed: u64, author: A
 }
 
 /// The executive and the planners by number, for whom there is room.
-#[tactic(auto, using(crate::proofs::Beginning::crew_none, crate::proofs::Beginning::crew_more, crate::proofs::Beginning::crew_planner, crate::proofs::Beginning::crew_leads, crate::proofs::Beginning::crew_few))]
+#[tactic(auto, using(crate::proofs::Beginning::crew_none, crate::proofs::Beginning::crew_more, crate::proofs::Beginning::crew_leads, crate::proofs::Beginning::crew_few))]
 fn hire_all(
     alloc: Global,
     plan: &SharedPlan,
@@ -74,7 +73,7 @@ fn hire_all(
 
 impl Crew {
     /// A crew over a machine. For want of memory the machine comes back.
-    #[tactic(auto, using(crate::proofs::Beginning::first_pass, crate::proofs::Beginning::crew_hired))]
+    #[tactic(auto, using(crate::proofs::Beginning::first_pass))]
     pub fn new(alloc: Global, machine: Machine, planners: u8, seed: u64) -> Result<Hired, Machine>
         requires planners { (2 ≤ planners) × (planners ≤ 8) }
         requires seed { seed ≤ 999999999999999999 }

@@ -7,7 +7,6 @@ ghost use Rattle.pl_many.specs.Closing.{IsMarked};
 /// Does nothing: its contract is a law. Behind each turn of a member there is a mark for each entry past those that were handed in, in
 /// order, of all that the member has seen. The marks of each author count 1, 2 and so on, and each entry that the member made is named
 /// by a mark of the member's.
-#[tactic(auto, using(crate::proofs::Naming::member_marked))]
 pub fn members_are_marked()
     ensures { (crew : Crew) (m : Member) → IsMember crew m → IsMarked m }
 {}

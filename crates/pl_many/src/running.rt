@@ -1,5 +1,5 @@
 //! The whole run of a crew.
-ghost use Rattle.std.specs.Prelude.{◌≡◌, ◌≤◌, ◌∷◌, [], false, None, IsErrOf, IfOk};
+ghost use Rattle.std.specs.Prelude.{◌≡◌, ◌≤◌, false, None, IsErrOf, IfOk};
 ghost use Rattle.pl_io.specs.Faults.{Rose};
 ghost use Rattle.pl_input.specs.Places.{place_of};
 ghost use Rattle.pl_many.specs.CrewRuns.{CrewRun, crew_of};
@@ -33,7 +33,7 @@ fn duties(alloc: Global, planners: u8, seed: u64, begun: u32) -> Result<Vec<Duty
 
 /// Runs an executive and planners in threads of their own, feeds them the messages that a reader has left, and writes the lines of the
 /// whole log, and behind them a line for each planner. It waits for its threads.
-#[tactic(auto, using(pl_machine::proofs::ShortLogs::log_is_short, crate::proofs::Crewing::begun_crew, crate::proofs::Crewing::crew_long, crate::proofs::Crewing::few_marks, crate::proofs::Crewing::crew_ran, crate::proofs::Crewing::crew_halts))]
+#[tactic(auto, using(pl_machine::proofs::ShortLogs::log_is_short, crate::proofs::Crewing::few_marks, crate::proofs::Crewing::crew_halts))]
 pub fn run_crew<R: Threads + Wait + Sync, I: Source, O: Sink, G: Gate + Sync>(
     rt: &R,
     alloc: Global,
