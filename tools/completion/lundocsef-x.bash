@@ -12,11 +12,12 @@ _lundocsef_x() {
         --program) COMPREPLY=($(compgen -f -- "$word")); return ;;
         --completion) COMPREPLY=($(compgen -W 'bash zsh' -- "$word")); return ;;
         --turns) COMPREPLY=($(compgen -W '2 4 8 16' -- "$word")); return ;;
+        --planners) COMPREPLY=($(compgen -W '2 3 4 8' -- "$word")); return ;;
         --seed) return ;;
     esac
     if [[ $word == -* ]]; then
         if [[ -z $command ]]; then COMPREPLY=($(compgen -W '--help --version --completion --program' -- "$word"))
-        elif [[ $command == run ]]; then COMPREPLY=($(compgen -W '--help --turns --seed' -- "$word"))
+        elif [[ $command == run ]]; then COMPREPLY=($(compgen -W '--help --turns --seed --planners' -- "$word"))
         else COMPREPLY=($(compgen -W '--help' -- "$word")); fi
     elif [[ -z $command ]]; then
         COMPREPLY=($(compgen -W 'run check replay report demo flex forecast improve' -- "$word"))

@@ -13,7 +13,7 @@ _lundocsef_x() {
         '*::argument:->arguments'
     [[ $state == arguments ]] || return
     case $line[1] in
-        run) _arguments '--turns[the most repairs for a message]:N:(2 4 8 16)' '--seed[plan with two threads]:seed:' '1:model:_files' '2:messages:_files' ;;
+        run) _arguments '--turns[the most repairs for a message]:N:(2 4 8 16)' '--seed[plan with two threads]:seed:' '--planners[plan with several planners]:P:(2 3 4 8)' '1:model:_files' '2:messages:_files' ;;
         check) _arguments '1:model:_files' ;;
         replay|report) _arguments '1:model:_files' '2:journal:_files' ;;
         demo) _arguments '1:N:' ;;

@@ -84,6 +84,11 @@ def fix_of(number, parts):
     return Entry(number, 'fix', ' '.join(parts[colon + 1:]), '', conflict, parts[9:colon])
 
 
+def is_blank(line):
+    """Whether nothing stands before the first `#` of a line. The program skips these lines, as those that `run crew` writes behind a journal."""
+    return not line.split('#', 1)[0].strip(' \t\r')
+
+
 def lines_of(lines):
-    """The lines of a journal, without the blank ones, which the program skips too."""
-    return [line for line in lines if line.strip(' \t\r')]
+    """The lines of a journal, without those that are blank."""
+    return [line for line in lines if not is_blank(line)]

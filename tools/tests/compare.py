@@ -53,12 +53,20 @@ def places(chance, length, count):
     return sorted({length} | {chance.randint(1, length) for _ in range(count)})
 
 
+def words_of(chance):
+    """A run of one thread, most often; else of a pair, or of several planners."""
+    if chance.random() < 0.8:
+        return ['run', 'solo', str(chance.choice((1, 4, 16)))]
+    seed = str(chance.randint(1, 99))
+    return ['run', 'pair', '6', seed] if chance.random() < 0.5 else ['run', 'crew', '6', str(chance.randint(2, 8)), seed]
+
+
 def compare(program, journals=JOURNALS, seed=1):
     """(journals compared, cuts compared, the first differences found)"""
     chance, done, cuts, faults = random.Random(seed), 0, 0, []
     while done < journals and len(faults) < 5:
         text = random_input(chance)
-        words = ['run', 'solo', str(chance.choice((1, 4, 16)))] if chance.random() < 0.8 else ['run', 'pair', '6', str(chance.randint(1, 99))]
+        words = words_of(chance)
         status, journal = call(program, words, text)
         if status == 3:
             continue            # the chance has made no model, such as one whose orders cannot be met

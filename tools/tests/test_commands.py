@@ -9,7 +9,7 @@ import tempfile
 import unittest
 from unittest import mock
 
-from support import CAMERA, TOOLS, program, text_of
+from support import CAMERA, EXAMPLES, TOOLS, program, text_of
 from lundocsef_tools.command import start
 
 COMMANDS = ('lundocsef-x', 'man-pages', 'model-look', 'plan-best', 'plan-diff', 'plan-film', 'plan-goals', 'plan-live', 'plan-svg')
@@ -134,6 +134,13 @@ class GoodInputTest(unittest.TestCase):
         whole = text_of(CAMERA[0]).split('begin\n')[0] + 'begin\n' + text_of(CAMERA[1])
         self.assertEqual(call('plan-svg', '-', text=whole)[:2], call('plan-svg', *CAMERA)[:2])
 
+    def test_the_lines_of_planners_are_passed_over(self):
+        crew = os.path.join(EXAMPLES, 'crew', 'camera.journal')
+        for command in ('plan-svg', 'plan-film', 'model-look'):
+            with self.subTest(command=command):
+                self.assertEqual(call(command, CAMERA[0], crew)[::2], (0, ''))
+        self.assertEqual(call('plan-live', CAMERA[0], text=text_of(crew))[::2], (0, ''))
+
     def test_plan_film(self):
         status, output, errors = call('plan-film', *CAMERA)
         self.assertEqual((status, errors, output.count('<svg ')), (0, '', 9))
@@ -180,6 +187,11 @@ class WrapperTest(unittest.TestCase):
         self.assertEqual(call_apart('lundocsef-x', 'check', CAMERA[0])[1], 'model ok: timelines 3 kinds 4\n')
         self.assertEqual(call_apart('lundocsef-x', 'report', *CAMERA)[1].split()[:3], ['report', 'entries', '44'])
         self.assertEqual(call_apart('lundocsef-x', 'demo', '2')[1], 'demo 2 entries 20 activities 4 dispatched 0 conflicts 0\n')
+
+    def test_several_planners(self):
+        status, journal, _ = call_apart('lundocsef-x', 'run', '--seed', '7', '--planners', '2', CAMERA[0])
+        self.assertEqual(status, 0)
+        self.assertEqual([line.split()[:3] for line in journal.split('\n') if line.startswith('#')], [['#', 'planner', '1'], ['#', 'planner', '2']])
 
     def test_it_ends_with_the_programs_status(self):
         status, output, errors = call_apart('lundocsef-x', 'replay', CAMERA[0], CAMERA[0])

@@ -9,16 +9,23 @@ from support import program
 MODEL = 'horizon 100000 lead 30 kind obs { duration 5 }\nbegin\n'
 OPEN = '0 open turns 8 live 10000 goals 20000 entries 250000\n'
 JOURNAL = OPEN + '1 in end : end\n'
-USAGE = 'usage: run solo N | run pair N SEED | check | replay | report | demo N | flex ID | forecast | improve N\n'
-RUNS = 'run solo 8', 'run pair 8 7'
+USAGE = 'usage: run solo N | run pair N SEED | check | replay | report | demo N | run crew N P SEED | flex ID | forecast | improve N\n'
+RUNS = 'run solo 8', 'run pair 8 7', 'run crew 8 2 7'
+NO_REPAIRS = ''.join('# planner %d entries 0 ok 0\n' % number for number in (1, 2))
 # rounds of four entries, and two of three: the log has 249,999 entries with the open one, and room for one more
 FULL = MODEL + ''.join('tick %d\n' % moment for moment in range(1, 62499)) + 'x\nx\n'
 LONG = MODEL + 'x' * 4097 + '\n'
 
+
+def behind(words):
+    """What stands behind the journal of a run in which nothing is to be planned."""
+    return NO_REPAIRS if 'crew' in words else ''
+
+
 # the words, the input, the status, and what is written; None: anything
 ENDINGS = [(words, text, status, output) for words in RUNS for text, status, output in (
-    (MODEL + 'end\n', 0, JOURNAL), (MODEL, 0, OPEN + '1 in eof\n'), ('horizon 9', 3, 'model: no begin\n'), (LONG, 6, OPEN),
-    (FULL + 'end\nx\n', 0, None), (FULL + 'x\nend\n', 7, None))] + [
+    (MODEL + 'end\n', 0, JOURNAL + behind(words)), (MODEL, 0, OPEN + '1 in eof\n' + behind(words)), ('horizon 9', 3, 'model: no begin\n'),
+    (LONG, 6, OPEN), (FULL + 'end\nx\n', 0, None), (FULL + 'x\nend\n', 7, None))] + [
     ('check', MODEL, 0, 'model ok: timelines 0 kinds 1\n'),
     ('check', '$\nbegin\n', 3, 'model: bad byte at 0\n'),
     ('check', 'x' * 4097, 6, ''),
@@ -42,7 +49,7 @@ ENDINGS = [(words, text, status, output) for words in RUNS for text, status, out
     ('improve 1', MODEL + 'x' * 4161, 6, ''),
     ('demo 2', '', 0, 'demo 2 entries 20 activities 4 dispatched 0 conflicts 0\n'),
     ('', '', 2, USAGE), ('flex', '', 2, USAGE), ('improve 0', '', 2, USAGE), ('improve 1001', '', 2, USAGE),
-    ('run solo 0', '', 2, USAGE), ('run', '', 2, USAGE), ('--help', '', 2, USAGE)]
+    ('run solo 0', '', 2, USAGE), ('run crew 8 1 7', '', 2, USAGE), ('run crew 8 9 7', '', 2, USAGE), ('run', '', 2, USAGE), ('--help', '', 2, USAGE)]
 
 
 def ended(words, **streams):

@@ -1,5 +1,5 @@
 -- Of which kind what a role makes is.
-use Rattle.std.proofs.Common.{◌≡◌, ℕ, ◌+◌, ◌<◌, ◌≤◌, List, [], ◌∷◌, length, Bool, true, Option, Some, None, refl, sym, ◌∙◌, ap, subst, arith, inl, inr, length-append}
+use Rattle.std.proofs.Common.{◌≡◌, ℕ, ◌+◌, ◌<◌, ◌≤◌, List, [], ◌∷◌, length, Bool, true, Option, Some, None, refl, sym, ◌∙◌, ap, subst, arith, length-append}
 use Rattle.std.specs.List.{All}
 use Rattle.std.proofs.lemmas.List.Elements.{All-nil, All-cons}
 use Rattle.pl_model.specs.declared.whole.Model.{Model}
@@ -19,7 +19,7 @@ use Rattle.pl_acts.specs.declared.role.Role.{Role}
 use Rattle.pl_acts.specs.declared.role.Role.TheVariants.{Planner, Executive}
 use Rattle.pl_acts.specs.Items.{model_in, OfWorld, InWorld, entries_in}
 use Rattle.pl_acts.specs.Roles.{worker_of, IsChosen, kind_of, is_entry, is_executed}
-use Rattle.pl_acts.specs.Sights.{IsPlanned, IsBy, IsDueBy, IsKept, IdlesBy, Idles, IsAskedAtMost}
+use Rattle.pl_acts.specs.Sights.{IsPlanned, IsBy, IsKept, IdlesBy, Idles, IsAskedAtMost}
 use Rattle.pl_acts.specs.Making.{IsMadeAt, MakesAll, low_behind}
 use Rattle.pl_acts.specs.Seen.{WasAskedAtMost}
 
@@ -78,7 +78,7 @@ idles_by_worker r r2 low seen (mid ∷ mids) idles = idles_by_worker mid r2 low 
 pub idles_worker : (r r2 : Role) (low : ℕ) (seen : List Noted) → Idles r low seen r2 → worker_of r2 ≡ worker_of r
 idles_worker r r2 low seen idles = idles_by_worker r r2 low seen idles.0 idles.1
 
-asked_worker : (r r2 : Role) (low : ℕ) (seen : List Noted) → IsAskedAtMost r low seen r2 → worker_of r2 ≡ worker_of r
+pub asked_worker : (r r2 : Role) (low : ℕ) (seen : List Noted) → IsAskedAtMost r low seen r2 → worker_of r2 ≡ worker_of r
 asked_worker (Planner g) (Planner g2) low seen asked = refl
 asked_worker (Planner g) Executive low seen asked = absurd asked
 asked_worker Executive r2 low seen same = ap worker_of same
@@ -90,7 +90,7 @@ was_asked_worker r r2 own seen was = asked_worker r r2 was.low was.before was.as
 
 place_within : (r r2 : Role) (low : ℕ) (seen : List Noted) (place : ℕ) (item : Noted) → IsMadeAt r low seen place item r2 → place < length seen
 place_within r r2 low seen place item is =
-    let long : length seen ≡ length is.before + length (Made is.entry ∷ is.behind) = ap length is.whole ∙ length-append is.before (Made is.entry ∷ is.behind) in
+    let long : length seen ≡ length is.before + length (Made is.author is.entry ∷ is.behind) = ap length is.whole ∙ length-append is.before (Made is.author is.entry ∷ is.behind) in
     let stands = is.stands in
     omega (arith, long, stands)
 

@@ -20,19 +20,22 @@ use Rattle.pl_machine.specs.Legal.{Legal, IsOpenedRun, no_options, options_in, w
 use Rattle.pl_acts.specs.declared.noted.Noted.{Noted}
 use Rattle.pl_acts.specs.declared.role.Role.{Role}
 use Rattle.pl_acts.specs.declared.role.Role.TheVariants.{Planner, Executive}
-use Rattle.pl_acts.specs.Items.{items_of, model_in, OfWorld, InWorld, entry_in, entries_in}
+use Rattle.pl_acts.specs.Items.{Signs, items_of, model_in, OfWorld, InWorld, entry_in, entries_in}
 use Rattle.pl_acts.specs.Roles.{has_event}
 use Rattle.pl_acts.specs.Seen.{IsPlan, IsFull}
 use Rattle.pl_machine.proofs.ShortLogs.{log_is_some, log_is_short}
 use Rattle.pl_acts.proofs.Items.{length_stopped, length_going, entries_in_items, model_in_items}
 
-plan_length : (m : Model) (log : List Entry) (s : Bool) → length log ≤ 250000 → length (items_of m log s) ≤ 250001
-plan_length m log true le = (let e = length_stopped m log true refl in omega arith)
-plan_length m log false le = (let e = length_going m log false refl in omega arith)
+plan_length_by : (m : Model) (log : List Entry) (s : Signs) (t : Bool) → is_some s.stopper ≡ t → length log ≤ 250000 → length (items_of m log s) ≤ 250001
+plan_length_by m log s true is le = (let e = length_stopped m log s is in omega arith)
+plan_length_by m log s false is le = (let e = length_going m log s is in omega arith)
+
+plan_length : (m : Model) (log : List Entry) (s : Signs) → length log ≤ 250000 → length (items_of m log s) ≤ 250001
+plan_length m log s le = plan_length_by m log s (is_some s.stopper) refl le
 
 pub plan_short : (seen : List Noted) → IsPlan seen → length seen ≤ 250001
 plan_short seen plan =
-    let le = plan_length plan.model plan.log plan.stopped (log_is_short plan.model plan.log plan.legal) in
+    let le = plan_length plan.model plan.log plan.signs (log_is_short plan.model plan.log plan.legal) in
     let same = ap length plan.is in
     omega arith
 
@@ -90,7 +93,7 @@ full_on xs ys plan on same full =
     let es = entries_in xs in
     let more = entries_in on.0 in
     let all : es ++ more ≡ entries_in ys = sym (filter_map-append entry_in xs on.0) ∙ ap entries_in on.1 in
-    let some : 0 < length es = rw (ap entries_in plan.is ∙ entries_in_items plan.model plan.log plan.stopped) (log_is_some plan.model plan.log plan.legal) in
+    let some : 0 < length es = rw (ap entries_in plan.is ∙ entries_in_items plan.model plan.log plan.signs) (log_is_some plan.model plan.log plan.legal) in
     let P : Option Model → Type 0 = λ o. OfWorld o (es ++ more) (λ w. w.options.entries ≤ length (es ++ more)) in
     let Q : List Entry → Type 0 = λ zs. OfWorld (model_in ys) zs (λ w. w.options.entries ≤ length zs) in
     subst Q all (subst P (sym same) (full_of (model_in xs) es more some full))
@@ -121,7 +124,7 @@ full_in m o es is full =
     subst P is full
 
 pub some_entries : (xs : List Noted) → IsPlan xs → 0 < length (entries_in xs)
-some_entries xs plan = rw (ap entries_in plan.is ∙ entries_in_items plan.model plan.log plan.stopped) (log_is_some plan.model plan.log plan.legal)
+some_entries xs plan = rw (ap entries_in plan.is ∙ entries_in_items plan.model plan.log plan.signs) (log_is_some plan.model plan.log plan.legal)
 
 -- what goes on from a full log has its entries
 pub full_ends : (xs ys : List Noted) → IsPlan xs → IsPlan ys → IsPrefix xs ys → model_in ys ≡ model_in xs → IsFull xs → entries_in ys ≡ entries_in xs
@@ -129,8 +132,8 @@ full_ends xs ys plan plan2 on same full =
     let es = entries_in xs in
     let more = entries_in on.0 in
     let all : es ++ more ≡ entries_in ys = sym (filter_map-append entry_in xs on.0) ∙ ap entries_in on.1 in
-    let log : entries_in ys ≡ plan2.log = ap entries_in plan2.is ∙ entries_in_items plan2.model plan2.log plan2.stopped in
-    let model : model_in xs ≡ Some plan2.model = sym same ∙ (ap model_in plan2.is ∙ model_in_items plan2.model plan2.log plan2.stopped plan2.legal) in
+    let log : entries_in ys ≡ plan2.log = ap entries_in plan2.is ∙ entries_in_items plan2.model plan2.log plan2.signs in
+    let model : model_in xs ≡ Some plan2.model = sym same ∙ (ap model_in plan2.is ∙ model_in_items plan2.model plan2.log plan2.signs plan2.legal) in
     let legal : Legal plan2.model (es ++ more) = subst (λ (zs : List Entry). Legal plan2.model zs) (sym (all ∙ log)) plan2.legal in
     let none = nothing_behind plan2.model es more legal (some_entries xs plan) (full_in plan2.model (model_in xs) es model full) in
     sym all ∙ (ap (λ (zs : List Entry). es ++ zs) none ∙ append-nil es)

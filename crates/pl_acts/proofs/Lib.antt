@@ -1,5 +1,7 @@
 pub mod Items
+pub mod Signers
 pub mod Replicas
+pub mod Signing
 pub mod Answering
 pub mod Finding
 pub mod Settled

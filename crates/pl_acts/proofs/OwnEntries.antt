@@ -1,5 +1,5 @@
 -- Own entries, as the history goes on.
-use Rattle.std.proofs.Common.{◌≡◌, ℕ, ◌+◌, ◌≤◌, List, [], ◌∷◌, ◌++◌, length, Option, Some, None, refl, sym, ◌∙◌, ap, subst, arith, inl, inr, append_assoc}
+use Rattle.std.proofs.Common.{ℕ, ◌+◌, ◌≤◌, List, [], ◌∷◌, ◌++◌, Option, Some, None, refl, sym, ◌∙◌, ap, subst, arith, inl, inr, append_assoc}
 use mathlib.Core.List.{IsPrefix}
 use Rattle.pl_turn.proofs.Histories.{prefix_trans}
 use Rattle.pl_entry.specs.declared.event.Event.{Event}
@@ -12,7 +12,7 @@ use Rattle.pl_acts.specs.declared.noted.Noted.{Noted}
 use Rattle.pl_acts.specs.declared.noted.Noted.TheVariants.{Made}
 use Rattle.pl_acts.specs.declared.role.Role.{Role}
 use Rattle.pl_acts.specs.declared.role.Role.TheVariants.{Planner, Executive}
-use Rattle.pl_acts.specs.Sights.{IsSight, IsFixed, as_seen, asked_again, HasRested, at_once, behind, IsPlanned, IsBy, IsLost, IsKeptBy, IsKept, IdlesBy, Idles}
+use Rattle.pl_acts.specs.Sights.{IsSight, IsFixed, as_seen, asked_again, HasRested, at_once, behind, IsPlanned, IsBy, IsKeptBy, IsKept, IdlesBy, Idles}
 use Rattle.pl_acts.specs.Making.{IsMadeAt, MakesAll, low_behind}
 
 -- ---- the history goes on
@@ -20,9 +20,10 @@ use Rattle.pl_acts.specs.Making.{IsMadeAt, MakesAll, low_behind}
 made_at_on : (xs ys : List Noted) (r r2 : Role) (low place : ℕ) (item : Noted) → IsPrefix xs ys → IsMadeAt r low xs place item r2 → IsMadeAt r low ys place item r2
 made_at_on xs ys r r2 low place item on is = record {
   before = is.before;
+  author = is.author;
   entry = is.entry;
   behind = is.behind ++ on.0;
-  whole = sym on.1 ∙ ap (λ (zs : List Noted). zs ++ on.0) is.whole ∙ append_assoc is.before (Made is.entry ∷ is.behind) on.0;
+  whole = sym on.1 ∙ ap (λ (zs : List Noted). zs ++ on.0) is.whole ∙ append_assoc is.before (Made is.author is.entry ∷ is.behind) on.0;
   stands = is.stands;
   is = is.is;
   running = is.running;
@@ -95,6 +96,7 @@ by_late Executive Executive low low2 before e le by = by
 pub made_at_late : (r r2 : Role) (low low2 : ℕ) (seen : List Noted) (place : ℕ) (item : Noted) → low2 ≤ low → IsMadeAt r low seen place item r2 → IsMadeAt r low2 seen place item r2
 made_at_late r r2 low low2 seen place item le is = record {
   before = is.before;
+  author = is.author;
   entry = is.entry;
   behind = is.behind;
   whole = is.whole;

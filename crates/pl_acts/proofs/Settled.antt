@@ -1,7 +1,8 @@
 -- What comes of a planner's second turn.
-use Rattle.std.proofs.Common.{◌≡◌, ℕ, ◌+◌, ◌<◌, List, [], ◌∷◌, length, Bool, true, false, Option, Some, None, Ok, Err, refl, sym, ◌∙◌, ap, ◌⊎◌, inl, inr, eq-eqb}
-use Rattle.std.specs.Prelude.{not, ◌&&◌, nat_lt, ◌==◌}
+use Rattle.std.proofs.Common.{◌≡◌, ℕ, ◌+◌, ◌<◌, List, [], ◌∷◌, length, Bool, true, false, Option, Some, None, Ok, Err, refl, sym, ◌∙◌, ◌⊎◌, inl, inr, eq-eqb}
+use Rattle.std.specs.Prelude.{not, ◌&&◌, nat_lt, is_some, ◌==◌}
 use Rattle.std.proofs.lemmas.Bool.{lt-ltb}
+use Rattle.pl_marks.specs.declared.author.Author.{Author}
 use Rattle.pl_conflict.specs.declared.conflict.Conflict.{Conflict}
 use Rattle.pl_entry.specs.declared.event.Event.TheVariants as event
 use Rattle.pl_entry.specs.declared.reply.Reply.{Reply}
@@ -17,16 +18,14 @@ use Rattle.pl_machine.specs.declared.stop.Stop.TheVariants as stop
 use Rattle.pl_machine.specs.declared.repaired.Repaired.{Repaired}
 use Rattle.pl_machine.specs.declared.repaired.Repaired.TheVariants as repaired
 use Rattle.pl_machine.specs.World.{World, reason_by, reason_of}
-use Rattle.pl_machine.specs.Step.{is_enabled}
-use Rattle.pl_machine.specs.Sound.{State}
-use Rattle.pl_machine.specs.Taking.{Answers}
 use Rattle.pl_machine.specs.Solo.{Picks, Drawn}
 use Rattle.pl_machine.specs.Mending as mending
 use Rattle.pl_machine.specs.Mending.{is_repairing, HasRepaired, RepairsOnce}
 use Rattle.pl_acts.specs.declared.held.Held.{Held}
 use Rattle.pl_acts.specs.declared.role.Acted.TheVariants as acted
+use Rattle.pl_acts.specs.Signing.{Written, SignedAnswers, RepairsSigned}
 use Rattle.pl_acts.specs.Inside.{Settles, SettlesIn}
-use Rattle.pl_acts.proofs.Answering.{with_machine, took_one, same_held, spoils_held}
+use Rattle.pl_acts.proofs.Answering.{with_plan, took_one, same_plan, same_held, spoils_held, wants_held}
 
 -- what the seeded chooser proposes, and its generator behind it
 abbrev seeded : Picks Lcg
@@ -54,47 +53,49 @@ none_proposed p w (inl none) reason = none
 none_proposed p w (inr spent) reason =
     absurd (let h : true ≡ false = spent_rests (conflicts_of w.state) (w.turn == w.options.turns) (is_stuck w.state) (eq-eqb w.turn w.options.turns spent) reason in cc)
 
-pub repaired_once : (old : Held) (m : State) (g g2 : Lcg) (p : Option Proposal) (done : Repaired) (n : ℕ) → old.machine.world.done ≡ false → old.stopped ≡ false → is_repairing old.machine.world ≡ true → IsFree p old.machine.world
-    → HasRepaired seeded old.machine g done m g2 → n + 1 ≡ length m.log → SettlesIn g p old (Ok (acted.Did n)) g2 (with_machine m old)
-repaired_once old m g g2 p (repaired.Fixed q) n going running repairing free did last = (
-  took_one (by g p g2) old m (event.Fix q.conflict q.mv) reply.Done n running did.3 did.4 last (inr (none_proposed p old.machine.world free did.0, sym did.1.0, did.1.1, refl)),
+pub repaired_once : (a : Author) (old : Held) (w : Written) (g g2 : Lcg) (p : Option Proposal) (done : Repaired) (n : ℕ) → old.plan.machine.world.done ≡ false → is_some old.stopper ≡ false → is_repairing old.plan.machine.world ≡ true → IsFree p old.plan.machine.world
+    → RepairsSigned seeded words_drawn a old.plan g (Ok done) w g2 → n + 1 ≡ length w.machine.log → SettlesIn a g p old (Ok (acted.Did n)) g2 (with_plan w old)
+repaired_once a old w g g2 p (repaired.Fixed q) n going running repairing free did last = (
+  took_one (by g p g2) a old w (event.Fix q.conflict q.mv) reply.Done n running did.0.3 did.0.4 did.1 last (inr (none_proposed p old.plan.machine.world free did.0.0, sym did.0.1.0, did.0.1.1, refl)),
   going,
   repairing,
 )
-repaired_once old m g g2 p (repaired.Rested why) n going running repairing free did last =
-    (took_one (by g p g2) old m event.Rest (reply.Rested why) n running did.1 did.2 last (free, did.3), going, repairing)
+repaired_once a old w g g2 p (repaired.Rested why) n going running repairing free did last =
+    (took_one (by g p g2) a old w event.Rest (reply.Rested why) n running did.0.1 did.0.2 did.1 last (free, did.0.3), going, repairing)
 
 asked_again : (p : Option Proposal) (w : World) (g g2 : Lcg) → IsFree p w → mending.IsAskedAtMost words_drawn w g g2
     → (g2 ≡ g) ⊎ ((p ≡ None) × (is_repairing w ≡ true) × (reason_of w ≡ None) × (g2 ≡ seeded_after g))
 asked_again p w g g2 free (inl same) = inl same
 asked_again p w g g2 free (inr asked) = inr (none_proposed p w free asked.1, asked.0, asked.1, asked.2)
 
-pub repair_stops : (old : Held) (m : State) (g g2 : Lcg) (p : Option Proposal) (s : Stop) → old.machine.spoiled ≡ false → old.machine.world.done ≡ false → old.stopped ≡ false → is_repairing old.machine.world ≡ true
-    → IsFree p old.machine.world → RepairsOnce seeded words_drawn old.machine g (Err s) m g2 → SettlesIn g p old (Err s) g2 (with_machine m old)
-repair_stops old m g g2 p stop.Spoiled unspoiled going running repairing free answers = (answers.0, same_held old m answers.1, answers.2)
-repair_stops old m g g2 p stop.NotNow unspoiled going running repairing free answers = absurd (let h : true ≡ false = sym repairing ∙ answers.1 in cc)
-repair_stops old m g g2 p stop.LogFull unspoiled going running repairing free answers =
-    (record { unspoiled = unspoiled; going = going; running = running }, repairing, answers.2, same_held old m answers.3, answers.4)
-repair_stops old m g g2 p stop.Memory unspoiled going running repairing free answers = (spoils_held old m answers.0 answers.1, asked_again p old.machine.world g g2 free answers.2)
+pub repair_stops : (a : Author) (old : Held) (w : Written) (g g2 : Lcg) (p : Option Proposal) (s : Stop) → old.plan.machine.spoiled ≡ false → old.plan.machine.world.done ≡ false → is_some old.stopper ≡ false → is_repairing old.plan.machine.world ≡ true
+    → IsFree p old.plan.machine.world → RepairsSigned seeded words_drawn a old.plan g (Err s) w g2 → SettlesIn a g p old (Err s) g2 (with_plan w old)
+repair_stops a old w g g2 p stop.Spoiled unspoiled going running repairing free answers = (answers.0.0, same_held old w answers.0.1 answers.1, answers.0.2)
+repair_stops a old w g g2 p stop.NotNow unspoiled going running repairing free answers = absurd (let h : true ≡ false = sym repairing ∙ answers.0.1 in cc)
+repair_stops a old w g g2 p stop.LogFull unspoiled going running repairing free answers =
+    (record { unspoiled = unspoiled; going = going; running = running }, repairing, answers.0.2, same_held old w answers.0.3 answers.1, answers.0.4)
+repair_stops a old w g g2 p stop.Memory unspoiled going running repairing free (inl answers) =
+    (inl (spoils_held old w answers.0.0 answers.0.1 answers.1), asked_again p old.plan.machine.world g g2 free answers.0.2)
+repair_stops a old w g g2 p stop.Memory unspoiled going running repairing free (inr same) = (inr (unspoiled, same_plan old w same.0), inl same.1)
 
 -- ---- what was proposed before
 
-pub fixed : (old : Held) (m : State) (g : Lcg) (q : Proposal) (r : Reply) (n : ℕ) → old.machine.world.done ≡ false → old.stopped ≡ false → is_repairing old.machine.world ≡ true
-    → Answers old.machine (event.Fix q.conflict q.mv) (Ok r) m → n + 1 ≡ length m.log → SettlesIn g (Some q) old (Ok (acted.Did n)) g (with_machine m old)
-fixed old m g q r n going running repairing answers last =
-    (took_one (by g (Some q) g) old m (event.Fix q.conflict q.mv) r n running answers.0 answers.1 last (inl (refl, refl)), going, repairing)
+pub fixed : (a : Author) (old : Held) (w : Written) (g : Lcg) (q : Proposal) (r : Reply) (n : ℕ) → old.plan.machine.world.done ≡ false → is_some old.stopper ≡ false → is_repairing old.plan.machine.world ≡ true
+    → SignedAnswers a old.plan (event.Fix q.conflict q.mv) (Ok r) w → n + 1 ≡ length w.machine.log → SettlesIn a g (Some q) old (Ok (acted.Did n)) g (with_plan w old)
+fixed a old w g q r n going running repairing answers last =
+    (took_one (by g (Some q) g) a old w (event.Fix q.conflict q.mv) r n running answers.0.0 answers.0.1 answers.1 last (inl (refl, refl)), going, repairing)
 
 may_fix : (closed rested b : Bool) → (not closed && not rested) ≡ true → b ≡ true → (not closed && (not rested && b)) ≡ true
 may_fix true rested b e f = absurd (cc)
 may_fix false true b e f = absurd (cc)
 may_fix false false b e f = f
 
-pub fix_stops : (old : Held) (m : State) (g : Lcg) (q : Proposal) (s : Stop) → old.machine.spoiled ≡ false → old.machine.world.done ≡ false → old.stopped ≡ false → is_repairing old.machine.world ≡ true
-    → old.machine.world.turn < old.machine.world.options.turns → Answers old.machine (event.Fix q.conflict q.mv) (Err s) m → SettlesIn g (Some q) old (Err s) g (with_machine m old)
-fix_stops old m g q stop.Spoiled unspoiled going running repairing turns answers = (answers.0, same_held old m answers.1, refl)
-fix_stops old m g q stop.NotNow unspoiled going running repairing turns answers =
-    let w = old.machine.world in
-    absurd (let h : true ≡ false = sym (may_fix w.closed w.rested (nat_lt w.turn w.options.turns) repairing (lt-ltb w.turn w.options.turns turns)) ∙ answers.1 in cc)
-fix_stops old m g q stop.LogFull unspoiled going running repairing turns answers =
-    (record { unspoiled = unspoiled; going = going; running = running }, repairing, answers.2, same_held old m answers.3, refl)
-fix_stops old m g q stop.Memory unspoiled going running repairing turns answers = (spoils_held old m answers.0 answers.1, inl refl)
+pub fix_stops : (a : Author) (old : Held) (p : Written) (g : Lcg) (q : Proposal) (s : Stop) → old.plan.machine.spoiled ≡ false → old.plan.machine.world.done ≡ false → is_some old.stopper ≡ false → is_repairing old.plan.machine.world ≡ true
+    → old.plan.machine.world.turn < old.plan.machine.world.options.turns → SignedAnswers a old.plan (event.Fix q.conflict q.mv) (Err s) p → SettlesIn a g (Some q) old (Err s) g (with_plan p old)
+fix_stops a old p g q stop.Spoiled unspoiled going running repairing turns answers = (answers.0.0, same_held old p answers.0.1 answers.1, refl)
+fix_stops a old p g q stop.NotNow unspoiled going running repairing turns answers =
+    let w = old.plan.machine.world in
+    absurd (let h : true ≡ false = sym (may_fix w.closed w.rested (nat_lt w.turn w.options.turns) repairing (lt-ltb w.turn w.options.turns turns)) ∙ answers.0.1 in cc)
+fix_stops a old p g q stop.LogFull unspoiled going running repairing turns answers =
+    (record { unspoiled = unspoiled; going = going; running = running }, repairing, answers.0.2, same_held old p answers.0.3 answers.1, refl)
+fix_stops a old p g q stop.Memory unspoiled going running repairing turns answers = (wants_held a old p (event.Fix q.conflict q.mv) unspoiled answers, inl refl)

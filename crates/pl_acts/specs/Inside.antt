@@ -1,5 +1,6 @@
 -- What is done to the plan inside a turn.
 use Rattle.std.specs.Prelude.{◌≡◌, ◌≤◌, ℕ, List, [], ◌∷◌, ◌++◌, length, drop, Bool, true, false, not, ◌&&◌, ◌||◌, Option, Some, None, is_some, Result, Ok, Err, ◌⊎◌}
+use Rattle.pl_marks.specs.declared.author.Author.{Author}
 use Rattle.pl_model.specs.Checked.{IsChecked}
 use Rattle.pl_entry.specs.declared.event.Event.{Event}
 use Rattle.pl_entry.specs.declared.event.Event.TheVariants as event
@@ -22,7 +23,8 @@ use Rattle.pl_acts.specs.declared.held.Held.{Held}
 use Rattle.pl_acts.specs.declared.role.Acted.{Acted}
 use Rattle.pl_acts.specs.declared.role.Acted.TheVariants as acted
 use Rattle.pl_acts.specs.declared.part.Part.{Part}
-use Rattle.pl_acts.specs.Items.{items_of}
+use Rattle.pl_acts.specs.Items.{Signs, signed_on, items_of}
+use Rattle.pl_acts.specs.Signing.{Written, IsTied}
 use Rattle.pl_acts.specs.declared.role.Role.TheVariants.{Executive}
 use Rattle.pl_acts.specs.declared.look.Looked.{Looked}
 use Rattle.pl_acts.specs.declared.look.Looked.TheVariants as looked
@@ -30,92 +32,99 @@ use Rattle.pl_acts.specs.Roles.{has_event, IsChosen, IsInputOf}
 use Rattle.pl_acts.specs.Replicas.{IsDraft}
 use Rattle.pl_acts.specs.Sights.{AsksIn}
 
-abbrev pub items_in : Held → List Noted
-items_in h = items_of h.machine.model h.machine.log h.stopped
+-- what there is beside the log
+abbrev pub signs_in : Held → Signs
+signs_in h = record { by = h.plan.signs; stopper = h.stopper }
 
--- The model is checked, the log is legal, and a machine stands for the world after it; a spoiled one but for the plan state.
-pub record IsSound (m : State) : Type 0 where
-  pub legal : Legal m.model m.log
-  pub others : m.world ≡ record (world_of m.model m.log) { state = m.world.state }
-  pub history : m.spoiled ≡ false → IsHistory m.model m.log m.world
-  pub checked : IsChecked m.model
+abbrev pub items_in : Held → List Noted
+items_in h = items_of h.plan.machine.model h.plan.machine.log (signs_in h)
+
+-- The model is checked, the log is legal, and a machine stands for the world after it; a spoiled one but for the plan state. Each entry was handed in or has an author.
+pub record IsSound (w : Written) : Type 0 where
+  pub legal : Legal w.machine.model w.machine.log
+  pub others : w.machine.world ≡ record (world_of w.machine.model w.machine.log) { state = w.machine.world.state }
+  pub history : w.machine.spoiled ≡ false → IsHistory w.machine.model w.machine.log w.machine.world
+  pub checked : IsChecked w.machine.model
+  pub tied : IsTied w
 
 -- the entry is a step of the world
 abbrev pub IsStepIn : World → Entry → Type 0
 IsStepIn w e = (is_enabled w e.event ≡ true) × (e.reply ≡ reply_of w e.event)
 
--- An unspoiled plan that was not stopped got this entry.
-pub record Logs (By : World → Entry → Type 0) (old new : Held) (number : ℕ) : Type 0 where
+-- An unspoiled plan that was not stopped got this entry, which the author made.
+pub record Logs (By : World → Entry → Type 0) (author : Author) (old new : Held) (number : ℕ) : Type 0 where
   pub entry : Entry
-  pub unspoiled : old.machine.spoiled ≡ false
-  pub going : old.stopped ≡ false
-  pub log : new.machine.log ≡ old.machine.log ++ entry ∷ []
-  pub model : new.machine.model ≡ old.machine.model
-  pub same : new.stopped ≡ old.stopped
-  pub place : number ≡ length old.machine.log
-  pub step : IsStepIn old.machine.world entry
-  pub by : By old.machine.world entry
+  pub unspoiled : old.plan.machine.spoiled ≡ false
+  pub going : is_some old.stopper ≡ false
+  pub log : new.plan.machine.log ≡ old.plan.machine.log ++ entry ∷ []
+  pub model : new.plan.machine.model ≡ old.plan.machine.model
+  pub signs : new.plan.signs ≡ signed_on author old.plan.signs
+  pub same : new.stopper ≡ old.stopper
+  pub place : number ≡ length old.plan.machine.log
+  pub step : IsStepIn old.plan.machine.world entry
+  pub by : By old.plan.machine.world entry
 
 -- nothing was logged
 pub record KeepsLog (old new : Held) : Type 0 where
-  pub log : new.machine.log ≡ old.machine.log
-  pub model : new.machine.model ≡ old.machine.model
-  pub same : new.stopped ≡ old.stopped
+  pub log : new.plan.machine.log ≡ old.plan.machine.log
+  pub model : new.plan.machine.model ≡ old.plan.machine.model
+  pub signs : new.plan.signs ≡ old.plan.signs
+  pub same : new.stopper ≡ old.stopper
 
 -- memory was wanting
 abbrev pub Spoiled : Held → Held → Type 0
-Spoiled old new = (old.machine.spoiled ≡ false) × KeepsLog old new × (new.machine.spoiled ≡ true)
+Spoiled old new = (old.plan.machine.spoiled ≡ false) × KeepsLog old new × (new.plan.machine.spoiled ≡ true)
+
+-- memory was wanting for an event, which spoils the machine, or for a signature or a replica, which changes nothing
+abbrev pub Wants : Held → Held → Type 0
+Wants old new = Spoiled old new ⊎ ((old.plan.machine.spoiled ≡ false) × (new ≡ old))
 
 abbrev pub IsFull : State → Type 0
 IsFull m = m.world.options.entries ≤ length m.log
 
 -- whether the plan goes no further: memory was wanting, the input has ended, or the plan was stopped
 abbrev pub is_over : Held → Bool
-is_over h = h.machine.spoiled || (h.machine.world.done || h.stopped)
+is_over h = h.plan.machine.spoiled || (h.plan.machine.world.done || is_some h.stopper)
 
 -- whether a message is taken: between rounds, and before the end of the input and the stop
 abbrev pub can_listen : World → Bool → Bool
 can_listen w stopped = (w.closed && not w.done) && not stopped
 
 -- Spoiled, NotNow and LogFull come in this order, exactly by their causes, and change nothing.
-abbrev pub FeedsIn : Option (List ℕ) → Held → Result ℕ Stop → Held → Type 0
-FeedsIn line old (Ok number) new = Logs (IsInputOf line) old new number
-FeedsIn line old (Err stop.Spoiled) new = (old.machine.spoiled ≡ true) × (new ≡ old)
-FeedsIn line old (Err stop.NotNow) new = (old.machine.spoiled ≡ false) × (can_listen old.machine.world old.stopped ≡ false) × (new ≡ old)
-FeedsIn line old (Err stop.LogFull) new = (old.machine.spoiled ≡ false) × (can_listen old.machine.world old.stopped ≡ true) × IsFull old.machine × (new ≡ old)
-FeedsIn line old (Err stop.Memory) new = Spoiled old new
+abbrev pub FeedsIn : Author → Option (List ℕ) → Held → Result ℕ Stop → Held → Type 0
+FeedsIn by line old (Ok number) new = Logs (IsInputOf line) by old new number
+FeedsIn by line old (Err stop.Spoiled) new = (old.plan.machine.spoiled ≡ true) × (new ≡ old)
+FeedsIn by line old (Err stop.NotNow) new = (old.plan.machine.spoiled ≡ false) × (can_listen old.plan.machine.world (is_some old.stopper) ≡ false) × (new ≡ old)
+FeedsIn by line old (Err stop.LogFull) new = (old.plan.machine.spoiled ≡ false) × (can_listen old.plan.machine.world (is_some old.stopper) ≡ true) × IsFull old.plan.machine × (new ≡ old)
+FeedsIn by line old (Err stop.Memory) new = Wants old new
 
 -- the entries from this number on, and where the plan stands behind them
 pub record IsPart (from : ℕ) (h : Held) (part : Part) : Type 0 where
-  pub entries : part.entries ≡ drop from h.machine.log
-  pub closed : part.closed ≡ h.machine.world.closed
-  pub done : part.done ≡ h.machine.world.done
-  pub stopped : part.stopped ≡ h.stopped
+  pub entries : part.entries ≡ drop from h.plan.machine.log
+  pub closed : part.closed ≡ h.plan.machine.world.closed
+  pub done : part.done ≡ h.plan.machine.world.done
+  pub stopped : part.stopped ≡ is_some h.stopper
 
 -- an unspoiled plan before the end of the input and the stop
 pub record IsGoing (h : Held) : Type 0 where
-  pub unspoiled : h.machine.spoiled ≡ false
-  pub going : h.machine.world.done ≡ false
-  pub running : h.stopped ≡ false
-
--- memory was wanting for an event, which spoils the machine, or for a replica, which changes nothing
-abbrev pub Wants : Held → Held → Type 0
-Wants old new = Spoiled old new ⊎ ((old.machine.spoiled ≡ false) × (new ≡ old))
+  pub unspoiled : h.plan.machine.spoiled ≡ false
+  pub going : h.plan.machine.world.done ≡ false
+  pub running : is_some h.stopper ≡ false
 
 -- what an executive does
 abbrev pub Executes : World → Entry → Type 0
 Executes w e = IsChosen (exec_choice_of w) e.event
 
--- Each answer comes exactly by its cause, in this order: Spoiled, Finished, Stopped, Nothing, LogFull. All of them but the entry and want of memory change nothing; want of memory spoils the machine.
-abbrev pub ExecutesIn : Held → Result Acted Stop → Held → Type 0
-ExecutesIn old (Ok (acted.Did number)) new = Logs Executes old new number × (old.machine.world.done ≡ false) × (has_event Executive old.machine.world ≡ true)
-ExecutesIn old (Ok acted.Nothing) new = IsGoing old × (has_event Executive old.machine.world ≡ false) × (new ≡ old)
-ExecutesIn old (Ok acted.Finished) new = (old.machine.spoiled ≡ false) × (old.machine.world.done ≡ true) × (new ≡ old)
-ExecutesIn old (Ok acted.Stopped) new = (old.machine.spoiled ≡ false) × (old.machine.world.done ≡ false) × (old.stopped ≡ true) × (new ≡ old)
-ExecutesIn old (Err stop.Spoiled) new = (old.machine.spoiled ≡ true) × (new ≡ old)
-ExecutesIn old (Err stop.NotNow) new = ⊥
-ExecutesIn old (Err stop.LogFull) new = IsGoing old × (has_event Executive old.machine.world ≡ true) × IsFull old.machine × (new ≡ old)
-ExecutesIn old (Err stop.Memory) new = Spoiled old new
+-- Each answer comes exactly by its cause, in this order: Spoiled, Finished, Stopped, Nothing, LogFull. All of them but the entry and want of memory change nothing; want of memory for the event spoils the machine.
+abbrev pub ExecutesIn : Author → Held → Result Acted Stop → Held → Type 0
+ExecutesIn by old (Ok (acted.Did number)) new = Logs Executes by old new number × (old.plan.machine.world.done ≡ false) × (has_event Executive old.plan.machine.world ≡ true)
+ExecutesIn by old (Ok acted.Nothing) new = IsGoing old × (has_event Executive old.plan.machine.world ≡ false) × (new ≡ old)
+ExecutesIn by old (Ok acted.Finished) new = (old.plan.machine.spoiled ≡ false) × (old.plan.machine.world.done ≡ true) × (new ≡ old)
+ExecutesIn by old (Ok acted.Stopped) new = (old.plan.machine.spoiled ≡ false) × (old.plan.machine.world.done ≡ false) × (is_some old.stopper ≡ true) × (new ≡ old)
+ExecutesIn by old (Err stop.Spoiled) new = (old.plan.machine.spoiled ≡ true) × (new ≡ old)
+ExecutesIn by old (Err stop.NotNow) new = ⊥
+ExecutesIn by old (Err stop.LogFull) new = IsGoing old × (has_event Executive old.plan.machine.world ≡ true) × IsFull old.plan.machine × (new ≡ old)
+ExecutesIn by old (Err stop.Memory) new = Wants old new
 
 -- ---- a planner looks, and settles
 
@@ -124,16 +133,16 @@ abbrev pub RestsAtOnce : World → Entry → Type 0
 RestsAtOnce w e = (e.event ≡ event.Rest) × (is_some (plain_reason_of w) ≡ true)
 
 -- What a look finds, in this order: Spoiled, Finished, Stopped, Nothing, LogFull, a rest for a plain reason, and else a replica to be asked about.
-abbrev pub LooksIn : Held → Result Looked Stop → Held → Type 0
-LooksIn old (Ok (looked.Settled (acted.Did number))) new = Logs RestsAtOnce old new number × (old.machine.world.done ≡ false) × (is_repairing old.machine.world ≡ true)
-LooksIn old (Ok (looked.Settled acted.Nothing)) new = IsGoing old × (is_repairing old.machine.world ≡ false) × (new ≡ old)
-LooksIn old (Ok (looked.Settled acted.Finished)) new = (old.machine.spoiled ≡ false) × (old.machine.world.done ≡ true) × (new ≡ old)
-LooksIn old (Ok (looked.Settled acted.Stopped)) new = (old.machine.spoiled ≡ false) × (old.machine.world.done ≡ false) × (old.stopped ≡ true) × (new ≡ old)
-LooksIn old (Ok (looked.Open draft)) new = IsGoing old × AsksIn old.machine.world × IsDraft old.machine draft × (new ≡ old)
-LooksIn old (Err stop.Spoiled) new = (old.machine.spoiled ≡ true) × (new ≡ old)
-LooksIn old (Err stop.NotNow) new = ⊥
-LooksIn old (Err stop.LogFull) new = IsGoing old × (is_repairing old.machine.world ≡ true) × IsFull old.machine × (new ≡ old)
-LooksIn old (Err stop.Memory) new = Wants old new
+abbrev pub LooksIn : Author → Held → Result Looked Stop → Held → Type 0
+LooksIn by old (Ok (looked.Settled (acted.Did number))) new = Logs RestsAtOnce by old new number × (old.plan.machine.world.done ≡ false) × (is_repairing old.plan.machine.world ≡ true)
+LooksIn by old (Ok (looked.Settled acted.Nothing)) new = IsGoing old × (is_repairing old.plan.machine.world ≡ false) × (new ≡ old)
+LooksIn by old (Ok (looked.Settled acted.Finished)) new = (old.plan.machine.spoiled ≡ false) × (old.plan.machine.world.done ≡ true) × (new ≡ old)
+LooksIn by old (Ok (looked.Settled acted.Stopped)) new = (old.plan.machine.spoiled ≡ false) × (old.plan.machine.world.done ≡ false) × (is_some old.stopper ≡ true) × (new ≡ old)
+LooksIn by old (Ok (looked.Open draft)) new = IsGoing old × AsksIn old.plan.machine.world × IsDraft old.plan.machine draft × (new ≡ old)
+LooksIn by old (Err stop.Spoiled) new = (old.plan.machine.spoiled ≡ true) × (new ≡ old)
+LooksIn by old (Err stop.NotNow) new = ⊥
+LooksIn by old (Err stop.LogFull) new = IsGoing old × (is_repairing old.plan.machine.world ≡ true) × IsFull old.plan.machine × (new ≡ old)
+LooksIn by old (Err stop.Memory) new = Wants old new
 
 -- What a planner makes with what its chooser proposed before: that, while turns are left. Without a proposal the chooser is asked again
 -- where nothing tells repair to rest, and what it proposes then is made.
@@ -145,12 +154,12 @@ Settles g p g2 w event.Rest answer = ((p ≡ None) ⊎ (w.turn ≡ w.options.tur
 Settles g p g2 w _ answer = ⊥
 
 -- Finished, Stopped, Nothing and LogFull come in this order behind Spoiled, exactly by their causes, and change nothing.
-abbrev pub SettlesIn : Lcg → Option Proposal → Held → Result Acted Stop → Lcg → Held → Type 0
-SettlesIn g p old (Ok (acted.Did number)) g2 new = Logs (λ w e. Settles g p g2 w e.event e.reply) old new number × (old.machine.world.done ≡ false) × (is_repairing old.machine.world ≡ true)
-SettlesIn g p old (Ok acted.Nothing) g2 new = IsGoing old × (is_repairing old.machine.world ≡ false) × (new ≡ old) × (g2 ≡ g)
-SettlesIn g p old (Ok acted.Finished) g2 new = (old.machine.spoiled ≡ false) × (old.machine.world.done ≡ true) × (new ≡ old) × (g2 ≡ g)
-SettlesIn g p old (Ok acted.Stopped) g2 new = (old.machine.spoiled ≡ false) × (old.machine.world.done ≡ false) × (old.stopped ≡ true) × (new ≡ old) × (g2 ≡ g)
-SettlesIn g p old (Err stop.Spoiled) g2 new = (old.machine.spoiled ≡ true) × (new ≡ old) × (g2 ≡ g)
-SettlesIn g p old (Err stop.NotNow) g2 new = ⊥
-SettlesIn g p old (Err stop.LogFull) g2 new = IsGoing old × (is_repairing old.machine.world ≡ true) × IsFull old.machine × (new ≡ old) × (g2 ≡ g)
-SettlesIn g p old (Err stop.Memory) g2 new = Spoiled old new × ((g2 ≡ g) ⊎ ((p ≡ None) × (is_repairing old.machine.world ≡ true) × (reason_of old.machine.world ≡ None) × (g2 ≡ seeded_after g)))
+abbrev pub SettlesIn : Author → Lcg → Option Proposal → Held → Result Acted Stop → Lcg → Held → Type 0
+SettlesIn by g p old (Ok (acted.Did number)) g2 new = Logs (λ w e. Settles g p g2 w e.event e.reply) by old new number × (old.plan.machine.world.done ≡ false) × (is_repairing old.plan.machine.world ≡ true)
+SettlesIn by g p old (Ok acted.Nothing) g2 new = IsGoing old × (is_repairing old.plan.machine.world ≡ false) × (new ≡ old) × (g2 ≡ g)
+SettlesIn by g p old (Ok acted.Finished) g2 new = (old.plan.machine.spoiled ≡ false) × (old.plan.machine.world.done ≡ true) × (new ≡ old) × (g2 ≡ g)
+SettlesIn by g p old (Ok acted.Stopped) g2 new = (old.plan.machine.spoiled ≡ false) × (old.plan.machine.world.done ≡ false) × (is_some old.stopper ≡ true) × (new ≡ old) × (g2 ≡ g)
+SettlesIn by g p old (Err stop.Spoiled) g2 new = (old.plan.machine.spoiled ≡ true) × (new ≡ old) × (g2 ≡ g)
+SettlesIn by g p old (Err stop.NotNow) g2 new = ⊥
+SettlesIn by g p old (Err stop.LogFull) g2 new = IsGoing old × (is_repairing old.plan.machine.world ≡ true) × IsFull old.plan.machine × (new ≡ old) × (g2 ≡ g)
+SettlesIn by g p old (Err stop.Memory) g2 new = Wants old new × ((g2 ≡ g) ⊎ ((p ≡ None) × (is_repairing old.plan.machine.world ≡ true) × (reason_of old.plan.machine.world ≡ None) × (g2 ≡ seeded_after g)))

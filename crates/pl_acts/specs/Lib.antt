@@ -1,4 +1,6 @@
 pub use Rattle.pl_turn.specs.History
+pub use Rattle.pl_marks.specs.Authors
+pub use Rattle.pl_marks.specs.Marks
 pub use Rattle.pl_entry.specs.Bounds
 pub use Rattle.pl_choose.specs.Picks
 pub use Rattle.pl_machine.specs.World
@@ -10,6 +12,7 @@ pub use Rattle.pl_machine.specs.Taking
 pub mod Items
 pub mod Roles
 pub mod Replicas
+pub mod Signing
 pub mod Sights
 pub mod Inside
 pub mod Making

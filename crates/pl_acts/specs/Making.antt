@@ -1,5 +1,6 @@
 -- What a role made, entry by entry.
-use Rattle.std.specs.Prelude.{◌≡◌, ◌+◌, ℕ, List, [], ◌∷◌, ◌++◌, length, false}
+use Rattle.std.specs.Prelude.{◌≡◌, ◌+◌, ℕ, List, [], ◌∷◌, ◌++◌, length, false, Option}
+use Rattle.pl_marks.specs.declared.author.Author.{Author}
 use Rattle.pl_entry.specs.declared.entry.Entry.{Entry}
 use Rattle.pl_acts.specs.declared.noted.Noted.{Noted}
 use Rattle.pl_acts.specs.declared.noted.Noted.TheVariants.{Made}
@@ -11,11 +12,12 @@ use Rattle.pl_acts.specs.Inside.{IsStepIn}
 -- The item stands at this place of what was seen. It is the entry that the role makes behind the items before it, `low` of which it had seen before. They hold no stop, and the role behind it is `r2`.
 pub record IsMadeAt (r : Role) (low : ℕ) (seen : List Noted) (place : ℕ) (item : Noted) (r2 : Role) : Type 0 where
   pub before : List Noted
+  pub author : Option Author
   pub entry : Entry
   pub behind : List Noted
-  pub whole : seen ≡ before ++ Made entry ∷ behind
+  pub whole : seen ≡ before ++ Made author entry ∷ behind
   pub stands : place ≡ length before
-  pub is : item ≡ Made entry
+  pub is : item ≡ Made author entry
   pub running : stop_in before ≡ false
   pub step : InWorld before (λ w. IsStepIn w entry)
   pub by : IsDueBy r r2 low before entry

@@ -1,5 +1,5 @@
 -- A second machine that makes the events of a plan's log again, so that a chooser can be asked on it outside the turn.
-use Rattle.std.specs.Prelude.{◌≡◌, List, [], ◌∷◌, ◌++◌, length, false, Option, IfSome}
+use Rattle.std.specs.Prelude.{◌≡◌, List, ◌∷◌, ◌++◌, length, false, Some, IfSome, is_some}
 use mathlib.Core.List.{IsPrefix}
 use Rattle.pl_model.specs.declared.whole.Model.{Model}
 use Rattle.pl_entry.specs.declared.entry.Entry.{Entry}
@@ -11,7 +11,7 @@ use Rattle.pl_machine.specs.Sound.{State}
 use Rattle.pl_acts.specs.declared.noted.Noted.{Noted}
 use Rattle.pl_acts.specs.declared.draft.Draft.{Draft}
 use Rattle.pl_acts.specs.declared.sight.Sight.{Sight}
-use Rattle.pl_acts.specs.Items.{items_of}
+use Rattle.pl_acts.specs.Items.{Signs, items_of, model_in, entries_in}
 
 -- An unspoiled machine of this model with this log.
 pub record HasLog (m : Model) (es : List Entry) (machine : State) : Type 0 where
@@ -47,14 +47,16 @@ pub record IsAsked (g : Lcg) (m : Model) (es : List Entry) (sight : Sight) : Typ
 
 -- ---- to a caller outside the lock
 
--- An unspoiled machine with a legal log, with whose items this history begins.
+-- An unspoiled machine of the history's model, with whose log the history's entries begin.
 pub record IsReplicaOf (items : List Noted) (other : State) : Type 0 where
   pub unspoiled : other.spoiled ≡ false
-  pub legal : Legal other.model other.log
-  pub begins : IsPrefix (items_of other.model other.log false) items
+  pub model : model_in items ≡ Some other.model
+  pub begins : IsPrefix other.log (entries_in items)
 
--- A replica, and the rest of the legal log of which these are the items.
+-- A replica, and the rest of the legal log of which these are the items, behind which the plan was not stopped.
 pub record IsDraftOf (items : List Noted) (draft : Draft) : Type 0 where
+  pub signs : Signs
   pub unspoiled : draft.replica.spoiled ≡ false
+  pub going : is_some signs.stopper ≡ false
   pub legal : Legal draft.replica.model (log_of draft)
-  pub is : items ≡ items_of draft.replica.model (log_of draft) false
+  pub is : items ≡ items_of draft.replica.model (log_of draft) signs

@@ -1,14 +1,12 @@
 -- Which entries a role makes.
-use Rattle.std.specs.Prelude.{◌≡◌, ℕ, List, Bool, true, false, not, ◌&&◌, Option, Some, None, is_some, ◌⊎◌}
+use Rattle.std.specs.Prelude.{◌≡◌, ℕ, List, Bool, true, false, not, ◌&&◌, Option, Some, None, is_some}
+use Rattle.pl_marks.specs.declared.author.Author.{Author}
+use Rattle.pl_marks.specs.declared.author.Author.TheVariants as author
 use Rattle.pl_entry.specs.declared.event.Event.{Event}
 use Rattle.pl_entry.specs.declared.event.Event.TheVariants as event
-use Rattle.pl_entry.specs.declared.reply.Reply.{Reply}
-use Rattle.pl_entry.specs.declared.reply.Reply.TheVariants as reply
 use Rattle.pl_entry.specs.declared.entry.Entry.{Entry}
-use Rattle.rand_pcg.specs.Lcg.{Lcg}
-use Rattle.pl_choose.specs.Picks.{seeded_pick, seeded_after}
 use Rattle.pl_machine.specs.declared.choice.Choice.{Choice}
-use Rattle.pl_machine.specs.World.{World, reason_of}
+use Rattle.pl_machine.specs.World.{World}
 use Rattle.pl_machine.specs.Choices.{exec_choice_of, event_of}
 use Rattle.pl_acts.specs.declared.role.Role.{Role}
 use Rattle.pl_acts.specs.declared.role.Role.TheVariants.{Planner, Executive}
@@ -19,6 +17,11 @@ use Rattle.pl_acts.specs.declared.noted.Noted.TheVariants.{Opened, Made, Stopped
 abbrev pub worker_of : Role → ℕ
 worker_of (Planner g) = 1
 worker_of Executive = 0
+
+-- who acts in this role where there is one planner
+abbrev pub role_author : Role → Author
+role_author (Planner g) = author.Planner 1
+role_author Executive = author.Executive
 
 -- Whether the role has an event: the planner in each open round that does not rest, the executive where it chooses one.
 abbrev pub has_event : Role → World → Bool
@@ -53,9 +56,9 @@ is_input _ = false
 
 -- whether an item is an entry of this kind
 abbrev pub is_entry : (Event → Bool) → Noted → Bool
-is_entry test (Opened m e) = false
-is_entry test (Made e) = test e.event
-is_entry test Stopped = false
+is_entry test (Opened m n e) = false
+is_entry test (Made by e) = test e.event
+is_entry test (Stopped by) = false
 
 -- the kind of entry that a role makes
 abbrev pub kind_of : Role → Event → Bool

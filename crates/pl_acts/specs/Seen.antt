@@ -1,5 +1,5 @@
 -- What a list of items tells of the plan behind it.
-use Rattle.std.specs.Prelude.{◌≡◌, ◌<◌, ◌≤◌, ℕ, List, length, drop, Bool, true, ◌⊎◌}
+use Rattle.std.specs.Prelude.{◌≡◌, ◌+◌, ◌<◌, ◌≤◌, ℕ, List, length, drop, true, ◌⊎◌}
 use Rattle.std.specs.List.{All}
 use mathlib.Core.List.{IsPrefix}
 use Rattle.pl_model.specs.declared.whole.Model.{Model}
@@ -8,16 +8,18 @@ use Rattle.pl_machine.specs.Legal.{Legal}
 use Rattle.pl_acts.specs.declared.noted.Noted.{Noted}
 use Rattle.pl_acts.specs.declared.part.Part.{Part}
 use Rattle.pl_acts.specs.declared.role.Role.{Role}
-use Rattle.pl_acts.specs.Items.{items_of, entries_in, stop_in, InWorld}
+use Rattle.pl_acts.specs.Items.{Signs, items_of, entries_in, stop_in, InWorld}
 use Rattle.pl_acts.specs.Sights.{IsAskedAtMost}
 
--- the items of a legal log
+-- The items of a legal log, each entry of which was handed in or has an author.
 pub record IsPlan (items : List Noted) : Type 0 where
   pub model : Model
   pub log : List Entry
-  pub stopped : Bool
+  pub signs : Signs
   pub legal : Legal model log
-  pub is : items ≡ items_of model log stopped
+  pub some : 0 < signs.by.opening
+  pub each : signs.by.opening + length signs.by.authors ≡ length log
+  pub is : items ≡ items_of model log signs
 
 -- as many entries as the options allow
 abbrev pub IsFull : List Noted → Type 0

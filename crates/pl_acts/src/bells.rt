@@ -4,7 +4,7 @@ use crate::busy::Busy;
 use std::sync::Wait;
 
 /// Who waits for something to do.
-#[derive(Clone, Copy, Debug, PartialEq, Eq)]
+#[derive(Clone, Copy, PartialEq, Eq)]
 pub enum Listener {
     Planner,
     Executive,

@@ -11,12 +11,12 @@ impl Held {
     pub fn part(&self, alloc: Global, from: u32) -> Result<Part, AllocError>
         ensures { IfOk result (IsPart from self.now) }
     {
-        let machine = self.machine.get();
+        let machine = self.plan.get();
         Ok(Part {
             entries: machine.entries_from(alloc, from)?,
             closed: machine.closed(),
             done: machine.done(),
-            stopped: self.stopped,
+            stopped: self.stopper.is_some(),
         })
     }
 }

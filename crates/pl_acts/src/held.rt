@@ -1,30 +1,33 @@
-ghost use Rattle.std.specs.Prelude.{◌≡◌, false};
+ghost use Rattle.std.specs.Prelude.{◌≡◌, length, [], None};
 
 use crate::replicated::Replicated;
 use pl_machine::Machine;
+use pl_marks::{Author, Marks};
+use std::alloc::Global;
 
-/// What lies under the lock: a machine, and whether the plan was stopped.
+/// What lies under the lock: a machine with the marks of its entries, and who stopped the plan, if anybody did.
 #[derive(Drop)]
 pub struct Held {
-    pub(crate) machine: Replicated,
-    pub(crate) stopped: bool,
+    pub(crate) plan: Replicated,
+    pub(crate) stopper: Option<Author>,
 }
 
 impl Held {
-    /// A plan that was not stopped.
-    pub fn new(machine: Machine) -> Held
-        ensures { result ≡ record { machine = machine; stopped = false } }
+    /// A plan that was not stopped, of whose entries nobody made one.
+    pub fn new(alloc: Global, machine: Machine) -> Held
+        ensures { result ≡ record { plan = record { machine = machine; signs = record { opening = length machine.log; authors = [] } }; stopper = None } }
     {
         Held {
-            machine: Replicated::new(machine),
-            stopped: false,
+            plan: Replicated::new(alloc, machine),
+            stopper: None,
         }
     }
 
-    /// The machine by itself.
-    pub fn into_machine(self) -> Machine
-        ensures { result ≡ self.machine }
+    /// The machine and the marks by themselves.
+    pub fn into_parts(self) -> (Machine, Marks)
+        ensures machine { result.0 ≡ self.plan.machine }
+        ensures signs { result.1 ≡ self.plan.signs }
     {
-        self.machine.into_inner()
+        self.plan.into_parts()
     }
 }

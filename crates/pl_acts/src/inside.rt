@@ -1,49 +1,54 @@
 //! What is done to the plan inside a turn.
-ghost use Rattle.std.specs.Prelude.{◌≡◌, ◌+◌, ◌||◌, length, IfSome, true};
+ghost use Rattle.std.specs.Prelude.{◌≡◌, ◌+◌, ◌||◌, length, IfSome, Some, is_some, false, true};
 ghost use Rattle.std.specs.Option.{option_copied};
+ghost use Rattle.pl_marks.specs.Authors.{IsAuthor};
 ghost use Rattle.pl_entry.specs.Bounds.{IsMessageLine};
 ghost use Rattle.pl_acts.specs.Inside.{IsSound, FeedsIn};
 
 use crate::held::Held;
-use pl_machine::{Machine, Stop};
+use crate::replicated::Replicated;
+use pl_machine::Stop;
+use pl_marks::Author;
 
 /// The log is legal, whatever was done: a look at it shows that.
-fn is_sound(machine: &Machine)
-    ensures { IsSound machine.now }
+fn is_sound(plan: &Replicated)
+    ensures { IsSound plan.now }
 {
-    let _log = machine.log();
-    let _model = machine.model();
+    plan.is_tied();
+    let _log = plan.get().log();
+    let _model = plan.get().model();
 }
 
 impl Held {
     /// The log is legal: a look at it shows that.
     pub fn is_sound(&self)
-        ensures { IsSound self.now.machine }
+        ensures { IsSound self.now.plan }
     {
-        is_sound(self.machine.get())
+        is_sound(&self.plan)
     }
 
     /// The number of the last entry.
     #[tactic(auto, using(pl_machine::proofs::ShortLogs::log_is_some, pl_machine::proofs::ShortLogs::log_is_short))]
     pub(crate) fn last_number(&self) -> u32
-        ensures { result + 1 ≡ length self.now.machine.log }
+        ensures { result + 1 ≡ length self.now.plan.machine.log }
     {
-        (self.machine.get().log().len() - 1) as u32
+        (self.plan.get().log().len() - 1) as u32
     }
 
-    /// Takes a message line, or the end of the input.
+    /// Takes a message line, or the end of the input, from this author.
     #[tactic(auto, using(crate::proofs::Answering::fed_one, crate::proofs::Answering::fed_none, crate::proofs::Answering::fed_stopped))]
-    pub fn feed(&mut self, line: Option<&[u8]>) -> Result<u32, Stop>
-        requires { IfSome (option_copied line) IsMessageLine }
-        ensures { FeedsIn (option_copied line.entry) self.old result self.new }
+    pub fn feed(&mut self, by: Author, line: Option<&[u8]>) -> Result<u32, Stop>
+        requires author { IsAuthor by }
+        requires line { IfSome (option_copied line) IsMessageLine }
+        ensures { FeedsIn by (option_copied line.entry) self.old result self.new }
     {
-        if self.machine.get().spoiled() {
+        if self.plan.get().spoiled() {
             return Err(Stop::Spoiled);
         }
-        if self.stopped {
+        if self.stopper.is_some() {
             return Err(Stop::NotNow);
         }
-        match self.machine.input(line) {
+        match self.plan.input(by, line) {
             Ok(_) => Ok(self.last_number()),
             Err(stop) => Err(stop),
         }
@@ -51,16 +56,19 @@ impl Held {
 
     /// Whether the round is closed or the plan was stopped.
     pub fn round_over(&self) -> bool
-        ensures { result ≡ (self.now.machine.world.closed || self.now.stopped) }
+        ensures { result ≡ (self.now.plan.machine.world.closed || is_some self.now.stopper) }
     {
-        self.machine.get().closed() || self.stopped
+        self.plan.get().closed() || self.stopper.is_some()
     }
 
-    /// Marks the plan as stopped.
-    pub fn stop(&mut self)
-        ensures machine { self.new.machine ≡ self.old.machine }
-        ensures stopped { self.new.stopped ≡ true }
+    /// Stops the plan as this author, unless somebody has stopped it before.
+    pub fn stop(&mut self, by: Author)
+        ensures plan { self.new.plan ≡ self.old.plan }
+        ensures first { is_some self.old.stopper ≡ false → self.new.stopper ≡ Some by }
+        ensures again { is_some self.old.stopper ≡ true → self.new.stopper ≡ self.old.stopper }
     {
-        self.stopped = true;
+        if self.stopper.is_none() {
+            self.stopper = Some(by);
+        }
     }
 }

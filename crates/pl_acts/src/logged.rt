@@ -6,13 +6,17 @@ use pl_turn::Logged;
 impl Logged for Held {
     type Item = Noted;
 
-    ghost use Rattle.pl_acts.specs.Items.{items_of};
+    ghost use Rattle.pl_acts.specs.Inside.{items_in};
 
-    ghost entries = { λ h. items_of h.machine.model h.machine.log h.stopped };
+    ghost entries = { λ h. items_in h };
 
     #[tactic(auto, using(crate::proofs::Items::length_stopped, crate::proofs::Items::length_going, pl_machine::proofs::ShortLogs::log_is_short))]
     fn logged(&self) -> u64 {
-        let entries = self.machine.get().log().len() as u64;
-        if self.stopped { entries + 1 } else { entries }
+        let entries = self.plan.get().log().len() as u64;
+        if self.stopper.is_some() {
+            entries + 1
+        } else {
+            entries
+        }
     }
 }

@@ -1,5 +1,7 @@
 //! What a planner finds in one turn.
 ghost use Rattle.std.specs.Prelude.{◌≡◌, is_some, nat_le, length, false, true, None};
+ghost use Rattle.pl_marks.specs.declared.author.Author.{Author};
+ghost use Rattle.pl_marks.specs.Authors.{IsAuthor};
 ghost use Rattle.pl_machine.specs.World.{plain_reason_of};
 ghost use Rattle.pl_machine.specs.Mending.{is_repairing};
 ghost use Rattle.pl_acts.specs.Inside.{LooksIn};
@@ -8,27 +10,29 @@ use crate::held::Held;
 use crate::look::Looked;
 use crate::role::Acted;
 use pl_machine::Stop;
+use pl_marks::Author;
 use std::alloc::Global;
 
 impl Held {
     fn is_full(&self) -> bool
-        ensures { result ≡ nat_le self.now.machine.world.options.entries (length self.now.machine.log) }
+        ensures { result ≡ nat_le self.now.plan.machine.world.options.entries (length self.now.plan.machine.log) }
     {
-        let machine = self.machine.get();
+        let machine = self.plan.get();
         machine.options().entries <= machine.entries()
     }
 
     /// Repair rests, since there is a plain reason to.
     #[tactic(auto, using(crate::proofs::Finding::rested_at_once, crate::proofs::Finding::rest_stops))]
-    fn rest(&mut self) -> Result<Looked, Stop>
-        requires unspoiled { self.old.machine.spoiled ≡ false }
-        requires going { self.old.machine.world.done ≡ false }
-        requires running { self.old.stopped ≡ false }
-        requires repairing { is_repairing self.old.machine.world ≡ true }
-        requires plain { is_some (plain_reason_of self.old.machine.world) ≡ true }
-        ensures { LooksIn self.old result self.new }
+    fn rest(&mut self, by: Author) -> Result<Looked, Stop>
+        requires author { IsAuthor by }
+        requires unspoiled { self.old.plan.machine.spoiled ≡ false }
+        requires going { self.old.plan.machine.world.done ≡ false }
+        requires running { is_some self.old.stopper ≡ false }
+        requires repairing { is_repairing self.old.plan.machine.world ≡ true }
+        requires plain { is_some (plain_reason_of self.old.plan.machine.world) ≡ true }
+        ensures { LooksIn by self.old result self.new }
     {
-        match self.machine.rest() {
+        match self.plan.rest(by) {
             Ok(_) => Ok(Looked::Settled(Acted::Did(self.last_number()))),
             Err(stop) => Err(stop),
         }
@@ -37,49 +41,51 @@ impl Held {
     /// Lends a replica to be asked about, unless the log is full.
     #[tactic(auto, using(crate::proofs::Finding::lent, crate::proofs::Finding::lend_fails, crate::proofs::Finding::is_full))]
     fn lend(&mut self, alloc: Global) -> Result<Looked, Stop>
-        requires unspoiled { self.old.machine.spoiled ≡ false }
-        requires going { self.old.machine.world.done ≡ false }
-        requires running { self.old.stopped ≡ false }
-        requires repairing { is_repairing self.old.machine.world ≡ true }
-        requires plain { plain_reason_of self.old.machine.world ≡ None }
-        ensures { LooksIn self.old result self.new }
+        requires unspoiled { self.old.plan.machine.spoiled ≡ false }
+        requires going { self.old.plan.machine.world.done ≡ false }
+        requires running { is_some self.old.stopper ≡ false }
+        requires repairing { is_repairing self.old.plan.machine.world ≡ true }
+        requires plain { plain_reason_of self.old.plan.machine.world ≡ None }
+        ensures { (by : Author) → LooksIn by self.old result self.new }
     {
         if self.is_full() {
             return Err(Stop::LogFull);
         }
-        let draft = self.machine.lend(alloc)?;
+        let draft = self.plan.lend(alloc)?;
         Ok(Looked::Open(draft))
     }
 
-    fn look_open(&mut self, alloc: Global) -> Result<Looked, Stop>
-        requires unspoiled { self.old.machine.spoiled ≡ false }
-        requires going { self.old.machine.world.done ≡ false }
-        requires running { self.old.stopped ≡ false }
-        requires repairing { is_repairing self.old.machine.world ≡ true }
-        ensures { LooksIn self.old result self.new }
+    fn look_open(&mut self, by: Author, alloc: Global) -> Result<Looked, Stop>
+        requires author { IsAuthor by }
+        requires unspoiled { self.old.plan.machine.spoiled ≡ false }
+        requires going { self.old.plan.machine.world.done ≡ false }
+        requires running { is_some self.old.stopper ≡ false }
+        requires repairing { is_repairing self.old.plan.machine.world ≡ true }
+        ensures { LooksIn by self.old result self.new }
     {
-        match self.machine.get().plain_reason() {
-            Some(_) => self.rest(),
+        match self.plan.get().plain_reason() {
+            Some(_) => self.rest(by),
             None => self.lend(alloc),
         }
     }
 
-    /// Rests where there is a plain reason to, and lends a replica where repair goes on.
-    pub fn look(&mut self, alloc: Global) -> Result<Looked, Stop>
-        ensures { LooksIn self.old result self.new }
+    /// Rests as this author where there is a plain reason to, and lends a replica where repair goes on.
+    pub fn look(&mut self, by: Author, alloc: Global) -> Result<Looked, Stop>
+        requires { IsAuthor by }
+        ensures { LooksIn by self.old result self.new }
     {
-        if self.machine.get().spoiled() {
+        if self.plan.get().spoiled() {
             return Err(Stop::Spoiled);
         }
-        if self.machine.get().done() {
+        if self.plan.get().done() {
             return Ok(Looked::Settled(Acted::Finished));
         }
-        if self.stopped {
+        if self.stopper.is_some() {
             return Ok(Looked::Settled(Acted::Stopped));
         }
         if !self.can_repair() {
             return Ok(Looked::Settled(Acted::Nothing));
         }
-        self.look_open(alloc)
+        self.look_open(by, alloc)
     }
 }

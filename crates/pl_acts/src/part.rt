@@ -6,7 +6,7 @@ use std::alloc::{AllocError, Global};
 pub type Entries = Items<Entry>;
 
 /// A part of the log, and where the plan stood behind it.
-#[derive(Debug, Drop)]
+#[derive(Drop)]
 pub struct Part {
     pub entries: Entries,
     pub closed: bool,

@@ -1,8 +1,10 @@
 ghost use Rattle.std.specs.Prelude.{◌≡◌};
-ghost use Rattle.pl_acts.specs.Roles.{worker_of};
+ghost use Rattle.pl_marks.specs.Authors.{IsAuthor};
+ghost use Rattle.pl_acts.specs.Roles.{role_author};
 
 use crate::bells::Listener;
 use pl_choose::Seeded;
+use pl_marks::Author;
 
 /// What a worker does: it repairs the plan, or it commits, sends commands and closes rounds.
 #[derive(Drop)]
@@ -12,13 +14,14 @@ pub enum Role {
 }
 
 impl Role {
-    /// 0 for the executive and 1 for the planner.
-    pub fn worker(&self) -> u8
-        ensures { result ≡ worker_of self.now }
+    /// The author that acts in this role where there is one planner.
+    pub fn author(&self) -> Author
+        ensures is { result ≡ role_author self.now }
+        ensures known { IsAuthor result }
     {
         match self {
-            Role::Planner(_) => 1,
-            Role::Executive => 0,
+            Role::Planner(_) => Author::Planner(1),
+            Role::Executive => Author::Executive,
         }
     }
 
@@ -32,7 +35,7 @@ impl Role {
 }
 
 /// What came of one act.
-#[derive(Clone, Copy, Debug, PartialEq, Eq)]
+#[derive(Clone, Copy, PartialEq, Eq)]
 pub enum Acted {
     /// The entry with this number was made.
     Did(u32),

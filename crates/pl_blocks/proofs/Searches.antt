@@ -16,6 +16,7 @@ use Rattle.pl_points.proofs.PointLists.{head_of, first_is_head, small_along, ris
 use Rattle.pl_points.proofs.Outside.{back_le, below_none, small_back, leaving_ahead}
 use Rattle.pl_blocks.specs.Blocks.{together, is_past, blocks_from, change_of, least_along, greatest_along, least_sum, greatest_sum, AreSized, AreFull, AreBlocks}
 use Rattle.pl_blocks.specs.Mending.{with_points, Fit, IsMended}
+use Rattle.pl_blocks.proofs.Mends.{last_size, last_taken, mended_one}
 use Rattle.pl_blocks.proofs.Rows.{back_there, back_nowhere, not_past_there, in_two, is_past_up_to, whole_in_three, blocks_fall, blocks_behind, rise_split, rise_front, small_split, small_head, below_past, merged_there, merged_last, take_drop, sized_at, below_here}
 
 -- halves
@@ -196,6 +197,24 @@ merged_least at d (p ∷ ps) =
     put_least : (at : ℕ) (d : ℤ) (ps : List Point) → suc (length ps) ≤ suc (length (put at d ps))
     put_least at d ps = cond_both (int_eq d (pos 0)) ps ((at, d) ∷ ps) (λ l. suc (length ps) ≤ suc (length l)) (λ e. omega arith) (λ e. omega arith)
 
+-- a block that is changed in its place, since it needs no neighbour whatever comes of it
+pub mended_at : (bs : List (List Point)) (place at : ℕ) (d : ℤ) (b : List Point) (new : List (List Point)) → Fit bs place (merged at d (get_or bs place [])) → b ≡ get_or bs place [] → 1 < length b → length b < 64
+    → (0 < place → 33 < length (get_or bs (place - 1) []) + length b) → (suc place < length bs → 33 < length b + length (get_or bs (suc place) [])) → new ≡ take place bs ++ merged at d b ∷ drop (suc place) bs
+    → IsMended bs place (merged at d (get_or bs place [])) new
+mended_at bs place at d b new fit is some few later earlier split =
+    let ps : List Point = merged at d (get_or bs place []) in
+    let same : length b ≡ length (get_or bs place []) = ap length is in
+    let least = merged_least at d (get_or bs place []) in
+    let most = length-merged at d (get_or bs place []) in
+    mended_one bs place ps new fit (omega (arith, same, some, least)) (omega (arith, same, few, most)) (omega (arith, same, least, before place (length b) fit.there some later))
+    (λ lt. omega (arith, same, least, earlier lt)) (split ∙ ap (λ x. take place bs ++ merged at d x ∷ drop (suc place) bs) is)
+  where
+    before : (place n : ℕ) → place < length bs → 1 < n → (0 < place → 33 < length (get_or bs (place - 1) []) + n) → 33 < last_size 33 (take place bs) + n
+    before zero n lt some later = omega (arith, some)
+    before (suc i) n lt some later =
+        let one : suc i - 1 ≡ i = omega arith in
+        omega (arith, later (omega arith), ap (λ j. length (get_or bs j [])) one, last_taken 33 (suc i) i bs [] (omega (arith, lt)) refl)
+
 -- the place for a delta
 pub fits_there : (bs : List (List Point)) (k place at : ℕ) (d : ℤ) (b ps : List Point) → AreBlocks bs → AreSmall (merged at d (together bs)) → k ≤ length bs → take k bs ≡ front (is_past at) bs → drop k bs ≡ back (is_past at) bs
     → place ≡ min k (length bs - 1) → 0 < length bs → b ≡ get_or bs place b → ps ≡ merged at d b → Fit bs place ps × (merged at d (together bs) ≡ with_points bs place ps)
@@ -224,6 +243,13 @@ fits_there bs k place at d b ps are small le before rest chosen some is merged_i
     chosen_place false e =
         let same : place ≡ k = omega (arith, chosen, leb-false (length bs) k e) in
         merged_there at place d bs b (ap (λ n. take n bs) same ∙ before) (ap (λ n. drop n bs) same ∙ rest) (omega (arith, same, leb-false (length bs) k e)) is
+
+-- the same of the block that stands there
+pub fits_at : (bs : List (List Point)) (k place at : ℕ) (d e : ℤ) → AreBlocks bs → AreSmall (merged at d (together bs)) → k ≤ length bs → take k bs ≡ front (is_past at) bs → drop k bs ≡ back (is_past at) bs
+    → place ≡ min k (length bs - 1) → 0 < length bs → e ≡ d → Fit bs place (merged at e (get_or bs place [])) × (merged at d (together bs) ≡ with_points bs place (merged at e (get_or bs place [])))
+fits_at bs k place at d e are small le before rest chosen some same =
+    let b : List Point = get_or bs place [] in
+    fits_there bs k place at d b (merged at e b) are small le before rest chosen some (get_or_default bs place [] b (omega (arith, chosen, some))) (ap (λ z. merged at z b) same)
 
 pub mended_blocks : (bs new : List (List Point)) (place : ℕ) (ps : List Point) → ArePoints (with_points bs place ps) → length bs + 1 < 2 ^ 26 → IsMended bs place ps new → AreBlocks new
 mended_blocks bs new place ps are few m = record { sized = m.sized; full = m.full; points = subst ArePoints (sym m.whole) are; few = omega (arith, m.more, few) }

@@ -1,4 +1,4 @@
-ghost use Rattle.std.specs.Prelude.{◌≡◌, ◌<◌, ◌≤◌, ◌+◌, pos, length, take, drop, OnErr, IfOk};
+ghost use Rattle.std.specs.Prelude.{◌≡◌, ◌<◌, ◌≤◌, ◌+◌, ◌-◌, pos, length, get_or, take, drop, OnOk, OnErr, IfOk};
 ghost use Rattle.pl_lists.specs.Lists.{front, back};
 ghost use Rattle.pl_points.specs.Points.{is_before, sum_below, first_from, leaving, merged};
 ghost use Rattle.pl_points.specs.Points.{RiseFrom, AreNear, IsNear, SmallFrom};
@@ -9,15 +9,20 @@ use pl_points::{Ledger, Steps, leaving, merge};
 use std::alloc::{AllocError, Global};
 use std::marker::Model;
 
-/// From 1 to 64 points, with the last moment, their sum and the least and greatest sum of their fronts.
-#[derive(Drop)]
-pub(crate) struct Block {
-    points: Vec<(u32, i64)>,
-    // The moment of the last one.
+/// What searches ask of points: the last moment, their sum and the least and greatest sum of their fronts.
+#[derive(Clone, Copy, Debug)]
+pub(crate) struct Summary {
     last: u32,
     sum: i64,
     least: i64,
     greatest: i64,
+}
+
+/// From 1 to 64 points, with their summary.
+#[derive(Drop)]
+pub(crate) struct Block {
+    points: Vec<(u32, i64)>,
+    summary: Summary,
 }
 
 impl Model for Block {
@@ -28,7 +33,36 @@ impl Model for Block {
 
     ghost view = { λ b. b.points.items };
 
-    ghost invariant = { λ b. IsBlock b.points.items b.last b.sum b.least b.greatest };
+    ghost invariant = { λ b. IsBlock b.points.items b.summary.last b.summary.sum b.summary.least b.summary.greatest };
+}
+
+fn summary_of<L: Ledger>(points: &[(u32, i64)], steps: &mut Steps<L>) -> Summary
+    requires some { 0 < length points.now }
+    requires near { AreNear (pos 0) points.now }
+    ensures ends { result.last ≡ (get_or points.now (length points.now - 1) (0, pos 0)).0 }
+    ensures adds_up { result.sum ≡ change_of points.now }
+    ensures lowest { result.least ≡ least_sum points.now }
+    ensures highest { result.greatest ≡ greatest_sum points.now }
+    ensures more { steps.old ≤ steps.new }
+    ensures cost { steps.new ≤ steps.old + length points.now }
+{
+    let last = points[points.len() - 1].0;
+    let first = points[0].1;
+    let mut sum: i64 = 0;
+    let mut least = first;
+    let mut greatest = first;
+    for point in points {
+        steps.tick();
+        sum += point.1;
+        least = least.min(sum);
+        greatest = greatest.max(sum);
+    }
+    Summary {
+        last,
+        sum,
+        least,
+        greatest,
+    }
 }
 
 impl Block {
@@ -41,24 +75,8 @@ impl Block {
         ensures more { steps.old ≤ steps.new }
         ensures cost { steps.new ≤ steps.old + length points.items }
     {
-        let last = points[points.len() - 1].0;
-        let first = points[0].1;
-        let mut sum: i64 = 0;
-        let mut least = first;
-        let mut greatest = first;
-        for point in points.as_slice() {
-            steps.tick();
-            sum += point.1;
-            least = least.min(sum);
-            greatest = greatest.max(sum);
-        }
-        Block {
-            points,
-            last,
-            sum,
-            least,
-            greatest,
-        }
+        let summary = summary_of(&points, steps);
+        Block { points, summary }
     }
 
     pub(crate) fn points(&self) -> &[(u32, i64)]
@@ -74,26 +92,26 @@ impl Block {
     pub(crate) fn sum(&self) -> i64
         ensures { result ≡ change_of self.now }
     {
-        self.sum
+        self.summary.sum
     }
 
     pub(crate) fn least(&self) -> i64
         ensures { result ≡ least_sum self.now }
     {
-        self.least
+        self.summary.least
     }
 
     pub(crate) fn greatest(&self) -> i64
         ensures { result ≡ greatest_sum self.now }
     {
-        self.greatest
+        self.summary.greatest
     }
 
     /// Whether all its points lie before the moment, which need not fit 32 bits.
     pub(crate) fn is_past(&self, at: u64) -> bool
         ensures { result ≡ is_past at self.now }
     {
-        u64::from(self.last) < at
+        u64::from(self.summary.last) < at
     }
 
     /// The points with the delta merged in.
@@ -111,16 +129,35 @@ impl Block {
         merge(&mut points, at, delta)?;
         Ok(points)
     }
+
+    /// Merges the delta into its points, where these stay from 1 to 64.
+    pub(crate) fn merge_in<L: Ledger>(
+        &mut self,
+        at: u32,
+        delta: i64,
+        steps: &mut Steps<L>,
+    ) -> Result<(), AllocError>
+        requires delta { IsNear delta }
+        requires some { 0 < length (merged at delta self.old) }
+        requires few { length (merged at delta self.old) ≤ 64 }
+        requires rising { RiseFrom 0 (merged at delta self.old) }
+        requires near { AreNear (pos 0) (merged at delta self.old) }
+        ensures ok { OnOk result (self.new ≡ merged at delta self.old) }
+        ensures err { OnErr result (self.new ≡ self.old) }
+        ensures more { steps.old ≤ steps.new }
+        ensures cost { steps.new ≤ steps.old + 64 }
+    {
+        merge(&mut self.points, at, delta)?;
+        self.summary = summary_of(&self.points, steps);
+        Ok(())
+    }
 }
 
 impl Copied for Block {
     fn copy(&self, alloc: Global) -> Result<Block, AllocError> {
         Ok(Block {
             points: Vec::from_slice(alloc, self.points.as_slice())?,
-            last: self.last,
-            sum: self.sum,
-            least: self.least,
-            greatest: self.greatest,
+            summary: self.summary,
         })
     }
 }

@@ -4,7 +4,7 @@ ghost use Rattle.pl_blocks.specs.Blocks.{together, blocks_from, AreSized};
 
 use crate::block::{Block, passed};
 use crate::finding::past_near;
-use crate::mending::mend;
+use crate::mending::merge_at;
 use pl_lists::Copied;
 use pl_points::{Ledger, Points, Steps, leaving, place_of};
 use std::alloc::{AllocError, Global};
@@ -128,8 +128,7 @@ impl Points for BlockPoints {
             return begin(self.alloc, &mut self.blocks, at, delta, steps);
         }
         let place = past_near(&self.blocks, at, steps).min(count - 1);
-        let points = self.blocks[place].merged(self.alloc, at, delta)?;
-        mend(self.alloc, &mut self.blocks, place, points, steps)
+        merge_at(self.alloc, &mut self.blocks, place, at, delta, steps)
     }
 
     fn first_from<L: Ledger>(&self, at: u32, steps: &mut Steps<L>) -> Option<(u32, i64)> {

@@ -1,5 +1,5 @@
-ghost use Rattle.std.specs.Prelude.{◌≡◌, ◌<◌, ◌≤◌, ◌+◌, ◌-◌, suc, [], ◌∷◌, ◌++◌, length, take, drop, slice_index_or, OnOk, OnErr};
-ghost use Rattle.pl_points.specs.Points.{RiseFrom, AreNear};
+ghost use Rattle.std.specs.Prelude.{◌≡◌, ◌<◌, ◌≤◌, ◌+◌, ◌-◌, true, suc, [], ◌∷◌, ◌++◌, length, take, drop, slice_index_or, OnOk, OnErr};
+ghost use Rattle.pl_points.specs.Points.{merged, IsNear};
 ghost use Rattle.pl_blocks.specs.Mending.{Fit, IsMended};
 
 use crate::block::Block;
@@ -144,9 +144,9 @@ fn behind_count(blocks: &[Block], place: usize) -> usize
     }
 }
 
-/// Puts the points in the place of the block. A block that is left with few is joined to a
-/// neighbour, and too many make two blocks.
-pub(crate) fn mend<L: Ledger>(
+// Puts the points in the place of the block. A block that is left with few is joined to a
+// neighbour, and too many make two blocks.
+fn mend<L: Ledger>(
     alloc: Global,
     blocks: &mut Vec<Block>,
     place: usize,
@@ -179,4 +179,44 @@ pub(crate) fn mend<L: Ledger>(
     }
     blocks[place] = Block::new(points, steps);
     Ok(())
+}
+
+// Whether one point more or less makes nothing else of the row than a longer or shorter block.
+fn stays(blocks: &[Block], place: usize) -> bool
+    requires { place < length blocks.now }
+    ensures some { result ≡ true → 1 < length (slice_index_or blocks.now place []) }
+    ensures few { result ≡ true → length (slice_index_or blocks.now place []) < 64 }
+    ensures later { result ≡ true → 0 < place → 33 < length (slice_index_or blocks.now (place - 1) []) + length (slice_index_or blocks.now place []) }
+    ensures earlier { result ≡ true → suc place < length blocks.now → 33 < length (slice_index_or blocks.now place []) + length (slice_index_or blocks.now (suc place) []) }
+{
+    let count = blocks[place].points().len();
+    if count <= 1 || MOST <= count {
+        return false;
+    }
+    let before = before_count(blocks, place);
+    let behind = behind_count(blocks, place);
+    FEW + 1 < before + count && FEW + 1 < count + behind
+}
+
+/// Merges the delta into the block at the place, in its place where that needs no other block.
+pub(crate) fn merge_at<L: Ledger>(
+    alloc: Global,
+    blocks: &mut Vec<Block>,
+    place: usize,
+    at: u32,
+    delta: i64,
+    steps: &mut Steps<L>,
+) -> Result<(), AllocError>
+    requires delta { IsNear delta }
+    requires fit { Fit blocks.old.items place (merged at delta (slice_index_or blocks.old.items place [])) }
+    ensures ok { OnOk result (IsMended blocks.old.items place (merged at delta (slice_index_or blocks.old.items place [])) blocks.new.items) }
+    ensures err { OnErr result (blocks.new.items ≡ blocks.old.items) }
+    ensures more { steps.old ≤ steps.new }
+    ensures cost { steps.new ≤ steps.old + length blocks.old.items + 65 }
+{
+    if stays(blocks, place) {
+        return blocks[place].merge_in(at, delta, steps);
+    }
+    let points = blocks[place].merged(alloc, at, delta)?;
+    mend(alloc, blocks, place, points, steps)
 }

@@ -75,7 +75,8 @@ fn worse_within(outside: &Outside, asking: &Asking, start: u32, from: u32, to: u
     None
 }
 
-// The tally with a look before a moment at which what comes makes it worse, if there is one.
+// The tally with a look before a moment at which what comes makes it worse, if there is one. Where it is past its limit already that
+// would tell nothing new.
 fn looked_before(
     board: &Board,
     tally: Tally,
@@ -89,7 +90,11 @@ fn looked_before(
     requires tally { IsTallyOf (is_past_with board.now.state outside.now asking.now start) board.now.state.moment board.now.state.model.horizon tally }
     ensures { IsTallyOf (is_past_with board.now.state outside.now asking.now start) board.now.state.moment board.now.state.model.horizon result }
 {
-    match worse_within(outside, asking, start, tally.next, to.min(tally.end)) {
+    let end = to.min(tally.end);
+    if tally.before || end <= tally.next {
+        return tally;
+    }
+    match worse_within(outside, asking, start, tally.next, end) {
         Some(at) => {
             let value = value_at(board, outside.side, outside.line, at);
             looked_at(tally, outside, asking, start, Look { at, value })

@@ -10,7 +10,7 @@ use pl_conflict::Code;
 use std::alloc::{AllocError, Global};
 
 /// Which limit of a timeline is passed.
-#[derive(Clone, Copy, Debug, PartialEq, Eq)]
+#[derive(Clone, Copy, PartialEq, Eq)]
 pub(crate) enum Side {
     /// More of a capacity is in use than the most.
     Over,
@@ -21,14 +21,14 @@ pub(crate) enum Side {
 }
 
 /// A moment, and what the timeline comes to there.
-#[derive(Clone, Copy, Debug)]
+#[derive(Clone, Copy)]
 pub(crate) struct Look {
     pub(crate) at: u32,
     pub(crate) value: i64,
 }
 
 /// A timeline past one of its limits. Effects up to the moment `since` do not count.
-#[derive(Debug, Drop)]
+#[derive(Drop)]
 pub(crate) struct Outside {
     pub(crate) line: u32,
     pub(crate) side: Side,

@@ -11,7 +11,7 @@ use pl_level::Effect;
 use pl_semantics::{Asked, Demand};
 
 /// So much later or earlier.
-#[derive(Clone, Copy, Debug)]
+#[derive(Clone, Copy)]
 pub(crate) struct Way {
     pub(crate) from: u32,
     pub(crate) to: u32,

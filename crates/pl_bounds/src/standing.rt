@@ -9,7 +9,7 @@ use pl_conflict::{Code, Conflict, ConflictSet};
 
 /// How many conflicts of goals and of activities there are, how many of them a shift leaves as they are but for their moments, and how
 /// many hang on no value, so that an assignment leaves them.
-#[derive(Clone, Copy, Debug)]
+#[derive(Clone, Copy)]
 pub(crate) struct Standing {
     pub(crate) wrong: u32,
     pub(crate) unmoved: u32,

@@ -6,7 +6,7 @@ ghost use Rattle.pl_bounds.specs.Tallies.{fresh, IsTallyOf};
 
 /// How often a property came to hold, by rising moments, and whether it held at the last of them. The next moment is this one at
 /// the earliest, and lies before the end.
-#[derive(Clone, Copy, Debug)]
+#[derive(Clone, Copy)]
 pub(crate) struct Tally {
     pub(crate) times: u32,
     pub(crate) before: bool,

@@ -5,7 +5,7 @@ use Rattle.std.specs.Prelude.{filter, ◌||◌}
 use Rattle.std.specs.List.{list_any}
 use Rattle.std.proofs.lemmas.List.Folds.{list_any-append}
 use Rattle.pl_plan.specs.declared.repair.RepairMove.{RepairMove}
-use Rattle.pl_plan.specs.declared.repair.RepairMove.TheVariants.{Add, Delete, Shift, Detail, Abstract, Assign, Drop}
+use Rattle.pl_plan.specs.declared.repair.RepairMove.TheVariants.{Add}
 use Rattle.pl_semantics.specs.Moves.{is_proper}
 use Rattle.pl_semantics.specs.Candidates.{same_move, same_number, is_worth, once_from}
 use Rattle.pl_plan.specs.declared.activity.Activity.{Activity}

@@ -9,3 +9,4 @@ pub mod Bounds
 pub mod Small
 pub mod Search
 pub mod Proposed
+pub mod Marking

@@ -1,5 +1,5 @@
 -- What is proposed may be made.
-use Rattle.std.proofs.Common.{◌≡◌, Bool, true, false, All, Option, Some, None, sym, ◌∙◌}
+use Rattle.std.proofs.Common.{◌≡◌, true, false, All, Option, Some, None, sym, ◌∙◌}
 use Rattle.std.proofs.lemmas.List.Elements.{All-contains, All-filter, filter_passes}
 use Rattle.pl_lists.proofs.Elements.{none_from_test}
 use Rattle.pl_conflict.specs.declared.conflict.Conflict.{Conflict}

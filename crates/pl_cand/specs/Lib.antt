@@ -13,3 +13,4 @@ pub mod ById
 pub mod Helping
 pub mod Cuts
 pub mod Proposals
+pub mod Marks

@@ -1,12 +1,14 @@
 //! What is left out of the moves that are tried.
-ghost use Rattle.std.specs.Prelude.{◌≡◌, Bool, List, [], ◌∷◌, take, filter, IfOk, IfSome, OnOk};
+ghost use Rattle.std.specs.Prelude.{◌≡◌, Bool, List, [], ◌∷◌, take, filter, length, IfOk, IfSome, OnOk};
 ghost use Rattle.std.specs.List.{list_any};
 ghost use Rattle.pl_plan.specs.declared.repair.RepairMove.{RepairMove};
 ghost use Rattle.pl_plan.specs.declared.repair.RepairMove.TheVariants.{Shift};
 ghost use Rattle.pl_semantics.specs.Whole.{IsWhole};
 ghost use Rattle.pl_semantics.specs.Candidates.{is_worth, once_from, same_move};
 ghost use Rattle.pl_cand.specs.Cuts.{are_alike, standing};
+ghost use Rattle.pl_cand.specs.Marks.{AreMarked};
 
+use crate::marks::{PLACES, is_marked, mark};
 use crate::worth::is_worth;
 use pl_plan::RepairMove;
 use pl_semantics::PlanState;
@@ -94,8 +96,21 @@ fn contains(kept: &[RepairMove], mv: &RepairMove) -> bool
     }
 }
 
+// Whether it is among those that are kept. All of these are marked, so of one without a mark it is known at once.
+#[tactic(auto, using(crate::proofs::Marking::unmarked))]
+fn is_kept(kept: &[RepairMove], marks: &[bool], mv: &RepairMove) -> bool
+    requires count { length marks.now ≡ 1024 }
+    requires marked { AreMarked marks.now kept.now }
+    ensures { result ≡ list_any (same_move mv.now) kept.now }
+{
+    if !is_marked(marks, mv) {
+        return false;
+    }
+    contains(kept, mv)
+}
+
 // A move that was looked at, and whether it makes sense and changes something.
-#[derive(Clone, Copy, Debug)]
+#[derive(Clone, Copy)]
 struct Looked {
     mv: RepairMove,
     worth: bool,
@@ -143,8 +158,17 @@ fn worth_after(state: &PlanState, last: &Option<Looked>, mv: &RepairMove) -> boo
 }
 
 // Puts a move at the end, where it is one of the first 256 that make sense, change something and stand for the first time.
-fn add_if_new(mv: &RepairMove, worth: bool, kept: &mut Vec<RepairMove>) -> Result<(), AllocError>
-    ensures { OnOk result ((P : RepairMove → Bool) (rest : List RepairMove) → worth ≡ P mv.now → standing P kept.old.items (mv.now ∷ rest) ≡ standing P kept.new.items rest) }
+fn add_if_new(
+    mv: &RepairMove,
+    worth: bool,
+    kept: &mut Vec<RepairMove>,
+    marks: &mut [bool],
+) -> Result<(), AllocError>
+    requires count { length marks.old ≡ 1024 }
+    requires marked { AreMarked marks.old kept.old.items }
+    ensures stand { OnOk result ((P : RepairMove → Bool) (rest : List RepairMove) → worth ≡ P mv.now → standing P kept.old.items (mv.now ∷ rest) ≡ standing P kept.new.items rest) }
+    ensures count { OnOk result (length marks.new ≡ 1024) }
+    ensures marked { OnOk result (AreMarked marks.new kept.new.items) }
 {
     if kept.len() >= MOST {
         return Ok(());
@@ -152,10 +176,11 @@ fn add_if_new(mv: &RepairMove, worth: bool, kept: &mut Vec<RepairMove>) -> Resul
     if !worth {
         return Ok(());
     }
-    if contains(kept.as_slice(), mv) {
+    if is_kept(kept.as_slice(), marks, mv) {
         return Ok(());
     }
     kept.push(*mv)?;
+    mark(marks, mv);
     Ok(())
 }
 
@@ -169,10 +194,11 @@ pub(crate) fn cut(
     ensures { IfOk result (λ all. all.items ≡ take 256 (once_from [] (filter (is_worth state.now) tried.now))) }
 {
     let mut kept = Vec::with_capacity(alloc, tried.len().min(MOST))?;
+    let mut marks: Vec<bool> = vec![in alloc; false; PLACES]?;
     let mut last = None;
     for mv in tried {
         let worth = worth_after(state, &last, mv);
-        add_if_new(mv, worth, &mut kept)?;
+        add_if_new(mv, worth, &mut kept, marks.as_mut_slice())?;
         last = Some(Looked { mv: *mv, worth });
     }
     Ok(kept)

@@ -1,5 +1,5 @@
 /// What an activity of a kind does to a timeline to help against a conflict.
-#[derive(Clone, Copy, Debug, PartialEq, Eq)]
+#[derive(Clone, Copy, PartialEq, Eq)]
 pub(crate) enum Help {
     Raise,
     Lower,

@@ -10,6 +10,7 @@ mod help;
 mod helping;
 mod links;
 mod making;
+mod marks;
 mod membership;
 mod numbers;
 mod orders;

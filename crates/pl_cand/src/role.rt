@@ -1,5 +1,5 @@
 /// What an activity does to a timeline, for which it is shifted away.
-#[derive(Clone, Copy, Debug, PartialEq, Eq)]
+#[derive(Clone, Copy, PartialEq, Eq)]
 pub(crate) enum Role {
     /// It takes an amount above 0 at a moment from the first up to but not at the second.
     Uses(u32, u32),
@@ -8,7 +8,7 @@ pub(crate) enum Role {
 }
 
 /// In which way an activity changes a level.
-#[derive(Clone, Copy, Debug, PartialEq, Eq)]
+#[derive(Clone, Copy, PartialEq, Eq)]
 pub(crate) enum Way {
     Down,
     Up,

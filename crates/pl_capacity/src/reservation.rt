@@ -2,7 +2,7 @@ use pl_lists::Copied;
 use std::alloc::{AllocError, Global};
 
 /// An amount in use from `from` up to but not at `to`.
-#[derive(Clone, Copy, Debug, PartialEq, Eq)]
+#[derive(Clone, Copy, PartialEq, Eq)]
 pub struct Use {
     pub from: u32,
     pub to: u32,

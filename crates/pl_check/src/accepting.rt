@@ -11,7 +11,7 @@ use pl_syntax::{Ast, SyntaxFault, read_model};
 use std::alloc::{AllocError, Global};
 
 /// What a text is: a model's, or refused with a line that ends in a newline.
-#[derive(Debug, Drop)]
+#[derive(Drop)]
 pub enum Accepted {
     Model(Model),
     Refused(Items<u8>),

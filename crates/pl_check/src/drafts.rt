@@ -3,7 +3,7 @@ use pl_model::{Expr, Link, Name, Order, Param, Reservation, Slot, Timeline};
 use std::alloc::{AllocError, Global};
 
 /// A way to decompose a kind, its names numbered, before its offsets are known.
-#[derive(Debug, Drop)]
+#[derive(Drop)]
 pub struct DraftAlternative {
     pub slots: Items<Slot>,
     pub orders: Items<Order>,
@@ -19,7 +19,7 @@ impl Copied for DraftAlternative {
 }
 
 /// A kind of activity, its names numbered, before its least duration is known.
-#[derive(Debug, Drop)]
+#[derive(Drop)]
 pub struct DraftKind {
     pub name: Name,
     pub params: Items<Param>,
@@ -43,7 +43,7 @@ impl Copied for DraftKind {
 }
 
 /// A timeline or a kind, its names numbered.
-#[derive(Debug, Drop)]
+#[derive(Drop)]
 pub enum Draft {
     Timeline(Timeline),
     Kind(DraftKind),

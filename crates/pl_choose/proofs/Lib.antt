@@ -3,3 +3,4 @@ pub mod Trying
 pub mod Aims
 pub mod Finding
 pub mod Proposing
+pub mod Between

@@ -6,3 +6,4 @@ pub mod Alone
 pub mod Picked
 pub mod Started
 pub mod Aimed
+pub mod Stretches

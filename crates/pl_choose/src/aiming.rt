@@ -20,7 +20,7 @@ use pl_plan::RepairMove;
 use std::alloc::{AllocError, Global};
 
 /// What comes of the aim.
-#[derive(Clone, Copy, Debug)]
+#[derive(Clone, Copy)]
 pub(crate) enum Aimed {
     /// The aim is the best of all, and stays made.
     Made(RepairMove),

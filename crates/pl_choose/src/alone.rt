@@ -11,7 +11,7 @@ use pl_points::{Quiet, Steps};
 use std::alloc::{AllocError, Global};
 
 /// What comes of a move that is tried alone.
-#[derive(Clone, Copy, Debug)]
+#[derive(Clone, Copy)]
 pub(crate) enum Alone {
     /// The move leaves few enough conflicts, and stays made.
     Made,

@@ -1,7 +1,7 @@
 use pl_plan::RepairMove;
 
 /// The best move so far, and a number of conflicts: what is better leaves fewer.
-#[derive(Clone, Copy, Debug)]
+#[derive(Clone, Copy)]
 pub(crate) struct Best {
     pub(crate) mv: RepairMove,
     pub(crate) left: usize,

@@ -1,5 +1,5 @@
 /// How a chooser by chance goes about one choice.
-#[derive(Clone, Copy, Debug, PartialEq, Eq)]
+#[derive(Clone, Copy, PartialEq, Eq)]
 pub(crate) enum Draw {
     /// It chooses as the least chooser does.
     AsLeast,

@@ -21,7 +21,7 @@ use std::alloc::{AllocError, Global};
 const AIMS: u32 = 2;
 
 /// What comes of the first of some moves.
-#[derive(Clone, Copy, Debug)]
+#[derive(Clone, Copy)]
 pub(crate) enum Started {
     /// The first leaves the fewest conflicts.
     Settled(Picked),

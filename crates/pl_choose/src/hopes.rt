@@ -17,14 +17,15 @@ pub(crate) struct Hopes {
 }
 
 impl Hopes {
-    fn new(alloc: Global) -> Hopes
-        ensures moves { result.moves.items ≡ [] }
-        ensures bounds { result.bounds.items ≡ [] }
+    // With room for so many.
+    fn new(alloc: Global, room: usize) -> Result<Hopes, AllocError>
+        ensures moves { IfOk result (λ h. h.moves.items ≡ []) }
+        ensures bounds { IfOk result (λ h. h.bounds.items ≡ []) }
     {
-        Hopes {
-            moves: Vec::new(alloc),
-            bounds: Vec::new(alloc),
-        }
+        Ok(Hopes {
+            moves: Vec::with_capacity(alloc, room)?,
+            bounds: Vec::with_capacity(alloc, room)?,
+        })
     }
 
     // Keeps a move, unless it is known to leave so many conflicts or more.
@@ -51,7 +52,7 @@ impl Hopes {
         ensures moves { IfOk result (λ h. h.moves.items ≡ below left bounds.now moves.now) }
         ensures bounds { IfOk result (λ h. h.bounds.items ≡ below left bounds.now bounds.now) }
     {
-        let mut hopes = Hopes::new(alloc);
+        let mut hopes = Hopes::new(alloc, moves.len())?;
         for (place, mv) in moves.iter().enumerate() {
             hopes.add_if_hopeful(mv, bounds[place], left)?;
         }

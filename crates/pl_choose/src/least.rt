@@ -15,7 +15,7 @@ use std::alloc::{AllocError, Global};
 
 /// Takes the first conflict that has a legal candidate, and of these the one that leaves the fewest conflicts, the first among
 /// equals.
-#[derive(Clone, Copy, Debug, Drop)]
+#[derive(Clone, Copy, Drop)]
 pub struct Least;
 
 /// Tells which move is chosen, and makes it if it was looked for to be made.

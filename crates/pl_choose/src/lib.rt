@@ -17,6 +17,7 @@ mod repairs;
 mod search;
 mod seeded;
 mod sharing;
+mod stretch;
 mod trial;
 mod tries;
 

@@ -1,7 +1,7 @@
 use pl_plan::RepairMove;
 
 /// The move that is chosen.
-#[derive(Clone, Copy, Debug)]
+#[derive(Clone, Copy)]
 pub(crate) enum Picked {
     /// The move was tried last, and stays made.
     Made(RepairMove),

@@ -14,7 +14,7 @@ use pl_points::{Quiet, Steps};
 use std::alloc::{AllocError, Global};
 
 /// The best so far, and how many of some moves it has been tried against.
-#[derive(Clone, Copy, Debug)]
+#[derive(Clone, Copy)]
 pub(crate) struct Tried {
     pub(crate) best: Best,
     pub(crate) count: usize,

@@ -234,6 +234,20 @@ unfolding exchanged
 exchange_for_none ks went [] new none is ordered = sym (sorted_itself new ordered) ∙ ap sorted (is ∙ sym (append-nil (left_by went ks)))
 exchange_for_none ks went (k ∷ came) new none is ordered = absurd (omega (arith, none))
 
+-- a single one comes, which did not go
+pub exchange_for_one : (ks went : List Conflict) (k : Conflict) (mid new : List Conflict) → mid ≡ insert_key conflict_cmp ks k → AreInOrder mid → has k went ≡ false → new ≡ left_by went mid → new ≡ exchanged ks went (k ∷ [])
+exchange_for_one ks went k mid new grown ordered stays is =
+    is ∙ conflict_unique conflict_exact (left_by went mid) (exchanged ks went (k ∷ [])) (ordered-left went mid ordered) (ordered-exchanged ks went (k ∷ []))
+    (λ q. has-left went mid q ∙ ap (λ b. b && not (has q went)) (ap (has q) grown ∙ has-insert ks k q) ∙ cases q (same q k) refl ∙ sym (has-exchanged ks went (k ∷ []) q))
+  where
+    come : (b : Bool) → true ≡ (b || true)
+    come true = refl
+    come false = refl
+
+    cases : (q : Conflict) (b : Bool) → same q k ≡ b → ((same q k || has q ks) && not (has q went)) ≡ ((has q ks && not (has q went)) || (same q k || false))
+    cases q true e = let here : has q went ≡ false = ap (λ y. has y went) (same_is q k e) ∙ stays in rw (e, here) (come (has q ks && true))
+    cases q false e = rw e (sym (or-false (has q ks && not (has q went))))
+
 -- what is left by a list is left by its sorting
 left_alike : (xs ys ks : List Conflict) → ((q : Conflict) → has q xs ≡ has q ys) → left_by xs ks ≡ left_by ys ks
 left_alike xs ys [] same = refl

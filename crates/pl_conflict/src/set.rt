@@ -1,4 +1,4 @@
-ghost use Rattle.std.specs.Prelude.{◌≡◌, [], ◌++◌, length, not, if◌then◌else◌, true, false, ◌&&◌, ◌||◌, IfOk, OnOk, OnErr, slice_get, min, ◌==◌};
+ghost use Rattle.std.specs.Prelude.{◌≡◌, [], ◌∷◌, ◌++◌, length, not, if◌then◌else◌, true, false, ◌&&◌, ◌||◌, IfOk, IfSome, OnOk, OnErr, slice_get, min, ◌==◌};
 ghost use Rattle.std.specs.BTreeSet.{insert_key};
 ghost use Rattle.std.specs.Set.{remove_key};
 ghost use Rattle.std.specs.List.Sorted.{IsStrictlySortedBy};
@@ -115,10 +115,25 @@ impl ConflictSet {
             self.remove_all(went);
             return Ok(());
         }
+        if let Some(fresh) = single(went, came) {
+            return self.exchange_for(went, fresh);
+        }
         let leaving = without(self.alloc, came, went)?;
         let fresh = self.missing(came)?;
         self.insert_all(fresh.as_slice())?;
         self.remove_all(leaving.as_slice());
+        Ok(())
+    }
+
+    // The same where a single conflict comes, which did not go.
+    fn exchange_for(&mut self, went: &[Conflict], fresh: Conflict) -> Result<(), AllocError>
+        requires { has fresh went.now ≡ false }
+        ensures ok { OnOk result (self.new ≡ exchanged self.old went.now (fresh ∷ [])) }
+        ensures err { OnErr result (self.new ≡ self.old) }
+        ensures sorted { IsStrictlySortedBy conflict_cmp self.new }
+    {
+        self.insert(fresh)?;
+        self.remove_all(went);
         Ok(())
     }
 
@@ -192,6 +207,21 @@ fn is_among(few: &[Conflict], conflict: &Conflict) -> bool
     ensures { result ≡ has conflict.now few.now }
 {
     few.iter().any(|other| conflict.cmp(other).is_eq())
+}
+
+// The conflict that comes, where it is a single one and did not go.
+fn single(went: &[Conflict], came: &[Conflict]) -> Option<Conflict>
+    ensures alone { IfSome result (λ k. came.now ≡ k ∷ []) }
+    ensures stays { IfSome result (λ k. has k went.now ≡ false) }
+{
+    if came.len() != 1 {
+        return None;
+    }
+    let fresh = came[0];
+    if is_among(went, &fresh) {
+        return None;
+    }
+    Some(fresh)
 }
 
 // Those that are none of a few.

@@ -4,7 +4,7 @@ use pl_lists::Copied;
 use std::alloc::{AllocError, Global};
 
 /// One entry of the log: an event and its reply.
-#[derive(Debug, Drop)]
+#[derive(Drop)]
 pub struct Entry {
     pub event: Event,
     pub reply: Reply,

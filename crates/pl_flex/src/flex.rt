@@ -11,7 +11,7 @@ use std::alloc::{AllocError, Global};
 use std::marker::Model;
 
 /// The windows of a plan, with the network that gives them and its earliest and latest times.
-#[derive(Debug, Drop)]
+#[derive(Drop)]
 pub struct Flex {
     pub(crate) net: Net,
     pub(crate) windows: Items<Window>,

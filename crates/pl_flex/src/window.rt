@@ -2,7 +2,7 @@ use pl_lists::Copied;
 use std::alloc::{AllocError, Global};
 
 /// The least and the greatest start of an activity when the others move with it, and the point of its start in the network.
-#[derive(Clone, Copy, Debug, PartialEq, Eq)]
+#[derive(Clone, Copy, PartialEq, Eq)]
 pub struct Window {
     pub id: u32,
     pub point: u32,

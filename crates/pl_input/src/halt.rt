@@ -2,7 +2,7 @@ use std::alloc::{AllocError, AllocFailed};
 
 /// Why a run stopped before its end: a read or a write failed, a line or the input is too long, the log is full, or
 /// memory is wanting.
-#[derive(Clone, Copy, Debug, PartialEq, Eq)]
+#[derive(Clone, Copy, PartialEq, Eq)]
 pub enum Halt {
     Read,
     Write,

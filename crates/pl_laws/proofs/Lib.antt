@@ -13,6 +13,6 @@ pub mod Budgets
 pub mod PairBudgets
 pub mod Chosen
 pub mod Bounded
-pub mod Paired
+pub mod Teaming
 pub mod Fixed
 pub mod AfterLogs

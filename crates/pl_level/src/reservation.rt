@@ -3,14 +3,14 @@ use pl_points::Change;
 use std::alloc::{AllocError, Global};
 
 /// What is added to a level at a moment and from then on.
-#[derive(Clone, Copy, Debug, PartialEq, Eq)]
+#[derive(Clone, Copy, PartialEq, Eq)]
 pub struct Effect {
     pub at: u32,
     pub delta: i64,
 }
 
 /// What left and came into the spans of a level, those below its least and those above its most.
-#[derive(Debug, Drop)]
+#[derive(Drop)]
 pub struct LevelChange {
     pub low: Change,
     pub high: Change,

@@ -42,7 +42,7 @@ pub(crate) fn sum_before(before: i64, base: u32, at: u32, delta: i64) -> i64
 }
 
 // Between which sums of the points the level is within its limits.
-#[derive(Clone, Copy, Debug)]
+#[derive(Clone, Copy)]
 pub(crate) struct Sums {
     pub(crate) least: i64,
     pub(crate) most: i64,

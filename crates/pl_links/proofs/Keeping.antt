@@ -1,18 +1,20 @@
 -- A sorted list that holds what stands is the list of what is broken.
-use Rattle.std.proofs.Common.{◌≡◌, ⊎_elim, eqb, ltb, ℕ, suc, ◌<◌, ◌+◌, Bool, true, false, List, [], ◌∷◌, length, get_or, Option, Some, None, IfSome, refl, sym, ap, ◌∙◌, subst, arith}
-use Rattle.std.specs.Prelude.{Contains, ◌⊎◌}
+use Rattle.std.proofs.Common.{◌≡◌, ⊎_elim, eqb, ltb, ℕ, ◌<◌, ◌+◌, Bool, true, false, List, [], ◌∷◌, get_or, Option, Some, None, IfSome, refl, sym, ap, ◌∙◌, subst, arith}
+use Rattle.std.specs.Prelude.{◌⊎◌, ◌&&◌, not}
 use Rattle.std.specs.declared.cmp.Ordering.TheVariants.{Less}
 use Rattle.std.specs.Ordering.{nat_cmp, bool_cmp, ordering_then}
 use Rattle.std.specs.List.Sorted.{IsStrictlySortedBy}
-use Rattle.std.proofs.lemmas.Bool.{lt-ltb, le-ltb, eq-eqb}
+use Rattle.std.proofs.lemmas.Bool.{eq-eqb}
 use Rattle.std.proofs.lemmas.Map.Keys.{sorted_from_all_adjacent}
 use Rattle.pl_lists.proofs.Tests.{same_test}
 use Rattle.pl_model.specs.declared.whole.Model.{Model}
 use Rattle.pl_links.specs.declared.placed.Placed.{Placed}
 use Rattle.pl_links.specs.declared.broken.Broken.{Broken}
+use Rattle.pl_links.specs.declared.changes.Changes.{Changes}
+use Rattle.pl_links.specs.Changes.{Tells}
 use Rattle.pl_links.specs.Items.{AreRising, item_of, with_item, without}
-use Rattle.pl_links.specs.Broken.{links_of, orders_of, broken_of}
-use Rattle.pl_links.specs.Laws.{IsBefore, IsBroken, fails_at}
+use Rattle.pl_links.specs.Broken.{broken_of}
+use Rattle.pl_links.specs.Laws.{IsBefore, IsBroken}
 use Rattle.pl_links.specs.Standing.{stands_at, stands}
 use Rattle.pl_links.specs.Sets.{broken_cmp, has}
 use Rattle.pl_links.specs.Filed.{left}
@@ -86,3 +88,25 @@ without-with p (x ∷ items) none = cases (eqb x.id p.id) refl (ltb x.id p.id) r
 
 pub same_kept : (a c : List Placed) (b d : List Broken) → a ≡ c → b ≡ d → ◌≡◌ {A = Kept} (record { items = a; broken = b }) (record { items = c; broken = d })
 same_kept a c b d e f = rw (e, f) refl
+
+-- what is not placed stays out
+pub absent_stays : (id : ℕ) (items : List Placed) → item_of id items ≡ None → items ≡ without id items
+absent_stays id [] none = refl
+absent_stays id (x ∷ items) none = cases (eqb x.id id) refl (absent_stays id items)
+  where
+    cases : (b : Bool) → eqb x.id id ≡ b → (item_of id items ≡ None → items ≡ without id items) → x ∷ items ≡ without id (x ∷ items)
+    cases true e more = absurd (let bad : Some x ≡ None = rw e at none in cc)
+    cases false e more = let rest : item_of id items ≡ None = rw e at none in rw e (ap (λ l. x ∷ l) (more rest))
+
+pub tells_nothing : (bs : List Broken) (changes : Changes) → changes.came.items ≡ [] → changes.went.items ≡ [] → Tells bs bs changes
+unfolding IsStrictlySortedBy
+tells_nothing bs changes none none_too = record {
+  came = λ b. ap (has b) none ∙ sym (never (has b bs));
+  went = λ b. ap (has b) none_too ∙ sym (never (has b bs));
+  came_once = subst (IsStrictlySortedBy broken_cmp) (sym none) tt;
+  went_once = subst (IsStrictlySortedBy broken_cmp) (sym none_too) tt;
+}
+  where
+    never : (t : Bool) → (t && not t) ≡ false
+    never true = refl
+    never false = refl

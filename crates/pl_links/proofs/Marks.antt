@@ -1,15 +1,18 @@
 -- The order of what is broken is total and tells all apart.
-use Rattle.std.proofs.Common.{◌≡◌, Bool, true, List, ap, arith, sym, subst}
+use Rattle.std.proofs.Common.{◌≡◌, Bool, true, List, ap, arith, sym, subst, ◌∙◌}
 use Rattle.std.specs.Prelude.{Contains}
+use Rattle.std.specs.List.{dedup}
 use Rattle.std.specs.declared.cmp.Ordering.TheVariants.{Equal}
-use Rattle.std.specs.Cmp.{IsTotalOrder, then_total, on_total, nat_cmp_total, bool_cmp_total}
-use Rattle.std.specs.Ordering.{is_eq}
+use Rattle.std.specs.Cmp.{IsTotalOrder, IsEquivalence, then_total, on_total, nat_cmp_total, bool_cmp_total}
+use Rattle.std.specs.Ordering.{is_eq, eq_by_cmp}
 use Rattle.std.specs.BTreeMap.{is_at}
-use Rattle.std.specs.List.Sorted.{IsStrictlySortedBy}
+use Rattle.std.specs.List.Sorted.{IsSorted, IsStrictlySortedBy}
 use Rattle.std.proofs.lemmas.Grind.{common_steps}
-use Rattle.std.proofs.lemmas.Cmp.{tied_itself}
+use Rattle.std.proofs.lemmas.Cmp.{tied_itself, eq_by_cmp_equiv}
 use Rattle.std.proofs.lemmas.Map.Lookups.{btree_set_from_contains}
+use Rattle.std.proofs.lemmas.List.Kept.{Contains-dedup, Contains-from_dedup, IsStrictlySortedBy-dedup}
 use Rattle.pl_lists.proofs.Orderings.{equal_from_test}
+use Rattle.pl_lists.proofs.Tests.{same_test}
 use Rattle.pl_links.specs.declared.broken.Broken.{Broken}
 use Rattle.pl_links.specs.Sets.{broken_cmp, has}
 use Rattle.pl_links.proofs.Anys.{any_from, any_found}
@@ -37,3 +40,27 @@ held b bs e =
 
 pub only_list : (xs ys : List Broken) → IsStrictlySortedBy broken_cmp xs → IsStrictlySortedBy broken_cmp ys → ((b : Broken) → has b xs ≡ has b ys) → xs ≡ ys
 only_list xs ys one two same = btree_set_from_contains broken_total (record { keys = xs }) (record { keys = ys }) one two same broken_exact
+
+-- ---- each once
+
+module _ (E : Broken → Broken → Bool) (ties : (x y : Broken) → E x y ≡ eq_by_cmp broken_cmp x y) where
+  same : IsEquivalence E
+  same =
+      let o = eq_by_cmp_equiv broken_total in
+      record {
+        refl = λ x. ties x x ∙ o.refl x;
+        symm = λ x y. ties x y ∙ (o.symm x y ∙ sym (ties y x));
+        congr = λ x y z e. ties x z ∙ (o.congr x y z (sym (ties x y) ∙ e) ∙ sym (ties y z));
+      }
+
+  exact : (x y : Broken) → E x y ≡ true → x ≡ y
+  exact x y e = same_broken x y (sym (ties x y) ∙ e)
+
+  pub has_once : (b : Broken) (xs : List Broken) → has b (dedup E xs) ≡ has b xs
+  has_once b xs =
+      same_test (has b (dedup E xs)) (has b xs)
+      (λ h. has_held b xs (Contains-from_dedup E xs b (held b (dedup E xs) h)))
+      (λ h. has_held b (dedup E xs) (Contains-dedup same exact xs b (held b xs h)))
+
+  pub once_sorted : (xs : List Broken) → IsSorted broken_cmp xs → IsStrictlySortedBy broken_cmp (dedup E xs)
+  once_sorted xs rising = IsStrictlySortedBy-dedup broken_total ties xs rising

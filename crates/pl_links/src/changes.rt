@@ -1,5 +1,5 @@
 //! What comes to the list of what is broken, and what goes.
-ghost use Rattle.std.specs.Prelude.{◌≡◌, ◌++◌, ◌&&◌, not, filter, OnOk, IfOk};
+ghost use Rattle.std.specs.Prelude.{◌≡◌, [], ◌++◌, ◌&&◌, not, filter, OnOk, IfOk};
 ghost use Rattle.pl_links.specs.Broken.{when};
 ghost use Rattle.pl_links.specs.Filed.{left};
 ghost use Rattle.pl_links.specs.Sets.{has};
@@ -13,13 +13,24 @@ use std::alloc::{AllocError, Global};
 use std::collections::BTreeSet;
 
 /// What came to the list of what is broken, and what went, each once and in order.
-#[derive(Debug, Drop)]
+#[derive(Drop)]
 pub struct Changes {
     pub came: Vec<Broken>,
     pub went: Vec<Broken>,
 }
 
 impl Changes {
+    /// Nothing came, and nothing went.
+    pub(crate) fn none(alloc: Global) -> Changes
+        ensures came { result.came.items ≡ [] }
+        ensures went { result.went.items ≡ [] }
+    {
+        Changes {
+            came: Vec::new(alloc),
+            went: Vec::new(alloc),
+        }
+    }
+
     fn add(&mut self, broken: Broken, is_broken: bool, is_listed: bool) -> Result<(), AllocError>
         ensures came { OnOk result (self.new.came.items ≡ self.old.came.items
             ++ when (is_broken && not is_listed) broken) }
@@ -55,10 +66,7 @@ pub(crate) fn changes_near(
         ≡ filter (λ b. not (stands model.now (left gone store.now) b) && has b listed.now.keys)
         near.now) }
 {
-    let mut changes = Changes {
-        came: Vec::new(alloc),
-        went: Vec::new(alloc),
-    };
+    let mut changes = Changes::none(alloc);
     for broken in near {
         let is_broken = stands(model, store, gone, broken);
         let is_listed = listed.contains(broken);

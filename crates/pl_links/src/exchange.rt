@@ -1,11 +1,11 @@
 //! The list of what is broken, with what comes and without what goes.
-ghost use Rattle.std.specs.Prelude.{◌≡◌, ◌&&◌, ◌||◌, not, false, All, IfOk, OnOk, OnErr};
+ghost use Rattle.std.specs.Prelude.{◌≡◌, ◌&&◌, ◌||◌, not, false, All, OnOk, OnErr};
 ghost use Rattle.std.specs.List.Sorted.{IsStrictlySortedBy};
 ghost use Rattle.pl_links.specs.declared.broken.Broken.{Broken};
 ghost use Rattle.pl_links.specs.Sets.{broken_cmp, has};
 
 use crate::broken::Broken;
-use std::alloc::{AllocError, Global};
+use std::alloc::AllocError;
 use std::collections::BTreeSet;
 
 /// Takes these out.
@@ -39,11 +39,11 @@ pub(crate) fn insert_all(listed: &mut BTreeSet<Broken>, came: &[Broken]) -> Resu
 }
 
 /// Each of these once, in order.
-pub(crate) fn each_once(alloc: Global, all: &[Broken]) -> Result<Vec<Broken>, AllocError>
-    ensures members { IfOk result (λ list. (b : Broken) → has b list.items ≡ has b all.now) }
-    ensures ordered { IfOk result (λ list. IsStrictlySortedBy broken_cmp list.items) }
+pub(crate) fn each_once(mut all: Vec<Broken>) -> Vec<Broken>
+    ensures members { (b : Broken) → has b result.items ≡ has b all.items }
+    ensures ordered { IsStrictlySortedBy broken_cmp result.items }
 {
-    let mut listed = BTreeSet::new(alloc);
-    insert_all(&mut listed, all)?;
-    listed.iter().copied().collect(alloc)
+    all.sort_unstable();
+    all.dedup();
+    all
 }

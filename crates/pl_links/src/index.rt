@@ -14,7 +14,7 @@ use std::collections::BTreeSet;
 use std::collections::btree_set::Range;
 
 /// An index of activities, which contracts see as its keys in order.
-#[derive(Debug, Drop)]
+#[derive(Drop)]
 pub(crate) struct Index {
     keys: BTreeSet<Key>,
 }

@@ -1,5 +1,5 @@
 /// A key of an index: keys stand in groups, in a group by number, and at one number by id.
-#[derive(Clone, Copy, Debug, PartialEq, Eq, PartialOrd, Ord)]
+#[derive(Clone, Copy, PartialEq, Eq, PartialOrd, Ord)]
 pub(crate) struct Key {
     pub group: u32,
     pub number: u32,

@@ -21,7 +21,7 @@ use std::collections::BTreeSet;
 use std::collections::btree_set::Range;
 
 /// The placed activities, which contracts see by rising id, and the list of what they break.
-#[derive(Debug, Drop)]
+#[derive(Drop)]
 pub struct Links {
     alloc: Global,
     store: Store,
@@ -93,11 +93,10 @@ impl Links {
         Ok(())
     }
 
-    /// Takes the activity of this id out, and tells what came to the list of what is broken and
-    /// what went.
+    /// Takes the activity of this id out, if one is placed, and tells what came to the list of what
+    /// is broken and what went.
     pub fn take_telling(&mut self, model: &Model, id: u32) -> Result<Changes, AllocError>
-        requires model { IsFor model.now self.old }
-        requires placed { IsPlaced id self.old.items }
+        requires { IsFor model.now self.old }
         ensures ok { OnOk result (self.new ≡ kept_of model.now (without id self.old.items)) }
         ensures changes { IfOk result (Tells self.old.broken self.new.broken) }
         ensures err { OnErr result (self.new ≡ self.old) }
@@ -115,7 +114,7 @@ impl Links {
                 self.store.take(id);
                 Ok(changes)
             }
-            None => unreachable!(),
+            None => Ok(Changes::none(self.alloc)),
         }
     }
 

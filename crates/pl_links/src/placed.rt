@@ -3,7 +3,7 @@ use std::alloc::{AllocError, Global};
 
 /// An activity with its end, of which there is none where the activity is not firm. `parent` is its
 /// parent's id and its slot there, `detail` the chosen alternative.
-#[derive(Clone, Copy, Debug, PartialEq, Eq)]
+#[derive(Clone, Copy, PartialEq, Eq)]
 pub struct Placed {
     pub id: u32,
     pub kind: u32,

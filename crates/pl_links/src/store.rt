@@ -23,7 +23,7 @@ use std::alloc::{AllocError, Global};
 use std::collections::BTreeMap;
 
 /// The placed activities with their indexes, which contracts see by rising id.
-#[derive(Debug, Drop)]
+#[derive(Drop)]
 pub(crate) struct Store {
     items: BTreeMap<u32, Placed>,
     files: Files,
@@ -163,8 +163,7 @@ impl Store {
         ensures ordered { IfOk result (λ all. IsStrictlySortedBy broken_cmp all.items) }
     {
         let found = near(alloc, model, &self.files, item, self.parent_of(item))?;
-        let all = each_once(alloc, found.as_slice())?;
-        Ok(all)
+        Ok(each_once(found))
     }
 }
 

@@ -1,5 +1,5 @@
 /// How far ahead a plan was looked at.
-#[derive(Clone, Copy, Debug, PartialEq, Eq)]
+#[derive(Clone, Copy, PartialEq, Eq)]
 pub(crate) struct Ahead {
     /// No activity starts behind the present and before this moment.
     pub(crate) next_start: u32,

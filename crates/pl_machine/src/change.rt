@@ -2,7 +2,7 @@ use pl_facts::Goal;
 use pl_plan::RepairMove;
 
 /// A change that an event makes of the plan state.
-#[derive(Debug, Drop)]
+#[derive(Drop)]
 pub(crate) enum Change {
     /// A goal is accepted.
     Accept(Goal),

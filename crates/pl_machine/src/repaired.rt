@@ -2,7 +2,7 @@ use pl_cand::Proposal;
 use pl_entry::Reason;
 
 /// What one turn of repair came to.
-#[derive(Clone, Copy, Debug, PartialEq, Eq)]
+#[derive(Clone, Copy, PartialEq, Eq)]
 pub enum Repaired {
     /// This was proposed, and made.
     Fixed(Proposal),

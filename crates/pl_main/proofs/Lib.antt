@@ -13,8 +13,10 @@ pub mod Replaying
 pub mod Prefacing
 pub mod ReadingBack
 pub mod Pairing
+pub mod Crewing
 pub mod Jobs
 pub mod Topping
+pub mod Wording
 pub mod OneInput
 pub mod OneLog
 pub mod Causes

@@ -23,24 +23,29 @@ use Rattle.pl_input.specs.Stops.{HaltFor, IsStuck, ReadLeaves, LimitLeaves}
 use Rattle.pl_driver.specs.CutShort.{IsCutShort}
 use Rattle.pl_input.proofs.Reading.{known, gave_append, gave_lines}
 use Rattle.pl_input.specs.Places.{Place}
-use Rattle.pl_pair.specs.Runs.{pair_of, InMessages, HadLimit, WhyNone, IsCauseOf, StoppedBy, ReadUpTo, RunsUntil, IsWrittenInPart, ReadsShort, one_behind, one_unread, RunsShort, in_lines, all_lines, behind_lines, PairRun}
+use Rattle.pl_pair.specs.Runs.{pair_of, InMessages, HadLimit, WhyNone, IsCauseOf, StoppedBy, ReadUpTo, RunsUntil, IsWrittenInPart, ReadsShort, one_behind, one_unread, RunsShort, in_lines, all_lines, behind_lines, TeamRun}
+use Rattle.pl_journal.specs.Rendering.Lines.{text_of_log}
+use Rattle.pl_journal.specs.Written.{Adds}
+use Rattle.pl_marks.specs.Marks.{Signed}
+use Rattle.pl_pair.specs.declared.duty.Duty.{Duty}
 use Rattle.pl_pair.proofs.Cutting.{cut_short}
 use Rattle.pl_pair.proofs.Running.{runs_none}
-use Rattle.pl_main.specs.Runs.{fresh_state, PairRuns}
+use Rattle.pl_main.specs.declared.command.Team.TheVariants as team
+use Rattle.pl_main.specs.Runs.{IsKeptModel, fresh_state, ModelRunsAs}
 use Rattle.pl_main.specs.Top.{line_limit, total_limit, fresh_reader, HasRead, ShowsNoLine, ShowsLimit, WasGiven}
 use Rattle.pl_input.proofs.Stopping.{limit_stops}
 use Rattle.pl_input.proofs.Beginning.{head_then}
 use Rattle.pl_main.proofs.Running.{EndsOver}
-use Rattle.pl_main.specs.Endings.{HasBegun, IsDone, IsFull, IsOutOfMemory, WaitsBehind, behind_entry, in_entry, in_journal}
-use Rattle.pl_main.specs.RunKinds.{IsPaired, ReadsInPart, at_next, between_rounds, in_round, pair_run, to_next}
+use Rattle.pl_main.specs.Endings.{RunKind, text_with, HasBegun, EndedAs, IsDone, IsFull, IsOutOfMemory, WaitsBehind, behind_entry, in_entry, in_journal}
+use Rattle.pl_main.specs.RunKinds.{IsTeamLog, TeamTail, no_tail, team_run, ReadsInPart, at_next, between_rounds, in_round, pair_run, to_next}
 use Rattle.pl_main.proofs.LastLines.{ends_behind}
 use Rattle.pl_main.proofs.Heading.{shows_limit, shows_none, split_is}
 
 -- ---- a machine that was not opened
 
-pub none_opened : (turns seed : ℕ) (m : Model) (place : Place) (held : Option (List ℕ)) → IsChecked m → (1 ≤ turns) × (turns ≤ 1000) → PairRun seed (fresh_state turns m) place held (Err halt.Memory) place held
-none_opened turns seed m place held checked bounds =
-    runs_none (pair_of seed 1) (fresh_state turns m) place held
+pub none_opened : (turns : ℕ) (duties : List Duty) (m : Model) (place : Place) (held : Option (List ℕ)) → IsChecked m → (1 ≤ turns) × (turns ≤ 1000) → TeamRun duties (fresh_state turns m) place held (Err halt.Memory) place held
+none_opened turns duties m place held checked bounds =
+    runs_none duties (fresh_state turns m) place held
     record {
       answers = refl;
       options = record { turns = (bounds.0, bounds.1); live = (omega arith, omega arith); goals = (omega arith, omega arith); entries = (omega arith, omega arith) };
@@ -51,7 +56,7 @@ none_opened turns seed m place held checked bounds =
 -- ---- behind a head
 
 -- the messages that a pair was handed are those of the input
-record IsBehind (input words : List ℕ) (place : Place) : Type 0 where
+pub record IsBehind (input words : List ℕ) (place : Place) : Type 0 where
   heads : List (List ℕ)
   rest : List ℕ
   limit : place.reader.limit ≡ line_limit
@@ -63,7 +68,7 @@ record IsBehind (input words : List ℕ) (place : Place) : Type 0 where
   messages : (split_of input).messages ≡ messages_of (lines_of rest)
   both : (more : List (List ℕ)) → (model_text_of (heads ++ more) ≡ Some words) × (lines_behind (heads ++ more) ≡ more)
 
-is_behind : (kept : Option (Vec ℕ Global)) (place : Place) (input : List ℕ) → (begun : IsBegun (fresh_reader line_limit) (Some input) kept place.reader place.ahead) → IsBehind input begun.words place
+pub is_behind : (kept : Option (Vec ℕ Global)) (place : Place) (input : List ℕ) → (begun : IsBegun (fresh_reader line_limit) (Some input) kept place.reader place.ahead) → IsBehind input begun.words place
 is_behind kept place input begun =
     let k = known line_limit total_limit line_limit total_limit (Some input) input begun.lines place.reader.room place.ahead refl refl refl begun.took.gave in
     let split = split_is input begun.lines begun.words (lines_of k.rest) begun.head (gave_lines line_limit total_limit input begun.lines place.reader.room k.rest k.gave) in
@@ -87,13 +92,13 @@ in_messages place rest P is all = subst (λ (b : Option (List ℕ)). InMessages 
 -- ---- the log
 
 -- the log of a run over a fresh machine
-record IsOpened (turns seed : ℕ) (m : Model) (log entries : List Entry) : Type 0 where
-  paired : IsPaired turns seed m log
+record IsOpened (turns : ℕ) (duties : List Duty) (m : Model) (log entries : List Entry) : Type 0 where
+  team : IsTeamLog turns duties m log
   inputs : inputs_of log ≡ inputs_of entries
 
-opened : (turns seed : ℕ) (m : Model) (place : Place) (held : Option (List ℕ)) (e : Result (Unit {0}) Halt) (last : Place) (now : Option (List ℕ)) → (run : PairRun seed (fresh_state turns m) place held e last now) → IsOpened turns seed m run.log run.entries
-opened turns seed m place held e last now run = record {
-  paired = record { entries = run.entries; opened = run.begins; history = run.history; chosen = run.chosen };
+opened : (turns : ℕ) (duties : List Duty) (m : Model) (place : Place) (held : Option (List ℕ)) (e : Result (Unit {0}) Halt) (last : Place) (now : Option (List ℕ)) → (run : TeamRun duties (fresh_state turns m) place held e last now) → IsOpened turns duties m run.log run.entries
+opened turns duties m place held e last now run = record {
+  team = record { entries = run.entries; opened = run.begins; history = run.history; chosen = run.chosen };
   inputs = ap inputs_of run.begins;
 }
 
@@ -137,30 +142,57 @@ given_of input words place last messages behind read =
       behind = ap messages_of both.1 ∙ read.said;
     }
 
-ends_done : (turns seed : ℕ) (input words : List ℕ) (place last : Place) (m : Model) (source_left held now : Option (List ℕ)) → IsBehind input words place → IsModelText words m → ahead last.reader.held source_left ≡ last.ahead
-    → PairRun seed (fresh_state turns m) place held (Ok tt) last now → IsDone (pair_run turns seed) input source_left held now
+-- a run that is done, and its journal
+pub record DoneOf (turns : ℕ) (duties : List Duty) (tail : TeamTail turns duties) (input : List ℕ) (source_left : Option (List ℕ)) (log : List Entry) (by : Signed) (held now : Option (List ℕ)) : Type 0 where
+  pub done : IsDone (team_run turns duties tail) input source_left None None
+  pub written : Adds held now (text_of_log done.model done.log)
+  pub log_is : done.log ≡ log
+  pub by_is : done.says.team.history.signs.by ≡ by
+
+-- the same with the lines behind it
+pub done_with : (kind : RunKind) (input : List ℕ) (source_left held now : Option (List ℕ)) → (done : IsDone kind input source_left None None) → Adds held now (text_with (kind.tail done.model done.log done.says) done.model done.log) → IsDone kind input source_left held now
+done_with kind input source_left held now done adds = record {
+  model = done.model;
+  log = done.log;
+  words = done.words;
+  text = done.text;
+  accepted = done.accepted;
+  finished = done.finished;
+  closed = done.closed;
+  says = done.says;
+  read = done.read;
+  written = adds;
+}
+
+pub ends_done : (turns : ℕ) (duties : List Duty) (tail : TeamTail turns duties) (input words : List ℕ) (place last : Place) (m : Model) (source_left held now : Option (List ℕ)) → IsBehind input words place → IsModelText words m → ahead last.reader.held source_left ≡ last.ahead
+    → (run : TeamRun duties (fresh_state turns m) place held (Ok tt) last now) → DoneOf turns duties tail input source_left run.log run.history.signs.by held now
 unfolding opened
-ends_done turns seed input words place last m source_left held now behind accepted same run =
-    let o = opened turns seed m place held (Ok tt) last now run in
+ends_done turns duties tail input words place last m source_left held now behind accepted same run =
+    let o = opened turns duties m place held (Ok tt) last now run in
     record {
-      model = m;
-      log = run.log;
-      words = words;
-      text = behind.text;
-      accepted = accepted;
-      finished = record {
-        legal = run.history.legal;
-        done = run.ends.done;
-        inputs = o.inputs ∙ in_messages place behind.rest (λ messages. inputs_of run.entries ≡ messages) behind.is run.ends.messages ∙ sym behind.messages;
+      done = record {
+        model = m;
+        log = run.log;
+        words = words;
+        text = behind.text;
+        accepted = accepted;
+        finished = record {
+          legal = run.history.legal;
+          done = run.ends.done;
+          inputs = o.inputs ∙ in_messages place behind.rest (λ messages. inputs_of run.entries ≡ messages) behind.is run.ends.messages ∙ sym behind.messages;
+        };
+        closed = run.ends.closed;
+        says = record { team = o.team; feeder = run.feeder_goes refl; seen = run.feeder_saw_all refl };
+        read = subst (λ (is : List (Option (List ℕ))). HasRead words is input source_left) (sym o.inputs) (read_of input words place last (inputs_of run.entries) source_left behind same run.ends.read);
+        written = tt;
       };
-      closed = run.ends.closed;
-      says = record { paired = o.paired; feeder = run.feeder_goes refl; seen = run.feeder_saw_all refl };
-      read = subst (λ (is : List (Option (List ℕ))). HasRead words is input source_left) (sym o.inputs) (read_of input words place last (inputs_of run.entries) source_left behind same run.ends.read);
       written = run.ends.written;
+      log_is = refl;
+      by_is = refl;
     }
 
 -- the lines behind which no message was given
-record IsStopped (e : Halt) (turns seed : ℕ) (input : List ℕ) (source_left held now : Option (List ℕ)) : Type 0 where
+record IsStopped (e : Halt) (turns : ℕ) (duties : List Duty) (tail : TeamTail turns duties) (input : List ℕ) (source_left held now : Option (List ℕ)) : Type 0 where
   lines : List (List ℕ)
   left : ℕ
   rest : List ℕ
@@ -168,7 +200,7 @@ record IsStopped (e : Halt) (turns seed : ℕ) (input : List ℕ) (source_left h
   why : e ≡ halt.Limit → IsStuck line_limit left rest
   source : e ≡ halt.Read → ShowsNoLine line_limit left rest source_left
   past : e ≡ halt.Limit → ShowsLimit line_limit left rest source_left
-  waits : WaitsBehind (pair_run turns seed) lines held now
+  waits : WaitsBehind (team_run turns duties tail) lines held now
 
 -- a reader that works had met no limit
 why_stuck : (e : Halt) (place : Place) (left : ℕ) (rest : List ℕ) → place.reader.limit ≡ line_limit → place.reader.failed ≡ None → WhyNone e place left (Some rest) → e ≡ halt.Limit → IsStuck line_limit left rest
@@ -207,10 +239,10 @@ stopped_past : (e : Halt) (place last : Place) (lines : List (List ℕ)) (left :
 stopped_past e place last lines left rest stopped is small =
     limit_stops place.reader last.reader lines left rest last.ahead stopped.reason stopped.stops (by_limit stopped.reason (subst (λ (x : Halt). IsCauseOf x stopped.reason) is stopped.cause)) small
 
-until : (e : Halt) (turns seed : ℕ) (input words : List ℕ) (place last : Place) (m : Model) (source_left held now : Option (List ℕ)) → IsBehind input words place → IsModelText words m → ahead last.reader.held source_left ≡ last.ahead
-    → (run : PairRun seed (fresh_state turns m) place held (Err e) last now) → RunsUntil e m run.log run.entries place held last now → IsStopped e turns seed input source_left held now
-until e turns seed input words place last m source_left held now behind accepted same run ends =
-    let o = opened turns seed m place held (Err e) last now run in
+until : (e : Halt) (turns : ℕ) (duties : List Duty) (tail : TeamTail turns duties) (input words : List ℕ) (place last : Place) (m : Model) (source_left held now : Option (List ℕ)) → IsBehind input words place → IsModelText words m → ahead last.reader.held source_left ≡ last.ahead
+    → (run : TeamRun duties (fresh_state turns m) place held (Err e) last now) → RunsUntil e m run.log run.entries place held last now → IsStopped e turns duties tail input source_left held now
+until e turns duties tail input words place last m source_left held now behind accepted same run ends =
+    let o = opened turns duties m place held (Err e) last now run in
     let g = ends.given in
     let k = known place.reader.limit place.reader.room line_limit place.reader.room place.ahead behind.rest g.lines g.left g.rest behind.limit refl behind.is g.gave in
     let both = behind.both g.lines in
@@ -232,7 +264,7 @@ until e turns seed input words place last m source_left held now behind accepted
         words = words;
         text = both.0;
         accepted = accepted;
-        says = o.paired;
+        says = o.team;
         messages = ap messages_of both.1 ∙ g.messages ∙ ap (λ (ns : List (Option (List ℕ))). ns ++ None ∷ []) (sym o.inputs);
         closed = ends.between.0;
         going = ends.between.1;
@@ -245,10 +277,10 @@ next_behind : (front rest more : List (Option (List ℕ))) (next : Option (List 
 next_behind [] rest more next is = is
 next_behind (x ∷ front) rest more next is = next_behind front rest more next (let h : x ∷ (front ++ rest) ≡ x ∷ ((front ++ next ∷ []) ++ more) = is in (cc))
 
-ends_full : (turns seed : ℕ) (input words : List ℕ) (place last : Place) (m : Model) (source_left held now : Option (List ℕ)) → IsBehind input words place → IsModelText words m → ahead last.reader.held source_left ≡ last.ahead
-    → PairRun seed (fresh_state turns m) place held (Err halt.Full) last now → IsFull (pair_run turns seed) input source_left held now
-ends_full turns seed input words place last m source_left held now behind accepted same run =
-    let o = opened turns seed m place held (Err halt.Full) last now run in
+ends_full : (turns : ℕ) (duties : List Duty) (tail : TeamTail turns duties) (input words : List ℕ) (place last : Place) (m : Model) (source_left held now : Option (List ℕ)) → IsBehind input words place → IsModelText words m → ahead last.reader.held source_left ≡ last.ahead
+    → TeamRun duties (fresh_state turns m) place held (Err halt.Full) last now → IsFull (team_run turns duties tail) input source_left held now
+ends_full turns duties tail input words place last m source_left held now behind accepted same run =
+    let o = opened turns duties m place held (Err halt.Full) last now run in
     let front = in_messages place behind.rest (λ messages. IsPrefix (inputs_of run.entries) messages) behind.is run.messages in
     let behind_front : (split_of input).messages ≡ inputs_of run.entries ++ front.0 = behind.messages ∙ sym front.1 in
     record {
@@ -257,7 +289,7 @@ ends_full turns seed input words place last m source_left held now behind accept
       words = words;
       text = behind.text;
       accepted = accepted;
-      says = o.paired;
+      says = o.team;
       unanswered = front.0;
       messages = behind_front ∙ ap (λ (ns : List (Option (List ℕ))). ns ++ front.0) (sym o.inputs);
       full = run.ends.full ∙ ap (λ x. x.entries) (ap options_of run.begins);
@@ -281,34 +313,34 @@ inputs_front : (place : Place) (xs ys : List (Option (List ℕ))) → xs ≡ ys 
 inputs_front place xs ys same front = subst (λ (ns : List (Option (List ℕ))). InMessages place (λ messages. IsPrefix ns messages)) (sym same) front
 
 -- the inputs of the log of a run are a front of the messages
-front_read : (turns seed : ℕ) (input words : List ℕ) (place last : Place) (m : Model) (held : Option (List ℕ)) (e : Result (Unit {0}) Halt) (now : Option (List ℕ)) → IsBehind input words place → (run : PairRun seed (fresh_state turns m) place held e last now)
+front_read : (turns : ℕ) (duties : List Duty) (tail : TeamTail turns duties) (input words : List ℕ) (place last : Place) (m : Model) (held : Option (List ℕ)) (e : Result (Unit {0}) Halt) (now : Option (List ℕ)) → IsBehind input words place → (run : TeamRun duties (fresh_state turns m) place held e last now)
     → IsPrefix (inputs_of run.log) (split_of input).messages
-front_read turns seed input words place last m held e now behind run =
-    let o = opened turns seed m place held e last now run in
+front_read turns duties tail input words place last m held e now behind run =
+    let o = opened turns duties m place held e last now run in
     let front = in_messages place behind.rest (λ messages. IsPrefix (inputs_of run.log) messages) behind.is (inputs_front place (inputs_of run.log) (inputs_of run.entries) o.inputs run.messages) in
     (front.0, front.1 ∙ sym behind.messages)
 
 -- a run that was cut short
-module _ (turns seed : ℕ) (input words : List ℕ) (place last : Place) (m : Model) (held : Option (List ℕ)) (e : Result (Unit {0}) Halt) (now : Option (List ℕ)) (behind : IsBehind input words place) (run : PairRun seed (fresh_state turns m) place held e last now) where
+module _ (turns : ℕ) (duties : List Duty) (tail : TeamTail turns duties) (input words : List ℕ) (place last : Place) (m : Model) (held : Option (List ℕ)) (e : Result (Unit {0}) Halt) (now : Option (List ℕ)) (behind : IsBehind input words place) (run : TeamRun duties (fresh_state turns m) place held e last now) where
   log_front : IsPrefix (inputs_of run.log) (split_of input).messages
-  log_front = front_read turns seed input words place last m held e now behind run
+  log_front = front_read turns duties tail input words place last m held e now behind run
 
   log_inputs : inputs_of run.entries ≡ inputs_of run.log
   log_inputs =
-      let o = opened turns seed m place held e last now run in
+      let o = opened turns duties m place held e last now run in
       sym o.inputs
 
   log_cut : IsWrittenInPart m run.log run.entries held now → IsCutShort m run.log held now
   log_cut cut = cut_short m run.log run.entries held now log_inputs cut
 
-  abbrev has_begun : IsModelText words m → HasBegun (pair_run turns seed) input
+  abbrev has_begun : IsModelText words m → HasBegun (team_run turns duties tail) input
   has_begun accepted = record {
     model = m;
     log = run.log;
     words = words;
     text = behind.text;
     accepted = accepted;
-    says = (opened turns seed m place held e last now run).paired;
+    says = (opened turns duties m place held e last now run).team;
     unanswered = log_front.0;
     messages = sym log_front.1;
   }
@@ -328,28 +360,38 @@ module _ (turns seed : ℕ) (input words : List ℕ) (place last : Place) (m : M
     part_read (one_unread middle read faults) =
         at_next (subst (λ (is : List (Option (List ℕ))). WasGiven words is input) log_inputs (given_of input words place middle (inputs_of run.entries) behind read))
 
-    run_short : (accepted : IsModelText words m) → RunsShort m run.log run.entries place held last now → IsOutOfMemory (pair_run turns seed) input source_left held now
+    run_short : (accepted : IsModelText words m) → RunsShort m run.log run.entries place held last now → IsOutOfMemory (team_run turns duties tail) input source_left held now
     run_short accepted (in_lines read cut) = in_entry (has_begun accepted) (log_read read) (log_cut cut)
     run_short accepted (all_lines read going written) = behind_entry (has_begun accepted) (in_round (log_read read)) going written
     run_short accepted (behind_lines at read written) = behind_entry (has_begun accepted) (between_rounds (part_read read) at.0) at.1 written
 
--- ---- how a run of a pair ends
+-- ---- how a run of a team ends
 
-pub ends_paired : (turns seed : ℕ) → EndsOver (pair_run turns seed) (PairRuns turns seed)
-ends_paired turns seed kept start place input source_left held now m (Ok u) begun text run behind =
-    ends_done turns seed input begun.words start place m source_left held now (is_behind kept start input begun) (text begun.words begun.keeps) behind run
-ends_paired turns seed kept start place input source_left held now m (Err halt.Limit) begun text run behind =
-    let s = until halt.Limit turns seed input begun.words start place m source_left held now (is_behind kept start input begun) (text begun.words begun.keeps) behind run run.ends in
+-- one that does not come to its end
+pub ends_err : (turns : ℕ) (duties : List Duty) (tail : TeamTail turns duties) (kept : Option (Vec ℕ Global)) (start place : Place) (input : List ℕ) (source_left held now : Option (List ℕ)) (m : Model) (e : Halt)
+    → IsBegun (fresh_reader line_limit) (Some input) kept start.reader start.ahead → IsKeptModel kept m → TeamRun duties (fresh_state turns m) start held (Err e) place now → ahead place.reader.held source_left ≡ place.ahead
+    → EndedAs (team_run turns duties tail) input source_left held now (Err e)
+ends_err turns duties tail kept start place input source_left held now m halt.Limit begun text run behind =
+    let s = until halt.Limit turns duties tail input begun.words start place m source_left held now (is_behind kept start input begun) (text begun.words begun.keeps) behind run run.ends in
     record { lines = s.lines; left = s.left; rest = s.rest; gave = s.gave; why = s.why refl; source = s.past refl; asked = inr s.waits }
-ends_paired turns seed kept start place input source_left held now m (Err halt.Read) begun text run behind =
-    let s = until halt.Read turns seed input begun.words start place m source_left held now (is_behind kept start input begun) (text begun.words begun.keeps) behind run run.ends in
+ends_err turns duties tail kept start place input source_left held now m halt.Read begun text run behind =
+    let s = until halt.Read turns duties tail input begun.words start place m source_left held now (is_behind kept start input begun) (text begun.words begun.keeps) behind run run.ends in
     record { lines = s.lines; left = s.left; rest = s.rest; gave = s.gave; source = s.source refl; asked = inr s.waits }
-ends_paired turns seed kept start place input source_left held now m (Err halt.Full) begun text run behind =
-    ends_full turns seed input begun.words start place m source_left held now (is_behind kept start input begun) (text begun.words begun.keeps) behind run
-ends_paired turns seed kept start place input source_left held now m (Err halt.Write) begun text run behind =
+ends_err turns duties tail kept start place input source_left held now m halt.Full begun text run behind =
+    ends_full turns duties tail input begun.words start place m source_left held now (is_behind kept start input begun) (text begun.words begun.keeps) behind run
+ends_err turns duties tail kept start place input source_left held now m halt.Write begun text run behind =
     let before = is_behind kept start input begun in
-    in_journal (has_begun turns seed input begun.words start place m held (Err halt.Write) now before run (text begun.words begun.keeps))
-    (log_read turns seed input begun.words start place m held (Err halt.Write) now before run source_left behind run.ends.read)
-    (log_cut turns seed input begun.words start place m held (Err halt.Write) now before run run.ends.written)
-ends_paired turns seed kept start place input source_left held now m (Err halt.Memory) begun text run behind =
-    run_short turns seed input begun.words start place m held (Err halt.Memory) now (is_behind kept start input begun) run source_left behind (text begun.words begun.keeps) run.ends
+    in_journal (has_begun turns duties tail input begun.words start place m held (Err halt.Write) now before run (text begun.words begun.keeps))
+    (log_read turns duties tail input begun.words start place m held (Err halt.Write) now before run source_left behind run.ends.read)
+    (log_cut turns duties tail input begun.words start place m held (Err halt.Write) now before run run.ends.written)
+ends_err turns duties tail kept start place input source_left held now m halt.Memory begun text run behind =
+    run_short turns duties tail input begun.words start place m held (Err halt.Memory) now (is_behind kept start input begun) run source_left behind (text begun.words begun.keeps) run.ends
+
+-- a pair
+pub ends_paired : (turns seed : ℕ) → EndsOver (pair_run turns seed) (ModelRunsAs (team.Pair seed) turns)
+ends_paired turns seed kept start place input source_left held now m (Ok u) begun text run behind =
+    let duties = pair_of seed 1 in
+    let d = ends_done turns duties (no_tail turns duties) input begun.words start place m source_left held now (is_behind kept start input begun) (text begun.words begun.keeps) behind run in
+    done_with (pair_run turns seed) input source_left held now d.done d.written
+ends_paired turns seed kept start place input source_left held now m (Err e) begun text run behind =
+    ends_err turns (pair_of seed 1) (no_tail turns (pair_of seed 1)) kept start place input source_left held now m e begun text run behind

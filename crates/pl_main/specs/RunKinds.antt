@@ -1,4 +1,4 @@
--- The two kinds of run: of one thread, and of a planner and an executive in threads of their own.
+-- The kinds of run: of one thread, and of an executive and planners in threads of their own.
 use Rattle.std.specs.Prelude.{◌≡◌, ℕ, List, [], ◌∷◌, ◌++◌, true, Option}
 use Rattle.pl_model.specs.declared.whole.Model.{Model}
 use Rattle.pl_entry.specs.declared.entry.Entry.{Entry}
@@ -8,9 +8,15 @@ use Rattle.pl_acts.specs.Items.{entries_in}
 use Rattle.pl_acts.specs.Roles.{is_input}
 use Rattle.pl_pair.specs.Served.{AreOf}
 use Rattle.pl_pair.specs.Chosen.{AreChosen}
+use Rattle.pl_marks.specs.Marks.{marks_of}
+use Rattle.pl_pair.specs.declared.duty.Duty.{Duty}
 use Rattle.pl_pair.specs.Runs.{pair_of, History}
+use Rattle.pl_many.specs.CrewRuns.{crew_of}
+use Rattle.pl_many.specs.Tallies.{lines_of}
 use Rattle.pl_main.specs.Solo.{Rule, FollowsAll, IsSoloEvent, IsAheadEvent}
 use Rattle.pl_main.specs.Top.{program_options, HasRead, WasGiven}
+use Rattle.pl_main.specs.declared.command.Team.{Team}
+use Rattle.pl_main.specs.declared.command.Team.TheVariants as team
 use Rattle.pl_main.specs.Endings.{RunKind}
 
 -- ---- one thread
@@ -32,6 +38,7 @@ abbrev pub run_by : Rule → ℕ → RunKind
 run_by R turns = record {
   log = IsRunBy R turns;
   done_log = IsRunBy R turns;
+  tail = λ m log says. [];
   pause = λ words m log unanswered input source_left. IsBetweenRounds words m log input;
 }
 
@@ -43,35 +50,67 @@ solo_run turns = run_by IsSoloEvent turns
 abbrev pub look_run : ℕ → RunKind
 look_run turns = run_by IsAheadEvent turns
 
--- ---- a planner and an executive in threads of their own
+-- ---- an executive and planners in threads of their own
 
--- A legal log that was opened with the turns of the words and the limits of the program. Behind the open entry, inputs are the feeder's own entries, fixes and rests the planner's,
--- commits, dispatches and closes the executive's. Each of the planner's is what its chooser, made from the seed, proposes in the world before it, or a rest, and each of the executive's what it chooses there.
-pub record IsPaired (turns seed : ℕ) (m : Model) (log : List Entry) : Type 0 where
+-- The log of a run by a feeder, which is the thread that reads the messages, and by workers with these duties, each in a thread
+-- of its own. It was opened with the turns of the words and the limits of the program, it is legal (`history.legal`), and each
+-- entry behind the open one was made by exactly one of them (`history`): the inputs by the feeder, the repairs and the rests by a
+-- planner, the commits, dispatches and closes by the executive. A planner's repair is what its chooser, made from the seed of its
+-- duty, proposes in the world behind some front of the log, which is the world that the planner had looked at. The executive's
+-- entry is what it chooses in the world before the entry (`chosen`).
+pub record IsTeamLog (turns : ℕ) (duties : List Duty) (m : Model) (log : List Entry) : Type 0 where
   pub entries : List Entry
   pub opened : log ≡ opening (program_options turns) ∷ entries
-  pub history : History (pair_of seed 1) m (opening (program_options turns) ∷ []) log
+  pub history : History duties m (opening (program_options turns) ∷ []) log
   pub chosen : AreChosen m (opening (program_options turns) ∷ []) entries
 
--- Such a log, of which the feeder's own entries are inputs and nothing else: nobody stopped the plan. The feeder had seen all of it.
-pub record IsPairedToEnd (turns seed : ℕ) (m : Model) (log : List Entry) : Type 0 where
-  pub paired : IsPaired turns seed m log
-  pub feeder : AreOf is_input paired.history.feeder
-  pub seen : entries_in paired.history.feeder_seen ≡ log
+-- Such a log of a run that was not stopped: the feeder made inputs, and nothing else. The feeder, which writes the journal, had
+-- seen all of the log at the end.
+pub record IsTeamLogToEnd (turns : ℕ) (duties : List Duty) (m : Model) (log : List Entry) : Type 0 where
+  pub team : IsTeamLog turns duties m log
+  pub feeder : AreOf is_input team.history.feeder
+  pub seen : entries_in team.history.feeder_seen ≡ log
 
--- How far was read where memory ran out for the message behind these: it is the last line that was asked for. Or memory ran out while it was read, and then nothing is said of what the source has left.
+-- Memory ran out for the message that follows these. Either it was read, and no line behind it was asked for; or memory ran out
+-- while it was read, and then nothing is said of what the source has left.
 pub data ReadsInPart (words : List ℕ) (messages unanswered : List (Option (List ℕ))) (input : List ℕ) (source_left : Option (List ℕ)) : Type 0 where
   to_next : (next : Option (List ℕ)) (more : List (Option (List ℕ))) → unanswered ≡ next ∷ more → HasRead words (messages ++ next ∷ []) input source_left → ReadsInPart words messages unanswered input source_left
   at_next : WasGiven words messages input → ReadsInPart words messages unanswered input source_left
 
--- Memory ran out within a round, and the last line that was asked for is the last message; or between two rounds, for the next message.
+-- Memory ran out within a round, and no line behind the round's message was asked for; or it ran out between two rounds, for the
+-- message of the next one.
 pub data IsWithinOrBetween (words : List ℕ) (m : Model) (log : List Entry) (unanswered : List (Option (List ℕ))) (input : List ℕ) (source_left : Option (List ℕ)) : Type 0 where
   in_round : HasRead words (inputs_of log) input source_left → IsWithinOrBetween words m log unanswered input source_left
   between_rounds : ReadsInPart words (inputs_of log) unanswered input source_left → (world_of m log).closed ≡ true → IsWithinOrBetween words m log unanswered input source_left
 
-abbrev pub pair_run : (turns seed : ℕ) → RunKind
-pair_run turns seed = record {
-  log = IsPaired turns seed;
-  done_log = IsPairedToEnd turns seed;
+-- what is written behind the journal of a run that is done
+abbrev pub TeamTail : ℕ → List Duty → Type 0
+TeamTail turns duties = (m : Model) (log : List Entry) → IsTeamLogToEnd turns duties m log → List ℕ
+
+abbrev pub team_run : (turns : ℕ) (duties : List Duty) → TeamTail turns duties → RunKind
+team_run turns duties tail = record {
+  log = IsTeamLog turns duties;
+  done_log = IsTeamLogToEnd turns duties;
+  tail = tail;
   pause = IsWithinOrBetween;
 }
+
+abbrev pub no_tail : (turns : ℕ) (duties : List Duty) → TeamTail turns duties
+no_tail turns duties m log says = []
+
+-- the run of one planner, behind whose journal nothing is written
+abbrev pub pair_run : (turns seed : ℕ) → RunKind
+pair_run turns seed = team_run turns (pair_of seed 1) (no_tail turns (pair_of seed 1))
+
+-- A line for each planner, by number: how many entries it made, and how many of them are repairs that were answered `ok`.
+abbrev pub planner_lines : (turns planners seed : ℕ) → TeamTail turns (crew_of planners seed 1)
+planner_lines turns planners seed m log says = lines_of planners (marks_of says.team.history.signs.by) log
+
+-- the run of several planners, behind whose journal stand their lines
+abbrev pub crew_run : (turns planners seed : ℕ) → RunKind
+crew_run turns planners seed = team_run turns (crew_of planners seed 1) (planner_lines turns planners seed)
+
+-- the kind of run of a team
+abbrev pub run_of : Team → ℕ → RunKind
+run_of (team.Pair seed) turns = pair_run turns seed
+run_of (team.Crew planners seed) turns = crew_run turns planners seed

@@ -1,5 +1,5 @@
 -- A run over a model, and over the text of one.
-use Rattle.std.specs.Prelude.{◌≡◌, ℕ, List, [], ◌∷◌, false, Option, None, Result, Ok, Err}
+use Rattle.std.specs.Prelude.{◌≡◌, ◌≤◌, ℕ, List, [], ◌∷◌, false, Option, None, Result, Ok, Err, ⊤}
 use Rattle.std.specs.declared.vec.Vec.{Vec}
 use Rattle.std.specs.declared.alloc.Global.{Global}
 use Rattle.pl_io.specs.Writes.{AppendsFront}
@@ -21,6 +21,9 @@ use Rattle.pl_main.specs.Solo.{Rule}
 use Rattle.pl_main.specs.Plays.{AnswersAllOrStops}
 use Rattle.pl_main.specs.Top.{program_options, model_ok_line}
 use Rattle.pl_pair.specs.Runs.{PairRun}
+use Rattle.pl_many.specs.CrewRuns.{CrewRun}
+use Rattle.pl_main.specs.declared.command.Team.{Team}
+use Rattle.pl_main.specs.declared.command.Team.TheVariants as team
 
 abbrev pub fresh_state : ℕ → Model → State
 fresh_state turns m = record { spoiled = false; model = m; log = opening (program_options turns) ∷ []; world = fresh_world m (program_options turns) }
@@ -58,9 +61,19 @@ ModelRuns R turns model start held (Err halt.Write) place now =
 ModelRuns R turns model start held (Err halt.Memory) place now =
     ModelBreaks R halt.Memory turns model start held place now
 
--- what a run of a planner and an executive comes to over a model
-abbrev pub PairRuns : (turns seed : ℕ) → Model → Place → Option (List ℕ) → Result (Unit {0}) Halt → Place → Option (List ℕ) → Type 0
-PairRuns turns seed model start held r place now = PairRun seed (fresh_state turns model) start held r place now
+-- what a team does with a machine
+abbrev pub RunsAs : Team → State → Place → Option (List ℕ) → Result (Unit {0}) Halt → Place → Option (List ℕ) → Type 0
+RunsAs (team.Pair seed) start place held r behind now = PairRun seed start place held r behind now
+RunsAs (team.Crew planners seed) start place held r behind now = CrewRun planners seed start place held r behind now
+
+-- the seed and the number of the planners of a crew are within their bounds
+abbrev pub IsTeam : Team → Type 0
+IsTeam (team.Pair seed) = ⊤
+IsTeam (team.Crew planners seed) = (2 ≤ planners) × (planners ≤ 8) × (seed ≤ 999999999999999999)
+
+-- what it comes to over a model
+abbrev pub ModelRunsAs : Team → ℕ → Model → Place → Option (List ℕ) → Result (Unit {0}) Halt → Place → Option (List ℕ) → Type 0
+ModelRunsAs t turns model start held r place now = RunsAs t (fresh_state turns model) start held r place now
 
 -- what the text that is kept is
 abbrev pub AcceptsKept : Option (Vec ℕ Global) → Accepted → Type 0

@@ -130,7 +130,7 @@ statuses_of task.Forecast = 0 ∷ 3 ∷ 4 ∷ 5 ∷ 6 ∷ 8 ∷ 9 ∷ []
 statuses_of (task.Improve steps) = 0 ∷ 3 ∷ 4 ∷ 5 ∷ 6 ∷ 8 ∷ 9 ∷ []
 statuses_of (task.Demo goals) = 0 ∷ 5 ∷ 7 ∷ 9 ∷ []
 
--- The statuses that a run of a pair can end with, and a run that looks ahead.
+-- The statuses that a run of a pair or a crew can end with, and a run that looks ahead.
 abbrev pub pair_statuses : List ℕ
 pair_statuses = 0 ∷ 3 ∷ 4 ∷ 5 ∷ 6 ∷ 7 ∷ 9 ∷ []
 
@@ -141,4 +141,4 @@ unfoldable pub IsPairStatus : ℕ → Type 0
 IsPairStatus status = Contains pair_statuses status
 
 abbrev pub usage_line : List ℕ
-usage_line = codes "usage: run solo N | run pair N SEED | check | replay | report | demo N | flex ID | forecast | improve N" ++ 10 ∷ []
+usage_line = codes "usage: run solo N | run pair N SEED | check | replay | report | demo N | run crew N P SEED | flex ID | forecast | improve N" ++ 10 ∷ []

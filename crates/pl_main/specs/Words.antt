@@ -1,4 +1,4 @@
--- The forms of the command line: `run solo N`, `run pair N SEED`, `check`, `replay`, `report`, `demo N`, `flex ID`, `forecast` and `improve N`.
+-- The forms of the command line: `run solo N`, `run pair N SEED`, `run crew N P SEED`, `check`, `replay`, `report`, `demo N`, `flex ID`, `forecast` and `improve N`.
 use Rattle.std.specs.Prelude.{ℕ, List, [], ◌∷◌, ◌&&◌, nat_le, if◌then◌else◌, Option, Some, None, codes, map}
 use Rattle.std.specs.Str.{bytes_eq}
 use Rattle.std.specs.String.{string_bytes}
@@ -19,6 +19,14 @@ abbrev pub pair_by : Option ℕ → Option ℕ → Option Command
 pair_by None seed = None
 pair_by (Some turns) None = None
 pair_by (Some turns) (Some seed) = if nat_le 1 turns && nat_le turns 1000 then Some (command.Pair turns seed) else None
+
+-- the turns of a round, the planners of a crew, from 2 to 8, and its seed
+abbrev pub crew_by : Option ℕ → Option ℕ → Option ℕ → Option Command
+crew_by None planners seed = None
+crew_by (Some turns) None seed = None
+crew_by (Some turns) (Some planners) None = None
+crew_by (Some turns) (Some planners) (Some seed) =
+    if nat_le 1 turns && nat_le turns 1000 && (nat_le 2 planners && nat_le planners 8) then Some (command.Crew turns planners seed) else None
 
 -- the goals of the demonstration, from 1 to 4,000
 abbrev pub goals_by : Option ℕ → Option Command
@@ -53,6 +61,8 @@ command_in (word ∷ number ∷ []) =
     else None
 command_in (run ∷ solo ∷ turns ∷ []) = if bytes_eq run (codes "run") && bytes_eq solo (codes "solo") then turns_by (number_in turns) else None
 command_in (run ∷ pair ∷ turns ∷ seed ∷ []) = if bytes_eq run (codes "run") && bytes_eq pair (codes "pair") then pair_by (number_in turns) (number_in seed) else None
+command_in (run ∷ crew ∷ turns ∷ planners ∷ seed ∷ []) =
+    if bytes_eq run (codes "run") && bytes_eq crew (codes "crew") then crew_by (number_in turns) (number_in planners) (number_in seed) else None
 command_in _ = None
 
 -- what the words ask for, where they are one of the forms

@@ -2,7 +2,8 @@
 ghost use Rattle.std.specs.Prelude.{ℕ, List, Option};
 ghost use Rattle.pl_main.specs.Top.{line_limit, IsFound, IsNoModel, IsPastHead};
 ghost use Rattle.pl_main.specs.Endings.{IsDone, IsPastLimit, IsFull};
-ghost use Rattle.pl_main.specs.RunKinds.{solo_run, look_run, pair_run};
+ghost use Rattle.pl_main.specs.RunKinds.{solo_run, look_run, run_of};
+ghost use Rattle.pl_main.specs.declared.command.Team.{Team};
 ghost use Rattle.pl_main.specs.Demos.{IsShown, IsShownInPart};
 ghost use Rattle.pl_main.specs.declared.form.Form.{Form};
 ghost use Rattle.pl_main.specs.Replays.{journal_line_limit, IsRightJournal, IsWrongJournal, IsRefused, IsPastJournal};
@@ -10,7 +11,7 @@ ghost use Rattle.pl_main.specs.Limits.{IsWithinLimits};
 
 /// The causes of the statuses 0, 3, 6 and 7 of a run stand one at a time, whatever was written, and
 /// so do those of the statuses 0, 3 and 6 of a check, of 0, 3, 6 and 8 where a journal is read, and of 0 and 7 of a
-/// demonstration. Of a pair, and of a run that looks ahead, that of 3 stands apart from those of 0, 6 and 7, and those of 0 and 6 from one another. An input within the limits has no cause of 6.
+/// demonstration. Of a pair or a crew, and of a run that looks ahead, that of 3 stands apart from those of 0, 6 and 7, and those of 0 and 6 from one another. An input within the limits has no cause of 6.
 pub fn statuses_are_told_apart()
     ensures done_not_refused { (turns : ℕ) (input : List ℕ) (left held now other_left other_held other_now : Option (List ℕ))
         → IsDone (solo_run turns) input left held now → IsNoModel line_limit input other_left other_held other_now → ⊥ }
@@ -32,14 +33,14 @@ pub fn statuses_are_told_apart()
         → IsNoModel line_limit input left held now → IsPastHead line_limit input other_left other_held other_now → ⊥ }
     ensures shown_not_full { (goals : ℕ) (held now other_held other_now : Option (List ℕ))
         → IsShown goals held now → IsShownInPart goals other_held other_now → ⊥ }
-    ensures pair_done_not_refused { (turns seed : ℕ) (input : List ℕ) (left held now other_left other_held other_now : Option (List ℕ))
-        → IsDone (pair_run turns seed) input left held now → IsNoModel line_limit input other_left other_held other_now → ⊥ }
-    ensures pair_done_not_past { (turns seed : ℕ) (input : List ℕ) (left held now other_left other_held other_now : Option (List ℕ))
-        → IsDone (pair_run turns seed) input left held now → IsPastLimit (pair_run turns seed) input other_left other_held other_now → ⊥ }
-    ensures pair_refused_not_past { (turns seed : ℕ) (input : List ℕ) (left held now other_left other_held other_now : Option (List ℕ))
-        → IsNoModel line_limit input left held now → IsPastLimit (pair_run turns seed) input other_left other_held other_now → ⊥ }
-    ensures pair_refused_not_full { (turns seed : ℕ) (input : List ℕ) (left held now other_left other_held other_now : Option (List ℕ))
-        → IsNoModel line_limit input left held now → IsFull (pair_run turns seed) input other_left other_held other_now → ⊥ }
+    ensures team_done_not_refused { (team : Team) (turns : ℕ) (input : List ℕ) (left held now other_left other_held other_now : Option (List ℕ))
+        → IsDone (run_of team turns) input left held now → IsNoModel line_limit input other_left other_held other_now → ⊥ }
+    ensures team_done_not_past { (team : Team) (turns : ℕ) (input : List ℕ) (left held now other_left other_held other_now : Option (List ℕ))
+        → IsDone (run_of team turns) input left held now → IsPastLimit (run_of team turns) input other_left other_held other_now → ⊥ }
+    ensures team_refused_not_past { (team : Team) (turns : ℕ) (input : List ℕ) (left held now other_left other_held other_now : Option (List ℕ))
+        → IsNoModel line_limit input left held now → IsPastLimit (run_of team turns) input other_left other_held other_now → ⊥ }
+    ensures team_refused_not_full { (team : Team) (turns : ℕ) (input : List ℕ) (left held now other_left other_held other_now : Option (List ℕ))
+        → IsNoModel line_limit input left held now → IsFull (run_of team turns) input other_left other_held other_now → ⊥ }
     ensures ahead_done_not_refused { (turns : ℕ) (input : List ℕ) (left held now other_left other_held other_now : Option (List ℕ))
         → IsDone (look_run turns) input left held now → IsNoModel line_limit input other_left other_held other_now → ⊥ }
     ensures ahead_done_not_past { (turns : ℕ) (input : List ℕ) (left held now other_left other_held other_now : Option (List ℕ))
@@ -62,8 +63,8 @@ pub fn statuses_are_told_apart()
         → IsRefused form input left held now → IsPastJournal form input other_left other_held other_now → ⊥ }
     ensures within { (turns : ℕ) (input : List ℕ) (left held now : Option (List ℕ))
         → IsWithinLimits line_limit input → IsPastLimit (solo_run turns) input left held now → ⊥ }
-    ensures pair_within { (turns seed : ℕ) (input : List ℕ) (left held now : Option (List ℕ))
-        → IsWithinLimits line_limit input → IsPastLimit (pair_run turns seed) input left held now → ⊥ }
+    ensures team_within { (team : Team) (turns : ℕ) (input : List ℕ) (left held now : Option (List ℕ))
+        → IsWithinLimits line_limit input → IsPastLimit (run_of team turns) input left held now → ⊥ }
     ensures ahead_within { (turns : ℕ) (input : List ℕ) (left held now : Option (List ℕ))
         → IsWithinLimits line_limit input → IsPastLimit (look_run turns) input left held now → ⊥ }
     ensures head_within { (input : List ℕ) (left held now : Option (List ℕ))

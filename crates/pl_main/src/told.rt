@@ -3,7 +3,7 @@ use pl_prefs::Prefer;
 use pl_rate::Rate;
 
 /// What is to be told of a legal journal, by what was asked and what stood before the journal.
-#[derive(Debug, Drop)]
+#[derive(Drop)]
 pub enum Told {
     Verdict,
     Report,

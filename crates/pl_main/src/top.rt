@@ -3,12 +3,13 @@ ghost use Rattle.pl_io.specs.Faults.{Rose};
 ghost use Rattle.pl_io.specs.Writes.{AppendsFront};
 ghost use Rattle.pl_main.specs.Words.{command_of};
 ghost use Rattle.pl_main.specs.Limits.{Completes, CompletesRun};
-ghost use Rattle.pl_main.specs.RunKinds.{pair_run};
+ghost use Rattle.pl_main.specs.Runs.{IsTeam};
+ghost use Rattle.pl_main.specs.RunKinds.{pair_run, crew_run, run_of};
 ghost use Rattle.pl_main.specs.Statuses.{IsTask, IsStatusOf, IsPairStatus, status_of, status_of_journal, usage_line, SaysKnown, SaysEndedKnown};
 ghost use Rattle.pl_journal.specs.Written.{Adds};
 
 use crate::check::check;
-use crate::command::{Command, Task};
+use crate::command::{Command, Task, Team};
 use crate::demo::demo;
 use crate::form::Form;
 use crate::journals::read_back;
@@ -101,39 +102,40 @@ fn usage<O: Sink>(out: &mut O) -> u8
 {
     match put(
         out,
-        b"usage: run solo N | run pair N SEED | check | replay | report | demo N | flex ID | forecast | improve N\n",
+        b"usage: run solo N | run pair N SEED | check | replay | report | demo N | run crew N P SEED | flex ID | forecast | improve N\n",
     ) {
         Ok(()) => 2,
         Err(_) => 5,
     }
 }
 
-/// Does the job of a planner and an executive in threads of their own, and answers its status.
+/// Does the job of a team in threads of its own, and answers its status.
 #[tactic(auto, using(crate::proofs::Topping::says_of, crate::proofs::Jobs::pair_status))]
-fn pair<R: Threads + Wait + Sync, I: Source, O: Sink, G: Gate + Sync>(
+fn team_status<R: Threads + Wait + Sync, I: Source, O: Sink, G: Gate + Sync>(
     rt: &R,
     alloc: Global,
     turns: u32,
-    seed: u64,
+    team: Team,
     input: &mut I,
     out: &mut O,
     gate: &G,
 ) -> u8
-    requires { (1 ≤ turns) × (turns ≤ 1000) }
+    requires turns { (1 ≤ turns) × (turns ≤ 1000) }
+    requires team { IsTeam team }
     ensures status { IsPairStatus result }
     ensures read { result ≡ 4 → Rose (I.faults input.old) (I.faults input.new) }
     ensures write { result ≡ 5 → Rose (O.faults out.old) (O.faults out.new) }
-    ensures says { SaysEndedKnown (pair_run turns seed) (I.left input.old) (I.left input.new) (O.held out.old) (O.held out.new) result }
+    ensures says { SaysEndedKnown (run_of team turns) (I.left input.old) (I.left input.new) (O.held out.old) (O.held out.new) result }
     ensures complete { (Rose (I.faults input.old) (I.faults input.new) → ⊥)
         → (Rose (O.faults out.old) (O.faults out.new) → ⊥)
-        → CompletesRun (pair_run turns seed) (I.left input.old) result }
+        → CompletesRun (run_of team turns) (I.left input.old) result }
 {
-    status_of(paired(rt, alloc, turns, seed, input, out, gate))
+    status_of(paired(rt, alloc, turns, team, input, out, gate))
 }
 
-/// Does what the words behind the program's name ask for, and answers the program's status. `run pair N SEED` alone starts
-/// threads, and waits for them; the gate is called by these, and by nobody else.
-#[tactic(auto, using(crate::proofs::Topping::task_fits, crate::proofs::Topping::turns_fit))]
+/// Does what the words behind the program's name ask for, and answers the program's status. `run pair N SEED` and
+/// `run crew N P SEED` alone start threads, and wait for them; the gate is called by these, and by nobody else.
+#[tactic(auto, using(crate::proofs::Wording::task_fits, crate::proofs::Wording::pair_fits, crate::proofs::Wording::crew_fits, crate::proofs::Jobs::pair_not_usage, crate::proofs::Jobs::job_not_usage))]
 pub fn run<R: Threads + Wait + Sync, I: Source, O: Sink, G: Gate + Sync>(
     rt: &R,
     alloc: Global,
@@ -150,6 +152,7 @@ pub fn run<R: Threads + Wait + Sync, I: Source, O: Sink, G: Gate + Sync>(
     ensures usage_front { command_of words.now ≡ None → result ≡ 5 → AppendsFront (O.held out.old) (O.held out.new) usage_line }
     ensures status { (task : Task) → command_of words.now ≡ Some (Command.Alone task) → IsStatusOf task result }
     ensures pair_status { (turns seed : ℕ) → command_of words.now ≡ Some (Command.Pair turns seed) → IsPairStatus result }
+    ensures crew_status { (turns planners seed : ℕ) → command_of words.now ≡ Some (Command.Crew turns planners seed) → IsPairStatus result }
     ensures read { result ≡ 4 → Rose (I.faults input.old) (I.faults input.new) }
     ensures write { result ≡ 5 → Rose (O.faults out.old) (O.faults out.new) }
     ensures says { (task : Task) → command_of words.now ≡ Some (Command.Alone task)
@@ -164,10 +167,33 @@ pub fn run<R: Threads + Wait + Sync, I: Source, O: Sink, G: Gate + Sync>(
         → (Rose (I.faults input.old) (I.faults input.new) → ⊥)
         → (Rose (O.faults out.old) (O.faults out.new) → ⊥)
         → CompletesRun (pair_run turns seed) (I.left input.old) result }
+    ensures crew { (turns planners seed : ℕ) → command_of words.now ≡ Some (Command.Crew turns planners seed)
+        → SaysEndedKnown (crew_run turns planners seed) (I.left input.old) (I.left input.new) (O.held out.old) (O.held out.new) result }
+    ensures crew_complete { (turns planners seed : ℕ) → command_of words.now ≡ Some (Command.Crew turns planners seed)
+        → (Rose (I.faults input.old) (I.faults input.new) → ⊥)
+        → (Rose (O.faults out.old) (O.faults out.new) → ⊥)
+        → CompletesRun (crew_run turns planners seed) (I.left input.old) result }
 {
     match read_words(words) {
         None => usage(out),
-        Some(Command::Pair { turns, seed }) => { pair(rt, alloc, turns, seed, input, out, gate) }
+        Some(Command::Pair { turns, seed }) => {
+            team_status(rt, alloc, turns, Team::Pair { seed }, input, out, gate)
+        }
+        Some(
+            Command::Crew {
+                turns,
+                planners,
+                seed,
+            },
+        ) => team_status(
+            rt,
+            alloc,
+            turns,
+            Team::Crew { planners, seed },
+            input,
+            out,
+            gate,
+        ),
         Some(Command::Alone(task)) => run_solo(alloc, &task, input, out),
     }
 }

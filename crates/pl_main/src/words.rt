@@ -1,5 +1,5 @@
 ghost use Rattle.std.specs.Prelude.{◌≡◌};
-ghost use Rattle.pl_main.specs.Words.{turns_by, pair_by, goals_by, flex_by, improve_by, single_word, command_of};
+ghost use Rattle.pl_main.specs.Words.{turns_by, pair_by, crew_by, goals_by, flex_by, improve_by, single_word, command_of};
 
 use crate::command::{Command, Task};
 use crate::number::read_number;
@@ -23,6 +23,22 @@ fn pair(turns: Option<u64>, seed: Option<u64>) -> Option<Command>
             turns: turns as u32,
             seed,
         }),
+        _ => None,
+    }
+}
+
+fn crew(turns: Option<u64>, planners: Option<u64>, seed: Option<u64>) -> Option<Command>
+    ensures { result ≡ crew_by turns planners seed }
+{
+    match (turns, planners, seed) {
+        (Some(turns), Some(planners), Some(seed))
+            if 1 <= turns && turns <= 1000 && (2 <= planners && planners <= 8) => {
+            Some(Command::Crew {
+                turns: turns as u32,
+                planners: planners as u8,
+                seed,
+            })
+        }
         _ => None,
     }
 }
@@ -74,7 +90,7 @@ fn demo(goals: Option<u64>) -> Option<Command>
 }
 
 /// What the words behind the program's name ask for: `run solo N`, N from 1 to 1,000, `run pair N SEED`, SEED of at most 18
-/// digits, `check`, `replay`, `report`, `demo N`, N from 1 to 4,000, `flex ID`, ID of at most 18
+/// digits, `run crew N P SEED`, P from 2 to 8, `check`, `replay`, `report`, `demo N`, N from 1 to 4,000, `flex ID`, ID of at most 18
 /// digits, `forecast`, or `improve N`, N from 1 to 1,000.
 #[tactic(auto, unfolding(crate::specs::Words::command_of))]
 pub fn read_words(words: &[String]) -> Option<Command>
@@ -103,6 +119,17 @@ pub fn read_words(words: &[String]) -> Option<Command>
         [run, pair_word, turns, seed] => {
             if run.as_bytes() == b"run".as_slice() && pair_word.as_bytes() == b"pair".as_slice() {
                 pair(read_number(turns.as_bytes()), read_number(seed.as_bytes()))
+            } else {
+                None
+            }
+        }
+        [run, crew_word, turns, planners, seed] => {
+            if run.as_bytes() == b"run".as_slice() && crew_word.as_bytes() == b"crew".as_slice() {
+                crew(
+                    read_number(turns.as_bytes()),
+                    read_number(planners.as_bytes()),
+                    read_number(seed.as_bytes()),
+                )
             } else {
                 None
             }

@@ -16,6 +16,12 @@ slot_of Feeder = 0
 slot_of Executive = 1
 slot_of (Planner k) = k + 1
 
+-- a planner's number, and 0 for all others
+abbrev pub number_of : Author → ℕ
+number_of Feeder = 0
+number_of Executive = 0
+number_of (Planner k) = k
+
 abbrev pub is_same : Author → Author → Bool
 is_same Feeder Feeder = true
 is_same Executive Executive = true

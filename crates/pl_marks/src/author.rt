@@ -1,5 +1,5 @@
 ghost use Rattle.std.specs.Prelude.{◌≡◌, ◌<◌};
-ghost use Rattle.pl_marks.specs.Authors.{IsAuthor, slot_of};
+ghost use Rattle.pl_marks.specs.Authors.{IsAuthor, slot_of, number_of};
 
 use pl_lists::Copied;
 use std::alloc::{AllocError, Global};
@@ -24,6 +24,16 @@ impl Author {
             Author::Feeder => 0,
             Author::Executive => 1,
             Author::Planner(number) => usize::from(number) + 1,
+        }
+    }
+
+    /// What a gate is told of who acts: a planner's number, and 0 for all others.
+    pub fn worker(self) -> u8
+        ensures { result ≡ number_of self }
+    {
+        match self {
+            Author::Feeder | Author::Executive => 0,
+            Author::Planner(number) => number,
         }
     }
 }

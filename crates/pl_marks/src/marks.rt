@@ -1,7 +1,7 @@
 //! Marks, which are a function of who made the entries.
 ghost use Rattle.std.specs.Prelude.{◌≡◌, ◌+◌, ◌<◌, ◌≤◌, ◌^◌, [], ◌∷◌, ◌++◌, List, length, OnOk, OnErr};
 ghost use Rattle.pl_marks.specs.declared.author.Author.{Author};
-ghost use Rattle.pl_marks.specs.Authors.{IsAuthor, times};
+ghost use Rattle.pl_marks.specs.Authors.{IsAuthor};
 ghost use Rattle.pl_marks.specs.Marks.{marks_of, AreFew};
 
 use crate::author::Author;
@@ -71,21 +71,6 @@ impl Marks {
             let slot = mark.author.slot();
             self.counts[slot] -= 1;
         }
-    }
-
-    /// How many entries this author has made.
-    pub fn count_of(&self, author: Author) -> u32
-        requires { IsAuthor author }
-        ensures { result ≡ times author self.now.authors }
-    {
-        self.counts[author.slot()]
-    }
-
-    /// The marks in their order.
-    pub fn as_slice(&self) -> &[Mark]
-        ensures { result.now ≡ marks_of self.now }
-    {
-        &self.marks
     }
 
     /// The marks in their order, none of them copied.

@@ -5,7 +5,7 @@ use pl_lists::{Copied, Items};
 use std::alloc::{AllocError, Global};
 
 /// A child of a decomposition. A binding gives a parameter of the child an expression over the parent's parameters.
-#[derive(Debug, Drop)]
+#[derive(Drop)]
 pub struct Slot {
     pub name: Name,
     pub kind: u32,
@@ -23,7 +23,7 @@ impl Copied for Slot {
 }
 
 /// The second point lies from `low` to `high` after the first. `first` and `second` are slot numbers, `None` the parent.
-#[derive(Debug, Drop)]
+#[derive(Drop)]
 pub struct Order {
     pub first: Option<u32>,
     pub first_end: Point,
@@ -47,7 +47,7 @@ impl Copied for Order {
 }
 
 /// One way to decompose a kind. `offsets` are the slots' earliest starts after the parent's start.
-#[derive(Debug, Drop)]
+#[derive(Drop)]
 pub struct Alternative {
     pub slots: Items<Slot>,
     pub orders: Items<Order>,

@@ -2,7 +2,7 @@ use pl_lists::{Boxed, Copied};
 use std::alloc::{AllocError, Global};
 
 /// An operation on two whole numbers.
-#[derive(Clone, Copy, Debug, PartialEq, Eq)]
+#[derive(Clone, Copy, PartialEq, Eq)]
 pub enum Op {
     Add,
     Sub,
@@ -18,7 +18,7 @@ impl Copied for Op {
 }
 
 /// A whole-number expression; `Param` is the number of a parameter, counted from 0.
-#[derive(Debug, Drop)]
+#[derive(Drop)]
 pub enum Expr {
     Num(i64),
     Param(u8),

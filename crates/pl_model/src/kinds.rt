@@ -8,7 +8,7 @@ use pl_lists::{Copied, Items};
 use std::alloc::{AllocError, Global};
 
 /// A kind of activity. `least_duration` is the least value of the duration over all parameter values, at least 1.
-#[derive(Debug, Drop)]
+#[derive(Drop)]
 pub struct Kind {
     pub name: Name,
     pub params: Items<Param>,

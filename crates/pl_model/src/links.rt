@@ -3,7 +3,7 @@ use pl_lists::Copied;
 use std::alloc::{AllocError, Global};
 
 /// A temporal link: some activity of `kind` has its point `theirs` from `low` to `high` after the point `mine`.
-#[derive(Debug, Drop)]
+#[derive(Drop)]
 pub struct Link {
     pub mine: Point,
     pub kind: u32,

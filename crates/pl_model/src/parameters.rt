@@ -4,7 +4,7 @@ use pl_lists::Copied;
 use std::alloc::{AllocError, Global};
 
 /// Where a parameter's value comes from: a person sets it, with a default or none, or it follows from others.
-#[derive(Debug, Drop)]
+#[derive(Drop)]
 pub enum Origin {
     Free(Option<i64>),
     Dependent(Expr),
@@ -20,7 +20,7 @@ impl Copied for Origin {
 }
 
 /// A parameter of a kind, with its least and greatest value.
-#[derive(Debug, Drop)]
+#[derive(Drop)]
 pub struct Param {
     pub name: Name,
     pub low: i64,

@@ -3,7 +3,7 @@ use pl_lists::Copied;
 use std::alloc::{AllocError, Global};
 
 /// An end of an activity.
-#[derive(Clone, Copy, Debug, PartialEq, Eq)]
+#[derive(Clone, Copy, PartialEq, Eq)]
 pub enum Point {
     Start,
     End,
@@ -16,7 +16,7 @@ impl Copied for Point {
 }
 
 /// What an activity asks of a timeline, whose number comes first. `Put` and `Must` name a state by its number.
-#[derive(Debug, Drop)]
+#[derive(Drop)]
 pub enum Reservation {
     Take(u32, Expr),
     Raise(u32, Expr, Point),

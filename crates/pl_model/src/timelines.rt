@@ -4,7 +4,7 @@ use std::alloc::{AllocError, Global};
 
 /// A timeline: a capacity that activities use while they run, a level that they raise and lower for good, or a state.
 /// `any` allows every step between states; else `steps` has the allowed ones.
-#[derive(Debug, Drop)]
+#[derive(Drop)]
 pub enum Timeline {
     Capacity {
         name: Name,

@@ -4,7 +4,7 @@ use pl_lists::{Copied, Items};
 use std::alloc::{AllocError, Global};
 
 /// A whole model: the horizon and the lead in moments, and the timelines and kinds by number.
-#[derive(Debug, Drop)]
+#[derive(Drop)]
 pub struct Model {
     pub horizon: u32,
     pub lead: u32,

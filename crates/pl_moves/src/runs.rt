@@ -19,7 +19,7 @@ use pl_points::{Ledger, Steps};
 use std::alloc::{AllocError, Global};
 
 /// How many conflicts a move leaves, and how many each of those leaves that go on with it.
-#[derive(Debug, Drop)]
+#[derive(Drop)]
 pub struct RunCounts {
     pub first: u32,
     pub others: Vec<u32>,

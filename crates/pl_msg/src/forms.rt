@@ -10,7 +10,7 @@ use pl_text::Token;
 use std::alloc::Global;
 
 /// A goal as it is written, its names as tokens of the line.
-#[derive(Debug, Drop)]
+#[derive(Drop)]
 pub struct GoalForm {
     pub number: u64,
     pub kind: Token,

@@ -10,7 +10,7 @@ use pl_text::{Token, token_text};
 use std::alloc::Global;
 
 /// `NAME = VALUE` behind a goal. The name is a token of the line.
-#[derive(Clone, Copy, Debug)]
+#[derive(Clone, Copy)]
 pub struct Preset {
     pub name: Token,
     pub value: u64,

@@ -12,7 +12,7 @@ use pl_model::{Model, Name, Timeline};
 use pl_text::{Token, TokenKind, token_text};
 
 /// A value as it is written, a name as a token of the line.
-#[derive(Clone, Copy, Debug)]
+#[derive(Clone, Copy)]
 pub enum Value {
     Number(u64),
     Name(Token),

@@ -17,7 +17,7 @@ use Rattle.pl_input.specs.Reads.{ReadsLines, WhyKnown}
 use Rattle.pl_input.specs.Stops.{IsStuckKnown}
 use Rattle.pl_acts.specs.Roles.{is_input}
 use Rattle.pl_acts.specs.Items.{entries_in}
-use Rattle.pl_shared.specs.Plans.{PlanPass}
+use Rattle.pl_locked.specs.Plans.{PlanPass}
 use Rattle.pl_pair.specs.declared.cut.Cut.{Cut}
 use Rattle.pl_pair.specs.declared.cut.Cut.TheVariants as cut
 use Rattle.pl_input.specs.declared.halt.Halt.{Halt}
@@ -31,7 +31,7 @@ use Rattle.pl_pair.specs.Feeds.{Reads, unasked, asked, HandsOnMessages, refused}
 use Rattle.pl_pair.specs.declared.endings.Met.{Met}
 use Rattle.pl_pair.specs.Endings.{is_other, met_by, ended_of}
 use Rattle.pl_pair.specs.Joins.{refusals}
-use Rattle.pl_pair.specs.Runs.{InMessages, HadLimit, MayFault, WhyNone, IsCauseOf, Given, RunsFull, RunsShort, RunEnds, TeamRun}
+use Rattle.pl_pair.specs.Runs.{InMessages, HadLimit, MayFault, WhyNone, IsCauseOf, Given, RunsFull, RunsShort, RunEnds, RunsTo}
 use Rattle.pl_pair.proofs.Ending.{NoEnds}
 use Rattle.pl_pair.proofs.Saying.{told_front, told_lines, told_gave, messages_on, skip_blanks, none_left}
 use Rattle.pl_pair.proofs.Closing.{FeederList, stopped}
@@ -89,23 +89,27 @@ never_finished e is = cc
 -- a run with what is known of its history
 pub team_run : (r : Result (Unit {0}) Halt) (start : State) (first : PlanPass) (ws : List Worker) (joined : Joined start.model start.log first ws) (place : Place) (held now : Option (List ℕ)) (old mid : PlanPass) (end behind : Place)
     (tells : HandsOnMessages old place mid end) (list : FeederList tells.inputs (mine_of mid) (mine_of first)) → (r ≡ Ok tt → AreOf is_input (mine_of first) × (entries_in (seen_of first) ≡ joined.whole.log)) → (r ≡ Err halt.Full → ((met_by (refusals ws)).other) ≡ false)
-    → RunEnds r start.model joined.whole.log (entries start.model start.log first ws joined tells.inputs (mine_of mid) list) place held behind now → TeamRun joined.duties start place held r behind now
+    → RunEnds r start.model joined.whole.log (entries start.model start.log first ws joined tells.inputs (mine_of mid) list) place held behind now → RunsTo joined.whole.log joined.whole.stop.by joined.duties start place held r behind now
 unfolding history
 team_run r start first ws joined place held now old mid end behind tells list goes refuses ends =
     let m = start.model in
     let same = inputs_same m start.log first ws joined tells.inputs (mine_of mid) list in
     record {
-      log = joined.whole.log;
-      entries = entries m start.log first ws joined tells.inputs (mine_of mid) list;
-      begins = begins m start.log first ws joined tells.inputs (mine_of mid) list;
-      history = history m start.log first ws joined tells.inputs (mine_of mid) list;
-      chosen = chosen m start.log first ws joined tells.inputs (mine_of mid) list;
-      feeder_goes = λ e. (goes e).0;
-      feeder_saw_all = λ e. (goes e).1;
-      refused = λ e. ap (λ (os : List (Option Stop)). list_any is_other os) (mets_same ws) ∙ refuses e;
-      messages = subst (λ (is : List (Option (List ℕ))). InMessages place (λ messages. IsPrefix is messages)) (sym same)
-          (told_front old mid place end tells (world_of m joined.whole.log).done (ends_told m start.log first ws joined tells.inputs (mine_of mid) list));
-      ends = ends;
+      run = record {
+        log = joined.whole.log;
+        entries = entries m start.log first ws joined tells.inputs (mine_of mid) list;
+        begins = begins m start.log first ws joined tells.inputs (mine_of mid) list;
+        history = history m start.log first ws joined tells.inputs (mine_of mid) list;
+        chosen = chosen m start.log first ws joined tells.inputs (mine_of mid) list;
+        feeder_goes = λ e. (goes e).0;
+        feeder_saw_all = λ e. (goes e).1;
+        refused = λ e. ap (λ (os : List (Option Stop)). list_any is_other os) (mets_same ws) ∙ refuses e;
+        messages = subst (λ (is : List (Option (List ℕ))). InMessages place (λ messages. IsPrefix is messages)) (sym same)
+            (told_front old mid place end tells (world_of m joined.whole.log).done (ends_told m start.log first ws joined tells.inputs (mine_of mid) list));
+        ends = ends;
+      };
+      log_is = refl;
+      by_is = refl;
     }
 
 -- ---- no message was read

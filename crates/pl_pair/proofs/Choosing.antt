@@ -1,11 +1,12 @@
 -- Each commit, dispatch and close of a history is what the executive chooses there.
-use Rattle.std.proofs.Common.{◌≡◌, ◌≢◌, ℕ, zero, suc, ◌+◌, ◌≤◌, ◌<◌, List, [], ◌∷◌, ◌++◌, length, map, cond, nat_eq, Bool, true, false, Option, Some, None, slice_get, refl, sym, ◌∙◌, ap, subst, arith, inl, inr, append_assoc, eqb-true, length-append}
+use Rattle.std.proofs.Common.{◌≡◌, ◌≢◌, ℕ, zero, suc, ◌+◌, ◌-◌, ◌≤◌, ◌<◌, List, [], ◌∷◌, ◌++◌, length, map, cond, nat_eq, Bool, true, false, Option, Some, None, slice_get, refl, sym, ◌∙◌, ap, subst, arith, inl, inr, append_assoc, eqb-true, length-append}
 use Rattle.std.specs.List.{All}
 use Rattle.std.proofs.lemmas.List.{append-nil}
 use Rattle.std.proofs.lemmas.List.Sums.{sum_by-cons, sum_by-append}
 use Rattle.std.proofs.lemmas.List.Elements.{All-nil, All-cons, All-head, All-tail, All-append}
 use Rattle.std.proofs.lemmas.Option.{same_Some}
 use Rattle.pl_turn.specs.History.{IsEachOnce, StandsFrom, StandsIn, times_at, times_in}
+use Rattle.pl_marks.specs.declared.author.Author.{Author}
 use Rattle.pl_model.specs.declared.whole.Model.{Model}
 use Rattle.pl_entry.specs.declared.event.Event.{Event}
 use Rattle.pl_entry.specs.declared.event.Event.TheVariants as event
@@ -18,7 +19,7 @@ use Rattle.pl_acts.specs.declared.noted.Noted.{Noted}
 use Rattle.pl_acts.specs.declared.noted.Noted.TheVariants.{Opened, Made, Stopped}
 use Rattle.pl_acts.specs.declared.role.Role.{Role}
 use Rattle.pl_acts.specs.declared.role.Role.TheVariants.{Planner, Executive}
-use Rattle.pl_acts.specs.Items.{stop_items, items_of, entries_in, model_in, InWorld}
+use Rattle.pl_acts.specs.Items.{Signs, SignedEntry, made_of, with_authors, stop_items, items_of, entries_in, model_in, InWorld}
 use Rattle.pl_acts.specs.Roles.{is_input, is_repair, is_executed, is_entry, IsChosen}
 use Rattle.pl_acts.specs.Sights.{IsDueBy}
 use Rattle.pl_acts.specs.Making.{IsMadeAt, MakesAll}
@@ -54,9 +55,9 @@ input_apart event.Dispatch e = absurd (cc)
 input_apart event.Close e = absurd (cc)
 
 item_apart : (test : Event → Bool) → ((v : Event) → test v ≡ true → is_executed v ≡ false) → (x : Noted) → is_entry test x ≡ true → is_entry is_executed x ≡ false
-item_apart test apart (Opened m e) is = refl
-item_apart test apart (Made e) is = apart e.event is
-item_apart test apart Stopped is = refl
+item_apart test apart (Opened m n e) is = refl
+item_apart test apart (Made by e) is = apart e.event is
+item_apart test apart (Stopped by) is = refl
 
 own_apart : (test : Event → Bool) → ((v : Event) → test v ≡ true → is_executed v ≡ false) → (own : List (ℕ × Noted)) → AreOf test own → NoneExecuted own
 own_apart test apart [] are = All-nil (λ x. is_entry is_executed x.1 ≡ false)
@@ -65,7 +66,7 @@ own_apart test apart (x ∷ xs) are =
 
 stop_apart : (rest : List (ℕ × Noted)) → IsStopAtMost rest → NoneExecuted rest
 stop_apart rest (inl none) = subst NoneExecuted (sym none) (All-nil (λ x. is_entry is_executed x.1 ≡ false))
-stop_apart rest (inr one) = subst NoneExecuted (sym one.1) (All-cons (λ x. is_entry is_executed x.1 ≡ false) (one.0, Stopped) [] refl (All-nil (λ x. is_entry is_executed x.1 ≡ false)))
+stop_apart rest (inr one) = subst NoneExecuted (sym one.2) (All-cons (λ x. is_entry is_executed x.1 ≡ false) (one.0, Stopped one.1) [] refl (All-nil (λ x. is_entry is_executed x.1 ≡ false)))
 
 until_apart : (test : Event → Bool) → ((v : Event) → test v ≡ true → is_executed v ≡ false) → (mine : List (ℕ × Noted)) → AreOfUntil test mine → NoneExecuted mine
 until_apart test apart mine made =
@@ -118,9 +119,9 @@ due_chosen Executive (Planner g2) low before e executed due = absurd due.1
 due_chosen Executive Executive low before e executed due = due.1
 
 -- it is a worker's
-module _ (items : List Noted) (p : ℕ) (e : Entry) (at : slice_get items p ≡ Some (Made e)) (executed : is_executed e.event ≡ true) where
+module _ (items : List Noted) (p : ℕ) (by : Option Author) (e : Entry) (at : slice_get items p ≡ Some (Made by e)) (executed : is_executed e.event ≡ true) where
   owned_by : (s : Service) (rest : ℕ) → StandsIn items s.own → ServedIn items s → times_at p s.own + rest ≡ 1 → (rest ≡ 1 → MadeHere items p) → MadeHere items p
-  owned_by s rest stands served one other = by (times_at p split.own) refl
+  owned_by s rest stands served one other = by_times (times_at p split.own) refl
     where
       split : MakesUntil (role_of s.duty) (begun_of s.duty) items s.own
       split = makes_split s.met (role_of s.duty) (begun_of s.duty) items s.own s.last served.made
@@ -128,14 +129,14 @@ module _ (items : List Noted) (p : ℕ) (e : Entry) (at : slice_get items p ≡ 
       stop_none : times_at p split.rest ≡ 0
       stop_none =
           let behind : StandsIn items split.rest = stands_back items 0 split.own split.rest (subst (λ (l : List (ℕ × Noted)). StandsIn items l) split.whole stands) in
-          times_apart items 0 p (Made e) split.rest behind (stop_apart split.rest split.behind) at executed
+          times_apart items 0 p (Made by e) split.rest behind (stop_apart split.rest split.behind) at executed
 
       parts : times_at p s.own ≡ times_at p split.own + times_at p split.rest
       parts = ap (λ (l : List (ℕ × Noted)). times_at p l) split.whole ∙ sum_by-append (one_at p) split.own split.rest
 
-      by : (n : ℕ) → times_at p split.own ≡ n → MadeHere items p
-      by zero is = other (omega (arith, one, parts, stop_none, is))
-      by (suc n) is = made_here items p (begun_of s.duty) (role_of s.duty) split.last split.own split.made (omega (arith, one, parts, stop_none, is))
+      by_times : (n : ℕ) → times_at p split.own ≡ n → MadeHere items p
+      by_times zero is = other (omega (arith, one, parts, stop_none, is))
+      by_times (suc n) is = made_here items p (begun_of s.duty) (role_of s.duty) split.last split.own split.made (omega (arith, one, parts, stop_none, is))
 
   owned : (services : List Service) → All (StandsIn items) (owns_of services) → All (ServedIn items) services → times_in p (owns_of services) ≡ 1 → MadeHere items p
   owned [] stands each one = absurd (let h : 0 ≡ 1 = one in omega arith)
@@ -156,50 +157,86 @@ same_front (x ∷ xs) ys (u ∷ us) vs long e =
     let shorter : length xs ≡ length us = (let l : suc (length xs) ≡ suc (length us) = long in omega arith) in
     ap (λ (z : Noted). z ∷ xs) head ∙ ap (λ (zs : List Noted). u ∷ zs) (same_front xs ys us vs shorter rest)
 
-made_split : (log es : List Entry) (e : Entry) (s : Bool) → map Made (log ++ e ∷ es) ++ stop_items s ≡ (map Made log ++ []) ++ Made e ∷ (map Made es ++ stop_items s)
-made_split [] es e s = refl
-made_split (x ∷ log) es e s = ap (λ (zs : List Noted). Made x ∷ zs) (made_split log es e s)
+-- the entry behind a front has one author, or none, whatever the others have
+abbrev SplitsAt : ℕ → List Author → (log es : List Entry) → Entry → Type 0
+SplitsAt k authors log es e = (by : Option Author) × (rest : List SignedEntry) × (with_authors k authors (log ++ e ∷ es) ≡ with_authors k authors log ++ (by, e) ∷ rest)
 
-items_split : (m : Model) (log es : List Entry) (e : Entry) (s : Bool) → 0 < length log → items_of m (log ++ e ∷ es) s ≡ items_of m log false ++ Made e ∷ (map Made es ++ stop_items s)
+with_split : (k : ℕ) (authors : List Author) (log es : List Entry) (e : Entry) → SplitsAt k authors log es e
+with_split (suc k) authors [] es e = (None, with_authors k authors es, refl)
+with_split (suc k) authors (x ∷ log) es e = (let r = with_split k authors log es e in (r.0, r.1, ap (λ (zs : List SignedEntry). (None, x) ∷ zs) r.2))
+with_split zero [] [] es e = (None, with_authors zero [] es, refl)
+with_split zero [] (x ∷ log) es e = (let r = with_split zero [] log es e in (r.0, r.1, ap (λ (zs : List SignedEntry). (None, x) ∷ zs) r.2))
+with_split zero (a ∷ authors) [] es e = (Some a, with_authors zero authors es, refl)
+with_split zero (a ∷ authors) (x ∷ log) es e = (let r = with_split zero authors log es e in (r.0, r.1, ap (λ (zs : List SignedEntry). (Some a, x) ∷ zs) r.2))
+
+-- the same history, before a stop
+abbrev going : Signs → Signs
+going s = record s { stopper = None }
+
+made_split : (xs ys : List SignedEntry) (x : SignedEntry) (s : Option Author) → map made_of (xs ++ x ∷ ys) ++ stop_items s ≡ (map made_of xs ++ []) ++ made_of x ∷ (map made_of ys ++ stop_items s)
+made_split [] ys x s = refl
+made_split (z ∷ xs) ys x s = ap (λ (zs : List Noted). made_of z ∷ zs) (made_split xs ys x s)
+
+items_split : (m : Model) (log es : List Entry) (e : Entry) (s : Signs) → 0 < length log
+    → (by : Option Author) × (rest : List SignedEntry) × (items_of m (log ++ e ∷ es) s ≡ items_of m log (going s) ++ Made by e ∷ (map made_of rest ++ stop_items s.stopper))
 unfolding items_of
 items_split m [] es e s some = absurd (omega arith)
-items_split m (first ∷ log) es e s some = ap (λ (zs : List Noted). Opened m first ∷ zs) (made_split log es e s)
+items_split m (first ∷ log) es e s some =
+    let k = s.by.opening - 1 in
+    let r = with_split k s.by.authors log es e in (
+      r.0,
+      r.1,
+      ap (λ (zs : List SignedEntry). Opened m s.by.opening first ∷ (map made_of zs ++ stop_items s.stopper)) r.2
+          ∙ ap (λ (zs : List Noted). Opened m s.by.opening first ∷ zs) (made_split (with_authors k s.by.authors log) r.1 (r.0, e) s.stopper),
+    )
 
-model_some : (m : Model) (log : List Entry) (s : Bool) → 0 < length log → model_in (items_of m log s) ≡ Some m
+model_some : (m : Model) (log : List Entry) (s : Signs) → 0 < length log → model_in (items_of m log s) ≡ Some m
 unfolding items_of
 model_some m [] s some = absurd (omega arith)
 model_some m (first ∷ log) s some = refl
 
-made_same : (a b : Entry) → Some (Made a) ≡ Some (Made b) → a ≡ b
-made_same a b e = cc
+made_same : (by by2 : Option Author) (a b : Entry) → Some (Made by a) ≡ Some (Made by2 b) → a ≡ b
+made_same by by2 a b e = cc
 
-module _ (m : Model) (whole : List Entry) (stop : Bool) (feeder : List (ℕ × Noted)) (services : List Service) (opening : ℕ) (stands : All (StandsIn (items_of m whole stop)) (feeder ∷ owns_of services))
+module _ (m : Model) (whole : List Entry) (stop : Signs) (feeder : List (ℕ × Noted)) (services : List Service) (opening : ℕ) (stands : All (StandsIn (items_of m whole stop)) (feeder ∷ owns_of services))
     (owners : IsEachOnce opening (length (items_of m whole stop)) (λ place. times_in place (feeder ∷ owns_of services))) (inputs : AreOfUntil is_input feeder) (each : All (ServedIn (items_of m whole stop)) services) where
   -- it is a worker's
-  executed_here : (p : ℕ) (e : Entry) → opening ≤ p → p < length (items_of m whole stop) → slice_get (items_of m whole stop) p ≡ Some (Made e) → is_executed e.event ≡ true → MadeHere (items_of m whole stop) p
-  executed_here p e past within at is =
+  executed_here : (p : ℕ) (by : Option Author) (e : Entry) → opening ≤ p → p < length (items_of m whole stop) → slice_get (items_of m whole stop) p ≡ Some (Made by e) → is_executed e.event ≡ true → MadeHere (items_of m whole stop) p
+  executed_here p by e past within at is =
       let items = items_of m whole stop in
-      let none = times_apart items 0 p (Made e) feeder (All-head (StandsIn items) feeder (owns_of services) stands) (until_apart is_input input_apart feeder inputs) at is in
+      let none = times_apart items 0 p (Made by e) feeder (All-head (StandsIn items) feeder (owns_of services) stands) (until_apart is_input input_apart feeder inputs) at is in
       let one = owners.inside p past within in
       let sum = sum_by-cons (times_at p) feeder (owns_of services) in
-      owned items p e at is services (All-tail (StandsIn items) feeder (owns_of services) stands) each (omega (arith, none, one, sum))
+      owned items p by e at is services (All-tail (StandsIn items) feeder (owns_of services) stands) each (omega (arith, none, one, sum))
 
   module _ (log es : List Entry) (e : Entry) (some : 0 < length log) (past : opening ≤ length log) (is : whole ≡ log ++ e ∷ es) where
-    parts : items_of m whole stop ≡ items_of m log false ++ Made e ∷ (map Made es ++ stop_items stop)
-    parts = ap (λ (l : List Entry). items_of m l stop) is ∙ items_split m log es e stop some
+    abbrev front : List Noted
+    front = items_of m log (going stop)
 
-    front_length : length (items_of m log false) ≡ length log
-    front_length = length_going m log false refl
+    split_at : (by : Option Author) × (rest : List SignedEntry) × (items_of m (log ++ e ∷ es) stop ≡ front ++ Made by e ∷ (map made_of rest ++ stop_items stop.stopper))
+    split_at = items_split m log es e stop some
 
-    here : slice_get (items_of m whole stop) (length log) ≡ Some (Made e)
+    abbrev by : Option Author
+    by = split_at.0
+
+    abbrev behind : List Noted
+    behind = map made_of split_at.1 ++ stop_items stop.stopper
+
+    parts : items_of m whole stop ≡ front ++ Made by e ∷ behind
+    parts = ap (λ (l : List Entry). items_of m l stop) is ∙ split_at.2
+
+    front_length : length front ≡ length log
+    front_length = length_going m log (going stop) refl
+
+    here : slice_get (items_of m whole stop) (length log) ≡ Some (Made by e)
     here =
         ap (λ (xs : List Noted). slice_get xs (length log)) parts
-        ∙ ap (λ (k : ℕ). slice_get (items_of m log false ++ Made e ∷ (map Made es ++ stop_items stop)) k) (sym front_length)
-        ∙ at_front (items_of m log false) (map Made es ++ stop_items stop) (Made e)
+        ∙ ap (λ (k : ℕ). slice_get (front ++ Made by e ∷ behind) k) (sym front_length)
+        ∙ at_front front behind (Made by e)
 
     within : length log < length (items_of m whole stop)
     within =
-        let long = ap (λ (xs : List Noted). length xs) parts ∙ length-append (items_of m log false) (Made e ∷ (map Made es ++ stop_items stop)) in
+        let long = ap (λ (xs : List Noted). length xs) parts ∙ length-append front (Made by e ∷ behind) in
         let front_long = front_length in
         omega (arith, long, front_long)
 
@@ -207,19 +244,19 @@ module _ (m : Model) (whole : List Entry) (stop : Bool) (feeder : List (ℕ × N
     chosen_by : is_executed e.event ≡ true → MadeHere (items_of m whole stop) (length log) → IsChosen (exec_choice_of (world_of m log)) e.event
     chosen_by executed made =
         let is' = made.made in
-        let both : is'.before ++ Made is'.entry ∷ is'.behind ≡ items_of m log false ++ Made e ∷ (map Made es ++ stop_items stop) = sym is'.whole ∙ parts in
-        let before : is'.before ≡ items_of m log false = same_front is'.before (Made is'.entry ∷ is'.behind) (items_of m log false) (Made e ∷ (map Made es ++ stop_items stop)) (sym is'.stands ∙ sym front_length) both in
-        let at : slice_get (items_of m whole stop) (length log) ≡ Some (Made is'.entry) =
-        ap (λ (xs : List Noted). slice_get xs (length log)) is'.whole ∙ ap (λ (k : ℕ). slice_get (is'.before ++ Made is'.entry ∷ is'.behind) k) is'.stands ∙ at_front is'.before is'.behind (Made is'.entry) in
-        let same : is'.entry ≡ e = made_same is'.entry e (sym at ∙ here) in
+        let both : is'.before ++ Made is'.author is'.entry ∷ is'.behind ≡ front ++ Made by e ∷ behind = sym is'.whole ∙ parts in
+        let before : is'.before ≡ front = same_front is'.before (Made is'.author is'.entry ∷ is'.behind) front (Made by e ∷ behind) (sym is'.stands ∙ sym front_length) both in
+        let at : slice_get (items_of m whole stop) (length log) ≡ Some (Made is'.author is'.entry) =
+        ap (λ (xs : List Noted). slice_get xs (length log)) is'.whole ∙ ap (λ (k : ℕ). slice_get (is'.before ++ Made is'.author is'.entry ∷ is'.behind) k) is'.stands ∙ at_front is'.before is'.behind (Made is'.author is'.entry) in
+        let same : is'.entry ≡ e = made_same is'.author by is'.entry e (sym at ∙ here) in
         let P : World → Type 0 = λ w. IsChosen (exec_choice_of w) is'.entry.event in
-        let by : InWorld (items_of m log false) P = subst (λ (xs : List Noted). InWorld xs P) before (due_chosen made.role made.role2 made.low is'.before is'.entry (ap (λ (x : Entry). is_executed x.event) same ∙ executed) is'.by) in
-        let at_world : P (world_of m (entries_in (items_of m log false))) = world_in P (items_of m log false) m (model_some m log false some) by in
-        let chosen : P (world_of m log) = subst (λ (l : List Entry). P (world_of m l)) (entries_in_items m log false) at_world in
+        let chosen_in : InWorld front P = subst (λ (xs : List Noted). InWorld xs P) before (due_chosen made.role made.role2 made.low is'.before is'.entry (ap (λ (x : Entry). is_executed x.event) same ∙ executed) is'.by) in
+        let at_world : P (world_of m (entries_in front)) = world_in P front m (model_some m log (going stop) some) chosen_in in
+        let chosen : P (world_of m log) = subst (λ (l : List Entry). P (world_of m l)) (entries_in_items m log (going stop)) at_world in
         subst (λ (x : Entry). IsChosen (exec_choice_of (world_of m log)) x.event) same chosen
 
     chosen_here : is_executed e.event ≡ true → IsChosen (exec_choice_of (world_of m log)) e.event
-    chosen_here executed = chosen_by executed (executed_here (length log) e past within here executed)
+    chosen_here executed = chosen_by executed (executed_here (length log) by e past within here executed)
 
   pub are_chosen : (log es : List Entry) → 0 < length log → opening ≤ length log → whole ≡ log ++ es → AreChosen m log es
   are_chosen log [] some past is = tt

@@ -1,5 +1,5 @@
 -- What the whole history says of the own lists.
-use Rattle.std.proofs.Common.{◌≡◌, ◌≢◌, ℕ, suc, ◌+◌, ◌≤◌, ◌<◌, List, [], ◌∷◌, ◌++◌, length, map, drop, filter, cond, nat_eq, Bool, true, false, not, Option, Some, None, slice_get, get_or, refl, sym, ◌∙◌, ap, subst, arith, inl, inr, ne_eqb, append_assoc, length-append}
+use Rattle.std.proofs.Common.{◌≡◌, ◌≢◌, ℕ, suc, ◌+◌, ◌-◌, ◌≤◌, ◌<◌, List, [], ◌∷◌, ◌++◌, length, map, drop, filter, cond, nat_eq, Bool, true, false, not, Option, Some, None, slice_get, get_or, refl, sym, ◌∙◌, ap, subst, arith, inl, inr, ne_eqb, append_assoc, length-append}
 use Rattle.std.specs.Prelude.{◌&&◌}
 use Rattle.std.specs.List.{All, filter_map, list_any}
 use Rattle.std.proofs.lemmas.Bool.{eqb-true}
@@ -13,6 +13,9 @@ use Rattle.pl_turn.specs.Passes.{seen_of, mine_of, crew_of, leads, made_by, join
 use Rattle.pl_turn.proofs.Histories.{prefix_trans}
 use Rattle.pl_turn.proofs.Sifting.{sifted}
 use Rattle.pl_turn.proofs.Owning.{spends_true}
+use Rattle.pl_marks.specs.declared.author.Author.{Author}
+use Rattle.pl_marks.specs.declared.author.Author.TheVariants.{Feeder}
+use Rattle.pl_marks.specs.Marks.{Signed}
 use Rattle.pl_model.specs.declared.whole.Model.{Model}
 use Rattle.pl_entry.specs.declared.event.Event.{Event}
 use Rattle.pl_entry.specs.declared.event.Event.TheVariants as event
@@ -25,14 +28,14 @@ use Rattle.pl_machine.specs.Finished.{input_in, inputs_of}
 use Rattle.pl_machine.specs.Sound.{State}
 use Rattle.pl_acts.specs.declared.noted.Noted.{Noted}
 use Rattle.pl_acts.specs.declared.noted.Noted.TheVariants.{Opened, Made, Stopped}
-use Rattle.pl_acts.specs.Items.{stop_items, items_of, entries_in, model_in, is_stop, stop_in, OfWorld, InWorld}
+use Rattle.pl_acts.specs.Items.{Signs, SignedEntry, made_of, entries_of, with_authors, stop_items, items_of, entries_in, model_in, is_stop, signer_in, stop_in, OfWorld, InWorld}
 use Rattle.pl_acts.specs.Roles.{is_input, is_repair, is_executed, is_entry}
 use Rattle.pl_acts.specs.Seen.{IsPlan}
-use Rattle.pl_shared.specs.declared.plan.SharedPlan.{SharedPlan}
-use Rattle.pl_shared.specs.Plans.{PlanPass, Closes}
+use Rattle.pl_locked.specs.declared.plan.SharedPlan.{SharedPlan}
+use Rattle.pl_locked.specs.Plans.{PlanPass, Closes}
 use Rattle.pl_acts.proofs.Items.{entries_in_items, model_in_items, model_in_prefix}
 use Rattle.pl_pair.specs.Served as serving
-use Rattle.pl_pair.specs.Served.{AreOf, IsStopAtMost, AreOfUntil}
+use Rattle.pl_pair.specs.Served.{AreSigned, AreOf, IsStopAtMost, AreOfUntil}
 use Rattle.pl_pair.specs.Rounds.{IsBetween}
 use Rattle.pl_pair.specs.Feeds.{IsInput, AreInputs}
 use Rattle.pl_pair.specs.declared.worker.Worker.{Worker}
@@ -47,7 +50,7 @@ use Rattle.pl_pair.proofs.Feeding.{drop_front, entries_on}
 -- what was seen has the model of the whole
 pub same_model : (seen whole : List Noted) (m : Model) → IsPlan seen → IsPrefix seen whole → model_in whole ≡ Some m → model_in seen ≡ Some m
 same_model seen whole m plan on is =
-    let here : model_in seen ≡ Some plan.model = ap model_in plan.is ∙ model_in_items plan.model plan.log plan.stopped plan.legal in
+    let here : model_in seen ≡ Some plan.model = ap model_in plan.is ∙ model_in_items plan.model plan.log plan.signs plan.legal in
     let there : Some plan.model ≡ Some m = sym (model_in_prefix seen whole plan.model on here) ∙ is in
     here ∙ there
 
@@ -55,20 +58,22 @@ module _ (plan : SharedPlan) (workers : List Worker) (first last : PlanPass) (jo
   joined_is : joined_by last ≡ own_lists_of workers
   joined_is = ap (λ c. c.joined) joins.crew ∙ ap (λ (ls : List (List (ℕ × Noted))). ls ++ own_lists_of workers) none
 
-  joined_lists : lists_of last ≡ mine_of first ∷ own_lists_of workers
+  pub joined_lists : lists_of last ≡ mine_of first ∷ own_lists_of workers
   joined_lists = ap (λ (l : List (ℕ × Noted)). l ∷ joined_by last) joins.mine ∙ ap (λ (ls : List (List (ℕ × Noted))). mine_of first ∷ ls) joined_is
 
   -- every pass that was split off is joined
   pub all_joined : made_by first ≡ length workers → made_by last ≡ length (joined_by last)
   all_joined made = ap (λ c. c.made) joins.crew ∙ made ∙ sym (ap (λ (ls : List (List (ℕ × Noted))). length ls) joined_is ∙ length-map workers (λ (w : Worker). mine_of w.pass))
 
-  pub closes_all : (machine : State) → IsPlan (seen_of first) → Closes last machine → ClosesAll first workers machine
-  closes_all machine plan' closes =
-      let items = items_of machine.model machine.log closes.stopped in
+  unfoldable pub closes_all : (machine : State) (by : Signed) → IsPlan (seen_of first) → Closes last machine by → ClosesAll first workers machine
+  closes_all machine by plan' closes =
+      let items = items_of machine.model machine.log closes.signs in
       let opening : opening_of last ≡ opening_of first = ap (λ c. c.opening) joins.crew in
       let O : (ℕ × List (List (ℕ × Noted))) → Type 0 = λ t. IsEachOnce t.0 (length items) (λ place. times_in place t.1) in
       record {
-        stopped = closes.stopped;
+        signs = closes.signs;
+        some = (let is = ap (λ (s : Signed). s.opening) closes.signed in let some = closes.some in omega (arith, is, some));
+        each = ap (λ (s : Signed). s.opening + length s.authors) closes.signed ∙ closes.each;
         legal = closes.legal;
         model = same_model (seen_of first) (seen_of last) machine.model plan' joins.longer closes.model;
         first_seen = prefix_trans (seen_of first) (seen_of last) items joins.longer closes.history;
@@ -82,59 +87,62 @@ still_leads old new joined crew first = ap (λ c. c.leads) crew ∙ first
 
 -- ---- what goes on from a history
 
--- further items of a history: entries, and a stop behind them where there is one
+-- further items of a history: entries with their authors, and a stop behind them where there is one
 pub record MoreOf (more : List Noted) : Type 0 where
-  pub entries : List Entry
-  pub stop : Bool
-  pub is : more ≡ map Made entries ++ stop_items stop
+  pub signed : List SignedEntry
+  pub stop : Option Author
+  pub is : more ≡ map made_of signed ++ stop_items stop
 
 nothing_of : (xs more : List Noted) → xs ++ more ≡ [] → more ≡ []
 nothing_of [] more e = e
 nothing_of (x ∷ xs) more e = absurd (cc)
 
-more_made : (xs more : List Noted) (es : List Entry) (s : Bool) → xs ++ more ≡ map Made es ++ stop_items s → MoreOf more
-more_made [] more es s e = record { entries = es; stop = s; is = e }
-more_made (x ∷ xs) more [] true e = record { entries = []; stop = false; is = nothing_of xs more (let h : x ∷ (xs ++ more) ≡ Stopped ∷ [] = e in (cc)) }
-more_made (x ∷ xs) more [] false e = absurd (cc)
-more_made (x ∷ xs) more (y ∷ es) s e = more_made xs more es s (let h : x ∷ (xs ++ more) ≡ Made y ∷ (map Made es ++ stop_items s) = e in (cc))
+more_made : (xs more : List Noted) (es : List SignedEntry) (s : Option Author) → xs ++ more ≡ map made_of es ++ stop_items s → MoreOf more
+more_made [] more es s e = record { signed = es; stop = s; is = e }
+more_made (x ∷ xs) more [] (Some by) e = record { signed = []; stop = None; is = nothing_of xs more (let h : x ∷ (xs ++ more) ≡ Stopped by ∷ [] = e in (cc)) }
+more_made (x ∷ xs) more [] None e = absurd (cc)
+more_made (x ∷ xs) more (y ∷ es) s e = more_made xs more es s (let h : x ∷ (xs ++ more) ≡ made_of y ∷ (map made_of es ++ stop_items s) = e in (cc))
 
-some_items : (m : Model) (log : List Entry) (s : Bool) → Legal m log → (x : Noted) × (xs : List Noted) × (items_of m log s ≡ x ∷ xs)
+some_items : (m : Model) (log : List Entry) (s : Signs) → Legal m log → (x : Noted) × (xs : List Noted) × (items_of m log s ≡ x ∷ xs)
 unfolding items_of
 some_items m [] s legal = absurd legal
-some_items m (first ∷ es) s legal = (Opened m first, map Made es ++ stop_items s, refl)
+some_items m (first ∷ es) s legal = (Opened m s.by.opening first, map made_of (with_authors (s.by.opening - 1) s.by.authors es) ++ stop_items s.stopper, refl)
 
-items_more : (xs more : List Noted) (x : Noted) (m : Model) (log : List Entry) (s : Bool) → Legal m log → (x ∷ xs) ++ more ≡ items_of m log s → MoreOf more
+items_more : (xs more : List Noted) (x : Noted) (m : Model) (log : List Entry) (s : Signs) → Legal m log → (x ∷ xs) ++ more ≡ items_of m log s → MoreOf more
 unfolding items_of
 items_more xs more x m [] s legal e = absurd legal
-items_more xs more x m (first ∷ es) s legal e = more_made xs more es s (let h : x ∷ (xs ++ more) ≡ Opened m first ∷ (map Made es ++ stop_items s) = e in (cc))
+items_more xs more x m (first ∷ es) s legal e =
+    let all = with_authors (s.by.opening - 1) s.by.authors es in
+    more_made xs more all s.stopper (let h : x ∷ (xs ++ more) ≡ Opened m s.by.opening first ∷ (map made_of all ++ stop_items s.stopper) = e in (cc))
 
-pub more_of : (front : List Noted) (m : Model) (log : List Entry) (s : Bool) → IsPlan front → Legal m log → (on : IsPrefix front (items_of m log s)) → MoreOf on.0
+pub more_of : (front : List Noted) (m : Model) (log : List Entry) (s : Signs) → IsPlan front → Legal m log → (on : IsPrefix front (items_of m log s)) → MoreOf on.0
 more_of front m log s plan legal on =
-    let some = some_items plan.model plan.log plan.stopped plan.legal in
+    let some = some_items plan.model plan.log plan.signs plan.legal in
     let is : front ≡ some.0 ∷ some.1 = plan.is ∙ some.2 in
     items_more some.1 on.0 some.0 m log s legal (ap (λ (xs : List Noted). xs ++ on.0) (sym is) ∙ on.1)
 
 -- nothing stands behind a stop
-stop_tail : (xs more : List Noted) (es : List Entry) (s : Bool) → xs ++ more ≡ map Made es ++ stop_items s → list_any is_stop xs ≡ true → more ≡ []
+stop_tail : (xs more : List Noted) (es : List SignedEntry) (s : Option Author) → xs ++ more ≡ map made_of es ++ stop_items s → list_any is_stop xs ≡ true → more ≡ []
 stop_tail [] more es s e stops = absurd (cc)
-stop_tail (x ∷ xs) more [] true e stops = nothing_of xs more (let h : x ∷ (xs ++ more) ≡ Stopped ∷ [] = e in (cc))
-stop_tail (x ∷ xs) more [] false e stops = absurd (cc)
+stop_tail (x ∷ xs) more [] (Some by) e stops = nothing_of xs more (let h : x ∷ (xs ++ more) ≡ Stopped by ∷ [] = e in (cc))
+stop_tail (x ∷ xs) more [] None e stops = absurd (cc)
 stop_tail (x ∷ xs) more (y ∷ es) s e stops =
-    let head : x ≡ Made y = (let h : x ∷ (xs ++ more) ≡ Made y ∷ (map Made es ++ stop_items s) = e in (cc)) in
-    let rest : xs ++ more ≡ map Made es ++ stop_items s = (let h : x ∷ (xs ++ more) ≡ Made y ∷ (map Made es ++ stop_items s) = e in (cc)) in
+    let head : x ≡ made_of y = (let h : x ∷ (xs ++ more) ≡ made_of y ∷ (map made_of es ++ stop_items s) = e in (cc)) in
+    let rest : xs ++ more ≡ map made_of es ++ stop_items s = (let h : x ∷ (xs ++ more) ≡ made_of y ∷ (map made_of es ++ stop_items s) = e in (cc)) in
     stop_tail xs more es s rest (subst (λ (z : Noted). list_any is_stop (z ∷ xs) ≡ true) head stops)
 
-items_stop : (xs more : List Noted) (x : Noted) (m : Model) (log : List Entry) (s : Bool) → Legal m log → (x ∷ xs) ++ more ≡ items_of m log s → stop_in (x ∷ xs) ≡ true → more ≡ []
+items_stop : (xs more : List Noted) (x : Noted) (m : Model) (log : List Entry) (s : Signs) → Legal m log → (x ∷ xs) ++ more ≡ items_of m log s → stop_in (x ∷ xs) ≡ true → more ≡ []
 unfolding items_of
 items_stop xs more x m [] s legal e stops = absurd legal
 items_stop xs more x m (first ∷ es) s legal e stops =
-    let head : x ≡ Opened m first = (let h : x ∷ (xs ++ more) ≡ Opened m first ∷ (map Made es ++ stop_items s) = e in (cc)) in
-    let rest : xs ++ more ≡ map Made es ++ stop_items s = (let h : x ∷ (xs ++ more) ≡ Opened m first ∷ (map Made es ++ stop_items s) = e in (cc)) in
-    stop_tail xs more es s rest (subst (λ (z : Noted). stop_in (z ∷ xs) ≡ true) head stops)
+    let all = with_authors (s.by.opening - 1) s.by.authors es in
+    let head : x ≡ Opened m s.by.opening first = (let h : x ∷ (xs ++ more) ≡ Opened m s.by.opening first ∷ (map made_of all ++ stop_items s.stopper) = e in (cc)) in
+    let rest : xs ++ more ≡ map made_of all ++ stop_items s.stopper = (let h : x ∷ (xs ++ more) ≡ Opened m s.by.opening first ∷ (map made_of all ++ stop_items s.stopper) = e in (cc)) in
+    stop_tail xs more all s.stopper rest (subst (λ (z : Noted). stop_in (z ∷ xs) ≡ true) head stops)
 
-pub nothing_behind_stop : (front : List Noted) (m : Model) (log : List Entry) (s : Bool) → IsPlan front → Legal m log → (on : IsPrefix front (items_of m log s)) → stop_in front ≡ true → on.0 ≡ []
+pub nothing_behind_stop : (front : List Noted) (m : Model) (log : List Entry) (s : Signs) → IsPlan front → Legal m log → (on : IsPrefix front (items_of m log s)) → stop_in front ≡ true → on.0 ≡ []
 nothing_behind_stop front m log s plan legal on stops =
-    let some = some_items plan.model plan.log plan.stopped plan.legal in
+    let some = some_items plan.model plan.log plan.signs plan.legal in
     let is : front ≡ some.0 ∷ some.1 = plan.is ∙ some.2 in
     items_stop some.1 on.0 some.0 m log s legal (ap (λ (xs : List Noted). xs ++ on.0) (sym is) ∙ on.1) (sym (ap stop_in is) ∙ stops)
 
@@ -207,9 +215,9 @@ executed_no_input event.Dispatch e = refl
 executed_no_input event.Close e = refl
 
 item_no_input : (test : Event → Bool) → ((v : Event) → test v ≡ true → is_input v ≡ false) → (x : Noted) → is_entry test x ≡ true → is_entry is_input x ≡ false
-item_no_input test apart (Opened m e) is = refl
-item_no_input test apart (Made e) is = apart e.event is
-item_no_input test apart Stopped is = refl
+item_no_input test apart (Opened m n e) is = refl
+item_no_input test apart (Made by e) is = apart e.event is
+item_no_input test apart (Stopped by) is = refl
 
 of_no_inputs : (test : Event → Bool) → ((v : Event) → test v ≡ true → is_input v ≡ false) → (own : List (ℕ × Noted)) → AreOf test own → NoInputs own
 of_no_inputs test apart [] are = All-nil (λ x. is_entry is_input x.1 ≡ false)
@@ -218,7 +226,7 @@ of_no_inputs test apart (x ∷ xs) are =
 
 stop_no_inputs : (rest : List (ℕ × Noted)) → IsStopAtMost rest → NoInputs rest
 stop_no_inputs rest (inl none) = subst NoInputs (sym none) (All-nil (λ x. is_entry is_input x.1 ≡ false))
-stop_no_inputs rest (inr one) = subst NoInputs (sym one.1) (All-cons (λ x. is_entry is_input x.1 ≡ false) (one.0, Stopped) [] refl (All-nil (λ x. is_entry is_input x.1 ≡ false)))
+stop_no_inputs rest (inr one) = subst NoInputs (sym one.2) (All-cons (λ x. is_entry is_input x.1 ≡ false) (one.0, Stopped one.1) [] refl (All-nil (λ x. is_entry is_input x.1 ≡ false)))
 
 pub made_no_inputs : (met : Option Stop) (test : Event → Bool) → ((v : Event) → test v ≡ true → is_input v ≡ false) → (mine : List (ℕ × Noted)) → serving.Made met test mine → NoInputs mine
 made_no_inputs None test apart mine made = of_no_inputs test apart mine made
@@ -232,26 +240,26 @@ inputs_kind (i ∷ inputs) [] are = absurd are
 inputs_kind (i ∷ inputs) (x ∷ own) are = All-cons (λ y. is_entry is_input y.1 ≡ true) x own (item_kind i x.1 are.0) (inputs_kind inputs own are.1)
   where
     item_kind : (i : Option (List ℕ)) (x : Noted) → IsInput i x → is_entry is_input x ≡ true
-    item_kind i (Opened m e) is = absurd is
-    item_kind i (Made e) is = ap is_input is
-    item_kind i Stopped is = absurd is
+    item_kind i (Opened m n e) is = absurd is
+    item_kind i (Made by e) is = ap is_input is.1
+    item_kind i (Stopped by) is = absurd is
 
 -- ---- the inputs of the history are the feeder's
 
 abbrev input_of : Noted → Option (Option (List ℕ))
-input_of (Opened m e) = None
-input_of (Made e) = input_in e.event
-input_of Stopped = None
+input_of (Opened m n e) = None
+input_of (Made by e) = input_in e.event
+input_of (Stopped by) = None
 
 own_inputs : (inputs : List (Option (List ℕ))) (own : List (ℕ × Noted)) → AreInputs inputs own → filter_map input_of (map (λ x. x.1) own) ≡ inputs
 own_inputs [] [] are = refl
 own_inputs [] (x ∷ own) are = absurd are
 own_inputs (i ∷ inputs) [] are = absurd are
-own_inputs (i ∷ inputs) ((place, Opened m e) ∷ own) are = absurd are.0
-own_inputs (i ∷ inputs) ((place, Stopped) ∷ own) are = absurd are.0
-own_inputs (i ∷ inputs) ((place, Made e) ∷ own) are = rw are.0 (ap (λ (is : List (Option (List ℕ))). i ∷ is) (own_inputs inputs own are.1))
+own_inputs (i ∷ inputs) ((place, Opened m n e) ∷ own) are = absurd are.0
+own_inputs (i ∷ inputs) ((place, Stopped by) ∷ own) are = absurd are.0
+own_inputs (i ∷ inputs) ((place, Made by e) ∷ own) are = rw are.0.1 (ap (λ (is : List (Option (List ℕ))). i ∷ is) (own_inputs inputs own are.1))
 
-made_input : (v : Event) (b : Bool) → is_input v ≡ b → (e : Entry) → e.event ≡ v → (xs : List Noted) → filter_map input_of (filter (is_entry is_input) (Made e ∷ xs)) ≡ filter_map input_of (Made e ∷ filter (is_entry is_input) xs)
+made_input : (v : Event) (b : Bool) → is_input v ≡ b → (e : SignedEntry) → e.1.event ≡ v → (xs : List Noted) → filter_map input_of (filter (is_entry is_input) (made_of e ∷ xs)) ≡ filter_map input_of (made_of e ∷ filter (is_entry is_input) xs)
 made_input (event.Opened o) b is e same xs = rw same refl
 made_input (event.Input line) b is e same xs = rw same refl
 made_input (event.Fix k m) b is e same xs = rw same refl
@@ -260,16 +268,16 @@ made_input (event.Commit h) b is e same xs = rw same refl
 made_input event.Dispatch b is e same xs = rw same refl
 made_input event.Close b is e same xs = rw same refl
 
-more_by : (o : Option (Option (List ℕ))) (e : Entry) (es : List Entry) (ys : List Noted) → input_in e.event ≡ o → filter_map input_of ys ≡ inputs_of es → filter_map input_of (Made e ∷ ys) ≡ inputs_of (e ∷ es)
+more_by : (o : Option (Option (List ℕ))) (e : SignedEntry) (es : List Entry) (ys : List Noted) → input_in e.1.event ≡ o → filter_map input_of ys ≡ inputs_of es → filter_map input_of (made_of e ∷ ys) ≡ inputs_of (e.1 ∷ es)
 more_by None e es ys is same = rw is same
 more_by (Some i) e es ys is same = rw is (ap (λ (is : List (Option (List ℕ))). i ∷ is) same)
 
-more_inputs : (es : List Entry) (s : Bool) → filter_map input_of (filter (is_entry is_input) (map Made es ++ stop_items s)) ≡ inputs_of es
-more_inputs [] true = refl
-more_inputs [] false = refl
+more_inputs : (es : List SignedEntry) (s : Option Author) → filter_map input_of (filter (is_entry is_input) (map made_of es ++ stop_items s)) ≡ inputs_of (entries_of es)
+more_inputs [] (Some by) = refl
+more_inputs [] None = refl
 more_inputs (e ∷ es) s =
-    made_input e.event (is_input e.event) refl e refl (map Made es ++ stop_items s)
-    ∙ more_by (input_in e.event) e es (filter (is_entry is_input) (map Made es ++ stop_items s)) refl (more_inputs es s)
+    made_input e.1.event (is_input e.1.event) refl e refl (map made_of es ++ stop_items s)
+    ∙ more_by (input_in e.1.event) e (entries_of es) (filter (is_entry is_input) (map made_of es ++ stop_items s)) refl (more_inputs es s)
 
 is_in : (v : Event) (i : Option (List ℕ)) → input_in v ≡ Some i → is_input v ≡ true
 is_in (event.Opened o) i e = absurd (cc)
@@ -319,9 +327,26 @@ pub record FeederList (inputs : List (Option (List ℕ))) (own mine : List (ℕ 
   pub whole : mine ≡ own ++ rest
   pub are : AreInputs inputs own
   pub behind : IsStopAtMost rest
+  pub signed : AreSigned Feeder rest
 
 pub feeder_until : (inputs : List (Option (List ℕ))) (own mine : List (ℕ × Noted)) → FeederList inputs own mine → AreOfUntil is_input mine
 feeder_until inputs own mine list = record { own = own; rest = list.rest; whole = list.whole; kinds = inputs_kind inputs own list.are; behind = list.behind }
+
+-- each of the feeder's own items carries its name
+inputs_signed : (inputs : List (Option (List ℕ))) (own : List (ℕ × Noted)) → AreInputs inputs own → AreSigned Feeder own
+inputs_signed [] [] are = All-nil (λ x. signer_in x.1 ≡ Some Feeder)
+inputs_signed [] (x ∷ own) are = absurd are
+inputs_signed (i ∷ inputs) [] are = absurd are
+inputs_signed (i ∷ inputs) (x ∷ own) are = All-cons (λ y. signer_in y.1 ≡ Some Feeder) x own (item_signed x.1 are.0) (inputs_signed inputs own are.1)
+  where
+    item_signed : (x : Noted) → IsInput i x → signer_in x ≡ Some Feeder
+    item_signed (Opened m n e) is = absurd is
+    item_signed (Made by e) is = is.0
+    item_signed (Stopped by) is = absurd is
+
+pub feeder_signed : (inputs : List (Option (List ℕ))) (own mine : List (ℕ × Noted)) → FeederList inputs own mine → AreSigned Feeder mine
+feeder_signed inputs own mine list =
+    subst (AreSigned Feeder) (sym list.whole) (All-append (λ x. signer_in x.1 ≡ Some Feeder) own list.rest (inputs_signed inputs own list.are) list.signed)
 
 -- the own lists with the feeder's taken apart
 module _ (items : List Noted) (inputs : List (Option (List ℕ))) (own feeder : List (ℕ × Noted)) (others : List (List (ℕ × Noted))) (list : FeederList inputs own feeder)
@@ -358,21 +383,21 @@ module _ (items : List Noted) (inputs : List (Option (List ℕ))) (own feeder : 
     picked = sifted (is_entry is_input) items opening [] (list.rest ∷ others) own apart_stands apart_owners (inputs_kind inputs own list.are) (All-nil NoInputs) no_inputs_behind
 
     -- the inputs of the entries past the opening are those of the feeder, in their order
-    pub inputs_are : (before : List Noted) (es : List Entry) (s : Bool) → opening ≡ length before → items ≡ before ++ (map Made es ++ stop_items s) → inputs_of es ≡ inputs
+    pub inputs_are : (before : List Noted) (es : List SignedEntry) (s : Option Author) → opening ≡ length before → items ≡ before ++ (map made_of es ++ stop_items s) → inputs_of (entries_of es) ≡ inputs
     inputs_are before es s begins is =
-        let behind : drop opening items ≡ map Made es ++ stop_items s =
-        ap (λ (k : ℕ). drop k items) begins ∙ ap (λ (xs : List Noted). drop (length before) xs) is ∙ drop_front before (map Made es ++ stop_items s) in
+        let behind : drop opening items ≡ map made_of es ++ stop_items s =
+        ap (λ (k : ℕ). drop k items) begins ∙ ap (λ (xs : List Noted). drop (length before) xs) is ∙ drop_front before (map made_of es ++ stop_items s) in
         sym (more_inputs es s)
         ∙ ap (λ (xs : List Noted). filter_map input_of (filter (is_entry is_input) xs)) (sym behind)
         ∙ ap (λ (xs : List Noted). filter_map input_of xs) (sym picked)
         ∙ own_inputs inputs own list.are
 
     -- an input has the place of an own entry of the feeder
-    nobody_else : (p : ℕ) (e : Entry) → slice_get items p ≡ Some (Made e) → is_input e.event ≡ true → times_in p (list.rest ∷ others) ≡ 0
-    nobody_else p e at is = none_failing items p (Made e) (list.rest ∷ others) rest_stands no_inputs_behind at is
+    nobody_else : (p : ℕ) (e : SignedEntry) → slice_get items p ≡ Some (made_of e) → is_input e.1.event ≡ true → times_in p (list.rest ∷ others) ≡ 0
+    nobody_else p e at is = none_failing items p (made_of e) (list.rest ∷ others) rest_stands no_inputs_behind at is
 
     -- so behind a front that has all of them there is no further input
-    pub no_further : (front : List Noted) (e : Entry) (p : ℕ) → StandsIn front own → length front ≤ p → opening ≤ p → p < length items → slice_get items p ≡ Some (Made e) → is_input e.event ≡ true → ⊥
+    pub no_further : (front : List Noted) (e : SignedEntry) (p : ℕ) → StandsIn front own → length front ≤ p → opening ≤ p → p < length items → slice_get items p ≡ Some (made_of e) → is_input e.1.event ≡ true → ⊥
     no_further front e p here behind past within at is =
         let one = apart_owners.inside p past within in
         let none = times_within front 0 p own here behind in
@@ -383,7 +408,7 @@ module _ (items : List Noted) (inputs : List (Option (List ℕ))) (own feeder : 
     -- all own items but the last stand in a front
     module _ (front : List Noted) (earlier : List (ℕ × Noted)) (last : ℕ × Noted) (whole : own ≡ earlier ++ last ∷ []) (here : StandsIn front earlier) (past : opening ≤ length front) where
       -- so an input behind it has the place of the last
-      last_at : (e : Entry) (p : ℕ) → length front ≤ p → p < length items → slice_get items p ≡ Some (Made e) → is_input e.event ≡ true → last.0 ≡ p
+      last_at : (e : SignedEntry) (p : ℕ) → length front ≤ p → p < length items → slice_get items p ≡ Some (made_of e) → is_input e.1.event ≡ true → last.0 ≡ p
       last_at e p behind within at is =
           let one = apart_owners.inside p (omega (arith, past, behind)) within in
           let none = times_within front 0 p earlier here behind in
@@ -393,29 +418,29 @@ module _ (items : List Noted) (inputs : List (Option (List ℕ))) (own feeder : 
           let alone = sum_by-cons (one_at p) last [] in
           at_same p last (omega (arith, one, none, nobody, sum, parts, alone))
 
-      entry_at : (before : List Noted) (e : Entry) (rest : List Noted) → items ≡ before ++ Made e ∷ rest → (length before < length items) × (slice_get items (length before) ≡ Some (Made e))
+      entry_at : (before : List Noted) (e : SignedEntry) (rest : List Noted) → items ≡ before ++ made_of e ∷ rest → (length before < length items) × (slice_get items (length before) ≡ Some (made_of e))
       entry_at before e rest is =
-          let long = ap (λ (xs : List Noted). length xs) is ∙ length-append before (Made e ∷ rest) in
-          (omega (arith, long), ap (λ (xs : List Noted). slice_get xs (length before)) is ∙ at_front before rest (Made e))
+          let long = ap (λ (xs : List Noted). length xs) is ∙ length-append before (made_of e ∷ rest) in
+          (omega (arith, long), ap (λ (xs : List Noted). slice_get xs (length before)) is ∙ at_front before rest (made_of e))
 
       -- and where it stands right behind the front, there is none behind it
-      none_behind : (before : List Noted) (es : List Entry) (s : Bool) → items ≡ before ++ (map Made es ++ stop_items s) → last.0 ≡ length front → length front < length before → inputs_of es ≡ []
+      none_behind : (before : List Noted) (es : List SignedEntry) (s : Option Author) → items ≡ before ++ (map made_of es ++ stop_items s) → last.0 ≡ length front → length front < length before → inputs_of (entries_of es) ≡ []
       none_behind before [] s is at less = refl
       none_behind before (e ∷ es) s is at less =
-          let there = entry_at before e (map Made es ++ stop_items s) is in
-          let next : items ≡ (before ++ Made e ∷ []) ++ (map Made es ++ stop_items s) = is ∙ sym (append_assoc before (Made e ∷ []) (map Made es ++ stop_items s)) in
-          let long = length-append before (Made e ∷ []) in
-          none_more (input_in e.event) e es refl (λ input. let same = last_at e (length before) (omega arith) there.0 there.1 input in omega (arith, same, at, less))
-          (none_behind (before ++ Made e ∷ []) es s next at (omega (arith, long, less)))
+          let there = entry_at before e (map made_of es ++ stop_items s) is in
+          let next : items ≡ (before ++ made_of e ∷ []) ++ (map made_of es ++ stop_items s) = is ∙ sym (append_assoc before (made_of e ∷ []) (map made_of es ++ stop_items s)) in
+          let long = length-append before (made_of e ∷ []) in
+          none_more (input_in e.1.event) e.1 (entries_of es) refl (λ input. let same = last_at e (length before) (omega arith) there.0 there.1 input in omega (arith, same, at, less))
+          (none_behind (before ++ made_of e ∷ []) es s next at (omega (arith, long, less)))
 
-      pub one_input : (e : Entry) (es : List Entry) (s : Bool) → items ≡ front ++ (map Made (e ∷ es) ++ stop_items s) → is_input e.event ≡ true → (message : Option (List ℕ)) × (inputs_of (e ∷ es) ≡ message ∷ [])
+      pub one_input : (e : SignedEntry) (es : List SignedEntry) (s : Option Author) → items ≡ front ++ (map made_of (e ∷ es) ++ stop_items s) → is_input e.1.event ≡ true → (message : Option (List ℕ)) × (inputs_of (entries_of (e ∷ es)) ≡ message ∷ [])
       one_input e es s is input =
-          let there = entry_at front e (map Made es ++ stop_items s) is in
+          let there = entry_at front e (map made_of es ++ stop_items s) is in
           let at = last_at e (length front) (omega arith) there.0 there.1 input in
-          let next : items ≡ (front ++ Made e ∷ []) ++ (map Made es ++ stop_items s) = is ∙ sym (append_assoc front (Made e ∷ []) (map Made es ++ stop_items s)) in
-          let long = length-append front (Made e ∷ []) in
-          let some = input_some e.event input in
-          (some.0, one_more e es some.0 some.1 (none_behind (front ++ Made e ∷ []) es s next at (omega (arith, long))))
+          let next : items ≡ (front ++ made_of e ∷ []) ++ (map made_of es ++ stop_items s) = is ∙ sym (append_assoc front (made_of e ∷ []) (map made_of es ++ stop_items s)) in
+          let long = length-append front (made_of e ∷ []) in
+          let some = input_some e.1.event input in
+          (some.0, one_more e.1 (entries_of es) some.0 some.1 (none_behind (front ++ made_of e ∷ []) es s next at (omega (arith, long))))
 
 -- ---- nothing follows
 
@@ -443,11 +468,11 @@ world_in P seen m is here =
 -- the entries of a front of a legal log are a legal log
 pub legal_front : (front : List Noted) (m : Model) → IsPlan front → model_in front ≡ Some m → Legal m (entries_in front)
 legal_front front m plan is =
-    let same : plan.model ≡ m = same_Some plan.model m (sym (ap model_in plan.is ∙ model_in_items plan.model plan.log plan.stopped plan.legal) ∙ is) in
-    let entries : entries_in front ≡ plan.log = ap entries_in plan.is ∙ entries_in_items plan.model plan.log plan.stopped in
+    let same : plan.model ≡ m = same_Some plan.model m (sym (ap model_in plan.is ∙ model_in_items plan.model plan.log plan.signs plan.legal) ∙ is) in
+    let entries : entries_in front ≡ plan.log = ap entries_in plan.is ∙ entries_in_items plan.model plan.log plan.signs in
     subst (λ (log : List Entry). Legal m log) (sym entries) (subst (λ (k : Model). Legal k plan.log) same plan.legal)
 
-module _ (m : Model) (log : List Entry) (s : Bool) (legal : Legal m log) (front : List Noted) (plan : IsPlan front) (model : model_in front ≡ Some m) (on : IsPrefix front (items_of m log s)) where
+module _ (m : Model) (log : List Entry) (s : Signs) (legal : Legal m log) (front : List Noted) (plan : IsPlan front) (model : model_in front ≡ Some m) (on : IsPrefix front (items_of m log s)) where
   pub entries_whole : log ≡ entries_in front ++ entries_in on.0
   entries_whole = sym (entries_in_items m log s) ∙ entries_on front (items_of m log s) on
 

@@ -21,10 +21,10 @@ use Rattle.pl_machine.proofs.stop.Stop.TheSendSync as stop
 use Rattle.pl_acts.proofs.role.Role.TheSendSync as role
 use Rattle.pl_pair.proofs.duty.Duty.TheSendSync as duty
 use Rattle.pl_acts.proofs.Crossing.{held_whole}
-use Rattle.pl_shared.proofs.Crossing.{plan_sync, pass_send}
+use Rattle.pl_locked.proofs.Crossing.{plan_sync, pass_send}
 use Rattle.pl_acts.specs.contracts.held.Held
 use Rattle.pl_acts.specs.contracts.noted.Noted
-use Rattle.pl_shared.specs.contracts.plan.SharedPlan
+use Rattle.pl_locked.specs.contracts.plan.SharedPlan
 use Rattle.pl_pair.specs.contracts.duty.Duty
 use Rattle.pl_pair.specs.contracts.worker.Worker
 

@@ -6,6 +6,7 @@ use mathlib.Core.List.{IsPrefix}
 use Rattle.pl_turn.specs.Passes.{seen_of, mine_of}
 use Rattle.pl_turn.proofs.Histories.{prefix_self, prefix_trans, prefix_length}
 use Rattle.pl_io.specs.declared.errors.LineFault.{LineFault}
+use Rattle.pl_marks.specs.declared.author.Author.TheVariants.{Feeder}
 use Rattle.pl_entry.specs.declared.entry.Entry.{Entry}
 use Rattle.pl_machine.specs.World.{World}
 use Rattle.pl_machine.specs.Legal.{world_of}
@@ -19,12 +20,11 @@ use Rattle.pl_journal.specs.Rendering.Lines.{text_from, text_of_log}
 use Rattle.pl_input.specs.Waits.{line_in}
 use Rattle.pl_driver.specs.CutShort.{answers, IsCutShort}
 use Rattle.pl_acts.specs.declared.noted.Noted.{Noted}
-use Rattle.pl_acts.specs.declared.noted.Noted.TheVariants.{Stopped}
-use Rattle.pl_shared.specs.declared.plan.SharedPlan.{SharedPlan}
-use Rattle.pl_acts.specs.Items.{items_of, entries_in, model_in, InWorld}
-use Rattle.pl_shared.specs.Plans.{PlanPass, BelongsTo}
+use Rattle.pl_locked.specs.declared.plan.SharedPlan.{SharedPlan}
+use Rattle.pl_acts.specs.Items.{handed_in, items_of, entries_in, model_in, InWorld}
+use Rattle.pl_locked.specs.Plans.{PlanPass, BelongsTo}
 use Rattle.pl_acts.specs.Seen.{IsFull}
-use Rattle.pl_shared.specs.Turns.{TakesTurn, Stops}
+use Rattle.pl_locked.specs.Turns.{TakesTurn, Stops}
 use Rattle.pl_acts.proofs.Items.{entries_in_items, model_in_items, length_going}
 use Rattle.pl_pair.specs.declared.cut.Cut.{Cut}
 use Rattle.pl_pair.specs.declared.cut.Cut.TheVariants as cut
@@ -39,7 +39,7 @@ use Rattle.pl_pair.specs.Feeds.{AreInputs, HandsOnMessages, HandsOne, Writes, Wr
 use Rattle.pl_pair.specs.Feeds as fed
 use Rattle.pl_pair.specs.Endings.{met_by, refusal_of, ended_of}
 use Rattle.pl_pair.specs.Joins.{refusals}
-use Rattle.pl_pair.specs.Runs.{InMessages, Given, WritesLog, ReadUpTo, RunsUntil, RunsFull, IsWrittenInPart, in_last_round, in_first_round, one_behind, one_unread, RunsShort, in_lines, all_lines, behind_lines, RunEnds, TeamRun}
+use Rattle.pl_pair.specs.Runs.{InMessages, Given, WritesLog, ReadUpTo, RunsUntil, RunsFull, IsWrittenInPart, in_last_round, in_first_round, one_behind, one_unread, RunsShort, in_lines, all_lines, behind_lines, RunEnds, RunsTo}
 use Rattle.pl_machine.proofs.Going.{Goes, world_goes}
 use Rattle.pl_pair.proofs.Ending.{NoEnds, LastEnds, EndsIf}
 use Rattle.pl_pair.proofs.Saying.{told_on, told_all, up_to_last, up_to_told, if_known, asks_begins}
@@ -72,18 +72,18 @@ pub closed_by : (w : World) (closed : Bool) → w.closed ≡ closed → Goes w �
 closed_by w true is goes done = refl
 closed_by w false is goes done = absurd (let both : true ≡ false = sym done ∙ goes is in cc)
 
-module _ (start : State) (first : PlanPass) (ws : List Worker) (joined : Joined start.model start.log first ws) (place : Place) (held now : Option (List ℕ)) (old : PlanPass) (seen0 : seen_of old ≡ items_of start.model start.log false) where
+module _ (start : State) (first : PlanPass) (ws : List Worker) (joined : Joined start.model start.log first ws) (place : Place) (held now : Option (List ℕ)) (old : PlanPass) (seen0 : seen_of old ≡ items_of start.model start.log (handed_in start.log)) where
   pub opening_of_front : (front : List Noted) → IsPrefix (seen_of old) front → length start.log ≤ length front
   opening_of_front front longer =
       let le = prefix_length (seen_of old) front longer in
-      let same = ap (λ (xs : List Noted). length xs) seen0 ∙ length_going start.model start.log false refl in
+      let same = ap (λ (xs : List Noted). length xs) seen0 ∙ length_going start.model start.log (handed_in start.log) refl in
       omega (arith, le, same)
 
   pub opening_in : (mid : PlanPass) → Follows old mid → length start.log ≤ length (seen_of mid)
   opening_in mid follows = opening_of_front (seen_of mid) follows.longer
 
   pub model_of : (mid : PlanPass) → Follows old mid → model_in (seen_of mid) ≡ Some start.model
-  model_of mid follows = follows.model ∙ (ap model_in seen0 ∙ model_in_items start.model start.log false joined.legal)
+  model_of mid follows = follows.model ∙ (ap model_in seen0 ∙ model_in_items start.model start.log (handed_in start.log) joined.legal)
 
   -- the run where a history that was written whole is all
   module _ (mid : PlanPass) (end : Place) (tells : HandsOnMessages old place mid end) (plan : SharedPlan) (own : BelongsTo plan mid) (list : FeederList tells.inputs (mine_of mid) (mine_of first)) (to_first : IsPrefix (seen_of mid) (seen_of first)) where
@@ -219,14 +219,14 @@ module _ (start : State) (first : PlanPass) (ws : List Worker) (joined : Joined 
           (up_to_last place after tells.inputs (line_in message) (heard_more place end after tells.inputs message tells.heard asks) (no_ends (world_of start.model joined.whole.log).done tells.inputs going told_ends))
 
 -- the feeder's list behind a refusal, which made nothing
-pub list_behind : (inputs : List (Option (List ℕ))) (before mid first : PlanPass) → AreInputs inputs (mine_of before) → mine_of mid ≡ mine_of before → Stops mid first → FeederList inputs (mine_of before) (mine_of first)
+pub list_behind : (inputs : List (Option (List ℕ))) (before mid first : PlanPass) → AreInputs inputs (mine_of before) → mine_of mid ≡ mine_of before → Stops Feeder mid first → FeederList inputs (mine_of before) (mine_of first)
 list_behind inputs before mid first are same stops =
     let P : List (ℕ × Noted) → Type 0 = λ own. FeederList inputs own (mine_of first) in
     let Q : List (ℕ × Noted) → Type 0 = λ own. AreInputs inputs own in
     subst P same (list_stop inputs mid first (subst Q (sym same) are) stops)
 
-module _ (start : State) (first : PlanPass) (ws : List Worker) (joined : Joined start.model start.log first ws) (place : Place) (held now : Option (List ℕ)) (old : PlanPass) (seen0 : seen_of old ≡ items_of start.model start.log false) (plan : SharedPlan) (end : Place) where
-  pub runs_out : FeedsOut plan start.model old place held first end now → TeamRun joined.duties start place held (Ok tt) end now
+module _ (start : State) (first : PlanPass) (ws : List Worker) (joined : Joined start.model start.log first ws) (place : Place) (held now : Option (List ℕ)) (old : PlanPass) (seen0 : seen_of old ≡ items_of start.model start.log (handed_in start.log)) (plan : SharedPlan) (end : Place) where
+  pub runs_out : FeedsOut plan start.model old place held first end now → RunsTo joined.whole.log joined.whole.stop.by joined.duties start place held (Ok tt) end now
   runs_out feeds =
       let list = list_same feeds.tells.inputs first first feeds.tells.mine refl in
       team_run (Ok tt) start first ws joined place held now old first end end feeds.tells list (λ e. (
@@ -235,10 +235,10 @@ module _ (start : State) (first : PlanPass) (ws : List Worker) (joined : Joined 
       )) (λ e. absurd (cc))
       (out_ends start first ws joined place held now old seen0 first end feeds.tells plan feeds.own list (prefix_self (seen_of first)) (over feeds.done) feeds.written feeds.done)
 
-  module _ (mid : PlanPass) (takes : TakesTurn mid first) (stops : Stops mid first) where
+  module _ (mid : PlanPass) (takes : TakesTurn mid first) (stops : Stops Feeder mid first) where
     runs_until : (r : Halt) (c : Cut) → (r ≡ halt.Full → ⊥)
         → ((entries : List Entry) → RunsUntil r start.model joined.whole.log entries place held end now → RunEnds (Err r) start.model joined.whole.log entries place held end now)
-        → Whys r c place → FeedsUntil plan start.model c old place held mid end now → TeamRun joined.duties start place held (Err r) end now
+        → Whys r c place → FeedsUntil plan start.model c old place held mid end now → RunsTo joined.whole.log joined.whole.stop.by joined.duties start place held (Err r) end now
     runs_until r c never_full as' whys feeds =
         let tells = feeds.waiting.tells in
         let list = list_stop tells.inputs mid first tells.mine stops in
@@ -248,7 +248,7 @@ module _ (start : State) (first : PlanPass) (ws : List Worker) (joined : Joined 
         r c feeds.fault end whys feeds.cut feeds.asks feeds.waiting.between))
 
     -- a write failed
-    runs_torn : FeedsTorn plan start.model old place held mid end now → TeamRun joined.duties start place held (Err halt.Write) end now
+    runs_torn : FeedsTorn plan start.model old place held mid end now → RunsTo joined.whole.log joined.whole.stop.by joined.duties start place held (Err halt.Write) end now
     runs_torn feeds =
         let tells = feeds.feeding.tells in
         let list = list_stop tells.inputs mid first tells.mine stops in
@@ -259,7 +259,7 @@ module _ (start : State) (first : PlanPass) (ws : List Worker) (joined : Joined 
         })
 
     -- memory was wanting for the lines of a round
-    runs_part : FeedsTorn plan start.model old place held mid end now → TeamRun joined.duties start place held (Err halt.Memory) end now
+    runs_part : FeedsTorn plan start.model old place held mid end now → RunsTo joined.whole.log joined.whole.stop.by joined.duties start place held (Err halt.Memory) end now
     runs_part feeds =
         let tells = feeds.feeding.tells in
         let list = list_stop tells.inputs mid first tells.mine stops in
@@ -268,7 +268,7 @@ module _ (start : State) (first : PlanPass) (ws : List Worker) (joined : Joined 
         (in_part start first ws joined place held now old seen0 mid end tells plan feeds.feeding.own list takes.longer feeds.next feeds.so_far feeds.feeding.writes feeds.torn))
 
     -- to read a message
-    runs_unread : FeedsUntil plan start.model cut.Memory old place held mid end now → TeamRun joined.duties start place held (Err halt.Memory) end now
+    runs_unread : FeedsUntil plan start.model cut.Memory old place held mid end now → RunsTo joined.whole.log joined.whole.stop.by joined.duties start place held (Err halt.Memory) end now
     runs_unread feeds =
         let tells = feeds.waiting.tells in
         let list = list_stop tells.inputs mid first tells.mine stops in
@@ -298,19 +298,19 @@ module _ (start : State) (first : PlanPass) (ws : List Worker) (joined : Joined 
         (text_is start first ws joined place held now old seen0 feeds.mid feeds.middle tells plan feeds.waiting.own list to_first rests feeds.waiting.written)
 
     -- to hand a message on
-    runs_untaken : FeedsRefused plan start.model cut.Memory old place held mid end now → TeamRun joined.duties start place held (Err halt.Memory) end now
+    runs_untaken : FeedsRefused plan start.model cut.Memory old place held mid end now → RunsTo joined.whole.log joined.whole.stop.by joined.duties start place held (Err halt.Memory) end now
     runs_untaken feeds =
         let tells = feeds.waiting.tells in
         let list = list_behind tells.inputs feeds.mid mid first tells.mine feeds.step.hands stops in
         team_run (Err halt.Memory) start first ws joined place held now old feeds.mid feeds.middle end tells list (λ e. absurd (never_finished halt.Memory e)) (λ e. absurd (let h : halt.Memory ≡ halt.Full = same_halt halt.Memory halt.Full e in (cc))) (short_refused cut.Memory feeds feeds.step.hands)
 
-    runs_short : FeedsShort plan start.model old place held mid end now → TeamRun joined.duties start place held (Err halt.Memory) end now
+    runs_short : FeedsShort plan start.model old place held mid end now → RunsTo joined.whole.log joined.whole.stop.by joined.duties start place held (Err halt.Memory) end now
     runs_short (for_lines feeds) = runs_part feeds
     runs_short (for_message feeds) = runs_untaken feeds
     runs_short (for_reader feeds) = runs_unread feeds
 
     -- the plan refused a message, for a full log or since a worker had stopped it
-    runs_refused : (full : Bool) (c : Cut) (feeds : FeedsRefused plan start.model c old place held mid end now) → mine_of mid ≡ mine_of feeds.mid → (full ≡ true → IsFull (seen_of mid)) → TeamRun joined.duties start place held (Err (refusal_of full (met_by (refusals ws)))) end now
+    runs_refused : (full : Bool) (c : Cut) (feeds : FeedsRefused plan start.model c old place held mid end now) → mine_of mid ≡ mine_of feeds.mid → (full ≡ true → IsFull (seen_of mid)) → RunsTo joined.whole.log joined.whole.stop.by joined.duties start place held (Err (refusal_of full (met_by (refusals ws)))) end now
     runs_refused full c feeds same is_full' =
         let tells = feeds.waiting.tells in
         let list = list_behind tells.inputs feeds.mid mid first tells.mine same stops in
@@ -350,7 +350,7 @@ module _ (start : State) (first : PlanPass) (ws : List Worker) (joined : Joined 
             absurd (let both : true ≡ false = sym at.0 ∙ worker_open start first ws joined place held now old seen0 feeds.mid feeds.middle tells plan feeds.waiting.own list to_first rests feeds.waiting.written is in cc)
 
     -- a worker had stopped the plan in an open round
-    runs_stopped : FeedsStopped plan start.model old place held mid end now → TeamRun joined.duties start place held (Err (refusal_of false (met_by (refusals ws)))) end now
+    runs_stopped : FeedsStopped plan start.model old place held mid end now → RunsTo joined.whole.log joined.whole.stop.by joined.duties start place held (Err (refusal_of false (met_by (refusals ws)))) end now
     runs_stopped feeds =
         let tells = feeds.tells in
         let list = list_stop tells.inputs mid first tells.mine stops in
@@ -364,11 +364,11 @@ module _ (start : State) (first : PlanPass) (ws : List Worker) (joined : Joined 
         (text_is start first ws joined place held now old seen0 mid end tells plan feeds.own list takes.longer rests feeds.written))
         (λ e is. worker_full start first ws joined place held now old seen0 mid end tells plan feeds.own list takes.longer rests feeds.written is))
 
-    runs_cut : FeedsCut plan start.model old place held mid end now → TeamRun joined.duties start place held (Err (refusal_of false (met_by (refusals ws)))) end now
+    runs_cut : FeedsCut plan start.model old place held mid end now → RunsTo joined.whole.log joined.whole.stop.by joined.duties start place held (Err (refusal_of false (met_by (refusals ws)))) end now
     runs_cut (refused feeds) = runs_refused false cut.Stopped feeds feeds.step.hands.0 (λ e. absurd (cc))
     runs_cut (fed.stopped feeds) = runs_stopped feeds
 
-    runs_err : (c : Cut) → FeedsAll plan start.model old place held (Err c) mid end now → TeamRun joined.duties start place held (ended_of (Err c) (met_by (refusals ws))) end now
+    runs_err : (c : Cut) → FeedsAll plan start.model old place held (Err c) mid end now → RunsTo joined.whole.log joined.whole.stop.by joined.duties start place held (ended_of (Err c) (met_by (refusals ws))) end now
     runs_err cut.Read feeds = runs_until halt.Read cut.Read (λ e. cc) (λ es until. until) (read_whys place) feeds
     runs_err cut.Limit feeds = runs_until halt.Limit cut.Limit (λ e. cc) (λ es until. until) (limit_whys place) feeds
     runs_err cut.Write feeds = runs_torn feeds
@@ -376,6 +376,6 @@ module _ (start : State) (first : PlanPass) (ws : List Worker) (joined : Joined 
     runs_err cut.Full feeds = runs_refused true cut.Full feeds feeds.step.hands.0 (λ e. feeds.step.hands.2)
     runs_err cut.Stopped feeds = runs_cut feeds
 
-  pub runs : (r : Result (Unit {0}) Cut) → FeedsToEnd plan start.model old place held r first end now → TeamRun joined.duties start place held (ended_of r (met_by (refusals ws))) end now
+  pub runs : (r : Result (Unit {0}) Cut) → FeedsToEnd plan start.model old place held r first end now → RunsTo joined.whole.log joined.whole.stop.by joined.duties start place held (ended_of r (met_by (refusals ws))) end now
   runs (Ok u) feeds = runs_out feeds
   runs (Err c) feeds = runs_err feeds.mid feeds.takes feeds.stops c feeds.feeds

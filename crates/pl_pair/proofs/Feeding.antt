@@ -11,6 +11,7 @@ use Rattle.pl_io.specs.declared.errors.LineFault.TheVariants as fault
 use Rattle.pl_io.specs.Faults.{Rose}
 use Rattle.pl_io.specs.Writes.{AppendsFront}
 use Rattle.pl_io.specs.Reader.{NumberedLine}
+use Rattle.pl_marks.specs.declared.author.Author.TheVariants.{Feeder}
 use Rattle.pl_model.specs.declared.whole.Model.{Model}
 use Rattle.pl_entry.specs.declared.event.Event.TheVariants as event
 use Rattle.pl_entry.specs.declared.entry.Entry.{Entry}
@@ -24,11 +25,11 @@ use Rattle.pl_input.proofs.Reading.{took_more, used_later}
 use Rattle.pl_journal.proofs.AboutWriting.{some_held, adds_then}
 use Rattle.pl_acts.specs.declared.noted.Noted.{Noted}
 use Rattle.pl_acts.specs.declared.noted.Noted.TheVariants.{Made, Stopped}
-use Rattle.pl_shared.specs.declared.plan.SharedPlan.{SharedPlan}
+use Rattle.pl_locked.specs.declared.plan.SharedPlan.{SharedPlan}
 use Rattle.pl_acts.specs.Items.{entry_in, entries_in, InWorld}
 use Rattle.pl_acts.specs.Roles.{IsInputOf}
-use Rattle.pl_shared.specs.Plans.{PlanPass, BelongsTo}
-use Rattle.pl_shared.specs.Turns.{TakesTurn, Makes, Stops}
+use Rattle.pl_locked.specs.Plans.{PlanPass, BelongsTo}
+use Rattle.pl_locked.specs.Turns.{TakesTurn, Makes, Stops}
 use Rattle.pl_acts.proofs.EntryKinds.{from_world}
 use Rattle.pl_acts.proofs.FullLogs.{some_entries}
 use Rattle.pl_pair.specs.declared.cut.Cut.{Cut}
@@ -178,7 +179,7 @@ tells_more plan old mid new start middle place tells follows step =
       follows = follows_on old mid new tells.follows follows;
       inputs = tells.inputs ++ line ∷ [];
       heard = heard_more start middle place tells.inputs step.message tells.heard step.asks;
-      mine = (let P : List (ℕ × Noted) → Type 0 = λ xs. AreInputs (tells.inputs ++ line ∷ []) xs in subst P (sym makes.mine) (inputs_push tells.inputs (mine_of mid) line (step.hands.0, Made makes.entry) tells.mine is));
+      mine = (let P : List (ℕ × Noted) → Type 0 = λ xs. AreInputs (tells.inputs ++ line ∷ []) xs in subst P (sym makes.mine) (inputs_push tells.inputs (mine_of mid) line (step.hands.0, Made (Some Feeder) makes.entry) tells.mine (refl, is)));
     }
 
 -- a pass's own items stand in what it has seen
@@ -186,22 +187,22 @@ pub own_stands : (plan : SharedPlan) (pass : PlanPass) → BelongsTo plan pass �
 own_stands plan pass own = All-head (StandsIn (seen_of pass)) (mine_of pass) (crew_of pass).joined own.lock.stands
 
 -- its entry stands behind what was seen before it
-one_due : (mid new : PlanPass) (next number : ℕ) (line : Option (List ℕ)) → Makes (IsFed line) mid new number → next ≡ length (entries_in (seen_of mid)) → next < length (entries_in (seen_of new))
+one_due : (mid new : PlanPass) (next number : ℕ) (line : Option (List ℕ)) → Makes (IsFed line) Feeder mid new number → next ≡ length (entries_in (seen_of mid)) → next < length (entries_in (seen_of new))
 one_due mid new next number line makes count =
     let before = seen_of mid ++ makes.between in
-    let whole : entries_in (seen_of new) ≡ entries_in before ++ makes.entry ∷ [] = ap entries_in makes.seen ∙ filter_map-append entry_in before (Made makes.entry ∷ []) in
+    let whole : entries_in (seen_of new) ≡ entries_in before ++ makes.entry ∷ [] = ap entries_in makes.seen ∙ filter_map-append entry_in before (Made (Some Feeder) makes.entry ∷ []) in
     let long = ap (λ (es : List Entry). length es) whole ∙ length-append (entries_in before) (makes.entry ∷ []) in
     let longer = entries_longer (seen_of mid) before (makes.between, refl) in
     omega (arith, long, longer, count)
 
-hands_one : (plan : SharedPlan) (old mid new : PlanPass) (number : ℕ) (line : Option (List ℕ)) → BelongsTo plan mid → Follows old mid → Makes (IsFed line) mid new number → InWorld (seen_of mid) IsBetween → HandsOne old (seen_of mid) (mine_of new)
+hands_one : (plan : SharedPlan) (old mid new : PlanPass) (number : ℕ) (line : Option (List ℕ)) → BelongsTo plan mid → Follows old mid → Makes (IsFed line) Feeder mid new number → InWorld (seen_of mid) IsBetween → HandsOne old (seen_of mid) (mine_of new)
 hands_one plan old mid new number line own follows makes between = record {
   longer = follows.longer;
   plan = own.seen;
   between = between;
   earlier = mine_of mid;
   stands = own_stands plan mid own;
-  last = (number, Made makes.entry);
+  last = (number, Made (Some Feeder) makes.entry);
   own = makes.mine;
 }
 
@@ -414,6 +415,6 @@ passes_no_write next start place old new (Err c) a b passes is = absurd (let P :
 
 -- ---- the stop behind it
 
-pub ends_stopped : (plan : SharedPlan) (m : Model) (c : Cut) (old mid new : PlanPass) (start place : Place) (held now : Option (List ℕ)) → FeedsAll plan m old start held (Err c) mid place now → TakesTurn mid new → Stops mid new
+pub ends_stopped : (plan : SharedPlan) (m : Model) (c : Cut) (old mid new : PlanPass) (start place : Place) (held now : Option (List ℕ)) → FeedsAll plan m old start held (Err c) mid place now → TakesTurn mid new → Stops Feeder mid new
     → FeedsToEnd plan m old start held (Err c) new place now
 ends_stopped plan m c old mid new start place held now feeds takes stops = record { mid = mid; feeds = feeds; takes = takes; stops = stops }

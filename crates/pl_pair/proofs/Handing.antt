@@ -12,8 +12,8 @@ use Rattle.pl_turn.specs.Passes.{seen_of, mine_of, crew_of, leads, made_by, join
 use Rattle.pl_turn.proofs.Histories.{prefix_self, prefix_trans}
 use Rattle.pl_machine.specs.declared.stop.Stop.{Stop}
 use Rattle.pl_acts.specs.declared.noted.Noted.{Noted}
-use Rattle.pl_shared.specs.declared.plan.SharedPlan.{SharedPlan}
-use Rattle.pl_shared.specs.Plans.{PlanPass, BelongsTo}
+use Rattle.pl_locked.specs.declared.plan.SharedPlan.{SharedPlan}
+use Rattle.pl_locked.specs.Plans.{PlanPass, BelongsTo}
 use Rattle.pl_pair.specs.declared.duty.Duty.{Duty}
 use Rattle.pl_pair.specs.declared.worker.Worker.{Worker}
 use Rattle.pl_pair.specs.declared.hands.Hand.{Hand}
@@ -63,8 +63,8 @@ pub hired_at : (plan : SharedPlan) (duties : List Duty) (old mid own : PlanPass)
     → IsHired plan (get_or duties k d) own
 hired_at plan duties old mid own k d begun within so_far seen belongs none =
     let long : length (seen_of own) ≡ length (seen_of old) = ap length (seen ∙ so_far.seen) in
-    let here : begun_of (get_or duties k d) ≤ length (seen_of old) = begun k d within in
-    record { own = belongs; new = none; begun = omega (arith, long, here) }
+    let here : begun_of (get_or duties k d) ≤ length (seen_of old) = (begun k d within).0 in
+    record { own = belongs; new = none; begun = omega (arith, long, here); known = (begun k d within).1 }
 
 -- ---- one after another is joined
 

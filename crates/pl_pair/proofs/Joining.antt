@@ -1,15 +1,17 @@
 -- One whole history, joined from those of the feeder and of the workers.
 use Rattle.std.proofs.lemmas.Option.{same_Some}
 use Rattle.std.proofs.lemmas.Bool.{or_cases}
-use Rattle.std.proofs.Common.{◌≡◌, ℕ, ◌+◌, ◌≤◌, ◌<◌, List, [], ◌∷◌, ◌++◌, length, map, Bool, true, false, Option, Some, None, slice_get, refl, sym, ◌∙◌, ap, subst, arith, inl, inr, ◌⊎◌, length-append}
+use Rattle.std.proofs.Common.{◌≡◌, ℕ, ◌+◌, ◌≤◌, ◌<◌, List, [], ◌∷◌, ◌++◌, length, map, true, false, Option, Some, None, slice_get, refl, sym, ◌∙◌, ap, subst, arith, inl, inr, ◌⊎◌, length-append}
 use Rattle.std.specs.List.{All, list_any}
 use Rattle.std.proofs.lemmas.List.Elements.{All-nil, All-cons, All-head, All-tail}
 use Rattle.pl_entry.specs.declared.event.Event.{Event}
-use Rattle.std.proofs.lemmas.List.{append-nil}
+use Rattle.std.proofs.lemmas.List.{append-nil, take_all}
 use mathlib.Core.List.{IsPrefix}
 use Rattle.pl_turn.specs.History.{IsEachOnce, StandsIn, times_in}
 use Rattle.pl_turn.specs.Passes.{seen_of, mine_of, opening_of}
 use Rattle.pl_turn.proofs.Histories.{prefix_trans}
+use Rattle.pl_marks.specs.declared.author.Author.{Author}
+use Rattle.pl_marks.specs.declared.author.Author.TheVariants.{Feeder}
 use Rattle.pl_model.specs.declared.whole.Model.{Model}
 use Rattle.pl_entry.specs.declared.entry.Entry.{Entry}
 use Rattle.pl_machine.specs.declared.stop.Stop.{Stop}
@@ -22,20 +24,20 @@ use Rattle.pl_journal.specs.Rendering.Lines.{text_from}
 use Rattle.pl_journal.specs.Written.{Adds}
 use Rattle.pl_acts.specs.declared.noted.Noted.{Noted}
 use Rattle.pl_acts.specs.declared.noted.Noted.TheVariants.{Made, Stopped}
-use Rattle.pl_shared.specs.declared.plan.SharedPlan.{SharedPlan}
-use Rattle.pl_acts.specs.Items.{stop_items, items_of, entries_in, model_in, InWorld}
+use Rattle.pl_locked.specs.declared.plan.SharedPlan.{SharedPlan}
+use Rattle.pl_acts.specs.Items.{Signs, SignedEntry, made_of, entries_of, handed_in, stop_items, items_of, entries_in, model_in, signer_in, InWorld}
 use Rattle.pl_acts.specs.declared.role.Role.{Role}
 use Rattle.pl_acts.specs.declared.role.Role.TheVariants.{Planner, Executive}
 use Rattle.pl_acts.specs.Roles.{has_event, is_input, kind_of}
 use Rattle.pl_acts.specs.Seen.{IsPlan, IsFull}
-use Rattle.pl_shared.specs.Plans.{PlanPass, BelongsTo}
-use Rattle.pl_shared.specs.Turns.{Stops, was_stopped, is_stopped}
+use Rattle.pl_locked.specs.Plans.{PlanPass, BelongsTo}
+use Rattle.pl_locked.specs.Turns.{Stops, was_stopped, is_stopped}
 use Rattle.pl_acts.proofs.Items.{entries_in_items, model_in_items, length_going, made_entries}
 use Rattle.pl_acts.proofs.FullLogs.{log_is_bounded, world_options, full_ends, same_world, full_on}
 use Rattle.pl_pair.specs.declared.duty.Duty.{Duty}
 use Rattle.pl_pair.specs.declared.worker.Worker.{Worker}
-use Rattle.pl_pair.specs.Duties.{role_of, begun_of}
-use Rattle.pl_pair.specs.Served.{IsFullRound, Refused, IsServed}
+use Rattle.pl_pair.specs.Duties.{role_of, begun_of, author_of}
+use Rattle.pl_pair.specs.Served.{IsSomeones, AreHandedIn, IsFullRound, Refused, IsServed}
 use Rattle.pl_pair.specs.Feeds.{AreInputs, HandsOne, WritesAll}
 use Rattle.pl_pair.specs.Endings.{is_full, met_by}
 use Rattle.pl_pair.specs.Joins.{refusals, duties_in, own_lists_of, HasSeenIn}
@@ -44,38 +46,43 @@ use Rattle.pl_machine.proofs.Going.{world_goes}
 use Rattle.pl_pair.proofs.Ending.{EndsIf, steps_behind, world_behind, run_ends}
 use Rattle.pl_pair.proofs.Working.{own_on, own_kinds}
 use Rattle.pl_pair.proofs.Feeding.{own_stands}
+use Rattle.pl_pair.proofs.Owning.{handed_are, opening_is}
 use Rattle.pl_pair.specs.Chosen.{AreChosen}
 use Rattle.pl_pair.proofs.Choosing.{are_chosen}
-use Rattle.pl_pair.proofs.Closing.{FeederList, feeder_until, MoreOf, more_of, NoInputs, made_no_inputs, repair_no_input, executed_no_input, inputs_are, no_further, one_input, same_model, Rests, between, over, stopped, world_in, at_front, entries_whole, over_none, between_input, stop_none}
+use Rattle.pl_pair.proofs.Closing.{FeederList, feeder_until, feeder_signed, MoreOf, more_of, NoInputs, made_no_inputs, repair_no_input, executed_no_input, inputs_are, no_further, one_input, same_model, Rests, between, over, stopped, world_in, at_front, entries_whole, over_none, between_input, stop_none}
 use Rattle.pl_machine.proofs.ShortLogs.{log_is_some}
 
 -- ---- the whole history, of the model that was handed in
 
 pub record Whole (m : Model) (before : List Entry) (first : PlanPass) (workers : List Worker) : Type 0 where
   pub log : List Entry
-  pub stop : Bool
+  pub stop : Signs
+  pub some : 0 < stop.by.opening
+  pub each : stop.by.opening + length stop.by.authors ≡ length log
   pub legal : Legal m log
   pub first_seen : IsPrefix (seen_of first) (items_of m log stop)
   pub workers_seen : All (HasSeenIn (items_of m log stop)) workers
   pub stands : All (StandsIn (items_of m log stop)) (mine_of first ∷ own_lists_of workers)
   pub owners : IsEachOnce (length before) (length (items_of m log stop)) (λ place. times_in place (mine_of first ∷ own_lists_of workers))
 
-pub whole_of : (m : Model) (before : List Entry) (first : PlanPass) (workers : List Worker) (machine : State) → model_in (seen_of first) ≡ Some m → opening_of first ≡ length before → ClosesAll first workers machine
+unfoldable pub whole_of : (m : Model) (before : List Entry) (first : PlanPass) (workers : List Worker) (machine : State) → model_in (seen_of first) ≡ Some m → opening_of first ≡ length before → ClosesAll first workers machine
     → Whole m before first workers
 whole_of m before first workers machine model opening closes =
     let same : machine.model ≡ m = same_Some machine.model m (sym closes.model ∙ model) in
     let lists = mine_of first ∷ own_lists_of workers in
-    let W : Model → Type 0 = λ k. Legal k machine.log × IsPrefix (seen_of first) (items_of k machine.log closes.stopped) × All (HasSeenIn (items_of k machine.log closes.stopped)) workers
-    × All (StandsIn (items_of k machine.log closes.stopped)) lists × IsEachOnce (opening_of first) (length (items_of k machine.log closes.stopped)) (λ place. times_in place lists) in
+    let W : Model → Type 0 = λ k. Legal k machine.log × IsPrefix (seen_of first) (items_of k machine.log closes.signs) × All (HasSeenIn (items_of k machine.log closes.signs)) workers
+    × All (StandsIn (items_of k machine.log closes.signs)) lists × IsEachOnce (opening_of first) (length (items_of k machine.log closes.signs)) (λ place. times_in place lists) in
     let w : W m = subst W same (closes.legal, closes.first_seen, closes.workers_seen, closes.stands, closes.owners) in
     record {
       log = machine.log;
-      stop = closes.stopped;
+      stop = closes.signs;
+      some = closes.some;
+      each = closes.each;
       legal = w.0;
       first_seen = w.1;
       workers_seen = w.2;
       stands = w.3;
-      owners = subst (λ (n : ℕ). IsEachOnce n (length (items_of m machine.log closes.stopped)) (λ place. times_in place lists)) opening w.4;
+      owners = subst (λ (n : ℕ). IsEachOnce n (length (items_of m machine.log closes.signs)) (λ place. times_in place lists)) opening w.4;
     }
 
 -- ---- workers
@@ -101,20 +108,26 @@ refused_full (Some stop.Memory) r seen is why = absurd (cc)
 -- ---- the feeder's list
 
 pub list_same : (inputs : List (Option (List ℕ))) (mid first : PlanPass) → AreInputs inputs (mine_of mid) → mine_of first ≡ mine_of mid → FeederList inputs (mine_of mid) (mine_of first)
-list_same inputs mid first are same = record { rest = []; whole = same ∙ sym (append-nil (mine_of mid)); are = are; behind = inl refl }
+list_same inputs mid first are same = record { rest = []; whole = same ∙ sym (append-nil (mine_of mid)); are = are; behind = inl refl; signed = All-nil (λ x. signer_in x.1 ≡ Some Feeder) }
 
-pub list_stop : (inputs : List (Option (List ℕ))) (mid first : PlanPass) → AreInputs inputs (mine_of mid) → Stops mid first → FeederList inputs (mine_of mid) (mine_of first)
+pub list_stop : (inputs : List (Option (List ℕ))) (mid first : PlanPass) → AreInputs inputs (mine_of mid) → Stops Feeder mid first → FeederList inputs (mine_of mid) (mine_of first)
 list_stop inputs mid first are (was_stopped same stops) = list_same inputs mid first are same
-list_stop inputs mid first are (is_stopped seen on going is mine) = record { rest = (length seen, Stopped) ∷ []; whole = mine; are = are; behind = inr (length seen, refl) }
+list_stop inputs mid first are (is_stopped seen on going is mine) = record {
+  rest = (length seen, Stopped Feeder) ∷ [];
+  whole = mine;
+  are = are;
+  behind = inr (length seen, Feeder, refl);
+  signed = All-cons (λ x. signer_in x.1 ≡ Some Feeder) (length seen, Stopped Feeder) [] refl (All-nil (λ x. signer_in x.1 ≡ Some Feeder));
+}
 
 -- ---- one whole history
 
-pub more_first : (more : List Noted) (of : MoreOf more) (e : Entry) (es : List Entry) → entries_in more ≡ e ∷ es → (rest : List Noted) × (more ≡ Made e ∷ rest)
-more_first more of e es is = by of.entries (of.is) (sym (ap entries_in of.is ∙ made_entries of.entries of.stop) ∙ is)
+pub more_first : (more : List Noted) (of : MoreOf more) (e : Entry) (es : List Entry) → entries_in more ≡ e ∷ es → (author : Option Author) × (rest : List Noted) × (more ≡ Made author e ∷ rest)
+more_first more of e es is = by of.signed (of.is) (sym (ap entries_in of.is ∙ made_entries of.signed of.stop) ∙ is)
   where
-    by : (xs : List Entry) → more ≡ map Made xs ++ stop_items of.stop → xs ≡ e ∷ es → (rest : List Noted) × (more ≡ Made e ∷ rest)
+    by : (xs : List SignedEntry) → more ≡ map made_of xs ++ stop_items of.stop → entries_of xs ≡ e ∷ es → (author : Option Author) × (rest : List Noted) × (more ≡ Made author e ∷ rest)
     by [] at same = absurd (cc)
-    by (x ∷ xs) at same = (map Made xs ++ stop_items of.stop, at ∙ ap (λ (y : Entry). Made y ∷ (map Made xs ++ stop_items of.stop)) (let h : x ∷ xs ≡ e ∷ es = same in (cc)))
+    by (x ∷ xs) at same = (x.0, map made_of xs ++ stop_items of.stop, at ∙ ap (λ (y : Entry). Made x.0 y ∷ (map made_of xs ++ stop_items of.stop)) (let h : x.1 ∷ entries_of xs ≡ e ∷ es = same in (cc)))
 
 -- What was written of a history behind which nothing follows.
 pub record Settled (m : Model) (held now : Option (List ℕ)) (front : List Noted) (own : List (ℕ × Noted)) : Type 0 where
@@ -151,7 +164,7 @@ pub record Joined (m : Model) (before : List Entry) (first : PlanPass) (ws : Lis
   pub whole : Whole m before first ws
   pub legal : Legal m before
   pub going : (world_of m before).done ≡ false
-  pub opened : IsPrefix (items_of m before false) (seen_of first)
+  pub opened : IsPrefix (items_of m before (handed_in before)) (seen_of first)
   pub own : BelongsTo plan first
   pub duties : List Duty
   pub hired : duties_in ws ≡ duties
@@ -165,7 +178,7 @@ module _ (m : Model) (before : List Entry) (first : PlanPass) (ws : List Worker)
   model_items = model_in_items m joined.whole.log joined.whole.stop joined.whole.legal
 
   pub plan_items : IsPlan (items_of m joined.whole.log joined.whole.stop)
-  plan_items = record { model = m; log = joined.whole.log; stopped = joined.whole.stop; legal = joined.whole.legal; is = refl }
+  plan_items = record { model = m; log = joined.whole.log; signs = joined.whole.stop; legal = joined.whole.legal; some = joined.whole.some; each = joined.whole.each; is = refl }
 
   pub model_seen : (seen : List Noted) → IsPlan seen → IsPrefix seen (items_of m joined.whole.log joined.whole.stop) → model_in seen ≡ Some m
   model_seen seen plan onto = same_model seen (items_of m joined.whole.log joined.whole.stop) m plan onto model_items
@@ -178,6 +191,7 @@ module _ (m : Model) (before : List Entry) (first : PlanPass) (ws : List Worker)
         saw = record { begins = seen; holds = own_stands joined.plan w.pass served.own };
         kinds = own_kinds w.refusal items (role_of w.duty) w.role (begun_of w.duty) (mine_of w.pass) made;
         made = made;
+        signed = served.signed.1;
         is = served.worker;
         why = refused_on w.refusal w.role (seen_of w.pass) items served.own.seen plan_items seen (model_items ∙ sym (model_seen (seen_of w.pass) served.own.seen seen)) served.why;
       }
@@ -187,6 +201,11 @@ module _ (m : Model) (before : List Entry) (first : PlanPass) (ws : List Worker)
   all_served (w ∷ workers) served seen =
       All-cons (ServedIn items) (service_of w) (services_of workers) (served_in w (All-head (IsServed joined.plan) w workers served) (All-head (HasSeenIn items) w workers seen))
       (all_served workers (All-tail (IsServed joined.plan) w workers served) (All-tail (HasSeenIn items) w workers seen))
+
+  workers_theirs : (workers : List Worker) → All (IsServed joined.plan) workers → All IsSomeones (own_lists_of workers)
+  workers_theirs [] served = All-nil IsSomeones
+  workers_theirs (w ∷ workers) served =
+      All-cons IsSomeones (mine_of w.pass) (own_lists_of workers) (author_of w.duty, (All-head (IsServed joined.plan) w workers served).signed.1) (workers_theirs workers (All-tail (IsServed joined.plan) w workers served))
 
   pub each_served : All (ServedIn items) (services_of ws)
   each_served = all_served ws joined.each joined.whole.workers_seen
@@ -220,9 +239,19 @@ module _ (m : Model) (before : List Entry) (first : PlanPass) (ws : List Worker)
   met_full is = full_in (services_of ws) each_served (ap (λ (os : List (Option Stop)). list_any is_full os) (mets_same ws) ∙ is)
 
   module _ (inputs : List (Option (List ℕ))) (own : List (ℕ × Noted)) (list : FeederList inputs own (mine_of first)) where
+    -- as many entries were handed in as there were before
+    pub handed_whole : joined.whole.stop.by.opening ≡ length before
+    handed_whole =
+        let start : List Noted = items_of m before (handed_in before) in
+        let long : length start ≡ length before = length_going m before (handed_in before) refl in
+        opening_is m joined.whole.log joined.whole.stop joined.whole.some joined.whole.each (mine_of first ∷ own_lists_of ws) (length before) joined.whole.stands joined.whole.owners
+        (All-cons IsSomeones (mine_of first) (own_lists_of ws) (Feeder, feeder_signed inputs own (mine_of first) list) (workers_theirs ws joined.each))
+        start (prefix_trans start (seen_of first) items joined.opened joined.whole.first_seen) (omega (arith, long))
+        (subst AreHandedIn (sym (take_all (length before) start (omega (arith, long)))) (handed_are m before))
+
     unfoldable pub history : History joined.duties m before joined.whole.log
     history = record {
-      stopped = joined.whole.stop;
+      signs = joined.whole.stop;
       feeder = mine_of first;
       feeder_seen = seen_of first;
       workers = services_of ws;
@@ -231,27 +260,30 @@ module _ (m : Model) (before : List Entry) (first : PlanPass) (ws : List Worker)
       stands = service_stands;
       owners = service_owners;
       feeder_saw = record { begins = joined.whole.first_seen; holds = own_stands joined.plan first joined.own };
+      handed = handed_whole;
+      each_signed = joined.whole.each;
+      feeder_signed = feeder_signed inputs own (mine_of first) list;
       inputs = feeder_until inputs own (mine_of first) list;
       each = each_served;
     }
 
-    opening_plan : IsPlan (items_of m before false)
-    opening_plan = record { model = m; log = before; stopped = false; legal = joined.legal; is = refl }
+    opening_plan : IsPlan (items_of m before (handed_in before))
+    opening_plan = record { model = m; log = before; signs = handed_in before; legal = joined.legal; some = log_is_some m before joined.legal; each = (let e : length before + 0 ≡ length before = omega arith in e); is = refl }
 
-    pub on : IsPrefix (items_of m before false) (items_of m joined.whole.log joined.whole.stop)
-    on = prefix_trans (items_of m before false) (seen_of first) (items_of m joined.whole.log joined.whole.stop) joined.opened joined.whole.first_seen
+    pub on : IsPrefix (items_of m before (handed_in before)) (items_of m joined.whole.log joined.whole.stop)
+    on = prefix_trans (items_of m before (handed_in before)) (seen_of first) (items_of m joined.whole.log joined.whole.stop) joined.opened joined.whole.first_seen
 
     pub more : MoreOf on.0
-    more = more_of (items_of m before false) m joined.whole.log joined.whole.stop opening_plan joined.whole.legal on
+    more = more_of (items_of m before (handed_in before)) m joined.whole.log joined.whole.stop opening_plan joined.whole.legal on
 
     abbrev pub entries : List Entry
-    entries = more.entries
+    entries = entries_of more.signed
 
     pub begins : joined.whole.log ≡ before ++ entries
     begins =
-        entries_whole m joined.whole.log joined.whole.stop joined.whole.legal (items_of m before false) opening_plan (model_in_items m before false joined.legal) on
-        ∙ ap (λ (xs : List Entry). xs ++ entries_in on.0) (entries_in_items m before false)
-        ∙ ap (λ (xs : List Entry). before ++ xs) (ap entries_in more.is ∙ made_entries more.entries more.stop)
+        entries_whole m joined.whole.log joined.whole.stop joined.whole.legal (items_of m before (handed_in before)) opening_plan (model_in_items m before (handed_in before) joined.legal) on
+        ∙ ap (λ (xs : List Entry). xs ++ entries_in on.0) (entries_in_items m before (handed_in before))
+        ∙ ap (λ (xs : List Entry). before ++ xs) (ap entries_in more.is ∙ made_entries more.signed more.stop)
 
     pub chosen : AreChosen m before entries
     chosen =
@@ -261,7 +293,7 @@ module _ (m : Model) (before : List Entry) (first : PlanPass) (ws : List Worker)
     pub inputs_same : inputs_of entries ≡ inputs
     inputs_same =
         inputs_are (items_of m joined.whole.log joined.whole.stop) inputs own (mine_of first) (own_lists_of ws) list joined.whole.stands none_others (length before) joined.whole.owners
-        (items_of m before false) entries more.stop (sym (length_going m before false refl)) (sym on.1 ∙ ap (λ (xs : List Noted). items_of m before false ++ xs) more.is)
+        (items_of m before (handed_in before)) more.signed more.stop (sym (length_going m before (handed_in before) refl)) (sym on.1 ∙ ap (λ (xs : List Noted). items_of m before (handed_in before) ++ xs) more.is)
 
     pub ends_if : EndsIf (world_of m joined.whole.log).done (inputs_of entries)
     ends_if =
@@ -281,11 +313,11 @@ module _ (m : Model) (before : List Entry) (first : PlanPass) (ws : List Worker)
       no_entry (stopped stops) e es is = (let both : e ∷ es ≡ [] = sym is ∙ stop_none m joined.whole.log joined.whole.stop joined.whole.legal front settled.plan settled.model onto stops in cc)
       no_entry (between here) e es is =
           let first' = more_first onto.0 (more_of front m joined.whole.log joined.whole.stop settled.plan joined.whole.legal onto) e es is in
-          let whole' : items_of m joined.whole.log joined.whole.stop ≡ front ++ Made e ∷ first'.0 = sym onto.1 ∙ ap (λ (xs : List Noted). front ++ xs) first'.1 in
-          let at : slice_get (items_of m joined.whole.log joined.whole.stop) (length front) ≡ Some (Made e) = ap (λ (xs : List Noted). slice_get xs (length front)) whole' ∙ at_front front first'.0 (Made e) in
-          let long = ap (λ (xs : List Noted). length xs) whole' ∙ length-append front (Made e ∷ first'.0) in
+          let whole' : items_of m joined.whole.log joined.whole.stop ≡ front ++ Made first'.0 e ∷ first'.1 = sym onto.1 ∙ ap (λ (xs : List Noted). front ++ xs) first'.2 in
+          let at : slice_get (items_of m joined.whole.log joined.whole.stop) (length front) ≡ Some (Made first'.0 e) = ap (λ (xs : List Noted). slice_get xs (length front)) whole' ∙ at_front front first'.1 (Made first'.0 e) in
+          let long = ap (λ (xs : List Noted). length xs) whole' ∙ length-append front (Made first'.0 e ∷ first'.1) in
           no_further (items_of m joined.whole.log joined.whole.stop) inputs own (mine_of first) (own_lists_of ws) list joined.whole.stands none_others (length before) joined.whole.owners
-          front e (length front) settled.stands (omega arith) past (omega (arith, long)) at
+          front (first'.0, e) (length front) settled.stands (omega arith) past (omega (arith, long)) at
           (between_input m joined.whole.log joined.whole.stop joined.whole.legal front settled.plan settled.model onto here e es is)
 
       settled_by : (es : List Entry) → entries_in onto.0 ≡ es → joined.whole.log ≡ entries_in front
@@ -305,17 +337,17 @@ module _ (m : Model) (before : List Entry) (first : PlanPass) (ws : List Worker)
     -- ---- one message follows what was written
 
     module _ (old : PlanPass) (front : List Noted) (handed : HandsOne old front own) (onto : IsPrefix front (items_of m joined.whole.log joined.whole.stop)) (past : length before ≤ length front) where
-      message_by : (behind : MoreOf onto.0) (es : List Entry) → behind.entries ≡ es → 0 < length (entries_in onto.0) → (message : Option (List ℕ)) × (inputs_of (entries_in onto.0) ≡ message ∷ [])
+      message_by : (behind : MoreOf onto.0) (es : List SignedEntry) → behind.signed ≡ es → 0 < length (entries_in onto.0) → (message : Option (List ℕ)) × (inputs_of (entries_in onto.0) ≡ message ∷ [])
       message_by behind [] is due =
-          let none : entries_in onto.0 ≡ [] = ap entries_in behind.is ∙ made_entries behind.entries behind.stop ∙ is in
+          let none : entries_in onto.0 ≡ [] = ap entries_in behind.is ∙ made_entries behind.signed behind.stop ∙ ap entries_of is in
           let long = ap (λ (es : List Entry). length es) none in
           absurd (omega (arith, long, due))
       message_by behind (e ∷ es) is due =
-          let same : entries_in onto.0 ≡ e ∷ es = ap entries_in behind.is ∙ made_entries behind.entries behind.stop ∙ is in
-          let whole' : items_of m joined.whole.log joined.whole.stop ≡ front ++ (map Made (e ∷ es) ++ stop_items behind.stop) =
-          sym onto.1 ∙ ap (λ (xs : List Noted). front ++ xs) (behind.is ∙ ap (λ (xs : List Entry). map Made xs ++ stop_items behind.stop) is) in
+          let same : entries_in onto.0 ≡ e.1 ∷ entries_of es = ap entries_in behind.is ∙ made_entries behind.signed behind.stop ∙ ap entries_of is in
+          let whole' : items_of m joined.whole.log joined.whole.stop ≡ front ++ (map made_of (e ∷ es) ++ stop_items behind.stop) =
+          sym onto.1 ∙ ap (λ (xs : List Noted). front ++ xs) (behind.is ∙ ap (λ (xs : List SignedEntry). map made_of xs ++ stop_items behind.stop) is) in
           let model = model_seen front handed.plan onto in
-          let input = between_input m joined.whole.log joined.whole.stop joined.whole.legal front handed.plan model onto handed.between e es same in
+          let input = between_input m joined.whole.log joined.whole.stop joined.whole.legal front handed.plan model onto handed.between e.1 (entries_of es) same in
           let one = one_input (items_of m joined.whole.log joined.whole.stop) inputs own (mine_of first) (own_lists_of ws) list joined.whole.stands none_others (length before) joined.whole.owners
           front handed.earlier handed.last handed.own handed.stands past e es behind.stop whole' input in
           (one.0, ap inputs_of same ∙ one.1)
@@ -323,7 +355,7 @@ module _ (m : Model) (before : List Entry) (first : PlanPass) (ws : List Worker)
       pub one_message : 0 < length (entries_in onto.0) → (message : Option (List ℕ)) × (inputs_of (entries_in onto.0) ≡ message ∷ [])
       one_message due =
           let behind = more_of front m joined.whole.log joined.whole.stop handed.plan joined.whole.legal onto in
-          message_by behind behind.entries refl due
+          message_by behind behind.signed refl due
 
     -- ---- a full log
 

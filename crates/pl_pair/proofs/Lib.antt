@@ -8,6 +8,7 @@ pub mod Saying
 pub mod Closing
 pub mod Choosing
 pub mod Cutting
+pub mod Owning
 pub mod Joining
 pub mod Causes
 pub mod FeederEnds

@@ -11,7 +11,7 @@ use Rattle.pl_input.specs.Stops.{HaltFor}
 use Rattle.pl_input.specs.Reads.{GotLine}
 use Rattle.pl_input.specs.Waits.{MessageGives, line_in}
 use Rattle.pl_input.proofs.Reading.{next_gives, took_more, used_later, halts_later}
-use Rattle.pl_shared.specs.Plans.{PlanPass}
+use Rattle.pl_locked.specs.Plans.{PlanPass}
 use Rattle.pl_pair.specs.declared.cut.Cut.{Cut}
 use Rattle.pl_pair.specs.Cuts.{cut_of, cut_by}
 use Rattle.pl_input.specs.Places.{Place}

@@ -18,10 +18,10 @@ use Rattle.pl_acts.specs.declared.noted.Noted.{Noted}
 use Rattle.pl_acts.specs.declared.noted.Noted.TheVariants.{Opened, Made, Stopped}
 use Rattle.pl_acts.specs.declared.part.Part.{Part}
 use Rattle.pl_acts.specs.Items.{entry_in, entries_in}
-use Rattle.pl_shared.specs.declared.plan.SharedPlan.{SharedPlan}
+use Rattle.pl_locked.specs.declared.plan.SharedPlan.{SharedPlan}
 use Rattle.pl_acts.specs.Seen.{IsPlan, Copies}
-use Rattle.pl_shared.specs.Plans.{PlanPass, BelongsTo}
-use Rattle.pl_shared.specs.Turns.{TakesTurn}
+use Rattle.pl_locked.specs.Plans.{PlanPass, BelongsTo}
+use Rattle.pl_locked.specs.Turns.{TakesTurn}
 use Rattle.pl_machine.proofs.ShortLogs.{log_is_short}
 use Rattle.pl_acts.proofs.Items.{entries_in_items}
 use Rattle.pl_acts.proofs.FullLogs.{in_world_on}
@@ -60,13 +60,13 @@ looks_more old mid new first takes same = looks_on old mid new first (record { f
 
 entries_few : (xs : List Noted) → length (entries_in xs) ≤ length xs
 entries_few [] = omega arith
-entries_few (Opened m e ∷ xs) = (let le = entries_few xs in omega arith)
-entries_few (Made e ∷ xs) = (let le = entries_few xs in omega arith)
-entries_few (Stopped ∷ xs) = (let le = entries_few xs in omega arith)
+entries_few (Opened m n e ∷ xs) = (let le = entries_few xs in omega arith)
+entries_few (Made by e ∷ xs) = (let le = entries_few xs in omega arith)
+entries_few (Stopped by ∷ xs) = (let le = entries_few xs in omega arith)
 
 pub entries_short : (xs : List Noted) → IsPlan xs → length (entries_in xs) ≤ 250000
 entries_short xs plan =
-    let same = ap (λ (es : List Entry). length es) (ap entries_in plan.is ∙ entries_in_items plan.model plan.log plan.stopped) in
+    let same = ap (λ (es : List Entry). length es) (ap entries_in plan.is ∙ entries_in_items plan.model plan.log plan.signs) in
     let le = log_is_short plan.model plan.log plan.legal in
     omega arith
 

@@ -10,7 +10,7 @@ use Rattle.pl_input.specs.Words.{is_blank_line, is_line_of, end_word, messages_o
 use Rattle.pl_input.specs.Reads.{GivesLinesKnown, IsUsedUp, AreBlank}
 use Rattle.pl_input.specs.Waits.{line_in}
 use Rattle.pl_input.proofs.Reading.{gave_none, known, gave_lines}
-use Rattle.pl_shared.specs.Plans.{PlanPass}
+use Rattle.pl_locked.specs.Plans.{PlanPass}
 use Rattle.pl_input.specs.Places.{Place}
 use Rattle.pl_pair.specs.Asking.{Asks}
 use Rattle.pl_pair.specs.Feeds.{spoken, said_in, Reads, unasked, asked, Heard, HandsOnMessages}

@@ -7,11 +7,12 @@ use Rattle.pl_input.specs.Reads.{OneLine}
 use Rattle.pl_input.specs.Waits.{MessageGives, GetsFault, line_in}
 use Rattle.pl_input.specs.Places.{Place}
 use Rattle.pl_entry.specs.declared.entry.Entry.{Entry}
+use Rattle.pl_marks.specs.declared.author.Author.TheVariants.{Feeder}
 use Rattle.pl_acts.specs.declared.noted.Noted.{Noted}
 use Rattle.pl_acts.specs.Items.{InWorld}
 use Rattle.pl_acts.specs.Roles.{IsInputOf}
-use Rattle.pl_shared.specs.Plans.{PlanPass}
-use Rattle.pl_shared.specs.Turns.{Makes, MakesNothing, Feeds}
+use Rattle.pl_locked.specs.Plans.{PlanPass}
+use Rattle.pl_locked.specs.Turns.{Makes, MakesNothing, Feeds}
 use Rattle.pl_pair.specs.declared.cut.Cut.{Cut}
 use Rattle.pl_pair.specs.declared.cut.Cut.TheVariants as cut
 use Rattle.pl_pair.specs.Cuts.{cut_by}
@@ -37,7 +38,7 @@ IsFed line before e = InWorld before (λ w. IsInputOf line w e)
 
 -- what came of handing a message to the plan
 abbrev pub HandsIn : Option (List ℕ) → PlanPass → Result (Unit {0}) Cut → PlanPass → Type 0
-HandsIn line old (Ok u) new = (number : ℕ) × Makes (IsFed line) old new number
+HandsIn line old (Ok u) new = (number : ℕ) × Makes (IsFed line) Feeder old new number
 HandsIn line old (Err cut.Full) new = Feeds line old (Err stop.LogFull) new
 HandsIn line old (Err cut.Stopped) new = Feeds line old (Err stop.NotNow) new
 HandsIn line old (Err cut.Memory) new = MakesNothing old new

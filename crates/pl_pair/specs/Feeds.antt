@@ -6,6 +6,7 @@ use Rattle.pl_turn.specs.History.{StandsIn}
 use Rattle.pl_turn.specs.Passes.{seen_of, mine_of}
 use Rattle.pl_io.specs.declared.errors.LineFault.{LineFault}
 use Rattle.pl_io.specs.Writes.{AppendsFront}
+use Rattle.pl_marks.specs.declared.author.Author.TheVariants.{Feeder}
 use Rattle.pl_model.specs.declared.whole.Model.{Model}
 use Rattle.pl_entry.specs.declared.event.Event.TheVariants as event
 use Rattle.pl_input.specs.Words.{is_blank_line}
@@ -14,11 +15,11 @@ use Rattle.pl_input.specs.Reads.{ReadsLines, IsUsedUp}
 use Rattle.pl_journal.specs.Written.{Adds}
 use Rattle.pl_acts.specs.declared.noted.Noted.{Noted}
 use Rattle.pl_acts.specs.declared.noted.Noted.TheVariants.{Opened, Made, Stopped}
-use Rattle.pl_shared.specs.declared.plan.SharedPlan.{SharedPlan}
+use Rattle.pl_locked.specs.declared.plan.SharedPlan.{SharedPlan}
 use Rattle.pl_acts.specs.Items.{entries_in, stop_in, InWorld}
 use Rattle.pl_acts.specs.Seen.{IsPlan}
-use Rattle.pl_shared.specs.Plans.{PlanPass, BelongsTo}
-use Rattle.pl_shared.specs.Turns.{TakesTurn, Stops}
+use Rattle.pl_locked.specs.Plans.{PlanPass, BelongsTo}
+use Rattle.pl_locked.specs.Turns.{TakesTurn, Stops}
 use Rattle.pl_pair.specs.declared.cut.Cut.{Cut}
 use Rattle.pl_pair.specs.declared.cut.Cut.TheVariants as cut
 use Rattle.pl_pair.specs.Cuts.{cut_by}
@@ -37,11 +38,11 @@ spoken lines = filter (λ line. not (is_blank_line line)) lines
 abbrev pub said_in : List (Option (List ℕ)) → List (List ℕ)
 said_in inputs = filter_map (λ (m : Option (List ℕ)). m) inputs
 
--- an item is an entry with this input
+-- an item is the feeder's entry with this input
 abbrev pub IsInput : Option (List ℕ) → Noted → Type 0
-IsInput line (Opened m e) = ⊥
-IsInput line (Made e) = e.event ≡ event.Input line
-IsInput line Stopped = ⊥
+IsInput line (Opened m n e) = ⊥
+IsInput line (Made by e) = (by ≡ Some Feeder) × (e.event ≡ event.Input line)
+IsInput line (Stopped by) = ⊥
 
 -- own items, each the entry with its input
 abbrev pub AreInputs : List (Option (List ℕ)) → List (ℕ × Noted) → Type 0
@@ -211,7 +212,7 @@ pub record FeedsAndStops (plan : SharedPlan) (m : Model) (c : Cut) (old : PlanPa
   pub mid : PlanPass
   pub feeds : FeedsAll plan m old start held (Err c) mid place now
   pub takes : TakesTurn mid new
-  pub stops : Stops mid new
+  pub stops : Stops Feeder mid new
 
 abbrev pub FeedsToEnd : SharedPlan → Model → PlanPass → Place → Option (List ℕ) → Result (Unit {0}) Cut → PlanPass → Place → Option (List ℕ) → Type 0
 FeedsToEnd plan m old start held (Ok u) new place now = FeedsOut plan m old start held new place now

@@ -6,14 +6,15 @@ use Rattle.pl_turn.specs.Passes.{seen_of, mine_of, crew_of, leads, made_by, join
 use Rattle.pl_model.specs.declared.whole.Model.{Model}
 use Rattle.pl_machine.specs.declared.stop.Stop.{Stop}
 use Rattle.pl_acts.specs.declared.noted.Noted.{Noted}
-use Rattle.pl_shared.specs.declared.plan.SharedPlan.{SharedPlan}
-use Rattle.pl_shared.specs.Plans.{PlanPass, BelongsTo}
+use Rattle.pl_locked.specs.declared.plan.SharedPlan.{SharedPlan}
+use Rattle.pl_locked.specs.Plans.{PlanPass, BelongsTo}
 use Rattle.pl_input.specs.Places.{Place}
 use Rattle.pl_pair.specs.declared.duty.Duty.{Duty}
 use Rattle.pl_pair.specs.declared.worker.Worker.{Worker}
 use Rattle.pl_pair.specs.declared.endings.Met.{Met}
 use Rattle.pl_pair.specs.declared.pairing.Remains.{Remains}
-use Rattle.pl_pair.specs.Duties.{begun_of}
+use Rattle.pl_marks.specs.Authors.{IsAuthor}
+use Rattle.pl_pair.specs.Duties.{begun_of, author_of}
 use Rattle.pl_pair.specs.Served.{IsServed}
 use Rattle.pl_pair.specs.Endings.{met_by}
 use Rattle.pl_pair.specs.declared.hands.Hands.{Hands}
@@ -32,9 +33,9 @@ pub record IsFirst (plan : SharedPlan) (pass : PlanPass) : Type 0 where
   pub alone : made_by pass ≡ 0
   pub none : joined_by pass ≡ []
 
--- a worker of this duty is to have seen no more than the pass has
+-- a worker of this duty is to have seen no more than the pass has, and its number is a planner's
 abbrev pub HasBegun : PlanPass → Duty → Type 0
-HasBegun pass d = begun_of d ≤ length (seen_of pass)
+HasBegun pass d = (begun_of d ≤ length (seen_of pass)) × IsAuthor (author_of d)
 
 -- So many passes were split off from it.
 pub record Splits (old : PlanPass) (count : ℕ) (new : PlanPass) : Type 0 where

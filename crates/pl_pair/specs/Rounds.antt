@@ -10,7 +10,7 @@ use Rattle.pl_journal.specs.Written.{Adds}
 use Rattle.pl_acts.specs.declared.noted.Noted.{Noted}
 use Rattle.pl_acts.specs.declared.part.Part.{Part}
 use Rattle.pl_acts.specs.Items.{model_in, entries_in, stop_in, InWorld}
-use Rattle.pl_shared.specs.Plans.{PlanPass}
+use Rattle.pl_locked.specs.Plans.{PlanPass}
 use Rattle.pl_acts.specs.Seen.{Copies}
 use Rattle.pl_pair.specs.declared.cut.Cut.{Cut}
 use Rattle.pl_pair.specs.declared.cut.Cut.TheVariants as cut

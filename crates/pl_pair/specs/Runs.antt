@@ -1,5 +1,5 @@
 -- What a run of a feeder and several workers comes to.
-use Rattle.std.specs.Prelude.{◌≡◌, ◌<◌, ℕ, List, [], ◌∷◌, ◌++◌, length, map, Bool, true, false, Option, Some, None, Result, Ok, Err, IfSome, ◌⊎◌, ⊤}
+use Rattle.std.specs.Prelude.{◌≡◌, ◌<◌, ◌+◌, ℕ, List, [], ◌∷◌, ◌++◌, length, map, true, false, Option, Some, None, Result, Ok, Err, IfSome, ◌⊎◌, ⊤}
 use Rattle.std.specs.List.{All}
 use mathlib.Core.List.{IsPrefix}
 use Rattle.pl_turn.specs.History.{IsEachOnce, StandsIn, times_in}
@@ -22,18 +22,21 @@ use Rattle.pl_input.specs.Stops.{IsStuckKnown}
 use Rattle.pl_driver.specs.CutShort.{IsCutShort}
 use Rattle.pl_journal.specs.Written.{Adds}
 use Rattle.pl_acts.specs.declared.noted.Noted.{Noted}
-use Rattle.pl_acts.specs.Items.{items_of, entries_in, model_in}
+use Rattle.pl_acts.specs.Items.{Signs, items_of, entries_in, model_in}
 use Rattle.pl_acts.specs.Roles.{worker_of, kind_of, is_input}
 use Rattle.pl_acts.specs.declared.role.Role.{Role}
-use Rattle.pl_shared.specs.Plans.{PlanPass}
+use Rattle.pl_locked.specs.Plans.{PlanPass}
 use Rattle.pl_input.specs.declared.halt.Halt.{Halt}
 use Rattle.pl_input.specs.declared.halt.Halt.TheVariants as halt
+use Rattle.pl_marks.specs.declared.author.Author.TheVariants.{Feeder}
+use Rattle.pl_marks.specs.Marks.{Signed, marks_of}
+use Rattle.pl_pair.specs.declared.ended.Ended.{Ended}
 use Rattle.pl_pair.specs.declared.duty.Duty.{Duty}
 use Rattle.pl_pair.specs.declared.duty.Duty.TheVariants.{Repair, Execute}
 use Rattle.pl_pair.specs.declared.worker.Worker.{Worker}
-use Rattle.pl_pair.specs.Duties.{role_of, begun_of}
+use Rattle.pl_pair.specs.Duties.{role_of, begun_of, author_of}
 use Rattle.pl_pair.specs.Joins.{own_lists_of, HasSeenIn}
-use Rattle.pl_pair.specs.Served.{AreOf, AreOfUntil, Made, MakesOwn, Refused}
+use Rattle.pl_pair.specs.Served.{AreOf, AreOfUntil, Made, MakesOwn, AreSigned, Refused}
 use Rattle.pl_pair.specs.Rounds.{IsBetween}
 use Rattle.pl_pair.specs.Endings.{met_by}
 use Rattle.pl_pair.specs.Chosen.{AreChosen}
@@ -43,13 +46,15 @@ use Rattle.pl_pair.specs.Feeds.{EndsUsed, EndsRead}
 
 -- The machine has the whole history, which begins with what each of these passes has seen, and each place past the opening stands in one own list of theirs.
 pub record ClosesAll (first : PlanPass) (workers : List Worker) (machine : State) : Type 0 where
-  pub stopped : Bool
+  pub signs : Signs
+  pub some : 0 < signs.by.opening
+  pub each : signs.by.opening + length signs.by.authors ≡ length machine.log
   pub legal : Legal machine.model machine.log
   pub model : model_in (seen_of first) ≡ Some machine.model
-  pub first_seen : IsPrefix (seen_of first) (items_of machine.model machine.log stopped)
-  pub workers_seen : All (HasSeenIn (items_of machine.model machine.log stopped)) workers
-  pub stands : All (StandsIn (items_of machine.model machine.log stopped)) (mine_of first ∷ own_lists_of workers)
-  pub owners : IsEachOnce (opening_of first) (length (items_of machine.model machine.log stopped)) (λ place. times_in place (mine_of first ∷ own_lists_of workers))
+  pub first_seen : IsPrefix (seen_of first) (items_of machine.model machine.log signs)
+  pub workers_seen : All (HasSeenIn (items_of machine.model machine.log signs)) workers
+  pub stands : All (StandsIn (items_of machine.model machine.log signs)) (mine_of first ∷ own_lists_of workers)
+  pub owners : IsEachOnce (opening_of first) (length (items_of machine.model machine.log signs)) (λ place. times_in place (mine_of first ∷ own_lists_of workers))
 
 -- ---- the history
 
@@ -69,12 +74,13 @@ pub record Service : Type 0 where
 abbrev pub service_of : Worker → Service
 service_of w = record { duty = w.duty; own = mine_of w.pass; seen = seen_of w.pass; last = w.role; met = w.refusal }
 
--- The history begins with all that the worker had seen, in which its own items stand. These are entries of its kind: a planner's are what its chooser, made from its seed and passed on from entry to entry, proposes on a sight, a front
+-- The history begins with all that the worker had seen, in which its own items stand. These are entries of its kind, signed by it: a planner's are what its chooser, made from its seed and passed on from entry to entry, proposes on a sight, a front
 -- of the history that holds the entries that it was hired behind and its own entry before, or a rest; an executive's are what it chooses in the world before. A worker that met a refusal may have stopped the plan; one that met a full log had an event of its own kind in the open round.
 pub record ServedIn (items : List Noted) (d : Service) : Type 0 where
   pub saw : HadSeen items d.seen d.own
   pub kinds : Made d.met (kind_of (role_of d.duty)) d.own
   pub made : MakesOwn d.met (role_of d.duty) (begun_of d.duty) items d.own d.last
+  pub signed : AreSigned (author_of d.duty) d.own
   pub is : worker_of d.last ≡ worker_of (role_of d.duty)
   pub why : Refused d.met d.last items
 
@@ -87,17 +93,20 @@ mets_of workers = map (λ (d : Service). d.met) workers
 -- The history in the lock goes on from the entries that were handed in, and has one owner for each further entry: inputs are the feeder's, fixes and rests a planner's, commits, dispatches and closes the executive's.
 -- It begins with all that the feeder had seen, in which its own entries stand, and with what each worker had seen. The stop, where there is one, is the own item of the feeder, or of a worker that met a refusal.
 pub record History (duties : List Duty) (m : Model) (before log : List Entry) : Type 0 where
-  pub stopped : Bool
+  pub signs : Signs
   pub feeder : List (ℕ × Noted)
   pub feeder_seen : List Noted
   pub workers : List Service
   pub hired : map (λ (d : Service). d.duty) workers ≡ duties
   pub legal : Legal m log
-  pub stands : All (StandsIn (items_of m log stopped)) (feeder ∷ owns_of workers)
-  pub owners : IsEachOnce (length before) (length (items_of m log stopped)) (λ place. times_in place (feeder ∷ owns_of workers))
-  pub feeder_saw : HadSeen (items_of m log stopped) feeder_seen feeder
+  pub stands : All (StandsIn (items_of m log signs)) (feeder ∷ owns_of workers)
+  pub owners : IsEachOnce (length before) (length (items_of m log signs)) (λ place. times_in place (feeder ∷ owns_of workers))
+  pub handed : signs.by.opening ≡ length before
+  pub each_signed : signs.by.opening + length signs.by.authors ≡ length log
+  pub feeder_signed : AreSigned Feeder feeder
+  pub feeder_saw : HadSeen (items_of m log signs) feeder_seen feeder
   pub inputs : AreOfUntil is_input feeder
-  pub each : All (ServedIn (items_of m log stopped)) workers
+  pub each : All (ServedIn (items_of m log signs)) workers
 
 -- ---- the messages
 
@@ -243,9 +252,41 @@ pub record TeamRun (duties : List Duty) (start : State) (place : Place) (held : 
   pub messages : InMessages place (λ messages. IsPrefix (inputs_of entries) messages)
   pub ends : RunEnds r start.model log entries place held behind now
 
+-- ---- what a run hands back
+
+-- how it ended
+abbrev pub answer_of : Result Ended Halt → Result (Unit {0}) Halt
+answer_of (Ok e) = Ok tt
+answer_of (Err h) = Err h
+
+-- Where it came to its end it hands a machine back, and its marks.
+abbrev pub EndsWith : Result (Unit {0}) Halt → State → Signed → Result Ended Halt → Type 0
+EndsWith (Ok u) machine by (Ok e) = (e.machine ≡ machine) × (e.marks.items ≡ marks_of by)
+EndsWith (Ok u) machine by (Err h) = ⊥
+EndsWith (Err d) machine by (Ok e) = ⊥
+EndsWith (Err d) machine by (Err h) = h ≡ d
+
+-- the machine has the whole log, and the marks are those of its authors
+abbrev pub HandsBack : Result Ended Halt → Model → List Entry → Signed → Type 0
+HandsBack (Ok e) m log by = (e.machine.model ≡ m) × (e.machine.log ≡ log) × (e.marks.items ≡ marks_of by)
+HandsBack (Err h) m log by = ⊤
+
+-- A run whose log is this, with these authors.
+pub record RunsTo (whole : List Entry) (by : Signed) (duties : List Duty) (start : State) (place : Place) (held : Option (List ℕ)) (r : Result (Unit {0}) Halt) (behind : Place) (now : Option (List ℕ)) : Type 0 where
+  pub run : TeamRun duties start place held r behind now
+  pub log_is : run.log ≡ whole
+  pub by_is : run.history.signs.by ≡ by
+
+-- A run, and what it hands back.
+pub record RunsTeam (duties : List Duty) (start : State) (place : Place) (held : Option (List ℕ)) (r : Result Ended Halt) (behind : Place) (now : Option (List ℕ)) : Type 0 where
+  pub run : TeamRun duties start place held (answer_of r) behind now
+  pub back : HandsBack r start.model run.log run.history.signs.by
+
+-- ---- a pair
+
 -- a planner, hired behind so many entries, and an executive
 abbrev pub pair_of : ℕ → ℕ → List Duty
-pair_of seed begun = Repair seed begun ∷ Execute ∷ []
+pair_of seed begun = Repair 1 seed begun ∷ Execute ∷ []
 
 abbrev pub PairRun : ℕ → State → Place → Option (List ℕ) → Result (Unit {0}) Halt → Place → Option (List ℕ) → Type 0
 PairRun seed start place held r behind now = TeamRun (pair_of seed (length start.log)) start place held r behind now

@@ -1,7 +1,7 @@
 -- How the feeder holds its workers.
 use Rattle.std.specs.Prelude.{◌≡◌, List, map}
 use Rattle.std.specs.List.{All}
-use Rattle.pl_shared.specs.declared.plan.SharedPlan.{SharedPlan}
+use Rattle.pl_locked.specs.declared.plan.SharedPlan.{SharedPlan}
 use Rattle.pl_pair.specs.declared.duty.Duty.{Duty}
 use Rattle.pl_pair.specs.declared.hands.Hand.{Hand}
 use Rattle.pl_pair.specs.declared.hands.Hand.TheVariants.{Away, Here}

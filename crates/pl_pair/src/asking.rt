@@ -3,7 +3,7 @@ ghost use Rattle.std.specs.Prelude.{◌≡◌, ◌≤◌, None, IfSome, IsErrOf}
 ghost use Rattle.std.specs.Option.{option_copied};
 ghost use Rattle.pl_io.specs.Faults.{Rose};
 ghost use Rattle.pl_entry.specs.Bounds.{IsMessageLine};
-ghost use Rattle.pl_shared.specs.Plans.{BelongsTo};
+ghost use Rattle.pl_locked.specs.Plans.{BelongsTo};
 ghost use Rattle.pl_pair.specs.Cuts.{cut_by};
 ghost use Rattle.pl_input.specs.Places.{place_of};
 ghost use Rattle.pl_pair.specs.Asking.{FirstLine, Asks, HandsIn, Passes};
@@ -12,8 +12,8 @@ ghost use Rattle.pl_pair.specs.Rounds.{Follows};
 use crate::cut::Cut;
 use pl_input::{halt_of, is_blank_line, line_in, next_message};
 use pl_io::{Line, LineFault, LineReader, Source};
+use pl_locked::{Pass, SharedPlan};
 use pl_machine::Stop;
-use pl_shared::{Pass, SharedPlan};
 use std::sync::Wait;
 
 /// The next line, or the fault that the reader met, now or before.

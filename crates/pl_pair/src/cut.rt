@@ -3,7 +3,7 @@ use pl_input::Halt;
 use std::alloc::AllocError;
 
 /// A read or a write failed, a line or the input is too long, the log is full, a worker stopped the plan, or memory is wanting.
-#[derive(Clone, Copy, Debug, PartialEq, Eq)]
+#[derive(Clone, Copy, PartialEq, Eq)]
 pub enum Cut {
     Read,
     Write,

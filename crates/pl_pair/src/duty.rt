@@ -1,14 +1,16 @@
 //! What a worker is hired for.
 ghost use Rattle.std.specs.Prelude.{◌≡◌};
-ghost use Rattle.pl_pair.specs.Duties.{role_of};
+ghost use Rattle.pl_pair.specs.Duties.{role_of, author_of};
 
 use pl_acts::Role;
 use pl_choose::Seeded;
+use pl_marks::Author;
 
-/// What a worker is hired for: to repair, with a chooser of this seed, where there were so many entries, or to execute.
+/// What a worker is hired for: to repair as the planner of this number, with a chooser of this seed, where there were so many entries, or
+/// to execute.
 #[derive(Clone, Copy)]
 pub enum Duty {
-    Repair(u64, u32),
+    Repair(u8, u64, u32),
     Execute,
 }
 
@@ -19,8 +21,18 @@ impl Duty {
         ensures { result ≡ role_of self }
     {
         match self {
-            Duty::Repair(seed, _) => Role::Planner(Seeded::new(seed)),
+            Duty::Repair(_, seed, _) => Role::Planner(Seeded::new(seed)),
             Duty::Execute => Role::Executive,
+        }
+    }
+
+    /// Who makes the entries.
+    pub(crate) fn author(self) -> Author
+        ensures { result ≡ author_of self }
+    {
+        match self {
+            Duty::Repair(planner, _, _) => Author::Planner(planner),
+            Duty::Execute => Author::Executive,
         }
     }
 }

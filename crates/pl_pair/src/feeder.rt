@@ -3,7 +3,7 @@ ghost use Rattle.std.specs.Prelude.{◌≡◌, ◌≤◌, ◌<◌, [], length, N
 ghost use Rattle.pl_io.specs.Faults.{Rose};
 ghost use Rattle.pl_turn.specs.Passes.{seen_of, mine_of};
 ghost use Rattle.pl_acts.specs.Items.{entries_in};
-ghost use Rattle.pl_shared.specs.Plans.{BelongsTo};
+ghost use Rattle.pl_locked.specs.Plans.{BelongsTo};
 ghost use Rattle.pl_pair.specs.Workers.{AreHands, SameDuties};
 ghost use Rattle.pl_input.specs.Places.{place_of};
 ghost use Rattle.pl_pair.specs.Asking.{PassesTo};
@@ -15,8 +15,8 @@ use crate::cut::Cut;
 use crate::hands::Hands;
 use crate::rounds::{Stage, write_round};
 use pl_io::{LineReader, Sink, Source};
+use pl_locked::{Pass, SharedPlan};
 use pl_model::Model;
-use pl_shared::{Pass, SharedPlan};
 use std::alloc::Global;
 use std::sync::Wait;
 
@@ -100,6 +100,7 @@ fn feed_all<R: Wait, S: Source, O: Sink>(
         (place_of lines.new (S.left src.new)) (O.held out.new) }
     ensures read { IsErrOf result Cut.Read → lines.old.failed ≡ None → Rose (S.faults src.old) (S.faults src.new) }
     ensures write { IsErrOf result Cut.Write → Rose (O.faults out.old) (O.faults out.new) }
+    ensures later { O.faults out.old ≤ O.faults out.new }
 {
     let mut from = 0;
     for _ in rt.forever() {
@@ -136,6 +137,7 @@ pub(crate) fn feed_or_stop<R: Wait, S: Source, O: Sink>(
         (place_of lines.new (S.left src.new)) (O.held out.new) }
     ensures read { IsErrOf result Cut.Read → lines.old.failed ≡ None → Rose (S.faults src.old) (S.faults src.new) }
     ensures write { IsErrOf result Cut.Write → Rose (O.faults out.old) (O.faults out.new) }
+    ensures later { O.faults out.old ≤ O.faults out.new }
 {
     match feed_all(rt, alloc, plan, model, pass, hands, lines, src, out) {
         Ok(()) => Ok(()),

@@ -3,7 +3,7 @@ use crate::duty::Duty;
 use crate::endings::Met;
 use crate::worker::Worker;
 use pl_acts::Listener;
-use pl_shared::{Pass, SharedPlan};
+use pl_locked::{Pass, SharedPlan};
 use std::alloc::Global;
 use std::sync::Wait;
 use std::thread::{Promise, PromisedHandle, Threads};
@@ -30,7 +30,7 @@ pub enum Hand<'p> {
 
 impl<'p> Hand<'p> {
     ghost use Rattle.std.specs.Prelude.{◌≡◌};
-    ghost use Rattle.pl_shared.specs.declared.plan.SharedPlan.{SharedPlan};
+    ghost use Rattle.pl_locked.specs.declared.plan.SharedPlan.{SharedPlan};
     ghost use Rattle.pl_pair.specs.Served.{IsServed};
     ghost use Rattle.pl_pair.specs.Workers.{IsHand, duty_of};
 
@@ -74,7 +74,7 @@ pub struct Hands<'p> {
 impl<'p> Hands<'p> {
     ghost use Rattle.std.specs.Prelude.{◌≡◌, true};
     ghost use Rattle.pl_turn.specs.Passes.{leads};
-    ghost use Rattle.pl_shared.specs.Plans.{BelongsTo};
+    ghost use Rattle.pl_locked.specs.Plans.{BelongsTo};
     ghost use Rattle.pl_pair.specs.Workers.{AreHands, SameDuties, duties_of};
     ghost use Rattle.pl_pair.specs.Joins.{JoinsTeam};
 

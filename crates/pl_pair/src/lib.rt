@@ -4,6 +4,7 @@
 mod asking;
 mod cut;
 mod duty;
+mod ended;
 mod endings;
 mod feeder;
 mod hands;
@@ -13,4 +14,6 @@ mod run;
 mod waiting;
 mod worker;
 
-pub use run::run_pair;
+pub use duty::Duty;
+pub use ended::Ended;
+pub use run::{run_pair, run_team};

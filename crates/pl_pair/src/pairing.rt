@@ -16,8 +16,8 @@ use crate::feeder::feed_or_stop;
 use crate::hands::{Hand, Hands, Hired};
 use crate::worker::{Worker, serve_unless};
 use pl_io::{LineReader, Sink, Source};
+use pl_locked::{Pass, SharedPlan};
 use pl_model::Model;
-use pl_shared::{Pass, SharedPlan};
 use pl_turn::Gate;
 use std::alloc::Global;
 use std::sync::Wait;
@@ -52,6 +52,7 @@ fn feed_and_join<R: Threads + Wait, S: Source, O: Sink>(
         (place_of lines.new (S.left src.new)) (O.held out.new) }
     ensures read { IsErrOf result.fed Cut.Read → lines.old.failed ≡ None → Rose (S.faults src.old) (S.faults src.new) }
     ensures write { IsErrOf result.fed Cut.Write → Rose (O.faults out.old) (O.faults out.new) }
+    ensures later { O.faults out.old ≤ O.faults out.new }
 {
     let fed = feed_or_stop(
         rt, alloc, plan, model, &mut pass, &mut hands, lines, src, out,
@@ -157,6 +158,7 @@ pub(crate) fn run_workers<R: Threads + Wait + Sync, S: Source, O: Sink, G: Gate 
         (place_of lines.new (S.left src.new)) (O.held out.new) }
     ensures read { IfSome result (λ remains. IsErrOf remains.fed Cut.Read → lines.old.failed ≡ None → Rose (S.faults src.old) (S.faults src.new)) }
     ensures write { IfSome result (λ remains. IsErrOf remains.fed Cut.Write → Rose (O.faults out.old) (O.faults out.new)) }
+    ensures later { O.faults out.old ≤ O.faults out.new }
 {
     let (lines, src, out, remains) = thread::scope(
         thread::scope_env(),
@@ -168,6 +170,7 @@ pub(crate) fn run_workers<R: Threads + Wait + Sync, S: Source, O: Sink, G: Gate 
             ensures back { (result.0.ghost_name ≡ lines.entry.ghost_name) × (result.1.ghost_name ≡ src.entry.ghost_name) × (result.2.ghost_name ≡ out.entry.ghost_name) }
             ensures read { IfSome result.3 (λ remains. IsErrOf remains.fed Cut.Read → lines.entry.now.failed ≡ None → Rose (S.faults src.entry.now) (S.faults result.1.now)) }
             ensures write { IfSome result.3 (λ remains. IsErrOf remains.fed Cut.Write → Rose (O.faults out.entry.now) (O.faults result.2.now)) }
+            ensures later { O.faults out.entry.now ≤ O.faults result.2.now }
         {
             let mut first = pass;
             match hire_all(scope, rt, alloc, plan, gate, &mut first, duties, refused) {

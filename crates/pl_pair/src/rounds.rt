@@ -3,7 +3,7 @@ ghost use Rattle.std.specs.Prelude.{◌≤◌, ◌<◌, ◌+◌, length, IsErrOf
 ghost use Rattle.pl_io.specs.Faults.{Rose};
 ghost use Rattle.pl_turn.specs.Passes.{seen_of};
 ghost use Rattle.pl_acts.specs.Items.{entries_in};
-ghost use Rattle.pl_shared.specs.Plans.{BelongsTo};
+ghost use Rattle.pl_locked.specs.Plans.{BelongsTo};
 ghost use Rattle.pl_pair.specs.Workers.{AreHands, SameDuties};
 ghost use Rattle.pl_pair.specs.Rounds.{LooksAtPlan, StageOf, RoundEnds};
 
@@ -13,8 +13,8 @@ use crate::waiting::closed_round;
 use pl_acts::Part;
 use pl_io::Sink;
 use pl_journal::write_entries;
+use pl_locked::{Pass, SharedPlan};
 use pl_model::Model;
-use pl_shared::{Pass, SharedPlan};
 use std::alloc::Global;
 use std::sync::Wait;
 

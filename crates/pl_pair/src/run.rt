@@ -4,18 +4,21 @@ ghost use Rattle.std.specs.List.{All};
 ghost use Rattle.pl_io.specs.Faults.{Rose};
 ghost use Rattle.pl_machine.specs.Legal.{Legal, world_of};
 ghost use Rattle.pl_input.specs.Places.{place_of};
-ghost use Rattle.pl_pair.specs.Duties.{begun_of};
-ghost use Rattle.pl_pair.specs.Runs.{PairRun, TeamRun};
+ghost use Rattle.pl_marks.specs.Authors.{IsAuthor};
+ghost use Rattle.pl_pair.specs.Duties.{begun_of, author_of};
+ghost use Rattle.pl_pair.specs.Runs.{PairRun, RunsTeam, EndsWith};
 
 use crate::duty::Duty;
+use crate::ended::Ended;
 use crate::endings::ended;
 use crate::pairing::{Remains, run_workers};
 use pl_input::Halt;
 use pl_io::{LineReader, Sink, Source};
 use pl_lists::Copied;
+use pl_locked::SharedPlan;
 use pl_machine::Machine;
+use pl_marks::Marks;
 use pl_model::Model;
-use pl_shared::SharedPlan;
 use pl_turn::Gate;
 use std::alloc::{AllocError, Global};
 use std::sync::Wait;
@@ -33,8 +36,21 @@ fn flags_for(alloc: Global, count: usize) -> Result<Vec<AtomicBool>, AllocError>
     Ok(flags)
 }
 
+/// A machine and its marks, where the run came to its end.
+fn ended_with(answer: Result<(), Halt>, machine: Machine, marks: Marks) -> Result<Ended, Halt>
+    ensures { EndsWith answer machine marks result }
+{
+    match answer {
+        Ok(()) => Ok(Ended {
+            machine,
+            marks: marks.into_vec(),
+        }),
+        Err(halt) => Err(halt),
+    }
+}
+
 /// A run over a model that is the machine's.
-#[tactic(auto, using(crate::proofs::Running::runs_none, crate::proofs::Running::first_pass, crate::proofs::Running::begun_first, crate::proofs::Causes::ended_read, crate::proofs::Causes::ended_write))]
+#[tactic(auto, using(crate::proofs::Running::back_none, crate::proofs::Running::first_pass, crate::proofs::Running::begun_first))]
 fn run_over<R: Threads + Wait + Sync, S: Source, O: Sink, G: Gate + Sync>(
     rt: &R,
     alloc: Global,
@@ -45,17 +61,18 @@ fn run_over<R: Threads + Wait + Sync, S: Source, O: Sink, G: Gate + Sync>(
     lines: &mut LineReader,
     src: &mut S,
     out: &mut O,
-) -> Result<(), Halt>
+) -> Result<Ended, Halt>
     requires legal { Legal machine.model machine.log }
     requires going { (world_of machine.model machine.log).done ≡ false }
     requires model { model.now ≡ machine.model }
-    requires begun { All (λ d. begun_of d ≤ length machine.log) duties.now }
+    requires begun { All (λ d. (begun_of d ≤ length machine.log) × IsAuthor (author_of d)) duties.now }
     requires few { length duties.now ≤ 9 }
     requires limit { lines.old.limit ≤ 4096 }
-    ensures run { TeamRun duties.now machine (place_of lines.old (S.left src.old)) (O.held out.old) result
+    ensures run { RunsTeam duties.now machine (place_of lines.old (S.left src.old)) (O.held out.old) result
         (place_of lines.new (S.left src.new)) (O.held out.new) }
     ensures read { IsErrOf result Halt.Read → lines.old.failed ≡ None → Rose (S.faults src.old) (S.faults src.new) }
     ensures write { IsErrOf result Halt.Write → Rose (O.faults out.old) (O.faults out.new) }
+    ensures later { O.faults out.old ≤ O.faults out.new }
 {
     let Ok(refused) = flags_for(alloc, duties.len()) else {
         return Err(Halt::Memory);
@@ -70,14 +87,15 @@ fn run_over<R: Threads + Wait + Sync, S: Source, O: Sink, G: Gate + Sync>(
     };
     let Remains { pass, fed, met } = remains;
     let answer = ended(&fed, met);
-    let _machine = plan.close(pass);
-    answer
+    let (machine, marks) = plan.close_signed(pass);
+    ended_with(answer, machine, marks)
 }
 
 /// Runs workers for these duties in threads of their own, feeds them the messages that a reader has left, and writes the lines of the
-/// whole log, those of the entries handed in first. It waits for its threads.
-#[tactic(auto, using(crate::proofs::Running::runs_none, crate::proofs::Running::not_done))]
-pub(crate) fn run_team<R: Threads + Wait + Sync, I: Source, O: Sink, G: Gate + Sync>(
+/// whole log, those of the entries handed in first. It waits for its threads. A run that comes to its end hands its machine back, with the
+/// marks of its entries.
+#[tactic(auto, using(crate::proofs::Running::back_none, crate::proofs::Running::not_done))]
+pub fn run_team<R: Threads + Wait + Sync, I: Source, O: Sink, G: Gate + Sync>(
     rt: &R,
     alloc: Global,
     machine: Machine,
@@ -86,15 +104,16 @@ pub(crate) fn run_team<R: Threads + Wait + Sync, I: Source, O: Sink, G: Gate + S
     lines: &mut LineReader,
     src: &mut I,
     out: &mut O,
-) -> Result<(), Halt>
+) -> Result<Ended, Halt>
     requires going { machine.world.done ≡ false }
-    requires begun { All (λ d. begun_of d ≤ length machine.log) duties.now }
+    requires begun { All (λ d. (begun_of d ≤ length machine.log) × IsAuthor (author_of d)) duties.now }
     requires few { length duties.now ≤ 9 }
     requires limit { lines.old.limit ≤ 4096 }
-    ensures run { TeamRun duties.now machine (place_of lines.old (I.left src.old)) (O.held out.old) result
+    ensures run { RunsTeam duties.now machine (place_of lines.old (I.left src.old)) (O.held out.old) result
         (place_of lines.new (I.left src.new)) (O.held out.new) }
     ensures read { IsErrOf result Halt.Read → (lines.old.failed ≡ None) → Rose (I.faults src.old) (I.faults src.new) }
     ensures write { IsErrOf result Halt.Write → Rose (O.faults out.old) (O.faults out.new) }
+    ensures later { O.faults out.old ≤ O.faults out.new }
 {
     let _log = machine.log();
     match machine.model().copy(alloc) {
@@ -105,7 +124,7 @@ pub(crate) fn run_team<R: Threads + Wait + Sync, I: Source, O: Sink, G: Gate + S
 
 /// Runs a planner, with a chooser of this seed, and an executive in threads of their own, feeds them the messages that a reader has left,
 /// and writes the lines of the whole log, those of the entries handed in first. It waits for its threads.
-#[tactic(auto, using(crate::proofs::Running::begun_pair))]
+#[tactic(auto, using(crate::proofs::Running::begun_pair, crate::proofs::Running::pair_back))]
 pub fn run_pair<R: Threads + Wait + Sync, I: Source, O: Sink, G: Gate + Sync>(
     rt: &R,
     alloc: Global,
@@ -123,6 +142,9 @@ pub fn run_pair<R: Threads + Wait + Sync, I: Source, O: Sink, G: Gate + Sync>(
     ensures read { IsErrOf result Halt.Read → (lines.old.failed ≡ None) → Rose (I.faults src.old) (I.faults src.new) }
     ensures write { IsErrOf result Halt.Write → Rose (O.faults out.old) (O.faults out.new) }
 {
-    let duties = [Duty::Repair(seed, machine.entries()), Duty::Execute];
-    run_team(rt, alloc, machine, &duties, gate, lines, src, out)
+    let duties = [Duty::Repair(1, seed, machine.entries()), Duty::Execute];
+    match run_team(rt, alloc, machine, &duties, gate, lines, src, out) {
+        Ok(_) => Ok(()),
+        Err(halt) => Err(halt),
+    }
 }

@@ -2,13 +2,13 @@
 ghost use Rattle.std.specs.Prelude.{◌≡◌, ◌≤◌, ◌||◌, length, IfOk};
 ghost use Rattle.pl_turn.specs.Passes.{seen_of};
 ghost use Rattle.pl_acts.specs.Items.{entries_in};
-ghost use Rattle.pl_shared.specs.Plans.{BelongsTo};
+ghost use Rattle.pl_locked.specs.Plans.{BelongsTo};
 ghost use Rattle.pl_pair.specs.Workers.{AreHands, SameDuties};
 ghost use Rattle.pl_pair.specs.Rounds.{LooksAtPlan, IsRound};
 
 use crate::hands::Hands;
 use pl_acts::Part;
-use pl_shared::{Pass, SharedPlan};
+use pl_locked::{Pass, SharedPlan};
 use std::alloc::{AllocError, Global};
 use std::sync::Wait;
 

@@ -4,8 +4,8 @@ ghost use Rattle.pl_pair.specs.Served.{IsHired, IsServed, IsWorker};
 
 use crate::duty::Duty;
 use pl_acts::{Acted, Role};
+use pl_locked::{Pass, SharedPlan, work_as};
 use pl_machine::Stop;
-use pl_shared::{Pass, SharedPlan, work};
 use pl_turn::Gate;
 use std::alloc::Global;
 use std::sync::Wait;
@@ -33,7 +33,7 @@ fn serve<R: Wait, G: Gate>(
     ensures { IsWorker plan.now duty result }
 {
     let mut role = duty.role();
-    match work(rt, alloc, plan, gate, &mut pass, &mut role) {
+    match work_as(rt, alloc, plan, gate, &mut pass, duty.author(), &mut role) {
         Ok(_) => Worker {
             pass,
             role,
@@ -83,11 +83,12 @@ impl Worker {
         ensures served { IsServed plan.now self.new }
         ensures duty { self.new.duty ≡ self.old.duty }
     {
-        match plan.act(rt, alloc, &mut self.pass, &mut self.role) {
+        let by = self.duty.author();
+        match plan.act_as(rt, alloc, &mut self.pass, by, &mut self.role) {
             Ok(Acted::Did(_)) => true,
             Ok(_) => false,
             Err(stop) => {
-                plan.stop(rt, &mut self.pass);
+                plan.stop_as(rt, &mut self.pass, by);
                 self.refusal = Some(stop);
                 false
             }

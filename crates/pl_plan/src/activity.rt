@@ -4,7 +4,7 @@ use std::alloc::{AllocError, Global};
 /// An activity of the plan. `parent` is its parent's id and its slot there, `goal` the number of the goal that it
 /// carries, `detail` the chosen alternative, and `set` has one place for each parameter of the kind. `measured` is the
 /// moment at which it ends, where that was measured.
-#[derive(Debug, Drop)]
+#[derive(Drop)]
 pub struct Activity {
     pub id: u32,
     pub kind: u32,

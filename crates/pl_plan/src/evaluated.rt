@@ -13,7 +13,7 @@ use std::alloc::{AllocError, Global};
 /// What an activity comes to: the value of each parameter by its number, the amount of each
 /// reservation by its number (none where it has none, or its expression no value), and the moment
 /// at which it ends, which is there exactly where it is firm.
-#[derive(Debug, Drop)]
+#[derive(Drop)]
 pub struct Evaluated {
     pub values: Items<Option<i64>>,
     pub amounts: Items<Option<i64>>,

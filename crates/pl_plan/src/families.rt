@@ -8,7 +8,7 @@ use crate::index::Index;
 use std::alloc::{AllocError, Global};
 
 /// The children of each activity, and the roots that serve each goal.
-#[derive(Debug, Drop)]
+#[derive(Drop)]
 pub(crate) struct Families {
     pub(crate) children: Index,
     pub(crate) servers: Index,

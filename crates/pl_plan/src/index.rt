@@ -8,7 +8,7 @@ use std::marker::Model;
 use std::ops::Bound;
 
 /// Ids under numbers, which contracts see as pairs by rising number, then id.
-#[derive(Debug, Drop)]
+#[derive(Drop)]
 pub(crate) struct Index {
     pairs: BTreeSet<(u32, u32)>,
 }

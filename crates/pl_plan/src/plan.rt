@@ -12,7 +12,7 @@ use std::marker::Model;
 use std::mem;
 
 /// A plan: the live activities, which contracts see by rising id.
-#[derive(Debug, Drop)]
+#[derive(Drop)]
 pub struct Plan {
     activities: Vec<Activity>,
     families: Families,

@@ -1,5 +1,5 @@
 /// What a timeline notes of its reservations, for proofs alone: one came, or one went.
-#[derive(Clone, Copy, Debug, PartialEq, Eq)]
+#[derive(Clone, Copy, PartialEq, Eq)]
 pub enum Noted<T> {
     Came(T),
     Went(T),

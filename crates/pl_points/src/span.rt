@@ -2,14 +2,14 @@ use pl_lists::{Copied, Items};
 use std::alloc::{AllocError, Global};
 
 /// The moments from `from` up to but not at `to`.
-#[derive(Clone, Copy, Debug, PartialEq, Eq)]
+#[derive(Clone, Copy, PartialEq, Eq)]
 pub struct Span {
     pub from: u32,
     pub to: u32,
 }
 
 /// What left a list of spans, and what came into it, each by rising moments.
-#[derive(Debug, Drop)]
+#[derive(Drop)]
 pub struct Change {
     pub went: Items<Span>,
     pub came: Items<Span>,

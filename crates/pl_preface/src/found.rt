@@ -3,7 +3,7 @@ use crate::refusal::Refusal;
 use pl_lists::Items;
 
 /// What a line before a journal is.
-#[derive(Debug, Drop)]
+#[derive(Drop)]
 pub(crate) enum Found<T> {
     Journal,
     Blank,
@@ -12,7 +12,7 @@ pub(crate) enum Found<T> {
 }
 
 /// How the reading goes on behind a line, with the items so far.
-#[derive(Debug, Drop)]
+#[derive(Drop)]
 pub(crate) enum Step<T> {
     More(Items<T>),
     Given(Items<T>),

@@ -1,5 +1,5 @@
 /// Why a line before a journal is refused.
-#[derive(Clone, Copy, Debug, PartialEq, Eq)]
+#[derive(Clone, Copy, PartialEq, Eq)]
 pub enum Problem {
     /// It has none of the forms that are asked for.
     BadLine,

@@ -4,7 +4,7 @@ ghost use Rattle.pl_rate.specs.Courses.{IsModest, IsSteep, IsRoomy, IsFlat, IsBo
 use crate::hinge::Hinge;
 
 /// A straight line from a moment on: the value there, and how it changes with each moment.
-#[derive(Clone, Copy, Debug, PartialEq, Eq)]
+#[derive(Clone, Copy, PartialEq, Eq)]
 pub(crate) struct Course {
     pub at: u32,
     pub value: i128,

@@ -15,7 +15,7 @@ use pl_model::{Point, Reservation};
 use std::alloc::AllocError;
 
 /// From when up to when an activity lasts.
-#[derive(Clone, Copy, Debug)]
+#[derive(Clone, Copy)]
 pub(crate) struct Lasting {
     pub start: u32,
     pub end: u32,

@@ -1,5 +1,5 @@
 /// How a level changes: from its moment on it has the jump more, and the slope more for each moment after it.
-#[derive(Clone, Copy, Debug, PartialEq, Eq, PartialOrd, Ord)]
+#[derive(Clone, Copy, PartialEq, Eq, PartialOrd, Ord)]
 pub(crate) struct Hinge {
     pub line: u32,
     pub moment: u32,

@@ -10,7 +10,7 @@ use pl_board::Board;
 use std::alloc::{AllocError, Global};
 
 /// What is looked for.
-#[derive(Clone, Copy, Debug)]
+#[derive(Clone, Copy)]
 pub(crate) struct Aim {
     /// So few conflicts but open goals are enough.
     pub(crate) enough: u32,
@@ -22,7 +22,7 @@ pub(crate) struct Aim {
 }
 
 /// How it is looked for.
-#[derive(Clone, Copy, Debug)]
+#[derive(Clone, Copy)]
 pub(crate) struct Shape {
     /// So many plans of a layer go on.
     pub(crate) width: usize,

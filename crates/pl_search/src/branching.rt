@@ -7,7 +7,7 @@ use pl_plan::RepairMove;
 use std::alloc::{AllocError, Global};
 
 /// Which goals may lose the activity that serves them.
-#[derive(Clone, Copy, Debug)]
+#[derive(Clone, Copy)]
 pub(crate) enum GivingUp {
     /// None may.
     Nothing,

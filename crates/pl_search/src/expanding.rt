@@ -14,7 +14,7 @@ use pl_plan::RepairMove;
 use std::alloc::AllocError;
 
 /// A plan that is to be expanded.
-#[derive(Clone, Copy, Debug)]
+#[derive(Clone, Copy)]
 pub(crate) struct Branch {
     /// Its place in its layer.
     pub(crate) from: usize,

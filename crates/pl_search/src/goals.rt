@@ -11,7 +11,7 @@ use std::alloc::{AllocError, Global};
 const BEHIND: u64 = 1_000_000_000_000;
 
 /// The conflict of an open goal, and its place in the order.
-#[derive(Clone, Copy, Debug)]
+#[derive(Clone, Copy)]
 struct Wanted {
     conflict: Conflict,
     rank: (u64, u32),

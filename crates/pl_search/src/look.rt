@@ -4,7 +4,7 @@ use pl_board::Board;
 use pl_conflict::{Code, Conflict};
 
 /// What is seen of a plan.
-#[derive(Clone, Copy, Debug)]
+#[derive(Clone, Copy)]
 pub(crate) struct Look {
     /// How many goals are open.
     pub(crate) unserved: u32,

@@ -9,7 +9,7 @@ use pl_plan::Activity;
 use pl_semantics::PlanState;
 
 /// What no repair changes.
-#[derive(Clone, Copy, Debug, PartialEq, Eq)]
+#[derive(Clone, Copy, PartialEq, Eq)]
 pub(crate) struct Message {
     moment: u32,
     committed: u32,

@@ -13,7 +13,7 @@ pub(crate) struct Node {
 }
 
 /// One more repair of the plan at a place of a layer, and what was seen of what it makes.
-#[derive(Clone, Copy, Debug)]
+#[derive(Clone, Copy)]
 pub(crate) struct Step {
     pub(crate) from: usize,
     pub(crate) repair: Proposal,

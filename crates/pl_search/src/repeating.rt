@@ -9,7 +9,7 @@ use pl_conflict::Conflict;
 use std::alloc::{AllocError, Global};
 
 /// Where a repair stands.
-#[derive(Clone, Copy, Debug)]
+#[derive(Clone, Copy)]
 pub(crate) struct Place {
     /// The place of its conflict among all but open goals.
     conflict: usize,

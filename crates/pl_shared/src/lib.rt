@@ -1,19 +1,5 @@
-//! One plan under a lock: a feeder, a planner and an executive take turns on it, each event of theirs one entry of one history.
+//! The plan that a feeder, a planner and an executive share: the calls of [`pl_locked`] that take the author of an entry from the role.
 #![tactic(auto)]
 
-mod acting;
-mod copying;
-mod feeding;
-mod looking;
-mod passes;
-mod plan;
-mod sharing;
-mod stopping;
-mod turns;
-mod viewing;
-mod waiting;
-mod working;
-
-pub use plan::{Pass, SharedPlan};
-pub use sharing::shared_types;
-pub use working::work;
+pub use pl_acts::{Acted, Part, Role, Sight, View};
+pub use pl_locked::{Pass, SharedPlan, shared_types, work};

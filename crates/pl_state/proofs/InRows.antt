@@ -385,3 +385,15 @@ pub part_next : {T : Type 0} (r xs : List T) (skipped left begin taken : ℕ) �
 part_next r xs skipped left begin taken e f =
     let count : length (drop begin r) ≡ length r - begin = length-drop begin r in
     ap (take left) (drop_split r xs skipped begin (skipped - begin) e refl) ∙ take_split (drop begin r) (drop (skipped - begin) xs) left taken (left - taken) (omega (arith, count, f)) refl
+
+-- a part of one row
+pub part_within : {T : Type 0} (r xs : List T) (skipped count : ℕ) → skipped + count ≤ length r → take count (drop skipped (r ++ xs)) ≡ take count (drop skipped r)
+part_within r xs skipped count few =
+    let none : take (count - count) (drop (skipped - skipped) xs) ≡ [] = let zero_left : count - count ≡ 0 = omega arith in ap (λ n. take n (drop (skipped - skipped) xs)) zero_left in
+    part_next r xs skipped count skipped count (omega (arith, few)) (omega (arith, few)) ∙ ap (λ l. take count (drop skipped r) ++ l) none ∙ append-nil (take count (drop skipped r))
+
+-- behind a row that is passed
+pub drop_past : {T : Type 0} (r xs : List T) (s k : ℕ) → length r ≤ s → k ≡ s - length r → drop s (r ++ xs) ≡ drop k xs
+drop_past [] xs s k le is = let same : s ≡ k = omega (arith, is) in ap (λ n. drop n xs) same
+drop_past (y ∷ r) xs zero k le is = absurd (omega (arith, le))
+drop_past (y ∷ r) xs (suc s) k le is = drop_past r xs s k (omega (arith, le)) (omega (arith, is))

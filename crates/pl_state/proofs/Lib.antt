@@ -1,5 +1,6 @@
 pub mod Keys
 pub mod InRows
+pub mod Nearby
 pub mod Seeking
 pub mod Orders
 pub mod Failing

@@ -190,17 +190,16 @@ all_parts : (F : Must → List BrokenMust) (p : Must → Bool) (ms : List Must) 
 all_parts F p ms = ap (all_of F) (sym (front_back p ms)) ∙ all_append F (front p ms) (back p ms)
 
 -- before the first key nothing changes
-pub begun_at : (F : Must → List BrokenMust) → IsKeyed F → (k : Key) (ks : List Key) (ms : List Must) (b : List BrokenMust) (p q t u : ℕ) → AreSorted must_key ms → AreSorted group_key b
-    → IsRun must_key k ms 0 p q → IsRun group_key k b 0 t u → p ≤ length ms → t ≤ length b → AreRightBut (k ∷ ks) F ms b → IsBegun F ms b (k ∷ ks) t p t [] [] []
-begun_at F keyed k ks ms b p q t u sorted rising named old in_musts in_broken right =
+pub begun_at : (F : Must → List BrokenMust) → IsKeyed F → (k : Key) (ks : List Key) (ms : List Must) (b : List BrokenMust) (p t : ℕ) → AreSorted must_key ms → AreSorted group_key b
+    → drop p ms ≡ back (is_before must_key k) ms → take t b ≡ front (is_before group_key k) b → drop t b ≡ back (is_before group_key k) b → p ≤ length ms → t ≤ length b → AreRightBut (k ∷ ks) F ms b → IsBegun F ms b (k ∷ ks) t p t [] [] []
+begun_at F keyed k ks ms b p t sorted rising on before on_old in_musts in_broken right =
     let kept = skipped F keyed k ms b sorted rising right.0 in
-    let none : NonePass (is_before must_key k) (drop p ms) = subst (NonePass (is_before must_key k)) (sym named.on) (back_none (is_before must_key k) ms (parted_before must_key k ms sorted)) in
-    let none_old : NonePass (is_before group_key k) (drop t b) = subst (NonePass (is_before group_key k)) (sym old.on) (back_none (is_before group_key k) b (parted_before group_key k b rising)) in
+    let none : NonePass (is_before must_key k) (drop p ms) = subst (NonePass (is_before must_key k)) (sym on) (back_none (is_before must_key k) ms (parted_before must_key k ms sorted)) in
+    let none_old : NonePass (is_before group_key k) (drop t b) = subst (NonePass (is_before group_key k)) (sym on_old) (back_none (is_before group_key k) b (parted_before group_key k b rising)) in
     let stop = stops (is_before must_key k) (drop p ms) none in
     let stop_old = stops (is_before group_key k) (drop t b) none_old in
-    let same : back (is_up_to must_key k) (back (is_before must_key k) ms) ≡ back (is_up_to must_key k) (back (is_before must_key k) (drop p ms)) = ap (back (is_up_to must_key k)) (sym (stop.1 ∙ named.on)) in
-    let same_old : back (is_up_to group_key k) (back (is_before group_key k) b) ≡ back (is_up_to group_key k) (back (is_before group_key k) (drop t b)) = ap (back (is_up_to group_key k)) (sym (stop_old.1 ∙ old.on)) in
-    let size : t - 0 ≡ t = omega arith in
+    let same : back (is_up_to must_key k) (back (is_before must_key k) ms) ≡ back (is_up_to must_key k) (back (is_before must_key k) (drop p ms)) = ap (back (is_up_to must_key k)) (sym (stop.1 ∙ on)) in
+    let same_old : back (is_up_to group_key k) (back (is_before group_key k) b) ≡ back (is_up_to group_key k) (back (is_before group_key k) (drop t b)) = ap (back (is_up_to group_key k)) (sym (stop_old.1 ∙ on_old)) in
     record {
       in_musts = in_musts;
       in_broken = in_broken;
@@ -210,9 +209,9 @@ begun_at F keyed k ks ms b p q t u sorted rising named old in_musts in_broken ri
         subst (λ l. AreRightBut ks F l (back (is_up_to group_key k) (back (is_before group_key k) (drop t b)))) same
             (subst (λ l. AreRightBut ks F (back (is_up_to must_key k) (back (is_before must_key k) ms)) l) same_old right.1),
       );
-      whole = ap (λ l. l ++ all_of F (drop p ms)) (ap (λ n. take n b) (sym size) ∙ (old.before ∙ right.0)) ∙ (ap (λ l. all_of F (front (is_before must_key k) ms) ++ all_of F l) named.on ∙ sym (all_parts F (is_before must_key k) ms));
-      gone = ap (λ l. left_out same_broken (all_of F l) (drop t b)) named.on ∙ (ap (left_out same_broken (all_of F (back (is_before must_key k) ms))) old.on ∙ kept.0);
-      new = ap (λ l. left_out same_broken (drop t b) (all_of F l)) named.on ∙ (ap (λ l. left_out same_broken l (all_of F (back (is_before must_key k) ms))) old.on ∙ kept.1);
+      whole = ap (λ l. l ++ all_of F (drop p ms)) (before ∙ right.0) ∙ (ap (λ l. all_of F (front (is_before must_key k) ms) ++ all_of F l) on ∙ sym (all_parts F (is_before must_key k) ms));
+      gone = ap (λ l. left_out same_broken (all_of F l) (drop t b)) on ∙ (ap (left_out same_broken (all_of F (back (is_before must_key k) ms))) on_old ∙ kept.0);
+      new = ap (λ l. left_out same_broken (drop t b) (all_of F l)) on ∙ (ap (λ l. left_out same_broken l (all_of F (back (is_before must_key k) ms))) on_old ∙ kept.1);
     }
 
 -- one key more

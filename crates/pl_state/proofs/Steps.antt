@@ -101,14 +101,22 @@ state_before_none base s (x ∷ xs) =
     let e : (ltb base x.at && ltb x.at 0) ≡ false = ap (λ b. ltb base x.at && b) (le-ltb x.at 0 (omega arith)) ∙ and-false (ltb base x.at) in
     ap (λ b. state_before base 0 (cond b x.state s) xs) e ∙ state_before_none base s xs
 
+next_test : (n t : ℕ) → ltb n (suc t) ≡ leb n t
+next_test n t = cases (leb n t) refl
+  where
+    cases : (b : Bool) → leb n t ≡ b → ltb n (suc t) ≡ leb n t
+    cases true e = lt-ltb n (suc t) (omega (arith, leb-true n t e)) ∙ sym e
+    cases false e = le-ltb n (suc t) (omega (arith, leb-false n t e)) ∙ sym e
+
+-- the sets before a moment are those that are passed at the moment before it
+pub begun_next : (t : ℕ) (xs : List Setting) → front (comes_before (suc t)) xs ≡ front (is_passed t) xs
+begun_next t [] = refl
+begun_next t (x ∷ xs) = ap (λ b. cond b (x ∷ front (comes_before (suc t)) xs) []) (next_test x.at t) ∙ ap (λ l. cond (leb x.at t) (x ∷ l) []) (begun_next t xs)
+
 -- the state before a moment is the one at the moment before it
 pub state_before_next : (base t s : ℕ) (xs : List Setting) → state_before base (suc t) s xs ≡ state_from base t s xs
 state_before_next base t s [] = refl
-state_before_next base t s (x ∷ xs) = ap (λ b. state_before base (suc t) (cond (ltb base x.at && b) x.state s) xs) (tests (leb x.at t) refl) ∙ state_before_next base t (cond (ltb base x.at && leb x.at t) x.state s) xs
-  where
-    tests : (b : Bool) → leb x.at t ≡ b → ltb x.at (suc t) ≡ leb x.at t
-    tests true e = lt-ltb x.at (suc t) (omega (arith, leb-true x.at t e)) ∙ sym e
-    tests false e = le-ltb x.at (suc t) (omega (arith, leb-false x.at t e)) ∙ sym e
+state_before_next base t s (x ∷ xs) = ap (λ b. state_before base (suc t) (cond (ltb base x.at && b) x.state s) xs) (next_test x.at t) ∙ state_before_next base t (cond (ltb base x.at && leb x.at t) x.state s) xs
 
 back_stays : (al : ℕ → ℕ → Bool) (base h mo s z c : ℕ) (xs : List Setting) → AreInOrder c xs → z < c → back (bad_by z) (bad_from al base h mo s xs) ≡ bad_from al base h mo s xs
 back_stays al base h mo s z c [] ordered lt = refl

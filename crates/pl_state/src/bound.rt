@@ -5,7 +5,7 @@ use crate::key::Key;
 
 // How far a search goes through what is sorted by keys: to those before a key or with it, or to
 // those before a moment or at it.
-#[derive(Clone, Copy, Debug)]
+#[derive(Clone, Copy)]
 pub(crate) enum Bound {
     Before(Key),
     UpTo(Key),

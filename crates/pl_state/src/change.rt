@@ -1,7 +1,7 @@
 use crate::reservation::{Must, Setting};
 
 // A change of a state timeline.
-#[derive(Clone, Copy, Debug)]
+#[derive(Clone, Copy)]
 pub(crate) enum Change {
     Put(Setting),
     Take(Setting),

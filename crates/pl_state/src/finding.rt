@@ -18,8 +18,8 @@ pub(crate) fn run_in<T: Keyed>(rows: &Rows<T>, from: usize, key: Key) -> Run
     ensures bound { result.behind ≤ length rows.now }
     ensures cut { IsRun T.key key rows.now from result.begin result.behind }
 {
-    let begin = rows.end_from(from, Bound::Before(key));
-    let behind = rows.end_from(begin, Bound::UpTo(key));
+    let begin = rows.end_near(from, Bound::Before(key));
+    let behind = rows.end_near(begin, Bound::UpTo(key));
     Run { begin, behind }
 }
 

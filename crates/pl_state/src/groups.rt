@@ -11,10 +11,10 @@ ghost use Rattle.pl_state.specs.Near.{group_key, IsKeyed, AreRightBut, IsBegun};
 ghost use Rattle.pl_state.specs.Present.{group_at, broken_at};
 
 use crate::answer::BrokenMust;
-use crate::key::{Key, run_of};
+use crate::key::{Key, count_before, run_of};
 use crate::listed::{Difference, replace};
 use crate::missing::push_missing;
-use crate::musts::{Musts, groups_of};
+use crate::musts::Musts;
 use crate::present::Present;
 use crate::sets::Sets;
 use pl_lists::Items;
@@ -61,9 +61,9 @@ fn begun(alloc: Global, musts: &Musts, keys: &[Key], broken: &[BrokenMust]) -> R
     match keys.first() {
         None => renewal_from(alloc, musts.len(), broken.len()),
         Some(key) => {
-            let passed = musts.run_of(0, *key);
-            let taken = run_of(broken, 0, *key);
-            renewal_from(alloc, passed.begin, taken.begin)
+            let passed = musts.begun_count(*key);
+            let taken = count_before(broken, *key);
+            renewal_from(alloc, passed, taken)
         }
     }
 }
@@ -89,9 +89,8 @@ fn renew_key(
         renewal.new.passed renewal.new.taken renewal.new.fresh.items renewal.new.went renewal.new.came) }
 {
     let run = musts.run_of(renewal.passed, key);
-    let named = musts.part(alloc, run)?;
     let old = run_of(broken, renewal.taken, key);
-    let group = groups_of(alloc, sets, present, &named)?;
+    let group = musts.groups_in(alloc, sets, present, run)?;
     let gone = &broken[old.begin..old.behind];
     push_missing(alloc, &mut renewal.went, &group, gone)?;
     push_missing(alloc, &mut renewal.came, gone, &group)?;

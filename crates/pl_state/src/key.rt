@@ -5,7 +5,7 @@ ghost use Rattle.pl_state.specs.Keys.{key_before, AreSorted, KnowsKey, IsRun};
 ghost use Rattle.pl_state.specs.Near.{rest_after};
 
 // Where something stands in its list. What has no moment of its own has the moment 0.
-#[derive(Clone, Copy, Debug, PartialEq, Eq, PartialOrd, Ord)]
+#[derive(Clone, Copy, PartialEq, Eq, PartialOrd, Ord)]
 pub(crate) struct Key {
     pub(crate) at: u32,
     pub(crate) id: u32,
@@ -59,7 +59,7 @@ pub(crate) fn count_up_to<T: Keyed>(list: &[T], key: Key) -> usize
 }
 
 // Where the items with a key stand.
-#[derive(Clone, Copy, Debug)]
+#[derive(Clone, Copy)]
 pub(crate) struct Run {
     pub(crate) begin: usize,
     pub(crate) behind: usize,

@@ -1,9 +1,11 @@
 //! A state: what it is at each moment, where a must is broken, and which sets take a step that is not allowed.
 #![tactic(auto)]
 
+mod allowed;
 mod answer;
 mod bound;
 mod change;
+mod filling;
 mod finding;
 mod groups;
 mod kept;
@@ -14,6 +16,7 @@ mod making;
 mod missing;
 mod musts;
 mod near;
+mod pieces;
 mod present;
 mod reservation;
 mod row;

@@ -54,6 +54,9 @@ pub(crate) fn push_missing(
 ) -> Result<(), AllocError>
     ensures { OnOk result (missing.new ≡ missing.old ++ left_out same_broken others.now list.now) }
 {
+    if list.is_empty() {
+        return Ok(());
+    }
     let ordered = in_order(alloc, others)?;
     push_absent(missing, &ordered, list)?;
     Ok(())

@@ -1,7 +1,8 @@
-ghost use Rattle.std.specs.Prelude.{◌≡◌, ◌≤◌, ◌-◌, length, take, drop, ◌++◌, ◌∷◌, ◌==◌, true, not, max, min, [], OnOk, IfOk, if◌then◌else◌};
-ghost use Rattle.pl_points.specs.Spans.{span, joined, spans_of};
+ghost use Rattle.std.specs.Prelude.{◌≡◌, ◌≤◌, ◌-◌, length, take, drop, ◌++◌, ◌==◌, true, not, max, min, [], OnOk, IfOk};
+ghost use Rattle.pl_lists.specs.Lists.{back};
+ghost use Rattle.pl_points.specs.Spans.{spans_of};
 ghost use Rattle.pl_points.specs.Standing.{without};
-ghost use Rattle.pl_state.specs.Keys.{AreSorted, AreRising, Has, IsRun};
+ghost use Rattle.pl_state.specs.Keys.{is_before, AreSorted, AreRising, Has, IsRun};
 ghost use Rattle.pl_state.specs.Sets.{AreInOrder, state_from};
 ghost use Rattle.pl_state.specs.declared.reservation.Must.{Must};
 ghost use Rattle.pl_state.specs.Musts.{must_key, same_must, with_must, broken_spans};
@@ -12,10 +13,11 @@ use crate::answer::BrokenMust;
 use crate::bound::Bound;
 use crate::finding::{position_in, run_in};
 use crate::key::{Key, Keyed, Run};
+use crate::pieces::failing_spans;
 use crate::present::Present;
 use crate::reservation::Must;
 use crate::rows::Rows;
-use crate::sets::{Sets, end_of, state_of};
+use crate::sets::Sets;
 use crate::starts::Starts;
 use pl_points::Span;
 use std::alloc::{AllocError, Global};
@@ -77,6 +79,15 @@ impl Musts {
         self.items.len()
     }
 
+    /// How many come before the key.
+    pub(crate) fn begun_count(&self, key: Key) -> usize
+        ensures sorted { AreSorted must_key self.now }
+        ensures bound { result ≤ length self.now }
+        ensures rest { drop result self.now ≡ back (is_before must_key key) self.now }
+    {
+        self.items.count(Bound::Before(key))
+    }
+
     /// Where those with the key stand, from a place on.
     pub(crate) fn run_of(&self, from: usize, key: Key) -> Run
         requires { from ≤ length self.now }
@@ -89,13 +100,26 @@ impl Musts {
         run_in(&self.items, from, key)
     }
 
-    /// Those of a run.
-    pub(crate) fn part(&self, alloc: Global, run: Run) -> Result<Vec<Must>, AllocError>
-        requires { run.begin ≤ run.behind }
-        ensures { IfOk result (λ v. v.items ≡ take (run.behind - run.begin) (drop run.begin self.now)) }
+    /// Where those of a run are broken.
+    pub(crate) fn groups_in(
+        &self,
+        alloc: Global,
+        sets: &Sets,
+        present: Present,
+        run: Run,
+    ) -> Result<Vec<BrokenMust>, AllocError>
+        requires run { run.begin ≤ run.behind }
+        requires ordered { AreInOrder 0 sets.now }
+        ensures { IfOk result (λ v. v.items ≡ broken_at present sets.now (take (run.behind - run.begin) (drop run.begin self.now))) }
     {
-        let part = self.items.part(alloc, run.begin, run.behind - run.begin)?;
-        Ok(part)
+        let count = run.behind - run.begin;
+        match self.items.within(run.begin, count) {
+            Some(musts) => groups_of(alloc, sets, present, musts),
+            None => {
+                let musts = self.items.part(alloc, run.begin, count)?;
+                groups_of(alloc, sets, present, &musts)
+            }
+        }
     }
 
     pub(crate) fn copy(&self, alloc: Global) -> Result<Musts, AllocError>
@@ -142,59 +166,6 @@ impl Musts {
         let keys = self.starts.touched(alloc, near)?;
         Ok(keys)
     }
-}
-
-// Puts a span after the others, joined to the last where they touch.
-fn extend(spans: &mut Vec<Span>, from: u32, to: u32) -> Result<(), AllocError>
-    ensures { OnOk result (spans.new.items ≡ joined spans.old.items (span from to ∷ [])) }
-{
-    let count = spans.len();
-    if count > 0 && spans[count - 1].to == from {
-        let begun = spans[count - 1].from;
-        spans[count - 1] = Span { from: begun, to };
-        Ok(())
-    } else {
-        spans.push(Span { from, to })?;
-        Ok(())
-    }
-}
-
-// Puts the piece after the others where the must fails there.
-fn push_piece(spans: &mut Vec<Span>, fails: bool, from: u32, to: u32) -> Result<(), AllocError>
-    ensures { OnOk result (spans.new.items ≡ (if fails then joined spans.old.items
-        (span from to ∷ []) else spans.old.items)) }
-{
-    if fails {
-        extend(spans, from, to)
-    } else {
-        Ok(())
-    }
-}
-
-// The maximal spans of the window in which the state is another.
-fn failing_spans(
-    alloc: Global,
-    sets: &Sets,
-    base: u32,
-    value: u32,
-    state: u32,
-    window: Span,
-) -> Result<Vec<Span>, AllocError>
-    requires some { window.from ≤ window.to }
-    requires ordered { AreInOrder 0 sets.now }
-    ensures { IfOk result (λ v. v.items ≡ spans_of
-        (λ t. not (state_from base t value sets.now == state)) window.from
-        (window.to - window.from)) }
-{
-    let mut spans = Vec::new(alloc);
-    let mut at = window.from;
-    'pieces: while at < window.to {
-        let end = end_of(sets, base, value, at, window.to);
-        let found = state_of(sets, base, value, at);
-        push_piece(&mut spans, found != state, at, end)?;
-        at = end;
-    }
-    Ok(spans)
 }
 
 // The moments of a must from the present one up to the horizon.
@@ -261,8 +232,8 @@ fn push_group(
     Ok(())
 }
 
-/// Where the musts are broken.
-pub(crate) fn groups_of(
+// Where the musts are broken.
+fn groups_of(
     alloc: Global,
     sets: &Sets,
     present: Present,

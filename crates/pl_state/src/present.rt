@@ -1,5 +1,5 @@
 // What counts at the present: from its moment up to the horizon, after the base and its state.
-#[derive(Clone, Copy, Debug)]
+#[derive(Clone, Copy)]
 pub(crate) struct Present {
     pub(crate) moment: u32,
     pub(crate) horizon: u32,

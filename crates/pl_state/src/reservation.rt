@@ -2,7 +2,7 @@ use pl_lists::Copied;
 use std::alloc::{AllocError, Global};
 
 /// The state that an activity's reservation sets at a moment.
-#[derive(Clone, Copy, Debug, PartialEq, Eq)]
+#[derive(Clone, Copy, PartialEq, Eq)]
 pub struct Setting {
     pub at: u32,
     pub id: u32,
@@ -11,7 +11,7 @@ pub struct Setting {
 }
 
 /// The state that an activity's reservation needs from `from` up to but not at `to`.
-#[derive(Clone, Copy, Debug, PartialEq, Eq)]
+#[derive(Clone, Copy, PartialEq, Eq)]
 pub struct Must {
     pub from: u32,
     pub to: u32,
@@ -21,7 +21,7 @@ pub struct Must {
 }
 
 // A must where its start stands.
-#[derive(Clone, Copy, Debug)]
+#[derive(Clone, Copy)]
 pub(crate) struct Started {
     pub(crate) must: Must,
 }

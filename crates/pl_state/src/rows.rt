@@ -1,17 +1,18 @@
 //! A sorted list in rows, so that an item that comes or goes moves no more than a row.
-ghost use Rattle.std.specs.Prelude.{◌≡◌, ◌<◌, ◌≤◌, ◌-◌, ◌^◌, ◌++◌, ◌∷◌, [], suc, length, take, drop, slice_index_or, OnOk, OnErr, IfOk};
+ghost use Rattle.std.specs.Prelude.{◌≡◌, ◌<◌, ◌≤◌, ◌+◌, ◌-◌, ◌^◌, ◌++◌, ◌∷◌, [], suc, length, take, drop, slice_index_or, OnOk, OnErr, IfOk, IfSome};
 ghost use Rattle.pl_lists.specs.Lists.{front, back};
 ghost use Rattle.pl_state.specs.Keys.{AreSorted};
-ghost use Rattle.pl_state.specs.Rows.{is_covered, last_passes, together, AreFilled, IsSpot};
+ghost use Rattle.pl_state.specs.Rows.{is_covered, last_passes, together, AreFilled};
 
 use crate::bound::Bound;
+use crate::filling::{begin, insert_into, spot_of, take_out};
 use crate::key::Keyed;
 use crate::row::Row;
 use std::alloc::{AllocError, Global};
 use std::marker::Model;
 
-// A row that has as many is split before one more comes.
-const MOST: usize = 512;
+// So many items are looked at one by one before those behind them are searched.
+const FEW: usize = 4;
 
 /// A list in rows of 1 to 512 items.
 #[derive(Drop)]
@@ -32,28 +33,6 @@ impl<T> Model for Rows<T> {
     ghost invariant = { λ r. AreRows r.count r.rows.items };
 }
 
-// Where a place lies: in which row, and behind how many items of the row.
-#[derive(Clone, Copy, Debug)]
-struct Spot {
-    row: usize,
-    at: usize,
-}
-
-// The first row in which or at whose end the place lies.
-fn spot_of<T: Keyed>(rows: &[Row<T>], place: usize) -> Spot
-    requires some { 0 < length rows.now }
-    requires bound { place ≤ length (together rows.now) }
-    ensures { IsSpot rows.now place result.row result.at }
-{
-    let mut row = 0;
-    let mut at = place;
-    'rows: while rows[row].len() < at {
-        at -= rows[row].len();
-        row += 1;
-    }
-    Spot { row, at }
-}
-
 // How many rows end within the bound.
 fn covered_count<T: Keyed>(rows: &[Row<T>], bound: Bound) -> usize
     requires filled { AreFilled rows.now }
@@ -67,6 +46,18 @@ fn covered_count<T: Keyed>(rows: &[Row<T>], bound: Bound) -> usize
     rows.partition_point(|row| row.is_covered(bound))
 }
 
+// So many items from the place on, if there are as many.
+fn few_from<T>(items: &[T], from: usize, count: usize) -> Option<&[T]>
+    requires { from ≤ length items.now }
+    ensures value { IfSome result (λ v. v.now ≡ take count (drop from items.now)) }
+    ensures few { IfSome result (λ v. from + count ≤ length items.now) }
+{
+    if count > items.len() - from {
+        return None;
+    }
+    Some(&items[from..from + count])
+}
+
 // How many items the rows have.
 fn length_of<T: Keyed>(rows: &[Row<T>]) -> usize
     requires { length (together rows.now) < 2 ^ 64 }
@@ -77,92 +68,6 @@ fn length_of<T: Keyed>(rows: &[Row<T>]) -> usize
         count += row.len();
     }
     count
-}
-
-// The first item.
-fn begin<T: Keyed>(alloc: Global, rows: &mut Vec<Row<T>>, item: T) -> Result<(), AllocError>
-    requires { rows.old.items ≡ [] }
-    ensures ok { OnOk result (together rows.new.items ≡ item ∷ []) }
-    ensures err { OnErr result (together rows.new.items ≡ []) }
-    ensures filled { AreFilled rows.new.items }
-{
-    let mut row = Row::new(alloc);
-    row.insert(0, item)?;
-    rows.push(row)?;
-    Ok(())
-}
-
-// The row in two halves.
-fn split<T: Keyed>(alloc: Global, rows: &mut Vec<Row<T>>, row: usize) -> Result<(), AllocError>
-    requires there { row < length rows.old.items }
-    requires many { 1 < length (slice_index_or rows.old.items row []) }
-    requires filled { AreFilled rows.old.items }
-    ensures same { together rows.new.items ≡ together rows.old.items }
-    ensures filled { AreFilled rows.new.items }
-    ensures some { 0 < length rows.new.items }
-{
-    let half = rows[row].len() / 2;
-    let behind = Row::from_slice(alloc, &rows[row].as_slice()[half..])?;
-    rows.insert(row + 1, behind)?;
-    rows[row].truncate(half);
-    Ok(())
-}
-
-// Splits the row of the place where it is full.
-fn make_room<T: Keyed>(
-    alloc: Global,
-    rows: &mut Vec<Row<T>>,
-    place: usize,
-) -> Result<(), AllocError>
-    requires some { 0 < length rows.old.items }
-    requires bound { place ≤ length (together rows.old.items) }
-    requires filled { AreFilled rows.old.items }
-    ensures same { together rows.new.items ≡ together rows.old.items }
-    ensures filled { AreFilled rows.new.items }
-    ensures some { 0 < length rows.new.items }
-{
-    let row = spot_of(rows, place).row;
-    if rows[row].len() < MOST {
-        return Ok(());
-    }
-    split(alloc, rows, row)
-}
-
-fn insert_into<T: Keyed>(
-    alloc: Global,
-    rows: &mut Vec<Row<T>>,
-    place: usize,
-    item: T,
-) -> Result<(), AllocError>
-    requires some { 0 < length rows.old.items }
-    requires bound { place ≤ length (together rows.old.items) }
-    requires filled { AreFilled rows.old.items }
-    ensures ok { OnOk result (together rows.new.items
-        ≡ take place (together rows.old.items) ++ item ∷ drop place (together rows.old.items)) }
-    ensures err { OnErr result (together rows.new.items ≡ together rows.old.items) }
-    ensures filled { AreFilled rows.new.items }
-{
-    make_room(alloc, rows, place)?;
-    let spot = spot_of(rows, place);
-    rows[spot.row].insert(spot.at, item)?;
-    Ok(())
-}
-
-// Takes out the item at the place in the row, and the row with its last one.
-fn take_out<T: Keyed>(rows: &mut Vec<Row<T>>, row: usize, at: usize)
-    requires there { row < length rows.old.items }
-    requires bound { at < length (slice_index_or rows.old.items row []) }
-    requires filled { AreFilled rows.old.items }
-    ensures gone { together rows.new.items ≡ together (take row rows.old.items)
-        ++ ((take at (slice_index_or rows.old.items row []) ++ drop (suc at) (slice_index_or rows.old.items row []))
-        ++ together (drop (suc row) rows.old.items)) }
-    ensures filled { AreFilled rows.new.items }
-{
-    if rows[row].len() == 1 {
-        rows.remove(row);
-    } else {
-        rows[row].remove(at);
-    }
 }
 
 impl<T: Keyed> Rows<T> {
@@ -261,6 +166,40 @@ impl<T: Keyed> Rows<T> {
             ≡ back (is_covered T.key bound) (drop from self.now) }
     {
         self.count(bound).max(from)
+    }
+
+    /// The same, where these items are most likely few.
+    pub(crate) fn end_near(&self, from: usize, bound: Bound) -> usize
+        requires from { from ≤ length self.now }
+        requires sorted { AreSorted T.key self.now }
+        ensures low { from ≤ result }
+        ensures bound { result ≤ length self.now }
+        ensures front { take (result - from) (drop from self.now)
+            ≡ front (is_covered T.key bound) (drop from self.now) }
+        ensures rest { drop result self.now
+            ≡ back (is_covered T.key bound) (drop from self.now) }
+    {
+        for place in from..self.len().min(from.saturating_add(FEW)) {
+            if !bound.covers(self.at(place).key()) {
+                return place;
+            }
+        }
+        self.end_from(from, bound)
+    }
+
+    /// So many items from the place on, where one row has them all.
+    pub(crate) fn within(&self, from: usize, count: usize) -> Option<&[T]>
+        ensures { IfSome result (λ v. v.now ≡ take count (drop from self.now)) }
+    {
+        let mut skipped = from;
+        for row in &self.rows {
+            let items = row.as_slice();
+            if skipped < items.len() {
+                return few_from(items, skipped, count);
+            }
+            skipped -= items.len();
+        }
+        None
     }
 
     /// So many items from the place on.

@@ -1,10 +1,11 @@
-ghost use Rattle.std.specs.Prelude.{◌≡◌, ◌<◌, ◌≤◌, ◌-◌, ◌++◌, ◌∷◌, [], ℕ, List, true, length, take, drop, suc, min, max, slice_index_or, OnOk, OnErr, IfOk};
+ghost use Rattle.std.specs.Prelude.{◌≡◌, ◌<◌, ◌≤◌, ◌-◌, [], ℕ, List, length, take, drop, min, max, slice_index_or, OnOk, IfOk};
 ghost use Rattle.pl_lists.specs.Lists.{front, back};
-ghost use Rattle.pl_points.specs.Standing.{stands, without};
-ghost use Rattle.pl_state.specs.Sets.{set_key, set_before, same_setting, with_set, state_from, is_listed, is_allowed, bad_from, is_passed, AreInOrder};
+ghost use Rattle.pl_points.specs.Standing.{without};
+ghost use Rattle.pl_state.specs.Sets.{set_key, set_before, same_setting, with_set, state_from, is_allowed, bad_from, is_passed, AreInOrder};
 ghost use Rattle.pl_state.specs.Keys.{AreSorted};
 ghost use Rattle.pl_state.specs.Near.{next_moment, rest_after, comes_before, state_before};
 
+use crate::allowed::bad_of;
 use crate::answer::BadSet;
 use crate::bound::Bound;
 use crate::finding::position_in;
@@ -86,6 +87,7 @@ impl Sets {
     // How many sets come before the moment.
     fn begun_count(&self, at: u32) -> usize
         ensures bound { result ≤ length self.now }
+        ensures front { take result self.now ≡ front (comes_before at) self.now }
         ensures rest { drop result self.now ≡ back (comes_before at) self.now }
     {
         self.items.count(Bound::Earlier(at))
@@ -103,38 +105,21 @@ impl Sets {
     // The place behind the sets from a place on that are at the moment or before it.
     fn passed_from(&self, from: usize, at: u32) -> usize
         requires { from ≤ length self.now }
+        ensures sorted { AreSorted set_key self.now }
         ensures low { from ≤ result }
         ensures front { take (result - from) (drop from self.now)
             ≡ front (is_passed at) (drop from self.now) }
     {
-        self.items.end_from(from, Bound::By(at))
+        self.items.end_near(from, Bound::By(at))
     }
 
     // So many sets from the place on.
     fn part(&self, alloc: Global, from: usize, count: usize) -> Result<Vec<Setting>, AllocError>
-        ensures sorted { AreSorted set_key self.now }
-        ensures part { IfOk result (λ v. v.items ≡ take count (drop from self.now)) }
+        ensures { IfOk result (λ v. v.items ≡ take count (drop from self.now)) }
     {
         let part = self.items.part(alloc, from, count)?;
         Ok(part)
     }
-}
-
-fn is_listed(steps: &[(u32, u32)], from: u32, to: u32) -> bool
-    ensures { result ≡ is_listed steps.now from to }
-{
-    for step in steps {
-        if step.0 == from && step.1 == to {
-            return true;
-        }
-    }
-    false
-}
-
-pub(crate) fn is_allowed(any: bool, steps: &[(u32, u32)], from: u32, to: u32) -> bool
-    ensures { result ≡ is_allowed any steps.now from to }
-{
-    any || from == to || is_listed(steps, from, to)
 }
 
 // The moment of the first set from the place on, at most the horizon.
@@ -189,35 +174,6 @@ pub(crate) fn remove_set(sets: &mut Sets, set: Setting, horizon: u32) -> Span
     }
 }
 
-// The sets whose step is not allowed.
-fn bad_of(
-    alloc: Global,
-    any: bool,
-    steps: &[(u32, u32)],
-    counted: Span,
-    moment: u32,
-    value: u32,
-    sets: &[Setting],
-) -> Result<Vec<BadSet>, AllocError>
-    ensures { IfOk result (λ v. v.items ≡ bad_from
-        (is_allowed any steps.now) counted.from counted.to moment value sets.now) }
-{
-    let mut bad = Vec::new(alloc);
-    let mut state = value;
-    for set in sets {
-        let counts = counted.from < set.at && set.at < counted.to;
-        if counts && (moment <= set.at && !is_allowed(any, steps, state, set.state)) {
-            bad.push(BadSet {
-                at: set.at,
-                id: set.id,
-                index: set.index,
-            })?;
-        }
-        state = if counts { set.state } else { state };
-    }
-    Ok(bad)
-}
-
 // The moment of the first set after the base, at most the horizon.
 pub(crate) fn end_of_base(sets: &Sets, base: u32, horizon: u32) -> u32
     requires { base ≤ horizon }
@@ -228,15 +184,54 @@ pub(crate) fn end_of_base(sets: &Sets, base: u32, horizon: u32) -> u32
     next_moment(sets, count, horizon)
 }
 
-// The state that the sets before the moment leave.
-fn state_before(sets: &Sets, base: u32, value: u32, at: u32) -> u32
-    requires { AreInOrder 0 sets.now }
+// The state that the first sets leave, which are all that are at a moment or before it.
+fn state_left(sets: &Sets, base: u32, value: u32, count: usize) -> u32
+    requires ordered { AreInOrder 0 sets.now }
+    requires bound { count ≤ length sets.now }
+    ensures { (at : ℕ) → take count sets.now ≡ front (is_passed at) sets.now → result ≡ state_from base at value sets.now }
+{
+    if count == 0 {
+        return value;
+    }
+    let last = sets.at(count - 1);
+    if base < last.at { last.state } else { value }
+}
+
+// The state that the sets before the moment leave, so many.
+fn state_before(sets: &Sets, base: u32, value: u32, at: u32, begun: usize) -> u32
+    requires ordered { AreInOrder 0 sets.now }
+    requires bound { begun ≤ length sets.now }
+    requires begun { take begun sets.now ≡ front (comes_before at) sets.now }
     ensures { result ≡ state_before base at value sets.now }
 {
     if at == 0 {
         value
     } else {
-        state_of(sets, base, value, at - 1)
+        state_left(sets, base, value, begun)
+    }
+}
+
+// The sets of a part whose step is not allowed.
+fn bad_within(
+    alloc: Global,
+    any: bool,
+    steps: &[(u32, u32)],
+    counted: Span,
+    moment: u32,
+    value: u32,
+    sets: &Sets,
+    begin: usize,
+    count: usize,
+) -> Result<Vec<BadSet>, AllocError>
+    ensures { IfOk result (λ v. v.items ≡ bad_from
+        (is_allowed any steps.now) counted.from counted.to moment value (take count (drop begin sets.now))) }
+{
+    match sets.items.within(begin, count) {
+        Some(part) => bad_of(alloc, any, steps, counted, moment, value, part),
+        None => {
+            let part = sets.part(alloc, begin, count)?;
+            bad_of(alloc, any, steps, counted, moment, value, &part)
+        }
     }
 }
 
@@ -258,11 +253,12 @@ pub(crate) fn bad_near(
         (state_before counted.from near.from value sets.now)
         (front (is_passed near.to) (back (comes_before near.from) sets.now))) }
 {
-    let state = state_before(sets, counted.from, value, near.from);
     let begin = sets.begun_count(near.from);
-    let end = sets.passed_from(begin, near.to);
-    let window = sets.part(alloc, begin, end - begin)?;
-    let bad = bad_of(alloc, any, steps, counted, moment, state, &window)?;
+    let state = state_before(sets, counted.from, value, near.from, begin);
+    let count = sets.passed_from(begin, near.to) - begin;
+    let bad = bad_within(
+        alloc, any, steps, counted, moment, state, sets, begin, count,
+    )?;
     Ok(bad)
 }
 
@@ -272,11 +268,7 @@ pub(crate) fn state_of(sets: &Sets, base: u32, value: u32, at: u32) -> u32
     ensures { result ≡ state_from base at value sets.now }
 {
     let count = sets.passed_count(at);
-    if count == 0 {
-        return value;
-    }
-    let last = sets.at(count - 1);
-    if base < last.at { last.state } else { value }
+    state_left(sets, base, value, count)
 }
 
 // Up to where the state stays as it is at the moment.

@@ -1,4 +1,4 @@
-ghost use Rattle.std.specs.Prelude.{◌≡◌, [], true, OnOk, OnErr, IfOk};
+ghost use Rattle.std.specs.Prelude.{◌≡◌, [], true, take, drop, OnOk, OnErr, IfOk};
 ghost use Rattle.pl_points.specs.Standing.{without};
 ghost use Rattle.pl_state.specs.declared.reservation.Must.{Must};
 ghost use Rattle.pl_state.specs.Keys.{AreSorted, AreRising, Has};
@@ -113,6 +113,25 @@ impl Starts {
         }
     }
 
+    // The same of so many musts from a place on.
+    fn touched_in(
+        &self,
+        alloc: Global,
+        near: Span,
+        begin: usize,
+        count: usize,
+    ) -> Result<Vec<Key>, AllocError>
+        ensures { IfOk result (λ v. v.items ≡ touched_keys near (take count (drop begin self.now))) }
+    {
+        match self.items.within(begin, count) {
+            Some(starts) => touched_keys(alloc, near, starts),
+            None => {
+                let starts = self.items.part(alloc, begin, count)?;
+                touched_keys(alloc, near, &starts)
+            }
+        }
+    }
+
     /// The keys of the musts that have moments of the window.
     pub(crate) fn touched(&self, alloc: Global, near: Span) -> Result<Vec<Key>, AllocError>
         ensures rising { IfOk result (λ v. AreRising v.items) }
@@ -130,9 +149,8 @@ impl Starts {
             index: 0,
         };
         let first = self.items.count(Bound::Before(begin));
-        let end = self.items.end_from(first, Bound::Before(behind));
-        let starts = self.items.part(alloc, first, end - first)?;
-        let mut keys = touched_keys(alloc, near, &starts)?;
+        let end = self.items.end_near(first, Bound::Before(behind));
+        let mut keys = self.touched_in(alloc, near, first, end - first)?;
         keys.sort_unstable();
         Ok(keys)
     }

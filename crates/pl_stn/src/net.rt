@@ -2,7 +2,7 @@ use pl_lists::{Copied, Items};
 use std::alloc::{AllocError, Global};
 
 /// The time of the point `to` is at most `most` after the time of the point `from`.
-#[derive(Clone, Copy, Debug, PartialEq, Eq)]
+#[derive(Clone, Copy, PartialEq, Eq)]
 pub struct Edge {
     pub from: u32,
     pub to: u32,
@@ -16,7 +16,7 @@ impl Copied for Edge {
 }
 
 /// A simple temporal network over the points 0 to `points - 1`. Point 0 is the origin, whose time is 0.
-#[derive(Debug, Drop)]
+#[derive(Drop)]
 pub struct Net {
     pub points: u32,
     pub edges: Items<Edge>,

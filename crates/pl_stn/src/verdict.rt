@@ -2,7 +2,7 @@ use pl_lists::{Copied, Items};
 use std::alloc::{AllocError, Global};
 
 /// The time of each point, or the numbers of the edges of a negative cycle in the order of the walk.
-#[derive(Debug, Drop)]
+#[derive(Drop)]
 pub enum Verdict {
     Times(Items<i64>),
     Cycle(Items<u32>),

@@ -4,7 +4,7 @@ use pl_model::{Name, Point};
 use std::alloc::{AllocError, Global};
 
 /// A child of a decomposition, with the parameters that its parent gives it.
-#[derive(Debug, Drop)]
+#[derive(Drop)]
 pub struct AstSlot {
     pub name: Name,
     pub kind: Name,
@@ -22,7 +22,7 @@ impl Copied for AstSlot {
 }
 
 /// The second point lies from `low` to `high` after the first. `first` and `second` name slots, `None` is the parent.
-#[derive(Debug, Drop)]
+#[derive(Drop)]
 pub struct AstOrder {
     pub first: Option<Name>,
     pub first_end: Point,
@@ -46,7 +46,7 @@ impl Copied for AstOrder {
 }
 
 /// One way to decompose a kind.
-#[derive(Debug, Drop)]
+#[derive(Drop)]
 pub struct AstAlternative {
     pub slots: Items<AstSlot>,
     pub orders: Items<AstOrder>,

@@ -3,7 +3,7 @@ use pl_model::{Name, Op};
 use std::alloc::{AllocError, Global};
 
 /// An expression as it is written. Operators group from the left.
-#[derive(Debug, Drop)]
+#[derive(Drop)]
 pub enum AstExpr {
     Num(i64),
     Name(Name),

@@ -24,7 +24,7 @@ pub enum SyntaxFault {
 }
 
 /// What stops the reader, with the count of the tokens that are left.
-#[derive(Clone, Copy, Debug, PartialEq, Eq)]
+#[derive(Clone, Copy, PartialEq, Eq)]
 pub enum Stopped {
     TooDeep(usize),
     Unexpected(usize),

@@ -8,7 +8,7 @@ use pl_model::Name;
 use std::alloc::{AllocError, Global};
 
 /// A kind of activity as it is written.
-#[derive(Debug, Drop)]
+#[derive(Drop)]
 pub struct AstKind {
     pub name: Name,
     pub params: Items<AstParam>,

@@ -3,7 +3,7 @@ use pl_model::{Name, Point};
 use std::alloc::{AllocError, Global};
 
 /// Some activity of the kind has its point from `low` to `high` after the own point.
-#[derive(Debug, Drop)]
+#[derive(Drop)]
 pub struct AstLink {
     pub mine: Point,
     pub kind: Name,

@@ -4,7 +4,7 @@ use pl_model::Name;
 use std::alloc::{AllocError, Global};
 
 /// What stands behind a parameter's range: nothing, a default, or an expression that it equals.
-#[derive(Debug, Drop)]
+#[derive(Drop)]
 pub enum AstOrigin {
     Plain,
     Default(i64),
@@ -22,7 +22,7 @@ impl Copied for AstOrigin {
 }
 
 /// A parameter of a kind as it is written: `low` and `high` are both within its range.
-#[derive(Debug, Drop)]
+#[derive(Drop)]
 pub struct AstParam {
     pub name: Name,
     pub low: i64,

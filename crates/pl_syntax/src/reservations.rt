@@ -4,7 +4,7 @@ use pl_model::{Name, Point};
 use std::alloc::{AllocError, Global};
 
 /// What an activity asks of a timeline, whose name comes first: `use`, `raise`, `lower`, `set` and `must`.
-#[derive(Debug, Drop)]
+#[derive(Drop)]
 pub enum AstReservation {
     Take(Name, AstExpr),
     Raise(Name, AstExpr, Point),

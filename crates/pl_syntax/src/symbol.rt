@@ -2,7 +2,7 @@ ghost use Rattle.std.specs.Prelude.{◌≡◌, IfSome, IsNone, ◌↔◌};
 ghost use Rattle.pl_syntax.specs.Symbols.{symbol_byte, symbol_of};
 
 /// A mark of the model language that is one byte: `byte` tells which.
-#[derive(Clone, Copy, Debug, PartialEq, Eq)]
+#[derive(Clone, Copy, PartialEq, Eq)]
 pub enum Symbol {
     OpenBrace,
     CloseBrace,

@@ -3,7 +3,7 @@ use pl_model::Name;
 use std::alloc::{AllocError, Global};
 
 /// A timeline as it is written. Where `any` is set every step is allowed, and `steps` is empty.
-#[derive(Debug, Drop)]
+#[derive(Drop)]
 pub enum AstTimeline {
     Capacity {
         name: Name,

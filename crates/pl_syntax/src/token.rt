@@ -7,7 +7,7 @@ use pl_lists::Items;
 use pl_text::Word;
 
 /// A token as a grammar sees it, without its place.
-#[derive(Debug, Drop)]
+#[derive(Drop)]
 pub enum Token {
     Number(i64),
     Name(Items<u8>),

@@ -4,7 +4,7 @@ use pl_lists::{Copied, Items};
 use std::alloc::{AllocError, Global};
 
 /// What a model is made of, behind its horizon and lead.
-#[derive(Debug, Drop)]
+#[derive(Drop)]
 pub enum Item {
     Timeline(AstTimeline),
     Kind(AstKind),
@@ -20,7 +20,7 @@ impl Copied for Item {
 }
 
 /// A model as it is written, its names unresolved. Every list is in the order of the text.
-#[derive(Debug, Drop)]
+#[derive(Drop)]
 pub struct Ast {
     pub horizon: i64,
     pub lead: i64,

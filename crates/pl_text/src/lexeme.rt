@@ -9,7 +9,7 @@ use crate::fault::TextFault;
 use crate::token::TokenKind;
 
 /// What comes next in a text: a token, or a blank or a comment, and how many bytes it takes.
-#[derive(Clone, Copy, Debug, PartialEq, Eq)]
+#[derive(Clone, Copy, PartialEq, Eq)]
 pub struct Lexeme {
     pub kind: Option<TokenKind>,
     pub len: u32,

@@ -6,7 +6,7 @@ ghost use Rattle.pl_text.specs.Words.{word_text, is_written, word_of, is_word, i
 use crate::class::{Class, class_of, is_name_byte};
 
 /// A reserved word.
-#[derive(Clone, Copy, Debug, PartialEq, Eq)]
+#[derive(Clone, Copy, PartialEq, Eq)]
 pub enum Word {
     Horizon,
     Lead,

@@ -9,7 +9,11 @@ use crate::lock::{HISTORY, SERVING, SLOT, TICKETS, TurnLock};
 use crate::logged::Logged;
 use crate::pass::Pass;
 use crate::steps::{Add, Draw, End, Measure, Serve};
+use std::hint::spin_loop;
 use std::sync::Wait;
+
+// A thread looks as often for its turn before it sleeps: most turns are shorter than it takes to fall asleep and be woken.
+const LOOKS: u32 = 2000;
 
 impl<V: Logged> TurnLock<V> {
     /// Waits for its turn, and hands the value out.
@@ -27,12 +31,13 @@ impl<V: Logged> TurnLock<V> {
             .table
             .shared
             .fetch_add::<Draw>(&mut pass.seat, TICKETS, 1);
+        let mut looks = 0;
         for _ in rt.forever() {
             let called = self.table.shared.load::<Serve<V>>(&mut pass.seat, SERVING);
             if called == ticket {
                 return self.take_out(pass);
             }
-            self.park(rt, called);
+            looks = self.pause(rt, called, looks);
         }
         unreachable!()
     }
@@ -60,6 +65,16 @@ impl<V: Logged> TurnLock<V> {
             let called = self.end_turn(pass);
             self.wake(called);
         }
+    }
+
+    // Lets a moment pass, or sleeps once it has looked often while other tickets were called. Tells how often it has looked.
+    fn pause<R: Wait>(&self, rt: &R, called: u64, looks: u32) -> u32 {
+        if looks < LOOKS {
+            spin_loop();
+            return looks + 1;
+        }
+        self.park(rt, called);
+        looks
     }
 
     // Sleeps while this ticket is called.

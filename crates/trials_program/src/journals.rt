@@ -4,5 +4,5 @@ mod bells;
 mod halves;
 mod lines;
 pub mod models;
-mod shared;
+pub mod shared;
 mod verdicts;

@@ -6,6 +6,8 @@ mod asserting;
 #[cfg(test)]
 mod breaking;
 #[cfg(test)]
+mod crew;
+#[cfg(test)]
 mod journals;
 #[cfg(test)]
 mod pair;

@@ -19,6 +19,7 @@ EXAMPLES = """examples:
   lundocsef-x check examples/camera.txt
   lundocsef-x run examples/camera.txt > camera.journal
   lundocsef-x run --turns 4 --seed 7 model.txt messages.txt
+  lundocsef-x run --seed 7 --planners 2 model.txt messages.txt
   console | lundocsef-x run model.txt - | plan-live model.txt
   lundocsef-x replay examples/camera.txt examples/camera.journal
   lundocsef-x report examples/camera.txt examples/camera.journal
@@ -92,6 +93,8 @@ def make_parser():
             command.add_argument('--turns', type=int, default=8, metavar='N',
                                  help='the most repairs for a message, 1 to 1000 (default: 8; more is seldom better)')
             command.add_argument('--seed', type=int, metavar='S', help='plan with two threads and a chooser that draws from this seed')
+            command.add_argument('--planners', type=int, metavar='P', help='plan with P planners, 2 to 8, each in a thread of its own, and their choosers '
+                                 'draw from the seed (default: 1) and their numbers')
     return parser
 
 
@@ -104,8 +107,14 @@ def words_of(given):
     if given.command == 'improve':
         return ['improve', str(given.steps)]
     if given.command == 'run':
-        return ['run', 'solo', str(given.turns)] if given.seed is None else ['run', 'pair', str(given.turns), str(given.seed)]
+        return words_of_run(str(given.turns), given.seed, given.planners)
     return [given.command]
+
+
+def words_of_run(turns, seed, planners):
+    if planners is not None:
+        return ['run', 'crew', turns, str(planners), str(1 if seed is None else seed)]
+    return ['run', 'solo', turns] if seed is None else ['run', 'pair', turns, str(seed)]
 
 
 def feeder_of(given):

@@ -18,7 +18,7 @@ PAGES = (
     ('lundocsef-model', 5, 'the language in which a spacecraft is described to lundocsef', 'docs/MODEL.md'),
     ('lundocsef-journal', 5, 'the messages that lundocsef reads and the journal that it writes', 'docs/JOURNAL.md'),
 )
-FORMS = ('run solo N', 'run pair N SEED', 'check', 'replay', 'report', 'demo N', 'flex ID', 'forecast', 'improve N')
+FORMS = ('run solo N', 'run pair N SEED', 'check', 'replay', 'report', 'demo N', 'run crew N P SEED', 'flex ID', 'forecast', 'improve N')
 UNWANTED = ('crate', 'trusted', 'speed', 'repository')       # sections of README.md for those who change the program
 
 

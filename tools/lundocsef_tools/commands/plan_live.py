@@ -6,7 +6,7 @@ import time
 from .. import program
 from ..drawing.view import View, default_range
 from ..failure import Failure
-from ..journal import read_entry
+from ..journal import is_blank, read_entry
 from ..model_reader import read_model, split_at_begin
 from ..options import add_clock_arguments, clock_of, parser_of
 from ..plan import Source, plan_of_world, read_text, verdict
@@ -97,7 +97,7 @@ class Live:
             self.kept.write(data)
             self.kept.flush()
         line = data.decode('latin-1').rstrip('\n')
-        if not line.strip():
+        if is_blank(line):
             return False
         self.lines.append(line)
         if line.startswith(('model:', 'usage:')):

@@ -1,5 +1,5 @@
 //! Whom an entry wakes: how often each bell was rung, on one thread, so that no test waits for a bell that is never rung.
-ghost use Rattle.pl_shared.specs.Plans.{BelongsTo};
+ghost use Rattle.pl_locked.specs.Plans.{BelongsTo};
 
 use crate::asserting::holds;
 use crate::journals::shared::{acts, opened, tell};

@@ -1,5 +1,5 @@
 //! The two halves of a planner's act, with an entry between them.
-ghost use Rattle.pl_shared.specs.Plans.{BelongsTo};
+ghost use Rattle.pl_locked.specs.Plans.{BelongsTo};
 
 use crate::asserting::holds;
 use crate::journals::models::{MODEL, OPEN, model};
@@ -20,7 +20,7 @@ const BETWEEN: &str = "1 in ok : goal 1 obs 10 40 must
 ";
 
 /// Lets the executive act behind a sight, by a pass of its own, and settles.
-#[tactic(auto, using(pl_shared::proofs::Halves::can_settle, pl_shared::proofs::Halves::sees_planner))]
+#[tactic(auto, using(pl_locked::proofs::Halves::can_settle, pl_locked::proofs::Halves::sees_planner))]
 fn settles_behind<R: Abort + Wait>(
     rt: &R,
     alloc: Global,

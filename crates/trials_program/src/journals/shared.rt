@@ -2,7 +2,7 @@
 ghost use Rattle.std.specs.Prelude.{◌≡◌, ◌==◌, ◌≤◌, [], true, IfOk, length};
 ghost use Rattle.std.specs.List.{list_any};
 ghost use Rattle.pl_turn.specs.Passes.{crew_of, leads, made_by, joined_by};
-ghost use Rattle.pl_shared.specs.Plans.{BelongsTo};
+ghost use Rattle.pl_locked.specs.Plans.{BelongsTo};
 
 use crate::asserting::holds;
 use crate::journals::models::{JOURNAL, MODEL, model, shared_model};
@@ -47,7 +47,7 @@ pub fn opened(
     }
 }
 
-fn has_newline(line: &[u8]) -> bool
+pub fn has_newline(line: &[u8]) -> bool
     ensures { result ≡ list_any (λ byte. byte == 10) line.now }
 {
     line.iter().any(|byte| *byte == b'\n')

@@ -1,4 +1,4 @@
-//! A pair that is stopped at each read and at each write, and wherever the output has no room left.
+//! A pair and a crew that are stopped at each read and at each write, and wherever the output has no room left.
 use crate::asserting::holds;
 use crate::breaking::Breaking;
 use crate::journals::models::{HEAD, INPUT, JOURNAL, OPEN};
@@ -9,7 +9,7 @@ use std::process::Abort;
 use std::sync::Wait;
 use std::thread::Threads;
 
-const WORDS: &str = "run pair 8 7";
+const TEAMS: [&str; 2] = ["run pair 8 7", "run crew 8 2 7"];
 
 /// What was written, without a last line that is torn.
 fn whole_lines(written: &[u8]) -> &[u8] {
@@ -72,17 +72,19 @@ fn assert_rounds<R: Abort + Threads + Wait + Sync>(
 }
 
 /// Each read behind these bytes fails.
-fn breaks_off<R: Abort + Threads + Wait + Sync>(rt: &R, alloc: Global, came: &[u8]) {
+fn breaks_off<R: Abort + Threads + Wait + Sync>(rt: &R, alloc: Global, words: &str, came: &[u8]) {
     let mut source = Breaking::new(came);
-    let ended = does_within(rt, alloc, WORDS, &mut source, ROOM);
+    let ended = does_within(rt, alloc, words, &mut source, ROOM);
     assert_rounds(rt, alloc, &ended, 4, count_newlines(came));
 }
 
 #[test]
 fn stops_at_each_read(rt: HostRuntime) {
     let input = INPUT.as_bytes();
-    for given in 0..input.len() {
-        breaks_off(&rt, rt.alloc(), input.get(..given).unwrap_or(b""));
+    for words in &TEAMS {
+        for given in 0..input.len() {
+            breaks_off(&rt, rt.alloc(), words, input.get(..given).unwrap_or(b""));
+        }
     }
 }
 
@@ -93,35 +95,39 @@ fn is_before(written: &[u8], line: u64) -> bool {
 }
 
 /// Runs with a write that fails.
-fn fails_at<R: Abort + Threads + Wait + Sync>(rt: &R, alloc: Global, write: u64) {
+fn fails_at<R: Abort + Threads + Wait + Sync>(rt: &R, alloc: Global, words: &str, write: u64) {
     let input = INPUT.as_bytes();
-    let (status, sink) = does(rt, alloc, WORDS, input, (&[], &[write]), &NoGate);
+    let (status, sink) = does(rt, alloc, words, input, (&[], &[write]), &NoGate);
     holds(rt, "the status", status == 5);
     holds(rt, "the lines before it", is_before(sink.bytes(), write));
     assert_front(rt, alloc, sink.bytes());
 }
 
-/// A pair writes twelve lines at least.
+/// A journal of the worked input has twelve lines at least.
 #[test]
 fn stops_at_each_write(rt: HostRuntime) {
-    for write in 1..13 {
-        fails_at(&rt, rt.alloc(), write);
+    for words in &TEAMS {
+        for write in 1..13 {
+            fails_at(&rt, rt.alloc(), words, write);
+        }
     }
 }
 
 /// Runs with room for so many bytes.
-fn fills_up<R: Abort + Threads + Wait + Sync>(rt: &R, alloc: Global, room: usize) {
-    let (status, sink) = does_in(rt, alloc, WORDS, INPUT.as_bytes(), room);
+fn fills_up<R: Abort + Threads + Wait + Sync>(rt: &R, alloc: Global, words: &str, room: usize) {
+    let (status, sink) = does_in(rt, alloc, words, INPUT.as_bytes(), room);
     holds(rt, "the status", status == 5);
     holds(rt, "no room left", sink.bytes().len() == room);
     assert_front(rt, alloc, sink.bytes());
 }
 
-/// No journal of a pair is shorter than the worked one.
+/// No journal is shorter than the worked one.
 #[test]
 fn stops_where_no_room_is_left(rt: HostRuntime) {
-    for room in 0..JOURNAL.len() {
-        fills_up(&rt, rt.alloc(), room);
+    for words in &TEAMS {
+        for room in 0..JOURNAL.len() {
+            fills_up(&rt, rt.alloc(), words, room);
+        }
     }
 }
 
@@ -131,6 +137,8 @@ fn stops_at_a_longer_line(rt: HostRuntime) {
     let blanks = " ".repeat(alloc, 4097).expect(&rt, "memory");
     let (front, _) = INPUT.split_once("end\n").unwrap_or(("", ""));
     let input = format!(in alloc; "{front}{blanks}\nend\n").expect(&rt, "memory");
-    let ended = does(&rt, alloc, WORDS, input.as_bytes(), NONE, &NoGate);
-    assert_rounds(&rt, alloc, &ended, 6, 8);
+    for words in &TEAMS {
+        let ended = does(&rt, alloc, words, input.as_bytes(), NONE, &NoGate);
+        assert_rounds(&rt, alloc, &ended, 6, 8);
+    }
 }

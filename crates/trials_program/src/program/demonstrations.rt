@@ -24,7 +24,7 @@ end
 ";
 
 const USAGE: &str =
-    "usage: run solo N | run pair N SEED | check | replay | report | demo N | flex ID | forecast | improve N";
+    "usage: run solo N | run pair N SEED | check | replay | report | demo N | run crew N P SEED | flex ID | forecast | improve N";
 
 #[test]
 fn makes_the_worked_input(rt: HostRuntime) {

@@ -110,7 +110,7 @@ fn fills_up<R: Abort + Threads + Wait + Sync>(
 const LINES: &str = "check => model ok: timelines 0 kinds 1
 replay => journal ok: entries 12 finished
 demo 2 => demo 2 entries 20 activities 4 dispatched 0 conflicts 0
-run solo 0 => usage: run solo N | run pair N SEED | check | replay | report | demo N | flex ID | forecast | improve N";
+run solo 0 => usage: run solo N | run pair N SEED | check | replay | report | demo N | run crew N P SEED | flex ID | forecast | improve N";
 
 const REPORT: &str = "report entries 12 now 10 committed 40 dispatched 1 conflicts 0
 goal 1 obs 10 20 must served 1

@@ -177,6 +177,7 @@ fn stops_by_faults(rt: HostRuntime) {
     let alloc = rt.alloc();
     let input = joined(&rt, alloc, VALUES, b"\nbegin\n");
     assert_stops(&rt, alloc, (&[1], &[]), &input, 4);
+    assert_stops(&rt, alloc, (&[2], &[]), &input, 4);
     assert_stops(&rt, alloc, (&[], &[1]), &input, 5);
 }
 

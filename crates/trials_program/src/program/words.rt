@@ -7,10 +7,17 @@ use std::process::Abort;
 
 /// What the words ask for: the turns of a run, 0 for a check, 1,001 for a replay, 1,002 for a report and 1,003 for a forecast, 10,000 and
 /// the steps that better a plan, the goals of a demonstration, the id of an activity whose paths are asked for, the turns and the seed
-/// of a pair added up, nothing where they are no command.
+/// of a pair added up, and the planners of a crew with them, nothing where they are no command.
 fn number_of(words: &[String]) -> Option<u64> {
     match read_words(words)? {
         Command::Pair { turns, seed } => seed.checked_add(u64::from(turns)),
+        Command::Crew {
+            turns,
+            planners,
+            seed,
+        } => seed
+            .checked_add(u64::from(turns))?
+            .checked_add(u64::from(planners)),
         Command::Alone(Task::Solo { turns }) => Some(u64::from(turns)),
         Command::Alone(Task::Check) => Some(0),
         Command::Alone(Task::Replay) => Some(1001),
@@ -49,6 +56,20 @@ run pair 1001 7 = none
 run pair 8 -7 = none
 run pair 8 7 9 = none
 run Pair 8 7 = none
+run crew 8 2 7 = 17
+run crew 1000 8 999999999999999999 = 1000000000000001007
+run crew 1 000000000000000002 0 = 3
+run crew 8 1 7 = none
+run crew 8 9 7 = none
+run crew 8 0 7 = none
+run crew 0 2 7 = none
+run crew 1001 2 7 = none
+run crew 8 2 1000000000000000000 = none
+run crew 8 -2 7 = none
+run crew 8 2 = none
+run crew 8 2 7 9 = none
+run Crew 8 2 7 = none
+crew 8 2 7 = none
 Run solo 8 = none
 demo 1 = 1
 demo 4000 = 4000

@@ -1,5 +1,5 @@
 use Rattle.pl_main.specs.Top.{line_limit}
-use Rattle.pl_main.specs.RunKinds.{solo_run, look_run, pair_run}
+use Rattle.pl_main.specs.RunKinds.{solo_run, look_run, run_of}
 use Rattle.pl_main.proofs.Causes.{done_not_refused, done_not_past, done_not_full, refused_not_past, refused_not_full, past_not_full, found_not_refused, found_not_past, no_model_not_past, shown_not_full, run_within, head_within}
 use Rattle.pl_main.proofs.Apart.{right_not_wrong, right_not_refused, right_not_past, wrong_not_refused, wrong_not_past, refusal_not_past, journal_within}
 use Rattle.pl_main.proofs.laws.statuses_are_told_apart.Goals as goal
@@ -61,20 +61,20 @@ returns-clause-no_journal_not_past c = refusal_not_past
 pub returns-clause-journal_within : goal.returns-clause-journal_within
 returns-clause-journal_within c = journal_within
 
-pub returns-clause-pair_done_not_refused : goal.returns-clause-pair_done_not_refused
-returns-clause-pair_done_not_refused c = λ turns seed. done_not_refused (pair_run turns seed)
+pub returns-clause-team_done_not_refused : goal.returns-clause-team_done_not_refused
+returns-clause-team_done_not_refused c = λ team turns. done_not_refused (run_of team turns)
 
-pub returns-clause-pair_done_not_past : goal.returns-clause-pair_done_not_past
-returns-clause-pair_done_not_past c = λ turns seed. done_not_past (pair_run turns seed)
+pub returns-clause-team_done_not_past : goal.returns-clause-team_done_not_past
+returns-clause-team_done_not_past c = λ team turns. done_not_past (run_of team turns)
 
-pub returns-clause-pair_refused_not_past : goal.returns-clause-pair_refused_not_past
-returns-clause-pair_refused_not_past c = λ turns seed. refused_not_past (pair_run turns seed)
+pub returns-clause-team_refused_not_past : goal.returns-clause-team_refused_not_past
+returns-clause-team_refused_not_past c = λ team turns. refused_not_past (run_of team turns)
 
-pub returns-clause-pair_refused_not_full : goal.returns-clause-pair_refused_not_full
-returns-clause-pair_refused_not_full c = λ turns seed. refused_not_full (pair_run turns seed)
+pub returns-clause-team_refused_not_full : goal.returns-clause-team_refused_not_full
+returns-clause-team_refused_not_full c = λ team turns. refused_not_full (run_of team turns)
 
-pub returns-clause-pair_within : goal.returns-clause-pair_within
-returns-clause-pair_within c = λ turns seed. run_within (pair_run turns seed)
+pub returns-clause-team_within : goal.returns-clause-team_within
+returns-clause-team_within c = λ team turns. run_within (run_of team turns)
 
 pub returns-clause-ahead_done_not_refused : goal.returns-clause-ahead_done_not_refused
 returns-clause-ahead_done_not_refused c = λ turns. done_not_refused (look_run turns)

@@ -1,4 +1,4 @@
-use Rattle.pl_shared.specs.Plans.{BelongsTo}
+use Rattle.pl_locked.specs.Plans.{BelongsTo}
 use Rattle.pl_pair.specs.Workers.{AreHands, SameDuties}
 use Rattle.pl_pair.specs.Rounds.{LooksAtPlan}
 use Rattle.pl_pair.proofs.waiting.wait_closed.Given as goal

@@ -1,4 +1,4 @@
-use Rattle.std.proofs.Common.{◌≡◌, ◌∷◌, [], List, length, drop, sym, ap, ◌∙◌, subst, arith}
+use Rattle.std.proofs.Common.{◌≡◌, ◌∷◌, [], List, length, drop, sym, ap, ◌∙◌, subst}
 use Rattle.std.specs.Option.{option_copied}
 use Rattle.pl_state.specs.declared.key.Key.{Key}
 use Rattle.pl_state.specs.Near.{AreRightBut, IsBegun}
@@ -22,10 +22,10 @@ returns-in-Some c = λ group keyed right.
     let k : Key = c.in-Some.key.now in
     let ks : List Key = drop 1 c.args.keys.now in
     let some : c.args.keys.now ≡ k ∷ ks = first_some c.args.keys.now k (sym (ap option_copied c.in-Some.is) ∙ c.first.ensures.value) in
-    let p = c.run_of-passed.result in
-    let t = c.run_of-taken.result in
-    let begun : IsBegun group ms b c.args.keys.now t.begin p.begin t.begin [] [] [] = subst (λ l. IsBegun group ms b l t.begin p.begin t.begin [] [] []) (sym some)
-    (begun_at group keyed k ks ms b p.begin p.behind t.begin t.behind c.run_of-passed.ensures.sorted c.requires c.run_of-passed.ensures.cut c.run_of-taken.ensures.cut
-    (omega (arith, c.run_of-passed.ensures.behind, c.run_of-passed.ensures.bound)) (omega (arith, c.run_of-taken.ensures.behind, c.run_of-taken.ensures.bound)) (subst (λ l. AreRightBut l group ms b) some right)) in
+    let p = c.begun_count-passed.result in
+    let t = c.count_before-taken.result in
+    let begun : IsBegun group ms b c.args.keys.now t p t [] [] [] = subst (λ l. IsBegun group ms b l t p t [] [] []) (sym some)
+    (begun_at group keyed k ks ms b p t c.begun_count-passed.ensures.sorted c.requires c.begun_count-passed.ensures.rest c.count_before-taken.ensures.front c.count_before-taken.ensures.rest
+    c.begun_count-passed.ensures.bound c.count_before-taken.ensures.bound (subst (λ l. AreRightBut l group ms b) some right)) in
     let e = c.renewal_from-in-Some.ensures in
     rw e.begin (rw e.passed (rw e.taken (rw e.fresh (rw e.went (rw e.came begun)))))

@@ -9,7 +9,7 @@ use Rattle.pl_points.specs.Points.{merged, AreSmall, IsNear}
 use Rattle.pl_points.proofs.PointLists.{merged_small, either}
 use Rattle.pl_blocks.specs.Blocks.{together, is_past, AreBlocks}
 use Rattle.pl_blocks.proofs.Rows.{parts_most}
-use Rattle.pl_blocks.proofs.Searches.{fits_there, mended_blocks, none_blocks, begun_blocks, three}
+use Rattle.pl_blocks.proofs.Searches.{fits_at, mended_blocks, none_blocks, begun_blocks, three}
 use Rattle.pl_blocks.proofs.blocks.BlockPointsPoints.add.Goals as goal
 
 pub begin-requires-clause-near : goal.begin-requires-clause-near
@@ -19,8 +19,8 @@ begin-requires-clause-near g c =
     let new : AreSmall (merged c.args.at c.args.delta (together bs)) = subst (λ l. AreSmall (merged c.args.at c.args.delta (together l))) (sym c.self.view_is) c.requires in
     subst (λ z. IsNear z) (sym is) (merged_small c.args.at c.args.delta (together bs) c.self.invariant.points.small new)
 
-pub merged-requires : goal.merged-requires
-merged-requires g c =
+pub merge_at-requires-clause-delta : goal.merge_at-requires-clause-delta
+merge_at-requires-clause-delta g c =
     let bs = c.self.inside.blocks.items in
     let is : to_z w64 (of_z w64 c.args.delta) ≡ c.args.delta = to_z-of_z w64 c.args.delta c.ranges.delta in
     let new : AreSmall (merged c.args.at c.args.delta (together bs)) = subst (λ l. AreSmall (merged c.args.at c.args.delta (together l))) (sym c.self.view_is) c.requires in
@@ -37,8 +37,8 @@ invariant_of-self g c =
     (λ whole sized one. begun_blocks c.begin.new.blocks.items c.args.at (to_z w64 (of_z w64 c.args.delta)) whole sized one small)
     (λ e. subst AreBlocks (sym e) none_blocks)
 
-pub mend-requires : goal.mend-requires
-mend-requires g c =
+pub merge_at-requires-clause-fit : goal.merge_at-requires-clause-fit
+merge_at-requires-clause-fit g c =
     let bs = c.self.inside.blocks.items in
     let at = c.args.at in
     let k = c.past_near.result in
@@ -47,8 +47,8 @@ mend-requires g c =
     let before : take k bs ≡ front (is_past at) bs = rw c.deref.ensures.value at c.past_near.ensures.before in
     let rest : drop k bs ≡ back (is_past at) bs = rw c.deref.ensures.value at c.past_near.ensures.rest in
     let count : length bs ≡ c.len-count.result = omega (arith, c.len-count.ensures, c.deref.ensures.len, ap length c.deref.ensures.value) in
-    (fits_there bs k c.min-place.result at c.args.delta c.index.result.now c.in_ok-points.points.items c.self.invariant new (omega (arith, c.past_near.ensures.bound, ap length c.deref.ensures.value)) before rest
-    (c.min-place.ensures ∙ ap (λ n. min k (n - 1)) (sym count)) (omega (arith, count, c.if-count-eq0.false)) c.index.ensures (c.in_ok-points.ensures ∙ ap (λ d. merged at d c.index.result.now) is)).0
+    (fits_at bs k c.min-place.result at c.args.delta _ c.self.invariant new (omega (arith, c.past_near.ensures.bound, ap length c.deref.ensures.value)) before rest
+    (c.min-place.ensures ∙ ap (λ n. min k (n - 1)) (sym count)) (omega (arith, count, c.if-count-eq0.false)) is).0
 
 pub invariant_of-self-2 : goal.invariant_of-self-2
 invariant_of-self-2 g c =
@@ -60,10 +60,10 @@ invariant_of-self-2 g c =
     let before : take k bs ≡ front (is_past at) bs = rw c.deref.ensures.value at c.past_near.ensures.before in
     let rest : drop k bs ≡ back (is_past at) bs = rw c.deref.ensures.value at c.past_near.ensures.rest in
     let count : length bs ≡ c.len-count.result = omega (arith, c.len-count.ensures, c.deref.ensures.len, ap length c.deref.ensures.value) in
-    let fit = fits_there bs k c.min-place.result at c.args.delta c.index.result.now c.in_ok-points.points.items c.self.invariant new (omega (arith, c.past_near.ensures.bound, ap length c.deref.ensures.value)) before rest
-    (c.min-place.ensures ∙ ap (λ n. min k (n - 1)) (sym count)) (omega (arith, count, c.if-count-eq0.false)) c.index.ensures (c.in_ok-points.ensures ∙ ap (λ d. merged at d c.index.result.now) is) in
-    either c.mend.result c.mend.ensures.ok c.mend.ensures.err
-    (λ m. mended_blocks bs c.mend.new.blocks.items c.min-place.result c.in_ok-points.points.items fit.0.points (omega (arith, count, c.if-count-ge-MOST_BLOCKS.false)) m)
+    let fit = fits_at bs k c.min-place.result at c.args.delta _ c.self.invariant new (omega (arith, c.past_near.ensures.bound, ap length c.deref.ensures.value)) before rest
+    (c.min-place.ensures ∙ ap (λ n. min k (n - 1)) (sym count)) (omega (arith, count, c.if-count-eq0.false)) is in
+    either c.merge_at.result c.merge_at.ensures.ok c.merge_at.ensures.err
+    (λ m. mended_blocks bs c.merge_at.new.blocks.items c.min-place.result _ fit.0.points (omega (arith, count, c.if-count-ge-MOST_BLOCKS.false)) m)
     (λ e. subst AreBlocks (sym e) c.self.invariant)
 
 pub returns-clause-ok : goal.returns-clause-ok
@@ -76,12 +76,12 @@ returns-clause-ok g c =
     let before : take k bs ≡ front (is_past at) bs = rw c.deref.ensures.value at c.past_near.ensures.before in
     let rest : drop k bs ≡ back (is_past at) bs = rw c.deref.ensures.value at c.past_near.ensures.rest in
     let count : length bs ≡ c.len-count.result = omega (arith, c.len-count.ensures, c.deref.ensures.len, ap length c.deref.ensures.value) in
-    let fit = fits_there bs k c.min-place.result at c.args.delta c.index.result.now c.in_ok-points.points.items c.self.invariant new (omega (arith, c.past_near.ensures.bound, ap length c.deref.ensures.value)) before rest
-    (c.min-place.ensures ∙ ap (λ n. min k (n - 1)) (sym count)) (omega (arith, count, c.if-count-eq0.false)) c.index.ensures (c.in_ok-points.ensures ∙ ap (λ d. merged at d c.index.result.now) is) in
-    on_ok_weaker c.mend.result (λ m. m.whole ∙ sym fit.1 ∙ ap (λ l. merged at c.args.delta (together l)) c.self.view_is) c.mend.ensures.ok
+    let fit = fits_at bs k c.min-place.result at c.args.delta _ c.self.invariant new (omega (arith, c.past_near.ensures.bound, ap length c.deref.ensures.value)) before rest
+    (c.min-place.ensures ∙ ap (λ n. min k (n - 1)) (sym count)) (omega (arith, count, c.if-count-eq0.false)) is in
+    on_ok_weaker c.merge_at.result (λ m. m.whole ∙ sym fit.1 ∙ ap (λ l. merged at c.args.delta (together l)) c.self.view_is) c.merge_at.ensures.ok
 
 pub returns-clause-cost : goal.returns-clause-cost
 returns-clause-cost g c =
     let bs = c.self.inside.blocks.items in
     let parts = parts_most bs c.self.invariant.full in
-    omega (arith, c.tick.ensures, c.past_near.ensures.cost, c.mend.ensures.cost, parts, ap (λ l. length (together l)) c.self.view_is)
+    omega (arith, c.tick.ensures, c.past_near.ensures.cost, c.merge_at.ensures.cost, parts, ap (λ l. length (together l)) c.self.view_is)

@@ -1,6 +1,7 @@
 use Rattle.std.proofs.Common.{rules, ◌≡◌, ◌∙◌, sym, ap}
 use Rattle.pl_conflict.specs.Order.{has}
-use Rattle.pl_conflict.specs.Sorting.{left_by}
+use Rattle.std.proofs.lemmas.Result.{on_ok_weaker}
+use Rattle.pl_conflict.specs.Sorting.{left_by, exchanged}
 use Rattle.pl_conflict.proofs.Sorting.{new_is_absent, exchange_done, exchange_for_none, has-exchanged}
 use Rattle.pl_conflict.proofs.set.ConflictSet.exchange.Goals as goal
 
@@ -12,6 +13,12 @@ pub returns-then-is_empty-clause-members : goal.returns-then-is_empty-clause-mem
 returns-then-is_empty-clause-members c q =
     ap (has q) (exchange_for_none c.args.self.now c.args.went.now c.args.came.now c.remove_all.new.self (search (rules, c.if-is_empty.true, c.is_empty.ensures)) c.remove_all.ensures.after c.remove_all.ensures.sorted)
     ∙ has-exchanged c.args.self.now c.args.went.now c.args.came.now q
+
+pub returns-in-Some-clause-members : goal.returns-in-Some-clause-members
+returns-in-Some-clause-members c =
+    let s = c.args.self.now in
+    let w = c.args.went.now in
+    on_ok_weaker c.exchange_for.result (λ e q. ap (has q) (e ∙ ap (exchanged s w) (sym c.in-Some.ensures.alone)) ∙ has-exchanged s w c.args.came.now q) c.exchange_for.ensures.ok
 
 pub insert_all-requires-clause-absent : goal.insert_all-requires-clause-absent
 insert_all-requires-clause-absent c =

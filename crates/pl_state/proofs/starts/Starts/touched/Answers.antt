@@ -1,4 +1,4 @@
-use Rattle.std.proofs.Common.{◌≡◌, ◌-◌, drop, ap, sym, ◌∙◌, subst, nat_cmp}
+use Rattle.std.proofs.Common.{◌≡◌, ◌-◌, take, drop, ap, sym, ◌∙◌, subst, nat_cmp}
 use Rattle.std.specs.Ordering.{ordering_then}
 use Rattle.std.proofs.lemmas.List.Sorted.{Contains-permutation}
 use Rattle.pl_lists.specs.Lists.{front, back}
@@ -21,6 +21,6 @@ returns-clause-each c = λ m has touch.
     let behind : Key = key_of c.args.near.to 0 0 in
     let on : drop i xs ≡ back (is_before start_key first) xs = subst (λ k. drop i xs ≡ back (is_before start_key (key_of k 0 0)) xs) c.saturating_sub.ensures c.count-first.ensures.rest in
     let keys : c.in_ok-keys.keys.items ≡ touched_keys c.args.near (front (is_before start_key behind) (back (is_before start_key first) xs)) =
-    c.in_ok-keys.ensures ∙ ap (touched_keys c.args.near) (c.deref.ensures.value ∙ (c.in_ok-starts.ensures ∙ (c.end_from-end.ensures.front ∙ ap (front (is_before start_key behind)) on))) in
+    c.in_ok-keys.ensures ∙ ap (λ l. touched_keys c.args.near (take (c.end_near-end.result - i) (drop i l))) (sym c.self.view_is) ∙ ap (touched_keys c.args.near) (c.end_near-end.ensures.front ∙ ap (front (is_before start_key behind)) on) in
     contains_has (must_key m) c.sort_unstable.new.self.items (Contains-permutation c.in_ok-keys.keys.items c.sort_unstable.new.self.items (must_key m) c.sort_unstable.ensures.permutation
     (has_contains (must_key m) c.in_ok-keys.keys.items (subst (λ l. Has (must_key m) l) (sym keys) (touched_here c.args.near c.self.inside.longest xs m c.self.invariant (subst (λ l. Has (started m) l) (sym c.self.view_is) has) touch))))

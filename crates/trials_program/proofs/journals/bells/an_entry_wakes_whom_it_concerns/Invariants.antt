@@ -1,4 +1,4 @@
-use Rattle.pl_shared.specs.Plans.{BelongsTo}
+use Rattle.pl_locked.specs.Plans.{BelongsTo}
 use Rattle.trials_program.proofs.journals.bells.an_entry_wakes_whom_it_concerns.Given as goal
 
 abbrev pub invariant-loop-step : goal.invariant-loop-step

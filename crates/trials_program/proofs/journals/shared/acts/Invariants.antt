@@ -1,6 +1,6 @@
 use Rattle.std.proofs.Common.{◌≡◌}
 use Rattle.pl_turn.specs.Passes.{crew_of}
-use Rattle.pl_shared.specs.Plans.{BelongsTo}
+use Rattle.pl_locked.specs.Plans.{BelongsTo}
 use Rattle.trials_program.proofs.journals.shared.acts.Given as goal
 
 abbrev pub invariant-loop-word : goal.invariant-loop-word

@@ -1,0 +1,7 @@
+use Rattle.pl_acts.proofs.Signing.{written_answers}
+use Rattle.pl_acts.proofs.replicated.Replicated.execute.Goals as goal
+
+pub invariant_of-self-2 : goal.invariant_of-self-2
+invariant_of-self-2 c =
+    written_answers c.args.by c.self.inside.replicas.items (record { machine = c.self.inside.machine; signs = c.self.inside.marks }) c.execute-answer.new.self c.sign.new.marks c.unless_refused.new.marks _ c.execute-answer.result c.self.invariant
+    c.execute-answer.ensures c.in_ok-sign.ensures.ok c.unless_refused.ensures.ok c.unless_refused.ensures.err

@@ -1,0 +1,16 @@
+-- Starts between which moves are legal.
+use Rattle.std.specs.Prelude.{◌≡◌, ◌≤◌, Bool, true, ◌&&◌}
+use Rattle.pl_plan.specs.declared.repair.RepairMove.{RepairMove}
+use Rattle.pl_semantics.specs.declared.plan_state.PlanState.{PlanState}
+use Rattle.pl_semantics.specs.Legal.{is_legal}
+use Rattle.pl_semantics.specs.Moves.{is_proper}
+use Rattle.pl_moves.specs.Runs.{start_of, goes_on}
+use Rattle.pl_choose.specs.declared.stretch.Stretch.{Stretch}
+
+-- it makes sense, and places the same as the first one
+abbrev pub is_kin : PlanState → RepairMove → RepairMove → Bool
+is_kin s first m = is_proper s m && goes_on first m
+
+-- what places the same as the stretch's move, and starts at one of these starts, is legal
+abbrev pub IsStretch : PlanState → Stretch → Type 0
+IsStretch s r = (m : RepairMove) → goes_on r.of m ≡ true → r.from ≤ start_of m → start_of m ≤ r.to → is_legal s m ≡ true

@@ -1,0 +1,4 @@
+pub mod Tallies
+pub mod CrewRuns
+pub mod Members
+pub mod Closing

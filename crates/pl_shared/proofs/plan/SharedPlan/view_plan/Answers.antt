@@ -1,6 +1,0 @@
-use Rattle.pl_shared.proofs.Halves.{ask_stops}
-use Rattle.pl_shared.proofs.plan.SharedPlan.view_plan.Goals as goal
-
-pub returns-in-Err-clause-views : goal.returns-in-Err-clause-views
-returns-in-Err-clause-views g c =
-    ask_stops c.args.pass.now c.look.new.pass c.args.chooser.now c.ask.new.chooser c.in-Open.draft c.look.ensures.takes.longer (rw c.in-Open.is at c.in_ok-acted.ensures.looks) c.ask.ensures.once
