@@ -4,6 +4,7 @@ ghost use Rattle.pl_bounds.specs.Looks.{IsLimited, AreLooksAt};
 ghost use Rattle.pl_bounds.specs.Sides.{code_of};
 
 use crate::outside::{Look, Side};
+use crate::parting::parting_in;
 use crate::reading::value_at;
 use pl_board::Board;
 use pl_conflict::{Code, Conflict};
@@ -43,7 +44,7 @@ impl Looking {
         Ok(())
     }
 
-    // Looks where a span begins and where it ends.
+    // Looks where a span begins, where it may be parted in two, and where it ends.
     fn look_round(
         &mut self,
         board: &Board,
@@ -58,6 +59,7 @@ impl Looking {
     {
         self.look(board, side, line, conflict.a.saturating_sub(1))?;
         self.look(board, side, line, conflict.a)?;
+        self.look(board, side, line, parting_in(board, side, line, conflict))?;
         self.look(board, side, line, conflict.b.saturating_sub(1))?;
         self.look(board, side, line, conflict.b)?;
         Ok(())
