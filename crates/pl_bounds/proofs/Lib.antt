@@ -32,4 +32,5 @@ pub mod Shifted
 pub mod Assigned
 pub mod Reopened
 pub mod Lacking
+pub mod Around
 pub mod Staying

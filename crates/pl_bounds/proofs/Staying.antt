@@ -1,6 +1,6 @@
 -- How many conflicts of goals and activities a move leaves at least.
 use Rattle.std.proofs.Common.{◌≡◌, ℕ, ℤ, suc, ◌+◌, ◌-◌, ◌≤◌, eqb, Bool, true, false, cond, List, [], ◌∷◌, filter, length, Option, refl, sym, ap, ◌∙◌, subst, inl, inr, arith}
-use Rattle.std.specs.Prelude.{◌||◌, slice_get}
+use Rattle.std.specs.Prelude.{◌||◌, max, slice_get}
 use Rattle.std.specs.Option.{option_to_list}
 use Rattle.std.proofs.lemmas.Bool.{false_from_ne_true}
 use Rattle.pl_conflict.specs.declared.conflict.Conflict.{Conflict}
@@ -25,8 +25,9 @@ use Rattle.pl_semantics.specs.Whole.{IsWhole}
 use Rattle.pl_bounds.specs.Asked.{IsAlike}
 use Rattle.pl_bounds.specs.Counts.{AreApart}
 use Rattle.pl_bounds.specs.Plain.{is_plain, is_plain_part, count_of_plain}
-use Rattle.pl_bounds.specs.Standing.{HasUnset, IsKnown, IsLeftByNew, IsOpenWithout, IsStandingOf, IsUnsetThen}
+use Rattle.pl_bounds.specs.Standing.{HasUnset, IsKnown, IsLeftByNew, IsLeftByShift, IsOpenWithout, IsStandingOf, IsUnsetThen}
 use Rattle.pl_bounds.specs.declared.standing.Standing.{Standing}
+use Rattle.pl_bounds.proofs.Around.{left_around}
 use Rattle.pl_bounds.proofs.Assigned.{assign_left}
 use Rattle.pl_bounds.proofs.Differing.{has_passing}
 use Rattle.pl_bounds.proofs.Following.{all_but_wrong, is_kept, kept_stays, near_new, none_wrong_new}
@@ -176,6 +177,23 @@ module _ (s : PlanState) (whole : IsWhole s) (next : s.next_id ≤ 3999999000) (
       by_both false e true so few = let left = left_few then_ _ (second_left false e (so refl start can)) in let more = enough most low in omega (arith, more, left, few)
       by_both false e false so few = let left = left_few then_ _ (first_left false e) in let more = enough most low in omega (arith, more, left, few)
 
+-- ---- a shift
+
+-- as many open goals, and as many that are wrong with activities but for their starts
+pub unmoved_left : (s : PlanState) → IsWhole s → s.next_id ≤ 3999999000 → (o : Standing) → IsStandingOf s o → (id n : ℕ) → n ≤ o.unmoved → IsLeftByShift s id n
+unmoved_left s whole next o of id n few = λ to can.
+    let left = shift_left s whole next id to can in
+    let most = of.unmoved in
+    omega (arith, few, most, left)
+
+-- and all that is wrong but near its subtree: the greater of both
+pub greater_left : (s : PlanState) → IsWhole s → s.next_id ≤ 3999999000 → (o : Standing) → IsStandingOf s o → (id : ℕ) (numbers ids : List ℕ) → HoldSame numbers (touched_goals s (subtree_of id s.plan.activities) []) → HoldSame ids (touched_ids s (subtree_of id s.plan.activities) [])
+    → (n : ℕ) → n ≤ max o.unmoved (o.wrong - length (near s numbers ids)) → IsLeftByShift s id n
+greater_left s whole next o of id numbers ids same_numbers same_ids n few = λ to can.
+    let one = unmoved_left s whole next o of id o.unmoved (omega arith) to can in
+    let other = left_around s whole next id to can numbers ids same_numbers same_ids o.wrong of.plain in
+    omega (arith, few, one, other)
+
 -- ---- all of them
 
 pub steady_left : (s : PlanState) → IsWhole s → s.next_id ≤ 3999999000 → (o : Standing) → IsStandingOf s o → (mv : RepairMove) (n : ℕ) → IsKnown s o mv n → (m : RepairMove) → CanBeMade s m → IsAlike mv m → n ≤ count_of_plain (applied s m)
@@ -189,9 +207,7 @@ steady_left s whole next o of (Delete id) n known m can alike =
 steady_left s whole next o of (Shift id start) n known m can alike =
     let on = alike_shift id start m alike in
     let now : CanBeMade s (Shift id on.0) = subst (λ (k : RepairMove). CanBeMade s k) on.1 can in
-    let left = shift_left s whole next id on.0 now in
-    let most = of.unmoved in
-    subst (λ (k : RepairMove). n ≤ count_of_plain (applied s k)) (sym on.1) (omega (arith, known, most, left))
+    subst (λ (k : RepairMove). n ≤ count_of_plain (applied s k)) (sym on.1) (known on.0 now)
 steady_left s whole next o of (Detail id alternative) n known m can alike = omega (arith, known)
 steady_left s whole next o of (Abstract id) n known m can alike = omega (arith, known)
 steady_left s whole next o of (Assign id param value) n known m can alike =

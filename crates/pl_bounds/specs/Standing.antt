@@ -91,11 +91,14 @@ pub record IsLeftByNew (s : PlanState) (wrong kind start : ℕ) (goal : Option �
   pub when_unset : unset ≡ true → IsUnsetThen s kind goal
   pub few : n ≤ ((wrong - length (option_to_list goal)) + least_known s (Add kind start goal)) + (if unset then 1 else 0)
 
--- What is known of a move. A shift leaves as many open goals, and as many that are wrong with activities but for their starts. An
--- assignment leaves the open goals, and the activities that lack an alternative.
+-- a number of conflicts of goals and activities that a shift leaves at least, to whichever start
+abbrev pub IsLeftByShift : PlanState → ℕ → ℕ → Type 0
+IsLeftByShift s id n = (to : ℕ) → CanBeMade s (Shift id to) → n ≤ count_of_plain (applied s (Shift id to))
+
+-- What is known of a move. An assignment leaves the open goals, and the activities that lack an alternative.
 abbrev pub IsKnown : PlanState → Standing → RepairMove → ℕ → Type 0
 IsKnown s o (Add kind start goal) n = IsLeftByNew s o.wrong kind start goal n
 IsKnown s o (Delete id) n = n ≤ count_of_plain (applied s (Delete id))
-IsKnown s o (Shift id start) n = n ≤ o.unmoved
+IsKnown s o (Shift id start) n = IsLeftByShift s id n
 IsKnown s o (Assign id param value) n = n ≤ o.valueless
 IsKnown s o _ n = n ≤ 0

@@ -12,7 +12,7 @@ ghost use Rattle.pl_semantics.specs.Moves.{applied};
 ghost use Rattle.pl_semantics.specs.Whole.{IsWhole};
 ghost use Rattle.pl_bounds.specs.Asked.{IsAlike};
 ghost use Rattle.pl_bounds.specs.Plain.{count_of_plain};
-ghost use Rattle.pl_bounds.specs.Standing.{IsKnown, IsLeftByNew, IsStandingOf};
+ghost use Rattle.pl_bounds.specs.Standing.{IsKnown, IsLeftByNew, IsLeftByShift, IsStandingOf};
 
 use crate::reopening::is_open_without;
 use crate::standing::{Standing, count_if};
@@ -91,6 +91,29 @@ fn left_by_deletion(alloc: Global, s: &PlanState, wrong: u32, id: u32) -> Result
     Ok(count_if(is_open, left))
 }
 
+// What hangs on no start, and all that is wrong but near what moves: the greater of both. Near it nothing is looked for where nothing
+// hangs on a start.
+fn left_by_shift(
+    alloc: Global,
+    s: &PlanState,
+    standing: &Standing,
+    id: u32,
+) -> Result<u32, AllocError>
+    requires whole { IsWhole s.now }
+    requires next { s.now.next_id ≤ 3999999000 }
+    requires live { IsLive id s.now.plan.activities }
+    requires standing { IsStandingOf s.now standing.now }
+    ensures { IfOk result (IsLeftByShift s.now id) }
+{
+    if standing.wrong <= standing.unmoved {
+        return Ok(standing.unmoved);
+    }
+    let touched = touched_under(alloc, s, id)?;
+    let around = count_near(alloc, s, &touched)?;
+    let apart = (standing.wrong as usize).saturating_sub(around) as u32;
+    Ok(standing.unmoved.max(apart))
+}
+
 fn left_by(
     alloc: Global,
     s: &PlanState,
@@ -108,7 +131,7 @@ fn left_by(
             left_by_new(alloc, s, standing.wrong, kind, start, goal)
         }
         RepairMove::Delete { id } => left_by_deletion(alloc, s, standing.wrong, id),
-        RepairMove::Shift { .. } => Ok(standing.unmoved),
+        RepairMove::Shift { id, .. } => left_by_shift(alloc, s, standing, id),
         RepairMove::Assign { .. } => Ok(standing.valueless),
         _ => Ok(0),
     }
