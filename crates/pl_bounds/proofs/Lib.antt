@@ -34,3 +34,4 @@ pub mod Reopened
 pub mod Lacking
 pub mod Around
 pub mod Staying
+pub mod Knowing
