@@ -1,5 +1,5 @@
-//! Where a span in which a timeline is past its limit may be parted in two: at which moment within it the timeline is nearest to its
-//! limit, behind one and before another at which it is further past it. Any moment would do: how it is chosen owes no proof.
+//! Where a span in which a timeline is past its limit may be parted in two: the moment within it at which the timeline is nearest to its
+//! limit, behind one and before another at which it is further past it. Any moments would do: how they are chosen owes no proof.
 ghost use Rattle.std.specs.Prelude.{◌≡◌, ◌≤◌, ◌<◌, false};
 ghost use Rattle.pl_bounds.specs.Looks.{IsLimited};
 
@@ -11,6 +11,22 @@ use pl_conflict::Conflict;
 // How many moments of a span are compared.
 const SAMPLES: u32 = 128;
 
+/// The nearest moment to the limit, and the furthest from it before that one and behind it.
+#[derive(Clone, Copy)]
+pub(crate) struct Parting {
+    pub(crate) before: Look,
+    pub(crate) nearest: Look,
+    pub(crate) behind: Look,
+}
+
+// What some moments in turn tell.
+#[derive(Clone, Copy)]
+struct Compared {
+    furthest: Look,
+    last: Look,
+    parting: Option<Parting>,
+}
+
 // Whether a value is further past the limit than another.
 fn is_further(side: Side, value: i64, other: i64) -> bool {
     match side {
@@ -20,53 +36,63 @@ fn is_further(side: Side, value: i64, other: i64) -> bool {
     }
 }
 
-// What some moments in turn tell.
-#[derive(Clone, Copy)]
-struct Compared {
-    // The value furthest past the limit.
-    furthest: i64,
-    // The last of them.
-    last: Look,
-    // The nearest to the limit that lies between two that are further past it.
-    nearest: Option<Look>,
+impl Parting {
+    // With one more moment behind it.
+    fn with(self, side: Side, next: Look) -> Parting {
+        if is_further(side, next.value, self.behind.value) {
+            Parting {
+                behind: next,
+                ..self
+            }
+        } else {
+            self
+        }
+    }
 }
 
 impl Compared {
     // Whether the last one is nearer than the furthest, than the next one, and than the nearest so far.
-    fn is_nearest(self, side: Side, next: i64) -> bool {
+    fn is_nearest(self, side: Side, next: Look) -> bool {
         let value = self.last.value;
-        if !is_further(side, self.furthest, value) || !is_further(side, next, value) {
+        if !is_further(side, self.furthest.value, value) || !is_further(side, next.value, value) {
             return false;
         }
-        match self.nearest {
-            Some(nearest) => is_further(side, nearest.value, value),
+        match self.parting {
+            Some(parting) => is_further(side, parting.nearest.value, value),
             None => true,
+        }
+    }
+
+    fn parting_with(self, side: Side, next: Look) -> Option<Parting> {
+        if self.is_nearest(side, next) {
+            return Some(Parting {
+                before: self.furthest,
+                nearest: self.last,
+                behind: next,
+            });
+        }
+        match self.parting {
+            Some(parting) => Some(parting.with(side, next)),
+            None => None,
         }
     }
 
     // With the next one.
     fn with(self, side: Side, next: Look) -> Compared {
-        let nearest = if self.is_nearest(side, next.value) {
-            Some(self.last)
-        } else {
-            self.nearest
-        };
-        let furthest = if is_further(side, next.value, self.furthest) {
-            next.value
-        } else {
-            self.furthest
-        };
         Compared {
-            furthest,
+            furthest: if is_further(side, next.value, self.furthest.value) {
+                next
+            } else {
+                self.furthest
+            },
             last: next,
-            nearest,
+            parting: self.parting_with(side, next),
         }
     }
 }
 
-// Of some moments from one on and before another, spread evenly, the nearest to the limit between two that are further past it, or the
-// first.
-fn parting_within(board: &Board, side: Side, line: u32, from: u32, to: u32) -> u32
+// Of some moments from one on and before another, spread evenly.
+fn parting_within(board: &Board, side: Side, line: u32, from: u32, to: u32) -> Option<Parting>
     requires unspoiled { board.now.spoiled ≡ false }
     requires limited { IsLimited board.now.state side line }
     requires now { board.now.state.moment ≤ from }
@@ -75,10 +101,11 @@ fn parting_within(board: &Board, side: Side, line: u32, from: u32, to: u32) -> u
 {
     let step = (to - from) / SAMPLES + 1;
     let value = value_at(board, side, line, from);
+    let first = Look { at: from, value };
     let mut compared = Compared {
-        furthest: value,
-        last: Look { at: from, value },
-        nearest: None,
+        furthest: first,
+        last: first,
+        parting: None,
     };
     let mut at = from;
     'samples: while to - at > step {
@@ -86,21 +113,23 @@ fn parting_within(board: &Board, side: Side, line: u32, from: u32, to: u32) -> u
         let value = value_at(board, side, line, at);
         compared = compared.with(side, Look { at, value });
     }
-    match compared.nearest {
-        Some(look) => look.at,
-        None => from,
-    }
+    compared.parting
 }
 
 /// Where the span of a conflict may be parted, as far as it lies ahead.
-pub(crate) fn parting_in(board: &Board, side: Side, line: u32, conflict: &Conflict) -> u32
+pub(crate) fn parting_in(
+    board: &Board,
+    side: Side,
+    line: u32,
+    conflict: &Conflict,
+) -> Option<Parting>
     requires unspoiled { board.now.spoiled ≡ false }
     requires limited { IsLimited board.now.state side line }
 {
     let from = conflict.a.max(board.state().moment);
     let to = conflict.b.min(board.model().horizon);
     if to <= from {
-        return from;
+        return None;
     }
     parting_within(board, side, line, from, to)
 }
