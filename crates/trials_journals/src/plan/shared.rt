@@ -5,7 +5,7 @@ ghost use Rattle.pl_turn.specs.Passes.{crew_of, leads, made_by, joined_by};
 ghost use Rattle.pl_locked.specs.Plans.{BelongsTo};
 
 use crate::asserting::holds;
-use crate::journals::models::{JOURNAL, MODEL, model, shared_model};
+use crate::worked::{JOURNAL, MODEL, model, shared_model};
 use pl_acts::{Acted, Role};
 use pl_choose::Seeded;
 use pl_entry::Entry;

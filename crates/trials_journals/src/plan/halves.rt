@@ -2,8 +2,8 @@
 ghost use Rattle.pl_locked.specs.Plans.{BelongsTo};
 
 use crate::asserting::holds;
-use crate::journals::models::{MODEL, OPEN, model};
-use crate::journals::shared::{acts, opened, tell, text};
+use crate::plan::shared::{acts, opened, tell, text};
+use crate::worked::{MODEL, OPEN, model};
 use pl_acts::{Acted, Role, Sight, View};
 use pl_choose::Seeded;
 use pl_shared::{Pass, SharedPlan};
