@@ -8,6 +8,8 @@ mod breaking;
 #[cfg(test)]
 mod crew;
 #[cfg(test)]
+mod flags;
+#[cfg(test)]
 mod pair;
 #[cfg(test)]
 mod program;
