@@ -5,7 +5,7 @@ ghost use Rattle.pl_turn.specs.Passes.{crew_of, leads, made_by, joined_by};
 ghost use Rattle.pl_locked.specs.Plans.{BelongsTo};
 
 use crate::asserting::holds;
-use crate::journals::models::{JOURNAL, MODEL, model, shared_model};
+use crate::worked::{JOURNAL, MODEL, model, shared_model};
 use pl_acts::{Acted, Role};
 use pl_choose::Seeded;
 use pl_entry::Entry;
@@ -71,13 +71,20 @@ pub fn tell<R: Abort + Wait>(
     holds(rt, "what is answered", fed == wanted);
 }
 
-/// Whether an act was answered by this word: the number of the entry that it made, or why it made none.
+/// Whether this word is what was done: the number of the entry that was made, or why none was made.
+pub fn is_done(acted: &Acted, word: &str) -> bool {
+    match acted {
+        Acted::Did(number) => word.parse() == Ok(*number),
+        Acted::Nothing => word == "nothing",
+        Acted::Finished => word == "finished",
+        Acted::Stopped => word == "stopped",
+    }
+}
+
+/// Whether an act was answered by this word.
 fn is_said(acted: &Result<Acted, Stop>, word: &str) -> bool {
     match acted {
-        Ok(Acted::Did(number)) => word.parse() == Ok(*number),
-        Ok(Acted::Nothing) => word == "nothing",
-        Ok(Acted::Finished) => word == "finished",
-        Ok(Acted::Stopped) => word == "stopped",
+        Ok(acted) => is_done(acted, word),
         Err(_) => false,
     }
 }

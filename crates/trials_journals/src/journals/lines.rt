@@ -2,8 +2,8 @@
 ghost use Rattle.pl_model.specs.Checked.{IsChecked};
 
 use crate::asserting::holds;
-use crate::journals::models::model;
-use crate::running::sides;
+use crate::rows::sides;
+use crate::worked::model;
 use pl_entry::Entry;
 use pl_journal::{EntryFault, has_line, read_entry, render};
 use pl_model::Model;

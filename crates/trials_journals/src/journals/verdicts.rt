@@ -1,14 +1,14 @@
 //! Journals verified, each with its verdict.
 use crate::asserting::holds;
-use crate::journals::models::{JOURNAL, changed, shared_model};
-use crate::running::{lines, sides};
+use crate::rows::{lines, sides};
+use crate::worked::{JOURNAL, shared_model};
 use pl_io::{LineReader, MemSource};
 use pl_replay::{Verdict, verify};
 use std::alloc::Global;
 use std::process::Abort;
 
 /// The verdict on a journal.
-fn verdict_on(rt: &impl Abort, alloc: Global, journal: &[u8]) -> Verdict {
+pub fn verdict_on(rt: &impl Abort, alloc: Global, journal: &[u8]) -> Verdict {
     let model = shared_model(rt, alloc);
     let mut lines = LineReader::new(alloc, 4160, 1_073_741_824).expect(rt, "memory");
     let mut source = MemSource::new(alloc, journal, &[]).expect(rt, "memory");
@@ -21,6 +21,12 @@ fn judge(rt: &impl Abort, alloc: Global, journal: &[u8], wanted: &str) {
     let verdict = verdict_on(rt, alloc, journal);
     let text = format!(in alloc; "{verdict:?}").expect(rt, "memory");
     holds(rt, wanted, text.starts_with(wanted));
+}
+
+/// A journal with another text in place of one.
+fn changed(rt: &impl Abort, alloc: Global, journal: &str, from: &str, to: &str) -> String {
+    let (front, rest) = journal.split_once(from).unwrap_or(("no such text", ""));
+    format!(in alloc; "{front}{to}{rest}").expect(rt, "memory")
 }
 
 /// Judges the worked journal with a change. A row has a text, what stands in its place, and the verdict; `;` is a newline.

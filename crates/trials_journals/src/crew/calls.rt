@@ -3,7 +3,7 @@ ghost use Rattle.pl_many.specs.Members.{IsMember};
 
 use crate::asserting::holds;
 use crate::crew::members::{acts, hired, is_told, join_three, last_of, settles, sight_of, tell};
-use crate::journals::models::{MODEL, model};
+use crate::worked::{MODEL, model};
 use pl_journal::render;
 use pl_machine::Machine;
 use pl_many::{Acted, Author, Crew, Hired, Mark, Member};

@@ -7,8 +7,8 @@ ghost use Rattle.pl_locked.specs.Turns.{CanSettle};
 ghost use Rattle.pl_many.specs.Members.{IsMember};
 
 use crate::asserting::holds;
-use crate::journals::models::shared_model;
-use crate::journals::shared::has_newline;
+use crate::plan::shared::has_newline;
+use crate::worked::shared_model;
 use pl_facts::Options;
 use pl_machine::Machine;
 use pl_many::{Acted, Author, Crew, Hired, Member, Sight, View};

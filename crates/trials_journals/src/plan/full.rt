@@ -2,13 +2,14 @@
 ghost use Rattle.std.specs.Prelude.{◌≤◌};
 
 use crate::asserting::holds;
-use crate::journals::models::{HEAD, shared_model};
-use crate::running::{ROOM, assert_legal, count_newlines};
+use crate::journals::verdicts::verdict_on;
+use crate::worked::shared_model;
 use pl_facts::Options;
 use pl_input::Halt;
 use pl_io::{LineReader, MemSink, MemSource};
 use pl_machine::Machine;
 use pl_pair::run_pair;
+use pl_replay::Verdict;
 use pl_turn::NoGate;
 use std::alloc::Global;
 use std::process::Abort;
@@ -47,17 +48,24 @@ fn ended<R: Abort + Threads + Wait + Sync>(
     )
 }
 
+/// Whether a journal is legal, has so many entries, and has not ended.
+fn is_unfinished(verdict: &Verdict, wanted: u32) -> bool {
+    match verdict {
+        Verdict::Legal { entries, done } => *entries == wanted && !*done,
+        _ => false,
+    }
+}
+
 /// Asserts that a pair stops at a full log, and that all of its entries are written.
 fn assert_full<R: Abort + Threads + Wait + Sync>(rt: &R, alloc: Global, entries: u32)
     requires some { 1 ≤ entries }
     requires bounded { entries ≤ 250000 }
 {
-    let mut sink = MemSink::new(alloc, ROOM, &[]).expect(rt, "memory");
+    let mut sink = MemSink::new(alloc, 20_000, &[]).expect(rt, "memory");
     let ended = ended(rt, alloc, entries, &mut sink);
     holds(rt, "a full log", matches!(ended, Err(Halt::Full)));
-    let written = count_newlines(sink.bytes());
-    holds(rt, "its entries", written == entries as usize);
-    assert_legal(rt, alloc, HEAD, sink.bytes(), "unfinished");
+    let verdict = verdict_on(rt, alloc, sink.bytes());
+    holds(rt, "its entries", is_unfinished(&verdict, entries));
 }
 
 /// Twelve entries are due at least.

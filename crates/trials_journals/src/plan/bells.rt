@@ -2,7 +2,7 @@
 ghost use Rattle.pl_locked.specs.Plans.{BelongsTo};
 
 use crate::asserting::holds;
-use crate::journals::shared::{acts, opened, tell};
+use crate::plan::shared::{acts, opened, tell};
 use pl_acts::{Listener, Role};
 use pl_choose::Seeded;
 use pl_shared::{Pass, SharedPlan};

@@ -1,4 +1,4 @@
-//! The models of the tests, and the journal of a worked run.
+//! The worked run: its model, and the journal that it makes.
 ghost use Rattle.std.specs.Arc.{arc_value};
 ghost use Rattle.pl_model.specs.Checked.{IsChecked};
 
@@ -26,32 +26,8 @@ pub const JOURNAL: &str = "0 open turns 8 live 10000 goals 20000 entries 250000
 11 in end : end
 ";
 
-/// The model up to the messages.
-pub const HEAD: &str = "horizon 100 lead 30 kind obs { duration 5 }\nbegin\n";
-
-/// The same with a newline behind each statement.
-pub const HEAD_LINES: &str = "horizon 100\nlead 30\nkind obs {\nduration 5\n}\nbegin\n";
-
 /// The first line of a run of eight turns.
 pub const OPEN: &str = "0 open turns 8 live 10000 goals 20000 entries 250000\n";
-
-/// The input of that run.
-pub const INPUT: &str = "horizon 100
-lead 30
-kind obs {
-duration 5
-}
-begin
-goal 1 obs 10 20 must
-tick 10
-end
-";
-
-/// A journal with another text in place of one.
-pub fn changed(rt: &impl Abort, alloc: Global, journal: &str, from: &str, to: &str) -> String {
-    let (front, rest) = journal.split_once(from).unwrap_or(("no such text", ""));
-    format!(in alloc; "{front}{to}{rest}").expect(rt, "memory")
-}
 
 /// The model of a text.
 pub fn model(rt: &impl Abort, alloc: Global, text: &str) -> Model

@@ -2,8 +2,8 @@
 ghost use Rattle.pl_locked.specs.Plans.{BelongsTo};
 
 use crate::asserting::holds;
-use crate::journals::models::{MODEL, OPEN, model};
-use crate::journals::shared::{acts, opened, tell, text};
+use crate::plan::shared::{acts, is_done, opened, tell, text};
+use crate::worked::{MODEL, OPEN, model};
 use pl_acts::{Acted, Role, Sight, View};
 use pl_choose::Seeded;
 use pl_shared::{Pass, SharedPlan};
@@ -79,13 +79,10 @@ fn a_commit_comes_between(rt: HostRuntime) {
     holds(&rt, BETWEEN, has_entries);
 }
 
-/// What a view is answered where nothing is to be chosen: the number of the rest that it made, or why it made none.
+/// Whether a view is answered by this word, where nothing is to be chosen.
 fn is_over(view: &View, word: &str) -> bool {
     match view {
-        View::Settled(Acted::Did(number)) => word.parse() == Ok(*number),
-        View::Settled(Acted::Nothing) => word == "nothing",
-        View::Settled(Acted::Finished) => word == "finished",
-        View::Settled(Acted::Stopped) => word == "stopped",
+        View::Settled(acted) => is_done(acted, word),
         View::Copy(_) => false,
     }
 }
