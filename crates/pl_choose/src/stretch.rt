@@ -1,15 +1,16 @@
 //! Starts between which moves are legal.
-ghost use Rattle.std.specs.Prelude.{◌≡◌, ◌≤◌, ◌<◌, Bool, true, false, All, IfSome, IsTrue, length};
+ghost use Rattle.std.specs.Prelude.{◌≡◌, Bool, true, false, All, IfSome};
+ghost use Rattle.std.specs.List.{list_all};
 ghost use Rattle.pl_plan.specs.declared.repair.RepairMove.{RepairMove};
 ghost use Rattle.pl_semantics.specs.declared.plan_state.PlanState.{PlanState};
 ghost use Rattle.pl_semantics.specs.Legal.{is_legal};
 ghost use Rattle.pl_semantics.specs.Moves.{is_proper};
-ghost use Rattle.pl_moves.specs.Runs.{goes_on, start_of};
+ghost use Rattle.pl_moves.specs.Runs.{goes_on};
 ghost use Rattle.pl_choose.specs.Found.{IsProper};
-ghost use Rattle.pl_choose.specs.Stretches.{is_kin, IsStretch};
+ghost use Rattle.pl_choose.specs.Stretches.{is_kin, is_within, IsStretch};
 
 use pl_board::Board;
-use pl_moves::{goes_on, is_legal, run_length, start_of};
+use pl_moves::{goes_on, is_legal, start_of};
 use pl_plan::RepairMove;
 
 // With fewer moves than this that place the same, each is looked at by itself.
@@ -80,8 +81,8 @@ fn ends_of(floor: u32, moves: &[RepairMove]) -> Option<Ends>
 }
 
 impl Stretch {
-    /// From no start on.
-    pub(crate) fn none(of: RepairMove) -> Stretch
+    // From no start on.
+    fn none(of: RepairMove) -> Stretch
         ensures { (s : PlanState) → IsStretch s result }
     {
         Stretch { of, from: 1, to: 0 }
@@ -89,11 +90,19 @@ impl Stretch {
 
     // Whether a move places the same, and starts there.
     fn has(self, mv: &RepairMove) -> bool
-        ensures { IsTrue result → (goes_on self.of mv.now ≡ true) × (self.from ≤ start_of mv.now) × (start_of mv.now ≤ self.to) }
+        ensures { result ≡ is_within self mv.now }
     {
         goes_on(&self.of, mv) && self.from <= start_of(mv) && start_of(mv) <= self.to
     }
 
+    /// Whether each of these moves places the same, and starts there.
+    pub(crate) fn has_all(self, moves: &[RepairMove]) -> bool
+        ensures { result ≡ list_all (is_within self) moves.now }
+    {
+        moves.iter().all(|mv| self.has(mv))
+    }
+
+    #[tactic(auto, using(crate::proofs::Between::has_legal))]
     /// Whether a move is legal. The plan is looked at only where the stretch does not tell.
     pub(crate) fn is_legal(self, board: &Board, mv: &RepairMove) -> bool
         requires unspoiled { board.now.spoiled ≡ false }
@@ -137,30 +146,15 @@ fn stretch_among(board: &Board, of: RepairMove, run: &[RepairMove]) -> Stretch
     }
 }
 
-// A stretch for the moves behind one that place the same as it does, where they are many enough.
-fn stretch_behind(board: &Board, of: RepairMove, rest: &[RepairMove]) -> Stretch
+/// A stretch for moves that place the same as one, where they are many enough.
+pub(crate) fn stretch_of(board: &Board, of: RepairMove, run: &[RepairMove]) -> Stretch
     requires unspoiled { board.now.spoiled ≡ false }
-    requires proper { All (IsProper board.now.state) rest.now }
+    requires proper { All (IsProper board.now.state) run.now }
+    requires same { All (λ m. goes_on of m ≡ true) run.now }
     ensures { IsStretch board.now.state result }
 {
-    let count = run_length(&of, rest);
-    if count < FEW {
+    if run.len() < FEW {
         return Stretch::none(of);
     }
-    stretch_among(board, of, &rest[..count])
-}
-
-/// The stretch for the first of some moves: the one that was known before, if the move places the same.
-pub(crate) fn stretch_then(board: &Board, before: Stretch, moves: &[RepairMove]) -> Stretch
-    requires unspoiled { board.now.spoiled ≡ false }
-    requires some { 0 < length moves.now }
-    requires proper { All (IsProper board.now.state) moves.now }
-    requires before { IsStretch board.now.state before }
-    ensures { IsStretch board.now.state result }
-{
-    let first = moves[0];
-    if goes_on(&before.of, &first) {
-        return before;
-    }
-    stretch_behind(board, first, &moves[1..])
+    stretch_among(board, of, run)
 }
