@@ -30,8 +30,8 @@ fn add_if_legal(
     Ok(())
 }
 
-#[tactic(auto, using(crate::proofs::Between::has_all_legal))]
 // Appends those of some moves that nothing refuses. Where the stretch has all of them, none is looked at.
+#[tactic(auto, using(crate::proofs::Between::has_all_legal))]
 fn add_legal(
     board: &Board,
     stretch: Stretch,
@@ -53,9 +53,9 @@ fn add_legal(
     Ok(())
 }
 
-#[tactic(auto, using(crate::proofs::Finding::run_kept))]
 // Appends those of the first move, and of the moves behind it that place the same, that nothing refuses. Of many that place the same,
 // those that start first and last tell of the others. Answers how many were looked at.
+#[tactic(auto, using(crate::proofs::Finding::run_kept))]
 fn add_run(
     board: &Board,
     moves: &[RepairMove],

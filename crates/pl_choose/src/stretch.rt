@@ -102,8 +102,8 @@ impl Stretch {
         moves.iter().all(|mv| self.has(mv))
     }
 
-    #[tactic(auto, using(crate::proofs::Between::has_legal))]
     /// Whether a move is legal. The plan is looked at only where the stretch does not tell.
+    #[tactic(auto, using(crate::proofs::Between::has_legal))]
     pub(crate) fn is_legal(self, board: &Board, mv: &RepairMove) -> bool
         requires unspoiled { board.now.spoiled ≡ false }
         requires proper { is_proper board.now.state mv.now ≡ true }
