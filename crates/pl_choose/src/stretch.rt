@@ -1,7 +1,6 @@
 //! Starts between which moves are legal.
-ghost use Rattle.std.specs.Prelude.{◌≡◌, Bool, true, false, All, IfSome};
+ghost use Rattle.std.specs.Prelude.{◌≡◌, true, false, All};
 ghost use Rattle.std.specs.List.{list_all};
-ghost use Rattle.pl_plan.specs.declared.repair.RepairMove.{RepairMove};
 ghost use Rattle.pl_semantics.specs.declared.plan_state.PlanState.{PlanState};
 ghost use Rattle.pl_semantics.specs.Legal.{is_legal};
 ghost use Rattle.pl_semantics.specs.Moves.{is_proper};
@@ -22,62 +21,6 @@ pub(crate) struct Stretch {
     pub(crate) of: RepairMove,
     pub(crate) from: u32,
     pub(crate) to: u32,
-}
-
-// Of some moves one that starts first, and one that starts last.
-#[derive(Clone, Copy, Debug)]
-struct Ends {
-    first: RepairMove,
-    last: RepairMove,
-}
-
-fn earlier(one: RepairMove, other: RepairMove) -> RepairMove
-    ensures { (P : RepairMove → Bool) → P one ≡ true → P other ≡ true → P result ≡ true }
-{
-    if start_of(&other) < start_of(&one) {
-        return other;
-    }
-    one
-}
-
-fn later(one: RepairMove, other: RepairMove) -> RepairMove
-    ensures { (P : RepairMove → Bool) → P one ≡ true → P other ≡ true → P result ≡ true }
-{
-    if start_of(&one) < start_of(&other) {
-        return other;
-    }
-    one
-}
-
-// The ends of some moves and one more.
-fn ends_with(ends: Option<Ends>, mv: RepairMove) -> Ends
-    ensures first { (P : RepairMove → Bool) → IfSome ends (λ e. P e.first ≡ true) → P mv ≡ true → P result.first ≡ true }
-    ensures last { (P : RepairMove → Bool) → IfSome ends (λ e. P e.last ≡ true) → P mv ≡ true → P result.last ≡ true }
-{
-    match ends {
-        Some(ends) => Ends {
-            first: earlier(ends.first, mv),
-            last: later(ends.last, mv),
-        },
-        None => Ends {
-            first: mv,
-            last: mv,
-        },
-    }
-}
-
-// The ends of those that start from the floor on.
-fn ends_of(floor: u32, moves: &[RepairMove]) -> Option<Ends>
-    ensures first { (P : RepairMove → Bool) → All (λ m. P m ≡ true) moves.now → IfSome result (λ e. P e.first ≡ true) }
-    ensures last { (P : RepairMove → Bool) → All (λ m. P m ≡ true) moves.now → IfSome result (λ e. P e.last ≡ true) }
-{
-    let mut ends = None;
-    for mv in moves {
-        if floor <= start_of(mv) {
-            ends = Some(ends_with(ends, *mv));
-        }
-    }
-    ends
 }
 
 impl Stretch {
@@ -118,35 +61,23 @@ impl Stretch {
 }
 
 // From the start of one move to that of another, if both are legal.
-fn between(board: &Board, of: RepairMove, ends: Ends) -> Stretch
+fn between(board: &Board, of: RepairMove, first: &RepairMove, last: &RepairMove) -> Stretch
     requires unspoiled { board.now.spoiled ≡ false }
-    requires first { is_kin board.now.state of ends.first ≡ true }
-    requires last { is_kin board.now.state of ends.last ≡ true }
+    requires first { is_kin board.now.state of first.now ≡ true }
+    requires last { is_kin board.now.state of last.now ≡ true }
     ensures { IsStretch board.now.state result }
 {
-    if is_legal(board, &ends.first) && is_legal(board, &ends.last) {
+    if is_legal(board, first) && is_legal(board, last) {
         return Stretch {
             of,
-            from: start_of(&ends.first),
-            to: start_of(&ends.last),
+            from: start_of(first),
+            to: start_of(last),
         };
     }
     Stretch::none(of)
 }
 
-// A stretch for moves that place the same as one, from the floor on.
-fn stretch_among(board: &Board, of: RepairMove, run: &[RepairMove]) -> Stretch
-    requires unspoiled { board.now.spoiled ≡ false }
-    requires kin { All (λ m. is_kin board.now.state of m ≡ true) run.now }
-    ensures { IsStretch board.now.state result }
-{
-    match ends_of(board.floor(), run) {
-        Some(ends) => between(board, of, ends),
-        None => Stretch::none(of),
-    }
-}
-
-/// A stretch for moves that place the same as one, where they are many enough.
+/// The stretch from the first to the last of moves that place the same as one, where they are many enough.
 pub(crate) fn stretch_of(board: &Board, of: RepairMove, run: &[RepairMove]) -> Stretch
     requires unspoiled { board.now.spoiled ≡ false }
     requires proper { All (IsProper board.now.state) run.now }
@@ -156,5 +87,5 @@ pub(crate) fn stretch_of(board: &Board, of: RepairMove, run: &[RepairMove]) -> S
     if run.len() < FEW {
         return Stretch::none(of);
     }
-    stretch_among(board, of, run)
+    between(board, of, &run[0], &run[run.len() - 1])
 }
