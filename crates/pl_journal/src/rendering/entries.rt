@@ -8,7 +8,7 @@ use pl_model::Model;
 use std::alloc::{AllocError, Global};
 
 // Few lines are longer.
-const USUAL: usize = 64;
+const USUAL: usize = 80;
 
 /// The line of an entry with this number, with its newline. Names are those of the model; a kind that the model
 /// has not is written without a name.
