@@ -13,7 +13,7 @@ use Rattle.pl_moves.specs.Runs.{CanBeMade}
 use Rattle.pl_update.specs.GoalsAndActivities.Near.{near, HoldSame}
 use Rattle.pl_update.specs.GoalsAndActivities.Touched.{touched_goals, touched_ids}
 use Rattle.pl_update.proofs.AboutGoalsAndActivities.Touching.{follows_same}
-use Rattle.pl_plan.specs.declared.repair.RepairMove.TheVariants.{Add, Delete, Shift}
+use Rattle.pl_plan.specs.declared.repair.RepairMove.TheVariants.{Add, Delete}
 use Rattle.pl_plan.specs.Fitting.{alternatives_of}
 use Rattle.pl_plan.specs.Trees.{subtree_of}
 use Rattle.pl_semantics.specs.declared.plan_state.PlanState.{PlanState}

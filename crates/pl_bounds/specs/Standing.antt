@@ -1,14 +1,11 @@
 -- Conflicts of goals and of activities that stand, and how many of them a move leaves at least.
-use Rattle.std.specs.Prelude.{◌≡◌, ℕ, ◌+◌, ◌-◌, ◌≤◌, ◌==◌, Bool, true, false, [], ◌∷◌, Option, Some, filter, length, if◌then◌else◌}
-use Rattle.std.specs.Option.{option_to_list}
+use Rattle.std.specs.Prelude.{◌≡◌, ℕ, ◌≤◌, ◌==◌, Bool, true, false, [], ◌∷◌, Option, Some, filter, length}
 use Rattle.pl_conflict.specs.declared.conflict.Conflict.{Conflict}
 use Rattle.pl_conflict.specs.declared.conflict.Code.{Code}
 use Rattle.pl_conflict.specs.Codes.{code_number}
 use Rattle.pl_conflict.specs.Order.{has}
 use Rattle.pl_conflict.specs.declared.conflict.Code.TheVariants as code
-use Rattle.pl_plan.specs.declared.repair.RepairMove.{RepairMove}
-use Rattle.pl_plan.specs.declared.repair.RepairMove.TheVariants.{Add, Delete, Shift, Assign}
-use Rattle.pl_moves.specs.Least.{least_known}
+use Rattle.pl_plan.specs.declared.repair.RepairMove.TheVariants.{Add, Shift}
 use Rattle.pl_moves.specs.Runs.{CanBeMade}
 use Rattle.pl_semantics.specs.declared.plan_state.PlanState.{PlanState}
 use Rattle.pl_facts.specs.declared.goal.Goal.{Goal}

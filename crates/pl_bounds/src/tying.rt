@@ -2,6 +2,7 @@
 //! conflict then.
 ghost use Rattle.std.specs.Prelude.{◌≡◌, ◌≤◌, ℕ, false};
 ghost use Rattle.pl_moves.specs.Runs.{CanBeMade};
+ghost use Rattle.pl_plan.specs.Activities.{IsLive};
 ghost use Rattle.pl_plan.specs.Trees.{subtree_of};
 ghost use Rattle.pl_plan.specs.declared.repair.RepairMove.TheVariants.{Shift};
 ghost use Rattle.pl_semantics.specs.Moves.{applied};
@@ -28,7 +29,8 @@ pub(crate) fn moved_alone(board: &Board, id: u32, subtree: &[u32]) -> Option<Pla
 
 /// The new root of this id, given alone in a plan of its own.
 pub(crate) fn added_alone(alone: &PlanState, id: u32, kind: u32, start: u32) -> Placed
-    requires { IsWhole alone.now }
+    requires whole { IsWhole alone.now }
+    requires live { IsLive id alone.now.plan.activities }
     ensures { result ≡ root_in alone.now id kind start }
 {
     Placed {

@@ -1,7 +1,6 @@
-use Rattle.std.proofs.Common.{◌≡◌, ◌≤◌, sym, subst, arith}
+use Rattle.std.proofs.Common.{sym, subst, arith}
 use Rattle.std.specs.Prelude.{IfOk}
 use Rattle.pl_semantics.specs.declared.plan_state.PlanState.{PlanState}
-use Rattle.pl_semantics.specs.Moves.{applied}
 use Rattle.pl_semantics.specs.Whole.{IsWhole}
 use Rattle.pl_bounds.specs.Known.{IsKnownOf}
 use Rattle.pl_bounds.specs.declared.known.Known.{Known}

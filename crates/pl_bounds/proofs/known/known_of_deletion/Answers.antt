@@ -1,4 +1,4 @@
-use Rattle.std.proofs.Common.{◌≡◌, ◌∙◌}
+use Rattle.std.proofs.Common.{◌∙◌}
 use Rattle.pl_plan.specs.declared.repair.RepairMove.TheVariants.{Delete}
 use Rattle.pl_moves.proofs.Made.{named_live}
 use Rattle.pl_bounds.proofs.Knowing.{known_deletion}

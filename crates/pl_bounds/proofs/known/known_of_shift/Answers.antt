@@ -1,4 +1,4 @@
-use Rattle.std.proofs.Common.{◌≡◌, ℕ, ◌∙◌, ap, sym, subst}
+use Rattle.std.proofs.Common.{◌∙◌, ap, sym, subst}
 use Rattle.pl_plan.specs.declared.repair.RepairMove.TheVariants.{Shift}
 use Rattle.pl_plan.specs.Activities.{IsLive}
 use Rattle.pl_plan.specs.Trees.{subtree_of}

@@ -7,8 +7,8 @@ use Rattle.pl_bounds.proofs.Staying.{greater_left, unmoved_left}
 use Rattle.pl_bounds.proofs.Under.{subtree_live}
 use Rattle.pl_bounds.proofs.steady.left_by_shift.Goals as goal
 
-pub returns-then-wrong-le-unmoved : goal.returns-then-wrong-le-unmoved
-returns-then-wrong-le-unmoved c = unmoved_left c.args.s.now c.requires.whole c.requires.next c.args.standing.now c.requires.standing c.args.id c.args.standing.now.unmoved (omega arith)
+pub returns-then-standing : goal.returns-then-standing
+returns-then-standing c = unmoved_left c.args.s.now c.requires.whole c.requires.next c.args.standing.now c.requires.standing c.args.id c.args.standing.now.unmoved (omega arith)
 
 pub touched_by-requires-clause-live : goal.touched_by-requires-clause-live
 touched_by-requires-clause-live c = subst (λ (ids : List ℕ). All (λ id. IsLive id c.args.s.now.plan.activities) ids) (sym c.requires.subtree) (subtree_live c.args.s.now.plan.activities c.requires.whole.rising c.args.id)

@@ -6,7 +6,7 @@ use Rattle.pl_plan.specs.Fitting.{Fits}
 use Rattle.pl_bounds.proofs.tying.added_alone.Goals as goal
 
 pub end-requires-clause-fits : goal.end-requires-clause-fits
-end-requires-clause-fits c = subst (λ (m : Model). Fits m c.args.alone.now.plan.activities) (sym c.get.ensures) c.requires.fits
+end-requires-clause-fits c = subst (λ (m : Model). Fits m c.args.alone.now.plan.activities) (sym c.get.ensures) c.requires.whole.fits
 
 pub returns : goal.returns
 returns c =

@@ -9,6 +9,6 @@ pub returns : goal.returns
 returns c = λ to can.
     let s = c.args.board.now.state in
     let id = c.args.id in
-    let whole : IsWhole s = subst (λ (t : PlanState). IsWhole t) c.state-_state.ensures.value (c.state-_state.ensures.whole c.requires.unspoiled) in
+    let whole : IsWhole s = subst (λ (t : PlanState). IsWhole t) c.state-state.ensures.value (c.state-state.ensures.whole c.requires.unspoiled) in
     let one : length (subtree_of id s.plan.activities) ≡ 1 = sym (ap (λ (l : List ℕ). length l) c.requires.subtree) ∙ c.if-subtree-ne1.false in
     few_alone s whole c.requires.next id to can one c.placed.result c.placed.ensures
