@@ -1,9 +1,10 @@
 -- Moves that place the same at other starts.
-use Rattle.std.proofs.Common.{◌≡◌, ℕ, true, false, eqb, Option, Some, None, refl, sym, ap, ◌∙◌, inl, inr}
+use Rattle.std.proofs.Common.{◌≡◌, ℕ, ℤ, true, false, eqb, Option, Some, None, refl, sym, ap, ◌∙◌, subst, inl, inr}
 use Rattle.std.proofs.lemmas.Bool.{eqb-true, and_parts}
 use Rattle.pl_plan.specs.declared.repair.RepairMove.{RepairMove}
 use Rattle.pl_plan.specs.declared.repair.RepairMove.TheVariants.{Add, Delete, Shift, Detail, Abstract, Assign, Drop}
-use Rattle.pl_moves.specs.Runs.{goes_on}
+use Rattle.pl_moves.specs.Runs.{CanBeMade, goes_on}
+use Rattle.pl_semantics.specs.declared.plan_state.PlanState.{PlanState}
 use Rattle.pl_semantics.specs.Candidates.{same_number}
 use Rattle.pl_bounds.specs.Asked.{IsAlike}
 
@@ -44,3 +45,28 @@ alike_add kind start goal m (inr on) = by m on
     by (Abstract i) on = absurd (cc)
     by (Assign i param value) on = absurd (cc)
     by (Drop goal) on = absurd (cc)
+
+alike_assign : (id param : ℕ) (value : ℤ) (m : RepairMove) → IsAlike (Assign id param value) m → m ≡ Assign id param value
+alike_assign id param value m (inl is) = is
+alike_assign id param value m (inr on) = absurd (let bad : false ≡ true = on in cc)
+
+-- ---- what holds of each
+
+module _ (s : PlanState) (P : RepairMove → Type 0) where
+  pub each_new : (kind start : ℕ) (goal : Option ℕ) → ((to : ℕ) → CanBeMade s (Add kind to goal) → P (Add kind to goal)) → (m : RepairMove) → CanBeMade s m → IsAlike (Add kind start goal) m → P m
+  each_new kind start goal each m can alike =
+      let it = alike_add kind start goal m alike in
+      subst P (sym it.1) (each it.0 (subst (λ (w : RepairMove). CanBeMade s w) it.1 can))
+
+  pub each_shift : (id start : ℕ) → ((to : ℕ) → CanBeMade s (Shift id to) → P (Shift id to)) → (m : RepairMove) → CanBeMade s m → IsAlike (Shift id start) m → P m
+  each_shift id start each m can alike =
+      let it = alike_shift id start m alike in
+      subst P (sym it.1) (each it.0 (subst (λ (w : RepairMove). CanBeMade s w) it.1 can))
+
+  pub each_deletion : (id : ℕ) → P (Delete id) → (m : RepairMove) → CanBeMade s m → IsAlike (Delete id) m → P m
+  each_deletion id one m can alike = subst P (sym (alike_delete id m alike)) one
+
+  pub each_assignment : (id param : ℕ) (value : ℤ) → (CanBeMade s (Assign id param value) → P (Assign id param value)) → (m : RepairMove) → CanBeMade s m → IsAlike (Assign id param value) m → P m
+  each_assignment id param value one m can alike =
+      let it = alike_assign id param value m alike in
+      subst P (sym it) (one (subst (λ (w : RepairMove). CanBeMade s w) it can))

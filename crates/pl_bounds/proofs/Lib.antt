@@ -32,4 +32,6 @@ pub mod Shifted
 pub mod Assigned
 pub mod Reopened
 pub mod Lacking
+pub mod Around
 pub mod Staying
+pub mod Knowing

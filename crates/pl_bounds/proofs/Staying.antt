@@ -1,6 +1,6 @@
 -- How many conflicts of goals and activities a move leaves at least.
-use Rattle.std.proofs.Common.{◌≡◌, ℕ, ℤ, suc, ◌+◌, ◌-◌, ◌≤◌, eqb, Bool, true, false, cond, List, [], ◌∷◌, filter, length, Option, refl, sym, ap, ◌∙◌, subst, inl, inr, arith}
-use Rattle.std.specs.Prelude.{◌||◌, slice_get}
+use Rattle.std.proofs.Common.{◌≡◌, ℕ, suc, ◌+◌, ◌-◌, ◌≤◌, eqb, Bool, true, false, cond, List, [], ◌∷◌, filter, length, Option, refl, sym, ap, ◌∙◌, subst, arith}
+use Rattle.std.specs.Prelude.{◌||◌, max, slice_get}
 use Rattle.std.specs.Option.{option_to_list}
 use Rattle.std.proofs.lemmas.Bool.{false_from_ne_true}
 use Rattle.pl_conflict.specs.declared.conflict.Conflict.{Conflict}
@@ -8,12 +8,12 @@ use Rattle.pl_conflict.specs.declared.conflict.Code.TheVariants.{Undetailed}
 use Rattle.pl_conflict.specs.declared.conflict.Code.TheVariants as code
 use Rattle.pl_conflict.specs.Order.{has}
 use Rattle.pl_conflict.proofs.Sorting.{same, same_is}
+use Rattle.pl_moves.specs.Least.{least_known}
 use Rattle.pl_moves.specs.Runs.{CanBeMade}
 use Rattle.pl_update.specs.GoalsAndActivities.Near.{near, HoldSame}
 use Rattle.pl_update.specs.GoalsAndActivities.Touched.{touched_goals, touched_ids}
 use Rattle.pl_update.proofs.AboutGoalsAndActivities.Touching.{follows_same}
-use Rattle.pl_plan.specs.declared.repair.RepairMove.{RepairMove}
-use Rattle.pl_plan.specs.declared.repair.RepairMove.TheVariants.{Add, Delete, Shift, Detail, Abstract, Assign, Drop}
+use Rattle.pl_plan.specs.declared.repair.RepairMove.TheVariants.{Add, Delete}
 use Rattle.pl_plan.specs.Fitting.{alternatives_of}
 use Rattle.pl_plan.specs.Trees.{subtree_of}
 use Rattle.pl_semantics.specs.declared.plan_state.PlanState.{PlanState}
@@ -22,12 +22,11 @@ use Rattle.pl_semantics.specs.Conflicts.{conflicts_of}
 use Rattle.pl_semantics.specs.Moves.{applied, root_for}
 use Rattle.pl_semantics.specs.Parts.{part_of, of_activities}
 use Rattle.pl_semantics.specs.Whole.{IsWhole}
-use Rattle.pl_bounds.specs.Asked.{IsAlike}
 use Rattle.pl_bounds.specs.Counts.{AreApart}
 use Rattle.pl_bounds.specs.Plain.{is_plain, is_plain_part, count_of_plain}
-use Rattle.pl_bounds.specs.Standing.{HasUnset, IsKnown, IsLeftByNew, IsOpenWithout, IsStandingOf, IsUnsetThen}
+use Rattle.pl_bounds.specs.Standing.{HasUnset, IsLeftByNew, IsLeftByShift, IsOpenWithout, IsStandingOf, IsUnsetThen}
 use Rattle.pl_bounds.specs.declared.standing.Standing.{Standing}
-use Rattle.pl_bounds.proofs.Assigned.{assign_left}
+use Rattle.pl_bounds.proofs.Around.{left_around}
 use Rattle.pl_bounds.proofs.Differing.{has_passing}
 use Rattle.pl_bounds.proofs.Following.{all_but_wrong, is_kept, kept_stays, near_new, none_wrong_new}
 use Rattle.pl_bounds.proofs.Made.{follows, whole_then}
@@ -36,13 +35,6 @@ use Rattle.pl_bounds.proofs.Shifted.{shift_left}
 use Rattle.pl_bounds.proofs.Leaving.{left_are_few, standing_apart}
 use Rattle.pl_bounds.proofs.Opens.{wrong_stands}
 use Rattle.pl_bounds.proofs.Unchosen.{unchosen}
-use Rattle.pl_bounds.proofs.Alike.{alike_delete, alike_shift, alike_add}
-
--- ---- moves that place the same
-
-pub alike_assign : (id param : ℕ) (value : ℤ) (m : RepairMove) → IsAlike (Assign id param value) m → m ≡ Assign id param value
-alike_assign id param value m (inl e) = e
-alike_assign id param value m (inr e) = absurd (cc)
 
 -- ---- conflicts that are left
 
@@ -167,8 +159,9 @@ module _ (s : PlanState) (whole : IsWhole s) (next : s.next_id ≤ 3999999000) (
   enough : (most : ℕ) → most ≤ count_of_plain s → most ≤ length others + length (option_to_list goal)
   enough most low = let all = all_but_wrong s wrong in let few = near_new s whole kind start goal in omega (arith, all, few, low)
 
-  add_left : (most n : ℕ) → most ≤ count_of_plain s → IsLeftByNew s most kind start goal n → n ≤ count_of_plain then_
-  add_left most n low by = by_both (eqb (length (alternatives_of (slice_get s.model.kinds kind))) 0) refl by.unset by.when_unset by.few
+  -- all but the goal that it serves, one more where its kind has alternatives, and one more where a value of it is not set
+  add_left : (most : ℕ) → most ≤ count_of_plain s → (u : Bool) → (u ≡ true → IsUnsetThen s kind goal) → (n : ℕ) → n ≤ ((most - length (option_to_list goal)) + least_known s (Add kind start goal)) + cond u 1 0 → n ≤ count_of_plain then_
+  add_left most low u so n few = by_both (eqb (length (alternatives_of (slice_get s.model.kinds kind))) 0) refl u so few
     where
       by_both : (b : Bool) → eqb (length (alternatives_of (slice_get s.model.kinds kind))) 0 ≡ b → (u : Bool) → (u ≡ true → IsUnsetThen s kind goal) → n ≤ ((most - length (option_to_list goal)) + cond b 0 1) + cond u 1 0 → n ≤ count_of_plain then_
       by_both true e true so few = let left = left_few then_ _ (second_left true e (so refl start can)) in let more = enough most low in omega (arith, more, left, few)
@@ -176,28 +169,23 @@ module _ (s : PlanState) (whole : IsWhole s) (next : s.next_id ≤ 3999999000) (
       by_both false e true so few = let left = left_few then_ _ (second_left false e (so refl start can)) in let more = enough most low in omega (arith, more, left, few)
       by_both false e false so few = let left = left_few then_ _ (first_left false e) in let more = enough most low in omega (arith, more, left, few)
 
--- ---- all of them
+-- whenever it starts
+pub new_left : (s : PlanState) → IsWhole s → s.next_id ≤ 3999999000 → (kind start : ℕ) (goal : Option ℕ) (most : ℕ) → most ≤ count_of_plain s → (u : Bool) → (u ≡ true → IsUnsetThen s kind goal) → (n : ℕ) → n ≤ ((most - length (option_to_list goal)) + least_known s (Add kind start goal)) + cond u 1 0 → IsLeftByNew s kind goal n
+new_left s whole next kind start goal most low u so n few = λ to can. add_left s whole next kind to goal can most low u so n few
 
-pub steady_left : (s : PlanState) → IsWhole s → s.next_id ≤ 3999999000 → (o : Standing) → IsStandingOf s o → (mv : RepairMove) (n : ℕ) → IsKnown s o mv n → (m : RepairMove) → CanBeMade s m → IsAlike mv m → n ≤ count_of_plain (applied s m)
-steady_left s whole next o of (Add kind start goal) n known m can alike =
-    let on = alike_add kind start goal m alike in
-    let now : CanBeMade s (Add kind on.0 goal) = subst (λ (k : RepairMove). CanBeMade s k) on.1 can in
-    let by : IsLeftByNew s o.wrong kind on.0 goal n = record { unset = known.unset; when_unset = known.when_unset; few = known.few } in
-    subst (λ (k : RepairMove). n ≤ count_of_plain (applied s k)) (sym on.1) (add_left s whole next kind on.0 goal now o.wrong n of.plain by)
-steady_left s whole next o of (Delete id) n known m can alike =
-    subst (λ (k : RepairMove). n ≤ count_of_plain (applied s k)) (sym (alike_delete id m alike)) known
-steady_left s whole next o of (Shift id start) n known m can alike =
-    let on = alike_shift id start m alike in
-    let now : CanBeMade s (Shift id on.0) = subst (λ (k : RepairMove). CanBeMade s k) on.1 can in
-    let left = shift_left s whole next id on.0 now in
+-- ---- a shift
+
+-- as many open goals, and as many that are wrong with activities but for their starts
+pub unmoved_left : (s : PlanState) → IsWhole s → s.next_id ≤ 3999999000 → (o : Standing) → IsStandingOf s o → (id n : ℕ) → n ≤ o.unmoved → IsLeftByShift s id n
+unmoved_left s whole next o of id n few = λ to can.
+    let left = shift_left s whole next id to can in
     let most = of.unmoved in
-    subst (λ (k : RepairMove). n ≤ count_of_plain (applied s k)) (sym on.1) (omega (arith, known, most, left))
-steady_left s whole next o of (Detail id alternative) n known m can alike = omega (arith, known)
-steady_left s whole next o of (Abstract id) n known m can alike = omega (arith, known)
-steady_left s whole next o of (Assign id param value) n known m can alike =
-    let is = alike_assign id param value m alike in
-    let now : CanBeMade s (Assign id param value) = subst (λ (k : RepairMove). CanBeMade s k) is can in
-    let left = assign_left s whole next id param value now in
-    let most = of.valueless in
-    subst (λ (k : RepairMove). n ≤ count_of_plain (applied s k)) (sym is) (omega (arith, known, most, left))
-steady_left s whole next o of (Drop number) n known m can alike = omega (arith, known)
+    omega (arith, few, most, left)
+
+-- and all that is wrong but near its subtree: the greater of both
+pub greater_left : (s : PlanState) → IsWhole s → s.next_id ≤ 3999999000 → (o : Standing) → IsStandingOf s o → (id : ℕ) (numbers ids : List ℕ) → HoldSame numbers (touched_goals s (subtree_of id s.plan.activities) []) → HoldSame ids (touched_ids s (subtree_of id s.plan.activities) [])
+    → (n : ℕ) → n ≤ max o.unmoved (o.wrong - length (near s numbers ids)) → IsLeftByShift s id n
+greater_left s whole next o of id numbers ids same_numbers same_ids n few = λ to can.
+    let one = unmoved_left s whole next o of id o.unmoved (omega arith) to can in
+    let other = left_around s whole next id to can numbers ids same_numbers same_ids o.wrong of.plain in
+    omega (arith, few, one, other)

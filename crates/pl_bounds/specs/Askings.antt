@@ -1,10 +1,11 @@
 -- What a move asks for, and each move that places the same at another start.
-use Rattle.std.specs.Prelude.{◌+◌, [], ◌∷◌, None}
+use Rattle.std.specs.Prelude.{ℕ, ◌+◌, [], ◌∷◌, Option, None}
 use Rattle.pl_plan.specs.declared.activity.Activity.{Activity}
 use Rattle.pl_plan.specs.declared.repair.RepairMove.{RepairMove}
 use Rattle.pl_moves.specs.Changes.{gone_by, placed_by}
 use Rattle.pl_moves.specs.Runs.{CanBeMade, start_of}
 use Rattle.pl_semantics.specs.declared.plan_state.PlanState.{PlanState}
+use Rattle.pl_semantics.specs.Moves.{root_for}
 use Rattle.pl_bounds.specs.Asked.{IsAlike, IsAskedBy}
 use Rattle.pl_bounds.specs.declared.asking.Asking.{Asking}
 
@@ -19,3 +20,7 @@ without_goal a = record a { goal = None }
 -- the state with this activity alone in its plan, and no goals
 abbrev pub only : PlanState → Activity → PlanState
 only s a = record s { plan = record { activities = a ∷ [] }; goals = []; next_id = s.next_id + 1 }
+
+-- the state with the root alone that a move adds; it serves no goal there
+abbrev pub root_alone : PlanState → ℕ → ℕ → Option ℕ → PlanState
+root_alone s kind start goal = only s (without_goal (root_for s kind start goal))

@@ -1,5 +1,5 @@
 -- What is known of moves that place the same at other starts.
-use Rattle.std.specs.Prelude.{◌≤◌, IfSome}
+use Rattle.std.specs.Prelude.{ℕ, ◌≤◌, None, IfSome}
 use Rattle.pl_plan.specs.declared.repair.RepairMove.{RepairMove}
 use Rattle.pl_semantics.specs.declared.plan_state.PlanState.{PlanState}
 use Rattle.pl_semantics.specs.Moves.{applied}
@@ -16,3 +16,7 @@ pub record IsKnownOf (s : PlanState) (k : Known) : Type 0 where
   pub steady : (m : RepairMove) → CanBeMade s m → IsAlike k.first m → k.steady ≤ count_of_plain (applied s m)
   pub alone : (m : RepairMove) → CanBeMade s m → IsAlike k.first m → lone_then s (start_of m) k.alone ≤ count_of_links (applied s m)
   pub asking : IfSome k.asking (λ a. (m : RepairMove) → CanBeMade s m → IsAlike k.first m → IsAskedBy s (gone_by s m) (placed_by s m) a (start_of m))
+
+-- no more than such a number
+abbrev pub only_steady : RepairMove → ℕ → Known
+only_steady first n = record { first = first; steady = n; alone = None; asking = None }

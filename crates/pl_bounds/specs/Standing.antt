@@ -1,14 +1,11 @@
 -- Conflicts of goals and of activities that stand, and how many of them a move leaves at least.
-use Rattle.std.specs.Prelude.{◌≡◌, ℕ, ◌+◌, ◌-◌, ◌≤◌, ◌==◌, Bool, true, false, [], ◌∷◌, Option, Some, filter, length, if◌then◌else◌}
-use Rattle.std.specs.Option.{option_to_list}
+use Rattle.std.specs.Prelude.{◌≡◌, ℕ, ◌≤◌, ◌==◌, Bool, true, false, [], ◌∷◌, Option, Some, filter, length}
 use Rattle.pl_conflict.specs.declared.conflict.Conflict.{Conflict}
 use Rattle.pl_conflict.specs.declared.conflict.Code.{Code}
 use Rattle.pl_conflict.specs.Codes.{code_number}
 use Rattle.pl_conflict.specs.Order.{has}
 use Rattle.pl_conflict.specs.declared.conflict.Code.TheVariants as code
-use Rattle.pl_plan.specs.declared.repair.RepairMove.{RepairMove}
-use Rattle.pl_plan.specs.declared.repair.RepairMove.TheVariants.{Add, Delete, Shift, Assign}
-use Rattle.pl_moves.specs.Least.{least_known}
+use Rattle.pl_plan.specs.declared.repair.RepairMove.TheVariants.{Add, Shift}
 use Rattle.pl_moves.specs.Runs.{CanBeMade}
 use Rattle.pl_semantics.specs.declared.plan_state.PlanState.{PlanState}
 use Rattle.pl_facts.specs.declared.goal.Goal.{Goal}
@@ -84,18 +81,10 @@ pub record HasUnset (t : PlanState) (id : ℕ) : Type 0 where
 abbrev pub IsUnsetThen : PlanState → ℕ → Option ℕ → Type 0
 IsUnsetThen s kind goal = (t : ℕ) → CanBeMade s (Add kind t goal) → HasUnset (applied s (Add kind t goal)) s.next_id
 
--- A new root leaves all but the goal that it serves, one more where its kind has alternatives, since none is chosen, and one more
--- where a value of it is not set.
-pub record IsLeftByNew (s : PlanState) (wrong kind start : ℕ) (goal : Option ℕ) (n : ℕ) : Type 0 where
-  pub unset : Bool
-  pub when_unset : unset ≡ true → IsUnsetThen s kind goal
-  pub few : n ≤ ((wrong - length (option_to_list goal)) + least_known s (Add kind start goal)) + (if unset then 1 else 0)
+-- a number of conflicts of goals and activities that a new root of this kind for this goal leaves at least, whenever it starts
+abbrev pub IsLeftByNew : PlanState → ℕ → Option ℕ → ℕ → Type 0
+IsLeftByNew s kind goal n = (to : ℕ) → CanBeMade s (Add kind to goal) → n ≤ count_of_plain (applied s (Add kind to goal))
 
--- What is known of a move. A shift leaves as many open goals, and as many that are wrong with activities but for their starts. An
--- assignment leaves the open goals, and the activities that lack an alternative.
-abbrev pub IsKnown : PlanState → Standing → RepairMove → ℕ → Type 0
-IsKnown s o (Add kind start goal) n = IsLeftByNew s o.wrong kind start goal n
-IsKnown s o (Delete id) n = n ≤ count_of_plain (applied s (Delete id))
-IsKnown s o (Shift id start) n = n ≤ o.unmoved
-IsKnown s o (Assign id param value) n = n ≤ o.valueless
-IsKnown s o _ n = n ≤ 0
+-- and one that a shift leaves at least, to whichever start
+abbrev pub IsLeftByShift : PlanState → ℕ → ℕ → Type 0
+IsLeftByShift s id n = (to : ℕ) → CanBeMade s (Shift id to) → n ≤ count_of_plain (applied s (Shift id to))

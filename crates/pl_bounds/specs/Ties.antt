@@ -4,6 +4,7 @@ use Rattle.std.specs.Option.{option_map}
 use Rattle.pl_conflict.specs.declared.conflict.Conflict.{Conflict}
 use Rattle.pl_links.specs.declared.placed.Placed.{Placed}
 use Rattle.pl_links.specs.Broken.{lacks_partner, links_of}
+use Rattle.pl_plan.specs.Firm.{end_of}
 use Rattle.pl_semantics.specs.declared.plan_state.PlanState.{PlanState}
 use Rattle.pl_semantics.specs.Conflicts.{conflicts_of}
 use Rattle.pl_semantics.specs.Links.{placed_in}
@@ -23,6 +24,10 @@ count_of_lone s start p = length (filter (lacks_partner (placed_in s) (placed_at
 abbrev pub lone_then : PlanState → ℕ → Option Placed → ℕ
 lone_then s start None = 0
 lone_then s start (Some p) = count_of_lone s start p
+
+-- a root of this kind, with the end that it has in this plan
+abbrev pub root_in : PlanState → ℕ → ℕ → ℕ → Placed
+root_in t id kind start = record { id = id; kind = kind; start = start; end = end_of t.model t.plan.activities id; parent = None; detail = None }
 
 -- ---- conflicts of links
 

@@ -1,5 +1,5 @@
 //! For each of some moves a number of conflicts that it leaves at least.
-ghost use Rattle.std.specs.Prelude.{◌≡◌, ◌≤◌, ◌+◌, false, All, IfOk};
+ghost use Rattle.std.specs.Prelude.{◌≡◌, ◌≤◌, ◌+◌, false, All, IfOk, OnOk};
 ghost use Rattle.pl_semantics.specs.Moves.{applied};
 ghost use Rattle.pl_semantics.specs.Legal.{left_after};
 ghost use Rattle.pl_semantics.specs.declared.plan_state.PlanState.{PlanState};
@@ -10,12 +10,13 @@ ghost use Rattle.pl_bounds.specs.Bounds.{AreLeast};
 ghost use Rattle.pl_bounds.specs.Known.{IsKnownOf};
 ghost use Rattle.pl_bounds.specs.Plain.{count_of_plain};
 ghost use Rattle.pl_bounds.specs.Sides.{IsOutsideOf, AreDifferent};
+ghost use Rattle.pl_bounds.specs.Standing.{IsStandingOf};
 ghost use Rattle.pl_bounds.specs.Ties.{count_of_links};
 
 use crate::bounding::past_after;
-use crate::known::{Known, known_then};
+use crate::known::{Known, known_like, known_of};
 use crate::outside::{Outside, outsides};
-use crate::standing::standing_of;
+use crate::standing::{Standing, standing_of};
 use crate::ties::lone_then;
 use pl_board::Board;
 use pl_conflict::ConflictSet;
@@ -96,7 +97,39 @@ fn least_alone(alloc: Global, board: &Board, moves: &[RepairMove]) -> Result<Vec
     Ok(bounds)
 }
 
-fn known_of_each(alloc: Global, board: &Board, moves: &[RepairMove]) -> Result<Vec<u32>, AllocError>
+// A number of conflicts that a move leaves at least. What is known of it is put behind what is known of others, if it is not there.
+fn bound_of(
+    alloc: Global,
+    board: &Board,
+    standing: &Standing,
+    past: &[Outside],
+    mv: &RepairMove,
+    known: &mut Vec<Known>,
+) -> Result<u32, AllocError>
+    requires unspoiled { board.now.spoiled ≡ false }
+    requires next { board.now.state.next_id ≤ 3999999000 }
+    requires standing { IsStandingOf board.now.state standing.now }
+    requires of_plan { All (IsOutsideOf board.now.state) past.now }
+    requires different { AreDifferent past.now }
+    requires allowed { CanBeMade board.now.state mv.now }
+    requires known { All (IsKnownOf board.now.state) known.old.items }
+    ensures least { IfOk result (λ n. n ≤ left_after board.now.state mv.now) }
+    ensures known { OnOk result (All (IsKnownOf board.now.state) known.new.items) }
+{
+    if let Some(one) = known_like(known.as_slice(), mv) {
+        return Ok(least_by(board, past, one, mv));
+    }
+    let one = known_of(alloc, board, standing, mv)?;
+    let bound = least_by(board, past, &one, mv);
+    known.push(one)?;
+    Ok(bound)
+}
+
+fn bounds_of_each(
+    alloc: Global,
+    board: &Board,
+    moves: &[RepairMove],
+) -> Result<Vec<u32>, AllocError>
     requires unspoiled { board.now.spoiled ≡ false }
     requires next { board.now.state.next_id ≤ 3999999000 }
     requires allowed { All (CanBeMade board.now.state) moves.now }
@@ -104,12 +137,11 @@ fn known_of_each(alloc: Global, board: &Board, moves: &[RepairMove]) -> Result<V
 {
     let standing = standing_of(board);
     let past = outsides(alloc, board)?;
+    let mut known: Vec<Known> = Vec::new(alloc);
     let mut bounds = Vec::with_capacity(alloc, moves.len())?;
-    let mut before = None;
     'moves: for mv in moves {
-        let known = known_then(alloc, board, &standing, before, mv)?;
-        bounds.push(least_by(board, past.as_slice(), &known, mv))?;
-        before = Some(known);
+        let bound = bound_of(alloc, board, &standing, past.as_slice(), mv, &mut known)?;
+        bounds.push(bound)?;
     }
     Ok(bounds)
 }
@@ -128,7 +160,7 @@ pub fn least_of_each(
     ensures { IfOk result (λ ns. AreLeast board.now.state moves.now ns.items) }
 {
     if is_worth_it(board.conflicts(), moves) {
-        Ok(known_of_each(alloc, board, moves)?)
+        Ok(bounds_of_each(alloc, board, moves)?)
     } else {
         Ok(least_alone(alloc, board, moves)?)
     }

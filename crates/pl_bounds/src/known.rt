@@ -1,18 +1,23 @@
 //! What is known of moves that place the same activities at other starts.
-ghost use Rattle.std.specs.Prelude.{◌≡◌, ◌≤◌, false, IfOk, IfSome};
+ghost use Rattle.std.specs.Prelude.{◌≡◌, ◌≤◌, false, All, IfOk, IfSome};
 ghost use Rattle.pl_moves.specs.Runs.{CanBeMade};
+ghost use Rattle.pl_plan.specs.declared.repair.RepairMove.TheVariants.{Add, Delete, Shift};
+ghost use Rattle.pl_semantics.specs.declared.plan_state.PlanState.{PlanState};
+ghost use Rattle.pl_semantics.specs.Whole.{IsWhole};
 ghost use Rattle.pl_bounds.specs.Asked.{IsAlike};
-ghost use Rattle.pl_bounds.specs.Known.{IsKnownOf};
+ghost use Rattle.pl_bounds.specs.Known.{IsKnownOf, only_steady};
 ghost use Rattle.pl_bounds.specs.Standing.{IsStandingOf};
 
-use crate::asking::{Asking, asking_of};
+use crate::asking::{Asking, added, deleted, shifted};
+use crate::roots::root_alone;
 use crate::standing::Standing;
-use crate::steady::steady_of;
-use crate::tying::alone_in;
+use crate::steady::{left_by_deletion, left_by_new, left_by_shift};
+use crate::tying::{added_alone, moved_alone};
 use pl_board::Board;
 use pl_links::Placed;
 use pl_moves::goes_on;
 use pl_plan::RepairMove;
+use pl_semantics::PlanState;
 use std::alloc::{AllocError, Global};
 
 /// Of a move, and of those that go on with it: how many conflicts of goals and activities each leaves at least, the activity that it
@@ -25,71 +30,134 @@ pub(crate) struct Known {
     pub(crate) asking: Option<Asking>,
 }
 
-fn known_of(
+// Of the addition of a root, which is made once, alone in a plan of its own.
+fn known_of_new(
     alloc: Global,
-    board: &Board,
+    s: &PlanState,
     standing: &Standing,
-    mv: &RepairMove,
+    kind: u32,
+    start: u32,
+    goal: Option<u32>,
 ) -> Result<Known, AllocError>
-    requires unspoiled { board.now.spoiled ≡ false }
-    requires next { board.now.state.next_id ≤ 3999999000 }
-    requires standing { IsStandingOf board.now.state standing.now }
-    requires allowed { CanBeMade board.now.state mv.now }
-    ensures known { IfOk result (λ k. IsKnownOf board.now.state k) }
-    ensures alike { IfOk result (λ k. IsAlike k.first mv.now) }
+    requires whole { IsWhole s.now }
+    requires next { s.now.next_id ≤ 3999999000 }
+    requires standing { IsStandingOf s.now standing.now }
+    requires allowed { CanBeMade s.now (Add kind start goal) }
+    ensures known { IfOk result (λ k. IsKnownOf s.now k) }
+    ensures alike { IfOk result (λ k. IsAlike k.first (Add kind start goal)) }
 {
-    let steady = steady_of(alloc, board, standing, mv)?;
-    let alone = alone_in(alloc, board, mv)?;
-    let asking = asking_of(alloc, board, mv)?;
+    let alone = root_alone(alloc, s, kind, start, goal)?;
+    let steady = left_by_new(alloc, s, &alone, standing.wrong, kind, start, goal)?;
+    let asking = added(alloc, &alone, start)?;
     Ok(Known {
-        first: *mv,
+        first: RepairMove::Add { kind, start, goal },
         steady,
-        alone,
-        asking,
+        alone: Some(added_alone(&alone, s.next_id, kind, start)),
+        asking: Some(asking),
     })
 }
 
-// The same, if the move goes on with the one of which it is known.
-fn kept_or_new(
+// Of a deletion.
+fn known_of_deletion(
+    alloc: Global,
+    s: &PlanState,
+    standing: &Standing,
+    id: u32,
+) -> Result<Known, AllocError>
+    requires whole { IsWhole s.now }
+    requires next { s.now.next_id ≤ 3999999000 }
+    requires standing { IsStandingOf s.now standing.now }
+    requires allowed { CanBeMade s.now (Delete id) }
+    ensures known { IfOk result (λ k. IsKnownOf s.now k) }
+    ensures alike { IfOk result (λ k. IsAlike k.first (Delete id)) }
+{
+    let subtree = s.plan.subtree(alloc, id)?;
+    let steady = left_by_deletion(alloc, s, standing.wrong, id, &subtree)?;
+    let asking = deleted(alloc, s, &subtree)?;
+    Ok(Known {
+        first: RepairMove::Delete { id },
+        steady,
+        alone: None,
+        asking: Some(asking),
+    })
+}
+
+// Of a shift.
+fn known_of_shift(
     alloc: Global,
     board: &Board,
     standing: &Standing,
-    known: Known,
-    mv: &RepairMove,
+    id: u32,
+    start: u32,
 ) -> Result<Known, AllocError>
     requires unspoiled { board.now.spoiled ≡ false }
     requires next { board.now.state.next_id ≤ 3999999000 }
     requires standing { IsStandingOf board.now.state standing.now }
-    requires allowed { CanBeMade board.now.state mv.now }
-    requires before { IsKnownOf board.now.state known }
+    requires allowed { CanBeMade board.now.state (Shift id start) }
     ensures known { IfOk result (λ k. IsKnownOf board.now.state k) }
-    ensures alike { IfOk result (λ k. IsAlike k.first mv.now) }
+    ensures alike { IfOk result (λ k. IsAlike k.first (Shift id start)) }
 {
-    if goes_on(&known.first, mv) {
-        Ok(known)
-    } else {
-        known_of(alloc, board, standing, mv)
+    let s = board.state();
+    let subtree = s.plan.subtree(alloc, id)?;
+    let steady = left_by_shift(alloc, s, standing, id, &subtree)?;
+    let asking = shifted(alloc, s, id, &subtree)?;
+    Ok(Known {
+        first: RepairMove::Shift { id, start },
+        steady,
+        alone: moved_alone(board, id, &subtree),
+        asking: Some(asking),
+    })
+}
+
+// Of any other move nothing is looked up.
+fn known_of_other(mv: &RepairMove, steady: u32) -> Known
+    ensures { result ≡ only_steady mv.now steady }
+{
+    Known {
+        first: *mv,
+        steady,
+        alone: None,
+        asking: None,
     }
 }
 
-/// What is known of the move, after what is known of the one before it.
-pub(crate) fn known_then(
+/// What is known of a move.
+pub(crate) fn known_of(
     alloc: Global,
     board: &Board,
     standing: &Standing,
-    before: Option<Known>,
     mv: &RepairMove,
 ) -> Result<Known, AllocError>
     requires unspoiled { board.now.spoiled ≡ false }
     requires next { board.now.state.next_id ≤ 3999999000 }
     requires standing { IsStandingOf board.now.state standing.now }
     requires allowed { CanBeMade board.now.state mv.now }
-    requires before { IfSome before (IsKnownOf board.now.state) }
     ensures known { IfOk result (λ k. IsKnownOf board.now.state k) }
     ensures alike { IfOk result (λ k. IsAlike k.first mv.now) }
 {
-    match before {
-        Some(known) => kept_or_new(alloc, board, standing, known, mv),
-        None => known_of(alloc, board, standing, mv),
+    let s = board.state();
+    match *mv {
+        RepairMove::Add { kind, start, goal } => known_of_new(
+            alloc, s, standing, kind, start, goal,
+        ),
+        RepairMove::Delete { id } => known_of_deletion(alloc, s, standing, id),
+        RepairMove::Shift { id, start } => known_of_shift(alloc, board, standing, id, start),
+        RepairMove::Assign { .. } => Ok(known_of_other(mv, standing.valueless)),
+        _ => Ok(known_of_other(mv, 0)),
     }
+}
+
+/// What is known of a move that this one goes on with, if there is one: what was found out last is looked at first.
+pub(crate) fn known_like<'k>(known: &'k [Known], mv: &RepairMove) -> Option<&'k Known>
+    ensures alike { IfSome result (λ k. IsAlike k.now.first mv.now) }
+    ensures of_plan { (s : PlanState) → All (IsKnownOf s) known.now → IfSome result (λ k. IsKnownOf s k.now) }
+{
+    let mut place = known.len();
+    'places: while place > 0 {
+        place -= 1;
+        if goes_on(&known[place].first, mv) {
+            return Some(&known[place]);
+        }
+    }
+    None
 }

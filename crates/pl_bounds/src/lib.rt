@@ -9,6 +9,7 @@ mod known;
 mod laws;
 mod looking;
 mod outside;
+mod parting;
 mod pulls;
 mod reading;
 mod reopening;

@@ -4,6 +4,7 @@ ghost use Rattle.pl_bounds.specs.Looks.{IsLimited, AreLooksAt};
 ghost use Rattle.pl_bounds.specs.Sides.{code_of};
 
 use crate::outside::{Look, Side};
+use crate::parting::{Parting, parting_in};
 use crate::reading::value_at;
 use pl_board::Board;
 use pl_conflict::{Code, Conflict};
@@ -43,7 +44,45 @@ impl Looking {
         Ok(())
     }
 
-    // Looks where a span begins and where it ends.
+    // Looks where a span may be parted in two, and before and behind.
+    fn look_at_parting(
+        &mut self,
+        board: &Board,
+        side: Side,
+        line: u32,
+        parting: Parting,
+    ) -> Result<(), AllocError>
+        requires unspoiled { board.now.spoiled ≡ false }
+        requires limited { IsLimited board.now.state side line }
+        requires looks { AreLooksAt board.now.state side line self.old.next self.old.looks.items }
+        ensures { OnOk result (AreLooksAt board.now.state side line self.new.next self.new.looks.items) }
+    {
+        self.look(board, side, line, parting.before.at)?;
+        self.look(board, side, line, parting.nearest.at)?;
+        self.look(board, side, line, parting.behind.at)?;
+        Ok(())
+    }
+
+    // The same, if it may be parted.
+    fn look_inside(
+        &mut self,
+        board: &Board,
+        side: Side,
+        line: u32,
+        conflict: &Conflict,
+    ) -> Result<(), AllocError>
+        requires unspoiled { board.now.spoiled ≡ false }
+        requires limited { IsLimited board.now.state side line }
+        requires looks { AreLooksAt board.now.state side line self.old.next self.old.looks.items }
+        ensures { OnOk result (AreLooksAt board.now.state side line self.new.next self.new.looks.items) }
+    {
+        match parting_in(board, side, line, conflict) {
+            Some(parting) => self.look_at_parting(board, side, line, parting),
+            None => Ok(()),
+        }
+    }
+
+    // Looks where a span begins, where it may be parted in two, and where it ends.
     fn look_round(
         &mut self,
         board: &Board,
@@ -58,6 +97,7 @@ impl Looking {
     {
         self.look(board, side, line, conflict.a.saturating_sub(1))?;
         self.look(board, side, line, conflict.a)?;
+        self.look_inside(board, side, line, conflict)?;
         self.look(board, side, line, conflict.b.saturating_sub(1))?;
         self.look(board, side, line, conflict.b)?;
         Ok(())

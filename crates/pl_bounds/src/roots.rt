@@ -1,24 +1,24 @@
 //! A root that a move would add.
-ghost use Rattle.std.specs.Prelude.{◌≡◌, IfOk};
-ghost use Rattle.pl_semantics.specs.Moves.{root_for};
-ghost use Rattle.pl_bounds.specs.Askings.{without_goal};
+ghost use Rattle.std.specs.Prelude.{◌≡◌, ◌≤◌, IfOk};
+ghost use Rattle.pl_bounds.specs.Askings.{root_alone};
 
+use crate::alone::only;
 use pl_moves::root_for;
-use pl_plan::Activity;
 use pl_semantics::PlanState;
 use std::alloc::{AllocError, Global};
 
-/// The root that a move adds, but that it serves no goal.
-pub(crate) fn goalless_root(
+/// The root that a move adds, alone in a plan of its own, where it serves no goal.
+pub(crate) fn root_alone(
     alloc: Global,
     s: &PlanState,
     kind: u32,
     start: u32,
     goal: Option<u32>,
-) -> Result<Activity, AllocError>
-    ensures { IfOk result (λ a. a ≡ without_goal (root_for s.now kind start goal)) }
+) -> Result<PlanState, AllocError>
+    requires { s.now.next_id ≤ 3999999000 }
+    ensures { IfOk result (λ t. t ≡ root_alone s.now kind start goal) }
 {
     let mut root = root_for(alloc, s, kind, start, goal)?;
     root.goal = None;
-    Ok(root)
+    only(alloc, s, root)
 }

@@ -1,13 +1,10 @@
-//! Whether a value is not set of a root that a move would add.
-ghost use Rattle.std.specs.Prelude.{◌≡◌, ◌≤◌, IfOk, IsTrue};
+//! Whether a value of an activity is not set.
+ghost use Rattle.std.specs.Prelude.{◌≡◌, ◌∷◌, [], IfOk};
 ghost use Rattle.std.specs.List.{list_any};
-ghost use Rattle.pl_moves.specs.Runs.{CanBeMade};
-ghost use Rattle.pl_plan.specs.declared.repair.RepairMove.TheVariants.{Add};
 ghost use Rattle.pl_semantics.specs.Whole.{IsWhole};
-ghost use Rattle.pl_bounds.specs.Standing.{is_unset_one, IsUnsetThen};
+ghost use Rattle.pl_update.specs.GoalsAndActivities.Near.{near};
+ghost use Rattle.pl_bounds.specs.Standing.{is_unset_one};
 
-use crate::alone::only;
-use crate::roots::goalless_root;
 use pl_conflict::{Code, Conflict};
 use pl_semantics::PlanState;
 use pl_update::goals_and_activities::near;
@@ -25,23 +22,13 @@ fn some_unset(conflicts: &[Conflict]) -> bool
     conflicts.iter().any(|conflict| is_unset_one(conflict))
 }
 
-/// Whether a value of the root is not set, whenever it starts: seen in a plan of its own.
-pub(crate) fn is_unset_then(
-    alloc: Global,
-    s: &PlanState,
-    kind: u32,
-    start: u32,
-    goal: Option<u32>,
-) -> Result<bool, AllocError>
-    requires whole { IsWhole s.now }
-    requires next { s.now.next_id ≤ 3999999000 }
-    requires allowed { CanBeMade s.now (Add kind start goal) }
-    ensures { IfOk result (λ is_so. IsTrue is_so → IsUnsetThen s.now kind goal) }
+/// Whether a value of the activity of this id is not set.
+pub(crate) fn is_unset_in(alloc: Global, s: &PlanState, id: u32) -> Result<bool, AllocError>
+    requires { IsWhole s.now }
+    ensures { IfOk result (λ is_so. is_so ≡ list_any is_unset_one (near s.now [] (id ∷ []))) }
 {
-    let root = goalless_root(alloc, s, kind, start, goal)?;
-    let alone = only(alloc, s, root)?;
     let mut wrong = Vec::new(alloc);
-    near(alloc, &alone, &[], &[s.next_id], &mut wrong)?;
+    near(alloc, s, &[], &[id], &mut wrong)?;
     let is_unset = some_unset(wrong.as_slice());
     Ok(is_unset)
 }

@@ -1,14 +1,21 @@
-use Rattle.std.proofs.Common.{arith}
-use Rattle.pl_plan.specs.declared.repair.RepairMove.TheVariants.{Delete}
-use Rattle.pl_moves.proofs.Made.{named_live}
+use Rattle.std.proofs.Common.{ℕ, List, [], sym, subst, arith}
+use Rattle.std.specs.Prelude.{All}
+use Rattle.pl_plan.specs.Activities.{IsLive}
+use Rattle.pl_update.specs.GoalsAndActivities.Near.{HoldSame}
+use Rattle.pl_update.specs.GoalsAndActivities.Touched.{touched_goals, touched_ids}
 use Rattle.pl_bounds.proofs.Staying.{delete_left}
+use Rattle.pl_bounds.proofs.Under.{subtree_live}
 use Rattle.pl_bounds.proofs.steady.left_by_deletion.Goals as goal
 
-pub touched_under-requires-clause-live : goal.touched_under-requires-clause-live
-touched_under-requires-clause-live c = named_live c.args.s.now (Delete c.args.id) c.requires.allowed.proper
+pub touched_by-requires-clause-live : goal.touched_by-requires-clause-live
+touched_by-requires-clause-live c = subst (λ (ids : List ℕ). All (λ id. IsLive id c.args.s.now.plan.activities) ids) (sym c.requires.subtree) (subtree_live c.args.s.now.plan.activities c.requires.whole.rising c.args.id)
 
 pub returns : goal.returns
 returns c =
-    let most = delete_left c.args.s.now c.requires.whole c.requires.next c.args.id c.requires.allowed c.in_ok-touched.touched.numbers.items c.in_ok-touched.touched.ids.items c.in_ok-touched.ensures.numbers c.in_ok-touched.ensures.ids c.args.wrong c.requires.wrong c.in_ok-is_open.is_open c.in_ok-is_open.ensures in
+    let s = c.args.s.now in
+    let t = c.in_ok-touched.touched in
+    let numbers = subst (λ (ids : List ℕ). HoldSame t.numbers.items (touched_goals s ids [])) c.requires.subtree c.in_ok-touched.ensures.numbers in
+    let ids = subst (λ (ids : List ℕ). HoldSame t.ids.items (touched_ids s ids [])) c.requires.subtree c.in_ok-touched.ensures.ids in
+    let most = delete_left s c.requires.whole c.requires.next c.args.id c.requires.allowed t.numbers.items t.ids.items numbers ids c.args.wrong c.requires.wrong c.in_ok-is_open.is_open c.in_ok-is_open.ensures in
     let count = c.in_ok-gone.ensures in
     omega (arith, most, count, c.count_if.ensures)
