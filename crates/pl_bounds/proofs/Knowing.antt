@@ -29,7 +29,7 @@ module _ (s : PlanState) where
   known_new whole next kind start goal can n left own is a going coming from = record {
     steady = each_new s (λ m. n ≤ count_of_plain (applied s m)) kind start goal left;
     alone = each_new s (λ m. lone_then s (start_of m) (Some own) ≤ count_of_links (applied s m)) kind start goal
-      (λ to there. subst (λ (p : Placed). count_of_lone s to p ≤ count_of_links (applied s (Add kind to goal))) (sym is) (few_new s whole next kind to goal there start can));
+        (λ to there. subst (λ (p : Placed). count_of_lone s to p ≤ count_of_links (applied s (Add kind to goal))) (sym is) (few_new s whole next kind to goal there start can));
     asking = addition_asks s whole next kind start goal can a going coming from;
   }
 

@@ -125,7 +125,11 @@ fn bound_of(
     Ok(bound)
 }
 
-fn bounds_of_each(alloc: Global, board: &Board, moves: &[RepairMove]) -> Result<Vec<u32>, AllocError>
+fn bounds_of_each(
+    alloc: Global,
+    board: &Board,
+    moves: &[RepairMove],
+) -> Result<Vec<u32>, AllocError>
     requires unspoiled { board.now.spoiled ≡ false }
     requires next { board.now.state.next_id ≤ 3999999000 }
     requires allowed { All (CanBeMade board.now.state) moves.now }

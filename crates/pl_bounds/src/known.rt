@@ -137,7 +137,9 @@ pub(crate) fn known_of(
 {
     let s = board.state();
     match *mv {
-        RepairMove::Add { kind, start, goal } => known_of_new(alloc, s, standing, kind, start, goal),
+        RepairMove::Add { kind, start, goal } => known_of_new(
+            alloc, s, standing, kind, start, goal,
+        ),
         RepairMove::Delete { id } => known_of_deletion(alloc, s, standing, id),
         RepairMove::Shift { id, start } => known_of_shift(alloc, board, standing, id, start),
         RepairMove::Assign { .. } => Ok(known_of_other(mv, standing.valueless)),
