@@ -8,14 +8,10 @@ journal. One preference is of each form, over the kinds that the journal adds mo
 journal one line is printed: the seconds and the megabytes of `report` and of `improve 20`, the least of three runs, and the first
 line of what `improve` says.
 """
-import argparse
 import collections
-import os
 import re
-import tempfile
 
-from forecasts import split
-from windows import least
+from beside_report import show_with_lines
 
 
 def preferences(model, journal):
@@ -30,25 +26,5 @@ def preferences(model, journal):
     yield from ['prefer level %s 5' % level for level in re.findall(r'\blevel\s+([a-z_][a-z0-9_]*)', bare)][:1]
 
 
-def show(name, program, path):
-    with open(path, encoding='latin-1') as file:
-        model, journal = split(file.read())
-    with tempfile.NamedTemporaryFile('w', encoding='latin-1') as file:
-        file.write(model + '\n'.join(preferences(model, journal)) + '\njournal\n' + journal)
-        file.flush()
-        report, improve = least([program, 'report'], path), least([program, 'improve', '20'], file.name)
-    print('%-20s report %6.3f s %5.0f MB   improve %6.3f s %5.0f MB   %s' % (name, *report[:2], *improve))
-
-
-def main():
-    here = os.path.dirname(os.path.abspath(__file__))
-    parser = argparse.ArgumentParser(description=__doc__, formatter_class=argparse.RawDescriptionHelpFormatter)
-    parser.add_argument('--program', default=os.path.join(here, '..', 'crates', 'lundocsef', 'out', 'lundocsef'))
-    parser.add_argument('journals', metavar='JOURNAL', nargs='+')
-    given = parser.parse_args()
-    for path in given.journals:
-        show(os.path.basename(path), given.program, path)
-
-
 if __name__ == '__main__':
-    main()
+    show_with_lines(['improve', '20'], preferences, __doc__)

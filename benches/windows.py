@@ -14,13 +14,13 @@ in the order of the chain, against it and shuffled; and
 For each journal one line is printed: the seconds and the megabytes of `report` and of `flex 1`, the least of three runs, and
 the first line of what `flex 1` writes.
 """
-import argparse
 import os
 import random
-import sys
 import tempfile
-import time
 
+from beside_report import options, show
+
+COMMAND = ['flex', '1']
 ORDERS = ('in order', 'against it', 'shuffled')
 SORTS = ('met', 'late', 'never')
 ACTIVITIES, FIRST, APART, HORIZON = 10000, 1000, 5, 1000000
@@ -53,51 +53,17 @@ def chain(order, sort):
     return '\n'.join(lines + ['%d %s' % numbered for numbered in enumerate(entries)]) + '\n'
 
 
-def run(words, path):
-    """The seconds and the megabytes of one run, and the first line that it wrote."""
-    reading, writing = os.pipe()
-    began = time.monotonic()
-    child = os.fork()
-    if child == 0:
-        os.dup2(os.open(path, os.O_RDONLY), 0)
-        os.dup2(writing, 1)
-        os.close(reading)
-        os.execv(words[0], words)
-    os.close(writing)
-    with os.fdopen(reading, 'rb') as output:
-        first = output.readline().decode('latin-1').strip()
-        while output.read(1 << 16):
-            pass
-    usage = os.wait4(child, 0)[2]
-    return time.monotonic() - began, usage.ru_maxrss / 1024, first
-
-
-def least(words, path):
-    runs = [run(words, path) for _ in range(3)]
-    return min(seconds for seconds, _, _ in runs), min(size for _, size, _ in runs), runs[0][2]
-
-
-def show(name, program, path):
-    report, flex = least([program, 'report'], path), least([program, 'flex', '1'], path)
-    print('%-24s report %6.3f s %5.0f MB   flex 1 %6.3f s %5.0f MB   %s' % (name, *report[:2], *flex))
-    sys.stdout.flush()
-
-
 def main():
-    here = os.path.dirname(os.path.abspath(__file__))
-    parser = argparse.ArgumentParser(description=__doc__, formatter_class=argparse.RawDescriptionHelpFormatter)
-    parser.add_argument('--program', default=os.path.join(here, '..', 'crates', 'lundocsef', 'out', 'lundocsef'))
-    parser.add_argument('journals', metavar='JOURNAL', nargs='*')
-    given = parser.parse_args()
+    given = options(__doc__, '*')
     for path in given.journals:
-        show(os.path.basename(path), given.program, path)
+        show(os.path.basename(path), given.program, COMMAND, path, path)
     with tempfile.TemporaryDirectory() as folder:
         path = os.path.join(folder, 'chain')
         for order in ORDERS:
             for sort in SORTS:
                 with open(path, 'w', encoding='ascii') as file:
                     file.write(chain(order, sort))
-                show('%s, %s' % (order, sort), given.program, path)
+                show('%s, %s' % (order, sort), given.program, COMMAND, path, path)
 
 
 if __name__ == '__main__':

@@ -30,10 +30,7 @@ def compare_examples(program, folder, seed=1):
         if not lines:
             continue
         done += 1
-        for length in places(chance, len(lines), CUTS):
-            cuts += 1
-            faults += difference(program, model_text, lines[:length])
-        faults += wrong_commands(model_text, lines)
+        cuts += compare_cuts(chance, program, model_text, lines, faults)
     return done, cuts, faults
 
 
@@ -75,11 +72,17 @@ def compare(program, journals=JOURNALS, seed=1):
         model_text, _ = split_at_begin(text)
         lines = lines_of(journal.split('\n'))
         done += 1
-        for length in places(chance, len(lines), CUTS):
-            cuts += 1
-            faults += difference(program, model_text, lines[:length])
-        faults += wrong_commands(model_text, lines)
+        cuts += compare_cuts(chance, program, model_text, lines, faults)
     return done, cuts, faults
+
+
+def compare_cuts(chance, program, model_text, lines, faults):
+    """Compares a journal, whole and cut at random places, adds the differences to the faults, and answers how many places there were."""
+    lengths = places(chance, len(lines), CUTS)
+    for length in lengths:
+        faults += difference(program, model_text, lines[:length])
+    faults += wrong_commands(model_text, lines)
+    return len(lengths)
 
 
 def difference(program, model_text, lines):

@@ -1,4 +1,4 @@
-//! Tests of the program: runs by one thread and by two, journals, reports, the command line.
+//! Tests of the program through its top call: runs by one thread and by several, reports, the command line.
 #![tactic(auto)]
 
 #[cfg(test)]
@@ -8,10 +8,12 @@ mod breaking;
 #[cfg(test)]
 mod crew;
 #[cfg(test)]
-mod journals;
+mod flags;
 #[cfg(test)]
 mod pair;
 #[cfg(test)]
 mod program;
 #[cfg(test)]
 mod running;
+#[cfg(test)]
+mod worked;

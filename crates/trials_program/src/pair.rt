@@ -2,7 +2,6 @@
 
 mod faults;
 mod gates;
-mod limits;
 mod meeting;
 pub mod missions;
 mod runs;

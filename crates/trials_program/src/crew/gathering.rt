@@ -1,41 +1,7 @@
+use crate::flags::{Flags, are_seen};
 use pl_turn::Gate;
 use std::sync::Wait;
 use std::sync::atomic::{AtomicU64, Ordering};
-
-/// So often a worker looks at a flag of the others in one call before it gives up.
-const MOST_LOADS: u32 = 1_000_000_000;
-
-/// What is known of one worker.
-#[derive(Drop)]
-struct Flags {
-    came: AtomicU64,
-    made: AtomicU64,
-}
-
-impl Flags {
-    fn new() -> Flags {
-        Flags {
-            came: AtomicU64::new(0),
-            made: AtomicU64::new(0),
-        }
-    }
-}
-
-/// Whether each of these flags is seen to be set. A flag that was seen is not looked at again.
-fn are_seen(flags: &[&AtomicU64]) -> bool {
-    let mut rest = flags;
-    for _ in 0..MOST_LOADS {
-        match rest {
-            [] => return true,
-            [first, more @ ..] => {
-                if first.load(Ordering::SeqCst) == 1 {
-                    rest = more;
-                }
-            }
-        }
-    }
-    rest.is_empty()
-}
 
 /// Holds an executive and two planners ahead of their first act until all three have come, and each planner ahead of its second act until the
 /// other has made an entry. One thread that acts for two never gets past the first, and a planner that makes every entry not past the second.

@@ -1,9 +1,9 @@
 //! Whole runs of a crew.
 use crate::asserting::holds;
 use crate::crew::gathering::Gathering;
-use crate::journals::models::{HEAD, INPUT, OPEN};
 use crate::pair::missions::{IMAGE, LARGE};
 use crate::running::{NONE, assert_does, assert_says, count_newlines, does, joined};
+use crate::worked::{HEAD, INPUT, OPEN};
 use pl_turn::NoGate;
 use std::alloc::Global;
 use std::process::Abort;

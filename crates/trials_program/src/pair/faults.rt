@@ -1,8 +1,8 @@
 //! A pair and a crew that are stopped at each read and at each write, and wherever the output has no room left.
 use crate::asserting::holds;
 use crate::breaking::Breaking;
-use crate::journals::models::{HEAD, INPUT, JOURNAL, OPEN};
 use crate::running::{Ended, NONE, ROOM, assert_legal, count_newlines, does, does_in, does_within};
+use crate::worked::{HEAD, INPUT, JOURNAL, OPEN};
 use pl_turn::NoGate;
 use std::alloc::Global;
 use std::process::Abort;

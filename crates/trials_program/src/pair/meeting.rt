@@ -1,25 +1,7 @@
+use crate::flags::{Flags, are_seen};
 use pl_turn::Gate;
 use std::sync::Wait;
 use std::sync::atomic::{AtomicU64, Ordering};
-
-/// So often a worker looks for the other before it gives up.
-const MOST_LOADS: u32 = 1_000_000_000;
-
-/// What is known of one worker.
-#[derive(Drop)]
-struct Flags {
-    came: AtomicU64,
-    made: AtomicU64,
-}
-
-impl Flags {
-    fn new() -> Flags {
-        Flags {
-            came: AtomicU64::new(0),
-            made: AtomicU64::new(0),
-        }
-    }
-}
 
 /// Holds each worker ahead of its first event until the other has come to its own. One thread that acts for both never gets past
 /// the first of the two.
@@ -61,16 +43,6 @@ impl Meeting {
     }
 }
 
-/// Whether a flag is set, after so many looks at most.
-fn is_seen(flag: &AtomicU64) -> bool {
-    for _ in 0..MOST_LOADS {
-        if flag.load(Ordering::SeqCst) == 1 {
-            return true;
-        }
-    }
-    false
-}
-
 impl Gate for Meeting {
     fn before<R: Wait>(&self, _rt: &R, worker: u8, acts: u64) {
         if acts > 0 {
@@ -78,7 +50,8 @@ impl Gate for Meeting {
         }
         let (own, other) = self.both(worker);
         own.came.store(1, Ordering::SeqCst);
-        if !is_seen(&other.came) {
+        let is_met = are_seen(&[&other.came]);
+        if !is_met {
             self.gave_up.store(1, Ordering::SeqCst);
         }
     }

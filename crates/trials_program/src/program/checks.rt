@@ -1,6 +1,6 @@
 //! What `check` says of texts, and where it stops.
-use crate::journals::models::HEAD_LINES;
 use crate::running::{NONE, assert_does, assert_says, lines, sides};
+use crate::worked::HEAD_LINES;
 use std::alloc::Global;
 use std::process::Abort;
 use std::sync::Wait;

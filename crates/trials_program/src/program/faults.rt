@@ -1,10 +1,10 @@
 //! The worked run, stopped at each read and at each write, and wherever the output has no room left.
 use crate::asserting::holds;
 use crate::breaking::Breaking;
-use crate::journals::models::{HEAD, INPUT, JOURNAL};
 use crate::running::{
     Ended, ROOM, assert_does, count_newlines, does_in, does_within, joined, line_of, sides,
 };
+use crate::worked::{HEAD, INPUT, JOURNAL};
 use std::alloc::Global;
 use std::process::Abort;
 use std::sync::Wait;

@@ -1,7 +1,7 @@
 //! Texts that are made to be refused, through the program: models, messages, journals.
-use crate::journals::models::{HEAD, JOURNAL, MODEL, OPEN};
 use crate::program::journals::{assert_judged, assert_wrong};
 use crate::running::{NONE, assert_does, assert_says, joined, line_of, lines, sides};
+use crate::worked::{HEAD, JOURNAL, MODEL, OPEN};
 use std::alloc::Global;
 use std::process::Abort;
 use std::sync::Wait;

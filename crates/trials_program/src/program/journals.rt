@@ -1,5 +1,4 @@
 //! The commands over a journal: what they say of a legal one and of a wrong one, and their statuses.
-use crate::journals::models::changed;
 use crate::running::{Failing, NONE, assert_does, joined, sides};
 use std::alloc::Global;
 use std::process::Abort;
@@ -127,6 +126,12 @@ pub fn assert_judged<R: Abort + Threads + Wait + Sync>(
 ) {
     assert_tells(rt, alloc, "replay", journal, status, text);
     assert_tells(rt, alloc, "report", journal, status, text);
+}
+
+/// A journal with another text in place of one.
+fn changed(rt: &impl Abort, alloc: Global, journal: &str, from: &str, to: &str) -> String {
+    let (front, rest) = journal.split_once(from).unwrap_or(("no such text", ""));
+    format!(in alloc; "{front}{to}{rest}").expect(rt, "memory")
 }
 
 /// Asserts what both commands say of a journal with a change. A row has a text, what stands in its place, and what is said of

@@ -1,6 +1,6 @@
 //! Messages, and the entries that a run makes of them.
-use crate::journals::models::{HEAD_LINES, OPEN};
 use crate::running::{Failing, NONE, assert_does, joined, lines, sides};
+use crate::worked::{HEAD_LINES, OPEN};
 use std::alloc::Global;
 use std::process::Abort;
 use std::sync::Wait;

@@ -1,4 +1,4 @@
-use Rattle.std.proofs.Common.{[], ◌∷◌, Option, ap, ◌∙◌, sym, subst}
+use Rattle.std.proofs.Common.{[], ◌∷◌, Option, refl, ap, ◌∙◌, sym, subst}
 use Rattle.std.specs.Prelude.{IsSome}
 use Rattle.pl_plan.specs.declared.activity.Activity.{Activity}
 use Rattle.pl_plan.specs.Activities.{IsLive}
@@ -22,7 +22,7 @@ pub added_alone-requires-clause-live : goal.added_alone-requires-clause-live
 added_alone-requires-clause-live c =
     let s = c.args.s.now in
     let root : Activity = without_goal (root_for s c.args.kind c.args.start c.args.goal) in
-    let live : IsLive s.next_id (root ∷ []) = subst (λ (o : Option Activity). IsSome o) (sym (itself root)) tt in
+    let live : IsLive s.next_id (root ∷ []) = subst (λ (o : Option Activity). IsSome o) (sym (itself root)) refl in
     subst (λ (t : PlanState). IsLive s.next_id t.plan.activities) (sym c.in_ok-alone.ensures) live
 
 pub returns-clause-known : goal.returns-clause-known

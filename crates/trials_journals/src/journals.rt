@@ -1,0 +1,4 @@
+//! Tests of journals read back and verified.
+
+mod lines;
+pub mod verdicts;
