@@ -1,4 +1,4 @@
-use Rattle.std.proofs.Common.{[], ◌∷◌, Option, refl, ap, ◌∙◌, sym, subst}
+use Rattle.std.proofs.Common.{[], ◌∷◌, Option, ap, ◌∙◌, sym, subst, refl}
 use Rattle.std.specs.Prelude.{IsSome}
 use Rattle.pl_plan.specs.declared.activity.Activity.{Activity}
 use Rattle.pl_plan.specs.Activities.{IsLive}
