@@ -28,13 +28,13 @@ module _ (o : Outside) where
       omega (arith, ints, more, all)
 
   -- one less at the end
-  pub less_end : (ds : List Demand) (i : ℕ) (d : Demand) → i < length ds → ((get_or ds i d).line == o.line) ≡ false → MakeSame o (take (i + 1) ds) ds → MakeSame o (take i ds) ds
-  less_end ds i d lt off same w t =
-      let x = get_or ds i d in
-      let m = demand_moved w.from w.to in
-      let cut : take (i + 1) ds ≡ take i ds ++ x ∷ [] = ap (λ (n : ℕ). take n ds) (add-one i) ∙ take-suc ds i d lt in
-      let more : pull o t (moved_by w (take (i + 1) ds)) ≡ pull o t (moved_by w (take i ds)) +ℤ pull_of o t (m x) =
-      ap (λ (xs : List Demand). pull o t (moved_by w xs)) cut ∙ (ap (pull o t) (map-append m (take i ds) (x ∷ [])) ∙ total-push (pull_of o t) (moved_by w (take i ds)) (m x)) in
+  pub less_end : (ds : List Demand) (n m : ℕ) (d : Demand) → n ≡ m + 1 → m < length ds → ((get_or ds m d).line == o.line) ≡ false → MakeSame o (take n ds) ds → MakeSame o (take m ds) ds
+  less_end ds n m d is lt off same w t =
+      let x = get_or ds m d in
+      let f = demand_moved w.from w.to in
+      let cut : take n ds ≡ take m ds ++ x ∷ [] = ap (λ (k : ℕ). take k ds) (is ∙ add-one m) ∙ take-suc ds m d lt in
+      let more : pull o t (moved_by w (take n ds)) ≡ pull o t (moved_by w (take m ds)) +ℤ pull_of o t (f x) =
+      ap (λ (xs : List Demand). pull o t (moved_by w xs)) cut ∙ (ap (pull o t) (map-append f (take m ds) (x ∷ [])) ∙ total-push (pull_of o t) (moved_by w (take m ds)) (f x)) in
       let none = nothing w t x off in
       let all = same w t in
       omega (arith, ints, more, none, all)
