@@ -1,5 +1,4 @@
-use Rattle.std.proofs.Common.{◌≡◌, ℕ, List, take, sym, ◌∙◌, subst, arith}
-use Rattle.pl_semantics.specs.declared.demand.Demand.{Demand}
+use Rattle.std.proofs.Common.{◌≡◌, ℕ, take, sym, ◌∙◌, subst, arith}
 use Rattle.pl_bounds.specs.Afterwards.{MakeSame}
 use Rattle.pl_bounds.proofs.Narrowed.{less_end}
 use Rattle.pl_bounds.proofs.narrowing.up_to_last.Goals as goal
