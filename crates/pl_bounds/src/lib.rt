@@ -5,6 +5,7 @@ mod alone;
 mod asking;
 mod bounding;
 mod bounds;
+mod gaps;
 mod known;
 mod laws;
 mod looking;
