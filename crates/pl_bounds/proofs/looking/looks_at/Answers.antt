@@ -2,4 +2,4 @@ use Rattle.pl_bounds.proofs.Looked.{looks_ahead}
 use Rattle.pl_bounds.proofs.looking.looks_at.Goals as goal
 
 pub returns : goal.returns
-returns c = looks_ahead c.args.board.now.state c.args.side c.args.line c.look_between.new.self.next c.look_between.new.self.looks.items c.in_ok-look_between.ensures
+returns c = looks_ahead c.args.board.now.state c.args.side c.args.line c.loop-conflict.looking.next c.loop-conflict.looking.looks.items c.loop-conflict.invariant
