@@ -5,7 +5,6 @@ mod alone;
 mod asking;
 mod bounding;
 mod bounds;
-mod gaps;
 mod known;
 mod laws;
 mod looking;

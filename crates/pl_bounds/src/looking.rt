@@ -1,9 +1,8 @@
-//! Looks at a timeline where it is past its limit, a moment before and behind, and where it is nearest to the limit between.
+//! Looks at a timeline where it is past its limit, and a moment before and behind.
 ghost use Rattle.std.specs.Prelude.{◌≡◌, false, IfOk, OnOk};
 ghost use Rattle.pl_bounds.specs.Looks.{IsLimited, AreLooksAt};
 ghost use Rattle.pl_bounds.specs.Sides.{code_of};
 
-use crate::gaps::furthest_between;
 use crate::outside::{Look, Side};
 use crate::parting::{Parting, parting_in};
 use crate::reading::value_at;
@@ -83,26 +82,7 @@ impl Looking {
         }
     }
 
-    // Looks at one moment behind those that were looked at and before another: where the timeline is nearest to its limit.
-    fn look_between(
-        &mut self,
-        board: &Board,
-        side: Side,
-        line: u32,
-        to: u32,
-    ) -> Result<(), AllocError>
-        requires unspoiled { board.now.spoiled ≡ false }
-        requires limited { IsLimited board.now.state side line }
-        requires looks { AreLooksAt board.now.state side line self.old.next self.old.looks.items }
-        ensures { OnOk result (AreLooksAt board.now.state side line self.new.next self.new.looks.items) }
-    {
-        match furthest_between(board, side, line, self.next, to) {
-            Some(at) => self.look(board, side, line, at),
-            None => Ok(()),
-        }
-    }
-
-    // Looks before a span, where it begins, where it may be parted in two, and where it ends.
+    // Looks where a span begins, where it may be parted in two, and where it ends.
     fn look_round(
         &mut self,
         board: &Board,
@@ -115,7 +95,6 @@ impl Looking {
         requires looks { AreLooksAt board.now.state side line self.old.next self.old.looks.items }
         ensures { OnOk result (AreLooksAt board.now.state side line self.new.next self.new.looks.items) }
     {
-        self.look_between(board, side, line, conflict.a.saturating_sub(1))?;
         self.look(board, side, line, conflict.a.saturating_sub(1))?;
         self.look(board, side, line, conflict.a)?;
         self.look_inside(board, side, line, conflict)?;
@@ -125,7 +104,7 @@ impl Looking {
     }
 }
 
-/// What a timeline comes to round its spans that are past the limit, and between them.
+/// What a timeline comes to round its spans that are past the limit.
 pub(crate) fn looks_at(
     alloc: Global,
     board: &Board,
@@ -146,6 +125,5 @@ pub(crate) fn looks_at(
             looking.look_round(board, side, line, conflict)?;
         }
     }
-    looking.look_between(board, side, line, board.model().horizon)?;
     Ok(looking.looks)
 }

@@ -27,8 +27,8 @@ struct Compared {
     parting: Option<Parting>,
 }
 
-/// Whether a value is further past the limit than another.
-pub(crate) fn is_further(side: Side, value: i64, other: i64) -> bool {
+// Whether a value is further past the limit than another.
+fn is_further(side: Side, value: i64, other: i64) -> bool {
     match side {
         Side::Over => other < value,
         Side::Low => value < other,
