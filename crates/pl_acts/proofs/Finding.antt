@@ -1,7 +1,7 @@
 -- What a planner's look comes to.
 use Rattle.std.proofs.Common.{◌≡◌, ℕ, ◌+◌, List, [], ◌∷◌, length, Bool, true, false, Option, None, Ok, Err, refl, sym, ◌∙◌, inr}
 use Rattle.std.specs.Prelude.{not, ◌&&◌, is_some, nat_le, ◌==◌}
-use Rattle.std.proofs.lemmas.Bool.{leb-true}
+use Rattle.std.proofs.lemmas.Bool.{leb-true, leb-false}
 use Rattle.pl_conflict.specs.declared.conflict.Conflict.{Conflict}
 use Rattle.pl_marks.specs.declared.author.Author.{Author}
 use Rattle.pl_entry.specs.declared.event.Event.TheVariants as event
@@ -52,9 +52,9 @@ rest_stops a old p stop.Memory unspoiled going running repairing plain answers =
 -- ---- a replica is lent
 
 pub lent : (a : Author) (old : Held) (p : Written) (draft : Draft) → old.plan.machine.spoiled ≡ false → old.plan.machine.world.done ≡ false → is_some old.stopper ≡ false → is_repairing old.plan.machine.world ≡ true → plain_reason_of old.plan.machine.world ≡ None
-    → p ≡ old.plan → IsDraft old.plan.machine draft → LooksIn a old (Ok (looked.Open draft)) (with_plan p old)
-lent a old p draft unspoiled going running repairing plain same is =
-    (record { unspoiled = unspoiled; going = going; running = running }, (going, repairing, plain), is, same_plan old p same)
+    → nat_le old.plan.machine.world.options.entries (length old.plan.machine.log) ≡ false → p ≡ old.plan → IsDraft old.plan.machine draft → LooksIn a old (Ok (looked.Open draft)) (with_plan p old)
+lent a old p draft unspoiled going running repairing plain room same is =
+    (record { unspoiled = unspoiled; going = going; running = running }, (going, repairing, plain), leb-false old.plan.machine.world.options.entries (length old.plan.machine.log) room, is, same_plan old p same)
 
 pub lend_fails : (a : Author) (old : Held) (p : Written) → old.plan.machine.spoiled ≡ false → p ≡ old.plan → LooksIn a old (Err stop.Memory) (with_plan p old)
 lend_fails a old p unspoiled same = inr (unspoiled, same_plan old p same)

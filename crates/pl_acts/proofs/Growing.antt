@@ -80,7 +80,7 @@ grows_looked a seen old new (Ok (looked.Settled (acted.Did n))) found sound look
 grows_looked a seen old new (Ok (looked.Settled acted.Nothing)) found sound looks = grows_same seen old new found (same_held old new looks.2)
 grows_looked a seen old new (Ok (looked.Settled acted.Finished)) found sound looks = grows_same seen old new found (same_held old new looks.2)
 grows_looked a seen old new (Ok (looked.Settled acted.Stopped)) found sound looks = grows_same seen old new found (same_held old new looks.3)
-grows_looked a seen old new (Ok (looked.Open draft)) found sound looks = grows_same seen old new found (same_held old new looks.3)
+grows_looked a seen old new (Ok (looked.Open draft)) found sound looks = grows_same seen old new found (same_held old new looks.4)
 grows_looked a seen old new (Err stop.Spoiled) found sound looks = grows_same seen old new found (same_held old new looks.1)
 grows_looked a seen old new (Err stop.NotNow) found sound looks = absurd looks
 grows_looked a seen old new (Err stop.LogFull) found sound looks = grows_same seen old new found (same_held old new looks.3)

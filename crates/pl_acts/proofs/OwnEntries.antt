@@ -64,7 +64,7 @@ sight_late : (g : Lcg) (low low2 : ℕ) (items : List Noted) (p : Option Proposa
 sight_late g low low2 items p le sight =
     let look = sight.look in
     record {
-      look = record { front = look.front; on = look.on; late = (let late = look.late in omega (arith, late, le)); running = look.running; asks = look.asks };
+      look = record { front = look.front; on = look.on; late = (let late = look.late in omega (arith, late, le)); running = look.running; asks = look.asks; room = look.room };
       picks = sight.picks;
       legal = sight.legal;
     }

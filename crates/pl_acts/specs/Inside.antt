@@ -1,5 +1,5 @@
 -- What is done to the plan inside a turn.
-use Rattle.std.specs.Prelude.{◌≡◌, ◌≤◌, ℕ, List, [], ◌∷◌, ◌++◌, length, drop, Bool, true, false, not, ◌&&◌, ◌||◌, Option, Some, None, is_some, Result, Ok, Err, ◌⊎◌}
+use Rattle.std.specs.Prelude.{◌≡◌, ◌<◌, ◌≤◌, ℕ, List, [], ◌∷◌, ◌++◌, length, drop, Bool, true, false, not, ◌&&◌, ◌||◌, Option, Some, None, is_some, Result, Ok, Err, ◌⊎◌}
 use Rattle.pl_marks.specs.declared.author.Author.{Author}
 use Rattle.pl_model.specs.Checked.{IsChecked}
 use Rattle.pl_entry.specs.declared.event.Event.{Event}
@@ -82,6 +82,10 @@ Wants old new = Spoiled old new ⊎ ((old.plan.machine.spoiled ≡ false) × (ne
 abbrev pub IsFull : State → Type 0
 IsFull m = m.world.options.entries ≤ length m.log
 
+-- one more entry may follow
+abbrev pub HasRoom : State → Type 0
+HasRoom m = length m.log < m.world.options.entries
+
 -- whether the plan goes no further: memory was wanting, the input has ended, or the plan was stopped
 abbrev pub is_over : Held → Bool
 is_over h = h.plan.machine.spoiled || (h.plan.machine.world.done || is_some h.stopper)
@@ -132,13 +136,13 @@ ExecutesIn by old (Err stop.Memory) new = Wants old new
 abbrev pub RestsAtOnce : World → Entry → Type 0
 RestsAtOnce w e = (e.event ≡ event.Rest) × (is_some (plain_reason_of w) ≡ true)
 
--- What a look finds, in this order: Spoiled, Finished, Stopped, Nothing, LogFull, a rest for a plain reason, and else a replica to be asked about.
+-- What a look finds, exactly by its cause, in this order: Spoiled, Finished, Stopped, Nothing, LogFull, a rest for a plain reason, and else a replica to be asked about.
 abbrev pub LooksIn : Author → Held → Result Looked Stop → Held → Type 0
 LooksIn by old (Ok (looked.Settled (acted.Did number))) new = Logs RestsAtOnce by old new number × (old.plan.machine.world.done ≡ false) × (is_repairing old.plan.machine.world ≡ true)
 LooksIn by old (Ok (looked.Settled acted.Nothing)) new = IsGoing old × (is_repairing old.plan.machine.world ≡ false) × (new ≡ old)
 LooksIn by old (Ok (looked.Settled acted.Finished)) new = (old.plan.machine.spoiled ≡ false) × (old.plan.machine.world.done ≡ true) × (new ≡ old)
 LooksIn by old (Ok (looked.Settled acted.Stopped)) new = (old.plan.machine.spoiled ≡ false) × (old.plan.machine.world.done ≡ false) × (is_some old.stopper ≡ true) × (new ≡ old)
-LooksIn by old (Ok (looked.Open draft)) new = IsGoing old × AsksIn old.plan.machine.world × IsDraft old.plan.machine draft × (new ≡ old)
+LooksIn by old (Ok (looked.Open draft)) new = IsGoing old × AsksIn old.plan.machine.world × HasRoom old.plan.machine × IsDraft old.plan.machine draft × (new ≡ old)
 LooksIn by old (Err stop.Spoiled) new = (old.plan.machine.spoiled ≡ true) × (new ≡ old)
 LooksIn by old (Err stop.NotNow) new = ⊥
 LooksIn by old (Err stop.LogFull) new = IsGoing old × (is_repairing old.plan.machine.world ≡ true) × IsFull old.plan.machine × (new ≡ old)

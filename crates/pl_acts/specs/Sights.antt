@@ -1,5 +1,5 @@
 -- What a planner saw before it acts: a front of the history, and what its chooser proposed in the world after it.
-use Rattle.std.specs.Prelude.{◌≡◌, ◌≤◌, ℕ, List, [], ◌∷◌, length, true, false, Option, Some, None, is_some, ◌⊎◌}
+use Rattle.std.specs.Prelude.{◌≡◌, ◌<◌, ◌≤◌, ℕ, List, [], ◌∷◌, length, true, false, Option, Some, None, is_some, ◌⊎◌}
 use mathlib.Core.List.{IsPrefix}
 use Rattle.pl_entry.specs.declared.event.Event.{Event}
 use Rattle.pl_entry.specs.declared.event.Event.TheVariants as event
@@ -23,13 +23,18 @@ use Rattle.pl_acts.specs.Roles.{has_event, IsChosen}
 abbrev pub AsksIn : World → Type 0
 AsksIn w = (w.done ≡ false) × (is_repairing w ≡ true) × (plain_reason_of w ≡ None)
 
--- A planner looked at a front of this history, at least so long, and its chooser was to be asked there.
+-- fewer entries than the options allow
+abbrev pub HasRoom : List Noted → Type 0
+HasRoom items = InWorld items (λ w. length (entries_in items) < w.options.entries)
+
+-- A planner looked at a front of this history, at least so long, and its chooser was to be asked there, since what it proposes could still be made.
 pub record HasLooked (low : ℕ) (items : List Noted) : Type 0 where
   pub front : List Noted
   pub on : IsPrefix front items
   pub late : low ≤ length front
   pub running : stop_in front ≡ false
   pub asks : InWorld front AsksIn
+  pub room : HasRoom front
 
 -- The chooser was asked there, and proposed this.
 pub record IsSight (g : Lcg) (low : ℕ) (items : List Noted) (p : Option Proposal) : Type 0 where

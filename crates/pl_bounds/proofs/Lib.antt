@@ -35,3 +35,4 @@ pub mod Lacking
 pub mod Around
 pub mod Staying
 pub mod Knowing
+pub mod Narrowed

@@ -25,7 +25,7 @@ use Rattle.pl_bounds.specs.declared.outside.Outside.{Outside}
 use Rattle.pl_bounds.proofs.After.{use_after, level_after}
 use Rattle.pl_bounds.proofs.Pulled.{on, over_all, low_all, high_all}
 
-same_spans : (P Q : ℕ → Bool) → ((t : ℕ) → P t ≡ Q t) → (n a : ℕ) → spans_of P a n ≡ spans_of Q a n
+pub same_spans : (P Q : ℕ → Bool) → ((t : ℕ) → P t ≡ Q t) → (n a : ℕ) → spans_of P a n ≡ spans_of Q a n
 same_spans P Q same zero a = refl
 same_spans P Q same (suc n) a = rw (same a, same_spans P Q same n (suc a)) refl
 
@@ -56,11 +56,11 @@ module _ (s : PlanState) (gone : List ℕ) (more : List Activity) (whole : IsWho
   value_after Low base line t is = low_after base line t is
   value_after High base line t is = high_after base line t is
 
-  past_same : (o : Outside) → IsOutsideOf s o → (t : ℕ) → is_past_with s o a start t ≡ is_past o.side o.limit (value_at (with_plan gone more s) o.side o.line t)
+  past_same : (o : Outside) → IsOutsideOf s o → (t : ℕ) → is_past_with s o a.going.items (coming_at a start) t ≡ is_past o.side o.limit (value_at (with_plan gone more s) o.side o.line t)
   past_same o of t = ap (is_past o.side o.limit) (value_after o.side o.since o.line t of.since)
 
-  spans_same : (o : Outside) → IsOutsideOf s o → spans_ahead s (is_past_with s o a start) ≡ spans_past (with_plan gone more s) o
-  spans_same o of = same_spans (is_past_with s o a start) (λ t. is_past o.side o.limit (value_at (with_plan gone more s) o.side o.line t)) (past_same o of) (s.model.horizon - s.moment) s.moment
+  spans_same : (o : Outside) → IsOutsideOf s o → spans_ahead s (is_past_with s o a.going.items (coming_at a start)) ≡ spans_past (with_plan gone more s) o
+  spans_same o of = same_spans (is_past_with s o a.going.items (coming_at a start)) (λ t. is_past o.side o.limit (value_at (with_plan gone more s) o.side o.line t)) (past_same o of) (s.model.horizon - s.moment) s.moment
 
   pub times_same : (os : List Outside) → All (IsOutsideOf s) os → times_with s a start os ≡ times_past (with_plan gone more s) os
   times_same [] all = refl

@@ -1,5 +1,5 @@
 -- What a timeline comes to once some demands went and others came.
-use Rattle.std.specs.Prelude.{ℕ, ◌+◌, ◌==◌, ℤ, pos, ◌+ℤ◌, ◌-ℤ◌, Bool, List, [], ◌∷◌, map, length, if◌then◌else◌}
+use Rattle.std.specs.Prelude.{◌≡◌, ℕ, ◌+◌, ◌==◌, ℤ, pos, ◌+ℤ◌, ◌-ℤ◌, Bool, List, [], ◌∷◌, map, length, if◌then◌else◌}
 use Rattle.pl_capacity.specs.declared.reservation.Use.{Use}
 use Rattle.pl_capacity.specs.Uses.{taken_at}
 use Rattle.pl_level.specs.declared.reservation.Effect.{Effect}
@@ -16,6 +16,7 @@ use Rattle.pl_bounds.specs.declared.asking.Asking.{Asking}
 use Rattle.pl_bounds.specs.declared.outside.Side.{Side}
 use Rattle.pl_bounds.specs.declared.outside.Side.TheVariants.{Over, Low, High}
 use Rattle.pl_bounds.specs.declared.outside.Outside.{Outside}
+use Rattle.pl_bounds.specs.declared.pulls.Way.{Way}
 
 -- uses count where a capacity is looked at, and effects where a level is
 abbrev pub use_on : Side → ℕ → Use → ℤ
@@ -42,19 +43,27 @@ pull_of o t d = if d.line == o.line then asked_on o.side o.since t d.asked else 
 abbrev pub pull : Outside → ℕ → List Demand → ℤ
 pull o t ds = total (pull_of o t) ds
 
+-- demands, moved along
+abbrev pub moved_by : Way → List Demand → List Demand
+moved_by w ds = map (demand_moved w.from w.to) ds
+
+-- both make the same of the timeline at each moment, wherever they are moved
+abbrev pub MakeSame : Outside → List Demand → List Demand → Type 0
+MakeSame o ds es = (w : Way) (t : ℕ) → pull o t (moved_by w ds) ≡ pull o t (moved_by w es)
+
 -- what comes, as it stands at a start
 abbrev pub coming_at : Asking → ℕ → List Demand
 coming_at a start = map (demand_moved a.start start) a.coming.items
 
 -- what the timeline comes to, where it came to this value before
-abbrev pub value_with : Outside → Asking → ℕ → ℕ → ℤ → ℤ
-value_with o a start t value = (value -ℤ pull o t a.going.items) +ℤ pull o t (coming_at a start)
+abbrev pub value_with : Outside → List Demand → List Demand → ℕ → ℤ → ℤ
+value_with o going coming t value = (value -ℤ pull o t going) +ℤ pull o t coming
 
 -- whether it is past its limit then
-abbrev pub is_past_with : PlanState → Outside → Asking → ℕ → ℕ → Bool
-is_past_with s o a start t = is_past o.side o.limit (value_with o a start t (value_at s o.side o.line t))
+abbrev pub is_past_with : PlanState → Outside → List Demand → List Demand → ℕ → Bool
+is_past_with s o going coming t = is_past o.side o.limit (value_with o going coming t (value_at s o.side o.line t))
 
 -- how often all of them are past their limits then
 abbrev pub times_with : PlanState → Asking → ℕ → List Outside → ℕ
 times_with s a start [] = 0
-times_with s a start (o ∷ more) = length (spans_ahead s (is_past_with s o a start)) + times_with s a start more
+times_with s a start (o ∷ more) = length (spans_ahead s (is_past_with s o a.going.items (coming_at a start))) + times_with s a start more

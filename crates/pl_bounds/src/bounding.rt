@@ -1,43 +1,49 @@
 //! How often timelines are past their limits at least, once some demands went and others came.
-ghost use Rattle.std.specs.Prelude.{◌≡◌, ◌≤◌, ◌<◌, ℕ, false, List, All, length, IfSome};
+ghost use Rattle.std.specs.Prelude.{◌≡◌, ◌≤◌, ◌<◌, ℕ, Bool, false, List, All, length, IfSome};
 ghost use Rattle.pl_update.specs.Changes.Replaced.{CanReplace, with_plan};
 ghost use Rattle.pl_update.specs.Timelines.Laws.{AreOnce};
 ghost use Rattle.pl_plan.specs.declared.activity.Activity.{Activity};
 ghost use Rattle.pl_semantics.specs.declared.plan_state.PlanState.{PlanState};
 ghost use Rattle.pl_semantics.specs.Timelines.{spans_ahead};
-ghost use Rattle.pl_bounds.specs.Afterwards.{value_with, is_past_with};
+ghost use Rattle.pl_bounds.specs.Afterwards.{coming_at, moved_by, value_with, is_past_with};
 ghost use Rattle.pl_bounds.specs.Asked.{IsAskedBy};
 ghost use Rattle.pl_bounds.specs.Sides.{IsOutsideOf, times_past, value_at};
 ghost use Rattle.pl_bounds.specs.Tallies.{fresh, IsTallyOf};
 
 use crate::asking::Asking;
+use crate::narrowing::narrowed;
 use crate::outside::{Look, Outside, Side};
 use crate::pulls::{Way, pull};
 use crate::reading::{is_past, value_at};
 use crate::tally::Tally;
 use pl_board::Board;
-use pl_semantics::Asked;
+use pl_semantics::{Asked, Demand};
+
+// What goes and what comes of a timeline. What comes is moved along.
+#[derive(Clone, Copy)]
+struct Change<'c> {
+    going: &'c [Demand],
+    coming: &'c [Demand],
+    way: Way,
+}
 
 // What the timeline comes to at a look, where the sums fit.
-fn value_with(outside: &Outside, asking: &Asking, start: u32, look: Look) -> Option<i64>
-    ensures { IfSome result (λ v. v ≡ value_with outside.now asking.now start look.at look.value) }
+fn value_with(outside: &Outside, change: &Change<'_>, look: Look) -> Option<i64>
+    ensures { IfSome result (λ v. v ≡ value_with outside.now change.now.going.now (moved_by change.now.way change.now.coming.now) look.at look.value) }
 {
     let still = Way { from: 0, to: 0 };
-    let way = Way {
-        from: asking.start,
-        to: start,
-    };
-    let going = pull(outside, asking.going.as_slice(), still, look.at)?;
-    let coming = pull(outside, asking.coming.as_slice(), way, look.at)?;
+    let going = pull(outside, change.going, still, look.at)?;
+    let coming = pull(outside, change.coming, change.way, look.at)?;
     look.value.checked_sub(going)?.checked_add(coming)
 }
 
 // The tally with whether the timeline is past its limit at a look, if that is known.
-fn looked_at(tally: Tally, outside: &Outside, asking: &Asking, start: u32, look: Look) -> Tally
+fn looked_at(tally: Tally, outside: &Outside, change: &Change<'_>, look: Look) -> Tally
     ensures { (s : PlanState) (from end : ℕ) → look.value ≡ value_at s outside.now.side outside.now.line look.at
-        → IsTallyOf (is_past_with s outside.now asking.now start) from end tally → IsTallyOf (is_past_with s outside.now asking.now start) from end result }
+        → IsTallyOf (is_past_with s outside.now change.now.going.now (moved_by change.now.way change.now.coming.now)) from end tally
+        → IsTallyOf (is_past_with s outside.now change.now.going.now (moved_by change.now.way change.now.coming.now)) from end result }
 {
-    match value_with(outside, asking, start, look) {
+    match value_with(outside, change, look) {
         Some(value) => tally.noted(look.at, is_past(outside.side, outside.limit, value)),
         None => tally,
     }
@@ -54,19 +60,15 @@ fn worsens(side: Side, asked: &Asked) -> Option<u32> {
 }
 
 // A moment from one on and before another at which what comes makes it worse, if there is one.
-fn worse_within(outside: &Outside, asking: &Asking, start: u32, from: u32, to: u32) -> Option<u32>
+fn worse_within(outside: &Outside, change: &Change<'_>, from: u32, to: u32) -> Option<u32>
     ensures { IfSome result (λ at. (from ≤ at) × (at < to)) }
 {
-    let way = Way {
-        from: asking.start,
-        to: start,
-    };
-    for demand in asking.coming.as_slice() {
+    for demand in change.coming {
         if demand.line != outside.line {
             continue;
         }
         if let Some(t) = worsens(outside.side, &demand.asked) {
-            let at = way.moved(t);
+            let at = change.way.moved(t);
             if u64::from(from) <= at && at < u64::from(to) {
                 return Some(at as u32);
             }
@@ -81,42 +83,59 @@ fn looked_before(
     board: &Board,
     tally: Tally,
     outside: &Outside,
-    asking: &Asking,
-    start: u32,
+    change: &Change<'_>,
     to: u32,
 ) -> Tally
     requires unspoiled { board.now.spoiled ≡ false }
     requires of_plan { IsOutsideOf board.now.state outside.now }
-    requires tally { IsTallyOf (is_past_with board.now.state outside.now asking.now start) board.now.state.moment board.now.state.model.horizon tally }
-    ensures { IsTallyOf (is_past_with board.now.state outside.now asking.now start) board.now.state.moment board.now.state.model.horizon result }
+    requires tally { IsTallyOf (is_past_with board.now.state outside.now change.now.going.now (moved_by change.now.way change.now.coming.now)) board.now.state.moment board.now.state.model.horizon tally }
+    ensures { IsTallyOf (is_past_with board.now.state outside.now change.now.going.now (moved_by change.now.way change.now.coming.now)) board.now.state.moment board.now.state.model.horizon result }
 {
     let end = to.min(tally.end);
     if tally.before || end <= tally.next {
         return tally;
     }
-    match worse_within(outside, asking, start, tally.next, end) {
+    match worse_within(outside, change, tally.next, end) {
         Some(at) => {
             let value = value_at(board, outside.side, outside.line, at);
-            looked_at(tally, outside, asking, start, Look { at, value })
+            looked_at(tally, outside, change, Look { at, value })
         }
         None => tally,
     }
 }
 
 // How often at least one timeline is past its limit, from a tally of no moment.
-fn times_with(board: &Board, ahead: Tally, outside: &Outside, asking: &Asking, start: u32) -> u32
+fn times_of(board: &Board, ahead: Tally, outside: &Outside, change: &Change<'_>) -> u32
     requires unspoiled { board.now.spoiled ≡ false }
     requires of_plan { IsOutsideOf board.now.state outside.now }
-    requires ahead { IsTallyOf (is_past_with board.now.state outside.now asking.now start) board.now.state.moment board.now.state.model.horizon ahead }
-    ensures { result ≤ length (spans_ahead board.now.state (is_past_with board.now.state outside.now asking.now start)) }
+    requires ahead { (P : ℕ → Bool) → IsTallyOf P board.now.state.moment board.now.state.model.horizon ahead }
+    ensures { result ≤ length (spans_ahead board.now.state (is_past_with board.now.state outside.now change.now.going.now (moved_by change.now.way change.now.coming.now))) }
 {
     let mut tally = ahead;
     let looks = outside.looks.as_slice();
     for look in looks {
-        tally = looked_before(board, tally, outside, asking, start, look.at);
-        tally = looked_at(tally, outside, asking, start, *look);
+        tally = looked_before(board, tally, outside, change, look.at);
+        tally = looked_at(tally, outside, change, *look);
     }
-    looked_before(board, tally, outside, asking, start, tally.end).times
+    looked_before(board, tally, outside, change, tally.end).times
+}
+
+// The same once what is asked stands at a start, and what goes is gone.
+fn times_with(board: &Board, ahead: Tally, outside: &Outside, asking: &Asking, start: u32) -> u32
+    requires unspoiled { board.now.spoiled ≡ false }
+    requires of_plan { IsOutsideOf board.now.state outside.now }
+    requires ahead { (P : ℕ → Bool) → IsTallyOf P board.now.state.moment board.now.state.model.horizon ahead }
+    ensures { result ≤ length (spans_ahead board.now.state (is_past_with board.now.state outside.now asking.now.going.items (coming_at asking.now start))) }
+{
+    let change = Change {
+        going: narrowed(asking.going.as_slice(), outside),
+        coming: narrowed(asking.coming.as_slice(), outside),
+        way: Way {
+            from: asking.start,
+            to: start,
+        },
+    };
+    times_of(board, ahead, outside, &change)
 }
 
 /// How often at least the timelines are past their limits once what is asked stands at a start, and what goes is gone.

@@ -8,6 +8,7 @@ mod bounds;
 mod known;
 mod laws;
 mod looking;
+mod narrowing;
 mod outside;
 mod parting;
 mod pulls;

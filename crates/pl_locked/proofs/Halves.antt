@@ -43,8 +43,9 @@ looked_here by old new draft on looks = record {
   front = seen_of new;
   on = prefix_self (seen_of new);
   late = prefix_length (seen_of old) (seen_of new) on;
-  running = stop_in_same (seen_of new) draft.replica.model (log_of draft) looks.2.signs looks.2.is ∙ looks.2.going;
+  running = stop_in_same (seen_of new) draft.replica.model (log_of draft) looks.3.signs looks.3.is ∙ looks.3.going;
   asks = looks.1;
+  room = looks.2;
 }
 
 -- the chooser was asked on the replica
@@ -54,8 +55,8 @@ unfolding looked_here
 copied by old new g g2 draft sight on looks asked drew =
     let model = draft.replica.model in
     let log = log_of draft in
-    let is : seen_of new ≡ items_of model log looks.2.signs = looks.2.is in
-    let legal = looks.2.legal in
+    let is : seen_of new ≡ items_of model log looks.3.signs = looks.3.is in
+    let legal = looks.3.legal in
     record {
       before = g;
       is = refl;
@@ -63,12 +64,12 @@ copied by old new g g2 draft sight on looks asked drew =
       nothing = looks.0;
       sees = record {
         look = looked_here by old new draft on looks;
-        picks = in_world_of (λ w. sight.proposal ≡ seeded_pick w.state g) (seen_of new) model log looks.2.signs is legal asked.picks;
-        legal = in_world_of (λ w. IsProposal w.state sight.proposal) (seen_of new) model log looks.2.signs is legal asked.legal;
+        picks = in_world_of (λ w. sight.proposal ≡ seeded_pick w.state g) (seen_of new) model log looks.3.signs is legal asked.picks;
+        legal = in_world_of (λ w. IsProposal w.state sight.proposal) (seen_of new) model log looks.3.signs is legal asked.legal;
       };
       whole = refl;
-      seen = asked.seen ∙ sym (ap length is ∙ length_going model log looks.2.signs looks.2.going);
-      replica = replica_of (seen_of new) model log looks.2.signs sight.replica is legal asked.replica;
+      seen = asked.seen ∙ sym (ap length is ∙ length_going model log looks.3.signs looks.3.going);
+      replica = replica_of (seen_of new) model log looks.3.signs sight.replica is legal asked.replica;
     }
 
 pub view_stops : (by : Author) (old new : PlanPass) (g : Lcg) (s : Stop) → Looks by old (Err s) new → Views by (Planner g) old (Err s) (Planner g) new
@@ -98,7 +99,7 @@ module _ (by : Author) (old mid new : PlanPass) (g : Lcg) (sight : Sight) (sees 
   on_front before on =
       let look = sees.look in
       record {
-        look = record { front = look.front; on = prefix_trans look.front (seen_of mid) before look.on on; late = look.late; running = look.running; asks = look.asks };
+        look = record { front = look.front; on = prefix_trans look.front (seen_of mid) before look.on on; late = look.late; running = look.running; asks = look.asks; room = look.room };
         picks = sees.picks;
         legal = sees.legal;
       }

@@ -1,5 +1,5 @@
 -- From what is done inside a turn to what the pass knows behind it.
-use Rattle.std.proofs.Common.{◌≡◌, ℕ, ◌≤◌, List, [], ◌∷◌, ◌++◌, length, drop, Bool, true, false, Option, Some, None, Result, Ok, Err, IfOk, IfSome, refl, sym, ◌∙◌, ap, subst, ◌⊎◌, inl, inr, arith}
+use Rattle.std.proofs.Common.{◌≡◌, ℕ, ◌<◌, ◌≤◌, List, [], ◌∷◌, ◌++◌, length, drop, Bool, true, false, Option, Some, None, Result, Ok, Err, IfOk, IfSome, refl, sym, ◌∙◌, ap, subst, ◌⊎◌, inl, inr, arith}
 use mathlib.Core.List.{IsPrefix}
 use Rattle.std.specs.Prelude.{nat_lt, cond, ◌||◌, is_some}
 use Rattle.std.specs.List.{All}
@@ -41,7 +41,7 @@ use Rattle.pl_acts.specs.declared.sight.Sight.{Sight}
 use Rattle.pl_acts.specs.Items.{items_of, entries_in, model_in, stop_in, InWorld}
 use Rattle.pl_acts.specs.Roles.{has_event, IsChosen, IsInputOf}
 use Rattle.pl_acts.specs.Replicas.{log_of, IsReplica, IsDraft, IsDraftOf}
-use Rattle.pl_acts.specs.Sights.{AsksIn, at_once, IsPlanned, IsDueBy}
+use Rattle.pl_acts.specs.Sights.{AsksIn, HasRoom, at_once, IsPlanned, IsDueBy}
 use Rattle.pl_acts.specs.Inside as inside
 use Rattle.pl_acts.specs.Signing.{Written}
 use Rattle.pl_acts.specs.Inside.{signs_in, items_in, IsSound, IsStepIn, Logs, KeepsLog, Spoiled, can_listen, FeedsIn, IsPart, Wants, Executes, ExecutesIn, RestsAtOnce, LooksIn, SettlesIn}
@@ -152,6 +152,11 @@ module _ (old mid new : PlanPass) (held held2 : Held) (turn : Turn old mid new h
         let P : List Entry → Type 0 = λ es. held.plan.machine.world.options.entries ≤ length es in
         stands_in (λ w. w.options.entries ≤ length (entries_in (seen_of new))) unspoiled (subst P (sym entries_are) full)
 
+    room_in : held.plan.machine.spoiled ≡ false → length held.plan.machine.log < held.plan.machine.world.options.entries → HasRoom (seen_of new)
+    room_in unspoiled room =
+        let P : List Entry → Type 0 = λ es. length es < held.plan.machine.world.options.entries in
+        stands_in (λ w. length (entries_in (seen_of new)) < w.options.entries) unspoiled (subst P (sym entries_are) room)
+
     listens_in : (b : Bool) → held.plan.machine.spoiled ≡ false → can_listen held.plan.machine.world (is_some held.stopper) ≡ b → InWorld (seen_of new) (λ w. can_listen w (stop_in (seen_of new)) ≡ b)
     listens_in b unspoiled e = stands_in (λ w. can_listen w (stop_in (seen_of new)) ≡ b) unspoiled (ap (λ (s : Bool). can_listen held.plan.machine.world s) stop_is ∙ e)
 
@@ -254,8 +259,8 @@ module _ (old mid new : PlanPass) (held held2 : Held) (turn : Turn old mid new h
 
   pub opened : (by : Author) (draft : Draft) → LooksIn by held (Ok (looked.Open draft)) held2 → Looks by old (Ok (looked.Open draft)) new
   opened by draft looks =
-      let keeps = same_held held held2 looks.3 in
-      (made_none keeps, stands_in keeps AsksIn looks.0.unspoiled looks.1, drafted draft looks.2 looks.0.running looks.3)
+      let keeps = same_held held held2 looks.4 in
+      (made_none keeps, stands_in keeps AsksIn looks.0.unspoiled looks.1, room_in keeps looks.0.unspoiled looks.2, drafted draft looks.3 looks.0.running looks.4)
 
   pub looked_at : (by : Author) (a : Result Looked Stop) → LooksIn by held a held2 → Looks by old a new
   looked_at by (Ok (looked.Settled a)) looks = λ g. looked_over by g a looks

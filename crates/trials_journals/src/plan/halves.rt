@@ -6,6 +6,7 @@ use crate::plan::shared::{acts, is_done, opened, tell, text};
 use crate::worked::{MODEL, OPEN, model};
 use pl_acts::{Acted, Role, Sight, View};
 use pl_choose::Seeded;
+use pl_machine::Stop;
 use pl_shared::{Pass, SharedPlan};
 use std::alloc::Global;
 use std::process::Abort;
@@ -116,4 +117,15 @@ fn views_that_are_over_at_once(rt: HostRuntime) {
     tell(&rt, &plan, &mut pass, b"tick 4", Ok(5));
     plan.stop(&rt, &mut pass);
     views(&rt, alloc, &plan, &mut pass, &mut planner, "stopped");
+}
+
+/// There is something to repair, and no room for the entry.
+#[test]
+fn a_full_log_is_not_viewed(rt: HostRuntime) {
+    let alloc = rt.alloc();
+    let (plan, mut pass) = opened(&rt, alloc, 2).expect(&rt, "memory");
+    tell(&rt, &plan, &mut pass, b"goal 1 obs 10 40 must", Ok(1));
+    let mut planner = Role::Planner(Seeded::new(1));
+    let view = plan.view(&rt, alloc, &mut pass, &mut planner);
+    holds(&rt, "a full log", matches!(view, Err(Stop::LogFull)));
 }
