@@ -1,5 +1,5 @@
 //! A sink that takes every byte and keeps none.
-ghost use Rattle.std.specs.Prelude.{◌≡◌, ℕ, ◌+◌, ◌-◌, ◌^◌, ◌<◌, ◌≤◌, List, length, min, Option, Some, None, Ok, IfOk, IsOkAnd};
+ghost use Rattle.std.specs.Prelude.{◌≡◌, ℕ, ◌+◌, ◌-◌, ◌^◌, ◌<◌, ◌≤◌, List, length, min, Option, Some, None, Ok, IfOk, IsOkAnd, false};
 
 use crate::errors::Failed;
 use crate::traits::Sink;
@@ -41,6 +41,12 @@ impl Sink for SureSink {
     ghost held = { λ _. None };
 
     ghost faults = { λ _. 0 };
+
+    fn keeps(&self) -> bool
+        ensures { result ≡ false }
+    {
+        false
+    }
 
     fn write(&mut self, piece: &[u8]) -> Result<usize, Failed>
         requires { 0 < length piece.now }

@@ -1,5 +1,5 @@
 //! What gives bytes and what takes them.
-ghost use Rattle.std.specs.Prelude.{◌≡◌, ℕ, ◌<◌, ◌≤◌, List, length, Option, None, IfOk};
+ghost use Rattle.std.specs.Prelude.{◌≡◌, ℕ, ◌<◌, ◌≤◌, false, List, length, Option, None, IfOk};
 ghost use Rattle.std.specs.Io.{ReadsAtMost};
 ghost use Rattle.std.specs.Io.KnownBytes.{ReadConsumes, WriteAppends};
 ghost use Rattle.pl_io.specs.Faults.{HasCause};
@@ -30,6 +30,10 @@ pub trait Sink {
 
     // How many writes have failed.
     ghost faults: { Self → ℕ };
+
+    /// Whether what it takes goes anywhere. For a sink that loses all that it takes no text need be made.
+    fn keeps(&self) -> bool
+        ensures { result ≡ false → held self.now ≡ None };
 
     /// Takes bytes from the front of the piece and answers how many, at least 1.
     /// A failed write takes none.

@@ -9,7 +9,7 @@ use pl_journal::write_entries;
 use pl_machine::Machine;
 use std::alloc::Global;
 
-/// Writes the lines of a log from an entry on.
+/// Writes the lines of a log from an entry on. For a sink that loses them none is made.
 #[tactic(auto, using(pl_machine::proofs::ShortLogs::log_is_short))]
 pub fn write_log<O: Sink>(
     alloc: Global,
@@ -23,6 +23,9 @@ pub fn write_log<O: Sink>(
     ensures cause { IfErr result (WriteStops (O.faults out.old) (O.faults out.new)) }
     ensures later { O.faults out.old ≤ O.faults out.new }
 {
+    if !out.keeps() {
+        return Ok(());
+    }
     let log = machine.log();
     write_entries(alloc, machine.model(), from as u32, &log[from..], out)
 }

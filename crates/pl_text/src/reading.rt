@@ -66,13 +66,16 @@ impl<'a> Scanner<'a> {
     }
 }
 
+// Few lines have more words.
+const USUAL: usize = 12;
+
 /// The tokens of a text, or its first fault.
 pub fn tokens(alloc: Global, text: &[u8]) -> Result<Vec<Token>, TextFault>
     requires { length text.now < 2 ^ 32 }
     ensures { Shows is_memory items_of result (tokens_of text.now) }
 {
     let mut scanner = Scanner {
-        found: Vec::new(alloc),
+        found: Vec::with_capacity(alloc, USUAL)?,
         rest: text,
         at: 0,
     };

@@ -3,8 +3,9 @@ ghost use Rattle.pl_journal.specs.Rendering.Words.{spaced};
 ghost use Rattle.pl_journal.specs.Rendering.Lines.{value_word, value_words, values_words, command_words};
 
 use crate::rendering::names::{kind_name, kind_params};
-use crate::rendering::pushing::{push_count, push_digits, push_word};
+use crate::rendering::pushing::{push_count, push_word};
 use pl_model::{Model, Param};
+use pl_text::push_number;
 use std::alloc::AllocError;
 
 #[tactic(auto, using(crate::proofs::AboutRendering::Texts::value_joined))]
@@ -13,7 +14,7 @@ fn push_named(out: &mut Vec<u8>, name: &[u8], value: i64) -> Result<(), AllocErr
 {
     push_word(out, name)?;
     out.extend_from_slice(b"=")?;
-    push_digits(out, value)?;
+    push_number(out, value)?;
     Ok(())
 }
 

@@ -2,9 +2,9 @@ ghost use Rattle.std.specs.Prelude.{◌≡◌, IfOk};
 ghost use Rattle.pl_journal.specs.Rendering.Lines.{line_of};
 
 use crate::rendering::events::push_event;
-use crate::rendering::pushing::push_digits;
 use pl_entry::Entry;
 use pl_model::Model;
+use pl_text::push_number;
 use std::alloc::{AllocError, Global};
 
 // Few lines are longer.
@@ -22,7 +22,7 @@ pub fn render(
     ensures line { IfOk result (λ line. line.items ≡ line_of model.now number entry.now) }
 {
     let mut line = Vec::with_capacity(alloc, USUAL)?;
-    push_digits(&mut line, i64::from(number))?;
+    push_number(&mut line, i64::from(number))?;
     push_event(&mut line, model, &entry.event, &entry.reply)?;
     line.push(b'\n')?;
     Ok(line)

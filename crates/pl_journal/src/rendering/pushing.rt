@@ -2,17 +2,8 @@ ghost use Rattle.std.specs.Prelude.{◌≡◌, [], ◌∷◌, ◌++◌, OnOk, de
 ghost use Rattle.std.specs.Fmt.{signed_decimal};
 ghost use Rattle.pl_journal.specs.Rendering.Words.{spaced};
 
-use itoa::Buffer;
+use pl_text::push_number;
 use std::alloc::AllocError;
-
-/// Appends the decimal digits, behind a `-` where the value is negative.
-pub fn push_digits(out: &mut Vec<u8>, value: i64) -> Result<(), AllocError>
-    ensures { OnOk result (out.new.items ≡ out.old.items ++ signed_decimal value) }
-{
-    let mut digits = Buffer::new();
-    out.extend_from_slice(digits.format(value).as_bytes())?;
-    Ok(())
-}
 
 /// Appends a blank and a word.
 #[tactic(auto, using(crate::proofs::AboutRendering::Texts::word_joined))]
@@ -30,7 +21,7 @@ pub fn push_value(out: &mut Vec<u8>, value: i64) -> Result<(), AllocError>
     ensures { OnOk result (out.new.items ≡ out.old.items ++ spaced (signed_decimal value ∷ [])) }
 {
     out.extend_from_slice(b" ")?;
-    push_digits(out, value)?;
+    push_number(out, value)?;
     Ok(())
 }
 

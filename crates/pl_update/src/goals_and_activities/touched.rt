@@ -89,6 +89,9 @@ fn add_children(
     Ok(())
 }
 
+// Few changes concern more goals.
+const USUAL: usize = 4;
+
 #[tactic(auto, unfolding(crate::specs::GoalsAndActivities::Touched::touched_goals))]
 fn numbers_touched(
     alloc: Global,
@@ -98,7 +101,7 @@ fn numbers_touched(
 ) -> Result<Vec<u32>, AllocError>
     ensures { IfOk result (λ numbers. numbers.items ≡ touched_goals s.now gone.now placed.now) }
 {
-    let mut numbers = Vec::new(alloc);
+    let mut numbers = Vec::with_capacity(alloc, USUAL)?;
     add_served_before(s, gone, &mut numbers)?;
     add_served_after(placed, &mut numbers)?;
     Ok(numbers)

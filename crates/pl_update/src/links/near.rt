@@ -47,6 +47,9 @@ fn add_all_own_and_parent(placed: &[Activity], ids: &mut Vec<u32>) -> Result<(),
     Ok(())
 }
 
+// Few changes concern more.
+const USUAL: usize = 8;
+
 /// The ids of what goes or comes, and of the parents of these.
 #[tactic(auto, unfolding(crate::specs::Links::Near::near))]
 pub(crate) fn near(
@@ -57,7 +60,7 @@ pub(crate) fn near(
 ) -> Result<Vec<u32>, AllocError>
     ensures { IfOk result (λ ids. ids.items ≡ near s.now gone.now placed.now) }
 {
-    let mut ids = Vec::new(alloc);
+    let mut ids = Vec::with_capacity(alloc, USUAL)?;
     add_all_ids_at(s, gone, &mut ids)?;
     add_all_own_and_parent(placed, &mut ids)?;
     Ok(ids)
