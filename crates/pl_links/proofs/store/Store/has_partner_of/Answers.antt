@@ -15,7 +15,7 @@ returns-in-Start c =
     let keys = c.self.inside.files.starts in
     let within : (m : ℕ) → m < 2 ^ 32 → in_window c.window_after-window.result m ≡ is_apart link.low link.high c.args.mine m = λ m lt. search (rules, c.window_after-window.ensures.within m lt) in
     let lies = any_within link.kind c.window_after-window.result (is_apart link.low link.high c.args.mine) (λ (k : Key). is_other c.args.own c.args.gone k.id) keys c.has_other.ensures.short within in
-    rw (c.in-Start.is, ← c.self.view_is) (c.has_other.ensures.other ∙ lies ∙ partner_found c.args.gone (values_of c.self.inside.items.entries) keys c.self.invariant.rising Start c.self.invariant.filed.starts c.args.own link.kind c.args.mine link.low link.high)
+    rw (c.in-Start.is, ← c.self.view_is) (c.has_other.ensures.other ∙ lies ∙ partner_found c.args.gone (values_of c.self.inside.items.entries) keys c.self.invariant.rising c.self.inside.files.asked Start c.self.invariant.filed.starts c.args.own link.kind c.args.mine (on c) link.low link.high)
 
 pub returns-in-End : goal.returns-in-End
 returns-in-End c =
@@ -23,4 +23,4 @@ returns-in-End c =
     let keys = c.self.inside.files.ends in
     let within : (m : ℕ) → m < 2 ^ 32 → in_window c.window_after-window.result m ≡ is_apart link.low link.high c.args.mine m = λ m lt. search (rules, c.window_after-window.ensures.within m lt) in
     let lies = any_within link.kind c.window_after-window.result (is_apart link.low link.high c.args.mine) (λ (k : Key). is_other c.args.own c.args.gone k.id) keys c.has_other-in-End.ensures.short within in
-    rw (c.in-End.is, ← c.self.view_is) (c.has_other-in-End.ensures.other ∙ lies ∙ partner_found c.args.gone (values_of c.self.inside.items.entries) keys c.self.invariant.rising End c.self.invariant.filed.ends c.args.own link.kind c.args.mine link.low link.high)
+    rw (c.in-End.is, ← c.self.view_is) (c.has_other-in-End.ensures.other ∙ lies ∙ partner_found c.args.gone (values_of c.self.inside.items.entries) keys c.self.invariant.rising c.self.inside.files.asked End c.self.invariant.filed.ends c.args.own link.kind c.args.mine (on c) link.low link.high)
