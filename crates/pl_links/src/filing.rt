@@ -56,13 +56,12 @@ impl Files {
         ensures ok { OnOk result (GrowFiles item.now self.old self.new) }
         ensures err { OnErr result (StayFiles item.now self.old self.new) }
     {
-        self.starts
-            .insert(point_place(&self.asked, Point::Start, item), item.id)?;
+        let place = point_place(&self.asked, Point::Start, item);
+        self.starts.insert(place, item.id)?;
         match self.insert_rest(item) {
             Ok(()) => Ok(()),
             Err(e) => {
-                self.starts
-                    .remove(point_place(&self.asked, Point::Start, item), item.id);
+                self.starts.remove(place, item.id);
                 Err(e)
             }
         }
@@ -79,13 +78,12 @@ impl Files {
             self.old.ends self.new.ends) }
         ensures same { OnErr result (self.new.children ≡ self.old.children) }
     {
-        self.ends
-            .insert(point_place(&self.asked, Point::End, item), item.id)?;
+        let place = point_place(&self.asked, Point::End, item);
+        self.ends.insert(place, item.id)?;
         match self.children.insert(item.parent, item.id) {
             Ok(()) => Ok(()),
             Err(e) => {
-                self.ends
-                    .remove(point_place(&self.asked, Point::End, item), item.id);
+                self.ends.remove(place, item.id);
                 Err(e)
             }
         }

@@ -3,7 +3,6 @@
 ghost use Rattle.std.specs.Prelude.{◌≡◌, ◌++◌, OnOk};
 ghost use Rattle.std.specs.List.{list_any};
 ghost use Rattle.std.specs.Map.{values_of};
-ghost use Rattle.pl_links.specs.Broken.{are_apart};
 ghost use Rattle.pl_links.specs.Filed.{is_partner_but};
 ghost use Rattle.pl_links.specs.Near.{owners_all};
 
