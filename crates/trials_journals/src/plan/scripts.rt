@@ -70,6 +70,7 @@ fn settles_behind<R: Abort + Wait>(
     requires executive { BelongsTo plan.now executive.old }
     ensures planner { BelongsTo plan.now pass.new }
     ensures executive { BelongsTo plan.now executive.new }
+    ensures crew { crew_of pass.new ≡ crew_of pass.old }
 {
     match plan.view(rt, alloc, pass, role) {
         Ok(View::Copy(sight)) => {
