@@ -1,5 +1,5 @@
 //! Goals that found no way are tried again, others giving way.
-ghost use Rattle.std.specs.Prelude.{◌≡◌, false, IfOk, OnOk};
+ghost use Rattle.std.specs.Prelude.{◌≡◌, false, OnOk};
 
 use crate::branching::GivingUp;
 use crate::draft::Draft;
@@ -25,21 +25,48 @@ fn displaced(alloc: Global, plan: &Board, before: &Board) -> Result<Vec<Conflict
     Ok(goals)
 }
 
-// A copy of the plan with some repairs, and then as many of the goals served that gave way as can be.
-fn copy_behind(
+// Makes some repairs of a plan, and serves as many of the goals as can be that gave way by them.
+fn serve_again(
     tries: &mut Tries,
     failures: &Failures,
-    draft: &Draft,
+    before: &Board,
+    other: &mut Draft,
     way: &Node,
-) -> Result<Draft, AllocError>
-    requires { draft.now.board.spoiled ≡ false }
-    ensures { IfOk result (λ d. d.board.spoiled ≡ false) }
+) -> Result<(), AllocError>
+    requires { other.old.board.spoiled ≡ false }
+    ensures { OnOk result (other.new.board.spoiled ≡ false) }
 {
-    let mut other = draft.copy(tries.alloc)?;
     other.follow(tries.alloc, way)?;
-    let goals = displaced(tries.alloc, &other.board, &draft.board)?;
+    let goals = displaced(tries.alloc, &other.board, before)?;
     other.serve(tries, failures, goals.as_slice())?;
-    Ok(other)
+    Ok(())
+}
+
+// Goes on with the other plan where it serves more goals.
+fn take_better(draft: &mut Draft, other: &mut Draft)
+    requires plan { draft.old.board.spoiled ≡ false }
+    requires other { other.old.board.spoiled ≡ false }
+    ensures { draft.new.board.spoiled ≡ false }
+{
+    if other.look.unserved < draft.look.unserved {
+        std::mem::swap(draft, other);
+    }
+}
+
+fn serve_and_take(
+    tries: &mut Tries,
+    failures: &Failures,
+    draft: &mut Draft,
+    other: &mut Draft,
+    way: &Node,
+) -> Result<(), AllocError>
+    requires plan { draft.old.board.spoiled ≡ false }
+    requires other { other.old.board.spoiled ≡ false }
+    ensures { OnOk result (draft.new.board.spoiled ≡ false) }
+{
+    serve_again(tries, failures, &draft.board, other, way)?;
+    take_better(draft, other);
+    Ok(())
 }
 
 // Takes the way, and goes on with what comes of it where more goals are served then.
@@ -52,11 +79,8 @@ fn try_way(
     requires { draft.old.board.spoiled ≡ false }
     ensures { OnOk result (draft.new.board.spoiled ≡ false) }
 {
-    let other = copy_behind(tries, failures, draft, way)?;
-    if other.look.unserved < draft.look.unserved {
-        *draft = other;
-    }
-    Ok(())
+    let mut other = draft.copy(tries.alloc)?;
+    serve_and_take(tries, failures, draft, &mut other, way)
 }
 
 // Serves the goal of a conflict where others give way, if more goals are served then.

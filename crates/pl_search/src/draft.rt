@@ -55,9 +55,10 @@ impl Draft {
         requires { self.now.board.spoiled ≡ false }
         ensures { IfOk result (λ d. d.board.spoiled ≡ false) }
     {
+        let path = Vec::from_slice(alloc, self.path.as_slice())?;
         Ok(Draft {
             board: self.board.copy(alloc)?,
-            path: Vec::from_slice(alloc, self.path.as_slice())?,
+            path,
             look: self.look,
             turns: self.turns,
             worlds: self.worlds,

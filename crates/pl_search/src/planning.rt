@@ -18,6 +18,26 @@ fn count_failures(failures: &mut Failures, failed: &[Conflict]) -> Result<(), Al
     Ok(())
 }
 
+// Mends the plan of a draft and serves its goals. The repairs that lead to it are handed out, the last first.
+fn work_out(
+    tries: &mut Tries,
+    failures: &mut Failures,
+    draft: &mut Draft,
+) -> Result<Vec<Proposal>, AllocError>
+    requires { draft.old.board.spoiled ≡ false }
+{
+    draft.mend_all(tries)?;
+    let goals = open_goals(tries.alloc, &draft.board)?;
+    draft.serve(tries, failures, goals.as_slice())?;
+    let failed = open_goals(tries.alloc, &draft.board)?;
+    displace(tries, failures, draft, failed.as_slice())?;
+    let failed = open_goals(tries.alloc, &draft.board)?;
+    count_failures(failures, failed.as_slice())?;
+    let mut path = Vec::from_slice(tries.alloc, draft.path.as_slice())?;
+    path.reverse();
+    Ok(path)
+}
+
 /// The repairs that lead to the plan of a message, the last first, and at most so many.
 pub(crate) fn plan(
     tries: &mut Tries,
@@ -28,15 +48,7 @@ pub(crate) fn plan(
 ) -> Result<Vec<Proposal>, AllocError>
     requires { board.now.spoiled ≡ false }
 {
+    // A draft is let go in one place alone: wherever it is, a proof goes through all that its board holds.
     let mut draft = Draft::new(tries.alloc, board, turns, worlds)?;
-    draft.mend_all(tries)?;
-    let goals = open_goals(tries.alloc, &draft.board)?;
-    draft.serve(tries, failures, goals.as_slice())?;
-    let failed = open_goals(tries.alloc, &draft.board)?;
-    displace(tries, failures, &mut draft, failed.as_slice())?;
-    let failed = open_goals(tries.alloc, &draft.board)?;
-    count_failures(failures, failed.as_slice())?;
-    let mut path = Vec::from_slice(tries.alloc, draft.path.as_slice())?;
-    path.reverse();
-    Ok(path)
+    work_out(tries, failures, &mut draft)
 }

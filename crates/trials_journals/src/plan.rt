@@ -1,6 +1,5 @@
 //! Tests of the plan that several callers act on.
 
-mod bells;
+pub mod calls;
 mod full;
-mod halves;
-pub mod shared;
+mod scripts;

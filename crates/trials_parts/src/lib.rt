@@ -6,6 +6,8 @@ mod asserting;
 #[cfg(test)]
 mod basics;
 #[cfg(test)]
+mod copies;
+#[cfg(test)]
 mod model;
 #[cfg(test)]
 mod reading;

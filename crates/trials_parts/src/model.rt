@@ -1,4 +1,4 @@
-//! Tests of models and of what is built over them: texts, checks, values, facts, messages, plans, links,
+//! Tests of models and of what is built over them: texts, checks, values, facts, messages, links,
 //! and what a machine is asked.
 
 mod commands;
@@ -6,7 +6,6 @@ mod counts;
 mod facts;
 mod links;
 mod messages;
-mod plans;
 mod rewriting;
 mod texts;
 mod values;

@@ -1,5 +1,4 @@
 //! Tests of the planning machine's calls.
 
 mod calls;
-mod mending;
 mod until_and_halt;

@@ -1,6 +1,5 @@
 //! Tests of preferences: their lines, scores of plans, and steps that better them.
 
-mod first_256;
 mod lines;
 mod plans;
 mod steps;

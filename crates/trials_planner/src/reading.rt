@@ -16,6 +16,12 @@ pub fn model(rt: &impl Abort, alloc: Global, text: &str) -> Model
     }
 }
 
+/// The front of a row and the rest of it, which ` =>` parts; nothing is left where nothing parts them.
+pub fn sides(row: &str) -> (&str, &str) {
+    let (front, rest) = row.split_once(" =>").unwrap_or((row, ""));
+    (front, rest.trim_start())
+}
+
 /// Takes the first word off; nothing is left where there is no space.
 pub fn word<'a>(rest: &mut &'a str) -> &'a str {
     let (first, more) = rest.split_once(' ').unwrap_or((*rest, ""));

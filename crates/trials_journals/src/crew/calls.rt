@@ -38,7 +38,7 @@ fn the_second_repair_is_stale(rt: HostRuntime) {
         crew,
         mut feeder,
         mut members,
-    } = hired(&rt, alloc).expect(&rt, "memory");
+    } = hired(&rt, alloc);
     tell(&rt, alloc, &crew, &mut feeder, b"goal 1 obs 10 20 must");
     let mut second = last_of(&rt, &crew, &mut members, Author::Planner(2));
     let mut first = last_of(&rt, &crew, &mut members, Author::Planner(1));
@@ -99,7 +99,7 @@ fn a_planner_stops_the_plan(rt: HostRuntime) {
         crew,
         mut feeder,
         mut members,
-    } = hired(&rt, alloc).expect(&rt, "memory");
+    } = hired(&rt, alloc);
     tell(&rt, alloc, &crew, &mut feeder, b"goal 1 obs 10 20 must");
     let mut second = last_of(&rt, &crew, &mut members, Author::Planner(2));
     let mut first = last_of(&rt, &crew, &mut members, Author::Planner(1));

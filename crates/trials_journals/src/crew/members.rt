@@ -1,5 +1,5 @@
 //! The members of a crew of two planners, and their calls, each compared with what is wanted.
-ghost use Rattle.std.specs.Prelude.{◌≡◌, ◌≢◌, [], length, true, IfOk};
+ghost use Rattle.std.specs.Prelude.{◌≡◌, ◌≢◌, [], length, true};
 ghost use Rattle.std.specs.List.{All};
 ghost use Rattle.pl_turn.specs.Passes.{seen_of, crew_of, leads, made_by, joined_by};
 ghost use Rattle.pl_marks.specs.declared.author.Author.TheVariants.{Feeder, Executive};
@@ -7,22 +7,22 @@ ghost use Rattle.pl_locked.specs.Turns.{CanSettle};
 ghost use Rattle.pl_many.specs.Members.{IsMember};
 
 use crate::asserting::holds;
-use crate::plan::shared::has_newline;
+use crate::plan::calls::has_newline;
 use crate::worked::shared_model;
 use pl_facts::Options;
 use pl_machine::Machine;
 use pl_many::{Acted, Author, Crew, Hired, Member, Sight, View};
-use std::alloc::{AllocError, Global};
+use std::alloc::Global;
 use std::process::Abort;
 use std::sync::Wait;
 
 /// A crew of two planners over a plan with nothing planned.
-pub fn hired(rt: &impl Abort, alloc: Global) -> Result<Hired, AllocError>
-    ensures feeder { IfOk result (λ hired. IsMember hired.crew hired.feeder) }
-    ensures feeds { IfOk result (λ hired. hired.feeder.author ≡ Feeder) }
-    ensures first { IfOk result (λ hired. leads hired.feeder.pass ≡ true) }
-    ensures three { IfOk result (λ hired. (made_by hired.feeder.pass ≡ 3) × (joined_by hired.feeder.pass ≡ [])) }
-    ensures members { IfOk result (λ hired. All (IsMember hired.crew) hired.members.items) }
+pub fn hired(rt: &impl Abort, alloc: Global) -> Hired
+    ensures feeder { IsMember result.crew result.feeder }
+    ensures feeds { result.feeder.author ≡ Feeder }
+    ensures first { leads result.feeder.pass ≡ true }
+    ensures three { (made_by result.feeder.pass ≡ 3) × (joined_by result.feeder.pass ≡ []) }
+    ensures members { All (IsMember result.crew) result.members.items }
 {
     let options = Options {
         turns: 8,
@@ -30,13 +30,10 @@ pub fn hired(rt: &impl Abort, alloc: Global) -> Result<Hired, AllocError>
         goals: 20000,
         entries: 250000,
     };
-    let machine = Machine::fresh(alloc, shared_model(rt, alloc), options)?;
+    let machine = Machine::fresh(alloc, shared_model(rt, alloc), options).expect(rt, "memory");
     match Crew::new(alloc, machine, 2, 7) {
-        Ok(hired) => Ok(hired),
-        Err(machine) => {
-            drop(machine);
-            Err(AllocError)
-        }
+        Ok(hired) => hired,
+        Err(_) => panic!(rt; "memory"),
     }
 }
 

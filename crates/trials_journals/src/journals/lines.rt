@@ -125,15 +125,6 @@ fn assert_said(rt: &impl Abort, alloc: Global, model: &Model, row: &str)
     holds(rt, row, said.as_str() == wanted);
 }
 
-#[test]
-fn reads_what_lines_say(rt: HostRuntime) {
-    let alloc = rt.alloc();
-    let model = model(&rt, alloc, MODEL);
-    for row in MEANT.lines() {
-        assert_said(&rt, alloc, &model, row);
-    }
-}
-
 const LINES: &str = "0 open turns 1 live 1 goals 1 entries 1
 0 open turns 1000 live 10000 goals 20000 entries 250000
 1 in ok : goal 1 obs 10 20 must
@@ -150,18 +141,6 @@ const SPARE: [&str; 4] = [
     "1 in ok : a\r",
     "1 in ok :  : ",
 ];
-
-#[test]
-fn reads_lines_back(rt: HostRuntime) {
-    let alloc = rt.alloc();
-    let model = model(&rt, alloc, MODEL);
-    for line in LINES.lines() {
-        assert_comes_back(&rt, alloc, &model, line);
-    }
-    for line in SPARE {
-        assert_comes_back(&rt, alloc, &model, line);
-    }
-}
 
 const WRONG: &str = "x
 0 open turns 0 live 1 goals 1 entries 1
@@ -226,30 +205,46 @@ fn assert_refused(rt: &impl Abort, alloc: Global, model: &Model, line: &str)
     holds(rt, line, is_refused);
 }
 
-#[test]
-fn refuses_other_lines(rt: HostRuntime) {
-    let alloc = rt.alloc();
-    let model = model(&rt, alloc, MODEL);
-    for line in WRONG.lines() {
-        assert_refused(&rt, alloc, &model, line);
-    }
-    for line in UNCLEAN {
-        assert_refused(&rt, alloc, &model, line);
-    }
-}
-
 /// A message of so many bytes, as an input that was accepted.
 fn message_line(rt: &impl Abort, alloc: Global, bytes: usize) -> String {
     let message = "x".repeat(alloc, bytes).expect(rt, "memory");
     format!(in alloc; "1 in ok : {message}").expect(rt, "memory")
 }
 
+/// Asserts that lines are read back.
+fn assert_read(rt: &impl Abort, alloc: Global, model: &Model)
+    requires { IsChecked model.now }
+{
+    for row in MEANT.lines() {
+        assert_said(rt, alloc, model, row);
+    }
+    for line in LINES.lines() {
+        assert_comes_back(rt, alloc, model, line);
+    }
+    for line in SPARE {
+        assert_comes_back(rt, alloc, model, line);
+    }
+    let longest = message_line(rt, alloc, 4096);
+    assert_comes_back(rt, alloc, model, longest.as_str());
+}
+
+/// Asserts that other lines are refused.
+fn assert_others(rt: &impl Abort, alloc: Global, model: &Model)
+    requires { IsChecked model.now }
+{
+    for line in WRONG.lines() {
+        assert_refused(rt, alloc, model, line);
+    }
+    for line in UNCLEAN {
+        assert_refused(rt, alloc, model, line);
+    }
+    let longer = message_line(rt, alloc, 4097);
+    assert_refused(rt, alloc, model, longer.as_str());
+}
+
 #[test]
-fn reads_messages_up_to_their_limit(rt: HostRuntime) {
-    let alloc = rt.alloc();
-    let model = model(&rt, alloc, MODEL);
-    let longest = message_line(&rt, alloc, 4096);
-    assert_comes_back(&rt, alloc, &model, longest.as_str());
-    let longer = message_line(&rt, alloc, 4097);
-    assert_refused(&rt, alloc, &model, longer.as_str());
+fn reads_lines(rt: HostRuntime) {
+    let model = model(&rt, rt.alloc(), MODEL);
+    assert_read(&rt, rt.alloc(), &model);
+    assert_others(&rt, rt.alloc(), &model);
 }

@@ -26,13 +26,6 @@ fn a_list_and_its_copy(rt: HostRuntime) {
     holds(&rt, "as a vector", others.as_slice() == b"ca".as_slice());
 }
 
-#[test]
-fn a_list_of_nothing(rt: HostRuntime) {
-    let mut none: Items<u8> = Items::from_vec(Vec::new(rt.alloc()));
-    holds(&rt, "it is empty", none.is_empty());
-    holds(&rt, "no last", none.pop().is_none());
-}
-
 /// A number, and another or none.
 type Pair = (u32, Option<i64>);
 
@@ -52,13 +45,4 @@ fn a_boxed_list(rt: HostRuntime) {
     let is = text.as_str() == "[(7, Some(-3)), (8, None)]";
     holds(&rt, "the pairs", is);
     holds(&rt, "two", again.into_inner().len() == 2);
-}
-
-#[test]
-fn plain_values_are_copied(rt: HostRuntime) {
-    let alloc = rt.alloc();
-    let yes = true.copy(alloc).expect(&rt, "memory");
-    holds(&rt, "a truth value", yes);
-    let five = 5u64.copy(alloc).expect(&rt, "memory");
-    holds(&rt, "a number", five == 5);
 }

@@ -15,7 +15,7 @@ fn said(rt: &impl Abort, alloc: Global, text: &[u8]) -> Result<String, AllocErro
 
 fn assert_said(rt: &impl Abort, alloc: Global, text: &[u8], wanted: &str) {
     let said = said(rt, alloc, text).expect(rt, "memory");
-    assert!(rt; said.as_str() == wanted, "{said}");
+    holds(rt, wanted, said.as_str() == wanted);
 }
 
 const THREE: &str =

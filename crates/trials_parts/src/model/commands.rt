@@ -1,95 +1,13 @@
-ghost use Rattle.std.specs.Prelude.{◌≡◌, [], true, IfOk};
-ghost use Rattle.pl_plan.specs.Fitting.{Fits};
-ghost use Rattle.trials_parts.specs.Model.Samples.{HasTwoKinds, root, four};
-
+//! How far a commit may go, and the copy of an entry.
 use crate::asserting::holds;
-use crate::model::plans::parameters;
 use crate::reading::{model, number, word};
 use pl_conflict::{Code, Conflict};
-use pl_entry::{Entry, Event, Reply, best, due, target};
+use pl_entry::{Entry, Event, Reply, best, target};
 use pl_lists::{Copied, Items};
-use pl_model::Model;
-use pl_plan::{Activity, Plan};
 use std::alloc::{AllocError, Global};
 use std::process::Abort;
 
-const MODEL: &str =
-    "horizon 100 lead 30 kind a { duration 5 } kind b { duration 5 alternative { slot s a } }";
-
-/// Whether the plan below may stand over the model.
-fn has_two_kinds(model: &Model) -> bool
-    ensures { result ≡ true → HasTwoKinds model.now }
-{
-    model.horizon > 40
-        && model.kinds.len() == 2
-        && parameters(model, 0) == 0
-        && parameters(model, 1) == 0
-}
-
-fn activity(alloc: Global, id: u32, kind: u32, start: u32) -> Activity
-    ensures { result ≡ root id kind start }
-{
-    Activity {
-        id,
-        kind,
-        start,
-        parent: None,
-        goal: None,
-        detail: None,
-        set: Items::new(alloc),
-        measured: None,
-    }
-}
-
-/// 1 and 4 at 40, 3 at 10, and 2, whose kind has an alternative, at 5.
-fn plan(alloc: Global) -> Result<Plan, AllocError>
-    ensures { IfOk result (λ p. p.activities ≡ four) }
-{
-    let mut plan = Plan::new(alloc);
-    plan.put(activity(alloc, 1, 0, 40))?;
-    plan.put(activity(alloc, 2, 1, 5))?;
-    plan.put(activity(alloc, 3, 0, 10))?;
-    plan.put(activity(alloc, 4, 0, 40))?;
-    Ok(plan)
-}
-
-#[tactic(auto, using(crate::proofs::AboutModel::Fitting::four_fit))]
-fn sample(rt: &impl Abort, alloc: Global) -> (Model, Plan)
-    ensures { Fits result.0 result.1.activities }
-{
-    let model = model(rt, alloc, MODEL);
-    holds(rt, "two kinds", has_two_kinds(&model));
-    let plan = plan(alloc).expect(rt, "memory");
-    (model, plan)
-}
-
-/// Moments, how far is committed, and what is due.
-const DUE: &str = "50 100 [3, 1, 4]
-40 41 [3, 1, 4]
-50 40 [3]
-39 100 [3]
-9 100 []";
-
-/// Whether what a row says is due.
-fn is_due(rt: &impl Abort, alloc: Global, model: &Model, plan: &Plan, row: &str) -> bool
-    requires { Fits model.now plan.now.activities }
-{
-    let mut rest = row;
-    let now = number(&mut rest);
-    let committed = number(&mut rest);
-    let ids = due(alloc, model, plan, now, committed).expect(rt, "memory");
-    let text = format!(in alloc; "{ids:?}").expect(rt, "memory");
-    text.as_str() == rest
-}
-
-#[test]
-fn due_activities_in_start_order(rt: HostRuntime) {
-    let alloc = rt.alloc();
-    let (model, plan) = sample(&rt, alloc);
-    for row in DUE.lines() {
-        holds(&rt, row, is_due(&rt, alloc, &model, &plan, row));
-    }
-}
+const MODEL: &str = "horizon 100 lead 30 kind a { duration 5 }";
 
 fn conflict(from: u32) -> Conflict {
     Conflict {

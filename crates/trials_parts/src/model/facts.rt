@@ -3,7 +3,7 @@ ghost use Rattle.pl_facts.specs.Bases.{first_bases};
 
 use crate::asserting::holds;
 use crate::reading::{model, number, word};
-use pl_facts::{Bases, Goal, Goals, Options};
+use pl_facts::{Bases, Goal, Goals};
 use pl_lists::{Copied, Items};
 use pl_model::{Model, Timeline};
 use std::alloc::Global;
@@ -133,16 +133,4 @@ fn bases_of_a_model(rt: HostRuntime) {
     let after = bases.copy(alloc).expect(&rt, "memory");
     holds(&rt, "the level then", after.get(1) == (40, 90));
     holds(&rt, "the state then", after.get(2) == (-1, 2));
-}
-
-#[test]
-fn options_are_copied(rt: HostRuntime) {
-    let options = Options {
-        turns: 5,
-        live: 10,
-        goals: 2,
-        entries: 40,
-    };
-    let copy = options.copy(rt.alloc()).expect(&rt, "memory");
-    holds(&rt, "the copy", copy == options);
 }

@@ -120,10 +120,3 @@ fn a_second_shot_follows_the_first(rt: HostRuntime) {
     links.place(&model, &shot(3, 25, 1)).expect(&rt, "memory");
     assert_broken(&rt, alloc, &links, &model, true);
 }
-
-#[test]
-fn items_are_copied(rt: HostRuntime) {
-    let scan = scan();
-    let copy = scan.copy(rt.alloc()).expect(&rt, "memory");
-    holds(&rt, "the copy", copy == scan);
-}

@@ -1,9 +1,9 @@
-ghost use Rattle.std.specs.Prelude.{◌≡◌, ◌<◌, ◌≤◌, ◌≤ℤ◌, pos, true, false, [], ◌∷◌, ◌++◌, length};
+ghost use Rattle.std.specs.Prelude.{◌≡◌, ◌≤◌, ◌≤ℤ◌, pos, true, false, [], ◌∷◌, ◌++◌, length};
 ghost use Rattle.pl_points.specs.Standing.{without, stands};
 ghost use Rattle.pl_capacity.specs.Uses.{IsUse, use_of, same_use};
 
-use crate::asserting::{holds, is_copied};
-use pl_capacity::{Capacity, Use};
+use crate::asserting::holds;
+use pl_capacity::Capacity;
 use pl_lists::Copied;
 use pl_points::{Change, PlainPoints, Quiet, Span, Steps};
 use std::alloc::{AllocError, Global};
@@ -54,13 +54,6 @@ fn advance(rt: &impl Abort, capacity: &mut Capacity<PlainPoints>, now: u32) -> C
     change.expect(rt, "memory")
 }
 
-fn at(capacity: &Capacity<PlainPoints>, t: u32) -> i64
-    requires now { capacity.now.moment ≤ t }
-    requires before_horizon { t < capacity.now.horizon }
-{
-    capacity.at(t, &mut Steps::new(Quiet))
-}
-
 // Whether the capacity is above its most nowhere.
 fn has_none(capacity: &Capacity<PlainPoints>) -> bool {
     !capacity.spoiled() && capacity.spans().is_empty()
@@ -90,16 +83,6 @@ fn overlapped(rt: &impl Abort, alloc: Global) -> Capacity<PlainPoints>
 }
 
 #[test]
-fn two_uses_that_overlap(rt: HostRuntime) {
-    let camera = overlapped(&rt, rt.alloc());
-    holds(&rt, "the span", has_one(&camera, 10, 15));
-    holds(&rt, "at 9", at(&camera, 9) == 6);
-    holds(&rt, "at 10", at(&camera, 10) == 12);
-    holds(&rt, "at 15", at(&camera, 15) == 6);
-    holds(&rt, "at 20", at(&camera, 20) == 0);
-}
-
-#[test]
 fn a_use_that_goes(rt: HostRuntime) {
     let mut camera = overlapped(&rt, rt.alloc());
     let copy = camera.copy(rt.alloc()).expect(&rt, "memory");
@@ -111,30 +94,4 @@ fn a_use_that_goes(rt: HostRuntime) {
     holds(&rt, "nothing that came", gone.came.is_empty());
     holds(&rt, "no span", has_none(&camera));
     holds(&rt, "the copy", has_one(&copy, 10, 15));
-}
-
-#[test]
-fn uses_that_adjoin(rt: HostRuntime) {
-    let mut apart = started(rt.alloc(), 100, 10);
-    add(&rt, &mut apart, 5, 15, 6);
-    add(&rt, &mut apart, 15, 25, 6);
-    holds(&rt, "no span", has_none(&apart));
-}
-
-#[test]
-fn spans_that_adjoin(rt: HostRuntime) {
-    let mut one = started(rt.alloc(), 100, 10);
-    add(&rt, &mut one, 10, 30, 6);
-    add(&rt, &mut one, 10, 20, 6);
-    let last = add(&rt, &mut one, 20, 30, 6);
-    holds(&rt, "one span", has_one(&one, 10, 30));
-    holds(&rt, "what went", is_one(last.went.as_slice(), 10, 20));
-    holds(&rt, "what came", is_one(last.came.as_slice(), 10, 30));
-}
-
-#[test]
-fn a_use_and_its_copy(rt: HostRuntime) {
-    let (from, to, amount) = (1, 2, 3);
-    let one = Use { from, to, amount };
-    holds(&rt, "the copy", is_copied(&rt, rt.alloc(), &one));
 }

@@ -2,9 +2,9 @@ ghost use Rattle.std.specs.Prelude.{◌≡◌, ◌<◌, ◌≤◌, ◌≤ℤ◌,
 ghost use Rattle.pl_points.specs.Standing.{without, stands};
 ghost use Rattle.pl_level.specs.Effects.{IsEffect, IsValue, effect_of, same_effect};
 
-use crate::asserting::{holds, is_copied};
+use crate::asserting::holds;
 use crate::timelines::capacities::is_one;
-use pl_level::{Effect, Level, LevelChange};
+use pl_level::{Level, LevelChange};
 use pl_lists::Copied;
 use pl_points::{PlainPoints, Quiet, Steps};
 use std::alloc::{AllocError, Global};
@@ -61,24 +61,9 @@ fn at(level: &Level<PlainPoints>, t: u32) -> i64
     level.at(t, &mut Steps::new(Quiet))
 }
 
-// Whether the level stays within its limits.
-fn has_none(level: &Level<PlainPoints>) -> bool {
-    !level.spoiled() && level.low_spans().is_empty() && level.high_spans().is_empty()
-}
-
 // Whether the level is below its least in this span alone, and never above its most.
 fn has_low(level: &Level<PlainPoints>, from: u32, to: u32) -> bool {
     !level.spoiled() && is_one(level.low_spans(), from, to) && level.high_spans().is_empty()
-}
-
-#[test]
-fn an_effect_at_the_horizon(rt: HostRuntime) {
-    let mut battery = started(rt.alloc(), 100, 0, 100, 20);
-    let late = add(&rt, &mut battery, 100, -30);
-    holds(&rt, "nothing low", late.low.came.is_empty());
-    holds(&rt, "nothing high", late.high.came.is_empty());
-    holds(&rt, "at 99", at(&battery, 99) == 20);
-    holds(&rt, "no span", has_none(&battery));
 }
 
 // At the moment 50, with an effect there and one a moment later.
@@ -115,12 +100,6 @@ fn an_effect_that_goes(rt: HostRuntime) {
 }
 
 #[test]
-fn a_start_at_its_least(rt: HostRuntime) {
-    let least = started(rt.alloc(), 100, 5, 9, 5);
-    holds(&rt, "no span", has_none(&least));
-}
-
-#[test]
 fn a_start_outside_its_limits(rt: HostRuntime) {
     let mut low = started(rt.alloc(), 100, 5, 9, 4);
     holds(&rt, "always low", has_low(&low, 0, 100));
@@ -136,10 +115,4 @@ fn a_start_outside_its_limits(rt: HostRuntime) {
     holds(&rt, "high spans", is_one(low.high_spans(), 10, 100));
     let copy = raised.copy(rt.alloc()).expect(&rt, "memory");
     holds(&rt, "the copy", is_one(copy.low.went.as_slice(), 0, 100));
-}
-
-#[test]
-fn an_effect_and_its_copy(rt: HostRuntime) {
-    let effect = Effect { at: 3, delta: -4 };
-    holds(&rt, "the copy", is_copied(&rt, rt.alloc(), &effect));
 }

@@ -1,11 +1,11 @@
 //! Scripts of calls of a state timeline, each with its answer.
 ghost use Rattle.std.specs.Prelude.{◌≡◌, ◌<◌, ◌≤◌, OnOk};
 
-use crate::asserting::{holds, is_copied};
+use crate::asserting::holds;
 use crate::reading::{number, word};
 use crate::timelines::asking::{Asked, ask};
 use pl_lists::Copied;
-use pl_state::{BadSet, BrokenMust, Must, Setting, StateTimeline};
+use pl_state::{Must, Setting, StateTimeline};
 use std::alloc::{AllocError, Global};
 use std::process::Abort;
 
@@ -94,7 +94,7 @@ fn play(rt: &impl Abort, alloc: Global, timeline: &mut StateTimeline, moment: u3
     for row in script.lines() {
         let (call, wanted) = row.split_once(" = ").unwrap_or((row, ""));
         let text = answer(rt, alloc, timeline, moment, call).expect(rt, "memory");
-        assert!(rt; text.starts_with(wanted), "{row}: {text}");
+        holds(rt, row, text.starts_with(wanted));
     }
     holds(rt, "enough memory", !timeline.spoiled());
 }
@@ -105,12 +105,6 @@ at 9 = 0
 at 10 = 2
 wrong = [] []";
 
-#[test]
-fn two_sets_at_one_moment(rt: HostRuntime) {
-    let mut timeline = camera(&rt, rt.alloc());
-    play(&rt, rt.alloc(), &mut timeline, 0, LOW_ID_FIRST);
-}
-
 const LOW_ID_LAST: &str = "put 10 3 2
 put 10 7 1 = StateChange { musts_went: Items { items: [] }, musts_came: Items { items: [] }, steps_went: Items { items: [] }, steps_came: Items { items: [BadSet { at: 10, id: 7, index: 0 }] } }
 at 10 = 1
@@ -119,9 +113,11 @@ take 10 3 2 = StateChange { musts_went: Items { items: [] }, musts_came: Items {
 wrong = [] []";
 
 #[test]
-fn two_sets_the_other_way(rt: HostRuntime) {
-    let mut timeline = camera(&rt, rt.alloc());
-    play(&rt, rt.alloc(), &mut timeline, 0, LOW_ID_LAST);
+fn two_sets_at_one_moment(rt: HostRuntime) {
+    for script in [LOW_ID_FIRST, LOW_ID_LAST] {
+        let mut timeline = camera(&rt, rt.alloc());
+        play(&rt, rt.alloc(), &mut timeline, 0, script);
+    }
 }
 
 // A must from 20 up to 40 whose state comes at 25.
@@ -157,40 +153,4 @@ fn a_must_and_the_base(rt: HostRuntime) {
     play(&rt, alloc, &mut timeline, 0, LATE);
     timeline.advance(22).expect(&rt, "memory");
     play(&rt, alloc, &mut timeline, 22, AT_22);
-}
-
-#[test]
-fn a_set_and_a_must_are_copied(rt: HostRuntime) {
-    let (at, id, index, state) = (1, 2, 3, 0);
-    let set = Setting {
-        at,
-        id,
-        index,
-        state,
-    };
-    holds(&rt, "a set", is_copied(&rt, rt.alloc(), &set));
-    let (from, to) = (1, 2);
-    let must = Must {
-        from,
-        to,
-        id,
-        index,
-        state,
-    };
-    holds(&rt, "a must", is_copied(&rt, rt.alloc(), &must));
-}
-
-#[test]
-fn what_is_wrong_is_copied(rt: HostRuntime) {
-    let (at, id, index) = (1, 2, 0);
-    let bad = BadSet { at, id, index };
-    holds(&rt, "a bad step", is_copied(&rt, rt.alloc(), &bad));
-    let (from, to) = (3, 40);
-    let broken = BrokenMust {
-        id,
-        index,
-        from,
-        to,
-    };
-    holds(&rt, "a broken must", is_copied(&rt, rt.alloc(), &broken));
 }

@@ -1,83 +1,30 @@
 //! Moves that are tried, and stay made where they leave few enough conflicts.
-use crate::asserting::{assert_printed, holds};
-use crate::board::boards::changed;
-use crate::board::changes::assert_can_move;
-use crate::board::reading::repair;
-use crate::board::values::assert_conflicts;
-use pl_moves::{attempt, legal, make};
-use pl_points::{Quiet, Steps};
-use std::alloc::Global;
-use std::process::Abort;
+use crate::board::questions::{Asked, Table, assert_tables};
 
 const CAPACITY: &str = "horizon 100 lead 30 capacity cam 10
 kind short { duration 10 use cam 6 }";
 
-/// Two uses that overlap, and an open goal: two conflicts, and 3 is the next id.
-const CHANGES: &str = "add 0 5;add 0 10;goal 1 40 60 may";
+/// Two uses that overlap, and an open goal: two conflicts, and 3 is the next id. How many conflicts are enough, a move, what comes of
+/// it with the next id, and what is wrong then.
+const TRIED: &str =
+    "add 0 5;add 0 10;goal 1 40 60 may => 1 add 0 80 => Undone { left: 2 } 3 => 10 over 0 0 10 15;60 open-goal 1 0 40 60
+add 0 5;add 0 10;goal 1 40 60 may => 2 add 0 80 => Made 4 => 10 over 0 0 10 15;60 open-goal 1 0 40 60
+add 0 5;add 0 10;goal 1 40 60 may => 0 delete 2 => Undone { left: 1 } 3 => 10 over 0 0 10 15;60 open-goal 1 0 40 60
+add 0 5;add 0 10;goal 1 40 60 may => 1 delete 2 => Made 3 => 60 open-goal 1 0 40 60
+add 0 5;add 0 10;goal 1 40 60 may => none drop 1 => Undone { left: 1 } 3 => 10 over 0 0 10 15;60 open-goal 1 0 40 60
+add 0 5;add 0 10;goal 1 40 60 may => 1 drop 1 => Made 3 => 10 over 0 0 10 15";
 
-const BOTH: &str = "10 over 0 0 10 15;60 open-goal 1 0 40 60";
+/// The same plan where a move is made at once.
+const MADE: &str = "add 0 5;add 0 10;goal 1 40 60 may => 10 over 0 0 10 15;60 open-goal 1 0 40 60
+add 0 5;add 0 10;goal 1 40 60 may;shift 2 15 => 60 open-goal 1 0 40 60
+add 0 5;add 0 10;goal 1 40 60 may;drop 1 => 10 over 0 0 10 15";
 
-/// The next id after a legal move is tried; asserts what comes of it, and what is wrong then.
-fn assert_attempt(
-    rt: &impl Abort,
-    alloc: Global,
-    line: &str,
-    enough: Option<u32>,
-    wanted: &str,
-    conflicts: &str,
-) -> u32 {
-    let mut board = changed(rt, alloc, CAPACITY, CHANGES);
-    let mv = repair(line);
-    assert_can_move(rt, &board, &mv);
-    holds(rt, line, legal(&board, &mv).is_ok());
-    let tried = attempt(alloc, &mut board, &mv, enough, &mut Steps::new(Quiet));
-    let came = tried.expect(rt, "memory");
-    assert_printed(rt, format!(in alloc; "{came:?}"), wanted);
-    assert_conflicts(rt, alloc, &board, conflicts);
-    board.next_id()
-}
+const TABLES: [Table; 2] = [
+    (Asked::Attempt, CAPACITY, TRIED),
+    (Asked::Wrong, CAPACITY, MADE),
+];
 
 #[test]
-fn tries_an_addition(rt: HostRuntime) {
-    let alloc = rt.alloc();
-    let back = "Undone { left: 2 }";
-    let next = assert_attempt(&rt, alloc, "add 0 80", Some(1), back, BOTH);
-    holds(&rt, "the next id is back", next == 3);
-    let next = assert_attempt(&rt, alloc, "add 0 80", Some(2), "Made", BOTH);
-    holds(&rt, "the next id goes on", next == 4);
-}
-
-#[test]
-fn tries_a_deletion(rt: HostRuntime) {
-    let alloc = rt.alloc();
-    let back = "Undone { left: 1 }";
-    assert_attempt(&rt, alloc, "delete 2", Some(0), back, BOTH);
-    let open = "60 open-goal 1 0 40 60";
-    assert_attempt(&rt, alloc, "delete 2", Some(1), "Made", open);
-}
-
-#[test]
-fn tries_a_drop(rt: HostRuntime) {
-    let alloc = rt.alloc();
-    let back = "Undone { left: 1 }";
-    assert_attempt(&rt, alloc, "drop 1", None, back, BOTH);
-    let over = "10 over 0 0 10 15";
-    assert_attempt(&rt, alloc, "drop 1", Some(1), "Made", over);
-}
-
-/// Makes a legal move, and asserts what is wrong then.
-fn assert_made(rt: &impl Abort, alloc: Global, line: &str, conflicts: &str) {
-    let mut board = changed(rt, alloc, CAPACITY, CHANGES);
-    let mv = repair(line);
-    assert_can_move(rt, &board, &mv);
-    holds(rt, line, legal(&board, &mv).is_ok());
-    make(alloc, &mut board, &mv, &mut Steps::new(Quiet)).expect(rt, "memory");
-    assert_conflicts(rt, alloc, &board, conflicts);
-}
-
-#[test]
-fn makes_what_is_legal(rt: HostRuntime) {
-    let alloc = rt.alloc();
-    assert_made(&rt, alloc, "shift 2 15", "60 open-goal 1 0 40 60");
-    assert_made(&rt, alloc, "drop 1", "10 over 0 0 10 15");
+fn tries_moves(rt: HostRuntime) {
+    assert_tables(&rt, rt.alloc(), &TABLES);
 }

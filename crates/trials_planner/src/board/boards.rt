@@ -1,5 +1,4 @@
 //! Boards of a model's text.
-use crate::board::changes::change;
 use crate::reading::model;
 use pl_board::Board;
 use std::alloc::Global;
@@ -10,15 +9,4 @@ use std::sync::Arc;
 pub fn empty(rt: &impl Abort, alloc: Global, text: &str) -> Board {
     let shared = Arc::new(alloc, model(rt, alloc, text)).expect(rt, "memory");
     Board::new(alloc, shared, 10_000).expect(rt, "memory")
-}
-
-/// A board of a model's text after the changes of a script; `;` parts them.
-pub fn changed(rt: &impl Abort, alloc: Global, text: &str, script: &str) -> Board {
-    let mut board = empty(rt, alloc, text);
-    for line in script.split(';') {
-        if !line.is_empty() {
-            change(rt, alloc, &mut board, line);
-        }
-    }
-    board
 }

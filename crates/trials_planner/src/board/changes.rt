@@ -1,22 +1,21 @@
-//! Changes of a board, each by its public call.
-ghost use Rattle.std.specs.Prelude.{◌≡◌, ◌<◌, ◌≤◌, pos, false, true, length, slice_get};
+//! Changes of a board, each by its public call. None is made where it is not allowed, or where memory is wanting.
+ghost use Rattle.std.specs.Prelude.{◌≡◌, ◌<◌, ◌≤◌, pos, false, true, length, slice_get, IfSome};
 ghost use Rattle.pl_model.specs.Checked.{params_of};
 ghost use Rattle.pl_update.specs.Changes.Changes.{CanTell, CanMeasure};
 ghost use Rattle.pl_semantics.specs.Whole.{IsGoalOf};
 ghost use Rattle.pl_semantics.specs.Moves.{is_proper};
+ghost use Rattle.pl_moves.specs.Runs.{CanBeMade};
 
-use crate::asserting::holds;
 use crate::board::reading::repair;
 use crate::reading::{number, word};
 use pl_board::Board;
 use pl_facts::Goal;
 use pl_lists::Items;
 use pl_model::{Model, Timeline};
-use pl_moves::{apply, proper};
+use pl_moves::{apply, legal, proper};
 use pl_plan::RepairMove;
 use pl_points::{Ledger, Quiet, Steps};
 use std::alloc::Global;
-use std::process::Abort;
 
 fn can_tell(model: &Model, line: u32, value: u32) -> bool
     ensures { result ≡ true → CanTell (pos value) (slice_get model.now.timelines line) }
@@ -28,17 +27,20 @@ fn can_tell(model: &Model, line: u32, value: u32) -> bool
     }
 }
 
-fn tick(rt: &impl Abort, board: &mut Board, now: u32) {
-    holds(rt, "a later moment", board.now() < now);
-    holds(rt, "one within the horizon", now <= board.model().horizon);
-    let ticked = board.tick(now, &mut Steps::new(Quiet));
-    ticked.expect(rt, "memory");
+fn tick(board: &mut Board, now: u32) -> Option<()> {
+    if board.now() < now && now <= board.model().horizon {
+        board.tick(now, &mut Steps::new(Quiet)).ok()
+    } else {
+        None
+    }
 }
 
-fn commit(rt: &impl Abort, board: &mut Board, h: u32) {
-    holds(rt, "a later commit", board.committed() <= h);
-    holds(rt, "one within the horizon", h <= board.model().horizon);
-    board.commit(h).expect(rt, "memory");
+fn commit(board: &mut Board, h: u32) -> Option<()> {
+    if board.committed() <= h && h <= board.model().horizon {
+        board.commit(h).ok()
+    } else {
+        None
+    }
 }
 
 /// Whether an activity of this start has begun, is committed, and can end at a moment.
@@ -62,24 +64,21 @@ fn can_measure(board: &Board, id: u32, moment: u32) -> bool
     }
 }
 
-fn until(rt: &impl Abort, board: &mut Board, id: u32, moment: u32) {
-    holds(
-        rt,
-        "an activity that can end then",
-        can_measure(board, id, moment),
-    );
-    let told = board.until(id, moment, &mut Steps::new(Quiet));
-    told.expect(rt, "memory");
+fn until(board: &mut Board, id: u32, moment: u32) -> Option<()> {
+    if can_measure(board, id, moment) {
+        board.until(id, moment, &mut Steps::new(Quiet)).ok()
+    } else {
+        None
+    }
 }
 
-fn tell(rt: &impl Abort, board: &mut Board, line: u32, value: u32) {
-    holds(
-        rt,
-        "a value that can be told",
-        can_tell(board.model(), line, value),
-    );
-    let told = board.telemetry(line, i64::from(value), &mut Steps::new(Quiet));
-    told.expect(rt, "memory");
+fn tell(board: &mut Board, line: u32, value: u32) -> Option<()> {
+    if can_tell(board.model(), line, value) {
+        let value = i64::from(value);
+        board.telemetry(line, value, &mut Steps::new(Quiet)).ok()
+    } else {
+        None
+    }
 }
 
 /// Whether there is a first kind, and it has no parameters.
@@ -94,81 +93,105 @@ fn is_plain(model: &Model) -> bool
 }
 
 /// A goal of the first kind.
-fn goal(
-    rt: &impl Abort,
-    alloc: Global,
-    model: &Model,
-    number: u32,
-    window: (u32, u32),
-    must: bool,
-) -> Goal
-    ensures of_model { IsGoalOf model.now result }
-    ensures stays { result.dropped ≡ false }
-    ensures number { result.number ≡ number }
+fn goal(alloc: Global, model: &Model, number: u32, window: (u32, u32), must: bool) -> Option<Goal>
+    ensures of_model { IfSome result (IsGoalOf model.now) }
+    ensures stays { IfSome result (λ goal. goal.dropped ≡ false) }
+    ensures number { IfSome result (λ goal. goal.number ≡ number) }
 {
     let (earliest, latest) = window;
-    holds(rt, "a window", earliest <= latest);
-    holds(rt, "one within the horizon", latest < model.horizon);
-    holds(rt, "a kind without parameters", is_plain(model));
-    Goal {
-        number,
-        kind: 0,
-        earliest,
-        latest,
-        must,
-        presets: Items::new(alloc),
-        dropped: false,
+    if earliest <= latest && latest < model.horizon && is_plain(model) {
+        Some(Goal {
+            number,
+            kind: 0,
+            earliest,
+            latest,
+            must,
+            presets: Items::new(alloc),
+            dropped: false,
+        })
+    } else {
+        None
     }
 }
 
 /// Asks for a goal of the first kind: its number, its window, and its word.
-fn ask(rt: &impl Abort, alloc: Global, board: &mut Board, line: &str) {
+fn ask(alloc: Global, board: &mut Board, line: &str) -> Option<()> {
     let mut rest = line;
     let name = number(&mut rest);
     let window = (number(&mut rest), number(&mut rest));
-    holds(rt, "a new number", board.goals().get(name).is_none());
-    let goal = goal(rt, alloc, board.model(), name, window, rest == "must");
-    board.add_goal(goal).expect(rt, "memory");
+    if board.goals().get(name).is_some() {
+        return None;
+    }
+    let goal = goal(alloc, board.model(), name, window, rest == "must")?;
+    board.add_goal(goal).ok()
 }
 
-/// Asserts that a move may be tried on a board: it is proper.
-pub fn assert_can_move(rt: &impl Abort, board: &Board, mv: &RepairMove)
-    ensures unspoiled { board.now.spoiled ≡ false }
-    ensures next { board.now.state.next_id ≤ 3999999000 }
-    ensures proper { is_proper board.now.state mv.now ≡ true }
+/// Whether a move may be tried on a board: it is proper.
+pub fn can_move(board: &Board, mv: &RepairMove) -> bool
+    ensures unspoiled { result ≡ true → board.now.spoiled ≡ false }
+    ensures next { result ≡ true → board.now.state.next_id ≤ 3999999000 }
+    ensures proper { result ≡ true → is_proper board.now.state mv.now ≡ true }
 {
-    holds(rt, "enough memory", !board.spoiled());
-    holds(rt, "ids that are left", board.next_id() <= 3_999_999_000);
-    holds(rt, "a proper move", proper(board, mv));
+    !board.spoiled() && board.next_id() <= 3_999_999_000 && proper(board, mv)
 }
 
-/// Makes a move, which is proper.
+/// Whether a move is proper, and legal too.
+pub fn can_make(board: &Board, mv: &RepairMove) -> bool
+    ensures unspoiled { result ≡ true → board.now.spoiled ≡ false }
+    ensures next { result ≡ true → board.now.state.next_id ≤ 3999999000 }
+    ensures allowed { result ≡ true → CanBeMade board.now.state mv.now }
+{
+    can_move(board, mv) && legal(board, mv).is_ok()
+}
+
+/// Makes a move, which is legal.
 pub fn make<L: Ledger>(
-    rt: &impl Abort,
     alloc: Global,
     board: &mut Board,
     mv: &RepairMove,
     steps: &mut Steps<L>,
-) {
-    assert_can_move(rt, board, mv);
-    apply(alloc, board, mv, steps).expect(rt, "a legal move");
+) -> Option<()> {
+    if can_move(board, mv) {
+        apply(alloc, board, mv, steps).ok()
+    } else {
+        None
+    }
 }
 
 /// Makes the change of a line: `tick`, `commit`, `withdraw`, `until` with an id and a moment, `tele`, `goal` with its number,
 /// its window and its word, or a move.
-pub fn change(rt: &impl Abort, alloc: Global, board: &mut Board, line: &str) {
+fn change(alloc: Global, board: &mut Board, line: &str) -> Option<()> {
     let mut rest = line;
     let name = word(&mut rest);
     let asked = rest;
     let first = number(&mut rest);
     let second = number(&mut rest);
     match name {
-        "tick" => tick(rt, board, first),
-        "commit" => commit(rt, board, first),
-        "withdraw" => board.withdraw().expect(rt, "memory"),
-        "until" => until(rt, board, first, second),
-        "tele" => tell(rt, board, first, second),
-        "goal" => ask(rt, alloc, board, asked),
-        _ => make(rt, alloc, board, &repair(line), &mut Steps::new(Quiet)),
+        "tick" => tick(board, first),
+        "commit" => commit(board, first),
+        "withdraw" => board.withdraw().ok(),
+        "until" => until(board, first, second),
+        "tele" => tell(board, first, second),
+        "goal" => ask(alloc, board, asked),
+        _ => make(alloc, board, &repair(line), &mut Steps::new(Quiet)),
     }
+}
+
+/// Makes a change once, or as often as is said before it, as `255 times add 0 20`.
+fn change_often(alloc: Global, board: &mut Board, line: &str) -> Option<()> {
+    let (times, line) = line.split_once(" times ").unwrap_or(("1", line));
+    for _ in 0..times.parse().unwrap_or(0u32) {
+        change(alloc, board, line)?;
+    }
+    Some(())
+}
+
+/// Makes the changes of a script; `;` parts them.
+pub fn change_all(alloc: Global, board: &mut Board, script: &str) -> Option<()> {
+    for line in script.split(';') {
+        if !line.is_empty() {
+            change_often(alloc, board, line)?;
+        }
+    }
+    Some(())
 }

@@ -1,8 +1,5 @@
 //! Each code of a conflict: where it stands, and each of its numbers.
-use crate::board::boards::changed;
-use crate::board::values::assert_conflicts;
-use std::alloc::Global;
-use std::process::Abort;
+use crate::board::questions::{Asked, Table, assert_tables};
 
 pub const PLAIN: &str = "horizon 100 lead 30
 kind plain { duration 5 }
@@ -151,25 +148,15 @@ add 1 10;tele 1 1 =>
 add 2 10;tele 1 1 => 10 bad-step 1 0 15 0
 add 0 5;add 0 20 =>";
 
-/// Asserts what is wrong behind some changes.
-pub fn assert_row(rt: &impl Abort, alloc: Global, model: &str, row: &str) {
-    let (changes, wrong) = row.split_once(" =>").unwrap_or((row, ""));
-    let board = changed(rt, alloc, model, changes);
-    assert_conflicts(rt, alloc, &board, wrong.trim_start());
-}
+const TABLES: [Table; 5] = [
+    (Asked::Wrong, PLAIN, GOALS),
+    (Asked::Wrong, VALUES, WRONG_VALUES),
+    (Asked::Wrong, LINKS, BROKEN),
+    (Asked::Wrong, AMOUNTS, SPANS),
+    (Asked::Wrong, STATES, STATED),
+];
 
 #[test]
 fn tells_each_conflict(rt: HostRuntime) {
-    let tables = [
-        (PLAIN, GOALS),
-        (VALUES, WRONG_VALUES),
-        (LINKS, BROKEN),
-        (AMOUNTS, SPANS),
-        (STATES, STATED),
-    ];
-    for (model, table) in tables {
-        for row in table.lines() {
-            assert_row(&rt, rt.alloc(), model, row);
-        }
-    }
+    assert_tables(&rt, rt.alloc(), &TABLES);
 }

@@ -1,12 +1,10 @@
 //! How many steps one change of a large board takes.
-use crate::asserting::holds;
-use crate::board::boards::empty;
 use crate::board::changes::make;
+use crate::reading::{number, sides};
 use pl_board::Board;
 use pl_plan::RepairMove;
 use pl_points::{Ledger, Quiet, Steps};
 use std::alloc::Global;
-use std::process::Abort;
 
 /// Counts at run time.
 #[derive(Drop)]
@@ -24,34 +22,33 @@ impl Ledger for Counting {
     }
 }
 
-const MANY: &str = "horizon 30000 lead 30 capacity cam 10
-kind one { duration 1 use cam 1 }";
-
 /// Places one activity more of the first kind.
 fn place<L: Ledger>(
-    rt: &impl Abort,
     alloc: Global,
     board: &mut Board,
     start: u32,
     steps: &mut Steps<L>,
-) {
+) -> Option<()> {
     let one = RepairMove::Add {
         kind: 0,
         start,
         goal: None,
     };
-    make(rt, alloc, board, &one, steps);
+    make(alloc, board, &one, steps)
 }
 
-#[test]
-fn one_activity_more_of_ten_thousand(rt: HostRuntime) {
-    let alloc = rt.alloc();
-    let mut board = empty(&rt, alloc, MANY);
-    for i in 0..9_999 {
-        place(&rt, alloc, &mut board, 2 * i + 1, &mut Steps::new(Quiet));
+/// Whether one activity more beside so many, two moments apart, takes so many steps at least and at most.
+pub fn takes_so_many_steps(alloc: Global, board: &mut Board, row: &str) -> Option<bool> {
+    let (many, wanted) = sides(row);
+    let mut rest = wanted;
+    let (least, most) = (number(&mut rest), number(&mut rest));
+    let mut start = 1u32;
+    for _ in 0..many.parse().unwrap_or(0u32) {
+        place(alloc, board, start, &mut Steps::new(Quiet))?;
+        start = start.wrapping_add(2);
     }
     let mut steps = Steps::new(Counting { ticks: 0 });
-    place(&rt, alloc, &mut board, 5, &mut steps);
+    place(alloc, board, 5, &mut steps)?;
     let ticks = steps.ledger().ticks;
-    holds(&rt, "few steps", 2 <= ticks && ticks <= 6_023);
+    Some(u64::from(least) <= ticks && ticks <= u64::from(most))
 }

@@ -1,10 +1,5 @@
 //! Why moves are refused, and of which activity.
-use crate::asserting::{assert_printed, holds};
-use crate::board::boards::changed;
-use crate::board::reading::repair;
-use pl_moves::{is_legal, legal, proper};
-use std::alloc::Global;
-use std::process::Abort;
+use crate::board::questions::{Asked, Table, assert_tables};
 
 const SCAN: &str = "horizon 100 lead 30 kind shot { duration 5 }
 kind scan { duration 10 alternative { slot a shot slot b shot order a end b start 0 3 } }
@@ -43,22 +38,16 @@ add 0 50;add 1 10;tick 10 => detail 2 0 => Some(Behind(3))
 add 0 10;tick 20 => delete 1 => None
 goal 1 10 20 may;tick 20 => drop 1 => None";
 
-/// Asserts that a move is refused so.
-fn assert_refused(rt: &impl Abort, alloc: Global, row: &str) {
-    let (changes, rest) = row.split_once(" => ").unwrap_or((row, ""));
-    let (line, wanted) = rest.split_once(" => ").unwrap_or((rest, ""));
-    let board = changed(rt, alloc, SCAN, changes);
-    let mv = repair(line);
-    holds(rt, "enough memory", !board.spoiled());
-    holds(rt, "a proper move", proper(&board, &mv));
-    let refused = legal(&board, &mv).err();
-    holds(rt, row, is_legal(&board, &mv) == refused.is_none());
-    assert_printed(rt, format!(in alloc; "{refused:?}"), wanted);
-}
+/// A child that is committed too late for its parent.
+const LATE: &str = "add 1 40;detail 1 0;shift 2 25;commit 30 => 25 link 1 0 0 0";
+
+const TABLES: [Table; 3] = [
+    (Asked::Refusal, SCAN, REFUSED),
+    (Asked::Wrong, SCAN, LATE),
+    (Asked::Copied, SCAN, LATE),
+];
 
 #[test]
 fn refuses_moves(rt: HostRuntime) {
-    for row in REFUSED.lines() {
-        assert_refused(&rt, rt.alloc(), row);
-    }
+    assert_tables(&rt, rt.alloc(), &TABLES);
 }

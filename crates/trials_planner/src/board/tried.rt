@@ -1,11 +1,5 @@
 //! The repairs that are tried for a conflict of each code, in their order.
-use crate::asserting::holds;
-use crate::board::boards::changed;
-use crate::board::reading::{conflict, repair};
-use pl_cand::candidates;
-use pl_plan::RepairMove;
-use std::alloc::Global;
-use std::process::Abort;
+use crate::board::questions::{Asked, Table, assert_tables};
 
 const GOALS: &str = "horizon 6 lead 3
 kind plain { duration 1 }
@@ -68,40 +62,15 @@ const FOR_STATES: &str =
     "add 2 3 => 3 must 1 0 3 5 => add 0 1;add 0 2;add 0 3;shift 1 1;shift 1 2;shift 1 4;shift 1 5;delete 1
 add 1 3 => 3 bad-step 1 0 3 0 => add 0 1;add 0 2;add 0 3;add 1 1;add 1 2;add 1 3;shift 1 1;shift 1 2;shift 1 4;shift 1 5;delete 1";
 
-/// The moves of a text.
-fn moves_in(rt: &impl Abort, alloc: Global, text: &str) -> Vec<RepairMove> {
-    let mut moves = Vec::new(alloc);
-    for line in text.split(';') {
-        moves.push(repair(line)).expect(rt, "memory");
-    }
-    moves
-}
-
-/// Asserts which moves are tried for a conflict that stands.
-fn assert_tried(rt: &impl Abort, alloc: Global, model: &str, row: &str) {
-    let (changes, rest) = row.split_once(" => ").unwrap_or((row, ""));
-    let (wrong, moves) = rest.split_once(" => ").unwrap_or((rest, ""));
-    let board = changed(rt, alloc, model, changes);
-    let wrong = conflict(wrong);
-    holds(rt, row, board.conflicts().has(&wrong));
-    holds(rt, "enough memory", !board.spoiled());
-    let found = candidates(alloc, &board, &wrong).expect(rt, "memory");
-    let wanted = moves_in(rt, alloc, moves);
-    assert!(rt; found.as_slice() == wanted.as_slice(), "{row}: {found:?}");
-}
+const TABLES: [Table; 5] = [
+    (Asked::Repairs, GOALS, FOR_GOALS),
+    (Asked::Repairs, VALUES, FOR_VALUES),
+    (Asked::Repairs, LINKS, FOR_LINKS),
+    (Asked::Repairs, LINES, FOR_LINES),
+    (Asked::Repairs, STATES, FOR_STATES),
+];
 
 #[test]
 fn tries_the_repairs_of_each_conflict(rt: HostRuntime) {
-    let tables = [
-        (GOALS, FOR_GOALS),
-        (VALUES, FOR_VALUES),
-        (LINKS, FOR_LINKS),
-        (LINES, FOR_LINES),
-        (STATES, FOR_STATES),
-    ];
-    for (model, table) in tables {
-        for row in table.lines() {
-            assert_tried(&rt, rt.alloc(), model, row);
-        }
-    }
+    assert_tables(&rt, rt.alloc(), &TABLES);
 }

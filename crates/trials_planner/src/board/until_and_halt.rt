@@ -1,5 +1,6 @@
 //! What is wrong behind a measured end, and behind a halt, worked by hand.
-use crate::board::codes::{AMOUNTS, LINKS, PLAIN, STATES, assert_row};
+use crate::board::codes::{AMOUNTS, LINKS, PLAIN, STATES};
+use crate::board::questions::{Asked, Table, assert_tables};
 
 /// A use lasts up to the measured end, also if that is past, and the last one counts.
 const CAPACITIES: &str = "add 4 10;add 4 20;add 4 20;commit 11;tick 10 =>
@@ -74,19 +75,16 @@ add 1 90;commit 91 =>
 add 1 90;commit 91;withdraw => 90 overrun 1 0 110 0
 add 1 90;commit 91;tick 90;withdraw =>";
 
+const TABLES: [Table; 6] = [
+    (Asked::Wrong, AMOUNTS, CAPACITIES),
+    (Asked::Wrong, AMOUNTS, LEVELS),
+    (Asked::Wrong, STATES, NEEDS),
+    (Asked::Wrong, LINKS, ORDERS),
+    (Asked::Wrong, PARENT, PARENTS),
+    (Asked::Wrong, PLAIN, WITHDRAWN),
+];
+
 #[test]
 fn tells_what_is_wrong_behind_the_two_messages(rt: HostRuntime) {
-    let tables = [
-        (AMOUNTS, CAPACITIES),
-        (AMOUNTS, LEVELS),
-        (STATES, NEEDS),
-        (LINKS, ORDERS),
-        (PARENT, PARENTS),
-        (PLAIN, WITHDRAWN),
-    ];
-    for (model, table) in tables {
-        for row in table.lines() {
-            assert_row(&rt, rt.alloc(), model, row);
-        }
-    }
+    assert_tables(&rt, rt.alloc(), &TABLES);
 }

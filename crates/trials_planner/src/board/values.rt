@@ -3,14 +3,12 @@ ghost use Rattle.std.specs.Prelude.{◌≡◌, ◌≤◌, ◌<◌, false, true, 
 ghost use Rattle.pl_model.specs.Checked.{IsCapacityLine, IsLevelLine};
 ghost use Rattle.pl_detect.specs.Based.{IsStateLine};
 
-use crate::asserting::holds;
 use crate::board::reading::conflict;
-use crate::reading::{number, word};
+use crate::reading::{number, sides, word};
 use pl_board::Board;
 use pl_conflict::Conflict;
 use pl_model::{Model, Timeline};
 use std::alloc::Global;
-use std::process::Abort;
 
 fn is_capacity(model: &Model, line: u32) -> bool
     ensures { result ≡ true → IsCapacityLine (slice_get model.now.timelines line) }
@@ -47,60 +45,79 @@ fn is_ahead(board: &Board, t: u32) -> bool
     !board.spoiled() && board.now() <= t && t < board.model().horizon
 }
 
-fn use_at(rt: &impl Abort, board: &Board, line: u32, t: u32) -> i64 {
-    holds(rt, "a moment ahead", is_ahead(board, t));
-    holds(rt, "a capacity", is_capacity(board.model(), line));
-    board.use_at(line, t)
+fn use_at(board: &Board, line: u32, t: u32) -> Option<i64> {
+    if is_ahead(board, t) && is_capacity(board.model(), line) {
+        Some(board.use_at(line, t))
+    } else {
+        None
+    }
 }
 
-fn level_at(rt: &impl Abort, board: &Board, line: u32, t: u32) -> i64 {
-    holds(rt, "a moment ahead", is_ahead(board, t));
-    holds(rt, "a level", is_level(board.model(), line));
-    board.level_at(line, t)
+fn level_at(board: &Board, line: u32, t: u32) -> Option<i64> {
+    if is_ahead(board, t) && is_level(board.model(), line) {
+        Some(board.level_at(line, t))
+    } else {
+        None
+    }
 }
 
-fn state_at(rt: &impl Abort, board: &Board, line: u32, t: u32) -> i64 {
-    holds(rt, "a moment ahead", is_ahead(board, t));
-    holds(rt, "a state timeline", is_state(board.model(), line));
-    i64::from(board.state_at(line, t))
+fn state_at(board: &Board, line: u32, t: u32) -> Option<i64> {
+    if is_ahead(board, t) && is_state(board.model(), line) {
+        Some(i64::from(board.state_at(line, t)))
+    } else {
+        None
+    }
 }
 
 /// The value of a line, as `level 0 50`.
-fn value(rt: &impl Abort, board: &Board, line: &str) -> i64 {
+fn value(board: &Board, line: &str) -> Option<i64> {
     let mut rest = line;
     let name = word(&mut rest);
     let timeline = number(&mut rest);
     let t = number(&mut rest);
     match name {
-        "use" => use_at(rt, board, timeline, t),
-        "level" => level_at(rt, board, timeline, t),
-        _ => state_at(rt, board, timeline, t),
+        "use" => use_at(board, timeline, t),
+        "level" => level_at(board, timeline, t),
+        _ => state_at(board, timeline, t),
     }
 }
 
-/// Asserts that the timelines have these values, one a line.
-pub fn assert_values(rt: &impl Abort, board: &Board, values: &str) {
-    for line in values.lines() {
+/// Whether the timelines have these values; `;` parts them.
+fn are_values(board: &Board, values: &str) -> Option<bool> {
+    for line in values.split(';') {
         let (asked, wanted) = line.split_once(" = ").unwrap_or((line, ""));
-        let found = value(rt, board, asked);
-        assert!(rt; wanted.parse() == Ok(found), "{line}: {found}");
+        let found = value(board, asked)?;
+        if wanted.parse() != Ok(found) {
+            return Some(false);
+        }
     }
+    Some(true)
 }
 
 /// The conflicts of a text; `;` parts them.
-fn conflicts_in(rt: &impl Abort, alloc: Global, text: &str) -> Vec<Conflict> {
+fn conflicts_in(alloc: Global, text: &str) -> Option<Vec<Conflict>> {
     let mut all = Vec::new(alloc);
     for line in text.split(';') {
         if !line.is_empty() {
-            all.push(conflict(line)).expect(rt, "memory");
+            all.push(conflict(line)).ok()?;
         }
     }
-    all
+    Some(all)
 }
 
-/// Asserts that these are the conflicts, in their order; `;` parts them.
-pub fn assert_conflicts(rt: &impl Abort, alloc: Global, board: &Board, conflicts: &str) {
-    let wanted = conflicts_in(rt, alloc, conflicts);
-    let found = board.conflicts().list(alloc).expect(rt, "memory");
-    assert!(rt; found.as_slice() == wanted.as_slice(), "{found:?}");
+/// Whether these are the conflicts, in their order; `;` parts them.
+pub fn are_conflicts(alloc: Global, board: &Board, conflicts: &str) -> Option<bool> {
+    let wanted = conflicts_in(alloc, conflicts)?;
+    let found = board.conflicts().list(alloc).ok()?;
+    Some(found.as_slice() == wanted.as_slice())
+}
+
+/// Whether the timelines have these values, and the conflicts are these.
+pub fn has_values(alloc: Global, board: &Board, row: &str) -> Option<bool> {
+    let (values, conflicts) = sides(row);
+    if are_values(board, values)? {
+        are_conflicts(alloc, board, conflicts)
+    } else {
+        Some(false)
+    }
 }

@@ -3,7 +3,8 @@ ghost use Rattle.std.specs.Prelude.{◌≡◌, ◌≤◌, false, length, All};
 ghost use Rattle.pl_prefs.specs.Prefers.{IsPreferOf};
 
 use crate::asserting::holds;
-use crate::board::boards::changed;
+use crate::board::boards::empty;
+use crate::board::changes::change_all;
 use pl_board::Board;
 use pl_prefs::{Prefer, ScoreFault, Scored, read_prefer};
 use std::alloc::Global;
@@ -35,20 +36,7 @@ fn all_preferred(rt: &impl Abort, alloc: Global, board: &Board, lines: &str) -> 
     all
 }
 
-/// The plan of a board with its score, or why there is none.
-pub fn scored_on(
-    rt: &impl Abort,
-    alloc: Global,
-    board: Board,
-    prefers: &str,
-) -> Result<Scored, ScoreFault> {
-    holds(rt, "enough memory", !board.spoiled());
-    holds(rt, "ids that are left", board.next_id() <= 3_999_999_000);
-    let prefers = all_preferred(rt, alloc, &board, prefers);
-    Scored::new(alloc, board, prefers)
-}
-
-/// The same of a model's text after the changes of a script.
+/// The plan of a model's text behind the changes of a script, with its score, or why there is none.
 pub fn scored(
     rt: &impl Abort,
     alloc: Global,
@@ -56,6 +44,10 @@ pub fn scored(
     script: &str,
     prefers: &str,
 ) -> Result<Scored, ScoreFault> {
-    let board = changed(rt, alloc, model, script);
-    scored_on(rt, alloc, board, prefers)
+    let mut board = empty(rt, alloc, model);
+    holds(rt, script, change_all(alloc, &mut board, script).is_some());
+    holds(rt, "enough memory", !board.spoiled());
+    holds(rt, "ids that are left", board.next_id() <= 3_999_999_000);
+    let prefers = all_preferred(rt, alloc, &board, prefers);
+    Scored::new(alloc, board, prefers)
 }

@@ -1,9 +1,10 @@
 //! Scores of plans and the steps that better them, worked by hand.
-use crate::asserting::holds;
+use crate::asserting::{holds, is_printed};
 use crate::board::codes::{PLAIN, VALUES};
 use crate::prefs::plans::scored;
+use crate::reading::sides;
 use pl_points::{Quiet, Steps};
-use pl_prefs::Scored;
+use pl_prefs::{ScoreFault, Scored};
 use std::alloc::Global;
 use std::process::Abort;
 
@@ -74,42 +75,45 @@ kind short { duration 10 use cam 6 }";
 const USES: &str = "add 0 5;add 0 90 => prefer short late 1 => 95;Shift { id: 1, start: 78 } 168
 add 0 5;add 0 10 => prefer short late 1 => conflicts 1";
 
-/// The score, and each step with the score behind it, until no move betters the plan.
-fn bettered(rt: &impl Abort, alloc: Global, plan: &mut Scored) -> String {
+const TWO_KINDS: &str = "horizon 100 lead 30 kind obs { duration 5 } kind pic { duration 5 }";
+
+/// Moves are tried of the first 256 activities that are not committed, by id.
+const FIRST_256: &str =
+    "255 times add 0 20;add 1 20 => prefer pic late 1 => 20;Shift { id: 256, start: 92 } 92
+256 times add 0 20;add 1 20 => prefer pic late 1 => 20
+255 times add 0 20;add 0 10;commit 15;add 1 20 => prefer pic late 1 => 20;Shift { id: 257, start: 93 } 93";
+
+/// Whether the score, and each step with the score behind it until no move betters the plan, are these; `;` parts them.
+fn betters_so(alloc: Global, plan: &mut Scored, wanted: &str) -> Option<bool> {
     let first = format!(in alloc; "{}", plan.score());
-    let mut told = first.expect(rt, "memory");
+    let mut told = first.ok()?;
     for _ in 0..MOST {
-        let step = plan.step(alloc, &mut Steps::new(Quiet));
-        match step.expect(rt, "memory") {
+        match plan.step(alloc, &mut Steps::new(Quiet)).ok()? {
             Some(mv) => {
-                let text = format!(in alloc; ";{mv:?} {}", plan.score());
-                let text = text.expect(rt, "memory");
-                told.push_str(text.as_str()).expect(rt, "memory");
+                let text = format!(in alloc; ";{mv:?} {}", plan.score()).ok()?;
+                told.push_str(text.as_str()).ok()?;
             }
-            None => return told,
+            None => break,
         }
     }
-    told
+    Some(told.as_str() == wanted)
 }
 
-/// What comes of bettering a plan, or why it is not bettered.
-fn outcome(rt: &impl Abort, alloc: Global, model: &str, script: &str, prefers: &str) -> String {
-    match scored(rt, alloc, model, script, prefers) {
-        Ok(mut plan) => bettered(rt, alloc, &mut plan),
-        Err(fault) => fault.to_string(alloc).expect(rt, "memory"),
+/// Whether this comes of bettering a plan, or is why it is not bettered.
+fn is_outcome(alloc: Global, scored: Result<Scored, ScoreFault>, wanted: &str) -> Option<bool> {
+    match scored {
+        Ok(mut plan) => betters_so(alloc, &mut plan, wanted),
+        Err(fault) => is_printed(fault.to_string(alloc), wanted),
     }
-}
-
-fn lines(rt: &impl Abort, alloc: Global, text: &str) -> String {
-    text.replace(alloc, ";", "\n").expect(rt, "memory")
 }
 
 fn assert_row(rt: &impl Abort, alloc: Global, model: &str, row: &str) {
-    let (changes, rest) = row.split_once(" => ").unwrap_or((row, ""));
-    let (prefers, wanted) = rest.split_once(" => ").unwrap_or((rest, ""));
-    let prefers = lines(rt, alloc, prefers);
-    let found = outcome(rt, alloc, model, changes, prefers.as_str());
-    assert!(rt; found.as_str() == wanted, "{row}: {found}");
+    let (changes, rest) = sides(row);
+    let (prefers, wanted) = sides(rest);
+    let prefers = prefers.replace(alloc, ";", "\n").expect(rt, "memory");
+    let scored = scored(rt, alloc, model, changes, prefers.as_str());
+    let is_outcome = is_outcome(alloc, scored, wanted);
+    holds(rt, row, is_outcome == Some(true));
 }
 
 #[test]
@@ -120,6 +124,7 @@ fn betters_plans(rt: HostRuntime) {
         (VALUES, TAKEN),
         (LEVELS, ENDS),
         (CAPACITY, USES),
+        (TWO_KINDS, FIRST_256),
     ];
     for (model, table) in tables {
         for row in table.lines() {

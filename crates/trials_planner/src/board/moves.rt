@@ -1,0 +1,79 @@
+//! What is asked of moves: whether they are refused, which are tried, and what they leave.
+use crate::asserting::is_printed;
+use crate::board::changes::{can_make, can_move};
+use crate::board::reading::{conflict, repair};
+use crate::board::values::are_conflicts;
+use crate::reading::{sides, word};
+use pl_board::Board;
+use pl_bounds::least_of_each;
+use pl_cand::candidates;
+use pl_moves::{attempt, is_legal, legal};
+use pl_plan::RepairMove;
+use pl_points::{Quiet, Steps};
+use std::alloc::Global;
+
+/// Whether a move is refused so.
+pub fn is_refused(alloc: Global, board: &Board, row: &str) -> Option<bool> {
+    let (line, wanted) = sides(row);
+    let mv = repair(line);
+    if !can_move(board, &mv) {
+        return None;
+    }
+    let refused = legal(board, &mv).err();
+    if is_legal(board, &mv) == refused.is_none() {
+        is_printed(format!(in alloc; "{refused:?}"), wanted)
+    } else {
+        Some(false)
+    }
+}
+
+/// The moves of a text.
+fn moves_in(alloc: Global, text: &str) -> Option<Vec<RepairMove>> {
+    let mut moves = Vec::new(alloc);
+    for line in text.split(';') {
+        moves.push(repair(line)).ok()?;
+    }
+    Some(moves)
+}
+
+/// Whether these moves are tried for a conflict that stands.
+pub fn is_tried_for(alloc: Global, board: &Board, row: &str) -> Option<bool> {
+    let (wrong, moves) = sides(row);
+    let wrong = conflict(wrong);
+    if board.spoiled() || !board.conflicts().has(&wrong) {
+        return None;
+    }
+    let wanted = moves_in(alloc, moves)?;
+    let found = candidates(alloc, board, &wrong).ok()?;
+    Some(found.as_slice() == wanted.as_slice())
+}
+
+/// Whether a legal move is known to leave so many conflicts at least.
+pub fn is_known_to_leave(alloc: Global, board: &Board, row: &str) -> Option<bool> {
+    let (line, wanted) = sides(row);
+    let mv = repair(line);
+    if !can_make(board, &mv) {
+        return None;
+    }
+    let found = least_of_each(alloc, board, &[mv]).ok()?;
+    is_printed(format!(in alloc; "{found:?}"), wanted)
+}
+
+/// Whether this comes of trying a legal move.
+pub fn comes_of(alloc: Global, board: &mut Board, row: &str) -> Option<bool> {
+    let (asked, rest) = sides(row);
+    let (wanted, conflicts) = sides(rest);
+    let mut line = asked;
+    let enough = word(&mut line).parse().ok();
+    let mv = repair(line);
+    if !can_make(board, &mv) {
+        return None;
+    }
+    let came = attempt(alloc, board, &mv, enough, &mut Steps::new(Quiet)).ok()?;
+    let next = board.next_id();
+    if is_printed(format!(in alloc; "{came:?} {next}"), wanted)? {
+        are_conflicts(alloc, board, conflicts)
+    } else {
+        Some(false)
+    }
+}
