@@ -1,8 +1,7 @@
 //! What is known of moves that place the same activities at other starts.
-ghost use Rattle.std.specs.Prelude.{◌≡◌, ◌≤◌, false, All, IfOk, IfSome};
+ghost use Rattle.std.specs.Prelude.{◌≡◌, ◌≤◌, false, IfOk};
 ghost use Rattle.pl_moves.specs.Runs.{CanBeMade};
 ghost use Rattle.pl_plan.specs.declared.repair.RepairMove.TheVariants.{Add, Delete, Shift};
-ghost use Rattle.pl_semantics.specs.declared.plan_state.PlanState.{PlanState};
 ghost use Rattle.pl_semantics.specs.Whole.{IsWhole};
 ghost use Rattle.pl_bounds.specs.Asked.{IsAlike};
 ghost use Rattle.pl_bounds.specs.Known.{IsKnownOf, only_steady};
@@ -15,7 +14,6 @@ use crate::steady::{left_by_deletion, left_by_new, left_by_shift};
 use crate::tying::{added_alone, moved_alone};
 use pl_board::Board;
 use pl_links::Placed;
-use pl_moves::goes_on;
 use pl_plan::RepairMove;
 use pl_semantics::PlanState;
 use std::alloc::{AllocError, Global};
@@ -145,19 +143,4 @@ pub(crate) fn known_of(
         RepairMove::Assign { .. } => Ok(known_of_other(mv, standing.valueless)),
         _ => Ok(known_of_other(mv, 0)),
     }
-}
-
-/// What is known of a move that this one goes on with, if there is one: what was found out last is looked at first.
-pub(crate) fn known_like<'k>(known: &'k [Known], mv: &RepairMove) -> Option<&'k Known>
-    ensures alike { IfSome result (λ k. IsAlike k.now.first mv.now) }
-    ensures of_plan { (s : PlanState) → All (IsKnownOf s) known.now → IfSome result (λ k. IsKnownOf s k.now) }
-{
-    let mut place = known.len();
-    'places: while place > 0 {
-        place -= 1;
-        if goes_on(&known[place].first, mv) {
-            return Some(&known[place]);
-        }
-    }
-    None
 }

@@ -1,26 +1,31 @@
 //! How many conflicts a move leaves at least, known without making it.
 #![tactic(auto)]
 
+mod added;
 mod alone;
 mod asking;
 mod bounding;
 mod bounds;
 mod known;
+mod lasting;
 mod laws;
 mod looking;
-mod narrowing;
 mod outside;
 mod parting;
+mod parts;
 mod pulls;
 mod reading;
 mod reopening;
 mod roots;
+mod runs;
 mod standing;
 mod steady;
+mod stretch;
 mod tally;
 mod ties;
 mod tying;
 mod unset;
+mod worsening;
 
 pub use bounds::least_of_each;
 pub use laws::{
