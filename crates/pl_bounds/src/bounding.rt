@@ -16,7 +16,7 @@ ghost use Rattle.pl_bounds.specs.Tallies.{fresh, IsTallyOf};
 use crate::added::{Added, Change, added_at};
 use crate::asking::Asking;
 use crate::outside::{Look, Outside, Side};
-use crate::parts::{Part, part_on};
+use crate::parts::{Part, coming_on, going_on};
 use crate::pulls::Way;
 use crate::reading::{is_past, value_at};
 use crate::tally::Tally;
@@ -173,32 +173,15 @@ fn times_with(
     requires parts { All (IsPartOf asking.now) parts.now }
     ensures { result ≤ length (spans_ahead board.now.state (is_past_with board.now.state outside.now asking.now.going.items (coming_at asking.now start))) }
 {
-    let way = Way {
-        from: asking.start,
-        to: start,
+    let change = Change {
+        going: going_on(asking, parts, outside),
+        coming: coming_on(asking, parts, outside),
+        way: Way {
+            from: asking.start,
+            to: start,
+        },
     };
-    match part_on(parts, outside.line) {
-        Some(part) => times_by(
-            board,
-            ahead,
-            outside,
-            &Change {
-                going: part.going.as_slice(),
-                coming: part.coming.as_slice(),
-                way,
-            },
-        ),
-        None => times_by(
-            board,
-            ahead,
-            outside,
-            &Change {
-                going: asking.going.as_slice(),
-                coming: asking.coming.as_slice(),
-                way,
-            },
-        ),
-    }
+    times_by(board, ahead, outside, &change)
 }
 
 /// How often at least the timelines are past their limits once what is asked stands at a start, and what goes is gone, given its parts.

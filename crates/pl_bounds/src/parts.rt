@@ -1,6 +1,6 @@
 //! What a move asks for, sorted by timeline: of each timeline that is looked at the part that bears on it.
 ghost use Rattle.std.specs.Prelude.{◌≡◌, ℕ, ◌+ℤ◌, All, IfOk, OnOk, IfSome};
-ghost use Rattle.pl_bounds.specs.Afterwards.{moved_by, pull, pull_of};
+ghost use Rattle.pl_bounds.specs.Afterwards.{MakeSame, moved_by, pull, pull_of};
 ghost use Rattle.pl_bounds.specs.Moved.{demand_moved};
 ghost use Rattle.pl_bounds.specs.declared.asking.Asking as asked;
 ghost use Rattle.pl_bounds.specs.declared.outside.Outside as looked;
@@ -54,8 +54,8 @@ fn part_of(alloc: Global, asking: &Asking, line: u32) -> Result<Part, AllocError
     })
 }
 
-/// The part of a timeline, if it is among these.
-pub(crate) fn part_on<'p>(parts: &'p [Part], line: u32) -> Option<&'p Part>
+// The part of a timeline, if it is among these.
+fn part_on<'p>(parts: &'p [Part], line: u32) -> Option<&'p Part>
     ensures here { IfSome result (λ p. p.now.line ≡ line) }
     ensures of_move { (a : asked.Asking) → All (IsPartOf a) parts.now → IfSome result (λ p. IsPartOf a p.now) }
 {
@@ -97,4 +97,34 @@ pub(crate) fn parts_of(
         add_part(alloc, asking, outside.line, &mut parts)?;
     }
     Ok(parts)
+}
+
+/// What goes of what bears on a timeline.
+pub(crate) fn going_on<'a>(
+    asking: &'a Asking,
+    parts: &'a [Part],
+    outside: &Outside,
+) -> &'a [Demand]
+    requires { All (IsPartOf asking.now) parts.now }
+    ensures { MakeSame outside.now result.now asking.now.going.items }
+{
+    match part_on(parts, outside.line) {
+        Some(part) => part.going.as_slice(),
+        None => asking.going.as_slice(),
+    }
+}
+
+/// What comes of what bears on a timeline.
+pub(crate) fn coming_on<'a>(
+    asking: &'a Asking,
+    parts: &'a [Part],
+    outside: &Outside,
+) -> &'a [Demand]
+    requires { All (IsPartOf asking.now) parts.now }
+    ensures { MakeSame outside.now result.now asking.now.coming.items }
+{
+    match part_on(parts, outside.line) {
+        Some(part) => part.coming.as_slice(),
+        None => asking.coming.as_slice(),
+    }
 }
