@@ -84,7 +84,7 @@ fn add_part(
     Ok(())
 }
 
-/// The parts of all timelines that are looked at.
+/// The parts of all timelines that are looked at. None where nothing comes: such a move is the only one of its run.
 pub(crate) fn parts_of(
     alloc: Global,
     outsides: &[Outside],
@@ -93,6 +93,9 @@ pub(crate) fn parts_of(
     ensures { IfOk result (λ parts. All (IsPartOf asking.now) parts.items) }
 {
     let mut parts = Vec::new(alloc);
+    if asking.coming.is_empty() {
+        return Ok(parts);
+    }
     for outside in outsides {
         add_part(alloc, asking, outside.line, &mut parts)?;
     }
