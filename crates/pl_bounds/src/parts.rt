@@ -1,5 +1,5 @@
 //! What a move asks for, sorted by timeline: of each timeline that is looked at the part that bears on it.
-ghost use Rattle.std.specs.Prelude.{◌≡◌, ℕ, ◌+ℤ◌, All, IfOk, OnOk, IfSome};
+ghost use Rattle.std.specs.Prelude.{◌≡◌, ◌==◌, ℕ, ◌+ℤ◌, All, IfOk, OnOk, IfSome};
 ghost use Rattle.pl_bounds.specs.Afterwards.{MakeSame, moved_by, pull, pull_of};
 ghost use Rattle.pl_bounds.specs.Moved.{demand_moved};
 ghost use Rattle.pl_bounds.specs.declared.asking.Asking as asked;
@@ -20,15 +20,22 @@ pub(crate) struct Part {
     pub(crate) coming: Vec<Demand>,
 }
 
+fn is_on(demand: &Demand, line: u32) -> bool
+    ensures { result ≡ (demand.now.line == line) }
+{
+    demand.line == line
+}
+
 // Puts a demand behind those of one timeline, if it is of that one.
 fn add_if_on(demand: &Demand, line: u32, part: &mut Vec<Demand>) -> Result<(), AllocError>
     ensures { OnOk result ((o : looked.Outside) (w : Way) (t : ℕ) → o.line ≡ line → pull o t (moved_by w part.new.items) ≡ pull o t (moved_by w part.old.items) +ℤ pull_of o t (demand_moved w.from w.to demand.now)) }
 {
-    if demand.line != line {
-        return Ok(());
+    if is_on(demand, line) {
+        part.push(*demand)?;
+        Ok(())
+    } else {
+        Ok(())
     }
-    part.push(*demand)?;
-    Ok(())
 }
 
 // The demands of one timeline.

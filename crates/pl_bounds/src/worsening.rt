@@ -12,7 +12,7 @@ use std::alloc::{AllocError, Global};
 fn worsening(asked: &Asked) -> Option<(Side, i64)> {
     match asked {
         Asked::Use(u) => Some((Side::Over, u.amount)),
-        Asked::Effect(e) if e.delta < 0 => Some((Side::Low, e.delta.saturating_neg())),
+        Asked::Effect(e) if e.delta < 0 => Some((Side::Low, 0i64.saturating_sub(e.delta))),
         Asked::Effect(e) => Some((Side::High, e.delta)),
         Asked::Set(_) => None,
         Asked::Must(_) => None,
