@@ -1,5 +1,6 @@
 -- Before it next changes, what demands make of a timeline stays the same.
-use Rattle.std.proofs.Common.{◌≡◌, ℕ, ◌+◌, ◌≤◌, ◌<◌, List, length, get_or, drop, map, refl, ap, ◌∙◌, sym, ℤ, ◌+ℤ◌, ◌-ℤ◌, arith}
+use Rattle.std.proofs.Common.{◌≡◌, ℕ, ◌+◌, ◌<◌, List, length, get_or, drop, map, refl, ap, ◌∙◌, sym, ℤ, ◌+ℤ◌, Option, Some, None, arith}
+use Rattle.std.specs.Prelude.{SomeIff, IfSome}
 use Rattle.std.proofs.lemmas.Int.{ints}
 use Rattle.pl_semantics.specs.declared.demand.Demand.{Demand}
 use Rattle.pl_bounds.specs.Afterwards.{moved_by, pull, pull_of, value_with}
@@ -31,3 +32,8 @@ added_lasts o t u going coming by is goes comes = omega (arith, ints, is, goes, 
 -- what the timeline comes to is more by what is added
 pub value_more : (o : Outside) (going coming : List Demand) (t : ℕ) (value by : ℤ) → added_by o going coming t ≡ by → (value +ℤ by) ≡ value_with o going coming t value
 value_more o going coming t value by is = omega (arith, ints, is)
+
+-- where it fits
+pub some_is : (o : Option ℤ) (P : Type 0) (x y : ℤ) → SomeIff o P x → x ≡ y → IfSome o (λ v. v ≡ y)
+some_is None P x y is e = tt
+some_is (Some v) P x y is e = is.1 ∙ e

@@ -1,9 +1,9 @@
 //! How often timelines are past their limits at least, once some demands went and others came.
-ghost use Rattle.std.specs.Prelude.{◌≡◌, ◌≤◌, ◌<◌, ℕ, Bool, List, false, All, length, IfSome};
+ghost use Rattle.std.specs.Prelude.{◌≡◌, ◌≤◌, ◌<◌, ℕ, Bool, List, [], false, All, length, IfSome, IsTrue};
 ghost use Rattle.pl_update.specs.Changes.Replaced.{CanReplace, with_plan};
 ghost use Rattle.pl_update.specs.Timelines.Laws.{AreOnce};
 ghost use Rattle.pl_plan.specs.declared.activity.Activity.{Activity};
-ghost use Rattle.pl_semantics.specs.declared.demand.Demand.{Demand};
+ghost use Rattle.pl_semantics.specs.declared.demand.Demand as asked;
 ghost use Rattle.pl_semantics.specs.declared.plan_state.PlanState.{PlanState};
 ghost use Rattle.pl_semantics.specs.Timelines.{spans_ahead};
 ghost use Rattle.pl_bounds.specs.Afterwards.{coming_at, moved_by, is_past_with};
@@ -25,7 +25,7 @@ use pl_semantics::{Asked, Demand};
 
 // The tally with whether the timeline is past its limit at a look, if that is known.
 fn looked_at(tally: Tally, outside: &Outside, added: Added, look: Look) -> Tally
-    ensures { (s : PlanState) (from end : ℕ) (going coming : List Demand) → look.value ≡ value_at s outside.now.side outside.now.line look.at
+    ensures { (s : PlanState) (from end : ℕ) (going coming : List asked.Demand) → look.value ≡ value_at s outside.now.side outside.now.line look.at
         → IsAddedBy outside.now going coming added
         → IsTallyOf (is_past_with s outside.now going coming) from end tally
         → IsTallyOf (is_past_with s outside.now going coming) from end result }
@@ -99,7 +99,40 @@ struct Walk {
     added: Added,
 }
 
-// Goes on to a look. Between two of them at which the same is added nothing grows worse.
+// Goes on to a look at which as much is added as before.
+fn gone_on(walk: Walk, outside: &Outside, look: Look) -> Walk
+    ensures { (s : PlanState) (going coming : List asked.Demand) → look.value ≡ value_at s outside.now.side outside.now.line look.at
+        → IsWalkOf s outside.now going coming walk → IsWalkOf s outside.now going coming result }
+{
+    Walk {
+        tally: looked_at(walk.tally, outside, walk.added, look),
+        added: walk.added,
+    }
+}
+
+// Goes on to a look at which it has to be worked out how much is added.
+fn gone_anew(
+    board: &Board,
+    tally: Tally,
+    outside: &Outside,
+    change: &Change<'_>,
+    look: Look,
+) -> Walk
+    requires unspoiled { board.now.spoiled ≡ false }
+    requires of_plan { IsOutsideOf board.now.state outside.now }
+    requires tally { IsTallyOf (is_past_with board.now.state outside.now change.now.going.now (moved_by change.now.way change.now.coming.now)) board.now.state.moment board.now.state.model.horizon tally }
+    requires right { look.value ≡ value_at board.now.state outside.now.side outside.now.line look.at }
+    ensures { IsWalkOf board.now.state outside.now change.now.going.now (moved_by change.now.way change.now.coming.now) result }
+{
+    let before = looked_before(board, tally, outside, change, look.at);
+    let added = added_at(outside, change, look.at);
+    Walk {
+        tally: looked_at(before, outside, added, look),
+        added,
+    }
+}
+
+// Goes on to a look. Between two of them at which as much is added nothing grows worse.
 fn gone_to(
     board: &Board,
     walk: Walk,
@@ -114,16 +147,9 @@ fn gone_to(
     ensures { IsWalkOf board.now.state outside.now change.now.going.now (moved_by change.now.way change.now.coming.now) result }
 {
     if walk.added.is_known_at(look.at) {
-        return Walk {
-            tally: looked_at(walk.tally, outside, walk.added, look),
-            added: walk.added,
-        };
-    }
-    let before = looked_before(board, walk.tally, outside, change, look.at);
-    let added = added_at(outside, change, look.at);
-    Walk {
-        tally: looked_at(before, outside, added, look),
-        added,
+        gone_on(walk, outside, look)
+    } else {
+        gone_anew(board, walk.tally, outside, change, look)
     }
 }
 
@@ -145,6 +171,13 @@ fn times_of(board: &Board, ahead: Tally, outside: &Outside, change: &Change<'_>)
     looked_before(board, walk.tally, outside, change, walk.tally.end).times
 }
 
+fn is_nothing(change: &Change<'_>) -> bool
+    ensures going { IsTrue result → change.now.going.now ≡ [] }
+    ensures coming { IsTrue result → change.now.coming.now ≡ [] }
+{
+    change.going.is_empty() && change.coming.is_empty()
+}
+
 // The same where nothing may bear on it: it is past its limit as often as it is now.
 fn times_by(board: &Board, ahead: Tally, outside: &Outside, change: &Change<'_>) -> u32
     requires unspoiled { board.now.spoiled ≡ false }
@@ -152,10 +185,11 @@ fn times_by(board: &Board, ahead: Tally, outside: &Outside, change: &Change<'_>)
     requires ahead { (P : ℕ → Bool) → IsTallyOf P board.now.state.moment board.now.state.model.horizon ahead }
     ensures { result ≤ length (spans_ahead board.now.state (is_past_with board.now.state outside.now change.now.going.now (moved_by change.now.way change.now.coming.now))) }
 {
-    if change.going.is_empty() && change.coming.is_empty() {
-        return outside.times;
+    if is_nothing(change) {
+        outside.times
+    } else {
+        times_of(board, ahead, outside, change)
     }
-    times_of(board, ahead, outside, change)
 }
 
 // The same once what is asked stands at a start, and what goes is gone. A limit that is not passed now is looked at for additions alone:

@@ -2,7 +2,7 @@
 ghost use Rattle.std.specs.Prelude.{◌≡◌, ◌≤◌, ◌<◌, ℕ};
 ghost use Rattle.pl_capacity.specs.Uses.{use_of, taken_at};
 ghost use Rattle.pl_level.specs.Effects.{effect_of, counted};
-ghost use Rattle.pl_bounds.specs.declared.outside.Outside.{Outside};
+ghost use Rattle.pl_bounds.specs.declared.outside.Outside as looked;
 ghost use Rattle.pl_bounds.specs.Afterwards.{moved_by, pull_of, pull};
 ghost use Rattle.pl_bounds.specs.Moved.{moved_to, demand_moved};
 
@@ -37,7 +37,7 @@ fn effect_lasts(asked: Effect, way: Way, t: u32) -> u64
 }
 
 fn demand_lasts(demand: &Demand, way: Way, t: u32) -> u64
-    ensures { (o : Outside) (u : ℕ) → t ≤ u → u < result → pull_of o u (demand_moved way.from way.to demand.now) ≡ pull_of o t (demand_moved way.from way.to demand.now) }
+    ensures { (o : looked.Outside) (u : ℕ) → t ≤ u → u < result → pull_of o u (demand_moved way.from way.to demand.now) ≡ pull_of o t (demand_moved way.from way.to demand.now) }
 {
     match demand.asked {
         Asked::Use(asked) => use_lasts(asked, way, t),
@@ -49,7 +49,7 @@ fn demand_lasts(demand: &Demand, way: Way, t: u32) -> u64
 
 /// The moment from a moment on before which all of them, moved along, make the same of whichever timeline they ask for.
 pub(crate) fn lasts(demands: &[Demand], way: Way, t: u32) -> u64
-    ensures { (o : Outside) (u : ℕ) → t ≤ u → u < result → pull o u (moved_by way demands.now) ≡ pull o t (moved_by way demands.now) }
+    ensures { (o : looked.Outside) (u : ℕ) → t ≤ u → u < result → pull o u (moved_by way demands.now) ≡ pull o t (moved_by way demands.now) }
 {
     let mut until = EVER;
     for demand in demands {

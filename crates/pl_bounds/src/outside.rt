@@ -1,8 +1,9 @@
 //! Timelines past a limit of their own, or near it, each looked at at some moments.
-ghost use Rattle.std.specs.Prelude.{◌≡◌, ◌≤◌, ℕ, false, Some, All, IfOk, OnOk, IfSome, length, slice_get};
+ghost use Rattle.std.specs.Prelude.{◌≡◌, ◌≤◌, ℕ, Bool, false, Some, All, IfOk, OnOk, IfSome, length, slice_get};
 ghost use Rattle.pl_semantics.specs.Timelines.{spans_ahead};
 ghost use Rattle.pl_bounds.specs.Looks.{IsElse};
 ghost use Rattle.pl_bounds.specs.Sides.{IsOutsideOf, AreDifferent, AreRight, limit_of, is_past, value_at};
+ghost use Rattle.pl_bounds.specs.Tallies.{IsTallyOf};
 
 use crate::looking::looks_at;
 use crate::reading::{is_past, limit_of, since};
@@ -60,13 +61,13 @@ fn is_there(all: &[Outside], side: Side, line: u32) -> bool
     false
 }
 
-// How often it is past its limit at some looks in turn.
-fn times_now(board: &Board, side: Side, limit: i64, looks: &[Look]) -> u32
-    requires { board.now.spoiled ≡ false }
+// How often it comes past its limit at some looks in turn, from a tally of no moment.
+fn times_now(board: &Board, ahead: Tally, side: Side, limit: i64, looks: &[Look]) -> u32
+    requires { (P : ℕ → Bool) → IsTallyOf P board.now.state.moment board.now.state.model.horizon ahead }
     ensures { (line : ℕ) → AreRight board.now.state side line looks.now → result ≤ length (spans_ahead board.now.state (λ t. is_past side limit (value_at board.now.state side line t))) }
 {
-    let s = board.state();
-    let mut tally = Tally::new(s.moment, s.model.get().horizon);
+    let _state = board.state();
+    let mut tally = ahead;
     for look in looks {
         tally = tally.noted(look.at, is_past(side, limit, look.value));
     }
@@ -96,13 +97,15 @@ fn outside_with(
     ensures of_plan { IfOk result (λ o. IsOutsideOf board.now.state o) }
     ensures here { IfOk result (λ o. (o.line ≡ line) × (o.side ≡ side)) }
 {
+    let s = board.state();
+    let ahead = Tally::new(s.moment, s.model.get().horizon);
     let looks = looks_at(alloc, board, side, line, nearer(side, limit, amount))?;
-    let times = times_now(board, side, limit, looks.as_slice());
+    let times = times_now(board, ahead, side, limit, looks.as_slice());
     Ok(Outside {
         line,
         side,
         limit,
-        since: since(board.state(), side, line),
+        since: since(s, side, line),
         looks,
         times,
     })

@@ -29,7 +29,8 @@ fn ahead_of(board: &Board, now: u32) -> Ahead {
         count: 0,
         last: now,
     };
-    for a in board.plan().activities() {
+    let activities = board.plan().activities();
+    for a in activities {
         if now <= a.start {
             ahead = Ahead {
                 count: ahead.count.saturating_add(1),
