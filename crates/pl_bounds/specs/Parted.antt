@@ -4,7 +4,7 @@ use Rattle.pl_semantics.specs.declared.demand.Demand.{Demand}
 use Rattle.pl_bounds.specs.Afterwards.{MakeSame}
 use Rattle.pl_bounds.specs.declared.asking.Asking.{Asking}
 use Rattle.pl_bounds.specs.declared.outside.Outside.{Outside}
-use Rattle.pl_bounds.specs.declared.parts.Part.{Part}
+use Rattle.pl_bounds.specs.declared.sorting.Part.{Part}
 
 -- both make the same of the timeline of this number, on each side
 abbrev pub MakeSameOn : ℕ → List Demand → List Demand → Type 0

@@ -5,7 +5,7 @@ ghost use Rattle.pl_bounds.specs.declared.outside.Outside as looked;
 ghost use Rattle.pl_bounds.specs.Afterwards.{moved_by, pull, value_with};
 ghost use Rattle.pl_bounds.specs.Changed.{added_by, IsAddedBy};
 
-use crate::lasting::lasts;
+use crate::until::lasts;
 use crate::outside::{Look, Outside};
 use crate::pulls::{Way, pull};
 use pl_semantics::Demand;

@@ -16,7 +16,7 @@ ghost use Rattle.pl_bounds.specs.Tallies.{fresh, IsTallyOf};
 use crate::added::{Added, Change, added_at};
 use crate::asking::Asking;
 use crate::outside::{Look, Outside, Side};
-use crate::parts::{Part, coming_on, going_on};
+use crate::sorting::{Part, coming_on, going_on};
 use crate::pulls::Way;
 use crate::reading::{is_past, value_at};
 use crate::tally::Tally;

@@ -11,7 +11,7 @@ ghost use Rattle.pl_bounds.specs.Standing.{IsStandingOf};
 use crate::asking::Asking;
 use crate::known::{Known, known_of};
 use crate::outside::Outside;
-use crate::parts::{Part, parts_of};
+use crate::sorting::{Part, parts_of};
 use crate::standing::Standing;
 use crate::worsening::widen;
 use pl_board::Board;

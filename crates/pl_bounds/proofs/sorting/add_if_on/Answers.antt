@@ -4,7 +4,7 @@ use Rattle.std.proofs.lemmas.Int.{ints}
 use Rattle.pl_semantics.specs.declared.demand.Demand.{Demand}
 use Rattle.pl_bounds.specs.Afterwards.{moved_by, pull}
 use Rattle.pl_bounds.proofs.Parted.{nothing, one_more}
-use Rattle.pl_bounds.proofs.parts.add_if_on.Goals as goal
+use Rattle.pl_bounds.proofs.sorting.add_if_on.Goals as goal
 
 pub returns-then-is_on : goal.returns-then-is_on
 returns-then-is_on c = λ o w t is. ap (λ (ds : List Demand). pull o t (moved_by w ds)) c.in_ok-push.ensures.items ∙ one_more o w t c.args.part.now.items c.args.demand.now

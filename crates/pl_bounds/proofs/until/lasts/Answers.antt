@@ -3,7 +3,7 @@ use Rattle.std.proofs.lemmas.List.{drop_all}
 use Rattle.pl_semantics.specs.declared.demand.Demand.{Demand}
 use Rattle.pl_bounds.specs.Afterwards.{moved_by, pull}
 use Rattle.pl_bounds.proofs.Lasting.{lasts_next}
-use Rattle.pl_bounds.proofs.lasting.lasts.Goals as goal
+use Rattle.pl_bounds.proofs.until.lasts.Goals as goal
 
 pub loop-demand-preserved : goal.loop-demand-preserved
 loop-demand-preserved c = λ o u low high same.

@@ -4,7 +4,7 @@ use Rattle.std.proofs.lemmas.List.{drop_all}
 use Rattle.pl_semantics.specs.declared.demand.Demand.{Demand}
 use Rattle.pl_bounds.specs.Afterwards.{moved_by, pull}
 use Rattle.pl_bounds.proofs.Parted.{kept_next}
-use Rattle.pl_bounds.proofs.parts.on_line.Goals as goal
+use Rattle.pl_bounds.proofs.sorting.on_line.Goals as goal
 
 pub loop-demand-preserved : goal.loop-demand-preserved
 loop-demand-preserved c = λ o w t is.
