@@ -192,8 +192,7 @@ fn times_by(board: &Board, ahead: Tally, outside: &Outside, change: &Change<'_>)
     }
 }
 
-// The same once what is asked stands at a start, and what goes is gone. A limit that is not passed now is looked at for additions alone:
-// for the many shifts of a choice it would cost more than it saves.
+// The same once what is asked stands at a start, and what goes is gone.
 fn times_with(
     board: &Board,
     ahead: Tally,
@@ -208,7 +207,7 @@ fn times_with(
     requires parts { All (IsPartOf asking.now) parts.now }
     ensures { result ≤ length (spans_ahead board.now.state (is_past_with board.now.state outside.now asking.now.going.items (coming_at asking.now start))) }
 {
-    if outside.times == 0 && !asking.going.is_empty() {
+    if outside.looks.is_empty() {
         return 0;
     }
     let change = Change {

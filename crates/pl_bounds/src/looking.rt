@@ -3,10 +3,10 @@ ghost use Rattle.std.specs.Prelude.{◌≡◌, false, IfOk, OnOk};
 ghost use Rattle.pl_bounds.specs.Looks.{IsLimited, AreLooksAt};
 ghost use Rattle.pl_bounds.specs.Sides.{code_of};
 
-use crate::outside::{Look, Side};
+use crate::outside::{Bars, Look, Side};
 use crate::parting::{Parting, parting_in};
 use crate::reading::{is_past, value_at};
-use crate::stretch::stretch_ahead;
+use crate::stretch::{comes_past, stretch_ahead};
 use pl_board::Board;
 use pl_conflict::{Code, Conflict};
 use std::alloc::{AllocError, Global};
@@ -109,21 +109,24 @@ impl Looking {
         board: &Board,
         side: Side,
         line: u32,
-        bar: i64,
+        bars: Bars,
     ) -> Result<(), AllocError>
         requires unspoiled { board.now.spoiled ≡ false }
         requires limited { IsLimited board.now.state side line }
         requires looks { AreLooksAt board.now.state side line self.old.next self.old.looks.items }
         ensures { OnOk result (AreLooksAt board.now.state side line self.new.next self.new.looks.items) }
     {
-        let stretch = stretch_ahead(board, side);
+        let stretch = stretch_ahead(board, self.next);
+        if !comes_past(board, side, line, bars.wide, stretch.sparser()) {
+            return Ok(());
+        }
         let mut was_past = false;
-        let mut at = self.next;
+        let mut at = stretch.from;
         'samples: while at < stretch.end {
             let value = value_at(board, side, line, at);
-            let comes_past = is_past(side, bar, value);
-            self.look_if(board, side, line, at, comes_past != was_past)?;
-            was_past = comes_past;
+            let is_so = is_past(side, bars.close, value);
+            self.look_if(board, side, line, at, is_so != was_past)?;
+            was_past = is_so;
             at = at.saturating_add(stretch.step);
         }
         Ok(())
@@ -151,14 +154,14 @@ impl Looking {
     }
 }
 
-/// What a timeline comes to round its spans that are past the limit. If there are none: where it comes past a bar nearer than the limit,
+/// What a timeline comes to round its spans that are past the limit. If there are none: where it comes past a bar close to the limit,
 /// and where it comes back.
 pub(crate) fn looks_at(
     alloc: Global,
     board: &Board,
     side: Side,
     line: u32,
-    bar: i64,
+    bars: Bars,
 ) -> Result<Vec<Look>, AllocError>
     requires unspoiled { board.now.spoiled ≡ false }
     requires limited { IsLimited board.now.state side line }
@@ -175,7 +178,7 @@ pub(crate) fn looks_at(
         }
     }
     if looking.looks.is_empty() {
-        looking.look_at_crossings(board, side, line, bar)?;
+        looking.look_at_crossings(board, side, line, bars)?;
     }
     Ok(looking.looks)
 }

@@ -30,6 +30,16 @@ pub(crate) struct Look {
     pub(crate) value: i64,
 }
 
+// If a level nowhere comes within so many times what is asked of it of its limit, it is not looked at more closely.
+const WIDE: i64 = 4;
+
+/// Values nearer than a limit.
+#[derive(Clone, Copy)]
+pub(crate) struct Bars {
+    pub(crate) close: i64,
+    pub(crate) wide: i64,
+}
+
 /// A timeline and one of its limits, and how often it is past that now at least. Effects up to the moment `since` do not count.
 #[derive(Drop)]
 pub(crate) struct Outside {
@@ -74,12 +84,20 @@ fn times_now(board: &Board, ahead: Tally, side: Side, limit: i64, looks: &[Look]
     tally.times
 }
 
-// The limit so much nearer, for what may ask for so much.
+// The limit so much nearer.
 fn nearer(side: Side, limit: i64, amount: i64) -> i64 {
     match side {
         Side::Over => limit.saturating_sub(amount),
         Side::Low => limit.saturating_add(amount),
         Side::High => limit.saturating_sub(amount),
+    }
+}
+
+// For what may ask for so much: bars nearer than the limit by as much, and by some times as much.
+fn bars_for(side: Side, limit: i64, amount: i64) -> Bars {
+    Bars {
+        close: nearer(side, limit, amount),
+        wide: nearer(side, limit, amount.saturating_mul(WIDE)),
     }
 }
 
@@ -99,7 +117,7 @@ fn outside_with(
 {
     let s = board.state();
     let ahead = Tally::new(s.moment, s.model.get().horizon);
-    let looks = looks_at(alloc, board, side, line, nearer(side, limit, amount))?;
+    let looks = looks_at(alloc, board, side, line, bars_for(side, limit, amount))?;
     let times = times_now(board, ahead, side, limit, looks.as_slice());
     Ok(Outside {
         line,

@@ -26,23 +26,50 @@ pub(crate) struct Run {
     pub(crate) parts: Vec<Part>,
 }
 
-// What is asked for, sorted by timeline. Limits that it may pass are put behind those that are looked at.
+// Whether it adds a root for a goal.
+fn serves(mv: &RepairMove) -> bool {
+    matches!(mv, RepairMove::Add { goal: Some(_), .. })
+}
+
+// With the limits that what comes may pass, where a root is added for a goal. For the many other moves of a choice it would cost more
+// than it saves.
+fn widen_for(
+    alloc: Global,
+    board: &Board,
+    mv: &RepairMove,
+    asking: &Asking,
+    past: &mut Vec<Outside>,
+) -> Result<(), AllocError>
+    requires unspoiled { board.now.spoiled ≡ false }
+    requires of_plan { All (IsOutsideOf board.now.state) past.old.items }
+    requires different { AreDifferent past.old.items }
+    ensures of_plan { OnOk result (All (IsOutsideOf board.now.state) past.new.items) }
+    ensures different { OnOk result (AreDifferent past.new.items) }
+{
+    if !serves(mv) {
+        return Ok(());
+    }
+    widen(alloc, board, asking.coming.as_slice(), past)?;
+    Ok(())
+}
+
+// What is asked for, sorted by timeline.
 fn parts_for(
     alloc: Global,
     board: &Board,
-    asking: &Option<Asking>,
+    known: &Known,
     past: &mut Vec<Outside>,
 ) -> Result<Vec<Part>, AllocError>
     requires unspoiled { board.now.spoiled ≡ false }
     requires of_plan { All (IsOutsideOf board.now.state) past.old.items }
     requires different { AreDifferent past.old.items }
-    ensures parts { IfOk result (λ parts. IfSome asking.now (λ a. All (IsPartOf a) parts.items)) }
+    ensures parts { IfOk result (λ parts. IfSome known.now.asking (λ a. All (IsPartOf a) parts.items)) }
     ensures of_plan { OnOk result (All (IsOutsideOf board.now.state) past.new.items) }
     ensures different { OnOk result (AreDifferent past.new.items) }
 {
-    match asking {
+    match &known.asking {
         Some(asking) => {
-            widen(alloc, board, asking, past)?;
+            widen_for(alloc, board, &known.first, asking, past)?;
             Ok(parts_of(alloc, past.as_slice(), asking)?)
         }
         None => Ok(Vec::new(alloc)),
@@ -69,7 +96,7 @@ pub(crate) fn run_of(
     ensures different { OnOk result (AreDifferent past.new.items) }
 {
     let known = known_of(alloc, board, standing, mv)?;
-    let parts = parts_for(alloc, board, &known.asking, past)?;
+    let parts = parts_for(alloc, board, &known, past)?;
     Ok(Run { known, parts })
 }
 

@@ -74,19 +74,20 @@ fn part_on<'p>(parts: &'p [Part], line: u32) -> Option<&'p Part>
     None
 }
 
+// With the part of a timeline that is looked at, if it is not there.
 fn add_part(
     alloc: Global,
     asking: &Asking,
-    line: u32,
+    outside: &Outside,
     parts: &mut Vec<Part>,
 ) -> Result<(), AllocError>
     requires { All (IsPartOf asking.now) parts.old.items }
     ensures { OnOk result (All (IsPartOf asking.now) parts.new.items) }
 {
-    if part_on(parts.as_slice(), line).is_some() {
+    if outside.looks.is_empty() || part_on(parts.as_slice(), outside.line).is_some() {
         return Ok(());
     }
-    let part = part_of(alloc, asking, line)?;
+    let part = part_of(alloc, asking, outside.line)?;
     parts.push(part)?;
     Ok(())
 }
@@ -104,7 +105,7 @@ pub(crate) fn parts_of(
         return Ok(parts);
     }
     for outside in outsides {
-        add_part(alloc, asking, outside.line, &mut parts)?;
+        add_part(alloc, asking, outside, &mut parts)?;
     }
     Ok(parts)
 }
