@@ -207,7 +207,7 @@ fn times_with(
     requires parts { All (IsPartOf asking.now) parts.now }
     ensures { result ≤ length (spans_ahead board.now.state (is_past_with board.now.state outside.now asking.now.going.items (coming_at asking.now start))) }
 {
-    if outside.looks.is_empty() {
+    if outside.is_far() {
         return 0;
     }
     let change = Change {
