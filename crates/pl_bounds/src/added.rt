@@ -5,9 +5,9 @@ ghost use Rattle.pl_bounds.specs.declared.outside.Outside as looked;
 ghost use Rattle.pl_bounds.specs.Afterwards.{moved_by, pull, value_with};
 ghost use Rattle.pl_bounds.specs.Changed.{added_by, IsAddedBy};
 
-use crate::until::lasts;
 use crate::outside::{Look, Outside};
 use crate::pulls::{Way, pull};
+use crate::until::lasts;
 use pl_semantics::Demand;
 
 /// What goes and what comes of a timeline. What comes is moved along.

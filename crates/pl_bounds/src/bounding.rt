@@ -16,9 +16,9 @@ ghost use Rattle.pl_bounds.specs.Tallies.{fresh, IsTallyOf};
 use crate::added::{Added, Change, added_at};
 use crate::asking::Asking;
 use crate::outside::{Look, Outside, Side};
-use crate::sorting::{Part, coming_on, going_on};
 use crate::pulls::Way;
 use crate::reading::{is_past, value_at};
+use crate::sorting::{Part, coming_on, going_on};
 use crate::tally::Tally;
 use pl_board::Board;
 use pl_semantics::{Asked, Demand};
@@ -133,13 +133,7 @@ fn gone_anew(
 }
 
 // Goes on to a look. Between two of them at which as much is added nothing grows worse.
-fn gone_to(
-    board: &Board,
-    walk: Walk,
-    outside: &Outside,
-    change: &Change<'_>,
-    look: Look,
-) -> Walk
+fn gone_to(board: &Board, walk: Walk, outside: &Outside, change: &Change<'_>, look: Look) -> Walk
     requires unspoiled { board.now.spoiled ≡ false }
     requires of_plan { IsOutsideOf board.now.state outside.now }
     requires walk { IsWalkOf board.now.state outside.now change.now.going.now (moved_by change.now.way change.now.coming.now) walk }

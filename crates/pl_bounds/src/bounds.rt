@@ -14,8 +14,8 @@ ghost use Rattle.pl_bounds.specs.Standing.{IsStandingOf};
 ghost use Rattle.pl_bounds.specs.Ties.{count_of_links};
 
 use crate::bounding::past_after;
-use crate::runs::{Run, run_like, run_of};
 use crate::outside::{Outside, outsides};
+use crate::runs::{Run, run_like, run_of};
 use crate::standing::{Standing, standing_of};
 use crate::ties::lone_then;
 use pl_board::Board;

@@ -111,11 +111,7 @@ pub(crate) fn parts_of(
 }
 
 /// What goes of what bears on a timeline.
-pub(crate) fn going_on<'a>(
-    asking: &'a Asking,
-    parts: &'a [Part],
-    outside: &Outside,
-) -> &'a [Demand]
+pub(crate) fn going_on<'a>(asking: &'a Asking, parts: &'a [Part], outside: &Outside) -> &'a [Demand]
     requires { All (IsPartOf asking.now) parts.now }
     ensures { MakeSame outside.now result.now asking.now.going.items }
 {

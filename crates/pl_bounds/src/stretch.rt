@@ -75,13 +75,7 @@ pub(crate) fn stretch_ahead(board: &Board, from: u32) -> Stretch
 }
 
 /// Whether a timeline is past a bar at one of these moments.
-pub(crate) fn comes_past(
-    board: &Board,
-    side: Side,
-    line: u32,
-    bar: i64,
-    stretch: Stretch,
-) -> bool
+pub(crate) fn comes_past(board: &Board, side: Side, line: u32, bar: i64, stretch: Stretch) -> bool
     requires unspoiled { board.now.spoiled ≡ false }
     requires limited { IsLimited board.now.state side line }
     requires now { board.now.state.moment ≤ stretch.from }
