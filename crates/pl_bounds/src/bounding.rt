@@ -201,7 +201,7 @@ fn times_with(
     requires parts { All (IsPartOf asking.now) parts.now }
     ensures { result ≤ length (spans_ahead board.now.state (is_past_with board.now.state outside.now asking.now.going.items (coming_at asking.now start))) }
 {
-    if outside.is_far() {
+    if outside.looks.is_empty() {
         return 0;
     }
     let change = Change {

@@ -177,7 +177,7 @@ pub(crate) fn looks_at(
             looking.look_round(board, side, line, conflict)?;
         }
     }
-    if looking.looks.is_empty() && side != Side::Over {
+    if looking.looks.is_empty() {
         looking.look_at_crossings(board, side, line, bars)?;
     }
     Ok(looking.looks)

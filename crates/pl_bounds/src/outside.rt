@@ -51,13 +51,6 @@ pub(crate) struct Outside {
     pub(crate) times: u32,
 }
 
-impl Outside {
-    /// Whether no look at it can tell anything: a level that comes nowhere near its limit.
-    pub(crate) fn is_far(&self) -> bool {
-        self.looks.is_empty() && self.side != Side::Over
-    }
-}
-
 fn side_of(code: Code) -> Option<Side> {
     match code {
         Code::Over => Some(Side::Over),

@@ -26,8 +26,13 @@ pub(crate) struct Run {
     pub(crate) parts: Vec<Part>,
 }
 
-// With the limits that what comes may pass, where a root is added. For the many other moves of a choice it would cost more than it
-// saves.
+// Whether it adds a root for a goal.
+fn serves(mv: &RepairMove) -> bool {
+    matches!(mv, RepairMove::Add { goal: Some(_), .. })
+}
+
+// With the limits that what comes may pass, where a root is added for a goal. For the many other moves of a choice it would cost more
+// than it saves.
 fn widen_for(
     alloc: Global,
     board: &Board,
@@ -41,13 +46,11 @@ fn widen_for(
     ensures of_plan { OnOk result (All (IsOutsideOf board.now.state) past.new.items) }
     ensures different { OnOk result (AreDifferent past.new.items) }
 {
-    match *mv {
-        RepairMove::Add { goal, .. } => {
-            widen(alloc, board, asking.coming.as_slice(), goal.is_some(), past)?;
-            Ok(())
-        }
-        _ => Ok(()),
+    if !serves(mv) {
+        return Ok(());
     }
+    widen(alloc, board, asking.coming.as_slice(), past)?;
+    Ok(())
 }
 
 // What is asked for, sorted by timeline.

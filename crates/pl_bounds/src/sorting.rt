@@ -84,7 +84,7 @@ fn add_part(
     requires { All (IsPartOf asking.now) parts.old.items }
     ensures { OnOk result (All (IsPartOf asking.now) parts.new.items) }
 {
-    if outside.is_far() || part_on(parts.as_slice(), outside.line).is_some() {
+    if outside.looks.is_empty() || part_on(parts.as_slice(), outside.line).is_some() {
         return Ok(());
     }
     let part = part_of(alloc, asking, outside.line)?;
