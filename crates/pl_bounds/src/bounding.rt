@@ -147,6 +147,25 @@ fn gone_to(board: &Board, walk: Walk, outside: &Outside, change: &Change<'_>, lo
     }
 }
 
+// Whether as much is added up to the end.
+fn is_steady(walk: Walk) -> bool {
+    u64::from(walk.tally.end) <= walk.added.until
+}
+
+// How often at least the timeline is past its limit, once all looks are passed. Where as much is added up to the end nothing grows worse.
+fn times_behind(board: &Board, walk: Walk, outside: &Outside, change: &Change<'_>) -> u32
+    requires unspoiled { board.now.spoiled ≡ false }
+    requires of_plan { IsOutsideOf board.now.state outside.now }
+    requires walk { IsWalkOf board.now.state outside.now change.now.going.now (moved_by change.now.way change.now.coming.now) walk }
+    ensures { result ≤ length (spans_ahead board.now.state (is_past_with board.now.state outside.now change.now.going.now (moved_by change.now.way change.now.coming.now))) }
+{
+    if is_steady(walk) {
+        walk.tally.times
+    } else {
+        looked_before(board, walk.tally, outside, change, walk.tally.end).times
+    }
+}
+
 // How often at least one timeline is past its limit, from a tally of no moment.
 fn times_of(board: &Board, ahead: Tally, outside: &Outside, change: &Change<'_>) -> u32
     requires unspoiled { board.now.spoiled ≡ false }
@@ -156,13 +175,13 @@ fn times_of(board: &Board, ahead: Tally, outside: &Outside, change: &Change<'_>)
 {
     let mut walk = Walk {
         tally: ahead,
-        added: Added::unknown(),
+        added: added_at(outside, change, ahead.next),
     };
     let looks = outside.looks.as_slice();
     for look in looks {
         walk = gone_to(board, walk, outside, change, *look);
     }
-    looked_before(board, walk.tally, outside, change, walk.tally.end).times
+    times_behind(board, walk, outside, change)
 }
 
 fn is_nothing(change: &Change<'_>) -> bool
