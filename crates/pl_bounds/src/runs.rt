@@ -95,7 +95,7 @@ pub(crate) fn run_of(
     ensures of_plan { OnOk result (All (IsOutsideOf board.now.state) past.new.items) }
     ensures different { OnOk result (AreDifferent past.new.items) }
 {
-    let known = known_of(alloc, board, standing, mv)?;
+    let known = known_of(alloc, board, standing, mv, !past.is_empty())?;
     let parts = parts_for(alloc, board, &known, past)?;
     Ok(Run { known, parts })
 }
