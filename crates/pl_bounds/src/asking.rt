@@ -60,15 +60,12 @@ fn deleted(alloc: Global, s: &PlanState, subtree: &[u32]) -> Result<Asking, Allo
 pub(crate) fn deleted_if(
     alloc: Global,
     s: &PlanState,
-    id: u32,
     subtree: &[u32],
     is_wanted: bool,
 ) -> Result<Option<Asking>, AllocError>
-    requires whole { IsWhole s.now }
-    requires subtree { subtree.now ≡ subtree_of id s.now.plan.activities }
-    ensures { IfOk result (λ o. IfSome o (λ a. IsAskingOf s.now (Delete id) a)) }
+    requires { IsWhole s.now }
+    ensures { IfOk result (λ o. (id : ℕ) → subtree.now ≡ subtree_of id s.now.plan.activities → IfSome o (λ a. IsAskingOf s.now (Delete id) a)) }
 {
-    let _id = id;
     if is_wanted {
         let asking = deleted(alloc, s, subtree)?;
         Ok(Some(asking))

@@ -72,7 +72,7 @@ fn known_of_deletion(
 {
     let subtree = s.plan.subtree(alloc, id)?;
     let steady = left_by_deletion(alloc, s, standing.wrong, id, &subtree)?;
-    let asking = deleted_if(alloc, s, id, &subtree, is_asked)?;
+    let asking = deleted_if(alloc, s, &subtree, is_asked)?;
     Ok(Known {
         first: RepairMove::Delete { id },
         steady,

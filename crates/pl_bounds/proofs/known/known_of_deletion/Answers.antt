@@ -7,8 +7,5 @@ use Rattle.pl_bounds.proofs.known.known_of_deletion.Goals as goal
 pub subtree-requires-clause-live : goal.subtree-requires-clause-live
 subtree-requires-clause-live c = named_live c.args.s.now (Delete c.args.id) c.requires.allowed.proper
 
-pub deleted_if-requires-clause-subtree : goal.deleted_if-requires-clause-subtree
-deleted_if-requires-clause-subtree c = c.deref-2.ensures.value ∙ c.in_ok-subtree.ensures
-
 pub returns-clause-known : goal.returns-clause-known
-returns-clause-known c = known_deletion c.args.s.now c.args.id c.in_ok-steady.steady c.in_ok-steady.ensures c.in_ok-asking.asking c.in_ok-asking.ensures
+returns-clause-known c = known_deletion c.args.s.now c.args.id c.in_ok-steady.steady c.in_ok-steady.ensures c.in_ok-asking.asking (c.in_ok-asking.ensures c.args.id (c.deref-2.ensures.value ∙ c.in_ok-subtree.ensures))
