@@ -1,5 +1,6 @@
 -- What is known of a move, and of each that places the same at another start.
 use Rattle.std.proofs.Common.{◌≡◌, ◌≤◌, ℕ, ℤ, [], Option, Some, None, sym, subst, arith}
+use Rattle.std.specs.Prelude.{IfSome}
 use Rattle.pl_links.specs.declared.placed.Placed.{Placed}
 use Rattle.pl_moves.specs.Runs.{CanBeMade, start_of}
 use Rattle.pl_plan.specs.declared.repair.RepairMove.{RepairMove}
@@ -33,16 +34,16 @@ module _ (s : PlanState) where
     asking = addition_asks s whole next kind start goal can a going coming from;
   }
 
-  pub known_deletion : (id n : ℕ) → n ≤ count_of_plain (applied s (Delete id)) → (a : Asking) → IsAskingOf s (Delete id) a → IsKnownOf s (record { first = Delete id; steady = n; alone = None; asking = Some a })
-  known_deletion id n left a asks = record {
+  pub known_deletion : (id n : ℕ) → n ≤ count_of_plain (applied s (Delete id)) → (o : Option Asking) → IfSome o (λ a. IsAskingOf s (Delete id) a) → IsKnownOf s (record { first = Delete id; steady = n; alone = None; asking = o })
+  known_deletion id n left o asks = record {
     steady = each_deletion s (λ m. n ≤ count_of_plain (applied s m)) id left;
     alone = λ m can alike. omega arith;
     asking = asks;
   }
 
   pub known_shift : (id start n : ℕ) → IsLeftByShift s id n → (own : Option Placed) → ((to : ℕ) → CanBeMade s (Shift id to) → lone_then s to own ≤ count_of_links (applied s (Shift id to)))
-      → (a : Asking) → IsAskingOf s (Shift id start) a → IsKnownOf s (record { first = Shift id start; steady = n; alone = own; asking = Some a })
-  known_shift id start n left own few a asks = record {
+      → (o : Option Asking) → IfSome o (λ a. IsAskingOf s (Shift id start) a) → IsKnownOf s (record { first = Shift id start; steady = n; alone = own; asking = o })
+  known_shift id start n left own few o asks = record {
     steady = each_shift s (λ m. n ≤ count_of_plain (applied s m)) id start left;
     alone = each_shift s (λ m. lone_then s (start_of m) own ≤ count_of_links (applied s m)) id start few;
     asking = asks;

@@ -35,4 +35,5 @@ pub mod Lacking
 pub mod Around
 pub mod Staying
 pub mod Knowing
-pub mod Narrowed
+pub mod Parted
+pub mod Lasting

@@ -1,14 +1,16 @@
 -- What is known of moves that place the same at other starts.
-use Rattle.std.specs.Prelude.{ℕ, ◌≤◌, None, IfSome}
+use Rattle.std.specs.Prelude.{ℕ, ◌≤◌, None, IfSome, All}
 use Rattle.pl_plan.specs.declared.repair.RepairMove.{RepairMove}
 use Rattle.pl_semantics.specs.declared.plan_state.PlanState.{PlanState}
 use Rattle.pl_semantics.specs.Moves.{applied}
 use Rattle.pl_moves.specs.Changes.{gone_by, placed_by}
 use Rattle.pl_moves.specs.Runs.{CanBeMade, start_of}
 use Rattle.pl_bounds.specs.Asked.{IsAlike, IsAskedBy}
+use Rattle.pl_bounds.specs.Parted.{IsPartOf}
 use Rattle.pl_bounds.specs.Plain.{count_of_plain}
 use Rattle.pl_bounds.specs.Ties.{lone_then, count_of_links}
 use Rattle.pl_bounds.specs.declared.known.Known.{Known}
+use Rattle.pl_bounds.specs.declared.runs.Run.{Run}
 
 -- Of each move alike that can be made: how many conflicts of goals and activities it leaves at least, an activity whose links are
 -- conflicts where they find no partner at the move's start, and what it asks for, if that is known.
@@ -20,3 +22,8 @@ pub record IsKnownOf (s : PlanState) (k : Known) : Type 0 where
 -- no more than such a number
 abbrev pub only_steady : RepairMove → ℕ → Known
 only_steady first n = record { first = first; steady = n; alone = None; asking = None }
+
+-- what is known of its moves, and the parts of what they ask for
+pub record IsRunOf (s : PlanState) (r : Run) : Type 0 where
+  pub known : IsKnownOf s r.known
+  pub parts : IfSome r.known.asking (λ a. All (IsPartOf a) r.parts.items)

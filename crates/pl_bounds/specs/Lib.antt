@@ -26,6 +26,8 @@ pub mod Bounds
 pub mod Known
 pub mod Standing
 pub mod Afterwards
+pub mod Parted
+pub mod Changed
 pub mod Tallies
 pub mod Looks
 pub mod Ties

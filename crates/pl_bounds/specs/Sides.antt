@@ -1,5 +1,5 @@
--- Timelines past a limit of their own, each looked at at some moments.
-use Rattle.std.specs.Prelude.{◌≡◌, ◌≢◌, ◌⊎◌, ℕ, ◌+◌, ℤ, int_lt, Bool, List, [], ◌∷◌, map, length, slice_get, Option, Some, None, AllPairs}
+-- Timelines and their limits, each looked at at some moments.
+use Rattle.std.specs.Prelude.{◌≡◌, ◌≢◌, ◌⊎◌, ℕ, ◌+◌, ◌≤◌, ℤ, int_lt, Bool, List, [], ◌∷◌, map, length, slice_get, Option, Some, None, AllPairs}
 use Rattle.pl_conflict.specs.declared.conflict.Code.{Code}
 use Rattle.pl_conflict.specs.declared.conflict.Code.TheVariants as code
 use Rattle.pl_model.specs.declared.timelines.Timeline.{Timeline}
@@ -51,16 +51,18 @@ AreRight s side line (l ∷ more) = (l.value ≡ value_at s side line l.at) × A
 abbrev pub HasLimit : PlanState → Outside → Type 0
 HasLimit s o = limit_of o.side (slice_get s.model.timelines o.line) ≡ Some o.limit
 
--- it is of this plan: its limit, from when on effects count, and what it was seen to come to, by rising moments
+-- the maximal spans at which it is past its limit
+abbrev pub spans_past : PlanState → Outside → List Span
+spans_past s o = spans_ahead s (λ t. is_past o.side o.limit (value_at s o.side o.line t))
+
+-- it is of this plan: its limit, from when on effects count, what it was seen to come to, by rising moments, and how often it is past its limit
+-- at least
 pub record IsOutsideOf (s : PlanState) (o : Outside) : Type 0 where
   pub limit : HasLimit s o
   pub since : o.since ≡ since s o.line
   pub moments : AreMoments s.moment s.model.horizon (map moment_of o.looks.items)
   pub right : AreRight s o.side o.line o.looks.items
-
--- the maximal spans at which it is past its limit
-abbrev pub spans_past : PlanState → Outside → List Span
-spans_past s o = spans_ahead s (λ t. is_past o.side o.limit (value_at s o.side o.line t))
+  pub times : o.times ≤ length (spans_past s o)
 
 -- how often all of them are
 abbrev pub times_past : PlanState → List Outside → ℕ

@@ -43,8 +43,8 @@ fn asked_by(alloc: Global, s: &PlanState, ids: &[u32]) -> Result<Vec<Demand>, Al
     Ok(all)
 }
 
-/// Of a deletion, given the ids of the subtree that goes.
-pub(crate) fn deleted(alloc: Global, s: &PlanState, subtree: &[u32]) -> Result<Asking, AllocError>
+// Of a deletion, given the ids of the subtree that goes.
+fn deleted(alloc: Global, s: &PlanState, subtree: &[u32]) -> Result<Asking, AllocError>
     requires { IsWhole s.now }
     ensures { IfOk result (λ a. (id : ℕ) → subtree.now ≡ subtree_of id s.now.plan.activities → IsAskingOf s.now (Delete id) a) }
 {
@@ -54,6 +54,24 @@ pub(crate) fn deleted(alloc: Global, s: &PlanState, subtree: &[u32]) -> Result<A
         coming: Vec::new(alloc),
         start: 0,
     })
+}
+
+/// Of a deletion, given the ids of the subtree that goes, if it is wanted.
+pub(crate) fn deleted_if(
+    alloc: Global,
+    s: &PlanState,
+    subtree: &[u32],
+    is_wanted: bool,
+) -> Result<Option<Asking>, AllocError>
+    requires { IsWhole s.now }
+    ensures { IfOk result (λ o. (id : ℕ) → subtree.now ≡ subtree_of id s.now.plan.activities → IfSome o (λ a. IsAskingOf s.now (Delete id) a)) }
+{
+    if is_wanted {
+        let asking = deleted(alloc, s, subtree)?;
+        Ok(Some(asking))
+    } else {
+        Ok(None)
+    }
 }
 
 // The start of the activity of this id; 0 where there is none.
@@ -66,8 +84,8 @@ fn start_at(s: &PlanState, id: u32) -> u32
     }
 }
 
-/// Of a shift to any start, given the ids of the subtree that moves.
-pub(crate) fn shifted(
+// Of a shift to any start, given the ids of the subtree that moves.
+fn shifted(
     alloc: Global,
     s: &PlanState,
     id: u32,
@@ -86,6 +104,28 @@ pub(crate) fn shifted(
         coming,
         start: start_at(s, id),
     })
+}
+
+/// Of a shift to any start, given the ids of the subtree that moves, if it is wanted.
+pub(crate) fn shifted_if(
+    alloc: Global,
+    s: &PlanState,
+    id: u32,
+    subtree: &[u32],
+    is_wanted: bool,
+) -> Result<Option<Asking>, AllocError>
+    requires whole { IsWhole s.now }
+    requires next { s.now.next_id ≤ 3999999000 }
+    requires live { IsLive id s.now.plan.activities }
+    requires subtree { subtree.now ≡ subtree_of id s.now.plan.activities }
+    ensures { IfOk result (λ o. (start : ℕ) → IfSome o (λ a. IsAskingOf s.now (Shift id start) a)) }
+{
+    if is_wanted {
+        let asking = shifted(alloc, s, id, subtree)?;
+        Ok(Some(asking))
+    } else {
+        Ok(None)
+    }
 }
 
 /// Of an addition, given the new root alone in a plan of its own.

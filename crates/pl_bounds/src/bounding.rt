@@ -1,49 +1,36 @@
 //! How often timelines are past their limits at least, once some demands went and others came.
-ghost use Rattle.std.specs.Prelude.{◌≡◌, ◌≤◌, ◌<◌, ℕ, Bool, false, List, All, length, IfSome};
+ghost use Rattle.std.specs.Prelude.{◌≡◌, ◌≤◌, ◌<◌, ℕ, Bool, List, [], false, All, length, IfSome, IsTrue};
 ghost use Rattle.pl_update.specs.Changes.Replaced.{CanReplace, with_plan};
 ghost use Rattle.pl_update.specs.Timelines.Laws.{AreOnce};
 ghost use Rattle.pl_plan.specs.declared.activity.Activity.{Activity};
+ghost use Rattle.pl_semantics.specs.declared.demand.Demand as asked;
 ghost use Rattle.pl_semantics.specs.declared.plan_state.PlanState.{PlanState};
 ghost use Rattle.pl_semantics.specs.Timelines.{spans_ahead};
-ghost use Rattle.pl_bounds.specs.Afterwards.{coming_at, moved_by, value_with, is_past_with};
+ghost use Rattle.pl_bounds.specs.Afterwards.{coming_at, moved_by, is_past_with};
 ghost use Rattle.pl_bounds.specs.Asked.{IsAskedBy};
+ghost use Rattle.pl_bounds.specs.Changed.{IsAddedBy, IsWalkOf};
+ghost use Rattle.pl_bounds.specs.Parted.{IsPartOf};
 ghost use Rattle.pl_bounds.specs.Sides.{IsOutsideOf, times_past, value_at};
 ghost use Rattle.pl_bounds.specs.Tallies.{fresh, IsTallyOf};
 
+use crate::added::{Added, Change, added_at};
 use crate::asking::Asking;
-use crate::narrowing::narrowed;
 use crate::outside::{Look, Outside, Side};
-use crate::pulls::{Way, pull};
+use crate::pulls::Way;
 use crate::reading::{is_past, value_at};
+use crate::sorting::{Part, coming_on, going_on};
 use crate::tally::Tally;
 use pl_board::Board;
 use pl_semantics::{Asked, Demand};
 
-// What goes and what comes of a timeline. What comes is moved along.
-#[derive(Clone, Copy)]
-struct Change<'c> {
-    going: &'c [Demand],
-    coming: &'c [Demand],
-    way: Way,
-}
-
-// What the timeline comes to at a look, where the sums fit.
-fn value_with(outside: &Outside, change: &Change<'_>, look: Look) -> Option<i64>
-    ensures { IfSome result (λ v. v ≡ value_with outside.now change.now.going.now (moved_by change.now.way change.now.coming.now) look.at look.value) }
-{
-    let still = Way { from: 0, to: 0 };
-    let going = pull(outside, change.going, still, look.at)?;
-    let coming = pull(outside, change.coming, change.way, look.at)?;
-    look.value.checked_sub(going)?.checked_add(coming)
-}
-
 // The tally with whether the timeline is past its limit at a look, if that is known.
-fn looked_at(tally: Tally, outside: &Outside, change: &Change<'_>, look: Look) -> Tally
-    ensures { (s : PlanState) (from end : ℕ) → look.value ≡ value_at s outside.now.side outside.now.line look.at
-        → IsTallyOf (is_past_with s outside.now change.now.going.now (moved_by change.now.way change.now.coming.now)) from end tally
-        → IsTallyOf (is_past_with s outside.now change.now.going.now (moved_by change.now.way change.now.coming.now)) from end result }
+fn looked_at(tally: Tally, outside: &Outside, added: Added, look: Look) -> Tally
+    ensures { (s : PlanState) (from end : ℕ) (going coming : List asked.Demand) → look.value ≡ value_at s outside.now.side outside.now.line look.at
+        → IsAddedBy outside.now going coming added
+        → IsTallyOf (is_past_with s outside.now going coming) from end tally
+        → IsTallyOf (is_past_with s outside.now going coming) from end result }
 {
-    match value_with(outside, change, look) {
+    match added.value_with(look) {
         Some(value) => tally.noted(look.at, is_past(outside.side, outside.limit, value)),
         None => tally,
     }
@@ -98,9 +85,84 @@ fn looked_before(
     match worse_within(outside, change, tally.next, end) {
         Some(at) => {
             let value = value_at(board, outside.side, outside.line, at);
-            looked_at(tally, outside, change, Look { at, value })
+            let added = added_at(outside, change, at);
+            looked_at(tally, outside, added, Look { at, value })
         }
         None => tally,
+    }
+}
+
+// The tally of the looks so far, and what was last found to be added.
+#[derive(Clone, Copy)]
+struct Walk {
+    tally: Tally,
+    added: Added,
+}
+
+// Goes on to a look at which as much is added as before.
+fn gone_on(walk: Walk, outside: &Outside, look: Look) -> Walk
+    ensures { (s : PlanState) (going coming : List asked.Demand) → look.value ≡ value_at s outside.now.side outside.now.line look.at
+        → IsWalkOf s outside.now going coming walk → IsWalkOf s outside.now going coming result }
+{
+    Walk {
+        tally: looked_at(walk.tally, outside, walk.added, look),
+        added: walk.added,
+    }
+}
+
+// Goes on to a look at which it has to be worked out how much is added.
+fn gone_anew(
+    board: &Board,
+    tally: Tally,
+    outside: &Outside,
+    change: &Change<'_>,
+    look: Look,
+) -> Walk
+    requires unspoiled { board.now.spoiled ≡ false }
+    requires of_plan { IsOutsideOf board.now.state outside.now }
+    requires tally { IsTallyOf (is_past_with board.now.state outside.now change.now.going.now (moved_by change.now.way change.now.coming.now)) board.now.state.moment board.now.state.model.horizon tally }
+    requires right { look.value ≡ value_at board.now.state outside.now.side outside.now.line look.at }
+    ensures { IsWalkOf board.now.state outside.now change.now.going.now (moved_by change.now.way change.now.coming.now) result }
+{
+    let before = looked_before(board, tally, outside, change, look.at);
+    let added = added_at(outside, change, look.at);
+    Walk {
+        tally: looked_at(before, outside, added, look),
+        added,
+    }
+}
+
+// Goes on to a look. Between two of them at which as much is added nothing grows worse.
+fn gone_to(board: &Board, walk: Walk, outside: &Outside, change: &Change<'_>, look: Look) -> Walk
+    requires unspoiled { board.now.spoiled ≡ false }
+    requires of_plan { IsOutsideOf board.now.state outside.now }
+    requires walk { IsWalkOf board.now.state outside.now change.now.going.now (moved_by change.now.way change.now.coming.now) walk }
+    requires right { look.value ≡ value_at board.now.state outside.now.side outside.now.line look.at }
+    ensures { IsWalkOf board.now.state outside.now change.now.going.now (moved_by change.now.way change.now.coming.now) result }
+{
+    if walk.added.is_known_at(look.at) {
+        gone_on(walk, outside, look)
+    } else {
+        gone_anew(board, walk.tally, outside, change, look)
+    }
+}
+
+// Whether as much is added up to the end.
+fn is_steady(walk: Walk) -> bool {
+    u64::from(walk.tally.end) <= walk.added.until
+}
+
+// How often at least the timeline is past its limit, once all looks are passed. Where as much is added up to the end nothing grows worse.
+fn times_behind(board: &Board, walk: Walk, outside: &Outside, change: &Change<'_>) -> u32
+    requires unspoiled { board.now.spoiled ≡ false }
+    requires of_plan { IsOutsideOf board.now.state outside.now }
+    requires walk { IsWalkOf board.now.state outside.now change.now.going.now (moved_by change.now.way change.now.coming.now) walk }
+    ensures { result ≤ length (spans_ahead board.now.state (is_past_with board.now.state outside.now change.now.going.now (moved_by change.now.way change.now.coming.now))) }
+{
+    if is_steady(walk) {
+        walk.tally.times
+    } else {
+        looked_before(board, walk.tally, outside, change, walk.tally.end).times
     }
 }
 
@@ -111,37 +173,78 @@ fn times_of(board: &Board, ahead: Tally, outside: &Outside, change: &Change<'_>)
     requires ahead { (P : ℕ → Bool) → IsTallyOf P board.now.state.moment board.now.state.model.horizon ahead }
     ensures { result ≤ length (spans_ahead board.now.state (is_past_with board.now.state outside.now change.now.going.now (moved_by change.now.way change.now.coming.now))) }
 {
-    let mut tally = ahead;
+    let mut walk = Walk {
+        tally: ahead,
+        added: added_at(outside, change, ahead.next),
+    };
     let looks = outside.looks.as_slice();
     for look in looks {
-        tally = looked_before(board, tally, outside, change, look.at);
-        tally = looked_at(tally, outside, change, *look);
+        walk = gone_to(board, walk, outside, change, *look);
     }
-    looked_before(board, tally, outside, change, tally.end).times
+    times_behind(board, walk, outside, change)
 }
 
-// The same once what is asked stands at a start, and what goes is gone.
-fn times_with(board: &Board, ahead: Tally, outside: &Outside, asking: &Asking, start: u32) -> u32
+fn is_nothing(change: &Change<'_>) -> bool
+    ensures going { IsTrue result → change.now.going.now ≡ [] }
+    ensures coming { IsTrue result → change.now.coming.now ≡ [] }
+{
+    change.going.is_empty() && change.coming.is_empty()
+}
+
+// The same where nothing may bear on it: it is past its limit as often as it is now.
+fn times_by(board: &Board, ahead: Tally, outside: &Outside, change: &Change<'_>) -> u32
     requires unspoiled { board.now.spoiled ≡ false }
     requires of_plan { IsOutsideOf board.now.state outside.now }
     requires ahead { (P : ℕ → Bool) → IsTallyOf P board.now.state.moment board.now.state.model.horizon ahead }
+    ensures { result ≤ length (spans_ahead board.now.state (is_past_with board.now.state outside.now change.now.going.now (moved_by change.now.way change.now.coming.now))) }
+{
+    if is_nothing(change) {
+        outside.times
+    } else {
+        times_of(board, ahead, outside, change)
+    }
+}
+
+// The same once what is asked stands at a start, and what goes is gone.
+fn times_with(
+    board: &Board,
+    ahead: Tally,
+    outside: &Outside,
+    asking: &Asking,
+    parts: &[Part],
+    start: u32,
+) -> u32
+    requires unspoiled { board.now.spoiled ≡ false }
+    requires of_plan { IsOutsideOf board.now.state outside.now }
+    requires ahead { (P : ℕ → Bool) → IsTallyOf P board.now.state.moment board.now.state.model.horizon ahead }
+    requires parts { All (IsPartOf asking.now) parts.now }
     ensures { result ≤ length (spans_ahead board.now.state (is_past_with board.now.state outside.now asking.now.going.items (coming_at asking.now start))) }
 {
+    if outside.looks.is_empty() {
+        return 0;
+    }
     let change = Change {
-        going: narrowed(asking.going.as_slice(), outside),
-        coming: narrowed(asking.coming.as_slice(), outside),
+        going: going_on(asking, parts, outside),
+        coming: coming_on(asking, parts, outside),
         way: Way {
             from: asking.start,
             to: start,
         },
     };
-    times_of(board, ahead, outside, &change)
+    times_by(board, ahead, outside, &change)
 }
 
-/// How often at least the timelines are past their limits once what is asked stands at a start, and what goes is gone.
-pub(crate) fn past_after(board: &Board, outsides: &[Outside], asking: &Asking, start: u32) -> u32
+/// How often at least the timelines are past their limits once what is asked stands at a start, and what goes is gone, given its parts.
+pub(crate) fn past_after(
+    board: &Board,
+    outsides: &[Outside],
+    asking: &Asking,
+    parts: &[Part],
+    start: u32,
+) -> u32
     requires unspoiled { board.now.spoiled ≡ false }
     requires of_plan { All (IsOutsideOf board.now.state) outsides.now }
+    requires parts { All (IsPartOf asking.now) parts.now }
     ensures { (gone : List ℕ) (more : List Activity) → CanReplace board.now.state gone more → AreOnce gone
         → IsAskedBy board.now.state gone more asking.now start → result ≤ times_past (with_plan gone more board.now.state) outsides.now }
 {
@@ -149,7 +252,7 @@ pub(crate) fn past_after(board: &Board, outsides: &[Outside], asking: &Asking, s
     let ahead = Tally::new(s.moment, s.model.get().horizon);
     let mut times: u32 = 0;
     for outside in outsides {
-        times = times.saturating_add(times_with(board, ahead, outside, asking, start));
+        times = times.saturating_add(times_with(board, ahead, outside, asking, parts, start));
     }
     times
 }

@@ -7,15 +7,15 @@ ghost use Rattle.pl_moves.specs.Changes.{IsOfActivities};
 ghost use Rattle.pl_moves.specs.Runs.{CanBeMade};
 ghost use Rattle.pl_bounds.specs.Asked.{IsAlike};
 ghost use Rattle.pl_bounds.specs.Bounds.{AreLeast};
-ghost use Rattle.pl_bounds.specs.Known.{IsKnownOf};
+ghost use Rattle.pl_bounds.specs.Known.{IsRunOf};
 ghost use Rattle.pl_bounds.specs.Plain.{count_of_plain};
 ghost use Rattle.pl_bounds.specs.Sides.{IsOutsideOf, AreDifferent};
 ghost use Rattle.pl_bounds.specs.Standing.{IsStandingOf};
 ghost use Rattle.pl_bounds.specs.Ties.{count_of_links};
 
 use crate::bounding::past_after;
-use crate::known::{Known, known_like, known_of};
 use crate::outside::{Outside, outsides};
+use crate::runs::{Run, run_like, run_of};
 use crate::standing::{Standing, standing_of};
 use crate::ties::lone_then;
 use pl_board::Board;
@@ -28,54 +28,54 @@ use std::alloc::{AllocError, Global};
 const CONFLICTS_A_MOVE: usize = 64;
 
 // How often timelines are past limits then, as far as it is known what the move asks for.
-fn past_by(board: &Board, outsides: &[Outside], known: &Known, mv: &RepairMove) -> u32
+fn past_by(board: &Board, outsides: &[Outside], run: &Run, mv: &RepairMove) -> u32
     requires unspoiled { board.now.spoiled ≡ false }
     requires next { board.now.state.next_id ≤ 3999999000 }
     requires allowed { CanBeMade board.now.state mv.now }
     requires activities { IsOfActivities mv.now }
     requires of_plan { All (IsOutsideOf board.now.state) outsides.now }
     requires different { AreDifferent outsides.now }
-    requires known { IsKnownOf board.now.state known.now }
-    requires alike { IsAlike known.now.first mv.now }
+    requires run { IsRunOf board.now.state run.now }
+    requires alike { IsAlike run.now.known.first mv.now }
     ensures { count_of_plain (applied board.now.state mv.now) + count_of_links (applied board.now.state mv.now) + result ≤ left_after board.now.state mv.now }
 {
     let _state = board.state();
-    match &known.asking {
-        Some(asking) => past_after(board, outsides, asking, start_of(mv)),
+    match &run.known.asking {
+        Some(asking) => past_after(board, outsides, asking, run.parts.as_slice(), start_of(mv)),
         None => 0,
     }
 }
 
 // Beside the conflicts of goals, of activities and of links that the move leaves, so many at least.
-fn others_by(board: &Board, outsides: &[Outside], known: &Known, mv: &RepairMove) -> u32
+fn others_by(board: &Board, outsides: &[Outside], run: &Run, mv: &RepairMove) -> u32
     requires unspoiled { board.now.spoiled ≡ false }
     requires next { board.now.state.next_id ≤ 3999999000 }
     requires allowed { CanBeMade board.now.state mv.now }
     requires of_plan { All (IsOutsideOf board.now.state) outsides.now }
     requires different { AreDifferent outsides.now }
-    requires known { IsKnownOf board.now.state known.now }
-    requires alike { IsAlike known.now.first mv.now }
+    requires run { IsRunOf board.now.state run.now }
+    requires alike { IsAlike run.now.known.first mv.now }
     ensures { count_of_plain (applied board.now.state mv.now) + count_of_links (applied board.now.state mv.now) + result ≤ left_after board.now.state mv.now }
 {
     match *mv {
         RepairMove::Drop { .. } => 0,
-        _ => past_by(board, outsides, known, mv),
+        _ => past_by(board, outsides, run, mv),
     }
 }
 
-fn least_by(board: &Board, outsides: &[Outside], known: &Known, mv: &RepairMove) -> u32
+fn least_by(board: &Board, outsides: &[Outside], run: &Run, mv: &RepairMove) -> u32
     requires unspoiled { board.now.spoiled ≡ false }
     requires next { board.now.state.next_id ≤ 3999999000 }
     requires allowed { CanBeMade board.now.state mv.now }
     requires of_plan { All (IsOutsideOf board.now.state) outsides.now }
     requires different { AreDifferent outsides.now }
-    requires known { IsKnownOf board.now.state known.now }
-    requires alike { IsAlike known.now.first mv.now }
+    requires run { IsRunOf board.now.state run.now }
+    requires alike { IsAlike run.now.known.first mv.now }
     ensures { result ≤ left_after board.now.state mv.now }
 {
-    let others = others_by(board, outsides, known, mv);
-    let lone = lone_then(board, known.alone, start_of(mv));
-    let least = known.steady.saturating_add(lone).saturating_add(others);
+    let others = others_by(board, outsides, run, mv);
+    let lone = lone_then(board, run.known.alone, start_of(mv));
+    let least = run.known.steady.saturating_add(lone).saturating_add(others);
     least.max(least_left(board.state(), mv))
 }
 
@@ -97,31 +97,33 @@ fn least_alone(alloc: Global, board: &Board, moves: &[RepairMove]) -> Result<Vec
     Ok(bounds)
 }
 
-// A number of conflicts that a move leaves at least. What is known of it is put behind what is known of others, if it is not there.
+// A number of conflicts that a move leaves at least. A run that it begins is put behind the others.
 fn bound_of(
     alloc: Global,
     board: &Board,
     standing: &Standing,
-    past: &[Outside],
+    past: &mut Vec<Outside>,
     mv: &RepairMove,
-    known: &mut Vec<Known>,
+    runs: &mut Vec<Run>,
 ) -> Result<u32, AllocError>
     requires unspoiled { board.now.spoiled ≡ false }
     requires next { board.now.state.next_id ≤ 3999999000 }
     requires standing { IsStandingOf board.now.state standing.now }
-    requires of_plan { All (IsOutsideOf board.now.state) past.now }
-    requires different { AreDifferent past.now }
+    requires of_plan { All (IsOutsideOf board.now.state) past.old.items }
+    requires different { AreDifferent past.old.items }
     requires allowed { CanBeMade board.now.state mv.now }
-    requires known { All (IsKnownOf board.now.state) known.old.items }
+    requires runs { All (IsRunOf board.now.state) runs.old.items }
     ensures least { IfOk result (λ n. n ≤ left_after board.now.state mv.now) }
-    ensures known { OnOk result (All (IsKnownOf board.now.state) known.new.items) }
+    ensures of_plan { OnOk result (All (IsOutsideOf board.now.state) past.new.items) }
+    ensures different { OnOk result (AreDifferent past.new.items) }
+    ensures runs { OnOk result (All (IsRunOf board.now.state) runs.new.items) }
 {
-    if let Some(one) = known_like(known.as_slice(), mv) {
-        return Ok(least_by(board, past, one, mv));
+    if let Some(run) = run_like(runs.as_slice(), mv) {
+        return Ok(least_by(board, past.as_slice(), run, mv));
     }
-    let one = known_of(alloc, board, standing, mv)?;
-    let bound = least_by(board, past, &one, mv);
-    known.push(one)?;
+    let run = run_of(alloc, board, standing, mv, past)?;
+    let bound = least_by(board, past.as_slice(), &run, mv);
+    runs.push(run)?;
     Ok(bound)
 }
 
@@ -136,11 +138,11 @@ fn bounds_of_each(
     ensures { IfOk result (λ ns. AreLeast board.now.state moves.now ns.items) }
 {
     let standing = standing_of(board);
-    let past = outsides(alloc, board)?;
-    let mut known: Vec<Known> = Vec::new(alloc);
+    let mut past = outsides(alloc, board)?;
+    let mut runs: Vec<Run> = Vec::new(alloc);
     let mut bounds = Vec::with_capacity(alloc, moves.len())?;
     'moves: for mv in moves {
-        let bound = bound_of(alloc, board, &standing, past.as_slice(), mv, &mut known)?;
+        let bound = bound_of(alloc, board, &standing, &mut past, mv, &mut runs)?;
         bounds.push(bound)?;
     }
     Ok(bounds)

@@ -1,21 +1,19 @@
 //! What is known of moves that place the same activities at other starts.
-ghost use Rattle.std.specs.Prelude.{◌≡◌, ◌≤◌, false, All, IfOk, IfSome};
+ghost use Rattle.std.specs.Prelude.{◌≡◌, ◌≤◌, false, IfOk};
 ghost use Rattle.pl_moves.specs.Runs.{CanBeMade};
 ghost use Rattle.pl_plan.specs.declared.repair.RepairMove.TheVariants.{Add, Delete, Shift};
-ghost use Rattle.pl_semantics.specs.declared.plan_state.PlanState.{PlanState};
 ghost use Rattle.pl_semantics.specs.Whole.{IsWhole};
 ghost use Rattle.pl_bounds.specs.Asked.{IsAlike};
 ghost use Rattle.pl_bounds.specs.Known.{IsKnownOf, only_steady};
 ghost use Rattle.pl_bounds.specs.Standing.{IsStandingOf};
 
-use crate::asking::{Asking, added, deleted, shifted};
+use crate::asking::{Asking, added, deleted_if, shifted_if};
 use crate::roots::root_alone;
 use crate::standing::Standing;
 use crate::steady::{left_by_deletion, left_by_new, left_by_shift};
 use crate::tying::{added_alone, moved_alone};
 use pl_board::Board;
 use pl_links::Placed;
-use pl_moves::goes_on;
 use pl_plan::RepairMove;
 use pl_semantics::PlanState;
 use std::alloc::{AllocError, Global};
@@ -63,6 +61,7 @@ fn known_of_deletion(
     s: &PlanState,
     standing: &Standing,
     id: u32,
+    is_asked: bool,
 ) -> Result<Known, AllocError>
     requires whole { IsWhole s.now }
     requires next { s.now.next_id ≤ 3999999000 }
@@ -73,12 +72,12 @@ fn known_of_deletion(
 {
     let subtree = s.plan.subtree(alloc, id)?;
     let steady = left_by_deletion(alloc, s, standing.wrong, id, &subtree)?;
-    let asking = deleted(alloc, s, &subtree)?;
+    let asking = deleted_if(alloc, s, &subtree, is_asked)?;
     Ok(Known {
         first: RepairMove::Delete { id },
         steady,
         alone: None,
-        asking: Some(asking),
+        asking,
     })
 }
 
@@ -89,6 +88,7 @@ fn known_of_shift(
     standing: &Standing,
     id: u32,
     start: u32,
+    is_asked: bool,
 ) -> Result<Known, AllocError>
     requires unspoiled { board.now.spoiled ≡ false }
     requires next { board.now.state.next_id ≤ 3999999000 }
@@ -100,12 +100,12 @@ fn known_of_shift(
     let s = board.state();
     let subtree = s.plan.subtree(alloc, id)?;
     let steady = left_by_shift(alloc, s, standing, id, &subtree)?;
-    let asking = shifted(alloc, s, id, &subtree)?;
+    let asking = shifted_if(alloc, s, id, &subtree, is_asked)?;
     Ok(Known {
         first: RepairMove::Shift { id, start },
         steady,
         alone: moved_alone(board, id, &subtree),
-        asking: Some(asking),
+        asking,
     })
 }
 
@@ -121,12 +121,13 @@ fn known_of_other(mv: &RepairMove, steady: u32) -> Known
     }
 }
 
-/// What is known of a move.
+/// What is known of a move. What a deletion or a shift asks for is worked out if that is wanted.
 pub(crate) fn known_of(
     alloc: Global,
     board: &Board,
     standing: &Standing,
     mv: &RepairMove,
+    is_asked: bool,
 ) -> Result<Known, AllocError>
     requires unspoiled { board.now.spoiled ≡ false }
     requires next { board.now.state.next_id ≤ 3999999000 }
@@ -140,24 +141,11 @@ pub(crate) fn known_of(
         RepairMove::Add { kind, start, goal } => known_of_new(
             alloc, s, standing, kind, start, goal,
         ),
-        RepairMove::Delete { id } => known_of_deletion(alloc, s, standing, id),
-        RepairMove::Shift { id, start } => known_of_shift(alloc, board, standing, id, start),
+        RepairMove::Delete { id } => known_of_deletion(alloc, s, standing, id, is_asked),
+        RepairMove::Shift { id, start } => known_of_shift(
+            alloc, board, standing, id, start, is_asked,
+        ),
         RepairMove::Assign { .. } => Ok(known_of_other(mv, standing.valueless)),
         _ => Ok(known_of_other(mv, 0)),
     }
-}
-
-/// What is known of a move that this one goes on with, if there is one: what was found out last is looked at first.
-pub(crate) fn known_like<'k>(known: &'k [Known], mv: &RepairMove) -> Option<&'k Known>
-    ensures alike { IfSome result (λ k. IsAlike k.now.first mv.now) }
-    ensures of_plan { (s : PlanState) → All (IsKnownOf s) known.now → IfSome result (λ k. IsKnownOf s k.now) }
-{
-    let mut place = known.len();
-    'places: while place > 0 {
-        place -= 1;
-        if goes_on(&known[place].first, mv) {
-            return Some(&known[place]);
-        }
-    }
-    None
 }

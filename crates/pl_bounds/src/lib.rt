@@ -1,6 +1,7 @@
 //! How many conflicts a move leaves at least, known without making it.
 #![tactic(auto)]
 
+mod added;
 mod alone;
 mod asking;
 mod bounding;
@@ -8,19 +9,23 @@ mod bounds;
 mod known;
 mod laws;
 mod looking;
-mod narrowing;
 mod outside;
 mod parting;
 mod pulls;
 mod reading;
 mod reopening;
 mod roots;
+mod runs;
+mod sorting;
 mod standing;
 mod steady;
+mod stretch;
 mod tally;
 mod ties;
 mod tying;
 mod unset;
+mod until;
+mod worsening;
 
 pub use bounds::least_of_each;
 pub use laws::{

@@ -3,9 +3,10 @@ ghost use Rattle.std.specs.Prelude.{◌≡◌, false, IfOk, OnOk};
 ghost use Rattle.pl_bounds.specs.Looks.{IsLimited, AreLooksAt};
 ghost use Rattle.pl_bounds.specs.Sides.{code_of};
 
-use crate::outside::{Look, Side};
+use crate::outside::{Bars, Look, Side};
 use crate::parting::{Parting, parting_in};
-use crate::reading::value_at;
+use crate::reading::{is_past, value_at};
+use crate::stretch::{comes_past, stretch_ahead};
 use pl_board::Board;
 use pl_conflict::{Code, Conflict};
 use std::alloc::{AllocError, Global};
@@ -63,7 +64,7 @@ impl Looking {
         Ok(())
     }
 
-    // The same, if it may be parted.
+    // Looks inside a span where it may be parted in two; where it may not, nothing is looked at.
     fn look_inside(
         &mut self,
         board: &Board,
@@ -80,6 +81,55 @@ impl Looking {
             Some(parting) => self.look_at_parting(board, side, line, parting),
             None => Ok(()),
         }
+    }
+
+    fn look_if(
+        &mut self,
+        board: &Board,
+        side: Side,
+        line: u32,
+        at: u32,
+        is_worth_it: bool,
+    ) -> Result<(), AllocError>
+        requires unspoiled { board.now.spoiled ≡ false }
+        requires limited { IsLimited board.now.state side line }
+        requires looks { AreLooksAt board.now.state side line self.old.next self.old.looks.items }
+        ensures { OnOk result (AreLooksAt board.now.state side line self.new.next self.new.looks.items) }
+    {
+        if !is_worth_it {
+            return Ok(());
+        }
+        self.look(board, side, line, at)?;
+        Ok(())
+    }
+
+    // Looks at some moments ahead, and keeps those at which it comes past a bar, and those at which it comes back.
+    fn look_at_crossings(
+        &mut self,
+        board: &Board,
+        side: Side,
+        line: u32,
+        bars: Bars,
+    ) -> Result<(), AllocError>
+        requires unspoiled { board.now.spoiled ≡ false }
+        requires limited { IsLimited board.now.state side line }
+        requires looks { AreLooksAt board.now.state side line self.old.next self.old.looks.items }
+        ensures { OnOk result (AreLooksAt board.now.state side line self.new.next self.new.looks.items) }
+    {
+        let stretch = stretch_ahead(board, self.next);
+        if !comes_past(board, side, line, bars.wide, stretch.sparser()) {
+            return Ok(());
+        }
+        let mut was_past = false;
+        let mut at = stretch.from;
+        'samples: while at < stretch.end {
+            let value = value_at(board, side, line, at);
+            let is_so = is_past(side, bars.close, value);
+            self.look_if(board, side, line, at, is_so != was_past)?;
+            was_past = is_so;
+            at = at.saturating_add(stretch.step);
+        }
+        Ok(())
     }
 
     // Looks where a span begins, where it may be parted in two, and where it ends.
@@ -104,12 +154,14 @@ impl Looking {
     }
 }
 
-/// What a timeline comes to round its spans that are past the limit.
+/// What a timeline comes to round its spans that are past the limit. If there are none: where it comes past a bar close to the limit,
+/// and where it comes back.
 pub(crate) fn looks_at(
     alloc: Global,
     board: &Board,
     side: Side,
     line: u32,
+    bars: Bars,
 ) -> Result<Vec<Look>, AllocError>
     requires unspoiled { board.now.spoiled ≡ false }
     requires limited { IsLimited board.now.state side line }
@@ -124,6 +176,9 @@ pub(crate) fn looks_at(
         if conflict.subject == line && conflict.code == code_of(side) {
             looking.look_round(board, side, line, conflict)?;
         }
+    }
+    if looking.looks.is_empty() {
+        looking.look_at_crossings(board, side, line, bars)?;
     }
     Ok(looking.looks)
 }

@@ -1,15 +1,18 @@
-//! Timelines past a limit of their own, each looked at at some moments.
-ghost use Rattle.std.specs.Prelude.{◌≡◌, false, All, IfOk, OnOk, IfSome};
+//! Timelines past a limit of their own, or near it, each looked at at some moments.
+ghost use Rattle.std.specs.Prelude.{◌≡◌, ◌≤◌, ℕ, Bool, false, Some, All, IfOk, OnOk, IfSome, length, slice_get};
+ghost use Rattle.pl_semantics.specs.Timelines.{spans_ahead};
 ghost use Rattle.pl_bounds.specs.Looks.{IsElse};
-ghost use Rattle.pl_bounds.specs.Sides.{IsOutsideOf, AreDifferent};
+ghost use Rattle.pl_bounds.specs.Sides.{IsOutsideOf, AreDifferent, AreRight, limit_of, is_past, value_at};
+ghost use Rattle.pl_bounds.specs.Tallies.{IsTallyOf};
 
 use crate::looking::looks_at;
-use crate::reading::{limit_of, since};
+use crate::reading::{is_past, limit_of, since};
+use crate::tally::Tally;
 use pl_board::Board;
 use pl_conflict::Code;
 use std::alloc::{AllocError, Global};
 
-/// Which limit of a timeline is passed.
+/// Which limit of a timeline is looked at.
 #[derive(Clone, Copy, PartialEq, Eq)]
 pub(crate) enum Side {
     /// More of a capacity is in use than the most.
@@ -27,7 +30,17 @@ pub(crate) struct Look {
     pub(crate) value: i64,
 }
 
-/// A timeline past one of its limits. Effects up to the moment `since` do not count.
+// If a level nowhere comes within so many times what is asked of it of its limit, it is not looked at more closely.
+const WIDE: i64 = 4;
+
+/// Values nearer than a limit.
+#[derive(Clone, Copy)]
+pub(crate) struct Bars {
+    pub(crate) close: i64,
+    pub(crate) wide: i64,
+}
+
+/// A timeline and one of its limits, and how often it is past that now at least. Effects up to the moment `since` do not count.
 #[derive(Drop)]
 pub(crate) struct Outside {
     pub(crate) line: u32,
@@ -35,6 +48,7 @@ pub(crate) struct Outside {
     pub(crate) limit: i64,
     pub(crate) since: u32,
     pub(crate) looks: Vec<Look>,
+    pub(crate) times: u32,
 }
 
 fn side_of(code: Code) -> Option<Side> {
@@ -57,34 +71,89 @@ fn is_there(all: &[Outside], side: Side, line: u32) -> bool
     false
 }
 
-// The timeline on this side, where it has a limit there.
+// How often it comes past its limit at some looks in turn, from a tally of no moment.
+fn times_now(board: &Board, ahead: Tally, side: Side, limit: i64, looks: &[Look]) -> u32
+    requires { (P : ℕ → Bool) → IsTallyOf P board.now.state.moment board.now.state.model.horizon ahead }
+    ensures { (line : ℕ) → AreRight board.now.state side line looks.now → result ≤ length (spans_ahead board.now.state (λ t. is_past side limit (value_at board.now.state side line t))) }
+{
+    let _state = board.state();
+    let mut tally = ahead;
+    for look in looks {
+        tally = tally.noted(look.at, is_past(side, limit, look.value));
+    }
+    tally.times
+}
+
+// The limit so much nearer.
+fn nearer(side: Side, limit: i64, amount: i64) -> i64 {
+    match side {
+        Side::Over => limit.saturating_sub(amount),
+        Side::Low => limit.saturating_add(amount),
+        Side::High => limit.saturating_sub(amount),
+    }
+}
+
+// For what may ask for so much: bars nearer than the limit by as much, and by some times as much.
+fn bars_for(side: Side, limit: i64, amount: i64) -> Bars {
+    Bars {
+        close: nearer(side, limit, amount),
+        wide: nearer(side, limit, amount.saturating_mul(WIDE)),
+    }
+}
+
+// The timeline with this limit, looked at for what may ask for so much more of it.
+fn outside_with(
+    alloc: Global,
+    board: &Board,
+    side: Side,
+    line: u32,
+    limit: i64,
+    amount: i64,
+) -> Result<Outside, AllocError>
+    requires unspoiled { board.now.spoiled ≡ false }
+    requires limited { limit_of side (slice_get board.now.state.model.timelines line) ≡ Some limit }
+    ensures of_plan { IfOk result (λ o. IsOutsideOf board.now.state o) }
+    ensures here { IfOk result (λ o. (o.line ≡ line) × (o.side ≡ side)) }
+{
+    let s = board.state();
+    let ahead = Tally::new(s.moment, s.model.get().horizon);
+    let looks = looks_at(alloc, board, side, line, bars_for(side, limit, amount))?;
+    let times = times_now(board, ahead, side, limit, looks.as_slice());
+    Ok(Outside {
+        line,
+        side,
+        limit,
+        since: since(s, side, line),
+        looks,
+        times,
+    })
+}
+
+// The same where it has a limit on this side.
 fn outside_at(
     alloc: Global,
     board: &Board,
     side: Side,
     line: u32,
+    amount: i64,
 ) -> Result<Option<Outside>, AllocError>
     requires { board.now.spoiled ≡ false }
     ensures of_plan { IfOk result (λ found. IfSome found (IsOutsideOf board.now.state)) }
     ensures here { IfOk result (λ found. IfSome found (λ o. (o.line ≡ line) × (o.side ≡ side))) }
 {
     match limit_of(board.model(), side, line) {
-        Some(limit) => Ok(Some(Outside {
-            line,
-            side,
-            limit,
-            since: since(board.state(), side, line),
-            looks: looks_at(alloc, board, side, line)?,
-        })),
+        Some(limit) => Ok(Some(outside_with(alloc, board, side, line, limit, amount)?)),
         None => Ok(None),
     }
 }
 
-fn add(
+/// With one more, looked at for what may ask for so much more of it, if it is not there.
+pub(crate) fn add(
     alloc: Global,
     board: &Board,
     side: Side,
     line: u32,
+    amount: i64,
     all: &mut Vec<Outside>,
 ) -> Result<(), AllocError>
     requires unspoiled { board.now.spoiled ≡ false }
@@ -96,7 +165,7 @@ fn add(
     if is_there(all.as_slice(), side, line) {
         return Ok(());
     }
-    match outside_at(alloc, board, side, line)? {
+    match outside_at(alloc, board, side, line, amount)? {
         Some(outside) => {
             all.push(outside)?;
             Ok(())
@@ -114,7 +183,7 @@ pub(crate) fn outsides(alloc: Global, board: &Board) -> Result<Vec<Outside>, All
     let mut all = Vec::new(alloc);
     for conflict in board.conflicts().iter() {
         if let Some(side) = side_of(conflict.code) {
-            add(alloc, board, side, conflict.subject, &mut all)?;
+            add(alloc, board, side, conflict.subject, 0, &mut all)?;
         }
     }
     Ok(all)

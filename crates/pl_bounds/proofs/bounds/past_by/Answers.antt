@@ -15,7 +15,7 @@ returns-in-Some c =
     let m = c.args.mv.now in
     let whole : IsWhole s = subst (λ (t : PlanState). IsWhole t) c.state-state.ensures.value (c.state-state.ensures.whole c.requires.unspoiled) in
     let limits : All (HasLimit s) c.args.outsides.now = λ i d lt. (c.requires.of_plan i d lt).limit in
-    let known = rw c.in-Some.is at c.requires.known.asking in
+    let known = rw c.in-Some.is at c.requires.run.known.asking in
     let asked : IsAskedBy s (gone_by s m) (placed_by s m) c.in-Some.asking c.start_of.result =
     subst (λ (n : ℕ). IsAskedBy s (gone_by s m) (placed_by s m) c.in-Some.asking n) (sym c.start_of.ensures) (known m c.requires.allowed c.requires.alike) in
     let few : c.past_after.result ≤ times_past (with_plan (gone_by s m) (placed_by s m) s) c.args.outsides.now =

@@ -1,4 +1,5 @@
 use Rattle.std.proofs.Common.{◌∙◌, ap, sym, subst}
+use Rattle.std.specs.Prelude.{IfSome}
 use Rattle.pl_plan.specs.declared.repair.RepairMove.TheVariants.{Shift}
 use Rattle.pl_plan.specs.Activities.{IsLive}
 use Rattle.pl_plan.specs.Trees.{subtree_of}
@@ -14,8 +15,8 @@ subtree-requires-clause-live c =
     let id = c.args.id in
     subst (λ (t : PlanState). IsLive id t.plan.activities) (sym c.state-s.ensures.value) (named_live c.args.board.now.state (Shift id c.args.start) c.requires.allowed.proper)
 
-pub shifted-requires-clause-live : goal.shifted-requires-clause-live
-shifted-requires-clause-live c =
+pub shifted_if-requires-clause-live : goal.shifted_if-requires-clause-live
+shifted_if-requires-clause-live c =
     let id = c.args.id in
     subst (λ (t : PlanState). IsLive id t.plan.activities) (sym c.state-s.ensures.value) (named_live c.args.board.now.state (Shift id c.args.start) c.requires.allowed.proper)
 
@@ -28,5 +29,5 @@ returns-clause-known c =
     let s = c.args.board.now.state in
     let id = c.args.id in
     let left = subst (λ (t : PlanState). IsLeftByShift t id c.in_ok-steady.steady) is c.in_ok-steady.ensures in
-    let asks = subst (λ (t : PlanState). IsAskingOf t (Shift id c.args.start) c.in_ok-asking.asking) is (c.in_ok-asking.ensures c.args.start) in
+    let asks = subst (λ (t : PlanState). IfSome c.in_ok-asking.asking (λ a. IsAskingOf t (Shift id c.args.start) a)) is (c.in_ok-asking.ensures c.args.start) in
     known_shift s id c.args.start c.in_ok-steady.steady left c.moved_alone.result c.moved_alone.ensures c.in_ok-asking.asking asks

@@ -1,9 +1,0 @@
-use Rattle.pl_bounds.specs.Afterwards.{is_past_with, moved_by}
-use Rattle.pl_bounds.proofs.Tallied.{times_few}
-use Rattle.pl_bounds.proofs.bounding.times_of.Goals as goal
-
-pub returns : goal.returns
-returns c =
-    let s = c.args.board.now.state in
-    let change = c.args.change.now in
-    times_few (is_past_with s c.args.outside.now change.going.now (moved_by change.way change.coming.now)) s.moment s.model.horizon c.looked_before.result c.looked_before.ensures

@@ -1,0 +1,116 @@
+//! Moves that place the same activities at other starts, of which most is worked out once.
+ghost use Rattle.std.specs.Prelude.{◌≡◌, ◌≤◌, false, All, IfOk, OnOk, IfSome};
+ghost use Rattle.pl_moves.specs.Runs.{CanBeMade};
+ghost use Rattle.pl_semantics.specs.declared.plan_state.PlanState.{PlanState};
+ghost use Rattle.pl_bounds.specs.Asked.{IsAlike};
+ghost use Rattle.pl_bounds.specs.Known.{IsRunOf};
+ghost use Rattle.pl_bounds.specs.Parted.{IsPartOf};
+ghost use Rattle.pl_bounds.specs.Sides.{IsOutsideOf, AreDifferent};
+ghost use Rattle.pl_bounds.specs.Standing.{IsStandingOf};
+
+use crate::asking::Asking;
+use crate::known::{Known, known_of};
+use crate::outside::Outside;
+use crate::sorting::{Part, parts_of};
+use crate::standing::Standing;
+use crate::worsening::widen;
+use pl_board::Board;
+use pl_moves::goes_on;
+use pl_plan::RepairMove;
+use std::alloc::{AllocError, Global};
+
+/// What is known of such moves, and what they ask for, sorted by timeline.
+#[derive(Drop)]
+pub(crate) struct Run {
+    pub(crate) known: Known,
+    pub(crate) parts: Vec<Part>,
+}
+
+// Whether it adds a root for a goal.
+fn serves(mv: &RepairMove) -> bool {
+    matches!(mv, RepairMove::Add { goal: Some(_), .. })
+}
+
+// With the limits that what comes may pass, where a root is added for a goal. For the many other moves of a choice it would cost more
+// than it saves.
+fn widen_for(
+    alloc: Global,
+    board: &Board,
+    mv: &RepairMove,
+    asking: &Asking,
+    past: &mut Vec<Outside>,
+) -> Result<(), AllocError>
+    requires unspoiled { board.now.spoiled ≡ false }
+    requires of_plan { All (IsOutsideOf board.now.state) past.old.items }
+    requires different { AreDifferent past.old.items }
+    ensures of_plan { OnOk result (All (IsOutsideOf board.now.state) past.new.items) }
+    ensures different { OnOk result (AreDifferent past.new.items) }
+{
+    if !serves(mv) {
+        return Ok(());
+    }
+    widen(alloc, board, asking.coming.as_slice(), past)?;
+    Ok(())
+}
+
+// What is asked for, sorted by timeline.
+fn parts_for(
+    alloc: Global,
+    board: &Board,
+    known: &Known,
+    past: &mut Vec<Outside>,
+) -> Result<Vec<Part>, AllocError>
+    requires unspoiled { board.now.spoiled ≡ false }
+    requires of_plan { All (IsOutsideOf board.now.state) past.old.items }
+    requires different { AreDifferent past.old.items }
+    ensures parts { IfOk result (λ parts. IfSome known.now.asking (λ a. All (IsPartOf a) parts.items)) }
+    ensures of_plan { OnOk result (All (IsOutsideOf board.now.state) past.new.items) }
+    ensures different { OnOk result (AreDifferent past.new.items) }
+{
+    match &known.asking {
+        Some(asking) => {
+            widen_for(alloc, board, &known.first, asking, past)?;
+            Ok(parts_of(alloc, past.as_slice(), asking)?)
+        }
+        None => Ok(Vec::new(alloc)),
+    }
+}
+
+/// Begins a run with its first move. Limits that it may pass are put behind those that are looked at.
+pub(crate) fn run_of(
+    alloc: Global,
+    board: &Board,
+    standing: &Standing,
+    mv: &RepairMove,
+    past: &mut Vec<Outside>,
+) -> Result<Run, AllocError>
+    requires unspoiled { board.now.spoiled ≡ false }
+    requires next { board.now.state.next_id ≤ 3999999000 }
+    requires standing { IsStandingOf board.now.state standing.now }
+    requires allowed { CanBeMade board.now.state mv.now }
+    requires of_plan { All (IsOutsideOf board.now.state) past.old.items }
+    requires different { AreDifferent past.old.items }
+    ensures run { IfOk result (λ r. IsRunOf board.now.state r) }
+    ensures alike { IfOk result (λ r. IsAlike r.known.first mv.now) }
+    ensures of_plan { OnOk result (All (IsOutsideOf board.now.state) past.new.items) }
+    ensures different { OnOk result (AreDifferent past.new.items) }
+{
+    let known = known_of(alloc, board, standing, mv, !past.is_empty())?;
+    let parts = parts_for(alloc, board, &known, past)?;
+    Ok(Run { known, parts })
+}
+
+/// The run that this move goes on with, if there is one: the last one is looked at first.
+pub(crate) fn run_like<'r>(runs: &'r [Run], mv: &RepairMove) -> Option<&'r Run>
+    ensures alike { IfSome result (λ r. IsAlike r.now.known.first mv.now) }
+    ensures of_plan { (s : PlanState) → All (IsRunOf s) runs.now → IfSome result (λ r. IsRunOf s r.now) }
+{
+    let mut place = runs.len();
+    'places: while place > 0 {
+        place -= 1;
+        if goes_on(&runs[place].known.first, mv) {
+            return Some(&runs[place]);
+        }
+    }
+    None
+}
