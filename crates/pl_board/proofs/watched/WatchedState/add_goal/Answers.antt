@@ -1,4 +1,5 @@
-use Rattle.std.proofs.Common.{◌≡◌, ◌∷◌, [], ◌++◌, refl, sym, ◌∙◌, ap}
+use Rattle.std.proofs.Common.{◌≡◌, List, ◌∷◌, [], ◌++◌, refl, sym, ◌∙◌, ap}
+use Rattle.pl_conflict.specs.declared.conflict.Conflict.{Conflict}
 use Rattle.std.proofs.lemmas.List.{append-nil}
 use Rattle.pl_update.proofs.AboutChanges.Keeping.{whole_with_goal}
 use Rattle.pl_update.specs.Changes.Changes.{with_goal}
@@ -22,7 +23,7 @@ returns-clause-watched c =
     let whole_t = whole_with_goal s c.args.goal c.requires.watched.whole c.requires.fresh c.requires.of_model in
     let are_t = lines_with_goal s c.args.goal w.lines c.requires.watched.timelines in
     let is_t : record s { goals = c.push.new.self } ≡ t = ap (λ gs. record s { goals = gs }) c.in_ok-push.ensures.ok in
-    let came : c.deref.result.now ≡ near (record s { goals = c.push.new.self }) (n ∷ []) [] = c.deref.ensures.value ∙ c.in_ok-near_kept.ensures ∙ rw c.new-came.ensures refl in
+    let came : c.deref.result.now ≡ near (record s { goals = c.push.new.self }) (n ∷ []) [] = c.deref.ensures.value ∙ c.in_ok-near_kept.ensures ∙ ap (λ (ks : List Conflict). ks ++ near (record s { goals = c.push.new.self }) (n ∷ []) []) c.new-came.ensures.items in
     let found = stands_goal s t (record s { goals = c.push.new.self }) w.lines w.conflicts c.exchange.new.self n (n ∷ []) [] [] [] []
     c.requires.watched.whole c.requires.watched.timelines c.requires.watched.found is_t whole_t are_t (told_with_goal s c.args.goal w.lines w.conflicts) (follows_goal s c.args.goal c.requires.watched.whole) (keeps_with_goal s c.args.goal)
     refl refl (sym (near_fresh s n c.requires.fresh)) refl refl
