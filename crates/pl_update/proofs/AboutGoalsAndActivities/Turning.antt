@@ -48,21 +48,21 @@ spread true false true = refl
 spread true false false = refl
 spread false b c = refl
 
-any_of {X : Type 0} : (n : ℕ) (f : X → List ℕ) (g : X → Bool) (c : Bool) → ((x : X) → among n (f x) ≡ (g x && c)) → (xs : List X) → among n (flat_map f xs) ≡ (list_any g xs && c)
+any_of : {X : Type 0} → (n : ℕ) (f : X → List ℕ) (g : X → Bool) (c : Bool) → ((x : X) → among n (f x) ≡ (g x && c)) → (xs : List X) → among n (flat_map f xs) ≡ (list_any g xs && c)
 any_of n f g c each [] = refl
 any_of n f g c each (x ∷ xs) = among-append n (f x) (flat_map f xs) ∙ rw (each x, any_of n f g c each xs) (spread (g x) (list_any g xs) c)
 
 none_of : (n : ℕ) (s : PlanState) (gone : List ℕ) → served_before s gone n ≡ false → among n (flat_map (served_at s) gone) ≡ false
 none_of n s [] none = refl
-none_of n s (id ∷ gone) none = among-append n (served_at s id) (flat_map (served_at s) gone) ∙ by (served_by_id s id) refl (is_number n (served_by_id s id)) refl
+none_of n s (id ∷ gone) none = among-append n (served_at s id) (flat_map (served_at s) gone) ∙ by (is_number n (served_by_id s id)) refl (none_of n s gone)
   where
     one : (o : Option ℕ) → is_number n o ≡ false → among n (option_to_list o) ≡ false
     one None e = refl
     one (Some m) e = rw e refl
 
-    by : (o : Option ℕ) → served_by_id s id ≡ o → (b : Bool) → is_number n (served_by_id s id) ≡ b → (among n (served_at s id) || among n (flat_map (served_at s) gone)) ≡ false
-    by o e true f = absurd (let bad : true ≡ false = rw f at none in cc)
-    by o e false f = rw (one (served_by_id s id) f) (none_of n s gone (rw f at none))
+    by : (b : Bool) → is_number n (served_by_id s id) ≡ b → (served_before s gone n ≡ false → among n (flat_map (served_at s) gone) ≡ false) → (among n (served_at s id) || among n (flat_map (served_at s) gone)) ≡ false
+    by true f rest = absurd (let bad : true ≡ false = rw f at none in cc)
+    by false f rest = rw (one (served_by_id s id) f) (rest (rw f at none))
 
 none_in : (n : ℕ) (more : List Activity) → served_after more n ≡ false → among n (filter_map served_in more) ≡ false
 none_in n [] none = refl
@@ -113,11 +113,11 @@ before_served s (id ∷ gone) n e = by (found s id) refl (before_served s gone n
 
 after_served : (xs more : List Activity) (n : ℕ) → All (λ (a : Activity). activity_of a.id xs ≡ Some a) more → served_after more n ≡ true → is_served n xs ≡ true
 after_served xs [] n all e = absurd (cc)
-after_served xs (a ∷ more) n all e = test (serves n a) refl
+after_served xs (a ∷ more) n all e = test (serves n a) refl (after_served xs more n (All-tail (λ (x : Activity). activity_of x.id xs ≡ Some x) a more all))
   where
-    test : (b : Bool) → serves n a ≡ b → is_served n xs ≡ true
-    test true g = found_any (serves n) xs a.id a (All-head (λ (x : Activity). activity_of x.id xs ≡ Some x) a more all) g
-    test false g = after_served xs more n (All-tail (λ (x : Activity). activity_of x.id xs ≡ Some x) a more all) (rw g at e)
+    test : (b : Bool) → serves n a ≡ b → (served_after more n ≡ true → is_served n xs ≡ true) → is_served n xs ≡ true
+    test true g rest = found_any (serves n) xs a.id a (All-head (λ (x : Activity). activity_of x.id xs ≡ Some x) a more all) g
+    test false g rest = rest (rw g at e)
 
 -- ---- a replacement
 
