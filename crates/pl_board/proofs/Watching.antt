@@ -1,5 +1,5 @@
 -- What stands after each change of a plan state that is watched.
-use Rattle.std.proofs.Common.{◌≡◌, ℕ, ◌+◌, ◌<◌, ◌≤◌, min, List, [], ◌∷◌, ◌++◌, length, refl, sym, ap, ◌∙◌, subst, Bool, true, false, arith}
+use Rattle.std.proofs.Common.{◌≡◌, ℕ, ◌+◌, ◌<◌, ◌≤◌, min, List, [], ◌∷◌, ◌++◌, length, Option, None, refl, sym, ap, ◌∙◌, subst, Bool, true, false, arith}
 use Rattle.std.proofs.lemmas.List.{length-map}
 use Rattle.pl_detect.proofs.Bounded.{length-numbered}
 use Rattle.pl_semantics.specs.Timelines.{lines_of}
@@ -13,6 +13,7 @@ use Rattle.pl_conflict.specs.Sorting.{exchanged, AreInOrder}
 use Rattle.pl_conflict.proofs.OrderLaws.{conflict_unique, conflict_exact}
 use Rattle.pl_conflict.proofs.Sorting.{has-exchanged, ordered-exchanged}
 use Rattle.pl_semantics.proofs.Standing.{ordered}
+use Rattle.pl_facts.specs.Goals.{goal_of}
 use Rattle.pl_plan.specs.declared.activity.Activity.{Activity}
 use Rattle.pl_semantics.specs.declared.plan_state.PlanState.{PlanState}
 use Rattle.pl_semantics.specs.Conflicts.{conflicts_of}
@@ -135,6 +136,11 @@ all_exchanged ks in_order = conflict_unique conflict_exact (exchanged [] [] ks) 
 near_none : (s : PlanState) → near s [] [] ≡ []
 unfolding near
 near_none s = refl
+
+-- nothing is wrong with a goal that is not there
+pub near_fresh : (s : PlanState) (n : ℕ) → goal_of n s.goals ≡ None → near s (n ∷ []) [] ≡ []
+unfolding near
+near_fresh s n none = rw none refl
 
 -- nothing but timelines changes: what the set has stays but for theirs
 pub stands_told : (s t : PlanState) (lines full : List Line) (set set2 : List Conflict)

@@ -1,5 +1,5 @@
 //! What is committed, and what is withdrawn.
-ghost use Rattle.std.specs.Prelude.{◌≡◌, OnOk, ◌≤◌};
+ghost use Rattle.std.specs.Prelude.{◌≡◌, OnOk, IfSome, true, slice_get, ◌≤◌};
 ghost use Rattle.pl_semantics.specs.Conflicts.{conflicts_of};
 ghost use Rattle.pl_semantics.specs.Whole.{IsWhole};
 ghost use Rattle.pl_update.specs.Changes.Changes.{committed_to, withdrawn};
@@ -11,7 +11,45 @@ use pl_update::goals_and_activities::committed_by;
 use std::alloc::{AllocError, Global};
 
 impl WatchedState {
+    // Whether no conflict begins before a moment.
+    fn is_clear_before(&self, h: u32) -> bool
+        ensures { result ≡ true → IfSome (slice_get self.now.conflicts 0) (λ k. h ≤ k.from) }
+    {
+        match self.conflicts.first() {
+            Some(conflict) => h <= conflict.from,
+            None => true,
+        }
+    }
+
+    // Commits up to a moment before which no conflict begins. So none comes or goes.
+    fn commit_clear(&mut self, h: u32)
+        requires watched { IsWatched self.old }
+        requires clear { IfSome (slice_get self.old.conflicts 0) (λ k. h ≤ k.from) }
+        requires least { self.old.state.committed ≤ h }
+        requires most { h ≤ self.old.state.model.horizon }
+        ensures state { self.new.state ≡ committed_to h self.old.state }
+        ensures watched { IsWatched self.new }
+    {
+        self.state.committed = h;
+    }
+
     pub(crate) fn commit(&mut self, alloc: Global, h: u32) -> Result<(), AllocError>
+        requires watched { IsWatched self.old }
+        requires least { self.old.state.committed ≤ h }
+        requires most { h ≤ self.old.state.model.horizon }
+        ensures state { OnOk result (self.new.state ≡ committed_to h self.old.state) }
+        ensures watched { OnOk result (IsWatched self.new) }
+    {
+        if self.is_clear_before(h) {
+            self.commit_clear(h);
+            Ok(())
+        } else {
+            self.commit_over(alloc, h)
+        }
+    }
+
+    // Commits up to a moment, and mends the conflicts that begin before it.
+    fn commit_over(&mut self, alloc: Global, h: u32) -> Result<(), AllocError>
         requires watched { IsWatched self.old }
         requires least { self.old.state.committed ≤ h }
         requires most { h ≤ self.old.state.model.horizon }

@@ -1,13 +1,15 @@
 ghost use Rattle.std.specs.Prelude.{◌≡◌, ◌≤◌, ◌<◌, false, slice_get};
+ghost use Rattle.std.specs.Option.{option_copied};
 ghost use Rattle.pl_model.specs.Checked.{IsCapacityLine, IsLevelLine};
 ghost use Rattle.pl_semantics.specs.Demands.{use_at, level_at, state_at};
 ghost use Rattle.pl_detect.specs.Based.{IsStateLine};
 ghost use Rattle.pl_semantics.specs.PlanStates.{floor_of};
+ghost use Rattle.pl_update.specs.Evaluations.Kept.{come_to};
 
 use crate::board::Board;
 use pl_facts::{Bases, Goals};
 use pl_model::Model;
-use pl_plan::Plan;
+use pl_plan::{Evaluated, Plan};
 
 impl Board {
     /// The model that is planned for.
@@ -22,6 +24,14 @@ impl Board {
         ensures { result.now ≡ self.now.state.plan }
     {
         &self.state().plan
+    }
+
+    /// What the live activity of this id comes to. It is kept, so nothing is worked out.
+    pub fn evaluated(&self, id: u32) -> Option<&Evaluated>
+        requires { self.now.spoiled ≡ false }
+        ensures { option_copied result ≡ come_to self.now.state.model self.now.state.plan.activities id }
+    {
+        self.watched().values.of(id)
     }
 
     /// The accepted goals, dropped ones too.

@@ -145,10 +145,12 @@ impl WatchedState {
         ensures state { OnOk result (self.new.state ≡ with_goal goal self.old.state) }
         ensures watched { OnOk result (IsWatched self.new) }
     {
-        let touched = one_goal(alloc, goal.number)?;
-        let went = self.wrong_near(alloc, &touched)?;
+        // Nothing was wrong with a goal that was not there.
+        let number = goal.number;
         self.state.goals.push(goal)?;
-        self.turn(alloc, &touched, went, &no_links(alloc))?;
+        let mut came = Vec::new(alloc);
+        near_kept(&self.state, &self.values, &[number], &[], &mut came)?;
+        self.conflicts.exchange(&[], &came)?;
         Ok(())
     }
 

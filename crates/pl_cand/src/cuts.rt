@@ -194,11 +194,11 @@ pub(crate) fn cut(
     ensures { IfOk result (λ all. all.items ≡ take 256 (once_from [] (filter (is_worth state.now) tried.now))) }
 {
     let mut kept = Vec::with_capacity(alloc, tried.len().min(MOST))?;
-    let mut marks: Vec<bool> = vec![in alloc; false; PLACES]?;
+    let mut marks = [false; PLACES];
     let mut last = None;
     for mv in tried {
         let worth = worth_after(state, &last, mv);
-        add_if_new(mv, worth, &mut kept, marks.as_mut_slice())?;
+        add_if_new(mv, worth, &mut kept, &mut marks)?;
         last = Some(Looked { mv: *mv, worth });
     }
     Ok(kept)

@@ -1,6 +1,6 @@
 ghost use Rattle.std.specs.Prelude.{◌≡◌, ◌<◌, not, nat_lt, IfOk, Some, length, true, false};
 ghost use Rattle.pl_entry.specs.Bounds.{IsDispatchReply};
-ghost use Rattle.pl_semantics.specs.PlanStates.{found, is_committed};
+ghost use Rattle.pl_semantics.specs.PlanStates.{found, is_committed, row_of};
 ghost use Rattle.pl_semantics.specs.Whole.{IsWhole};
 ghost use Rattle.pl_machine.specs.World.{due_in};
 ghost use Rattle.pl_machine.specs.Step.{all_sent, is_enabled, sent_of, reply_of};
@@ -12,6 +12,7 @@ use crate::machine::appending::push_entry;
 use crate::ranges::word;
 use crate::stop::Stop;
 use pl_entry::{Event, Reply};
+use pl_lists::{Copied, Items};
 use pl_plan::Activity;
 use std::alloc::AllocError;
 
@@ -25,24 +26,42 @@ impl Machine {
         self.schedule.due.len() <= self.sent
     }
 
-    /// The command of an activity.
-    fn command_of(&self, activity: &Activity) -> Result<Reply, AllocError>
+    /// The command of an activity with these values.
+    fn command_with(
+        &self,
+        activity: &Activity,
+        values: &Items<Option<i64>>,
+    ) -> Result<Reply, AllocError>
         requires unspoiled { self.now.spoiled ≡ false }
+        requires whole { IsWhole self.now.world.state }
         requires found { found self.now.world.state activity.now.id ≡ Some activity.now }
         requires committed { is_committed self.now.world.state activity.now ≡ true }
+        requires values { values.now ≡ row_of self.now.world.state activity.now }
         ensures sent { IfOk result (λ reply. reply ≡ sent_of self.now.world.state activity.now) }
         ensures reply { IfOk result (IsDispatchReply self.now.model) }
     {
-        let state = self.board.state();
-        let values = state
-            .plan
-            .values(self.alloc, state.model.get(), activity.id)?;
+        let values = values.copy(self.alloc)?;
         Ok(Reply::Sent {
             id: word(activity.id),
             kind: word(activity.kind),
             start: word(activity.start),
             values,
         })
+    }
+
+    /// The command of an activity.
+    fn command_of(&self, activity: &Activity) -> Result<Reply, AllocError>
+        requires unspoiled { self.now.spoiled ≡ false }
+        requires whole { IsWhole self.now.world.state }
+        requires found { found self.now.world.state activity.now.id ≡ Some activity.now }
+        requires committed { is_committed self.now.world.state activity.now ≡ true }
+        ensures sent { IfOk result (λ reply. reply ≡ sent_of self.now.world.state activity.now) }
+        ensures reply { IfOk result (IsDispatchReply self.now.model) }
+    {
+        match self.board.evaluated(activity.id) {
+            Some(evaluated) => self.command_with(activity, &evaluated.values),
+            None => unreachable!(),
+        }
     }
 
     fn send(&mut self, command: Reply) -> Result<Reply, Stop>

@@ -8,7 +8,7 @@ use Rattle.pl_cand.proofs.cuts.cut.Given as goal
 abbrev pub invariant-loop-mv : goal.invariant-loop-mv
 invariant-loop-mv l = record {
   stand : standing (is_worth l.state) l.kept.items (drop l.mv-index l.tried) ≡ standing (is_worth l.state) [] l.tried;
-  count : length l.marks.items ≡ 1024;
-  marked : AreMarked l.marks.items l.kept.items;
+  count : length l.marks ≡ 1024;
+  marked : AreMarked l.marks l.kept.items;
   last : IfSome l.last (λ k. k.worth ≡ is_worth l.state k.mv);
 }

@@ -1,36 +1,41 @@
-use Rattle.std.proofs.Common.{◌≡◌, ◌∙◌, ap}
+use Rattle.std.proofs.Common.{◌≡◌, List, ◌∷◌, [], ◌++◌, refl, sym, ◌∙◌, ap, subst}
+use Rattle.pl_conflict.specs.declared.conflict.Conflict.{Conflict}
+use Rattle.std.proofs.lemmas.List.{append-nil}
+use Rattle.pl_semantics.specs.declared.plan_state.PlanState.{PlanState}
+use Rattle.pl_semantics.specs.Conflicts.{conflicts_of}
+use Rattle.pl_semantics.specs.Whole.{IsWhole}
+use Rattle.pl_update.specs.Timelines.Framed.{AreLinesOf}
 use Rattle.pl_update.proofs.AboutChanges.Keeping.{whole_with_goal}
 use Rattle.pl_update.specs.Changes.Changes.{with_goal}
+use Rattle.pl_update.specs.GoalsAndActivities.Near.{near}
 use Rattle.pl_update.proofs.AboutTimelines.StandingLater.{lines_with_goal, told_with_goal}
 use Rattle.pl_update.proofs.AboutGoalsAndActivities.OfGoals.{follows_goal}
 use Rattle.pl_update.proofs.AboutLinks.Keeping.{keeps_with_goal}
-use Rattle.pl_board.specs.declared.watched.WatchedState.{WatchedState}
-use Rattle.pl_board.proofs.Watching.{stands_goal}
+use Rattle.pl_conflict.specs.Sorting.{exchanged}
+use Rattle.pl_board.proofs.Watching.{stands_goal, near_fresh}
 use Rattle.pl_board.proofs.watched.WatchedState.add_goal.Goals as goal
 
-pub turn-requires-clause-whole : goal.turn-requires-clause-whole
-turn-requires-clause-whole c = rw c.in_ok-push.ensures.ok (whole_with_goal c.args.self.now.state c.args.goal c.requires.watched.whole c.requires.fresh c.requires.of_model)
+pub near_kept-requires-clause-whole : goal.near_kept-requires-clause-whole
+near_kept-requires-clause-whole c = rw c.in_ok-push.ensures.ok (whole_with_goal c.args.self.now.state c.args.goal c.requires.watched.whole c.requires.fresh c.requires.of_model)
 
 pub returns-clause-watched : goal.returns-clause-watched
 returns-clause-watched c =
     let w = c.args.self.now in
     let s = w.state in
+    let n = c.args.goal.number in
     let t = with_goal c.args.goal s in
     let whole_t = whole_with_goal s c.args.goal c.requires.watched.whole c.requires.fresh c.requires.of_model in
     let are_t = lines_with_goal s c.args.goal w.lines c.requires.watched.timelines in
     let is_t : record s { goals = c.push.new.self } ≡ t = ap (λ gs. record s { goals = gs }) c.in_ok-push.ensures.ok in
-    let same = c.in_ok-turn.ensures.same in
-    let is_state : c.turn.new.self.state ≡ t = ap (λ (v : WatchedState). v.state) same ∙ is_t in
-    let is_lines : c.turn.new.self.lines ≡ w.lines = ap (λ (v : WatchedState). v.lines) same in
-    let is_values : c.turn.new.self.values ≡ w.values = ap (λ (v : WatchedState). v.values) same in
-    let is_links : c.turn.new.self.links ≡ w.links = ap (λ (v : WatchedState). v.links) same in
-    let found = stands_goal s t (record s { goals = c.push.new.self }) w.lines w.conflicts c.turn.new.self.conflicts c.args.goal.number c.in_ok-touched.touched.numbers.items c.in_ok-touched.touched.ids.items c.in_ok-went.went.items c.no_links.result.went.items c.no_links.result.came.items
+    let came : c.deref.result.now ≡ near (record s { goals = c.push.new.self }) (n ∷ []) [] = c.deref.ensures.value ∙ c.in_ok-near_kept.ensures ∙ ap (λ (ks : List Conflict). ks ++ near (record s { goals = c.push.new.self }) (n ∷ []) []) c.new-came.ensures.items in
+    let found = stands_goal s t (record s { goals = c.push.new.self }) w.lines w.conflicts c.exchange.new.self n (n ∷ []) [] [] [] []
     c.requires.watched.whole c.requires.watched.timelines c.requires.watched.found is_t whole_t are_t (told_with_goal s c.args.goal w.lines w.conflicts) (follows_goal s c.args.goal c.requires.watched.whole) (keeps_with_goal s c.args.goal)
-    c.in_ok-touched.ensures.numbers c.in_ok-touched.ensures.ids c.in_ok-went.ensures c.no_links.ensures.went c.no_links.ensures.came c.in_ok-turn.ensures.conflicts in
+    refl refl (sym (near_fresh s n c.requires.fresh)) refl refl
+    (c.in_ok-exchange.ensures.ok ∙ ap (exchanged w.conflicts []) (came ∙ sym (append-nil (near (record s { goals = c.push.new.self }) (n ∷ []) [])))) in
     record {
-      whole = rw is_state whole_t;
-      values = rw (is_state, is_values) c.requires.watched.values;
-      timelines = rw (is_state, is_lines) are_t;
-      store = rw (is_state, is_links) c.requires.watched.store;
-      found = rw is_state found;
+      whole = subst IsWhole (sym is_t) whole_t;
+      values = c.requires.watched.values;
+      timelines = subst (λ (x : PlanState). AreLinesOf x w.lines) (sym is_t) are_t;
+      store = c.requires.watched.store;
+      found = found ∙ ap conflicts_of (sym is_t);
     }

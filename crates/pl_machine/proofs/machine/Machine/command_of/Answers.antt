@@ -1,27 +1,24 @@
-use Rattle.std.proofs.Common.{◌≡◌, true, false, Some, sym, ◌∙◌, ap, subst}
-use Rattle.pl_model.specs.declared.whole.Model.{Model}
-use Rattle.pl_plan.specs.Values.{values_of}
-use Rattle.pl_entry.specs.declared.reply.Reply.TheVariants as reply
-use Rattle.pl_entry.specs.Bounds.{IsDispatchReply}
-use Rattle.pl_semantics.specs.declared.plan_state.PlanState.{PlanState}
-use Rattle.pl_semantics.specs.PlanStates.{found, is_committed, row_of}
-use Rattle.pl_semantics.specs.Whole.{IsWhole}
+use Rattle.std.proofs.Common.{◌≡◌, Some, sym, ◌∙◌, ap, subst}
+use Rattle.pl_plan.specs.declared.evaluated.Evaluated.{Evaluated}
+use Rattle.pl_semantics.specs.PlanStates.{found, row_of}
+use Rattle.pl_update.proofs.AboutEvaluations.Reading.{kept_is, none_kept}
 use Rattle.pl_machine.specs.Sound.{State}
-use Rattle.pl_machine.proofs.Sends.{is_command}
 use Rattle.pl_machine.proofs.machine.Machine.command_of.Goals as goal
 
-pub returns-clause-reply : goal.returns-clause-reply
-returns-clause-reply c =
+pub evaluated-requires : goal.evaluated-requires
+evaluated-requires c = ap (λ (t : State). t.spoiled) c.self.view_is ∙ c.requires.unspoiled
+
+pub command_with-requires-clause-values : goal.command_with-requires-clause-values
+command_with-requires-clause-values c =
     let a = c.args.activity.now in
-    let unspoiled : c.self.inside.board.spoiled ≡ false = ap (λ (t : State). t.spoiled) c.self.view_is ∙ c.requires.unspoiled in
-    let standing = c.self.invariant.stands unspoiled in
     let s = c.self.inside.board.state in
     let here : found s a.id ≡ Some a = subst (λ (t : State). found t.world.state a.id ≡ Some a) (sym c.self.view_is) c.requires.found in
-    let committed : is_committed s a ≡ true = subst (λ (t : State). is_committed t.world.state a ≡ true) (sym c.self.view_is) c.requires.committed in
-    let whole : IsWhole s = subst IsWhole c.state-state.ensures.value (c.state-state.ensures.whole unspoiled) in
-    let values_are : c.in_ok-values.values ≡ row_of s a =
-    c.in_ok-values.ensures.values ∙ ap (λ (m : Model). values_of m c.state-state.result.now.plan.activities a.id) c.get.ensures ∙ ap (λ (x : PlanState). values_of x.model x.plan.activities a.id) c.state-state.ensures.value in
-    let model_is : s.model ≡ c.args.self.now.model = standing.model ∙ ap (λ (t : State). t.model) c.self.view_is in
-    subst (λ (m : Model). IsDispatchReply m (reply.Sent c.word.result c.word-2.result c.word-3.result c.in_ok-values.values)) model_is
-    (is_command s a c.word.result c.word-2.result c.word-3.result c.in_ok-values.values c.word.ensures.same c.word-2.ensures.same c.word-3.ensures.same values_are
-    whole standing.sendable here committed c.word.ensures.fits c.word-2.ensures.fits c.word-3.ensures.fits)
+    let are : c.in-Some.evaluated.now.values ≡ row_of s a = ap (λ (e : Evaluated). e.values) (kept_is s.model s.plan.activities a here c.in-Some.evaluated.now c.in-Some.ensures) in
+    are ∙ ap (λ (t : State). row_of t.world.state a) c.self.view_is
+
+pub unreachable-requires : goal.unreachable-requires
+unreachable-requires c =
+    let a = c.args.activity.now in
+    let s = c.self.inside.board.state in
+    let here : found s a.id ≡ Some a = subst (λ (t : State). found t.world.state a.id ≡ Some a) (sym c.self.view_is) c.requires.found in
+    none_kept s.model s.plan.activities a here c.in-None.ensures

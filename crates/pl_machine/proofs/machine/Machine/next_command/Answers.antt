@@ -10,6 +10,12 @@ use Rattle.pl_machine.specs.Sound.{State}
 use Rattle.pl_machine.proofs.Sends.{next_of}
 use Rattle.pl_machine.proofs.machine.Machine.next_command.Goals as goal
 
+pub command_of-requires-clause-whole : goal.command_of-requires-clause-whole
+command_of-requires-clause-whole c =
+    let unspoiled : c.self.inside.board.spoiled ≡ false = ap (λ (t : State). t.spoiled) c.self.view_is ∙ c.requires.unspoiled in
+    let state_is : c.state-state.result.now ≡ c.args.self.now.world.state = c.state-state.ensures.value ∙ ap (λ (t : State). t.world.state) c.self.view_is in
+    subst IsWhole state_is (c.state-state.ensures.whole unspoiled)
+
 pub command_of-requires-clause-found : goal.command_of-requires-clause-found
 command_of-requires-clause-found c =
     let unspoiled : c.self.inside.board.spoiled ≡ false = ap (λ (t : State). t.spoiled) c.self.view_is ∙ c.requires.unspoiled in

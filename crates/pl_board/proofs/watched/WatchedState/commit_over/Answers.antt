@@ -7,7 +7,7 @@ use Rattle.pl_update.proofs.AboutGoalsAndActivities.Committing.{follows_committe
 use Rattle.pl_update.proofs.AboutLinks.Keeping.{before_committed, shows_links}
 use Rattle.pl_update.proofs.AboutTimelines.StandingLater.{lines_committed}
 use Rattle.pl_board.proofs.Watching.{stands_committed, watched_anew}
-use Rattle.pl_board.proofs.watched.WatchedState.commit.Goals as goal
+use Rattle.pl_board.proofs.watched.WatchedState.commit_over.Goals as goal
 
 pub pass-requires : goal.pass-requires
 pass-requires c = whole_committed c.args.self.now.state c.args.h c.requires.watched.whole c.requires.least c.requires.most
