@@ -10,3 +10,5 @@ pub mod Small
 pub mod Search
 pub mod Proposed
 pub mod Marking
+pub mod Starting
+pub mod Behind

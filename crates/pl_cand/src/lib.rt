@@ -19,10 +19,13 @@ mod reading;
 mod repairs;
 mod role;
 mod sharing;
+mod shifting;
 mod starts;
 mod strides;
 mod stuck;
+mod telling;
 mod timelines;
+mod told;
 mod users;
 mod worth;
 

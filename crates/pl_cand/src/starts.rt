@@ -5,6 +5,7 @@ ghost use Rattle.std.specs.Option.{option_map, option_to_list};
 ghost use Rattle.pl_plan.specs.declared.repair.RepairMove.{RepairMove};
 ghost use Rattle.pl_plan.specs.declared.repair.RepairMove.TheVariants.{Add};
 ghost use Rattle.pl_semantics.specs.Starts.{starting, shift_to};
+ghost use Rattle.pl_cand.specs.Telling.{may_start};
 
 use pl_plan::RepairMove;
 use pl_semantics::PlanState;
@@ -81,4 +82,11 @@ pub(crate) fn add_news(
         add_new(state, kind, goal, *start, out)?;
     }
     Ok(())
+}
+
+/// Whether an activity may start then: from 1 to the last moment before the horizon.
+pub(crate) fn may_start(state: &PlanState, start: u32) -> bool
+    ensures { result ≡ may_start state.now start }
+{
+    1 <= start && start < state.model.get().horizon
 }

@@ -1,0 +1,50 @@
+-- What is told of a move without listing all that is tried.
+use Rattle.std.specs.Prelude.{◌≡◌, ◌≤◌, ◌==◌, ℕ, nat_lt, nat_le, Bool, true, false, ◌&&◌, ◌||◌, pos, List, ◌++◌, length, take, Some}
+use Rattle.std.specs.Int.{int_min, int_max}
+use Rattle.std.specs.Ordering.{int_eq}
+use Rattle.std.specs.List.{list_any}
+use Rattle.pl_facts.specs.declared.goal.Goal.{Goal}
+use Rattle.pl_plan.specs.declared.activity.Activity.{Activity}
+use Rattle.pl_plan.specs.declared.repair.RepairMove.{RepairMove}
+use Rattle.pl_plan.specs.declared.repair.RepairMove.TheVariants.{Add, Delete, Shift, Drop}
+use Rattle.pl_plan.specs.Trees.{root_of}
+use Rattle.pl_semantics.specs.declared.plan_state.PlanState.{PlanState}
+use Rattle.pl_semantics.specs.PlanStates.{of_found}
+use Rattle.pl_semantics.specs.Starts.{above_it, floor_at, last_of, places_of, shifts_of, spread}
+use Rattle.pl_semantics.specs.Candidates.{same_move, same_number}
+use Rattle.pl_cand.specs.declared.told.Told.{Told}
+use Rattle.pl_cand.specs.declared.told.Told.TheVariants as told
+
+-- ---- what is told
+
+-- the move is one of the first 256 of these, or it is none of them, or nothing is told
+abbrev pub Tells : List RepairMove → RepairMove → Told → Type 0
+Tells tried m told.Early = list_any (same_move m) (take 256 tried) ≡ true
+Tells tried m told.Untried = list_any (same_move m) tried ≡ false
+Tells tried m told.Unknown = Unit {0}
+
+-- the same behind so many moves at most, none of which is the move
+abbrev pub TellsBehind : ℕ → List RepairMove → RepairMove → Told → Type 0
+TellsBehind before tried m t = (first : List RepairMove) → length first ≤ before → list_any (same_move m) first ≡ false → Tells (first ++ tried) m t
+
+-- ---- which moves there are
+
+-- from 1 to the last moment before the horizon
+abbrev pub may_start : PlanState → ℕ → Bool
+may_start s start = nat_le 1 start && nat_lt start s.model.horizon
+
+-- a shift of this activity to a start that is tried for it
+abbrev pub is_shift_of : PlanState → Activity → ℕ → ℕ → Bool
+is_shift_of s a id start = ((id == a.id) && may_start s start) && list_any (int_eq (pos start)) (places_of s a)
+
+-- a shift of the activity or of the root above it, or the deletion of its root
+abbrev pub is_move_of : PlanState → Activity → RepairMove → Bool
+is_move_of s a (Shift id start) = is_shift_of s a id start || list_any (same_move (Shift id start)) (of_found (shifts_of s) (above_it s a))
+is_move_of s a (Delete id) = id == root_of a.id s.plan.activities
+is_move_of s a _ = false
+
+-- an activity that serves the goal, with a start that is tried, or the drop of the goal
+abbrev pub is_for_goal : PlanState → Goal → RepairMove → Bool
+is_for_goal s g (Add kind start goal) = (((kind == g.kind) && same_number goal (Some g.number)) && may_start s start) && list_any (int_eq (pos start)) (spread (int_max (pos g.earliest) (floor_at s)) (int_min (pos g.latest) (last_of s)))
+is_for_goal s g (Drop number) = number == g.number
+is_for_goal s g _ = false

@@ -1,0 +1,120 @@
+//! Whether a move is tried for a conflict, told without listing all that is tried.
+ghost use Rattle.std.specs.Prelude.{◌≡◌, ◌+◌, ◌≤◌, ◌++◌, Bool, List, IfOk, length, Some};
+ghost use Rattle.std.specs.List.{flat_map, list_any};
+ghost use Rattle.pl_plan.specs.Activities.{activity_of};
+ghost use Rattle.pl_plan.specs.declared.activity.Activity.{Activity};
+ghost use Rattle.pl_plan.specs.declared.repair.RepairMove.{RepairMove};
+ghost use Rattle.pl_semantics.specs.declared.plan_state.PlanState.{PlanState};
+ghost use Rattle.pl_semantics.specs.Whole.{IsWhole};
+ghost use Rattle.pl_semantics.specs.PlanStates.{found, goal_at, of_found};
+ghost use Rattle.pl_semantics.specs.Starts.{moves_of};
+ghost use Rattle.pl_semantics.specs.Repairs.{for_goal};
+ghost use Rattle.pl_semantics.specs.LineRepairs.{for_over};
+ghost use Rattle.pl_semantics.specs.Candidates.{same_move, tried_for};
+ghost use Rattle.pl_cand.specs.ById.{moves_of_id};
+ghost use Rattle.pl_cand.specs.Telling.{Tells, TellsBehind};
+
+use crate::cuts::MOST;
+use crate::role::{Role, Way};
+use crate::shifting::{is_for_goal, is_move_of};
+use crate::told::Told;
+use crate::users::first_users;
+use pl_conflict::{Code, Conflict};
+use pl_plan::{Activity, RepairMove};
+use pl_semantics::PlanState;
+use std::alloc::{AllocError, Global};
+
+/// How many moves an activity has at most: its shifts, those of its root, and the deletion of the root.
+const MOVES: usize = 35;
+
+/// How many moves a root has at most.
+const MOVES_OF_A_ROOT: usize = 18;
+
+/// How many moves help a level at most: additions of four kinds, with sixteen starts each.
+const HELP: usize = 64;
+
+// What is told by whether a move is one of few.
+fn told_of_few(is: bool) -> Told
+    ensures { (m : RepairMove) (tried : List RepairMove) → length tried ≤ 256 → list_any (same_move m) tried ≡ is → Tells tried m result }
+{
+    if is { Told::Early } else { Told::Untried }
+}
+
+fn told_of_goal(state: &PlanState, number: u32, mv: &RepairMove) -> Told
+    requires { IsWhole state.now }
+    ensures { Tells (of_found (for_goal state.now) (goal_at state.now number)) mv.now result }
+{
+    match state.goals.get(number) {
+        Some(goal) => told_of_few(is_for_goal(state, goal, mv)),
+        None => Told::Untried,
+    }
+}
+
+fn told_of_moves(state: &PlanState, id: u32, mv: &RepairMove) -> Told
+    requires { IsWhole state.now }
+    ensures { Tells (moves_of_id state.now id) mv.now result }
+{
+    match state.live(id) {
+        Some(a) => told_of_few(is_move_of(state, a, mv)),
+        None => Told::Untried,
+    }
+}
+
+// What is told of a move that stands among so many.
+fn told_within(most: usize) -> Told
+    ensures { (before count : ℕ) (m : RepairMove) (here rest : List RepairMove) → before + count ≡ most → length here ≤ count → list_any (same_move m) here ≡ true → TellsBehind before (here ++ rest) m result }
+{
+    if most <= MOST {
+        Told::Early
+    } else {
+        Told::Unknown
+    }
+}
+
+// How many moves an activity has at most.
+fn most_moves(a: &Activity) -> usize
+    ensures few { result ≤ 35 }
+    ensures moves { (s : PlanState) → length (moves_of s a.now) ≤ result }
+{
+    match a.parent {
+        Some(_) => MOVES,
+        None => MOVES_OF_A_ROOT,
+    }
+}
+
+fn most_moves_of_id(state: &PlanState, id: u32) -> usize
+    ensures few { result ≤ 35 }
+    ensures moves { length (moves_of_id state.now id) ≤ result }
+{
+    match state.live(id) {
+        Some(a) => most_moves(a),
+        None => 0,
+    }
+}
+
+fn is_move_of_id(state: &PlanState, id: u32, mv: &RepairMove) -> bool
+    requires { IsWhole state.now }
+    ensures { result ≡ list_any (same_move mv.now) (moves_of_id state.now id) }
+{
+    match state.live(id) {
+        Some(a) => is_move_of(state, a, mv),
+        None => false,
+    }
+}
+
+// What is told of a move by the moves of these activities, behind so many other moves at most.
+fn told_of_users(state: &PlanState, ids: &[u32], before: usize, mv: &RepairMove) -> Told
+    requires whole { IsWhole state.now }
+    requires few { length ids.now ≤ 8 }
+    requires before { before ≤ 64 }
+    ensures { TellsBehind before (flat_map (moves_of_id state.now) ids.now) mv.now result }
+{
+    let mut most = before;
+    for id in ids {
+        most += most_moves_of_id(state, *id);
+        if is_move_of_id(state, *id, mv) {
+            return told_within(most);
+        }
+    }
+    Told::Untried
+}
