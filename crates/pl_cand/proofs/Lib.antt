@@ -11,4 +11,5 @@ pub mod Search
 pub mod Proposed
 pub mod Marking
 pub mod Starting
+pub mod Few
 pub mod Behind

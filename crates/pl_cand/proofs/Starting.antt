@@ -1,25 +1,35 @@
--- Which moves stand among those that give starts, and how many these are.
-use Rattle.std.proofs.Common.{◌≡◌, ℕ, zero, suc, ◌+◌, ◌*◌, ◌≤◌, eqb, Bool, true, false, List, [], ◌∷◌, ◌++◌, length, map, Option, Some, None, ℤ, pos, length-append, refl, sym, ap, ◌∙◌, arith}
-use Rattle.std.specs.Prelude.{◌&&◌, ◌||◌, nat_lt, nat_le, int_le, negsuc, ◌+ℤ◌, if◌then◌else◌}
+-- Which moves stand among those that are tried.
+use Rattle.std.proofs.Common.{◌≡◌, ℕ, zero, suc, ◌+◌, eqb, Bool, true, false, List, [], ◌∷◌, ◌++◌, length, map, Option, Some, None, ℤ, pos, refl, sym, ap, ◌∙◌, arith}
+use Rattle.std.specs.Prelude.{◌&&◌, ◌||◌, nat_lt, nat_le, negsuc, if◌then◌else◌}
 use Rattle.std.specs.Int.{int_min, int_max}
 use Rattle.std.specs.List.{flat_map, list_any}
 use Rattle.std.specs.Ordering.{int_eq}
-use Rattle.std.proofs.lemmas.Bool.{eqb-true, eqb-false}
+use Rattle.std.proofs.lemmas.Bool.{eqb-true, leb-true, ltb-true}
 use Rattle.std.proofs.lemmas.Int.{ints}
 use Rattle.std.proofs.lemmas.List.Folds.{list_any-append}
 use Rattle.std.proofs.Math.Bool.{and-false, or-false}
+use Rattle.std.proofs.lemmas.Bool.Decides.{nat_tests}
 use Rattle.pl_lists.proofs.Numbers.{eqb_itself}
 use Rattle.pl_facts.specs.declared.goal.Goal.{Goal}
+use Rattle.pl_model.specs.declared.alternatives.Alternative.{Alternative}
+use Rattle.pl_model.specs.declared.kinds.Kind.{Kind}
 use Rattle.pl_plan.specs.declared.activity.Activity.{Activity}
 use Rattle.pl_plan.specs.declared.repair.RepairMove.{RepairMove}
 use Rattle.pl_plan.specs.declared.repair.RepairMove.TheVariants as repair
 use Rattle.pl_plan.specs.Trees.{root_of}
 use Rattle.pl_semantics.specs.declared.plan_state.PlanState.{PlanState}
-use Rattle.pl_semantics.specs.PlanStates.{found, of_found, served_by}
-use Rattle.pl_semantics.specs.Starts.{steps_from, stride_of, spread, starting, shift_to, floor_at, last_of, window_of, places_of, shifts_of, above_it, delete_root, moves_of, adds_of}
-use Rattle.pl_semantics.specs.Repairs.{for_goal, end_by}
+use Rattle.pl_semantics.specs.PlanStates.{found, numbered, of_found}
+use Rattle.pl_semantics.specs.Starts.{spread, starting, shift_to, floor_at, last_of, places_of, shifts_of, above_it, delete_root, moves_of, adds_of, help_until}
+use Rattle.pl_semantics.specs.Moves.{alternatives_at}
+use Rattle.pl_semantics.specs.Repairs.{for_goal, for_undetailed, end_by}
+use Rattle.pl_semantics.specs.LineRepairs.{around}
 use Rattle.pl_semantics.specs.Candidates.{same_move, same_number}
-use Rattle.pl_cand.specs.Telling.{may_start, is_shift_of, is_move_of, is_for_goal}
+use Rattle.pl_cand.specs.Telling.{may_start, is_shift_to, is_shift_of, is_move_of, is_for_goal, is_for_undetailed, is_addition}
+
+-- ---- piece by piece
+
+pub any_piece : {X : Type 0} (P : RepairMove → Bool) (f : X → List RepairMove) (n : X) (ns : List X) → list_any P (flat_map f (n ∷ ns)) ≡ (list_any P (f n) || list_any P (flat_map f ns))
+any_piece P f n ns = list_any-append P (f n) (flat_map f ns)
 
 -- ---- one start
 
@@ -69,6 +79,24 @@ module _ (s : PlanState) where
 
   pub shift_stands : (a : Activity) (id start : ℕ) → is_shift_of s a id start ≡ list_any (same_move (repair.Shift id start)) (shifts_of s a)
   shift_stands a id start = sym (shift_any a id start)
+
+  -- of one start alone
+  pub shift_to_any : (m : RepairMove) (a : ℕ) (to : ℤ) → list_any (same_move m) (starting s (shift_to a) to) ≡ is_shift_to s a to m
+  shift_to_any (repair.Shift id start) a to = one_start s (same_move (repair.Shift id start)) (shift_to a) (eqb id a) start (λ n. refl) to
+  shift_to_any (repair.Delete id) a to = one_start s (same_move (repair.Delete id)) (shift_to a) false 0 (λ n. refl) to
+  shift_to_any (repair.Add kind start goal) a to = one_start s (same_move (repair.Add kind start goal)) (shift_to a) false 0 (λ n. refl) to
+  shift_to_any (repair.Detail id alternative) a to = one_start s (same_move (repair.Detail id alternative)) (shift_to a) false 0 (λ n. refl) to
+  shift_to_any (repair.Abstract id) a to = one_start s (same_move (repair.Abstract id)) (shift_to a) false 0 (λ n. refl) to
+  shift_to_any (repair.Assign id param value) a to = one_start s (same_move (repair.Assign id param value)) (shift_to a) false 0 (λ n. refl) to
+  shift_to_any (repair.Drop number) a to = one_start s (same_move (repair.Drop number)) (shift_to a) false 0 (λ n. refl) to
+
+  pub shift_to_stands : (m : RepairMove) (a : ℕ) (to : ℤ) → is_shift_to s a to m ≡ list_any (same_move m) (starting s (shift_to a) to)
+  shift_to_stands m a to = sym (shift_to_any m a to)
+
+  pub around_stands : (m : RepairMove) (a b : ℕ) (user : Activity) → (is_shift_to s user.id (pos b) m || list_any (same_move m) (end_by s user (pos a))) ≡ list_any (same_move m) (around s a b user)
+  around_stands m a b user =
+      ap (λ t. t || list_any (same_move m) (end_by s user (pos a))) (shift_to_stands m user.id (pos b))
+      ∙ sym (list_any-append (same_move m) (starting s (shift_to user.id) (pos b)) (end_by s user (pos a)))
 
   module _ (m : RepairMove) (other : (id n : ℕ) → same_move m (repair.Shift id n) ≡ false) where
     no_shift : (a : Activity) → list_any (same_move m) (shifts_of s a) ≡ false
@@ -133,66 +161,64 @@ module _ (s : PlanState) where
   goal_any (repair.Abstract id) g = drops_alone g (repair.Abstract id) (λ n. refl)
   goal_any (repair.Assign id param value) g = drops_alone g (repair.Assign id param value) (λ n. refl)
 
--- ---- how many
+  -- ---- the moves for an activity with no alternative
 
-pub steps_few : (n : ℕ) (low high : ℤ) (step : ℕ) → length (steps_from n low high step) ≤ n
-steps_few zero low high step = omega arith
-steps_few (suc n) low high step = cases (int_le low high) (steps_few n (low +ℤ pos step) high step)
-  where
-    cases : (t : Bool) → length (steps_from n (low +ℤ pos step) high step) ≤ n → length (if t then low ∷ steps_from n (low +ℤ pos step) high step else []) ≤ suc n
-    cases true rest = omega (arith, rest)
-    cases false rest = omega arith
+  detail_any : (m : RepairMove) (a : Activity) (n : ℕ) (xs : List Alternative) → ((k : ℕ) → same_move m (repair.Detail a.id k) ≡ false) → list_any (same_move m) (map (λ (k : ℕ × Alternative). repair.Detail a.id k.0) (numbered n xs)) ≡ false
+  detail_any m a n [] other = refl
+  detail_any m a n (x ∷ xs) other = rw (other n) (detail_any m a (suc n) xs other)
 
-pub spread_few : (low high : ℤ) → length (spread low high) ≤ 16
-unfolding spread
-spread_few low high = steps_few 16 low high (stride_of low high)
-
-module _ (s : PlanState) where
-  pub one_few : (make : ℕ → RepairMove) (z : ℤ) → length (starting s make z) ≤ 1
-  one_few make (negsuc n) = omega arith
-  one_few make (pos n) = cases (nat_le 1 n && nat_lt n s.model.horizon)
+  detail_at : (a : Activity) (id alternative n : ℕ) (xs : List Alternative) → list_any (same_move (repair.Detail id alternative)) (map (λ (k : ℕ × Alternative). repair.Detail a.id k.0) (numbered n xs)) ≡ (eqb id a.id && (nat_le n alternative && nat_lt alternative (n + length xs)))
+  detail_at a id alternative n [] = none (eqb id a.id) (nat_le n alternative) (nat_lt alternative (n + 0)) (λ e f. absurd (omega (arith, leb-true n alternative e, ltb-true alternative (n + 0) f)))
     where
-      cases : (t : Bool) → length (if t then make n ∷ [] else []) ≤ 1
-      cases true = omega arith
-      cases false = omega arith
-
-  pub starts_few : (make : ℕ → RepairMove) (zs : List ℤ) → length (flat_map (starting s make) zs) ≤ length zs
-  starts_few make [] = omega arith
-  starts_few make (z ∷ zs) = rw (length-append (starting s make z) (flat_map (starting s make) zs)) (omega (arith, one_few make z, starts_few make zs))
-
-  places_few : (a : Activity) → length (places_of s a) ≤ 17
-  places_few a = cases (served_by s a)
+      none : (x y z : Bool) → (y ≡ true → z ≡ true → ⊥) → false ≡ (x && (y && z))
+      none false y z apart = refl
+      none true false z apart = refl
+      none true true false apart = refl
+      none true true true apart = absurd (apart refl refl)
+  detail_at a id alternative n (x ∷ xs) =
+      rw (detail_at a id alternative (suc n) xs)
+      (split (eqb id a.id) (eqb alternative n) (nat_le (suc n) alternative) (nat_lt alternative (suc n + length xs)) (nat_le n alternative) (nat_lt alternative (n + suc (length xs))) (grind (arith, nat_tests)))
     where
-      cases : (o : Option Goal) → length (floor_at s ∷ window_of s o) ≤ 17
-      cases None = omega (arith, spread_few (floor_at s) (last_of s))
-      cases (Some g) = omega (arith, spread_few (int_max (pos g.earliest) (floor_at s)) (pos g.latest))
+      split : (i e y z v w : Bool) → (e || (y && z)) ≡ (v && w) → ((i && e) || (i && (y && z))) ≡ (i && (v && w))
+      split true e y z v w same = same
+      split false e y z v w same = refl
 
-  shifts_few : (a : Activity) → length (shifts_of s a) ≤ 17
-  shifts_few a = omega (arith, starts_few (shift_to a.id) (places_of s a), places_few a)
+  after_details : (m : RepairMove) (a : Activity) → list_any (same_move m) (for_undetailed s a) ≡ (list_any (same_move m) (map (λ (k : ℕ × Alternative). repair.Detail a.id k.0) (numbered 0 (alternatives_at s a))) || same_move m (repair.Delete (root_of a.id s.plan.activities)))
+  after_details m a =
+      list_any-append (same_move m) (map (λ (k : ℕ × Alternative). repair.Detail a.id k.0) (numbered 0 (alternatives_at s a))) (delete_root s a)
+      ∙ ap (λ t. list_any (same_move m) (map (λ (k : ℕ × Alternative). repair.Detail a.id k.0) (numbered 0 (alternatives_at s a))) || t) (or-false (same_move m (repair.Delete (root_of a.id s.plan.activities))))
 
-  found_few : (o : Option Activity) → length (of_found (shifts_of s) o) ≤ 17
-  found_few None = omega arith
-  found_few (Some a) = shifts_few a
+  root_alone : (m : RepairMove) (a : Activity) → ((k : ℕ) → same_move m (repair.Detail a.id k) ≡ false) → list_any (same_move m) (for_undetailed s a) ≡ same_move m (repair.Delete (root_of a.id s.plan.activities))
+  root_alone m a other = after_details m a ∙ rw (detail_any m a 0 (alternatives_at s a) other) refl
 
-  moves_count : (a : Activity) → length (moves_of s a) ≡ length (shifts_of s a) + (length (of_found (shifts_of s) (above_it s a)) + 1)
-  unfolding moves_of
-  moves_count a =
-      length-append (shifts_of s a) (of_found (shifts_of s) (above_it s a) ++ delete_root s a)
-      ∙ ap (λ n. length (shifts_of s a) + n) (length-append (of_found (shifts_of s) (above_it s a)) (delete_root s a))
+  pub undetailed_any : (m : RepairMove) (a : Activity) → list_any (same_move m) (for_undetailed s a) ≡ is_for_undetailed s a m
+  undetailed_any (repair.Detail id alternative) a =
+      after_details (repair.Detail id alternative) a
+      ∙ or-false (list_any (same_move (repair.Detail id alternative)) (map (λ (k : ℕ × Alternative). repair.Detail a.id k.0) (numbered 0 (alternatives_at s a))))
+      ∙ detail_at a id alternative 0 (alternatives_at s a)
+  undetailed_any (repair.Delete id) a = root_alone (repair.Delete id) a (λ n. refl)
+  undetailed_any (repair.Add kind start goal) a = root_alone (repair.Add kind start goal) a (λ n. refl)
+  undetailed_any (repair.Shift id start) a = root_alone (repair.Shift id start) a (λ n. refl)
+  undetailed_any (repair.Abstract id) a = root_alone (repair.Abstract id) a (λ n. refl)
+  undetailed_any (repair.Assign id param value) a = root_alone (repair.Assign id param value) a (λ n. refl)
+  undetailed_any (repair.Drop number) a = root_alone (repair.Drop number) a (λ n. refl)
 
-  pub moves_few : (a : Activity) → length (moves_of s a) ≤ 35
-  moves_few a = omega (arith, moves_count a, shifts_few a, found_few (above_it s a))
+  -- ---- help
 
-  above_none : (a : Activity) → a.parent ≡ None → above_it s a ≡ None
-  above_none a root = rw root refl
+  no_adds : (m : RepairMove) → is_addition m ≡ false → (kind : ℕ) (goal : Option ℕ) (start : ℕ) → same_move m (repair.Add kind start goal) ≡ false
+  no_adds (repair.Add kind2 start2 goal2) none kind goal start = absurd (cc)
+  no_adds (repair.Delete id) none kind goal start = refl
+  no_adds (repair.Shift id start2) none kind goal start = refl
+  no_adds (repair.Detail id alternative) none kind goal start = refl
+  no_adds (repair.Abstract id) none kind goal start = refl
+  no_adds (repair.Assign id param value) none kind goal start = refl
+  no_adds (repair.Drop number) none kind goal start = refl
 
-  -- of a root
-  pub moves_fewer : (a : Activity) → a.parent ≡ None → length (moves_of s a) ≤ 18
-  moves_fewer a root =
-      let none : length (of_found (shifts_of s) (above_it s a)) ≡ 0 = ap (λ o. length (of_found (shifts_of s) o)) (above_none a root) in
-      omega (arith, moves_count a, shifts_few a, none)
+  no_help : (m : RepairMove) → is_addition m ≡ false → (starts : List ℤ) (kinds : List (ℕ × Kind)) → list_any (same_move m) (flat_map (λ (k : ℕ × Kind). adds_of s starts k.0) kinds) ≡ false
+  no_help m none starts [] = refl
+  no_help m none starts (k ∷ kinds) =
+      any_piece (same_move m) (λ (k : ℕ × Kind). adds_of s starts k.0) k kinds
+      ∙ rw (no_start s (same_move m) (λ t. repair.Add k.0 t None) (λ n. no_adds m none k.0 None n) starts) (no_help m none starts kinds)
 
-  pub goal_few : (g : Goal) → length (for_goal s g) ≤ 17
-  goal_few g =
-      rw (length-append (flat_map (starting s (λ start. repair.Add g.kind start (Some g.number))) (spread (int_max (pos g.earliest) (floor_at s)) (int_min (pos g.latest) (last_of s)))) (repair.Drop g.number ∷ []))
-      (omega (arith, starts_few (λ start. repair.Add g.kind start (Some g.number)) (spread (int_max (pos g.earliest) (floor_at s)) (int_min (pos g.latest) (last_of s))), spread_few (int_max (pos g.earliest) (floor_at s)) (int_min (pos g.latest) (last_of s))))
+  pub no_help_until : (m : RepairMove) → is_addition m ≡ false → (kinds : List (ℕ × Kind)) (until : ℕ) → list_any (same_move m) (help_until s kinds until) ≡ false
+  no_help_until m none kinds until = no_help m none (spread (floor_at s) (int_max (floor_at s) (int_min (pos until) (last_of s)))) kinds

@@ -1,16 +1,17 @@
 -- What is told of a move without listing all that is tried.
-use Rattle.std.specs.Prelude.{◌≡◌, ◌≤◌, ◌==◌, ℕ, nat_lt, nat_le, Bool, true, false, ◌&&◌, ◌||◌, pos, List, ◌++◌, length, take, Some}
+use Rattle.std.specs.Prelude.{◌≡◌, ◌≤◌, ◌==◌, ℕ, nat_lt, nat_le, Bool, true, false, ◌&&◌, ◌||◌, ℤ, pos, List, ◌++◌, length, take, Some}
 use Rattle.std.specs.Int.{int_min, int_max}
 use Rattle.std.specs.Ordering.{int_eq}
 use Rattle.std.specs.List.{list_any}
 use Rattle.pl_facts.specs.declared.goal.Goal.{Goal}
 use Rattle.pl_plan.specs.declared.activity.Activity.{Activity}
 use Rattle.pl_plan.specs.declared.repair.RepairMove.{RepairMove}
-use Rattle.pl_plan.specs.declared.repair.RepairMove.TheVariants.{Add, Delete, Shift, Drop}
+use Rattle.pl_plan.specs.declared.repair.RepairMove.TheVariants.{Add, Delete, Detail, Shift, Drop}
 use Rattle.pl_plan.specs.Trees.{root_of}
 use Rattle.pl_semantics.specs.declared.plan_state.PlanState.{PlanState}
 use Rattle.pl_semantics.specs.PlanStates.{of_found}
 use Rattle.pl_semantics.specs.Starts.{above_it, floor_at, last_of, places_of, shifts_of, spread}
+use Rattle.pl_semantics.specs.Moves.{alternatives_at}
 use Rattle.pl_semantics.specs.Candidates.{same_move, same_number}
 use Rattle.pl_cand.specs.declared.told.Told.{Told}
 use Rattle.pl_cand.specs.declared.told.Told.TheVariants as told
@@ -48,3 +49,18 @@ abbrev pub is_for_goal : PlanState → Goal → RepairMove → Bool
 is_for_goal s g (Add kind start goal) = (((kind == g.kind) && same_number goal (Some g.number)) && may_start s start) && list_any (int_eq (pos start)) (spread (int_max (pos g.earliest) (floor_at s)) (int_min (pos g.latest) (last_of s)))
 is_for_goal s g (Drop number) = number == g.number
 is_for_goal s g _ = false
+
+-- the shift of this activity to this start
+abbrev pub is_shift_to : PlanState → ℕ → ℤ → RepairMove → Bool
+is_shift_to s a to (Shift id start) = ((id == a) && may_start s start) && int_eq (pos start) to
+is_shift_to s a to _ = false
+
+-- one of the alternatives of the activity, or the deletion of its root
+abbrev pub is_for_undetailed : PlanState → Activity → RepairMove → Bool
+is_for_undetailed s a (Detail id alternative) = (id == a.id) && nat_lt alternative (length (alternatives_at s a))
+is_for_undetailed s a (Delete id) = id == root_of a.id s.plan.activities
+is_for_undetailed s a _ = false
+
+abbrev pub is_addition : RepairMove → Bool
+is_addition (Add kind start goal) = true
+is_addition _ = false

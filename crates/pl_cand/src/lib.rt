@@ -2,6 +2,7 @@
 #![tactic(auto)]
 
 mod activities;
+mod avoiding;
 mod chooser;
 mod conflicts;
 mod cuts;

@@ -9,9 +9,9 @@ ghost use Rattle.pl_semantics.specs.Whole.{IsWhole};
 ghost use Rattle.pl_semantics.specs.PlanStates.{of_found, served_by};
 ghost use Rattle.pl_semantics.specs.Starts.{above_it, floor_at, last_of, places_of, shifts_of, spread, window_of};
 ghost use Rattle.pl_semantics.specs.Candidates.{same_move};
-ghost use Rattle.pl_cand.specs.Telling.{is_for_goal, is_move_of, is_shift_of};
+ghost use Rattle.pl_cand.specs.Telling.{is_for_goal, is_for_undetailed, is_move_of, is_shift_of};
 
-use crate::reading::{floor, from_floor, last, to_last};
+use crate::reading::{checked_alternatives, floor, from_floor, last, to_last};
 use crate::repairs::{above_it, served_by};
 use crate::starts::may_start;
 use crate::strides::is_step;
@@ -105,6 +105,20 @@ pub(crate) fn is_for_goal(state: &PlanState, goal: &Goal, mv: &RepairMove) -> bo
         } => kind == goal.kind && served == Some(goal.number) && may_start(state, start)
             && is_serving(state, goal, i64::from(start)),
         RepairMove::Drop { goal: number } => number == goal.number,
+        _ => false,
+    }
+}
+
+/// Whether a move chooses an alternative of a live activity, or deletes its root.
+pub(crate) fn is_for_undetailed(state: &PlanState, a: &Activity, mv: &RepairMove) -> bool
+    requires whole { IsWhole state.now }
+    requires live { activity_of a.now.id state.now.plan.activities ≡ Some a.now }
+    ensures { result ≡ is_for_undetailed state.now a.now mv.now }
+{
+    match *mv {
+        RepairMove::Detail { id, alternative } => id == a.id
+            && (alternative as usize) < checked_alternatives(state, a).len(),
+        RepairMove::Delete { id } => id == state.plan.root(a.id),
         _ => false,
     }
 }

@@ -8,15 +8,17 @@ ghost use Rattle.pl_semantics.specs.declared.plan_state.PlanState.{PlanState};
 ghost use Rattle.pl_semantics.specs.Whole.{IsWhole};
 ghost use Rattle.pl_semantics.specs.PlanStates.{found, goal_at, of_found};
 ghost use Rattle.pl_semantics.specs.Starts.{moves_of};
-ghost use Rattle.pl_semantics.specs.Repairs.{for_goal};
-ghost use Rattle.pl_semantics.specs.LineRepairs.{for_over};
+ghost use Rattle.pl_semantics.specs.Repairs.{for_goal, for_undetailed};
+ghost use Rattle.pl_semantics.specs.LineRepairs.{first_eight, for_high, for_low, for_over};
 ghost use Rattle.pl_semantics.specs.Candidates.{same_move, tried_for};
-ghost use Rattle.pl_cand.specs.ById.{moves_of_id};
-ghost use Rattle.pl_cand.specs.Telling.{Tells, TellsBehind};
+ghost use Rattle.pl_cand.specs.ById.{around_id, moves_of_id};
+ghost use Rattle.pl_cand.specs.Tests.{changes_below};
+ghost use Rattle.pl_cand.specs.Telling.{Tells, TellsBehind, is_addition};
 
+use crate::avoiding::is_around_any;
 use crate::cuts::MOST;
 use crate::role::{Role, Way};
-use crate::shifting::{is_for_goal, is_move_of};
+use crate::shifting::{is_for_goal, is_for_undetailed, is_move_of};
 use crate::told::Told;
 use crate::users::first_users;
 use pl_conflict::{Code, Conflict};
@@ -29,6 +31,9 @@ const MOVES: usize = 35;
 
 /// How many moves a root has at most.
 const MOVES_OF_A_ROOT: usize = 18;
+
+/// How many shifts away from a span there are at most: two of each of eight activities.
+const AROUND: usize = 16;
 
 /// How many moves help a level at most: additions of four kinds, with sixteen starts each.
 const HELP: usize = 64;
@@ -56,6 +61,16 @@ fn told_of_moves(state: &PlanState, id: u32, mv: &RepairMove) -> Told
 {
     match state.live(id) {
         Some(a) => told_of_few(is_move_of(state, a, mv)),
+        None => Told::Untried,
+    }
+}
+
+fn told_of_undetailed(state: &PlanState, id: u32, mv: &RepairMove) -> Told
+    requires { IsWhole state.now }
+    ensures { Tells (of_found (for_undetailed state.now) (found state.now id)) mv.now result }
+{
+    match state.live(id) {
+        Some(a) => told_of_few(is_for_undetailed(state, a, mv)),
         None => Told::Untried,
     }
 }
@@ -117,4 +132,108 @@ fn told_of_users(state: &PlanState, ids: &[u32], before: usize, mv: &RepairMove)
         }
     }
     Told::Untried
+}
+
+// What is told of a move by the shifts of these activities away from a span, and by their other moves.
+fn told_of_over(state: &PlanState, ids: &[u32], a: u32, b: u32, mv: &RepairMove) -> Told
+    requires whole { IsWhole state.now }
+    requires few { length ids.now ≤ 8 }
+    ensures { Tells (flat_map (around_id state.now a b) ids.now ++ flat_map (moves_of_id state.now) ids.now) mv.now result }
+{
+    if is_around_any(state, ids, a, b, mv) {
+        return Told::Early;
+    }
+    told_of_users(state, ids, AROUND, mv)
+}
+
+fn told_over(
+    alloc: Global,
+    state: &PlanState,
+    timeline: u32,
+    a: u32,
+    b: u32,
+    mv: &RepairMove,
+) -> Result<Told, AllocError>
+    requires { IsWhole state.now }
+    ensures { IfOk result (λ t. Tells (for_over state.now timeline a b) mv.now t) }
+{
+    let users = first_users(alloc, state, timeline, Role::Uses(a, b))?;
+    Ok(told_of_over(state, users.as_slice(), a, b, mv))
+}
+
+// What is told of a move that is none of the help by the moves of those that change a level in this way before a moment.
+fn told_of_level(
+    alloc: Global,
+    state: &PlanState,
+    timeline: u32,
+    before: u32,
+    way: Way,
+    mv: &RepairMove,
+) -> Result<Told, AllocError>
+    requires { IsWhole state.now }
+    ensures { IfOk result (λ t. TellsBehind 64 (flat_map (moves_of state.now) (first_eight state.now (changes_below way state.now timeline before))) mv.now t) }
+{
+    let users = first_users(alloc, state, timeline, Role::ChangesBelow(before, way))?;
+    Ok(told_of_users(state, users.as_slice(), HELP, mv))
+}
+
+fn is_addition(mv: &RepairMove) -> bool
+    ensures { result ≡ is_addition mv.now }
+{
+    match mv {
+        RepairMove::Add { .. } => true,
+        _ => false,
+    }
+}
+
+fn told_low(
+    alloc: Global,
+    state: &PlanState,
+    k: &Conflict,
+    mv: &RepairMove,
+) -> Result<Told, AllocError>
+    requires { IsWhole state.now }
+    ensures { IfOk result (λ t. Tells (for_low state.now k.now.subject k.now.a k.now.b) mv.now t) }
+{
+    if is_addition(mv) {
+        return Ok(Told::Unknown);
+    }
+    told_of_level(alloc, state, k.subject, k.b, Way::Down, mv)
+}
+
+fn told_high(
+    alloc: Global,
+    state: &PlanState,
+    k: &Conflict,
+    mv: &RepairMove,
+) -> Result<Told, AllocError>
+    requires { IsWhole state.now }
+    ensures { IfOk result (λ t. Tells (for_high state.now k.now.subject k.now.a k.now.b) mv.now t) }
+{
+    if is_addition(mv) {
+        return Ok(Told::Unknown);
+    }
+    told_of_level(alloc, state, k.subject, k.b, Way::Up, mv)
+}
+
+/// What is told of a move without listing all that is tried for the conflict.
+pub(crate) fn told(
+    alloc: Global,
+    state: &PlanState,
+    k: &Conflict,
+    mv: &RepairMove,
+) -> Result<Told, AllocError>
+    requires { IsWhole state.now }
+    ensures { IfOk result (λ t. Tells (tried_for state.now k.now k.now.code) mv.now t) }
+{
+    match k.code {
+        Code::OpenGoal => Ok(told_of_goal(state, k.subject, mv)),
+        Code::OffGoal => Ok(told_of_moves(state, k.subject, mv)),
+        Code::Late => Ok(told_of_moves(state, k.subject, mv)),
+        Code::Undetailed => Ok(told_of_undetailed(state, k.subject, mv)),
+        Code::Over => told_over(alloc, state, k.subject, k.a, k.b, mv),
+        Code::Low => told_low(alloc, state, k, mv),
+        Code::High => told_high(alloc, state, k, mv),
+        _ => Ok(Told::Unknown),
+    }
 }
