@@ -13,11 +13,12 @@ use Rattle.pl_plan.specs.declared.repair.RepairMove.{RepairMove}
 use Rattle.pl_plan.specs.declared.repair.RepairMove.TheVariants as repair
 use Rattle.pl_plan.specs.Trees.{id_of}
 use Rattle.pl_semantics.specs.declared.plan_state.PlanState.{PlanState}
-use Rattle.pl_semantics.specs.PlanStates.{end_at, numbered, of_found, served_by}
+use Rattle.pl_semantics.specs.PlanStates.{end_at, found, numbered, of_found, served_by}
 use Rattle.pl_semantics.specs.Moves.{alternatives_at}
 use Rattle.pl_semantics.specs.Starts.{steps_from, stride_of, spread, starting, shift_to, floor_at, last_of, window_of, places_of, shifts_of, above_it, delete_root, moves_of, adds_of, help_until, helpers}
 use Rattle.pl_semantics.specs.Repairs.{for_goal, for_undetailed, end_by}
 use Rattle.pl_semantics.specs.LineRepairs.{around, first_eight}
+use Rattle.pl_cand.specs.ById.{around_id}
 use Rattle.pl_model.specs.declared.reservations.Reservation.{Reservation}
 
 pub few_taken : {X : Type 0} (n : ℕ) (xs : List X) → length (take n xs) ≤ n
@@ -130,3 +131,8 @@ module _ (s : PlanState) where
 
   pub users_few : (ids : List ℕ) (test : Activity → Bool) → ids ≡ map id_of (first_eight s test) → length ids ≤ 8
   users_few ids test is = rw (is, length-map (first_eight s test) id_of) (few_taken 8 _)
+
+  pub around_all_few : (a b : ℕ) (ids : List ℕ) → length ids ≤ 8 → length (flat_map (around_id s a b) ids) ≤ 16
+  around_all_few a b ids few =
+      let each : length (flat_map (around_id s a b) ids) ≤ 2 * length ids = pieces_few (around_id s a b) 2 (λ id. around_few a b (found s id)) ids in
+      omega (arith, each, few)

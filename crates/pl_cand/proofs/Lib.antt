@@ -13,3 +13,4 @@ pub mod Marking
 pub mod Starting
 pub mod Few
 pub mod Behind
+pub mod Levelling

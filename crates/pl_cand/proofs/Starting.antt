@@ -129,6 +129,9 @@ module _ (s : PlanState) where
   moves_any (repair.Assign id param value) a = deletes_alone (repair.Assign id param value) a (λ i n. refl)
   moves_any (repair.Drop number) a = deletes_alone (repair.Drop number) a (λ i n. refl)
 
+  pub move_stands : (m : RepairMove) (a : Activity) → is_move_of s a m ≡ list_any (same_move m) (moves_of s a)
+  move_stands m a = sym (moves_any m a)
+
   -- ---- the moves for a goal
 
   serving_last : (g : Goal) (m : RepairMove) → list_any (same_move m) (for_goal s g) ≡ (list_any (same_move m) (flat_map (starting s (λ start. repair.Add g.kind start (Some g.number))) (spread (int_max (pos g.earliest) (floor_at s)) (int_min (pos g.latest) (last_of s)))) || same_move m (repair.Drop g.number))

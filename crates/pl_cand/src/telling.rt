@@ -22,6 +22,7 @@ use crate::shifting::{is_for_goal, is_for_undetailed, is_move_of};
 use crate::told::Told;
 use crate::users::first_users;
 use pl_conflict::{Code, Conflict};
+use pl_facts::Goal;
 use pl_plan::{Activity, RepairMove};
 use pl_semantics::PlanState;
 use std::alloc::{AllocError, Global};
@@ -45,14 +46,29 @@ fn told_of_few(is: bool) -> Told
     if is { Told::Early } else { Told::Untried }
 }
 
+fn told_for_goal(state: &PlanState, goal: &Goal, mv: &RepairMove) -> Told
+    requires { IsWhole state.now }
+    ensures { Tells (for_goal state.now goal.now) mv.now result }
+{
+    told_of_few(is_for_goal(state, goal, mv))
+}
+
 fn told_of_goal(state: &PlanState, number: u32, mv: &RepairMove) -> Told
     requires { IsWhole state.now }
     ensures { Tells (of_found (for_goal state.now) (goal_at state.now number)) mv.now result }
 {
     match state.goals.get(number) {
-        Some(goal) => told_of_few(is_for_goal(state, goal, mv)),
+        Some(goal) => told_for_goal(state, goal, mv),
         None => Told::Untried,
     }
+}
+
+fn told_for_moves(state: &PlanState, a: &Activity, mv: &RepairMove) -> Told
+    requires whole { IsWhole state.now }
+    requires live { activity_of a.now.id state.now.plan.activities ≡ Some a.now }
+    ensures { Tells (moves_of state.now a.now) mv.now result }
+{
+    told_of_few(is_move_of(state, a, mv))
 }
 
 fn told_of_moves(state: &PlanState, id: u32, mv: &RepairMove) -> Told
@@ -60,9 +76,17 @@ fn told_of_moves(state: &PlanState, id: u32, mv: &RepairMove) -> Told
     ensures { Tells (moves_of_id state.now id) mv.now result }
 {
     match state.live(id) {
-        Some(a) => told_of_few(is_move_of(state, a, mv)),
+        Some(a) => told_for_moves(state, a, mv),
         None => Told::Untried,
     }
+}
+
+fn told_for_undetailed(state: &PlanState, a: &Activity, mv: &RepairMove) -> Told
+    requires whole { IsWhole state.now }
+    requires live { activity_of a.now.id state.now.plan.activities ≡ Some a.now }
+    ensures { Tells (for_undetailed state.now a.now) mv.now result }
+{
+    told_of_few(is_for_undetailed(state, a, mv))
 }
 
 fn told_of_undetailed(state: &PlanState, id: u32, mv: &RepairMove) -> Told
@@ -70,7 +94,7 @@ fn told_of_undetailed(state: &PlanState, id: u32, mv: &RepairMove) -> Told
     ensures { Tells (of_found (for_undetailed state.now) (found state.now id)) mv.now result }
 {
     match state.live(id) {
-        Some(a) => told_of_few(is_for_undetailed(state, a, mv)),
+        Some(a) => told_for_undetailed(state, a, mv),
         None => Told::Untried,
     }
 }
@@ -107,6 +131,7 @@ fn most_moves_of_id(state: &PlanState, id: u32) -> usize
     }
 }
 
+#[tactic(auto, using(crate::proofs::Starting::move_stands))]
 fn is_move_of_id(state: &PlanState, id: u32, mv: &RepairMove) -> bool
     requires { IsWhole state.now }
     ensures { result ≡ list_any (same_move mv.now) (moves_of_id state.now id) }
@@ -198,7 +223,8 @@ fn told_low(
     if is_addition(mv) {
         return Ok(Told::Unknown);
     }
-    told_of_level(alloc, state, k.subject, k.b, Way::Down, mv)
+    let told = told_of_level(alloc, state, k.subject, k.b, Way::Down, mv)?;
+    Ok(told)
 }
 
 fn told_high(
@@ -213,7 +239,8 @@ fn told_high(
     if is_addition(mv) {
         return Ok(Told::Unknown);
     }
-    told_of_level(alloc, state, k.subject, k.b, Way::Up, mv)
+    let told = told_of_level(alloc, state, k.subject, k.b, Way::Up, mv)?;
+    Ok(told)
 }
 
 /// What is told of a move without listing all that is tried for the conflict.
