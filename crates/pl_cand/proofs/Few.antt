@@ -11,14 +11,15 @@ use Rattle.pl_model.specs.declared.kinds.Kind.{Kind}
 use Rattle.pl_plan.specs.declared.activity.Activity.{Activity}
 use Rattle.pl_plan.specs.declared.repair.RepairMove.{RepairMove}
 use Rattle.pl_plan.specs.declared.repair.RepairMove.TheVariants as repair
-use Rattle.pl_plan.specs.Trees.{id_of}
 use Rattle.pl_semantics.specs.declared.plan_state.PlanState.{PlanState}
-use Rattle.pl_semantics.specs.PlanStates.{end_at, found, numbered, of_found, served_by}
+use Rattle.pl_semantics.specs.PlanStates.{end_at, numbered, of_found, served_by}
 use Rattle.pl_semantics.specs.Moves.{alternatives_at}
 use Rattle.pl_semantics.specs.Starts.{steps_from, stride_of, spread, starting, shift_to, floor_at, last_of, window_of, places_of, shifts_of, above_it, delete_root, moves_of, adds_of, help_until, helpers}
 use Rattle.pl_semantics.specs.Repairs.{for_goal, for_undetailed, end_by}
-use Rattle.pl_semantics.specs.LineRepairs.{around, first_eight}
-use Rattle.pl_cand.specs.ById.{around_id}
+use Rattle.pl_semantics.specs.LineRepairs.{around}
+use Rattle.pl_cand.specs.declared.role.Role.{Role}
+use Rattle.pl_cand.specs.declared.role.Role.TheVariants as role
+use Rattle.pl_cand.specs.Telling.{away}
 use Rattle.pl_model.specs.declared.reservations.Reservation.{Reservation}
 
 pub few_taken : {X : Type 0} (n : ℕ) (xs : List X) → length (take n xs) ≤ n
@@ -103,9 +104,8 @@ module _ (s : PlanState) where
       cases None = omega arith
       cases (Some end) = one_few (shift_to a.id) (moment -ℤ (pos end -ℤ pos a.start))
 
-  pub around_few : (a b : ℕ) (o : Option Activity) → length (of_found (around s a b) o) ≤ 2
-  around_few a b None = omega arith
-  around_few a b (Some user) = rw (length-append (starting s (shift_to user.id) (pos b)) (end_by s user (pos a))) (omega (arith, one_few (shift_to user.id) (pos b), end_few user (pos a)))
+  around_few : (a b : ℕ) (user : Activity) → length (around s a b user) ≤ 2
+  around_few a b user = rw (length-append (starting s (shift_to user.id) (pos b)) (end_by s user (pos a))) (omega (arith, one_few (shift_to user.id) (pos b), end_few user (pos a)))
 
   numbered_count : (n : ℕ) (xs : List Alternative) → length (numbered n xs) ≡ length xs
   numbered_count n [] = refl
@@ -129,10 +129,12 @@ module _ (s : PlanState) where
       let four : length (helpers s test) ≤ 4 = few_taken 4 _ in
       omega (arith, each, four)
 
-  pub users_few : (ids : List ℕ) (test : Activity → Bool) → ids ≡ map id_of (first_eight s test) → length ids ≤ 8
-  users_few ids test is = rw (is, length-map (first_eight s test) id_of) (few_taken 8 _)
+  away_few : (part : Role) (x : Activity) → length (away s part x) ≤ 2
+  away_few (role.Uses a b) x = around_few a b x
+  away_few (role.ChangesBelow b way) x = omega arith
 
-  pub around_all_few : (a b : ℕ) (ids : List ℕ) → length ids ≤ 8 → length (flat_map (around_id s a b) ids) ≤ 16
-  around_all_few a b ids few =
-      let each : length (flat_map (around_id s a b) ids) ≤ 2 * length ids = pieces_few (around_id s a b) 2 (λ id. around_few a b (found s id)) ids in
-      omega (arith, each, few)
+  pub away_all_few : (part : Role) (xs : List Activity) → length (flat_map (away s part) (take 8 xs)) ≤ 16
+  away_all_few part xs =
+      let each : length (flat_map (away s part) (take 8 xs)) ≤ 2 * length (take 8 xs) = pieces_few (away s part) 2 (away_few part) (take 8 xs) in
+      let eight : length (take 8 xs) ≤ 8 = few_taken 8 xs in
+      omega (arith, each, eight)

@@ -13,4 +13,3 @@ pub mod Marking
 pub mod Starting
 pub mod Few
 pub mod Behind
-pub mod Levelling

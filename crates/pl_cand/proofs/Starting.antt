@@ -28,7 +28,7 @@ use Rattle.pl_cand.specs.Telling.{may_start, is_shift_to, is_shift_of, is_move_o
 
 -- ---- piece by piece
 
-pub any_piece : {X : Type 0} (P : RepairMove → Bool) (f : X → List RepairMove) (n : X) (ns : List X) → list_any P (flat_map f (n ∷ ns)) ≡ (list_any P (f n) || list_any P (flat_map f ns))
+any_piece : {X : Type 0} (P : RepairMove → Bool) (f : X → List RepairMove) (n : X) (ns : List X) → list_any P (flat_map f (n ∷ ns)) ≡ (list_any P (f n) || list_any P (flat_map f ns))
 any_piece P f n ns = list_any-append P (f n) (flat_map f ns)
 
 -- ---- one start

@@ -1,8 +1,8 @@
 -- What is told of a move without listing all that is tried.
-use Rattle.std.specs.Prelude.{◌≡◌, ◌≤◌, ◌==◌, ℕ, nat_lt, nat_le, Bool, true, false, ◌&&◌, ◌||◌, ℤ, pos, List, ◌++◌, length, take, Some}
+use Rattle.std.specs.Prelude.{◌≡◌, ◌≤◌, ◌==◌, ◌+◌, ℕ, nat_lt, nat_le, Bool, true, false, ◌&&◌, ◌||◌, ℤ, pos, List, [], ◌++◌, length, filter, take, Some, if◌then◌else◌}
 use Rattle.std.specs.Int.{int_min, int_max}
 use Rattle.std.specs.Ordering.{int_eq}
-use Rattle.std.specs.List.{list_any}
+use Rattle.std.specs.List.{flat_map, list_any}
 use Rattle.pl_facts.specs.declared.goal.Goal.{Goal}
 use Rattle.pl_plan.specs.declared.activity.Activity.{Activity}
 use Rattle.pl_plan.specs.declared.repair.RepairMove.{RepairMove}
@@ -10,9 +10,13 @@ use Rattle.pl_plan.specs.declared.repair.RepairMove.TheVariants.{Add, Delete, De
 use Rattle.pl_plan.specs.Trees.{root_of}
 use Rattle.pl_semantics.specs.declared.plan_state.PlanState.{PlanState}
 use Rattle.pl_semantics.specs.PlanStates.{of_found}
-use Rattle.pl_semantics.specs.Starts.{above_it, floor_at, last_of, places_of, shifts_of, spread}
+use Rattle.pl_semantics.specs.Starts.{above_it, floor_at, last_of, moves_of, places_of, shifts_of, spread}
+use Rattle.pl_semantics.specs.LineRepairs.{around}
 use Rattle.pl_semantics.specs.Moves.{alternatives_at}
 use Rattle.pl_semantics.specs.Candidates.{same_move, same_number}
+use Rattle.pl_cand.specs.Tests.{is_user}
+use Rattle.pl_cand.specs.declared.role.Role.{Role}
+use Rattle.pl_cand.specs.declared.role.Role.TheVariants as role
 use Rattle.pl_cand.specs.declared.told.Told.{Told}
 use Rattle.pl_cand.specs.declared.told.Told.TheVariants as told
 
@@ -24,9 +28,28 @@ Tells tried m told.Early = list_any (same_move m) (take 256 tried) ≡ true
 Tells tried m told.Untried = list_any (same_move m) tried ≡ false
 Tells tried m told.Unknown = Unit {0}
 
--- the same behind so many moves at most, none of which is the move
-abbrev pub TellsBehind : ℕ → List RepairMove → RepairMove → Told → Type 0
-TellsBehind before tried m t = (first : List RepairMove) → length first ≤ before → list_any (same_move m) first ≡ false → Tells (first ++ tried) m t
+-- what is told of a move that stands among so many
+abbrev pub told_within : ℕ → Told
+told_within most = if nat_le most 256 then told.Early else told.Unknown
+
+-- ---- the users of a timeline
+
+-- the first eight that are not committed and play the role
+abbrev pub players_of : PlanState → ℕ → Role → List Activity
+players_of s line part = take 8 (filter (is_user s line part) s.plan.activities)
+
+-- the shifts of a user away from the span, where there is one
+abbrev pub away : PlanState → Role → Activity → List RepairMove
+away s (role.Uses a b) x = around s a b x
+away s (role.ChangesBelow b w) x = []
+
+-- what is told where of the users some were looked at, none of whose moves is the move, and so many moves stand before those
+-- of the rest
+abbrev pub TellsRest : PlanState → Role → RepairMove → ℕ → List Activity → Told → Type 0
+TellsRest s part m most rest t = (help : List RepairMove) (done : List Activity)
+    → length help + (length (flat_map (away s part) (done ++ rest)) + length (flat_map (moves_of s) done)) ≤ most
+    → list_any (same_move m) (help ++ (flat_map (away s part) done ++ flat_map (moves_of s) done)) ≡ false
+    → Tells (help ++ (flat_map (away s part) (done ++ rest) ++ flat_map (moves_of s) (done ++ rest))) m t
 
 -- ---- which moves there are
 

@@ -1,12 +1,11 @@
 //! Whether a move shifts an activity away from a span, told without listing these shifts.
 ghost use Rattle.std.specs.Prelude.{◌≡◌, pos, Some};
-ghost use Rattle.std.specs.List.{flat_map, list_any};
+ghost use Rattle.std.specs.List.{list_any};
 ghost use Rattle.pl_plan.specs.Activities.{activity_of};
 ghost use Rattle.pl_semantics.specs.Whole.{IsWhole};
 ghost use Rattle.pl_semantics.specs.Repairs.{end_by};
 ghost use Rattle.pl_semantics.specs.LineRepairs.{around};
 ghost use Rattle.pl_semantics.specs.Candidates.{same_move};
-ghost use Rattle.pl_cand.specs.ById.{around_id};
 
 use crate::reading::end_of;
 use crate::starts::is_shift_to;
@@ -29,42 +28,18 @@ fn is_end_by(state: &PlanState, a: &Activity, moment: u32, mv: &RepairMove) -> b
     }
 }
 
-// Whether a move is the shift of a live activity to a start behind the span, or to an end before it.
+/// Whether a move is the shift of a live activity to a start behind the span, or to an end before it.
 #[tactic(auto, using(crate::proofs::Starting::around_stands))]
-fn is_around(state: &PlanState, user: &Activity, a: u32, b: u32, mv: &RepairMove) -> bool
+pub(crate) fn is_around(
+    state: &PlanState,
+    user: &Activity,
+    a: u32,
+    b: u32,
+    mv: &RepairMove,
+) -> bool
     requires whole { IsWhole state.now }
     requires live { activity_of user.now.id state.now.plan.activities ≡ Some user.now }
     ensures { result ≡ list_any (same_move mv.now) (around state.now a b user.now) }
 {
     is_shift_to(state, user.id, i64::from(b), mv) || is_end_by(state, user, a, mv)
-}
-
-fn is_around_id(state: &PlanState, id: u32, a: u32, b: u32, mv: &RepairMove) -> bool
-    requires { IsWhole state.now }
-    ensures { result ≡ list_any (same_move mv.now) (around_id state.now a b id) }
-{
-    match state.live(id) {
-        Some(user) => is_around(state, user, a, b, mv),
-        None => false,
-    }
-}
-
-/// Whether a move is the shift of one of these activities to a start behind the span, or to an end before it.
-#[tactic(auto, using(crate::proofs::Starting::any_piece))]
-pub(crate) fn is_around_any(
-    state: &PlanState,
-    ids: &[u32],
-    a: u32,
-    b: u32,
-    mv: &RepairMove,
-) -> bool
-    requires { IsWhole state.now }
-    ensures { result ≡ list_any (same_move mv.now) (flat_map (around_id state.now a b) ids.now) }
-{
-    for id in ids {
-        if is_around_id(state, *id, a, b, mv) {
-            return true;
-        }
-    }
-    false
 }

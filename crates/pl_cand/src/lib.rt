@@ -19,6 +19,7 @@ mod proposal;
 mod reading;
 mod repairs;
 mod role;
+mod seeking;
 mod sharing;
 mod shifting;
 mod starts;

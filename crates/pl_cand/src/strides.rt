@@ -70,7 +70,7 @@ fn is_among_steps(low: i64, high: i64, step: u64, most: u32, number: i64) -> boo
     let mut next = low;
     let mut left = most;
     while left > 0 {
-        if high < next {
+        if next > high {
             return false;
         }
         if number == next {

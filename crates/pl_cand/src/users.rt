@@ -226,7 +226,8 @@ fn plays(
     }
 }
 
-fn is_user(
+/// Whether the activity is not committed and plays the role.
+pub(crate) fn is_user(
     alloc: Global,
     state: &PlanState,
     timeline: u32,

@@ -1,23 +1,18 @@
-use Rattle.std.proofs.Common.{◌≡◌, ◌++◌, ◌∙◌, map, subst}
-use Rattle.std.specs.Prelude.{List}
-use Rattle.pl_plan.specs.Trees.{id_of}
+use Rattle.std.proofs.Common.{◌≡◌, ◌++◌, List, [], ◌∷◌, false, refl, subst, sym, ◌∙◌}
+use Rattle.std.specs.List.{flat_map}
+use Rattle.pl_plan.specs.declared.activity.Activity.{Activity}
 use Rattle.pl_plan.specs.declared.repair.RepairMove.{RepairMove}
-use Rattle.pl_semantics.specs.LineRepairs.{first_eight}
-use Rattle.pl_cand.specs.Telling.{Tells}
-use Rattle.pl_cand.specs.Tests.{changes_below}
-use Rattle.pl_cand.proofs.Few.{users_few}
-use Rattle.pl_cand.proofs.Levelling.{level_by_ids}
+use Rattle.pl_semantics.specs.Starts.{moves_of}
+use Rattle.pl_cand.specs.declared.role.Role.TheVariants.{ChangesBelow}
+use Rattle.pl_cand.specs.Telling.{Tells, away, is_addition, players_of}
+use Rattle.pl_cand.proofs.Behind.{nothing_away}
 use Rattle.pl_cand.proofs.telling.told_of_level.Goals as goal
 
-pub told_of_users-requires-clause-few : goal.told_of_users-requires-clause-few
-told_of_users-requires-clause-few c =
-    let s = c.args.state.now in
-    let test = changes_below c.args.way s c.args.timeline c.args.before in
-    users_few s c.as_slice.result.now test (c.as_slice.ensures.value ∙ c.in_ok-users.ensures)
-
 pub returns : goal.returns
-returns c = λ first short none.
+returns c = λ help few other.
     let s = c.args.state.now in
-    let test = changes_below c.args.way s c.args.timeline c.args.before in
-    let ids : c.as_slice.result.now ≡ map id_of (first_eight s test) = c.as_slice.ensures.value ∙ c.in_ok-users.ensures in
-    subst (λ (l : List RepairMove). Tells (first ++ l) c.args.mv.now c.told_of_users.result) (level_by_ids s c.requires test c.as_slice.result.now ids) (c.told_of_users.ensures first short none)
+    let k = c.args.k.now in
+    let m = c.args.mv.now in
+    let users : List Activity = players_of s k.subject (ChangesBelow k.b c.args.way) in
+    let none : is_addition m ≡ false = sym c.is_addition.ensures ∙ c.if-is_addition.false in
+    subst (λ (l : List RepairMove). Tells (help ++ (l ++ flat_map (moves_of s) users)) m c.in_ok-told.told) (nothing_away s k.b c.args.way users) (c.in_ok-told.ensures help few (other none))
