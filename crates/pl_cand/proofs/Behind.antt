@@ -2,7 +2,7 @@
 use Rattle.std.proofs.Common.{◌≡◌, ℕ, zero, suc, ◌+◌, ◌-◌, ◌<◌, ◌≤◌, Bool, true, false, List, [], ◌∷◌, ◌++◌, length, take, drop, get_or, drop-cons, append_assoc, append-nil, length-append, refl, sym, subst, ap, ◌∙◌, arith}
 use Rattle.std.specs.Prelude.{◌||◌, filter, nat_le, if◌then◌else◌}
 use Rattle.std.specs.List.{flat_map, list_any}
-use Rattle.std.proofs.lemmas.Bool.{leb-true, or_cases, or_from, or_parts, or_right}
+use Rattle.std.proofs.lemmas.Bool.{leb-true, or_from, or_parts, or_right}
 use Rattle.std.proofs.lemmas.Grind.{flat_map-append}
 use Rattle.std.proofs.lemmas.List.Folds.{list_any-append}
 use Rattle.pl_lists.proofs.Tests.{or_weaker}
@@ -19,7 +19,7 @@ use Rattle.pl_cand.specs.declared.told.Told.TheVariants as told
 use Rattle.pl_cand.specs.Tests.{is_user}
 use Rattle.pl_cand.specs.Telling.{Tells, TellsRest, away, told_within, players_of}
 use Rattle.pl_cand.proofs.Among.{all_short}
-use Rattle.pl_cand.proofs.Keeping.{none_more, nothing_left, one_more, one_past}
+use Rattle.pl_cand.proofs.Keeping.{none_more, nothing_left, one_more, one_past, take_empty}
 use Rattle.pl_cand.proofs.Few.{away_all_few}
 
 -- what stands in front stands among the first
@@ -38,6 +38,12 @@ any_three P h a b = list_any-append P h (a ++ b) ∙ ap (λ t. list_any P h || t
 pub nothing_away : (s : PlanState) (b : ℕ) (way : Way) (users : List Activity) → flat_map (away s (role.ChangesBelow b way)) users ≡ []
 nothing_away s b way [] = refl
 nothing_away s b way (x ∷ users) = nothing_away s b way users
+
+-- ---- the first eight users
+
+-- those of the rest that are among the first eight, where so many were found
+abbrev pub left : PlanState → Role → ℕ → ℕ → List Activity → List Activity
+left s part line found rest = take (8 - found) (filter (is_user s line part) rest)
 
 -- ---- one user more
 
@@ -122,26 +128,24 @@ module _ (s : PlanState) (part : Role) (m : RepairMove) where
   -- ---- the first eight users, one after another
 
   module _ (line : ℕ) where
-    abbrev pub left : ℕ → List Activity → List Activity
-    left found rest = take (8 - found) (filter (is_user s line part) rest)
-
-    pub from_all : (t : Told) → TellsRest s part m 80 (players_of s line part) t → (help : List RepairMove) → length help ≤ 64 → list_any (same_move m) help ≡ false → Tells (help ++ (flat_map (away s part) (players_of s line part) ++ flat_map (moves_of s) (players_of s line part))) m t
+    from_all : (t : Told) → TellsRest s part m 80 (players_of s line part) t → (help : List RepairMove) → length help ≤ 64 → list_any (same_move m) help ≡ false → Tells (help ++ (flat_map (away s part) (players_of s line part) ++ flat_map (moves_of s) (players_of s line part))) m t
     from_all t tells help few none =
         let shifts : length (flat_map (away s part) (players_of s line part)) ≤ 16 = away_all_few s part (filter (is_user s line part) s.plan.activities) in
-        tells help [] (omega (arith, few, shifts)) (ap (list_any (same_move m)) (append-nil help) ∙ none)
+        let short : length help + (length (flat_map (away s part) (players_of s line part)) + 0) ≤ 80 = omega (arith, few, shifts) in
+        tells help [] short (ap (list_any (same_move m)) (append-nil help) ∙ none)
 
-    module _ (acts : List Activity) (most found i : ℕ) (so_far : (t : Told) → TellsRest s part m most (left found (drop i acts)) t → TellsRest s part m 80 (left 0 acts) t) where
-      pub all_found : 8 ≤ found → TellsRest s part m 80 (left 0 acts) told.Untried
+    pub told_all : (acts : List Activity) → acts ≡ s.plan.activities → (t : Told) → TellsRest s part m 80 (left s part line 0 acts) t → (help : List RepairMove) → length help ≤ 64 → list_any (same_move m) help ≡ false → Tells (help ++ (flat_map (away s part) (players_of s line part) ++ flat_map (moves_of s) (players_of s line part))) m t
+    told_all acts same t tells help few none = from_all t (subst (λ (l : List Activity). TellsRest s part m 80 (left s part line 0 l) t) same tells) help few none
+
+    module _ (acts : List Activity) (most found i : ℕ) (so_far : (t : Told) → TellsRest s part m most (left s part line found (drop i acts)) t → TellsRest s part m 80 (left s part line 0 acts) t) where
+      pub all_found : 8 ≤ found → TellsRest s part m 80 (left s part line 0 acts) told.Untried
       all_found full = so_far told.Untried (subst (λ (l : List Activity). TellsRest s part m most l told.Untried) (sym (none_more (8 - found) (filter (is_user s line part) (drop i acts)) (omega (arith, full)))) (none_rest most))
 
-      pub all_seen : length acts ≤ i → TellsRest s part m 80 (left 0 acts) told.Untried
+      pub all_seen : length acts ≤ i → TellsRest s part m 80 (left s part line 0 acts) told.Untried
       all_seen past =
-          let empty : left found (drop i acts) ≡ [] = ap (λ (l : List Activity). take (8 - found) (filter (is_user s line part) l)) (nothing_left acts i past) ∙ take_nothing (8 - found) in
+          let none : filter (is_user s line part) (drop i acts) ≡ [] = ap (filter (is_user s line part)) (nothing_left acts i past) in
+          let empty : left s part line found (drop i acts) ≡ [] = take_empty (8 - found) (filter (is_user s line part) (drop i acts)) none in
           so_far told.Untried (subst (λ (l : List Activity). TellsRest s part m most l told.Untried) (sym empty) (none_rest most))
-        where
-          take_nothing : (n : ℕ) → take n [] ≡ []
-          take_nothing zero = refl
-          take_nothing (suc n) = refl
 
       module _ (x : Activity) (lt : i < length acts) (is : x ≡ get_or acts i x) where
         next : drop i acts ≡ x ∷ drop (i + 1) acts
@@ -149,21 +153,21 @@ module _ (s : PlanState) (part : Role) (m : RepairMove) where
             let more : suc i ≡ i + 1 = omega arith in
             drop-cons acts i x lt ∙ ap (λ y. y ∷ drop (suc i) acts) (sym is) ∙ ap (λ n. x ∷ drop n acts) more
 
-        pub no_user : is_user s line part x ≡ false → (t : Told) → TellsRest s part m most (left found (drop (i + 1) acts)) t → TellsRest s part m 80 (left 0 acts) t
+        pub no_user : is_user s line part x ≡ false → (t : Told) → TellsRest s part m most (left s part line found (drop (i + 1) acts)) t → TellsRest s part m 80 (left s part line 0 acts) t
         no_user other t tells =
-            let same : left found (drop i acts) ≡ left found (drop (i + 1) acts) = ap (left found) next ∙ one_past (is_user s line part) (8 - found) x (drop (i + 1) acts) other in
+            let same : left s part line found (drop i acts) ≡ left s part line found (drop (i + 1) acts) = ap (left s part line found) next ∙ one_past (is_user s line part) (8 - found) x (drop (i + 1) acts) other in
             so_far t (subst (λ (l : List Activity). TellsRest s part m most l t) (sym same) tells)
 
-        user_first : found < 8 → is_user s line part x ≡ true → left found (drop i acts) ≡ x ∷ left (found + 1) (drop (i + 1) acts)
+        user_first : found < 8 → is_user s line part x ≡ true → left s part line found (drop i acts) ≡ x ∷ left s part line (found + 1) (drop (i + 1) acts)
         user_first room user =
             let fewer : 8 - found - 1 ≡ 8 - (found + 1) = omega (arith, room) in
-            ap (left found) next ∙ one_more (is_user s line part) (8 - found) x (drop (i + 1) acts) (omega (arith, room)) user ∙ ap (λ n. x ∷ take n (filter (is_user s line part) (drop (i + 1) acts))) fewer
+            ap (left s part line found) next ∙ one_more (is_user s line part) (8 - found) x (drop (i + 1) acts) (omega (arith, room)) user ∙ ap (λ n. x ∷ take n (filter (is_user s line part) (drop (i + 1) acts))) fewer
 
-        pub user_past : (k : ℕ) → found < 8 → is_user s line part x ≡ true → length (moves_of s x) ≤ k → (list_any (same_move m) (away s part x) || list_any (same_move m) (moves_of s x)) ≡ false → (t : Told) → TellsRest s part m (most + k) (left (found + 1) (drop (i + 1) acts)) t → TellsRest s part m 80 (left 0 acts) t
+        pub user_past : (k : ℕ) → found < 8 → is_user s line part x ≡ true → length (moves_of s x) ≤ k → (list_any (same_move m) (away s part x) || list_any (same_move m) (moves_of s x)) ≡ false → (t : Told) → TellsRest s part m (most + k) (left s part line (found + 1) (drop (i + 1) acts)) t → TellsRest s part m 80 (left s part line 0 acts) t
         user_past k room user few none t tells =
             let parts = or_parts (list_any (same_move m) (away s part x)) (list_any (same_move m) (moves_of s x)) none in
-            so_far t (subst (λ (l : List Activity). TellsRest s part m most l t) (sym (user_first room user)) (past_user most k x (left (found + 1) (drop (i + 1) acts)) t few parts.0 parts.1 tells))
+            so_far t (subst (λ (l : List Activity). TellsRest s part m most l t) (sym (user_first room user)) (past_user most k x (left s part line (found + 1) (drop (i + 1) acts)) t few parts.0 parts.1 tells))
 
-        pub user_here : (k : ℕ) → found < 8 → is_user s line part x ≡ true → length (moves_of s x) ≤ k → (list_any (same_move m) (away s part x) || list_any (same_move m) (moves_of s x)) ≡ true → TellsRest s part m 80 (left 0 acts) (told_within (most + k))
+        pub user_here : (k : ℕ) → found < 8 → is_user s line part x ≡ true → length (moves_of s x) ≤ k → (list_any (same_move m) (away s part x) || list_any (same_move m) (moves_of s x)) ≡ true → TellsRest s part m 80 (left s part line 0 acts) (told_within (most + k))
         user_here k room user few some =
-            so_far (told_within (most + k)) (subst (λ (l : List Activity). TellsRest s part m most l (told_within (most + k))) (sym (user_first room user)) (here_user most k x (left (found + 1) (drop (i + 1) acts)) few some))
+            so_far (told_within (most + k)) (subst (λ (l : List Activity). TellsRest s part m most l (told_within (most + k))) (sym (user_first room user)) (here_user most k x (left s part line (found + 1) (drop (i + 1) acts)) few some))

@@ -33,7 +33,7 @@ pub none_more : {X : Type 0} (n : ℕ) (xs : List X) → n ≤ 0 → take n xs �
 none_more zero xs le = refl
 none_more (suc n) xs le = absurd (omega (arith, le))
 
-take_empty : {X : Type 0} (n : ℕ) (xs : List X) → xs ≡ [] → take n xs ≡ []
+pub take_empty : {X : Type 0} (n : ℕ) (xs : List X) → xs ≡ [] → take n xs ≡ []
 take_empty zero xs is = refl
 take_empty (suc n) xs is = rw is refl
 

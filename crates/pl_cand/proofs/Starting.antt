@@ -186,6 +186,9 @@ module _ (s : PlanState) where
       split true e y z v w same = same
       split false e y z v w same = refl
 
+  from_none : (i : Bool) (k n : ℕ) → (i && (nat_le 0 k && nat_lt k (0 + n))) ≡ (i && nat_lt k n)
+  from_none i k n = let same : (nat_le 0 k && nat_lt k (0 + n)) ≡ nat_lt k n = grind (arith, nat_tests) in ap (λ t. i && t) same
+
   after_details : (m : RepairMove) (a : Activity) → list_any (same_move m) (for_undetailed s a) ≡ (list_any (same_move m) (map (λ (k : ℕ × Alternative). repair.Detail a.id k.0) (numbered 0 (alternatives_at s a))) || same_move m (repair.Delete (root_of a.id s.plan.activities)))
   after_details m a =
       list_any-append (same_move m) (map (λ (k : ℕ × Alternative). repair.Detail a.id k.0) (numbered 0 (alternatives_at s a))) (delete_root s a)
@@ -199,6 +202,7 @@ module _ (s : PlanState) where
       after_details (repair.Detail id alternative) a
       ∙ or-false (list_any (same_move (repair.Detail id alternative)) (map (λ (k : ℕ × Alternative). repair.Detail a.id k.0) (numbered 0 (alternatives_at s a))))
       ∙ detail_at a id alternative 0 (alternatives_at s a)
+      ∙ from_none (eqb id a.id) alternative (length (alternatives_at s a))
   undetailed_any (repair.Delete id) a = root_alone (repair.Delete id) a (λ n. refl)
   undetailed_any (repair.Add kind start goal) a = root_alone (repair.Add kind start goal) a (λ n. refl)
   undetailed_any (repair.Shift id start) a = root_alone (repair.Shift id start) a (λ n. refl)
