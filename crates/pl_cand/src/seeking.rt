@@ -14,13 +14,10 @@ use crate::cuts::MOST;
 use crate::role::Role;
 use crate::shifting::is_move_of;
 use crate::told::Told;
-use crate::users::is_user;
+use crate::users::{USERS, is_user};
 use pl_plan::{Activity, RepairMove};
 use pl_semantics::PlanState;
 use std::alloc::{AllocError, Global};
-
-/// How many users of a timeline are moved, at most.
-const USERS: usize = 8;
 
 /// How many moves stand before those of the users, at most: 64 that help, and two shifts of each user away from a span.
 const BEFORE: usize = 80;

@@ -20,7 +20,7 @@ use pl_semantics::PlanState;
 use std::alloc::{AllocError, Global};
 
 /// How many activities are shifted away, at most.
-const MOST: usize = 8;
+pub(crate) const USERS: usize = 8;
 
 fn amount_in(amount: &Expr, values: &[Option<i64>]) -> i64
     requires { NamesBelow (length values.now) amount.now }
@@ -278,7 +278,7 @@ pub(crate) fn first_users(
 {
     let mut ids = Vec::new(alloc);
     for a in state.plan.activities() {
-        if ids.len() >= MOST {
+        if ids.len() >= USERS {
             return Ok(ids);
         }
         add_if_user(alloc, state, timeline, role, a, &mut ids)?;
