@@ -1,10 +1,10 @@
 -- Which moves stand among those that are tried.
 use Rattle.std.proofs.Common.{◌≡◌, ℕ, zero, suc, ◌+◌, eqb, Bool, true, false, List, [], ◌∷◌, ◌++◌, length, map, Option, Some, None, ℤ, pos, refl, sym, ap, ◌∙◌, arith}
-use Rattle.std.specs.Prelude.{◌&&◌, ◌||◌, nat_lt, nat_le, negsuc, if◌then◌else◌}
+use Rattle.std.specs.Prelude.{◌&&◌, ◌||◌, nat_lt, nat_le, negsuc, ◌-ℤ◌, if◌then◌else◌}
 use Rattle.std.specs.Int.{int_min, int_max}
 use Rattle.std.specs.List.{flat_map, list_any}
 use Rattle.std.specs.Ordering.{int_eq}
-use Rattle.std.proofs.lemmas.Bool.{eqb-true, leb-true, ltb-true}
+use Rattle.std.proofs.lemmas.Bool.{eqb-true, leb-true, ltb-true, or_from}
 use Rattle.std.proofs.lemmas.Int.{ints}
 use Rattle.std.proofs.lemmas.List.Folds.{list_any-append}
 use Rattle.std.proofs.Math.Bool.{and-false, or-false}
@@ -18,13 +18,13 @@ use Rattle.pl_plan.specs.declared.repair.RepairMove.{RepairMove}
 use Rattle.pl_plan.specs.declared.repair.RepairMove.TheVariants as repair
 use Rattle.pl_plan.specs.Trees.{root_of}
 use Rattle.pl_semantics.specs.declared.plan_state.PlanState.{PlanState}
-use Rattle.pl_semantics.specs.PlanStates.{found, numbered, of_found}
+use Rattle.pl_semantics.specs.PlanStates.{end_at, numbered, of_found}
 use Rattle.pl_semantics.specs.Starts.{spread, starting, shift_to, floor_at, last_of, places_of, shifts_of, above_it, delete_root, moves_of, adds_of, help_until}
 use Rattle.pl_semantics.specs.Moves.{alternatives_at}
 use Rattle.pl_semantics.specs.Repairs.{for_goal, for_undetailed, end_by}
 use Rattle.pl_semantics.specs.LineRepairs.{around}
 use Rattle.pl_semantics.specs.Candidates.{same_move, same_number}
-use Rattle.pl_cand.specs.Telling.{may_start, is_shift_to, is_shift_of, is_move_of, is_for_goal, is_for_undetailed, is_addition}
+use Rattle.pl_cand.specs.Telling.{may_start, is_shift_to, is_shift_of_id, is_shift_of, is_move_of, is_for_goal, is_for_undetailed, is_addition}
 
 -- ---- piece by piece
 
@@ -97,6 +97,27 @@ module _ (s : PlanState) where
   around_stands m a b user =
       ap (λ t. t || list_any (same_move m) (end_by s user (pos a))) (shift_to_stands m user.id (pos b))
       ∙ sym (list_any-append (same_move m) (starting s (shift_to user.id) (pos b)) (end_by s user (pos a)))
+
+  other_shift : (m : RepairMove) (a : ℕ) (to : ℤ) → is_shift_of_id a m ≡ false → list_any (same_move m) (starting s (shift_to a) to) ≡ false
+  other_shift m a to other = shift_to_any m a to ∙ by m other
+    where
+      by : (m : RepairMove) → is_shift_of_id a m ≡ false → is_shift_to s a to m ≡ false
+      by (repair.Shift id start) other = rw other refl
+      by (repair.Delete id) other = refl
+      by (repair.Add kind start goal) other = refl
+      by (repair.Detail id alternative) other = refl
+      by (repair.Abstract id) other = refl
+      by (repair.Assign id param value) other = refl
+      by (repair.Drop number) other = refl
+
+  pub around_other : (m : RepairMove) (a b : ℕ) (user : Activity) → is_shift_of_id user.id m ≡ false → false ≡ list_any (same_move m) (around s a b user)
+  around_other m a b user other =
+      sym (list_any-append (same_move m) (starting s (shift_to user.id) (pos b)) (end_by s user (pos a))
+      ∙ or_from (list_any (same_move m) (starting s (shift_to user.id) (pos b))) (list_any (same_move m) (end_by s user (pos a))) (other_shift m user.id (pos b) other) (ends (end_at s user)))
+    where
+      ends : (o : Option ℕ) → list_any (same_move m) (of_found (λ end. starting s (shift_to user.id) (pos a -ℤ (pos end -ℤ pos user.start))) o) ≡ false
+      ends None = refl
+      ends (Some end) = other_shift m user.id (pos a -ℤ (pos end -ℤ pos user.start)) other
 
   module _ (m : RepairMove) (other : (id n : ℕ) → same_move m (repair.Shift id n) ≡ false) where
     no_shift : (a : Activity) → list_any (same_move m) (shifts_of s a) ≡ false

@@ -73,6 +73,11 @@ is_for_goal s g (Add kind start goal) = (((kind == g.kind) && same_number goal (
 is_for_goal s g (Drop number) = number == g.number
 is_for_goal s g _ = false
 
+-- a shift of this activity
+abbrev pub is_shift_of_id : ℕ → RepairMove → Bool
+is_shift_of_id a (Shift id start) = id == a
+is_shift_of_id a _ = false
+
 -- the shift of this activity to this start
 abbrev pub is_shift_to : PlanState → ℕ → ℤ → RepairMove → Bool
 is_shift_to s a to (Shift id start) = ((id == a) && may_start s start) && int_eq (pos start) to

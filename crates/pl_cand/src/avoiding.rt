@@ -6,6 +6,7 @@ ghost use Rattle.pl_semantics.specs.Whole.{IsWhole};
 ghost use Rattle.pl_semantics.specs.Repairs.{end_by};
 ghost use Rattle.pl_semantics.specs.LineRepairs.{around};
 ghost use Rattle.pl_semantics.specs.Candidates.{same_move};
+ghost use Rattle.pl_cand.specs.Telling.{is_shift_of_id};
 
 use crate::reading::end_of;
 use crate::starts::is_shift_to;
@@ -28,8 +29,27 @@ fn is_end_by(state: &PlanState, a: &Activity, moment: u32, mv: &RepairMove) -> b
     }
 }
 
-/// Whether a move is the shift of a live activity to a start behind the span, or to an end before it.
+// Whether a move is the shift of an activity to a start behind the span, or to an end before it.
 #[tactic(auto, using(crate::proofs::Starting::around_stands))]
+fn is_shift_around(state: &PlanState, user: &Activity, a: u32, b: u32, mv: &RepairMove) -> bool
+    requires whole { IsWhole state.now }
+    requires live { activity_of user.now.id state.now.plan.activities ≡ Some user.now }
+    ensures { result ≡ list_any (same_move mv.now) (around state.now a b user.now) }
+{
+    is_shift_to(state, user.id, i64::from(b), mv) || is_end_by(state, user, a, mv)
+}
+
+fn is_shift_of_id(mv: &RepairMove, user: u32) -> bool
+    ensures { result ≡ is_shift_of_id user mv.now }
+{
+    match *mv {
+        RepairMove::Shift { id, .. } => id == user,
+        _ => false,
+    }
+}
+
+/// Whether a move is the shift of a live activity to a start behind the span, or to an end before it. The end is worked
+/// out only for a shift of this activity.
 pub(crate) fn is_around(
     state: &PlanState,
     user: &Activity,
@@ -41,5 +61,8 @@ pub(crate) fn is_around(
     requires live { activity_of user.now.id state.now.plan.activities ≡ Some user.now }
     ensures { result ≡ list_any (same_move mv.now) (around state.now a b user.now) }
 {
-    is_shift_to(state, user.id, i64::from(b), mv) || is_end_by(state, user, a, mv)
+    if !is_shift_of_id(mv, user.id) {
+        return false;
+    }
+    is_shift_around(state, user, a, b, mv)
 }
