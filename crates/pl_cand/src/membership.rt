@@ -73,8 +73,24 @@ fn is_listed(
     is_left(alloc, state, all.as_slice(), mv)
 }
 
+// The same for a plan state, without a list where it can be told.
+fn is_candidate_in(
+    alloc: Global,
+    state: &PlanState,
+    k: &Conflict,
+    mv: &RepairMove,
+) -> Result<bool, AllocError>
+    requires { IsWhole state.now }
+    ensures { IfOk result (λ is. is ≡ list_any (same_move mv.now) (candidates_of state.now k.now)) }
+{
+    match told(alloc, state, k, mv)? {
+        Told::Early => Ok(is_worth(state, mv)),
+        Told::Untried => Ok(false),
+        Told::Unknown => is_listed(alloc, state, k, mv),
+    }
+}
+
 /// Whether the move is a candidate for the conflict.
-#[tactic(auto, using(crate::proofs::Among::early_candidate, crate::proofs::Among::never_candidate))]
 pub fn is_candidate(
     alloc: Global,
     board: &Board,
@@ -84,10 +100,5 @@ pub fn is_candidate(
     requires { board.now.spoiled ≡ false }
     ensures { IfOk result (λ is. is ≡ list_any (same_move mv.now) (candidates_of board.now.state k.now)) }
 {
-    let state = board.state();
-    match told(alloc, state, k, mv)? {
-        Told::Early => Ok(is_worth(state, mv)),
-        Told::Untried => Ok(false),
-        Told::Unknown => is_listed(alloc, state, k, mv),
-    }
+    is_candidate_in(alloc, board.state(), k, mv)
 }
