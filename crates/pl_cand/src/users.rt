@@ -226,7 +226,8 @@ fn plays(
     }
 }
 
-/// Whether the activity is not committed and plays the role.
+/// Whether the activity is not committed and plays the role. Each activity of a plan is asked, so no call is made for it.
+#[inline(always)]
 pub(crate) fn is_user(
     alloc: Global,
     state: &PlanState,
