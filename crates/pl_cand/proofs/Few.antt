@@ -74,11 +74,11 @@ module _ (s : PlanState) where
   found_few None = omega arith
   found_few (Some a) = shifts_few a
 
-  moves_count : (a : Activity) → length (moves_of s a) ≡ length (shifts_of s a) + (length (of_found (shifts_of s) (above_it s a)) + 1)
+  moves_count : (a : Activity) → length (moves_of s a) ≡ length (shifts_of s a) + length (of_found (shifts_of s) (above_it s a)) + 1
   unfolding moves_of
   moves_count a =
-      length-append (shifts_of s a) (of_found (shifts_of s) (above_it s a) ++ delete_root s a)
-      ∙ ap (λ n. length (shifts_of s a) + n) (length-append (of_found (shifts_of s) (above_it s a)) (delete_root s a))
+      length-append (shifts_of s a ++ of_found (shifts_of s) (above_it s a)) (delete_root s a)
+      ∙ ap (λ n. n + 1) (length-append (shifts_of s a) (of_found (shifts_of s) (above_it s a)))
 
   pub moves_few : (a : Activity) → length (moves_of s a) ≤ 35
   moves_few a = omega (arith, moves_count a, shifts_few a, found_few (above_it s a))

@@ -128,11 +128,11 @@ module _ (s : PlanState) where
     no_shift_above (Some a) = no_shift a
 
   -- among the three parts of its moves
-  three : (P : RepairMove → Bool) (a : Activity) → list_any P (moves_of s a) ≡ (list_any P (shifts_of s a) || (list_any P (of_found (shifts_of s) (above_it s a)) || list_any P (delete_root s a)))
+  three : (P : RepairMove → Bool) (a : Activity) → list_any P (moves_of s a) ≡ ((list_any P (shifts_of s a) || list_any P (of_found (shifts_of s) (above_it s a))) || list_any P (delete_root s a))
   unfolding moves_of
   three P a =
-      list_any-append P (shifts_of s a) (of_found (shifts_of s) (above_it s a) ++ delete_root s a)
-      ∙ ap (λ t. list_any P (shifts_of s a) || t) (list_any-append P (of_found (shifts_of s) (above_it s a)) (delete_root s a))
+      list_any-append P (shifts_of s a ++ of_found (shifts_of s) (above_it s a)) (delete_root s a)
+      ∙ ap (λ t. t || list_any P (delete_root s a)) (list_any-append P (shifts_of s a) (of_found (shifts_of s) (above_it s a)))
 
   deletes_alone : (m : RepairMove) (a : Activity) → ((id n : ℕ) → same_move m (repair.Shift id n) ≡ false) → list_any (same_move m) (moves_of s a) ≡ same_move m (repair.Delete (root_of a.id s.plan.activities))
   deletes_alone m a other =
@@ -142,7 +142,8 @@ module _ (s : PlanState) where
   pub moves_any : (m : RepairMove) (a : Activity) → list_any (same_move m) (moves_of s a) ≡ is_move_of s a m
   moves_any (repair.Shift id start) a =
       three (same_move (repair.Shift id start)) a
-      ∙ rw (shift_any a id start, or-false (list_any (same_move (repair.Shift id start)) (of_found (shifts_of s) (above_it s a)))) refl
+      ∙ or-false (list_any (same_move (repair.Shift id start)) (shifts_of s a) || list_any (same_move (repair.Shift id start)) (of_found (shifts_of s) (above_it s a)))
+      ∙ ap (λ t. t || list_any (same_move (repair.Shift id start)) (of_found (shifts_of s) (above_it s a))) (shift_any a id start)
   moves_any (repair.Delete id) a = deletes_alone (repair.Delete id) a (λ i n. refl)
   moves_any (repair.Add kind start goal) a = deletes_alone (repair.Add kind start goal) a (λ i n. refl)
   moves_any (repair.Detail id alternative) a = deletes_alone (repair.Detail id alternative) a (λ i n. refl)

@@ -4,6 +4,3 @@ use Rattle.pl_cand.proofs.telling.told_of_few.Goals as goal
 
 pub returns-then-is : goal.returns-then-is
 returns-then-is c = λ m tried few e. few_early m tried few (e ∙ c.if-is.true)
-
-pub returns-else-is : goal.returns-else-is
-returns-else-is c = λ m tried few e. e ∙ c.if-is.false
