@@ -6,7 +6,9 @@ use Rattle.std.specs.List.{list_any}
 use Rattle.std.proofs.lemmas.Bool.{or_right, or_from}
 use Rattle.pl_lists.proofs.Tests.{or_weaker}
 use Rattle.pl_plan.specs.declared.repair.RepairMove.{RepairMove}
-use Rattle.pl_semantics.specs.Candidates.{same_move, once_from}
+use Rattle.pl_conflict.specs.declared.conflict.Conflict.{Conflict}
+use Rattle.pl_semantics.specs.declared.plan_state.PlanState.{PlanState}
+use Rattle.pl_semantics.specs.Candidates.{candidates_of, is_worth, once_from, same_move, tried_for}
 use Rattle.pl_cand.proofs.Same.{one_move}
 
 either : (a b : Bool) → (a || b) ≡ true → (a ≡ true → b ≡ true) → b ≡ true
@@ -83,10 +85,26 @@ not_true false by = refl
 pub worthless_left : (W : RepairMove → Bool) (m : RepairMove) (xs : List RepairMove) → W m ≡ false → false ≡ list_any (same_move m) (take 256 (once_from [] (filter W xs)))
 worthless_left W m xs worthless = not_true (list_any (same_move m) (take 256 (once_from [] (filter W xs)))) (λ e. clash (W m) (tried W m 256 [] xs e).0 worthless)
 
+never_left : (W : RepairMove → Bool) (m : RepairMove) (xs : List RepairMove) → list_any (same_move m) xs ≡ false → false ≡ list_any (same_move m) (take 256 (once_from [] (filter W xs)))
+never_left W m xs none = not_true (list_any (same_move m) (take 256 (once_from [] (filter W xs)))) (λ e. clash (list_any (same_move m) xs) (tried W m 256 [] xs e).1 none)
+
 pub untried_left : (W : RepairMove → Bool) (m : RepairMove) (xs : List RepairMove) → length xs ≤ 256 → list_any (same_move m) (take 256 xs) ≡ false → false ≡ list_any (same_move m) (take 256 (once_from [] (filter W xs)))
-untried_left W m xs short none =
-    let here : list_any (same_move m) xs ≡ false = ap (λ (l : List RepairMove). list_any (same_move m) l) (sym (take_all 256 xs short)) ∙ none in
-    not_true (list_any (same_move m) (take 256 (once_from [] (filter W xs)))) (λ e. clash (list_any (same_move m) xs) (tried W m 256 [] xs e).1 here)
+untried_left W m xs short none = never_left W m xs (ap (λ (l : List RepairMove). list_any (same_move m) l) (sym (take_all 256 xs short)) ∙ none)
 
 pub all_short : (xs : List RepairMove) → length xs ≤ 256 → xs ≡ take 256 xs
 all_short xs short = sym (take_all 256 xs short)
+
+-- ---- candidates
+
+-- One of the first that are tried is a candidate where it makes sense and changes something.
+pub early_candidate : (s : PlanState) (k : Conflict) (m : RepairMove) → list_any (same_move m) (take 256 (tried_for s k k.code)) ≡ true → is_worth s m ≡ list_any (same_move m) (candidates_of s k)
+unfolding candidates_of
+early_candidate s k m is = by (is_worth s m) refl
+  where
+    by : (w : Bool) → is_worth s m ≡ w → w ≡ list_any (same_move m) (take 256 (once_from [] (filter (is_worth s) (tried_for s k k.code))))
+    by true worth = early_left (is_worth s) m (tried_for s k k.code) worth is
+    by false worthless = worthless_left (is_worth s) m (tried_for s k k.code) worthless
+
+pub never_candidate : (s : PlanState) (k : Conflict) (m : RepairMove) → list_any (same_move m) (tried_for s k k.code) ≡ false → false ≡ list_any (same_move m) (candidates_of s k)
+unfolding candidates_of
+never_candidate s k m none = never_left (is_worth s) m (tried_for s k k.code) none

@@ -33,7 +33,7 @@ pub none_more : {X : Type 0} (n : ℕ) (xs : List X) → n ≤ 0 → take n xs �
 none_more zero xs le = refl
 none_more (suc n) xs le = absurd (omega (arith, le))
 
-take_empty : {X : Type 0} (n : ℕ) (xs : List X) → xs ≡ [] → take n xs ≡ []
+pub take_empty : {X : Type 0} (n : ℕ) (xs : List X) → xs ≡ [] → take n xs ≡ []
 take_empty zero xs is = refl
 take_empty (suc n) xs is = rw is refl
 
@@ -113,7 +113,7 @@ stand_new P kept m xs room is fresh =
 pub stand_end : (P : RepairMove → Bool) (kept : List RepairMove) (xs : List RepairMove) → xs ≡ [] → standing P kept xs ≡ kept
 stand_end P kept xs is = rw (take_empty (256 - length kept) (once_after kept (filter P xs)) (rw is refl)) (append-nil kept)
 
-pub nothing_left : (xs : List RepairMove) (i : ℕ) → length xs ≤ i → drop i xs ≡ []
+pub nothing_left : {X : Type 0} (xs : List X) (i : ℕ) → length xs ≤ i → drop i xs ≡ []
 nothing_left [] zero le = refl
 nothing_left [] (suc i) le = refl
 nothing_left (x ∷ xs) zero le = absurd (omega (arith, le))

@@ -10,3 +10,6 @@ pub mod Small
 pub mod Search
 pub mod Proposed
 pub mod Marking
+pub mod Starting
+pub mod Few
+pub mod Behind

@@ -1,6 +1,8 @@
 -- Numbers stepped from a low one up to a high one.
-use Rattle.std.proofs.Common.{◌≡◌, ℕ, zero, suc, ◌-◌, ◌<◌, ◌≤◌, List, [], ◌∷◌, ◌++◌, append_assoc, refl, sym, ap, ◌∙◌, arith}
-use Rattle.std.specs.Prelude.{ℤ, pos, ◌+ℤ◌, ◌-ℤ◌, ◌≤ℤ◌, ◌<ℤ◌}
+use Rattle.std.proofs.Common.{◌≡◌, ℕ, zero, suc, ◌-◌, ◌<◌, ◌≤◌, Bool, false, List, [], ◌∷◌, ◌++◌, append_assoc, refl, sym, ap, ◌∙◌, arith}
+use Rattle.std.specs.List.{list_any}
+use Rattle.std.specs.Ordering.{int_eq}
+use Rattle.std.specs.Prelude.{◌||◌, ℤ, pos, ◌+ℤ◌, ◌-ℤ◌, ◌≤ℤ◌, ◌<ℤ◌}
 use Rattle.pl_lists.proofs.Numbers.{le_to_test, lt_to_test}
 use Rattle.pl_semantics.specs.PlanStates.{natural}
 use Rattle.pl_semantics.specs.Starts.{steps_from, stride, spread}
@@ -33,3 +35,16 @@ step_kept all more whole n low next high step is before on some le =
 pub spread_is : (low high : ℤ) (width step : ℕ) → width ≡ natural (high -ℤ low) → step ≡ stride width → steps_from 16 low high step ≡ spread low high
 unfolding spread
 spread_is low high width step wide far = rw (far, wide) refl
+
+-- ---- whether a number is one of them
+
+pub meet_past : (number low high : ℤ) (n step : ℕ) → high <ℤ low → list_any (int_eq number) (steps_from n low high step) ≡ false
+meet_past number low high n step gt = ap (list_any (int_eq number)) (step_past n low high step gt)
+
+-- past a step that is not the number
+pub meet_kept : (number : ℤ) (whole : Bool) (n : ℕ) (low next high : ℤ) (step : ℕ) → list_any (int_eq number) (steps_from n low high step) ≡ whole → int_eq number low ≡ false → next ≡ low +ℤ pos step → 0 < n → low ≤ℤ high → list_any (int_eq number) (steps_from (n - 1) next high step) ≡ whole
+meet_kept number whole n low next high step before other on some le =
+    let rest : List ℤ = steps_from (n - 1) (low +ℤ pos step) high step in
+    let later : list_any (int_eq number) (steps_from n low high step) ≡ list_any (int_eq number) rest =
+        ap (list_any (int_eq number)) (step_more n low high step some le) ∙ ap (λ t. t || list_any (int_eq number) rest) other in
+    rw on (sym later ∙ before)

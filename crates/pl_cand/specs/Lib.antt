@@ -14,3 +14,4 @@ pub mod Helping
 pub mod Cuts
 pub mod Proposals
 pub mod Marks
+pub mod Telling

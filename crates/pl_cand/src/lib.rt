@@ -2,6 +2,7 @@
 #![tactic(auto)]
 
 mod activities;
+mod avoiding;
 mod chooser;
 mod conflicts;
 mod cuts;
@@ -18,11 +19,15 @@ mod proposal;
 mod reading;
 mod repairs;
 mod role;
+mod seeking;
 mod sharing;
+mod shifting;
 mod starts;
 mod strides;
 mod stuck;
+mod telling;
 mod timelines;
+mod told;
 mod users;
 mod worth;
 

@@ -6,6 +6,8 @@ ghost use Rattle.pl_semantics.specs.Candidates.{candidates_of, is_worth, once_fr
 
 use crate::conflicts::tried;
 use crate::cuts::{MOST, cut, is_same};
+use crate::telling::told;
+use crate::told::Told;
 use crate::worth::is_worth;
 use pl_board::Board;
 use pl_conflict::Conflict;
@@ -55,8 +57,40 @@ fn is_left(
     Ok(is_among(mv, left.as_slice()))
 }
 
-/// Whether the move is a candidate for the conflict.
+// Whether the move is a candidate for the conflict, told by a list of all that are tried.
 #[tactic(auto, unfolding(pl_semantics::specs::Candidates::candidates_of))]
+fn is_listed(
+    alloc: Global,
+    state: &PlanState,
+    k: &Conflict,
+    mv: &RepairMove,
+) -> Result<bool, AllocError>
+    requires { IsWhole state.now }
+    ensures { IfOk result (λ is. is ≡ list_any (same_move mv.now) (candidates_of state.now k.now)) }
+{
+    let mut all = Vec::with_capacity(alloc, MOST)?;
+    tried(alloc, state, k, &mut all)?;
+    is_left(alloc, state, all.as_slice(), mv)
+}
+
+// The same for a plan state, without a list where it can be told.
+fn is_candidate_in(
+    alloc: Global,
+    state: &PlanState,
+    k: &Conflict,
+    mv: &RepairMove,
+) -> Result<bool, AllocError>
+    requires { IsWhole state.now }
+    ensures { IfOk result (λ is. is ≡ list_any (same_move mv.now) (candidates_of state.now k.now)) }
+{
+    match told(alloc, state, k, mv)? {
+        Told::Early => Ok(is_worth(state, mv)),
+        Told::Untried => Ok(false),
+        Told::Unknown => is_listed(alloc, state, k, mv),
+    }
+}
+
+/// Whether the move is a candidate for the conflict.
 pub fn is_candidate(
     alloc: Global,
     board: &Board,
@@ -66,8 +100,5 @@ pub fn is_candidate(
     requires { board.now.spoiled ≡ false }
     ensures { IfOk result (λ is. is ≡ list_any (same_move mv.now) (candidates_of board.now.state k.now)) }
 {
-    let state = board.state();
-    let mut all = Vec::with_capacity(alloc, MOST)?;
-    tried(alloc, state, k, &mut all)?;
-    is_left(alloc, state, all.as_slice(), mv)
+    is_candidate_in(alloc, board.state(), k, mv)
 }

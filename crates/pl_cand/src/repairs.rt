@@ -14,8 +14,8 @@ use pl_plan::{Activity, RepairMove};
 use pl_semantics::PlanState;
 use std::alloc::{AllocError, Global};
 
-// The goal that an activity serves.
-fn served_by<'s>(state: &'s PlanState, a: &Activity) -> Option<&'s Goal>
+/// The goal that an activity serves.
+pub(crate) fn served_by<'s>(state: &'s PlanState, a: &Activity) -> Option<&'s Goal>
     ensures { option_copied result ≡ served_by state.now a.now }
 {
     match (a.parent, a.goal) {
@@ -73,8 +73,8 @@ fn add_shifts_of(
     Ok(())
 }
 
-// The root above an activity, if it is not one itself.
-fn above_it<'s>(state: &'s PlanState, a: &Activity) -> Option<&'s Activity>
+/// The root above an activity, if it is not one itself.
+pub(crate) fn above_it<'s>(state: &'s PlanState, a: &Activity) -> Option<&'s Activity>
     requires whole { IsWhole state.now }
     requires live { activity_of a.now.id state.now.plan.activities ≡ Some a.now }
     ensures { option_copied result ≡ above_it state.now a.now }

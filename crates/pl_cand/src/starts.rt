@@ -5,6 +5,7 @@ ghost use Rattle.std.specs.Option.{option_map, option_to_list};
 ghost use Rattle.pl_plan.specs.declared.repair.RepairMove.{RepairMove};
 ghost use Rattle.pl_plan.specs.declared.repair.RepairMove.TheVariants.{Add};
 ghost use Rattle.pl_semantics.specs.Starts.{starting, shift_to};
+ghost use Rattle.pl_cand.specs.Telling.{is_shift_to, may_start};
 
 use pl_plan::RepairMove;
 use pl_semantics::PlanState;
@@ -81,4 +82,21 @@ pub(crate) fn add_news(
         add_new(state, kind, goal, *start, out)?;
     }
     Ok(())
+}
+
+/// Whether an activity may start then: from 1 to the last moment before the horizon.
+pub(crate) fn may_start(state: &PlanState, start: u32) -> bool
+    ensures { result ≡ may_start state.now start }
+{
+    1 <= start && start < state.model.get().horizon
+}
+
+/// Whether a move is the shift of an activity to a start, and it may start then.
+pub(crate) fn is_shift_to(state: &PlanState, a: u32, to: i64, mv: &RepairMove) -> bool
+    ensures { result ≡ is_shift_to state.now a to mv.now }
+{
+    match *mv {
+        RepairMove::Shift { id, start } => id == a && may_start(state, start) && i64::from(start) == to,
+        _ => false,
+    }
 }

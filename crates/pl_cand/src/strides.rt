@@ -1,5 +1,7 @@
 //! The numbers between two that are tried.
 ghost use Rattle.std.specs.Prelude.{◌≡◌, ◌≤◌, ◌-ℤ◌, IfOk};
+ghost use Rattle.std.specs.List.{list_any};
+ghost use Rattle.std.specs.Ordering.{int_eq};
 ghost use Rattle.pl_semantics.specs.PlanStates.{natural};
 ghost use Rattle.pl_semantics.specs.Starts.{spread, stride, steps_from};
 ghost use Rattle.pl_cand.specs.Near.{IsNear};
@@ -56,4 +58,35 @@ pub(crate) fn spread(alloc: Global, low: i64, high: i64) -> Result<Vec<i64>, All
     ensures { IfOk result (λ all. all.items ≡ spread low high) }
 {
     steps(alloc, low, high, stride(width(low, high)), MOST)
+}
+
+// Whether a number is one of those from a low one up to a high one, so many at most.
+fn is_among_steps(low: i64, high: i64, step: u64, most: u32, number: i64) -> bool
+    requires low { IsNear low }
+    requires high { IsNear high }
+    requires step { step ≤ 1000000000000 }
+    ensures { result ≡ list_any (int_eq number) (steps_from most low high step) }
+{
+    let mut next = low;
+    let mut left = most;
+    while left > 0 {
+        if next > high {
+            return false;
+        }
+        if number == next {
+            return true;
+        }
+        next += step as i64;
+        left -= 1;
+    }
+    false
+}
+
+/// Whether a number is one of those from `low` to `high` that are tried.
+pub(crate) fn is_step(low: i64, high: i64, number: i64) -> bool
+    requires low { IsNear low }
+    requires high { IsNear high }
+    ensures { result ≡ list_any (int_eq number) (spread low high) }
+{
+    is_among_steps(low, high, stride(width(low, high)), MOST, number)
 }

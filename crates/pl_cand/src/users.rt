@@ -20,7 +20,7 @@ use pl_semantics::PlanState;
 use std::alloc::{AllocError, Global};
 
 /// How many activities are shifted away, at most.
-const MOST: usize = 8;
+pub(crate) const USERS: usize = 8;
 
 fn amount_in(amount: &Expr, values: &[Option<i64>]) -> i64
     requires { NamesBelow (length values.now) amount.now }
@@ -226,7 +226,9 @@ fn plays(
     }
 }
 
-fn is_user(
+/// Whether the activity is not committed and plays the role. Each activity of a plan is asked, so no call is made for it.
+#[inline(always)]
+pub(crate) fn is_user(
     alloc: Global,
     state: &PlanState,
     timeline: u32,
@@ -277,7 +279,7 @@ pub(crate) fn first_users(
 {
     let mut ids = Vec::new(alloc);
     for a in state.plan.activities() {
-        if ids.len() >= MOST {
+        if ids.len() >= USERS {
             return Ok(ids);
         }
         add_if_user(alloc, state, timeline, role, a, &mut ids)?;
