@@ -3,6 +3,8 @@ pub mod Standing
 pub mod OfGoals
 pub mod ByIds
 pub mod Touching
+pub mod Turning
+pub mod Childless
 pub mod Passing
 pub mod Granted
 pub mod Once

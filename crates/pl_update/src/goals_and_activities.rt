@@ -8,6 +8,7 @@ mod laws;
 mod passed;
 mod sharing;
 mod touched;
+mod turned;
 
 pub use committed::committed_by;
 pub use finding::near;
@@ -18,3 +19,4 @@ pub use laws::{
 pub use passed::passed_by;
 pub use sharing::shared_types;
 pub use touched::{Touched, each_once, touched_by};
+pub use turned::{Turned, turned_by};

@@ -152,7 +152,7 @@ module _ (s : PlanState) (gone : List ℕ) (more : List Activity) (whole : IsWho
           by None e true f is = let bad : None ≡ Some a = rw (e, f) at is in absurd (cc)
           by None e false f is = rw (e, f) at is
 
-  open_same : (n : ℕ) → among n (touched_goals s gone more) ≡ false → open_of (with_plan gone more s) n ≡ open_of s n
+  pub open_same : (n : ℕ) → among n (touched_goals s gone more) ≡ false → open_of (with_plan gone more s) n ≡ open_of s n
   unfolding open_at
   open_same n other = found_alike (open_at (with_plan gone more s)) (open_at s) (goal_at s n) (λ g here.
       let served : is_served g.number now ≡ is_served g.number s.plan.activities = subst (λ m. is_served m now ≡ is_served m s.plan.activities) (sym (found_number n s.goals g here)) (served_same n other) in

@@ -18,6 +18,7 @@ use Rattle.pl_semantics.proofs.Owning.{each_append}
 use Rattle.pl_semantics.specs.Whole.{IsWhole}
 use Rattle.pl_detect.specs.Broken.{broken_conflict}
 use Rattle.pl_update.specs.Changes.Replaced.{with_plan}
+use Rattle.pl_update.specs.GoalsAndActivities.Near.{HoldSame}
 use Rattle.pl_update.specs.Links.Near.{near, broken_near}
 use Rattle.pl_update.specs.Links.Owned.{owner_of}
 use Rattle.pl_update.specs.Links.Mended.{MendsLinks}
@@ -105,14 +106,14 @@ module _ (s t : PlanState) (rising : AreRising s.plan.activities) (rising_after 
 
 -- by what the code knows after a replacement
 pub mends_replaced : (s t : PlanState) (gone : List ℕ) (more : List Activity) (kept new : Kept) (ids : List ℕ) (told : List Broken) (left arrived : List Conflict)
-    → IsWhole s → IsWhole t → t ≡ with_plan gone more s → kept ≡ kept_of s.model (placed_in s) → new ≡ kept_of t.model (placed_in t) → ids ≡ near s gone more
+    → IsWhole s → IsWhole t → t ≡ with_plan gone more s → kept ≡ kept_of s.model (placed_in s) → new ≡ kept_of t.model (placed_in t) → HoldSame ids (near s gone more)
     → ((b : Broken) → has b told ≡ false → has b new.broken ≡ has b kept.broken)
     → left ≡ flat_map (broken_conflict s) (broken_near kept.broken ids) ++ flat_map (broken_conflict t) told
     → arrived ≡ flat_map (broken_conflict t) (broken_near new.broken ids ++ filter (λ b. has b new.broken) told)
     → MendsLinks s t left arrived
-mends_replaced s t gone more kept new ids told left arrived whole whole_after now kept_is new_is ids_are untold left_is arrived_is =
+mends_replaced s t gone more kept new ids told left arrived whole whole_after now kept_is new_is same_ids untold left_is arrived_is =
     let all : MendsLinks s t (flat_map (broken_conflict s) (broken_near kept.broken ids) ++ flat_map (broken_conflict t) told) (flat_map (broken_conflict t) (broken_near new.broken ids ++ filter (λ b. has b new.broken) told)) =
     mends s t whole.rising whole_after.rising ids kept.broken new.broken told (ap (λ (l : Kept). l.broken) kept_is) (ap (λ (l : Kept). l.broken) new_is)
-    (λ b e. ap (λ (x : PlanState). broken_conflict x b) now ∙ same_far s gone more whole.rising b (subst (λ l. among b.id l ≡ false) ids_are e))
+    (λ b e. ap (λ (x : PlanState). broken_conflict x b) now ∙ same_far s gone more whole.rising b (sym (same_ids b.id) ∙ e))
     untold in
     subst (λ l. MendsLinks s t l arrived) (sym left_is) (subst (λ a. MendsLinks s t (flat_map (broken_conflict s) (broken_near kept.broken ids) ++ flat_map (broken_conflict t) told) a) (sym arrived_is) all)

@@ -1,5 +1,5 @@
 -- What is told adds up.
-use Rattle.std.proofs.Common.{◌≡◌, ℕ, eqb, Bool, true, false, List, [], ◌∷◌, ◌++◌, is_some, refl, sym, ap, ◌∙◌}
+use Rattle.std.proofs.Common.{◌≡◌, Bool, true, false, List, ◌++◌, refl, sym, ◌∙◌}
 use Rattle.std.specs.Prelude.{◌||◌, ◌&&◌, not}
 use Rattle.std.specs.BTreeMap.{is_at}
 use Rattle.std.proofs.lemmas.List.Folds.{list_any-append}
@@ -7,8 +7,6 @@ use Rattle.pl_lists.proofs.Tests.{or_first_false, or_second_false}
 use Rattle.pl_links.specs.declared.broken.Broken.{Broken}
 use Rattle.pl_links.specs.declared.changes.Changes.{Changes}
 use Rattle.pl_links.specs.Changes.{Tells}
-use Rattle.pl_links.specs.declared.placed.Placed.{Placed}
-use Rattle.pl_links.specs.Items.{item_of, without}
 use Rattle.pl_links.specs.Sets.{broken_cmp, has}
 use Rattle.pl_update.specs.Links.Telling.{TellsAll}
 
@@ -44,12 +42,3 @@ tells_changes told old new changes tells = record {
 
     first : (b : Broken) → has b ((told ++ changes.came.items) ++ changes.went.items) ≡ false → (has b told || has b changes.came.items) ≡ false
     first b e = sym (has-append told changes.came.items b) ∙ or_first_false (has b (told ++ changes.came.items)) (has b changes.went.items) (parts b e)
-
--- what is not placed stays out
-pub absent_stays : (id : ℕ) (items : List Placed) → is_some (item_of id items) ≡ false → items ≡ without id items
-absent_stays id [] none = refl
-absent_stays id (x ∷ items) none = cases (eqb x.id id) refl (absent_stays id items)
-  where
-    cases : (b : Bool) → eqb x.id id ≡ b → (is_some (item_of id items) ≡ false → items ≡ without id items) → x ∷ items ≡ without id (x ∷ items)
-    cases true e more = absurd (let bad : true ≡ false = rw e at none in cc)
-    cases false e more = let rest : is_some (item_of id items) ≡ false = rw e at none in rw e (ap (λ l. x ∷ l) (more rest))

@@ -14,7 +14,7 @@ ghost use Rattle.pl_update.specs.Changes.Replaced.{CanReplace, with_plan};
 ghost use Rattle.pl_update.specs.GoalsAndActivities.Near.{near, IsPlain, Follows};
 ghost use Rattle.pl_update.specs.GoalsAndActivities.Passed.{passed_goals, passed_ids};
 ghost use Rattle.pl_update.specs.GoalsAndActivities.Committed.{missed_goals, early_ids};
-ghost use Rattle.pl_update.specs.GoalsAndActivities.Touched.{touched_goals, touched_ids};
+ghost use Rattle.pl_update.specs.GoalsAndActivities.Touched.{touched_goals, turned_goals, touched_ids};
 
 /// Where a change concerns some goals and activities alone, what stood at these goes and what stands at them now comes, and no
 /// other conflict of goals or of activities does.
@@ -33,9 +33,10 @@ pub fn laws_of_goal_changes()
 {}
 
 /// A replacement of activities concerns the goals that those serve which go or come, those activities, and the children of those
-/// that go.
+/// that go. A goal that is served before and after it is not concerned.
 pub fn laws_of_replacements()
-    ensures { (s : PlanState) (gone : List ℕ) (more : List Activity) → IsWhole s → CanReplace s gone more → Follows s (with_plan gone more s) (touched_goals s gone more) (touched_ids s gone more) }
+    ensures touched { (s : PlanState) (gone : List ℕ) (more : List Activity) → IsWhole s → CanReplace s gone more → Follows s (with_plan gone more s) (touched_goals s gone more) (touched_ids s gone more) }
+    ensures turned { (s : PlanState) (gone : List ℕ) (more : List Activity) → IsWhole s → CanReplace s gone more → Follows s (with_plan gone more s) (turned_goals s gone more) (touched_ids s gone more) }
 {}
 
 /// As the present moves on it concerns the open goals that can no longer be met, and the activities that become late.

@@ -1,4 +1,4 @@
-ghost use Rattle.std.specs.Prelude.{◌≡◌, ◌++◌, All, IfOk, OnOk};
+ghost use Rattle.std.specs.Prelude.{◌≡◌, ◌++◌, [], All, IfOk, OnOk, IsTrue};
 ghost use Rattle.std.specs.List.{flat_map, filter_map};
 ghost use Rattle.std.specs.List.Sorted.{IsStrictlyIncreasing};
 ghost use Rattle.std.specs.Option.{option_to_list};
@@ -7,7 +7,7 @@ ghost use Rattle.pl_plan.specs.Activities.{IsLive};
 ghost use Rattle.pl_plan.specs.Serving.{served_in};
 ghost use Rattle.pl_semantics.specs.Whole.{IsWhole};
 ghost use Rattle.pl_update.specs.GoalsAndActivities.Near.{HoldSame};
-ghost use Rattle.pl_update.specs.GoalsAndActivities.Touched.{served_at, children_at, touched_goals, touched_ids};
+ghost use Rattle.pl_update.specs.GoalsAndActivities.Touched.{served_at, served_by_id, children_at, touched_goals, touched_ids};
 
 use pl_plan::Activity;
 use pl_semantics::PlanState;
@@ -30,7 +30,7 @@ pub fn each_once(mut numbers: Vec<u32>) -> Vec<u32>
     numbers
 }
 
-fn served_in(a: &Activity) -> Option<u32>
+pub(crate) fn served_in(a: &Activity) -> Option<u32>
     ensures { result ≡ served_in a.now }
 {
     match a.parent {
@@ -39,8 +39,8 @@ fn served_in(a: &Activity) -> Option<u32>
     }
 }
 
-fn served_at(s: &PlanState, id: u32) -> Option<u32>
-    ensures { option_to_list result ≡ served_at s.now id }
+pub(crate) fn served_by_id(s: &PlanState, id: u32) -> Option<u32>
+    ensures { result ≡ served_by_id s.now id }
 {
     served_in(s.plan.get(id)?)
 }
@@ -58,7 +58,7 @@ fn add_served_before(s: &PlanState, gone: &[u32], numbers: &mut Vec<u32>) -> Res
     ensures { OnOk result (numbers.new.items ≡ numbers.old.items ++ flat_map (served_at s.now) gone.now) }
 {
     for id in gone {
-        add_number(numbers, served_at(s, *id))?;
+        add_number(numbers, served_by_id(s, *id))?;
     }
     Ok(())
 }
@@ -69,6 +69,36 @@ fn add_served_after(placed: &[Activity], numbers: &mut Vec<u32>) -> Result<(), A
     for a in placed {
         add_number(numbers, served_in(a))?;
     }
+    Ok(())
+}
+
+// Whether no alternative of it is chosen, so that it has no children.
+#[tactic(auto, using(crate::proofs::AboutGoalsAndActivities::Childless::childless))]
+fn is_undetailed(s: &PlanState, id: u32) -> bool
+    requires { IsWhole s.now }
+    ensures { IsTrue result → children_at s.now id ≡ [] }
+{
+    match s.plan.get(id) {
+        Some(a) => a.detail.is_none(),
+        None => false,
+    }
+}
+
+fn add_children_at(
+    alloc: Global,
+    s: &PlanState,
+    id: u32,
+    ids: &mut Vec<u32>,
+) -> Result<(), AllocError>
+    requires whole { IsWhole s.now }
+    requires live { IsLive id s.now.plan.activities }
+    ensures { OnOk result (ids.new.items ≡ ids.old.items ++ children_at s.now id) }
+{
+    if is_undetailed(s, id) {
+        return Ok(());
+    }
+    let children = s.plan.children(alloc, id)?;
+    ids.extend_from_slice(children.as_slice())?;
     Ok(())
 }
 
@@ -83,8 +113,7 @@ fn add_children(
     ensures { OnOk result (ids.new.items ≡ ids.old.items ++ flat_map (children_at s.now) gone.now) }
 {
     for id in gone {
-        let children = s.plan.children(alloc, *id)?;
-        ids.extend_from_slice(children.as_slice())?;
+        add_children_at(alloc, s, *id, ids)?;
     }
     Ok(())
 }
@@ -119,7 +148,7 @@ fn ids_changed(alloc: Global, gone: &[u32], placed: &[Activity]) -> Result<Vec<u
 }
 
 #[tactic(auto, unfolding(crate::specs::GoalsAndActivities::Touched::touched_ids))]
-fn ids_touched(
+pub(crate) fn ids_touched(
     alloc: Global,
     s: &PlanState,
     gone: &[u32],

@@ -1,8 +1,10 @@
 //! Whose links and orders a replacement may touch.
 ghost use Rattle.std.specs.Prelude.{◌≡◌, ◌++◌, OnOk, IfOk};
 ghost use Rattle.std.specs.List.{flat_map};
+ghost use Rattle.pl_update.specs.GoalsAndActivities.Near.{HoldSame};
 ghost use Rattle.pl_update.specs.Links.Near.{own_and_parent, ids_at, near};
 
+use crate::goals_and_activities::each_once;
 use pl_plan::Activity;
 use pl_semantics::PlanState;
 use std::alloc::{AllocError, Global};
@@ -50,9 +52,8 @@ fn add_all_own_and_parent(placed: &[Activity], ids: &mut Vec<u32>) -> Result<(),
 // Few changes concern more.
 const USUAL: usize = 8;
 
-/// The ids of what goes or comes, and of the parents of these.
 #[tactic(auto, unfolding(crate::specs::Links::Near::near))]
-pub(crate) fn near(
+fn all_near(
     alloc: Global,
     s: &PlanState,
     gone: &[u32],
@@ -64,4 +65,17 @@ pub(crate) fn near(
     add_all_ids_at(s, gone, &mut ids)?;
     add_all_own_and_parent(placed, &mut ids)?;
     Ok(ids)
+}
+
+/// The ids of what goes or comes, and of the parents of these, each once.
+pub(crate) fn near(
+    alloc: Global,
+    s: &PlanState,
+    gone: &[u32],
+    placed: &[Activity],
+) -> Result<Vec<u32>, AllocError>
+    ensures { IfOk result (λ ids. HoldSame ids.items (near s.now gone.now placed.now)) }
+{
+    let ids = all_near(alloc, s, gone, placed)?;
+    Ok(each_once(ids))
 }

@@ -1,6 +1,6 @@
 //! Activities go out of a store one after another, and what that changes is told.
 ghost use Rattle.std.specs.Prelude.{◌≡◌, ◌++◌, OnOk};
-ghost use Rattle.pl_links.specs.Items.{IsPlaced, without};
+ghost use Rattle.pl_links.specs.Items.{without};
 ghost use Rattle.pl_links.specs.Kept.{IsFor};
 ghost use Rattle.pl_update.specs.Links.Telling.{TellsAll, all_without};
 
@@ -17,23 +17,6 @@ pub(crate) fn add_changes(changes: &Changes, told: &mut Vec<Broken>) -> Result<(
     Ok(())
 }
 
-fn take_placed(
-    model: &Model,
-    links: &mut Links,
-    id: u32,
-    told: &mut Vec<Broken>,
-) -> Result<(), AllocError>
-    requires model { IsFor model.now links.old }
-    requires placed { IsPlaced id links.old.items }
-    ensures items { OnOk result (links.new.items ≡ without id links.old.items) }
-    ensures told { OnOk result (TellsAll told.old.items told.new.items links.old.broken links.new.broken) }
-    ensures model { IsFor model.now links.new }
-{
-    let changes = links.take_telling(model, id)?;
-    add_changes(&changes, told)?;
-    Ok(())
-}
-
 // An activity that is not placed stays out.
 fn take_one(
     model: &Model,
@@ -46,11 +29,9 @@ fn take_one(
     ensures told { OnOk result (TellsAll told.old.items told.new.items links.old.broken links.new.broken) }
     ensures model { IsFor model.now links.new }
 {
-    if links.is_placed(id) {
-        take_placed(model, links, id, told)
-    } else {
-        Ok(())
-    }
+    let changes = links.take_telling(model, id)?;
+    add_changes(&changes, told)?;
+    Ok(())
 }
 
 /// Takes the activities of these ids out, as far as they are placed.
