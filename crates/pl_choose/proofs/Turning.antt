@@ -12,13 +12,14 @@ use Rattle.pl_semantics.specs.Whole.{IsWhole}
 use Rattle.pl_update.specs.Changes.Changes.{with_next}
 use Rattle.pl_update.specs.Changes.Replaced.{CanReplace, with_plan}
 use Rattle.pl_board.specs.Boards.{Standing, after}
+use Rattle.pl_moves.specs.Undone.{IsUndoneBy}
 use Rattle.pl_choose.specs.declared.best.Best.{Best}
 use Rattle.pl_choose.specs.declared.stages.Stage.{Stage}
 use Rattle.pl_choose.specs.declared.turns.Turn.{Turn}
 use Rattle.pl_choose.specs.Picks.{fewest}
 use Rattle.pl_choose.specs.Stages.{CanStandInstead, IsStage, TakesOut, instead, move_of, next_behind}
 use Rattle.pl_choose.specs.Tried.{better_of, best_of}
-use Rattle.pl_choose.specs.Turns.{AreTried}
+use Rattle.pl_choose.specs.Turns.{AreTried, gone_in}
 use Rattle.pl_choose.proofs.Instead.{can_stand, stood}
 use Rattle.pl_choose.proofs.Trying.{best, all_tried, found, next_tried, none_better}
 
@@ -129,3 +130,41 @@ module _ (s : PlanState) (whole : IsWhole s) (stages : List Stage) (gone : List 
 
     pub turns : (c : Standing) → c ≡ after (with_next (next_behind s.next_id other) (instead b.state one other)) → c ≡ after (applied s other.mv)
     turns c then_ = stood s whole gone one other (is_stage i one lt is) (is_stage j other lt_other is_other) (takes_out i one lt is) (takes_out j other lt_other is_other) b c made_one then_
+
+-- what the first takes out
+pub gone_first : (stages : List Stage) (t : Stage) → 0 < length stages → t ≡ get_or stages 0 t → t.trial.change.gone.items ≡ gone_in stages
+gone_first [] t lt is = absurd (omega (arith, lt))
+gone_first (x ∷ stages) t lt is = ap (λ (y : Stage). y.trial.change.gone.items) is
+
+pub some_stage : (stages : List Stage) (m : RepairMove) (ms : List RepairMove) → map move_of stages ≡ m ∷ ms → 0 < length stages
+some_stage [] m ms is = absurd (cc)
+some_stage (t ∷ stages) m ms is = omega arith
+
+-- ---- the end
+
+module _ (s : PlanState) (whole : IsWhole s) (stages : List Stage) (gone : List ℕ) (are : All (IsStage s) stages) (same : All (TakesOut gone) stages) (t : Turn) (now : Standing) (tried : AreTried s (map move_of stages) t now) where
+  pub at_within : t.at < length stages
+  at_within = let e : length (map move_of stages) ≡ length stages = length-map stages move_of in let lt : t.at < length (map move_of stages) = tried.within in omega (arith, e, lt)
+
+  pub place_within : t.place < length stages
+  place_within = let e : length (map move_of stages) ≡ length stages = length-map stages move_of in let lt : t.place < length (map move_of stages) = tried.reached in omega (arith, e, lt)
+
+  -- the best is the one that is made
+  pub stands_best : t.place ≡ t.at → now ≡ after (applied s t.best.mv)
+  stands_best is = tried.made any ∙ ap (λ (m : RepairMove). after (applied s m)) (ap (λ (k : ℕ). get_or (map move_of stages) k any) (sym is) ∙ tried.there any)
+
+  module _ (one : Stage) (is : one ≡ get_or stages t.at one) where
+    pub undone_by : IsUndoneBy s one.mv one.trial.change.gone.items one.trial.change.placed.items one.trial.undo.gone.items one.trial.undo.placed.items
+    undone_by = (is_stage s whole stages gone are same t.at one at_within is).undone
+
+    pub made_by : now ≡ after (with_plan one.trial.change.gone.items one.trial.change.placed.items s)
+    made_by = tried.made any ∙ (ap (λ (m : RepairMove). after (applied s m)) (sym (move_at s whole stages gone are same t.at one at_within is)) ∙ ap after (sym undone_by.made))
+
+    module _ (other : Stage) (is_other : other ≡ get_or stages t.place other) where
+      pub can_best : CanStandInstead now.state s.next_id one other
+      can_best = can_turn s whole stages gone are same t.at t.place one other at_within place_within is is_other now (tried.made any)
+
+      pub makes_best : (then_ : Standing) → then_ ≡ after (with_next (next_behind s.next_id other) (instead now.state one other)) → then_ ≡ after (applied s t.best.mv)
+      makes_best then_ made =
+          turns s whole stages gone are same t.at t.place one other at_within place_within is is_other now (tried.made any) then_ made
+          ∙ ap (λ (m : RepairMove). after (applied s m)) (move_at s whole stages gone are same t.place other place_within is_other ∙ tried.there any)

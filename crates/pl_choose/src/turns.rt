@@ -105,7 +105,8 @@ fn take_turns(
         if turn.best.left == 0 {
             return Ok(turn);
         }
-        let other = &stages[turn.at + 1];
+        let then = turn.at + 1;
+        let other = &stages[then];
         make_instead(board, &stages[turn.at], other, next)?;
         let left = count(alloc, board)?;
         turn = turned(turn, other.mv, left);
